@@ -1,0 +1,105 @@
+//! A list that grows at its end.
+
+ghost use Rattle.std.specs.Prelude.{◌≡◌, ◌<◌, ◌↔◌, List as Items, [], ◌∷◌, ◌++◌, length, slice_set, OnErr, OnOk, IfOk, IsNone, IfSome, IsTrue};
+ghost use Rattle.std.specs.Borrow.{sem};
+ghost use Rattle.seen_list.specs.Lending.{LendsMembers};
+
+use crate::Memory;
+use std::alloc::Global;
+use std::marker::Model;
+
+/// A list of values in order. A contract sees it as the list of its values and nothing else.
+#[derive(Drop)]
+pub struct List<T> {
+    inner: Vec<T>,
+}
+
+impl<T> Model for List<T> {
+    ghost use Rattle.std.specs.Prelude.{List as Items};
+
+    ghost Value = { Items T };
+
+    ghost view = { λ l. l.inner.items };
+}
+
+impl<T> List<T> {
+    /// The empty list. It takes no memory, and keeps `alloc` for its growth.
+    pub fn new(alloc: Global) -> List<T>
+        ensures { result ≡ [] }
+    {
+        List {
+            inner: Vec::new(alloc),
+        }
+    }
+
+    /// The number of values.
+    pub fn len(&self) -> usize
+        ensures { result ≡ length self.now }
+    {
+        self.inner.len()
+    }
+
+    /// Whether there are no values.
+    pub fn is_empty(&self) -> bool
+        ensures { IsTrue result ↔ (self.now ≡ []) }
+    {
+        self.inner.is_empty()
+    }
+
+    /// The values in order.
+    pub fn as_slice(&self) -> &[T]
+        ensures { result.now ≡ self.now }
+    {
+        self.inner.as_slice()
+    }
+
+    /// Lends the values, to be changed in their places. The length stays.
+    pub fn as_mut_slice(&mut self) -> &mut [T]
+        ensures* lends { sem 𝓛 (LendsMembers T.row self.entry result) }
+        ensures value { result.now ≡ self.old }
+    {
+        self.inner.as_mut_slice()
+    }
+
+    /// Takes the last value out. `None` exactly where the list is empty.
+    pub fn pop(&mut self) -> Option<T>
+        ensures none { IsNone result ↔ (self.old ≡ []) }
+        ensures empty { IsNone result → self.new ≡ [] }
+        ensures last { IfSome result (λ x. self.old ≡ self.new ++ x ∷ []) }
+    {
+        self.inner.pop()
+    }
+}
+
+impl<T: Drop> List<T> {
+    /// Adds a value at the end. Refused, the list is as before, and `x` is let go.
+    pub fn push(&mut self, x: T) -> Result<(), Memory>
+        ensures ok { OnOk result (self.new ≡ self.old ++ x ∷ []) }
+        ensures err { OnErr result (self.new ≡ self.old) }
+    {
+        match self.inner.push(x) {
+            Ok(()) => Ok(()),
+            Err(_) => Err(Memory),
+        }
+    }
+
+    /// Puts a value in the place `i`, counted from 0, of the one that stood there.
+    pub fn set(&mut self, i: usize, x: T)
+        requires { i < length self.old }
+        ensures { self.new ≡ slice_set self.old i x }
+    {
+        self.inner[i] = x;
+    }
+}
+
+impl<T: Copy> List<T> {
+    /// A second list of the same values, on the same allocator.
+    pub fn copy(&self) -> Result<List<T>, Memory>
+        ensures { IfOk result (λ copied. copied ≡ self.now) }
+    {
+        match Vec::from_slice(*self.inner.allocator(), self.inner.as_slice()) {
+            Ok(inner) => Ok(List { inner }),
+            Err(_) => Err(Memory),
+        }
+    }
+}
