@@ -1,0 +1,36 @@
+//! The four values of a signal, the kinds of gates, and what each kind answers for a list of
+//! operands. The memory act, which has no code here, is defined beside them for the crates above.
+#![tactic(auto)]
+
+pub mod gates;
+pub mod values;
+
+pub use gates::{allows, and_all, bus_all, gate, or_all, tri, xor_all};
+pub use values::{not, of_char, settle, to_char};
+
+/// The value of a signal.
+#[derive(Clone, Copy, Debug, PartialEq, Eq)]
+pub enum V4 {
+    Zero,
+    One,
+    /// Undefined: it may be 0 or 1.
+    Undef,
+    /// High impedance: nothing drives the signal.
+    HighZ,
+}
+
+/// The kind of a gate. `Bus` joins drivers of one wire; every other kind settles its operands.
+#[derive(Clone, Copy, Debug, PartialEq, Eq)]
+pub enum Kind {
+    And,
+    Nand,
+    Or,
+    Nor,
+    Xor,
+    Xnor,
+    Not,
+    Buf,
+    /// A driver with an enable: the operands are the enable and then what is driven.
+    Tri,
+    Bus,
+}

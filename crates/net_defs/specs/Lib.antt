@@ -1,0 +1,6 @@
+pub mod Canonical
+pub mod Reference
+pub mod Steps
+pub mod Time
+pub mod Trace
+pub mod Valid

@@ -1,0 +1,14 @@
+//! Netlists, timing, stimuli and rows of values, and the reference definitions: what a simulation
+//! of a netlist is, and which text is its trace. The definitions are in `specs/`; they know no
+//! order in which gates are evaluated.
+#![tactic(auto)]
+
+pub mod netlist;
+pub mod shown;
+pub mod stimulus;
+pub mod timing;
+
+pub use netlist::{Block, Driver, Netlist, Signal};
+pub use shown::show;
+pub use stimulus::{CellRow, Ranks, Rows, StimRow, Stimulus};
+pub use timing::{Init, Mode, Timing};

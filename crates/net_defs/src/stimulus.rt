@@ -1,0 +1,37 @@
+//! Stimuli, and the rows of values and numbers that a run makes.
+
+use logic_four::V4;
+use seen_list::List;
+
+/// A row of a stimulus: one value for each input in signal order, for `times` cycles, 1 to 1,000,000.
+#[derive(Drop)]
+pub struct StimRow {
+    pub values: List<V4>,
+    pub times: u32,
+}
+
+/// The rows of a stimulus in order, for so many inputs. The cycles are at most 1,000,000.
+#[derive(Drop)]
+pub struct Stimulus {
+    pub columns: u32,
+    pub rows: List<StimRow>,
+}
+
+/// An order of all gates, and the rank of each signal.
+#[derive(Drop)]
+pub struct Ranks {
+    pub order: List<u32>,
+    pub rank: List<u32>,
+}
+
+/// The printed values of one cycle, in the order of the printed names.
+#[derive(Drop)]
+pub struct CellRow {
+    pub cells: List<V4>,
+}
+
+/// The printed values of each cycle.
+#[derive(Drop)]
+pub struct Rows {
+    pub rows: List<CellRow>,
+}
