@@ -7,22 +7,25 @@ use Rattle.logic_four.specs.declared.Kind.{Kind}
 use Rattle.logic_four.specs.declared.Kind.TheVariants.{And, Nand, Or, Nor, Xor, Xnor, Not, Buf, Tri, Bus}
 use Rattle.logic_four.specs.Values.{settled, inverse}
 
--- tests of one value: it is 0, it is 1, it is one of these two, it is high impedance
+-- the value is 0
 abbrev pub is_zero : V4 → Bool
 is_zero Zero = true
 is_zero One = false
 is_zero Undef = false
 is_zero HighZ = false
 
+-- the value is 1
 abbrev pub is_one : V4 → Bool
 is_one Zero = false
 is_one One = true
 is_one Undef = false
 is_one HighZ = false
 
+-- the value is 0 or 1
 abbrev pub is_known : V4 → Bool
 is_known v = is_zero v || is_one v
 
+-- the value is high impedance
 abbrev pub is_high_z : V4 → Bool
 is_high_z Zero = false
 is_high_z One = false
@@ -45,10 +48,11 @@ is_odd_parity vs = count_by is_one vs % 2 == 1
 abbrev pub xor_value : List V4 → V4
 xor_value vs = if list_all is_known vs then (if is_odd_parity vs then One else Zero) else Undef
 
--- every operand is 0 or undriven; every operand is 1 or undriven
+-- every operand that is not high impedance is 0
 abbrev pub is_driven_zero : List V4 → Bool
 is_driven_zero vs = list_all (λ v. is_zero v || is_high_z v) vs
 
+-- every operand that is not high impedance is 1
 abbrev pub is_driven_one : List V4 → Bool
 is_driven_one vs = list_all (λ v. is_one v || is_high_z v) vs
 
@@ -71,7 +75,8 @@ tri_value HighZ d = Undef
 abbrev pub operand_at : List V4 → ℕ → V4
 operand_at vs i = slice_index_or vs i Undef
 
--- what a gate of this kind answers for these operands, however many
+-- what a gate of this kind answers for these operands, however many: NOT and BUF look at the first
+-- alone and TRI at the first two, where one that is missing counts as undefined
 abbrev pub gate_value : Kind → List V4 → V4
 gate_value And vs = and_value vs
 gate_value Nand vs = inverse (and_value vs)
@@ -79,7 +84,7 @@ gate_value Or vs = or_value vs
 gate_value Nor vs = inverse (or_value vs)
 gate_value Xor vs = xor_value vs
 gate_value Xnor vs = inverse (xor_value vs)
-gate_value Not vs = inverse (operand_at vs 0)
+gate_value Not vs = inverse (settled (operand_at vs 0))
 gate_value Buf vs = settled (operand_at vs 0)
 gate_value Tri vs = tri_value (operand_at vs 0) (operand_at vs 1)
 gate_value Bus vs = bus_value vs

@@ -1,6 +1,6 @@
 -- The memory act: what a memory answers and holds after an edge, from the words that it held
 -- before. The words are a list in address order, each a list of values with bit 0 first.
-use Rattle.std.specs.Prelude.{ℕ, ◌+◌, ◌*◌, ◌^◌, if◌then◌else◌, List, [], ◌∷◌, length, map, replicate, slice_set, slice_index_or, Option, Some, None}
+use Rattle.std.specs.Prelude.{◌≡◌, ℕ, ◌+◌, ◌*◌, ◌^◌, if◌then◌else◌, List, [], ◌∷◌, length, map, replicate, slice_set, slice_index_or, Option, Some, None, All}
 use Rattle.std.specs.List.{list_all}
 use Rattle.logic_four.specs.declared.V4.{V4}
 use Rattle.logic_four.specs.declared.V4.TheVariants.{Zero, One, Undef}
@@ -20,7 +20,7 @@ address_of bits = if list_all is_known bits then Some (bits_number bits) else No
 abbrev pub undefined_word : ℕ → List V4
 undefined_word bits = replicate bits Undef
 
--- the word at an address, and an undefined one where the address is not known
+-- the word at an address, and an undefined one where the address is not known or names no word
 abbrev pub word_at : List (List V4) → Option ℕ → ℕ → List V4
 word_at words (Some n) bits = slice_index_or words n (undefined_word bits)
 word_at words None bits = undefined_word bits
@@ -59,3 +59,8 @@ memory_act words we address d = record {
 -- the words of a memory before its first edge
 unfoldable pub initial_words : ℕ → ℕ → V4 → List (List V4)
 initial_words address_bits word_bits v = replicate (2 ^ address_bits) (replicate word_bits v)
+
+-- 2 to the number of address bits words, each of so many bits
+pub record HasShape (address_bits word_bits : ℕ) (words : List (List V4)) : Type 0 where
+  pub count : length words ≡ 2 ^ address_bits
+  pub width : All (λ word. length word ≡ word_bits) words

@@ -3,6 +3,7 @@
 #![tactic(auto)]
 
 pub mod gates;
+pub mod memory;
 pub mod values;
 
 pub use gates::{allows, and_all, bus_all, gate, or_all, tri, xor_all};
@@ -33,4 +34,44 @@ pub enum Kind {
     /// A driver with an enable: the operands are the enable and then what is driven.
     Tri,
     Bus,
+}
+
+#[cfg(test)]
+mod tests {
+    use super::V4::{HighZ, One, Undef, Zero};
+    use super::*;
+
+    /// Answers worked out by hand from the rules in words, not from the definitions.
+    #[test]
+    fn gates_answer_as_tabled(rt: HostRuntime) {
+        let rows: [(Kind, &[V4], V4); 24] = [
+            (Kind::And, &[], One),
+            (Kind::And, &[Undef, Zero], Zero),
+            (Kind::And, &[One, HighZ, One], Undef),
+            (Kind::Nand, &[Zero, Zero], One),
+            (Kind::Nand, &[One, One], Zero),
+            (Kind::Nand, &[Undef, One], Undef),
+            (Kind::Nand, &[Zero, Undef], One),
+            (Kind::Nand, &[HighZ, HighZ], Undef),
+            (Kind::Or, &[], Zero),
+            (Kind::Or, &[HighZ, One], One),
+            (Kind::Nor, &[Zero, Zero], One),
+            (Kind::Xor, &[One, One, One], One),
+            (Kind::Xor, &[One, HighZ], Undef),
+            (Kind::Xnor, &[One, Zero, Zero], Zero),
+            (Kind::Not, &[HighZ], Undef),
+            (Kind::Buf, &[HighZ], Undef),
+            (Kind::Buf, &[One], One),
+            (Kind::Tri, &[Zero, One], HighZ),
+            (Kind::Tri, &[One, HighZ], Undef),
+            (Kind::Tri, &[HighZ, Zero], Undef),
+            (Kind::Bus, &[], HighZ),
+            (Kind::Bus, &[HighZ, One, HighZ], One),
+            (Kind::Bus, &[Zero, One], Undef),
+            (Kind::Bus, &[Undef, HighZ], Undef),
+        ];
+        for (kind, operands, want) in rows {
+            assert_eq!(rt; gate(kind, operands), want, "{kind:?} {operands:?}");
+        }
+    }
 }

@@ -54,8 +54,4 @@ pub fn to_char(v: V4) -> u8
 /// A law: the character of a value reads back as that value.
 pub fn char_round_trip(v: V4)
     ensures { char_value (value_char v) ≡ Some v }
-{
-    match v {
-        V4::Zero | V4::One | V4::Undef | V4::HighZ => {}
-    }
-}
+{}

@@ -68,13 +68,23 @@ operand_count (BlockBit memory bit) = 0
 abbrev pub memory_operand_count : Block → ℕ
 memory_operand_count memory = 1 + length memory.address + length memory.word
 
+-- each signal has a name
+abbrev pub AreNamed : List Signal → Type 0
+AreNamed signals = (s : ℕ) (signal : Signal) → slice_get signals s ≡ Some signal → IsName signal.name
+
+-- no two signals have one name
+abbrev pub NamesDiffer : List Signal → Type 0
+NamesDiffer signals = (s t : ℕ) (one other : Signal) → slice_get signals s ≡ Some one → slice_get signals t ≡ Some other → one.name ≡ other.name → s ≡ t
+
+-- what stands before an input is an input
+abbrev pub InputsLead : List Signal → Type 0
+InputsLead signals = (s t : ℕ) (one other : Signal) → slice_get signals s ≡ Some one → slice_get signals t ≡ Some other → s < t → IsTrue (is_input other.driver) → IsTrue (is_input one.driver)
+
 -- a valid netlist
 pub record IsValid (net : Netlist) : Type 0 where
-  -- names are names, and differ
-  pub names : (s : ℕ) (signal : Signal) → slice_get net.signals s ≡ Some signal → IsName signal.name
-  pub distinct : (s t : ℕ) (one other : Signal) → slice_get net.signals s ≡ Some one → slice_get net.signals t ≡ Some other → one.name ≡ other.name → s ≡ t
-  -- inputs come first
-  pub inputs_first : (s t : ℕ) (one other : Signal) → slice_get net.signals s ≡ Some one → slice_get net.signals t ≡ Some other → s < t → IsTrue (is_input other.driver) → IsTrue (is_input one.driver)
+  pub names : AreNamed net.signals
+  pub distinct : NamesDiffer net.signals
+  pub inputs_first : InputsLead net.signals
   -- what a driver, a memory or an output line names is there
   pub drivers : (s : ℕ) (signal : Signal) → slice_get net.signals s ≡ Some signal → IsDrivable net s signal.driver
   pub memories : (m : ℕ) (memory : Block) → slice_get net.blocks m ≡ Some memory → IsMemory net m memory

@@ -73,7 +73,13 @@ fn push_driver(text: &mut Text, net: &Netlist, signal: &Signal) -> Result<(), Me
     match &signal.driver {
         Driver::Input => Ok(()),
         Driver::Gate { kind, ops } => {
-            push_gate(text, net, signal.name.as_bytes(), word_of(*kind), ops.as_slice())
+            push_gate(
+                text,
+                net,
+                signal.name.as_bytes(),
+                word_of(*kind),
+                ops.as_slice(),
+            )
         }
         Driver::Dff { op } => push_gate(text, net, signal.name.as_bytes(), b"DFF", &[*op]),
         Driver::BlockBit { block, bit } => {

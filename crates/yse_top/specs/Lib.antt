@@ -1,2 +1,3 @@
+pub mod FirstForm
 pub mod Statuses
 pub mod Words

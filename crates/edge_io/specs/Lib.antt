@@ -1,0 +1,9 @@
+pub mod Counts
+pub mod Names
+pub mod Reading
+pub mod Writing
+pub mod Script
+pub mod FileCounts
+pub mod MemStore
+pub mod MemRoom
+pub mod SinkCounts

@@ -1,0 +1,46 @@
+//! The writing of a whole piece.
+
+ghost use Rattle.std.specs.Prelude.{◌≡◌, ◌≤◌, [], length, OnOk, OnErr, IsOk};
+ghost use Rattle.std.specs.Io.KnownBytes.{append_known};
+ghost use Rattle.edge_io.specs.Counts.{raised, Rose};
+ghost use Rattle.edge_io.specs.Writing.{TakesProperPrefix};
+
+use crate::{Failed, Sink};
+use std::fmt;
+
+/// Why a piece wasn't written.
+#[derive(Clone, Copy, Debug, PartialEq, Eq)]
+pub enum WriteNo {
+    /// A call of the sink failed.
+    Failed,
+}
+
+impl fmt::Display for WriteNo {
+    fn fmt<W: fmt::Write>(&self, f: &mut fmt::Formatter<W>) -> fmt::Result {
+        match self {
+            WriteNo::Failed => write!(f, "the piece can't be written"),
+        }
+    }
+}
+
+impl std::error::Error for WriteNo {}
+
+/// Writes a whole piece, in as many writes as the sink wants. An empty piece makes no call.
+pub fn write_whole<S: Sink>(sink: &mut S, piece: &[u8]) -> Result<(), WriteNo>
+    ensures whole { OnOk result (S.taken sink.new ≡ append_known (S.taken sink.old) piece.now) }
+    ensures prefix { OnErr result (TakesProperPrefix (S.taken sink.old) (S.taken sink.new) piece.now) }
+    ensures failed { OnErr result (Rose (S.faults sink.old) (S.faults sink.new)) }
+
+    ensures faults_kept { S.faults sink.old ≤ S.faults sink.new }
+    ensures writes_at_most { S.writes sink.new ≤ raised (S.writes sink.old) (length piece.now) }
+    ensures empty { piece.now ≡ [] → IsOk result × (sink.new ≡ sink.old) }
+{
+    let mut done = 0;
+    'writes: while done < piece.len() {
+        match sink.write(&piece[done..]) {
+            Ok(n) => done += n,
+            Err(Failed) => return Err(WriteNo::Failed),
+        }
+    }
+    Ok(())
+}
