@@ -9,6 +9,6 @@ pub mod stimulus;
 pub mod timing;
 
 pub use netlist::{Block, Driver, Netlist, Signal};
-pub use shown::show;
+pub use shown::{name, show};
 pub use stimulus::{CellRow, Ranks, Rows, StimRow, Stimulus};
 pub use timing::{Init, Mode, Timing};

@@ -154,8 +154,8 @@ fn push_more_names(text: &mut Text, net: &Netlist, numbers: &[u32]) -> Result<()
     Ok(())
 }
 
-/// The name of a signal.
-fn name(net: &Netlist, number: u32) -> &[u8]
+/// The name of a signal, given by its number, and no bytes for a number that names none.
+pub fn name(net: &Netlist, number: u32) -> &[u8]
     ensures { result.now ≡ name_of net.now number }
 {
     match net.signals.as_slice().get(number as usize) {

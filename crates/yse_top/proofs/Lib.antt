@@ -1,2 +1,6 @@
 pub mod FirstForm
 pub mod ListLemmas
+pub mod Rows
+pub mod Simulation
+pub mod Telling
+pub mod Told

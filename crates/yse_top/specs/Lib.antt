@@ -1,3 +1,9 @@
+pub mod Causes
+pub mod Evaluation
+pub mod Expected
 pub mod FirstForm
+pub mod Law
+pub mod Lines
+pub mod Refusals
 pub mod Statuses
 pub mod Words

@@ -1,10 +1,10 @@
 //! Netlists in the first form: canonical texts of netlists of two-operand NANDs, each after its
 //! operands.
 
-ghost use Rattle.std.specs.Prelude.{◌≡◌, ◌<◌, ℕ, false, ◌≤◌, ◌==◌, ◌↔◌, ◌^◌, [], length, IsTrue, IfOk, IsOkAnd, All, map, Some, slice_get};
+ghost use Rattle.std.specs.Prelude.{◌≡◌, ◌<◌, ℕ, false, ◌≤◌, ◌==◌, ◌↔◌, ◌^◌, [], length, IsTrue, IfOk, IsOkAnd, All, map, count_by, Some, slice_get};
 ghost use Rattle.std.specs.List.{list_any, list_all};
 ghost use Rattle.net_defs.specs.declared.netlist.Signal.{Signal};
-ghost use Rattle.net_defs.specs.Valid.{IsName, is_name_byte, mark_bytes, is_input, AreNamed, NamesDiffer, InputsLead};
+ghost use Rattle.net_defs.specs.Valid.{IsName, is_name_byte, mark_bytes, is_input, AreNamed, NamesDiffer, InputsLead, input_count};
 ghost use Rattle.yse_top.specs.FirstForm.{IsFirstDriver, IsFirstForm, first_limit};
 
 use crate::names::Names;
@@ -163,4 +163,22 @@ fn are_printed(signals: usize, printed: &[u32]) -> bool
     ensures { IsTrue result ↔ ((length printed.now < 2 ^ 32) × All (λ s. s < signals) printed.now) }
 {
     printed.len() < 1 << 32 && printed.iter().all(|number| (*number as usize) < signals)
+}
+
+/// The number of inputs.
+pub fn input_columns(net: &Netlist) -> u32
+    requires { length net.now.signals ≤ 1048576 }
+    ensures { result ≡ input_count net.now }
+{
+    count_inputs(net.signals.as_slice()) as u32
+}
+
+fn count_inputs(signals: &[Signal]) -> usize
+    ensures count { result ≡ count_by (λ signal. is_input signal.driver) signals.now }
+    ensures within { result ≤ length signals.now }
+{
+    signals
+        .iter()
+        .filter(|signal| is_input_driver(&signal.driver))
+        .count()
 }

@@ -13,7 +13,7 @@ loop-rest-preserved c =
     let line : List ℕ = c.split_at.result.0.now in
     let others : List ℕ = c.split_at.result.1.now in
     let split : c.loop-rest.rest.now ≡ line ++ others =
-        rw (c.split_at.ensures.front, c.split_at.ensures.back) (sym (take-append-drop (c.args.columns + 1) c.loop-rest.rest.now)) in
+    rw (c.split_at.ensures.front, c.split_at.ensures.back) (sym (take-append-drop (c.args.columns + 1) c.loop-rest.rest.now)) in
     let wide : length line ≡ c.args.columns + 1 = c.split_at.ensures.front_len in
     rw c.in_ok-push.ensures.ok (record {
       width = refl;
