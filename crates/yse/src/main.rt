@@ -1,0 +1,30 @@
+//! The program: real files and streams around the top call, whose status is the exit status.
+#![tactic(auto)]
+
+use edge_io::{HostFiles, HostSink, write_whole};
+use std::io::ErrorKind;
+use std::process::ExitCode;
+use std::{env, io};
+use yse_top::{Status, yse};
+
+fn main(rt: HostRuntime) -> ExitCode {
+    let mut files = HostFiles::new(&rt);
+    let mut out = HostSink::new(rt.stdout());
+    let mut err = HostSink::new(rt.stderr());
+    let status = match words(&rt) {
+        Ok(words) => yse(rt.alloc(), words.as_slice(), &mut files, &mut out, &mut err),
+        Err(error) if error.kind() == ErrorKind::OutOfMemory => {
+            let _ = write_whole(&mut err, b"out of memory\n");
+            Status::Memory
+        }
+        // A word that isn't UTF-8 is refused as no words at all are.
+        Err(_) => yse(rt.alloc(), &[], &mut files, &mut out, &mut err),
+    };
+    ExitCode::from(status.number())
+}
+
+/// The words of the command line, without the program's name.
+fn words(rt: &HostRuntime) -> io::Result<Vec<String>> {
+    let words = env::args(rt)?.skip(1).collect(rt.alloc())?;
+    Ok(words)
+}
