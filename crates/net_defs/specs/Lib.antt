@@ -1,4 +1,5 @@
 pub mod Canonical
+pub mod Loops
 pub mod Reference
 pub mod Steps
 pub mod Time

@@ -2,7 +2,6 @@
 -- project's profile.
 use Rattle.std.specs.Prelude.{◌≡◌, ℕ, ◌+◌, ◌^◌, ◌<◌, ◌≤◌, ◌&&◌, ◌==◌, Bool, true, false, not, nat_le, List, [], ◌∷◌, length, IsTrue, Some, slice_get, slice_index, count_by, All}
 use Rattle.std.specs.List.{sum_by, list_all, list_any, range_with_len}
-use Rattle.logic_four.specs.declared.V4.{V4}
 use Rattle.logic_four.specs.Gates.{AllowsOperands}
 use Rattle.net_defs.specs.declared.netlist.Netlist.{Netlist}
 use Rattle.net_defs.specs.declared.netlist.Signal.{Signal}

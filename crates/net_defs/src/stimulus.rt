@@ -1,5 +1,9 @@
 //! Stimuli, and the rows of values and numbers that a run makes.
 
+ghost use Rattle.std.specs.Prelude.{◌≡◌};
+ghost use Rattle.net_defs.specs.Time.{cycle_count};
+ghost use Rattle.net_defs.specs.Valid.{IsValidStimulus};
+
 use logic_four::V4;
 use seen_list::List;
 
@@ -15,6 +19,20 @@ pub struct StimRow {
 pub struct Stimulus {
     pub columns: u32,
     pub rows: List<StimRow>,
+}
+
+impl Stimulus {
+    /// The number of cycles: the sum of the repeats.
+    pub fn cycles(&self) -> u32
+        requires { IsValidStimulus self.now }
+        ensures { result ≡ cycle_count self.now }
+    {
+        let mut cycles = 0;
+        for row in self.rows.as_slice() {
+            cycles += row.times;
+        }
+        cycles
+    }
 }
 
 /// An order of all gates, and the rank of each signal.
