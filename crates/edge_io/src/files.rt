@@ -1,6 +1,6 @@
 //! A store of files.
 
-ghost use Rattle.std.specs.Prelude.{◌≡◌, ℕ, Option, ◌+◌, ◌-◌, ◌^◌, ◌<◌, ◌≤◌, List, ◌++◌, Bool, IfSome, length, option_map, IfOk, OnOk, OnErr, IsErr};
+ghost use Rattle.std.specs.Prelude.{◌≡◌, ℕ, Option, ◌≤◌, List, Bool, length, IfOk, OnOk, OnErr, IsErr};
 ghost use Rattle.edge_io.specs.Counts.{raised, raised_if, Rose};
 ghost use Rattle.edge_io.specs.Names.{is_absent, IsAbsent, OfTold};
 ghost use Rattle.edge_io.specs.Reading.{Gives};

@@ -1,6 +1,6 @@
 //! A store of files in memory, with calls that fail by their number.
 
-ghost use Rattle.std.specs.Prelude.{◌≡◌, ℕ, ◌≤◌, Some, min, length, take, drop, ◌++◌, IfOk, OnErr, OnOk, is_err, MatchResult, if◌then◌else◌};
+ghost use Rattle.std.specs.Prelude.{◌≡◌, ◌≤◌, Some, min, length, take, drop, ◌++◌, IfOk, is_err, MatchResult};
 ghost use Rattle.edge_io.specs.Script.{next_fails};
 ghost use Rattle.edge_io.specs.MemStore.{place_named, bytes_at};
 

@@ -1,6 +1,6 @@
 //! The reading of a whole file.
 
-ghost use Rattle.std.specs.Prelude.{◌≡◌, ℕ, ◌+◌, ◌-◌, ◌^◌, ◌<◌, ◌≤◌, ◌++◌, length, IfOk, IfSome, OnOk};
+ghost use Rattle.std.specs.Prelude.{◌≡◌, ◌+◌, ◌-◌, ◌^◌, ◌<◌, ◌≤◌, ◌++◌, length, IfOk, IfSome, OnOk};
 ghost use Rattle.edge_io.specs.Counts.{raised, raised_if, Rose};
 ghost use Rattle.edge_io.specs.Names.{is_absent, IsAbsent, OfTold};
 ghost use Rattle.edge_io.specs.Reading.{UnlessFailed};

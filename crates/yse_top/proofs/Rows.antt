@@ -1,16 +1,15 @@
 -- Lemmas on the rows of a stimulus of the first form.
-use Rattle.std.proofs.Common.{◌≡◌, ◌∙◌, ℕ, zero, suc, ◌+◌, ◌<◌, List, [], ◌∷◌, ◌++◌, length, map, get_or, replicate, Some, slice_get, refl, ap, sym, zero-add}
+use Rattle.std.proofs.Common.{◌≡◌, ◌∙◌, ℕ, suc, ◌+◌, ◌<◌, List, [], ◌∷◌, ◌++◌, length, map, get_or, replicate, refl, ap, sym, zero-add}
 use Rattle.std.specs.List.{flat_map}
 use Rattle.std.proofs.lemmas.List.{get_or-map}
 use Rattle.std.proofs.lemmas.List.FromFn.{map-range_with_len_more}
-use Rattle.logic_four.specs.declared.V4.{V4}
 use Rattle.net_defs.specs.declared.netlist.Netlist.{Netlist}
 use Rattle.net_defs.specs.declared.stimulus.StimRow.{StimRow}
 use Rattle.net_defs.specs.declared.stimulus.Stimulus.{Stimulus}
 use Rattle.net_defs.specs.Time.{cycle_rows}
 use Rattle.net_defs.specs.Trace.{header_line, cycle_line}
 use Rattle.yse_top.specs.Evaluation.{evaluated_cells, evaluated_lines}
-use Rattle.yse_top.specs.FirstForm.{IsFirstRow, AreFirstRows}
+use Rattle.yse_top.specs.FirstForm.{AreFirstRows}
 
 rows_once : (columns : ℕ) (rows : List StimRow) → AreFirstRows columns rows → flat_map (λ (row : StimRow). replicate row.times row.values) rows ≡ map (λ (row : StimRow). row.values) rows
 rows_once columns [] first = refl
@@ -29,7 +28,7 @@ cycle_row_at columns stimulus cycle row first within is =
     ∙ get_or-map (λ (r : StimRow). r.values) stimulus.rows cycle row [] within ∙ ap (λ (r : StimRow). r.values) (sym is)
 
 -- one line more
-pub evaluated_lines-more : (net : Netlist) (stimulus : Stimulus) (n : ℕ) → evaluated_lines net stimulus (n + 1) ≡ evaluated_lines net stimulus n ++ cycle_line (n + 1) (evaluated_cells net stimulus n) ∷ []
-evaluated_lines-more net stimulus n =
+pub evaluated_lines_more : (net : Netlist) (stimulus : Stimulus) (n : ℕ) → evaluated_lines net stimulus (n + 1) ≡ evaluated_lines net stimulus n ++ cycle_line (n + 1) (evaluated_cells net stimulus n) ∷ []
+evaluated_lines_more net stimulus n =
     ap (λ lines. header_line net ∷ lines)
     (map-range_with_len_more (λ cycle. cycle_line (cycle + 1) (evaluated_cells net stimulus cycle)) 0 n n (zero-add n))

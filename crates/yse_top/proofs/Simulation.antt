@@ -1,5 +1,5 @@
 -- The evaluation signal after signal meets the equations between whole states.
-use Rattle.std.proofs.Common.{◌≡◌, ◌∙◌, sym, ℕ, zero, suc, ◌+◌, ◌-◌, ◌*◌, ◌/◌, ◌<◌, ◌≤◌, Bool, true, false, List, [], ◌∷◌, ◌++◌, append_assoc, length, take, drop, map, get_or, All, None, Some, slice_get, refl, ap, subst, arith, add-one, inl, inr, ◌⊎◌}
+use Rattle.std.proofs.Common.{◌≡◌, ◌∙◌, sym, ℕ, zero, suc, ◌+◌, ◌-◌, ◌*◌, ◌<◌, ◌≤◌, List, [], ◌∷◌, ◌++◌, append_assoc, length, take, map, get_or, All, None, Some, slice_get, refl, ap, subst, arith, add-one, inl, inr, ◌⊎◌}
 use Rattle.std.specs.List.{flat_map, range_with_len}
 use Rattle.std.proofs.lemmas.List.{append-nil, ext_get_or, get_or-map, get_or-take, length-map, length-take-le, nil_from_length}
 use Rattle.std.proofs.lemmas.Option.{slice_get_cases, slice_get_within}
@@ -10,13 +10,12 @@ use Rattle.logic_four.specs.declared.Kind.{Kind}
 use Rattle.logic_four.specs.Gates.{gate_value}
 use Rattle.net_defs.specs.declared.netlist.Netlist.{Netlist}
 use Rattle.net_defs.specs.declared.netlist.Signal.{Signal}
-use Rattle.net_defs.specs.declared.netlist.Block.{Block}
 use Rattle.net_defs.specs.declared.netlist.Driver.{Driver}
 use Rattle.net_defs.specs.declared.netlist.Driver.TheVariants.{Input, Gate, Dff, BlockBit}
 use Rattle.net_defs.specs.declared.stimulus.StimRow.{StimRow}
 use Rattle.net_defs.specs.declared.stimulus.Stimulus.{Stimulus}
-use Rattle.net_defs.specs.Time.{value_at, cycle_rows, cycle_count, cycle_of, input_at}
-use Rattle.net_defs.specs.Steps.{State, IsRightStep, values_of, driven, words_of, words_after, first_state}
+use Rattle.net_defs.specs.Time.{value_at, cycle_rows, cycle_count, cycle_of}
+use Rattle.net_defs.specs.Steps.{State, IsRightStep, values_of, driven, first_state}
 use Rattle.net_defs.specs.Reference.{IsSimulation, HasOneSimulation}
 use Rattle.net_defs.specs.Trace.{IsTrace, header_line, cycle_line, cells_of}
 use Rattle.yse_top.specs.FirstForm.{IsFirstForm, IsFirstDriver, AreFirstRows, first_timing}

@@ -1,6 +1,5 @@
 -- The cause of each refusal, by what a store of files counts.
 use Rattle.std.specs.Prelude.{◌≡◌, ℕ, Bool, false, List, Option, None, IsSome}
-use Rattle.std.specs.List.{flat_map}
 use Rattle.edge_io.specs.Counts.{raised, raised_if, Rose}
 use Rattle.edge_io.specs.Names.{is_absent}
 use Rattle.yse_top.specs.declared.refusal.Refusal.{Refusal}

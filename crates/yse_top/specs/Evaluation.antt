@@ -8,7 +8,7 @@ use Rattle.logic_four.specs.Gates.{gate_value}
 use Rattle.net_defs.specs.declared.netlist.Netlist.{Netlist}
 use Rattle.net_defs.specs.declared.netlist.Signal.{Signal}
 use Rattle.net_defs.specs.declared.netlist.Driver.{Driver}
-use Rattle.net_defs.specs.declared.netlist.Driver.TheVariants.{Input, Gate, Dff, BlockBit}
+use Rattle.net_defs.specs.declared.netlist.Driver.TheVariants.{Input, Gate}
 use Rattle.net_defs.specs.declared.stimulus.Stimulus.{Stimulus}
 use Rattle.net_defs.specs.Time.{value_at, cycle_rows}
 use Rattle.net_defs.specs.Steps.{values_of}

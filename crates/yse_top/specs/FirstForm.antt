@@ -1,8 +1,6 @@
 -- The first form of netlists and stimuli, which `run` takes until it has the whole readers.
 use Rattle.std.specs.Prelude.{◌≡◌, ℕ, ◌<◌, ◌≤◌, ◌++◌, List, [], ◌∷◌, length, map, not, IsTrue, Some, slice_get, All}
 use Rattle.std.specs.List.{flat_map, list_any, list_all}
-use Rattle.logic_four.specs.declared.V4.{V4}
-use Rattle.logic_four.specs.declared.Kind.{Kind}
 use Rattle.logic_four.specs.declared.Kind.TheVariants.{Nand}
 use Rattle.logic_four.specs.Values.{value_char}
 use Rattle.logic_four.specs.Gates.{is_high_z}

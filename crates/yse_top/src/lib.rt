@@ -22,6 +22,8 @@ mod reading;
 mod refusal;
 mod run;
 mod status;
+#[cfg(test)]
+mod tests;
 mod trace_lines;
 mod words;
 

@@ -1,8 +1,9 @@
 //! The lines of a trace.
 
-ghost use Rattle.std.specs.Prelude.{◌≡◌, ◌+◌, ◌^◌, ◌<◌, ◌≤◌, [], ◌∷◌, ◌++◌, map, length, IfOk, OnOk};
+ghost use Rattle.std.specs.Prelude.{◌≡◌, ◌+◌, ◌^◌, ◌<◌, ◌≤◌, [], ◌∷◌, ◌++◌, map, length, slice_index_or, IfOk, OnOk};
 ghost use Rattle.std.specs.List.{flat_map};
 ghost use Rattle.logic_four.specs.Values.{value_char};
+ghost use Rattle.net_defs.specs.Time.{cycle_rows};
 ghost use Rattle.net_defs.specs.Canonical.{name_of};
 ghost use Rattle.net_defs.specs.Trace.{header_line, cycle_line};
 ghost use Rattle.net_defs.specs.Steps.{values_of};
@@ -17,16 +18,26 @@ use seen_list::{List, Memory, Text};
 use std::alloc::Global;
 
 /// The header, and a line for each row of the stimulus.
+#[tactic(auto, using(crate::proofs::Rows::evaluated_lines_more))]
 pub fn trace_lines(alloc: Global, net: &Netlist, stimulus: &Stimulus) -> Result<List<Text>, Memory>
     requires { AreFirstRows stimulus.now.columns stimulus.now.rows }
     ensures { IfOk result (λ lines. lines ≡ evaluated_lines net.now stimulus.now (length stimulus.now.rows)) }
 {
     let mut lines = List::new(alloc);
     lines.push(header(alloc, net)?)?;
-    for (cycle, row) in stimulus.rows.as_slice().iter().enumerate() {
-        lines.push(line_of(alloc, net, row.values.as_slice(), cycle + 1)?)?;
+    for cycle in 0..stimulus.rows.len() {
+        lines.push(line_of(alloc, net, inputs_of(stimulus, cycle), cycle + 1)?)?;
     }
     Ok(lines)
+}
+
+/// The values of the inputs in a cycle, counted from 0.
+fn inputs_of(stimulus: &Stimulus, cycle: usize) -> &[V4]
+    requires once { AreFirstRows stimulus.now.columns stimulus.now.rows }
+    requires within { cycle < length stimulus.now.rows }
+    ensures { result.now ≡ slice_index_or (cycle_rows stimulus.now) cycle [] }
+{
+    stimulus.rows.as_slice()[cycle].values.as_slice()
 }
 
 /// The line of a cycle, counted from 1, with these values of the inputs.

@@ -1,5 +1,5 @@
 -- The lines that were written are those that were made.
-use Rattle.std.proofs.Common.{◌≡◌, ◌∙◌, ap, List, ℕ}
+use Rattle.std.proofs.Common.{◌∙◌, ap, List, ℕ}
 use Rattle.std.specs.Io.KnownBytes.{append_known}
 use Rattle.yse_top.specs.Lines.{joined}
 use Rattle.yse_top.proofs.Told.{WhereTold-weaker}

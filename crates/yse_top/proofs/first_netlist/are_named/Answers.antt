@@ -1,4 +1,4 @@
-use Rattle.std.proofs.Common.{arith, ◌≤◌, length, subst, refl}
+use Rattle.std.proofs.Common.{arith, subst, refl}
 use Rattle.net_defs.specs.Valid.{IsName}
 use Rattle.yse_top.proofs.ListLemmas.{more_members, each_member}
 use Rattle.yse_top.proofs.first_netlist.are_named.Goals as goal

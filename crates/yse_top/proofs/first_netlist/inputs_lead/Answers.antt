@@ -1,5 +1,5 @@
 -- The inputs stand before the place, and the first signal is one of them.
-use Rattle.std.proofs.Common.{arith, ◌≡◌, ◌≤◌, ℕ, false, List, length, slice_get, Some, subst}
+use Rattle.std.proofs.Common.{arith, ◌≡◌, ℕ, false, List, length, slice_get, Some, subst}
 use Rattle.std.proofs.lemmas.Slice.{between_to_end}
 use Rattle.net_defs.specs.declared.netlist.Signal.{Signal}
 use Rattle.net_defs.specs.Valid.{is_input}

@@ -1,5 +1,5 @@
 -- Each test has found its fact.
-use Rattle.std.proofs.Common.{refl, IfOk}
+use Rattle.std.proofs.Common.{refl}
 use Rattle.yse_top.proofs.FirstForm.{first_form}
 use Rattle.std.proofs.lemmas.Result.{IfOk-weaker}
 use Rattle.yse_top.proofs.first_netlist.is_first_form.Goals as goal

@@ -1,5 +1,5 @@
 -- The line goes from the text that is left to the rows.
-use Rattle.std.proofs.Common.{◌≡◌, ◌+◌, ◌++◌, ℕ, List, length, refl, sym, arith}
+use Rattle.std.proofs.Common.{◌≡◌, ◌+◌, ◌++◌, ℕ, List, length, refl, sym}
 use Rattle.std.proofs.lemmas.List.{take-append-drop}
 use Rattle.net_defs.specs.declared.stimulus.StimRow.{StimRow}
 use Rattle.yse_top.specs.FirstForm.{IsFirstRow, stimulus_line}

@@ -1,5 +1,5 @@
 -- The stimulus has as many columns as the netlist has inputs.
-use Rattle.std.proofs.Common.{◌≡◌, ◌∙◌, ℕ, sym, subst}
+use Rattle.std.proofs.Common.{◌∙◌, ℕ, sym, subst}
 use Rattle.net_defs.specs.declared.stimulus.Stimulus.{Stimulus}
 use Rattle.yse_top.specs.FirstForm.{AreFirstRows}
 use Rattle.yse_top.proofs.reading.stimulus_of.Goals as goal

@@ -1,5 +1,5 @@
 -- The lines before were taken, and a proper prefix of this one.
-use Rattle.std.proofs.Common.{◌≡◌, ◌+◌, ◌++◌, ◌∙◌, List, ℕ, get_or, drop, take, arith, subst, sym, ap}
+use Rattle.std.proofs.Common.{◌≡◌, ◌+◌, ◌++◌, List, ℕ, drop, take, arith, subst}
 use Rattle.edge_io.specs.Writing.{TakesProperPrefix}
 use Rattle.yse_top.specs.Lines.{joined}
 use Rattle.yse_top.proofs.Telling.{prefix_of_both, prefix_after, joined-at}
