@@ -1,0 +1,4 @@
+pub mod CodeLemmas
+pub mod PlaceLemmas
+pub mod AddressLemmas
+pub mod WordLemmas

@@ -1,0 +1,4 @@
+pub mod Bytes
+pub mod Scans
+pub mod Spans
+pub mod Tokens

@@ -1,0 +1,40 @@
+-- A function table as its 256 entries.
+use Rattle.std.specs.Prelude.{◌≡◌, ℕ, ◌+◌, ◌*◌, ◌/◌, ◌%◌, ◌^◌, ◌==◌, if◌then◌else◌, List, [], ◌∷◌, take, slice_index}
+use Rattle.logic_four.specs.declared.V4.{V4}
+use Rattle.logic_four.specs.declared.V4.TheVariants.{Zero, One, Undef, HighZ}
+use Rattle.logic_four.specs.declared.Kind.{Kind}
+use Rattle.logic_four.specs.Values.{code_of}
+use Rattle.logic_four.specs.Gates.{gate_value}
+use Rattle.func_table.specs.declared.table.Table.{Table}
+
+-- the value of a code
+abbrev pub value_of : ℕ → V4
+value_of code = if code == 0 then Zero else if code == 1 then One else if code == 2 then Undef else HighZ
+
+-- the code of entry e: two bits of word e div 32, the first of them bit 2 * (e mod 32)
+abbrev pub code_at : List ℕ → ℕ → ℕ
+code_at words e = slice_index words (e / 32) / 2 ^ (2 * (e % 32)) % 4
+
+-- the value of entry e
+unfoldable pub entry_of : Table → ℕ → V4
+entry_of table e = value_of (code_at table.words e)
+
+-- the number of the entry for four operands, and its value
+abbrev pub place_of : V4 → V4 → V4 → V4 → ℕ
+place_of a b c d = code_of a + 4 * code_of b + 16 * code_of c + 64 * code_of d
+
+unfoldable pub entry_for : Table → V4 → V4 → V4 → V4 → V4
+entry_for table a b c d = entry_of table (place_of a b c d)
+
+-- the four operands for which entry e is
+abbrev pub operands_at : ℕ → List V4
+operands_at e = value_of (e % 4) ∷ value_of (e / 4 % 4) ∷ value_of (e / 16 % 4) ∷ value_of (e / 64 % 4) ∷ []
+
+-- what a node of n operands answers at entry e
+abbrev pub answer_at : Kind → ℕ → ℕ → V4
+answer_at kind n e = gate_value kind (take n (operands_at e))
+
+-- the table of a kind: for every four operands, what the kind answers for the first n of them
+abbrev pub IsTableOf : Kind → ℕ → Table → Type 0
+IsTableOf kind n table =
+    (a b c d : V4) → entry_for table a b c d ≡ gate_value kind (take n (a ∷ b ∷ c ∷ d ∷ []))

@@ -1,0 +1,99 @@
+//! The table of a gate.
+
+ghost use Rattle.std.specs.Prelude.{◌≡◌, ◌+◌, ◌*◌, ◌/◌, ◌%◌, ◌^◌, ◌<◌, ◌≤◌, ℕ};
+ghost use Rattle.logic_four.specs.Values.{code_of};
+ghost use Rattle.logic_four.specs.Gates.{AllowsOperands};
+ghost use Rattle.func_table.specs.Entries.{value_of, entry_of, entry_for, answer_at, IsTableOf};
+
+use logic_four::{Kind, V4, gate};
+
+/// The entries of one word.
+const PER_WORD: usize = 32;
+
+/// The answer of a gate for each of the 256 choices of four operands. Entry `a + 4b + 16c + 64d` is
+/// the answer for the operands of the codes a, b, c and d.
+#[derive(Clone, Copy, Debug, PartialEq, Eq)]
+pub struct Table {
+    /// Entry `e` is a code in two bits of word `e / 32`, the first of them bit `2 * (e % 32)`.
+    pub words: [u64; 8],
+}
+
+/// The code of a value, 0 to 3.
+fn code(v: V4) -> u64
+    ensures { result ≡ code_of v }
+{
+    v as u64
+}
+
+/// The value of the code in the two lowest bits.
+fn decoded(bits: u64) -> V4
+    ensures { result ≡ value_of (bits % 4) }
+{
+    match bits & 3 {
+        0 => V4::Zero,
+        1 => V4::One,
+        2 => V4::Undef,
+        _ => V4::HighZ,
+    }
+}
+
+impl Table {
+    /// The answer for four operands.
+    #[tactic(auto, unfolding(crate::specs::Entries::entry_for, crate::specs::Entries::entry_of))]
+    pub fn eval(&self, a: V4, b: V4, c: V4, d: V4) -> V4
+        ensures { result ≡ entry_for self.now a b c d }
+    {
+        let entry = (code(a) + 4 * code(b) + 16 * code(c) + 64 * code(d)) as usize;
+        decoded(self.words[entry / PER_WORD] >> (2 * (entry % PER_WORD)))
+    }
+}
+
+/// What a gate answers for the operands of one entry.
+fn answer(kind: Kind, operands: usize, entry: usize) -> V4
+    requires { operands ≤ 4 }
+    ensures { result ≡ answer_at kind operands entry }
+{
+    let entry = entry as u64;
+    let values = [
+        decoded(entry),
+        decoded(entry / 4),
+        decoded(entry / 16),
+        decoded(entry / 64),
+    ];
+    gate(kind, &values[..operands])
+}
+
+/// The word that begins with the entry `first`.
+fn word_from(kind: Kind, operands: usize, first: usize) -> u64
+    requires few { operands ≤ 4 }
+    requires small { first ≤ 224 }
+    ensures { (i : ℕ) → i < 32 → result / 2 ^ (2 * i) % 4 ≡ code_of (answer_at kind operands (first + i)) }
+{
+    let mut word = 0;
+    'entries: for i in 0..PER_WORD {
+        word |= code(answer(kind, operands, first + i)) << (2 * i);
+    }
+    word
+}
+
+/// The table of a gate of this kind with so many operands, 1 to 4. Operands past that number don't
+/// change the answer.
+pub fn table_of(kind: Kind, operands: u32) -> Table
+    requires few { operands ≤ 4 }
+    requires allowed { AllowsOperands kind operands }
+    ensures { IsTableOf kind operands result }
+{
+    let mut words = [0; 8];
+    'words: for k in 0..words.len() {
+        words[k] = word_from(kind, operands as usize, PER_WORD * k);
+    }
+    Table { words }
+}
+
+/// A law: a table is its 256 entries. It does nothing.
+pub fn entries_decide(table: &Table, other: &Table)
+    ensures { ((e : ℕ) → e < 256 → entry_of table.now e ≡ entry_of other.now e) → table.now ≡ other.now }
+{
+    // A word that is read is one of 64 bits.
+    let _read = (table.words[0], other.words[0]);
+}

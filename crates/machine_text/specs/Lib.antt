@@ -1,0 +1,3 @@
+pub mod Machines
+pub mod Quantities
+pub mod Settings

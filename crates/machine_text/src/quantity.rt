@@ -1,0 +1,83 @@
+//! The quantities that a machine text can set.
+
+ghost use Rattle.std.specs.Prelude.{◌≡◌};
+ghost use Rattle.machine_text.specs.Quantities.{named, least_of, most_of, default_of, same_quantity};
+
+/// A quantity of the machine, which a text names by a word.
+#[derive(Clone, Copy, Debug, PartialEq, Eq)]
+pub enum Quantity {
+    /// The number of logic processors.
+    Logic,
+    /// The number of array processors.
+    Array,
+    /// The slots of a turn.
+    Slots,
+    /// The functions of a logic processor.
+    Functions,
+    /// The bits of an array processor.
+    Bits,
+}
+
+impl Quantity {
+    /// The quantity whose name the word is, in any letter case.
+    #[tactic(auto, unfolding(crate::specs::Quantities::named))]
+    pub fn named(word: &[u8]) -> Option<Quantity>
+        ensures { result ≡ named word.now }
+    {
+        if word.eq_ignore_ascii_case(b"logic") {
+            Some(Quantity::Logic)
+        } else if word.eq_ignore_ascii_case(b"array") {
+            Some(Quantity::Array)
+        } else if word.eq_ignore_ascii_case(b"slots") {
+            Some(Quantity::Slots)
+        } else if word.eq_ignore_ascii_case(b"functions") {
+            Some(Quantity::Functions)
+        } else if word.eq_ignore_ascii_case(b"bits") {
+            Some(Quantity::Bits)
+        } else {
+            None
+        }
+    }
+
+    /// The least number that the quantity may be.
+    pub fn least(self) -> u32
+        ensures { result ≡ least_of self }
+    {
+        match self {
+            Quantity::Array => 0,
+            _ => 1,
+        }
+    }
+
+    /// The greatest number that the quantity may be.
+    pub fn most(self) -> u32
+        ensures { result ≡ most_of self }
+    {
+        match self {
+            Quantity::Logic => 254,
+            Quantity::Array => 64,
+            Quantity::Slots => 65_536,
+            Quantity::Functions => 4_096,
+            Quantity::Bits => 16_777_216,
+        }
+    }
+
+    /// The number of the quantity in a text that does not set it.
+    pub fn default_number(self) -> u32
+        ensures { result ≡ default_of self }
+    {
+        match self {
+            Quantity::Logic => 4,
+            Quantity::Array => 1,
+            Quantity::Slots => 65_536,
+            Quantity::Functions => 256,
+            Quantity::Bits => 65_536,
+        }
+    }
+}
+
+pub fn is_same(a: Quantity, b: Quantity) -> bool
+    ensures { result ≡ same_quantity a b }
+{
+    a == b
+}

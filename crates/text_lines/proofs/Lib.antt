@@ -1,0 +1,3 @@
+pub mod FirstLemmas
+pub mod LineLemmas
+pub mod WordLemmas

@@ -1,0 +1,42 @@
+-- The words of a part, one after another.
+use Rattle.std.proofs.Common.{◌≡◌, ℕ, ◌+◌, ◌<◌, ◌≤◌, Bool, false, List, [], ◌∷◌, length, sym, ap, ◌∙◌, refl, ⊎_elim, arith, take_all}
+use Rattle.std.specs.Prelude.{filter}
+use Rattle.std.specs.List.{before_first, after_first, position_or_len, slice_split}
+use Rattle.std.proofs.lemmas.Bool.{cases_lt, cond-true, cond-false, lt-ltb, le-ltb}
+use Rattle.std.proofs.lemmas.List.{length-take-le, drop_all}
+use Rattle.std.proofs.lemmas.List.Elements.{All-from_get_or}
+use Rattle.std.proofs.lemmas.List.Sums.{prefix_len-le-length, fails_before_first}
+use Rattle.std.proofs.lemmas.List.Splits.{slice_split_first, slice_split_none}
+use Rattle.text_lines.specs.Bytes.{is_blank}
+use Rattle.text_lines.specs.Words.{is_nonempty, words_of}
+
+length-before_first : (p : ℕ → Bool) (xs : List ℕ) → length (before_first p xs) ≡ position_or_len p xs
+length-before_first p xs = length-take-le (position_or_len p xs) xs (prefix_len-le-length _ xs)
+
+-- where no element passes, the list is one piece
+one_piece : (p : ℕ → Bool) (xs : List ℕ) → length xs ≤ position_or_len p xs → slice_split p xs ≡ before_first p xs ∷ []
+one_piece p xs none =
+    slice_split_none p xs (All-from_get_or (λ x. p x ≡ false) xs 0 (λ i h. fails_before_first p xs i 0 (omega arith)))
+    ∙ ap (λ (x : List ℕ). x ∷ []) (sym (take_all (position_or_len p xs) xs none))
+
+pub words_of-nil : words_of [] ≡ []
+unfolding words_of
+words_of-nil = refl
+
+-- an empty first piece is no word
+pub words_of_skip : (part : List ℕ) → 0 < length part → length (before_first is_blank part) ≡ 0 → words_of part ≡ words_of (after_first is_blank part)
+unfolding words_of
+words_of_skip part some none =
+    let place : position_or_len is_blank part < length part = omega (arith, length-before_first is_blank part) in
+    ap (filter is_nonempty) (slice_split_first is_blank part 0 place) ∙ cond-false _ _ _ (le-ltb 0 (length (before_first is_blank part)) (omega arith))
+
+-- any other first piece is the first word
+pub words_of_first : (part : List ℕ) → 0 < length (before_first is_blank part) → words_of part ≡ before_first is_blank part ∷ words_of (after_first is_blank part)
+unfolding words_of
+words_of_first part some =
+    ⊎_elim
+    (λ place. ap (filter is_nonempty) (slice_split_first is_blank part 0 place) ∙ cond-true _ _ _ (lt-ltb 0 (length (before_first is_blank part)) some))
+    (λ none. ap (filter is_nonempty) (one_piece is_blank part none)
+    ∙ cond-true _ _ _ (lt-ltb 0 (length (before_first is_blank part)) some)
+    ∙ ap (λ rest. before_first is_blank part ∷ words_of rest) (sym (drop_all (position_or_len is_blank part + 1) part (omega arith))))
+    (cases_lt (position_or_len is_blank part) (length part))
