@@ -7,19 +7,7 @@ use Rattle.std.proofs.lemmas.Bool.Decides.{Decides-eqb, Decides-below_and}
 use Rattle.logic_four.specs.declared.V4.{V4}
 use Rattle.logic_four.specs.declared.V4.TheVariants.{Zero, One, Undef, HighZ}
 use Rattle.logic_four.specs.Values.{code_of}
-use Rattle.array_cells.specs.Packed.{value_of, code_in}
-
-pub value_of-code_of : (v : V4) → value_of (code_of v) ≡ v
-value_of-code_of Zero = refl
-value_of-code_of One = refl
-value_of-code_of Undef = refl
-value_of-code_of HighZ = refl
-
-pub code_of_small : (v : V4) → code_of v < 4
-code_of_small Zero = omega arith
-code_of_small One = omega arith
-code_of_small Undef = omega arith
-code_of_small HighZ = omega arith
+use Rattle.array_cells.specs.Packed.{code_in}
 
 -- a number is what stands above a place, the code there, and what stands below
 parted : (number s : ℕ) → number ≡ (number / 2 ^ s / 4 * 4 + number / 2 ^ s % 4) * 2 ^ s + number % 2 ^ s

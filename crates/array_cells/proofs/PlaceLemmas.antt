@@ -7,8 +7,9 @@ use Rattle.std.specs.Prelude.{slice_index}
 use Rattle.logic_four.specs.declared.V4.{V4}
 use Rattle.logic_four.specs.declared.V4.TheVariants.{Undef}
 use Rattle.logic_four.specs.Values.{code_of}
-use Rattle.array_cells.specs.Packed.{value_of, code_in, value_at, values_from, Writes}
-use Rattle.array_cells.proofs.CodeLemmas.{value_of-code_of}
+use Rattle.logic_four.specs.Values.{value_of}
+use Rattle.array_cells.specs.Packed.{code_in, value_at, values_from, Writes}
+use Rattle.logic_four.proofs.CodeLemmas.{value_of-code_of}
 
 -- another number in the place of one of them, with v in one of its places and all else as it was
 value_at-set_same : (xs : List ℕ) (p number : ℕ) (v : V4) → p < 32 * length xs

@@ -3,11 +3,7 @@ use Rattle.std.specs.Prelude.{◌≡◌, ◌⊎◌, ℕ, ◌+◌, ◌*◌, ◌/�
 use Rattle.std.specs.List.{range_with_len}
 use Rattle.logic_four.specs.declared.V4.{V4}
 use Rattle.logic_four.specs.declared.V4.TheVariants.{Zero, One, Undef, HighZ}
-use Rattle.logic_four.specs.Values.{settled}
-
--- the value of a code
-abbrev pub value_of : ℕ → V4
-value_of code = if code == 0 then Zero else if code == 1 then One else if code == 2 then Undef else HighZ
+use Rattle.logic_four.specs.Values.{settled, value_of}
 
 -- the code in place i of a number: bit 2 * i and the next
 abbrev pub code_in : ℕ → ℕ → ℕ

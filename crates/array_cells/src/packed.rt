@@ -2,9 +2,9 @@
 
 ghost use Rattle.std.specs.Prelude.{◌≡◌, ◌≢◌, ◌+◌, ◌*◌, ◌/◌, ◌%◌, ◌^◌, ◌<◌, ◌≤◌, ℕ, IfOk, length, slice_index_or};
 ghost use Rattle.logic_four.specs.Values.{code_of};
-ghost use Rattle.array_cells.specs.Packed.{value_of, code_in, value_at, values_from, Writes, stored};
+ghost use Rattle.array_cells.specs.Packed.{code_in, value_at, values_from, Writes, stored};
 
-use logic_four::{V4, settle};
+use logic_four::{V4, code, decoded, settle};
 use seen_list::Memory;
 use std::alloc::Global;
 
@@ -13,25 +13,6 @@ pub const PER_NUMBER: usize = 32;
 
 /// A number whose places all have the code 1.
 const ONES: u64 = 0x5555_5555_5555_5555;
-
-/// The code of a value, 0 to 3.
-fn code(v: V4) -> u64
-    ensures { result ≡ code_of v }
-{
-    v as u64
-}
-
-/// The value of the code in the two lowest bits.
-fn decoded(bits: u64) -> V4
-    ensures { result ≡ value_of (bits % 4) }
-{
-    match bits & 3 {
-        0 => V4::Zero,
-        1 => V4::One,
-        2 => V4::Undef,
-        _ => V4::HighZ,
-    }
-}
 
 /// The number with another value in the place `i`.
 fn with_value(number: u64, i: usize, v: V4) -> u64

@@ -1,3 +1,3 @@
-mod PlaceLemmas
-mod ScanLemmas
-mod SpanLemmas
+pub mod PlaceLemmas
+pub mod ScanLemmas
+pub mod SpanLemmas

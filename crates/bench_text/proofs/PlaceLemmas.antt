@@ -5,6 +5,7 @@ use Rattle.std.specs.List.{prefix_len}
 use Rattle.std.proofs.lemmas.List.{take_rest}
 use Rattle.std.proofs.lemmas.Bool.{cond-true, cond-false, lt-ltb, le-ltb, and_left, and_right, and_from, or_parts, not_from_false, not_from_true, ne_eqb, both_ways}
 use Rattle.text_lines.specs.Bytes.{is_hash, is_blank}
+use Rattle.text_lines.specs.First.{fault_or}
 use Rattle.text_lines.specs.Places.{goes_on, is_comment, line_at, column_at, is_line_end}
 use Rattle.bench_text.specs.declared.token.Mark.{Mark}
 use Rattle.bench_text.specs.declared.token.Mark.TheVariants.{Name}
@@ -12,7 +13,7 @@ use Rattle.bench_text.specs.declared.token.TextNo.TheVariants.{BadByte, LongName
 use Rattle.bench_text.specs.declared.scan.Scan.{Scan}
 use Rattle.bench_text.specs.Bytes.{is_visible, sign_of, is_name_byte}
 use Rattle.bench_text.specs.Tokens.{follows_name, begins_name, name_length, token_at, token_of_sign, is_bad, fault_at}
-use Rattle.bench_text.specs.Scans.{follows_comment, scan_at, fault_or, answer_at}
+use Rattle.bench_text.specs.Scans.{follows_comment, scan_at, answer_at}
 
 -- ---- bytes
 

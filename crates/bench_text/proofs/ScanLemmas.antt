@@ -4,12 +4,12 @@ use Rattle.std.specs.Option.{option_to_list}
 use Rattle.text_lines.specs.Bytes.{is_line_feed}
 use Rattle.text_lines.specs.Places.{line_at, column_at}
 use Rattle.text_lines.specs.First.{first}
-use Rattle.text_lines.proofs.FirstLemmas.{first-zero, first_none_more, first_some}
+use Rattle.text_lines.proofs.FirstLemmas.{fault_or_err, fault_or_ok, first-zero, first_none_more, first_some}
 use Rattle.bench_text.specs.declared.scan.Scan.{Scan}
 use Rattle.bench_text.specs.declared.token.Token.{Token}
 use Rattle.bench_text.specs.declared.token.TextNo.{TextNo}
 use Rattle.bench_text.specs.Tokens.{token_at, fault_at, tokens_before, tokens_of, first_fault}
-use Rattle.bench_text.specs.Scans.{scan_at, scan_after, fault_or, answer_at}
+use Rattle.bench_text.specs.Scans.{scan_at, scan_after, answer_at}
 use Rattle.bench_text.proofs.PlaceLemmas.{is_comment_step}
 
 pub tokens_before_more : (text : List ℕ) (i : ℕ) → tokens_before text (i + 1) ≡ tokens_before text i ++ option_to_list (token_at text i)
@@ -40,14 +40,6 @@ pub record HasScanned (text : List ℕ) (i : ℕ) (scan : Scan) (list : List Tok
   pub at : scan ≡ scan_at text i
   pub so_far : list ≡ tokens_before text i
   pub no_fault : first (fault_at text) i ≡ None
-
-fault_or_err : (fault : Option TextNo) (o : Option Token) (e : TextNo) → Err e ≡ fault_or fault o → fault ≡ Some e
-fault_or_err None o e is = cc
-fault_or_err (Some f) o e is = cc
-
-fault_or_ok : (fault : Option TextNo) (o p : Option Token) → Ok p ≡ fault_or fault o → (fault ≡ None) × (p ≡ o)
-fault_or_ok None o p is = (refl, cc)
-fault_or_ok (Some f) o p is = cc
 
 pub scanned_none : (text : List ℕ) (scan : Scan) (list : List Token) → scan ≡ record { line = 1; column = 1; in_comment = false; in_name = false } → list ≡ [] → HasScanned text 0 scan list
 unfolding line_at column_at tokens_before

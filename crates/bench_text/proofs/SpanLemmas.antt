@@ -11,7 +11,7 @@ use Rattle.std.proofs.lemmas.List.Sums.{prefix_len-le-length, prefix_len_passes,
 use Rattle.text_lines.specs.Bytes.{is_hash, is_line_feed, is_return, is_blank}
 use Rattle.text_lines.specs.Places.{goes_on, is_comment, line_at, is_line_end}
 use Rattle.text_lines.specs.First.{first}
-use Rattle.text_lines.proofs.FirstLemmas.{none_below}
+use Rattle.text_lines.proofs.FirstLemmas.{none_is_not_some, none_below}
 use Rattle.bench_text.specs.declared.token.Mark.{Mark}
 use Rattle.bench_text.specs.declared.token.Mark.TheVariants.{Open, Close, Comma, Equals, Semi, Left, Right, Name}
 use Rattle.bench_text.specs.declared.token.Token.{Token}
@@ -32,22 +32,19 @@ pub record NameByte (byte : ℕ) : Type 0 where
   pub no_sign : sign_of byte ≡ None
   pub no_hash : is_hash byte ≡ false
 
-name_byte_is : (byte : ℕ) → is_name_byte byte ≡ true → NameByte byte
+pub name_byte_is : (byte : ℕ) → is_name_byte byte ≡ true → NameByte byte
 unfolding is_name_byte
 name_byte_is byte named =
     let outer = and_parts _ _ named in
     let inner = and_parts _ _ outer.0 in
     record { visible = inner.0; no_sign = none_from (sign_of byte) (not-true _ inner.1); no_hash = not-true _ outer.1 }
 
-sign_visible : (byte : ℕ) (mark : Mark) → sign_of byte ≡ Some mark → is_visible byte ≡ true
+pub sign_visible : (byte : ℕ) (mark : Mark) → sign_of byte ≡ Some mark → is_visible byte ≡ true
 sign_visible byte mark sign =
     elim (cases_Bool (is_visible byte)) [
       | inl visible ↦ visible
-      | inr hidden ↦ absurd (none_is_not_some mark (sym (no_sign byte hidden) ∙ sign))
+      | inr hidden ↦ absurd (none_is_not_some (sym (no_sign byte hidden) ∙ sign))
     ]
-  where
-    none_is_not_some : (mark : Mark) → None ≡ Some mark → ⊥
-    none_is_not_some mark e = cc
 
 -- a visible byte is neither a blank nor one that ends lines
 pub record IsInk (byte : ℕ) : Type 0 where
@@ -55,7 +52,7 @@ pub record IsInk (byte : ℕ) : Type 0 where
   pub no_feed : is_line_feed byte ≡ false
   pub no_return : is_return byte ≡ false
 
-ink : (byte : ℕ) → is_visible byte ≡ true → IsInk byte
+pub ink : (byte : ℕ) → is_visible byte ≡ true → IsInk byte
 unfolding is_visible is_blank
 ink byte visible =
     let least = leb-true 33 byte (and_parts _ _ visible).0 in
@@ -65,7 +62,7 @@ ink byte visible =
       no_return = ne_eqb byte 13 (λ e. omega arith);
     }
 
-no_line_end : (text : List ℕ) (i : ℕ) → is_visible (get_or text i 0) ≡ true → is_line_end text i ≡ false
+pub no_line_end : (text : List ℕ) (i : ℕ) → is_visible (get_or text i 0) ≡ true → is_line_end text i ≡ false
 unfolding is_line_end
 no_line_end text i visible =
     let inked = ink (get_or text i 0) visible in
@@ -73,11 +70,11 @@ no_line_end text i visible =
 
 -- ---- comments
 
-outside_next : (text : List ℕ) (i : ℕ) → is_comment text i ≡ false → is_hash (get_or text (suc i) 0) ≡ false → is_comment text (suc i) ≡ false
+pub outside_next : (text : List ℕ) (i : ℕ) → is_comment text i ≡ false → is_hash (get_or text (suc i) 0) ≡ false → is_comment text (suc i) ≡ false
 unfolding is_comment goes_on
 outside_next text i outside hash = or_from _ _ hash (and_left _ _ outside)
 
-outside_before : (text : List ℕ) (i : ℕ) → is_comment text (suc i) ≡ false → is_line_feed (get_or text (suc i) 0) ≡ false → is_comment text i ≡ false
+pub outside_before : (text : List ℕ) (i : ℕ) → is_comment text (suc i) ≡ false → is_line_feed (get_or text (suc i) 0) ≡ false → is_comment text i ≡ false
 unfolding is_comment goes_on
 outside_before text i outside feed =
     elim (and_cases _ _ (or_parts _ _ outside).1) [
@@ -88,19 +85,19 @@ outside_before text i outside feed =
 -- ---- runs of name bytes
 
 module _ (text : List ℕ) (i : ℕ) where
-  run_passes : (k : ℕ) → k < name_length text i → is_name_byte (get_or text (i + k) 0) ≡ true
+  pub run_passes : (k : ℕ) → k < name_length text i → is_name_byte (get_or text (i + k) 0) ≡ true
   unfolding name_length
   run_passes k below = rw get_or-drop at (prefix_len_passes is_name_byte (drop i text) k 0 below)
 
-  run_within : i ≤ length text → i + name_length text i ≤ length text
+  pub run_within : i ≤ length text → i + name_length text i ≤ length text
   unfolding name_length
   run_within within = omega (arith, prefix_len-le-length is_name_byte (drop i text), length-drop i text)
 
-  run_stops : i + name_length text i < length text → is_name_byte (get_or text (i + name_length text i) 0) ≡ false
+  pub run_stops : i + name_length text i < length text → is_name_byte (get_or text (i + name_length text i) 0) ≡ false
   unfolding name_length
   run_stops within = rw get_or-drop at (prefix_len_stops is_name_byte (drop i text) 0 (omega (arith, length-drop i text)))
 
-  run_begins : i < length text → is_name_byte (get_or text i 0) ≡ true → 0 < name_length text i
+  pub run_begins : i < length text → is_name_byte (get_or text i 0) ≡ true → 0 < name_length text i
   run_begins within named =
       elim (cases_lt 0 (name_length text i)) [
         | inl some ↦ some
@@ -113,15 +110,15 @@ module _ (text : List ℕ) (i : ℕ) where
 -- ---- the token of a place
 
 -- the byte is a token by itself
-record IsSignAt (text : List ℕ) (i : ℕ) (token : Token) : Type 0 where
-  mark : Mark
-  sign : sign_of (get_or text i 0) ≡ Some mark
-  same : token ≡ record { mark = mark; from = i; upto = i + 1; line = line_at text i }
+pub record IsSignAt (text : List ℕ) (i : ℕ) (token : Token) : Type 0 where
+  pub mark : Mark
+  pub sign : sign_of (get_or text i 0) ≡ Some mark
+  pub same : token ≡ record { mark = mark; from = i; upto = i + 1; line = line_at text i }
 
 -- a name begins there
-record IsNameAt (text : List ℕ) (i : ℕ) (token : Token) : Type 0 where
-  begins : begins_name text i ≡ true
-  same : token ≡ record { mark = Name; from = i; upto = i + name_length text i; line = line_at text i }
+pub record IsNameAt (text : List ℕ) (i : ℕ) (token : Token) : Type 0 where
+  pub begins : begins_name text i ≡ true
+  pub same : token ≡ record { mark = Name; from = i; upto = i + name_length text i; line = line_at text i }
 
 cond_some : {A : Type 0} (b : Bool) (o : Option A) (x : A) → cond b None o ≡ Some x → (b ≡ false) × (o ≡ Some x)
 cond_some true o x e = cc
@@ -131,7 +128,7 @@ cond_some_else : {A : Type 0} (b : Bool) (y x : A) → cond b (Some y) None ≡ 
 cond_some_else true y x e = (refl, cc)
 cond_some_else false y x e = cc
 
-token_cases : (text : List ℕ) (i : ℕ) (token : Token) → token_at text i ≡ Some token → (is_comment text i ≡ false) × (IsSignAt text i token ⊎ IsNameAt text i token)
+pub token_cases : (text : List ℕ) (i : ℕ) (token : Token) → token_at text i ≡ Some token → (is_comment text i ≡ false) × (IsSignAt text i token ⊎ IsNameAt text i token)
 unfolding token_at
 token_cases text i token is =
     let outer = cond_some (is_comment text i) (token_of_sign text i (sign_of (get_or text i 0))) token is in
@@ -142,12 +139,12 @@ token_cases text i token is =
     by_sign None sign e = let found = cond_some_else _ _ _ e in inr (record { begins = found.0; same = found.1 })
 
 -- the byte at which a name begins
-record NameBegin (text : List ℕ) (i : ℕ) : Type 0 where
-  outside : is_comment text i ≡ false
-  named : is_name_byte (get_or text i 0) ≡ true
-  fresh : follows_name text i ≡ false
+pub record NameBegin (text : List ℕ) (i : ℕ) : Type 0 where
+  pub outside : is_comment text i ≡ false
+  pub named : is_name_byte (get_or text i 0) ≡ true
+  pub fresh : follows_name text i ≡ false
 
-begins_is : (text : List ℕ) (i : ℕ) → begins_name text i ≡ true → NameBegin text i
+pub begins_is : (text : List ℕ) (i : ℕ) → begins_name text i ≡ true → NameBegin text i
 unfolding begins_name
 begins_is text i begins =
     let outer = and_parts _ _ begins in
@@ -164,7 +161,7 @@ one_byte text i within =
     n_is_one i = omega arith
 
 -- the byte of a mark that is a token by itself
-abbrev IsSignByte : ℕ → Mark → Type 0
+abbrev pub IsSignByte : ℕ → Mark → Type 0
 IsSignByte byte Open = byte ≡ 40
 IsSignByte byte Close = byte ≡ 41
 IsSignByte byte Comma = byte ≡ 44
@@ -174,16 +171,13 @@ IsSignByte byte Left = byte ≡ 91
 IsSignByte byte Right = byte ≡ 93
 IsSignByte byte Name = ⊥
 
-sign_byte : (byte : ℕ) (mark : Mark) → sign_of byte ≡ Some mark → IsSignByte byte mark
+pub sign_byte : (byte : ℕ) (mark : Mark) → sign_of byte ≡ Some mark → IsSignByte byte mark
 unfolding sign_of
 sign_byte byte mark sign =
     test 40 Open mark (λ e. e) sign (λ sign. test 41 Close mark (λ e. e) sign (λ sign. test 44 Comma mark (λ e. e) sign (λ sign.
     test 61 Equals mark (λ e. e) sign (λ sign. test 59 Semi mark (λ e. e) sign (λ sign. test 91 Left mark (λ e. e) sign (λ sign.
-    test 93 Right mark (λ e. e) sign (λ sign. absurd (none_is_not_some mark sign))))))))
+    test 93 Right mark (λ e. e) sign (λ sign. absurd (none_is_not_some sign))))))))
   where
-    none_is_not_some : (mark : Mark) → None ≡ Some mark → ⊥
-    none_is_not_some mark e = cc
-
     chosen : (b : Bool) (here mark : Mark) (rest : Option Mark) → cond b (Some here) rest ≡ Some mark → ((b ≡ true) × (mark ≡ here)) ⊎ (rest ≡ Some mark)
     chosen true here mark rest e = inl (refl, cc)
     chosen false here mark rest e = inr e
@@ -195,7 +189,7 @@ sign_byte byte mark sign =
         others
         (chosen (eqb byte sign) here mark _ e)
 
-sign_bytes : (text : List ℕ) (i : ℕ) (mark : Mark) → i < length text → sign_of (get_or text i 0) ≡ Some mark → AreBytesOf mark text i (i + 1)
+pub sign_bytes : (text : List ℕ) (i : ℕ) (mark : Mark) → i < length text → sign_of (get_or text i 0) ≡ Some mark → AreBytesOf mark text i (i + 1)
 sign_bytes text i mark within sign = by_byte mark (sign_byte (get_or text i 0) mark sign) where
   by_byte : (mark : Mark) → IsSignByte (get_or text i 0) mark → AreBytesOf mark text i (i + 1)
   by_byte Open is = one_byte text i within ∙ ap (λ b. b ∷ []) is
@@ -208,7 +202,7 @@ sign_bytes text i mark within sign = by_byte mark (sign_byte (get_or text i 0) m
   by_byte Name is = absurd is
 
 -- no name that begins before the end is long, where no place has a fault
-short_name : (text : List ℕ) (i : ℕ) → fault_at text i ≡ None → begins_name text i ≡ true → name_length text i ≤ 255
+pub short_name : (text : List ℕ) (i : ℕ) → fault_at text i ≡ None → begins_name text i ≡ true → name_length text i ≤ 255
 unfolding fault_at
 short_name text i none begins = by_tests (is_bad text i) (begins_name text i) (ltb 255 (name_length text i)) _ _ none begins refl where
   by_tests : (bad named long : Bool) (f g : TextNo) → cond bad (Some f) (cond (named && long) (Some g) None) ≡ None → named ≡ true → ltb 255 (name_length text i) ≡ long → name_length text i ≤ 255
@@ -234,7 +228,7 @@ name_bytes text i within =
     same : (i n : ℕ) → n ≡ i + n - i
     same i n = omega arith
 
-stands : (text : List ℕ) (i : ℕ) (token : Token) → i < length text → fault_at text i ≡ None → token_at text i ≡ Some token → StandsIn text token
+pub stands : (text : List ℕ) (i : ℕ) (token : Token) → i < length text → fault_at text i ≡ None → token_at text i ≡ Some token → StandsIn text token
 stands text i token within none is = ⊎_elim as_sign as_name (token_cases text i token is).1 where
   as_sign : IsSignAt text i token → StandsIn text token
   as_sign found = subst (StandsIn text) (sym found.same) (record {
@@ -263,14 +257,14 @@ stands text i token within none is = ⊎_elim as_sign as_name (token_cases text 
 
 -- ---- one token before another
 
-line_at_more : (text : List ℕ) (i : ℕ) → line_at text i ≤ line_at text (suc i)
+pub line_at_more : (text : List ℕ) (i : ℕ) → line_at text i ≤ line_at text (suc i)
 unfolding line_at
 line_at_more text i = more (is_line_feed (get_or text i 0)) (line_at text i) where
   more : (b : Bool) (n : ℕ) → n ≤ cond b (n + 1) n
   more true n = omega arith
   more false n = omega arith
 
-line_at-le-line_at : (text : List ℕ) (i j : ℕ) → i ≤ j → line_at text i ≤ line_at text j
+pub line_at-le-line_at : (text : List ℕ) (i j : ℕ) → i ≤ j → line_at text i ≤ line_at text j
 line_at-le-line_at text i zero below = subst (λ k. line_at text i ≤ line_at text k) (none below) (omega arith) where
   none : i ≤ 0 → i ≡ 0
   none below = omega arith
@@ -284,7 +278,7 @@ line_at-le-line_at text i (suc j) below =
     same past = omega arith
 
 -- a place inside a run of name bytes, past its first, begins no token
-no_token_inside : (text : List ℕ) (i j : ℕ) (token : Token) → i < j → j < i + name_length text i → token_at text j ≡ Some token → ⊥
+pub no_token_inside : (text : List ℕ) (i j : ℕ) (token : Token) → i < j → j < i + name_length text i → token_at text j ≡ Some token → ⊥
 no_token_inside text i zero token before inside is = omega arith
 no_token_inside text i (suc j) token before inside is = ⊎_elim as_sign as_name (token_cases text (suc j) token is).1 where
   here : is_name_byte (get_or text (suc j) 0) ≡ true
@@ -294,9 +288,7 @@ no_token_inside text i (suc j) token before inside is = ⊎_elim as_sign as_name
   just_before = subst (λ k. is_name_byte (get_or text k 0) ≡ true) (omega arith) (run_passes text i (j - i) (omega arith))
 
   as_sign : IsSignAt text (suc j) token → ⊥
-  as_sign found = none_is_not_some found.mark (sym (name_byte_is _ here).no_sign ∙ found.sign) where
-    none_is_not_some : (mark : Mark) → None ≡ Some mark → ⊥
-    none_is_not_some mark e = cc
+  as_sign found = none_is_not_some (sym (name_byte_is _ here).no_sign ∙ found.sign)
 
   as_name : IsNameAt text (suc j) token → ⊥
   as_name found = both_ways _ (begins_is text (suc j) found.begins).fresh just_before
@@ -319,10 +311,10 @@ in_order text i j a b before first second =
 -- ---- all tokens
 
 -- the token of a place before n
-abbrev IsTokenBefore : List ℕ → ℕ → Token → Type 0
+abbrev pub IsTokenBefore : List ℕ → ℕ → Token → Type 0
 IsTokenBefore text n token = (i : ℕ) × (i < n) × (token_at text i ≡ Some token)
 
-members : (text : List ℕ) (n : ℕ) → All (IsTokenBefore text n) (tokens_before text n)
+pub members : (text : List ℕ) (n : ℕ) → All (IsTokenBefore text n) (tokens_before text n)
 unfolding tokens_before
 members text zero = All-nil _
 members text (suc n) = add (token_at text n) refl (All-weaker (IsTokenBefore text n) (IsTokenBefore text (suc n)) (λ token found. (found.0, omega (arith, found.1), found.2)) (tokens_before text n) (members text n)) where
@@ -346,7 +338,7 @@ Any-append_left : (P : Token → Type 0) (xs ys : List Token) → Any P xs → A
 Any-append_left P xs ys (k, x, below, is, holds) =
     (k, x, omega (arith, length-append xs ys), get_or_append_left xs ys x k below ∙ is, holds)
 
-covered : (text : List ℕ) (n i k : ℕ) (token : Token) → token_at text k ≡ Some token → k < n → token.from ≤ i → i < token.upto → IsCovered (tokens_before text n) i
+pub covered : (text : List ℕ) (n i k : ℕ) (token : Token) → token_at text k ≡ Some token → k < n → token.from ≤ i → i < token.upto → IsCovered (tokens_before text n) i
 unfolding tokens_before
 covered text zero i k token is below from upto = absurd (omega arith)
 covered text (suc n) i k token is below from upto =
@@ -357,7 +349,7 @@ covered text (suc n) i k token is below from upto =
           subst (λ o. IsCovered (tokens_before text n ++ option_to_list o) i) (sym here) (Any-push _ (tokens_before text n) token (from, upto))
     ]
 
-outside_run : (text : List ℕ) (i k : ℕ) → is_comment text i ≡ false → k < name_length text i → is_comment text (i + k) ≡ false
+pub outside_run : (text : List ℕ) (i k : ℕ) → is_comment text i ≡ false → k < name_length text i → is_comment text (i + k) ≡ false
 outside_run text i zero outside below = subst (λ j. is_comment text j ≡ false) (omega arith) outside
 outside_run text i (suc k) outside below =
     let named = subst (λ j. is_name_byte (get_or text j 0) ≡ true) (shift i k) (run_passes text i (suc k) below) in
@@ -370,7 +362,7 @@ read_from_visible : (text : List ℕ) (i : ℕ) → is_comment text i ≡ false 
 read_from_visible text i outside visible = (outside, (ink _ visible).no_blank, no_line_end text i visible)
 
 -- what a token has is neither in a comment nor a blank nor a line end
-read_in_token : (text : List ℕ) (i k : ℕ) (token : Token) → token_at text k ≡ Some token → token.from ≤ i → i < token.upto → IsRead text i
+pub read_in_token : (text : List ℕ) (i k : ℕ) (token : Token) → token_at text k ≡ Some token → token.from ≤ i → i < token.upto → IsRead text i
 read_in_token text i k token is from upto = ⊎_elim as_sign as_name cases.1 where
   cases : (is_comment text k ≡ false) × (IsSignAt text k token ⊎ IsNameAt text k token)
   cases = token_cases text k token is
@@ -386,12 +378,12 @@ read_in_token text i k token is from upto = ⊎_elim as_sign as_name cases.1 whe
       let same : k + (i - k) ≡ i = omega (arith, ap (λ t. t.from) found.same) in
       subst (IsRead text) same (read_from_visible text (k + (i - k)) (outside_run text k (i - k) cases.0 inside) (name_byte_is _ (run_passes text k (i - k) inside)).visible)
 
-begins_from : (text : List ℕ) (i : ℕ) → is_comment text i ≡ false → is_name_byte (get_or text i 0) ≡ true → follows_name text i ≡ false → begins_name text i ≡ true
+pub begins_from : (text : List ℕ) (i : ℕ) → is_comment text i ≡ false → is_name_byte (get_or text i 0) ≡ true → follows_name text i ≡ false → begins_name text i ≡ true
 unfolding begins_name
 begins_from text i outside named fresh = and_from _ _ (and_from _ _ (not_from_false _ outside) named) (not_from_false _ fresh)
 
 -- the name that a name byte stands in
-name_of_byte : (text : List ℕ) (i : ℕ) → i < length text → is_comment text i ≡ false → is_name_byte (get_or text i 0) ≡ true → (k : ℕ) × (k ≤ i) × (begins_name text k ≡ true) × (i < k + name_length text k)
+pub name_of_byte : (text : List ℕ) (i : ℕ) → i < length text → is_comment text i ≡ false → is_name_byte (get_or text i 0) ≡ true → (k : ℕ) × (k ≤ i) × (begins_name text k ≡ true) × (i < k + name_length text k)
 name_of_byte text zero within outside named =
     (0, omega arith, begins_from text 0 outside named refl, omega (arith, run_begins text 0 within named))
 name_of_byte text (suc j) within outside named =
@@ -408,7 +400,7 @@ name_of_byte text (suc j) within outside named =
           ]
     ]
 
-sign_token : (text : List ℕ) (i : ℕ) (mark : Mark) → is_comment text i ≡ false → sign_of (get_or text i 0) ≡ Some mark → token_at text i ≡ Some (record { mark = mark; from = i; upto = i + 1; line = line_at text i })
+pub sign_token : (text : List ℕ) (i : ℕ) (mark : Mark) → is_comment text i ≡ false → sign_of (get_or text i 0) ≡ Some mark → token_at text i ≡ Some (record { mark = mark; from = i; upto = i + 1; line = line_at text i })
 unfolding token_at
 sign_token text i mark outside sign = cond-false _ _ _ outside ∙ ap (token_of_sign text i) sign
 
@@ -418,13 +410,10 @@ visible_from_read text i none read = elim (cases_Bool (is_visible (get_or text i
   | inl visible ↦ visible
   | inr hidden ↦
       let bad : is_bad text i ≡ true = and_from _ _ (and_from _ _ (and_from _ _ (not_from_false _ read.0) (not_from_false _ read.1)) (not_from_false _ read.2)) (not_from_false _ hidden) in
-      absurd (some_is_not_none _ (sym (cond-true _ _ _ bad) ∙ none))
+      absurd (none_is_not_some (sym none ∙ cond-true _ _ _ bad))
 ]
-  where
-    some_is_not_none : (fault : TextNo) → Some fault ≡ None → ⊥
-    some_is_not_none fault e = cc
 
-covered_from_read : (text : List ℕ) (i : ℕ) → i < length text → fault_at text i ≡ None → IsRead text i → IsCovered (tokens_of text) i
+pub covered_from_read : (text : List ℕ) (i : ℕ) → i < length text → fault_at text i ≡ None → IsRead text i → IsCovered (tokens_of text) i
 covered_from_read text i within none read = by_sign (sign_of (get_or text i 0)) refl where
   visible : is_visible (get_or text i 0) ≡ true
   visible = visible_from_read text i none read

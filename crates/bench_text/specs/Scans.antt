@@ -1,6 +1,7 @@
 -- Where a scan of a text stands just before a place, and what it finds there.
-use Rattle.std.specs.Prelude.{ℕ, zero, suc, ◌+◌, Bool, false, List, Option, Some, None, Result, Ok, Err, if◌then◌else◌}
+use Rattle.std.specs.Prelude.{ℕ, zero, suc, ◌+◌, Bool, false, List, Option, Result, if◌then◌else◌}
 use Rattle.text_lines.specs.Bytes.{is_line_feed}
+use Rattle.text_lines.specs.First.{fault_or}
 use Rattle.text_lines.specs.Places.{goes_on, is_comment, line_at, column_at}
 use Rattle.bench_text.specs.declared.scan.Scan.{Scan}
 use Rattle.bench_text.specs.declared.token.Token.{Token}
@@ -29,11 +30,6 @@ scan_after scan byte = record {
   in_comment = goes_on scan.in_comment byte;
   in_name = is_name_byte byte;
 }
-
--- a fault, or else a token, if there is one
-abbrev pub fault_or : Option TextNo → Option Token → Result (Option Token) TextNo
-fault_or None token = Ok token
-fault_or (Some fault) token = Err fault
 
 -- the fault of a place, or the token that begins there
 unfoldable pub answer_at : List ℕ → ℕ → Result (Option Token) TextNo

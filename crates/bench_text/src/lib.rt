@@ -87,6 +87,26 @@ mod tests {
         }
     }
 
+    #[test]
+    fn says_why(rt: HostRuntime) -> Result<(), Fail> {
+        let lines = [
+            (
+                TextNo::BadByte {
+                    line: 2,
+                    column: 10,
+                },
+                "line 2, column 10: bad byte",
+            ),
+            (TextNo::LongName { line: 1 }, "line 1: name too long"),
+            (TextNo::Memory, "out of memory"),
+        ];
+        for (no, want) in lines {
+            let line = format!(in rt.alloc(); "{no}")?;
+            assert_eq!(rt; line.as_str(), want);
+        }
+        Ok(())
+    }
+
     /// Where a bad byte stands. A CR is one unless LF or the end of the text comes next.
     #[test]
     fn finds_bad_bytes(rt: HostRuntime) {

@@ -4,25 +4,13 @@ use Rattle.std.specs.Prelude.{slice_index}
 use Rattle.std.proofs.lemmas.Bool.{cases_eq}
 use Rattle.std.proofs.lemmas.List.{ext_get_or}
 use Rattle.logic_four.specs.declared.V4.{V4}
-use Rattle.logic_four.specs.declared.V4.TheVariants.{Zero, One, Undef, HighZ}
 use Rattle.logic_four.specs.declared.Kind.{Kind}
-use Rattle.logic_four.specs.Values.{code_of}
+use Rattle.logic_four.specs.Values.{code_of, value_of}
+use Rattle.logic_four.proofs.CodeLemmas.{value_of-code_of, code_of_small}
 use Rattle.logic_four.specs.Gates.{gate_value}
 use Rattle.func_table.proofs.Digits.{same_from_codes}
 use Rattle.func_table.specs.declared.table.Table.{Table}
-use Rattle.func_table.specs.Entries.{value_of, code_at, place_of, operands_at, answer_at}
-
-pub value_of-code_of : (v : V4) → value_of (code_of v) ≡ v
-value_of-code_of Zero = refl
-value_of-code_of One = refl
-value_of-code_of Undef = refl
-value_of-code_of HighZ = refl
-
-pub code_of_small : (v : V4) → code_of v < 4
-code_of_small Zero = omega arith
-code_of_small One = omega arith
-code_of_small Undef = omega arith
-code_of_small HighZ = omega arith
+use Rattle.func_table.specs.Entries.{code_at, place_of, operands_at, answer_at}
 
 -- the entry for four operands is below 256, and the operands are read from it
 first_code : (x y z w : ℕ) → x < 4 → (x + 4 * y + 16 * z + 64 * w) % 4 ≡ x

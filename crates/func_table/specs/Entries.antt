@@ -1,15 +1,10 @@
 -- A function table as its 256 entries.
 use Rattle.std.specs.Prelude.{◌≡◌, ℕ, ◌+◌, ◌*◌, ◌/◌, ◌%◌, ◌^◌, ◌==◌, if◌then◌else◌, List, [], ◌∷◌, take, slice_index}
 use Rattle.logic_four.specs.declared.V4.{V4}
-use Rattle.logic_four.specs.declared.V4.TheVariants.{Zero, One, Undef, HighZ}
 use Rattle.logic_four.specs.declared.Kind.{Kind}
-use Rattle.logic_four.specs.Values.{code_of}
+use Rattle.logic_four.specs.Values.{code_of, value_of}
 use Rattle.logic_four.specs.Gates.{gate_value}
 use Rattle.func_table.specs.declared.table.Table.{Table}
-
--- the value of a code
-abbrev pub value_of : ℕ → V4
-value_of code = if code == 0 then Zero else if code == 1 then One else if code == 2 then Undef else HighZ
 
 -- the code of entry e: two bits of word e div 32, the first of them bit 2 * (e mod 32)
 abbrev pub code_at : List ℕ → ℕ → ℕ

@@ -3,9 +3,9 @@
 ghost use Rattle.std.specs.Prelude.{◌≡◌, ◌+◌, ◌*◌, ◌/◌, ◌%◌, ◌^◌, ◌<◌, ◌≤◌, ℕ};
 ghost use Rattle.logic_four.specs.Values.{code_of};
 ghost use Rattle.logic_four.specs.Gates.{AllowsOperands};
-ghost use Rattle.func_table.specs.Entries.{value_of, entry_of, entry_for, answer_at, IsTableOf};
+ghost use Rattle.func_table.specs.Entries.{entry_of, entry_for, answer_at, IsTableOf};
 
-use logic_four::{Kind, V4, gate};
+use logic_four::{Kind, V4, code, decoded, gate};
 
 /// The entries of one word.
 const PER_WORD: usize = 32;
@@ -16,25 +16,6 @@ const PER_WORD: usize = 32;
 pub struct Table {
     /// Entry `e` is a code in two bits of word `e / 32`, the first of them bit `2 * (e % 32)`.
     pub words: [u64; 8],
-}
-
-/// The code of a value, 0 to 3.
-fn code(v: V4) -> u64
-    ensures { result ≡ code_of v }
-{
-    v as u64
-}
-
-/// The value of the code in the two lowest bits.
-fn decoded(bits: u64) -> V4
-    ensures { result ≡ value_of (bits % 4) }
-{
-    match bits & 3 {
-        0 => V4::Zero,
-        1 => V4::One,
-        2 => V4::Undef,
-        _ => V4::HighZ,
-    }
 }
 
 impl Table {

@@ -46,7 +46,7 @@ bit_number-le-one Undef = omega arith
 bit_number-le-one HighZ = omega arith
 
 -- so many bits say a number below that power of 2
-bits_number-within : (bits : List V4) → bits_number bits < 2 ^ length bits
+pub bits_number-within : (bits : List V4) → bits_number bits < 2 ^ length bits
 unfolding bits_number
 bits_number-within [] = omega arith
 bits_number-within (bit ∷ bits) =
@@ -145,26 +145,26 @@ undefined-HasShape m n words shaped = record {
 }
 
 -- a write keeps the shape, whatever the enable and the address
-written_at-HasShape :
+pub shape_at :
     (m n : ℕ) (words : List (List V4)) (we : V4) (address : Option ℕ) (d : List V4)
     → HasShape m n words
     → length d ≡ n
     → HasShape m n (written_at we address words d)
-written_at-HasShape m n words Zero address d shaped fits = shaped
-written_at-HasShape m n words One (Some i) d shaped fits =
+shape_at m n words Zero address d shaped fits = shaped
+shape_at m n words One (Some i) d shaped fits =
     set-HasShape m n words i (map settled d) shaped (length-map d settled ∙ fits)
-written_at-HasShape m n words Undef (Some i) d shaped fits =
+shape_at m n words Undef (Some i) d shaped fits =
     set-HasShape m n words i (undefined_word (length d)) shaped (length-replicate (length d) Undef ∙ fits)
-written_at-HasShape m n words HighZ (Some i) d shaped fits =
+shape_at m n words HighZ (Some i) d shaped fits =
     set-HasShape m n words i (undefined_word (length d)) shaped (length-replicate (length d) Undef ∙ fits)
-written_at-HasShape m n words One None d shaped fits = undefined-HasShape m n words shaped
-written_at-HasShape m n words Undef None d shaped fits = undefined-HasShape m n words shaped
-written_at-HasShape m n words HighZ None d shaped fits = undefined-HasShape m n words shaped
+shape_at m n words One None d shaped fits = undefined-HasShape m n words shaped
+shape_at m n words Undef None d shaped fits = undefined-HasShape m n words shaped
+shape_at m n words HighZ None d shaped fits = undefined-HasShape m n words shaped
 
 pub shape : KeepsShape
 unfolding written
 shape m n words we address d shaped fits =
-    written_at-HasShape m n words we (address_of address) d shaped fits
+    shape_at m n words we (address_of address) d shaped fits
 
 -- a known address of the right width names a word of the memory
 known-within :

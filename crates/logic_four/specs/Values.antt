@@ -24,6 +24,10 @@ code_of One = 1
 code_of Undef = 2
 code_of HighZ = 3
 
+-- the value of a code from 0 to 3
+abbrev pub value_of : ℕ → V4
+value_of code = if code == 0 then Zero else if code == 1 then One else if code == 2 then Undef else HighZ
+
 -- the character of a value: `0`, `1`, `x`, `z`
 abbrev pub value_char : V4 → ℕ
 value_char Zero = 48

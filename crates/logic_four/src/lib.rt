@@ -7,7 +7,7 @@ pub mod memory;
 pub mod values;
 
 pub use gates::{allows, and_all, bus_all, gate, or_all, tri, xor_all};
-pub use values::{not, of_char, settle, to_char};
+pub use values::{code, decoded, not, of_char, settle, to_char};
 
 /// The value of a signal.
 #[derive(Clone, Copy, Debug, PartialEq, Eq)]

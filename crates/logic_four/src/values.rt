@@ -1,7 +1,7 @@
 //! Single values: settling, inverting, and their characters.
 
-ghost use Rattle.std.specs.Prelude.{◌≡◌, Some};
-ghost use Rattle.logic_four.specs.Values.{settled, inverse, value_char, char_value};
+ghost use Rattle.std.specs.Prelude.{◌≡◌, ◌%◌, Some};
+ghost use Rattle.logic_four.specs.Values.{settled, inverse, code_of, value_of, value_char, char_value};
 
 use crate::V4;
 
@@ -12,6 +12,25 @@ pub fn settle(v: V4) -> V4
     match v {
         V4::HighZ => V4::Undef,
         settled => settled,
+    }
+}
+
+/// The code of a value, 0 to 3, in the order of the variants.
+pub fn code(v: V4) -> u64
+    ensures { result ≡ code_of v }
+{
+    v as u64
+}
+
+/// The value of the code in the two lowest bits.
+pub fn decoded(bits: u64) -> V4
+    ensures { result ≡ value_of (bits % 4) }
+{
+    match bits & 3 {
+        0 => V4::Zero,
+        1 => V4::One,
+        2 => V4::Undef,
+        _ => V4::HighZ,
     }
 }
 

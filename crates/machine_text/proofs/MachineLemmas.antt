@@ -4,11 +4,11 @@ use Rattle.std.proofs.lemmas.List.{take_more, take_all}
 use Rattle.std.specs.List.{filter_map, cons_option}
 use Rattle.text_lines.specs.First.{first}
 use Rattle.text_lines.specs.Lines.{parts_of}
-use Rattle.text_lines.proofs.FirstLemmas.{first-zero, first_none_more, first_some}
+use Rattle.text_lines.proofs.FirstLemmas.{fault_or_err, fault_or_ok, first-zero, first_none_more, first_some}
 use Rattle.text_lines.proofs.LineLemmas.{IsNextLine}
 use Rattle.machine_text.specs.declared.line.Setting.{Setting}
 use Rattle.machine_text.specs.declared.machine.MachNo.{MachNo}
-use Rattle.machine_text.specs.Settings.{says, settings_of, setting_of, fault_of, fault_or, answer_of}
+use Rattle.machine_text.specs.Settings.{says, settings_of, setting_of, fault_of, answer_of}
 use Rattle.machine_text.specs.Machines.{line_fault}
 
 -- what a line adds
@@ -35,14 +35,6 @@ settings_more parts k within = ap (filter_map (λ part. setting_of (says part)))
 pub record HasRead (text : List ℕ) (k : ℕ) (settings : List Setting) : Type 0 where
   pub so_far : settings ≡ settings_of (take k (parts_of text))
   pub no_fault : first (line_fault text) k ≡ None
-
-fault_or_err : (fault : Option MachNo) (o : Option Setting) (e : MachNo) → Err e ≡ fault_or fault o → fault ≡ Some e
-fault_or_err None o e is = cc
-fault_or_err (Some f) o e is = cc
-
-fault_or_ok : (fault : Option MachNo) (o p : Option Setting) → Ok p ≡ fault_or fault o → (fault ≡ None) × (p ≡ o)
-fault_or_ok None o p is = (refl, cc)
-fault_or_ok (Some f) o p is = cc
 
 -- the line after the k that have passed has its fault
 here : (text : List ℕ) (k line : ℕ) (part : List ℕ) (left : List (ℕ × List ℕ)) (settings : List Setting) → HasRead text k settings → IsNextLine (parts_of text) k line part left → line_fault text k ≡ fault_of settings line (says part)

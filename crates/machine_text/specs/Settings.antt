@@ -1,7 +1,8 @@
 -- What the lines of a machine text say.
-use Rattle.std.specs.Prelude.{ℕ, ◌-◌, ◌^◌, min, Bool, List, [], ◌∷◌, Option, Some, None, Result, Ok, Err, if◌then◌else◌}
+use Rattle.std.specs.Prelude.{ℕ, ◌-◌, ◌^◌, min, Bool, List, [], ◌∷◌, Option, Some, None, Result, if◌then◌else◌}
 use Rattle.std.specs.List.{list_any, filter_map}
 use Rattle.text_lines.specs.Words.{words_of}
+use Rattle.text_lines.specs.First.{fault_or}
 use Rattle.text_lines.specs.Numbers.{number_of}
 use Rattle.machine_text.specs.declared.quantity.Quantity.{Quantity}
 use Rattle.machine_text.specs.declared.line.Setting.{Setting}
@@ -46,11 +47,6 @@ fault_of earlier line (Sets quantity n) =
     if list_any (sets quantity) earlier then Some (Twice line)
     else if in_range quantity n then None
     else Some (Range line)
-
--- a fault, or else what is set
-abbrev pub fault_or : Option MachNo → Option Setting → Result (Option Setting) MachNo
-fault_or None setting = Ok setting
-fault_or (Some fault) setting = Err fault
 
 -- what a line sets, or its fault
 abbrev pub answer_of : List Setting → ℕ → Says → Result (Option Setting) MachNo

@@ -16,6 +16,7 @@ pub use reading::read_machine;
 #[cfg(test)]
 mod tests {
     use super::*;
+    use std::test::Fail;
 
     const SMALLEST: Machine = Machine {
         logic: 1,
@@ -32,6 +33,22 @@ mod tests {
         functions: 256,
         bits: 65_536,
     };
+
+    #[test]
+    fn says_why(rt: HostRuntime) -> Result<(), Fail> {
+        let lines = [
+            (MachNo::Syntax { line: 3 }, "line 3: syntax"),
+            (MachNo::Twice { line: 20 }, "line 20: given twice"),
+            (MachNo::Range { line: 1 }, "line 1: out of range"),
+            (MachNo::Ports { sum: 257 }, "257 ports, limit is 256"),
+            (MachNo::Memory, "out of memory"),
+        ];
+        for (no, want) in lines {
+            let line = format!(in rt.alloc(); "{no}")?;
+            assert_eq!(rt; line.as_str(), want);
+        }
+        Ok(())
+    }
 
     /// The texts that are refused, with their lines, and texts at the ends of the ranges.
     #[test]

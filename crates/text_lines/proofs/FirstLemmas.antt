@@ -1,7 +1,10 @@
 -- The first fault of several places.
-use Rattle.std.proofs.Common.{◌≡◌, ℕ, zero, suc, ◌<◌, ◌⊎◌, Option, Some, None, sym, ap, ◌∙◌, subst, refl, inl, inr, arith}
+use Rattle.std.proofs.Common.{◌≡◌, ℕ, zero, suc, ◌<◌, ◌⊎◌, Option, Some, None, Ok, Err, sym, ap, ◌∙◌, subst, refl, inl, inr, arith}
 use Rattle.std.proofs.lemmas.Bool.{cases_lt}
-use Rattle.text_lines.specs.First.{or_else, first}
+use Rattle.text_lines.specs.First.{or_else, first, fault_or}
+
+pub none_is_not_some : {A : Type 0} {x : A} → None ≡ Some x → ⊥
+none_is_not_some e = cc
 
 pub first-zero : {E : Type 0} (fault : ℕ → Option E) → first fault 0 ≡ None
 unfolding first
@@ -62,3 +65,13 @@ place_of_first fault (suc n) e some =
           (found.0, omega (arith, found.1), found.2, found.3)
       | inr here ↦ (n, omega arith, here.0, here.1)
     ]
+
+-- ---- a fault, or a value
+
+pub fault_or_err : {T E : Type 0} (fault : Option E) (x : T) (e : E) → Err e ≡ fault_or fault x → fault ≡ Some e
+fault_or_err None x e is = cc
+fault_or_err (Some f) x e is = cc
+
+pub fault_or_ok : {T E : Type 0} (fault : Option E) (x y : T) → Ok y ≡ fault_or fault x → (fault ≡ None) × (y ≡ x)
+fault_or_ok None x y is = (refl, cc)
+fault_or_ok (Some f) x y is = cc

@@ -4,6 +4,7 @@ use Rattle.std.specs.Option.{option_map}
 use Rattle.std.proofs.lemmas.Bool.{cases_lt, cond-true, lt-ltb}
 use Rattle.std.proofs.lemmas.List.{drop_all, drop_more}
 use Rattle.std.specs.List.{enumerate_from, before_first, after_first, position_or_len}
+use Rattle.text_lines.proofs.FirstLemmas.{none_is_not_some}
 use Rattle.text_lines.specs.Bytes.{is_line_feed, cut_at}
 use Rattle.text_lines.specs.Lines.{lines_of, part_of, parts_of}
 
@@ -22,9 +23,6 @@ parts_of-nil = refl
 pub parts_of_first : (text line rest : List ℕ) → lines_of text ≡ line ∷ lines_of rest → parts_of text ≡ part_of line ∷ parts_of rest
 unfolding parts_of
 parts_of_first text line rest first = ap (map part_of) first
-
-none_is_not_some : {A : Type 0} {x : A} → None ≡ Some x → ⊥
-none_is_not_some e = cc
 
 -- a text with no LF is one line
 pub lines_of_one : (text : List ℕ) → 0 < length text → cut_at 10 text ≡ None → lines_of text ≡ text ∷ lines_of []

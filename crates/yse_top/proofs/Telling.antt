@@ -1,11 +1,12 @@
 -- Lemmas on what a sink has taken of pieces that are written one after the other.
-use Rattle.std.proofs.Common.{◌≡◌, ◌∙◌, sym, ◌⊎◌, inl, inr, ℕ, ◌+◌, ◌-◌, ◌^◌, ◌<◌, ◌≤◌, List, [], ◌∷◌, ◌++◌, append_assoc, length, get_or, take, drop, Option, None, Some, refl, ap, arith, length-append, Result, Ok, Err, OnOk, OnErr}
+use Rattle.std.proofs.Common.{◌≡◌, ◌∙◌, sym, ◌⊎◌, inl, inr, ℕ, ◌+◌, ◌-◌, ◌^◌, ◌<◌, ◌≤◌, List, [], ◌∷◌, ◌++◌, append_assoc, length, get_or, take, drop, Option, ap, arith, length-append, Result, Ok, Err, OnOk, OnErr}
 use Rattle.edge_io.specs.declared.writing.WriteNo.{WriteNo}
 use Rattle.std.specs.Io.KnownBytes.{append_known}
 use Rattle.std.proofs.Math.Seq.{take-append-add, take-length}
 use Rattle.std.proofs.lemmas.Bool.{cases_lt}
 use Rattle.std.proofs.lemmas.List.{append-nil, take_more, take-append-drop, take-append-le}
 use Rattle.std.proofs.lemmas.List.Concat.{flat_map-append}
+use Rattle.edge_io.proofs.Taking.{append_known-append}
 use Rattle.edge_io.specs.Counts.{Rose}
 use Rattle.edge_io.specs.Writing.{TakesProperPrefix}
 use Rattle.yse_top.specs.Lines.{Tells, joined}
@@ -17,11 +18,6 @@ rose_since early late now a b rose = λ h. by (cases_lt late (2 ^ 64 - 1)) h
     by : (late < 2 ^ 64 - 1) ⊎ (2 ^ 64 - 1 ≤ late) → early < 2 ^ 64 - 1 → early < now
     by (inl l) h = let r : late < now = rose l in omega arith
     by (inr l) h = omega arith
-
--- two pieces after one another
-pub append_known-twice : (told : Option (List ℕ)) (a b : List ℕ) → append_known (append_known told a) b ≡ append_known told (a ++ b)
-append_known-twice None a b = refl
-append_known-twice (Some xs) a b = ap Some (append_assoc xs a b)
 
 -- a proper prefix of the first piece is one of both
 pub prefix_of_both : (old new : Option (List ℕ)) (a b : List ℕ) → TakesProperPrefix old new a → TakesProperPrefix old new (a ++ b)
@@ -41,7 +37,7 @@ prefix_after old mid new a b is p =
       count = length a + p.count;
       proper = omega (arith, length-append a b);
       taken = (p.taken ∙ ap (λ (told : Option (List ℕ)). append_known told (take p.count b)) is)
-          ∙ append_known-twice old a (take p.count b) ∙ ap (append_known old) (sym (take-append-add a b p.count));
+          ∙ append_known-append old a (take p.count b) ∙ ap (append_known old) (sym (take-append-add a b p.count));
     }
 
 -- the line ended at a fault in its first piece
@@ -55,14 +51,14 @@ tells_on old mid new f g h a b is kept kept_on t = record {
   front = (
     length a + t.front.0,
     (t.front.1 ∙ ap (λ (told : Option (List ℕ)). append_known told (take t.front.0 b)) is)
-        ∙ append_known-twice old a (take t.front.0 b) ∙ ap (append_known old) (sym (take-append-add a b t.front.0)),
+        ∙ append_known-append old a (take t.front.0 b) ∙ ap (append_known old) (sym (take-append-add a b t.front.0)),
   );
   whole = by t.whole;
 }
   where
     by : Rose g h ⊎ (new ≡ append_known mid b) → Rose f h ⊎ (new ≡ append_known old (a ++ b))
     by (inl rose) = inl (rose_since f g h kept kept_on rose)
-    by (inr all) = inr ((all ∙ ap (λ (told : Option (List ℕ)). append_known told b) is) ∙ append_known-twice old a b)
+    by (inr all) = inr ((all ∙ ap (λ (told : Option (List ℕ)). append_known told b) is) ∙ append_known-append old a b)
 
 -- one piece is told
 pub tells_piece : (old new : Option (List ℕ)) (f g : ℕ) (piece : List ℕ) (r : Result (Unit {0}) WriteNo) → OnOk r (new ≡ append_known old piece) → OnErr r (TakesProperPrefix old new piece) → OnErr r (Rose f g) → Tells old new f g piece

@@ -1,5 +1,6 @@
 use Rattle.std.proofs.Common.{◌*◌, arith}
-use Rattle.array_cells.proofs.CodeLemmas.{code_of_small, replaced, code_in-replaced_same, code_in-replaced_other}
+use Rattle.logic_four.proofs.CodeLemmas.{code_of_small}
+use Rattle.array_cells.proofs.CodeLemmas.{replaced, code_in-replaced_same, code_in-replaced_other}
 use Rattle.array_cells.proofs.packed.with_value.Goals as goal
 
 pub returns-clause-here : goal.returns-clause-here

@@ -1,7 +1,7 @@
 use Rattle.std.proofs.Common.{ap, ◌∙◌}
 use Rattle.logic_four.specs.Values.{code_of}
 use Rattle.func_table.proofs.Digits.{packs_more}
-use Rattle.func_table.proofs.EntryLemmas.{code_of_small}
+use Rattle.logic_four.proofs.CodeLemmas.{code_of_small}
 use Rattle.func_table.proofs.table.word_from.Goals as goal
 
 pub entries-preserved : goal.entries-preserved

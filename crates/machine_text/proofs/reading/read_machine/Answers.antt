@@ -1,15 +1,12 @@
-use Rattle.std.proofs.Common.{◌≡◌, Some, None, sym, ap, ◌∙◌, ⊎_elim, arith}
+use Rattle.std.proofs.Common.{◌≡◌, sym, ap, ◌∙◌, ⊎_elim, arith}
 use Rattle.std.proofs.lemmas.Result.{err_from_is_err_and}
 use Rattle.text_lines.specs.Lines.{parts_of}
-use Rattle.machine_text.specs.declared.machine.MachNo.{MachNo}
+use Rattle.text_lines.proofs.FirstLemmas.{none_is_not_some}
 use Rattle.machine_text.specs.declared.quantity.Quantity.TheVariants.{Logic, Array}
 use Rattle.machine_text.specs.Settings.{settings_of}
 use Rattle.machine_text.specs.Machines.{machine_of}
 use Rattle.machine_text.proofs.LawLemmas.{bounds_from_no_fault, reads_from_made, valid_from_reads, lines_from_reads, no_fault_from_reads}
 use Rattle.machine_text.proofs.reading.read_machine.Goals as goal
-
-none_is_no_fault : (e : MachNo) → None ≡ Some e → ⊥
-none_is_no_fault e is = cc
 
 made : (c : goal.After-struct_known-1) → c.machine_of-machine.result ≡ machine_of (settings_of (parts_of c.args.bytes.now))
 made c = c.machine_of-machine.ensures ∙ ap machine_of (c.as_slice.ensures ∙ c.in_ok-settings.ensures.1)
@@ -43,4 +40,4 @@ pub returns-in_err-settings-clause-only : goal.returns-in_err-settings-clause-on
 returns-in_err-settings-clause-only c machine reads =
     let text = c.args.bytes.now in
     let p = err_from_is_err_and c.from_residual.result c.from_residual.ensures.1 in
-    (no_fault_from_reads text machine reads, rw p.1 (⊎_elim (λ memory. p.2 ∙ memory) (λ fault. absurd (none_is_no_fault _ (sym (lines_from_reads text machine reads) ∙ fault))) c.in_err-settings.ensures))
+    (no_fault_from_reads text machine reads, rw p.1 (⊎_elim (λ memory. p.2 ∙ memory) (λ fault. absurd (none_is_not_some (sym (lines_from_reads text machine reads) ∙ fault))) c.in_err-settings.ensures))

@@ -1,0 +1,13 @@
+use Rattle.std.proofs.Common.{◌≡◌, arith, subst, length}
+use Rattle.rank_find.proofs.NumberLemmas.{IsRankedTo, ranked_more, ranked_all}
+use Rattle.rank_find.proofs.numbers.rank_numbers.Goals as goal
+
+pub loop-gate-preserved : goal.loop-gate-preserved
+loop-gate-preserved c =
+    rw c.set.ensures (ranked_more _ _ _ _ _ c.requires.order c.loop-gate.invariant c.loop-gate-test.true _
+    (rw (← c.as_slice.ensures, ← c.awaited.ensures) c.rank_above-number.ensures))
+
+pub returns : goal.returns
+returns c =
+    let whole : c.loop-gate.gate-index ≡ length c.args.order.now = omega arith in
+    ranked_all _ _ _ _ c.requires.order (subst (λ n. IsRankedTo c.args.net.now c.args.timing.now c.args.order.now n c.loop-gate.rank) whole c.loop-gate.invariant)

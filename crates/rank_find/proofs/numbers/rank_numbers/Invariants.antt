@@ -1,0 +1,5 @@
+use Rattle.rank_find.proofs.NumberLemmas.{IsRankedTo}
+use Rattle.rank_find.proofs.numbers.rank_numbers.Given as goal
+
+abbrev pub invariant-loop-gate : goal.invariant-loop-gate
+invariant-loop-gate l = IsRankedTo l.net l.timing l.order l.gate-index l.rank

@@ -1,0 +1,4 @@
+pub mod Circle
+pub mod Refusal
+pub mod Walk
+pub mod Found

@@ -1,0 +1,9 @@
+-- What a refusal carries.
+use Rattle.std.specs.Prelude.{List, ℕ, ⊤}
+use Rattle.rank_find.specs.declared.RankNo.{RankNo}
+use Rattle.rank_find.specs.declared.RankNo.TheVariants.{Loop, Memory}
+
+-- a refusal for a loop carries one that is so
+abbrev pub IfLoop : RankNo → (List ℕ → Type 0) → Type 0
+IfLoop (Loop signals) P = P signals
+IfLoop Memory P = ⊤

@@ -1,0 +1,91 @@
+//! An order of the gates of a netlist in which each comes after the gates that it waits for, with
+//! the rank of each gate; or a loop of gates that wait for one another.
+#![tactic(auto)]
+
+ghost use Rattle.std.specs.Prelude.{◌≡◌, ◌<◌, ◌≤◌, ◌^◌, List as Items, ℕ, length, IfOk, IfErr, OnOk};
+ghost use Rattle.net_defs.specs.declared.netlist.Netlist.{Netlist};
+ghost use Rattle.net_defs.specs.declared.timing.Timing.{Timing};
+ghost use Rattle.net_defs.specs.declared.timing.Mode.TheVariants as mode;
+ghost use Rattle.net_defs.specs.Loops.{IsOrder, IsLoop, AreRanks, OrderOrLoop};
+ghost use Rattle.rank_find.specs.Refusal.{IfLoop};
+ghost use Rattle.rank_find.specs.Found.{IsFound};
+
+mod circle;
+mod numbers;
+#[cfg(test)]
+mod tests;
+mod walk;
+
+use net_defs::{Netlist, Ranks, Timing};
+use numbers::rank_numbers;
+use seen_list::{List, Memory};
+use std::alloc::Global;
+use walk::Walk;
+
+/// Why there are no ranks.
+#[derive(Drop)]
+pub enum RankNo {
+    /// The gates of a loop: each is an operand of the next, and the last one of the first. It begins
+    /// with the gate that stands first in signal order. Which loop is named is free.
+    Loop(List<u32>),
+    /// Want of memory.
+    Memory,
+}
+
+/// An order of all gates, and the rank of each signal. In rank order each gate comes after the gates
+/// among its operands, and there is none where gates wait for one another in a loop; in unit delay a
+/// gate waits for nothing, and any order will do. Time and memory grow with the netlist's size, and
+/// no call is as deep as the netlist. It serves any netlist of fewer than 2^32 signals, so each valid
+/// one; an operand that is no signal is waited for by nobody.
+pub fn rank(alloc: Global, net: &Netlist, timing: &Timing) -> Result<Ranks, RankNo>
+    requires { length net.now.signals < 2 ^ 32 }
+    ensures ranks { IfOk result (AreRanks net.now timing.now) }
+
+    // A loop is answered exactly where there is one, which is in rank order alone.
+    ensures acyclic { OnOk result ((members : Items ℕ) → IsLoop net.now timing.now members → ⊥) }
+    ensures looped { IfErr result (λ no. IfLoop no (IsLoop net.now timing.now)) }
+    ensures in_rank_order { IfErr result (λ no. IfLoop no (λ _. timing.now.mode ≡ mode.Rank)) }
+{
+    match find_order(alloc, net, timing) {
+        Ok(Found::Order(order)) => ranked(alloc, net, timing, order),
+        Ok(Found::Loop(members)) => Err(RankNo::Loop(members)),
+        Err(Memory) => Err(RankNo::Memory),
+    }
+}
+
+/// What a walk over the whole netlist finds.
+#[derive(Drop)]
+enum Found {
+    Order(List<u32>),
+    Loop(List<u32>),
+}
+
+fn find_order(alloc: Global, net: &Netlist, timing: &Timing) -> Result<Found, Memory>
+    requires { length net.now.signals < 2 ^ 32 }
+    ensures { IfOk result (IsFound net.now timing.now) }
+{
+    let mut walk = Walk::new(alloc, net)?;
+    match walk.run(alloc, net, timing)? {
+        Some(members) => Ok(Found::Loop(members)),
+        None => Ok(Found::Order(walk.into_order())),
+    }
+}
+
+fn ranked(alloc: Global, net: &Netlist, timing: &Timing, order: List<u32>) -> Result<Ranks, RankNo>
+    requires order { IsOrder net.now timing.now order }
+    requires short { length order < 2 ^ 32 }
+    ensures ranks { IfOk result (AreRanks net.now timing.now) }
+    ensures memory { IfErr result (λ no. no ≡ RankNo.Memory) }
+{
+    match rank_numbers(alloc, net, timing, order.as_slice()) {
+        Ok(rank) => Ok(Ranks { order, rank }),
+        Err(Memory) => Err(RankNo::Memory),
+    }
+}
+
+/// A law: every netlist has an order or a loop, and none has both. It does nothing.
+pub fn order_or_loop()
+    ensures one { (net : Netlist) (timing : Timing) → OrderOrLoop net timing }
+    ensures never_both { (net : Netlist) (timing : Timing) (order members : Items ℕ)
+        → IsOrder net timing order → IsLoop net timing members → ⊥ }
+{}
