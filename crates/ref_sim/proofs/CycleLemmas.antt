@@ -1,0 +1,215 @@
+-- Turns, cycles and rows of a run, against every simulation.
+use Rattle.std.proofs.Common.{◌≡◌, ◌≢◌, ◌∙◌, ℕ, zero, suc, ◌+◌, ◌-◌, ◌*◌, ◌/◌, ◌%◌, ◌<◌, ◌≤◌, inl, inr, Bool, true, false, if◌then◌else◌, ◌&&◌, ◌==◌, nat_le, List, [], ◌∷◌, ◌++◌, length, take, replicate, get_or, refl, sym, ap, subst, arith, Some, IsTrue}
+use Rattle.std.specs.List.{slice_get}
+use Rattle.std.proofs.lemmas.Option.{slice_get_within, slice_get-get_or, get_or_from_slice_get}
+use Rattle.std.proofs.lemmas.List.{length-map, length-replicate}
+use Rattle.logic_four.specs.declared.V4.{V4}
+use Rattle.logic_four.specs.declared.V4.TheVariants.{Undef}
+use Rattle.net_defs.specs.declared.netlist.Netlist.{Netlist}
+use Rattle.net_defs.specs.declared.netlist.Driver.{Driver}
+use Rattle.net_defs.specs.declared.netlist.Driver.TheVariants.{Input, Gate, Dff, BlockBit}
+use Rattle.net_defs.specs.declared.timing.Timing.{Timing}
+use Rattle.net_defs.specs.declared.stimulus.Stimulus.{Stimulus}
+use Rattle.net_defs.specs.Time.{value_at, initial_value, is_edge, cycle_of, cycle_rows, cycle_count, turn_count, input_at}
+use Rattle.net_defs.specs.Valid.{is_input}
+use Rattle.net_defs.specs.Steps.{State, values_of, first_state}
+use Rattle.net_defs.specs.Loops.{IsOrder}
+use Rattle.net_defs.specs.Reference.{IsSimulation}
+use Rattle.std.specs.List.{flat_map}
+use Rattle.std.proofs.Math.Nat.{mul-le-mul_left}
+use Rattle.std.proofs.lemmas.Nat.{mod-mul-add, div-mul-add}
+use Rattle.std.proofs.lemmas.Bool.Decides.{eqb_tells, leb_tells}
+use Rattle.std.proofs.lemmas.List.{length_push, get_or_append_left, get_or_push, get_or-replicate, take_more}
+use Rattle.std.proofs.lemmas.List.Concat.{get_or-flat_map}
+use Rattle.std.proofs.lemmas.List.Folds.{length-flat_map-take}
+use Rattle.std.proofs.lemmas.Grind.{flat_map-append}
+use Rattle.std.proofs.Common.{length-append, append-nil}
+use Rattle.net_defs.specs.declared.stimulus.StimRow.{StimRow}
+use Rattle.net_defs.specs.declared.stimulus.CellRow.{CellRow}
+use Rattle.net_defs.specs.declared.stimulus.Rows.{Rows}
+use Rattle.net_defs.specs.Trace.{cells_of}
+use Rattle.rank_find.proofs.ListLemmas.{last_or}
+use Rattle.ref_sim.specs.declared.turn.Phase.{Phase}
+use Rattle.ref_sim.specs.declared.turn.Phase.TheVariants as phase
+use Rattle.logic_four.specs.Memory.{initial_words}
+use Rattle.logic_four.proofs.MemoryLemmas.{first_shape}
+use Rattle.std.proofs.lemmas.List.{get_or-map}
+use Rattle.ref_sim.specs.declared.plan.Plan.{Plan}
+use Rattle.ref_sim.specs.declared.turn.Machine.{Machine}
+use Rattle.ref_sim.specs.declared.turn.Staged.{Staged}
+use Rattle.ref_sim.specs.Turns.{state_of, IsReady, phase_of, driven_by, HoldInputs, StepsBy}
+use Rattle.ref_sim.specs.Runs.{AreCells, StandsAt, RunsTo, phase_at}
+use Rattle.ref_sim.proofs.Phases.{right_step}
+use Rattle.ref_sim.proofs.Uniqueness.{next_state}
+
+-- a turn within a cycle is not its first
+pub within_later : (is_first : Bool) (place : ℕ) → phase_at is_first place ≡ phase.Within → 0 < place
+within_later is_first zero is = by_first is_first is where
+  by_first : (test : Bool) → (if test then phase.Start else phase.Edge) ≡ phase.Within → 0 < 0
+  by_first true same = cc
+  by_first false same = cc
+within_later is_first (suc place) is = omega arith
+
+-- the inputs of a step are held
+pub step_inputs : (net : Netlist) (timing : Timing) (at : Phase) (inputs : List V4) (old new : State) → StepsBy net timing at inputs old new → HoldInputs net inputs new.row
+step_inputs net timing at inputs old new steps s signal is input = steps.values s signal is ∙ by_driver signal.driver input where
+  by_driver : (driver : Driver) → IsTrue (is_input driver) → driven_by net timing at inputs old new s driver ≡ value_at inputs s
+  by_driver Input input = refl
+  by_driver (Gate kind ops) input = cc
+  by_driver (Dff op) input = cc
+  by_driver (BlockBit memory bit) input = cc
+
+module _ (units cycle place : ℕ) (inside : place < units) where
+  within_cycle : (cycle * units + place + 1 - 1) % units ≡ place
+  within_cycle = ap (λ n. n % units) (omega arith) ∙ mod-mul-add cycle units place inside
+
+  number_of_cycle : cycle_of units (cycle * units + place + 1) ≡ cycle + 1
+  number_of_cycle = ap (λ n. n / units + 1) (omega arith) ∙ ap (λ n. n + 1) (div-mul-add cycle units place inside)
+
+  phase_start : cycle ≡ 0 → place ≡ 0 → phase_of units (cycle * units + place + 1) ≡ phase.Start
+  phase_start no_cycle no_place = let one : cycle * units + place + 1 ≡ 1 = rw (no_cycle, no_place) (omega arith) in rw one refl
+
+  turn_not_one : 0 < cycle * units + place → ((cycle * units + place + 1) == 1) ≡ false
+  turn_not_one later = elim (eqb_tells (cycle * units + place + 1) 1) [ inl h ↦ absurd (omega arith) | inr h ↦ h.0 ]
+
+  two_le : 0 < cycle * units + place → nat_le 2 (cycle * units + place + 1) ≡ true
+  two_le later = elim (leb_tells 2 (cycle * units + place + 1)) [ inl h ↦ h.0 | inr h ↦ absurd (omega arith) ]
+
+  phase_later : 0 < cycle * units + place → phase_of units (cycle * units + place + 1) ≡ (if place == 0 then phase.Edge else phase.Within)
+  phase_later later =
+      ap (λ b. if b then phase.Start else if is_edge units (cycle * units + place + 1) then phase.Edge else phase.Within) (turn_not_one later)
+      ∙ (ap (λ b. if b && ((cycle * units + place + 1 - 1) % units == 0) then phase.Edge else phase.Within) (two_le later)
+      ∙ ap (λ n. if n == 0 then phase.Edge else phase.Within) within_cycle)
+
+  pub phase_here : (is_first : Bool) → is_first ≡ (cycle == 0) → phase_of units (cycle * units + place + 1) ≡ phase_at is_first place
+  phase_here is_first first = elim (eqb_tells place 0) [
+    | inl no_place ↦ elim (eqb_tells cycle 0) [
+      | inl no_cycle ↦ phase_start no_cycle.1 no_place.1
+          ∙ (sym (ap (λ b. if b then phase.Start else phase.Edge) (first ∙ no_cycle.0)) ∙ sym (ap (λ b. if b then (if is_first then phase.Start else phase.Edge) else phase.Within) no_place.0))
+      | inr some_cycle ↦ phase_later (let product = mul-le-mul_left units (positive cycle some_cycle.1) in omega (arith, product))
+          ∙ (ap (λ b. if b then phase.Edge else phase.Within) no_place.0
+          ∙ (sym (ap (λ b. if b then phase.Start else phase.Edge) (first ∙ some_cycle.0)) ∙ sym (ap (λ b. if b then (if is_first then phase.Start else phase.Edge) else phase.Within) no_place.0)))
+    ]
+    | inr some_place ↦ phase_later (let more = positive place some_place.1 in omega arith)
+        ∙ (ap (λ b. if b then phase.Edge else phase.Within) some_place.0 ∙ sym (ap (λ b. if b then (if is_first then phase.Start else phase.Edge) else phase.Within) some_place.0))
+  ] where
+    positive : (n : ℕ) → n ≢ 0 → 1 ≤ n
+    positive n some = omega arith
+
+module _ (net : Netlist) (timing : Timing) (stimulus : Stimulus) (order : List ℕ) (is_order : IsOrder net timing order) where
+  -- one turn of a cycle
+  pub turn_stands : (is_first : Bool) (cycle place : ℕ) (values : List V4) (at : Phase) (old new : State) → is_first ≡ (cycle == 0) → cycle < cycle_count stimulus
+      → get_or (cycle_rows stimulus) cycle [] ≡ values → place < timing.units → at ≡ phase_at is_first place → StepsBy net timing at values old new
+      → StandsAt net timing stimulus (cycle * timing.units + place) old → StandsAt net timing stimulus (cycle * timing.units + (place + 1)) new
+  turn_stands is_first cycle place values at old new first within row inside is_at steps stands =
+      let phase_is : at ≡ phase_of timing.units (cycle * timing.units + place + 1) = is_at ∙ sym (phase_here timing.units cycle place inside is_first first) in
+      let by_turn = subst (λ p. StepsBy net timing p values old new) phase_is steps in
+      let given : (s : ℕ) → value_at values s ≡ input_at timing stimulus (cycle * timing.units + place + 1) s = λ s.
+      let number : cycle ≡ cycle_of timing.units (cycle * timing.units + place + 1) - 1 = omega (arith, number_of_cycle timing.units cycle place inside) in
+      ap (λ r. value_at r s) (sym row) ∙ ap (λ n. value_at (get_or (cycle_rows stimulus) n []) s) number in
+      let right = right_step net timing stimulus (cycle * timing.units + place + 1) values old new given by_turn in
+      let enough : cycle + 1 ≤ cycle_count stimulus = omega arith in
+      let product = mul-le-mul_left timing.units enough in
+      let short : (cycle * timing.units + place) + 1 ≤ turn_count timing stimulus = omega (arith, product) in
+      record {
+        state_there = λ states simulation.
+            let add : cycle * timing.units + (place + 1) ≡ cycle * timing.units + place + 1 = omega arith in
+            ap (slice_get states) add ∙ next_state net timing stimulus order is_order states simulation (cycle * timing.units + place) old new short (stands.state_there states simulation) right;
+      }
+
+  pub stands_at : (turn other : ℕ) (state : State) → turn ≡ other → StandsAt net timing stimulus turn state → StandsAt net timing stimulus other state
+  stands_at turn other state same stands = rw (← same) stands
+
+  pub run_start : (state : State) → state ≡ first_state net timing → RunsTo net timing stimulus [] state
+  run_start state is = record {
+    stands = record { state_there = λ states simulation. let none : 0 * timing.units ≡ 0 = omega arith in ap (slice_get states) none ∙ (simulation.first ∙ ap Some (sym is)) };
+    cells = λ c row there states simulation. let within = slice_get_within [] c row there in absurd (omega arith);
+  }
+
+  -- a row more
+  pub row_more : (rows : List CellRow) (old new : State) (row : CellRow) → RunsTo net timing stimulus rows old → StandsAt net timing stimulus ((length rows + 1) * timing.units) new
+      → row.cells ≡ values_of new.row net.printed → RunsTo net timing stimulus (rows ++ row ∷ []) new
+  row_more rows old new row runs stands is = record {
+    stands = rw (length_push rows row) stands;
+    cells = λ c other there states simulation.
+        let within = slice_get_within (rows ++ row ∷ []) c other there in
+        let read : get_or (rows ++ row ∷ []) c row ≡ other = get_or_from_slice_get (rows ++ row ∷ []) c other row there in
+        elim (last_or c (length rows) (omega (arith, length_push rows row))) [
+          | inl h ↦ runs.cells c other (slice_get-get_or rows c row h ∙ ap Some (sym (get_or_append_left rows (row ∷ []) row c h) ∙ read)) states simulation
+          | inr h ↦
+              let last : row ≡ other = sym (get_or_push rows row row c (sym h)) ∙ read in
+              let state = stands.state_there states simulation in
+              let there_is = get_or_from_slice_get states ((length rows + 1) * timing.units) new (record { row = []; words = [] }) state in
+              ap (λ r. r.cells) (sym last) ∙ (is ∙ (ap (λ w. values_of w.row net.printed) (sym there_is) ∙ ap (λ n. cells_of net timing states (n + 1)) (sym h)))
+        ];
+  }
+
+  -- one cycle more of a row of the stimulus
+  pub time_more : (begun rows new_rows : List CellRow) (old new : State) (row : CellRow) (times time : ℕ) (values inputs : List V4) (is_first : Bool)
+      → length rows ≡ length begun + time → time < times
+      → ((t : ℕ) → t < times → (length begun + t < cycle_count stimulus) × (get_or (cycle_rows stimulus) (length begun + t) [] ≡ values))
+      → inputs ≡ values → is_first ≡ (length rows == 0)
+      → ((cycle : ℕ) → is_first ≡ (cycle == 0) → cycle < cycle_count stimulus → get_or (cycle_rows stimulus) cycle [] ≡ inputs → StandsAt net timing stimulus (cycle * timing.units) old → StandsAt net timing stimulus ((cycle + 1) * timing.units) new)
+      → row.cells ≡ values_of new.row net.printed → new_rows ≡ rows ++ row ∷ [] → RunsTo net timing stimulus rows old → RunsTo net timing stimulus new_rows new
+  time_more begun rows new_rows old new row times time values inputs is_first long below given same first stands is pushed runs =
+      let at = given time below in
+      let within : length rows < cycle_count stimulus = rw long at.0 in
+      let read : get_or (cycle_rows stimulus) (length rows) [] ≡ inputs = ap (λ n. get_or (cycle_rows stimulus) n []) long ∙ (at.1 ∙ sym same) in
+      rw pushed (row_more rows old new row runs (stands (length rows) first within read runs.stands) is)
+
+  pub run_cells : (rows : Rows) (state : State) → length rows.rows ≡ cycle_count stimulus → RunsTo net timing stimulus rows.rows state → (states : List State) → IsSimulation net timing stimulus states → AreCells net timing stimulus states rows
+  run_cells rows state long runs states simulation = record {
+    cycles = long;
+    cells = λ c row there. runs.cells c row there states simulation;
+  }
+
+-- the cycles of one row of a stimulus
+abbrev repeats : StimRow → List (List V4)
+repeats row = replicate row.times row.values
+
+module _ (stimulus : Stimulus) (items : List StimRow) (i : ℕ) (row : StimRow) (whole : items ≡ stimulus.rows) (within : i < length items) (is : row ≡ get_or items i row) where
+  pub row_within : (t : ℕ) → t < row.times → length (flat_map repeats (take i items)) + t < cycle_count stimulus
+  row_within t below =
+      let fits : length (flat_map repeats (take i items)) + length (repeats (get_or items i row)) ≤ length (flat_map repeats items) = length-flat_map-take repeats items i row within in
+      let long : length (repeats row) ≡ row.times = length-replicate row.times row.values in
+      let same : length (repeats (get_or items i row)) ≡ length (repeats row) = ap (λ r. length (repeats r)) (sym is) in
+      let all : length (flat_map repeats items) ≡ cycle_count stimulus = ap (λ list. length (flat_map repeats list)) whole in
+      omega arith
+
+  pub row_values : (t : ℕ) → t < row.times → get_or (cycle_rows stimulus) (length (flat_map repeats (take i items)) + t) [] ≡ row.values
+  row_values t below =
+      let room : t < length (repeats (get_or items i row)) = rw (← is) (omega (arith, length-replicate row.times row.values)) in
+      ap (λ list. get_or (flat_map repeats list) (length (flat_map repeats (take i items)) + t) []) (sym whole)
+      ∙ (get_or-flat_map repeats items i t row [] within room
+      ∙ (ap (λ r. get_or (repeats r) t []) (sym is) ∙ get_or-replicate row.times t row.values [] below))
+
+  pub cycles_more : length (flat_map repeats (take (i + 1) items)) ≡ length (flat_map repeats (take i items)) + row.times
+  cycles_more =
+      ap (λ list. length (flat_map repeats list)) (take_more items i row within)
+      ∙ (ap (λ r. length (flat_map repeats (take i items ++ r ∷ []))) (sym is)
+      ∙ (ap length (flat_map-append repeats (take i items) (row ∷ []))
+      ∙ (length-append (flat_map repeats (take i items)) (flat_map repeats (row ∷ []))
+      ∙ ap (λ n. length (flat_map repeats (take i items)) + n) (ap length (append-nil (repeats row)) ∙ length-replicate row.times row.values))))
+
+-- what is given for each cycle of a row, at the rows that were run before
+pub row_given : (stimulus : Stimulus) (items : List StimRow) (i : ℕ) (row : StimRow) → items ≡ stimulus.rows → i < length items → row ≡ get_or items i row → (n : ℕ) → n ≡ length (flat_map repeats (take i items))
+    → (t : ℕ) → t < row.times → (n + t < cycle_count stimulus) × (get_or (cycle_rows stimulus) (n + t) [] ≡ row.values)
+row_given stimulus items i row whole within is n same t below =
+    (rw same (row_within stimulus items i row whole within is t below), rw same (row_values stimulus items i row whole within is t below))
+
+-- the first state is ready for a turn
+pub first_ready : (net : Netlist) (timing : Timing) (plan : Plan) (machine : Machine) (staged : Staged) → state_of machine ≡ first_state net timing
+    → (length staged.registers ≡ length plan.registers) × (length staged.late ≡ length plan.late) → IsReady net plan machine staged
+first_ready net timing plan machine staged is long = record {
+  row = ap (λ s. length s.row) is ∙ length-replicate (length net.signals) Undef;
+  words = record {
+    memories = ap (λ s. length s.words) is ∙ length-map net.blocks (λ memory. initial_words (length memory.address) (length memory.word) (initial_value timing.init));
+    shape = λ m memory there.
+        let read : get_or machine.words m [] ≡ initial_words (length memory.address) (length memory.word) (initial_value timing.init) =
+        ap (λ s. get_or s.words m []) is ∙ (get_or-map (λ memory. initial_words (length memory.address) (length memory.word) (initial_value timing.init)) net.blocks m memory [] (slice_get_within net.blocks m memory there)
+        ∙ ap (λ block. initial_words (length block.address) (length block.word) (initial_value timing.init)) (get_or_from_slice_get net.blocks m memory memory there)) in
+        rw read (first_shape (length memory.address) (length memory.word) (initial_value timing.init));
+  };
+  registers = long.0;
+  late = long.1;
+}

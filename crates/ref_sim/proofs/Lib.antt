@@ -1,0 +1,11 @@
+pub mod AddressLemmas
+pub mod Along
+pub mod TurnLemmas
+pub mod Rows
+pub mod Memories
+pub mod Writes
+pub mod Uniqueness
+pub mod Existence
+pub mod Phases
+pub mod CycleLemmas
+pub mod Simulations

@@ -1,0 +1,22 @@
+use Rattle.std.proofs.Common.{inl, inr, List, ℕ}
+use Rattle.net_defs.specs.declared.netlist.Netlist.{Netlist}
+use Rattle.net_defs.specs.declared.timing.Timing.{Timing}
+use Rattle.net_defs.specs.declared.stimulus.Stimulus.{Stimulus}
+use Rattle.net_defs.specs.Loops.{IsLoop}
+use Rattle.net_defs.specs.Reference.{HasOneSimulation}
+use Rattle.rank_find.proofs.Existence.{order_or_loop}
+use Rattle.rank_find.proofs.Exclusion.{loop_in_rank_order}
+use Rattle.ref_sim.proofs.Simulations.{one_along}
+use Rattle.ref_sim.proofs.one_simulation.Goals as goal
+
+without_loop : (net : Netlist) (timing : Timing) (stimulus : Stimulus) → ((members : List ℕ) → IsLoop net timing members → ⊥) → HasOneSimulation net timing stimulus
+without_loop net timing stimulus none = elim (order_or_loop net timing) [
+  | inl order ↦ one_along net timing stimulus order.0 order.1
+  | inr loop ↦ absurd (none loop.0 loop.1)
+]
+
+pub returns-clause-unit_delay : goal.returns-clause-unit_delay
+returns-clause-unit_delay c net timing stimulus unit = without_loop net timing stimulus (λ members is_loop. let rank = loop_in_rank_order net timing members is_loop in cc)
+
+pub returns-clause-rank_order : goal.returns-clause-rank_order
+returns-clause-rank_order c net timing stimulus none = without_loop net timing stimulus none

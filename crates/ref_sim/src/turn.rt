@@ -1,0 +1,293 @@
+//! One turn, in place.
+
+ghost use Rattle.std.specs.Prelude.{◌≡◌, ℕ, ◌<◌, ◌≤◌, length, slice_index, slice_set};
+ghost use Rattle.logic_four.specs.declared.V4.{V4};
+ghost use Rattle.net_defs.specs.Time.{value_at, initial_value};
+ghost use Rattle.net_defs.specs.Steps.{State, output_bit, words_of};
+ghost use Rattle.ref_sim.specs.Turns.{state_of, gate_driven, gate_at, settle_gate, along, held_driven, held_value, IsPlan, Puts, IsStagedTo, AreShaped, HasShortAddresses, WroteMemories, HoldInputs, WordsBy, StepsBy, IsReady};
+
+use crate::gates::{gate_over, value};
+use crate::memory::{read_bit, write_memory};
+use crate::plan::Plan;
+use logic_four::{V4, settle};
+use net_defs::{Driver, Init, Netlist, Timing, is_late};
+use seen_list::List;
+
+/// Where a turn stands in its cycle.
+#[derive(Clone, Copy, Debug, PartialEq, Eq)]
+pub(crate) enum Phase {
+    /// Turn 1.
+    Start,
+    /// The first turn of a later cycle.
+    Edge,
+    /// Any other turn.
+    Within,
+}
+
+/// A value for each signal, and the words of each memory.
+#[derive(Drop)]
+pub(crate) struct Machine {
+    pub(crate) row: List<V4>,
+    pub(crate) words: List<List<List<V4>>>,
+}
+
+/// Room for the values that registers and late gates get while the row is still that of the last
+/// turn.
+#[derive(Drop)]
+pub(crate) struct Staged {
+    pub(crate) registers: List<V4>,
+    pub(crate) late: List<V4>,
+}
+
+/// Takes the machine through a turn. In a turn within a cycle the inputs stay as they are.
+pub(crate) fn turn(
+    machine: &mut Machine,
+    staged: &mut Staged,
+    net: &Netlist,
+    timing: &Timing,
+    plan: &Plan,
+    at: Phase,
+    values: &[V4],
+)
+    requires plan { IsPlan net.now timing.now plan.now }
+    requires addresses { HasShortAddresses net.now }
+    requires ready { IsReady net.now plan.now machine.old staged.old }
+    requires inputs { at ≡ Phase.Within → HoldInputs net.now values.now machine.old.row }
+    ensures steps { StepsBy net.now timing.now at values.now (state_of machine.old) (state_of machine.new) }
+    ensures ready { IsReady net.now plan.now machine.new staged.new }
+{
+    stage_late(&mut staged.late, net, machine, plan);
+    stage_registers(&mut staged.registers, net, machine, plan, at);
+    write_words(&mut machine.words, net, &machine.row, at);
+    put_late(&mut machine.row, plan, &staged.late);
+    put_registers(&mut machine.row, timing, plan, at, &staged.registers);
+    begin_cycle(&mut machine.row, plan, at, values);
+    settle_plan(&mut machine.row, net, timing, plan);
+}
+
+fn stage_late(staged: &mut List<V4>, net: &Netlist, machine: &Machine, plan: &Plan)
+    requires addresses { HasShortAddresses net.now }
+    requires long { length staged.old ≡ length plan.now.late }
+    ensures values { IsStagedTo plan.now.late
+        (held_value net.now (state_of machine.now)) (length plan.now.late) staged.new }
+    ensures long { length staged.new ≡ length staged.old }
+{
+    stage(staged, net, machine, plan.late.as_slice());
+}
+
+fn put_late(row: &mut List<V4>, plan: &Plan, staged: &List<V4>)
+    requires { length plan.now.late ≤ length staged.now }
+    ensures { (f : ℕ → V4) → IsStagedTo plan.now.late f (length plan.now.late) staged.now
+        → Puts plan.now.late f (length plan.now.late) row.old row.new }
+{
+    commit(row, plan.late.as_slice(), staged.as_slice());
+}
+
+/// Gives each gate that is not late its value, in the plan's order.
+fn settle_plan(row: &mut List<V4>, net: &Netlist, timing: &Timing, plan: &Plan)
+    ensures { row.new ≡ along net.now timing.now plan.now.order row.old }
+{
+    settle_gates(row, net, timing, plan.order.as_slice());
+}
+
+fn stage_registers(staged: &mut List<V4>, net: &Netlist, machine: &Machine, plan: &Plan, at: Phase)
+    requires addresses { HasShortAddresses net.now }
+    requires long { length staged.old ≡ length plan.now.registers }
+    ensures edge { at ≡ Phase.Edge → IsStagedTo plan.now.registers
+        (held_value net.now (state_of machine.now)) (length plan.now.registers) staged.new }
+    ensures long { length staged.new ≡ length staged.old }
+{
+    match at {
+        Phase::Edge => stage(staged, net, machine, plan.registers.as_slice()),
+        Phase::Start | Phase::Within => {}
+    }
+}
+
+fn write_words(words: &mut List<List<List<V4>>>, net: &Netlist, row: &List<V4>, at: Phase)
+    requires addresses { HasShortAddresses net.now }
+    requires shaped { AreShaped net.now words.old }
+    ensures { WordsBy net.now at (record { row = row.now; words = words.old }) words.new }
+{
+    match at {
+        Phase::Edge => write_memories(words, net, row.as_slice()),
+        Phase::Start | Phase::Within => {}
+    }
+}
+
+/// Puts the inputs of a new cycle into the row.
+fn begin_cycle(row: &mut List<V4>, plan: &Plan, at: Phase, values: &[V4])
+    ensures begins { (at ≡ Phase.Within → ⊥)
+        → Puts plan.now.inputs (value_at values.now) (length plan.now.inputs) row.old row.new }
+    ensures within { at ≡ Phase.Within → row.new ≡ row.old }
+{
+    match at {
+        Phase::Within => {}
+        Phase::Start | Phase::Edge => put_inputs(row, plan.inputs.as_slice(), values),
+    }
+}
+
+fn stage(staged: &mut List<V4>, net: &Netlist, machine: &Machine, list: &[u32])
+    requires addresses { HasShortAddresses net.now }
+    requires long { length staged.old ≡ length list.now }
+    ensures values { IsStagedTo list.now (held_value net.now (state_of machine.now)) (length list.now) staged.new }
+    ensures long { length staged.new ≡ length staged.old }
+{
+    for k in 0..list.len() {
+        staged.set(k, held_value(net, machine, list[k]));
+    }
+}
+
+fn held_value(net: &Netlist, machine: &Machine, signal: u32) -> V4
+    requires { HasShortAddresses net.now }
+    ensures { result ≡ held_value net.now (state_of machine.now) signal }
+{
+    match net.signals.as_slice().get(signal as usize) {
+        Some(found) => held_driven(net, machine, signal, &found.driver),
+        None => V4::Undef,
+    }
+}
+
+fn held_driven(net: &Netlist, machine: &Machine, signal: u32, driver: &Driver) -> V4
+    requires { HasShortAddresses net.now }
+    ensures { result ≡ held_driven net.now (state_of machine.now) signal driver.now }
+{
+    let row = machine.row.as_slice();
+    match driver {
+        Driver::Input => value(row, signal),
+        Driver::Gate { kind, ops } => gate_over(*kind, row, ops.as_slice()),
+        Driver::Dff { op } => settle(value(row, *op)),
+        Driver::BlockBit { block, bit } => output_bit(net, machine, *block, *bit),
+    }
+}
+
+fn output_bit(net: &Netlist, machine: &Machine, number: u32, bit: u32) -> V4
+    requires { HasShortAddresses net.now }
+    ensures { result ≡ output_bit net.now (state_of machine.now) number bit }
+{
+    match net.blocks.as_slice().get(number as usize) {
+        Some(block) => {
+            let words = words_at(machine, number);
+            read_bit(words, machine.row.as_slice(), block, bit)
+        }
+        None => V4::Undef,
+    }
+}
+
+fn words_at(machine: &Machine, number: u32) -> &[List<V4>]
+    ensures { result.now ≡ words_of (state_of machine.now) number }
+{
+    match machine.words.as_slice().get(number as usize) {
+        Some(words) => words.as_slice(),
+        None => &[],
+    }
+}
+
+fn write_memories(words: &mut List<List<List<V4>>>, net: &Netlist, row: &[V4])
+    requires addresses { HasShortAddresses net.now }
+    requires shaped { AreShaped net.now words.old }
+    ensures { WroteMemories net.now row.now (length net.now.blocks) words.old words.new }
+{
+    for number in 0..net.blocks.len() {
+        write_memory(
+            &mut words.as_mut_slice()[number],
+            row,
+            &net.blocks.as_slice()[number],
+        );
+    }
+}
+
+fn commit(row: &mut List<V4>, list: &[u32], staged: &[V4])
+    requires { length list.now ≤ length staged.now }
+    ensures { (f : ℕ → V4) → IsStagedTo list.now f (length list.now) staged.now
+        → Puts list.now f (length list.now) row.old row.new }
+{
+    for k in 0..list.len() {
+        put(row, list[k], staged[k]);
+    }
+}
+
+/// Puts a value into the row, if there is such a signal.
+fn put(row: &mut List<V4>, signal: u32, v: V4)
+    ensures { row.new ≡ slice_set row.old signal v }
+{
+    if (signal as usize) < row.len() {
+        row.set(signal as usize, v);
+    }
+}
+
+fn put_registers(row: &mut List<V4>, timing: &Timing, plan: &Plan, at: Phase, staged: &List<V4>)
+    requires { length plan.now.registers ≤ length staged.now }
+    ensures start { at ≡ Phase.Start → Puts plan.now.registers (λ _. initial_value timing.now.init)
+        (length plan.now.registers) row.old row.new }
+    ensures edge { at ≡ Phase.Edge → (f : ℕ → V4)
+        → IsStagedTo plan.now.registers f (length plan.now.registers) staged.now
+        → Puts plan.now.registers f (length plan.now.registers) row.old row.new }
+    ensures within { at ≡ Phase.Within → row.new ≡ row.old }
+{
+    match at {
+        Phase::Start => fill(row, plan.registers.as_slice(), initial_value(timing.init)),
+        Phase::Edge => commit(row, plan.registers.as_slice(), staged.as_slice()),
+        Phase::Within => {}
+    }
+}
+
+pub(crate) fn initial_value(init: Init) -> V4
+    ensures { result ≡ initial_value init }
+{
+    match init {
+        Init::Undef => V4::Undef,
+        Init::Zero => V4::Zero,
+    }
+}
+
+fn fill(row: &mut List<V4>, list: &[u32], v: V4)
+    ensures { Puts list.now (λ _. v) (length list.now) row.old row.new }
+{
+    for k in 0..list.len() {
+        put(row, list[k], v);
+    }
+}
+
+fn put_inputs(row: &mut List<V4>, list: &[u32], values: &[V4])
+    ensures { Puts list.now (value_at values.now) (length list.now) row.old row.new }
+{
+    for k in 0..list.len() {
+        put(row, list[k], value(values, list[k]));
+    }
+}
+
+/// Gives each gate that is not late its value, one after the other.
+fn settle_gates(row: &mut List<V4>, net: &Netlist, timing: &Timing, order: &[u32])
+    ensures { row.new ≡ along net.now timing.now order.now row.old }
+{
+    for gate in order {
+        settle_gate(row, net, timing, *gate);
+    }
+}
+
+fn settle_gate(row: &mut List<V4>, net: &Netlist, timing: &Timing, gate: u32)
+    ensures { row.new ≡ settle_gate net.now timing.now row.old gate }
+{
+    if !is_late(net, timing, gate) {
+        let v = gate_at(net, row.as_slice(), gate);
+        put(row, gate, v);
+    }
+}
+
+fn gate_at(net: &Netlist, row: &[V4], gate: u32) -> V4
+    ensures { result ≡ gate_at net.now row.now gate }
+{
+    match net.signals.as_slice().get(gate as usize) {
+        Some(found) => gate_driven(row, gate, &found.driver),
+        None => value(row, gate),
+    }
+}
+
+fn gate_driven(row: &[V4], gate: u32, driver: &Driver) -> V4
+    ensures { result ≡ gate_driven row.now gate driver.now }
+{
+    match driver {
+        Driver::Gate { kind, ops } => gate_over(*kind, row, ops.as_slice()),
+        Driver::Input | Driver::Dff { .. } | Driver::BlockBit { .. } => value(row, gate),
+    }
+}

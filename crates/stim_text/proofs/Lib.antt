@@ -1,0 +1,4 @@
+mod LawLemmas
+mod PartLemmas
+mod RowLemmas
+mod StimLemmas

@@ -1,0 +1,21 @@
+use Rattle.std.proofs.Common.{◌∙◌}
+use Rattle.std.proofs.lemmas.Result.{err_from_is_err_and}
+use Rattle.stim_text.proofs.LawLemmas.{reads_from_none, none_from_reads, valid_from_reads, memory_from_reads}
+use Rattle.stim_text.proofs.reading.read_stim.Goals as goal
+
+pub returns-clause-answers : goal.returns-clause-answers
+returns-clause-answers c =
+    let read = c.in_ok-rows.ensures in
+    (read.0, reads_from_none c.args.inputs c.args.bytes.now c.in_ok-rows.rows read.0 read.1.0 read.1.1)
+
+pub returns-clause-valid : goal.returns-clause-valid
+returns-clause-valid c =
+    let read = c.in_ok-rows.ensures in
+    valid_from_reads c.args.inputs c.args.bytes.now _ (reads_from_none c.args.inputs c.args.bytes.now c.in_ok-rows.rows read.0 read.1.0 read.1.1)
+
+pub returns-in_err-rows-clause-only : goal.returns-in_err-rows-clause-only
+returns-in_err-rows-clause-only c stimulus reads =
+    let p = err_from_is_err_and c.from_residual.result c.from_residual.ensures.1 in
+    let text = c.args.bytes.now in
+    let memory = memory_from_reads c.args.inputs text stimulus c.in_err-rows.field-0.0 reads c.in_err-rows.ensures in
+    (none_from_reads c.args.inputs text stimulus reads, rw p.1 (p.2 ∙ memory))

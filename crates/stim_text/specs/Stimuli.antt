@@ -1,0 +1,34 @@
+-- Which stimulus a text reads as, and its first fault.
+use Rattle.std.specs.Prelude.{◌≡◌, ℕ, ◌+◌, ◌≤◌, List, [], length, take, slice_index_or, Option, All}
+use Rattle.std.specs.List.{sum_by, filter_map}
+use Rattle.text_lines.specs.First.{first}
+use Rattle.text_lines.specs.Lines.{parts_of}
+use Rattle.net_defs.specs.declared.stimulus.StimRow.{StimRow}
+use Rattle.net_defs.specs.declared.stimulus.Stimulus.{Stimulus}
+use Rattle.stim_text.specs.declared.refusal.StimNo.{StimNo}
+use Rattle.stim_text.specs.Rows.{IsAllowed, row_of, fault_of}
+
+-- the rows among lines, in order
+unfoldable pub rows_of : List (List ℕ) → List StimRow
+rows_of parts = filter_map row_of parts
+
+-- the sum of the repeats
+abbrev pub cycles_of : List StimRow → ℕ
+cycles_of rows = sum_by (λ row. row.times) rows
+
+-- The text reads as the stimulus: each line is blank or a row for so many inputs, the rows are those
+-- of the lines, and there are at most 1,000,000 cycles.
+pub record Reads (inputs : ℕ) (text : List ℕ) (stimulus : Stimulus) : Type 0 where
+  pub columns : stimulus.columns ≡ inputs
+  pub lines : All (IsAllowed inputs) (parts_of text)
+  pub rows : stimulus.rows ≡ rows_of (parts_of text)
+  pub cycles : cycles_of stimulus.rows ≤ 1000000
+
+-- the fault of the line at a place among the lines, counted from 0
+abbrev pub line_fault : ℕ → List ℕ → ℕ → Option StimNo
+line_fault inputs text i =
+    fault_of inputs (cycles_of (rows_of (take i (parts_of text)))) (i + 1) (slice_index_or (parts_of text) i [])
+
+-- the fault of the first line that has one
+abbrev pub first_fault : ℕ → List ℕ → Option StimNo
+first_fault inputs text = first (line_fault inputs text) (length (parts_of text))

@@ -1,0 +1,48 @@
+//! Why a stimulus text is refused.
+
+use seen_list::Memory;
+use std::fmt;
+
+/// Why a stimulus text is refused. Lines are counted from 1.
+#[derive(Clone, Copy, Debug, PartialEq, Eq)]
+pub enum StimNo {
+    /// A byte among the values of the line is neither a blank nor a value, which without inputs is
+    /// the byte `-`.
+    BadChar { line: u32 },
+    /// The line has `got` values where there are `want` inputs, or so many bytes `-`, of which one is
+    /// wanted, where there is no input.
+    Width { line: u32, got: u32, want: u32 },
+    /// What stands after the first `*` of the line is no number of 1 to 1,000,000.
+    Repeat { line: u32 },
+    /// The rows up to some line stand for more than 1,000,000 cycles.
+    TooManyCycles,
+    /// There was not enough memory to read the text.
+    Memory,
+}
+
+impl From<Memory> for StimNo {
+    ghost use Rattle.std.specs.Prelude.{◌≡◌};
+    ghost use Rattle.stim_text.specs.declared.refusal.StimNo.TheVariants.{Memory as NoMemory};
+
+    ghost from_gives = { λ _ e. e ≡ NoMemory };
+
+    fn from(_refused: Memory) -> StimNo {
+        StimNo::Memory
+    }
+}
+
+impl fmt::Display for StimNo {
+    fn fmt<W: fmt::Write>(&self, f: &mut fmt::Formatter<W>) -> fmt::Result {
+        match self {
+            StimNo::BadChar { line } => write!(f, "line {line}: bad character"),
+            StimNo::Width { line, got, want } => {
+                write!(f, "line {line}: {got} values, {want} wanted")
+            }
+            StimNo::Repeat { line } => write!(f, "line {line}: bad repeat"),
+            StimNo::TooManyCycles => write!(f, "too many cycles"),
+            StimNo::Memory => write!(f, "out of memory"),
+        }
+    }
+}
+
+impl std::error::Error for StimNo {}

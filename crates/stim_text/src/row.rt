@@ -1,0 +1,157 @@
+//! One line of a stimulus text.
+
+ghost use Rattle.std.specs.Prelude.{◌≡◌, ◌+◌, ◌≤◌, ◌<◌, ◌^◌, Some, None, max, List as Items, [], ◌∷◌, length, MatchResult, IfOk, IfSome};
+ghost use Rattle.std.specs.List.{list_all, filter_map};
+ghost use Rattle.text_lines.specs.First.{Answers};
+ghost use Rattle.text_lines.specs.Words.{words_of};
+ghost use Rattle.logic_four.specs.Values.{char_value};
+ghost use Rattle.stim_text.specs.declared.refusal.StimNo.TheVariants.{Memory as NoMemory};
+ghost use Rattle.stim_text.specs.Rows.{is_blank_part, values_part, repeat_of, repeat_in, is_value_byte, may_stand, width_of, row_of, row_fault, fault_of};
+
+use crate::refusal::StimNo;
+use logic_four::{V4, of_char};
+use net_defs::StimRow;
+use seen_list::{List, Memory};
+use std::alloc::Global;
+use text_lines::Words;
+use text_lines::bytes::{is_blank, split_once};
+use text_lines::numbers::number_within;
+
+/// The most cycles of one row, and of all rows together.
+const MOST_CYCLES: u32 = 1_000_000;
+
+/// Reads the part of a line outside its comment, after rows of so many cycles: the row that it is,
+/// or `None` where it is blank, or its fault.
+#[tactic(auto, unfolding(crate::specs::Rows::fault_of, crate::specs::Rows::row_of))]
+pub fn read_row(
+    alloc: Global,
+    inputs: u32,
+    cycles: u32,
+    line: u32,
+    part: &[u8],
+) -> Result<Option<StimRow>, StimNo>
+    requires short { length part.now < 2 ^ 32 }
+    requires few { cycles ≤ 1000000 }
+    ensures answers { Answers NoMemory result (fault_of inputs cycles line part.now) (λ row. row ≡ row_of part.now) }
+    ensures fits { IfOk result (λ read. IfSome read (λ row. cycles + row.times ≤ 1000000)) }
+{
+    if is_blank_part(part) {
+        return Ok(None);
+    }
+    let (values, repeat) = cut_row(part);
+    let times = checked_repeat(inputs, cycles, line, values, repeat)?;
+    let values = values_in(alloc, values)?;
+    Ok(Some(StimRow { values, times }))
+}
+
+/// The repeat of a row, or the row's fault.
+fn checked_repeat(
+    inputs: u32,
+    cycles: u32,
+    line: u32,
+    values: &[u8],
+    repeat: Option<u32>,
+) -> Result<u32, StimNo>
+    requires short { length values.now < 2 ^ 32 }
+    requires few { cycles ≤ 1000000 }
+    ensures checked { MatchResult result
+        (λ times. (row_fault inputs cycles line values.now repeat ≡ None) × (repeat ≡ Some times))
+        (λ e. row_fault inputs cycles line values.now repeat ≡ Some e) }
+    ensures fits { IfOk result (λ times. cycles + times ≤ 1000000) }
+{
+    if !are_allowed(inputs, values) {
+        return Err(StimNo::BadChar { line });
+    }
+    let Some(times) = repeat else {
+        return Err(StimNo::Repeat { line });
+    };
+    let got = width(inputs, values);
+    let want = inputs.max(1);
+    if got != want {
+        return Err(StimNo::Width { line, got, want });
+    }
+    if times > MOST_CYCLES - cycles {
+        return Err(StimNo::TooManyCycles);
+    }
+    Ok(times)
+}
+
+/// Whether the part of a line has blanks alone.
+#[tactic(auto, unfolding(crate::specs::Rows::is_blank_part))]
+fn is_blank_part(part: &[u8]) -> bool
+    ensures { result ≡ is_blank_part part.now }
+{
+    part.iter().all(|byte| is_blank(*byte))
+}
+
+/// The part of a row that holds its values, and its repeat, if that is an allowed one.
+#[tactic(auto, unfolding(crate::specs::Rows::values_part, crate::specs::Rows::repeat_of))]
+fn cut_row(part: &[u8]) -> (&[u8], Option<u32>)
+    ensures values { result.0.now ≡ values_part part.now }
+    ensures repeat { result.1 ≡ repeat_of part.now }
+    ensures shorter { length result.0.now ≤ length part.now }
+{
+    match split_once(part, b'*') {
+        Some((values, repeat)) => (values, repeat_in(repeat)),
+        None => (part, Some(1)),
+    }
+}
+
+/// The number of 1 to 1,000,000 that the text is, with blanks around.
+fn repeat_in(text: &[u8]) -> Option<u32>
+    ensures { result ≡ repeat_in (words_of text.now) }
+{
+    let mut words = Words::of(text);
+    let word = words.next()?;
+    if words.next().is_some() {
+        return None;
+    }
+    number_within(word, 1, MOST_CYCLES)
+}
+
+/// Whether the byte stands for the value of an input; where there are no inputs, whether it is `-`.
+#[tactic(auto, unfolding(crate::specs::Rows::is_value_byte))]
+fn is_value_byte(inputs: u32, byte: u8) -> bool
+    ensures { result ≡ is_value_byte inputs byte }
+{
+    if inputs == 0 {
+        byte == b'-'
+    } else {
+        of_char(byte).is_some()
+    }
+}
+
+/// Whether the values part has value bytes and blanks alone.
+#[tactic(auto, unfolding(crate::specs::Rows::may_stand))]
+fn are_allowed(inputs: u32, values: &[u8]) -> bool
+    ensures { result ≡ list_all (may_stand inputs) values.now }
+{
+    values
+        .iter()
+        .all(|byte| is_blank(*byte) || is_value_byte(inputs, *byte))
+}
+
+/// The number of value bytes.
+#[tactic(auto, unfolding(crate::specs::Rows::width_of))]
+fn width(inputs: u32, values: &[u8]) -> u32
+    requires { length values.now < 2 ^ 32 }
+    ensures { result ≡ width_of inputs values.now }
+{
+    values
+        .iter()
+        .filter(|byte| is_value_byte(inputs, **byte))
+        .count() as u32
+}
+
+/// The values that the characters stand for, in order. Other bytes stand for none.
+fn values_in(alloc: Global, bytes: &[u8]) -> Result<List<V4>, Memory>
+    ensures { IfOk result (λ values. values ≡ filter_map char_value bytes.now) }
+{
+    let mut values = List::new(alloc);
+    for byte in bytes {
+        if let Some(value) = of_char(*byte) {
+            values.push(value)?;
+        }
+    }
+    Ok(values)
+}

@@ -1,0 +1,175 @@
+//! A line of a trace in room of a fixed size.
+
+ghost use Rattle.std.specs.Prelude.{◌≡◌, ◌+◌, ◌^◌, ◌<◌, ◌≤◌, decimal, [], ◌∷◌, ◌++◌, length, map, max, IfOk, IfSome};
+ghost use Rattle.std.specs.List.{flat_map};
+ghost use Rattle.logic_four.specs.Values.{value_char};
+ghost use Rattle.net_defs.specs.Canonical.{name_of};
+ghost use Rattle.net_defs.specs.Trace.{header_line, cycle_line};
+ghost use Rattle.trace_text.specs.Line.{HasRoom, row_room};
+
+use itoa::Buffer;
+use logic_four::{V4, to_char};
+use net_defs::{Netlist, name};
+use seen_list::Memory;
+use std::alloc::Global;
+use std::marker::Model;
+
+/// The bytes of a line of cycles with no values: at most seven digits, a space and the line end.
+const ROW_ROOM: usize = 9;
+
+/// A line of a trace, made in room that was taken for the longest one. A contract sees its bytes and
+/// how many bytes there is room for.
+#[derive(Drop)]
+pub struct TraceLine {
+    buffer: Vec<u8>,
+    filled: usize,
+}
+
+impl Model for TraceLine {
+    ghost use Rattle.std.specs.Prelude.{◌≤◌, take, vec_len};
+    ghost use Rattle.trace_text.specs.Line.{Line};
+
+    ghost Value = { Line };
+
+    ghost view = { λ l. record { bytes = take l.filled l.buffer.items; room = vec_len l.buffer } };
+
+    ghost invariant = { λ l. l.filled ≤ vec_len l.buffer };
+}
+
+impl TraceLine {
+    /// An empty line with room for each line of a trace of the netlist.
+    pub fn new(alloc: Global, net: &Netlist) -> Result<TraceLine, Memory>
+        ensures room { IfOk result (HasRoom net.now) }
+        ensures empty { IfOk result (λ line. line.bytes ≡ []) }
+    {
+        let Some(room) = room_for(net) else {
+            return Err(Memory);
+        };
+        let buffer = vec![in alloc; 0u8; room]?;
+        Ok(TraceLine { buffer, filled: 0 })
+    }
+
+    /// The bytes of the line that was made last.
+    pub fn bytes(&self) -> &[u8]
+        ensures { result.now ≡ self.now.bytes }
+    {
+        &self.buffer[..self.filled]
+    }
+
+    /// Makes the header: `cycle`, and each printed name in file order after a space. It takes no
+    /// memory.
+    #[tactic(auto, unfolding(net_defs::specs::Trace::header_line))]
+    pub fn header(&mut self, net: &Netlist)
+        requires { HasRoom net.now self.old }
+        ensures { self.new ≡ record self.old { bytes = header_line net.now } }
+    {
+        self.clear();
+        self.push_bytes(b"cycle");
+        self.push_names(net);
+        self.push(b'\n');
+    }
+
+    /// Makes the line of a cycle, counted from 1, with the value of each printed signal in file order.
+    /// It takes no memory.
+    #[tactic(auto, unfolding(net_defs::specs::Trace::cycle_line))]
+    pub fn row(&mut self, cycle: u32, cells: &[V4])
+        requires room { row_room (length cells.now) ≤ self.old.room }
+        requires cycle { cycle ≤ 1000000 }
+        ensures { self.new ≡ record self.old { bytes = cycle_line cycle cells.now } }
+    {
+        self.clear();
+        self.push_number(cycle);
+        self.push(b' ');
+        self.push_values(cells);
+        self.push(b'\n');
+    }
+
+    fn clear(&mut self)
+        ensures { self.new ≡ record self.old { bytes = [] } }
+    {
+        self.filled = 0;
+    }
+
+    fn push(&mut self, byte: u8)
+        requires { length self.old.bytes + 1 ≤ self.old.room }
+        ensures bytes { self.new ≡ record self.old { bytes = self.old.bytes ++ byte ∷ [] } }
+        ensures len { length self.new.bytes ≡ length self.old.bytes + 1 }
+    {
+        self.buffer[self.filled] = byte;
+        self.filled += 1;
+    }
+
+    fn push_bytes(&mut self, piece: &[u8])
+        requires { length self.old.bytes + length piece.now ≤ self.old.room }
+        ensures bytes { self.new ≡ record self.old { bytes = self.old.bytes ++ piece.now } }
+        ensures len { length self.new.bytes ≡ length self.old.bytes + length piece.now }
+    {
+        for byte in piece {
+            self.push(*byte);
+        }
+    }
+
+    fn push_number(&mut self, number: u32)
+        requires room { length self.old.bytes + 7 ≤ self.old.room }
+        requires short { number < 10 ^ 7 }
+        ensures bytes { self.new ≡ record self.old { bytes = self.old.bytes ++ decimal number } }
+        ensures len { length self.new.bytes ≤ length self.old.bytes + 7 }
+    {
+        self.push_bytes(Buffer::new().format(number).as_bytes());
+    }
+
+    fn push_name(&mut self, name: &[u8])
+        requires { length self.old.bytes + 1 + length name.now ≤ self.old.room }
+        ensures { self.new ≡ record self.old { bytes = self.old.bytes ++ 32 ∷ name.now } }
+    {
+        self.push(b' ');
+        self.push_bytes(name);
+    }
+
+    fn push_names(&mut self, net: &Netlist)
+        requires { length self.old.bytes + length (flat_map (λ s. 32 ∷ name_of net.now s) net.now.printed) ≤ self.old.room }
+        ensures { self.new ≡ record self.old { bytes = self.old.bytes ++ flat_map (λ s. 32 ∷ name_of net.now s) net.now.printed } }
+    {
+        for number in net.printed.as_slice() {
+            self.push_name(name(net, *number));
+        }
+    }
+
+    fn push_values(&mut self, values: &[V4])
+        requires { length self.old.bytes + length values.now ≤ self.old.room }
+        ensures bytes { self.new ≡ record self.old { bytes = self.old.bytes ++ map value_char values.now } }
+        ensures len { length self.new.bytes ≡ length self.old.bytes + length values.now }
+    {
+        for value in values {
+            self.push(to_char(*value));
+        }
+    }
+}
+
+/// The bytes of the longest line of a trace of the netlist, if a `usize` can count them.
+fn room_for(net: &Netlist) -> Option<usize>
+    ensures { IfSome result (λ room. room ≡ max (length (header_line net.now)) (row_room (length net.now.printed))) }
+{
+    let header = header_length(net)?;
+    let row = net.printed.len().checked_add(ROW_ROOM)?;
+    Some(header.max(row))
+}
+
+/// The bytes of the header, if a `usize` can count them.
+#[tactic(auto, unfolding(net_defs::specs::Trace::header_line))]
+fn header_length(net: &Netlist) -> Option<usize>
+    ensures { IfSome result (λ n. n ≡ length (header_line net.now)) }
+{
+    names_length(net)?.checked_add(b"cycle\n".len())
+}
+
+/// The bytes of the printed names, each after a space, if a `usize` can count them.
+fn names_length(net: &Netlist) -> Option<usize>
+    ensures { IfSome result (λ n. n ≡ length (flat_map (λ s. 32 ∷ name_of net.now s) net.now.printed)) }
+{
+    let mut names = 0usize;
+    for number in net.printed.as_slice() {
+        names = names.checked_add(1)?.checked_add(name(net, *number).len())?;
+    }
+    Some(names)
+}
