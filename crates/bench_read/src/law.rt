@@ -1,0 +1,15 @@
+//! What holds of each netlist that a text reads as. The functions do nothing: their clauses are the
+//! laws.
+
+ghost use Rattle.std.specs.Prelude.{◌≡◌, None};
+ghost use Rattle.net_defs.specs.declared.netlist.Netlist.{Netlist};
+ghost use Rattle.bench_read.specs.Faults.{first_fault};
+ghost use Rattle.bench_read.specs.Reads.{Reads};
+
+use net_defs::Netlist;
+
+/// A text reads as one netlist at most, and has no fault beside it.
+pub fn reads_as_one(text: &[u8], net: &Netlist, other: &Netlist)
+    ensures one { Reads text.now net.now → Reads text.now other.now → net.now ≡ other.now }
+    ensures no_fault { Reads text.now net.now → first_fault text.now ≡ None }
+{}
