@@ -1,8 +1,11 @@
 mod DesignLemmas
 mod DraftLemmas
 mod DriveLemmas
+mod FormLemmas
 mod ListLemmas
+mod NameByteLemmas
 mod NameLemmas
 mod NumberLemmas
 mod ReadLemmas
 mod RowLemmas
+mod ValidLemmas

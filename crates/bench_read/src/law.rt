@@ -1,8 +1,9 @@
 //! What holds of each netlist that a text reads as. The functions do nothing: their clauses are the
 //! laws.
 
-ghost use Rattle.std.specs.Prelude.{◌≡◌, None};
+ghost use Rattle.std.specs.Prelude.{◌≡◌, ◌≤◌, None, length};
 ghost use Rattle.net_defs.specs.declared.netlist.Netlist.{Netlist};
+ghost use Rattle.net_defs.specs.Valid.{IsValid};
 ghost use Rattle.bench_read.specs.Faults.{first_fault};
 ghost use Rattle.bench_read.specs.Reads.{Reads};
 
@@ -12,4 +13,10 @@ use net_defs::Netlist;
 pub fn reads_as_one(text: &[u8], net: &Netlist, other: &Netlist)
     ensures one { Reads text.now net.now → Reads text.now other.now → net.now ≡ other.now }
     ensures no_fault { Reads text.now net.now → first_fault text.now ≡ None }
+{}
+
+/// What a text reads as is a valid netlist.
+pub fn reads_as_valid(text: &[u8], net: &Netlist)
+    requires { length text.now ≤ 67108864 }
+    ensures { Reads text.now net.now → IsValid net.now }
 {}
