@@ -1,14 +1,11 @@
 -- What the statement of a row is like.
-use Rattle.std.proofs.Common.{◌≡◌, ℕ, zero, suc, ◌+◌, ◌-◌, ◌<◌, ◌≤◌, Bool, true, false, not, ◌&&◌, cond, List, [], ◌∷◌, ◌++◌, length, take, drop, get_or, Option, Some, None, Result, Ok, Err, sym, ap, ◌∙◌, subst, refl, arith}
+use Rattle.std.proofs.Common.{◌≡◌, ℕ, zero, suc, ◌+◌, ◌-◌, ◌≤◌, Bool, true, false, cond, List, [], ◌∷◌, length, take, drop, Option, Some, None, Ok, Err, sym, subst, refl, arith}
 use Rattle.std.specs.List.{All, filter, slice_range}
-use Rattle.std.proofs.lemmas.Bool.{cases_Bool, cond-true, cond-false}
-use Rattle.std.proofs.lemmas.List.{length-take-le}
 use Rattle.std.proofs.lemmas.List.Elements.{All-nil, All-cons, All-head, All-tail}
 use Rattle.bench_text.specs.declared.token.Mark.{Mark}
 use Rattle.bench_text.specs.declared.token.Mark.TheVariants.{Open, Close, Comma, Equals, Semi, Left, Right, Name}
 use Rattle.bench_text.specs.declared.token.Token.{Token}
 use Rattle.bench_text.specs.Spans.{StandsIn}
-use Rattle.bench_read.specs.declared.refusal.BenchNo.{BenchNo}
 use Rattle.bench_read.specs.declared.refusal.BenchNo.TheVariants.{Arity}
 use Rattle.bench_read.specs.declared.statement.Form.{Form}
 use Rattle.bench_read.specs.declared.statement.Form.TheVariants as form
@@ -16,7 +13,7 @@ use Rattle.bench_read.specs.declared.statement.Act.{Act}
 use Rattle.bench_read.specs.declared.statement.Act.TheVariants as act
 use Rattle.bench_read.specs.declared.statement.Statement.{Statement}
 use Rattle.bench_read.specs.Words.{allows, gate_act, ram_act, act_of_kind, kind_of}
-use Rattle.bench_read.specs.Grammar.{rows_of, join_row, row_line, form_of, act_of, word_at, address_count, right_of, statement_by, names_in, driven_part, used_part, has_mark, same_mark, checked, said_by_act, said_by_form, said as said_of}
+use Rattle.bench_read.specs.Grammar.{rows_of, join_row, row_line, form_of, act_of, word_at, address_count, right_of, statement_by, names_in, driven_part, used_part, has_mark, same_mark, said_by_act, said_by_form, said as said_of}
 use Rattle.logic_four.specs.declared.Kind.{Kind}
 use Rattle.bench_read.proofs.NameByteLemmas.{IsNameToken}
 

@@ -3,9 +3,11 @@ mod DraftLemmas
 mod DriveLemmas
 mod FormLemmas
 mod ListLemmas
+mod MadeLemmas
 mod NameByteLemmas
 mod NameLemmas
 mod NumberLemmas
+mod PlainLemmas
 mod ReadLemmas
 mod RowLemmas
 mod ValidLemmas

@@ -1,12 +1,10 @@
 -- A name of a text is a name of a netlist.
-use Rattle.std.proofs.Common.{◌≡◌, ℕ, zero, suc, ◌+◌, ◌-◌, ◌<◌, ◌≤◌, Bool, true, false, not, ◌||◌, ◌&&◌, cond, eqb, leb, List, [], ◌∷◌, length, take, drop, Option, Some, None, sym, ap, ◌∙◌, subst, refl, inl, inr, ⊎_elim, arith, length-drop}
+use Rattle.std.proofs.Common.{◌≡◌, ℕ, ◌-◌, Bool, true, false, not, ◌||◌, ◌&&◌, cond, eqb, leb, List, [], ◌∷◌, length, drop, Some, None, ◌∙◌, subst, refl, arith, length-drop}
 use Rattle.std.specs.Prelude.{is_some}
-use Rattle.std.specs.List.{list_any, list_all, All, AllPass, slice_range}
+use Rattle.std.specs.List.{list_all, All}
 use Rattle.std.proofs.lemmas.Bool.{and_parts, and_from}
 use Rattle.std.proofs.lemmas.List.{length-take-le}
 use Rattle.std.proofs.lemmas.List.Sums.{list_all-from_AllPass}
-use Rattle.text_lines.specs.Bytes.{is_hash}
-use Rattle.bench_text.specs.declared.token.Mark.{Mark}
 use Rattle.bench_text.specs.declared.token.Mark.TheVariants.{Open, Close, Comma, Equals, Semi, Left, Right, Name}
 use Rattle.bench_text.specs.declared.token.Token.{Token}
 use Rattle.bench_text.specs.Bytes.{is_visible, sign_of, is_name_byte}
@@ -16,7 +14,7 @@ use Rattle.bench_text.specs.Spans as spans
 use Rattle.bench_text.proofs.SpanLemmas.{spans_law}
 use Rattle.net_defs.specs.Valid as valid
 use Rattle.net_defs.specs.Valid.{mark_bytes}
-use Rattle.bench_read.specs.Grammar.{text_of, same_mark}
+use Rattle.bench_read.specs.Grammar.{text_of}
 
 -- the two words for a byte of a name agree
 same_name_byte : (byte : ℕ) → valid.is_name_byte byte ≡ is_name_byte byte

@@ -1,11 +1,12 @@
 //! The reader of netlist texts.
 
-ghost use Rattle.std.specs.Prelude.{◌≡◌, ◌≤◌, ◌<◌, ◌^◌, None, MatchResult, length};
+ghost use Rattle.std.specs.Prelude.{◌≡◌, ◌≢◌, ◌≤◌, None, MatchResult, IfErr, length};
 ghost use Rattle.std.specs.Option.{option_map};
 ghost use Rattle.text_lines.specs.First.{Answers};
 ghost use Rattle.net_defs.specs.declared.netlist.Netlist.{Netlist};
+ghost use Rattle.bench_text.specs.declared.token.TextNo.TheVariants as text_no;
 ghost use Rattle.bench_text.specs.Tokens.{tokens_of, first_fault as byte_fault};
-ghost use Rattle.bench_read.specs.declared.refusal.BenchNo.TheVariants.{Memory as NoMemory};
+ghost use Rattle.bench_read.specs.declared.refusal.BenchNo.TheVariants.{Memory as NoMemory, Text};
 ghost use Rattle.bench_read.specs.Faults.{of_text, lines_fault, first_fault};
 ghost use Rattle.bench_read.specs.Reads.{IsRead, Reads};
 
@@ -32,6 +33,9 @@ pub fn read_bench(alloc: Global, bytes: &[u8]) -> Result<Netlist, BenchNo>
     // What the text reads as is read, unless memory ran out, and has no fault.
     ensures only { (net : Netlist) → Reads bytes.now net
         → (first_fault bytes.now ≡ None) × MatchResult result (λ read. read ≡ net) (λ no. no ≡ NoMemory) }
+
+    // Want of memory is never told as a fault of the text.
+    ensures plain { IfErr result (λ no. no ≢ Text text_no.Memory) }
 {
     let statements = read_lines(alloc, bytes)?;
     make_netlist(alloc, bytes, statements.as_slice())

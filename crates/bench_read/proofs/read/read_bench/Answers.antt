@@ -5,6 +5,7 @@ use Rattle.bench_read.specs.declared.refusal.BenchNo.TheVariants.{Memory}
 use Rattle.bench_read.specs.Faults.{uses_fault, first_fault}
 use Rattle.bench_read.specs.Netlists.{netlist_of}
 use Rattle.bench_read.specs.Reads.{Reads}
+use Rattle.bench_read.proofs.PlainLemmas.{plain_from}
 use Rattle.bench_read.proofs.ReadLemmas.{short_statements, lines_refused, answer_from_uses, only_from}
 use Rattle.bench_read.proofs.read.read_bench.Goals as goal
 
@@ -19,6 +20,13 @@ returns-in_err-statements-clause-only c =
     let answers : Answers Memory c.from_residual.result (first_fault c.args.bytes.now) (Reads c.args.bytes.now) =
     rw (p.1, p.2) (⊎_elim inl (λ fault. inr (lines_refused c.args.bytes.now c.in_err-statements.field-0.0 fault)) c.in_err-statements.ensures) in
     only_from c.args.bytes.now c.from_residual.result answers
+
+pub returns-in_err-statements-clause-plain : goal.returns-in_err-statements-clause-plain
+returns-in_err-statements-clause-plain c =
+    let p = err_from_is_err_and c.from_residual.result c.from_residual.ensures.1 in
+    let answers : Answers Memory c.from_residual.result (first_fault c.args.bytes.now) (Reads c.args.bytes.now) =
+    rw (p.1, p.2) (⊎_elim inl (λ fault. inr (lines_refused c.args.bytes.now c.in_err-statements.field-0.0 fault)) c.in_err-statements.ensures) in
+    plain_from c.args.bytes.now c.from_residual.result (Reads c.args.bytes.now) answers
 
 pub make_netlist-requires-clause-once : goal.make_netlist-requires-clause-once
 make_netlist-requires-clause-once c = rw c.as_slice.ensures c.in_ok-statements.ensures.1.sound.once
@@ -38,5 +46,11 @@ returns-clause-answers c =
 pub returns-clause-only : goal.returns-clause-only
 returns-clause-only c =
     only_from c.args.bytes.now c.make_netlist.result
+    (answer_from_uses c.args.bytes.now c.in_ok-statements.statements c.make_netlist.result c.in_ok-statements.ensures.0 c.in_ok-statements.ensures.1
+    (subst (λ statements. Answers Memory c.make_netlist.result (uses_fault c.args.bytes.now statements) (λ net. net ≡ netlist_of c.args.bytes.now statements)) c.as_slice.ensures c.make_netlist.ensures))
+
+pub returns-clause-plain : goal.returns-clause-plain
+returns-clause-plain c =
+    plain_from c.args.bytes.now c.make_netlist.result (Reads c.args.bytes.now)
     (answer_from_uses c.args.bytes.now c.in_ok-statements.statements c.make_netlist.result c.in_ok-statements.ensures.0 c.in_ok-statements.ensures.1
     (subst (λ statements. Answers Memory c.make_netlist.result (uses_fault c.args.bytes.now statements) (λ net. net ≡ netlist_of c.args.bytes.now statements)) c.as_slice.ensures c.make_netlist.ensures))
