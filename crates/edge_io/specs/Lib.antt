@@ -7,3 +7,5 @@ pub mod FileCounts
 pub mod MemStore
 pub mod MemRoom
 pub mod SinkCounts
+pub mod PlainStore
+pub mod PlainRoom

@@ -115,8 +115,7 @@ impl Files for MemFiles {
             return Err(Failed);
         }
         let left = &bytes_of(self.files.as_slice(), self.begun)[self.at..];
-        let n = buf.len().min(left.len());
-        buf[..n].copy_from_slice(&left[..n]);
+        let n = copy_front(left, buf);
         self.at += n;
         self.counts.read(n);
         Ok(n)
@@ -124,14 +123,14 @@ impl Files for MemFiles {
 }
 
 /// The place of the first file with this name.
-fn place_of(files: &[NamedBytes], name: &[u8]) -> Option<usize>
+pub(crate) fn place_of(files: &[NamedBytes], name: &[u8]) -> Option<usize>
     ensures { result ≡ place_named files.now name.now }
 {
     files.iter().position(|file| file.name.as_bytes() == name)
 }
 
 /// The bytes of the file at a place, or none.
-fn bytes_of(files: &[NamedBytes], place: Option<usize>) -> &[u8]
+pub(crate) fn bytes_of(files: &[NamedBytes], place: Option<usize>) -> &[u8]
     ensures { result.now ≡ bytes_at files.now place }
 {
     match place {
@@ -141,4 +140,14 @@ fn bytes_of(files: &[NamedBytes], place: Option<usize>) -> &[u8]
         },
         None => &[],
     }
+}
+
+/// Copies as many of the bytes as `buf` has places to its front, and answers how many.
+pub(crate) fn copy_front(bytes: &[u8], buf: &mut [u8]) -> usize
+    ensures count { result ≡ min (length buf.old) (length bytes.now) }
+    ensures buffer { buf.new ≡ take result bytes.now ++ drop result buf.old }
+{
+    let n = buf.len().min(bytes.len());
+    buf[..n].copy_from_slice(&bytes[..n]);
+    n
 }

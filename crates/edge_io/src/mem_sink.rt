@@ -4,7 +4,7 @@ ghost use Rattle.std.specs.Prelude.{◌≡◌, ◌≤◌, ◌<◌, Some, length,
 
 use crate::counts::raise;
 use crate::script::Script;
-use crate::{Failed, Sink};
+use crate::{Failed, PlainSink, Sink};
 use seen_list::{List, Memory};
 use std::alloc::Global;
 use std::marker::Model;
@@ -12,29 +12,27 @@ use std::marker::Model;
 /// Room for bytes in memory, of which one call takes at most so many.
 #[derive(Drop)]
 pub struct MemSink {
-    bytes: Vec<u8>,
-    room: usize,
+    plain: PlainSink,
     most: usize,
     script: Script,
     faults: u64,
 }
 
 impl Model for MemSink {
-    ghost use Rattle.std.specs.Prelude.{◌+◌, ◌≤◌, ◌<◌, vec_len};
-    ghost use Rattle.std.specs.Vec.{vec_capacity};
+    ghost use Rattle.std.specs.Prelude.{◌<◌};
     ghost use Rattle.edge_io.specs.MemRoom.{MemRoom};
 
     ghost Value = { MemRoom };
 
     ghost view = { λ s. record {
-      taken = s.bytes.items;
-      room = s.room;
+      taken = s.plain.taken;
+      room = s.plain.room;
       most = s.most;
       script = s.script;
       faults = s.faults;
     } };
 
-    ghost invariant = { λ s. (vec_len s.bytes + s.room ≤ vec_capacity s.bytes) × (0 < s.most) };
+    ghost invariant = { λ s. 0 < s.most };
 }
 
 impl MemSink {
@@ -47,10 +45,9 @@ impl MemSink {
         requires { 1 ≤ most }
         ensures { IfOk result (λ sink. sink ≡ untouched room most fails) }
     {
-        match Vec::with_capacity(alloc, room) {
-            Ok(bytes) => Ok(MemSink {
-                bytes,
-                room,
+        match PlainSink::new(alloc, room) {
+            Ok(plain) => Ok(MemSink {
+                plain,
                 most,
                 script: Script::new(fails),
                 faults: 0,
@@ -63,7 +60,7 @@ impl MemSink {
     pub fn taken(&self) -> &[u8]
         ensures { result.now ≡ self.now.taken }
     {
-        self.bytes.as_slice()
+        self.plain.taken()
     }
 }
 
@@ -83,16 +80,13 @@ impl Sink for MemSink {
         ensures after { MatchResult result (λ n. self.new ≡ after_write self.old piece.now n) (λ _. self.new ≡ after_failed_write self.old) }
     {
         let fails = self.script.call();
-        if fails || (self.room == 0 && !piece.is_empty()) {
+        let room = self.plain.room();
+        if fails || (room == 0 && !piece.is_empty()) {
             raise(&mut self.faults, 1);
             return Err(Failed);
         }
-        let n = piece.len().min(self.most.min(self.room));
-        match self.bytes.extend_from_slice(&piece[..n]) {
-            Ok(()) => {}
-            Err(_) => unreachable!(),
-        }
-        self.room -= n;
+        let n = piece.len().min(self.most.min(room));
+        self.plain.write(&piece[..n]);
         Ok(n)
     }
 }

@@ -86,6 +86,30 @@ fn writes_to_memory(rt: HostRuntime) -> Result<(), Fail> {
     Ok(())
 }
 
+/// Every name is there; one that isn't in the list is that of an empty file.
+#[test]
+fn reads_from_plain_files(rt: HostRuntime) -> Result<(), Fail> {
+    let mut files = List::new(rt.alloc());
+    files.push(file(rt.alloc(), b"a", b"abc")?)?;
+    let mut files = PlainFiles::new(files);
+    for (name, want) in [(b"absent".as_slice(), b"".as_slice()), (b"a", b"abc")] {
+        let bytes = read_file(rt.alloc(), &mut files, name, 3)?;
+        assert_eq!(rt; bytes.as_slice(), want);
+    }
+    Ok(())
+}
+
+/// Where there is memory enough, the room is taken; nothing that follows can fail.
+#[test]
+fn writes_to_plain_sinks(rt: HostRuntime) -> Result<(), Fail> {
+    let mut sink = PlainSink::new(rt.alloc(), 4)?;
+    sink.write(b"abc");
+    assert_eq!(rt; sink.taken(), b"abc".as_slice());
+    assert_eq!(rt; sink.room(), 1);
+    assert_eq!(rt; write_whole(&mut NullSink::new(), b"abc"), Ok(()));
+    Ok(())
+}
+
 #[test]
 fn reads_from_the_host(rt: HostRuntime) -> Result<(), Fail> {
     let now = SystemTime::now(&rt)?.duration_since(UNIX_EPOCH)?;

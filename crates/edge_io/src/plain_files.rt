@@ -1,0 +1,96 @@
+//! A store of files in memory whose calls never fail.
+
+ghost use Rattle.std.specs.Prelude.{◌≡◌, Ok, min, length, take, drop, ◌++◌, IsOk, IfOk};
+
+use crate::counts::FileCounts;
+use crate::mem_files::{NamedBytes, bytes_of, copy_front, place_of};
+use crate::{Failed, Files};
+use seen_list::List;
+use std::marker::Model;
+
+/// Files in memory, of which no call fails. The first with a name counts.
+///
+/// Every name is there: one that no file of the list has is that of an empty file.
+#[derive(Drop)]
+pub struct PlainFiles {
+    files: List<NamedBytes>,
+    begun: Option<usize>,
+    at: usize,
+    counts: FileCounts,
+}
+
+impl Model for PlainFiles {
+    ghost use Rattle.std.specs.Prelude.{◌≤◌, length, drop};
+    ghost use Rattle.edge_io.specs.MemStore.{bytes_at};
+    ghost use Rattle.edge_io.specs.PlainStore.{PlainStore};
+
+    ghost Value = { PlainStore };
+
+    ghost view = { λ s. record {
+      files = s.files;
+      left = drop s.at (bytes_at s.files s.begun);
+      counts = s.counts;
+    } };
+
+    ghost invariant = { λ s. s.at ≤ length (bytes_at s.files s.begun) };
+}
+
+impl PlainFiles {
+    ghost use Rattle.edge_io.specs.PlainStore.{unread};
+
+    /// A store of these files. It takes no memory.
+    pub fn new(files: List<NamedBytes>) -> PlainFiles
+        ensures { result ≡ unread files }
+    {
+        PlainFiles {
+            files,
+            begun: None,
+            at: 0,
+            counts: FileCounts::new(),
+        }
+    }
+}
+
+impl Files for PlainFiles {
+    ghost use Rattle.std.specs.Prelude.{Some};
+    ghost use Rattle.edge_io.specs.MemStore.{bytes_named};
+    ghost use Rattle.edge_io.specs.PlainStore.{has_name, started, read_past};
+
+    ghost names = { λ _. Some has_name };
+
+    ghost bytes = { λ s. Some (bytes_named s.files) };
+
+    ghost left = { λ s. Some s.left };
+
+    ghost faults = { λ _. 0 };
+
+    ghost starts = { λ s. s.counts.starts };
+
+    ghost absent_starts = { λ _. 0 };
+
+    ghost reads = { λ s. s.counts.reads };
+
+    ghost given = { λ s. s.counts.given };
+
+    fn start(&mut self, name: &[u8]) -> Result<(), Failed>
+        ensures answer { IsOk result }
+        ensures after { self.new ≡ started self.old name.now }
+    {
+        self.counts.start(false);
+        self.at = 0;
+        self.begun = place_of(self.files.as_slice(), name);
+        Ok(())
+    }
+
+    fn read(&mut self, buf: &mut [u8]) -> Result<usize, Failed>
+        ensures answer { result ≡ Ok (min (length buf.old) (length self.old.left)) }
+        ensures buffer { IfOk result (λ n. buf.new ≡ take n self.old.left ++ drop n buf.old) }
+        ensures after { IfOk result (λ n. self.new ≡ read_past self.old n) }
+    {
+        let left = &bytes_of(self.files.as_slice(), self.begun)[self.at..];
+        let n = copy_front(left, buf);
+        self.at += n;
+        self.counts.read(n);
+        Ok(n)
+    }
+}
