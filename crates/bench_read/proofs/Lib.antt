@@ -1,3 +1,4 @@
+mod CanonicalLines
 mod DesignLemmas
 mod DraftLemmas
 mod DriveLemmas
@@ -10,4 +11,9 @@ mod NumberLemmas
 mod PlainLemmas
 mod ReadLemmas
 mod RowLemmas
+mod SeenLines
+mod SeenMemory
+mod SeenNames
+mod SeenNetlist
+mod SeenRows
 mod ValidLemmas
