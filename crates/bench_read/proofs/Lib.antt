@@ -1,8 +1,10 @@
 mod CanonicalLines
+mod CutLemmas
 mod DesignLemmas
 mod DraftLemmas
 mod DriveLemmas
 mod FormLemmas
+mod LineLemmas
 mod ListLemmas
 mod MadeLemmas
 mod NameByteLemmas
