@@ -3,6 +3,7 @@ mod CutLemmas
 mod DesignLemmas
 mod DraftLemmas
 mod DriveLemmas
+mod DrivingLemmas
 mod FormLemmas
 mod LineLemmas
 mod ListLemmas
