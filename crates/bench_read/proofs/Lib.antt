@@ -5,6 +5,7 @@ mod DraftLemmas
 mod DriveLemmas
 mod DrivingLemmas
 mod FormLemmas
+mod LeadingLemmas
 mod LineLemmas
 mod ListLemmas
 mod MadeLemmas

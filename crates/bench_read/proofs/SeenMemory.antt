@@ -25,7 +25,7 @@ use Rattle.bench_read.proofs.SeenRows.{first_fails, second_fails, mark_of, bytes
 use Rattle.bench_read.proofs.MadeLemmas.{seam_at}
 
 -- what stands past the seam of two lists
-slice_past : {X : Type 0} (xs ys : List X) (k : ℕ) → slice_get (xs ++ ys) (length xs + k) ≡ slice_get ys k
+pub slice_past : {X : Type 0} (xs ys : List X) (k : ℕ) → slice_get (xs ++ ys) (length xs + k) ≡ slice_get ys k
 slice_past [] ys k = let n : 0 + k ≡ k = omega arith in rw n refl
 slice_past (x ∷ xs) ys k = let n : suc (length xs) + k ≡ suc (length xs + k) = omega arith in rw n (slice_past xs ys k)
 
