@@ -1,4 +1,6 @@
 mod CanonicalLines
+mod CanonicalNet
+mod CanonicalReads
 mod CutLemmas
 mod DesignLemmas
 mod DraftLemmas
