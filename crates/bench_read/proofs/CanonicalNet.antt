@@ -1,10 +1,10 @@
 -- The lines of the canonical text of a valid netlist make that netlist.
-use Rattle.std.proofs.Common.{◌≡◌, ℕ, zero, suc, ◌+◌, ◌<◌, ◌≤◌, Bool, true, false, ◌||◌, cond, List, [], ◌∷◌, ◌++◌, append_assoc, append-nil, length, map, drop, get_or, slice_get, Option, Some, None, sym, ap, ◌∙◌, subst, refl, arith, bytes_eq, inl, inr}
+use Rattle.std.proofs.Common.{◌≡◌, ℕ, zero, suc, ◌+◌, ◌<◌, ◌≤◌, Bool, true, false, ◌||◌, cond, List, [], ◌∷◌, ◌++◌, append_assoc, append-nil, length, map, drop, get_or, slice_get, Option, Some, None, sym, ap, ◌∙◌, subst, refl, arith, bytes_eq}
 use Rattle.std.specs.List.{All, flat_map, sum_by, count_by, list_any, enumerate_from}
 use Rattle.std.specs.Option.{option_map}
 use Rattle.std.proofs.Math.Seq.{drop-append_seam}
-use Rattle.std.proofs.lemmas.Bool.{cases_Bool, cond-true, cond-false}
-use Rattle.std.proofs.lemmas.List.{map-append, length-map}
+use Rattle.std.proofs.lemmas.Bool.{cond-true, cond-false}
+use Rattle.std.proofs.lemmas.List.{map-append}
 use Rattle.std.proofs.lemmas.List.Elements.{All-nil, All-cons, All-head, All-tail, All-append}
 use Rattle.std.proofs.lemmas.List.Concat.{flat_map-append}
 use Rattle.std.proofs.lemmas.List.Sums.{sum_by-append, sum_by-cons}
@@ -15,24 +15,26 @@ use Rattle.net_defs.specs.declared.netlist.Block.{Block}
 use Rattle.net_defs.specs.declared.netlist.Driver.{Driver}
 use Rattle.net_defs.specs.declared.netlist.Driver.TheVariants.{Input, Gate, Dff, BlockBit}
 use Rattle.net_defs.specs.Canonical.{name_of}
-use Rattle.net_defs.specs.Valid.{IsSignal, IsDrivable, IsMemory, IsValid, NamesDiffer, memory_operand_count}
+use Rattle.net_defs.specs.Valid.{IsSignal, IsDrivable, IsValid, memory_operand_count}
 use Rattle.bench_read.specs.declared.statement.Act.{Act}
 use Rattle.bench_read.specs.declared.statement.Act.TheVariants as act
 use Rattle.bench_read.specs.Faults.{is_among}
 use Rattle.bench_read.specs.Netlists.{place_of, driver_by, memories_by}
 use Rattle.bench_read.specs.Reads.{AreOnce}
-use Rattle.bench_read.proofs.CanonicalLines.{Line, input_line, output_line, memory_line, inputs_say, memory_says, drivers_say, leading_lines, printing_lines, driving_lines, lines_of}
+use Rattle.bench_read.proofs.CanonicalLines.{Line, input_line, output_line, memory_line, inputs_say, memory_says, drivers_say, leading_lines, driving_lines, lines_of}
 use Rattle.bench_read.proofs.LineLemmas.{line_inputs, line_others, line_operands, names_in_order, numbers_in, signals_in, line_input_signals, other_signals_in, line_printed, line_blocks, netlist_in}
-use Rattle.bench_read.proofs.LeadingLemmas.{AreInputs, AreOthers, IsLed, led, first_cut, leading_are, leading_none, driving_none, inputs_back, flat_none, flat_one, sum_none_of, flat_same, flat_empty, all_flat_of, all_map_of, all_driving, is_driving, driver_each, skip_lines}
-use Rattle.bench_read.proofs.DrivingLemmas.{name_is, HasNumbers, numbers_back, IsMade, made_from}
+use Rattle.bench_read.proofs.LeadingLemmas.{IsLed, first_cut, leading_are, leading_none, driving_none, inputs_back, flat_none, flat_one, sum_none_of, flat_same, flat_empty, all_flat_of, all_driving, is_driving, driver_each, skip_lines}
+use Rattle.bench_read.proofs.DrivingLemmas.{name_is, HasNumbers, IsMade, made_from}
 use Rattle.bench_read.proofs.NameLemmas.{same_name, same_bytes, count_none}
 use Rattle.bench_read.proofs.MadeLemmas.{place_self, signal_operands}
 
 -- ---- names
 
+-- the names of signals
 abbrev pub names_from : List Signal → List (List ℕ)
 names_from signals = map (λ (s : Signal). s.name) signals
 
+-- a name that is among names stands somewhere
 any_place : (name : List ℕ) (names : List (List ℕ)) → list_any (bytes_eq name) names ≡ true → (t : ℕ) × (slice_get names t ≡ Some name)
 any_place name [] e = cc
 any_place name (x ∷ names) e = by_test (bytes_eq name x) refl e (any_place name names) where
@@ -55,6 +57,7 @@ once_from (x ∷ names) differ name =
         let both : zero ≡ suc found.0 = differ zero (suc found.0) name (ap Some (sym (same_name name x e))) found.1 in
         absurd (omega arith)
 
+-- a name that stands somewhere is among the names
 among_at : (names : List (List ℕ)) (s : ℕ) (name : List ℕ) → slice_get names s ≡ Some name → is_among names name ≡ true
 among_at [] s name e = cc
 among_at (x ∷ names) zero name e =
@@ -65,6 +68,7 @@ among_at (x ∷ names) (suc s) name e = by_test (bytes_eq name x) (among_at name
   by_test true f = refl
   by_test false f = f
 
+-- the names of the signals that a line makes are those that it drives
 names_made : (one : Act) (uses : List ℕ) (memory n : ℕ) (driven : List (List ℕ)) → names_from (map (λ p. record { name = p.1; driver = driver_by one uses memory p.0 }) (enumerate_from n driven)) ≡ driven
 names_made one uses memory n [] = refl
 names_made one uses memory n (name ∷ driven) = ap (λ ns. name ∷ ns) (names_made one uses memory (n + 1) driven)
@@ -81,6 +85,7 @@ other_names names m (line ∷ lines) =
 
 -- ---- lines that drive signals
 
+-- a line that drives a gate, a register or a memory names no input
 inputs_quiet : (one : Act) (driven uses : List (List ℕ)) → is_driving one ≡ true → line_inputs (record { act = one; driven = driven; uses = uses }) ≡ []
 inputs_quiet act.Input driven uses e = cc
 inputs_quiet act.Output driven uses e = cc
@@ -88,6 +93,7 @@ inputs_quiet (act.Gate kind) driven uses e = refl
 inputs_quiet act.Dff driven uses e = refl
 inputs_quiet (act.Memory address) driven uses e = refl
 
+-- it makes no input
 signals_quiet : (one : Act) (driven uses : List (List ℕ)) → is_driving one ≡ true → line_input_signals (record { act = one; driven = driven; uses = uses }) ≡ []
 signals_quiet act.Input driven uses e = cc
 signals_quiet act.Output driven uses e = cc
@@ -95,6 +101,7 @@ signals_quiet (act.Gate kind) driven uses e = refl
 signals_quiet act.Dff driven uses e = refl
 signals_quiet (act.Memory address) driven uses e = refl
 
+-- it prints nothing
 printed_quiet : (names : List (List ℕ)) (one : Act) (driven uses : List (List ℕ)) → is_driving one ≡ true → line_printed names (record { act = one; driven = driven; uses = uses }) ≡ []
 printed_quiet names act.Input driven uses e = cc
 printed_quiet names act.Output driven uses e = cc
@@ -102,6 +109,7 @@ printed_quiet names (act.Gate kind) driven uses e = refl
 printed_quiet names act.Dff driven uses e = refl
 printed_quiet names (act.Memory address) driven uses e = refl
 
+-- all names that it drives are of other signals
 all_others : (one : Act) (driven uses : List (List ℕ)) → is_driving one ≡ true → driven ≡ line_others (record { act = one; driven = driven; uses = uses })
 all_others act.Input driven uses e = cc
 all_others act.Output driven uses e = cc
@@ -112,13 +120,16 @@ all_others (act.Memory address) driven uses e = refl
 module _ (net : Netlist) (valid : IsValid net) where
   -- ---- the names of the signals
 
+  -- the name at a signal's place
   name_there : (s : ℕ) (signal : Signal) → slice_get net.signals s ≡ Some signal → slice_get (names_from net.signals) s ≡ Some signal.name
   name_there s signal e = slice_get-map (λ (x : Signal). x.name) net.signals s ∙ ap (option_map (λ (x : Signal). x.name)) e
 
+  -- the signal at a name's place
   signal_of_name : (s : ℕ) (name : List ℕ) (o : Option Signal) → slice_get net.signals s ≡ o → slice_get (names_from net.signals) s ≡ Some name → (signal : Signal) × (slice_get net.signals s ≡ Some signal) × (signal.name ≡ name)
   signal_of_name s name None e f = cc (sym (slice_get-map (λ (x : Signal). x.name) net.signals s) ∙ f, ap (option_map (λ (x : Signal). x.name)) e)
   signal_of_name s name (Some signal) e f = let same : Some signal.name ≡ Some name = sym (name_there s signal e) ∙ f in (signal, e, cc)
 
+  -- no name stands twice
   pub names_once : AreOnce (names_from net.signals)
   names_once =
       once_from (names_from net.signals)
@@ -127,21 +138,25 @@ module _ (net : Netlist) (valid : IsValid net) where
       let other = signal_of_name t name (slice_get net.signals t) refl f in
       valid.distinct s t one.0 other.0 one.1 other.1 (one.2 ∙ sym other.2))
 
+  -- the signal at a place
   some_signal : (s : ℕ) → s < length net.signals → (signal : Signal) × (slice_get net.signals s ≡ Some signal)
   some_signal s within =
       let d : Signal = record { name = []; driver = Input } in
       (get_or net.signals s d, slice_get-get_or net.signals s d within)
 
+  -- the names of signals have their numbers
   pub has_numbers : HasNumbers net (names_from net.signals)
   has_numbers s within =
       let found = some_signal s within in
       ap (place_of (names_from net.signals)) (name_is net s found.0 found.1) ∙ place_self (names_from net.signals) s found.0.name names_once (name_there s found.0 found.1)
 
+  -- the name of a signal is among the names
   among : (s : ℕ) → s < length net.signals → is_among (names_from net.signals) (name_of net s) ≡ true
   among s within =
       let found = some_signal s within in
       ap (is_among (names_from net.signals)) (name_is net s found.0 found.1) ∙ among_at (names_from net.signals) s found.0.name (name_there s found.0 found.1)
 
+  -- so are those of several
   all_among : (ops : List ℕ) → All (IsSignal net) ops → All (λ name. is_among (names_from net.signals) name ≡ true) (map (name_of net) ops)
   all_among [] all = All-nil (λ name. is_among (names_from net.signals) name ≡ true)
   all_among (s ∷ ops) all =
@@ -150,21 +165,27 @@ module _ (net : Netlist) (valid : IsValid net) where
 module _ (net : Netlist) (valid : IsValid net) (leads : IsLed net.signals) where
   -- ---- the lines, part by part
 
+  -- the number of inputs
   abbrev first : ℕ
   first = length leads.leading
 
+  -- the lines of inputs
   abbrev inputs : List Line
   inputs = map (λ (s : Signal). input_line s.name) leads.leading
 
+  -- the lines of printed names
   abbrev outputs : List Line
   outputs = map (λ s. output_line (name_of net s)) net.printed
 
+  -- the lines of the other signals
   abbrev driving : List Line
   driving = driving_lines net (drop first net.signals)
 
+  -- the other signals are those after the inputs
   dropped : drop first net.signals ≡ leads.others
   dropped = ap (drop first) leads.is ∙ drop-append_seam leads.leading leads.others
 
+  -- the lines are these three parts
   parts : lines_of net ≡ (inputs ++ outputs) ++ driving
   unfolding lines_of
   parts =
@@ -192,21 +213,26 @@ module _ (net : Netlist) (valid : IsValid net) (leads : IsLed net.signals) where
       ∙ ap (λ r. (xs ++ r) ++ flat_map f driving) b
       ∙ ap (λ r. (xs ++ ys) ++ r) c
 
+  -- what holds of each line of a gate, a register or a memory holds of the third part
   each_driving : (P : Line → Type 0) → ((one : Act) (driven uses : List (List ℕ)) → is_driving one ≡ true → P (record { act = one; driven = driven; uses = uses })) → All P driving
   each_driving P holds = all_driving net P (drop first net.signals) (λ s signal e. driver_each net P holds signal.name signal.driver)
 
+  -- the third part makes the other signals and the memories
   made : IsMade net valid (names_from net.signals) (has_numbers net valid) first 0 driving
   made = made_from net valid (names_from net.signals) (has_numbers net valid) (length net.signals) first 0 (omega arith) (first_cut net valid leads)
 
   -- ---- names
 
+  -- the third part drives the names of the other signals
   others_driven : flat_map line_others driving ≡ names_from leads.others
   others_driven =
       sym (other_names (names_from net.signals) 0 driving) ∙ ap names_from made.signals ∙ ap names_from dropped
 
+  -- the names of inputs and the others are all names
   all_names : names_from leads.leading ++ names_from leads.others ≡ names_from net.signals
   all_names = sym (map-append (λ (s : Signal). s.name) leads.leading leads.others) ∙ ap names_from (sym leads.is)
 
+  -- the names in signal order are those of the signals
   pub in_order : names_in_order (lines_of net) ≡ names_from net.signals
   in_order =
       ap (λ ns. ns ++ flat_map line_others (lines_of net))
@@ -223,6 +249,7 @@ module _ (net : Netlist) (valid : IsValid net) (leads : IsLed net.signals) where
       others_driven)
       ∙ all_names
 
+  -- the names in file order are those of the signals too
   pub driven_are : flat_map (λ (l : Line). l.driven) (lines_of net) ≡ names_from net.signals
   driven_are =
       flat_parts (λ (l : Line). l.driven) (names_from leads.leading) [] (names_from leads.others)
@@ -234,9 +261,11 @@ module _ (net : Netlist) (valid : IsValid net) (leads : IsLed net.signals) where
 
   -- ---- the netlist
 
+  -- the names of the signals
   abbrev names : List (List ℕ)
   names = names_from net.signals
 
+  -- the lines make the inputs
   input_signals_back : flat_map line_input_signals (lines_of net) ≡ leads.leading
   input_signals_back =
       flat_parts line_input_signals leads.leading [] []
@@ -246,6 +275,7 @@ module _ (net : Netlist) (valid : IsValid net) (leads : IsLed net.signals) where
       ∙ append-nil (leads.leading ++ [])
       ∙ append-nil leads.leading
 
+  -- they make the other signals
   other_signals_back : other_signals_in names 0 (lines_of net) ≡ leads.others
   other_signals_back =
       ap (other_signals_in names 0) (parts ∙ append_assoc inputs outputs driving)
@@ -254,12 +284,14 @@ module _ (net : Netlist) (valid : IsValid net) (leads : IsLed net.signals) where
       ∙ made.signals
       ∙ dropped
 
+  -- the numbers of the names of signals, one by one
   numbers_each : (ops : List ℕ) → All (IsSignal net) ops → map (λ s. place_of names (name_of net s)) ops ≡ ops
   numbers_each [] all = refl
   numbers_each (s ∷ ops) all =
       ap (λ n. n ∷ map (λ t. place_of names (name_of net t)) ops) (has_numbers net valid s (All-head (IsSignal net) s ops all))
       ∙ ap (λ ns. s ∷ ns) (numbers_each ops (All-tail (IsSignal net) s ops all))
 
+  -- they make the printed signals
   printed_back : flat_map (line_printed names) (lines_of net) ≡ net.printed
   printed_back =
       flat_parts (line_printed names) [] net.printed []
@@ -268,6 +300,7 @@ module _ (net : Netlist) (valid : IsValid net) (leads : IsLed net.signals) where
       (flat_empty (line_printed names) driving (each_driving (λ l. line_printed names l ≡ []) (printed_quiet names)))
       ∙ append-nil net.printed
 
+  -- they make the memories
   blocks_back : flat_map (line_blocks names) (lines_of net) ≡ net.blocks
   blocks_back =
       flat_parts (line_blocks names) [] [] net.blocks
@@ -275,6 +308,7 @@ module _ (net : Netlist) (valid : IsValid net) (leads : IsLed net.signals) where
       (flat_none (line_blocks names) (λ s. output_line (name_of net s)) net.printed (λ s. refl))
       made.blocks
 
+  -- they make the netlist
   pub netlist_back : netlist_in names (lines_of net) ≡ net
   netlist_back =
       let printed = flat_map (line_printed names) (lines_of net) in
@@ -287,6 +321,7 @@ module _ (net : Netlist) (valid : IsValid net) (leads : IsLed net.signals) where
 
   -- ---- the limit of operands
 
+  -- they have no more operands than the netlist
   pub operands_back : sum_by line_operands (lines_of net) ≤ sum_by signal_operands net.signals + sum_by memory_operand_count net.blocks
   operands_back =
       omega (
@@ -304,9 +339,11 @@ module _ (net : Netlist) (valid : IsValid net) (leads : IsLed net.signals) where
 
   -- ---- the names that are used
 
+  -- the name is that of a signal
   abbrev Among : List ℕ → Type 0
   Among name = is_among names name ≡ true
 
+  -- the names that a memory's line uses are those of signals
   memory_among : (o : Option Block) (m : ℕ) → slice_get net.blocks m ≡ o → All (λ (l : Line). All Among l.uses) (memory_says net o)
   memory_among None m e = All-nil (λ (l : Line). All Among l.uses)
   memory_among (Some memory) m e =
@@ -316,6 +353,7 @@ module _ (net : Netlist) (valid : IsValid net) (leads : IsLed net.signals) where
       (All-cons (IsSignal net) memory.we (memory.address ++ memory.word) is.enable (All-append (IsSignal net) memory.address memory.word is.address is.word)))
       (All-nil (λ (l : Line). All Among l.uses))
 
+  -- the names that the line of a driver uses are those of signals
   driver_among : (s : ℕ) (name : List ℕ) (driver : Driver) → IsDrivable net s driver → All (λ (l : Line). All Among l.uses) (drivers_say net name driver)
   driver_among s name Input is = All-nil (λ (l : Line). All Among l.uses)
   driver_among s name (Gate kind ops) is =
@@ -328,9 +366,7 @@ module _ (net : Netlist) (valid : IsValid net) (leads : IsLed net.signals) where
     by_test true = memory_among (slice_get net.blocks m) m refl
     by_test false = All-nil (λ (l : Line). All Among l.uses)
 
-  used : (lines : List Line) → All (λ (l : Line). All Among l.uses) lines → All Among (flat_map (λ (l : Line). l.uses) lines)
-  used lines all = all_flat_of Among (λ (l : Line). l.uses) lines all
-
+  -- printed names are those of signals
   outputs_among : (ops : List ℕ) → All (IsSignal net) ops → All (λ (l : Line). All Among l.uses) (map (λ s. output_line (name_of net s)) ops)
   outputs_among [] all = All-nil (λ (l : Line). All Among l.uses)
   outputs_among (s ∷ ops) all =
@@ -338,10 +374,12 @@ module _ (net : Netlist) (valid : IsValid net) (leads : IsLed net.signals) where
       (all_among net valid (s ∷ []) (All-cons (IsSignal net) s [] (All-head (IsSignal net) s ops all) (All-nil (IsSignal net))))
       (outputs_among ops (All-tail (IsSignal net) s ops all))
 
+  -- the lines of inputs use no name
   inputs_among : (signals : List Signal) → All (λ (l : Line). All Among l.uses) (map (λ (s : Signal). input_line s.name) signals)
   inputs_among [] = All-nil (λ (l : Line). All Among l.uses)
   inputs_among (x ∷ signals) = All-cons (λ (l : Line). All Among l.uses) (input_line x.name) (map (λ (s : Signal). input_line s.name) signals) (All-nil Among) (inputs_among signals)
 
+  -- the names that the third part uses are those of signals
   driving_among : All (λ (l : Line). All Among l.uses) driving
   driving_among =
       all_driving net (λ (l : Line). All Among l.uses) (drop first net.signals)
@@ -352,9 +390,10 @@ module _ (net : Netlist) (valid : IsValid net) (leads : IsLed net.signals) where
       after_drop (suc n) [] s signal e = cc
       after_drop (suc n) (x ∷ signals) s signal e = let k : suc n + s ≡ suc (n + s) = omega arith in rw k (after_drop n signals s signal e)
 
+  -- all names that the lines use are those of signals
   pub uses_among : All Among (flat_map (λ (l : Line). l.uses) (lines_of net))
   uses_among =
-      used (lines_of net)
+      all_flat_of Among (λ (l : Line). l.uses) (lines_of net)
       (subst (All (λ (l : Line). All Among l.uses)) (sym parts)
       (All-append (λ (l : Line). All Among l.uses) (inputs ++ outputs) driving
       (All-append (λ (l : Line). All Among l.uses) inputs outputs (inputs_among leads.leading) (outputs_among net.printed valid.printed))

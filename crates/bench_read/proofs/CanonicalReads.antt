@@ -1,5 +1,5 @@
 -- A text whose rows are seen as the lines of a valid netlist reads as that netlist.
-use Rattle.std.proofs.Common.{◌≡◌, ℕ, ◌≤◌, true, List, length, map, None, sym, ap, ◌∙◌, subst, arith}
+use Rattle.std.proofs.Common.{◌≡◌, ℕ, true, List, length, map, None, sym, ap, ◌∙◌, subst, arith}
 use Rattle.std.specs.List.{All, flat_map, sum_by}
 use Rattle.std.proofs.lemmas.List.{length-map}
 use Rattle.bench_text.specs.declared.token.Token.{Token}
@@ -27,6 +27,7 @@ pub record Make (text : List ℕ) (rows : List (List Token)) (net : Netlist) : T
   pub netlist : net ≡ netlist_of text statements
 
 module _ (net : Netlist) (valid : IsValid net) (text : List ℕ) (rows : List (List Token)) (say : Say text rows (lines_of net)) where
+  -- the inputs and the others
   leads : IsLed net.signals
   leads = led net.signals valid.inputs_first
 
@@ -34,15 +35,19 @@ module _ (net : Netlist) (valid : IsValid net) (text : List ℕ) (rows : List (L
   drivers : texts_of text (drivers_of say.statements) ≡ names_from net.signals
   drivers = drivers_shown text say.statements ∙ ap (flat_map (λ (l : Line). l.driven)) say.shown ∙ driven_are net valid leads
 
+  -- they drive as many names as there are signals
   driver_count : length (drivers_of say.statements) ≡ length net.signals
   driver_count = sym (length-map (drivers_of say.statements) (text_of text)) ∙ ap length drivers ∙ length-map net.signals (λ (s : Signal). s.name)
 
+  -- their operands are those of the lines
   operands : operand_count say.statements ≡ sum_by line_operands (lines_of net)
   operands = operands_shown text say.statements ∙ ap (sum_by line_operands) say.shown
 
+  -- the names in signal order
   names : names_of text say.statements ≡ names_from net.signals
   names = names_shown text say.statements ∙ ap names_in_order say.shown ∙ in_order net valid leads
 
+  -- they make the netlist
   netlist : netlist_of text say.statements ≡ net
   netlist =
       netlist_shown text say.statements
@@ -50,11 +55,13 @@ module _ (net : Netlist) (valid : IsValid net) (text : List ℕ) (rows : List (L
       ∙ ap (netlist_in (names_from net.signals)) say.shown
       ∙ netlist_back net valid leads
 
+  -- each name that they use is driven
   uses : All (λ token. is_among (names_from net.signals) (text_of text token) ≡ true) (uses_of say.statements)
   uses =
       all_of_map (λ name. is_among (names_from net.signals) name ≡ true) (text_of text) (uses_of say.statements)
       (subst (All (λ name. is_among (names_from net.signals) name ≡ true)) (sym (uses_shown text say.statements ∙ ap (flat_map (λ (l : Line). l.uses)) say.shown)) (uses_among net valid leads))
 
+  -- so they are sound and make the netlist
   made_of : Make text rows net
   made_of = record {
     statements = say.statements;

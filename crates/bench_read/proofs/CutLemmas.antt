@@ -1,40 +1,45 @@
 -- Where the signals of a valid netlist can be cut: no memory's outputs stand on both sides.
-use Rattle.std.proofs.Common.{◌≡◌, ℕ, zero, suc, ◌+◌, ◌-◌, ◌<◌, ◌≤◌, Bool, true, false, List, [], ◌∷◌, length, drop, get_or, slice_get, Option, Some, None, sym, ap, ◌∙◌, subst, refl, arith, ⊎_elim, ◌⊎◌}
+use Rattle.std.proofs.Common.{◌≡◌, ℕ, zero, suc, ◌+◌, ◌-◌, ◌<◌, ◌≤◌, false, List, [], ◌∷◌, length, drop, get_or, slice_get, Option, Some, None, sym, ap, ◌∙◌, subst, refl, arith, ⊎_elim}
 use Rattle.std.specs.List.{range_with_len}
 use Rattle.std.proofs.lemmas.List.{drop_more}
 use Rattle.std.proofs.lemmas.Option.{slice_get_within, slice_get-get_or, get_or_from_slice_get}
 use Rattle.net_defs.specs.declared.netlist.Netlist.{Netlist}
 use Rattle.net_defs.specs.declared.netlist.Signal.{Signal}
 use Rattle.net_defs.specs.declared.netlist.Block.{Block}
-use Rattle.net_defs.specs.declared.netlist.Driver.{Driver}
 use Rattle.net_defs.specs.declared.netlist.Driver.TheVariants.{BlockBit}
-use Rattle.net_defs.specs.Valid.{IsDrivable, IsMemory, IsValid, is_input}
+use Rattle.net_defs.specs.Valid.{IsDrivable, IsValid, is_input}
 use Rattle.bench_read.proofs.MadeLemmas.{range_at, below_or_past}
 
 -- ---- lists
 
+-- a member of a range
 pub range_get : (a n k : ℕ) → k < n → slice_get (range_with_len a n) k ≡ Some (a + k)
 range_get a zero k h = absurd (omega arith)
 range_get a (suc n) zero h = let e : a ≡ a + 0 = omega arith in ap Some e
 range_get a (suc n) (suc k) h = let e : a + 1 + k ≡ a + suc k = omega arith in range_get (a + 1) n k (omega arith) ∙ ap Some e
 
+-- the rest of a list from a member on
 pub drop_here : {X : Type 0} (xs : List X) (s : ℕ) (x : X) → slice_get xs s ≡ Some x → drop s xs ≡ x ∷ drop (s + 1) xs
 drop_here xs s x e = drop_more xs s x (slice_get_within xs s x e) ∙ ap (λ y. y ∷ drop (s + 1) xs) (get_or_from_slice_get xs s x x e)
 
+-- past the end nothing is left
 pub drop_none : {X : Type 0} (xs : List X) (s : ℕ) → length xs ≤ s → drop s xs ≡ []
 drop_none [] zero h = refl
 drop_none [] (suc s) h = refl
 drop_none (x ∷ xs) zero h = absurd (omega arith)
 drop_none (x ∷ xs) (suc s) h = drop_none xs s (omega arith)
 
+-- at one place stands one member
 pub one_there : {X : Type 0} (xs : List X) (s t : ℕ) (x y : X) → s ≡ t → slice_get xs s ≡ Some x → slice_get xs t ≡ Some y → x ≡ y
 one_there xs s t x y same e f = cc (ap (slice_get xs) same)
 
+-- before the end stands some member
 within_some : {X : Type 0} (xs : List X) (i : ℕ) → i < length xs → slice_get xs i ≡ None → ⊥
 within_some [] i h e = absurd (omega arith)
 within_some (x ∷ xs) zero h e = cc
 within_some (x ∷ xs) (suc i) h e = within_some xs i (omega arith) e
 
+-- one signal is driven by one bit of one memory
 same_bit : (m n a b : ℕ) (one other : Signal) → one ≡ other → one.driver ≡ BlockBit m a → other.driver ≡ BlockBit n b → (m ≡ n) × (a ≡ b)
 same_bit m n a b one other same e f =
     let drivers : BlockBit m a ≡ BlockBit n b = sym e ∙ ap (λ (s : Signal). s.driver) same ∙ f in
@@ -53,6 +58,7 @@ module _ (net : Netlist) (valid : IsValid net) where
     pub here : slice_get net.signals s ≡ Some signal
     pub driver : signal.driver ≡ BlockBit m k
 
+  -- the bits of a memory drive its outputs, side by side
   pub driven_at : (m : ℕ) (memory : Block) (k s : ℕ) → slice_get net.blocks m ≡ Some memory → k < length memory.word → s ≡ first_of memory + k → IsDriven m k s
   driven_at m memory k s at within place =
       let is = valid.memories m memory at in
@@ -60,6 +66,7 @@ module _ (net : Netlist) (valid : IsValid net) where
       let d = is.driven k s out in
       record { signal = d.0; here = d.1; driver = d.2 }
 
+  -- a memory has some output
   pub some_words : (m : ℕ) (memory : Block) → slice_get net.blocks m ≡ Some memory → 1 ≤ length memory.word
   some_words m memory at = (valid.memories m memory at).word_bits.0
 
@@ -70,6 +77,7 @@ module _ (net : Netlist) (valid : IsValid net) where
     pub place : s ≡ first_of memory + k
     pub within : k < length memory.word
 
+  -- a signal that a bit drives has a memory with that bit
   pub bit_of : (m k s : ℕ) (signal : Signal) → slice_get net.signals s ≡ Some signal → signal.driver ≡ BlockBit m k → IsBitOf m k s
   bit_of m k s signal here driver =
       let d = subst (IsDrivable net s) driver (valid.drivers s signal here) in
@@ -83,7 +91,7 @@ module _ (net : Netlist) (valid : IsValid net) where
 
   -- ---- cuts
 
-  -- before signal s stand the inputs and the outputs of the first m memories, and of no other memory
+  -- before signal s stand all inputs, and the outputs of the first m memories and of no other memory
   pub record IsCut (s m : ℕ) : Type 0 where
     pub others : (t : ℕ) (signal : Signal) → s ≤ t → slice_get net.signals t ≡ Some signal → is_input signal.driver ≡ false
     pub whole : (n k : ℕ) → IsDriven n (suc k) s → ⊥

@@ -1,10 +1,10 @@
 -- The lines that drive the signals of a valid netlist make those signals and the memories.
-use Rattle.std.proofs.Common.{◌≡◌, ℕ, zero, suc, ◌+◌, ◌-◌, ◌<◌, ◌≤◌, Bool, true, false, cond, eqb, List, [], ◌∷◌, ◌++◌, length, map, take, drop, get_or, slice_get, Option, Some, None, sym, ap, ◌∙◌, subst, refl, arith, ⊎_elim, length-append}
+use Rattle.std.proofs.Common.{◌≡◌, ℕ, zero, suc, ◌+◌, ◌-◌, ◌<◌, ◌≤◌, eqb, List, [], ◌∷◌, ◌++◌, length, map, drop, get_or, slice_get, Option, Some, None, sym, ap, ◌∙◌, subst, refl, arith, ⊎_elim, length-append}
 use Rattle.std.specs.List.{All, flat_map, sum_by, enumerate_from, range_with_len}
 use Rattle.std.proofs.Math.Seq.{take-append_seam, drop-append_seam}
 use Rattle.std.proofs.lemmas.Bool.{cond-false, ne_eqb}
 use Rattle.std.proofs.lemmas.List.{length-map}
-use Rattle.std.proofs.lemmas.List.Elements.{All-nil, All-cons, All-head, All-tail, All-append}
+use Rattle.std.proofs.lemmas.List.Elements.{All-cons, All-head, All-tail, All-append}
 use Rattle.std.proofs.lemmas.List.Sums.{sum_by-cons}
 use Rattle.std.proofs.lemmas.Option.{slice_get_within, slice_get-get_or}
 use Rattle.net_defs.specs.declared.netlist.Netlist.{Netlist}
@@ -14,16 +14,16 @@ use Rattle.net_defs.specs.declared.netlist.Driver.{Driver}
 use Rattle.net_defs.specs.declared.netlist.Driver.TheVariants.{Input, Gate, Dff, BlockBit}
 use Rattle.net_defs.specs.Canonical.{name_of}
 use Rattle.net_defs.specs.Valid.{IsSignal, IsDrivable, IsMemory, IsValid, is_input, operand_count as driver_operands, memory_operand_count}
-use Rattle.bench_read.specs.declared.statement.Act.{Act}
 use Rattle.bench_read.specs.declared.statement.Act.TheVariants as act
 use Rattle.bench_read.specs.Netlists.{place_of, memories_by, block_by}
 use Rattle.bench_read.proofs.CanonicalLines.{Line, memory_line, memory_says, drivers_say, driving_lines}
 use Rattle.bench_read.proofs.LineLemmas.{line_others, line_operands, numbers_in, signals_in, other_signals_in, line_blocks}
-use Rattle.bench_read.proofs.CutLemmas.{drop_here, drop_none, one_there, first_of, IsDriven, driven_at, some_words, IsBitOf, bit_of, IsCut, cut_after, next_memory, cut_past, none_left}
+use Rattle.bench_read.proofs.CutLemmas.{drop_here, drop_none, one_there, first_of, IsDriven, driven_at, some_words, bit_of, IsCut, cut_after, next_memory, cut_past, none_left}
 use Rattle.bench_read.proofs.MadeLemmas.{below_or_past, signal_operands}
 
 -- ---- names and numbers
 
+-- the name of a signal in a list
 name_in_list : (printed : List ℕ) (blocks : List Block) (signals : List Signal) (s : ℕ) (signal : Signal) → slice_get signals s ≡ Some signal → name_of (record { signals = signals; printed = printed; blocks = blocks }) s ≡ signal.name
 name_in_list printed blocks [] s signal e = cc
 name_in_list printed blocks (x ∷ signals) zero signal e = let same : x ≡ signal = cc in ap (λ (y : Signal). y.name) same
@@ -37,12 +37,14 @@ name_is net s signal e = name_in_list net.printed net.blocks net.signals s signa
 abbrev pub HasNumbers : Netlist → List (List ℕ) → Type 0
 HasNumbers net names = (s : ℕ) → s < length net.signals → place_of names (name_of net s) ≡ s
 
+-- the numbers of the names of signals are those signals
 pub numbers_back : (net : Netlist) (names : List (List ℕ)) → HasNumbers net names → (ops : List ℕ) → All (IsSignal net) ops → numbers_in names (map (name_of net) ops) ≡ ops
 numbers_back net names has [] all = refl
 numbers_back net names has (s ∷ ops) all =
     ap (λ n. n ∷ numbers_in names (map (name_of net) ops)) (has s (All-head (IsSignal net) s ops all))
     ∙ ap (λ ns. s ∷ ns) (numbers_back net names has ops (All-tail (IsSignal net) s ops all))
 
+-- where no member stands the list has ended
 past_end : {X : Type 0} (xs : List X) (s : ℕ) → slice_get xs s ≡ None → length xs ≤ s
 past_end [] s e = omega arith
 past_end (x ∷ xs) zero e = cc
@@ -51,9 +53,11 @@ past_end (x ∷ xs) (suc s) e = omega (arith, past_end xs s e)
 module _ (net : Netlist) (valid : IsValid net) (names : List (List ℕ)) (has : HasNumbers net names) where
   -- ---- the lines from a signal on
 
+  -- the operands of the signals from s on
   abbrev sum_signals : ℕ → ℕ
   sum_signals s = sum_by signal_operands (drop s net.signals)
 
+  -- the operands of the memories from m on
   abbrev sum_blocks : ℕ → ℕ
   sum_blocks m = sum_by memory_operand_count (drop m net.blocks)
 
@@ -63,6 +67,7 @@ module _ (net : Netlist) (valid : IsValid net) (names : List (List ℕ)) (has : 
     pub blocks : flat_map (line_blocks names) lines ≡ drop m net.blocks
     pub operands : sum_by line_operands lines ≡ sum_by signal_operands (drop s net.signals) + sum_by memory_operand_count (drop m net.blocks)
 
+  -- a line before lines, which makes the signals from s up to n, and the memories from m up to j
   one_more : (line : Line) (s n m j : ℕ) (lines : List Line) → m + memories_by line.act ≡ j
       → signals_in line.act (numbers_in names line.uses) m (line_others line) ++ drop n net.signals ≡ drop s net.signals
       → line_blocks names line ++ drop j net.blocks ≡ drop m net.blocks
@@ -79,6 +84,7 @@ module _ (net : Netlist) (valid : IsValid net) (names : List (List ℕ)) (has : 
 
   -- ---- the signals of a memory
 
+  -- the signals that the bits of memory m from k on drive
   abbrev bits_made : ℕ → ℕ → List ℕ → List Signal
   bits_made m k outs = map (λ p. record { name = p.1; driver = BlockBit m p.0 }) (enumerate_from k (map (name_of net) outs))
 
@@ -88,6 +94,7 @@ module _ (net : Netlist) (valid : IsValid net) (names : List (List ℕ)) (has : 
     signals : bits_made m k (range_with_len p more) ++ drop e net.signals ≡ drop p net.signals
     operands : sum_signals p ≡ sum_signals e
 
+  -- each output of a memory
   inner : (m : ℕ) (memory : Block) (e : ℕ) → slice_get net.blocks m ≡ Some memory → e ≡ first_of memory + length memory.word → (more k p : ℕ) → p ≡ first_of memory + k → p + more ≡ e → IsInner m k p e more
   inner m memory e at end zero k p place left =
       let same : p ≡ e = omega arith in
@@ -115,11 +122,13 @@ module _ (net : Netlist) (valid : IsValid net) (names : List (List ℕ)) (has : 
         operands = omega (arith, ap (sum_by signal_operands) here, sum_by-cons signal_operands d.signal rest, ap driver_operands d.driver, next.operands);
       }
 
+  -- the outputs of a memory are signals
   outs_there : (m : ℕ) (memory : Block) → IsMemory net m memory → All (IsSignal net) memory.outs
   outs_there m memory is i d within =
       let driven = is.driven i (get_or memory.outs i d) (slice_get-get_or memory.outs i d within) in
       slice_get_within net.signals (get_or memory.outs i d) driven.0 driven.1
 
+  -- the line of a memory makes the memory
   block_back : (m : ℕ) (memory : Block) → IsMemory net m memory → line_blocks names (memory_line net memory) ≡ memory ∷ []
   block_back m memory is =
       let both : All (IsSignal net) (memory.we ∷ (memory.address ++ memory.word)) =
@@ -129,6 +138,7 @@ module _ (net : Netlist) (valid : IsValid net) (names : List (List ℕ)) (has : 
       ∙ ap (λ a. record { we = memory.we; address = a; word = drop (length memory.address) (memory.address ++ memory.word); outs = memory.outs } ∷ []) (take-append_seam memory.address memory.word)
       ∙ ap (λ w. record { we = memory.we; address = memory.address; word = w; outs = memory.outs } ∷ []) (drop-append_seam memory.address memory.word)
 
+  -- the line of a memory before the lines after its outputs
   memory_step : (s m : ℕ) (memory : Block) (signal : Signal) → slice_get net.blocks m ≡ Some memory → s ≡ first_of memory → slice_get net.signals s ≡ Some signal → signal.driver ≡ BlockBit m 0
       → IsMade (s + length memory.word) (m + 1) (driving_lines net (drop (s + length memory.word) net.signals)) → IsMade s m (driving_lines net (drop s net.signals))
   memory_step s m memory signal at place there driver made =
@@ -169,6 +179,7 @@ module _ (net : Netlist) (valid : IsValid net) (names : List (List ℕ)) (has : 
     blocks : line_blocks names line ≡ []
     operands : line_operands line ≡ signal_operands signal
 
+  -- a signal with a line of its own before the lines after it
   own_step : (s m : ℕ) (signal : Signal) (line : Line) → slice_get net.signals s ≡ Some signal → IsOwn signal m line
       → IsMade (s + 1) m (driving_lines net (drop (s + 1) net.signals)) → IsMade s m (driving_lines net (drop s net.signals))
   own_step s m signal line there own made =
@@ -181,9 +192,10 @@ module _ (net : Netlist) (valid : IsValid net) (names : List (List ℕ)) (has : 
       (omega (arith, own.operands, ap (sum_by signal_operands) here, sum_by-cons signal_operands signal rest))
       made)
 
-  gate_own : (signal : Signal) (m s : ℕ) (kind_ops : Driver) → signal.driver ≡ kind_ops → IsDrivable net s kind_ops → (line : Line) → drivers_say net signal.name kind_ops ≡ line ∷ [] → memories_by line.act ≡ 0
-      → signals_in line.act (numbers_in names line.uses) m (line_others line) ≡ record { name = signal.name; driver = kind_ops } ∷ [] → line_blocks names line ≡ [] → line_operands line ≡ driver_operands kind_ops → IsOwn signal m line
-  gate_own signal m s kind_ops is drivable line says none signals blocks operands = record {
+  -- the line of a gate or a register makes its signal
+  gate_own : (signal : Signal) (m s : ℕ) (drive : Driver) → signal.driver ≡ drive → IsDrivable net s drive → (line : Line) → drivers_say net signal.name drive ≡ line ∷ [] → memories_by line.act ≡ 0
+      → signals_in line.act (numbers_in names line.uses) m (line_others line) ≡ record { name = signal.name; driver = drive } ∷ [] → line_blocks names line ≡ [] → line_operands line ≡ driver_operands drive → IsOwn signal m line
+  gate_own signal m s drive is drivable line says none signals blocks operands = record {
     says = ap (drivers_say net signal.name) is ∙ says;
     none = none;
     signals = signals ∙ ap (λ d. record { name = signal.name; driver = d } ∷ []) (sym is);
@@ -193,10 +205,11 @@ module _ (net : Netlist) (valid : IsValid net) (names : List (List ℕ)) (has : 
 
   -- ---- all of them
 
+  -- the line at a cut before the lines after the next cut
   step : (s m : ℕ) (signal : Signal) → IsCut net valid s m → slice_get net.signals s ≡ Some signal
       → ((n j : ℕ) → s < n → IsCut net valid n j → IsMade n j (driving_lines net (drop n net.signals)))
       → (driver : Driver) → signal.driver ≡ driver → IsMade s m (driving_lines net (drop s net.signals))
-  step s m signal cut there rest Input is = cc (cut.others s signal (omega arith) there, is, ap is_input is)
+  step s m signal cut there rest Input is = cc (cut.others s signal (omega arith) there, ap is_input is)
   step s m signal cut there rest (Gate kind ops) is =
       let drivable = subst (IsDrivable net s) is (valid.drivers s signal there) in
       let line : Line = record { act = act.Gate kind; driven = signal.name ∷ []; uses = map (name_of net) ops } in
@@ -229,6 +242,7 @@ module _ (net : Netlist) (valid : IsValid net) (names : List (List ℕ)) (has : 
       (rest (s + length b.memory.word) (m + 1) (omega (arith, b.within)) (cut_past net valid s m b.memory cut at place))
   step s m signal cut there rest (BlockBit n (suc k)) is = absurd (cut.whole n k (record { signal = signal; here = there; driver = is }))
 
+  -- at the end nothing is left to make
   at_end : (s m : ℕ) → IsCut net valid s m → length net.signals ≤ s → IsMade s m (driving_lines net (drop s net.signals))
   at_end s m cut past =
       let signals = drop_none net.signals s past in

@@ -1,8 +1,6 @@
 -- The inputs of a valid netlist, which stand before its other signals, and lists of lines.
-use Rattle.std.proofs.Common.{◌≡◌, ℕ, zero, suc, ◌+◌, ◌-◌, ◌<◌, ◌≤◌, Bool, true, false, cond, List, [], ◌∷◌, ◌++◌, length, map, drop, get_or, slice_get, Option, Some, None, sym, ap, ◌∙◌, subst, refl, arith, ⊎_elim}
-use Rattle.std.specs.Prelude.{IsTrue}
+use Rattle.std.proofs.Common.{◌≡◌, ℕ, zero, suc, ◌+◌, ◌-◌, ◌<◌, ◌≤◌, Bool, true, false, cond, List, [], ◌∷◌, ◌++◌, length, map, get_or, slice_get, Option, Some, None, sym, ap, ◌∙◌, refl, arith, ⊎_elim}
 use Rattle.std.specs.List.{All, flat_map, sum_by}
-use Rattle.std.proofs.lemmas.List.{length-map}
 use Rattle.std.proofs.lemmas.List.Elements.{All-nil, All-cons, All-head, All-tail, All-append}
 use Rattle.std.proofs.lemmas.List.Sums.{sum_by-cons}
 use Rattle.std.proofs.lemmas.Option.{slice_get-get_or}
@@ -18,15 +16,17 @@ use Rattle.bench_read.specs.declared.statement.Act.TheVariants as act
 use Rattle.bench_read.specs.Netlists.{memories_by}
 use Rattle.bench_read.proofs.CanonicalLines.{Line, input_line, memory_line, inputs_say, memory_says, drivers_say, leading_lines, driving_lines}
 use Rattle.bench_read.proofs.LineLemmas.{line_others, numbers_in, signals_in, other_signals_in}
-use Rattle.bench_read.proofs.CutLemmas.{first_of, IsDriven, driven_at, some_words, IsBitOf, bit_of, IsCut}
+use Rattle.bench_read.proofs.CutLemmas.{first_of, IsDriven, driven_at, some_words, bit_of, IsCut}
 use Rattle.bench_read.proofs.SeenMemory.{slice_past}
 use Rattle.bench_read.proofs.MadeLemmas.{below_or_past, each}
 
 -- ---- the inputs come first
 
+-- each is an input
 abbrev pub AreInputs : List Signal → Type 0
 AreInputs signals = All (λ (s : Signal). is_input s.driver ≡ true) signals
 
+-- none is an input
 abbrev pub AreOthers : List Signal → Type 0
 AreOthers signals = All (λ (s : Signal). is_input s.driver ≡ false) signals
 
@@ -45,6 +45,7 @@ no_later x signals lead e i d within = by_test (is_input (get_or signals i d).dr
   by_test false f = refl
   by_test true f = cc (lead 0 (suc i) x (get_or signals i d) refl (slice_get-get_or signals i d within) (omega arith) f, e)
 
+-- where inputs lead there are inputs and then others
 pub led : (signals : List Signal) → InputsLead signals → IsLed signals
 led [] lead = record { leading = []; others = []; is = refl; inputs = All-nil (λ (s : Signal). is_input s.driver ≡ true); rest = All-nil (λ (s : Signal). is_input s.driver ≡ false) }
 led (x ∷ signals) lead = by_test (is_input x.driver) refl (led signals (λ s t one other e f before input. lead (suc s) (suc t) one other e f (omega arith) input)) where
@@ -64,17 +65,20 @@ led (x ∷ signals) lead = by_test (is_input x.driver) refl (led signals (λ s t
     rest = All-cons (λ (s : Signal). is_input s.driver ≡ false) x signals e (no_later x signals lead e);
   }
 
+-- a member of the first of two lists
 at_front : {X : Type 0} (xs ys : List X) (k : ℕ) → k < length xs → slice_get (xs ++ ys) k ≡ slice_get xs k
 at_front [] ys k h = absurd (omega arith)
 at_front (x ∷ xs) ys zero h = refl
 at_front (x ∷ xs) ys (suc k) h = at_front xs ys k (omega arith)
 
 module _ (net : Netlist) (valid : IsValid net) (leads : IsLed net.signals) where
+  -- before the seam stand inputs
   input_at : (p : ℕ) (signal : Signal) → p < length leads.leading → slice_get net.signals p ≡ Some signal → is_input signal.driver ≡ true
   input_at p signal less here =
       each (λ (s : Signal). is_input s.driver ≡ true) leads.leading p signal leads.inputs
       (sym (at_front leads.leading leads.others p less) ∙ ap (λ ss. slice_get ss p) (sym leads.is) ∙ here)
 
+  -- after the seam stand others
   other_at : (t : ℕ) (signal : Signal) → length leads.leading ≤ t → slice_get net.signals t ≡ Some signal → is_input signal.driver ≡ false
   other_at t signal past here =
       let n : t ≡ length leads.leading + (t - length leads.leading) = omega arith in
@@ -100,42 +104,49 @@ module _ (net : Netlist) (valid : IsValid net) (leads : IsLed net.signals) where
 
 -- ---- lines of inputs
 
+-- an input has its line
 inputs_one : (name : List ℕ) (driver : Driver) → is_input driver ≡ true → inputs_say name driver ≡ input_line name ∷ []
 inputs_one name Input e = refl
 inputs_one name (Gate kind ops) e = cc
 inputs_one name (Dff op) e = cc
 inputs_one name (BlockBit m bit) e = cc
 
+-- another signal has no line of an input
 inputs_none : (name : List ℕ) (driver : Driver) → is_input driver ≡ false → inputs_say name driver ≡ []
 inputs_none name Input e = cc
 inputs_none name (Gate kind ops) e = refl
 inputs_none name (Dff op) e = refl
 inputs_none name (BlockBit m bit) e = refl
 
+-- an input has no line that drives it
 drivers_none : (net : Netlist) (name : List ℕ) (driver : Driver) → is_input driver ≡ true → drivers_say net name driver ≡ []
 drivers_none net name Input e = refl
 drivers_none net name (Gate kind ops) e = cc
 drivers_none net name (Dff op) e = cc
 drivers_none net name (BlockBit m bit) e = cc
 
+-- inputs have one line each
 pub leading_are : (signals : List Signal) → AreInputs signals → leading_lines signals ≡ map (λ (s : Signal). input_line s.name) signals
 leading_are [] all = refl
 leading_are (x ∷ signals) all =
     ap (λ ls. ls ++ leading_lines signals) (inputs_one x.name x.driver (All-head (λ (s : Signal). is_input s.driver ≡ true) x signals all))
     ∙ ap (λ ls. input_line x.name ∷ ls) (leading_are signals (All-tail (λ (s : Signal). is_input s.driver ≡ true) x signals all))
 
+-- other signals have no lines of inputs
 pub leading_none : (signals : List Signal) → AreOthers signals → leading_lines signals ≡ []
 leading_none [] all = refl
 leading_none (x ∷ signals) all =
     ap (λ ls. ls ++ leading_lines signals) (inputs_none x.name x.driver (All-head (λ (s : Signal). is_input s.driver ≡ false) x signals all))
     ∙ leading_none signals (All-tail (λ (s : Signal). is_input s.driver ≡ false) x signals all)
 
+-- inputs have no lines that drive them
 pub driving_none : (net : Netlist) (signals : List Signal) → AreInputs signals → driving_lines net signals ≡ []
 driving_none net [] all = refl
 driving_none net (x ∷ signals) all =
     ap (λ ls. ls ++ driving_lines net signals) (drivers_none net x.name x.driver (All-head (λ (s : Signal). is_input s.driver ≡ true) x signals all))
     ∙ driving_none net signals (All-tail (λ (s : Signal). is_input s.driver ≡ true) x signals all)
 
+-- the driver of an input
 input_back : (name : List ℕ) (driver : Driver) → is_input driver ≡ true → Input ≡ driver
 input_back name Input e = refl
 input_back name (Gate kind ops) e = cc
@@ -151,35 +162,43 @@ inputs_back (x ∷ signals) all =
 
 -- ---- lists of lines
 
+-- a function that gives nothing of any line of a list
 pub flat_none : {X Y A : Type 0} (f : Y → List A) (g : X → Y) (xs : List X) → ((x : X) → f (g x) ≡ []) → flat_map f (map g xs) ≡ []
 flat_none f g [] none = refl
 flat_none f g (x ∷ xs) none = ap (λ ys. ys ++ flat_map f (map g xs)) (none x) ∙ flat_none f g xs none
 
+-- a function that gives one thing of each line of a list
 pub flat_one : {X Y A : Type 0} (f : Y → List A) (g : X → Y) (h : X → A) (xs : List X) → ((x : X) → f (g x) ≡ h x ∷ []) → flat_map f (map g xs) ≡ map h xs
 flat_one f g h [] one = refl
 flat_one f g h (x ∷ xs) one = ap (λ ys. ys ++ flat_map f (map g xs)) (one x) ∙ ap (λ ys. h x ∷ ys) (flat_one f g h xs one)
 
+-- a sum of nothing
 pub sum_none_of : {X Y : Type 0} (f : Y → ℕ) (g : X → Y) (xs : List X) → ((x : X) → f (g x) ≡ 0) → sum_by f (map g xs) ≡ 0
 sum_none_of f g [] none = refl
 sum_none_of f g (x ∷ xs) none = omega (arith, sum_by-cons f (g x) (map g xs), none x, sum_none_of f g xs none)
 
+-- two functions that agree on each member of a list
 pub flat_same : {Y A : Type 0} (f g : Y → List A) (ys : List Y) → All (λ y. f y ≡ g y) ys → flat_map f ys ≡ flat_map g ys
 flat_same f g [] all = refl
 flat_same f g (y ∷ ys) all =
     ap (λ xs. xs ++ flat_map f ys) (All-head (λ y. f y ≡ g y) y ys all) ∙ ap (λ xs. g y ++ xs) (flat_same f g ys (All-tail (λ y. f y ≡ g y) y ys all))
 
+-- a function that gives nothing of any member of a list
 pub flat_empty : {Y A : Type 0} (f : Y → List A) (ys : List Y) → All (λ y. f y ≡ []) ys → flat_map f ys ≡ []
 flat_empty f [] all = refl
 flat_empty f (y ∷ ys) all = ap (λ xs. xs ++ flat_map f ys) (All-head (λ y. f y ≡ []) y ys all) ∙ flat_empty f ys (All-tail (λ y. f y ≡ []) y ys all)
 
+-- what holds of all that a function gives
 pub all_flat_of : {Y A : Type 0} (Q : A → Type 0) (f : Y → List A) (ys : List Y) → All (λ y. All Q (f y)) ys → All Q (flat_map f ys)
 all_flat_of Q f [] all = All-nil Q
 all_flat_of Q f (y ∷ ys) all = All-append Q (f y) (flat_map f ys) (All-head (λ y. All Q (f y)) y ys all) (all_flat_of Q f ys (All-tail (λ y. All Q (f y)) y ys all))
 
+-- what holds of all that a map gives
 pub all_map_of : {X Y : Type 0} (P : Y → Type 0) (g : X → Y) (xs : List X) → All (λ x. P (g x)) xs → All P (map g xs)
 all_map_of P g [] all = All-nil P
 all_map_of P g (x ∷ xs) all = All-cons P (g x) (map g xs) (All-head (λ y. P (g y)) x xs all) (all_map_of P g xs (All-tail (λ y. P (g y)) x xs all))
 
+-- what holds of all that a map gives holds of its members
 pub all_of_map : {X Y : Type 0} (P : Y → Type 0) (g : X → Y) (xs : List X) → All P (map g xs) → All (λ x. P (g x)) xs
 all_of_map P g [] all = All-nil (λ x. P (g x))
 all_of_map P g (x ∷ xs) all = All-cons (λ y. P (g y)) x xs (All-head P (g x) (map g xs) all) (all_of_map P g xs (All-tail P (g x) (map g xs) all))

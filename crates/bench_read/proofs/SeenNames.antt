@@ -24,6 +24,7 @@ more_names net signals = flat_map (λ t. comma_sign ∷ word (name_of net t) ∷
 
 -- ---- marks
 
+-- neither of two tests
 or_none : (a b : Bool) → a ≡ false → b ≡ false → (a || b) ≡ false
 or_none true b e f = cc
 or_none false b e f = f
@@ -33,38 +34,47 @@ none_more : (mark : Mark) (net : Netlist) (ops : List ℕ) → same_mark Name ma
 none_more mark net [] a b = refl
 none_more mark net (t ∷ ops) a b = or_none _ _ b (or_none _ _ a (none_more mark net ops a b))
 
+-- the same, with the first name
 none_seen : (mark : Mark) (net : Netlist) (ops : List ℕ) → same_mark Name mark ≡ false → same_mark Comma mark ≡ false → list_any (marked mark) (seen_names net ops) ≡ false
 none_seen mark net [] a b = refl
 none_seen mark net (s ∷ ops) a b = or_none _ _ a (none_more mark net ops a b)
 
+-- a comma may stand at an odd place
 comma_at : (n : ℕ) → n % 2 ≡ 1 → same_mark Comma (place_mark n) ≡ true
 comma_at n odd = ap (λ k. same_mark Comma (cond (eqb k 0) Name Comma)) odd
 
+-- a name may stand at an even place
 name_at : (n : ℕ) → n % 2 ≡ 0 → same_mark Name (place_mark n) ≡ true
 name_at n even = ap (λ k. same_mark Name (cond (eqb k 0) Name Comma)) even
 
+-- a seen token that may stand at its place
 abbrev placed : (ℕ × Seen) → Bool
 placed p = marked (place_mark p.0) p.1
 
+-- commas and names from an odd place on stand where they may
 placed_more : (net : Netlist) (ops : List ℕ) (n : ℕ) → n % 2 ≡ 1 → list_all placed (enumerate_from n (more_names net ops)) ≡ true
 placed_more net [] n odd = refl
 placed_more net (t ∷ ops) n odd =
     and_from _ _ (comma_at n odd) (and_from _ _ (name_at (n + 1) (omega arith)) (placed_more net ops (n + 1 + 1) (omega arith)))
 
+-- whether tokens stand where they may is seen by their marks
 placed_tokens : (text : List ℕ) (tokens : List Token) (n : ℕ) → list_all is_placed (enumerate_from n tokens) ≡ list_all placed (enumerate_from n (map (seen text) tokens))
 placed_tokens text [] n = refl
 placed_tokens text (t ∷ tokens) n = ap (λ b. is_placed (n, t) && b) (placed_tokens text tokens (n + 1))
 
+-- after the first name come as many commas as names
 even_more : (net : Netlist) (ops : List ℕ) → length (more_names net ops) % 2 ≡ 0
 even_more net [] = refl
 even_more net (t ∷ ops) = omega (arith, even_more net ops)
 
 -- ---- the names among them
 
+-- the bytes of tokens are those that are seen
 texts_seen : (text : List ℕ) (tokens : List Token) → texts_of text tokens ≡ map (λ (s : Seen). s.bytes) (map (seen text) tokens)
 texts_seen text [] = refl
 texts_seen text (t ∷ tokens) = ap (λ ns. text_of text t ∷ ns) (texts_seen text tokens)
 
+-- the names among tokens, as they are seen
 seen_filter : (text : List ℕ) (tokens : List Token) → map (seen text) (filter (has_mark Name) tokens) ≡ filter (marked Name) (map (seen text) tokens)
 seen_filter text [] = refl
 seen_filter text (t ∷ tokens) = by_test (has_mark Name t) (seen_filter text tokens) where
@@ -73,10 +83,12 @@ seen_filter text (t ∷ tokens) = by_test (has_mark Name t) (seen_filter text to
   by_test true e = ap (λ ss. seen text t ∷ ss) e
   by_test false e = e
 
+-- the names after the first
 names_more : (net : Netlist) (ops : List ℕ) → map (λ (s : Seen). s.bytes) (filter (marked Name) (more_names net ops)) ≡ map (name_of net) ops
 names_more net [] = refl
 names_more net (t ∷ ops) = ap (λ ns. name_of net t ∷ ns) (names_more net ops)
 
+-- the names among seen names and commas
 names_seen : (net : Netlist) (ops : List ℕ) → map (λ (s : Seen). s.bytes) (filter (marked Name) (seen_names net ops)) ≡ map (name_of net) ops
 names_seen net [] = refl
 names_seen net (s ∷ ops) = ap (λ ns. name_of net s ∷ ns) (names_more net ops)
@@ -84,9 +96,11 @@ names_seen net (s ∷ ops) = ap (λ ns. name_of net s ∷ ns) (names_more net op
 -- ---- tokens seen as names
 
 module _ (text : List ℕ) (net : Netlist) (ops : List ℕ) (tokens : List Token) (are : map (seen text) tokens ≡ seen_names net ops) where
+  -- a mark that is neither a name's nor a comma's is on none of them
   pub no_mark : (mark : Mark) → same_mark Name mark ≡ false → same_mark Comma mark ≡ false → list_any (has_mark mark) tokens ≡ false
   no_mark mark a b = sym (list_any-map (marked mark) (seen text) tokens) ∙ ap (list_any (marked mark)) are ∙ none_seen mark net ops a b
 
+  -- the bytes of the names among them
   pub texts_are : texts_of text (names_in tokens) ≡ map (name_of net) ops
   unfolding names_in
   texts_are =
@@ -94,6 +108,7 @@ module _ (text : List ℕ) (net : Netlist) (ops : List ℕ) (tokens : List Token
       ∙ ap (map (λ (s : Seen). s.bytes)) (seen_filter text tokens ∙ ap (filter (marked Name)) are)
       ∙ names_seen net ops
 
+  -- how many names are among them
   pub count_is : count_by (has_mark Name) tokens ≡ length ops
   unfolding names_in
   count_is =

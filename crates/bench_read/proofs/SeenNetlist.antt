@@ -1,5 +1,5 @@
 -- Rows that are seen as the canonical text of a valid netlist say its lines.
-use Rattle.std.proofs.Common.{◌≡◌, ℕ, zero, suc, ◌+◌, ◌≤◌, Bool, true, false, ◌==◌, cond, List, [], ◌∷◌, ◌++◌, length, map, slice_get, Option, Some, None, sym, ap, ◌∙◌, subst, refl, arith}
+use Rattle.std.proofs.Common.{◌≡◌, ℕ, zero, suc, ◌≤◌, Bool, true, false, ◌==◌, cond, List, [], ◌∷◌, ◌++◌, length, map, slice_get, Option, Some, None, sym, ap, ◌∙◌, subst, refl, arith}
 use Rattle.std.specs.Prelude.{codes}
 use Rattle.std.specs.List.{flat_map}
 use Rattle.std.proofs.lemmas.Bool.{and_from, le-leb, eq-eqb}
@@ -15,9 +15,9 @@ use Rattle.net_defs.specs.declared.netlist.Driver.TheVariants.{Input, Gate, Dff,
 use Rattle.net_defs.specs.Canonical.{name_of, kind_word}
 use Rattle.net_defs.specs.Valid.{IsDrivable, IsMemory, IsValid}
 use Rattle.bench_read.specs.declared.statement.Act.TheVariants as act
-use Rattle.bench_read.specs.Words.{kind_of, gate_act, allows, allows_operands, is_any_number}
+use Rattle.bench_read.specs.Words.{kind_of, gate_act, allows_operands, is_any_number}
 use Rattle.bench_read.proofs.SeenLines.{Seen, seen, seen_port, seen_gate, seen_memory, input_lines, memory_lines, driver_lines, seen_lines}
-use Rattle.bench_read.proofs.CanonicalLines.{Line, output_line, inputs_say, memory_says, drivers_say, leading_lines, printing_lines, driving_lines, lines_of, Say, say_none, say_both, IsConsOf, cons_of, nil_of, IsSplitOf, split_of}
+use Rattle.bench_read.proofs.CanonicalLines.{Line, output_line, inputs_say, memory_says, drivers_say, leading_lines, printing_lines, driving_lines, lines_of, Say, say_none, say_both, cons_of, nil_of, split_of}
 use Rattle.bench_read.proofs.SeenRows.{input_says, output_says, gate_says}
 use Rattle.bench_read.proofs.SeenMemory.{AreBits}
 use Rattle.bench_read.proofs.SeenMemory as memories
@@ -25,6 +25,7 @@ use Rattle.bench_read.proofs.MadeLemmas.{range_length}
 
 -- ---- the words of kinds
 
+-- the word of a kind is known as it
 kind_acts : (kind : Kind) → gate_act (kind_word kind) ≡ Some (act.Gate kind)
 unfolding gate_act kind_of
 kind_acts And = refl
@@ -38,13 +39,16 @@ kind_acts Buf = refl
 kind_acts Tri = refl
 kind_acts Bus = refl
 
+-- the word of a register is known
 register_acts : gate_act (codes "DFF") ≡ Some act.Dff
 unfolding gate_act
 register_acts = refl
 
+-- any number from 1 to 1,024 passes
 any_allowed : (n : ℕ) → (1 ≤ n) × (n ≤ 1024) → is_any_number n ≡ true
 any_allowed n few = and_from _ _ (le-leb 1 n few.0) (le-leb n 1024 few.1)
 
+-- a number of operands that a kind has is allowed
 kind_allows : (kind : Kind) (n : ℕ) → AllowsOperands kind n → allows_operands kind n ≡ true
 kind_allows And n few = any_allowed n few
 kind_allows Nand n few = any_allowed n few
@@ -57,6 +61,7 @@ kind_allows Buf n few = eq-eqb n 1 few
 kind_allows Tri n few = eq-eqb n 2 few
 kind_allows Bus n few = any_allowed n few
 
+-- each kind has an operand at least
 kind_some : (kind : Kind) (n : ℕ) → AllowsOperands kind n → 1 ≤ n
 kind_some And n few = few.0
 kind_some Nand n few = few.0
@@ -72,9 +77,11 @@ kind_some Bus n few = few.0
 -- ---- rows, part by part
 
 module _ (text : List ℕ) where
+  -- no rows
   none_say : (rows : List (List Token)) → map (map (seen text)) rows ≡ [] → Say text rows []
   none_say rows e = subst (λ rs. Say text rs []) (sym (nil_of (map (seen text)) rows e)) (say_none text)
 
+  -- one row
   one_says : (rows : List (List Token)) (s : List Seen) (line : Line) → map (map (seen text)) rows ≡ s ∷ [] → ((row : List Token) → map (seen text) row ≡ s → Say text (row ∷ []) (line ∷ [])) → Say text rows (line ∷ [])
   one_says rows s line e says =
       let c = cons_of (map (seen text)) rows s [] e in
@@ -98,6 +105,7 @@ module _ (text : List ℕ) where
       subst (λ rs. Say text rs (g x ∷ map g xs)) (sym c.is)
       (say_both text (c.first ∷ []) c.rest (g x ∷ []) (map g xs) (each x c.first c.here) (map_says f g xs each c.rest c.more))
 
+  -- the row of an input, and none of another signal
   inputs_each : (name : List ℕ) (driver : Driver) (rows : List (List Token)) → map (map (seen text)) rows ≡ input_lines (record { name = name; driver = driver }) → Say text rows (inputs_say name driver)
   inputs_each name Input rows e = one_says rows (seen_port (codes "INPUT") name) _ e (λ row h. input_says text row name h)
   inputs_each name (Gate kind ops) rows e = none_say rows e
@@ -115,11 +123,13 @@ bits_of net m memory is = record {
 }
 
 module _ (text : List ℕ) (net : Netlist) (valid : IsValid net) where
+  -- the row of a memory, where there is one
   memory_each : (m : ℕ) (o : Option Block) → slice_get net.blocks m ≡ o → (rows : List (List Token)) → map (map (seen text)) rows ≡ memory_lines net o → Say text rows (memory_says net o)
   memory_each m None at rows e = none_say text rows e
   memory_each m (Some memory) at rows e =
       one_says text rows (seen_memory net memory) _ e (λ row h. memories.memory_says text net row memory (bits_of net m memory (valid.memories m memory at)) h)
 
+  -- the row that drives a signal that is no input
   drivers_each : (s : ℕ) (name : List ℕ) (driver : Driver) → IsDrivable net s driver → (rows : List (List Token)) → map (map (seen text)) rows ≡ driver_lines net (record { name = name; driver = driver }) → Say text rows (drivers_say net name driver)
   drivers_each s name Input is rows e = none_say text rows e
   drivers_each s name (Gate kind ops) is rows e =
@@ -133,6 +143,7 @@ module _ (text : List ℕ) (net : Netlist) (valid : IsValid net) where
     by_test true h = memory_each m (slice_get net.blocks m) refl rows h
     by_test false h = none_say text rows h
 
+  -- all rows
   pub netlist_says : (rows : List (List Token)) → map (map (seen text)) rows ≡ seen_lines net → Say text rows (lines_of net)
   unfolding lines_of
   netlist_says rows e =
