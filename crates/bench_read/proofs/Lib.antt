@@ -1,7 +1,11 @@
+mod CanonicalRows
+mod CanonicalShape
 mod DesignLemmas
 mod DraftLemmas
 mod DriveLemmas
 mod FormLemmas
+mod LineRows
+mod LineSteps
 mod ListLemmas
 mod MadeLemmas
 mod NameByteLemmas
@@ -10,4 +14,6 @@ mod NumberLemmas
 mod PlainLemmas
 mod ReadLemmas
 mod RowLemmas
+mod ScanSteps
+mod SeenLines
 mod ValidLemmas
