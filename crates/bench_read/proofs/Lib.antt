@@ -1,6 +1,8 @@
 mod CanonicalLines
 mod CanonicalNet
 mod CanonicalReads
+mod CanonicalRows
+mod CanonicalShape
 mod CutLemmas
 mod DesignLemmas
 mod DraftLemmas
@@ -9,6 +11,8 @@ mod DrivingLemmas
 mod FormLemmas
 mod LeadingLemmas
 mod LineLemmas
+mod LineRows
+mod LineSteps
 mod ListLemmas
 mod MadeLemmas
 mod NameByteLemmas
@@ -17,6 +21,7 @@ mod NumberLemmas
 mod PlainLemmas
 mod ReadLemmas
 mod RowLemmas
+mod ScanSteps
 mod SeenLines
 mod SeenMemory
 mod SeenNames
