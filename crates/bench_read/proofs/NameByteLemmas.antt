@@ -17,7 +17,7 @@ use Rattle.net_defs.specs.Valid.{mark_bytes}
 use Rattle.bench_read.specs.Grammar.{text_of}
 
 -- the two words for a byte of a name agree
-same_name_byte : (byte : ℕ) → valid.is_name_byte byte ≡ is_name_byte byte
+pub same_name_byte : (byte : ℕ) → valid.is_name_byte byte ≡ is_name_byte byte
 unfolding valid.is_name_byte mark_bytes is_name_byte is_visible sign_of
 same_name_byte byte = by_marks (leb 33 byte && leb byte 126) (eqb byte 40) (eqb byte 41) (eqb byte 44) (eqb byte 61) (eqb byte 59) (eqb byte 91) (eqb byte 93) (eqb byte 35) where
   by_marks : (v a b c d e f g h : Bool) → (v && not (a || (b || (c || (d || (e || (f || (g || (h || false))))))))) ≡ ((v && not (is_some (cond a (Some Open) (cond b (Some Close) (cond c (Some Comma) (cond d (Some Equals) (cond e (Some Semi) (cond f (Some Left) (cond g (Some Right) None))))))))) && not h)

@@ -3,6 +3,7 @@
 
 ghost use Rattle.std.specs.Prelude.{◌≡◌, ◌≤◌, None, length};
 ghost use Rattle.net_defs.specs.declared.netlist.Netlist.{Netlist};
+ghost use Rattle.net_defs.specs.Canonical.{canonical_text};
 ghost use Rattle.net_defs.specs.Valid.{IsValid};
 ghost use Rattle.bench_read.specs.Faults.{first_fault};
 ghost use Rattle.bench_read.specs.Reads.{Reads};
@@ -19,4 +20,10 @@ pub fn reads_as_one(text: &[u8], net: &Netlist, other: &Netlist)
 pub fn reads_as_valid(text: &[u8], net: &Netlist)
     requires { length text.now ≤ 67108864 }
     ensures { Reads text.now net.now → IsValid net.now }
+{}
+
+/// The canonical text of a valid netlist reads as that netlist.
+pub fn canonical_reads(net: &Netlist)
+    requires { IsValid net.now }
+    ensures { Reads (canonical_text net.now) net.now }
 {}
