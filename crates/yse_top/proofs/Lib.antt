@@ -1,6 +1,4 @@
-pub mod FirstForm
-pub mod ListLemmas
-pub mod Rows
-pub mod Simulation
-pub mod Telling
-pub mod Told
+mod CauseLemmas
+mod ToldLemmas
+mod TraceLemmas
+mod WritingLemmas

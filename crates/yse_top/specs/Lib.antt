@@ -1,9 +1,8 @@
 pub mod Causes
-pub mod Evaluation
 pub mod Expected
-pub mod FirstForm
-pub mod Law
 pub mod Lines
+pub mod Outputs
 pub mod Refusals
 pub mod Statuses
 pub mod Words
+pub mod Writing

@@ -1,87 +1,52 @@
-//! Why a call ends before its output, and the line that says so.
+//! Why a call ends before its output.
 
-ghost use Rattle.std.specs.Prelude.{◌≡◌, ◌≤◌, ◌++◌, OnOk, OnErr};
-ghost use Rattle.std.specs.Io.KnownBytes.{append_known};
-ghost use Rattle.edge_io.specs.Counts.{Rose};
-ghost use Rattle.edge_io.specs.Writing.{TakesProperPrefix};
-ghost use Rattle.yse_top.specs.Lines.{Tells};
-ghost use Rattle.yse_top.specs.Refusals.{line_of, status_of};
+ghost use Rattle.std.specs.Prelude.{◌≡◌};
+ghost use Rattle.yse_top.specs.Refusals.{of_netlist, of_stimulus};
 
-use crate::status::Status;
-use edge_io::{Sink, WriteNo, write_whole};
+use bench_read::BenchNo;
+use net_defs::Netlist;
+use seen_list::List;
+use stim_text::StimNo;
 
-/// A refusal, with the name of the file that it is of.
-#[derive(Clone, Copy)]
+/// A refusal, with what its line names.
+#[derive(Drop)]
 pub enum Refusal<'a> {
     /// The words are not of the form.
     Words,
     /// The file could not be read.
     Unread(&'a [u8]),
-    /// The file is too long, or its text is not in the first form.
-    Form(&'a [u8]),
+    /// The file has too many bytes.
+    TooLong(&'a [u8]),
+    /// The text is no netlist.
+    Netlist(BenchNo),
+    /// Gates of the netlist wait for one another.
+    Loop(Netlist, List<u32>),
+    /// The text is no stimulus for the netlist.
+    Stimulus(StimNo),
+    /// There are too many cells.
+    Cells(u64),
     /// The output could not be written.
     Unwritten,
     /// Want of memory.
     Memory,
 }
 
-/// Writes the refusal's line to `err`, and answers its status. A fault of `err` changes nothing.
-#[tactic(auto, unfolding(crate::specs::Lines::usage_line, crate::specs::Lines::read_fault_line, crate::specs::Lines::write_fault_line, crate::specs::Lines::first_form_line, crate::specs::Lines::memory_line))]
-pub fn refuse<E: Sink>(err: &mut E, refusal: Refusal<'_>) -> Status
-    ensures status { result ≡ status_of refusal.entry }
-    ensures line { Tells (E.taken err.old) (E.taken err.new) (E.faults err.old) (E.faults err.new) (line_of refusal.entry) }
+/// The refusal of a netlist text.
+pub fn of_netlist<'a>(no: BenchNo) -> Refusal<'a>
+    ensures { result ≡ of_netlist no }
 {
-    match refusal {
-        Refusal::Words => {
-            tell(
-                err,
-                b"usage: yse (run/refer/order) NETLIST STIMULUS [options], ",
-                b"yse plan NETLIST [options], yse show NETLIST, ",
-                b"yse large GATES CYCLES [options]\n",
-            );
-            Status::Words
-        }
-        Refusal::Unread(name) => {
-            tell(err, b"read fault: ", name, b"\n");
-            Status::ReadFault
-        }
-        Refusal::Form(name) => {
-            tell(err, b"first form: ", name, b"\n");
-            Status::Netlist
-        }
-        Refusal::Unwritten => {
-            tell(err, b"write fault", b"", b"\n");
-            Status::WriteFault
-        }
-        Refusal::Memory => {
-            tell(err, b"out of memory", b"", b"\n");
-            Status::Memory
-        }
+    match no {
+        BenchNo::Memory => Refusal::Memory,
+        other => Refusal::Netlist(other),
     }
 }
 
-/// Writes three pieces one after the other, up to the first fault.
-fn tell<E: Sink>(err: &mut E, first: &[u8], second: &[u8], third: &[u8])
-    ensures line { Tells (E.taken err.old) (E.taken err.new) (E.faults err.old) (E.faults err.new) (first.now ++ (second.now ++ third.now)) }
-    ensures kept { E.faults err.old ≤ E.faults err.new }
+/// The refusal of a stimulus text.
+pub fn of_stimulus<'a>(no: StimNo) -> Refusal<'a>
+    ensures { result ≡ of_stimulus no }
 {
-    if let Ok(()) = write_whole(err, first) {
-        tell_two(err, second, third);
+    match no {
+        StimNo::Memory => Refusal::Memory,
+        other => Refusal::Stimulus(other),
     }
-}
-
-fn tell_two<E: Sink>(err: &mut E, first: &[u8], second: &[u8])
-    ensures line { Tells (E.taken err.old) (E.taken err.new) (E.faults err.old) (E.faults err.new) (first.now ++ second.now) }
-    ensures kept { E.faults err.old ≤ E.faults err.new }
-{
-    if let Ok(()) = write_whole(err, first) {
-        tell_one(err, second);
-    }
-}
-
-fn tell_one<E: Sink>(err: &mut E, piece: &[u8])
-    ensures line { Tells (E.taken err.old) (E.taken err.new) (E.faults err.old) (E.faults err.new) piece.now }
-    ensures kept { E.faults err.old ≤ E.faults err.new }
-{
-    let _ = write_whole(err, piece);
 }

@@ -1,16 +1,11 @@
--- The lines that were written are those that were made.
-use Rattle.std.proofs.Common.{◌∙◌, ap, List, ℕ}
-use Rattle.std.specs.Io.KnownBytes.{append_known}
-use Rattle.yse_top.specs.Lines.{joined}
-use Rattle.yse_top.proofs.Told.{WhereTold-weaker}
+-- A read fault is of the file that its refusal names.
+use Rattle.std.proofs.Common.{◌∙◌, sym, map}
+use Rattle.std.specs.String.{string_bytes}
+use Rattle.yse_top.specs.Writing.{Tells}
+use Rattle.yse_top.proofs.CauseLemmas.{unread_of}
 use Rattle.yse_top.proofs.yse.Goals as goal
 
-pub returns-in-Ok-write_lines-clause-done : goal.returns-in-Ok-write_lines-clause-done
-returns-in-Ok-write_lines-clause-done g c = λ is_done.
-    WhereTold-weaker (g.F.Files.names c.args.files.now) (g.F.Files.bytes c.args.files.now) _ _
-    (λ texts expected. (
-      joined c.in-Ok.lines,
-      expected,
-      c.in-Ok-write_lines.ensures.whole ∙ ap (λ (lines : List (List ℕ)). append_known (g.O.Sink.taken c.args.out.now) (joined lines)) c.as_slice.ensures,
-    ))
-    c.in-Ok.ensures.lines
+pub returns-in-Err-clause-read_fault : goal.returns-in-Err-clause-read_fault
+returns-in-Err-clause-read_fault g c is =
+    unread_of _ _ _ _ (map string_bytes c.args.words.now) (Tells (g.E.Sink.taken c.args.err.now) (g.E.Sink.taken c.refuse-in-Err.new.err) (g.E.Sink.faults c.args.err.now) (g.E.Sink.faults c.refuse-in-Err.new.err))
+    c.in-Err.refusal (sym c.refuse-in-Err.ensures.status ∙ is) c.in-Err.ensures.refused c.refuse-in-Err.ensures.line
