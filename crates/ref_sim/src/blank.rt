@@ -39,7 +39,8 @@ pub(crate) fn blank_staged(alloc: Global, plan: &Plan) -> Result<Staged, Memory>
     })
 }
 
-fn blank(alloc: Global, count: usize, v: V4) -> Result<List<V4>, Memory>
+/// So many times this value.
+pub(crate) fn blank(alloc: Global, count: usize, v: V4) -> Result<List<V4>, Memory>
     ensures { IfOk result (λ list. list ≡ replicate count v) }
 {
     let mut list = List::new(alloc);

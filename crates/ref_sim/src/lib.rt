@@ -16,6 +16,7 @@ mod blank;
 mod gates;
 mod memory;
 mod plan;
+mod printed;
 mod run;
 #[cfg(test)]
 mod tests;
