@@ -39,6 +39,7 @@ use Rattle.ref_sim.specs.declared.plan.Plan.{Plan}
 use Rattle.ref_sim.specs.declared.turn.Machine.{Machine}
 use Rattle.ref_sim.specs.declared.turn.Staged.{Staged}
 use Rattle.ref_sim.specs.Turns.{state_of, IsReady, phase_of, driven_by, HoldInputs, StepsBy}
+use Rattle.ref_sim.specs.Ports.{ArePorts}
 use Rattle.ref_sim.specs.Runs.{AreCells, StandsAt, RunsTo, phase_at, printed_row, HasRows}
 use Rattle.ref_sim.proofs.Phases.{right_step}
 use Rattle.ref_sim.proofs.Uniqueness.{next_state}
@@ -220,8 +221,8 @@ rows_set net cycles cycle rows new_rows row has changed = rw changed (record {
 
 -- the first state is ready for a turn
 pub first_ready : (net : Netlist) (timing : Timing) (plan : Plan) (machine : Machine) (staged : Staged) → state_of machine ≡ first_state net timing
-    → (length staged.registers ≡ length plan.registers) × (length staged.late ≡ length plan.late) → IsReady net plan machine staged
-first_ready net timing plan machine staged is long = record {
+    → length staged.registers ≡ length plan.registers → length staged.late ≡ length plan.late → ArePorts net staged.ports → IsReady net plan machine staged
+first_ready net timing plan machine staged is registers late ports = record {
   row = ap (λ s. length s.row) is ∙ length-replicate (length net.signals) Undef;
   words = record {
     memories = ap (λ s. length s.words) is ∙ length-map net.blocks (λ memory. initial_words (length memory.address) (length memory.word) (initial_value timing.init));
@@ -231,6 +232,7 @@ first_ready net timing plan machine staged is long = record {
         ∙ ap (λ block. initial_words (length block.address) (length block.word) (initial_value timing.init)) (get_or_from_slice_get net.blocks m memory memory there)) in
         rw read (first_shape (length memory.address) (length memory.word) (initial_value timing.init));
   };
-  registers = long.0;
-  late = long.1;
+  registers = registers;
+  late = late;
+  ports = ports;
 }

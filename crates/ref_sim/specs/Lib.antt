@@ -1,3 +1,3 @@
-pub mod Stores
+pub mod Ports
 pub mod Turns
 pub mod Runs

@@ -23,6 +23,7 @@ use Rattle.ref_sim.specs.declared.turn.Phase.{Phase}
 use Rattle.ref_sim.specs.declared.turn.Phase.TheVariants as phase
 use Rattle.ref_sim.specs.declared.turn.Machine.{Machine}
 use Rattle.ref_sim.specs.declared.turn.Staged.{Staged}
+use Rattle.ref_sim.specs.Ports.{ArePorts}
 
 -- the state that a machine is in
 abbrev pub state_of : Machine → State
@@ -161,3 +162,4 @@ pub record IsReady (net : Netlist) (plan : Plan) (machine : Machine) (staged : S
   pub words : AreShaped net machine.words
   pub registers : length staged.registers ≡ length plan.registers
   pub late : length staged.late ≡ length plan.late
+  pub ports : ArePorts net staged.ports

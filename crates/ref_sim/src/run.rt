@@ -34,7 +34,7 @@ pub(crate) fn simulate(
 {
     let plan = make_plan(alloc, net, timing, order)?;
     let mut machine = blank_machine(alloc, net, timing)?;
-    let mut staged = blank_staged(alloc, &plan)?;
+    let mut staged = blank_staged(alloc, net, &plan)?;
     let mut rows = blank_rows(alloc, net, stim)?;
     run(
         &mut rows,
