@@ -3,6 +3,7 @@ pub mod TurnLemmas
 pub mod Rows
 pub mod Memories
 pub mod PortLemmas
+pub mod FlatLemmas
 pub mod Writes
 pub mod Uniqueness
 pub mod Existence

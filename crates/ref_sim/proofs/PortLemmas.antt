@@ -110,31 +110,19 @@ module _ (net : Netlist) (old : State) (ports : List Port) where
     | inr past ↦ let none = slice_get_past ports m (omega (arith, past.0, answered.memories)) in rw (past.1, none) refl
   ]
 
-  pub taken_is : Answered net old (length net.blocks) ports → (s : ℕ) → taken_value net old.row ports s ≡ held_value net old s
-  taken_is answered s = by_signal (slice_get net.signals s) refl where
-    by_driver : (driver : Driver) → taken_driven old.row ports s driver ≡ held_driven net old s driver
-    by_driver Input = refl
-    by_driver (Gate kind ops) = refl
-    by_driver (Dff op) = refl
-    by_driver (BlockBit m bit) = bit_is answered m bit
-
-    by_signal : (found : Option Signal) → slice_get net.signals s ≡ found → taken_value net old.row ports s ≡ held_value net old s
-    by_signal None is = rw is refl
-    by_signal (Some signal) is = rw is (by_driver signal.driver)
-
-  -- a late gate takes nothing from a memory
-  pub late_is : (timing : Timing) (s : ℕ) → has_role net timing role.Late s ≡ true → taken_value net old.row ports s ≡ held_value net old s
-  late_is timing s plays_it = by_signal (slice_get net.signals s) refl where
-    by_driver : (driver : Driver) → plays net timing s role.Late driver ≡ true → taken_driven old.row ports s driver ≡ held_driven net old s driver
-    by_driver Input late = refl
-    by_driver (Gate kind ops) late = refl
-    by_driver (Dff op) late = refl
-    by_driver (BlockBit m bit) late = cc
+  -- what a register takes
+  pub taken_is : (timing : Timing) → Answered net old (length net.blocks) ports → (s : ℕ) → has_role net timing role.Register s ≡ true → taken_value net old.row ports s ≡ held_value net old s
+  taken_is timing answered s plays_it = by_signal (slice_get net.signals s) refl where
+    by_driver : (driver : Driver) → plays net timing s role.Register driver ≡ true → taken_driven old.row ports s driver ≡ held_driven net old s driver
+    by_driver Input register = refl
+    by_driver (Gate kind ops) register = cc
+    by_driver (Dff op) register = refl
+    by_driver (BlockBit m bit) register = bit_is answered m bit
 
     by_signal : (found : Option Signal) → slice_get net.signals s ≡ found → taken_value net old.row ports s ≡ held_value net old s
     by_signal None is = rw is refl
     by_signal (Some signal) is =
-        let here : has_role net timing role.Late s ≡ plays net timing s role.Late signal.driver = rw is refl in
+        let here : has_role net timing role.Register s ≡ plays net timing s role.Register signal.driver = rw is refl in
         rw is (by_driver signal.driver (sym here ∙ plays_it))
 
 pub staged_as : (list : List ℕ) (f g : ℕ → V4) (n : ℕ) (values : List V4) → ((k : ℕ) → k < n → f (get_or list k 0) ≡ g (get_or list k 0)) → IsStagedTo list f n values → IsStagedTo list g n values

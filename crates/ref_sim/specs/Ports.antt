@@ -3,14 +3,13 @@ use Rattle.std.specs.Prelude.{◌≡◌, ℕ, ◌<◌, List, [], length, Option,
 use Rattle.logic_four.specs.declared.V4.{V4}
 use Rattle.logic_four.specs.declared.V4.TheVariants.{Undef}
 use Rattle.logic_four.specs.Values.{settled}
-use Rattle.logic_four.specs.Gates.{gate_value}
 use Rattle.net_defs.specs.declared.netlist.Netlist.{Netlist}
 use Rattle.net_defs.specs.declared.netlist.Signal.{Signal}
 use Rattle.net_defs.specs.declared.netlist.Block.{Block}
 use Rattle.net_defs.specs.declared.netlist.Driver.{Driver}
 use Rattle.net_defs.specs.declared.netlist.Driver.TheVariants.{Input, Gate, Dff, BlockBit}
 use Rattle.net_defs.specs.Time.{value_at}
-use Rattle.net_defs.specs.Steps.{State, values_of, act_of, words_of}
+use Rattle.net_defs.specs.Steps.{State, act_of, words_of}
 use Rattle.ref_sim.specs.declared.memory.Port.{Port}
 
 -- the port has room for each operand and each output of the memory
@@ -36,11 +35,11 @@ port_bit ports m bit = of_port (slice_get ports m) where
   of_port None = Undef
   of_port (Some port) = value_at port.outs bit
 
--- what a late gate has in the next turn, and a register or a memory output after an edge, by the row
--- and by what the memories answered
+-- what a register or a memory output has after an edge, by the row and by what the memories answered;
+-- any other signal keeps its value
 abbrev pub taken_driven : List V4 → List Port → ℕ → Driver → V4
 taken_driven row ports s Input = value_at row s
-taken_driven row ports s (Gate kind ops) = gate_value kind (values_of row ops)
+taken_driven row ports s (Gate kind ops) = value_at row s
 taken_driven row ports s (Dff op) = settled (value_at row op)
 taken_driven row ports s (BlockBit m bit) = port_bit ports m bit
 

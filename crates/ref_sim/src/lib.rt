@@ -13,6 +13,7 @@ ghost use Rattle.ref_sim.specs.Turns.{HasShortAddresses};
 ghost use Rattle.ref_sim.specs.Runs.{IfLoop, AreRowsOf};
 
 mod blank;
+mod flat;
 mod gates;
 mod memory;
 mod plan;

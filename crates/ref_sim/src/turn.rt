@@ -4,15 +4,17 @@ ghost use Rattle.std.specs.Prelude.{◌≡◌, ℕ, ◌<◌, ◌≤◌, length, 
 ghost use Rattle.logic_four.specs.declared.V4.{V4};
 ghost use Rattle.net_defs.specs.Time.{value_at, initial_value};
 ghost use Rattle.net_defs.specs.Steps.{State};
+ghost use Rattle.ref_sim.specs.Flats.{IsFlat, AreStepValues};
 ghost use Rattle.ref_sim.specs.Ports.{ArePorts, Answered, port_bit, taken_driven, taken_value};
-ghost use Rattle.ref_sim.specs.Turns.{state_of, gate_driven, gate_at, settle_gate, along, IsPlan, Puts, IsStagedTo, AreShaped, HasShortAddresses, WroteMemories, HoldInputs, WordsBy, StepsBy, IsReady};
+ghost use Rattle.ref_sim.specs.Turns.{state_of, along, IsPlan, Puts, IsStagedTo, AreShaped, HasShortAddresses, WroteMemories, HoldInputs, WordsBy, StepsBy, IsReady};
 
-use crate::gates::{gate_over, value};
+use crate::flat::{follow, stage_steps};
+use crate::gates::value;
 use crate::memory::{Port, edge_memory};
 use crate::plan::Plan;
 use array_cells::Cells;
 use logic_four::{V4, settle};
-use net_defs::{Driver, Init, Netlist, Timing, is_late};
+use net_defs::{Driver, Init, Netlist, Timing};
 use seen_list::List;
 
 /// Where a turn stands in its cycle.
@@ -58,7 +60,7 @@ pub(crate) fn turn(
     ensures steps { StepsBy net.now timing.now at values.now (state_of machine.old) (state_of machine.new) }
     ensures ready { IsReady net.now plan.now machine.new staged.new }
 {
-    stage_late(&mut staged.late, net, &machine.row, &staged.ports, plan);
+    stage_late(&mut staged.late, net, &machine.row, plan);
     edge_words(&mut machine.words, &mut staged.ports, net, &machine.row, at);
     stage_registers(
         &mut staged.registers,
@@ -74,18 +76,19 @@ pub(crate) fn turn(
     settle_plan(&mut machine.row, net, timing, plan);
 }
 
-fn stage_late(staged: &mut List<V4>, net: &Netlist, row: &List<V4>, ports: &List<Port>, plan: &Plan)
+fn stage_late(staged: &mut List<V4>, net: &Netlist, row: &List<V4>, plan: &Plan)
+    requires steps { IsFlat net.now plan.now.late plan.now.late_steps }
     requires long { length staged.old ≡ length plan.now.late }
-    ensures values { IsStagedTo plan.now.late
-        (taken_value net.now row.now ports.now) (length plan.now.late) staged.new }
+    ensures values { AreStepValues plan.now.late_steps.operands row.now plan.now.late_steps.steps
+        (length plan.now.late_steps.steps) staged.new }
     ensures long { length staged.new ≡ length staged.old }
 {
-    stage(
+    let flat = &plan.late_steps;
+    stage_steps(
         staged,
-        net,
         row.as_slice(),
-        ports.as_slice(),
-        plan.late.as_slice(),
+        flat.operands.as_slice(),
+        flat.steps.as_slice(),
     );
 }
 
@@ -99,9 +102,10 @@ fn put_late(row: &mut List<V4>, plan: &Plan, staged: &List<V4>)
 
 /// Gives each gate that is not late its value, in the plan's order.
 fn settle_plan(row: &mut List<V4>, net: &Netlist, timing: &Timing, plan: &Plan)
+    requires { IsPlan net.now timing.now plan.now }
     ensures { row.new ≡ along net.now timing.now plan.now.order row.old }
 {
-    settle_gates(row, net, timing, plan.order.as_slice());
+    follow(row, &plan.early);
 }
 
 fn stage_registers(
@@ -185,8 +189,7 @@ fn taken_driven(row: &[V4], ports: &[Port], signal: u32, driver: &Driver) -> V4
     ensures { result ≡ taken_driven row.now ports.now signal driver.now }
 {
     match driver {
-        Driver::Input => value(row, signal),
-        Driver::Gate { kind, ops } => gate_over(*kind, row, ops.as_slice()),
+        Driver::Input | Driver::Gate { .. } => value(row, signal),
         Driver::Dff { op } => settle(value(row, *op)),
         Driver::BlockBit { block, bit } => port_bit(ports, *block, *bit),
     }
@@ -230,7 +233,7 @@ fn commit(row: &mut List<V4>, list: &[u32], staged: &[V4])
 }
 
 /// Puts a value into the row, if there is such a signal.
-fn put(row: &mut List<V4>, signal: u32, v: V4)
+pub(crate) fn put(row: &mut List<V4>, signal: u32, v: V4)
     ensures { row.new ≡ slice_set row.old signal v }
 {
     if (signal as usize) < row.len() {
@@ -276,41 +279,5 @@ fn put_inputs(row: &mut List<V4>, list: &[u32], values: &[V4])
 {
     for k in 0..list.len() {
         put(row, list[k], value(values, list[k]));
-    }
-}
-
-/// Gives each gate that is not late its value, one after the other.
-fn settle_gates(row: &mut List<V4>, net: &Netlist, timing: &Timing, order: &[u32])
-    ensures { row.new ≡ along net.now timing.now order.now row.old }
-{
-    for gate in order {
-        settle_gate(row, net, timing, *gate);
-    }
-}
-
-fn settle_gate(row: &mut List<V4>, net: &Netlist, timing: &Timing, gate: u32)
-    ensures { row.new ≡ settle_gate net.now timing.now row.old gate }
-{
-    if !is_late(net, timing, gate) {
-        let v = gate_at(net, row.as_slice(), gate);
-        put(row, gate, v);
-    }
-}
-
-fn gate_at(net: &Netlist, row: &[V4], gate: u32) -> V4
-    ensures { result ≡ gate_at net.now row.now gate }
-{
-    match net.signals.as_slice().get(gate as usize) {
-        Some(found) => gate_driven(row, gate, &found.driver),
-        None => value(row, gate),
-    }
-}
-
-fn gate_driven(row: &[V4], gate: u32, driver: &Driver) -> V4
-    ensures { result ≡ gate_driven row.now gate driver.now }
-{
-    match driver {
-        Driver::Gate { kind, ops } => gate_over(*kind, row, ops.as_slice()),
-        Driver::Input | Driver::Dff { .. } | Driver::BlockBit { .. } => value(row, gate),
     }
 }
