@@ -17,6 +17,9 @@ use net_defs::{Block, Netlist, Timing};
 use seen_list::{List, Memory};
 use std::alloc::Global;
 
+/// The most bits that a word of `Cells` has.
+const MOST_WORD_BITS: usize = 64;
+
 pub(crate) fn blank_machine(
     alloc: Global,
     net: &Netlist,
@@ -70,8 +73,8 @@ fn blank_memory(alloc: Global, block: &Block, v: V4) -> Result<Cells, Memory>
     requires { length block.now.address ≤ 16 }
     ensures { IfOk result (λ words. words ≡ initial_words (length block.now.address) (length block.now.word) v) }
 {
-    // No valid netlist has wider words, and none is told more than that there is no room for them.
-    if block.word.len() > 64 {
+    // No valid netlist has wider words. There is no room for one that does.
+    if block.word.len() > MOST_WORD_BITS {
         return Err(Memory);
     }
     Cells::new(

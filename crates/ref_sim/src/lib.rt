@@ -34,7 +34,7 @@ use std::alloc::Global;
 pub enum RefNo {
     /// The gates of a loop, as `RankNo` of `rank_find` has them.
     Loop(List<u32>),
-    /// Want of memory.
+    /// Want of memory; and there is none for words of more than 64 bits, which no valid netlist has.
     Memory,
 }
 

@@ -59,7 +59,6 @@ fn run(
     plan: &Plan,
 )
     requires plan { IsPlan net.now timing.now plan.now }
-    requires addresses { HasShortAddresses net.now }
     requires ready { IsReady net.now plan.now machine.old staged.old }
     requires start { state_of machine.old ≡ first_state net.now timing.now }
     requires room { HasRows net.now (cycle_count stim.now) rows.old }
@@ -86,7 +85,6 @@ fn run_row(
     begun: usize,
 )
     requires plan { IsPlan net.now timing.now plan.now }
-    requires addresses { HasShortAddresses net.now }
     requires ready { IsReady net.now plan.now machine.old staged.old }
     requires wide { AreWide net.now rows.old }
     requires room { begun + row.now.times ≤ length rows.old }
@@ -125,7 +123,6 @@ fn run_cycle(
     is_first: bool,
 )
     requires plan { IsPlan net.now timing.now plan.now }
-    requires addresses { HasShortAddresses net.now }
     requires ready { IsReady net.now plan.now machine.old staged.old }
     ensures ready { IsReady net.now plan.now machine.new staged.new }
     ensures stands { (stimulus : Stimulus) (cycle : ℕ) → is_first ≡ (cycle == 0) → cycle < cycle_count stimulus

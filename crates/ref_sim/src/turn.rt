@@ -6,7 +6,7 @@ ghost use Rattle.net_defs.specs.Time.{value_at, initial_value};
 ghost use Rattle.net_defs.specs.Steps.{State};
 ghost use Rattle.ref_sim.specs.Flats.{IsFlat, AreStepValues};
 ghost use Rattle.ref_sim.specs.Ports.{ArePorts, Answered, port_bit, taken_driven, taken_value};
-ghost use Rattle.ref_sim.specs.Turns.{state_of, along, IsPlan, Puts, IsStagedTo, AreShaped, HasShortAddresses, WroteMemories, HoldInputs, WordsBy, StepsBy, IsReady};
+ghost use Rattle.ref_sim.specs.Turns.{state_of, along, IsPlan, Puts, IsStagedTo, AreShaped, WroteMemories, HoldInputs, WordsBy, StepsBy, IsReady};
 
 use crate::flat::{follow, stage_steps};
 use crate::gates::value;
@@ -54,7 +54,6 @@ pub(crate) fn turn(
     values: &[V4],
 )
     requires plan { IsPlan net.now timing.now plan.now }
-    requires addresses { HasShortAddresses net.now }
     requires ready { IsReady net.now plan.now machine.old staged.old }
     requires inputs { at ≡ Phase.Within → HoldInputs net.now values.now machine.old.row }
     ensures steps { StepsBy net.now timing.now at values.now (state_of machine.old) (state_of machine.new) }
