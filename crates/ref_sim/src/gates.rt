@@ -161,33 +161,59 @@ fn operand(row: &[V4], operands: &[u32], place: usize) -> V4
     }
 }
 
+fn zero(v: V4) -> bool
+    ensures { result ≡ is_zero v }
+{
+    matches!(v, V4::Zero)
+}
+
+fn one(v: V4) -> bool
+    ensures { result ≡ is_one v }
+{
+    matches!(v, V4::One)
+}
+
+// The two operands are tested without a branch, since no guess at their values is a good one.
+
 fn and_two(a: V4, b: V4) -> V4
     ensures { result ≡ and_value (a ∷ b ∷ []) }
 {
-    match (a, b) {
-        (V4::Zero, _) | (_, V4::Zero) => V4::Zero,
-        (V4::One, V4::One) => V4::One,
-        _ => V4::Undef,
+    let any_zero = zero(a) | zero(b);
+    let all_one = one(a) & one(b);
+    if any_zero {
+        V4::Zero
+    } else if all_one {
+        V4::One
+    } else {
+        V4::Undef
     }
 }
 
 fn or_two(a: V4, b: V4) -> V4
     ensures { result ≡ or_value (a ∷ b ∷ []) }
 {
-    match (a, b) {
-        (V4::One, _) | (_, V4::One) => V4::One,
-        (V4::Zero, V4::Zero) => V4::Zero,
-        _ => V4::Undef,
+    let any_one = one(a) | one(b);
+    let all_zero = zero(a) & zero(b);
+    if any_one {
+        V4::One
+    } else if all_zero {
+        V4::Zero
+    } else {
+        V4::Undef
     }
 }
 
 fn xor_two(a: V4, b: V4) -> V4
     ensures { result ≡ xor_value (a ∷ b ∷ []) }
 {
-    match (a, b) {
-        (V4::Zero, V4::Zero) | (V4::One, V4::One) => V4::Zero,
-        (V4::Zero, V4::One) | (V4::One, V4::Zero) => V4::One,
-        _ => V4::Undef,
+    let differ = (zero(a) & one(b)) | (one(a) & zero(b));
+    let agree = (zero(a) & zero(b)) | (one(a) & one(b));
+    if differ {
+        V4::One
+    } else if agree {
+        V4::Zero
+    } else {
+        V4::Undef
     }
 }
 
