@@ -1,9 +1,9 @@
 -- Steps laid flat, against the gates that they stand for.
-use Rattle.std.proofs.Common.{◌≡◌, ◌∙◌, ℕ, zero, suc, ◌+◌, ◌-◌, ◌<◌, ◌≤◌, inl, inr, Bool, true, false, List, [], ◌∷◌, ◌++◌, length, take, drop, map, get_or, set, fold, refl, sym, ap, subst, arith, Option, Some, None}
+use Rattle.std.proofs.Common.{◌≡◌, ◌∙◌, ℕ, zero, suc, ◌+◌, ◌-◌, ◌<◌, ◌≤◌, inl, inr, true, false, List, [], ◌∷◌, ◌++◌, length, take, drop, get_or, set, refl, sym, ap, subst, arith, Option, Some, None}
 use Rattle.std.specs.List.{slice_get, All}
 use Rattle.std.proofs.lemmas.List.Sums.{fold_more, fold_push}
 use Rattle.std.proofs.lemmas.Option.{slice_get_within, slice_get-get_or, get_or_from_slice_get, slice_get_cases}
-use Rattle.std.proofs.lemmas.List.{length_push, length-append, length-take-le, length-drop, take_all, take_more, get_or_append_left, get_or_push, drop-append-le, take-append-le}
+use Rattle.std.proofs.lemmas.List.{length_push, length-append, length-drop, take_all, take_more, get_or_append_left, get_or_push, drop-append-le, take-append-le}
 use Rattle.std.proofs.Math.Seq.{drop-append_seam}
 use Rattle.std.proofs.lemmas.List.Elements.{All-append}
 use Rattle.logic_four.specs.declared.V4.{V4}

@@ -1,9 +1,9 @@
 -- What the memories answered through their ports.
-use Rattle.std.proofs.Common.{◌≡◌, ◌≢◌, ◌∙◌, ℕ, ◌+◌, ◌<◌, inl, inr, true, false, List, [], ◌∷◌, ◌++◌, length, get_or, set, refl, sym, ap, subst, arith, Option, Some, None}
+use Rattle.std.proofs.Common.{◌≡◌, ◌≢◌, ◌∙◌, ℕ, ◌+◌, ◌<◌, inl, inr, true, List, [], ◌∷◌, ◌++◌, length, get_or, set, refl, sym, ap, subst, arith, Option, Some, None}
 use Rattle.std.specs.List.{slice_get, refill}
 use Rattle.std.proofs.lemmas.Bool.Decides.{eqb_tells}
 use Rattle.std.proofs.lemmas.Option.{slice_get_within, slice_get-get_or, get_or_from_slice_get, slice_get_past, slice_get_cases}
-use Rattle.std.proofs.lemmas.List.{length-set, length_push, get_or-set_same, get_or-set_other, get_or_append_left, get_or_push, get_or_default}
+use Rattle.std.proofs.lemmas.List.{length-set, length_push, get_or-set_same, get_or-set_other, get_or_append_left, get_or_push}
 use Rattle.logic_four.specs.declared.V4.{V4}
 use Rattle.logic_four.specs.Memory.{memory_act}
 use Rattle.net_defs.specs.declared.netlist.Netlist.{Netlist}
@@ -18,7 +18,7 @@ use Rattle.rank_find.proofs.ListLemmas.{last_or}
 use Rattle.ref_sim.specs.declared.plan.Role.TheVariants as role
 use Rattle.ref_sim.specs.declared.memory.Port.{Port}
 use Rattle.ref_sim.specs.Ports.{FitsPort, ArePorts, Answered, port_bit, taken_driven, taken_value}
-use Rattle.ref_sim.specs.Turns.{plays, has_role, held_driven, held_value, IsStagedTo, AreShaped, WroteMemories}
+use Rattle.ref_sim.specs.Turns.{plays, has_role, held_driven, held_value, IsStagedTo}
 use Rattle.ref_sim.proofs.Memories.{memory_here, same_memory}
 use Rattle.ref_sim.proofs.Writes.{refill_set}
 

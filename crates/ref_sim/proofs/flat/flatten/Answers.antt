@@ -1,4 +1,4 @@
-use Rattle.ref_sim.proofs.FlatLemmas.{found_more, flat_none}
+use Rattle.ref_sim.proofs.FlatLemmas.{found_more}
 use Rattle.ref_sim.proofs.flat.flatten.Goals as goal
 
 pub loop-gate-preserved : goal.loop-gate-preserved

@@ -1,4 +1,4 @@
-use Rattle.std.proofs.Common.{◌∙◌, ◌+◌, ap, subst, sym, arith, length}
+use Rattle.std.proofs.Common.{arith}
 use Rattle.std.proofs.lemmas.List.{length_push}
 use Rattle.ref_sim.proofs.PortLemmas.{ports_push, ports_whole}
 use Rattle.ref_sim.proofs.memory.blank_ports.Goals as goal
