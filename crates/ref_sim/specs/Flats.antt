@@ -63,17 +63,19 @@ pub record IsFlat (net : Netlist) (list : List ℕ) (flat : Flat) : Type 0 where
   pub long : length flat.steps ≡ length list
   pub each : (k : ℕ) (step : Step) → slice_get flat.steps k ≡ Some step → IsStep net flat.operands (slice_index list k) step
 
--- one gate more
+-- a gate was added, with its operands
 pub record Pushes (gate : ℕ) (kind : Kind) (ops : List ℕ) (old new : Flat) : Type 0 where
   pub operands : new.operands ≡ old.operands ++ ops
   pub steps : new.steps ≡ old.steps ++ record { gate = gate; kind = kind; from = length old.operands; upto = length old.operands + length ops } ∷ []
 
+-- what this driver gives was added, if it is a gate
 abbrev pub PushesDriven : ℕ → Driver → Flat → Flat → Type 0
 PushesDriven gate Input old new = ⊤
 PushesDriven gate (Gate kind ops) old new = Pushes gate kind ops old new
 PushesDriven gate (Dff op) old new = ⊤
 PushesDriven gate (BlockBit memory bit) old new = ⊤
 
+-- the gate of this signal was added, if there is one
 abbrev pub PushesFound : ℕ → Option Signal → Flat → Flat → Type 0
 PushesFound gate None old new = ⊤
 PushesFound gate (Some signal) old new = PushesDriven gate signal.driver old new
