@@ -17,7 +17,8 @@ use Rattle.net_defs.specs.Steps.{is_late, values_of}
 use Rattle.net_defs.specs.Loops.{IsGate, waits_for, IsOrder}
 use Rattle.rank_find.proofs.ListLemmas.{differ_at, place_of}
 use Rattle.rank_find.proofs.NumberLemmas.{gate_within, place_below}
-use Rattle.ref_sim.specs.Turns.{gate_at, settle_gate, along}
+use Rattle.ref_sim.specs.Flats.{gate_at}
+use Rattle.ref_sim.specs.Turns.{settle_gate, along}
 use Rattle.ref_sim.proofs.Rows.{put_value}
 
 -- maps that agree at each item
@@ -43,10 +44,10 @@ gate_at_here : (net : Netlist) (row : List V4) (s : ℕ) (signal : Signal) (kind
 gate_at_here net row s signal kind ops is driver = rw (is, driver) refl
 
 module _ (net : Netlist) (timing : Timing) (row : List V4) (g : ℕ) where
-  settle_late : is_late net timing g ≡ true → settle_gate net timing row g ≡ row
+  pub settle_late : is_late net timing g ≡ true → settle_gate net timing row g ≡ row
   settle_late late = ap (λ b. if b then row else set row g (gate_at net row g)) late
 
-  settle_early : is_late net timing g ≡ false → settle_gate net timing row g ≡ set row g (gate_at net row g)
+  pub settle_early : is_late net timing g ≡ false → settle_gate net timing row g ≡ set row g (gate_at net row g)
   settle_early early = ap (λ b. if b then row else set row g (gate_at net row g)) early
 
   settle_length : length (settle_gate net timing row g) ≡ length row

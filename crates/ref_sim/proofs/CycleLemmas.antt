@@ -1,8 +1,9 @@
 -- Turns, cycles and rows of a run, against every simulation.
-use Rattle.std.proofs.Common.{◌≡◌, ◌≢◌, ◌∙◌, ℕ, zero, suc, ◌+◌, ◌-◌, ◌*◌, ◌/◌, ◌%◌, ◌<◌, ◌≤◌, inl, inr, Bool, true, false, if◌then◌else◌, ◌&&◌, ◌==◌, nat_le, List, [], ◌∷◌, ◌++◌, length, take, replicate, get_or, refl, sym, ap, subst, arith, Some, IsTrue}
+use Rattle.std.proofs.Common.{◌≡◌, ◌≢◌, ◌∙◌, ℕ, zero, suc, ◌+◌, ◌-◌, ◌*◌, ◌/◌, ◌%◌, ◌<◌, ◌≤◌, inl, inr, Bool, true, false, if◌then◌else◌, ◌&&◌, ◌==◌, nat_le, List, [], ◌∷◌, ◌++◌, length, take, replicate, get_or, set, refl, sym, ap, subst, arith, Some, IsTrue}
 use Rattle.std.specs.List.{slice_get}
 use Rattle.std.proofs.lemmas.Option.{slice_get_within, slice_get-get_or, get_or_from_slice_get}
-use Rattle.std.proofs.lemmas.List.{length-map, length-replicate}
+use Rattle.std.proofs.lemmas.List.{length-map, length-set, length-replicate, length-take-le, take_more_set}
+use Rattle.std.proofs.lemmas.List.Elements.{All-set}
 use Rattle.logic_four.specs.declared.V4.{V4}
 use Rattle.logic_four.specs.declared.V4.TheVariants.{Undef}
 use Rattle.net_defs.specs.declared.netlist.Netlist.{Netlist}
@@ -38,7 +39,8 @@ use Rattle.ref_sim.specs.declared.plan.Plan.{Plan}
 use Rattle.ref_sim.specs.declared.turn.Machine.{Machine}
 use Rattle.ref_sim.specs.declared.turn.Staged.{Staged}
 use Rattle.ref_sim.specs.Turns.{state_of, IsReady, phase_of, driven_by, HoldInputs, StepsBy}
-use Rattle.ref_sim.specs.Runs.{AreCells, StandsAt, RunsTo, phase_at}
+use Rattle.ref_sim.specs.Ports.{ArePorts}
+use Rattle.ref_sim.specs.Runs.{AreCells, StandsAt, RunsTo, phase_at, printed_row, HasRows}
 use Rattle.ref_sim.proofs.Phases.{right_step}
 use Rattle.ref_sim.proofs.Uniqueness.{next_state}
 
@@ -145,17 +147,22 @@ module _ (net : Netlist) (timing : Timing) (stimulus : Stimulus) (order : List �
   }
 
   -- one cycle more of a row of the stimulus
-  pub time_more : (begun rows new_rows : List CellRow) (old new : State) (row : CellRow) (times time : ℕ) (values inputs : List V4) (is_first : Bool)
-      → length rows ≡ length begun + time → time < times
-      → ((t : ℕ) → t < times → (length begun + t < cycle_count stimulus) × (get_or (cycle_rows stimulus) (length begun + t) [] ≡ values))
-      → inputs ≡ values → is_first ≡ (length rows == 0)
+  pub time_more : (begun times time cycle : ℕ) (rows new_rows : List CellRow) (old new : State) (values inputs : List V4) (is_first : Bool)
+      → cycle ≡ begun + time → cycle < length rows → time < times
+      → ((t : ℕ) → t < times → (begun + t < cycle_count stimulus) × (get_or (cycle_rows stimulus) (begun + t) [] ≡ values))
+      → inputs ≡ values → is_first ≡ (cycle == 0)
       → ((cycle : ℕ) → is_first ≡ (cycle == 0) → cycle < cycle_count stimulus → get_or (cycle_rows stimulus) cycle [] ≡ inputs → StandsAt net timing stimulus (cycle * timing.units) old → StandsAt net timing stimulus ((cycle + 1) * timing.units) new)
-      → row.cells ≡ values_of new.row net.printed → new_rows ≡ rows ++ row ∷ [] → RunsTo net timing stimulus rows old → RunsTo net timing stimulus new_rows new
-  time_more begun rows new_rows old new row times time values inputs is_first long below given same first stands is pushed runs =
+      → new_rows ≡ set rows cycle (printed_row net new.row) → RunsTo net timing stimulus (take (begun + time) rows) old → RunsTo net timing stimulus (take (begun + (time + 1)) new_rows) new
+  time_more begun times time cycle rows new_rows old new values inputs is_first number inside below given same first stands changed runs =
       let at = given time below in
-      let within : length rows < cycle_count stimulus = rw long at.0 in
-      let read : get_or (cycle_rows stimulus) (length rows) [] ≡ inputs = ap (λ n. get_or (cycle_rows stimulus) n []) long ∙ (at.1 ∙ sym same) in
-      rw pushed (row_more rows old new row runs (stands (length rows) first within read runs.stands) is)
+      let within : cycle < cycle_count stimulus = rw number at.0 in
+      let read : get_or (cycle_rows stimulus) cycle [] ≡ inputs = ap (λ n. get_or (cycle_rows stimulus) n []) number ∙ (at.1 ∙ sym same) in
+      let front : length (take cycle rows) ≡ cycle = length-take-le cycle rows (omega arith) in
+      let before : RunsTo net timing stimulus (take cycle rows) old = rw number runs in
+      let there : StandsAt net timing stimulus (cycle * timing.units) old = subst (λ n. StandsAt net timing stimulus (n * timing.units) old) front before.stands in
+      let after : StandsAt net timing stimulus ((length (take cycle rows) + 1) * timing.units) new = subst (λ n. StandsAt net timing stimulus ((n + 1) * timing.units) new) (sym front) (stands cycle first within read there) in
+      let pushed : take (begun + (time + 1)) new_rows ≡ take cycle rows ++ printed_row net new.row ∷ [] = ap (λ n. take n new_rows) (omega arith) ∙ (ap (take (cycle + 1)) changed ∙ take_more_set rows cycle (printed_row net new.row) inside) in
+      rw pushed (row_more (take cycle rows) old new (printed_row net new.row) before after refl)
 
   pub run_cells : (rows : Rows) (state : State) → length rows.rows ≡ cycle_count stimulus → RunsTo net timing stimulus rows.rows state → (states : List State) → IsSimulation net timing stimulus states → AreCells net timing stimulus states rows
   run_cells rows state long runs states simulation = record {
@@ -183,6 +190,14 @@ module _ (stimulus : Stimulus) (items : List StimRow) (i : ℕ) (row : StimRow) 
       ∙ (get_or-flat_map repeats items i t row [] within room
       ∙ (ap (λ r. get_or (repeats r) t []) (sym is) ∙ get_or-replicate row.times t row.values [] below))
 
+  pub begun_fits : (begun : ℕ) → begun ≡ length (flat_map repeats (take i items)) → begun + row.times ≤ cycle_count stimulus
+  begun_fits begun same =
+      let fits : length (flat_map repeats (take i items)) + length (repeats (get_or items i row)) ≤ length (flat_map repeats items) = length-flat_map-take repeats items i row within in
+      let long : length (repeats row) ≡ row.times = length-replicate row.times row.values in
+      let equal : length (repeats (get_or items i row)) ≡ length (repeats row) = ap (λ r. length (repeats r)) (sym is) in
+      let all : length (flat_map repeats items) ≡ cycle_count stimulus = ap (λ list. length (flat_map repeats list)) whole in
+      omega arith
+
   pub cycles_more : length (flat_map repeats (take (i + 1) items)) ≡ length (flat_map repeats (take i items)) + row.times
   cycles_more =
       ap (λ list. length (flat_map repeats list)) (take_more items i row within)
@@ -197,10 +212,17 @@ pub row_given : (stimulus : Stimulus) (items : List StimRow) (i : ℕ) (row : St
 row_given stimulus items i row whole within is n same t below =
     (rw same (row_within stimulus items i row whole within is t below), rw same (row_values stimulus items i row whole within is t below))
 
+-- the rows are as many and as wide after those of a cycle were set
+pub rows_set : (net : Netlist) (cycles cycle : ℕ) (rows new_rows : List CellRow) (row : List V4) → HasRows net cycles rows → new_rows ≡ set rows cycle (printed_row net row) → HasRows net cycles new_rows
+rows_set net cycles cycle rows new_rows row has changed = rw changed (record {
+  long = length-set rows cycle (printed_row net row) ∙ has.long;
+  wide = All-set (λ r. length r.cells ≡ length net.printed) rows cycle (printed_row net row) (length-map net.printed (value_at row)) has.wide;
+})
+
 -- the first state is ready for a turn
 pub first_ready : (net : Netlist) (timing : Timing) (plan : Plan) (machine : Machine) (staged : Staged) → state_of machine ≡ first_state net timing
-    → (length staged.registers ≡ length plan.registers) × (length staged.late ≡ length plan.late) → IsReady net plan machine staged
-first_ready net timing plan machine staged is long = record {
+    → length staged.registers ≡ length plan.registers → length staged.late ≡ length plan.late → ArePorts net staged.ports → IsReady net plan machine staged
+first_ready net timing plan machine staged is registers late ports = record {
   row = ap (λ s. length s.row) is ∙ length-replicate (length net.signals) Undef;
   words = record {
     memories = ap (λ s. length s.words) is ∙ length-map net.blocks (λ memory. initial_words (length memory.address) (length memory.word) (initial_value timing.init));
@@ -210,6 +232,7 @@ first_ready net timing plan machine staged is long = record {
         ∙ ap (λ block. initial_words (length block.address) (length block.word) (initial_value timing.init)) (get_or_from_slice_get net.blocks m memory memory there)) in
         rw read (first_shape (length memory.address) (length memory.word) (initial_value timing.init));
   };
-  registers = long.0;
-  late = long.1;
+  registers = registers;
+  late = late;
+  ports = ports;
 }

@@ -1,8 +1,9 @@
-pub mod AddressLemmas
 pub mod Along
 pub mod TurnLemmas
 pub mod Rows
 pub mod Memories
+pub mod PortLemmas
+pub mod FlatLemmas
 pub mod Writes
 pub mod Uniqueness
 pub mod Existence

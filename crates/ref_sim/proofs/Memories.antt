@@ -22,7 +22,7 @@ pub same_memory : (net : Netlist) (m : ℕ) (memory other : Block) → m < lengt
 same_memory net m memory other within is at = let both = sym at ∙ memory_here net m memory within is in cc
 
 module _ (net : Netlist) (row : List V4) (old words now : List (List (List V4))) (m : ℕ) (memory : Block) (item : List (List V4)) (shaped : AreShaped net old) (so_far : WroteMemories net row m old words) (same : now ≡ words) (within : m < length net.blocks) (is : memory ≡ get_or net.blocks m memory) where
-  here : get_or now m item ≡ get_or old m []
+  pub here : get_or now m item ≡ get_or old m []
   here = ap (λ list. get_or list m item) same ∙ (get_or_default words m item [] (omega (arith, so_far.memories, shaped.memories)) ∙ so_far.others m (omega arith))
 
   pub shape_here : HasShape (length memory.address) (length memory.word) (get_or now m item)

@@ -1,3 +1,4 @@
-pub mod Stores
+pub mod Flats
+pub mod Ports
 pub mod Turns
 pub mod Runs

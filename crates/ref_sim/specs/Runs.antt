@@ -1,5 +1,5 @@
 -- A run over all cycles, and what it answers.
-use Rattle.std.specs.Prelude.{◌≡◌, ℕ, ◌+◌, ◌*◌, ◌==◌, Bool, if◌then◌else◌, List, length, Some, slice_get, ⊤, map}
+use Rattle.std.specs.Prelude.{◌≡◌, ℕ, ◌+◌, ◌*◌, ◌==◌, Bool, if◌then◌else◌, List, length, Some, slice_get, ⊤, map, All}
 use Rattle.logic_four.specs.Memory.{initial_words}
 use Rattle.logic_four.specs.declared.V4.{V4}
 use Rattle.net_defs.specs.declared.netlist.Netlist.{Netlist}
@@ -8,7 +8,7 @@ use Rattle.net_defs.specs.declared.stimulus.Stimulus.{Stimulus}
 use Rattle.net_defs.specs.declared.stimulus.CellRow.{CellRow}
 use Rattle.net_defs.specs.declared.stimulus.Rows.{Rows}
 use Rattle.net_defs.specs.Time.{cycle_count}
-use Rattle.net_defs.specs.Steps.{State}
+use Rattle.net_defs.specs.Steps.{State, values_of}
 use Rattle.net_defs.specs.Reference.{IsSimulation}
 use Rattle.net_defs.specs.Trace.{cells_of}
 use Rattle.ref_sim.specs.declared.RefNo.{RefNo}
@@ -47,3 +47,16 @@ phase_at is_first place = if place == 0 then (if is_first then phase.Start else 
 -- the words of all memories before the first turn
 abbrev pub blank_words : Netlist → V4 → List (List (List V4))
 blank_words net v = map (λ memory. initial_words (length memory.address) (length memory.word) v) net.blocks
+
+-- the printed values of a row of signals
+abbrev pub printed_row : Netlist → List V4 → CellRow
+printed_row net row = record { cells = values_of row net.printed }
+
+-- each row has a value for each printed signal
+abbrev pub AreWide : Netlist → List CellRow → Type 0
+AreWide net rows = All (λ row. length row.cells ≡ length net.printed) rows
+
+-- a row for each of so many cycles
+pub record HasRows (net : Netlist) (cycles : ℕ) (rows : List CellRow) : Type 0 where
+  pub long : length rows ≡ cycles
+  pub wide : AreWide net rows

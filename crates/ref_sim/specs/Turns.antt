@@ -1,6 +1,6 @@
 -- One turn in place: what is held from the turn before, what is put into the row, and the gates that
 -- follow along an order.
-use Rattle.std.specs.Prelude.{◌≡◌, ℕ, ◌<◌, ◌≤◌, ◌==◌, ◌&&◌, Bool, true, false, if◌then◌else◌, List, [], length, IsTrue, Option, Some, None, slice_get, slice_index, slice_index_or, slice_set, fold, Contains}
+use Rattle.std.specs.Prelude.{◌≡◌, ℕ, ◌<◌, ◌≤◌, ◌==◌, ◌&&◌, Bool, true, false, if◌then◌else◌, List, [], length, IsTrue, Option, Some, None, slice_get, slice_index, slice_index_or, slice_set, fold, All, Contains}
 use Rattle.logic_four.specs.declared.V4.{V4}
 use Rattle.logic_four.specs.declared.V4.TheVariants.{Undef}
 use Rattle.logic_four.specs.Values.{settled}
@@ -14,7 +14,7 @@ use Rattle.net_defs.specs.declared.netlist.Driver.TheVariants.{Input, Gate, Dff,
 use Rattle.net_defs.specs.declared.timing.Timing.{Timing}
 use Rattle.net_defs.specs.Time.{value_at, initial_value, is_edge}
 use Rattle.net_defs.specs.Valid.{is_input}
-use Rattle.net_defs.specs.Loops.{is_gate_driver, IsOrder}
+use Rattle.net_defs.specs.Loops.{is_gate_driver, IsGate, IsOrder}
 use Rattle.net_defs.specs.Steps.{State, values_of, is_late, act_of, words_of, output_bit}
 use Rattle.ref_sim.specs.declared.plan.Role.{Role}
 use Rattle.ref_sim.specs.declared.plan.Role.TheVariants as role
@@ -23,23 +23,12 @@ use Rattle.ref_sim.specs.declared.turn.Phase.{Phase}
 use Rattle.ref_sim.specs.declared.turn.Phase.TheVariants as phase
 use Rattle.ref_sim.specs.declared.turn.Machine.{Machine}
 use Rattle.ref_sim.specs.declared.turn.Staged.{Staged}
+use Rattle.ref_sim.specs.Ports.{ArePorts}
+use Rattle.ref_sim.specs.Flats.{gate_at, follow, AreWithin, IsFlat}
 
 -- the state that a machine is in
 abbrev pub state_of : Machine → State
 state_of machine = record { row = machine.row; words = machine.words }
-
--- what a gate answers over a row; what is no gate keeps its value
-abbrev pub gate_driven : List V4 → ℕ → Driver → V4
-gate_driven row s Input = value_at row s
-gate_driven row s (Gate kind ops) = gate_value kind (values_of row ops)
-gate_driven row s (Dff op) = value_at row s
-gate_driven row s (BlockBit memory bit) = value_at row s
-
-abbrev pub gate_at : Netlist → List V4 → ℕ → V4
-gate_at net row s = of_signal (slice_get net.signals s) where
-  of_signal : Option Signal → V4
-  of_signal None = value_at row s
-  of_signal (Some signal) = gate_driven row s signal.driver
 
 -- a gate that is not late takes its value from the row
 abbrev pub settle_gate : Netlist → Timing → List V4 → ℕ → List V4
@@ -91,6 +80,15 @@ pub record IsPlan (net : Netlist) (timing : Timing) (plan : Plan) : Type 0 where
   pub inputs : ListsRole net timing role.Input plan.inputs
   pub registers : ListsRole net timing role.Register plan.registers
   pub late : ListsRole net timing role.Late plan.late
+  pub late_steps : IsFlat net plan.late plan.late_steps
+  pub early_within : AreWithin plan.early
+  pub early : (row : List V4) → follow plan.early.operands plan.early.steps row ≡ along net timing plan.order row
+
+-- the gates of an order that are not late
+pub record AreEarly (net : Netlist) (timing : Timing) (order list : List ℕ) : Type 0 where
+  pub gates : All (IsGate net) list
+  pub early : All (λ s. is_late net timing s ≡ false) list
+  pub same : (row : List V4) → along net timing list row ≡ along net timing order row
 
 -- the row after the first so many signals of a list were given the values that f says
 pub record Puts (list : List ℕ) (f : ℕ → V4) (n : ℕ) (old new : List V4) : Type 0 where
@@ -161,3 +159,4 @@ pub record IsReady (net : Netlist) (plan : Plan) (machine : Machine) (staged : S
   pub words : AreShaped net machine.words
   pub registers : length staged.registers ≡ length plan.registers
   pub late : length staged.late ≡ length plan.late
+  pub ports : ArePorts net staged.ports

@@ -5,14 +5,20 @@ ghost use Rattle.logic_four.specs.Memory.{initial_words};
 ghost use Rattle.net_defs.specs.Time.{initial_value};
 ghost use Rattle.net_defs.specs.Steps.{first_state};
 ghost use Rattle.ref_sim.specs.Turns.{state_of, HasShortAddresses};
+ghost use Rattle.ref_sim.specs.Ports.{ArePorts};
 ghost use Rattle.ref_sim.specs.Runs.{blank_words};
 
+use crate::memory::blank_ports;
 use crate::plan::Plan;
 use crate::turn::{Machine, Staged, initial_value};
+use array_cells::Cells;
 use logic_four::V4;
 use net_defs::{Block, Netlist, Timing};
 use seen_list::{List, Memory};
 use std::alloc::Global;
+
+/// The most bits that a word of `Cells` has.
+const MOST_WORD_BITS: usize = 64;
 
 pub(crate) fn blank_machine(
     alloc: Global,
@@ -29,17 +35,20 @@ pub(crate) fn blank_machine(
     })
 }
 
-pub(crate) fn blank_staged(alloc: Global, plan: &Plan) -> Result<Staged, Memory>
-    ensures { IfOk result (λ staged. (length staged.registers ≡ length plan.now.registers)
-        × (length staged.late ≡ length plan.now.late)) }
+pub(crate) fn blank_staged(alloc: Global, net: &Netlist, plan: &Plan) -> Result<Staged, Memory>
+    ensures registers { IfOk result (λ staged. length staged.registers ≡ length plan.now.registers) }
+    ensures late { IfOk result (λ staged. length staged.late ≡ length plan.now.late) }
+    ensures ports { IfOk result (λ staged. ArePorts net.now staged.ports) }
 {
     Ok(Staged {
         registers: blank(alloc, plan.registers.len(), V4::Undef)?,
         late: blank(alloc, plan.late.len(), V4::Undef)?,
+        ports: blank_ports(alloc, net)?,
     })
 }
 
-fn blank(alloc: Global, count: usize, v: V4) -> Result<List<V4>, Memory>
+/// So many times this value.
+pub(crate) fn blank(alloc: Global, count: usize, v: V4) -> Result<List<V4>, Memory>
     ensures { IfOk result (λ list. list ≡ replicate count v) }
 {
     let mut list = List::new(alloc);
@@ -49,7 +58,7 @@ fn blank(alloc: Global, count: usize, v: V4) -> Result<List<V4>, Memory>
     Ok(list)
 }
 
-fn blank_memories(alloc: Global, net: &Netlist, v: V4) -> Result<List<List<List<V4>>>, Memory>
+fn blank_memories(alloc: Global, net: &Netlist, v: V4) -> Result<List<Cells>, Memory>
     requires { HasShortAddresses net.now }
     ensures { IfOk result (λ words. words ≡ blank_words net.now v) }
 {
@@ -60,20 +69,18 @@ fn blank_memories(alloc: Global, net: &Netlist, v: V4) -> Result<List<List<List<
     Ok(words)
 }
 
-#[tactic(auto, unfolding(logic_four::specs::Memory::initial_words))]
-fn blank_memory(alloc: Global, block: &Block, v: V4) -> Result<List<List<V4>>, Memory>
+fn blank_memory(alloc: Global, block: &Block, v: V4) -> Result<Cells, Memory>
     requires { length block.now.address ≤ 16 }
     ensures { IfOk result (λ words. words ≡ initial_words (length block.now.address) (length block.now.word) v) }
 {
-    blank_list(alloc, 1 << block.address.len(), block.word.len(), v)
-}
-
-fn blank_list(alloc: Global, count: usize, bits: usize, v: V4) -> Result<List<List<V4>>, Memory>
-    ensures { IfOk result (λ words. words ≡ replicate count (replicate bits v)) }
-{
-    let mut words = List::new(alloc);
-    for _k in 0..count {
-        words.push(blank(alloc, bits, v)?)?;
+    // No valid netlist has wider words. There is no room for one that does.
+    if block.word.len() > MOST_WORD_BITS {
+        return Err(Memory);
     }
-    Ok(words)
+    Cells::new(
+        alloc,
+        block.address.len() as u32,
+        block.word.len() as u32,
+        v,
+    )
 }

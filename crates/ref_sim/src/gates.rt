@@ -1,6 +1,6 @@
 //! What a gate answers for the signals of a row, read where they stand.
 
-ghost use Rattle.std.specs.Prelude.{◌≡◌, count_by};
+ghost use Rattle.std.specs.Prelude.{◌≡◌, [], ◌∷◌, count_by};
 ghost use Rattle.std.specs.List.{list_any, list_all};
 ghost use Rattle.logic_four.specs.Gates.{is_zero, is_one, is_known, is_high_z, and_value, or_value, is_odd_parity, xor_value, is_driven_zero, is_driven_one, bus_value, operand_at, gate_value};
 ghost use Rattle.net_defs.specs.Time.{value_at};
@@ -161,8 +161,104 @@ fn operand(row: &[V4], operands: &[u32], place: usize) -> V4
     }
 }
 
+fn zero(v: V4) -> bool
+    ensures { result ≡ is_zero v }
+{
+    matches!(v, V4::Zero)
+}
+
+fn one(v: V4) -> bool
+    ensures { result ≡ is_one v }
+{
+    matches!(v, V4::One)
+}
+
+// The two operands are tested without a branch, since no guess at their values is a good one.
+
+fn and_two(a: V4, b: V4) -> V4
+    ensures { result ≡ and_value (a ∷ b ∷ []) }
+{
+    let any_zero = zero(a) | zero(b);
+    let all_one = one(a) & one(b);
+    if any_zero {
+        V4::Zero
+    } else if all_one {
+        V4::One
+    } else {
+        V4::Undef
+    }
+}
+
+fn or_two(a: V4, b: V4) -> V4
+    ensures { result ≡ or_value (a ∷ b ∷ []) }
+{
+    let any_one = one(a) | one(b);
+    let all_zero = zero(a) & zero(b);
+    if any_one {
+        V4::One
+    } else if all_zero {
+        V4::Zero
+    } else {
+        V4::Undef
+    }
+}
+
+fn xor_two(a: V4, b: V4) -> V4
+    ensures { result ≡ xor_value (a ∷ b ∷ []) }
+{
+    let differ = (zero(a) & one(b)) | (one(a) & zero(b));
+    let agree = (zero(a) & zero(b)) | (one(a) & one(b));
+    if differ {
+        V4::One
+    } else if agree {
+        V4::Zero
+    } else {
+        V4::Undef
+    }
+}
+
+fn bus_two(a: V4, b: V4) -> V4
+    ensures { result ≡ bus_value (a ∷ b ∷ []) }
+{
+    match (a, b) {
+        (V4::HighZ, _) => b,
+        (_, V4::HighZ) => a,
+        (V4::Zero, V4::Zero) => V4::Zero,
+        (V4::One, V4::One) => V4::One,
+        _ => V4::Undef,
+    }
+}
+
+/// What a gate of this kind answers for two operands.
+fn gate_two(kind: Kind, a: V4, b: V4) -> V4
+    ensures { result ≡ gate_value kind (a ∷ b ∷ []) }
+{
+    match kind {
+        Kind::And => and_two(a, b),
+        Kind::Nand => not(and_two(a, b)),
+        Kind::Or => or_two(a, b),
+        Kind::Nor => not(or_two(a, b)),
+        Kind::Xor => xor_two(a, b),
+        Kind::Xnor => not(xor_two(a, b)),
+        Kind::Not => not(a),
+        Kind::Buf => settle(a),
+        Kind::Tri => tri(a, b),
+        Kind::Bus => bus_two(a, b),
+    }
+}
+
 /// What a gate of this kind answers for these signals of a row.
 pub(crate) fn gate_over(kind: Kind, row: &[V4], operands: &[u32]) -> V4
+    ensures { result ≡ gate_value kind (values_of row.now operands.now) }
+{
+    match operands {
+        [a, b] => gate_two(kind, value(row, *a), value(row, *b)),
+        _ => gate_wide(kind, row, operands),
+    }
+}
+
+/// The same where the operands are not two.
+fn gate_wide(kind: Kind, row: &[V4], operands: &[u32]) -> V4
     ensures { result ≡ gate_value kind (values_of row.now operands.now) }
 {
     match kind {

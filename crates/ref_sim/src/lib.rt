@@ -7,15 +7,17 @@ ghost use Rattle.net_defs.specs.declared.netlist.Netlist.{Netlist};
 ghost use Rattle.net_defs.specs.declared.timing.Timing.{Timing};
 ghost use Rattle.net_defs.specs.declared.timing.Mode.TheVariants as mode;
 ghost use Rattle.net_defs.specs.declared.stimulus.Stimulus.{Stimulus};
-ghost use Rattle.net_defs.specs.Loops.{IsLoop};
+ghost use Rattle.net_defs.specs.Loops.{IsLoop, IsOrder};
 ghost use Rattle.net_defs.specs.Reference.{HasOneSimulation};
 ghost use Rattle.ref_sim.specs.Turns.{HasShortAddresses};
 ghost use Rattle.ref_sim.specs.Runs.{IfLoop, AreRowsOf};
 
 mod blank;
+mod flat;
 mod gates;
 mod memory;
 mod plan;
+mod printed;
 mod run;
 #[cfg(test)]
 mod tests;
@@ -32,7 +34,7 @@ use std::alloc::Global;
 pub enum RefNo {
     /// The gates of a loop, as `RankNo` of `rank_find` has them.
     Loop(List<u32>),
-    /// Want of memory.
+    /// Want of memory; and there is none for words of more than 64 bits, which no valid netlist has.
     Memory,
 }
 
@@ -51,13 +53,31 @@ pub fn refer(alloc: Global, net: &Netlist, timing: &Timing, stim: &Stimulus) -> 
     ensures in_rank_order { IfErr result (λ no. IfLoop no (λ _. timing.now.mode ≡ mode.Rank)) }
 {
     match rank(alloc, net, timing) {
-        Ok(Ranks { order, .. }) => match simulate(alloc, net, timing, stim, order) {
+        Ok(Ranks { order, .. }) => match refer_in_order(alloc, net, timing, stim, order) {
             Ok(rows) => Ok(rows),
             Err(Memory) => Err(RefNo::Memory),
         },
         Err(RankNo::Loop(members)) => Err(RefNo::Loop(members)),
         Err(RankNo::Memory) => Err(RefNo::Memory),
     }
+}
+
+/// The same by an order that `rank` of `rank_find` found, so that the netlist isn't ranked again. An
+/// order leaves no room for a second simulation, and none for a loop.
+pub fn refer_in_order(
+    alloc: Global,
+    net: &Netlist,
+    timing: &Timing,
+    stim: &Stimulus,
+    order: List<u32>,
+) -> Result<Rows, Memory>
+    requires few { length net.now.signals < 2 ^ 32 }
+    requires addresses { HasShortAddresses net.now }
+    requires order { IsOrder net.now timing.now order }
+    ensures rows { IfOk result (AreRowsOf net.now timing.now stim.now) }
+    ensures simulated { HasOneSimulation net.now timing.now stim.now }
+{
+    simulate(alloc, net, timing, stim, order)
 }
 
 /// A law: in unit delay, and in rank order where there is no loop, a netlist has exactly one

@@ -1,6 +1,6 @@
 //! A run over all cycles.
 
-ghost use Rattle.std.specs.Prelude.{◌≡◌, ℕ, ◌+◌, ◌*◌, ◌<◌, ◌≤◌, ◌^◌, ◌==◌, [], List as Items, length, slice_index_or, IfOk, OnOk};
+ghost use Rattle.std.specs.Prelude.{◌≡◌, ℕ, ◌+◌, ◌*◌, ◌<◌, ◌≤◌, ◌^◌, ◌==◌, [], List as Items, length, take, slice_index_or, IfOk};
 ghost use Rattle.net_defs.specs.declared.stimulus.Stimulus.{Stimulus};
 ghost use Rattle.net_defs.specs.declared.netlist.Netlist.{Netlist};
 ghost use Rattle.net_defs.specs.Time.{cycle_rows, cycle_count};
@@ -8,11 +8,11 @@ ghost use Rattle.net_defs.specs.Steps.{State, values_of, first_state};
 ghost use Rattle.net_defs.specs.Reference.{IsSimulation};
 ghost use Rattle.net_defs.specs.Loops.{IsOrder};
 ghost use Rattle.ref_sim.specs.Turns.{state_of, IsPlan, HasShortAddresses, IsReady, StepsBy};
-ghost use Rattle.ref_sim.specs.Runs.{AreRowsOf, StandsAt, RunsTo, phase_at};
+ghost use Rattle.ref_sim.specs.Runs.{AreRowsOf, AreWide, HasRows, StandsAt, RunsTo, phase_at};
 
 use crate::blank::{blank_machine, blank_staged};
-use crate::gates::value;
 use crate::plan::{Plan, make_plan};
+use crate::printed::{blank_rows, set_cells};
 use crate::turn::{Machine, Phase, Staged, turn};
 use logic_four::V4;
 use net_defs::{CellRow, Netlist, Rows, StimRow, Stimulus, Timing};
@@ -34,35 +34,47 @@ pub(crate) fn simulate(
 {
     let plan = make_plan(alloc, net, timing, order)?;
     let mut machine = blank_machine(alloc, net, timing)?;
-    let mut staged = blank_staged(alloc, &plan)?;
-    run(alloc, &mut machine, &mut staged, net, timing, stim, &plan)
+    let mut staged = blank_staged(alloc, net, &plan)?;
+    let mut rows = blank_rows(alloc, net, stim)?;
+    run(
+        &mut rows,
+        &mut machine,
+        &mut staged,
+        net,
+        timing,
+        stim,
+        &plan,
+    );
+    Ok(Rows { rows })
 }
 
+/// Runs all cycles. It takes no memory.
 fn run(
-    alloc: Global,
+    rows: &mut List<CellRow>,
     machine: &mut Machine,
     staged: &mut Staged,
     net: &Netlist,
     timing: &Timing,
     stim: &Stimulus,
     plan: &Plan,
-) -> Result<Rows, Memory>
+)
     requires plan { IsPlan net.now timing.now plan.now }
-    requires addresses { HasShortAddresses net.now }
     requires ready { IsReady net.now plan.now machine.old staged.old }
     requires start { state_of machine.old ≡ first_state net.now timing.now }
-    ensures { IfOk result (AreRowsOf net.now timing.now stim.now) }
+    requires room { HasRows net.now (cycle_count stim.now) rows.old }
+    ensures { AreRowsOf net.now timing.now stim.now (record { rows = rows.new }) }
 {
-    let mut rows = List::new(alloc);
+    let cycles = rows.len();
+    let mut begun = 0;
     for row in stim.rows.as_slice() {
-        run_row(alloc, &mut rows, machine, staged, net, timing, plan, row)?;
+        prove!(row.times as usize <= cycles - begun);
+        run_row(rows, machine, staged, net, timing, plan, row, begun);
+        begun += row.times as usize;
     }
-    Ok(Rows { rows })
 }
 
-/// The cycles of one row of the stimulus.
+/// The cycles of one row of the stimulus, after so many that were begun before.
 fn run_row(
-    alloc: Global,
     rows: &mut List<CellRow>,
     machine: &mut Machine,
     staged: &mut Staged,
@@ -70,20 +82,23 @@ fn run_row(
     timing: &Timing,
     plan: &Plan,
     row: &StimRow,
-) -> Result<(), Memory>
+    begun: usize,
+)
     requires plan { IsPlan net.now timing.now plan.now }
-    requires addresses { HasShortAddresses net.now }
     requires ready { IsReady net.now plan.now machine.old staged.old }
+    requires wide { AreWide net.now rows.old }
+    requires room { begun + row.now.times ≤ length rows.old }
+    requires few { begun + row.now.times < 2 ^ 64 }
     ensures ready { IsReady net.now plan.now machine.new staged.new }
-    ensures long { OnOk result (length rows.new ≡ length rows.old + row.now.times) }
-    ensures runs { OnOk result ((stimulus : Stimulus)
-        → ((t : ℕ) → t < row.now.times → (length rows.old + t < cycle_count stimulus)
-        × (slice_index_or (cycle_rows stimulus) (length rows.old + t) [] ≡ row.now.values))
-        → RunsTo net.now timing.now stimulus rows.old (state_of machine.old)
-        → RunsTo net.now timing.now stimulus rows.new (state_of machine.new)) }
+    ensures rows { HasRows net.now (length rows.old) rows.new }
+    ensures runs { (stimulus : Stimulus)
+        → ((t : ℕ) → t < row.now.times → (begun + t < cycle_count stimulus)
+        × (slice_index_or (cycle_rows stimulus) (begun + t) [] ≡ row.now.values))
+        → RunsTo net.now timing.now stimulus (take begun rows.old) (state_of machine.old)
+        → RunsTo net.now timing.now stimulus (take (begun + row.now.times) rows.new) (state_of machine.new) }
 {
-    for _time in 0..row.times {
-        let is_first = rows.len() == 0;
+    for time in 0..row.times {
+        let cycle = begun + time as usize;
         run_cycle(
             machine,
             staged,
@@ -91,11 +106,10 @@ fn run_row(
             timing,
             plan,
             row.values.as_slice(),
-            is_first,
+            cycle == 0,
         );
-        rows.push(cells(alloc, net, machine)?)?;
+        set_cells(rows, cycle, net, machine.row.as_slice());
     }
-    Ok(())
 }
 
 /// The turns of one cycle with these inputs.
@@ -109,7 +123,6 @@ fn run_cycle(
     is_first: bool,
 )
     requires plan { IsPlan net.now timing.now plan.now }
-    requires addresses { HasShortAddresses net.now }
     requires ready { IsReady net.now plan.now machine.old staged.old }
     ensures ready { IsReady net.now plan.now machine.new staged.new }
     ensures stands { (stimulus : Stimulus) (cycle : ℕ) → is_first ≡ (cycle == 0) → cycle < cycle_count stimulus
@@ -140,15 +153,4 @@ fn phase_at(is_first: bool, place: u32) -> Phase
     } else {
         Phase::Edge
     }
-}
-
-/// The printed values of the machine's row.
-fn cells(alloc: Global, net: &Netlist, machine: &Machine) -> Result<CellRow, Memory>
-    ensures { IfOk result (λ row. row.cells ≡ values_of machine.now.row net.now.printed) }
-{
-    let mut cells = List::new(alloc);
-    for signal in net.printed.as_slice() {
-        cells.push(value(machine.row.as_slice(), *signal))?;
-    }
-    Ok(CellRow { cells })
 }

@@ -3,14 +3,18 @@
 ghost use Rattle.std.specs.Prelude.{◌≡◌, ℕ, ◌<◌, ◌≤◌, length, slice_index, slice_set};
 ghost use Rattle.logic_four.specs.declared.V4.{V4};
 ghost use Rattle.net_defs.specs.Time.{value_at, initial_value};
-ghost use Rattle.net_defs.specs.Steps.{State, output_bit, words_of};
-ghost use Rattle.ref_sim.specs.Turns.{state_of, gate_driven, gate_at, settle_gate, along, held_driven, held_value, IsPlan, Puts, IsStagedTo, AreShaped, HasShortAddresses, WroteMemories, HoldInputs, WordsBy, StepsBy, IsReady};
+ghost use Rattle.net_defs.specs.Steps.{State};
+ghost use Rattle.ref_sim.specs.Flats.{IsFlat, AreStepValues};
+ghost use Rattle.ref_sim.specs.Ports.{ArePorts, Answered, port_bit, taken_driven, taken_value};
+ghost use Rattle.ref_sim.specs.Turns.{state_of, along, IsPlan, Puts, IsStagedTo, AreShaped, WroteMemories, HoldInputs, WordsBy, StepsBy, IsReady};
 
-use crate::gates::{gate_over, value};
-use crate::memory::{read_bit, write_memory};
+use crate::flat::{follow, stage_steps};
+use crate::gates::value;
+use crate::memory::{Port, edge_memory};
 use crate::plan::Plan;
+use array_cells::Cells;
 use logic_four::{V4, settle};
-use net_defs::{Driver, Init, Netlist, Timing, is_late};
+use net_defs::{Driver, Init, Netlist, Timing};
 use seen_list::List;
 
 /// Where a turn stands in its cycle.
@@ -28,15 +32,15 @@ pub(crate) enum Phase {
 #[derive(Drop)]
 pub(crate) struct Machine {
     pub(crate) row: List<V4>,
-    pub(crate) words: List<List<List<V4>>>,
+    pub(crate) words: List<Cells>,
 }
 
-/// Room for the values that registers and late gates get while the row is still that of the last
-/// turn.
+/// Room for what registers, late gates and memories take while the row is still that of the last turn.
 #[derive(Drop)]
 pub(crate) struct Staged {
     pub(crate) registers: List<V4>,
     pub(crate) late: List<V4>,
+    pub(crate) ports: List<Port>,
 }
 
 /// Takes the machine through a turn. In a turn within a cycle the inputs stay as they are.
@@ -50,29 +54,41 @@ pub(crate) fn turn(
     values: &[V4],
 )
     requires plan { IsPlan net.now timing.now plan.now }
-    requires addresses { HasShortAddresses net.now }
     requires ready { IsReady net.now plan.now machine.old staged.old }
     requires inputs { at ≡ Phase.Within → HoldInputs net.now values.now machine.old.row }
     ensures steps { StepsBy net.now timing.now at values.now (state_of machine.old) (state_of machine.new) }
     ensures ready { IsReady net.now plan.now machine.new staged.new }
 {
-    stage_late(&mut staged.late, net, machine, plan);
-    stage_registers(&mut staged.registers, net, machine, plan, at);
-    write_words(&mut machine.words, net, &machine.row, at);
+    stage_late(&mut staged.late, net, &machine.row, plan);
+    edge_words(&mut machine.words, &mut staged.ports, net, &machine.row, at);
+    stage_registers(
+        &mut staged.registers,
+        net,
+        &machine.row,
+        &staged.ports,
+        plan,
+        at,
+    );
     put_late(&mut machine.row, plan, &staged.late);
     put_registers(&mut machine.row, timing, plan, at, &staged.registers);
     begin_cycle(&mut machine.row, plan, at, values);
     settle_plan(&mut machine.row, net, timing, plan);
 }
 
-fn stage_late(staged: &mut List<V4>, net: &Netlist, machine: &Machine, plan: &Plan)
-    requires addresses { HasShortAddresses net.now }
+fn stage_late(staged: &mut List<V4>, net: &Netlist, row: &List<V4>, plan: &Plan)
+    requires steps { IsFlat net.now plan.now.late plan.now.late_steps }
     requires long { length staged.old ≡ length plan.now.late }
-    ensures values { IsStagedTo plan.now.late
-        (held_value net.now (state_of machine.now)) (length plan.now.late) staged.new }
+    ensures values { AreStepValues plan.now.late_steps.operands row.now plan.now.late_steps.steps
+        (length plan.now.late_steps.steps) staged.new }
     ensures long { length staged.new ≡ length staged.old }
 {
-    stage(staged, net, machine, plan.late.as_slice());
+    let flat = &plan.late_steps;
+    stage_steps(
+        staged,
+        row.as_slice(),
+        flat.operands.as_slice(),
+        flat.steps.as_slice(),
+    );
 }
 
 fn put_late(row: &mut List<V4>, plan: &Plan, staged: &List<V4>)
@@ -85,31 +101,54 @@ fn put_late(row: &mut List<V4>, plan: &Plan, staged: &List<V4>)
 
 /// Gives each gate that is not late its value, in the plan's order.
 fn settle_plan(row: &mut List<V4>, net: &Netlist, timing: &Timing, plan: &Plan)
+    requires { IsPlan net.now timing.now plan.now }
     ensures { row.new ≡ along net.now timing.now plan.now.order row.old }
 {
-    settle_gates(row, net, timing, plan.order.as_slice());
+    follow(row, &plan.early);
 }
 
-fn stage_registers(staged: &mut List<V4>, net: &Netlist, machine: &Machine, plan: &Plan, at: Phase)
-    requires addresses { HasShortAddresses net.now }
+fn stage_registers(
+    staged: &mut List<V4>,
+    net: &Netlist,
+    row: &List<V4>,
+    ports: &List<Port>,
+    plan: &Plan,
+    at: Phase,
+)
     requires long { length staged.old ≡ length plan.now.registers }
     ensures edge { at ≡ Phase.Edge → IsStagedTo plan.now.registers
-        (held_value net.now (state_of machine.now)) (length plan.now.registers) staged.new }
+        (taken_value net.now row.now ports.now) (length plan.now.registers) staged.new }
     ensures long { length staged.new ≡ length staged.old }
 {
     match at {
-        Phase::Edge => stage(staged, net, machine, plan.registers.as_slice()),
+        Phase::Edge => stage(
+            staged,
+            net,
+            row.as_slice(),
+            ports.as_slice(),
+            plan.registers.as_slice(),
+        ),
         Phase::Start | Phase::Within => {}
     }
 }
 
-fn write_words(words: &mut List<List<List<V4>>>, net: &Netlist, row: &List<V4>, at: Phase)
-    requires addresses { HasShortAddresses net.now }
+/// Takes each memory through an edge, if this turn is one.
+fn edge_words(
+    words: &mut List<Cells>,
+    ports: &mut List<Port>,
+    net: &Netlist,
+    row: &List<V4>,
+    at: Phase,
+)
     requires shaped { AreShaped net.now words.old }
-    ensures { WordsBy net.now at (record { row = row.now; words = words.old }) words.new }
+    requires ports { ArePorts net.now ports.old }
+    ensures words { WordsBy net.now at (record { row = row.now; words = words.old }) words.new }
+    ensures answers { at ≡ Phase.Edge → Answered net.now (record { row = row.now; words = words.old })
+        (length net.now.blocks) ports.new }
+    ensures ports { ArePorts net.now ports.new }
 {
     match at {
-        Phase::Edge => write_memories(words, net, row.as_slice()),
+        Phase::Edge => edge_memories(words, ports, net, row.as_slice()),
         Phase::Start | Phase::Within => {}
     }
 }
@@ -126,72 +165,58 @@ fn begin_cycle(row: &mut List<V4>, plan: &Plan, at: Phase, values: &[V4])
     }
 }
 
-fn stage(staged: &mut List<V4>, net: &Netlist, machine: &Machine, list: &[u32])
-    requires addresses { HasShortAddresses net.now }
+fn stage(staged: &mut List<V4>, net: &Netlist, row: &[V4], ports: &[Port], list: &[u32])
     requires long { length staged.old ≡ length list.now }
-    ensures values { IsStagedTo list.now (held_value net.now (state_of machine.now)) (length list.now) staged.new }
+    ensures values { IsStagedTo list.now (taken_value net.now row.now ports.now) (length list.now) staged.new }
     ensures long { length staged.new ≡ length staged.old }
 {
     for k in 0..list.len() {
-        staged.set(k, held_value(net, machine, list[k]));
+        staged.set(k, taken_value(net, row, ports, list[k]));
     }
 }
 
-fn held_value(net: &Netlist, machine: &Machine, signal: u32) -> V4
-    requires { HasShortAddresses net.now }
-    ensures { result ≡ held_value net.now (state_of machine.now) signal }
+fn taken_value(net: &Netlist, row: &[V4], ports: &[Port], signal: u32) -> V4
+    ensures { result ≡ taken_value net.now row.now ports.now signal }
 {
     match net.signals.as_slice().get(signal as usize) {
-        Some(found) => held_driven(net, machine, signal, &found.driver),
+        Some(found) => taken_driven(row, ports, signal, &found.driver),
         None => V4::Undef,
     }
 }
 
-fn held_driven(net: &Netlist, machine: &Machine, signal: u32, driver: &Driver) -> V4
-    requires { HasShortAddresses net.now }
-    ensures { result ≡ held_driven net.now (state_of machine.now) signal driver.now }
+fn taken_driven(row: &[V4], ports: &[Port], signal: u32, driver: &Driver) -> V4
+    ensures { result ≡ taken_driven row.now ports.now signal driver.now }
 {
-    let row = machine.row.as_slice();
     match driver {
-        Driver::Input => value(row, signal),
-        Driver::Gate { kind, ops } => gate_over(*kind, row, ops.as_slice()),
+        Driver::Input | Driver::Gate { .. } => value(row, signal),
         Driver::Dff { op } => settle(value(row, *op)),
-        Driver::BlockBit { block, bit } => output_bit(net, machine, *block, *bit),
+        Driver::BlockBit { block, bit } => port_bit(ports, *block, *bit),
     }
 }
 
-fn output_bit(net: &Netlist, machine: &Machine, number: u32, bit: u32) -> V4
-    requires { HasShortAddresses net.now }
-    ensures { result ≡ output_bit net.now (state_of machine.now) number bit }
+fn port_bit(ports: &[Port], number: u32, bit: u32) -> V4
+    ensures { result ≡ port_bit ports.now number bit }
 {
-    match net.blocks.as_slice().get(number as usize) {
-        Some(block) => {
-            let words = words_at(machine, number);
-            read_bit(words, machine.row.as_slice(), block, bit)
-        }
+    match ports.get(number as usize) {
+        Some(port) => value(port.outs.as_slice(), bit),
         None => V4::Undef,
     }
 }
 
-fn words_at(machine: &Machine, number: u32) -> &[List<V4>]
-    ensures { result.now ≡ words_of (state_of machine.now) number }
-{
-    match machine.words.as_slice().get(number as usize) {
-        Some(words) => words.as_slice(),
-        None => &[],
-    }
-}
-
-fn write_memories(words: &mut List<List<List<V4>>>, net: &Netlist, row: &[V4])
-    requires addresses { HasShortAddresses net.now }
+fn edge_memories(words: &mut List<Cells>, ports: &mut List<Port>, net: &Netlist, row: &[V4])
     requires shaped { AreShaped net.now words.old }
-    ensures { WroteMemories net.now row.now (length net.now.blocks) words.old words.new }
+    requires ports { ArePorts net.now ports.old }
+    ensures words { WroteMemories net.now row.now (length net.now.blocks) words.old words.new }
+    ensures answers { Answered net.now (record { row = row.now; words = words.old })
+        (length net.now.blocks) ports.new }
+    ensures ports { ArePorts net.now ports.new }
 {
     for number in 0..net.blocks.len() {
-        write_memory(
+        edge_memory(
             &mut words.as_mut_slice()[number],
-            row,
+            &mut ports.as_mut_slice()[number],
             &net.blocks.as_slice()[number],
+            row,
         );
     }
 }
@@ -207,7 +232,7 @@ fn commit(row: &mut List<V4>, list: &[u32], staged: &[V4])
 }
 
 /// Puts a value into the row, if there is such a signal.
-fn put(row: &mut List<V4>, signal: u32, v: V4)
+pub(crate) fn put(row: &mut List<V4>, signal: u32, v: V4)
     ensures { row.new ≡ slice_set row.old signal v }
 {
     if (signal as usize) < row.len() {
@@ -253,41 +278,5 @@ fn put_inputs(row: &mut List<V4>, list: &[u32], values: &[V4])
 {
     for k in 0..list.len() {
         put(row, list[k], value(values, list[k]));
-    }
-}
-
-/// Gives each gate that is not late its value, one after the other.
-fn settle_gates(row: &mut List<V4>, net: &Netlist, timing: &Timing, order: &[u32])
-    ensures { row.new ≡ along net.now timing.now order.now row.old }
-{
-    for gate in order {
-        settle_gate(row, net, timing, *gate);
-    }
-}
-
-fn settle_gate(row: &mut List<V4>, net: &Netlist, timing: &Timing, gate: u32)
-    ensures { row.new ≡ settle_gate net.now timing.now row.old gate }
-{
-    if !is_late(net, timing, gate) {
-        let v = gate_at(net, row.as_slice(), gate);
-        put(row, gate, v);
-    }
-}
-
-fn gate_at(net: &Netlist, row: &[V4], gate: u32) -> V4
-    ensures { result ≡ gate_at net.now row.now gate }
-{
-    match net.signals.as_slice().get(gate as usize) {
-        Some(found) => gate_driven(row, gate, &found.driver),
-        None => value(row, gate),
-    }
-}
-
-fn gate_driven(row: &[V4], gate: u32, driver: &Driver) -> V4
-    ensures { result ≡ gate_driven row.now gate driver.now }
-{
-    match driver {
-        Driver::Gate { kind, ops } => gate_over(*kind, row, ops.as_slice()),
-        Driver::Input | Driver::Dff { .. } | Driver::BlockBit { .. } => value(row, gate),
     }
 }
