@@ -1,6 +1,6 @@
 -- What the reading of a simulation's second file adds to what is known of the first, and what the
 -- refusals say.
-use Rattle.std.proofs.Common.{◌≡◌, ◌∙◌, sym, ap, refl, subst, inl, inr, ℕ, ◌+◌, ◌-◌, ◌^◌, ◌<◌, ◌≤◌, Bool, false, List, [], ◌∷◌, Option, Some, None, Result, Ok, Err, IfErr, arith}
+use Rattle.std.proofs.Common.{◌≡◌, sym, ap, inl, ℕ, ◌≤◌, Bool, false, List, Option, Some, None, Result, Ok, Err, IfErr, arith}
 use Rattle.edge_io.specs.Counts.{raised, raised_if, Rose}
 use Rattle.edge_io.specs.Names.{is_absent}
 use Rattle.net_defs.specs.declared.netlist.Netlist.{Netlist}
@@ -8,7 +8,7 @@ use Rattle.yse_top.specs.declared.refusal.Refusal.{Refusal}
 use Rattle.yse_top.specs.declared.refusal.Refusal.TheVariants as refusal
 use Rattle.yse_top.specs.declared.status.Status.TheVariants as status
 use Rattle.yse_top.specs.Causes.{Counts, counts, IsCaused, IsCausedOf, IsUnread}
-use Rattle.yse_top.specs.Expected.{Contents, Outcome, WhereTold, NetlistOf, HasNoLoop, ExpectedStimulus, ExpectedTrace}
+use Rattle.yse_top.specs.Expected.{Outcome, WhereTold, NetlistOf, HasNoLoop, ExpectedStimulus, ExpectedTrace}
 use Rattle.yse_top.specs.Refusals.{OfText, Explains, outcome_of, status_of, line_of}
 use Rattle.yse_top.specs.Lines.{read_fault_line}
 use Rattle.yse_top.specs.Words.{Simulation, run}

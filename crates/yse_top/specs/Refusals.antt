@@ -1,5 +1,5 @@
 -- The line and the status of each refusal, and what a call that may refuse says of its check.
-use Rattle.std.specs.Prelude.{◌≡◌, ⊤, ℕ, Bool, List, Option, Some, Result, Ok, Err}
+use Rattle.std.specs.Prelude.{◌≡◌, ⊤, ℕ, List, Option, Some, Result, Ok, Err}
 use Rattle.bench_read.specs.declared.refusal.BenchNo.{BenchNo}
 use Rattle.bench_read.specs.declared.refusal.BenchNo.TheVariants as bench_no
 use Rattle.stim_text.specs.declared.refusal.StimNo.{StimNo}
@@ -8,7 +8,7 @@ use Rattle.yse_top.specs.declared.refusal.Refusal.{Refusal}
 use Rattle.yse_top.specs.declared.refusal.Refusal.TheVariants as refusal
 use Rattle.yse_top.specs.declared.status.Status.{Status}
 use Rattle.yse_top.specs.declared.status.Status.TheVariants as status
-use Rattle.yse_top.specs.Expected.{Outcome, Contents, WhereTold, refusal as refused}
+use Rattle.yse_top.specs.Expected.{Outcome, refusal as refused}
 use Rattle.yse_top.specs.Lines.{usage_line, read_fault_line, write_fault_line, memory_line, too_long_line, netlist_line, loop_line, stimulus_line, cells_line}
 
 abbrev pub line_of : Refusal → List ℕ

@@ -1,5 +1,5 @@
 -- There are few cells, and what was printed is the trace.
-use Rattle.std.proofs.Common.{inl, refl, arith, ◌++◌, ap, sym, subst}
+use Rattle.std.proofs.Common.{inl, refl, arith, ◌++◌, sym, subst}
 use Rattle.net_defs.specs.Trace.{header_line, IsTrace}
 use Rattle.yse_top.specs.Outputs.{cycle_lines}
 use Rattle.yse_top.proofs.TraceLemmas.{printed_is_trace}

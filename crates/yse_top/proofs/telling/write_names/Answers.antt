@@ -1,5 +1,5 @@
 -- Each name is written after those before it.
-use Rattle.std.proofs.Common.{◌≡◌, ◌∙◌, refl, sym, ap, arith, ◌++◌, ◌<◌, ℕ, List, length, get_or}
+use Rattle.std.proofs.Common.{◌∙◌, sym, ap, arith, ◌++◌, get_or}
 use Rattle.std.specs.Prelude.{codes}
 use Rattle.std.proofs.lemmas.Grind.{get_or_default_zero}
 use Rattle.std.proofs.lemmas.List.{append-nil}

@@ -1,5 +1,5 @@
 -- Each piece is written after those before it.
-use Rattle.std.proofs.Common.{refl, arith}
+use Rattle.std.proofs.Common.{arith}
 use Rattle.yse_top.proofs.WritingLemmas.{writes_none, writes_more, writes_ended, writes_all, member_at}
 use Rattle.yse_top.proofs.telling.write_pieces.Goals as goal
 
