@@ -1,7 +1,7 @@
 //! What holds of each netlist that a text reads as. The functions do nothing: their clauses are the
 //! laws.
 
-ghost use Rattle.std.specs.Prelude.{◌≡◌, ◌≤◌, None, length};
+ghost use Rattle.std.specs.Prelude.{◌≡◌, ◌≤◌, List as Items, ℕ, None, length};
 ghost use Rattle.net_defs.specs.declared.netlist.Netlist.{Netlist};
 ghost use Rattle.net_defs.specs.Canonical.{canonical_text};
 ghost use Rattle.net_defs.specs.Valid.{IsValid};
@@ -10,10 +10,10 @@ ghost use Rattle.bench_read.specs.Reads.{Reads};
 
 use net_defs::Netlist;
 
-/// A text reads as one netlist at most, and has no fault beside it.
-pub fn reads_as_one(text: &[u8], net: &Netlist, other: &Netlist)
-    ensures one { Reads text.now net.now → Reads text.now other.now → net.now ≡ other.now }
-    ensures no_fault { Reads text.now net.now → first_fault text.now ≡ None }
+/// Each text reads as one netlist at most, and has no fault beside it.
+pub fn reads_as_one()
+    ensures one { (text : Items ℕ) (net other : Netlist) → Reads text net → Reads text other → net ≡ other }
+    ensures no_fault { (text : Items ℕ) (net : Netlist) → Reads text net → first_fault text ≡ None }
 {}
 
 /// What a text reads as is a valid netlist.

@@ -7,6 +7,7 @@
 //! 1,000,000 cycles. The format is this project's profile.
 #![tactic(auto)]
 
+pub mod law;
 pub mod reading;
 pub mod refusal;
 pub mod row;
