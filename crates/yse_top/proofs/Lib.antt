@@ -1,4 +1,5 @@
 mod CauseLemmas
+mod OutcomeLemmas
 mod ToldLemmas
 mod TraceLemmas
 mod WritingLemmas

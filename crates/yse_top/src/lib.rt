@@ -12,6 +12,7 @@ ghost use Rattle.yse_top.specs.Lines.{usage_line, read_fault_line, write_fault_l
 ghost use Rattle.yse_top.specs.Words.{request_of, files_named};
 ghost use Rattle.yse_top.specs.Writing.{Tells};
 
+pub mod law;
 mod output;
 mod reading;
 mod refusal;

@@ -1,0 +1,18 @@
+//! What holds of every whole call. The function does nothing: its clause is the law.
+
+ghost use Rattle.yse_top.specs.Law.{HasOneOutcome};
+
+use bench_read::law::reads_as_one as netlists_are_one;
+use ref_sim::one_simulation;
+use stim_text::law::reads_as_one as stimuli_are_one;
+
+/// Words over files come to one outcome: what is expected of them has one status, one output and one
+/// line, but that any loop may be named where there are several. So each status comes exactly where it
+/// is expected.
+pub fn one_outcome()
+    ensures { HasOneOutcome }
+{
+    netlists_are_one();
+    stimuli_are_one();
+    one_simulation();
+}
