@@ -1,4 +1,5 @@
 mod CauseLemmas
+mod FormLemmas
 mod OutcomeLemmas
 mod ToldLemmas
 mod TraceLemmas

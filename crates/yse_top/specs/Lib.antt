@@ -1,5 +1,6 @@
 pub mod Causes
 pub mod Expected
+pub mod Forms
 pub mod Law
 pub mod Lines
 pub mod Outputs
