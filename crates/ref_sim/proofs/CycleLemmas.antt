@@ -1,5 +1,5 @@
 -- Turns, cycles and rows of a run, against every simulation.
-use Rattle.std.proofs.Common.{◌≡◌, ◌≢◌, ◌∙◌, ℕ, zero, suc, ◌+◌, ◌-◌, ◌*◌, ◌/◌, ◌%◌, ◌<◌, ◌≤◌, inl, inr, Bool, true, false, if◌then◌else◌, ◌&&◌, ◌==◌, nat_le, List, [], ◌∷◌, ◌++◌, length, take, replicate, get_or, set, refl, sym, ap, subst, arith, Some, IsTrue}
+use Rattle.std.proofs.Common.{◌≡◌, ◌≢◌, ◌∙◌, ℕ, ◌+◌, ◌-◌, ◌*◌, ◌/◌, ◌%◌, ◌<◌, ◌≤◌, inl, inr, Bool, true, false, if◌then◌else◌, ◌&&◌, ◌==◌, nat_le, List, [], ◌∷◌, ◌++◌, length, take, replicate, get_or, set, refl, sym, ap, subst, arith, Some, IsTrue}
 use Rattle.std.specs.List.{slice_get}
 use Rattle.std.proofs.lemmas.Option.{slice_get_within, slice_get-get_or, get_or_from_slice_get}
 use Rattle.std.proofs.lemmas.List.{length-map, length-set, length-replicate, length-take-le, take_more_set}
@@ -15,7 +15,6 @@ use Rattle.net_defs.specs.Time.{value_at, initial_value, is_edge, cycle_of, cycl
 use Rattle.net_defs.specs.Valid.{is_input}
 use Rattle.net_defs.specs.Steps.{State, values_of, first_state}
 use Rattle.net_defs.specs.Loops.{IsOrder}
-use Rattle.net_defs.specs.Reference.{IsSimulation}
 use Rattle.std.specs.List.{flat_map}
 use Rattle.std.proofs.Math.Nat.{mul-le-mul_left}
 use Rattle.std.proofs.lemmas.Nat.{mod-mul-add, div-mul-add}
@@ -27,7 +26,6 @@ use Rattle.std.proofs.lemmas.Grind.{flat_map-append}
 use Rattle.std.proofs.Common.{length-append, append-nil}
 use Rattle.net_defs.specs.declared.stimulus.StimRow.{StimRow}
 use Rattle.net_defs.specs.declared.stimulus.CellRow.{CellRow}
-use Rattle.net_defs.specs.declared.stimulus.Rows.{Rows}
 use Rattle.net_defs.specs.Trace.{cells_of}
 use Rattle.rank_find.proofs.ListLemmas.{last_or}
 use Rattle.ref_sim.specs.declared.turn.Phase.{Phase}
@@ -40,17 +38,9 @@ use Rattle.ref_sim.specs.declared.turn.Machine.{Machine}
 use Rattle.ref_sim.specs.declared.turn.Staged.{Staged}
 use Rattle.ref_sim.specs.Turns.{state_of, IsReady, phase_of, driven_by, HoldInputs, StepsBy}
 use Rattle.ref_sim.specs.Ports.{ArePorts}
-use Rattle.ref_sim.specs.Runs.{AreCells, StandsAt, RunsTo, phase_at, printed_row, HasRows}
+use Rattle.ref_sim.specs.Runs.{StandsAt, RunsTo, phase_at, printed_row, HasRows}
 use Rattle.ref_sim.proofs.Phases.{right_step}
 use Rattle.ref_sim.proofs.Uniqueness.{next_state}
-
--- a turn within a cycle is not its first
-pub within_later : (is_first : Bool) (place : ℕ) → phase_at is_first place ≡ phase.Within → 0 < place
-within_later is_first zero is = by_first is_first is where
-  by_first : (test : Bool) → (if test then phase.Start else phase.Edge) ≡ phase.Within → 0 < 0
-  by_first true same = cc
-  by_first false same = cc
-within_later is_first (suc place) is = omega arith
 
 -- the inputs of a step are held
 pub step_inputs : (net : Netlist) (timing : Timing) (at : Phase) (inputs : List V4) (old new : State) → StepsBy net timing at inputs old new → HoldInputs net inputs new.row
@@ -119,15 +109,6 @@ module _ (net : Netlist) (timing : Timing) (stimulus : Stimulus) (order : List �
             ap (slice_get states) add ∙ next_state net timing stimulus order is_order states simulation (cycle * timing.units + place) old new short (stands.state_there states simulation) right;
       }
 
-  pub stands_at : (turn other : ℕ) (state : State) → turn ≡ other → StandsAt net timing stimulus turn state → StandsAt net timing stimulus other state
-  stands_at turn other state same stands = rw (← same) stands
-
-  pub run_start : (state : State) → state ≡ first_state net timing → RunsTo net timing stimulus [] state
-  run_start state is = record {
-    stands = record { state_there = λ states simulation. let none : 0 * timing.units ≡ 0 = omega arith in ap (slice_get states) none ∙ (simulation.first ∙ ap Some (sym is)) };
-    cells = λ c row there states simulation. let within = slice_get_within [] c row there in absurd (omega arith);
-  }
-
   -- a row more
   pub row_more : (rows : List CellRow) (old new : State) (row : CellRow) → RunsTo net timing stimulus rows old → StandsAt net timing stimulus ((length rows + 1) * timing.units) new
       → row.cells ≡ values_of new.row net.printed → RunsTo net timing stimulus (rows ++ row ∷ []) new
@@ -163,12 +144,6 @@ module _ (net : Netlist) (timing : Timing) (stimulus : Stimulus) (order : List �
       let after : StandsAt net timing stimulus ((length (take cycle rows) + 1) * timing.units) new = subst (λ n. StandsAt net timing stimulus ((n + 1) * timing.units) new) (sym front) (stands cycle first within read there) in
       let pushed : take (begun + (time + 1)) new_rows ≡ take cycle rows ++ printed_row net new.row ∷ [] = ap (λ n. take n new_rows) (omega arith) ∙ (ap (take (cycle + 1)) changed ∙ take_more_set rows cycle (printed_row net new.row) inside) in
       rw pushed (row_more (take cycle rows) old new (printed_row net new.row) before after refl)
-
-  pub run_cells : (rows : Rows) (state : State) → length rows.rows ≡ cycle_count stimulus → RunsTo net timing stimulus rows.rows state → (states : List State) → IsSimulation net timing stimulus states → AreCells net timing stimulus states rows
-  run_cells rows state long runs states simulation = record {
-    cycles = long;
-    cells = λ c row there. runs.cells c row there states simulation;
-  }
 
 -- the cycles of one row of a stimulus
 abbrev repeats : StimRow → List (List V4)

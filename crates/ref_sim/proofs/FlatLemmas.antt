@@ -21,7 +21,7 @@ use Rattle.rank_find.proofs.ListLemmas.{last_or}
 use Rattle.ref_sim.specs.declared.plan.Role.TheVariants as role
 use Rattle.ref_sim.specs.declared.flat.Step.{Step}
 use Rattle.ref_sim.specs.declared.flat.Flat.{Flat}
-use Rattle.ref_sim.specs.Flats.{gate_at, gate_driven, span, IsWithin, AreWithin, step_value, do_step, follow, AreStepValues, IsStep, IsFlat, Pushes, PushesDriven, PushesFound}
+use Rattle.ref_sim.specs.Flats.{gate_at, gate_driven, span, IsWithin, step_value, do_step, follow, AreStepValues, IsStep, IsFlat, Pushes, PushesDriven, PushesFound}
 use Rattle.ref_sim.specs.Turns.{settle_gate, along, AreEarly, plays, has_role, held_driven, held_value, IsStagedTo, ListsRole}
 use Rattle.ref_sim.proofs.Along.{settle_early, settle_late}
 use Rattle.ref_sim.proofs.Rows.{put_value}
@@ -148,10 +148,6 @@ module _ (net : Netlist) (timing : Timing) (order early : List ℕ) (i : ℕ) (g
     early = All-append (λ s. is_late net timing s ≡ false) early (gate ∷ []) so_far.early (All-one (λ s. is_late net timing s ≡ false) gate not_late);
     same = λ row. fold_push (settle_gate net timing) row early gate ∙ (ap (λ r. settle_gate net timing r gate) (so_far.same row) ∙ sym (along_more row));
   }
-
--- the operands of all steps stand in their list
-pub flat_within : (net : Netlist) (list : List ℕ) (flat : Flat) → IsFlat net list flat → AreWithin flat
-flat_within net list flat is k e below = (is.each k (get_or flat.steps k e) (slice_get-get_or flat.steps k e below)).within
 
 -- steps that stand for gates that are not late do what the gates do
 module _ (net : Netlist) (timing : Timing) (list : List ℕ) (flat : Flat) (is : IsFlat net list flat) (early : All (λ s. is_late net timing s ≡ false) list) (row : List V4) where

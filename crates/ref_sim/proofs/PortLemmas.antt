@@ -92,13 +92,6 @@ module _ (net : Netlist) (row : List V4) (old words : List (List (List V4))) (po
     ];
   })
 
--- before the first memory
-pub answered_none : (net : Netlist) (old : State) (ports : List Port) → ArePorts net ports → Answered net old 0 ports
-answered_none net old ports are = record {
-  memories = are.memories;
-  outputs = λ m memory port below at there. absurd (omega arith);
-}
-
 module _ (net : Netlist) (old : State) (ports : List Port) where
   -- a bit that a memory answered
   bit_is : Answered net old (length net.blocks) ports → (m bit : ℕ) → port_bit ports m bit ≡ output_bit net old m bit

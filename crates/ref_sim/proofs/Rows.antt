@@ -1,12 +1,12 @@
 -- Rows that are written signal by signal.
-use Rattle.std.proofs.Common.{◌≡◌, ◌≢◌, ◌∙◌, ℕ, ◌+◌, ◌<◌, ◌⊎◌, inl, inr, List, length, get_or, set, refl, sym, ap, arith}
+use Rattle.std.proofs.Common.{◌≡◌, ◌≢◌, ◌∙◌, ℕ, ◌+◌, ◌<◌, ◌⊎◌, inl, inr, List, length, get_or, set, sym, ap, arith}
 use Rattle.std.proofs.lemmas.Bool.Decides.{eqb_tells}
 use Rattle.std.proofs.lemmas.List.{length-set, get_or-set_same, get_or-set_other}
 use Rattle.logic_four.specs.declared.V4.{V4}
 use Rattle.logic_four.specs.declared.V4.TheVariants.{Undef}
 use Rattle.net_defs.specs.Time.{value_at}
 use Rattle.rank_find.proofs.ListLemmas.{last_or}
-use Rattle.ref_sim.specs.Turns.{Puts, IsStagedTo}
+use Rattle.ref_sim.specs.Turns.{Puts}
 
 -- the value of each signal after one was put
 pub put_value : (row : List V4) (s t : ℕ) (v : V4) → ((t ≡ s) × (s < length row → value_at (set row s v) t ≡ v)) ⊎ ((t ≢ s) × (value_at (set row s v) t ≡ value_at row t))
@@ -14,13 +14,6 @@ put_value row s t v = elim (eqb_tells t s) [
   | inl h ↦ inl (h.1, λ within. ap (value_at (set row s v)) h.1 ∙ get_or-set_same row s v Undef within)
   | inr h ↦ inr (h.1, get_or-set_other row s t v Undef h.1)
 ]
-
-pub puts_none : (list : List ℕ) (f : ℕ → V4) (row : List V4) → Puts list f 0 row row
-puts_none list f row = record {
-  signals = refl;
-  inside = λ k below within. absurd (omega arith);
-  outside = λ s none. refl;
-}
 
 pub puts_more : (list : List ℕ) (f : ℕ → V4) (n : ℕ) (old row new : List V4) (v : V4) → Puts list f n old row → v ≡ f (get_or list n 0) → new ≡ set row (get_or list n 0) v → Puts list f (n + 1) old new
 puts_more list f n old row new v so_far is changed = record {
@@ -38,12 +31,4 @@ puts_more list f n old row new v so_far is changed = record {
         | inl h ↦ absurd (none n (omega arith) (sym h.0))
         | inr h ↦ h.1 ∙ so_far.outside s (λ k below. none k (omega arith))
       ];
-}
-
-pub staged_more : (list : List ℕ) (f : ℕ → V4) (n : ℕ) (values new : List V4) (v : V4) → IsStagedTo list f n values → n < length values → v ≡ f (get_or list n 0) → new ≡ set values n v → IsStagedTo list f (n + 1) new
-staged_more list f n values new v so_far within is changed = record {
-  each = λ k below. ap (λ r. value_at r k) changed ∙ elim (put_value values n k v) [
-    | inl h ↦ h.1 within ∙ (is ∙ ap (λ m. f (get_or list m 0)) (sym h.0))
-    | inr h ↦ h.1 ∙ elim (last_or k n below) [ inl j ↦ so_far.each k j | inr j ↦ absurd (h.0 j) ]
-  ];
 }

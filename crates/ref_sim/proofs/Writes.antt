@@ -1,26 +1,16 @@
 -- A list that is written from the left to the right.
-use Rattle.std.proofs.Common.{◌≡◌, ◌∙◌, ℕ, ◌+◌, ◌<◌, List, [], ◌∷◌, ◌++◌, length, take, drop, map, replicate, get_or, set, refl, sym, ap, arith, append_assoc}
-use Rattle.std.proofs.lemmas.List.{drop_more, set_at, map_more, length-map, length-take-le, length-replicate, replicate_more, map_push, length-set, drop_all, append-nil, take_all, get_or-append_right, get_or-drop}
+use Rattle.std.proofs.Common.{◌≡◌, ◌∙◌, ℕ, ◌+◌, ◌<◌, List, [], ◌∷◌, ◌++◌, length, take, drop, map, get_or, set, sym, ap, arith, append_assoc}
+use Rattle.std.proofs.lemmas.List.{drop_more, set_at, map_more, length-map, length-take-le, length-set, drop_all, append-nil, take_all, get_or-append_right, get_or-drop}
 use Rattle.std.specs.List.{refill}
 
 pub write_more : {X : Type 0} (front old : List X) (i : ℕ) (y d : X) → length front ≡ i → i < length old → set (front ++ drop i old) i y ≡ (front ++ y ∷ []) ++ drop (i + 1) old
 write_more front old i y d long within =
     ap (λ rest. set (front ++ rest) i y) (drop_more old i d within) ∙ set_at front (get_or old i d) (drop (i + 1) old) y i long ∙ sym (append_assoc front (y ∷ []) (drop (i + 1) old))
 
-pub replicate_over : {X : Type 0} (old : List X) (i : ℕ) (y : X) → i < length old → set (replicate i y ++ drop i old) i y ≡ replicate (i + 1) y ++ drop (i + 1) old
-replicate_over old i y within =
-    write_more (replicate i y) old i y y (length-replicate i y) within ∙ ap (λ front. front ++ drop (i + 1) old) (replicate_more i y)
-
 pub map_over : {X Y : Type 0} (f : X → Y) (xs : List X) (old : List Y) (i : ℕ) (d : X) (e : Y) → i < length xs → length xs ≡ length old → set (map f (take i xs) ++ drop i old) i (f (get_or xs i d)) ≡ map f (take (i + 1) xs) ++ drop (i + 1) old
 map_over f xs old i d e within long =
     let front : length (map f (take i xs)) ≡ i = length-map (take i xs) f ∙ length-take-le i xs (omega arith) in
     write_more (map f (take i xs)) old i (f (get_or xs i d)) e front (omega arith) ∙ ap (λ front. front ++ drop (i + 1) old) (sym (map_more f xs i d within))
-
-pub map_map_over : {X Y Z : Type 0} (g : Y → Z) (f : X → Y) (xs : List X) (old : List Z) (i : ℕ) (d : X) (e : Z) → i < length xs → length old ≡ length xs → set (map g (map f (take i xs)) ++ drop i old) i (g (f (get_or xs i d))) ≡ map g (map f (take (i + 1) xs)) ++ drop (i + 1) old
-map_map_over g f xs old i d e within long =
-    let front : length (map g (map f (take i xs))) ≡ i = length-map (map f (take i xs)) g ∙ (length-map (take i xs) f ∙ length-take-le i xs (omega arith)) in
-    write_more (map g (map f (take i xs))) old i (g (f (get_or xs i d))) e front (omega arith)
-    ∙ ap (λ front. front ++ drop (i + 1) old) (sym (ap (map g) (map_more f xs i d within) ∙ map_push g (map f (take i xs)) (f (get_or xs i d))))
 
 -- a list whose loan ends with one item written
 pub refill_set : {X : Type 0} (xs now : List X) (i : ℕ) (y : X) → now ≡ xs → refill (length xs) xs (set now i y) ≡ set xs i y
@@ -33,10 +23,3 @@ refill_set xs now i y same =
 pub read_ahead : {X : Type 0} (front old : List X) (i : ℕ) (d : X) → length front ≡ i → get_or (front ++ drop i old) i d ≡ get_or old i d
 read_ahead front old i d long =
     get_or-append_right front (drop i old) i i d long (omega arith) ∙ (ap (λ n. get_or (drop i old) n d) (omega arith) ∙ (get_or-drop i old 0 d ∙ ap (λ n. get_or old n d) (omega arith)))
-
-pub map_in_place : {X : Type 0} (f : X → X) (words now old : List X) (i : ℕ) (item new : X) → words ≡ map f (take i old) ++ drop i old → now ≡ words → i < length old → new ≡ f (get_or now i item)
-    → refill (length words) words (set now i new) ≡ map f (take (i + 1) old) ++ drop (i + 1) old
-map_in_place f words now old i item new so_far same within is =
-    let front : length (map f (take i old)) ≡ i = length-map (take i old) f ∙ length-take-le i old (omega arith) in
-    let read : get_or now i item ≡ get_or old i item = ap (λ list. get_or list i item) (same ∙ so_far) ∙ read_ahead (map f (take i old)) old i item front in
-    refill_set words now i new same ∙ (ap (λ list. set list i new) so_far ∙ (ap (λ y. set (map f (take i old) ++ drop i old) i y) (is ∙ ap f read) ∙ map_over f old old i item item within refl))

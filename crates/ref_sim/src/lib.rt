@@ -63,7 +63,8 @@ pub fn refer(alloc: Global, net: &Netlist, timing: &Timing, stim: &Stimulus) -> 
 }
 
 /// The same by an order that `rank` of `rank_find` found, so that the netlist isn't ranked again. An
-/// order leaves no room for a second simulation, and none for a loop.
+/// order leaves no room for a second simulation, and none for a loop. A memory with words of more than
+/// 64 bits, which no valid netlist has, is answered as want of memory.
 pub fn refer_in_order(
     alloc: Global,
     net: &Netlist,

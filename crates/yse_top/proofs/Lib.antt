@@ -1,6 +1,5 @@
 mod CauseLemmas
 mod FormLemmas
 mod OutcomeLemmas
-mod ToldLemmas
 mod TraceLemmas
 mod WritingLemmas
