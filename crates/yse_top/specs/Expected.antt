@@ -10,6 +10,8 @@ use Rattle.net_defs.specs.Loops.{IsLoop}
 use Rattle.net_defs.specs.Time.{cycle_count}
 use Rattle.net_defs.specs.Trace.{IsTrace}
 use Rattle.net_defs.specs.Valid.{input_count}
+use Rattle.bench_read.specs.declared.refusal.BenchNo.{BenchNo}
+use Rattle.stim_text.specs.declared.refusal.StimNo.{StimNo}
 use Rattle.bench_read.specs.Faults as bench
 use Rattle.bench_read.specs.Reads as bench_reads
 use Rattle.stim_text.specs.Stimuli as stim
@@ -69,14 +71,22 @@ ReadsAs {X} {E} file Reads fault refused (Ok x) = (text : List ℕ) × (file ≡
 ReadsAs {X} {E} file Reads fault refused (Err outcome) =
     (file ≡ Err outcome) ⊎ ((text : List ℕ) × (why : E) × (file ≡ Ok text) × (fault text ≡ Some why) × (outcome ≡ refused why))
 
+-- the outcome of a netlist text with this fault
+abbrev pub netlist_outcome : BenchNo → Outcome
+netlist_outcome why = refusal status.Netlist (netlist_line why)
+
+-- the outcome of a stimulus text with this fault
+abbrev pub stimulus_outcome : StimNo → Outcome
+stimulus_outcome why = refusal status.Stimulus (stimulus_line why)
+
 -- the netlist of a file
 abbrev pub NetlistOf : Contents → List ℕ → Result Netlist Outcome → Type 0
-NetlistOf files name = ReadsAs (text_of files name) bench_reads.Reads bench.first_fault (λ why. refusal status.Netlist (netlist_line why))
+NetlistOf files name = ReadsAs (text_of files name) bench_reads.Reads bench.first_fault netlist_outcome
 
 -- the stimulus of a file for the inputs of a netlist
 abbrev pub StimulusOf : Contents → List ℕ → Netlist → Result Stimulus Outcome → Type 0
 StimulusOf files name net =
-    ReadsAs (text_of files name) (stim.Reads (input_count net)) (stim.first_fault (input_count net)) (λ why. refusal status.Stimulus (stimulus_line why))
+    ReadsAs (text_of files name) (stim.Reads (input_count net)) (stim.first_fault (input_count net)) stimulus_outcome
 
 -- no gates wait for one another
 abbrev pub HasNoLoop : Netlist → Timing → Result (Unit {0}) Outcome → Type 0

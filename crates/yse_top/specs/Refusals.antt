@@ -64,12 +64,6 @@ abbrev pub Meets : {X : Type 0} → Result X Refusal → (Result X Outcome → T
 Meets (Ok x) Checked = Checked (Ok x)
 Meets (Err why) Checked = OfText why (Checked (Err (outcome_of why)))
 
-abbrev pub netlist_outcome : BenchNo → Outcome
-netlist_outcome why = refused status.Netlist (netlist_line why)
-
-abbrev pub stimulus_outcome : StimNo → Outcome
-stimulus_outcome why = refused status.Stimulus (stimulus_line why)
-
 -- A call on a text answers what the text reads as, or the outcome of its first fault. Want of memory may
 -- come in place of either.
 abbrev pub MeetsText : {X E : Type 0} → Result X Refusal → (X → Type 0) → Option E → (E → Outcome) → Type 0

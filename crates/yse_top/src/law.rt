@@ -14,8 +14,8 @@ pub fn forms_are_read()
 {}
 
 /// Words over files come to one outcome: what is expected of them has one status, one output and one
-/// line, but that any loop may be named where there are several. So each status comes exactly where it
-/// is expected.
+/// line, but that any loop may be named where there are several. So a status other than `ReadFault`,
+/// `WriteFault` and `Memory` comes exactly where it is expected, wherever none of these three comes.
 pub fn one_outcome()
     ensures { HasOneOutcome }
 {

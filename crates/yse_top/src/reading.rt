@@ -7,8 +7,8 @@ ghost use Rattle.net_defs.specs.Valid.{IsValid, IsValidStimulus, input_count, is
 ghost use Rattle.bench_read.specs.Reads.{Reads};
 ghost use Rattle.bench_read.specs.Faults.{first_fault};
 ghost use Rattle.stim_text.specs.Stimuli as stim;
-ghost use Rattle.yse_top.specs.Expected.{WhereTold, NetlistOf, StimulusOf, text_of, most_bytes};
-ghost use Rattle.yse_top.specs.Refusals.{Explains, Meets, MeetsText, IsInner, netlist_outcome, stimulus_outcome};
+ghost use Rattle.yse_top.specs.Expected.{WhereTold, NetlistOf, StimulusOf, netlist_outcome, stimulus_outcome, text_of, most_bytes};
+ghost use Rattle.yse_top.specs.Refusals.{Explains, Meets, MeetsText, IsInner};
 
 use crate::refusal::{Refusal, of_netlist, of_stimulus};
 use bench_read::law::reads_as_valid;

@@ -10,20 +10,20 @@ use Rattle.bench_read.specs.Faults as bench
 use Rattle.bench_read.specs.Reads as bench_reads
 use Rattle.stim_text.specs.Stimuli as stim
 use Rattle.yse_top.specs.declared.status.Status.TheVariants as status
-use Rattle.yse_top.specs.Expected.{Outcome, Contents, Expected, ExpectedOf, ExpectedTrace, ExpectedText, NetlistOf, StimulusOf, text_of, refusal}
+use Rattle.yse_top.specs.Expected.{Outcome, Contents, Expected, ExpectedOf, ExpectedTrace, ExpectedText, NetlistOf, StimulusOf, netlist_outcome, stimulus_outcome, text_of, refusal}
 use Rattle.yse_top.specs.Law.{AreAlike}
-use Rattle.yse_top.specs.Lines.{usage_line, netlist_line, stimulus_line}
+use Rattle.yse_top.specs.Lines.{usage_line}
 use Rattle.yse_top.specs.Words.{Request, run, refer, show, Simulation, request_of}
 use Rattle.yse_top.proofs.OutcomeLemmas.{alike, AnswersOnce, after_alike, reads_once, loop_once, cells_once, trace_once}
 use Rattle.yse_top.proofs.law.one_outcome.Goals as goal
 
 module _ (one_netlist : (text : List ℕ) (net other : Netlist) → bench_reads.Reads text net → bench_reads.Reads text other → net ≡ other) (no_fault : (text : List ℕ) (net : Netlist) → bench_reads.Reads text net → bench.first_fault text ≡ None) (one_stimulus : (inputs : ℕ) (text : List ℕ) (stimulus other : Stimulus) → stim.Reads inputs text stimulus → stim.Reads inputs text other → stimulus ≡ other) (no_stimulus_fault : (inputs : ℕ) (text : List ℕ) (stimulus : Stimulus) → stim.Reads inputs text stimulus → stim.first_fault inputs text ≡ None) (simulated : (net : Netlist) (timing : Timing) (stimulus : Stimulus) → ((loop : List ℕ) → IsLoop net timing loop → ⊥) → HasOneSimulation net timing stimulus) (files : Contents) (one other : Outcome) where
   netlist_once : (name : List ℕ) → AnswersOnce (NetlistOf files name)
-  netlist_once name = reads_once (text_of files name) bench_reads.Reads bench.first_fault (λ why. refusal status.Netlist (netlist_line why)) one_netlist no_fault
+  netlist_once name = reads_once (text_of files name) bench_reads.Reads bench.first_fault netlist_outcome one_netlist no_fault
 
   stimulus_once : (name : List ℕ) (net : Netlist) → AnswersOnce (StimulusOf files name net)
   stimulus_once name net =
-      reads_once (text_of files name) (stim.Reads (input_count net)) (stim.first_fault (input_count net)) (λ why. refusal status.Stimulus (stimulus_line why))
+      reads_once (text_of files name) (stim.Reads (input_count net)) (stim.first_fault (input_count net)) stimulus_outcome
       (one_stimulus (input_count net)) (no_stimulus_fault (input_count net))
 
   trace_alike : (simulation : Simulation) → ExpectedTrace files simulation one → ExpectedTrace files simulation other → AreAlike one other
