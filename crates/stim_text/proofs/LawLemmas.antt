@@ -55,6 +55,11 @@ none_from_reads inputs text stimulus reads =
 
 -- ---- what a text reads as is one valid stimulus
 
+-- it has the columns that are asked and the rows of the text
+pub one_stimulus : (inputs : ℕ) (text : List ℕ) (stimulus other : Stimulus) → Reads inputs text stimulus → Reads inputs text other → stimulus ≡ other
+one_stimulus inputs text stimulus other reads reads_other =
+    rw (reads.columns ∙ sym reads_other.columns) (rw (reads.rows ∙ sym reads_other.rows) refl)
+
 rows_good : (inputs : ℕ) (parts : List (List ℕ)) → AllByRecursion (IsAllowed inputs) parts → AllByRecursion (IsGood inputs) (rows_of parts)
 unfolding rows_of
 rows_good inputs [] allowed = tt

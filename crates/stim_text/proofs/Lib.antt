@@ -1,3 +1,4 @@
 mod LawLemmas
 mod RowLemmas
 mod StimLemmas
+mod TotalLemmas

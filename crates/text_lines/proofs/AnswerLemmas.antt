@@ -24,11 +24,11 @@ pub first_none : {E : Type 0} (fault : ℕ → Option E) (n : ℕ) → ((i : ℕ
 first_none fault zero none = first-zero fault
 first_none fault (suc n) none = first_none_more fault n (first_none fault n (λ i h. none i (omega arith))) (none n (omega arith))
 
-or_none : {E : Type 0} (a b : Option E) → option_or a b ≡ None → (a ≡ None) × (b ≡ None)
+pub or_none : {E : Type 0} (a b : Option E) → option_or a b ≡ None → (a ≡ None) × (b ≡ None)
 or_none None b e = (refl, e)
 or_none (Some x) b e = cc
 
-or_some : {E : Type 0} (a b : Option E) (x : E) → option_or a b ≡ Some x → (a ≡ Some x) ⊎ ((a ≡ None) × (b ≡ Some x))
+pub or_some : {E : Type 0} (a b : Option E) (x : E) → option_or a b ≡ Some x → (a ≡ Some x) ⊎ ((a ≡ None) × (b ≡ Some x))
 or_some None b x e = inr (refl, e)
 or_some (Some y) b x e = inl e
 
