@@ -1,50 +1,92 @@
--- The cause of each refusal, by what a store of files counts.
-use Rattle.std.specs.Prelude.{◌≡◌, ℕ, ◌+◌, Bool, List, Option, Some, None, slice_get}
-use Rattle.edge_io.specs.Counts.{raised, raised_if, Rose}
-use Rattle.edge_io.specs.Names.{is_absent}
-use Rattle.yse_top.specs.declared.refusal.Refusal.{Refusal}
-use Rattle.yse_top.specs.declared.refusal.Refusal.TheVariants as refusal
-use Rattle.yse_top.specs.Expected.{Contents, ExpectedOf, Reaches, WhereTold}
-use Rattle.yse_top.specs.Refusals.{outcome_of}
-use Rattle.yse_top.specs.Words.{Request, request_of, files_of}
+-- The checks of a call, one after the other: each lets a value pass, with which the next ones go on, or
+-- ends the call. A chain of checks is a relation between the files that are begun from here on and the
+-- outcome of the call.
+use Rattle.std.specs.Prelude.{◌≡◌, ◌⊎◌, ℕ, ◌+◌, ◌*◌, ◌<◌, ◌≤◌, nat_le, if◌then◌else◌, List, [], ◌∷◌, length, Option, Some, None, Result, Ok, Err}
+use Rattle.net_defs.specs.declared.netlist.Netlist.{Netlist}
+use Rattle.net_defs.specs.declared.timing.Timing.{Timing}
+use Rattle.net_defs.specs.declared.stimulus.Stimulus.{Stimulus}
+use Rattle.net_defs.specs.Loops.{IsLoop}
+use Rattle.net_defs.specs.Time.{cycle_count}
+use Rattle.net_defs.specs.Valid.{input_count}
+use Rattle.bench_read.specs.Faults as bench
+use Rattle.bench_read.specs.Reads as bench_reads
+use Rattle.stim_text.specs.Stimuli as stim
+use Rattle.yse_top.specs.declared.status.Status.TheVariants as status
+use Rattle.yse_top.specs.Lines.{read_fault_line, too_long_line, netlist_line, loop_line, stimulus_line, cells_line}
+use Rattle.yse_top.specs.Outcome.{Outcome, done, refusal, out_of_memory}
+use Rattle.yse_top.specs.Readings.{Reading}
 
--- the faults, the files begun, and the absent ones among them
-pub record Counts : Type 0 where
-  pub faults : ℕ
-  pub starts : ℕ
-  pub absent_starts : ℕ
+-- ---- chains
 
-abbrev pub counts : ℕ → ℕ → ℕ → Counts
-counts f s a = record { faults = f; starts = s; absent_starts = a }
+-- a check refuses with an outcome; want of memory may come in place of each answer
+abbrev pub Refuses : {X : Type 0} → (Result X Outcome → Type 0) → Outcome → Type 0
+Refuses Checked outcome = Checked (Err outcome) ⊎ (outcome ≡ out_of_memory)
 
-module _ (names : Option (List ℕ → Bool)) (bytes : Option (List ℕ → List ℕ)) (old new : Counts) where
-  -- one of the files that are read, whose turn it was, could not be read: the files before it and this
-  -- one were begun, and an absent name only where it is this file's
-  pub record IsUnreadAmong (named : List (List ℕ)) (Reached : Contents → ℕ → Type 0) (file : List ℕ) : Type 0 where
-    pub place : ℕ
-    pub file_is : slice_get named place ≡ Some file
-    pub reached : WhereTold names bytes (λ files. Reached files place)
-    pub fault : Rose old.faults new.faults
-    pub begun : new.starts ≡ raised old.starts (place + 1)
-    pub absent : new.absent_starts ≡ raised_if (is_absent names file) old.absent_starts
+-- what a check lets pass goes on, and what it refuses ends here, with no further file begun
+abbrev pub After : {X : Type 0} → (Result X Outcome → Type 0) → (X → List Reading → Outcome → Type 0) → List Reading → Outcome → Type 0
+After {X} Checked Next readings outcome =
+    ((x : X) × Checked (Ok x) × Next x readings outcome) ⊎ ((readings ≡ []) × Refuses Checked outcome)
 
-  abbrev pub IsUnreadOf : Request → List ℕ → Type 0
-  IsUnreadOf request file = IsUnreadAmong (files_of request) (Reaches request) file
+-- the most bytes of a file
+abbrev pub most_bytes : ℕ
+most_bytes = 67108864
 
-  -- what a refusal of a request says before the output
-  abbrev pub IsCausedOf : Request → Refusal → Type 0
-  IsCausedOf request refusal.Words = ⊥
-  IsCausedOf request (refusal.Unread file) = IsUnreadOf request file.now
-  IsCausedOf request refusal.Unwritten = ⊥
-  IsCausedOf request refusal.Memory = new.absent_starts ≡ old.absent_starts
-  IsCausedOf request why =
-      (new.absent_starts ≡ old.absent_starts) × WhereTold names bytes (λ files. ExpectedOf files request (outcome_of why))
+-- the text of a file that isn't too long
+abbrev pub text_of : List ℕ → List ℕ → Result (List ℕ) Outcome
+text_of file bytes = if nat_le (length bytes) most_bytes then Ok bytes else Err (refusal status.Limit (too_long_line file))
 
-  -- what a refusal of a call with these words says before the output
-  abbrev pub IsCaused : List (List ℕ) → Refusal → Type 0
-  IsCaused words refusal.Words = (request_of words ≡ None) × (new ≡ old)
-  IsCaused words why = (request : Request) × (request_of words ≡ Some request) × IsCausedOf request why
+abbrev pub read_fault : List ℕ → Outcome
+read_fault file = refusal status.ReadFault (read_fault_line file)
 
-  -- the words ask for something, and a file of it whose turn it was could not be read
-  abbrev pub IsUnread : List (List ℕ) → List ℕ → Type 0
-  IsUnread words file = (request : Request) × (request_of words ≡ Some request) × IsUnreadOf request file
+-- a file that was begun: what can't be read ends the call, and a text goes on
+abbrev pub AfterRead : List ℕ → Option (List ℕ) → (List ℕ → List Reading → Outcome → Type 0) → List Reading → Outcome → Type 0
+AfterRead file None Next readings outcome = (readings ≡ []) × (outcome ≡ read_fault file)
+AfterRead file (Some bytes) Next readings outcome = After (λ result. text_of file bytes ≡ result) Next readings outcome
+
+-- the named file is the next one that is begun
+abbrev pub AfterFile : List ℕ → (List ℕ → List Reading → Outcome → Type 0) → List Reading → Outcome → Type 0
+AfterFile file Next [] outcome = ⊥
+AfterFile file Next (reading ∷ readings) outcome = (reading.file ≡ file) × AfterRead file reading.bytes Next readings outcome
+
+-- the call comes to such an outcome, or to want of memory, with no further file begun
+abbrev pub Ends : (Outcome → Type 0) → List Reading → Outcome → Type 0
+Ends IsEnd readings outcome = (readings ≡ []) × (IsEnd outcome ⊎ (outcome ≡ out_of_memory))
+
+-- such an output is written, and nothing is refused
+abbrev pub Writes : (List ℕ → Type 0) → Outcome → Type 0
+Writes IsOutput outcome = (output : List ℕ) × IsOutput output × (outcome ≡ done output)
+
+-- ---- what is checked
+
+-- what a text reads as, and else its first fault
+abbrev pub ReadsAs : {X E : Type 0} → (X → Type 0) → Option E → (E → Outcome) → Result X Outcome → Type 0
+ReadsAs {X} {E} Reads fault refused (Ok x) = Reads x
+ReadsAs {X} {E} Reads fault refused (Err outcome) = (why : E) × (fault ≡ Some why) × (outcome ≡ refused why)
+
+-- the netlist of a text
+abbrev pub IsNetlistOf : List ℕ → Result Netlist Outcome → Type 0
+IsNetlistOf text = ReadsAs (bench_reads.Reads text) (bench.first_fault text) (λ why. refusal status.Netlist (netlist_line why))
+
+-- the stimulus of a text for the inputs of a netlist
+abbrev pub IsStimulusOf : List ℕ → Netlist → Result Stimulus Outcome → Type 0
+IsStimulusOf text net =
+    ReadsAs (stim.Reads (input_count net) text) (stim.first_fault (input_count net) text) (λ why. refusal status.Stimulus (stimulus_line why))
+
+-- no gates wait for one another
+abbrev pub HasNoLoop : Netlist → Timing → Result (Unit {0}) Outcome → Type 0
+HasNoLoop net timing (Ok passed) = (loop : List ℕ) → IsLoop net timing loop → ⊥
+HasNoLoop net timing (Err outcome) = (loop : List ℕ) × IsLoop net timing loop × (outcome ≡ refusal status.Loop (loop_line net loop))
+
+-- the most cells
+abbrev pub most_cells : ℕ
+most_cells = 268435456
+
+-- a cell for each input and each printed name in each cycle
+abbrev pub cell_count : Netlist → Stimulus → ℕ
+cell_count net stimulus = cycle_count stimulus * (input_count net + length net.printed)
+
+-- there are not too many cells
+abbrev pub HasFewCells : Netlist → Stimulus → Result (Unit {0}) Outcome → Type 0
+HasFewCells net stimulus (Ok passed) = cell_count net stimulus ≤ most_cells
+HasFewCells net stimulus (Err outcome) =
+    (most_cells < cell_count net stimulus) × (outcome ≡ refusal status.Limit (cells_line (cell_count net stimulus)))

@@ -1,12 +1,11 @@
-//! The line that says why a call ended before its output. It is written in pieces, without taking
-//! memory.
+//! The line that says why a call did not end well. It is written in pieces, without taking memory.
 
 ghost use Rattle.std.specs.Prelude.{◌≡◌, ◌<◌, ◌++◌, length, slice_get, IfSome, codes, decimal};
 ghost use Rattle.std.specs.List.{flat_map};
 ghost use Rattle.net_defs.specs.Canonical.{name_of};
 ghost use Rattle.yse_top.specs.Lines.{usage_line, read_fault_line, write_fault_line, memory_line, too_long_line, cells_line, loop_line, fault_line, byte_line, twice_line, undriven_line, many_words, text_line, netlist_line, row_line, width_line, cycles_line, stimulus_line};
 ghost use Rattle.yse_top.specs.Refusals.{line_of, status_of};
-ghost use Rattle.yse_top.specs.Writing.{Writes, Tells};
+ghost use Rattle.yse_top.specs.Writing.{Takes, TakesLine};
 
 use crate::output::write_piece;
 use crate::refusal::Refusal;
@@ -18,13 +17,22 @@ use itoa::Buffer;
 use net_defs::{Netlist, name};
 use stim_text::StimNo;
 
-/// Writes the refusal's line to `err`, and answers its status. A fault of `err` changes nothing.
+/// Takes the refusal's line to `err`, and answers its status. A fault of `err` changes nothing.
 pub fn refuse<E: Sink>(err: &mut E, refusal: Refusal<'_>) -> Status
     ensures status { result ≡ status_of refusal.entry }
-    ensures line { Tells (E.taken err.old) (E.taken err.new) (E.faults err.old) (E.faults err.new) (line_of refusal.entry) }
+    ensures line { TakesLine (E.taken err.old) (E.taken err.new) (E.faults err.old) (E.faults err.new) (line_of refusal.entry) }
 {
     let _ = write_line(err, &refusal);
     status_of(&refusal)
+}
+
+/// Writes the line of a write fault to `err`, and answers its status. A fault of `err` changes nothing.
+pub fn tell_write_fault<E: Sink>(err: &mut E) -> Status
+    ensures status { result ≡ Status.WriteFault }
+    ensures line { TakesLine (E.taken err.old) (E.taken err.new) (E.faults err.old) (E.faults err.new) write_fault_line }
+{
+    let _ = write_write_fault_line(err);
+    Status::WriteFault
 }
 
 fn status_of(refusal: &Refusal<'_>) -> Status
@@ -32,19 +40,18 @@ fn status_of(refusal: &Refusal<'_>) -> Status
 {
     match refusal {
         Refusal::Words => Status::Words,
-        Refusal::Unread(_) => Status::ReadFault,
+        Refusal::ReadFault(_) => Status::ReadFault,
         Refusal::Netlist(_) => Status::Netlist,
         Refusal::Loop(..) => Status::Loop,
         Refusal::Stimulus(_) => Status::Stimulus,
         Refusal::TooLong(_) | Refusal::Cells(_) => Status::Limit,
-        Refusal::Unwritten => Status::WriteFault,
         Refusal::Memory => Status::Memory,
     }
 }
 
-/// Writes pieces one after the other, up to the first fault.
+/// Takes pieces one after the other, up to the first fault.
 fn write_pieces<S: Sink>(sink: &mut S, pieces: &[&[u8]]) -> Result<(), WriteNo>
-    ensures { Writes (S.taken sink.old) (S.taken sink.new) (S.faults sink.old) (S.faults sink.new) result (flat_map (λ piece. piece.now) pieces.now) }
+    ensures { Takes (S.taken sink.old) (S.taken sink.new) (S.faults sink.old) (S.faults sink.new) result (flat_map (λ piece. piece.now) pieces.now) }
 {
     'pieces: for i in 0..pieces.len() {
         if let Err(no) = write_piece(sink, piece_at(pieces, i)) {
@@ -62,24 +69,23 @@ fn piece_at<'a>(pieces: &[&'a [u8]], i: usize) -> &'a [u8]
 }
 
 fn write_line<S: Sink>(sink: &mut S, refusal: &Refusal<'_>) -> Result<(), WriteNo>
-    ensures { Writes (S.taken sink.old) (S.taken sink.new) (S.faults sink.old) (S.faults sink.new) result (line_of refusal.now) }
+    ensures { Takes (S.taken sink.old) (S.taken sink.new) (S.faults sink.old) (S.faults sink.new) result (line_of refusal.now) }
 {
     match refusal {
         Refusal::Words => write_usage_line(sink),
-        Refusal::Unread(file) => write_unread_line(sink, file),
+        Refusal::ReadFault(file) => write_read_fault_line(sink, file),
         Refusal::TooLong(file) => write_too_long_line(sink, file),
         Refusal::Netlist(no) => write_netlist_line(sink, no),
         Refusal::Loop(net, members) => write_loop_line(sink, net, members.as_slice()),
         Refusal::Stimulus(no) => write_stimulus_line(sink, no),
         Refusal::Cells(cells) => write_cells_line(sink, *cells),
-        Refusal::Unwritten => write_unwritten_line(sink),
         Refusal::Memory => write_memory_line(sink),
     }
 }
 
 #[tactic(auto, unfolding(crate::specs::Lines::usage_line))]
 fn write_usage_line<S: Sink>(sink: &mut S) -> Result<(), WriteNo>
-    ensures { Writes (S.taken sink.old) (S.taken sink.new) (S.faults sink.old) (S.faults sink.new) result usage_line }
+    ensures { Takes (S.taken sink.old) (S.taken sink.new) (S.faults sink.old) (S.faults sink.new) result usage_line }
 {
     write_pieces(
         sink,
@@ -92,15 +98,15 @@ fn write_usage_line<S: Sink>(sink: &mut S) -> Result<(), WriteNo>
 }
 
 #[tactic(auto, unfolding(crate::specs::Lines::read_fault_line))]
-fn write_unread_line<S: Sink>(sink: &mut S, file: &[u8]) -> Result<(), WriteNo>
-    ensures { Writes (S.taken sink.old) (S.taken sink.new) (S.faults sink.old) (S.faults sink.new) result (read_fault_line file.now) }
+fn write_read_fault_line<S: Sink>(sink: &mut S, file: &[u8]) -> Result<(), WriteNo>
+    ensures { Takes (S.taken sink.old) (S.taken sink.new) (S.faults sink.old) (S.faults sink.new) result (read_fault_line file.now) }
 {
     write_pieces(sink, &[b"read fault: ", file, b"\n"])
 }
 
 #[tactic(auto, unfolding(crate::specs::Lines::too_long_line))]
 fn write_too_long_line<S: Sink>(sink: &mut S, file: &[u8]) -> Result<(), WriteNo>
-    ensures { Writes (S.taken sink.old) (S.taken sink.new) (S.faults sink.old) (S.faults sink.new) result (too_long_line file.now) }
+    ensures { Takes (S.taken sink.old) (S.taken sink.new) (S.faults sink.old) (S.faults sink.new) result (too_long_line file.now) }
 {
     write_pieces(
         sink,
@@ -110,7 +116,7 @@ fn write_too_long_line<S: Sink>(sink: &mut S, file: &[u8]) -> Result<(), WriteNo
 
 #[tactic(auto, unfolding(crate::specs::Lines::cells_line))]
 fn write_cells_line<S: Sink>(sink: &mut S, cells: u64) -> Result<(), WriteNo>
-    ensures { Writes (S.taken sink.old) (S.taken sink.new) (S.faults sink.old) (S.faults sink.new) result (cells_line cells) }
+    ensures { Takes (S.taken sink.old) (S.taken sink.new) (S.faults sink.old) (S.faults sink.new) result (cells_line cells) }
 {
     let mut number = Buffer::new();
     let cells = number.format(cells).as_bytes();
@@ -118,35 +124,35 @@ fn write_cells_line<S: Sink>(sink: &mut S, cells: u64) -> Result<(), WriteNo>
 }
 
 #[tactic(auto, unfolding(crate::specs::Lines::write_fault_line))]
-fn write_unwritten_line<S: Sink>(sink: &mut S) -> Result<(), WriteNo>
-    ensures { Writes (S.taken sink.old) (S.taken sink.new) (S.faults sink.old) (S.faults sink.new) result write_fault_line }
+fn write_write_fault_line<S: Sink>(sink: &mut S) -> Result<(), WriteNo>
+    ensures { Takes (S.taken sink.old) (S.taken sink.new) (S.faults sink.old) (S.faults sink.new) result write_fault_line }
 {
     write_piece(sink, b"write fault\n")
 }
 
 fn write_netlist_line<S: Sink>(sink: &mut S, no: &BenchNo) -> Result<(), WriteNo>
-    ensures { Writes (S.taken sink.old) (S.taken sink.new) (S.faults sink.old) (S.faults sink.new) result (netlist_line no.now) }
+    ensures { Takes (S.taken sink.old) (S.taken sink.new) (S.faults sink.old) (S.faults sink.new) result (netlist_line no.now) }
 {
     match no {
         BenchNo::Text(no) => write_text_line(sink, no),
-        BenchNo::Syntax { line } => write_fault_line(sink, *line, b"syntax"),
-        BenchNo::UnknownKind { line } => write_fault_line(sink, *line, b"unknown kind"),
-        BenchNo::Arity { line } => write_fault_line(sink, *line, b"wrong number of operands"),
+        BenchNo::Syntax { line } => write_netlist_fault(sink, *line, b"syntax"),
+        BenchNo::UnknownKind { line } => write_netlist_fault(sink, *line, b"unknown kind"),
+        BenchNo::Arity { line } => write_netlist_fault(sink, *line, b"wrong number of operands"),
         BenchNo::DrivenTwice { name, first, line } => {
             write_twice_line(sink, *line, name.as_bytes(), *first)
         }
         BenchNo::Undriven { name, line } => write_undriven_line(sink, *line, name.as_bytes()),
-        BenchNo::TooMany { line, what } => write_fault_line(sink, *line, many_words(*what)),
+        BenchNo::TooMany { line, what } => write_netlist_fault(sink, *line, many_words(*what)),
         BenchNo::Memory => write_memory_line(sink),
     }
 }
 
 fn write_text_line<S: Sink>(sink: &mut S, no: &TextNo) -> Result<(), WriteNo>
-    ensures { Writes (S.taken sink.old) (S.taken sink.new) (S.faults sink.old) (S.faults sink.new) result (text_line no.now) }
+    ensures { Takes (S.taken sink.old) (S.taken sink.new) (S.faults sink.old) (S.faults sink.new) result (text_line no.now) }
 {
     match no {
         TextNo::BadByte { line, column } => write_byte_line(sink, *line, *column),
-        TextNo::LongName { line } => write_fault_line(sink, *line, b"name too long"),
+        TextNo::LongName { line } => write_netlist_fault(sink, *line, b"name too long"),
         TextNo::Memory => write_memory_line(sink),
     }
 }
@@ -162,14 +168,14 @@ fn many_words(what: Many) -> &'static [u8]
 
 #[tactic(auto, unfolding(crate::specs::Lines::memory_line))]
 fn write_memory_line<S: Sink>(sink: &mut S) -> Result<(), WriteNo>
-    ensures { Writes (S.taken sink.old) (S.taken sink.new) (S.faults sink.old) (S.faults sink.new) result memory_line }
+    ensures { Takes (S.taken sink.old) (S.taken sink.new) (S.faults sink.old) (S.faults sink.new) result memory_line }
 {
     write_piece(sink, b"out of memory\n")
 }
 
 #[tactic(auto, unfolding(crate::specs::Lines::fault_line))]
-fn write_fault_line<S: Sink>(sink: &mut S, line: u32, fault: &[u8]) -> Result<(), WriteNo>
-    ensures { Writes (S.taken sink.old) (S.taken sink.new) (S.faults sink.old) (S.faults sink.new) result (fault_line line fault.now) }
+fn write_netlist_fault<S: Sink>(sink: &mut S, line: u32, fault: &[u8]) -> Result<(), WriteNo>
+    ensures { Takes (S.taken sink.old) (S.taken sink.new) (S.faults sink.old) (S.faults sink.new) result (fault_line line fault.now) }
 {
     let mut number = Buffer::new();
     let line = number.format(line).as_bytes();
@@ -178,7 +184,7 @@ fn write_fault_line<S: Sink>(sink: &mut S, line: u32, fault: &[u8]) -> Result<()
 
 #[tactic(auto, unfolding(crate::specs::Lines::byte_line))]
 fn write_byte_line<S: Sink>(sink: &mut S, line: u32, column: u32) -> Result<(), WriteNo>
-    ensures { Writes (S.taken sink.old) (S.taken sink.new) (S.faults sink.old) (S.faults sink.new) result (byte_line line column) }
+    ensures { Takes (S.taken sink.old) (S.taken sink.new) (S.faults sink.old) (S.faults sink.new) result (byte_line line column) }
 {
     let (mut first, mut second) = (Buffer::new(), Buffer::new());
     let line = first.format(line).as_bytes();
@@ -202,7 +208,7 @@ fn write_twice_line<S: Sink>(
     name: &[u8],
     first_line: u32,
 ) -> Result<(), WriteNo>
-    ensures { Writes (S.taken sink.old) (S.taken sink.new) (S.faults sink.old) (S.faults sink.new) result (twice_line line name.now first_line) }
+    ensures { Takes (S.taken sink.old) (S.taken sink.new) (S.faults sink.old) (S.faults sink.new) result (twice_line line name.now first_line) }
 {
     let (mut first, mut second) = (Buffer::new(), Buffer::new());
     let line = first.format(line).as_bytes();
@@ -223,7 +229,7 @@ fn write_twice_line<S: Sink>(
 
 #[tactic(auto, unfolding(crate::specs::Lines::undriven_line))]
 fn write_undriven_line<S: Sink>(sink: &mut S, line: u32, name: &[u8]) -> Result<(), WriteNo>
-    ensures { Writes (S.taken sink.old) (S.taken sink.new) (S.faults sink.old) (S.faults sink.new) result (undriven_line line name.now) }
+    ensures { Takes (S.taken sink.old) (S.taken sink.new) (S.faults sink.old) (S.faults sink.new) result (undriven_line line name.now) }
 {
     let mut number = Buffer::new();
     let line = number.format(line).as_bytes();
@@ -234,7 +240,7 @@ fn write_undriven_line<S: Sink>(sink: &mut S, line: u32, name: &[u8]) -> Result<
 }
 
 fn write_stimulus_line<S: Sink>(sink: &mut S, no: &StimNo) -> Result<(), WriteNo>
-    ensures { Writes (S.taken sink.old) (S.taken sink.new) (S.faults sink.old) (S.faults sink.new) result (stimulus_line no.now) }
+    ensures { Takes (S.taken sink.old) (S.taken sink.new) (S.faults sink.old) (S.faults sink.new) result (stimulus_line no.now) }
 {
     match no {
         StimNo::BadChar { line } => write_row_line(sink, *line, b"bad character"),
@@ -247,7 +253,7 @@ fn write_stimulus_line<S: Sink>(sink: &mut S, no: &StimNo) -> Result<(), WriteNo
 
 #[tactic(auto, unfolding(crate::specs::Lines::row_line))]
 fn write_row_line<S: Sink>(sink: &mut S, line: u32, fault: &[u8]) -> Result<(), WriteNo>
-    ensures { Writes (S.taken sink.old) (S.taken sink.new) (S.faults sink.old) (S.faults sink.new) result (row_line line fault.now) }
+    ensures { Takes (S.taken sink.old) (S.taken sink.new) (S.faults sink.old) (S.faults sink.new) result (row_line line fault.now) }
 {
     let mut number = Buffer::new();
     let line = number.format(line).as_bytes();
@@ -256,7 +262,7 @@ fn write_row_line<S: Sink>(sink: &mut S, line: u32, fault: &[u8]) -> Result<(), 
 
 #[tactic(auto, unfolding(crate::specs::Lines::width_line))]
 fn write_width_line<S: Sink>(sink: &mut S, line: u32, got: u32, want: u32) -> Result<(), WriteNo>
-    ensures { Writes (S.taken sink.old) (S.taken sink.new) (S.faults sink.old) (S.faults sink.new) result (width_line line got want) }
+    ensures { Takes (S.taken sink.old) (S.taken sink.new) (S.faults sink.old) (S.faults sink.new) result (width_line line got want) }
 {
     let (mut first, mut second, mut third) = (Buffer::new(), Buffer::new(), Buffer::new());
     let line = first.format(line).as_bytes();
@@ -278,14 +284,14 @@ fn write_width_line<S: Sink>(sink: &mut S, line: u32, got: u32, want: u32) -> Re
 
 #[tactic(auto, unfolding(crate::specs::Lines::cycles_line))]
 fn write_cycles_line<S: Sink>(sink: &mut S) -> Result<(), WriteNo>
-    ensures { Writes (S.taken sink.old) (S.taken sink.new) (S.faults sink.old) (S.faults sink.new) result cycles_line }
+    ensures { Takes (S.taken sink.old) (S.taken sink.new) (S.faults sink.old) (S.faults sink.new) result cycles_line }
 {
     write_piece(sink, b"stimulus: too many cycles\n")
 }
 
 #[tactic(auto, unfolding(crate::specs::Lines::loop_line))]
 fn write_loop_line<S: Sink>(sink: &mut S, net: &Netlist, members: &[u32]) -> Result<(), WriteNo>
-    ensures { Writes (S.taken sink.old) (S.taken sink.new) (S.faults sink.old) (S.faults sink.new) result (loop_line net.now members.now) }
+    ensures { Takes (S.taken sink.old) (S.taken sink.new) (S.faults sink.old) (S.faults sink.new) result (loop_line net.now members.now) }
 {
     match write_members(sink, net, members) {
         Ok(()) => write_piece(sink, b"\n"),
@@ -294,7 +300,7 @@ fn write_loop_line<S: Sink>(sink: &mut S, net: &Netlist, members: &[u32]) -> Res
 }
 
 fn write_members<S: Sink>(sink: &mut S, net: &Netlist, members: &[u32]) -> Result<(), WriteNo>
-    ensures { Writes (S.taken sink.old) (S.taken sink.new) (S.faults sink.old) (S.faults sink.new) result
+    ensures { Takes (S.taken sink.old) (S.taken sink.new) (S.faults sink.old) (S.faults sink.new) result
         (codes "loop:" ++ flat_map (λ s. codes " " ++ name_of net.now s) members.now) }
 {
     match write_piece(sink, b"loop:") {
@@ -303,9 +309,9 @@ fn write_members<S: Sink>(sink: &mut S, net: &Netlist, members: &[u32]) -> Resul
     }
 }
 
-/// Writes the names, a space before each.
+/// Takes the names, a space before each.
 fn write_names<S: Sink>(sink: &mut S, net: &Netlist, members: &[u32]) -> Result<(), WriteNo>
-    ensures { Writes (S.taken sink.old) (S.taken sink.new) (S.faults sink.old) (S.faults sink.new) result
+    ensures { Takes (S.taken sink.old) (S.taken sink.new) (S.faults sink.old) (S.faults sink.new) result
         (flat_map (λ s. codes " " ++ name_of net.now s) members.now) }
 {
     'members: for member in members {

@@ -5,7 +5,7 @@ ghost use Rattle.net_defs.specs.declared.stimulus.CellRow.{CellRow};
 ghost use Rattle.net_defs.specs.Trace.{header_line};
 ghost use Rattle.trace_text.specs.Line.{row_room};
 ghost use Rattle.yse_top.specs.Outputs.{bytes_of, CanWrite, CanPrint, cycle_lines};
-ghost use Rattle.yse_top.specs.Writing.{Writes};
+ghost use Rattle.yse_top.specs.Writing.{Takes};
 
 use edge_io::{Sink, WriteNo, write_whole};
 use net_defs::{CellRow, Netlist, Rows};
@@ -29,10 +29,10 @@ pub enum Output {
     Trace(Trace),
 }
 
-/// Writes an output. It takes no memory.
+/// Takes an output. It takes no memory.
 pub fn write_output<O: Sink>(out: &mut O, output: Output) -> Result<(), WriteNo>
     requires { CanWrite output }
-    ensures { Writes (O.taken out.old) (O.taken out.new) (O.faults out.old) (O.faults out.new) result (bytes_of output) }
+    ensures { Takes (O.taken out.old) (O.taken out.new) (O.faults out.old) (O.faults out.new) result (bytes_of output) }
 {
     match output {
         Output::Text(text) => write_piece(out, text.as_bytes()),
@@ -40,9 +40,9 @@ pub fn write_output<O: Sink>(out: &mut O, output: Output) -> Result<(), WriteNo>
     }
 }
 
-/// Writes one piece.
+/// Takes one piece.
 pub fn write_piece<S: Sink>(sink: &mut S, piece: &[u8]) -> Result<(), WriteNo>
-    ensures { Writes (S.taken sink.old) (S.taken sink.new) (S.faults sink.old) (S.faults sink.new) result piece.now }
+    ensures { Takes (S.taken sink.old) (S.taken sink.new) (S.faults sink.old) (S.faults sink.new) result piece.now }
 {
     write_whole(sink, piece)
 }
@@ -50,7 +50,7 @@ pub fn write_piece<S: Sink>(sink: &mut S, piece: &[u8]) -> Result<(), WriteNo>
 #[tactic(auto, using(crate::proofs::WritingLemmas::writes_then, crate::proofs::WritingLemmas::writes_stop))]
 fn write_trace<O: Sink>(out: &mut O, trace: Trace) -> Result<(), WriteNo>
     requires { CanPrint trace }
-    ensures { Writes (O.taken out.old) (O.taken out.new) (O.faults out.old) (O.faults out.new) result
+    ensures { Takes (O.taken out.old) (O.taken out.new) (O.faults out.old) (O.faults out.new) result
         (header_line trace.net ++ cycle_lines trace.rows.rows) }
 {
     let Trace {
@@ -65,11 +65,11 @@ fn write_trace<O: Sink>(out: &mut O, trace: Trace) -> Result<(), WriteNo>
     }
 }
 
-/// Writes the line of each cycle, counted from 1.
+/// Takes the line of each cycle, counted from 1.
 fn write_rows<O: Sink>(out: &mut O, line: &mut TraceLine, rows: &[CellRow]) -> Result<(), WriteNo>
     requires room { (c : ℕ) (row : CellRow) → slice_get rows.now c ≡ Some row → row_room (length row.cells) ≤ line.old.room }
     requires cycles { length rows.now ≤ 1000000 }
-    ensures { Writes (O.taken out.old) (O.taken out.new) (O.faults out.old) (O.faults out.new) result (cycle_lines rows.now) }
+    ensures { Takes (O.taken out.old) (O.taken out.new) (O.faults out.old) (O.faults out.new) result (cycle_lines rows.now) }
 {
     'rows: for (i, row) in rows.iter().enumerate() {
         line.row(i as u32 + 1, row.cells.as_slice());

@@ -2,7 +2,7 @@
 use Rattle.std.proofs.Common.{refl}
 use Rattle.yse_top.specs.Lines.{loop_line}
 use Rattle.yse_top.proofs.WritingLemmas.{writes_then, writes_stop}
-use Rattle.yse_top.proofs.telling.write_loop_line.Goals as goal
+use Rattle.yse_top.proofs.diagnostics.write_loop_line.Goals as goal
 
 pub returns-in-Ok : goal.returns-in-Ok
 unfolding loop_line

@@ -5,7 +5,7 @@ use Rattle.std.proofs.lemmas.Grind.{get_or_default_zero}
 use Rattle.std.proofs.lemmas.List.{append-nil}
 use Rattle.net_defs.specs.Canonical.{name_of}
 use Rattle.yse_top.proofs.WritingLemmas.{writes_none, writes_more, writes_ended, writes_all}
-use Rattle.yse_top.proofs.telling.write_names.Goals as goal
+use Rattle.yse_top.proofs.diagnostics.write_names.Goals as goal
 
 pub members-init : goal.members-init
 members-init g c = writes_none _ _

@@ -4,7 +4,7 @@ use Rattle.std.specs.Prelude.{codes}
 use Rattle.yse_top.specs.Lines.{fault_line}
 use Rattle.yse_top.specs.Writing.{joined}
 use Rattle.yse_top.proofs.WritingLemmas.{writes_same}
-use Rattle.yse_top.proofs.telling.write_fault_line.Goals as goal
+use Rattle.yse_top.proofs.diagnostics.write_netlist_fault.Goals as goal
 
 pub returns : goal.returns
 unfolding fault_line

@@ -1,7 +1,7 @@
 -- Each piece is written after those before it.
 use Rattle.std.proofs.Common.{arith}
 use Rattle.yse_top.proofs.WritingLemmas.{writes_none, writes_more, writes_ended, writes_all, member_at}
-use Rattle.yse_top.proofs.telling.write_pieces.Goals as goal
+use Rattle.yse_top.proofs.diagnostics.write_pieces.Goals as goal
 
 pub pieces-init : goal.pieces-init
 pieces-init g c = writes_none _ _

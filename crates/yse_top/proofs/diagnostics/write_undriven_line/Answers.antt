@@ -4,7 +4,7 @@ use Rattle.std.specs.Prelude.{codes}
 use Rattle.yse_top.specs.Lines.{undriven_line}
 use Rattle.yse_top.specs.Writing.{joined}
 use Rattle.yse_top.proofs.WritingLemmas.{writes_same}
-use Rattle.yse_top.proofs.telling.write_undriven_line.Goals as goal
+use Rattle.yse_top.proofs.diagnostics.write_undriven_line.Goals as goal
 
 pub returns : goal.returns
 unfolding undriven_line

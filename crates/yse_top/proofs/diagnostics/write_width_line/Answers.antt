@@ -4,7 +4,7 @@ use Rattle.std.specs.Prelude.{codes, decimal}
 use Rattle.yse_top.specs.Lines.{width_line}
 use Rattle.yse_top.specs.Writing.{joined}
 use Rattle.yse_top.proofs.WritingLemmas.{writes_same}
-use Rattle.yse_top.proofs.telling.write_width_line.Goals as goal
+use Rattle.yse_top.proofs.diagnostics.write_width_line.Goals as goal
 
 pub returns : goal.returns
 unfolding width_line
