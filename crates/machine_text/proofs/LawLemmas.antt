@@ -1,14 +1,14 @@
 -- A text reads as a machine exactly where it has no fault.
 use Rattle.std.proofs.Common.{◌≡◌, ℕ, ◌+◌, ◌<◌, ◌≤◌, Bool, true, false, cond, List, [], ◌∷◌, length, take, get_or, Some, None, sym, ap, ◌∙◌, subst, refl, arith}
 use Rattle.std.specs.List.{All, AllPairs, AllByRecursion, list_any, find, cons_option}
-use Rattle.std.specs.Option.{option_map}
+use Rattle.std.specs.Option.{option_map, option_or}
 use Rattle.std.specs.Prelude.{unwrap_or}
 use Rattle.std.proofs.lemmas.Bool.{cond-true, cond-false, le-ltb, leb-true, and_parts, or_parts, or_from}
 use Rattle.std.proofs.lemmas.List.{get_or-take, get_or_default, length-take-le}
 use Rattle.std.proofs.lemmas.List.Elements.{All-from_recursion, All-from_get_or, recursion_from_All}
-use Rattle.text_lines.specs.First.{or_else, first}
+use Rattle.text_lines.specs.Answers.{first}
 use Rattle.text_lines.specs.Lines.{parts_of}
-use Rattle.text_lines.proofs.FirstLemmas.{first_none, none_below}
+use Rattle.text_lines.proofs.AnswerLemmas.{first_none, none_below}
 use Rattle.machine_text.specs.declared.quantity.Quantity.{Quantity}
 use Rattle.machine_text.specs.declared.quantity.Quantity.TheVariants.{Logic, Array, Slots, Functions, Bits}
 use Rattle.machine_text.specs.declared.line.Setting.{Setting}
@@ -146,7 +146,7 @@ lines_from_reads text machine reads =
 -- what reads as a machine has no fault
 pub no_fault_from_reads : (text : List ℕ) (machine : Machine) → Reads text machine → first_fault text ≡ None
 no_fault_from_reads text machine reads =
-    ap (λ fault. or_else fault (ports_fault (machine_of (settings_of (parts_of text))))) (lines_from_reads text machine reads)
+    ap (λ fault. option_or fault (ports_fault (machine_of (settings_of (parts_of text))))) (lines_from_reads text machine reads)
     ∙ ports_fault-none (machine_of (settings_of (parts_of text))) (subst (λ m. ports_of m ≤ 256) reads.numbers reads.ports)
 
 -- what a text reads as is a valid machine

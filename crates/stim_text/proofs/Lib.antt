@@ -1,4 +1,3 @@
 mod LawLemmas
-mod PartLemmas
 mod RowLemmas
 mod StimLemmas
