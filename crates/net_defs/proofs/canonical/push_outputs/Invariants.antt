@@ -1,7 +1,7 @@
 use Rattle.std.proofs.Common.{◌≡◌, ◌++◌, take}
 use Rattle.std.specs.List.{flat_map}
 use Rattle.net_defs.specs.Canonical.{output_line}
-use Rattle.net_defs.proofs.shown.push_outputs.Given as goal
+use Rattle.net_defs.proofs.canonical.push_outputs.Given as goal
 
 abbrev pub invariant-loop-number : goal.invariant-loop-number
 invariant-loop-number l = record {

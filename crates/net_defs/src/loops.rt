@@ -6,8 +6,8 @@ ghost use Rattle.net_defs.specs.Loops.{gate_operands, is_gate, waits_for};
 
 use crate::{Driver, Mode, Netlist, Timing};
 
-/// Whether the gate of this number reads the values of the last turn, as every gate does in unit
-/// delay, and none in rank order.
+/// Whether the gate of this number is late: it reads the last turn's values. In unit delay every gate
+/// is late, in rank order none.
 pub fn is_late(net: &Netlist, timing: &Timing, gate: u32) -> bool
     ensures { result ≡ is_late net.now timing.now gate }
 {
@@ -18,7 +18,7 @@ pub fn is_late(net: &Netlist, timing: &Timing, gate: u32) -> bool
 pub fn is_gate(net: &Netlist, signal: u32) -> bool
     ensures { result ≡ is_gate net.now signal }
 {
-    match net.signals.as_slice().get(signal as usize) {
+    match net.signals.get(signal as usize) {
         Some(found) => matches!(found.driver, Driver::Gate { .. }),
         None => false,
     }
@@ -26,10 +26,10 @@ pub fn is_gate(net: &Netlist, signal: u32) -> bool
 
 /// The signals whose values of this turn the signal of this number needs: of a gate that is not late
 /// its operands, from left to right, and of all else none.
-pub fn awaited<'a>(net: &'a Netlist, timing: &Timing, signal: u32) -> &'a [u32]
+pub fn waits_for<'a>(net: &'a Netlist, timing: &Timing, signal: u32) -> &'a [u32]
     ensures { result.now ≡ waits_for net.now timing.now signal }
 {
-    match net.signals.as_slice().get(signal as usize) {
+    match net.signals.get(signal as usize) {
         Some(found) => {
             if is_late(net, timing, signal) {
                 &[]

@@ -2,10 +2,10 @@
 
 ghost use Rattle.std.specs.Prelude.{◌≡◌, ◌++◌, [], ◌∷◌, codes, IfOk, OnOk, slice_get};
 ghost use Rattle.std.specs.List.{flat_map};
-ghost use Rattle.net_defs.specs.Canonical.{name_of, names_of, kind_word, input_line, output_line, gate_line, memory_line, memory_line_at, driver_line, canonical_text};
+ghost use Rattle.net_defs.specs.Canonical.{name_of, names_of, input_line, output_line, gate_line, memory_line, memory_line_at, driver_line, canonical_text};
 
 use crate::{Block, Driver, Netlist, Signal};
-use logic_four::Kind;
+use logic_four::word_of;
 use seen_list::{Memory, Text};
 use std::alloc::Global;
 
@@ -63,7 +63,7 @@ fn push_input(text: &mut Text, signal: &Signal) -> Result<(), Memory>
 fn push_output(text: &mut Text, net: &Netlist, number: u32) -> Result<(), Memory>
     ensures { OnOk result (text.new ≡ text.old ++ output_line net.now number) }
 {
-    push_pieces(text, b"OUTPUT(", name(net, number), b")\n")
+    push_pieces(text, b"OUTPUT(", name_of(net, number), b")\n")
 }
 
 #[tactic(auto, unfolding(crate::specs::Canonical::driver_line))]
@@ -84,7 +84,7 @@ fn push_driver(text: &mut Text, net: &Netlist, signal: &Signal) -> Result<(), Me
         Driver::Dff { op } => push_gate(text, net, signal.name.as_bytes(), b"DFF", &[*op]),
         Driver::BlockBit { block, bit } => {
             if *bit == 0 {
-                push_memory_at(text, net, *block)
+                push_ram_at(text, net, *block)
             } else {
                 Ok(())
             }
@@ -109,22 +109,22 @@ fn push_gate(
     Ok(())
 }
 
-fn push_memory_at(text: &mut Text, net: &Netlist, number: u32) -> Result<(), Memory>
+fn push_ram_at(text: &mut Text, net: &Netlist, number: u32) -> Result<(), Memory>
     ensures { OnOk result (text.new ≡ text.old ++ memory_line_at net.now number) }
 {
-    match net.blocks.as_slice().get(number as usize) {
-        Some(memory) => push_memory(text, net, memory),
+    match net.blocks.get(number as usize) {
+        Some(memory) => push_ram(text, net, memory),
         None => Ok(()),
     }
 }
 
 #[tactic(auto, unfolding(crate::specs::Canonical::memory_line))]
-fn push_memory(text: &mut Text, net: &Netlist, memory: &Block) -> Result<(), Memory>
+fn push_ram(text: &mut Text, net: &Netlist, memory: &Block) -> Result<(), Memory>
     ensures { OnOk result (text.new ≡ text.old ++ memory_line net.now memory.now) }
 {
     text.push_bytes(b"[")?;
     push_names(text, net, memory.outs.as_slice())?;
-    push_pieces(text, b"] = RAM(", name(net, memory.we), b"; ")?;
+    push_pieces(text, b"] = RAM(", name_of(net, memory.we), b"; ")?;
     push_names(text, net, memory.address.as_slice())?;
     text.push_bytes(b"; ")?;
     push_names(text, net, memory.word.as_slice())?;
@@ -139,7 +139,7 @@ fn push_names(text: &mut Text, net: &Netlist, numbers: &[u32]) -> Result<(), Mem
     match numbers {
         [] => Ok(()),
         [first, others @ ..] => {
-            text.push_bytes(name(net, *first))?;
+            text.push_bytes(name_of(net, *first))?;
             push_more_names(text, net, others)
         }
     }
@@ -149,35 +149,18 @@ fn push_more_names(text: &mut Text, net: &Netlist, numbers: &[u32]) -> Result<()
     ensures { OnOk result (text.new ≡ text.old ++ flat_map (λ s. codes ", " ++ name_of net.now s) numbers.now) }
 {
     for number in numbers {
-        push_pieces(text, b", ", name(net, *number), b"")?;
+        push_pieces(text, b", ", name_of(net, *number), b"")?;
     }
     Ok(())
 }
 
 /// The name of a signal, given by its number, and no bytes for a number that names none.
-pub fn name(net: &Netlist, number: u32) -> &[u8]
+pub fn name_of(net: &Netlist, number: u32) -> &[u8]
     ensures { result.now ≡ name_of net.now number }
 {
-    match net.signals.as_slice().get(number as usize) {
+    match net.signals.get(number as usize) {
         Some(signal) => signal.name.as_bytes(),
         None => b"",
-    }
-}
-
-fn word_of(kind: Kind) -> &'static [u8]
-    ensures { result.now ≡ kind_word kind }
-{
-    match kind {
-        Kind::And => b"AND",
-        Kind::Nand => b"NAND",
-        Kind::Or => b"OR",
-        Kind::Nor => b"NOR",
-        Kind::Xor => b"XOR",
-        Kind::Xnor => b"XNOR",
-        Kind::Not => b"NOT",
-        Kind::Buf => b"BUFF",
-        Kind::Tri => b"TRI",
-        Kind::Bus => b"BUS",
     }
 }
 
