@@ -22,7 +22,8 @@ use Rattle.bench_read.specs.declared.statement.Form.{Form}
 use Rattle.bench_read.specs.declared.statement.Act.{Act}
 use Rattle.bench_read.specs.declared.statement.Act.TheVariants as act
 use Rattle.bench_read.specs.declared.statement.Statement.{Statement}
-use Rattle.bench_read.specs.Words.{allows, allows_operands, is_any_number, allows_memory}
+use Rattle.logic_four.proofs.KindLemmas.{few_operands}
+use Rattle.bench_read.specs.Words.{allows, allows_memory}
 use Rattle.bench_read.specs.Grammar.{rows_of, row_line, form_of, act_of, statement_by, said_by_act, said_by_form, said as said_of}
 use Rattle.bench_read.specs.Faults.{statements_of, drivers_of, operands_by, operands_of, operand_count, texts_of, twice_fault, limit_fault, many_fault, statement_fault, said_fault, row_fault, rows_fault}
 use Rattle.bench_read.specs.Reads.{AreOnce, AreNames, AreSound}
@@ -57,21 +58,6 @@ is_checked text row statement e = by_form (form_of text row) e where
   by_form None f = cc
   by_form (Some form) f = by_act form (act_of text row form) f
 
-any_number-le : (n : ℕ) → is_any_number n ≡ true → n ≤ 1024
-any_number-le n e = leb-true n 1024 (and_parts (leb 1 n) (leb n 1024) e).1
-
-few_by_kind : (kind : Kind) (n : ℕ) → allows_operands kind n ≡ true → n ≤ 1024
-few_by_kind And n e = any_number-le n e
-few_by_kind Nand n e = any_number-le n e
-few_by_kind Or n e = any_number-le n e
-few_by_kind Nor n e = any_number-le n e
-few_by_kind Xor n e = any_number-le n e
-few_by_kind Xnor n e = any_number-le n e
-few_by_kind Not n e = omega (arith, eqb-true n 1 e)
-few_by_kind Buf n e = omega (arith, eqb-true n 1 e)
-few_by_kind Tri n e = omega (arith, eqb-true n 2 e)
-few_by_kind Bus n e = any_number-le n e
-
 -- what a memory's numbers are
 pub record AreMemoryBits (address words outputs : ℕ) : Type 0 where
   pub some_address : 1 ≤ address
@@ -97,7 +83,7 @@ memory_bits address words outputs e =
 few_by_act : (one : Act) (driven : ℕ) (uses : List Token) → allows one driven (length uses) ≡ true → operands_by one uses ≤ 1024
 few_by_act act.Input driven uses e = omega arith
 few_by_act act.Output driven uses e = omega arith
-few_by_act (act.Gate kind) driven uses e = few_by_kind kind (length uses) e
+few_by_act (act.Gate kind) driven uses e = few_operands kind (length uses) e
 few_by_act act.Dff driven uses e = omega (arith, eqb-true (length uses) 1 e)
 few_by_act (act.Memory address) driven uses e =
     let bits = memory_bits address (length uses - (1 + address)) driven e in

@@ -9,7 +9,7 @@ ghost use Rattle.trace_text.specs.Line.{HasRoom, row_room};
 
 use itoa::Buffer;
 use logic_four::{V4, to_char};
-use net_defs::{Netlist, name};
+use net_defs::{Netlist, name_of};
 use seen_list::Memory;
 use std::alloc::Global;
 use std::marker::Model;
@@ -131,7 +131,7 @@ impl TraceLine {
         ensures { self.new ≡ record self.old { bytes = self.old.bytes ++ flat_map (λ s. 32 ∷ name_of net.now s) net.now.printed } }
     {
         for number in net.printed.as_slice() {
-            self.push_name(name(net, *number));
+            self.push_name(name_of(net, *number));
         }
     }
 
@@ -169,7 +169,9 @@ fn names_length(net: &Netlist) -> Option<usize>
 {
     let mut names = 0usize;
     for number in net.printed.as_slice() {
-        names = names.checked_add(1)?.checked_add(name(net, *number).len())?;
+        names = names
+            .checked_add(1)?
+            .checked_add(name_of(net, *number).len())?;
     }
     Some(names)
 }

@@ -12,4 +12,4 @@ push_name-requires c =
     let before = flat_map shown (take c.loop-number.number-index numbers) in
     let short = length-flat_map-take shown numbers c.loop-number.number-index 0 c.loop-number-test.true in
     let so_far = c.loop-number.invariant.so_far in
-    omega (arith, short, c.requires, ap length c.name.ensures, ap (λ (l : Line). length l.bytes) so_far, ap (λ (l : Line). l.room) so_far, length-append c.args.self.now.bytes before, ap (λ xs. length (flat_map shown xs)) c.loop-number.invariant.whole)
+    omega (arith, short, c.requires, ap length c.name_of.ensures, ap (λ (l : Line). length l.bytes) so_far, ap (λ (l : Line). l.room) so_far, length-append c.args.self.now.bytes before, ap (λ xs. length (flat_map shown xs)) c.loop-number.invariant.whole)
