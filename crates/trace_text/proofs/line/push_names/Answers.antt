@@ -2,8 +2,8 @@ use Rattle.std.proofs.Common.{ℕ, ◌∷◌, length, take, ap, arith, length-ap
 use Rattle.std.specs.List.{flat_map}
 use Rattle.std.proofs.lemmas.List.Folds.{length-flat_map-take}
 use Rattle.net_defs.specs.Canonical.{name_of}
-use Rattle.trace_text.specs.Line.{Line}
-use Rattle.trace_text.proofs.line.TraceLine.push_names.Goals as goal
+use Rattle.seen_list.specs.Filling.{Filling}
+use Rattle.trace_text.proofs.line.push_names.Goals as goal
 
 pub push_name-requires : goal.push_name-requires
 push_name-requires c =
@@ -12,4 +12,4 @@ push_name-requires c =
     let before = flat_map shown (take c.loop-number.number-index numbers) in
     let short = length-flat_map-take shown numbers c.loop-number.number-index 0 c.loop-number-test.true in
     let so_far = c.loop-number.invariant.so_far in
-    omega (arith, short, c.requires, ap length c.name_of.ensures, ap (λ (l : Line). length l.bytes) so_far, ap (λ (l : Line). l.room) so_far, length-append c.args.self.now.bytes before, ap (λ xs. length (flat_map shown xs)) c.loop-number.invariant.whole)
+    omega (arith, short, c.requires, ap length c.name_of.ensures, ap (λ (l : Filling). length l.bytes) so_far, ap (λ (l : Filling). l.room) so_far, length-append c.args.line.now.bytes before, ap (λ xs. length (flat_map shown xs)) c.loop-number.invariant.whole)
