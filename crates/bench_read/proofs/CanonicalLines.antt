@@ -124,11 +124,6 @@ pub cons_of : {X Y : Type 0} (f : X → Y) (xs : List X) (y : Y) (ys : List Y) �
 cons_of f [] y ys e = cc
 cons_of f (x ∷ xs) y ys e = record { first = x; rest = xs; is = refl; here = cc; more = cc }
 
--- what a map takes to the empty list is empty
-pub nil_of : {X Y : Type 0} (f : X → Y) (xs : List X) → map f xs ≡ [] → xs ≡ []
-nil_of f [] e = refl
-nil_of f (x ∷ xs) e = cc
-
 -- the list is one that f takes to ys, and then one that f takes to zs
 pub record IsSplitOf {X Y : Type 0} (f : X → Y) (xs : List X) (ys zs : List Y) : Type 0 where
   pub front : List X

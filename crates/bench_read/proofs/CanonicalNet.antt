@@ -9,6 +9,9 @@ use Rattle.std.proofs.lemmas.List.Elements.{All-nil, All-cons, All-head, All-tai
 use Rattle.std.proofs.lemmas.List.Concat.{flat_map-append}
 use Rattle.std.proofs.lemmas.List.Sums.{sum_by-append, sum_by-cons}
 use Rattle.std.proofs.lemmas.Option.{slice_get-get_or, slice_get-map}
+use Rattle.list_laws.proofs.Tests.{count_none}
+use Rattle.list_laws.proofs.Members.{all_flat_of}
+use Rattle.list_laws.proofs.Maps.{flat_none, flat_one, flat_same, flat_empty, sum_none_of}
 use Rattle.net_defs.specs.declared.netlist.Netlist.{Netlist}
 use Rattle.net_defs.specs.declared.netlist.Signal.{Signal}
 use Rattle.net_defs.specs.declared.netlist.Block.{Block}
@@ -23,9 +26,9 @@ use Rattle.bench_read.specs.Netlists.{place_of, driver_by, memories_by}
 use Rattle.bench_read.specs.Reads.{AreOnce}
 use Rattle.bench_read.proofs.CanonicalLines.{Line, input_line, output_line, memory_line, inputs_say, memory_says, drivers_say, leading_lines, driving_lines, lines_of}
 use Rattle.bench_read.proofs.LineLemmas.{line_inputs, line_others, line_operands, names_in_order, numbers_in, signals_in, line_input_signals, other_signals_in, line_printed, line_blocks, netlist_in}
-use Rattle.bench_read.proofs.LeadingLemmas.{IsLed, first_cut, leading_are, leading_none, driving_none, inputs_back, flat_none, flat_one, sum_none_of, flat_same, flat_empty, all_flat_of, all_driving, is_driving, driver_each, skip_lines}
+use Rattle.bench_read.proofs.LeadingLemmas.{IsLed, first_cut, leading_are, leading_none, driving_none, inputs_back, all_driving, is_driving, driver_each, skip_lines}
 use Rattle.bench_read.proofs.DrivingLemmas.{name_is, HasNumbers, IsMade, made_from}
-use Rattle.bench_read.proofs.NameLemmas.{same_name, same_bytes, count_none}
+use Rattle.bench_read.proofs.NameLemmas.{same_name, same_bytes}
 use Rattle.bench_read.proofs.MadeLemmas.{place_self, signal_operands}
 
 -- ---- names

@@ -1,9 +1,9 @@
 -- The statements of rows, one row after another.
-use Rattle.std.proofs.Common.{◌≡◌, ℕ, ◌+◌, ◌-◌, ◌<◌, ◌≤◌, Bool, true, false, cond, ltb, leb, List, [], ◌∷◌, ◌++◌, append_assoc, append-nil, length, take, get_or, Option, Some, None, Result, Ok, Err, sym, ap, ◌∙◌, subst, refl, arith, add-one}
+use Rattle.std.proofs.Common.{◌≡◌, ℕ, ◌+◌, ◌-◌, ◌<◌, ◌≤◌, Bool, true, false, cond, ltb, leb, List, [], ◌∷◌, ◌++◌, append_assoc, append-nil, length, take, Option, Some, None, Result, Ok, Err, sym, ap, ◌∙◌, subst, refl, arith, add-one}
 use Rattle.std.specs.Prelude.{IsOk}
 use Rattle.std.specs.List.{filter_map, flat_map}
 use Rattle.std.specs.Result.{result_ok}
-use Rattle.std.proofs.Math.Seq.{take-append_seam}
+use Rattle.std.proofs.Math.Seq.{take-append_seam, get_or-append_seam}
 use Rattle.std.proofs.lemmas.Bool.{and_parts, ltb-false, leb-true, eqb-true}
 use Rattle.std.proofs.lemmas.List.{length_push}
 use Rattle.std.proofs.lemmas.List.Elements.{All-push, All-nil, filter_map-append}
@@ -130,16 +130,12 @@ statements_push text rows row statement e =
 
 -- ---- rows
 
-at_seam : {X : Type 0} (xs : List X) (x d : X) (ys : List X) → get_or (xs ++ x ∷ ys) (length xs) d ≡ x
-at_seam [] x d ys = refl
-at_seam (w ∷ xs) x d ys = at_seam xs x d ys
-
 -- the fault of the row after those that are done
 fault_at_seam : (text : List ℕ) (rows done : List (List Token)) (row : List Token) (others : List (List Token)) (statements : List Statement) → rows ≡ done ++ row ∷ others → statements ≡ statements_of text done → row_fault text rows (length done) ≡ said_fault text (row_line row) statements (said_of text row)
 unfolding row_fault
 fault_at_seam text rows done row others statements are is =
     ap (λ rs. row_fault text rs (length done)) are
-    ∙ ap (λ r. said_fault text (row_line r) (statements_of text (take (length done) (done ++ row ∷ others))) (said_of text r)) (at_seam done row [] others)
+    ∙ ap (λ r. said_fault text (row_line r) (statements_of text (take (length done) (done ++ row ∷ others))) (said_of text r)) (get_or-append_seam done row others [])
     ∙ ap (λ ds. said_fault text (row_line row) (statements_of text ds) (said_of text row)) (take-append_seam done (row ∷ others))
     ∙ ap (λ ss. said_fault text (row_line row) ss (said_of text row)) (sym is)
 

@@ -2,6 +2,7 @@
 use Rattle.std.proofs.Common.{◌≡◌, ℕ, zero, suc, ◌+◌, ◌-◌, ◌≤◌, Bool, true, false, cond, List, [], ◌∷◌, length, take, drop, Option, Some, None, Ok, Err, sym, subst, refl, arith}
 use Rattle.std.specs.List.{All, filter, slice_range}
 use Rattle.std.proofs.lemmas.List.Elements.{All-nil, All-cons, All-head, All-tail}
+use Rattle.list_laws.proofs.Places.{take_length}
 use Rattle.bench_text.specs.declared.token.Mark.{Mark}
 use Rattle.bench_text.specs.declared.token.Mark.TheVariants.{Open, Close, Comma, Equals, Semi, Left, Right, Name}
 use Rattle.bench_text.specs.declared.token.Token.{Token}
@@ -73,11 +74,6 @@ few_names (token ∷ tokens) = by_test (has_mark Name token) (few_names tokens) 
   by_test : (b : Bool) → length (filter (has_mark Name) tokens) ≤ length tokens → length (cond b (token ∷ filter (has_mark Name) tokens) (filter (has_mark Name) tokens)) ≤ suc (length tokens)
   by_test true h = omega arith
   by_test false h = omega arith
-
-take_length : {X : Type 0} (n : ℕ) (xs : List X) → length (take n xs) ≤ n
-take_length zero xs = omega arith
-take_length (suc n) [] = omega arith
-take_length (suc n) (x ∷ xs) = omega (arith, take_length n xs)
 
 one_name : (row : List Token) (i j : ℕ) → j ≤ i + 1 → length (names_in (slice_range row i j)) ≤ 1
 one_name row i j h = omega (arith, few_names (slice_range row i j), take_length (j - i) (drop i row))

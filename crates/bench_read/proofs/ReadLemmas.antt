@@ -10,6 +10,9 @@ use Rattle.std.proofs.lemmas.List.Elements.{All-nil, All-cons, All-head, All-tai
 use Rattle.std.proofs.lemmas.List.Concat.{flat_map-append}
 use Rattle.std.proofs.lemmas.List.Sums.{sum_by-append}
 use Rattle.std.proofs.lemmas.Option.{slice_get-get_or}
+use Rattle.list_laws.proofs.Tests.{find_none, any_not_none}
+use Rattle.list_laws.proofs.Places.{split_at}
+use Rattle.list_laws.proofs.Options.{option_length, cons_length}
 use Rattle.text_lines.specs.Answers.{Answers}
 use Rattle.text_lines.proofs.AnswerLemmas.{first_none}
 use Rattle.bench_text.specs.declared.token.Mark.TheVariants.{Name}
@@ -25,16 +28,11 @@ use Rattle.bench_read.specs.Grammar.{rows_of, join_row, row_line, text_of, said 
 use Rattle.bench_read.specs.Faults.{statements_of, drivers_of, uses_of, operands_of, operand_count, texts_of, is_among, is_undriven, option_repeat_fault, twice_fault, limit_fault, many_fault, statement_fault, said_fault, row_fault, rows_fault, use_fault, uses_fault, of_text, lines_fault, first_fault}
 use Rattle.bench_read.specs.Netlists.{netlist_of}
 use Rattle.bench_read.specs.Reads.{AreOnce, AreAmong, AreSound, IsRead, Reads}
-use Rattle.bench_read.proofs.NameLemmas.{any_not_none, find_none, new_from_once}
-use Rattle.bench_read.proofs.NumberLemmas.{split_at}
+use Rattle.bench_read.proofs.NameLemmas.{new_from_once}
 use Rattle.bench_read.proofs.DriveLemmas.{no_repeat}
 use Rattle.bench_read.proofs.DesignLemmas.{drivers_push}
 
 -- ---- lengths
-
-option_length : {X : Type 0} (o : Option X) → length (option_to_list o) ≤ 1
-option_length None = omega arith
-option_length (Some x) = omega arith
 
 tokens_length : (text : List ℕ) (i : ℕ) → length (tokens_before text i) ≤ i
 unfolding tokens_before
@@ -56,10 +54,6 @@ few_rows : (tokens : List Token) → length (rows_of tokens) ≤ length tokens
 unfolding rows_of
 few_rows [] = omega arith
 few_rows (token ∷ tokens) = omega (arith, few_rows tokens, join_length token (rows_of tokens))
-
-cons_length : {X : Type 0} (o : Option X) (xs : List X) → length (cons_option o xs) ≤ suc (length xs)
-cons_length None xs = omega arith
-cons_length (Some x) xs = omega arith
 
 few_statements : (text : List ℕ) (rows : List (List Token)) → length (statements_of text rows) ≤ length rows
 unfolding statements_of

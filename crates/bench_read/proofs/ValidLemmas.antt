@@ -2,12 +2,17 @@
 use Rattle.std.proofs.Common.{◌≡◌, ℕ, ◌+◌, ◌-◌, ◌<◌, ◌≤◌, true, false, List, [], ◌∷◌, ◌++◌, append_assoc, length, take, drop, get_or, slice_get, Some, sym, ap, ◌∙◌, subst, refl, ⊎_elim, arith, length-append, bytes_eq}
 use Rattle.std.specs.List.{All, list_any, flat_map, sum_by, range_with_len}
 use Rattle.std.specs.Option.{option_map}
-use Rattle.std.proofs.lemmas.Bool.{both_ways, eqb-true}
+use Rattle.std.proofs.lemmas.Bool.{both_ways, eqb-true, cases_lt}
 use Rattle.std.proofs.lemmas.List.{map-append, length-map, length-drop, length-take-le}
-use Rattle.std.proofs.lemmas.List.Elements.{All-nil, All-cons, All-head, All-tail}
+use Rattle.std.proofs.lemmas.List.Elements.{All-nil, All-cons, All-head, All-tail, All-append, All-take, All-drop}
 use Rattle.std.proofs.lemmas.List.Concat.{flat_map-append}
 use Rattle.std.proofs.lemmas.Option.{slice_get-map, slice_get-get_or}
 use Rattle.std.proofs.lemmas.List.Sums.{sum_by-append}
+use Rattle.list_laws.proofs.Tests.{none_past}
+use Rattle.list_laws.proofs.Ranges.{range_at, first_of_range}
+use Rattle.list_laws.proofs.Places.{seam_at, inside_at}
+use Rattle.list_laws.proofs.Members.{each, all_front, all_back}
+use Rattle.list_laws.proofs.Maps.{sum_none}
 use Rattle.logic_four.specs.Gates.{AllowsOperands}
 use Rattle.bench_text.specs.declared.token.Token.{Token}
 use Rattle.net_defs.specs.declared.netlist.Netlist.{Netlist}
@@ -23,12 +28,12 @@ use Rattle.bench_read.specs.Grammar.{text_of}
 use Rattle.bench_read.specs.Faults.{drivers_of, uses_of, operand_count, texts_of, is_among}
 use Rattle.bench_read.specs.Netlists.{others_by, inputs_of, others_of, names_of, place_of, numbers_of, driver_by, signals_by, input_signals, other_signals, memories_by, printed_by, printed_of, block_by, blocks_of, netlist_of}
 use Rattle.bench_read.specs.Reads.{AreOnce, AreAmong, Reads}
-use Rattle.bench_read.proofs.NumberLemmas.{once_in_order, names_are, none_past}
+use Rattle.bench_read.proofs.NumberLemmas.{once_in_order, names_are}
 use Rattle.bench_read.proofs.DraftLemmas.{names_length, any_name}
 use Rattle.bench_read.proofs.DesignLemmas.{memory_bits}
 use Rattle.bench_read.proofs.ReadLemmas.{short_statements}
 use Rattle.bench_read.proofs.FormLemmas.{IsStatement, IsShaped}
-use Rattle.bench_read.proofs.MadeLemmas.{all_statements, signal_names, names-append, input_names, other_names, names_in_order, name_at, place_self, each, all_append, seam_at, below_or_past, all_front, all_back, inputs_each, others_each, allows_is, block_at, blocks_each, numbers_range, range_at, inside_at, signal_by_at, first_of_range, no_token, all_take, all_drop, others-append, named_texts, named_orders, lead_of, earlier_line, all_flat, few_printed_of, sum_none, signal_operands, lines_operands}
+use Rattle.bench_read.proofs.MadeLemmas.{all_statements, signal_names, names-append, input_names, other_names, names_in_order, name_at, place_self, inputs_each, others_each, allows_is, block_at, blocks_each, numbers_range, signal_by_at, no_token, others-append, named_texts, named_orders, lead_of, earlier_line, all_flat, few_printed_of, signal_operands, lines_operands}
 
 -- ---- one netlist
 
@@ -54,7 +59,7 @@ module _ (text : List ℕ) (statements : List Statement) (all : All (IsStatement
   is_signal : (name : List ℕ) → list_any (bytes_eq name) (texts_of text (drivers_of statements)) ≡ true → IsSignal (netlist_of text statements) (place_of (names_of text statements) name)
   is_signal name some = omega (arith, signals_length, names_length text statements, found (any_name (bytes_eq name) text statements ∙ some)) where
     found : list_any (bytes_eq name) (names_of text statements) ≡ true → place_of (names_of text statements) name < length (names_of text statements)
-    found e = ⊎_elim (λ below. below) (λ past. absurd (both_ways _ (none_past (bytes_eq name) (names_of text statements) past) e)) (below_or_past (place_of (names_of text statements) name) (length (names_of text statements)))
+    found e = ⊎_elim (λ below. below) (λ past. absurd (both_ways _ (none_past (bytes_eq name) (names_of text statements) past) e)) (cases_lt (place_of (names_of text statements) name) (length (names_of text statements)))
 
   uses_are : (front : List Statement) (statement : Statement) (back : List Statement) → statements ≡ front ++ statement ∷ back → All (λ token. is_among (texts_of text (drivers_of statements)) (text_of text token) ≡ true) statement.uses
   unfolding uses_of
@@ -106,7 +111,7 @@ module _ (text : List ℕ) (statements : List Statement) (all : All (IsStatement
       → All Q (netlist_of text statements).signals
   unfolding netlist_of
   all_signals Q of_inputs of_lines =
-      all_append Q (input_signals text statements) (other_signals text (names_of text statements) 0 statements) (inputs_each Q text statements of_inputs)
+      All-append Q (input_signals text statements) (other_signals text (names_of text statements) 0 statements) (inputs_each Q text statements of_inputs)
       (others_each Q text (names_of text statements) 0 statements
       (λ front statement back split k token e. subst (λ m. Q (record { name = text_of text token; driver = driver_by statement.act (numbers_of text (names_of text statements) statement.uses) m k }))
       (zero_more (length (blocks_of text (names_of text statements) front))) (of_lines front statement back split k token e)))
@@ -188,9 +193,9 @@ module _ (text : List ℕ) (statements : List Statement) (all : All (IsStatement
       let range = outs_range front statement back address split is in
       record {
         enable = signals 0 0 (omega (arith, len, bits.some_words));
-        address = all_take (IsSignal (netlist_of text statements)) address (drop 1 uses) (all_drop (IsSignal (netlist_of text statements)) 1 uses signals);
+        address = All-take (IsSignal (netlist_of text statements)) address (drop 1 uses) (All-drop (IsSignal (netlist_of text statements)) 1 uses signals);
         address_bits = (omega (arith, taken, bits.some_address), omega (arith, taken, bits.few_address));
-        word = all_drop (IsSignal (netlist_of text statements)) address (drop 1 uses) (all_drop (IsSignal (netlist_of text statements)) 1 uses signals);
+        word = All-drop (IsSignal (netlist_of text statements)) address (drop 1 uses) (All-drop (IsSignal (netlist_of text statements)) 1 uses signals);
         word_bits = (omega (arith, left, one, len, bits.some_words), omega (arith, left, one, len, bits.few_words));
         outs = range ∙ ap (λ n. range_with_len n (length statement.driven)) (first_of_range (length (before front)) (length statement.driven) outs range (omega (arith, bits.some_words, bits.outputs_are)))
             ∙ ap (range_with_len (get_or outs 0 0)) (omega (arith, left, one, len, bits.outputs_are));
@@ -229,7 +234,7 @@ module _ (text : List ℕ) (statements : List Statement) (all : All (IsStatement
   all_names =
       let both = named_orders text statements all in
       subst (All IsName) (sym (names_are text statements))
-      (all_append IsName (texts_of text (inputs_of statements)) (texts_of text (others_of statements)) (named_texts text (inputs_of statements) both.0) (named_texts text (others_of statements) both.1))
+      (All-append IsName (texts_of text (inputs_of statements)) (texts_of text (others_of statements)) (named_texts text (inputs_of statements) both.0) (named_texts text (others_of statements) both.1))
 
   pub named : AreNamed (netlist_of text statements).signals
   named s signal e = each IsName (names_of text statements) s signal.name all_names (name_here s signal e)
