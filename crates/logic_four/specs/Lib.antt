@@ -1,3 +1,4 @@
+pub mod Folds
 pub mod Gates
 pub mod Memory
 pub mod MemoryLaws

@@ -2,10 +2,12 @@
 //! operands. The memory act, which has no code here, is defined beside them for the crates above.
 #![tactic(auto)]
 
+pub mod folds;
 pub mod gates;
 pub mod memory;
 pub mod values;
 
+pub use folds::{base_kind, lone_kind, takes_many};
 pub use gates::{allows, and_all, bus_all, gate, or_all, tri, xor_all};
 pub use values::{code, decoded, not, of_char, settle, to_char};
 

@@ -1,0 +1,8 @@
+use Rattle.logic_four.proofs.FoldLemmas.{parts, groups}
+use Rattle.logic_four.proofs.folds.fold_laws.Goals as goal
+
+pub returns-clause-parts : goal.returns-clause-parts
+returns-clause-parts c = parts
+
+pub returns-clause-groups : goal.returns-clause-groups
+returns-clause-groups c = groups
