@@ -38,7 +38,7 @@ output_line name = record { act = act.Output; driven = []; uses = name ∷ [] }
 -- the line of a memory: its outputs, and its write enable, its address and its data
 abbrev pub memory_line : Netlist → Block → Line
 memory_line net memory = record {
-  act = act.Memory (length memory.address);
+  act = act.Ram (length memory.address);
   driven = map (name_of net) memory.outs;
   uses = map (name_of net) (memory.we ∷ (memory.address ++ memory.word));
 }

@@ -94,7 +94,7 @@ inputs_quiet act.Input driven uses e = cc
 inputs_quiet act.Output driven uses e = cc
 inputs_quiet (act.Gate kind) driven uses e = refl
 inputs_quiet act.Dff driven uses e = refl
-inputs_quiet (act.Memory address) driven uses e = refl
+inputs_quiet (act.Ram address) driven uses e = refl
 
 -- it makes no input
 signals_quiet : (one : Act) (driven uses : List (List ℕ)) → is_driving one ≡ true → line_input_signals (record { act = one; driven = driven; uses = uses }) ≡ []
@@ -102,7 +102,7 @@ signals_quiet act.Input driven uses e = cc
 signals_quiet act.Output driven uses e = cc
 signals_quiet (act.Gate kind) driven uses e = refl
 signals_quiet act.Dff driven uses e = refl
-signals_quiet (act.Memory address) driven uses e = refl
+signals_quiet (act.Ram address) driven uses e = refl
 
 -- it prints nothing
 printed_quiet : (names : List (List ℕ)) (one : Act) (driven uses : List (List ℕ)) → is_driving one ≡ true → line_printed names (record { act = one; driven = driven; uses = uses }) ≡ []
@@ -110,7 +110,7 @@ printed_quiet names act.Input driven uses e = cc
 printed_quiet names act.Output driven uses e = cc
 printed_quiet names (act.Gate kind) driven uses e = refl
 printed_quiet names act.Dff driven uses e = refl
-printed_quiet names (act.Memory address) driven uses e = refl
+printed_quiet names (act.Ram address) driven uses e = refl
 
 -- all names that it drives are of other signals
 all_others : (one : Act) (driven uses : List (List ℕ)) → is_driving one ≡ true → driven ≡ line_others (record { act = one; driven = driven; uses = uses })
@@ -118,7 +118,7 @@ all_others act.Input driven uses e = cc
 all_others act.Output driven uses e = cc
 all_others (act.Gate kind) driven uses e = refl
 all_others act.Dff driven uses e = refl
-all_others (act.Memory address) driven uses e = refl
+all_others (act.Ram address) driven uses e = refl
 
 module _ (net : Netlist) (valid : IsValid net) where
   -- ---- the names of the signals

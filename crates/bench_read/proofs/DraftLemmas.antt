@@ -56,7 +56,7 @@ inputs-le act.Input driven = omega arith
 inputs-le act.Output driven = omega arith
 inputs-le (act.Gate kind) driven = omega arith
 inputs-le act.Dff driven = omega arith
-inputs-le (act.Memory address) driven = omega arith
+inputs-le (act.Ram address) driven = omega arith
 
 pub driven-le : (statements : List Statement) (i : ℕ) (here : Statement) → here ≡ get_or statements i here → i < length statements → length here.driven ≤ length (drivers_of statements)
 unfolding drivers_of
@@ -77,7 +77,7 @@ parts_length act.Input driven = omega arith
 parts_length act.Output driven = omega arith
 parts_length (act.Gate kind) driven = omega arith
 parts_length act.Dff driven = omega arith
-parts_length (act.Memory address) driven = omega arith
+parts_length (act.Ram address) driven = omega arith
 
 orders_length : (statements : List Statement) → length (inputs_of statements) + length (others_of statements) ≡ length (drivers_of statements)
 unfolding inputs_of others_of drivers_of
@@ -109,7 +109,7 @@ any_parts p text act.Input driven = sym (or_false (list_any p (texts_of text dri
 any_parts p text act.Output driven = refl
 any_parts p text (act.Gate kind) driven = refl
 any_parts p text act.Dff driven = refl
-any_parts p text (act.Memory address) driven = refl
+any_parts p text (act.Ram address) driven = refl
 
 any_texts : (p : List ℕ → Bool) (text : List ℕ) (xs ys : List Token) → list_any p (texts_of text (xs ++ ys)) ≡ (list_any p (texts_of text xs) || list_any p (texts_of text ys))
 any_texts p text xs ys = ap (list_any p) (map-append (text_of text) xs ys) ∙ list_any-append p (texts_of text xs) (texts_of text ys)
@@ -196,14 +196,14 @@ blocks_length act.Input uses outs = refl
 blocks_length act.Output uses outs = refl
 blocks_length (act.Gate kind) uses outs = refl
 blocks_length act.Dff uses outs = refl
-blocks_length (act.Memory address) uses outs = refl
+blocks_length (act.Ram address) uses outs = refl
 
 memories-le : (one : Act) → memories_by one ≤ 1
 memories-le act.Input = omega arith
 memories-le act.Output = omega arith
 memories-le (act.Gate kind) = omega arith
 memories-le act.Dff = omega arith
-memories-le (act.Memory address) = omega arith
+memories-le (act.Ram address) = omega arith
 
 module _ (text : List ℕ) (names : List (List ℕ)) (statements : List Statement) (i : ℕ) (here : Statement) (is : here ≡ get_or statements i here) (within : i < length statements) where
   left : drop i statements ≡ here ∷ drop (i + 1) statements

@@ -167,7 +167,7 @@ is_driving act.Input = false
 is_driving act.Output = false
 is_driving (act.Gate kind) = true
 is_driving act.Dff = true
-is_driving (act.Memory address) = true
+is_driving (act.Ram address) = true
 
 -- what holds of lines of gates, registers and memories holds of the lines of a driver
 pub driver_each : (net : Netlist) (P : Line → Type 0) → ((one : Act) (driven uses : List (List ℕ)) → is_driving one ≡ true → P (record { act = one; driven = driven; uses = uses })) → (name : List ℕ) (driver : Driver) → All P (drivers_say net name driver)
@@ -176,7 +176,7 @@ driver_each net P holds name (Gate kind ops) = All-cons P _ [] (holds (act.Gate 
 driver_each net P holds name (Dff op) = All-cons P _ [] (holds act.Dff (name ∷ []) (name_of net op ∷ []) refl) (All-nil P)
 driver_each net P holds name (BlockBit m bit) = by_test _ (slice_get net.blocks m) where
   by_test : (b : Bool) (o : Option Block) → All P (cond b (memory_says net o) [])
-  by_test true (Some memory) = All-cons P (memory_line net memory) [] (holds (act.Memory (length memory.address)) (map (name_of net) memory.outs) (map (name_of net) (memory.we ∷ (memory.address ++ memory.word))) refl) (All-nil P)
+  by_test true (Some memory) = All-cons P (memory_line net memory) [] (holds (act.Ram (length memory.address)) (map (name_of net) memory.outs) (map (name_of net) (memory.we ∷ (memory.address ++ memory.word))) refl) (All-nil P)
   by_test true None = All-nil P
   by_test false o = All-nil P
 

@@ -159,7 +159,7 @@ inputs_each Q text (statement ∷ statements) holds =
     by_act act.Output driven = none act.Output
     by_act (act.Gate kind) driven = none (act.Gate kind)
     by_act act.Dff driven = none act.Dff
-    by_act (act.Memory address) driven = none (act.Memory address)
+    by_act (act.Ram address) driven = none (act.Ram address)
 
 pub blocks_count : (text : List ℕ) (names : List (List ℕ)) (statement : Statement) (statements : List Statement) → length (blocks_of text names (statement ∷ statements)) ≡ memories_by statement.act + length (blocks_of text names statements)
 unfolding blocks_of
@@ -172,7 +172,7 @@ blocks_count text names statement statements =
     by_act act.Output = refl
     by_act (act.Gate kind) = refl
     by_act act.Dff = refl
-    by_act (act.Memory address) = refl
+    by_act (act.Ram address) = refl
 
 pub no_blocks : (text : List ℕ) (names : List (List ℕ)) → length (blocks_of text names []) ≡ 0
 unfolding blocks_of
@@ -219,12 +219,12 @@ pub blocks-append : (text : List ℕ) (names : List (List ℕ)) (xs ys : List St
 unfolding blocks_of
 blocks-append text names xs ys = flat_map-append (λ (s : Statement). blocks_by s.act (numbers_of text names s.uses) (numbers_of text names s.driven)) xs ys
 
-pub block_first : (text : List ℕ) (names : List (List ℕ)) (statement : Statement) (back : List Statement) (address : ℕ) → statement.act ≡ act.Memory address → blocks_of text names (statement ∷ back) ≡ block_by address (numbers_of text names statement.uses) (numbers_of text names statement.driven) ∷ blocks_of text names back
+pub block_first : (text : List ℕ) (names : List (List ℕ)) (statement : Statement) (back : List Statement) (address : ℕ) → statement.act ≡ act.Ram address → blocks_of text names (statement ∷ back) ≡ block_by address (numbers_of text names statement.uses) (numbers_of text names statement.driven) ∷ blocks_of text names back
 unfolding blocks_of
 block_first text names statement back address is =
     ap (λ a. blocks_by a (numbers_of text names statement.uses) (numbers_of text names statement.driven) ++ blocks_of text names back) is
 
-pub block_at : (text : List ℕ) (names : List (List ℕ)) (statements front : List Statement) (statement : Statement) (back : List Statement) (address : ℕ) → statements ≡ front ++ statement ∷ back → statement.act ≡ act.Memory address → slice_get (blocks_of text names statements) (length (blocks_of text names front)) ≡ Some (block_by address (numbers_of text names statement.uses) (numbers_of text names statement.driven))
+pub block_at : (text : List ℕ) (names : List (List ℕ)) (statements front : List Statement) (statement : Statement) (back : List Statement) (address : ℕ) → statements ≡ front ++ statement ∷ back → statement.act ≡ act.Ram address → slice_get (blocks_of text names statements) (length (blocks_of text names front)) ≡ Some (block_by address (numbers_of text names statement.uses) (numbers_of text names statement.driven))
 block_at text names statements front statement back address split is =
     ap (λ bs. slice_get bs (length (blocks_of text names front)))
     (ap (blocks_of text names) split ∙ blocks-append text names front (statement ∷ back) ∙ ap (λ bs. blocks_of text names front ++ bs) (block_first text names statement back address is))
@@ -232,7 +232,7 @@ block_at text names statements front statement back address split is =
 
 abbrev pub HoldsOfBlocks : (ℕ → Block → Type 0) → List ℕ → List (List ℕ) → List Statement → ℕ → Type 0
 HoldsOfBlocks R text names statements memories =
-    (front : List Statement) (other : Statement) (back : List Statement) (address : ℕ) → statements ≡ front ++ other ∷ back → other.act ≡ act.Memory address
+    (front : List Statement) (other : Statement) (back : List Statement) (address : ℕ) → statements ≡ front ++ other ∷ back → other.act ≡ act.Ram address
     → R (memories + length (blocks_of text names front)) (block_by address (numbers_of text names other.uses) (numbers_of text names other.driven))
 
 pub blocks_each : (R : ℕ → Block → Type 0) (text : List ℕ) (names : List (List ℕ)) (memories : ℕ) (statements : List Statement) → HoldsOfBlocks R text names statements memories → (k : ℕ) (memory : Block) → slice_get (blocks_of text names statements) k ≡ Some memory → R (memories + k) memory
@@ -252,11 +252,11 @@ blocks_each R text names memories (statement ∷ statements) holds k memory e = 
   by_act act.Output is rest n f = plain rest (ap memories_by is) n f
   by_act (act.Gate kind) is rest n f = plain rest (ap memories_by is) n f
   by_act act.Dff is rest n f = plain rest (ap memories_by is) n f
-  by_act (act.Memory address) is rest zero f =
+  by_act (act.Ram address) is rest zero f =
       let same : block_by address (numbers_of text names statement.uses) (numbers_of text names statement.driven) ≡ memory = cc in
       let none : memories + length (blocks_of text names []) ≡ memories + 0 = omega (arith, no_blocks text names) in
       subst (R (memories + 0)) same (subst (λ j. R j (block_by address (numbers_of text names statement.uses) (numbers_of text names statement.driven))) none (holds [] statement statements address refl is))
-  by_act (act.Memory address) is rest (suc n) f =
+  by_act (act.Ram address) is rest (suc n) f =
       let same : memories + 1 + n ≡ memories + suc n = omega arith in
       subst (λ j. R j memory) same (rest (memories + 1) (held 1 (ap memories_by is)) n f)
 
@@ -314,7 +314,7 @@ named_by text act.Input driven a = (a, All-nil (IsNameToken text))
 named_by text act.Output driven a = (All-nil (IsNameToken text), a)
 named_by text (act.Gate kind) driven a = (All-nil (IsNameToken text), a)
 named_by text act.Dff driven a = (All-nil (IsNameToken text), a)
-named_by text (act.Memory address) driven a = (All-nil (IsNameToken text), a)
+named_by text (act.Ram address) driven a = (All-nil (IsNameToken text), a)
 
 pub named_orders : (text : List ℕ) (statements : List Statement) → All (IsStatement text) statements → All (IsNameToken text) (inputs_of statements) × All (IsNameToken text) (others_of statements)
 unfolding inputs_of others_of
@@ -362,7 +362,7 @@ printed_one act.Input driven uses numbers e shaped = omega arith
 printed_one act.Output driven uses numbers e shaped = omega (arith, e, shaped.1)
 printed_one (act.Gate kind) driven uses numbers e shaped = omega arith
 printed_one act.Dff driven uses numbers e shaped = omega arith
-printed_one (act.Memory address) driven uses numbers e shaped = omega arith
+printed_one (act.Ram address) driven uses numbers e shaped = omega arith
 
 pub few_printed_of : (text : List ℕ) (names : List (List ℕ)) (statements : List Statement) → All (IsStatement text) statements → length (printed_of text names statements) ≤ length statements
 unfolding printed_of
@@ -392,8 +392,8 @@ one_register text numbers memory [] few = omega arith
 one_register text numbers memory (t ∷ []) few = omega arith
 one_register text numbers memory (t ∷ u ∷ driven) few = absurd (omega arith)
 
-pub no_operands : (text : List ℕ) (address : ℕ) (numbers : List ℕ) (memory : ℕ) (driven : List Token) → sum_by signal_operands (signals_by text (act.Memory address) numbers memory driven) ≡ 0
-no_operands text address numbers memory driven = sum_none signal_operands (signals_by text (act.Memory address) numbers memory driven) (each_by (λ signal. signal_operands signal ≡ 0) text (act.Memory address) numbers memory driven (λ k token e. refl))
+pub no_operands : (text : List ℕ) (address : ℕ) (numbers : List ℕ) (memory : ℕ) (driven : List Token) → sum_by signal_operands (signals_by text (act.Ram address) numbers memory driven) ≡ 0
+no_operands text address numbers memory driven = sum_none signal_operands (signals_by text (act.Ram address) numbers memory driven) (each_by (λ signal. signal_operands signal ≡ 0) text (act.Ram address) numbers memory driven (λ k token e. refl))
 
 pub line_operands : (text : List ℕ) (one : Act) (driven uses : List Token) (numbers outs : List ℕ) (memory : ℕ) → length numbers ≡ length uses → IsShaped one driven uses → allows one (length driven) (length uses) ≡ true → sum_by signal_operands (signals_by text one numbers memory (others_by one driven)) + sum_by memory_operand_count (blocks_by one numbers outs) ≤ operands_by one uses
 line_operands text act.Input driven uses numbers outs memory e shaped allowed = omega (arith, ap (sum_by signal_operands) (no_signals text act.Input numbers memory))
@@ -401,7 +401,7 @@ line_operands text act.Output driven uses numbers outs memory e shaped allowed =
     omega (arith, ap (λ ts. sum_by signal_operands (signals_by text act.Output numbers memory ts)) shaped.0, ap (sum_by signal_operands) (no_signals text act.Output numbers memory))
 line_operands text (act.Gate kind) driven uses numbers outs memory e shaped allowed = omega (arith, one_gate text kind numbers memory driven shaped, e)
 line_operands text act.Dff driven uses numbers outs memory e shaped allowed = omega (arith, one_register text numbers memory driven shaped, eqb-true (length uses) 1 allowed)
-line_operands text (act.Memory address) driven uses numbers outs memory e shaped allowed =
+line_operands text (act.Ram address) driven uses numbers outs memory e shaped allowed =
     let bits = memory_bits address (length uses - (1 + address)) (length driven) allowed in
     omega (
       arith,

@@ -1,8 +1,9 @@
 -- The numbers of names, and names in signal order.
-use Rattle.std.proofs.Common.{◌≡◌, ℕ, ◌+◌, ◌<◌, ◌≤◌, Bool, true, false, not, cond, List, [], ◌∷◌, ◌++◌, append_assoc, length, take, drop, get_or, Option, Some, None, sym, ap, ◌∙◌, subst, refl, ⊎_elim, arith, bytes_eq, ◌⊎◌}
+use Rattle.std.proofs.Common.{◌≡◌, ℕ, ◌+◌, ◌<◌, ◌≤◌, Bool, true, false, not, cond, List, [], ◌∷◌, ◌++◌, append_assoc, length, take, drop, get_or, Option, Some, None, sym, ap, ◌∙◌, subst, refl, ⊎_elim, inl, inr, arith, bytes_eq}
+use Rattle.std.specs.Prelude.{unwrap_or}
 use Rattle.std.specs.List.{count_by, list_any, flat_map, position, position_or_len}
 use Rattle.std.specs.Option.{option_map}
-use Rattle.std.proofs.lemmas.Bool.{cond-true, cond-false, lt-ltb, le-ltb}
+use Rattle.std.proofs.lemmas.Bool.{cond-true, cond-false, cases_lt, lt-ltb, le-ltb}
 use Rattle.std.proofs.lemmas.List.{take_more, take_all, map-append, map_push}
 use Rattle.std.proofs.lemmas.List.Sums.{sum_by-append, prefix_len-le-length}
 use Rattle.list_laws.proofs.Tests.{find_none, find_first, any_within, none_past}
@@ -39,11 +40,8 @@ found p xs i e =
     let is : i ≡ position_or_len p xs = cc (e ∙ cond-true {A = Option ℕ} _ (Some (position_or_len p xs)) None (lt-ltb _ _ below)) in
     record { place = is; within = omega arith; some = any_within p xs below })
     (λ past. absurd (not_some i (e ∙ cond-false {A = Option ℕ} _ (Some (position_or_len p xs)) None (le-ltb _ _ past))))
-    (below_or_past (position_or_len p xs) (length xs))
+    (cases_lt (position_or_len p xs) (length xs))
   where
-    below_or_past : (a b : ℕ) → (a < b) ⊎ (b ≤ a)
-    below_or_past a b = grind arith
-
     not_some : (i : ℕ) → Some i ≡ None → ⊥
     not_some i e = cc
 
@@ -52,13 +50,18 @@ lost {X} p xs e =
     ⊎_elim
     (λ below. absurd (not_none _ (e ∙ cond-true {A = Option ℕ} _ (Some (position_or_len p xs)) None (lt-ltb _ _ below))))
     (λ past. record { place = omega (arith, prefix_len-le-length (λ (x : X). not (p x)) xs); none = none_past p xs past })
-    (below_or_past (position_or_len p xs) (length xs))
+    (cases_lt (position_or_len p xs) (length xs))
   where
-    below_or_past : (a b : ℕ) → (a < b) ⊎ (b ≤ a)
-    below_or_past a b = grind arith
-
     not_none : (i : ℕ) → None ≡ Some i → ⊥
     not_none i e = cc
+
+-- the place of the first that passes, and the length where none does
+pub place_or_len : {X : Type 0} (p : X → Bool) (xs : List X) → unwrap_or (position p xs) (length xs) ≡ position_or_len p xs
+place_or_len {X} p xs =
+    elim (cases_lt (position_or_len p xs) (length xs)) [
+      | inl below ↦ ap (λ o. unwrap_or o (length xs)) (cond-true {A = Option ℕ} _ (Some (position_or_len p xs)) None (lt-ltb _ _ below))
+      | inr past ↦ ap (λ o. unwrap_or o (length xs)) (cond-false {A = Option ℕ} _ (Some (position_or_len p xs)) None (le-ltb _ _ past)) ∙ omega (arith, prefix_len-le-length (λ (x : X). not (p x)) xs)
+    ]
 
 -- ---- resolving
 
@@ -115,7 +118,7 @@ count_parts name text act.Input driven = omega arith
 count_parts name text act.Output driven = omega arith
 count_parts name text (act.Gate kind) driven = omega arith
 count_parts name text act.Dff driven = omega arith
-count_parts name text (act.Memory address) driven = omega arith
+count_parts name text (act.Ram address) driven = omega arith
 
 count_texts : (name text : List ℕ) (xs ys : List Token) → count_by (bytes_eq name) (texts_of text (xs ++ ys)) ≡ count_by (bytes_eq name) (texts_of text xs) + count_by (bytes_eq name) (texts_of text ys)
 count_texts name text xs ys =

@@ -6,6 +6,7 @@ use Rattle.std.proofs.Math.Seq.{take-append_seam, drop-append-add}
 use Rattle.std.proofs.lemmas.Bool.{and_from, cond-true, cond-false, le-leb, eq-eqb, or_from, and_left, and_right}
 use Rattle.std.proofs.lemmas.List.{length-map, length_push, map-append}
 use Rattle.std.proofs.lemmas.List.Elements.{filter-append}
+use Rattle.limits.specs.declared.TheConstants.{MAX_ADDRESS_BITS, MAX_WORD_BITS}
 use Rattle.list_laws.proofs.Tests.{first_after}
 use Rattle.list_laws.proofs.Places.{seam_at, slice_past}
 use Rattle.list_laws.proofs.Maps.{nil_of}
@@ -28,16 +29,16 @@ use Rattle.bench_read.proofs.SeenRows.{mark_of, bytes_of, row_says}
 -- the numbers of names of a memory
 pub record AreBits (address words outs : ℕ) : Type 0 where
   pub some_address : 1 ≤ address
-  pub few_address : address ≤ 16
+  pub few_address : address ≤ MAX_ADDRESS_BITS
   pub some_words : 1 ≤ words
-  pub few_words : words ≤ 64
+  pub few_words : words ≤ MAX_WORD_BITS
   pub same : words ≡ outs
 
 -- such numbers are allowed
 allowed_bits : (address words outs : ℕ) → AreBits address words outs → allows_memory address words outs ≡ true
 allowed_bits address words outs bits =
     and_from _ _
-    (and_from _ _ (and_from _ _ (and_from _ _ (le-leb 1 address bits.some_address) (le-leb address 16 bits.few_address)) (le-leb 1 words bits.some_words)) (le-leb words 64 bits.few_words))
+    (and_from _ _ (and_from _ _ (and_from _ _ (le-leb 1 address bits.some_address) (le-leb address MAX_ADDRESS_BITS bits.few_address)) (le-leb 1 words bits.some_words)) (le-leb words MAX_WORD_BITS bits.few_words))
     (eq-eqb words outs bits.same)
 
 module _ (text : List ℕ) (net : Netlist) (memory : Block) (l r q w o e s t z : Token) (os ad ws : List Token)
@@ -181,7 +182,7 @@ module _ (text : List ℕ) (net : Netlist) (memory : Block) (l r q w o e s t z :
       close_at
 
   -- so the row has the form of a memory
-  formed : form_of text row ≡ Some form.Memory
+  formed : form_of text row ≡ Some form.Ram
   unfolding form_of
   formed = cond-false _ _ _ no_port ∙ cond-false _ _ _ no_gate ∙ cond-true _ _ _ (and_from _ _ head tail)
 
@@ -197,9 +198,9 @@ module _ (text : List ℕ) (net : Netlist) (memory : Block) (l r q w o e s t z :
   word_is = ap (option_text_of text) (at 2) ∙ bytes_of text w (word (codes "RAM")) ew
 
   -- its word is known
-  acts : ram_act (word_at text row (right_of row + 2)) (address_count row) ≡ Some (act.Memory (length memory.address))
+  acts : ram_act (word_at text row (right_of row + 2)) (address_count row) ≡ Some (act.Ram (length memory.address))
   unfolding ram_act
-  acts = ap (λ n. ram_act n (address_count row)) word_is ∙ ap (λ n. Some (act.Memory n)) counted
+  acts = ap (λ n. ram_act n (address_count row)) word_is ∙ ap (λ n. Some (act.Ram n)) counted
 
   -- a name before tokens is one more name
   one_in : (token : Token) (more : List Token) → has_mark Name token ≡ true → names_in (token ∷ more) ≡ token ∷ names_in more
@@ -237,7 +238,7 @@ module _ (text : List ℕ) (net : Netlist) (memory : Block) (l r q w o e s t z :
       ∙ sym (map-append (name_of net) memory.address memory.word))
 
   -- so many names are allowed
-  allowed : allows (act.Memory (length memory.address)) (length (map (name_of net) memory.outs)) (length (map (name_of net) (memory.we ∷ (memory.address ++ memory.word)))) ≡ true
+  allowed : allows (act.Ram (length memory.address)) (length (map (name_of net) memory.outs)) (length (map (name_of net) (memory.we ∷ (memory.address ++ memory.word)))) ≡ true
   allowed =
       let outs : length (map (name_of net) memory.outs) ≡ length memory.outs = length-map memory.outs (name_of net) in
       let words : length (map (name_of net) (memory.we ∷ (memory.address ++ memory.word))) - (1 + length memory.address) ≡ length memory.word =
@@ -250,7 +251,7 @@ module _ (text : List ℕ) (net : Netlist) (memory : Block) (l r q w o e s t z :
   memory_tokens : Say text (row ∷ []) (memory_line net memory ∷ [])
   unfolding act_of driven_part used_part
   memory_tokens =
-      row_says text row form.Memory (act.Memory (length memory.address)) (map (name_of net) memory.outs) (map (name_of net) (memory.we ∷ (memory.address ++ memory.word)))
+      row_says text row form.Ram (act.Ram (length memory.address)) (map (name_of net) memory.outs) (map (name_of net) (memory.we ∷ (memory.address ++ memory.word)))
       formed acts
       (ap (λ ts. texts_of text (names_in ts)) outs_part ∙ texts_are text net memory.outs os eos)
       (ap (λ ts. texts_of text (names_in ts)) used ∙ texts_inside)

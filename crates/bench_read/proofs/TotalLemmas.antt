@@ -6,6 +6,7 @@ use Rattle.std.specs.Option.{option_map}
 use Rattle.std.proofs.lemmas.List.{map_push, take_more, take_all}
 use Rattle.std.proofs.lemmas.List.Elements.{All-nil, All-push}
 use Rattle.std.proofs.lemmas.Option.{slice_get-get_or}
+use Rattle.limits.specs.declared.TheConstants.{MAX_OPERANDS, MAX_SIGNALS}
 use Rattle.list_laws.proofs.Tests.{any_not_none}
 use Rattle.list_laws.proofs.Options.{mapped_none}
 use Rattle.text_lines.proofs.AnswerLemmas.{none_below, or_none}
@@ -71,8 +72,8 @@ sound_more text rows row sound none = by_said (said_of text row) refl none where
         once = subst (λ ss. AreOnce (texts_of text (drivers_of ss))) (sym pushed)
             (subst (λ ds. AreOnce (texts_of text ds)) driven
             (once_to text (drivers_of statements) statement.driven sound.once both.0 (length statement.driven) (omega arith)));
-        few_signals = subst (λ ss. length (drivers_of ss) ≤ 1048576) (sym pushed) limits.0;
-        few_operands = subst (λ ss. operand_count ss ≤ 4194304) (sym pushed) limits.1;
+        few_signals = subst (λ ss. length (drivers_of ss) ≤ MAX_SIGNALS) (sym pushed) limits.0;
+        few_operands = subst (λ ss. operand_count ss ≤ MAX_OPERANDS) (sym pushed) limits.1;
       }
 
 -- rows without a fault have statements

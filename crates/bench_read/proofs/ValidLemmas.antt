@@ -8,6 +8,7 @@ use Rattle.std.proofs.lemmas.List.Elements.{All-nil, All-cons, All-head, All-tai
 use Rattle.std.proofs.lemmas.List.Concat.{flat_map-append}
 use Rattle.std.proofs.lemmas.Option.{slice_get-map, slice_get-get_or}
 use Rattle.std.proofs.lemmas.List.Sums.{sum_by-append}
+use Rattle.limits.specs.declared.TheConstants.{MAX_TEXT_BYTES}
 use Rattle.list_laws.proofs.Tests.{none_past}
 use Rattle.list_laws.proofs.Ranges.{range_at, first_of_range}
 use Rattle.list_laws.proofs.Places.{seam_at, inside_at}
@@ -79,7 +80,7 @@ module _ (text : List ℕ) (statements : List Statement) (all : All (IsStatement
   statement_at front statement back split =
       each (IsStatement text) statements (length front) statement all (ap (λ ss. slice_get ss (length front)) split ∙ seam_at front statement back)
 
-  blocks_here : (front : List Statement) (statement : Statement) (back : List Statement) (address : ℕ) → statements ≡ front ++ statement ∷ back → statement.act ≡ act.Memory address → slice_get (netlist_of text statements).blocks (length (blocks_of text (names_of text statements) front)) ≡ Some (block_by address (numbers_of text (names_of text statements) statement.uses) (numbers_of text (names_of text statements) statement.driven))
+  blocks_here : (front : List Statement) (statement : Statement) (back : List Statement) (address : ℕ) → statements ≡ front ++ statement ∷ back → statement.act ≡ act.Ram address → slice_get (netlist_of text statements).blocks (length (blocks_of text (names_of text statements) front)) ≡ Some (block_by address (numbers_of text (names_of text statements) statement.uses) (numbers_of text (names_of text statements) statement.driven))
   unfolding netlist_of
   blocks_here front statement back address split is = block_at text (names_of text statements) statements front statement back address split is
 
@@ -97,7 +98,7 @@ module _ (text : List ℕ) (statements : List Statement) (all : All (IsStatement
       let allowed = subst (λ a. allows a (length statement.driven) (length statement.uses) ≡ true) is (statement_at front statement back split).allowed in
       numbers_are statement.uses (uses_are front statement back split) 0 0
       (omega (arith, length-map statement.uses (λ t. place_of (names_of text statements) (text_of text t)), eqb-true (length statement.uses) 1 allowed))
-  drivable_by front statement back split k token e (act.Memory address) is = (
+  drivable_by front statement back split k token e (act.Ram address) is = (
     block_by address (numbers_of text (names_of text statements) statement.uses) (numbers_of text (names_of text statements) statement.driven),
     blocks_here front statement back address split is,
     slice_get-map (λ t. place_of (names_of text statements) (text_of text t)) statement.driven k
@@ -132,7 +133,7 @@ module _ (text : List ℕ) (statements : List Statement) (all : All (IsStatement
   before : List Statement → List (List ℕ)
   before front = texts_of text (inputs_of statements) ++ texts_of text (others_of front)
 
-  names_split : (front : List Statement) (statement : Statement) (back : List Statement) (address : ℕ) → statements ≡ front ++ statement ∷ back → statement.act ≡ act.Memory address → names_of text statements ≡ before front ++ (texts_of text statement.driven ++ texts_of text (others_of back))
+  names_split : (front : List Statement) (statement : Statement) (back : List Statement) (address : ℕ) → statements ≡ front ++ statement ∷ back → statement.act ≡ act.Ram address → names_of text statements ≡ before front ++ (texts_of text statement.driven ++ texts_of text (others_of back))
   unfolding before others_of
   names_split front statement back address split is =
       let f : Statement → List Token = λ s. others_by s.act s.driven in
@@ -144,7 +145,7 @@ module _ (text : List ℕ) (statements : List Statement) (all : All (IsStatement
       ∙ ap (λ ns. texts_of text (inputs_of statements) ++ (texts_of text (others_of front) ++ ns)) (map-append (text_of text) statement.driven (others_of back))
       ∙ sym (append_assoc (texts_of text (inputs_of statements)) (texts_of text (others_of front)) (texts_of text statement.driven ++ texts_of text (others_of back)))
 
-  outs_range : (front : List Statement) (statement : Statement) (back : List Statement) (address : ℕ) → statements ≡ front ++ statement ∷ back → statement.act ≡ act.Memory address → numbers_of text (names_of text statements) statement.driven ≡ range_with_len (length (before front)) (length statement.driven)
+  outs_range : (front : List Statement) (statement : Statement) (back : List Statement) (address : ℕ) → statements ≡ front ++ statement ∷ back → statement.act ≡ act.Ram address → numbers_of text (names_of text statements) statement.driven ≡ range_with_len (length (before front)) (length statement.driven)
   outs_range front statement back address split is =
       let same = names_split front statement back address split is in
       ap (λ ns. numbers_of text ns statement.driven) same
@@ -161,8 +162,8 @@ module _ (text : List ℕ) (statements : List Statement) (all : All (IsStatement
       ∙ ap (λ ns. ns ++ signal_names (other_signals text (names_of text statements) 0 front)) (input_names text statements)
       ∙ ap (λ ns. texts_of text (inputs_of statements) ++ ns) (other_names text (names_of text statements) 0 front))
 
-  signals_split : (front : List Statement) (statement : Statement) (back : List Statement) (address : ℕ) → statements ≡ front ++ statement ∷ back → statement.act ≡ act.Memory address
-      → (rest : List Signal) × ((netlist_of text statements).signals ≡ front_signals front ++ (signals_by text (act.Memory address) (numbers_of text (names_of text statements) statement.uses) (length (blocks_of text (names_of text statements) front)) statement.driven ++ rest))
+  signals_split : (front : List Statement) (statement : Statement) (back : List Statement) (address : ℕ) → statements ≡ front ++ statement ∷ back → statement.act ≡ act.Ram address
+      → (rest : List Signal) × ((netlist_of text statements).signals ≡ front_signals front ++ (signals_by text (act.Ram address) (numbers_of text (names_of text statements) statement.uses) (length (blocks_of text (names_of text statements) front)) statement.driven ++ rest))
   unfolding netlist_of front_signals other_signals
   signals_split front statement back address split is =
       let ns = names_of text statements in
@@ -174,10 +175,10 @@ module _ (text : List ℕ) (statements : List Statement) (all : All (IsStatement
             (ap (other_signals text ns 0) split ∙ others-append text ns 0 front (statement ∷ back)
             ∙ ap (λ k. other_signals text ns 0 front ++ other_signals text ns k (statement ∷ back)) zero_more
             ∙ ap (λ a. other_signals text ns 0 front ++ (signals_by text a (numbers_of text ns statement.uses) m (others_by a statement.driven) ++ rest)) is)
-            ∙ sym (append_assoc (input_signals text statements) (other_signals text ns 0 front) (signals_by text (act.Memory address) (numbers_of text ns statement.uses) m statement.driven ++ rest)),
+            ∙ sym (append_assoc (input_signals text statements) (other_signals text ns 0 front) (signals_by text (act.Ram address) (numbers_of text ns statement.uses) m statement.driven ++ rest)),
       )
 
-  is_memory : (front : List Statement) (statement : Statement) (back : List Statement) (address : ℕ) → statements ≡ front ++ statement ∷ back → statement.act ≡ act.Memory address
+  is_memory : (front : List Statement) (statement : Statement) (back : List Statement) (address : ℕ) → statements ≡ front ++ statement ∷ back → statement.act ≡ act.Ram address
       → IsMemory (netlist_of text statements) (length (blocks_of text (names_of text statements) front)) (block_by address (numbers_of text (names_of text statements) statement.uses) (numbers_of text (names_of text statements) statement.driven))
   is_memory front statement back address split is =
       let ns = names_of text statements in
@@ -204,12 +205,12 @@ module _ (text : List ℕ) (statements : List Statement) (all : All (IsStatement
             let token = get_or statement.driven bit no_token in
             let here = slice_get-get_or statement.driven bit no_token found.1 in
             let parts = signals_split front statement back address split is in
-            let mine = signals_by text (act.Memory address) uses (length (blocks_of text ns front)) statement.driven in
+            let mine = signals_by text (act.Ram address) uses (length (blocks_of text ns front)) statement.driven in
             let at : s ≡ length (front_signals front) + bit = omega (arith, found.0, front_length front) in (
               record { name = text_of text token; driver = driver.BlockBit (length (blocks_of text ns front)) bit },
               ap (slice_get (netlist_of text statements).signals) at
                   ∙ ap (λ ss. slice_get ss (length (front_signals front) + bit)) parts.1
-                  ∙ inside_at (front_signals front) mine parts.0 bit _ (signal_by_at text (act.Memory address) uses (length (blocks_of text ns front)) statement.driven bit token here),
+                  ∙ inside_at (front_signals front) mine parts.0 bit _ (signal_by_at text (act.Ram address) uses (length (blocks_of text ns front)) statement.driven bit token here),
               refl,
             );
       }
@@ -246,7 +247,7 @@ module _ (text : List ℕ) (statements : List Statement) (all : All (IsStatement
       cc (subst (λ ts. slice_get ts k ≡ Some token) shaped.0 (subst (λ a. slice_get (others_by a statement.driven) k ≡ Some token) is e))
   not_inputs front statement back split k token e uses memory (act.Gate kind) is = refl
   not_inputs front statement back split k token e uses memory act.Dff is = refl
-  not_inputs front statement back split k token e uses memory (act.Memory address) is = refl
+  not_inputs front statement back split k token e uses memory (act.Ram address) is = refl
 
   pub inputs_first : InputsLead (netlist_of text statements).signals
   unfolding netlist_of
@@ -264,7 +265,7 @@ module _ (text : List ℕ) (statements : List Statement) (all : All (IsStatement
     back : List Statement
     address : ℕ
     split : statements ≡ front ++ statement ∷ back
-    is : statement.act ≡ act.Memory address
+    is : statement.act ≡ act.Ram address
     place : m ≡ length (blocks_of text (names_of text statements) front)
     same : memory ≡ block_by address (numbers_of text (names_of text statements) statement.uses) (numbers_of text (names_of text statements) statement.driven)
 
@@ -286,7 +287,7 @@ module _ (text : List ℕ) (statements : List Statement) (all : All (IsStatement
         some,
       )
 
-  before_length : (front : List Statement) (statement : Statement) (between : List Statement) (address : ℕ) → statement.act ≡ act.Memory address → length (before front) + length statement.driven ≤ length (before (front ++ statement ∷ between))
+  before_length : (front : List Statement) (statement : Statement) (between : List Statement) (address : ℕ) → statement.act ≡ act.Ram address → length (before front) + length statement.driven ≤ length (before (front ++ statement ∷ between))
   unfolding before others_of
   before_length front statement between address is =
       let f : Statement → List Token = λ s. others_by s.act s.driven in
@@ -324,7 +325,7 @@ module _ (text : List ℕ) (statements : List Statement) (all : All (IsStatement
       by_act act.Output numbers a = a
       by_act (act.Gate kind) numbers a = All-nil (IsSignal (netlist_of text statements))
       by_act act.Dff numbers a = All-nil (IsSignal (netlist_of text statements))
-      by_act (act.Memory address) numbers a = All-nil (IsSignal (netlist_of text statements))
+      by_act (act.Ram address) numbers a = All-nil (IsSignal (netlist_of text statements))
 
   pub few_printed : length (netlist_of text statements).printed ≤ length statements
   unfolding netlist_of
@@ -341,7 +342,7 @@ module _ (text : List ℕ) (statements : List Statement) (all : All (IsStatement
       )
 
 -- what a text reads as is a valid netlist
-pub valid_from_reads : (text : List ℕ) (net : Netlist) → length text ≤ 67108864 → Reads text net → IsValid net
+pub valid_from_reads : (text : List ℕ) (net : Netlist) → length text ≤ MAX_TEXT_BYTES → Reads text net → IsValid net
 valid_from_reads text net short reads =
     let ss = reads.statements in
     let sound = reads.lines.sound in
