@@ -13,7 +13,8 @@ use Rattle.bench_read.specs.declared.statement.Form.TheVariants as form
 use Rattle.bench_read.specs.declared.statement.Act.{Act}
 use Rattle.bench_read.specs.declared.statement.Act.TheVariants as act
 use Rattle.bench_read.specs.declared.statement.Statement.{Statement}
-use Rattle.bench_read.specs.Words.{allows, gate_act, ram_act, act_of_kind, kind_of}
+use Rattle.bench_read.specs.Words.{allows, gate_act, ram_act, act_of_kind}
+use Rattle.logic_four.specs.Kinds.{kind_of}
 use Rattle.bench_read.specs.Grammar.{rows_of, join_row, row_line, form_of, act_of, word_at, address_count, right_of, statement_by, names_in, driven_part, used_part, has_mark, same_mark, said_by_act, said_by_form, said as said_of}
 use Rattle.logic_four.specs.declared.Kind.{Kind}
 use Rattle.bench_read.proofs.NameByteLemmas.{IsNameToken}

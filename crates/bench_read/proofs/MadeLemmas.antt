@@ -2,7 +2,7 @@
 use Rattle.std.proofs.Common.{◌≡◌, ℕ, zero, suc, ◌+◌, ◌-◌, ◌<◌, ◌≤◌, true, false, List, [], ◌∷◌, ◌++◌, append_assoc, length, map, take, drop, slice_get, Some, Result, Ok, Err, sym, ap, ◌∙◌, subst, refl, arith, length-append, bytes_eq}
 use Rattle.std.specs.List.{All, flat_map, cons_option, sum_by, enumerate_from, range_with_len}
 use Rattle.std.specs.Result.{result_ok}
-use Rattle.std.proofs.lemmas.Bool.{leb-true, and_parts, eqb-true}
+use Rattle.std.proofs.lemmas.Bool.{eqb-true}
 use Rattle.std.proofs.lemmas.List.{map-append, length_push, length-map, length-drop, length-take-le}
 use Rattle.std.proofs.lemmas.List.Elements.{All-nil, All-cons, All-head, All-tail, All-append}
 use Rattle.std.proofs.lemmas.List.Concat.{flat_map-append}
@@ -13,8 +13,6 @@ use Rattle.list_laws.proofs.Places.{seam_at, split_at}
 use Rattle.list_laws.proofs.Members.{each}
 use Rattle.list_laws.proofs.Maps.{sum_none}
 use Rattle.logic_four.specs.declared.Kind.{Kind}
-use Rattle.logic_four.specs.declared.Kind.TheVariants.{And, Nand, Or, Nor, Xor, Xnor, Not, Buf, Tri, Bus}
-use Rattle.logic_four.specs.Gates.{AllowsOperands}
 use Rattle.bench_text.specs.declared.token.Mark.TheVariants.{Name}
 use Rattle.bench_text.specs.declared.token.Token.{Token}
 use Rattle.bench_text.specs.Tokens.{tokens_of}
@@ -27,7 +25,7 @@ use Rattle.bench_read.specs.declared.refusal.BenchNo.{BenchNo}
 use Rattle.bench_read.specs.declared.statement.Act.{Act}
 use Rattle.bench_read.specs.declared.statement.Act.TheVariants as act
 use Rattle.bench_read.specs.declared.statement.Statement.{Statement}
-use Rattle.bench_read.specs.Words.{allows, allows_operands, is_any_number}
+use Rattle.bench_read.specs.Words.{allows}
 use Rattle.bench_read.specs.Grammar.{rows_of, text_of, said as said_of}
 use Rattle.bench_read.specs.Faults.{statements_of, operands_by, operands_of, operand_count, texts_of}
 use Rattle.bench_read.specs.Netlists.{inputs_by, others_by, inputs_of, others_of, names_of, place_of, numbers_of, driver_by, signals_by, input_signals, other_signals, memories_by, printed_by, printed_of, block_by, blocks_by, blocks_of, netlist_of}
@@ -197,21 +195,6 @@ others_each Q text names memories (statement ∷ statements) holds =
 
     more_memories : (m : ℕ) (front : List Statement) → m + length (blocks_of text names (statement ∷ front)) ≡ m + memories_by statement.act + length (blocks_of text names front)
     more_memories m front = omega (arith, blocks_count text names statement front)
-
-pub any_number : (n : ℕ) → is_any_number n ≡ true → (1 ≤ n) × (n ≤ 1024)
-any_number n e = let both = and_parts _ _ e in (leb-true 1 n both.0, leb-true n 1024 both.1)
-
-pub allows_is : (kind : Kind) (n : ℕ) → allows_operands kind n ≡ true → AllowsOperands kind n
-allows_is And n e = any_number n e
-allows_is Nand n e = any_number n e
-allows_is Or n e = any_number n e
-allows_is Nor n e = any_number n e
-allows_is Xor n e = any_number n e
-allows_is Xnor n e = any_number n e
-allows_is Not n e = eqb-true n 1 e
-allows_is Buf n e = eqb-true n 1 e
-allows_is Tri n e = eqb-true n 2 e
-allows_is Bus n e = any_number n e
 
 -- ---- memories, line by line
 

@@ -14,7 +14,7 @@ use Rattle.list_laws.proofs.Ranges.{range_at, first_of_range}
 use Rattle.list_laws.proofs.Places.{seam_at, inside_at}
 use Rattle.list_laws.proofs.Members.{each, all_front, all_back}
 use Rattle.list_laws.proofs.Maps.{sum_none}
-use Rattle.logic_four.specs.Gates.{AllowsOperands}
+use Rattle.logic_four.specs.Kinds.{AllowsOperands}
 use Rattle.bench_text.specs.declared.token.Token.{Token}
 use Rattle.net_defs.specs.declared.netlist.Netlist.{Netlist}
 use Rattle.net_defs.specs.declared.netlist.Signal.{Signal}
@@ -34,7 +34,7 @@ use Rattle.bench_read.proofs.DraftLemmas.{names_length, any_name}
 use Rattle.bench_read.proofs.DesignLemmas.{memory_bits}
 use Rattle.bench_read.proofs.ReadLemmas.{short_statements}
 use Rattle.bench_read.proofs.FormLemmas.{IsStatement, IsShaped}
-use Rattle.bench_read.proofs.MadeLemmas.{all_statements, signal_names, names-append, input_names, other_names, names_in_order, name_at, place_self, inputs_each, others_each, allows_is, block_at, blocks_each, numbers_range, signal_by_at, no_token, others-append, named_texts, named_orders, lead_of, earlier_line, all_flat, few_printed_of, signal_operands, lines_operands}
+use Rattle.bench_read.proofs.MadeLemmas.{all_statements, signal_names, names-append, input_names, other_names, names_in_order, name_at, place_self, inputs_each, others_each, block_at, blocks_each, numbers_range, signal_by_at, no_token, others-append, named_texts, named_orders, lead_of, earlier_line, all_flat, few_printed_of, signal_operands, lines_operands}
 
 -- ---- one netlist
 
@@ -91,7 +91,7 @@ module _ (text : List ℕ) (statements : List Statement) (all : All (IsStatement
   drivable_by front statement back split k token e act.Output is = tt
   drivable_by front statement back split k token e (act.Gate kind) is =
       let allowed = subst (λ a. allows a (length statement.driven) (length statement.uses) ≡ true) is (statement_at front statement back split).allowed in (
-        subst (AllowsOperands kind) (sym (length-map statement.uses (λ t. place_of (names_of text statements) (text_of text t)))) (allows_is kind (length statement.uses) allowed),
+        subst (AllowsOperands kind) (sym (length-map statement.uses (λ t. place_of (names_of text statements) (text_of text t)))) allowed,
         numbers_are statement.uses (uses_are front statement back split),
       )
   drivable_by front statement back split k token e act.Dff is =

@@ -1,9 +1,9 @@
--- The words of a netlist text: its commands and the kinds of its gates, in any letter case.
+-- The words of a netlist text, in any letter case.
 use Rattle.std.specs.Prelude.{ℕ, ◌+◌, ◌-◌, ◌==◌, ◌&&◌, Bool, true, nat_le, List, Option, Some, None, if◌then◌else◌, codes}
 use Rattle.std.specs.Str.{str_eq_ignore_ascii_case}
 use Rattle.limits.specs.declared.TheConstants.{MAX_ADDRESS_BITS, MAX_WORD_BITS}
 use Rattle.logic_four.specs.declared.Kind.{Kind}
-use Rattle.logic_four.specs.declared.Kind.TheVariants.{And, Nand, Or, Nor, Xor, Xnor, Not, Buf, Tri, Bus}
+use Rattle.logic_four.specs.Kinds.{kind_of, allows_operands}
 use Rattle.bench_read.specs.declared.statement.Form.{Form}
 use Rattle.bench_read.specs.declared.statement.Form.TheVariants as form
 use Rattle.bench_read.specs.declared.statement.Act.{Act}
@@ -14,25 +14,6 @@ unfoldable pub port_form : List ℕ → Option Form
 port_form word =
     if is (codes "INPUT") then Some form.Input
     else if is (codes "OUTPUT") then Some form.Output
-    else None
-  where
-    is : List ℕ → Bool
-    is name = str_eq_ignore_ascii_case word name
-
--- the kind of a gate
-unfoldable pub kind_of : List ℕ → Option Kind
-kind_of word =
-    if is (codes "AND") then Some And
-    else if is (codes "NAND") then Some Nand
-    else if is (codes "OR") then Some Or
-    else if is (codes "NOR") then Some Nor
-    else if is (codes "XOR") then Some Xor
-    else if is (codes "XNOR") then Some Xnor
-    else if is (codes "NOT") then Some Not
-    else if is (codes "BUF") then Some Buf
-    else if is (codes "BUFF") then Some Buf
-    else if is (codes "TRI") then Some Tri
-    else if is (codes "BUS") then Some Bus
     else None
   where
     is : List ℕ → Bool
@@ -49,23 +30,6 @@ gate_act word = if str_eq_ignore_ascii_case word (codes "DFF") then Some act.Dff
 -- what a line of the memory form does, by its word and the number of its address names
 unfoldable pub ram_act : List ℕ → ℕ → Option Act
 ram_act word address = if str_eq_ignore_ascii_case word (codes "RAM") then Some (act.Ram address) else None
-
--- whether a number that may be any is from 1 to 1,024
-abbrev pub is_any_number : ℕ → Bool
-is_any_number n = nat_le 1 n && nat_le n 1024
-
--- whether a gate of this kind may have so many operands
-abbrev pub allows_operands : Kind → ℕ → Bool
-allows_operands And n = is_any_number n
-allows_operands Nand n = is_any_number n
-allows_operands Or n = is_any_number n
-allows_operands Nor n = is_any_number n
-allows_operands Xor n = is_any_number n
-allows_operands Xnor n = is_any_number n
-allows_operands Not n = n == 1
-allows_operands Buf n = n == 1
-allows_operands Tri n = n == 2
-allows_operands Bus n = is_any_number n
 
 -- whether a memory may have so many address names, data names and outputs
 abbrev pub allows_memory : ℕ → ℕ → ℕ → Bool

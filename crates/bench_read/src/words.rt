@@ -5,7 +5,7 @@ ghost use Rattle.bench_read.specs.Words as specs;
 
 use crate::statement::{Act, Form};
 use limits::{MAX_ADDRESS_BITS, MAX_WORD_BITS};
-use logic_four::{Kind, allows as allows_operands};
+use logic_four::{allows as allows_operands, kind_of};
 
 /// The form of a line that is a word and one name in brackets.
 #[tactic(auto, unfolding(crate::specs::Words::port_form))]
@@ -16,36 +16,6 @@ pub fn port_form(word: &[u8]) -> Option<Form>
         Some(Form::Input)
     } else if word.eq_ignore_ascii_case(b"OUTPUT") {
         Some(Form::Output)
-    } else {
-        None
-    }
-}
-
-/// The kind of a gate.
-#[tactic(auto, unfolding(crate::specs::Words::kind_of))]
-pub fn kind_of(word: &[u8]) -> Option<Kind>
-    ensures { result ≡ specs.kind_of word.now }
-{
-    if word.eq_ignore_ascii_case(b"AND") {
-        Some(Kind::And)
-    } else if word.eq_ignore_ascii_case(b"NAND") {
-        Some(Kind::Nand)
-    } else if word.eq_ignore_ascii_case(b"OR") {
-        Some(Kind::Or)
-    } else if word.eq_ignore_ascii_case(b"NOR") {
-        Some(Kind::Nor)
-    } else if word.eq_ignore_ascii_case(b"XOR") {
-        Some(Kind::Xor)
-    } else if word.eq_ignore_ascii_case(b"XNOR") {
-        Some(Kind::Xnor)
-    } else if word.eq_ignore_ascii_case(b"NOT") {
-        Some(Kind::Not)
-    } else if word.eq_ignore_ascii_case(b"BUF") || word.eq_ignore_ascii_case(b"BUFF") {
-        Some(Kind::Buf)
-    } else if word.eq_ignore_ascii_case(b"TRI") {
-        Some(Kind::Tri)
-    } else if word.eq_ignore_ascii_case(b"BUS") {
-        Some(Kind::Bus)
     } else {
         None
     }

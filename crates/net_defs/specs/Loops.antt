@@ -6,7 +6,7 @@ use Rattle.net_defs.specs.declared.netlist.Signal.{Signal}
 use Rattle.net_defs.specs.declared.netlist.Driver.{Driver}
 use Rattle.net_defs.specs.declared.netlist.Driver.TheVariants.{Input, Gate, Dff, BlockBit}
 use Rattle.net_defs.specs.declared.timing.Timing.{Timing}
-use Rattle.net_defs.specs.declared.stimulus.Ranks.{Ranks}
+use Rattle.net_defs.specs.declared.ranks.Ranks.{Ranks}
 use Rattle.net_defs.specs.Steps.{is_late}
 use Rattle.net_defs.specs.Valid.{IsSignal}
 

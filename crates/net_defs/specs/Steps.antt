@@ -26,7 +26,7 @@ abbrev pub is_unit : Mode → Bool
 is_unit mode.Rank = false
 is_unit mode.Unit = true
 
--- a late gate reads the values of the last turn; the others read those of this turn
+-- a late gate reads the last turn; the others read this turn
 abbrev pub is_late : Netlist → Timing → ℕ → Bool
 is_late net timing signal = is_unit timing.mode
 

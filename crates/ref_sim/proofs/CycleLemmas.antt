@@ -25,7 +25,7 @@ use Rattle.std.proofs.lemmas.List.Folds.{length-flat_map-take}
 use Rattle.std.proofs.lemmas.Grind.{flat_map-append}
 use Rattle.std.proofs.Common.{length-append, append-nil}
 use Rattle.net_defs.specs.declared.stimulus.StimRow.{StimRow}
-use Rattle.net_defs.specs.declared.stimulus.CellRow.{CellRow}
+use Rattle.net_defs.specs.declared.trace.CellRow.{CellRow}
 use Rattle.net_defs.specs.Trace.{cells_of}
 use Rattle.rank_find.proofs.ListLemmas.{last_or}
 use Rattle.ref_sim.specs.declared.turn.Phase.{Phase}

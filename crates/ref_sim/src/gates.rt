@@ -2,7 +2,7 @@
 
 ghost use Rattle.std.specs.Prelude.{◌≡◌, [], ◌∷◌, count_by};
 ghost use Rattle.std.specs.List.{list_any, list_all};
-ghost use Rattle.logic_four.specs.Gates.{is_zero, is_one, is_known, is_high_z, and_value, or_value, is_odd_parity, xor_value, is_driven_zero, is_driven_one, bus_value, operand_at, gate_value};
+ghost use Rattle.logic_four.specs.Gates.{is_zero, is_one, is_known, is_high_z, and_value, or_value, is_odd_parity, xor_value, is_driven_zero, is_driven_one, bus_value, gate_value};
 ghost use Rattle.net_defs.specs.Time.{value_at};
 ghost use Rattle.net_defs.specs.Steps.{values_of};
 
@@ -153,7 +153,7 @@ fn bus_over(row: &[V4], operands: &[u32]) -> V4
 }
 
 fn operand(row: &[V4], operands: &[u32], place: usize) -> V4
-    ensures { result ≡ operand_at (values_of row.now operands.now) place }
+    ensures { result ≡ value_at (values_of row.now operands.now) place }
 {
     match operands.get(place) {
         Some(op) => value(row, *op),

@@ -1,7 +1,7 @@
 //! The output of a request, and how it is written.
 
 ghost use Rattle.std.specs.Prelude.{◌≡◌, ◌≤◌, ◌++◌, ℕ, Some, length, slice_get};
-ghost use Rattle.net_defs.specs.declared.stimulus.CellRow.{CellRow};
+ghost use Rattle.net_defs.specs.declared.trace.CellRow.{CellRow};
 ghost use Rattle.net_defs.specs.Trace.{header_line};
 ghost use Rattle.trace_text.specs.Line.{row_room};
 ghost use Rattle.yse_top.specs.Outputs.{bytes_of, CanWrite, CanPrint, cycle_lines};

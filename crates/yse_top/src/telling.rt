@@ -15,7 +15,7 @@ use bench_read::{BenchNo, Many};
 use bench_text::TextNo;
 use edge_io::{Sink, WriteNo};
 use itoa::Buffer;
-use net_defs::{Netlist, name};
+use net_defs::{Netlist, name_of};
 use stim_text::StimNo;
 
 /// Writes the refusal's line to `err`, and answers its status. A fault of `err` changes nothing.
@@ -309,7 +309,7 @@ fn write_names<S: Sink>(sink: &mut S, net: &Netlist, members: &[u32]) -> Result<
         (flat_map (λ s. codes " " ++ name_of net.now s) members.now) }
 {
     'members: for member in members {
-        if let Err(no) = write_pieces(sink, &[b" ", name(net, *member)]) {
+        if let Err(no) = write_pieces(sink, &[b" ", name_of(net, *member)]) {
             return Err(no);
         }
     }
