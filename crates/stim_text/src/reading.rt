@@ -1,6 +1,6 @@
 //! The reader of stimulus texts.
 
-ghost use Rattle.std.specs.Prelude.{◌≡◌, ◌≤◌, None, MatchResult, IfOk, length};
+ghost use Rattle.std.specs.Prelude.{◌≡◌, ◌+◌, ◌≤◌, None, MatchResult, IfOk, length};
 ghost use Rattle.limits.specs.declared.TheConstants.{MAX_CYCLES, MAX_TEXT_BYTES};
 ghost use Rattle.text_lines.specs.Answers.{Answers};
 ghost use Rattle.net_defs.specs.declared.stimulus.Stimulus.{Stimulus};
@@ -50,9 +50,17 @@ fn read_rows(alloc: Global, bytes: &[u8], inputs: u32) -> Result<List<StimRow>, 
     let mut cycles = 0;
     for (line, part) in Lines::new(bytes) {
         if let Some(row) = read_row(alloc, inputs, cycles, line, part)? {
-            cycles += row.times;
+            cycles = cycles_with(cycles, &row);
             rows.push(row)?;
         }
     }
     Ok(rows)
+}
+
+/// The cycles of rows and of one row more.
+fn cycles_with(cycles: u32, row: &StimRow) -> u32
+    requires { cycles + row.now.times ≤ MAX_CYCLES }
+    ensures { result ≡ cycles + row.now.times }
+{
+    cycles + row.times
 }

@@ -37,7 +37,7 @@ pub loop-line-preserved-in-Continue-branch-3 : goal.loop-line-preserved-in-Conti
 loop-line-preserved-in-Continue-branch-3 c =
     let next = next_line (parts_of c.args.bytes.now) (length c.loop-line.yielded) c.in-Some.line c.in-Some.part.now c.next.new.self c.loop-line.line-iterator c.loop-line.invariant.left c.in-Some.ensures.steps in
     let fits = ap_fits _ _ _ c.in-Some-2.is c.in_ok-row.ensures.fits in
-    rw (length_push, c.in_ok-push.ensures.ok) (record {
+    rw (length_push, c.in_ok-push.ensures.ok, c.cycles_with-cycles.ensures) (record {
       within = omega (arith, next.within);
       left = next.rest;
       read = read_more c.args.inputs c.args.bytes.now (length c.loop-line.yielded) c.loop-line.cycles c.in-Some.line c.in-Some.part.now c.next.new.self c.loop-line.rows c.in-Some-2.row c.loop-line.invariant.read next c.in_ok-row.ensures.answers.0 (sym c.in-Some-2.is ∙ c.in_ok-row.ensures.answers.1) fits;
