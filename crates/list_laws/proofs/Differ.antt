@@ -8,10 +8,12 @@ use Rattle.std.proofs.lemmas.List.Quantifiers.{all_pairs_push}
 pub differ_at : (xs : List ℕ) (i j : ℕ) → AllPairs (λ s t. s ≢ t) xs → i < j → j < length xs → get_or xs i 0 ≢ get_or xs j 0
 differ_at xs i j different before within = different i j 0 before within
 
+-- one more number, which is none of them
 pub differ_push : (xs : List ℕ) (y : ℕ) → AllPairs (λ s t. s ≢ t) xs → ((i : ℕ) → i < length xs → get_or xs i 0 ≢ y) → AllPairs (λ s t. s ≢ t) (xs ++ y ∷ [])
 differ_push xs y different new =
     all_pairs_push (λ s t. s ≢ t) xs y different (λ k d within. subst (λ x. x ≢ y) (get_or_default xs k 0 d within) (new k within))
 
+-- all but the last of different numbers
 pub differ_front : (xs : List ℕ) (y : ℕ) → AllPairs (λ s t. s ≢ t) (xs ++ y ∷ []) → AllPairs (λ s t. s ≢ t) xs
 differ_front xs y different i j d before within =
     let longer : j < length (xs ++ y ∷ []) = omega (arith, length_push xs y) in

@@ -8,6 +8,7 @@ fold_same f g a [] same = refl
 fold_same f g a (x ∷ xs) same =
     ap (λ b. fold f b xs) (same a x (zero, omega arith, refl)) ∙ fold_same f g (g a x) xs (λ b y held. same b y (suc held.0, omega (arith, held.1), held.2))
 
+-- a maximum of numbers that have a bound
 pub fold_max_le : (f : ℕ → ℕ) (bound a : ℕ) (xs : List ℕ) → a ≤ bound → ((x : ℕ) → f x ≤ bound) → fold (λ greatest x. max greatest (f x)) a xs ≤ bound
 fold_max_le f bound a [] low each = low
 fold_max_le f bound a (x ∷ xs) low each = fold_max_le f bound (max a (f x)) xs (omega (arith, each x)) each

@@ -12,6 +12,7 @@ pub nil_of : {X Y : Type 0} (f : X → Y) (xs : List X) → map f xs ≡ [] → 
 nil_of f [] e = refl
 nil_of f (x ∷ xs) e = cc
 
+-- the number of one more item
 pub enumerate_push : {X : Type 0} (n : ℕ) (xs : List X) (y : X) → enumerate_from n (xs ++ y ∷ []) ≡ enumerate_from n xs ++ (n + length xs, y) ∷ []
 enumerate_push n [] y = let e : n ≡ n + 0 = omega arith in ap (λ k. (k, y) ∷ []) e
 enumerate_push n (x ∷ xs) y =
@@ -39,9 +40,11 @@ pub flat_empty : {Y A : Type 0} (f : Y → List A) (ys : List Y) → All (λ y. 
 flat_empty f [] all = refl
 flat_empty f (y ∷ ys) all = ap (λ xs. xs ++ flat_map f ys) (All-head (λ y. f y ≡ []) y ys all) ∙ flat_empty f ys (All-tail (λ y. f y ≡ []) y ys all)
 
+-- what a list gives before a place, at it and after it
 pub flat_map_split : {X A : Type 0} (f : X → List A) (xs : List X) (i : ℕ) (d : X) → i < length xs → flat_map f xs ≡ flat_map f (take i xs) ++ (f (get_or xs i d) ++ flat_map f (drop (i + 1) xs))
 flat_map_split f xs i d within = ap (flat_map f) (split_at xs i d within) ∙ flat_map-append f (take i xs) (get_or xs i d ∷ drop (i + 1) xs)
 
+-- what one more member gives
 pub flat_map_more : {X A : Type 0} (f : X → List A) (xs : List X) (i : ℕ) (d : X) → i < length xs → flat_map f (take (i + 1) xs) ≡ flat_map f (take i xs) ++ f (get_or xs i d)
 flat_map_more f xs i d within =
     ap (flat_map f) (take_more xs i d within)
@@ -52,6 +55,7 @@ flat_map_more f xs i d within =
 pub flat_map_at : {X A : Type 0} (f : X → List A) (xs : List X) (i : ℕ) (here : X) → here ≡ get_or xs i here → i < length xs → flat_map f xs ≡ flat_map f (take i xs) ++ (f here ++ flat_map f (drop (i + 1) xs))
 flat_map_at f xs i here is within = flat_map_split f xs i here within ∙ ap (λ x. flat_map f (take i xs) ++ (f x ++ flat_map f (drop (i + 1) xs))) (sym is)
 
+-- what one more member gives, where that is known
 pub flat_map_grown : {X A : Type 0} (f : X → List A) (xs : List X) (i : ℕ) (here : X) → here ≡ get_or xs i here → i < length xs → flat_map f (take (i + 1) xs) ≡ flat_map f (take i xs) ++ f here
 flat_map_grown f xs i here is within = flat_map_more f xs i here within ∙ ap (λ x. flat_map f (take i xs) ++ f x) (sym is)
 
@@ -60,6 +64,7 @@ pub sum_none_of : {X Y : Type 0} (f : Y → ℕ) (g : X → Y) (xs : List X) →
 sum_none_of f g [] none = refl
 sum_none_of f g (x ∷ xs) none = omega (arith, sum_by-cons f (g x) (map g xs), none x, sum_none_of f g xs none)
 
+-- a sum of zeros
 pub sum_none : {X : Type 0} (f : X → ℕ) (xs : List X) → All (λ x. f x ≡ 0) xs → sum_by f xs ≡ 0
 sum_none f [] a = refl
 sum_none f (x ∷ xs) a = omega (arith, sum_by-cons f x xs, All-head (λ x. f x ≡ 0) x xs a, sum_none f xs (All-tail (λ x. f x ≡ 0) x xs a))

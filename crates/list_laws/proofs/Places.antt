@@ -9,6 +9,7 @@ use Rattle.std.specs.List.{Contains}
 pub read_before : (xs : List ℕ) (y i : ℕ) → i < length xs → get_or (xs ++ y ∷ []) i 0 ≡ get_or xs i 0
 read_before xs y i within = get_or_append_left xs (y ∷ []) 0 i within
 
+-- the item that is added is the last
 pub read_last : (xs : List ℕ) (y i : ℕ) → i ≡ length xs → get_or (xs ++ y ∷ []) i 0 ≡ y
 read_last xs y i at_end = get_or_push xs y 0 i (sym at_end)
 
@@ -16,6 +17,7 @@ read_last xs y i at_end = get_or_push xs y 0 i (sym at_end)
 pub Contains-at : (xs : List ℕ) (i x : ℕ) → i < length xs → get_or xs i 0 ≡ x → Contains xs x
 Contains-at xs i x within is = subst (Contains xs) is (Contains-get_or xs i 0 within)
 
+-- a number of a list stands at a place of it
 pub place_of : (xs : List ℕ) (x : ℕ) → Contains xs x → (i : ℕ) × (i < length xs) × (get_or xs i 0 ≡ x)
 place_of xs x (i, within, is) = (i, within, get_or_default xs i 0 x within ∙ is)
 
@@ -26,6 +28,7 @@ place_below xs k x short held =
     let within : at.0 < k = omega (arith, at.1, length-take-le k xs short) in
     (at.0, within, sym (get_or-take k xs at.0 0 within) ∙ at.2)
 
+-- all items but the one that was added
 pub take_front : (xs : List ℕ) (y : ℕ) → take (length xs) (xs ++ y ∷ []) ≡ xs
 take_front xs y = take_at xs (y ∷ []) (length xs) refl
 
@@ -49,6 +52,7 @@ past_end [] s e = omega arith
 past_end (x ∷ xs) zero e = cc
 past_end (x ∷ xs) (suc s) e = omega (arith, past_end xs s e)
 
+-- the first item after a list
 pub seam_at : {X : Type 0} (xs : List X) (x : X) (ys : List X) → slice_get (xs ++ x ∷ ys) (length xs) ≡ Some x
 seam_at [] x ys = refl
 seam_at (w ∷ xs) x ys = seam_at xs x ys
@@ -64,6 +68,7 @@ pub slice_past : {X : Type 0} (xs ys : List X) (k : ℕ) → slice_get (xs ++ ys
 slice_past [] ys k = let n : 0 + k ≡ k = omega arith in rw n refl
 slice_past (x ∷ xs) ys k = let n : suc (length xs) + k ≡ suc (length xs + k) = omega arith in rw n (slice_past xs ys k)
 
+-- an item of the middle of three lists
 pub inside_at : {X : Type 0} (xs ys zs : List X) (k : ℕ) (x : X) → slice_get ys k ≡ Some x → slice_get (xs ++ (ys ++ zs)) (length xs + k) ≡ Some x
 inside_at [] ys zs k x e = let n : 0 + k ≡ k = omega arith in rw n (front_at ys zs k x e) where
   front_at : {X : Type 0} (ys zs : List X) (k : ℕ) (x : X) → slice_get ys k ≡ Some x → slice_get (ys ++ zs) k ≡ Some x
@@ -76,6 +81,7 @@ inside_at (w ∷ xs) ys zs k x e = let n : suc (length xs) + k ≡ suc (length x
 pub split_at : {X : Type 0} (xs : List X) (i : ℕ) (d : X) → i < length xs → xs ≡ take i xs ++ get_or xs i d ∷ drop (i + 1) xs
 split_at xs i d within = sym (take-append-drop i xs) ∙ ap (λ rest. take i xs ++ rest) (drop_more xs i d within)
 
+-- no more items are taken than asked
 pub take_length : {X : Type 0} (n : ℕ) (xs : List X) → length (take n xs) ≤ n
 take_length zero xs = omega arith
 take_length (suc n) [] = omega arith

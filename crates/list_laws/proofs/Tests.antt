@@ -11,6 +11,7 @@ pub list_any-map : {X Y : Type 0} (p : Y → Bool) (f : X → Y) (xs : List X) �
 list_any-map p f [] = refl
 list_any-map p f (x ∷ xs) = ap (λ b. p (f x) || b) (list_any-map p f xs)
 
+-- how many in a row pass a test of what f gives
 pub prefix_len-map : {X Y : Type 0} (p : Y → Bool) (f : X → Y) (xs : List X) → prefix_len p (map f xs) ≡ prefix_len (λ x. p (f x)) xs
 prefix_len-map p f [] = refl
 prefix_len-map p f (x ∷ xs) = ap (λ n. cond (p (f x)) (1 + n) 0) (prefix_len-map p f xs)
@@ -27,6 +28,7 @@ count_none p (x ∷ xs) e = sum_by-cons (λ y. cond (p y) 1 0) x xs ∙ by_test 
   by_test true rest f = cc
   by_test false rest f = omega (arith, rest f)
 
+-- a count of none says that none passes
 pub none_counted : {X : Type 0} (p : X → Bool) (xs : List X) → count_by p xs ≡ 0 → list_any p xs ≡ false
 none_counted p [] e = refl
 none_counted p (x ∷ xs) e = by_test (p x) (none_counted p xs) (sym (sum_by-cons (λ y. cond (p y) 1 0) x xs) ∙ e) where
@@ -34,6 +36,7 @@ none_counted p (x ∷ xs) e = by_test (p x) (none_counted p xs) (sym (sum_by-con
   by_test true rest f = absurd (omega arith)
   by_test false rest f = rest (omega arith)
 
+-- where none passes none is found
 pub find_none : {X : Type 0} (p : X → Bool) (xs : List X) → list_any p xs ≡ false → find p xs ≡ None
 find_none p [] e = refl
 find_none p (x ∷ xs) e = by_test (p x) (find_none p xs) e where
@@ -41,6 +44,7 @@ find_none p (x ∷ xs) e = by_test (p x) (find_none p xs) e where
   by_test true rest f = cc
   by_test false rest f = rest f
 
+-- where none is found none passes
 pub any_not_none : {X : Type 0} (p : X → Bool) (xs : List X) → find p xs ≡ None → list_any p xs ≡ false
 any_not_none p [] e = refl
 any_not_none p (x ∷ xs) e = by_test (p x) (any_not_none p xs) e where
@@ -48,6 +52,7 @@ any_not_none p (x ∷ xs) e = by_test (p x) (any_not_none p xs) e where
   by_test true rest f = cc
   by_test false rest f = rest f
 
+-- where one passes one is found
 pub found_some : {X : Type 0} (p : X → Bool) (xs : List X) → list_any p xs ≡ true → find p xs ≡ None → ⊥
 found_some p xs some none = cc (any_not_none p xs none)
 
@@ -64,11 +69,13 @@ find_first p (x ∷ xs) (suc i) d within none here = by_test (p x) none (λ rest
 pub none_more : {X : Type 0} (p : X → Bool) (xs : List X) (i : ℕ) (d : X) → i < length xs → list_any p (take i xs) ≡ false → p (get_or xs i d) ≡ false → list_any p (take (i + 1) xs) ≡ false
 none_more p xs i d within none here = list_any_more p xs i d within ∙ ap (λ b. b || p (get_or xs i d)) none ∙ here
 
+-- tests that agree find the same
 pub find_same : {X : Type 0} (p q : X → Bool) (xs : List X) → ((x : X) → p x ≡ q x) → find p xs ≡ find q xs
 find_same p q [] same = refl
 find_same {X} p q (x ∷ xs) same =
     ap (λ b. cond {A = Option X} b (Some x) (find p xs)) (same x) ∙ ap (cond (q x) (Some x)) (find_same p q xs same)
 
+-- a first place before the end says that one passes
 pub any_within : {X : Type 0} (p : X → Bool) (xs : List X) → position_or_len p xs < length xs → list_any p xs ≡ true
 any_within p [] h = absurd (omega arith)
 any_within p (x ∷ xs) h = by_test (p x) (any_within p xs) h where
@@ -76,6 +83,7 @@ any_within p (x ∷ xs) h = by_test (p x) (any_within p xs) h where
   by_test true rest h = refl
   by_test false rest h = rest (omega arith)
 
+-- a first place at the end says that none does
 pub none_past : {X : Type 0} (p : X → Bool) (xs : List X) → length xs ≤ position_or_len p xs → list_any p xs ≡ false
 none_past p [] h = refl
 none_past p (x ∷ xs) h = by_test (p x) (none_past p xs) h where
