@@ -1,10 +1,11 @@
 -- The canonical text of a valid netlist has no fault of its bytes, and its rows are its lines.
-use Rattle.std.proofs.Common.{◌≡◌, ℕ, suc, ◌<◌, ◌≤◌, ◌⊎◌, Bool, true, false, cond, eqb, leb, List, [], ◌∷◌, ◌++◌, length, map, get_or, slice_get, Option, Some, None, sym, ◌∙◌, subst, refl, inl, inr, arith}
+use Rattle.std.proofs.Common.{◌≡◌, ℕ, suc, ◌<◌, ◌≤◌, ◌⊎◌, Bool, true, false, cond, eqb, leb, List, [], ◌∷◌, ◌++◌, length, map, get_or, slice_get, Option, Some, None, sym, subst, refl, inl, inr, arith}
 use Rattle.std.specs.Prelude.{codes}
 use Rattle.std.specs.List.{All, flat_map, list_all}
-use Rattle.std.proofs.lemmas.Bool.{leb-true, and_parts, and_from}
+use Rattle.std.proofs.lemmas.Bool.{leb-true}
 use Rattle.std.proofs.lemmas.List.Elements.{All-nil, All-cons, All-head, All-tail}
 use Rattle.std.proofs.lemmas.Option.{slice_get_cases, slice_get-get_or, slice_get_within}
+use Rattle.limits.specs.declared.TheConstants.{MAX_NAME_BYTES}
 use Rattle.logic_four.specs.declared.Kind.{Kind}
 use Rattle.logic_four.specs.declared.Kind.TheVariants.{And, Nand, Or, Nor, Xor, Xnor, Not, Buf, Tri, Bus}
 use Rattle.text_lines.specs.Bytes.{is_visible}
@@ -27,8 +28,8 @@ use Rattle.bench_read.proofs.CanonicalShape.{text_is}
 -- ---- words
 
 -- a word that tests find to be one
-word_from : (bytes : List ℕ) → leb 1 (length bytes) ≡ true → leb (length bytes) 255 ≡ true → list_all is_name_byte bytes ≡ true → IsWord bytes
-word_from bytes some short named = record { some = leb-true 1 (length bytes) some; short = leb-true (length bytes) 255 short; named = named }
+word_from : (bytes : List ℕ) → leb 1 (length bytes) ≡ true → leb (length bytes) MAX_NAME_BYTES ≡ true → list_all is_name_byte bytes ≡ true → IsWord bytes
+word_from bytes some short named = record { some = leb-true 1 (length bytes) some; short = leb-true (length bytes) MAX_NAME_BYTES short; named = named }
 
 -- the words of kinds are words
 kind_is : (kind : Kind) → IsWord (kind_word kind)

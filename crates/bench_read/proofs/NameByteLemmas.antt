@@ -1,12 +1,10 @@
 -- A name of a text is a name of a netlist.
-use Rattle.std.proofs.Common.{◌≡◌, ℕ, ◌-◌, Bool, true, false, not, ◌||◌, ◌&&◌, eqb, leb, List, [], ◌∷◌, length, drop, None, ◌∙◌, subst, refl, arith, length-drop}
-use Rattle.std.specs.List.{list_all, All}
-use Rattle.std.proofs.lemmas.Bool.{and_parts, and_from}
+use Rattle.std.proofs.Common.{◌≡◌, ℕ, ◌-◌, List, length, drop, None, subst, arith, length-drop}
+use Rattle.std.specs.List.{All}
 use Rattle.std.proofs.lemmas.List.{length-take-le}
 use Rattle.std.proofs.lemmas.List.Sums.{list_all-from_AllPass}
 use Rattle.bench_text.specs.declared.token.Mark.TheVariants.{Name}
 use Rattle.bench_text.specs.declared.token.Token.{Token}
-use Rattle.text_lines.specs.Bytes.{is_visible}
 use Rattle.text_lines.specs.Names.{is_name_byte, IsName}
 use Rattle.bench_text.specs.Tokens.{tokens_of, first_fault}
 use Rattle.bench_text.specs.Spans.{StandsIn}

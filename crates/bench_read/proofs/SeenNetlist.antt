@@ -1,8 +1,10 @@
 -- Rows that are seen as the canonical text of a valid netlist say its lines.
-use Rattle.std.proofs.Common.{◌≡◌, ℕ, zero, suc, ◌≤◌, Bool, true, false, ◌==◌, cond, List, [], ◌∷◌, ◌++◌, length, map, slice_get, Option, Some, None, sym, ap, ◌∙◌, subst, refl, arith}
+use Rattle.std.proofs.Common.{◌≡◌, ℕ, zero, suc, Bool, true, false, ◌==◌, cond, List, [], ◌∷◌, ◌++◌, length, map, slice_get, Option, Some, None, sym, ap, ◌∙◌, subst, refl, arith}
 use Rattle.std.specs.Prelude.{codes}
 use Rattle.std.specs.List.{flat_map}
-use Rattle.std.proofs.lemmas.Bool.{and_from, le-leb, eq-eqb}
+use Rattle.std.proofs.lemmas.List.FromFn.{length-range_with_len}
+use Rattle.list_laws.proofs.Members.{each}
+use Rattle.list_laws.proofs.Maps.{nil_of}
 use Rattle.logic_four.specs.declared.Kind.{Kind}
 use Rattle.logic_four.specs.declared.Kind.TheVariants.{And, Nand, Or, Nor, Xor, Xnor, Not, Buf, Tri, Bus}
 use Rattle.logic_four.specs.Kinds.{kind_of}
@@ -18,11 +20,10 @@ use Rattle.net_defs.specs.Valid.{IsDrivable, IsMemory, IsValid}
 use Rattle.bench_read.specs.declared.statement.Act.TheVariants as act
 use Rattle.bench_read.specs.Words.{gate_act}
 use Rattle.bench_read.proofs.SeenLines.{Seen, seen, seen_port, seen_gate, seen_memory, input_lines, memory_lines, driver_lines, seen_lines}
-use Rattle.bench_read.proofs.CanonicalLines.{Line, output_line, inputs_say, memory_says, drivers_say, leading_lines, printing_lines, driving_lines, lines_of, Say, say_none, say_both, cons_of, nil_of, split_of}
+use Rattle.bench_read.proofs.CanonicalLines.{Line, output_line, inputs_say, memory_says, drivers_say, leading_lines, printing_lines, driving_lines, lines_of, Say, say_none, say_both, cons_of, split_of}
 use Rattle.bench_read.proofs.SeenRows.{input_says, output_says, gate_says}
 use Rattle.bench_read.proofs.SeenMemory.{AreBits}
 use Rattle.bench_read.proofs.SeenMemory as memories
-use Rattle.bench_read.proofs.MadeLemmas.{range_length}
 
 -- ---- the words of kinds
 
@@ -90,7 +91,7 @@ bits_of net m memory is = record {
   few_address = is.address_bits.1;
   some_words = is.word_bits.0;
   few_words = is.word_bits.1;
-  same = sym (ap length is.outs ∙ range_length _ (length memory.word));
+  same = sym (ap length is.outs ∙ length-range_with_len _ (length memory.word));
 }
 
 module _ (text : List ℕ) (net : Netlist) (valid : IsValid net) where

@@ -1,6 +1,7 @@
 -- The words of a netlist text, in any letter case.
 use Rattle.std.specs.Prelude.{ℕ, ◌+◌, ◌-◌, ◌==◌, ◌&&◌, Bool, true, nat_le, List, Option, Some, None, if◌then◌else◌, codes}
 use Rattle.std.specs.Str.{str_eq_ignore_ascii_case}
+use Rattle.limits.specs.declared.TheConstants.{MAX_ADDRESS_BITS, MAX_WORD_BITS}
 use Rattle.logic_four.specs.declared.Kind.{Kind}
 use Rattle.logic_four.specs.Kinds.{kind_of, allows_operands}
 use Rattle.bench_read.specs.declared.statement.Form.{Form}
@@ -28,12 +29,12 @@ gate_act word = if str_eq_ignore_ascii_case word (codes "DFF") then Some act.Dff
 
 -- what a line of the memory form does, by its word and the number of its address names
 unfoldable pub ram_act : List ℕ → ℕ → Option Act
-ram_act word address = if str_eq_ignore_ascii_case word (codes "RAM") then Some (act.Memory address) else None
+ram_act word address = if str_eq_ignore_ascii_case word (codes "RAM") then Some (act.Ram address) else None
 
 -- whether a memory may have so many address names, data names and outputs
 abbrev pub allows_memory : ℕ → ℕ → ℕ → Bool
 allows_memory address words outputs =
-    nat_le 1 address && nat_le address 16 && nat_le 1 words && nat_le words 64 && (words == outputs)
+    nat_le 1 address && nat_le address MAX_ADDRESS_BITS && nat_le 1 words && nat_le words MAX_WORD_BITS && (words == outputs)
 
 -- whether a line may drive so many names and have so many names in its round brackets
 abbrev pub allows : Act → ℕ → ℕ → Bool
@@ -41,4 +42,4 @@ allows act.Input driven uses = true
 allows act.Output driven uses = true
 allows (act.Gate kind) driven uses = allows_operands kind uses
 allows act.Dff driven uses = uses == 1
-allows (act.Memory address) driven uses = allows_memory address (uses - (1 + address)) driven
+allows (act.Ram address) driven uses = allows_memory address (uses - (1 + address)) driven

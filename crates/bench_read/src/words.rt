@@ -4,6 +4,7 @@ ghost use Rattle.std.specs.Prelude.{◌≡◌, ◌+◌, ◌-◌};
 ghost use Rattle.bench_read.specs.Words as specs;
 
 use crate::statement::{Act, Form};
+use limits::{MAX_ADDRESS_BITS, MAX_WORD_BITS};
 use logic_four::{allows as allows_operands, kind_of};
 
 /// The form of a line that is a word and one name in brackets.
@@ -40,7 +41,7 @@ pub fn ram_act(word: &[u8], address: usize) -> Option<Act>
     ensures { result ≡ specs.ram_act word.now address }
 {
     if word.eq_ignore_ascii_case(b"RAM") {
-        Some(Act::Memory { address })
+        Some(Act::Ram { address })
     } else {
         None
     }
@@ -54,7 +55,7 @@ pub fn allows(act: Act, driven: usize, uses: usize) -> bool
         Act::Input | Act::Output => true,
         Act::Gate { kind } => allows_operands(kind, uses),
         Act::Dff => uses == 1,
-        Act::Memory { address } => { allows_memory(address, data_count(uses, address), driven) }
+        Act::Ram { address } => { allows_memory(address, data_count(uses, address), driven) }
     }
 }
 
@@ -62,7 +63,11 @@ pub fn allows(act: Act, driven: usize, uses: usize) -> bool
 fn allows_memory(address: usize, words: usize, outputs: usize) -> bool
     ensures { result ≡ specs.allows_memory address words outputs }
 {
-    1 <= address && address <= 16 && 1 <= words && words <= 64 && words == outputs
+    1 <= address
+        && address <= MAX_ADDRESS_BITS
+        && 1 <= words
+        && words <= MAX_WORD_BITS
+        && words == outputs
 }
 
 /// The number of data names, beside the write enable and the address.
