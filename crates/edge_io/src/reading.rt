@@ -67,7 +67,7 @@ fn read_rest<F: Files>(alloc: Global, files: &mut F, limit: usize) -> Result<Lis
         match files.read(&mut buffer[..room]) {
             Ok(0) => return Ok(bytes),
             Ok(n) => {
-                if append(&mut bytes, &buffer[..n]).is_err() {
+                if bytes.extend_from_slice(&buffer[..n]).is_err() {
                     return Err(ReadNo::Memory);
                 }
             }
@@ -75,14 +75,4 @@ fn read_rest<F: Files>(alloc: Global, files: &mut F, limit: usize) -> Result<Lis
         }
     }
     Err(ReadNo::TooLong)
-}
-
-/// Adds a piece at the end of a list of bytes. Refused, a part of the piece may stand there.
-fn append(bytes: &mut List<u8>, piece: &[u8]) -> Result<(), Memory>
-    ensures { OnOk result (bytes.new ≡ bytes.old ++ piece.now) }
-{
-    for byte in piece {
-        bytes.push(*byte)?;
-    }
-    Ok(())
 }

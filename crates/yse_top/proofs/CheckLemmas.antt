@@ -1,6 +1,7 @@
 -- Each check answers once, and answers; and there is one trace.
 use Rattle.std.proofs.Common.{◌≡◌, ◌∙◌, sym, ap, refl, subst, ◌⊎◌, inl, inr, ℕ, ◌<◌, ◌≤◌, List, Option, Some, None, Result, Ok, Err, arith}
 use Rattle.std.proofs.lemmas.Bool.{cases_lt}
+use Rattle.limits.specs.declared.TheConstants.{MAX_CELLS}
 use Rattle.text_lines.specs.Answers.{IsReader}
 use Rattle.net_defs.specs.declared.netlist.Netlist.{Netlist}
 use Rattle.net_defs.specs.declared.timing.Timing.{Timing}
@@ -11,7 +12,7 @@ use Rattle.net_defs.specs.Time.{cycle_count}
 use Rattle.net_defs.specs.Trace.{IsTrace, trace_to}
 use Rattle.yse_top.specs.declared.status.Status.{Status}
 use Rattle.yse_top.specs.declared.status.Status.TheVariants as status
-use Rattle.yse_top.specs.Checks.{ReadsAs, HasNoLoop, HasFewCells, cell_count, most_cells}
+use Rattle.yse_top.specs.Checks.{ReadsAs, HasNoLoop, HasFewCells, cell_count}
 use Rattle.yse_top.specs.Law.{AreAlike}
 use Rattle.yse_top.specs.Lines.{loop_line, cells_line}
 use Rattle.yse_top.specs.Outcome.{Outcome, refusal}
@@ -69,11 +70,11 @@ cells_check net stimulus = record {
   values = λ x y passed passed_too. refl;
   either = λ x o passed refused. omega (arith, passed, refused.0);
   refusals = λ o p refused refused_too. alike o p (refused.1 ∙ sym refused_too.1);
-  some = some (cases_lt most_cells (cell_count net stimulus));
+  some = some (cases_lt MAX_CELLS (cell_count net stimulus));
   of_text = λ o refused. subst (λ (p : Outcome). IsOfText p.status) (sym refused.1) tt;
 }
   where
-    some : (most_cells < cell_count net stimulus) ⊎ (cell_count net stimulus ≤ most_cells) → ((x : Unit {0}) × HasFewCells net stimulus (Ok x)) ⊎ ((o : Outcome) × HasFewCells net stimulus (Err o))
+    some : (MAX_CELLS < cell_count net stimulus) ⊎ (cell_count net stimulus ≤ MAX_CELLS) → ((x : Unit {0}) × HasFewCells net stimulus (Ok x)) ⊎ ((o : Outcome) × HasFewCells net stimulus (Err o))
     some (inl many) = inr (refusal status.Limit (cells_line (cell_count net stimulus)), (many, refl))
     some (inr few) = inl (tt, few)
 

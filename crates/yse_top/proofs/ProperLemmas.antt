@@ -2,9 +2,10 @@
 use Rattle.std.proofs.Common.{◌≡◌, ◌≢◌, ◌∙◌, sym, ap, refl, subst, ◌⊎◌, inl, inr, ℕ, zero, suc, ◌≤◌, List, [], ◌∷◌, ◌++◌, length, take, map, Option, Some, None, Result, Ok, Err, Bool, true, false}
 use Rattle.std.specs.Prelude.{⊤, slice_get, nat_le, if◌then◌else◌}
 use Rattle.std.proofs.lemmas.Bool.{leb-true}
+use Rattle.limits.specs.declared.TheConstants.{MAX_TEXT_BYTES}
 use Rattle.yse_top.specs.declared.status.Status.{Status}
 use Rattle.yse_top.specs.declared.status.Status.TheVariants as status
-use Rattle.yse_top.specs.Checks.{After, AfterRead, AfterFile, Ends, Writes, text_of, read_fault, most_bytes}
+use Rattle.yse_top.specs.Checks.{After, AfterRead, AfterFile, Ends, Writes, text_of, read_fault}
 use Rattle.yse_top.specs.Ends.{IsAnswer}
 use Rattle.yse_top.specs.Law.{AreAlike, AgreeOn, AreGiven, HasCause, IsProper}
 use Rattle.yse_top.specs.Lines.{read_fault_line, too_long_line, usage_line}
@@ -210,8 +211,8 @@ text_check file bytes = record {
   values = λ x y e f. passed_once x y (sym e ∙ f);
   either = λ x o e f. never_both x o (sym e ∙ f);
   refusals = λ o p e f. alike o p (refused_once o p (sym e ∙ f));
-  some = some (nat_le (length bytes) most_bytes);
-  of_text = of_text (nat_le (length bytes) most_bytes);
+  some = some (nat_le (length bytes) MAX_TEXT_BYTES);
+  of_text = of_text (nat_le (length bytes) MAX_TEXT_BYTES);
 }
   where
     some : (b : Bool) → ((x : List ℕ) × ((if b then passes bytes else refuses (refusal status.Limit (too_long_line file))) ≡ Ok x)) ⊎ ((o : Outcome) × ((if b then passes bytes else refuses (refusal status.Limit (too_long_line file))) ≡ Err o))
@@ -223,18 +224,18 @@ text_check file bytes = record {
     of_text false o e = subst (λ (p : Outcome). IsOfText p.status) (refused_once (refusal status.Limit (too_long_line file)) o e) tt
 
 -- a text that passes is short
-passed_short : (file bytes text : List ℕ) → text_of file bytes ≡ Ok text → length text ≤ most_bytes
-passed_short file bytes text = by (nat_le (length bytes) most_bytes) refl
+passed_short : (file bytes text : List ℕ) → text_of file bytes ≡ Ok text → length text ≤ MAX_TEXT_BYTES
+passed_short file bytes text = by (nat_le (length bytes) MAX_TEXT_BYTES) refl
   where
-    by : (b : Bool) → nat_le (length bytes) most_bytes ≡ b → (if b then Ok bytes else Err (refusal status.Limit (too_long_line file))) ≡ Ok text → length text ≤ most_bytes
-    by true is e = let same : bytes ≡ text = cc in subst (λ (t : List ℕ). length t ≤ most_bytes) same (leb-true (length bytes) most_bytes is)
+    by : (b : Bool) → nat_le (length bytes) MAX_TEXT_BYTES ≡ b → (if b then Ok bytes else Err (refusal status.Limit (too_long_line file))) ≡ Ok text → length text ≤ MAX_TEXT_BYTES
+    by true is e = let same : bytes ≡ text = cc in subst (λ (t : List ℕ). length t ≤ MAX_TEXT_BYTES) same (leb-true (length bytes) MAX_TEXT_BYTES is)
     by false is e = cc
 
 module _ (file : List ℕ) (files : List (List ℕ)) (Next : List ℕ → List Reading → Outcome → Type 0) where
-  read_proper : ((text : List ℕ) → length text ≤ most_bytes → IsProper files (Next text)) → (bytes : List ℕ) → IsProper files (AfterRead file (Some bytes) Next)
+  read_proper : ((text : List ℕ) → length text ≤ MAX_TEXT_BYTES → IsProper files (Next text)) → (bytes : List ℕ) → IsProper files (AfterRead file (Some bytes) Next)
   read_proper on bytes = proper_after files (λ result. text_of file bytes ≡ result) Next (text_check file bytes) (λ text passed. on text (passed_short file bytes text passed))
 
-  pub proper_file : ((text : List ℕ) → length text ≤ most_bytes → IsProper files (Next text)) → IsProper (file ∷ files) (AfterFile file Next)
+  pub proper_file : ((text : List ℕ) → length text ≤ MAX_TEXT_BYTES → IsProper files (Next text)) → IsProper (file ∷ files) (AfterFile file Next)
   proper_file on = record { one = one; some = λ give. some give (give zero file) refl; begun = begun; cause = cause }
     where
       one : (readings others : List Reading) (o p : Outcome) → AfterFile file Next readings o → AfterFile file Next others p → AgreeOn readings others → o.status ≢ status.Memory → p.status ≢ status.Memory → AreAlike o p
@@ -282,7 +283,7 @@ module _ (file : List ℕ) (files : List (List ℕ)) (Next : List ℕ → List R
           by None unread (none, fault) = subst (λ rs. HasCause (reading ∷ rs) o) (sym none) (cause_unread reading file o is unread fault)
           by (Some bytes) read here = subst (λ (b : Option (List ℕ)). HasCause (record { file = reading.file; bytes = b } ∷ readings) o) (sym read) (cause_after reading.file bytes readings o ((read_proper on bytes).cause readings o here))
 
-  pub command_file : ((text : List ℕ) → length text ≤ most_bytes → IsCommand files (Next text)) → IsCommand (file ∷ files) (AfterFile file Next)
+  pub command_file : ((text : List ℕ) → length text ≤ MAX_TEXT_BYTES → IsCommand files (Next text)) → IsCommand (file ∷ files) (AfterFile file Next)
   command_file on = record { proper = proper_file (λ text short. (on text short).proper); statuses = statuses }
     where
       statuses : (readings : List Reading) (o : Outcome) → AfterFile file Next readings o → IsOfCommand o.status

@@ -3,6 +3,7 @@ use Rattle.std.proofs.Common.{◌≡◌, refl, sym, subst, ℕ, ◌≤◌, Bool,
 use Rattle.std.specs.Prelude.{nat_le, ◌==◌, IfSome, if◌then◌else◌, codes}
 use Rattle.std.specs.Option.{option_map}
 use Rattle.std.proofs.lemmas.Bool.{leb-true}
+use Rattle.limits.specs.declared.TheConstants.{MAX_UNITS}
 use Rattle.text_lines.specs.Numbers.{number_of, within}
 use Rattle.net_defs.specs.declared.timing.Timing.{Timing}
 use Rattle.net_defs.specs.declared.timing.Mode.{Mode}
@@ -25,12 +26,12 @@ ranged least most (Some m) n is = by (nat_le least m) (nat_le m most) refl refl 
     by true false p q e = cc
     by false b p q e = cc
 
-units_ranged : (value : Option (List ℕ)) (n : ℕ) → units_of value ≡ Some n → (1 ≤ n) × (n ≤ 4096)
+units_ranged : (value : Option (List ℕ)) (n : ℕ) → units_of value ≡ Some n → (1 ≤ n) × (n ≤ MAX_UNITS)
 units_ranged None n is = let same : 1 ≡ n = cc in rw (sym same) (omega arith, omega arith)
 units_ranged (Some value) n is = by (nat_le (length value) 10) is
   where
-    by : (b : Bool) → (if b then within 1 4096 (number_of value) else None) ≡ Some n → (1 ≤ n) × (n ≤ 4096)
-    by true e = ranged 1 4096 (number_of value) n e
+    by : (b : Bool) → (if b then within 1 MAX_UNITS (number_of value) else None) ≡ Some n → (1 ≤ n) × (n ≤ MAX_UNITS)
+    by true e = ranged 1 MAX_UNITS (number_of value) n e
     by false e = cc
 
 -- in rank order a cycle is one turn

@@ -1,6 +1,7 @@
 -- The output of a simulation is the trace of what its files read as.
 use Rattle.std.proofs.Common.{◌≡◌, ◌≢◌, ◌∙◌, sym, ap, refl, subst, inl, inr, ℕ, zero, suc, List, [], ◌∷◌, Option, Some, None, Result, Ok, Err, Bool, true, false}
 use Rattle.std.specs.Prelude.{slice_get, IfSome}
+use Rattle.limits.specs.declared.TheConstants.{MAX_TEXT_BYTES}
 use Rattle.edge_io.specs.Names.{OfTold}
 use Rattle.edge_io.specs.declared.counts.FileCounts.{FileCounts}
 use Rattle.net_defs.specs.declared.netlist.Netlist.{Netlist}
@@ -13,7 +14,7 @@ use Rattle.yse_top.specs.declared.output.Output.{Output}
 use Rattle.yse_top.specs.declared.refusal.Refusal.{Refusal}
 use Rattle.yse_top.specs.declared.status.Status.{Status}
 use Rattle.yse_top.specs.declared.status.Status.TheVariants as status
-use Rattle.yse_top.specs.Checks.{After, AfterRead, AfterFile, Ends, Writes, text_of, most_bytes, IsNetlistOf, HasNoLoop, IsStimulusOf, HasFewCells}
+use Rattle.yse_top.specs.Checks.{After, AfterRead, AfterFile, Ends, Writes, text_of, IsNetlistOf, HasNoLoop, IsStimulusOf, HasFewCells}
 use Rattle.yse_top.specs.Expected.{Expected, ExpectedOf, ExpectedAsked}
 use Rattle.yse_top.specs.Outcome.{Outcome, done, refusal}
 use Rattle.yse_top.specs.Lines.{too_long_line}
@@ -38,7 +39,7 @@ passed Checked Next readings output never (inr (none, inr memory)) = absurd (not
 
 -- the text of a file that passes is its bytes
 whole_text : (file bytes text : List ℕ) → text_of file bytes ≡ Ok text → bytes ≡ text
-whole_text file bytes text = by (nat_le (length bytes) most_bytes)
+whole_text file bytes text = by (nat_le (length bytes) MAX_TEXT_BYTES)
   where
     by : (b : Bool) → (if b then Ok bytes else Err (refusal status.Limit (too_long_line file))) ≡ Ok text → bytes ≡ text
     by true e = cc
@@ -74,7 +75,7 @@ module _ (bytes : Option (List ℕ → List ℕ)) where
           }
         where
           never : (read : List ℕ) → text_of file read ≡ Err (done output) → ⊥
-          never read e = by_test (nat_le (length read) most_bytes) e
+          never read e = by_test (nat_le (length read) MAX_TEXT_BYTES) e
             where
               by_test : (b : Bool) → (if b then passes read else refuses (refusal status.Limit (too_long_line file))) ≡ Err (done output) → ⊥
               by_test true f = never_both read (done output) f

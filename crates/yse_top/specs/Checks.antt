@@ -2,6 +2,7 @@
 -- ends the call. A chain of checks is a relation between the files that are begun from here on and the
 -- outcome of the call.
 use Rattle.std.specs.Prelude.{◌≡◌, ◌⊎◌, ℕ, ◌+◌, ◌*◌, ◌<◌, ◌≤◌, nat_le, if◌then◌else◌, List, [], ◌∷◌, length, Option, Some, None, Result, Ok, Err}
+use Rattle.limits.specs.declared.TheConstants.{MAX_CELLS, MAX_TEXT_BYTES}
 use Rattle.net_defs.specs.declared.netlist.Netlist.{Netlist}
 use Rattle.net_defs.specs.declared.timing.Timing.{Timing}
 use Rattle.net_defs.specs.declared.stimulus.Stimulus.{Stimulus}
@@ -27,13 +28,9 @@ abbrev pub After : {X : Type 0} → (Result X Outcome → Type 0) → (X → Lis
 After {X} Checked Next readings outcome =
     ((x : X) × Checked (Ok x) × Next x readings outcome) ⊎ ((readings ≡ []) × Refuses Checked outcome)
 
--- the most bytes of a file
-abbrev pub most_bytes : ℕ
-most_bytes = 67108864
-
 -- the text of a file that isn't too long
 abbrev pub text_of : List ℕ → List ℕ → Result (List ℕ) Outcome
-text_of file bytes = if nat_le (length bytes) most_bytes then Ok bytes else Err (refusal status.Limit (too_long_line file))
+text_of file bytes = if nat_le (length bytes) MAX_TEXT_BYTES then Ok bytes else Err (refusal status.Limit (too_long_line file))
 
 abbrev pub read_fault : List ℕ → Outcome
 read_fault file = refusal status.ReadFault (read_fault_line file)
@@ -77,16 +74,12 @@ abbrev pub HasNoLoop : Netlist → Timing → Result (Unit {0}) Outcome → Type
 HasNoLoop net timing (Ok passed) = (loop : List ℕ) → IsLoop net timing loop → ⊥
 HasNoLoop net timing (Err outcome) = (loop : List ℕ) × IsLoop net timing loop × (outcome ≡ refusal status.Loop (loop_line net loop))
 
--- the most cells
-abbrev pub most_cells : ℕ
-most_cells = 268435456
-
 -- a cell for each input and each printed name in each cycle
 abbrev pub cell_count : Netlist → Stimulus → ℕ
 cell_count net stimulus = cycle_count stimulus * (input_count net + length net.printed)
 
 -- there are not too many cells
 abbrev pub HasFewCells : Netlist → Stimulus → Result (Unit {0}) Outcome → Type 0
-HasFewCells net stimulus (Ok passed) = cell_count net stimulus ≤ most_cells
+HasFewCells net stimulus (Ok passed) = cell_count net stimulus ≤ MAX_CELLS
 HasFewCells net stimulus (Err outcome) =
-    (most_cells < cell_count net stimulus) × (outcome ≡ refusal status.Limit (cells_line (cell_count net stimulus)))
+    (MAX_CELLS < cell_count net stimulus) × (outcome ≡ refusal status.Limit (cells_line (cell_count net stimulus)))

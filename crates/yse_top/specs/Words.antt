@@ -2,6 +2,7 @@
 -- as two words, at most once and in their order.
 use Rattle.std.specs.Prelude.{ℕ, ◌==◌, ◌&&◌, Bool, true, false, not, nat_le, if◌then◌else◌, List, [], ◌∷◌, length, Option, Some, None, IfSome, codes, bytes_eq}
 use Rattle.std.specs.Option.{option_map}
+use Rattle.limits.specs.declared.TheConstants.{MAX_UNITS}
 use Rattle.text_lines.specs.Numbers.{number_of, within}
 use Rattle.net_defs.specs.declared.timing.Timing.{Timing}
 use Rattle.net_defs.specs.declared.timing.Mode.{Mode}
@@ -75,7 +76,7 @@ mode_of (Some value) =
 -- the turns of a cycle: 1 to 4,096 in at most ten digits, and 1 where none is given
 abbrev pub units_of : Option (List ℕ) → Option ℕ
 units_of None = Some 1
-units_of (Some value) = if nat_le (length value) 10 then within 1 4096 (number_of value) else None
+units_of (Some value) = if nat_le (length value) 10 then within 1 MAX_UNITS (number_of value) else None
 
 -- the initial value, and undefined where none is given
 abbrev pub init_of : Option (List ℕ) → Option Init

@@ -1,22 +1,21 @@
 //! The checks of what was read: one function a check.
 
-ghost use Rattle.std.specs.Prelude.{◌≡◌, ◌≤◌, Ok, Err, length, count_by, IfOk, IfErr, OnOk};
+ghost use Rattle.std.specs.Prelude.{◌≡◌, ◌≤◌, Ok, Err, length, IfOk, IfErr, OnOk};
+ghost use Rattle.limits.specs.declared.TheConstants.{MAX_TEXT_BYTES};
 ghost use Rattle.net_defs.specs.Loops.{IsOrder};
-ghost use Rattle.net_defs.specs.Valid.{IsValid, IsValidStimulus, input_count, is_input};
-ghost use Rattle.yse_top.specs.Checks.{Refuses, IsNetlistOf, IsStimulusOf, HasNoLoop, HasFewCells, cell_count, most_bytes};
+ghost use Rattle.net_defs.specs.Valid.{IsValid, IsValidStimulus};
+ghost use Rattle.yse_top.specs.Checks.{Refuses, IsNetlistOf, IsStimulusOf, HasNoLoop, HasFewCells, cell_count};
 ghost use Rattle.yse_top.specs.Refusals.{Satisfies, refused_of};
 
 use crate::refusal::{Refusal, of_netlist, of_stimulus};
 use bench_read::law::reads_as_valid;
 use bench_read::read_bench;
-use net_defs::{Driver, Netlist, Ranks, Signal, Stimulus, Timing};
+use limits::MAX_CELLS;
+use net_defs::{Netlist, Ranks, Stimulus, Timing};
 use rank_find::{RankNo, rank};
 use seen_list::List;
 use std::alloc::Global;
 use stim_text::read_stim;
-
-/// The most cells: a cell for each input and each printed name in each cycle.
-const MAX_CELLS: u64 = 268_435_456;
 
 /// A netlist, and an order of its gates.
 #[derive(Drop)]
@@ -27,7 +26,7 @@ pub struct Design {
 
 /// The netlist of a text.
 pub fn netlist_of<'a>(alloc: Global, text: &[u8]) -> Result<Netlist, Refusal<'a>>
-    requires { length text.now ≤ most_bytes }
+    requires { length text.now ≤ MAX_TEXT_BYTES }
     ensures checked { Satisfies result (IsNetlistOf text.now) }
     ensures valid { IfOk result IsValid }
 {
@@ -43,11 +42,11 @@ pub fn netlist_of<'a>(alloc: Global, text: &[u8]) -> Result<Netlist, Refusal<'a>
 /// The stimulus of a text for the inputs of a netlist.
 pub fn stimulus_of<'a>(alloc: Global, text: &[u8], net: &Netlist) -> Result<Stimulus, Refusal<'a>>
     requires valid { IsValid net.now }
-    requires short { length text.now ≤ most_bytes }
+    requires short { length text.now ≤ MAX_TEXT_BYTES }
     ensures checked { Satisfies result (IsStimulusOf text.now net.now) }
     ensures valid { IfOk result IsValidStimulus }
 {
-    match read_stim(alloc, text, input_columns(net)) {
+    match read_stim(alloc, text, net.inputs()) {
         Ok(stimulus) => Ok(stimulus),
         Err(no) => Err(of_stimulus(no)),
     }
@@ -88,30 +87,6 @@ fn cell_count(net: &Netlist, stimulus: &Stimulus) -> u64
     requires stimulus { IsValidStimulus stimulus.now }
     ensures { result ≡ cell_count net.now stimulus.now }
 {
-    let columns = u64::from(input_columns(net)) + net.printed.len() as u64;
+    let columns = u64::from(net.inputs()) + net.printed.len() as u64;
     u64::from(stimulus.cycles()) * columns
-}
-
-/// The number of inputs.
-fn input_columns(net: &Netlist) -> u32
-    requires { length net.now.signals ≤ 1048576 }
-    ensures { result ≡ input_count net.now }
-{
-    count_inputs(net.signals.as_slice()) as u32
-}
-
-fn count_inputs(signals: &[Signal]) -> usize
-    ensures count { result ≡ count_by (λ signal. is_input signal.driver) signals.now }
-    ensures within { result ≤ length signals.now }
-{
-    signals
-        .iter()
-        .filter(|signal| is_input_driver(&signal.driver))
-        .count()
-}
-
-fn is_input_driver(driver: &Driver) -> bool
-    ensures { result ≡ is_input driver.now }
-{
-    matches!(driver, Driver::Input)
 }

@@ -17,10 +17,11 @@ use itoa::Buffer;
 use net_defs::{Netlist, name_of};
 use stim_text::StimNo;
 
-/// Takes the refusal's line to `err`, and answers its status. A fault of `err` changes nothing.
+/// Writes the line of a refusal to `err`, and answers its status. A fault of `err` changes nothing.
 pub fn refuse<E: Sink>(err: &mut E, refusal: Refusal<'_>) -> Status
     ensures status { result ≡ status_of refusal.entry }
-    ensures line { TakesLine (E.taken err.old) (E.taken err.new) (E.faults err.old) (E.faults err.new) (line_of refusal.entry) }
+    ensures line { TakesLine (E.taken err.old) (E.taken err.new) (E.faults err.old) (E.faults err.new)
+        (line_of refusal.entry) }
 {
     let _ = write_line(err, &refusal);
     status_of(&refusal)
@@ -29,7 +30,8 @@ pub fn refuse<E: Sink>(err: &mut E, refusal: Refusal<'_>) -> Status
 /// Writes the line of a write fault to `err`, and answers its status. A fault of `err` changes nothing.
 pub fn tell_write_fault<E: Sink>(err: &mut E) -> Status
     ensures status { result ≡ Status.WriteFault }
-    ensures line { TakesLine (E.taken err.old) (E.taken err.new) (E.faults err.old) (E.faults err.new) write_fault_line }
+    ensures line { TakesLine (E.taken err.old) (E.taken err.new) (E.faults err.old) (E.faults err.new)
+        write_fault_line }
 {
     let _ = write_write_fault_line(err);
     Status::WriteFault
@@ -49,9 +51,10 @@ fn status_of(refusal: &Refusal<'_>) -> Status
     }
 }
 
-/// Takes pieces one after the other, up to the first fault.
+/// Writes pieces one after the other, up to the first fault.
 fn write_pieces<S: Sink>(sink: &mut S, pieces: &[&[u8]]) -> Result<(), WriteNo>
-    ensures { Takes (S.taken sink.old) (S.taken sink.new) (S.faults sink.old) (S.faults sink.new) result (flat_map (λ piece. piece.now) pieces.now) }
+    ensures { Takes (S.taken sink.old) (S.taken sink.new) (S.faults sink.old) (S.faults sink.new)
+        result (flat_map (λ piece. piece.now) pieces.now) }
 {
     'pieces: for i in 0..pieces.len() {
         if let Err(no) = write_piece(sink, piece_at(pieces, i)) {
@@ -69,7 +72,8 @@ fn piece_at<'a>(pieces: &[&'a [u8]], i: usize) -> &'a [u8]
 }
 
 fn write_line<S: Sink>(sink: &mut S, refusal: &Refusal<'_>) -> Result<(), WriteNo>
-    ensures { Takes (S.taken sink.old) (S.taken sink.new) (S.faults sink.old) (S.faults sink.new) result (line_of refusal.now) }
+    ensures { Takes (S.taken sink.old) (S.taken sink.new) (S.faults sink.old) (S.faults sink.new)
+        result (line_of refusal.now) }
 {
     match refusal {
         Refusal::Words => write_usage_line(sink),
@@ -85,7 +89,8 @@ fn write_line<S: Sink>(sink: &mut S, refusal: &Refusal<'_>) -> Result<(), WriteN
 
 #[tactic(auto, unfolding(crate::specs::Lines::usage_line))]
 fn write_usage_line<S: Sink>(sink: &mut S) -> Result<(), WriteNo>
-    ensures { Takes (S.taken sink.old) (S.taken sink.new) (S.faults sink.old) (S.faults sink.new) result usage_line }
+    ensures { Takes (S.taken sink.old) (S.taken sink.new) (S.faults sink.old) (S.faults sink.new)
+        result usage_line }
 {
     write_pieces(
         sink,
@@ -99,14 +104,16 @@ fn write_usage_line<S: Sink>(sink: &mut S) -> Result<(), WriteNo>
 
 #[tactic(auto, unfolding(crate::specs::Lines::read_fault_line))]
 fn write_read_fault_line<S: Sink>(sink: &mut S, file: &[u8]) -> Result<(), WriteNo>
-    ensures { Takes (S.taken sink.old) (S.taken sink.new) (S.faults sink.old) (S.faults sink.new) result (read_fault_line file.now) }
+    ensures { Takes (S.taken sink.old) (S.taken sink.new) (S.faults sink.old) (S.faults sink.new)
+        result (read_fault_line file.now) }
 {
     write_pieces(sink, &[b"read fault: ", file, b"\n"])
 }
 
 #[tactic(auto, unfolding(crate::specs::Lines::too_long_line))]
 fn write_too_long_line<S: Sink>(sink: &mut S, file: &[u8]) -> Result<(), WriteNo>
-    ensures { Takes (S.taken sink.old) (S.taken sink.new) (S.faults sink.old) (S.faults sink.new) result (too_long_line file.now) }
+    ensures { Takes (S.taken sink.old) (S.taken sink.new) (S.faults sink.old) (S.faults sink.new)
+        result (too_long_line file.now) }
 {
     write_pieces(
         sink,
@@ -116,7 +123,8 @@ fn write_too_long_line<S: Sink>(sink: &mut S, file: &[u8]) -> Result<(), WriteNo
 
 #[tactic(auto, unfolding(crate::specs::Lines::cells_line))]
 fn write_cells_line<S: Sink>(sink: &mut S, cells: u64) -> Result<(), WriteNo>
-    ensures { Takes (S.taken sink.old) (S.taken sink.new) (S.faults sink.old) (S.faults sink.new) result (cells_line cells) }
+    ensures { Takes (S.taken sink.old) (S.taken sink.new) (S.faults sink.old) (S.faults sink.new)
+        result (cells_line cells) }
 {
     let mut number = Buffer::new();
     let cells = number.format(cells).as_bytes();
@@ -125,13 +133,15 @@ fn write_cells_line<S: Sink>(sink: &mut S, cells: u64) -> Result<(), WriteNo>
 
 #[tactic(auto, unfolding(crate::specs::Lines::write_fault_line))]
 fn write_write_fault_line<S: Sink>(sink: &mut S) -> Result<(), WriteNo>
-    ensures { Takes (S.taken sink.old) (S.taken sink.new) (S.faults sink.old) (S.faults sink.new) result write_fault_line }
+    ensures { Takes (S.taken sink.old) (S.taken sink.new) (S.faults sink.old) (S.faults sink.new)
+        result write_fault_line }
 {
     write_piece(sink, b"write fault\n")
 }
 
 fn write_netlist_line<S: Sink>(sink: &mut S, no: &BenchNo) -> Result<(), WriteNo>
-    ensures { Takes (S.taken sink.old) (S.taken sink.new) (S.faults sink.old) (S.faults sink.new) result (netlist_line no.now) }
+    ensures { Takes (S.taken sink.old) (S.taken sink.new) (S.faults sink.old) (S.faults sink.new)
+        result (netlist_line no.now) }
 {
     match no {
         BenchNo::Text(no) => write_text_line(sink, no),
@@ -148,7 +158,8 @@ fn write_netlist_line<S: Sink>(sink: &mut S, no: &BenchNo) -> Result<(), WriteNo
 }
 
 fn write_text_line<S: Sink>(sink: &mut S, no: &TextNo) -> Result<(), WriteNo>
-    ensures { Takes (S.taken sink.old) (S.taken sink.new) (S.faults sink.old) (S.faults sink.new) result (text_line no.now) }
+    ensures { Takes (S.taken sink.old) (S.taken sink.new) (S.faults sink.old) (S.faults sink.new)
+        result (text_line no.now) }
 {
     match no {
         TextNo::BadByte { line, column } => write_byte_line(sink, *line, *column),
@@ -168,14 +179,16 @@ fn many_words(what: Many) -> &'static [u8]
 
 #[tactic(auto, unfolding(crate::specs::Lines::memory_line))]
 fn write_memory_line<S: Sink>(sink: &mut S) -> Result<(), WriteNo>
-    ensures { Takes (S.taken sink.old) (S.taken sink.new) (S.faults sink.old) (S.faults sink.new) result memory_line }
+    ensures { Takes (S.taken sink.old) (S.taken sink.new) (S.faults sink.old) (S.faults sink.new)
+        result memory_line }
 {
     write_piece(sink, b"out of memory\n")
 }
 
 #[tactic(auto, unfolding(crate::specs::Lines::fault_line))]
 fn write_netlist_fault<S: Sink>(sink: &mut S, line: u32, fault: &[u8]) -> Result<(), WriteNo>
-    ensures { Takes (S.taken sink.old) (S.taken sink.new) (S.faults sink.old) (S.faults sink.new) result (fault_line line fault.now) }
+    ensures { Takes (S.taken sink.old) (S.taken sink.new) (S.faults sink.old) (S.faults sink.new)
+        result (fault_line line fault.now) }
 {
     let mut number = Buffer::new();
     let line = number.format(line).as_bytes();
@@ -184,7 +197,8 @@ fn write_netlist_fault<S: Sink>(sink: &mut S, line: u32, fault: &[u8]) -> Result
 
 #[tactic(auto, unfolding(crate::specs::Lines::byte_line))]
 fn write_byte_line<S: Sink>(sink: &mut S, line: u32, column: u32) -> Result<(), WriteNo>
-    ensures { Takes (S.taken sink.old) (S.taken sink.new) (S.faults sink.old) (S.faults sink.new) result (byte_line line column) }
+    ensures { Takes (S.taken sink.old) (S.taken sink.new) (S.faults sink.old) (S.faults sink.new)
+        result (byte_line line column) }
 {
     let (mut first, mut second) = (Buffer::new(), Buffer::new());
     let line = first.format(line).as_bytes();
@@ -208,7 +222,8 @@ fn write_twice_line<S: Sink>(
     name: &[u8],
     first_line: u32,
 ) -> Result<(), WriteNo>
-    ensures { Takes (S.taken sink.old) (S.taken sink.new) (S.faults sink.old) (S.faults sink.new) result (twice_line line name.now first_line) }
+    ensures { Takes (S.taken sink.old) (S.taken sink.new) (S.faults sink.old) (S.faults sink.new)
+        result (twice_line line name.now first_line) }
 {
     let (mut first, mut second) = (Buffer::new(), Buffer::new());
     let line = first.format(line).as_bytes();
@@ -229,7 +244,8 @@ fn write_twice_line<S: Sink>(
 
 #[tactic(auto, unfolding(crate::specs::Lines::undriven_line))]
 fn write_undriven_line<S: Sink>(sink: &mut S, line: u32, name: &[u8]) -> Result<(), WriteNo>
-    ensures { Takes (S.taken sink.old) (S.taken sink.new) (S.faults sink.old) (S.faults sink.new) result (undriven_line line name.now) }
+    ensures { Takes (S.taken sink.old) (S.taken sink.new) (S.faults sink.old) (S.faults sink.new)
+        result (undriven_line line name.now) }
 {
     let mut number = Buffer::new();
     let line = number.format(line).as_bytes();
@@ -240,7 +256,8 @@ fn write_undriven_line<S: Sink>(sink: &mut S, line: u32, name: &[u8]) -> Result<
 }
 
 fn write_stimulus_line<S: Sink>(sink: &mut S, no: &StimNo) -> Result<(), WriteNo>
-    ensures { Takes (S.taken sink.old) (S.taken sink.new) (S.faults sink.old) (S.faults sink.new) result (stimulus_line no.now) }
+    ensures { Takes (S.taken sink.old) (S.taken sink.new) (S.faults sink.old) (S.faults sink.new)
+        result (stimulus_line no.now) }
 {
     match no {
         StimNo::BadChar { line } => write_row_line(sink, *line, b"bad character"),
@@ -253,7 +270,8 @@ fn write_stimulus_line<S: Sink>(sink: &mut S, no: &StimNo) -> Result<(), WriteNo
 
 #[tactic(auto, unfolding(crate::specs::Lines::row_line))]
 fn write_row_line<S: Sink>(sink: &mut S, line: u32, fault: &[u8]) -> Result<(), WriteNo>
-    ensures { Takes (S.taken sink.old) (S.taken sink.new) (S.faults sink.old) (S.faults sink.new) result (row_line line fault.now) }
+    ensures { Takes (S.taken sink.old) (S.taken sink.new) (S.faults sink.old) (S.faults sink.new)
+        result (row_line line fault.now) }
 {
     let mut number = Buffer::new();
     let line = number.format(line).as_bytes();
@@ -262,7 +280,8 @@ fn write_row_line<S: Sink>(sink: &mut S, line: u32, fault: &[u8]) -> Result<(), 
 
 #[tactic(auto, unfolding(crate::specs::Lines::width_line))]
 fn write_width_line<S: Sink>(sink: &mut S, line: u32, got: u32, want: u32) -> Result<(), WriteNo>
-    ensures { Takes (S.taken sink.old) (S.taken sink.new) (S.faults sink.old) (S.faults sink.new) result (width_line line got want) }
+    ensures { Takes (S.taken sink.old) (S.taken sink.new) (S.faults sink.old) (S.faults sink.new)
+        result (width_line line got want) }
 {
     let (mut first, mut second, mut third) = (Buffer::new(), Buffer::new(), Buffer::new());
     let line = first.format(line).as_bytes();
@@ -284,14 +303,16 @@ fn write_width_line<S: Sink>(sink: &mut S, line: u32, got: u32, want: u32) -> Re
 
 #[tactic(auto, unfolding(crate::specs::Lines::cycles_line))]
 fn write_cycles_line<S: Sink>(sink: &mut S) -> Result<(), WriteNo>
-    ensures { Takes (S.taken sink.old) (S.taken sink.new) (S.faults sink.old) (S.faults sink.new) result cycles_line }
+    ensures { Takes (S.taken sink.old) (S.taken sink.new) (S.faults sink.old) (S.faults sink.new)
+        result cycles_line }
 {
     write_piece(sink, b"stimulus: too many cycles\n")
 }
 
 #[tactic(auto, unfolding(crate::specs::Lines::loop_line))]
 fn write_loop_line<S: Sink>(sink: &mut S, net: &Netlist, members: &[u32]) -> Result<(), WriteNo>
-    ensures { Takes (S.taken sink.old) (S.taken sink.new) (S.faults sink.old) (S.faults sink.new) result (loop_line net.now members.now) }
+    ensures { Takes (S.taken sink.old) (S.taken sink.new) (S.faults sink.old) (S.faults sink.new)
+        result (loop_line net.now members.now) }
 {
     match write_members(sink, net, members) {
         Ok(()) => write_piece(sink, b"\n"),
@@ -309,7 +330,7 @@ fn write_members<S: Sink>(sink: &mut S, net: &Netlist, members: &[u32]) -> Resul
     }
 }
 
-/// Takes the names, a space before each.
+/// Writes the names, a space before each.
 fn write_names<S: Sink>(sink: &mut S, net: &Netlist, members: &[u32]) -> Result<(), WriteNo>
     ensures { Takes (S.taken sink.old) (S.taken sink.new) (S.faults sink.old) (S.faults sink.new) result
         (flat_map (λ s. codes " " ++ name_of net.now s) members.now) }

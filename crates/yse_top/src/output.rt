@@ -29,10 +29,11 @@ pub enum Output {
     Trace(Trace),
 }
 
-/// Takes an output. It takes no memory.
+/// Writes an output. It takes no memory.
 pub fn write_output<O: Sink>(out: &mut O, output: Output) -> Result<(), WriteNo>
     requires { CanWrite output }
-    ensures { Takes (O.taken out.old) (O.taken out.new) (O.faults out.old) (O.faults out.new) result (bytes_of output) }
+    ensures { Takes (O.taken out.old) (O.taken out.new) (O.faults out.old) (O.faults out.new)
+        result (bytes_of output) }
 {
     match output {
         Output::Text(text) => write_piece(out, text.as_bytes()),
@@ -40,9 +41,10 @@ pub fn write_output<O: Sink>(out: &mut O, output: Output) -> Result<(), WriteNo>
     }
 }
 
-/// Takes one piece.
+/// Writes one piece.
 pub fn write_piece<S: Sink>(sink: &mut S, piece: &[u8]) -> Result<(), WriteNo>
-    ensures { Takes (S.taken sink.old) (S.taken sink.new) (S.faults sink.old) (S.faults sink.new) result piece.now }
+    ensures { Takes (S.taken sink.old) (S.taken sink.new) (S.faults sink.old) (S.faults sink.new)
+        result piece.now }
 {
     write_whole(sink, piece)
 }
@@ -65,11 +67,12 @@ fn write_trace<O: Sink>(out: &mut O, trace: Trace) -> Result<(), WriteNo>
     }
 }
 
-/// Takes the line of each cycle, counted from 1.
+/// Writes the line of each cycle, counted from 1.
 fn write_rows<O: Sink>(out: &mut O, line: &mut TraceLine, rows: &[CellRow]) -> Result<(), WriteNo>
     requires room { (c : ℕ) (row : CellRow) → slice_get rows.now c ≡ Some row → row_room (length row.cells) ≤ line.old.room }
     requires cycles { length rows.now ≤ 1000000 }
-    ensures { Takes (O.taken out.old) (O.taken out.new) (O.faults out.old) (O.faults out.new) result (cycle_lines rows.now) }
+    ensures { Takes (O.taken out.old) (O.taken out.new) (O.faults out.old) (O.faults out.new)
+        result (cycle_lines rows.now) }
 {
     'rows: for (i, row) in rows.iter().enumerate() {
         line.row(i as u32 + 1, row.cells.as_slice());

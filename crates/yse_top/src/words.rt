@@ -5,6 +5,7 @@ ghost use Rattle.std.specs.Option.{option_map};
 ghost use Rattle.std.specs.String.{string_bytes};
 ghost use Rattle.yse_top.specs.Words.{is_file_name, take_option, mode_of, units_of, init_of, allows_units, timing_with, timing_of, simulation_of, HasValidTiming, shown_of, command_of, request_of, seen, seen_words};
 
+use limits::MAX_UNITS;
 use net_defs::{Init, Mode, Timing};
 use text_lines::numbers::number_within;
 
@@ -143,7 +144,7 @@ fn units_of(value: Option<&[u8]>) -> Option<u32>
 {
     match value {
         None => Some(1),
-        Some(digits) if digits.len() <= MAX_DIGITS => number_within(digits, 1, 4096),
+        Some(digits) if digits.len() <= MAX_DIGITS => number_within(digits, 1, MAX_UNITS),
         Some(_) => None,
     }
 }
