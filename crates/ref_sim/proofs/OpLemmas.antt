@@ -1,6 +1,7 @@
 -- Operations that join two values, and gates made of them.
 use Rattle.std.proofs.Common.{◌≡◌, ◌≢◌, ◌∙◌, ℕ, zero, suc, ◌+◌, ◌<◌, ◌≤◌, List, [], ◌∷◌, ◌++◌, length, map, take, get_or, refl, sym, ap, subst, arith, IsTrue}
 use Rattle.std.specs.List.{All}
+use Rattle.std.proofs.lemmas.Bool.{eqb-true}
 use Rattle.std.proofs.lemmas.List.{length-set, get_or-set_same, get_or-set_other, map_more, take_all, append_assoc}
 use Rattle.std.proofs.lemmas.List.Elements.{All-append}
 use Rattle.std.proofs.lemmas.List.Sums.{fold_push}
@@ -8,7 +9,8 @@ use Rattle.logic_four.specs.declared.V4.{V4}
 use Rattle.logic_four.specs.declared.V4.TheVariants.{Undef}
 use Rattle.logic_four.specs.declared.Kind.{Kind}
 use Rattle.logic_four.specs.declared.Kind.TheVariants.{And, Nand, Or, Nor, Xor, Xnor, Not, Buf, Tri, Bus}
-use Rattle.logic_four.specs.Gates.{gate_value, AllowsOperands}
+use Rattle.logic_four.specs.Gates.{gate_value}
+use Rattle.logic_four.specs.Kinds.{AllowsOperands}
 use Rattle.logic_four.specs.Folds.{takes_many, base_kind, lone_kind}
 use Rattle.logic_four.proofs.FoldLemmas.{front}
 use Rattle.net_defs.specs.Time.{value_at}
@@ -150,18 +152,6 @@ wide_last spare base gate k last kind joining operands old mid new is many low s
     (λ values. ap (λ xs. gate_value kind (map (λ o. value_at values (base + o)) xs)) (take_all (k + 1) operands (omega arith)))
 
 -- what is allowed
-pub some_operands : (kind : Kind) (n : ℕ) → AllowsOperands kind n → 1 ≤ n
-some_operands And n allowed = allowed.0
-some_operands Nand n allowed = allowed.0
-some_operands Or n allowed = allowed.0
-some_operands Nor n allowed = allowed.0
-some_operands Xor n allowed = allowed.0
-some_operands Xnor n allowed = allowed.0
-some_operands Not n allowed = omega arith
-some_operands Buf n allowed = omega arith
-some_operands Tri n allowed = omega arith
-some_operands Bus n allowed = allowed.0
-
 pub many_operands : (kind : Kind) (n : ℕ) → AllowsOperands kind n → n ≢ 1 → n ≢ 2 → IsTrue (takes_many kind)
 many_operands And n allowed more than = refl
 many_operands Nand n allowed more than = refl
@@ -169,14 +159,14 @@ many_operands Or n allowed more than = refl
 many_operands Nor n allowed more than = refl
 many_operands Xor n allowed more than = refl
 many_operands Xnor n allowed more than = refl
-many_operands Not n allowed more than = absurd (more allowed)
-many_operands Buf n allowed more than = absurd (more allowed)
-many_operands Tri n allowed more than = absurd (than allowed)
+many_operands Not n allowed more than = absurd (more (eqb-true n 1 allowed))
+many_operands Buf n allowed more than = absurd (more (eqb-true n 1 allowed))
+many_operands Tri n allowed more than = absurd (than (eqb-true n 2 allowed))
 many_operands Bus n allowed more than = refl
 
 -- a gate of one operand reads it twice
 lone : (kind : Kind) (a : V4) → AllowsOperands kind 1 → gate_value (lone_kind kind) (a ∷ a ∷ []) ≡ gate_value kind (a ∷ [])
-lone Tri a allowed = absurd (omega arith)
+lone Tri a allowed = cc
 lone And a allowed = grind arith
 lone Nand a allowed = grind arith
 lone Or a allowed = grind arith

@@ -9,7 +9,8 @@ use Rattle.std.proofs.lemmas.Option.{slice_get-get_or}
 use Rattle.logic_four.specs.declared.V4.{V4}
 use Rattle.logic_four.specs.declared.Kind.{Kind}
 use Rattle.logic_four.specs.Values.{settled}
-use Rattle.logic_four.specs.Gates.{gate_value, AllowsOperands}
+use Rattle.logic_four.specs.Gates.{gate_value}
+use Rattle.logic_four.specs.Kinds.{AllowsOperands}
 use Rattle.net_defs.specs.declared.netlist.Netlist.{Netlist}
 use Rattle.net_defs.specs.declared.netlist.Signal.{Signal}
 use Rattle.net_defs.specs.declared.netlist.Driver.{Driver}

@@ -1,7 +1,8 @@
 //! Signals as operations on the places of their values.
 
 ghost use Rattle.std.specs.Prelude.{◌≡◌, ◌+◌, ◌*◌, ◌^◌, ◌<◌, ◌≤◌, ◌∷◌, [], length, map, All, IfOk, OnOk, IsTrue, if◌then◌else◌};
-ghost use Rattle.logic_four.specs.Gates.{gate_value, AllowsOperands};
+ghost use Rattle.logic_four.specs.Gates.{gate_value};
+ghost use Rattle.logic_four.specs.Kinds.{AllowsOperands};
 ghost use Rattle.logic_four.specs.Folds.{takes_many};
 ghost use Rattle.net_defs.specs.Time.{value_at};
 ghost use Rattle.net_defs.specs.Steps.{is_late};
