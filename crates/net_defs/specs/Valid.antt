@@ -32,7 +32,8 @@ abbrev pub IsDrivable : Netlist → ℕ → Driver → Type 0
 IsDrivable net s Input = Unit {0}
 IsDrivable net s (Gate kind ops) = AllowsOperands kind (length ops) × All (IsSignal net) ops
 IsDrivable net s (Dff op) = IsSignal net op
-IsDrivable net s (BlockBit m bit) = (memory : Block) × (slice_get net.blocks m ≡ Some memory) × (slice_get memory.outs bit ≡ Some s)
+IsDrivable net s (BlockBit m bit) =
+    (memory : Block) × (slice_get net.blocks m ≡ Some memory) × (slice_get memory.outs bit ≡ Some s)
 
 -- a memory of 1 to 16 address bits and 1 to 64 data bits, whose outputs stand side by side in signal
 -- order, each driven by its bit of this memory
@@ -43,7 +44,10 @@ pub record IsMemory (net : Netlist) (m : ℕ) (memory : Block) : Type 0 where
   pub word : All (IsSignal net) memory.word
   pub word_bits : (1 ≤ length memory.word) × (length memory.word ≤ MAX_WORD_BITS)
   pub outs : memory.outs ≡ range_with_len (slice_index memory.outs 0) (length memory.word)
-  pub driven : (bit s : ℕ) → slice_get memory.outs bit ≡ Some s → (signal : Signal) × (slice_get net.signals s ≡ Some signal) × (signal.driver ≡ BlockBit m bit)
+  pub driven :
+      (bit s : ℕ) → slice_get memory.outs bit ≡ Some s
+      → (signal : Signal) × (slice_get net.signals s ≡ Some signal)
+      × (signal.driver ≡ BlockBit m bit)
 
 -- the operands within the round brackets of a signal's line; a memory's are counted by themselves
 abbrev pub operand_count : Driver → ℕ
@@ -57,15 +61,22 @@ memory_operand_count memory = 1 + length memory.address + length memory.word
 
 -- each signal has a name
 abbrev pub AreNamed : List Signal → Type 0
-AreNamed signals = (s : ℕ) (signal : Signal) → slice_get signals s ≡ Some signal → IsName signal.name
+AreNamed signals =
+    (s : ℕ) (signal : Signal) → slice_get signals s ≡ Some signal → IsName signal.name
 
 -- no two signals have one name
 abbrev pub NamesDiffer : List Signal → Type 0
-NamesDiffer signals = (s t : ℕ) (one other : Signal) → slice_get signals s ≡ Some one → slice_get signals t ≡ Some other → one.name ≡ other.name → s ≡ t
+NamesDiffer signals =
+    (s t : ℕ) (one other : Signal)
+    → slice_get signals s ≡ Some one → slice_get signals t ≡ Some other
+    → one.name ≡ other.name → s ≡ t
 
 -- what stands before an input is an input
 abbrev pub InputsLead : List Signal → Type 0
-InputsLead signals = (s t : ℕ) (one other : Signal) → slice_get signals s ≡ Some one → slice_get signals t ≡ Some other → s < t → IsTrue (is_input other.driver) → IsTrue (is_input one.driver)
+InputsLead signals =
+    (s t : ℕ) (one other : Signal)
+    → slice_get signals s ≡ Some one → slice_get signals t ≡ Some other
+    → s < t → IsTrue (is_input other.driver) → IsTrue (is_input one.driver)
 
 -- a valid netlist
 pub record IsValid (net : Netlist) : Type 0 where
@@ -73,13 +84,22 @@ pub record IsValid (net : Netlist) : Type 0 where
   pub distinct : NamesDiffer net.signals
   pub inputs_first : InputsLead net.signals
   -- what a driver, a memory or an output line names is there
-  pub drivers : (s : ℕ) (signal : Signal) → slice_get net.signals s ≡ Some signal → IsDrivable net s signal.driver
-  pub memories : (m : ℕ) (memory : Block) → slice_get net.blocks m ≡ Some memory → IsMemory net m memory
-  pub memories_in_order : (m n : ℕ) (one other : Block) → slice_get net.blocks m ≡ Some one → slice_get net.blocks n ≡ Some other → m < n → slice_index one.outs 0 < slice_index other.outs 0
+  pub drivers :
+      (s : ℕ) (signal : Signal) → slice_get net.signals s ≡ Some signal
+      → IsDrivable net s signal.driver
+  pub memories :
+      (m : ℕ) (memory : Block) → slice_get net.blocks m ≡ Some memory → IsMemory net m memory
+  pub memories_in_order :
+      (m n : ℕ) (one other : Block)
+      → slice_get net.blocks m ≡ Some one → slice_get net.blocks n ≡ Some other
+      → m < n → slice_index one.outs 0 < slice_index other.outs 0
   pub printed : All (IsSignal net) net.printed
   -- the limits
   pub few_signals : length net.signals ≤ MAX_SIGNALS
-  pub few_operands : sum_by (λ signal. operand_count signal.driver) net.signals + sum_by memory_operand_count net.blocks ≤ MAX_OPERANDS
+  pub few_operands :
+      sum_by (λ signal. operand_count signal.driver) net.signals
+      + sum_by memory_operand_count net.blocks
+      ≤ MAX_OPERANDS
   pub few_printed : length net.printed < 2 ^ 32
 
 -- a valid timing: 1 to 4,096 turns a cycle, and 1 in rank order
@@ -91,8 +111,12 @@ pub record IsValidTiming (timing : Timing) : Type 0 where
 -- a valid stimulus: each row has a value for each input and 1 to 1,000,000 cycles, of which there
 -- are at most 1,000,000 in all
 pub record IsValidStimulus (stimulus : Stimulus) : Type 0 where
-  pub columns : (r : ℕ) (row : StimRow) → slice_get stimulus.rows r ≡ Some row → length row.values ≡ stimulus.columns
-  pub times : (r : ℕ) (row : StimRow) → slice_get stimulus.rows r ≡ Some row → (1 ≤ row.times) × (row.times ≤ MAX_CYCLES)
+  pub columns :
+      (r : ℕ) (row : StimRow) → slice_get stimulus.rows r ≡ Some row
+      → length row.values ≡ stimulus.columns
+  pub times :
+      (r : ℕ) (row : StimRow) → slice_get stimulus.rows r ≡ Some row
+      → (1 ≤ row.times) × (row.times ≤ MAX_CYCLES)
   pub cycles : cycle_count stimulus ≤ MAX_CYCLES
 
 -- the number of inputs
