@@ -72,9 +72,10 @@ pub record IsRanking (net : Netlist) (timing : Timing) (rank : List ℕ) : Type 
   pub signals : length rank ≡ length net.signals
   pub numbers : (s : ℕ) → IsSignal net s → slice_index rank s ≡ rank_above net rank (waits_for net timing s)
 
--- the order and the ranks of a netlist
+-- the order and the ranks of a netlist; an order is no longer than the netlist
 pub record AreRanks (net : Netlist) (timing : Timing) (ranks : Ranks) : Type 0 where
   pub order : IsOrder net timing ranks.order
+  pub few : length ranks.order ≤ length net.signals
   pub rank : IsRanking net timing ranks.rank
 
 -- there is an order or a loop

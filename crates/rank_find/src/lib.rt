@@ -73,7 +73,8 @@ fn find_order(alloc: Global, net: &Netlist, timing: &Timing) -> Result<Found, Me
 
 fn ranked(alloc: Global, net: &Netlist, timing: &Timing, order: List<u32>) -> Result<Ranks, RankNo>
     requires order { IsOrder net.now timing.now order }
-    requires short { length order < 2 ^ 32 }
+    requires few { length order ≤ length net.now.signals }
+    requires short { length net.now.signals < 2 ^ 32 }
     ensures ranks { IfOk result (AreRanks net.now timing.now) }
     ensures memory { IfErr result (λ no. no ≡ RankNo.Memory) }
 {
