@@ -1,5 +1,5 @@
 -- What is given to the signals of a role.
-use Rattle.std.proofs.Common.{◌≡◌, ◌∙◌, ℕ, ◌<◌, Bool, true, List, ◌++◌, length, take, get_or, refl, sym, ap, subst, arith}
+use Rattle.std.proofs.Common.{◌≡◌, ◌∙◌, ℕ, ◌<◌, Bool, true, List, ◌++◌, length, take, get_or, sym, ap, subst, arith}
 use Rattle.std.specs.List.{Contains, refill}
 use Rattle.std.proofs.lemmas.List.{drop_all, append-nil, take_all}
 use Rattle.logic_four.specs.declared.V4.{V4}
@@ -29,14 +29,6 @@ assigns_as net which f g old new same assigns = record {
   long = assigns.long;
   here = λ s plays. assigns.here s plays ∙ same s plays;
   others = assigns.others;
-}
-
--- nothing is changed, and nothing is to be
-pub assigns_none : (net : Netlist) (which : ℕ → Bool) (f : ℕ → V4) (values : List V4) → ((s : ℕ) → value_at values s ≡ f s) → Assigns net which f values values
-assigns_none net which f values same = record {
-  long = refl;
-  here = λ s plays. same s;
-  others = λ p none spared. refl;
 }
 
 -- what was put into a list that was lent

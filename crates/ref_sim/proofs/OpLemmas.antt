@@ -104,20 +104,6 @@ base_twice Buf = refl
 base_twice Tri = refl
 base_twice Bus = refl
 
--- the first two operands of a wide gate
-pub wide_first : (spare base : ℕ) (kind : Kind) (operands : List ℕ) (old new : List GateOp) → 2 ≤ length operands → All (λ o. base + o < spare) operands
-    → AddsPair kind spare (base + get_or operands 0 0) (base + get_or operands 1 0) old new
-    → Adds spare spare (λ values. gate_value kind (map (λ o. value_at values (base + o)) (take 2 operands))) old new
-wide_first spare base kind operands old new wide within adds =
-    let one : base + get_or operands 0 0 < spare = within 0 0 (omega arith) in
-    let two : base + get_or operands 1 0 < spare = within 1 0 (omega arith) in
-    adds_as spare spare _ _ old new (pair_does spare spare (base + get_or operands 0 0) (base + get_or operands 1 0) kind (omega arith) (omega arith) (omega arith) old new adds)
-    (λ values. ap (gate_value kind) (firsts (λ o. value_at values (base + o)) operands wide)) where
-      firsts : (f : ℕ → V4) (xs : List ℕ) → 2 ≤ length xs → f (get_or xs 0 0) ∷ f (get_or xs 1 0) ∷ [] ≡ map f (take 2 xs)
-      firsts f [] wide = absurd (omega arith)
-      firsts f (x ∷ []) wide = absurd (omega arith)
-      firsts f (x ∷ y ∷ rest) wide = refl
-
 -- one operand more of a wide gate, whose first operands are joined in the spare place
 pub wide_more : (spare base gate k : ℕ) (kind joining : Kind) (operands : List ℕ) (old mid new : List GateOp) → joining ≡ base_kind kind → IsTrue (takes_many kind) → gate ≤ spare → k < length operands
     → All (λ o. base + o < spare) operands

@@ -1,11 +1,9 @@
 -- The operations of some signals, one after the other.
-use Rattle.std.proofs.Common.{◌≡◌, ◌≢◌, ◌∙◌, ℕ, ◌+◌, ◌<◌, inl, inr, false, if◌then◌else◌, List, [], length, map, get_or, refl, sym, ap, subst, arith, Option, Some, None}
+use Rattle.std.proofs.Common.{◌≡◌, ◌≢◌, ◌∙◌, ℕ, ◌+◌, ◌<◌, inl, inr, false, if◌then◌else◌, List, length, map, get_or, refl, sym, ap, subst, arith, Option, Some, None}
 use Rattle.std.specs.List.{All, slice_get, Contains}
 use Rattle.std.proofs.lemmas.Bool.Decides.{eqb_tells}
-use Rattle.std.proofs.lemmas.List.{append-nil}
 use Rattle.std.proofs.lemmas.List.Elements.{All-append}
 use Rattle.std.proofs.lemmas.List.Sums.{fold-append}
-use Rattle.std.proofs.lemmas.Option.{slice_get-get_or}
 use Rattle.logic_four.specs.declared.V4.{V4}
 use Rattle.logic_four.specs.declared.Kind.{Kind}
 use Rattle.logic_four.specs.Values.{settled}
@@ -26,39 +24,6 @@ use Rattle.ref_sim.specs.Ops.{do_op, follow, IsWithin, Adds}
 use Rattle.ref_sim.specs.Sequences.{spare_place, place_count, operand_place, here_driven, here_value, IsSequence, Settles}
 use Rattle.ref_sim.proofs.OpLemmas.{adds_as}
 use Rattle.ref_sim.proofs.Along.{map_same, late_or, waits_here}
-
--- no operations
-pub settles_none : (net : Netlist) (timing : Timing) (list : List ℕ) → Settles net timing list 0 []
-settles_none net timing list = record {
-  within = λ k e below. absurd (omega (arith, below));
-  long = λ values. refl;
-  here = λ values i long below. absurd (omega (arith, below));
-  others = λ values p other spared. refl;
-}
-
--- a signal of a netlist by its number
-pub signal_here : (net : Netlist) (s : ℕ) (signal : Signal) (list : List Signal) → s < length net.signals → list ≡ net.signals → signal ≡ get_or list s signal → slice_get net.signals s ≡ Some signal
-signal_here net s signal list within same is = slice_get-get_or net.signals s signal within ∙ ap Some (sym (is ∙ ap (λ signals. get_or signals s signal) same))
-
--- a signal that takes no operations
-pub none_adds : (spare s : ℕ) (value : List V4 → V4) (old : List GateOp) → ((values : List V4) → value_at values s ≡ value values) → Adds spare s value old old
-none_adds spare s value old keeps = record {
-  ops = [];
-  grown = sym (append-nil old);
-  does = record {
-    within = λ k e below. absurd (omega (arith, below));
-    long = λ values. refl;
-    here = λ values long. keeps values;
-    others = λ values p other spared. refl;
-  };
-}
-
--- the operations of a signal by its driver
-pub driver_adds : (net : Netlist) (timing : Timing) (s : ℕ) (signal : Signal) (list : List Signal) (old new : List GateOp) → s < length net.signals → list ≡ net.signals → signal ≡ get_or list s signal
-    → Adds (spare_place net) s (λ values. here_driven net timing s values signal.driver) old new → Adds (spare_place net) s (here_value net timing s) old new
-driver_adds net timing s signal list old new within same at adds =
-    let is = signal_here net s signal list within same at in
-    adds_as (spare_place net) s (λ values. here_driven net timing s values signal.driver) (here_value net timing s) old new adds (λ values. rw is refl)
 
 -- the operations of a gate
 pub gate_adds : (net : Netlist) (timing : Timing) (s spare base : ℕ) (driver : Driver) (kind : Kind) (ops now : List ℕ) (old new : List GateOp) → driver ≡ Gate kind ops → now ≡ ops → spare ≡ spare_place net → base ≡ (if is_late net timing s then length net.signals else 0)

@@ -23,8 +23,8 @@ mod trace_rows;
 mod turn;
 mod values;
 
-use net_defs::{Netlist, Ranks, Rows, Stimulus, Timing};
-use rank_find::rank;
+use net_defs::{Netlist, Rows, Stimulus, Timing};
+use rank_find::order;
 /// Why there is no simulation: the gates of a loop, or want of memory.
 pub use rank_find::RankNo as RefNo;
 pub use run::refer_in_order;
@@ -43,8 +43,8 @@ pub fn refer(alloc: Global, net: &Netlist, timing: &Timing, stim: &Stimulus) -> 
     ensures looped { IfErr result (λ no. IfLoop no (IsLoop net.now timing.now)) }
     ensures in_rank_order { IfErr result (λ no. IfLoop no (λ _. timing.now.mode ≡ mode.Rank)) }
 {
-    let Ranks { order, .. } = rank(alloc, net, timing)?;
-    match refer_in_order(alloc, net, timing, stim, order) {
+    let gates = order(alloc, net, timing)?;
+    match refer_in_order(alloc, net, timing, stim, gates) {
         Ok(rows) => Ok(rows),
         Err(Memory) => Err(RefNo::Memory),
     }
