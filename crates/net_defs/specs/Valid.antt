@@ -1,7 +1,7 @@
 -- Valid netlists, timings and stimuli, by plain facts that mention no text. The limits are this
 -- project's profile.
-use Rattle.std.specs.Prelude.{◌≡◌, ℕ, ◌+◌, ◌^◌, ◌<◌, ◌≤◌, ◌&&◌, ◌==◌, Bool, true, false, not, nat_le, List, [], ◌∷◌, length, IsTrue, Some, slice_get, slice_index, count_by, All}
-use Rattle.std.specs.List.{sum_by, list_all, list_any, range_with_len}
+use Rattle.std.specs.Prelude.{◌≡◌, ℕ, ◌+◌, ◌^◌, ◌<◌, ◌≤◌, Bool, true, false, List, length, IsTrue, Some, slice_get, slice_index, count_by, All}
+use Rattle.std.specs.List.{sum_by, range_with_len}
 use Rattle.limits.specs.declared.TheConstants.{MAX_SIGNALS, MAX_OPERANDS, MAX_ADDRESS_BITS, MAX_WORD_BITS, MAX_UNITS, MAX_CYCLES}
 use Rattle.logic_four.specs.Kinds.{AllowsOperands}
 pub use Rattle.text_lines.specs.Names.{IsName}
