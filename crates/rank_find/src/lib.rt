@@ -56,7 +56,7 @@ pub fn rank(alloc: Global, net: &Netlist, timing: &Timing) -> Result<Ranks, Rank
 pub fn order(alloc: Global, net: &Netlist, timing: &Timing) -> Result<List<u32>, RankNo>
     requires { length net.now.signals < 2 ^ 32 }
     ensures order { IfOk result (IsOrder net.now timing.now) }
-    ensures short { IfOk result (λ order. length order < 2 ^ 32) }
+    ensures few { IfOk result (λ order. length order ≤ length net.now.signals) }
 
     // A loop is answered exactly where there is one, which is in rank order alone.
     ensures acyclic { OnOk result ((members : Items ℕ) → IsLoop net.now timing.now members → ⊥) }
