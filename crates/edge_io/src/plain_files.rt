@@ -8,7 +8,8 @@ use crate::{Failed, Files};
 use seen_list::List;
 use std::marker::Model;
 
-/// Files in memory, of which no call fails. The first with a name counts.
+/// Files in memory, of which no call fails: its counts of faults and of calls that failed are the
+/// constant 0. The first with a name counts.
 ///
 /// Every name is there: one that no file of the list has is that of an empty file.
 #[derive(Drop)]
@@ -62,7 +63,8 @@ impl Files for PlainFiles {
 
     ghost left = { λ s. Some s.left };
 
-    ghost counts = { λ s. s.counts };
+    // no call fails, and no name is absent
+    ghost counts = { λ s. record s.counts { faults = 0; failures = 0; absent_starts = 0 } };
 
     fn start(&mut self, name: &[u8]) -> Result<(), Failed>
         ensures answer { IsOk result }
