@@ -1,4 +1,4 @@
-//! The limits of this project's profile, each stated once.
+//! The limits of netlists, stimuli and texts that this project's profile sets, each stated once.
 #![tactic(auto)]
 
 ghost use Rattle.std.specs.Prelude.{◌↔◌, ◌≤◌, IsTrue};
@@ -28,7 +28,7 @@ pub const MAX_WORD_BITS: usize = 64;
 /// The most cycles of a run, and the most repeats of a row of a stimulus.
 pub const MAX_CYCLES: u32 = 1_000_000;
 
-/// The most values that a run prints: its cycles times its printed names.
+/// The most cells of a run: its cycles times the sum of its inputs and its printed names.
 pub const MAX_CELLS: u64 = 268_435_456;
 
 /// The most turns of a cycle.
