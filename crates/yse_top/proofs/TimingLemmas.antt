@@ -66,3 +66,11 @@ form_valid words (show netlist) form = tt
 pub read_valid : (words : List (List ℕ)) (result : Option Command) → option_map seen result ≡ request_of words → IfSome result (λ c. HasValidTiming (seen c))
 read_valid words None is = tt
 read_valid words (Some c) is = form_valid words (seen c) (form_from words (seen c) (sym is))
+
+-- what words ask for has a valid timing
+pub asked_valid : (words : List (List ℕ)) → IfSome (request_of words) HasValidTiming
+asked_valid words = by (request_of words) refl
+  where
+    by : (asked : Option Request) → request_of words ≡ asked → IfSome asked HasValidTiming
+    by None is = tt
+    by (Some request) is = form_valid words request (form_from words request is)

@@ -11,8 +11,8 @@ use crate::refusal::{Refusal, of_netlist, of_stimulus};
 use bench_read::law::reads_as_valid;
 use bench_read::read_bench;
 use limits::MAX_CELLS;
-use net_defs::{Netlist, Ranks, Stimulus, Timing};
-use rank_find::{RankNo, rank};
+use net_defs::{Netlist, Stimulus, Timing};
+use rank_find::{RankNo, order};
 use seen_list::List;
 use std::alloc::Global;
 use stim_text::read_stim;
@@ -60,8 +60,8 @@ pub fn ordered<'a>(alloc: Global, net: Netlist, timing: &Timing) -> Result<Desig
     ensures acyclic { OnOk result (HasNoLoop net timing.now (Ok tt)) }
     ensures looped { IfErr result (λ no. Refuses (HasNoLoop net timing.now) (refused_of no)) }
 {
-    match rank(alloc, &net, timing) {
-        Ok(Ranks { order, .. }) => Ok(Design { net, order }),
+    match order(alloc, &net, timing) {
+        Ok(order) => Ok(Design { net, order }),
         Err(RankNo::Loop(members)) => Err(Refusal::Loop(net, members)),
         Err(RankNo::Memory) => Err(Refusal::Memory),
     }

@@ -1,7 +1,9 @@
 //! What holds of every whole call. The functions do nothing: their clauses are the laws.
 
+ghost use Rattle.std.specs.Prelude.{IfSome, List as Items, ℕ};
 ghost use Rattle.yse_top.specs.Forms.{ReadsForms};
 ghost use Rattle.yse_top.specs.Law.{AreProper, TellsWords, HasStatus};
+ghost use Rattle.yse_top.specs.Words.{HasValidTiming, request_of};
 
 use bench_read::law::reads_or_faults as netlists_or_faults;
 use rank_find::order_or_loop;
@@ -14,9 +16,14 @@ pub fn forms_are_read()
     ensures { ReadsForms }
 {}
 
+/// The timing that words ask for is valid.
+pub fn timings_are_valid()
+    ensures { (words : Items (Items ℕ)) → IfSome (request_of words) HasValidTiming }
+{}
+
 /// Words come to one outcome over what is read, but that any loop may be named where there are several,
 /// and that want of memory may come in its place; and to some outcome, whatever the files hold. The
-/// files of the request are begun in their order, up to the first that can't be read.
+/// files of the request are begun in their order, no other is, and none after one that can't be read.
 pub fn calls_are_proper()
     ensures proper { AreProper }
     ensures words { TellsWords }

@@ -1,9 +1,14 @@
 //! Whole calls over files and sinks in memory, with statuses, lines and output from outside.
 
+ghost use Rattle.net_defs.specs.Valid.{IsValid};
+
+use crate::checks::{netlist_of, stimulus_of};
 use crate::{Status, yse};
 use bench_read::read_bench;
 use edge_io::{Files, MemFiles, MemSink, NamedBytes, NullSink, PlainFiles, PlainSink};
-use net_defs::show;
+use logic_four::V4;
+use net_defs::{Init, Mode, Netlist, Stimulus, Timing, show};
+use ref_sim::refer;
 use seen_list::{List, Memory, Text};
 use std::alloc::{AllocError, Global};
 use std::test::Fail;
@@ -719,4 +724,38 @@ fn canonical_text_fits_its_room(rt: HostRuntime) -> Result<(), Fail> {
     );
     assert_eq!(rt; sink.room(), 1);
     Ok(())
+}
+
+/// The values that c17 prints for one cycle of ones.
+fn printed(alloc: Global, net: &Netlist, stimulus: &Stimulus) -> Option<(V4, V4)>
+    requires { IsValid net.now }
+{
+    let timing = Timing {
+        mode: Mode::Rank,
+        units: 1,
+        init: Init::Undef,
+    };
+    match refer(alloc, net, &timing, stimulus) {
+        Ok(rows) => match rows.rows.as_slice() {
+            [row] => match row.cells.as_slice() {
+                [a, b] => Some((*a, *b)),
+                _ => None,
+            },
+            _ => None,
+        },
+        Err(_) => None,
+    }
+}
+
+/// The reference simulation by itself, with ample memory.
+#[test]
+fn c17_is_referred(rt: HostRuntime) {
+    let values = match netlist_of(rt.alloc(), C17) {
+        Ok(net) => match stimulus_of(rt.alloc(), b"11111\n", &net) {
+            Ok(stimulus) => printed(rt.alloc(), &net, &stimulus),
+            Err(_) => None,
+        },
+        Err(_) => None,
+    };
+    assert_eq!(rt; values, Some((V4::One, V4::Zero)));
 }
