@@ -1,11 +1,15 @@
 //! The program: real files and streams around the top call, whose status is the exit status.
 #![tactic(auto)]
 
-use edge_io::{HostFiles, HostSink, write_whole};
+ghost use Rattle.std.specs.Prelude.{◌≡◌};
+ghost use Rattle.std.specs.Process.{exit_status};
+ghost use Rattle.yse_top.specs.Statuses.{status_number};
+
+use edge_io::{HostFiles, HostSink};
 use std::io::ErrorKind;
 use std::process::ExitCode;
 use std::{env, io};
-use yse_top::{Status, yse};
+use yse_top::{Status, out_of_memory, yse};
 
 fn main(rt: HostRuntime) -> ExitCode {
     let mut files = HostFiles::new(&rt);
@@ -13,13 +17,17 @@ fn main(rt: HostRuntime) -> ExitCode {
     let mut err = HostSink::new(rt.stderr());
     let status = match words(&rt) {
         Ok(words) => yse(rt.alloc(), words.as_slice(), &mut files, &mut out, &mut err),
-        Err(error) if error.kind() == ErrorKind::OutOfMemory => {
-            let _ = write_whole(&mut err, b"out of memory\n");
-            Status::Memory
-        }
+        Err(error) if error.kind() == ErrorKind::OutOfMemory => out_of_memory(&mut err),
         // A word that isn't UTF-8 is refused as no words at all are.
         Err(_) => yse(rt.alloc(), &[], &mut files, &mut out, &mut err),
     };
+    exit_code(status)
+}
+
+/// The exit status of a call.
+fn exit_code(status: Status) -> ExitCode
+    ensures { exit_status result ≡ status_number status }
+{
     ExitCode::from(status.number())
 }
 
