@@ -1,0 +1,12 @@
+mod GroupLemmas
+mod MemberLemmas
+mod LevelLemmas
+mod NodeLemmas
+mod SeenLemmas
+mod GateLemmas
+mod StepLemmas
+mod ReferenceLemmas
+mod ChainLemmas
+mod EarlierLemmas
+mod RunLemmas
+mod SameLemmas
