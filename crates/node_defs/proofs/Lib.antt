@@ -1,6 +1,6 @@
-mod GroupLemmas
-mod MemberLemmas
-mod LevelLemmas
+pub mod GroupLemmas
+pub mod MemberLemmas
+pub mod LevelLemmas
 mod NodeLemmas
 mod SeenLemmas
 mod GateLemmas
