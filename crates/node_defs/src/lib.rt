@@ -1,0 +1,11 @@
+//! Items: what a netlist is for the compiler. An input, a memory output, a register, and each gate of
+//! at most four operands is one item; a wider gate is several. Each item has one value a turn. The
+//! definitions, which items are those of a netlist and which values they have, are in `specs/`.
+#![tactic(auto)]
+
+pub mod groups;
+pub mod items;
+pub mod law;
+
+pub use groups::{Group, group_at, helper_count};
+pub use items::{Feed, Feeds, Item, ItemName, NodeBlock, NodeNet, Tag};

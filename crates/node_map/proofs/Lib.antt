@@ -1,0 +1,10 @@
+pub mod ShapeLemmas
+pub mod PastLemmas
+pub mod RankLemmas
+pub mod KeyLemmas
+pub mod OrderLemmas
+pub mod NumberLemmas
+pub mod TableLemmas
+pub mod MadeNodeLemmas
+pub mod ItemLemmas
+pub mod MadeLemmas

@@ -1,0 +1,51 @@
+-- Tables that keep their numbers while more are made.
+use Rattle.std.proofs.Common.{◌≡◌, ◌∙◌, ℕ, ◌<◌, ◌≤◌, inl, inr, List, [], ◌∷◌, ◌++◌, length, sym, ap, arith}
+use Rattle.std.specs.Prelude.{Some, slice_get}
+use Rattle.std.proofs.lemmas.Bool.{cases_lt}
+use Rattle.std.proofs.lemmas.Option.{slice_get-get_or, slice_get_within, get_or_from_slice_get}
+use Rattle.std.proofs.lemmas.List.{length_push, get_or_append_left, get_or_push}
+use Rattle.logic_four.specs.declared.Kind.{Kind}
+use Rattle.func_table.specs.declared.table.Table.{Table}
+use Rattle.func_table.specs.Shelf.{IsNumbered}
+use Rattle.node_map.specs.declared.palette.Made.{Made}
+use Rattle.node_map.specs.Tables.{Keeps, AddsOnly, HasTable, AreMadeIn}
+
+pub get_front : {X : Type 0} (xs : List X) (y x : X) (i : ℕ) → slice_get xs i ≡ Some x → slice_get (xs ++ y ∷ []) i ≡ Some x
+get_front xs y x i at =
+    let within : i < length xs = slice_get_within xs i x at in
+    slice_get-get_or (xs ++ y ∷ []) i x (omega (arith, length_push xs y, within)) ∙ ap Some (get_or_append_left xs (y ∷ []) x i within ∙ get_or_from_slice_get xs i x x at)
+
+pub get_last : {X : Type 0} (xs : List X) (y x : X) (i : ℕ) → length xs ≤ i → slice_get (xs ++ y ∷ []) i ≡ Some x → (i ≡ length xs) × (x ≡ y)
+get_last xs y x i past at =
+    let within : i < length (xs ++ y ∷ []) = slice_get_within (xs ++ y ∷ []) i x at in
+    let here : i ≡ length xs = omega (arith, within, past, length_push xs y) in
+    (here, sym (get_or_from_slice_get (xs ++ y ∷ []) i x y at) ∙ get_or_push xs y y i (sym here))
+
+module _ (table : Table) (old new : List Table) (number : ℕ) (is : IsNumbered table old new number) where
+  pub numbered_keeps : Keeps old new
+  numbered_keeps n t at = elim is [
+    | inl there ↦ rw there.1 at
+    | inr added ↦ rw added.2 (get_front old table t n at)
+  ]
+
+  pub numbered_adds : AddsOnly old new number
+  numbered_adds t past within = elim is [
+    | inl there ↦ absurd (none there.1)
+    | inr added ↦ omega (arith, added.1, ap length added.2, length_push old table, past, within)
+  ] where
+    none : new ≡ old → ⊥
+    none same = omega (arith, ap length same, past, within)
+
+pub has_kept : (old new : List Table) (kind : Kind) (operands number : ℕ) → Keeps old new → HasTable old kind operands number → HasTable new kind operands number
+has_kept old new kind operands number kept has = (has.0, kept number has.0 has.1, has.2)
+
+pub made_kept : (old new : List Table) (made : List Made) → Keeps old new → AreMadeIn old made → AreMadeIn new made
+made_kept old new made kept are i one at = has_kept old new one.kind one.operands one.number kept (are i one at)
+
+pub made_more : (tables : List Table) (made : List Made) (kind : Kind) (operands number : ℕ) → AreMadeIn tables made → HasTable tables kind operands number → AreMadeIn tables (made ++ record { kind = kind; operands = operands; number = number } ∷ [])
+made_more tables made kind operands number are has i one at = elim (cases_lt i (length made)) [
+  | inl h ↦
+      let one_is : slice_get made i ≡ Some one = slice_get-get_or made i one h ∙ ap Some (sym (get_or_append_left made (record { kind = kind; operands = operands; number = number } ∷ []) one i h) ∙ get_or_from_slice_get (made ++ record { kind = kind; operands = operands; number = number } ∷ []) i one one at) in
+      are i one one_is
+  | inr h ↦ rw (get_last made (record { kind = kind; operands = operands; number = number }) one i h at).1 has
+]
