@@ -7,7 +7,9 @@ use Rattle.std.proofs.lemmas.List.Elements.{All-nil, All-cons, All-head, All-tai
 use Rattle.std.proofs.lemmas.Option.{slice_get_cases, slice_get-get_or, slice_get_within}
 use Rattle.logic_four.specs.declared.Kind.{Kind}
 use Rattle.logic_four.specs.declared.Kind.TheVariants.{And, Nand, Or, Nor, Xor, Xnor, Not, Buf, Tri, Bus}
-use Rattle.bench_text.specs.Bytes.{is_visible, sign_of, is_name_byte}
+use Rattle.text_lines.specs.Bytes.{is_visible}
+use Rattle.text_lines.specs.Names.{is_mark, is_name_byte}
+use Rattle.bench_text.specs.Bytes.{sign_of}
 use Rattle.bench_text.specs.Tokens.{tokens_of, first_fault as byte_fault}
 use Rattle.net_defs.specs.declared.netlist.Netlist.{Netlist}
 use Rattle.net_defs.specs.declared.netlist.Signal.{Signal}
@@ -32,7 +34,7 @@ word_from bytes some short named = record { some = leb-true 1 (length bytes) som
 
 -- the words of kinds are words
 kind_is : (kind : Kind) → IsWord (kind_word kind)
-unfolding is_name_byte is_visible sign_of
+unfolding is_name_byte is_visible sign_of is_mark
 kind_is And = word_from (codes "AND") refl refl refl
 kind_is Nand = word_from (codes "NAND") refl refl refl
 kind_is Or = word_from (codes "OR") refl refl refl
@@ -46,19 +48,19 @@ kind_is Bus = word_from (codes "BUS") refl refl refl
 
 -- the other words of lines are words
 input_is : IsWord (codes "INPUT")
-unfolding is_name_byte is_visible sign_of
+unfolding is_name_byte is_visible sign_of is_mark
 input_is = word_from (codes "INPUT") refl refl refl
 
 output_is : IsWord (codes "OUTPUT")
-unfolding is_name_byte is_visible sign_of
+unfolding is_name_byte is_visible sign_of is_mark
 output_is = word_from (codes "OUTPUT") refl refl refl
 
 register_is : IsWord (codes "DFF")
-unfolding is_name_byte is_visible sign_of
+unfolding is_name_byte is_visible sign_of is_mark
 register_is = word_from (codes "DFF") refl refl refl
 
 memory_is : IsWord (codes "RAM")
-unfolding is_name_byte is_visible sign_of
+unfolding is_name_byte is_visible sign_of is_mark
 memory_is = word_from (codes "RAM") refl refl refl
 
 -- the bytes of a netlist's name are name bytes of a text

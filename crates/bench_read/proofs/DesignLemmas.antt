@@ -9,8 +9,9 @@ use Rattle.std.proofs.lemmas.List.{length_push}
 use Rattle.std.proofs.lemmas.List.Elements.{All-push, All-nil, filter_map-append}
 use Rattle.std.proofs.lemmas.List.Concat.{flat_map-append}
 use Rattle.std.proofs.lemmas.List.Sums.{sum_by_push}
-use Rattle.text_lines.specs.First.{or_else, first}
-use Rattle.text_lines.proofs.FirstLemmas.{first-zero, first_none_more, first_some}
+use Rattle.std.specs.Option.{option_or}
+use Rattle.text_lines.specs.Answers.{first}
+use Rattle.text_lines.proofs.AnswerLemmas.{first-zero, first_none_more, first_some}
 use Rattle.bench_text.specs.declared.token.Token.{Token}
 use Rattle.logic_four.specs.declared.Kind.{Kind}
 use Rattle.logic_four.specs.declared.Kind.TheVariants.{And, Nand, Or, Nor, Xor, Xnor, Not, Buf, Tri, Bus}
@@ -208,7 +209,7 @@ module _ (text : List ℕ) (tokens rest : List Token) (statements : List Stateme
     twice_refused statement e says twice =
         first_some (row_fault text (rows_of tokens)) (length before.done) (length (rows_of tokens)) e in_rows before.no_fault
         (here ∙ ap (said_fault text (row_line row) statements) says
-        ∙ ap (λ o. or_else o (many_fault (row_line row) (statements ++ statement ∷ []))) (ap (λ ds. twice_fault text ds statement.driven) (sym before.drivers_are) ∙ twice))
+        ∙ ap (λ o. option_or o (many_fault (row_line row) (statements ++ statement ∷ []))) (ap (λ ds. twice_fault text ds statement.driven) (sym before.drivers_are) ∙ twice))
 
     module _ (statement : Statement) (new_names : List (List ℕ)) (new_drivers : List Token) (new_operands : ℕ) (says : said_of text row ≡ Ok statement) (once : twice_fault text drivers statement.driven ≡ None) (grown : new_drivers ≡ drivers ++ statement.driven) (counted : new_operands ≡ operands + operands_of statement) where
       drivers_now : new_drivers ≡ drivers_of (statements ++ statement ∷ [])
@@ -221,7 +222,7 @@ module _ (text : List ℕ) (tokens rest : List Token) (statements : List Stateme
       unfolding statement_fault many_fault
       fault_now =
           here ∙ ap (said_fault text (row_line row) statements) says
-          ∙ ap (λ o. or_else o (many_fault (row_line row) (statements ++ statement ∷ []))) (ap (λ ds. twice_fault text ds statement.driven) (sym before.drivers_are) ∙ once)
+          ∙ ap (λ o. option_or o (many_fault (row_line row) (statements ++ statement ∷ []))) (ap (λ ds. twice_fault text ds statement.driven) (sym before.drivers_are) ∙ once)
           ∙ ap (λ ds. limit_fault (row_line row) (length ds) (operand_count (statements ++ statement ∷ []))) (sym drivers_now)
           ∙ ap (limit_fault (row_line row) (length new_drivers)) (sym operands_now)
 

@@ -4,8 +4,8 @@ use Rattle.std.specs.List.{list_any, find}
 use Rattle.std.specs.Option.{option_map}
 use Rattle.std.proofs.lemmas.List.{map_push, take_more, take_all}
 use Rattle.std.proofs.lemmas.Option.{slice_get-get_or}
-use Rattle.text_lines.specs.First.{first}
-use Rattle.text_lines.proofs.FirstLemmas.{first-zero, first_none_more, first_some}
+use Rattle.text_lines.specs.Answers.{first}
+use Rattle.text_lines.proofs.AnswerLemmas.{first-zero, first_none_more, first_some}
 use Rattle.bench_text.specs.declared.token.Token.{Token}
 use Rattle.bench_read.specs.declared.refusal.BenchNo.{BenchNo}
 use Rattle.bench_read.specs.declared.refusal.BenchNo.TheVariants.{DrivenTwice}

@@ -27,4 +27,5 @@ mod SeenMemory
 mod SeenNames
 mod SeenNetlist
 mod SeenRows
+mod TotalLemmas
 mod ValidLemmas

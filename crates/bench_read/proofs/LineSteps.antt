@@ -3,11 +3,13 @@ use Rattle.std.proofs.Common.{◌≡◌, ℕ, ◌+◌, ◌≤◌, Bool, true, fa
 use Rattle.std.specs.List.{list_all, flat_map}
 use Rattle.std.proofs.lemmas.List.{length-drop}
 use Rattle.text_lines.specs.Places.{line_at}
-use Rattle.text_lines.specs.First.{first}
-use Rattle.text_lines.proofs.FirstLemmas.{first-zero}
+use Rattle.text_lines.specs.Answers.{first}
+use Rattle.text_lines.proofs.AnswerLemmas.{first-zero}
 use Rattle.bench_text.specs.declared.token.Mark.{Mark}
 use Rattle.bench_text.specs.declared.token.Mark.TheVariants.{Open, Close, Comma, Equals, Semi, Left, Right, Name}
-use Rattle.bench_text.specs.Bytes.{is_visible, sign_of, is_name_byte}
+use Rattle.text_lines.specs.Bytes.{is_visible}
+use Rattle.text_lines.specs.Names.{is_mark, is_name_byte}
+use Rattle.bench_text.specs.Bytes.{sign_of}
 use Rattle.bench_text.specs.Tokens.{tokens_before, tokens_of, fault_at, first_fault}
 use Rattle.bench_read.proofs.SeenLines.{Seen}
 use Rattle.bench_read.proofs.ScanSteps.{At, tag, sign_step, blank_step, feed_step, begins_named, name_step}
@@ -77,7 +79,7 @@ AreLines (line ∷ lines) = IsLine false line × (1 ≤ length line) × AreLines
 
 -- what follows a name in a line is no byte of it
 no_name_next : (line : List Seen) (rest : List ℕ) → IsLine true line → begins_named (line_text line ++ rest) ≡ false
-unfolding is_visible is_name_byte sign_of
+unfolding is_visible is_name_byte sign_of is_mark
 no_name_next [] rest right = refl
 no_name_next (s ∷ line) rest right = by_mark s.mark s.bytes right.0 right.1 where
   sign : (mark : Mark) (byte : ℕ) (bytes : List ℕ) → bytes ≡ byte ∷ [] → (begins_named ((padded mark (byte ∷ []) ++ line_text line) ++ rest) ≡ false) → begins_named ((padded mark bytes ++ line_text line) ++ rest) ≡ false
@@ -95,7 +97,7 @@ no_name_next (s ∷ line) rest right = by_mark s.mark s.bytes right.0 right.1 wh
 
 -- one token on
 token_step : (text : List ℕ) (line : ℕ) (named : Bool) (tags : List (ℕ × Seen)) (mark : Mark) (bytes rest : List ℕ) → IsToken mark bytes → (named && is_name mark) ≡ false → (is_name mark ≡ true → begins_named rest ≡ false) → At text line named tags (padded mark bytes ++ rest) → At text line (is_name mark) (tags ++ (line, record { mark = mark; bytes = bytes }) ∷ []) rest
-unfolding is_visible is_name_byte sign_of
+unfolding is_visible is_name_byte sign_of is_mark
 token_step text line named tags mark bytes rest is apart ends at = by_mark mark is apart ends at where
   -- a token of one byte, whose steps are known at that byte
   sign : (mark : Mark) (byte : ℕ) → bytes ≡ byte ∷ [] → (At text line named tags (padded mark (byte ∷ []) ++ rest) → At text line false (tags ++ (line, record { mark = mark; bytes = byte ∷ [] }) ∷ []) rest) → At text line named tags (padded mark bytes ++ rest) → At text line false (tags ++ (line, record { mark = mark; bytes = bytes }) ∷ []) rest

@@ -1,13 +1,13 @@
 -- A name of a text is a name of a netlist.
-use Rattle.std.proofs.Common.{◌≡◌, ℕ, ◌-◌, Bool, true, false, not, ◌||◌, ◌&&◌, cond, eqb, leb, List, [], ◌∷◌, length, drop, Some, None, ◌∙◌, subst, refl, arith, length-drop}
-use Rattle.std.specs.Prelude.{is_some}
+use Rattle.std.proofs.Common.{◌≡◌, ℕ, ◌-◌, Bool, true, false, not, ◌||◌, ◌&&◌, eqb, leb, List, [], ◌∷◌, length, drop, None, ◌∙◌, subst, refl, arith, length-drop}
 use Rattle.std.specs.List.{list_all, All}
 use Rattle.std.proofs.lemmas.Bool.{and_parts, and_from}
 use Rattle.std.proofs.lemmas.List.{length-take-le}
 use Rattle.std.proofs.lemmas.List.Sums.{list_all-from_AllPass}
-use Rattle.bench_text.specs.declared.token.Mark.TheVariants.{Open, Close, Comma, Equals, Semi, Left, Right, Name}
+use Rattle.bench_text.specs.declared.token.Mark.TheVariants.{Name}
 use Rattle.bench_text.specs.declared.token.Token.{Token}
-use Rattle.bench_text.specs.Bytes.{is_visible, sign_of, is_name_byte}
+use Rattle.text_lines.specs.Bytes.{is_visible}
+use Rattle.text_lines.specs.Names.{is_mark, is_name_byte}
 use Rattle.bench_text.specs.Tokens.{tokens_of, first_fault}
 use Rattle.bench_text.specs.Spans.{StandsIn}
 use Rattle.bench_text.specs.Spans as spans
@@ -18,9 +18,9 @@ use Rattle.bench_read.specs.Grammar.{text_of}
 
 -- the two words for a byte of a name agree
 pub same_name_byte : (byte : ℕ) → valid.is_name_byte byte ≡ is_name_byte byte
-unfolding valid.is_name_byte mark_bytes is_name_byte is_visible sign_of
+unfolding valid.is_name_byte mark_bytes is_name_byte is_mark is_visible
 same_name_byte byte = by_marks (leb 33 byte && leb byte 126) (eqb byte 40) (eqb byte 41) (eqb byte 44) (eqb byte 61) (eqb byte 59) (eqb byte 91) (eqb byte 93) (eqb byte 35) where
-  by_marks : (v a b c d e f g h : Bool) → (v && not (a || (b || (c || (d || (e || (f || (g || (h || false))))))))) ≡ ((v && not (is_some (cond a (Some Open) (cond b (Some Close) (cond c (Some Comma) (cond d (Some Equals) (cond e (Some Semi) (cond f (Some Left) (cond g (Some Right) None))))))))) && not h)
+  by_marks : (v a b c d e f g h : Bool) → (v && not (a || (b || (c || (d || (e || (f || (g || (h || false))))))))) ≡ ((v && not (a || b || c || d || e || f || g)) && not h)
   by_marks false a b c d e f g h = refl
   by_marks true true b c d e f g h = refl
   by_marks true false true c d e f g h = refl
@@ -49,7 +49,7 @@ tokens_stand text none = spans_law text none
 -- the bytes of such a token are a name
 pub name_of_token : (text : List ℕ) (token : Token) → IsNameToken text token → valid.IsName (text_of text token)
 name_of_token text token named =
-    let bytes : spans.IsName text token.from token.upto = subst (λ mark. spans.AreBytesOf mark text token.from token.upto) named.mark named.stands.bytes in
+    let bytes : spans.IsNameAt text token.from token.upto = subst (λ mark. spans.AreBytesOf mark text token.from token.upto) named.mark named.stands.bytes in
     let len : length (text_of text token) ≡ token.upto - token.from =
     length-take-le (token.upto - token.from) (drop token.from text) (omega (arith, length-drop token.from text, named.stands.some, named.stands.within)) in
     record {

@@ -2,9 +2,9 @@
 use Rattle.std.proofs.Common.{◌≡◌, ℕ, Bool, true, false, cond, List, [], ◌∷◌, ◌++◌, length, take, get_or, slice_get, Option, Some, None, Result, Ok, Err, ap, ◌∙◌, ⊎_elim, ltb}
 use Rattle.std.specs.Prelude.{IfErr}
 use Rattle.std.specs.List.{find}
-use Rattle.std.specs.Option.{option_map}
-use Rattle.text_lines.specs.First.{or_else, first, Answers}
-use Rattle.text_lines.proofs.FirstLemmas.{place_of_first}
+use Rattle.std.specs.Option.{option_map, option_or}
+use Rattle.text_lines.specs.Answers.{first, Answers}
+use Rattle.text_lines.proofs.AnswerLemmas.{place_of_first}
 use Rattle.bench_text.specs.declared.token.Token.{Token}
 use Rattle.bench_text.specs.declared.token.TextNo.{TextNo}
 use Rattle.bench_text.specs.declared.token.TextNo.TheVariants as text_no
@@ -22,7 +22,7 @@ use Rattle.bench_read.specs.Faults.{statements_of, is_same, is_undriven, option_
 abbrev IsPlain : Option BenchNo → Type 0
 IsPlain fault = fault ≡ Some (Text text_no.Memory) → ⊥
 
-either_plain : (a b : Option BenchNo) → IsPlain a → IsPlain b → IsPlain (or_else a b)
+either_plain : (a b : Option BenchNo) → IsPlain a → IsPlain b → IsPlain (option_or a b)
 either_plain None b p q e = q e
 either_plain (Some x) b p q e = p e
 

@@ -2,7 +2,7 @@
 use Rattle.std.proofs.Common.{◌≡◌, ℕ, zero, suc, ◌+◌, ◌<◌, ◌≤◌, Bool, true, false, not, cond, List, [], ◌∷◌, ◌++◌, append_assoc, length, take, drop, get_or, slice_get, Option, Some, None, Result, Ok, Err, sym, ap, ◌∙◌, subst, refl, inl, inr, ⊎_elim, arith, ◌⊎◌, length-append}
 use Rattle.std.specs.Prelude.{IsOk, MatchResult}
 use Rattle.std.specs.List.{find, list_any, filter_map, cons_option}
-use Rattle.std.specs.Option.{option_map, option_to_list}
+use Rattle.std.specs.Option.{option_map, option_or, option_to_list}
 use Rattle.std.specs.Result.{result_ok}
 use Rattle.std.proofs.lemmas.Bool.{cond-false, le-ltb, not-false, or_parts, or_from}
 use Rattle.std.proofs.lemmas.List.{map-append}
@@ -10,8 +10,8 @@ use Rattle.std.proofs.lemmas.List.Elements.{All-nil, All-cons, All-head, All-tai
 use Rattle.std.proofs.lemmas.List.Concat.{flat_map-append}
 use Rattle.std.proofs.lemmas.List.Sums.{sum_by-append}
 use Rattle.std.proofs.lemmas.Option.{slice_get-get_or}
-use Rattle.text_lines.specs.First.{or_else, Answers}
-use Rattle.text_lines.proofs.FirstLemmas.{first_none}
+use Rattle.text_lines.specs.Answers.{Answers}
+use Rattle.text_lines.proofs.AnswerLemmas.{first_none}
 use Rattle.bench_text.specs.declared.token.Mark.TheVariants.{Name}
 use Rattle.bench_text.specs.declared.token.Token.{Token}
 use Rattle.bench_text.specs.declared.token.TextNo.{TextNo}
@@ -79,20 +79,20 @@ text_refused text e (inr fault) = inr (ap (option_map of_text) fault)
 
 pub bytes_refused : (text : List ℕ) (e : BenchNo) → option_map of_text (byte_fault text) ≡ Some e → lines_fault text ≡ Some e
 unfolding lines_fault
-bytes_refused text e fault = ap (λ o. or_else o (rows_fault text (rows_of (tokens_of text)))) fault
+bytes_refused text e fault = ap (λ o. option_or o (rows_fault text (rows_of (tokens_of text)))) fault
 
 pub no_bytes : (text : List ℕ) (o : Option BenchNo) → byte_fault text ≡ None → rows_fault text (rows_of (tokens_of text)) ≡ o → lines_fault text ≡ o
 unfolding lines_fault
-no_bytes text o none rows = ap (λ f. or_else (option_map of_text f) (rows_fault text (rows_of (tokens_of text)))) none ∙ rows
+no_bytes text o none rows = ap (λ f. option_or (option_map of_text f) (rows_fault text (rows_of (tokens_of text)))) none ∙ rows
 
 pub lines_refused : (text : List ℕ) (e : BenchNo) → lines_fault text ≡ Some e → first_fault text ≡ Some e
 unfolding first_fault
-lines_refused text e fault = ap (λ o. or_else o (uses_fault text (statements_of text (rows_of (tokens_of text))))) fault
+lines_refused text e fault = ap (λ o. option_or o (uses_fault text (statements_of text (rows_of (tokens_of text))))) fault
 
 pub no_lines : (text : List ℕ) (statements : List Statement) (o : Option BenchNo) → lines_fault text ≡ None → statements ≡ statements_of text (rows_of (tokens_of text)) → uses_fault text statements ≡ o → first_fault text ≡ o
 unfolding first_fault
 no_lines text statements o none said uses =
-    ap (λ f. or_else f (uses_fault text (statements_of text (rows_of (tokens_of text))))) none ∙ ap (uses_fault text) (sym said) ∙ uses
+    ap (λ f. option_or f (uses_fault text (statements_of text (rows_of (tokens_of text))))) none ∙ ap (uses_fault text) (sym said) ∙ uses
 
 none_undriven : (text : List ℕ) (names : List (List ℕ)) (uses : List Token) → list_any (is_undriven text names) uses ≡ false → AreAmong text names uses
 none_undriven text names [] e = All-nil _
@@ -166,7 +166,7 @@ no_statement_fault text line earlier here rest once signals operands =
     let upto = earlier ++ here ∷ [] in
     let drivers : drivers_of (upto ++ rest) ≡ (drivers_of earlier ++ here.driven) ++ drivers_of rest =
     drivers-append upto rest ∙ ap (λ ds. ds ++ drivers_of rest) (drivers_push earlier here) in
-    ap (λ o. or_else o (many_fault line upto)) (no_twice text (drivers_of earlier) here.driven (drivers_of rest) (subst (λ ds. AreOnce (texts_of text ds)) drivers once))
+    ap (λ o. option_or o (many_fault line upto)) (no_twice text (drivers_of earlier) here.driven (drivers_of rest) (subst (λ ds. AreOnce (texts_of text ds)) drivers once))
     ∙ no_limit line (length (drivers_of upto)) (operand_count upto)
     (omega (arith, signals, ap length (drivers-append upto rest), length-append (drivers_of upto) (drivers_of rest)))
     (omega (arith, operands, operands-append upto rest))

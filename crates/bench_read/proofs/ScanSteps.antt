@@ -6,17 +6,19 @@ use Rattle.std.proofs.lemmas.Bool.{cases_lt, cond-true, cond-false, and_parts, o
 use Rattle.std.proofs.lemmas.List.{drop_more, drop_all, map-append}
 use Rattle.std.proofs.Math.Seq.{take-append_seam}
 use Rattle.text_lines.specs.Bytes.{is_hash, is_line_feed, is_blank}
-use Rattle.text_lines.specs.Places.{goes_on, is_comment, line_at, is_line_end}
-use Rattle.text_lines.specs.First.{first}
-use Rattle.text_lines.proofs.FirstLemmas.{first_none_more, fault_or_ok}
+use Rattle.text_lines.specs.Places.{stays_in_comment, is_comment, line_at, is_line_end}
+use Rattle.text_lines.specs.Answers.{first}
+use Rattle.text_lines.proofs.AnswerLemmas.{first_none_more, fault_or_ok}
 use Rattle.bench_text.specs.declared.token.Mark.{Mark}
 use Rattle.bench_text.specs.declared.token.Mark.TheVariants.{Name}
 use Rattle.bench_text.specs.declared.token.Token.{Token}
-use Rattle.bench_text.specs.Bytes.{is_visible, sign_of, is_name_byte}
+use Rattle.text_lines.specs.Bytes.{is_visible}
+use Rattle.text_lines.specs.Names.{is_mark, is_name_byte}
+use Rattle.bench_text.specs.Bytes.{sign_of}
 use Rattle.bench_text.specs.Scans.{follows_comment, answer_at}
 use Rattle.bench_text.specs.Tokens.{follows_name, name_length, token_at, tokens_before, fault_at}
 use Rattle.bench_text.proofs.PlaceLemmas.{is_comment_step, answer_between, answer_sign, answer_inside, answer_name}
-use Rattle.bench_text.proofs.SpanLemmas.{name_byte_is, ink, sign_visible}
+use Rattle.bench_text.proofs.SpanLemmas.{named_byte, ink, sign_visible}
 use Rattle.bench_read.proofs.SeenLines.{Seen, seen}
 
 -- ---- one byte
@@ -75,9 +77,9 @@ module _ (text : List ℕ) (line : ℕ) (named : Bool) (tags : List (ℕ × Seen
 
   -- no comment begins or goes on here
   outside_here : is_hash byte ≡ false → is_comment text at.place ≡ false
-  unfolding goes_on
+  unfolding stays_in_comment
   outside_here hash =
-      is_comment_step text at.place ∙ ap (λ within. goes_on within (get_or text at.place 0)) at.outside
+      is_comment_step text at.place ∙ ap (λ within. stays_in_comment within (get_or text at.place 0)) at.outside
       ∙ or_from _ _ (ap is_hash here_is.here ∙ hash) refl
 
   -- one byte on, with what the place gives
@@ -125,15 +127,15 @@ module _ (text : List ℕ) (line : ℕ) (named : Bool) (tags : List (ℕ × Seen
   -- a byte of a name that goes on
   inside_step : named ≡ true → is_name_byte byte ≡ true → At text line true tags rest
   inside_step goes name =
-      let is = name_byte_is byte name in
+      let is = named_byte byte name in
       let answer = answer_inside text at.place (outside_here is.no_hash) (ap is_visible here_is.here ∙ is.visible) (ap sign_of here_is.here ∙ is.no_sign) (at.follows ∙ goes) in
       moved text rest (cond (is_line_feed byte) (line + 1) line) line (is_name_byte byte) true (tags ++ []) tags
       (step None is.no_hash answer) (cond-false _ _ _ (ink byte is.visible).no_feed) name (append-nil tags)
 
   -- the first byte of a name of n bytes
   begin_step : (name : List ℕ) → named ≡ false → is_name_byte byte ≡ true → name_length text at.place ≡ length name → take (length name) (byte ∷ rest) ≡ name → length name ≤ 255 → At text line true (tags ++ (line, record { mark = Name; bytes = name }) ∷ []) rest
-  begin_step name fresh named_byte long all short =
-      let is = name_byte_is byte named_byte in
+  begin_step name fresh is_named long all short =
+      let is = named_byte byte is_named in
       let n = name_length text at.place in
       let answer = answer_name text at.place (outside_here is.no_hash) (ap is_visible here_is.here ∙ is.visible) (ap sign_of here_is.here ∙ is.no_sign) (at.follows ∙ fresh) (omega arith) in
       let count : at.place + n - at.place ≡ length name = omega arith in
@@ -142,18 +144,18 @@ module _ (text : List ℕ) (line : ℕ) (named : Bool) (tags : List (ℕ × Seen
       (tags ++ (line_at text at.place, record { mark = Name; bytes = take (at.place + n - at.place) (drop at.place text) }) ∷ [])
       (tags ++ (line, record { mark = Name; bytes = name }) ∷ [])
       (step (Some (record { mark = Name; from = at.place; upto = at.place + n; line = line_at text at.place })) is.no_hash answer)
-      (cond-false _ _ _ (ink byte is.visible).no_feed) named_byte (λ k. tags ++ (at.in_line k, record { mark = Name; bytes = bytes k }) ∷ [])
+      (cond-false _ _ _ (ink byte is.visible).no_feed) is_named (λ k. tags ++ (at.in_line k, record { mark = Name; bytes = bytes k }) ∷ [])
 
 -- ---- a blank, a line end, a whole name
 
 -- a blank
 pub blank_step : (text : List ℕ) (line : ℕ) (named : Bool) (tags : List (ℕ × Seen)) (rest : List ℕ) → At text line named tags (32 ∷ rest) → At text line false tags rest
-unfolding is_visible is_blank is_name_byte sign_of
+unfolding is_visible is_blank is_name_byte sign_of is_mark
 blank_step text line named tags rest at = between_step text line named tags 32 rest at refl refl (inl refl) refl
 
 -- a line end
 pub feed_step : (text : List ℕ) (line : ℕ) (named : Bool) (tags : List (ℕ × Seen)) (rest : List ℕ) → At text line named tags (10 ∷ rest) → At text (line + 1) false tags rest
-unfolding is_visible is_blank is_name_byte sign_of
+unfolding is_visible is_blank is_name_byte sign_of is_mark
 feed_step text line named tags rest at = between_step text line named tags 10 rest at refl refl (inr refl) refl
 
 -- the bytes of a name that has begun

@@ -1,9 +1,9 @@
 -- The first fault of a netlist text, in three passes: of bytes, of rows and of uses.
-use Rattle.std.specs.Prelude.{◌≡◌, ◌⊎◌, ℕ, Bool, not, List, [], ◌∷◌, ◌++◌, length, take, map, nat_lt, slice_get, slice_index_or, Option, Some, None, Result, Ok, Err, MatchResult, if◌then◌else◌, bytes_eq}
+use Rattle.std.specs.Prelude.{ℕ, Bool, not, List, [], ◌∷◌, ◌++◌, length, take, map, nat_lt, slice_get, slice_index_or, Option, Some, None, Result, Ok, Err, if◌then◌else◌, bytes_eq}
 use Rattle.std.specs.List.{find, filter_map, flat_map, sum_by, list_any}
-use Rattle.std.specs.Option.{option_map}
+use Rattle.std.specs.Option.{option_map, option_or}
 use Rattle.std.specs.Result.{result_ok}
-use Rattle.text_lines.specs.First.{or_else, first}
+use Rattle.text_lines.specs.Answers.{first}
 use Rattle.bench_text.specs.declared.token.Token.{Token}
 use Rattle.bench_text.specs.declared.token.TextNo.{TextNo}
 use Rattle.bench_text.specs.declared.token.TextNo.TheVariants as text_no
@@ -15,10 +15,6 @@ use Rattle.bench_read.specs.declared.statement.Act.{Act}
 use Rattle.bench_read.specs.declared.statement.Act.TheVariants as act
 use Rattle.bench_read.specs.declared.statement.Statement.{Statement}
 use Rattle.bench_read.specs.Grammar.{rows_of, row_line, text_of, said}
-
--- a call answers what is wanted, or the memory's error in its place
-abbrev pub AnswersAs : {T E : Type 0} → E → Result T E → Result T E → Type 0
-AnswersAs memory result wanted = MatchResult result (λ x. wanted ≡ Ok x) (λ e. (e ≡ memory) ⊎ (wanted ≡ Err e))
 
 -- ---- statements
 
@@ -90,7 +86,7 @@ many_fault line statements = limit_fault line (length (drivers_of statements)) (
 -- the fault of a statement after others
 unfoldable pub statement_fault : List ℕ → ℕ → List Statement → Statement → Option BenchNo
 statement_fault text line earlier statement =
-    or_else (twice_fault text (drivers_of earlier) statement.driven) (many_fault line (earlier ++ statement ∷ []))
+    option_or (twice_fault text (drivers_of earlier) statement.driven) (many_fault line (earlier ++ statement ∷ []))
 
 abbrev pub said_fault : List ℕ → ℕ → List Statement → Result Statement BenchNo → Option BenchNo
 said_fault text line earlier (Ok statement) = statement_fault text line earlier statement
@@ -131,8 +127,8 @@ uses_fault text statements = use_fault text (texts_of text (drivers_of statement
 
 -- the first fault of the first two passes
 unfoldable pub lines_fault : List ℕ → Option BenchNo
-lines_fault text = or_else (option_map of_text (byte_fault text)) (rows_fault text (rows_of (tokens_of text)))
+lines_fault text = option_or (option_map of_text (byte_fault text)) (rows_fault text (rows_of (tokens_of text)))
 
 -- the first fault of the first pass that finds one
 unfoldable pub first_fault : List ℕ → Option BenchNo
-first_fault text = or_else (lines_fault text) (uses_fault text (statements_of text (rows_of (tokens_of text))))
+first_fault text = option_or (lines_fault text) (uses_fault text (statements_of text (rows_of (tokens_of text))))

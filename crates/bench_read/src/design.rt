@@ -1,7 +1,7 @@
 //! The statements of a text, line by line.
 
 ghost use Rattle.std.specs.Prelude.{◌≡◌, ◌<◌, ◌^◌, None, Some, MatchResult, length};
-ghost use Rattle.text_lines.specs.First.{Answers};
+ghost use Rattle.text_lines.specs.Answers.{Answers};
 ghost use Rattle.bench_read.specs.declared.refusal.BenchNo.TheVariants.{Memory as NoMemory};
 ghost use Rattle.bench_read.specs.Grammar.{rows_of};
 ghost use Rattle.bench_read.specs.Faults.{operands_of, limit_fault, rows_fault};

@@ -1,7 +1,7 @@
 //! The netlist that statements make.
 
 ghost use Rattle.std.specs.Prelude.{◌≡◌, ◌++◌, ◌<◌, ◌≤◌, ◌^◌, [], drop, length, IfOk, OnOk, slice_index};
-ghost use Rattle.text_lines.specs.First.{Answers};
+ghost use Rattle.text_lines.specs.Answers.{Answers};
 ghost use Rattle.net_defs.specs.declared.netlist.Driver.TheVariants.{Gate};
 ghost use Rattle.bench_read.specs.declared.refusal.BenchNo.TheVariants.{Memory as NoMemory};
 ghost use Rattle.bench_read.specs.Faults.{drivers_of, texts_of, use_fault, uses_fault};

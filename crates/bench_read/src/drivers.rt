@@ -2,7 +2,7 @@
 
 ghost use Rattle.std.specs.Prelude.{◌≡◌, ◌⊎◌, ◌++◌, [], ◌∷◌, true, IfOk};
 ghost use Rattle.std.specs.List.{find, list_any};
-ghost use Rattle.text_lines.specs.First.{Answers};
+ghost use Rattle.text_lines.specs.Answers.{Answers};
 ghost use Rattle.bench_read.specs.declared.refusal.BenchNo.TheVariants.{Memory as NoMemory, DrivenTwice};
 ghost use Rattle.bench_read.specs.Grammar as specs;
 ghost use Rattle.bench_read.specs.Faults.{repeat_fault, twice_fault};

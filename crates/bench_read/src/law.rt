@@ -1,10 +1,12 @@
 //! What holds of each netlist that a text reads as. The functions do nothing: their clauses are the
 //! laws.
 
-ghost use Rattle.std.specs.Prelude.{◌≡◌, ◌≤◌, List as Items, ℕ, None, length};
+ghost use Rattle.std.specs.Prelude.{◌≡◌, ◌≤◌, ◌⊎◌, List as Items, ℕ, Some, None, length};
 ghost use Rattle.net_defs.specs.declared.netlist.Netlist.{Netlist};
 ghost use Rattle.net_defs.specs.Canonical.{canonical_text};
 ghost use Rattle.net_defs.specs.Valid.{IsValid};
+ghost use Rattle.text_lines.specs.Answers.{IsReader};
+ghost use Rattle.bench_read.specs.declared.refusal.BenchNo.{BenchNo};
 ghost use Rattle.bench_read.specs.Faults.{first_fault};
 ghost use Rattle.bench_read.specs.Reads.{Reads};
 
@@ -26,4 +28,11 @@ pub fn reads_as_valid(text: &[u8], net: &Netlist)
 pub fn canonical_reads(net: &Netlist)
     requires { IsValid net.now }
     ensures { Reads (canonical_text net.now) net.now }
+{}
+
+/// Each text, of any length, reads as a netlist or has a first fault. With the first law, the texts
+/// have a reader.
+pub fn reads_or_faults()
+    ensures some { (text : Items ℕ) → ((net : Netlist) × Reads text net) ⊎ ((why : BenchNo) × (first_fault text ≡ Some why)) }
+    ensures reader { IsReader Reads first_fault }
 {}

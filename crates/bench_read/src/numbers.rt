@@ -1,7 +1,7 @@
 //! The numbers of names: their places in signal order.
 
 ghost use Rattle.std.specs.Prelude.{◌≡◌, ◌⊎◌, ◌++◌, ◌<◌, ◌≤◌, ◌^◌, length, IfOk, OnOk};
-ghost use Rattle.text_lines.specs.First.{Answers};
+ghost use Rattle.text_lines.specs.Answers.{Answers};
 ghost use Rattle.bench_read.specs.declared.refusal.BenchNo.TheVariants.{Memory as NoMemory, Undriven};
 ghost use Rattle.bench_read.specs.Faults.{drivers_of, use_fault, texts_of};
 ghost use Rattle.bench_read.specs.Netlists.{names_of, inputs_by, others_by, place_of, numbers_of};

@@ -2,7 +2,7 @@
 
 ghost use Rattle.std.specs.Prelude.{◌≡◌, ◌≢◌, ◌≤◌, None, MatchResult, IfErr, length};
 ghost use Rattle.std.specs.Option.{option_map};
-ghost use Rattle.text_lines.specs.First.{Answers};
+ghost use Rattle.text_lines.specs.Answers.{Answers};
 ghost use Rattle.net_defs.specs.declared.netlist.Netlist.{Netlist};
 ghost use Rattle.bench_text.specs.declared.token.TextNo.TheVariants as text_no;
 ghost use Rattle.bench_text.specs.Tokens.{tokens_of, first_fault as byte_fault};

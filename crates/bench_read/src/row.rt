@@ -5,7 +5,7 @@ ghost use Rattle.std.specs.List.{prefix_len};
 ghost use Rattle.bench_read.specs.declared.refusal.BenchNo.TheVariants.{Memory as NoMemory};
 ghost use Rattle.bench_read.specs.Grammar as specs;
 ghost use Rattle.bench_read.specs.Grammar.{rows_of, said};
-ghost use Rattle.bench_read.specs.Faults.{AnswersAs};
+ghost use Rattle.text_lines.specs.Answers.{AnswersAs};
 
 use crate::form::{count_names, form_of, last_of, names_in, right_of, second_semi_of, word_at};
 use crate::part::part;

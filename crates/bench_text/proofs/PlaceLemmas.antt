@@ -1,34 +1,43 @@
 -- What a scan finds at a place, by what the byte there is.
-use Rattle.std.proofs.Common.{◌≡◌, ℕ, zero, suc, ◌+◌, ◌<◌, ◌≤◌, Bool, true, false, not, ◌&&◌, List, length, take, drop, ◌-◌, get_or, ◌⊎◌, ⊎_elim, Some, None, Ok, Err, sym, ap, ◌∙◌, refl, leb, eqb, subst}
+use Rattle.std.proofs.Common.{◌≡◌, ℕ, zero, suc, ◌+◌, ◌<◌, ◌≤◌, Bool, true, false, not, ◌&&◌, ◌||◌, cond, List, length, take, drop, ◌-◌, get_or, ◌⊎◌, ⊎_elim, Some, None, Ok, Err, sym, ap, ◌∙◌, refl, leb, eqb, subst}
 use Rattle.std.specs.Prelude.{is_some}
 use Rattle.std.specs.List.{prefix_len}
 use Rattle.std.proofs.lemmas.List.{take_rest}
 use Rattle.std.proofs.lemmas.Bool.{cond-true, cond-false, lt-ltb, le-ltb, and_left, and_right, and_from, or_parts, not_from_false, not_from_true, ne_eqb, both_ways}
-use Rattle.text_lines.specs.Bytes.{is_hash, is_blank}
-use Rattle.text_lines.specs.First.{fault_or}
-use Rattle.text_lines.specs.Places.{goes_on, is_comment, line_at, column_at, is_line_end}
+use Rattle.text_lines.specs.Bytes.{is_visible, is_hash, is_blank}
+use Rattle.text_lines.specs.Answers.{fault_or}
+use Rattle.text_lines.specs.Places.{stays_in_comment, is_comment, line_at, column_at, is_line_end}
 use Rattle.bench_text.specs.declared.token.Mark.{Mark}
-use Rattle.bench_text.specs.declared.token.Mark.TheVariants.{Name}
+use Rattle.bench_text.specs.declared.token.Mark.TheVariants.{Open, Close, Comma, Equals, Semi, Left, Right, Name}
 use Rattle.bench_text.specs.declared.token.TextNo.TheVariants.{BadByte, LongName}
 use Rattle.bench_text.specs.declared.scan.Scan.{Scan}
-use Rattle.bench_text.specs.Bytes.{is_visible, sign_of, is_name_byte}
+use Rattle.text_lines.specs.Names.{is_mark, is_name_byte}
+use Rattle.text_lines.proofs.NameLemmas.{name_byte_from, name_byte-not_visible, name_byte-mark}
+use Rattle.bench_text.specs.Bytes.{sign_of}
 use Rattle.bench_text.specs.Tokens.{follows_name, begins_name, name_length, token_at, token_of_sign, is_bad, fault_at}
 use Rattle.bench_text.specs.Scans.{follows_comment, scan_at, answer_at}
 
 -- ---- bytes
 
-pub name_byte_from : (byte : ℕ) → is_visible byte ≡ true → sign_of byte ≡ None → is_hash byte ≡ false → is_name_byte byte ≡ true
-unfolding is_name_byte
-name_byte_from byte visible sign hash =
-    and_from _ _ (and_from _ _ visible (ap (λ s. not (is_some s)) sign)) (ap not hash)
+-- the marks are the bytes that are tokens by themselves
+pub mark_is : (byte : ℕ) → is_mark byte ≡ is_some (sign_of byte)
+unfolding is_mark sign_of
+mark_is byte = by_bytes (eqb byte 40) (eqb byte 41) (eqb byte 44) (eqb byte 61) (eqb byte 59) (eqb byte 91) (eqb byte 93) where
+  by_bytes : (a b c d e f g : Bool) → (a || b || c || d || e || f || g) ≡ is_some (cond a (Some Open) (cond b (Some Close) (cond c (Some Comma) (cond d (Some Equals) (cond e (Some Semi) (cond f (Some Left) (cond g (Some Right) None)))))))
+  by_bytes true b c d e f g = refl
+  by_bytes false true c d e f g = refl
+  by_bytes false false true d e f g = refl
+  by_bytes false false false true e f g = refl
+  by_bytes false false false false true f g = refl
+  by_bytes false false false false false true g = refl
+  by_bytes false false false false false false true = refl
+  by_bytes false false false false false false false = refl
 
-pub name_byte-not_visible : (byte : ℕ) → is_visible byte ≡ false → is_name_byte byte ≡ false
-unfolding is_name_byte
-name_byte-not_visible byte hidden = and_left _ _ (and_left _ _ hidden)
+pub name_byte_unsigned : (byte : ℕ) → is_visible byte ≡ true → sign_of byte ≡ None → is_hash byte ≡ false → is_name_byte byte ≡ true
+name_byte_unsigned byte visible sign hash = name_byte_from byte visible (mark_is byte ∙ ap is_some sign) hash
 
 pub name_byte-sign : (byte : ℕ) (mark : Mark) → sign_of byte ≡ Some mark → is_name_byte byte ≡ false
-unfolding is_name_byte
-name_byte-sign byte mark sign = and_left _ _ (and_right _ _ (ap (λ s. not (is_some s)) sign))
+name_byte-sign byte mark sign = name_byte-mark byte (mark_is byte ∙ ap is_some sign)
 
 -- a byte that is a token by itself is visible
 pub no_sign : (byte : ℕ) → is_visible byte ≡ false → sign_of byte ≡ None
@@ -43,20 +52,20 @@ no_sign byte hidden =
 
 -- ---- comments
 
-pub is_comment_step : (text : List ℕ) (i : ℕ) → is_comment text i ≡ goes_on (follows_comment text i) (get_or text i 0)
+pub is_comment_step : (text : List ℕ) (i : ℕ) → is_comment text i ≡ stays_in_comment (follows_comment text i) (get_or text i 0)
 unfolding is_comment
 is_comment_step text zero = refl
 is_comment_step text (suc i) = refl
 
 pub no_hash : (text : List ℕ) (i : ℕ) → is_comment text i ≡ false → is_hash (get_or text i 0) ≡ false
-unfolding goes_on
+unfolding stays_in_comment
 no_hash text i outside = (or_parts _ _ (sym (is_comment_step text i) ∙ outside)).0
 
 -- ---- the faults and tokens of a place
 
 module _ (text : List ℕ) (i : ℕ) where
   name_here : is_comment text i ≡ false → is_visible (get_or text i 0) ≡ true → sign_of (get_or text i 0) ≡ None → is_name_byte (get_or text i 0) ≡ true
-  name_here outside visible sign = name_byte_from (get_or text i 0) visible sign (no_hash text i outside)
+  name_here outside visible sign = name_byte_unsigned (get_or text i 0) visible sign (no_hash text i outside)
 
   no_fault : is_bad text i ≡ false → begins_name text i ≡ false → fault_at text i ≡ None
   unfolding fault_at
@@ -132,9 +141,9 @@ module _ (text : List ℕ) (i : ℕ) where
 
 -- ---- from what the code's tests answer
 
-pub comment_is : (text : List ℕ) (i : ℕ) (scan : Scan) (answer b : Bool) → scan ≡ scan_at text i → answer ≡ goes_on scan.in_comment (get_or text i 0) → answer ≡ b → is_comment text i ≡ b
+pub comment_is : (text : List ℕ) (i : ℕ) (scan : Scan) (answer b : Bool) → scan ≡ scan_at text i → answer ≡ stays_in_comment scan.in_comment (get_or text i 0) → answer ≡ b → is_comment text i ≡ b
 comment_is text i scan answer b at tested is =
-    is_comment_step text i ∙ ap (λ s. goes_on s.in_comment (get_or text i 0)) (sym at) ∙ sym tested ∙ is
+    is_comment_step text i ∙ ap (λ s. stays_in_comment s.in_comment (get_or text i 0)) (sym at) ∙ sym tested ∙ is
 
 pub length_is : (text : List ℕ) (i n : ℕ) → n ≡ prefix_len is_name_byte (take (length text - i) (drop i text)) → n ≡ name_length text i
 unfolding name_length

@@ -3,8 +3,8 @@ use Rattle.std.proofs.Common.{◌≡◌, ℕ, zero, suc, ◌+◌, ◌<◌, ◌�
 use Rattle.std.specs.Option.{option_to_list}
 use Rattle.text_lines.specs.Bytes.{is_line_feed}
 use Rattle.text_lines.specs.Places.{line_at, column_at}
-use Rattle.text_lines.specs.First.{first}
-use Rattle.text_lines.proofs.FirstLemmas.{fault_or_err, fault_or_ok, first-zero, first_none_more, first_some}
+use Rattle.text_lines.specs.Answers.{first}
+use Rattle.text_lines.proofs.AnswerLemmas.{fault_or_err, fault_or_ok, first-zero, first_none_more, first_some}
 use Rattle.bench_text.specs.declared.scan.Scan.{Scan}
 use Rattle.bench_text.specs.declared.token.Token.{Token}
 use Rattle.bench_text.specs.declared.token.TextNo.{TextNo}

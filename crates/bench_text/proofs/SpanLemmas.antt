@@ -8,18 +8,20 @@ use Rattle.std.proofs.lemmas.List.{length-drop, length-take, get_or-drop, get_or
 use Rattle.std.proofs.lemmas.List.Elements.{All-nil, All-push, All-weaker, All-from_get_or}
 use Rattle.std.proofs.lemmas.List.Quantifiers.{Any-push, all_pairs_push}
 use Rattle.std.proofs.lemmas.List.Sums.{prefix_len-le-length, prefix_len_passes, prefix_len_stops}
-use Rattle.text_lines.specs.Bytes.{is_hash, is_line_feed, is_return, is_blank}
-use Rattle.text_lines.specs.Places.{goes_on, is_comment, line_at, is_line_end}
-use Rattle.text_lines.specs.First.{first}
-use Rattle.text_lines.proofs.FirstLemmas.{none_is_not_some, none_below}
+use Rattle.text_lines.specs.Bytes.{is_visible, is_hash, is_line_feed, is_return, is_blank}
+use Rattle.text_lines.specs.Places.{stays_in_comment, is_comment, line_at, is_line_end}
+use Rattle.text_lines.specs.Answers.{first}
+use Rattle.text_lines.proofs.AnswerLemmas.{none_is_not_some, none_below}
 use Rattle.bench_text.specs.declared.token.Mark.{Mark}
 use Rattle.bench_text.specs.declared.token.Mark.TheVariants.{Open, Close, Comma, Equals, Semi, Left, Right, Name}
 use Rattle.bench_text.specs.declared.token.Token.{Token}
 use Rattle.bench_text.specs.declared.token.TextNo.{TextNo}
-use Rattle.bench_text.specs.Bytes.{is_visible, sign_of, is_name_byte}
+use Rattle.text_lines.specs.Names.{is_name_byte}
+use Rattle.text_lines.proofs.NameLemmas.{name_byte_is}
+use Rattle.bench_text.specs.Bytes.{sign_of}
 use Rattle.bench_text.specs.Tokens.{follows_name, begins_name, name_length, token_at, token_of_sign, tokens_before, tokens_of, is_bad, fault_at}
 use Rattle.bench_text.specs.Spans.{AreBytesOf, StandsIn, IsBefore, IsCovered, IsRead}
-use Rattle.bench_text.proofs.PlaceLemmas.{no_sign, no_hash, name_token, name_byte_from}
+use Rattle.bench_text.proofs.PlaceLemmas.{mark_is, no_sign, no_hash, name_token, name_byte_unsigned}
 
 -- ---- bytes
 
@@ -32,12 +34,10 @@ pub record NameByte (byte : ℕ) : Type 0 where
   pub no_sign : sign_of byte ≡ None
   pub no_hash : is_hash byte ≡ false
 
-pub name_byte_is : (byte : ℕ) → is_name_byte byte ≡ true → NameByte byte
-unfolding is_name_byte
-name_byte_is byte named =
-    let outer = and_parts _ _ named in
-    let inner = and_parts _ _ outer.0 in
-    record { visible = inner.0; no_sign = none_from (sign_of byte) (not-true _ inner.1); no_hash = not-true _ outer.1 }
+pub named_byte : (byte : ℕ) → is_name_byte byte ≡ true → NameByte byte
+named_byte byte named =
+    let is = name_byte_is byte named in
+    record { visible = is.visible; no_sign = none_from (sign_of byte) (sym (mark_is byte) ∙ is.no_mark); no_hash = is.no_hash }
 
 pub sign_visible : (byte : ℕ) (mark : Mark) → sign_of byte ≡ Some mark → is_visible byte ≡ true
 sign_visible byte mark sign =
@@ -71,11 +71,11 @@ no_line_end text i visible =
 -- ---- comments
 
 pub outside_next : (text : List ℕ) (i : ℕ) → is_comment text i ≡ false → is_hash (get_or text (suc i) 0) ≡ false → is_comment text (suc i) ≡ false
-unfolding is_comment goes_on
+unfolding is_comment stays_in_comment
 outside_next text i outside hash = or_from _ _ hash (and_left _ _ outside)
 
 pub outside_before : (text : List ℕ) (i : ℕ) → is_comment text (suc i) ≡ false → is_line_feed (get_or text (suc i) 0) ≡ false → is_comment text i ≡ false
-unfolding is_comment goes_on
+unfolding is_comment stays_in_comment
 outside_before text i outside feed =
     elim (and_cases _ _ (or_parts _ _ outside).1) [
       | inl before ↦ before
@@ -288,7 +288,7 @@ no_token_inside text i (suc j) token before inside is = ⊎_elim as_sign as_name
   just_before = subst (λ k. is_name_byte (get_or text k 0) ≡ true) (omega arith) (run_passes text i (j - i) (omega arith))
 
   as_sign : IsSignAt text (suc j) token → ⊥
-  as_sign found = none_is_not_some (sym (name_byte_is _ here).no_sign ∙ found.sign)
+  as_sign found = none_is_not_some (sym (named_byte _ here).no_sign ∙ found.sign)
 
   as_name : IsNameAt text (suc j) token → ⊥
   as_name found = both_ways _ (begins_is text (suc j) found.begins).fresh just_before
@@ -353,7 +353,7 @@ pub outside_run : (text : List ℕ) (i k : ℕ) → is_comment text i ≡ false 
 outside_run text i zero outside below = subst (λ j. is_comment text j ≡ false) (omega arith) outside
 outside_run text i (suc k) outside below =
     let named = subst (λ j. is_name_byte (get_or text j 0) ≡ true) (shift i k) (run_passes text i (suc k) below) in
-    subst (λ j. is_comment text j ≡ false) (sym (shift i k)) (outside_next text (i + k) (outside_run text i k outside (omega arith)) (name_byte_is _ named).no_hash)
+    subst (λ j. is_comment text j ≡ false) (sym (shift i k)) (outside_next text (i + k) (outside_run text i k outside (omega arith)) (named_byte _ named).no_hash)
   where
     shift : (i k : ℕ) → i + suc k ≡ suc (i + k)
     shift i k = omega arith
@@ -376,7 +376,7 @@ read_in_token text i k token is from upto = ⊎_elim as_sign as_name cases.1 whe
   as_name found =
       let inside : i - k < name_length text k = omega (arith, ap (λ t. t.from) found.same, ap (λ t. t.upto) found.same) in
       let same : k + (i - k) ≡ i = omega (arith, ap (λ t. t.from) found.same) in
-      subst (IsRead text) same (read_from_visible text (k + (i - k)) (outside_run text k (i - k) cases.0 inside) (name_byte_is _ (run_passes text k (i - k) inside)).visible)
+      subst (IsRead text) same (read_from_visible text (k + (i - k)) (outside_run text k (i - k) cases.0 inside) (named_byte _ (run_passes text k (i - k) inside)).visible)
 
 pub begins_from : (text : List ℕ) (i : ℕ) → is_comment text i ≡ false → is_name_byte (get_or text i 0) ≡ true → follows_name text i ≡ false → begins_name text i ≡ true
 unfolding begins_name
@@ -390,7 +390,7 @@ name_of_byte text (suc j) within outside named =
     elim (cases_Bool (is_name_byte (get_or text j 0))) [
       | inr fresh ↦ (suc j, omega arith, begins_from text (suc j) outside named fresh, omega (arith, run_begins text (suc j) within named))
       | inl follows ↦
-          let before = name_of_byte text j (omega arith) (outside_before text j outside (ink _ (name_byte_is _ named).visible).no_feed) follows in
+          let before = name_of_byte text j (omega arith) (outside_before text j outside (ink _ (named_byte _ named).visible).no_feed) follows in
           let k = before.0 in
           elim (cases_lt (suc j) (k + name_length text k)) [
             | inl inside ↦ (k, omega (arith, before.1), before.2, inside)
@@ -421,9 +421,9 @@ covered_from_read text i within none read = by_sign (sign_of (get_or text i 0)) 
   by_sign : (sign : Option Mark) → sign_of (get_or text i 0) ≡ sign → IsCovered (tokens_of text) i
   by_sign (Some mark) sign = covered text (length text) i i _ (sign_token text i mark read.0 sign) within (omega arith) (omega arith)
   by_sign None sign =
-      let name = name_of_byte text i within read.0 (name_byte_from _ visible sign (no_hash text i read.0)) in
+      let name = name_of_byte text i within read.0 (name_byte_unsigned _ visible sign (no_hash text i read.0)) in
       let first = begins_is text name.0 name.2 in
-      covered text (length text) i name.0 _ (name_token text name.0 first.outside (name_byte_is _ first.named).no_sign name.2) (omega (arith, name.1)) name.1 name.3
+      covered text (length text) i name.0 _ (name_token text name.0 first.outside (named_byte _ first.named).no_sign name.2) (omega (arith, name.1)) name.1 name.3
 
 -- ---- the laws
 

@@ -6,11 +6,11 @@ use Rattle.text_lines.specs.Places.{is_comment, line_at, is_line_end}
 use Rattle.bench_text.specs.declared.token.Mark.{Mark}
 use Rattle.bench_text.specs.declared.token.Mark.TheVariants.{Open, Close, Comma, Equals, Semi, Left, Right, Name}
 use Rattle.bench_text.specs.declared.token.Token.{Token}
-use Rattle.bench_text.specs.Bytes.{is_name_byte}
+use Rattle.text_lines.specs.Names.{is_name_byte}
 
 -- A name stands from one place up to another: name bytes, at most 255 of them, and no name byte just
 -- before or just after them.
-pub record IsName (text : List ℕ) (from upto : ℕ) : Type 0 where
+pub record IsNameAt (text : List ℕ) (from upto : ℕ) : Type 0 where
   pub bytes : AllPass is_name_byte (slice_range text from upto)
   pub short : upto ≤ from + 255
   pub before : 0 < from → is_name_byte (slice_index text (from - 1)) ≡ false
@@ -25,7 +25,7 @@ AreBytesOf Equals text from upto = slice_range text from upto ≡ codes "="
 AreBytesOf Semi text from upto = slice_range text from upto ≡ codes ";"
 AreBytesOf Left text from upto = slice_range text from upto ≡ codes "["
 AreBytesOf Right text from upto = slice_range text from upto ≡ codes "]"
-AreBytesOf Name text from upto = IsName text from upto
+AreBytesOf Name text from upto = IsNameAt text from upto
 
 -- the token is one byte or more of the text, those of its mark, and is in the line of the first
 pub record StandsIn (text : List ℕ) (token : Token) : Type 0 where

@@ -2,8 +2,9 @@
 
 ghost use Rattle.std.specs.Prelude.{◌≡◌, ◌≤◌, ◌<◌, ◌+◌, ◌^◌, ◌↔◌, ℕ, length, All, AllPairs, IfOk};
 ghost use Rattle.std.specs.List.{prefix_len};
-ghost use Rattle.text_lines.specs.First.{Answers};
-ghost use Rattle.text_lines.specs.Places.{goes_on, is_line_end as ends_line};
+ghost use Rattle.text_lines.specs.Answers.{Answers};
+ghost use Rattle.text_lines.specs.Places.{stays_in_comment, is_line_end as ends_line};
+ghost use Rattle.text_lines.specs.Names.{is_name_byte as is_name};
 ghost use Rattle.bench_text.specs.Bytes as byte_specs;
 ghost use Rattle.bench_text.specs.Tokens.{tokens_of, first_fault, fault_at, token_at};
 ghost use Rattle.bench_text.specs.Spans.{StandsIn, IsBefore, IsCovered, IsRead};
@@ -13,7 +14,8 @@ ghost use Rattle.bench_text.specs.declared.token.TextNo.TheVariants.{Memory as N
 use crate::token::{Mark, TextNo, Token, Tokens};
 use seen_list::List;
 use std::alloc::Global;
-use text_lines::bytes::is_blank;
+use text_lines::bytes::{is_blank, is_visible};
+use text_lines::names::is_name_byte;
 
 /// The most bytes of a name.
 const MOST_NAME_BYTES: usize = 255;
@@ -77,9 +79,9 @@ impl Scan {
     }
 
     /// Whether the byte is inside a comment.
-    #[tactic(auto, unfolding(text_lines::specs::Places::goes_on))]
+    #[tactic(auto, unfolding(text_lines::specs::Places::stays_in_comment))]
     fn is_comment(self, byte: u8) -> bool
-        ensures { result ≡ goes_on self.in_comment byte }
+        ensures { result ≡ stays_in_comment self.in_comment byte }
     {
         byte == b'#' || (self.in_comment && byte != b'\n')
     }
@@ -134,7 +136,7 @@ fn token(mark: Mark, from: usize, len: usize, line: u32) -> Token
 
 /// The number of name bytes at the front.
 fn name_len(rest: &[u8]) -> usize
-    ensures { result ≡ prefix_len byte_specs.is_name_byte rest.now }
+    ensures { result ≡ prefix_len is_name rest.now }
 {
     rest.iter().take_while(|byte| is_name_byte(**byte)).count()
 }
@@ -150,20 +152,6 @@ fn is_line_end(bytes: &[u8], i: usize) -> bool
         b'\r' => i + 1 == bytes.len() || bytes[i + 1] == b'\n',
         _ => false,
     }
-}
-
-#[tactic(auto, unfolding(crate::specs::Bytes::is_visible))]
-fn is_visible(byte: u8) -> bool
-    ensures { result ≡ byte_specs.is_visible byte }
-{
-    (0x21..=0x7e).contains(&byte)
-}
-
-#[tactic(auto, unfolding(crate::specs::Bytes::is_name_byte))]
-fn is_name_byte(byte: u8) -> bool
-    ensures { result ≡ byte_specs.is_name_byte byte }
-{
-    is_visible(byte) && sign_of(byte).is_none() && byte != b'#'
 }
 
 /// The mark of a byte that is a token by itself.

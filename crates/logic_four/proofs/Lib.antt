@@ -1,3 +1,5 @@
 pub mod CodeLemmas
 pub mod FoldLemmas
+pub mod KindLemmas
 pub mod MemoryLemmas
+pub mod PackedLemmas

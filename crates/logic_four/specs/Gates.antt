@@ -1,11 +1,11 @@
 -- What each kind of gate answers, said by what stands among its operands.
-use Rattle.std.specs.Prelude.{◌≡◌, ℕ, ◌%◌, ◌≤◌, ◌==◌, ◌||◌, Bool, true, false, if◌then◌else◌, List, slice_index_or, count_by}
+use Rattle.std.specs.Prelude.{◌%◌, ◌==◌, ◌||◌, Bool, true, false, if◌then◌else◌, List, count_by}
 use Rattle.std.specs.List.{list_any, list_all}
 use Rattle.logic_four.specs.declared.V4.{V4}
 use Rattle.logic_four.specs.declared.V4.TheVariants.{Zero, One, Undef, HighZ}
 use Rattle.logic_four.specs.declared.Kind.{Kind}
 use Rattle.logic_four.specs.declared.Kind.TheVariants.{And, Nand, Or, Nor, Xor, Xnor, Not, Buf, Tri, Bus}
-use Rattle.logic_four.specs.Values.{settled, inverse}
+use Rattle.logic_four.specs.Values.{settled, inverse, value_at}
 
 -- the value is 0
 abbrev pub is_zero : V4 → Bool
@@ -71,10 +71,6 @@ tri_value One d = settled d
 tri_value Undef d = Undef
 tri_value HighZ d = Undef
 
--- the operand at a place; one that is missing counts as undefined
-abbrev pub operand_at : List V4 → ℕ → V4
-operand_at vs i = slice_index_or vs i Undef
-
 -- what a gate of this kind answers for these operands, however many: NOT and BUF look at the first
 -- alone and TRI at the first two, where one that is missing counts as undefined
 abbrev pub gate_value : Kind → List V4 → V4
@@ -84,24 +80,7 @@ gate_value Or vs = or_value vs
 gate_value Nor vs = inverse (or_value vs)
 gate_value Xor vs = xor_value vs
 gate_value Xnor vs = inverse (xor_value vs)
-gate_value Not vs = inverse (settled (operand_at vs 0))
-gate_value Buf vs = settled (operand_at vs 0)
-gate_value Tri vs = tri_value (operand_at vs 0) (operand_at vs 1)
+gate_value Not vs = inverse (settled (value_at vs 0))
+gate_value Buf vs = settled (value_at vs 0)
+gate_value Tri vs = tri_value (value_at vs 0) (value_at vs 1)
 gate_value Bus vs = bus_value vs
-
--- a kind that takes any number of operands takes 1 to 1,024
-abbrev pub IsAnyNumber : ℕ → Type 0
-IsAnyNumber n = (1 ≤ n) × (n ≤ 1024)
-
--- a gate of this kind may have n operands
-abbrev pub AllowsOperands : Kind → ℕ → Type 0
-AllowsOperands And n = IsAnyNumber n
-AllowsOperands Nand n = IsAnyNumber n
-AllowsOperands Or n = IsAnyNumber n
-AllowsOperands Nor n = IsAnyNumber n
-AllowsOperands Xor n = IsAnyNumber n
-AllowsOperands Xnor n = IsAnyNumber n
-AllowsOperands Not n = n ≡ 1
-AllowsOperands Buf n = n ≡ 1
-AllowsOperands Tri n = n ≡ 2
-AllowsOperands Bus n = IsAnyNumber n

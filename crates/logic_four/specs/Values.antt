@@ -1,5 +1,5 @@
 -- The four values: settling, inverting, their characters and their codes.
-use Rattle.std.specs.Prelude.{ℕ, ◌==◌, ◌||◌, if◌then◌else◌, Option, Some, None}
+use Rattle.std.specs.Prelude.{ℕ, ◌==◌, ◌||◌, if◌then◌else◌, List, slice_index_or, Option, Some, None}
 use Rattle.logic_four.specs.declared.V4.{V4}
 use Rattle.logic_four.specs.declared.V4.TheVariants.{Zero, One, Undef, HighZ}
 
@@ -43,3 +43,7 @@ char_value c =
     if c == 120 || c == 88 then Some Undef else
     if c == 122 || c == 90 then Some HighZ else
     None
+
+-- the value in a place of a list of values; one that is missing counts as undefined
+abbrev pub value_at : List V4 → ℕ → V4
+value_at values place = slice_index_or values place Undef

@@ -1,15 +1,12 @@
 //! What a gate answers for its operands.
 
-ghost use Rattle.std.specs.Prelude.{◌≡◌, ◌↔◌, IsTrue, count_by};
+ghost use Rattle.std.specs.Prelude.{◌≡◌, count_by};
 ghost use Rattle.std.specs.List.{list_any, list_all};
-ghost use Rattle.logic_four.specs.Values.{settled, inverse};
-ghost use Rattle.logic_four.specs.Gates.{is_zero, is_one, is_known, is_high_z, and_value, or_value, is_odd_parity, xor_value, is_driven_zero, is_driven_one, bus_value, tri_value, operand_at, gate_value, AllowsOperands};
+ghost use Rattle.logic_four.specs.Values.{settled, inverse, value_at};
+ghost use Rattle.logic_four.specs.Gates.{is_zero, is_one, is_known, is_high_z, and_value, or_value, is_odd_parity, xor_value, is_driven_zero, is_driven_one, bus_value, tri_value, gate_value};
 
 use crate::values::{not, settle};
 use crate::{Kind, V4};
-
-/// The most operands of a gate whose kind takes any number of them.
-const WIDEST: usize = 1024;
 
 fn any_zero(vs: &[V4]) -> bool
     ensures { result ≡ list_any is_zero vs.now }
@@ -129,7 +126,7 @@ pub fn tri(en: V4, d: V4) -> V4
 }
 
 fn operand(operands: &[V4], place: usize) -> V4
-    ensures { result ≡ operand_at operands.now place }
+    ensures { result ≡ value_at operands.now place }
 {
     if place < operands.len() {
         operands[place]
@@ -154,17 +151,5 @@ pub fn gate(kind: Kind, operands: &[V4]) -> V4
         Kind::Buf => settle(operand(operands, 0)),
         Kind::Tri => tri(operand(operands, 0), operand(operands, 1)),
         Kind::Bus => bus_all(operands),
-    }
-}
-
-/// Whether a gate of this kind may have so many operands: 1 to 1,024 (this project's profile), but
-/// exactly 1 for `Not` and `Buf`, and exactly 2 for `Tri`.
-pub fn allows(kind: Kind, operands: usize) -> bool
-    ensures { IsTrue result ↔ AllowsOperands kind operands }
-{
-    match kind {
-        Kind::Not | Kind::Buf => operands == 1,
-        Kind::Tri => operands == 2,
-        _ => operands >= 1 && operands <= WIDEST,
     }
 }

@@ -4,11 +4,14 @@
 
 pub mod folds;
 pub mod gates;
+pub mod kinds;
 pub mod memory;
+pub mod packed;
 pub mod values;
 
 pub use folds::{base_kind, lone_kind, takes_many};
-pub use gates::{allows, and_all, bus_all, gate, or_all, tri, xor_all};
+pub use gates::{and_all, bus_all, gate, or_all, tri, xor_all};
+pub use kinds::{allows, kind_of, word_of};
 pub use values::{code, decoded, not, of_char, settle, to_char};
 
 /// The value of a signal.

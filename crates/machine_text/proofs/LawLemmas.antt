@@ -1,14 +1,14 @@
 -- A text reads as a machine exactly where it has no fault.
-use Rattle.std.proofs.Common.{◌≡◌, ℕ, ◌+◌, ◌<◌, ◌≤◌, Bool, true, false, cond, List, [], ◌∷◌, length, take, get_or, Some, None, sym, ap, ◌∙◌, subst, refl, arith}
+use Rattle.std.proofs.Common.{◌≡◌, ◌⊎◌, ℕ, ◌+◌, ◌<◌, ◌≤◌, Bool, true, false, cond, List, [], ◌∷◌, length, take, get_or, Option, Some, None, sym, ap, ◌∙◌, subst, refl, inl, inr, arith}
 use Rattle.std.specs.List.{All, AllPairs, AllByRecursion, list_any, find, cons_option}
-use Rattle.std.specs.Option.{option_map}
+use Rattle.std.specs.Option.{option_map, option_or}
 use Rattle.std.specs.Prelude.{unwrap_or}
-use Rattle.std.proofs.lemmas.Bool.{cond-true, cond-false, le-ltb, leb-true, and_parts, or_parts, or_from}
+use Rattle.std.proofs.lemmas.Bool.{cond-true, cond-false, cases_lt, lt-ltb, le-ltb, leb-true, and_parts, or_parts, or_from}
 use Rattle.std.proofs.lemmas.List.{get_or-take, get_or_default, length-take-le}
 use Rattle.std.proofs.lemmas.List.Elements.{All-from_recursion, All-from_get_or, recursion_from_All}
-use Rattle.text_lines.specs.First.{or_else, first}
+use Rattle.text_lines.specs.Answers.{first}
 use Rattle.text_lines.specs.Lines.{parts_of}
-use Rattle.text_lines.proofs.FirstLemmas.{first_none, none_below}
+use Rattle.text_lines.proofs.AnswerLemmas.{first_none, none_below}
 use Rattle.machine_text.specs.declared.quantity.Quantity.{Quantity}
 use Rattle.machine_text.specs.declared.quantity.Quantity.TheVariants.{Logic, Array, Slots, Functions, Bits}
 use Rattle.machine_text.specs.declared.line.Setting.{Setting}
@@ -16,6 +16,7 @@ use Rattle.machine_text.specs.declared.line.Says.{Says}
 use Rattle.machine_text.specs.declared.line.Says.TheVariants.{Nothing, Sets, Other}
 use Rattle.machine_text.specs.declared.machine.Machine.{Machine}
 use Rattle.machine_text.specs.declared.machine.MachNo.{MachNo}
+use Rattle.machine_text.specs.declared.machine.MachNo.TheVariants.{Ports}
 use Rattle.machine_text.specs.Quantities.{in_range, same_quantity, least_of, most_of, default_of}
 use Rattle.machine_text.specs.Settings.{says, sets, settings_of, setting_of, fault_of}
 use Rattle.machine_text.specs.Machines.{IsValid, Reads, IsAllowed, AreApart, line_fault, first_fault, ports_fault, ports_of, machine_of, number_in}
@@ -146,7 +147,7 @@ lines_from_reads text machine reads =
 -- what reads as a machine has no fault
 pub no_fault_from_reads : (text : List ℕ) (machine : Machine) → Reads text machine → first_fault text ≡ None
 no_fault_from_reads text machine reads =
-    ap (λ fault. or_else fault (ports_fault (machine_of (settings_of (parts_of text))))) (lines_from_reads text machine reads)
+    ap (λ fault. option_or fault (ports_fault (machine_of (settings_of (parts_of text))))) (lines_from_reads text machine reads)
     ∙ ports_fault-none (machine_of (settings_of (parts_of text))) (subst (λ m. ports_of m ≤ 256) reads.numbers reads.ports)
 
 -- what a text reads as is a valid machine
@@ -170,3 +171,20 @@ valid_from_reads text machine reads =
       bits_most = bits.1;
       ports = subst (λ m. ports_of m ≤ 256) reads.numbers reads.ports;
     })
+
+-- a text reads as one machine
+pub one_machine : (text : List ℕ) (machine other : Machine) → Reads text machine → Reads text other → machine ≡ other
+one_machine text machine other reads reads_other = reads.numbers ∙ sym reads_other.numbers
+
+-- ---- each text reads, or has a fault
+
+pub reads_or_fault : (text : List ℕ) → ((machine : Machine) × Reads text machine) ⊎ ((why : MachNo) × (first_fault text ≡ Some why))
+reads_or_fault text = by_lines (first (line_fault text) (length (parts_of text))) refl where
+  by_lines : (o : Option MachNo) → first (line_fault text) (length (parts_of text)) ≡ o → ((machine : Machine) × Reads text machine) ⊎ ((why : MachNo) × (first_fault text ≡ Some why))
+  by_lines (Some why) is = inr (why, ap (λ fault. option_or fault (ports_fault (machine_of (settings_of (parts_of text))))) is)
+  by_lines None is =
+      let machine = machine_of (settings_of (parts_of text)) in
+      elim (cases_lt 256 (ports_of machine)) [
+        | inl many ↦ inr (Ports (ports_of machine), ap (λ fault. option_or fault (ports_fault machine)) is ∙ cond-true _ _ _ (lt-ltb 256 (ports_of machine) many))
+        | inr few ↦ inl (machine, reads_from_made text machine refl is few)
+      ]

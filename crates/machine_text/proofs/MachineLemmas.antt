@@ -2,9 +2,9 @@
 use Rattle.std.proofs.Common.{◌≡◌, ℕ, ◌+◌, ◌<◌, ◌≤◌, List, [], ◌∷◌, ◌++◌, length, take, get_or, Option, Some, None, Ok, Err, sym, ap, ◌∙◌, subst, refl, arith, append-nil, add-one}
 use Rattle.std.proofs.lemmas.List.{take_more, take_all}
 use Rattle.std.specs.List.{filter_map, cons_option}
-use Rattle.text_lines.specs.First.{first}
+use Rattle.text_lines.specs.Answers.{first}
 use Rattle.text_lines.specs.Lines.{parts_of}
-use Rattle.text_lines.proofs.FirstLemmas.{fault_or_err, fault_or_ok, first-zero, first_none_more, first_some}
+use Rattle.text_lines.proofs.AnswerLemmas.{fault_or_err, fault_or_ok, first-zero, first_none_more, first_some}
 use Rattle.text_lines.proofs.LineLemmas.{IsNextLine}
 use Rattle.machine_text.specs.declared.line.Setting.{Setting}
 use Rattle.machine_text.specs.declared.machine.MachNo.{MachNo}

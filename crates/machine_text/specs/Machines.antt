@@ -1,8 +1,8 @@
 -- Which machine a text reads as, and its first fault.
 use Rattle.std.specs.Prelude.{◌≡◌, ℕ, ◌+◌, ◌≤◌, true, false, List, [], length, take, slice_index_or, Option, Some, None, unwrap_or, if◌then◌else◌, nat_lt, All, AllPairs}
 use Rattle.std.specs.List.{find}
-use Rattle.std.specs.Option.{option_map}
-use Rattle.text_lines.specs.First.{or_else, first}
+use Rattle.std.specs.Option.{option_map, option_or}
+use Rattle.text_lines.specs.Answers.{first}
 use Rattle.text_lines.specs.Lines.{parts_of}
 use Rattle.machine_text.specs.declared.quantity.Quantity.{Quantity}
 use Rattle.machine_text.specs.declared.quantity.Quantity.TheVariants.{Logic, Array, Slots, Functions, Bits}
@@ -85,4 +85,4 @@ ports_fault machine = if nat_lt 256 (ports_of machine) then Some (Ports (ports_o
 -- the fault of the first line that has one, and where no line has one, too many ports
 abbrev pub first_fault : List ℕ → Option MachNo
 first_fault text =
-    or_else (first (line_fault text) (length (parts_of text))) (ports_fault (machine_of (settings_of (parts_of text))))
+    option_or (first (line_fault text) (length (parts_of text))) (ports_fault (machine_of (settings_of (parts_of text))))

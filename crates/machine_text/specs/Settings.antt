@@ -2,7 +2,7 @@
 use Rattle.std.specs.Prelude.{ℕ, ◌-◌, ◌^◌, min, Bool, List, [], ◌∷◌, Option, Some, None, Result, if◌then◌else◌}
 use Rattle.std.specs.List.{list_any, filter_map}
 use Rattle.text_lines.specs.Words.{words_of}
-use Rattle.text_lines.specs.First.{fault_or}
+use Rattle.text_lines.specs.Answers.{fault_or}
 use Rattle.text_lines.specs.Numbers.{number_of}
 use Rattle.machine_text.specs.declared.quantity.Quantity.{Quantity}
 use Rattle.machine_text.specs.declared.line.Setting.{Setting}

@@ -5,6 +5,7 @@
 //! once in the text. A quantity with no line has its default.
 #![tactic(auto)]
 
+pub mod law;
 pub mod line;
 pub mod machine;
 pub mod quantity;

@@ -61,7 +61,7 @@ fn is_set(settings: &[Setting], quantity: Quantity) -> bool
 fn words_said(part: &[u8]) -> Says
     ensures { result ≡ capped (says part.now) }
 {
-    let mut words = Words::of(part);
+    let mut words = Words::new(part);
     let Some(word) = words.next() else {
         return Says::Nothing;
     };

@@ -2,7 +2,7 @@
 
 ghost use Rattle.std.specs.Prelude.{◌≡◌, ◌≤◌, ℕ, None, MatchResult, IfOk, length};
 ghost use Rattle.std.specs.List.{find};
-ghost use Rattle.text_lines.specs.First.{Answers, first};
+ghost use Rattle.text_lines.specs.Answers.{Answers, first};
 ghost use Rattle.text_lines.specs.Lines.{parts_of};
 ghost use Rattle.machine_text.specs.declared.machine.Machine.{Machine};
 ghost use Rattle.machine_text.specs.declared.machine.MachNo.TheVariants.{Memory as NoMemory};
@@ -50,7 +50,7 @@ fn read_settings(alloc: Global, bytes: &[u8]) -> Result<List<Setting>, MachNo>
         (λ settings. settings ≡ settings_of (parts_of bytes.now)) }
 {
     let mut settings = List::new(alloc);
-    for (line, part) in Lines::of(bytes) {
+    for (line, part) in Lines::new(bytes) {
         if let Some(setting) = read_line(settings.as_slice(), line, part)? {
             settings.push(setting)?;
         }

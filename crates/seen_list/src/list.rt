@@ -1,12 +1,14 @@
 //! A list that grows at its end.
 
-ghost use Rattle.std.specs.Prelude.{◌≡◌, ◌<◌, ◌↔◌, List as Items, [], ◌∷◌, ◌++◌, length, slice_set, OnErr, OnOk, IfOk, IsNone, IfSome, IsTrue};
+ghost use Rattle.std.specs.Prelude.{◌≡◌, ◌<◌, ◌↔◌, List as Items, [], ◌∷◌, ◌++◌, length, slice_set, OnErr, OnOk, IfOk, IsNone, IfSome, IsTrue, replicate, slice_get, option_copied};
+ghost use Rattle.std.specs.Slice.Iter.{iter_rest};
 ghost use Rattle.std.specs.Borrow.{sem};
 ghost use Rattle.seen_list.specs.Lending.{LendsMembers};
 
 use crate::Memory;
 use std::alloc::Global;
 use std::marker::Model;
+use std::slice;
 
 /// A list of values in order. A contract sees it as the list of its values and nothing else.
 #[derive(Drop)]
@@ -46,11 +48,25 @@ impl<T> List<T> {
         self.inner.is_empty()
     }
 
+    /// The value in the place `i`, counted from 0. `None` exactly where there are no more than `i`.
+    pub fn get(&self, i: usize) -> Option<&T>
+        ensures { option_copied result ≡ slice_get self.now i }
+    {
+        self.inner.get(i)
+    }
+
     /// The values in order.
     pub fn as_slice(&self) -> &[T]
         ensures { result.now ≡ self.now }
     {
         self.inner.as_slice()
+    }
+
+    /// The values in order, one after another.
+    pub fn iter(&self) -> slice::Iter<'_, T>
+        ensures { iter_rest result ≡ self.now }
+    {
+        self.inner.iter()
     }
 
     /// Lends the values, to be changed in their places. The length stays.
@@ -93,13 +109,54 @@ impl<T: Drop> List<T> {
 }
 
 impl<T: Copy> List<T> {
+    /// A list of the values of a slice.
+    pub fn from_slice(alloc: Global, items: &[T]) -> Result<List<T>, Memory>
+        ensures { IfOk result (λ list. list ≡ items.now) }
+    {
+        match Vec::from_slice(alloc, items) {
+            Ok(inner) => Ok(List { inner }),
+            Err(_) => Err(Memory),
+        }
+    }
+
+    /// A list of `count` values, all of them `x`.
+    pub fn filled(alloc: Global, x: T, count: usize) -> Result<List<T>, Memory>
+        ensures { IfOk result (λ list. list ≡ replicate count x) }
+    {
+        let mut inner = Vec::new(alloc);
+        match inner.resize(count, x) {
+            Ok(()) => Ok(List { inner }),
+            Err(_) => Err(Memory),
+        }
+    }
+
+    /// Adds all the values of a slice at the end, or, refused, none of them.
+    pub fn extend_from_slice(&mut self, items: &[T]) -> Result<(), Memory>
+        ensures ok { OnOk result (self.new ≡ self.old ++ items.now) }
+        ensures err { OnErr result (self.new ≡ self.old) }
+    {
+        match self.inner.extend_from_slice(items) {
+            Ok(()) => Ok(()),
+            Err(_) => Err(Memory),
+        }
+    }
+
     /// A second list of the same values, on the same allocator.
     pub fn copy(&self) -> Result<List<T>, Memory>
         ensures { IfOk result (λ copied. copied ≡ self.now) }
     {
-        match Vec::from_slice(*self.inner.allocator(), self.inner.as_slice()) {
-            Ok(inner) => Ok(List { inner }),
-            Err(_) => Err(Memory),
-        }
+        List::from_slice(*self.inner.allocator(), self.as_slice())
+    }
+}
+
+impl<'a, T> IntoIterator for &'a List<T> {
+    type Item = &'a T;
+
+    type IntoIter = slice::Iter<'a, T>;
+
+    ghost into_iter_gives = { λ list it. iter_rest it ≡ list.now };
+
+    fn into_iter(self) -> Self::IntoIter {
+        self.iter()
     }
 }

@@ -1,6 +1,6 @@
 //! A text that grows at its end.
 
-ghost use Rattle.std.specs.Prelude.{◌≡◌, ◌↔◌, [], ◌++◌, length, OnErr, OnOk, IsTrue};
+ghost use Rattle.std.specs.Prelude.{◌≡◌, ◌↔◌, [], ◌++◌, length, OnErr, OnOk, IfOk, IsTrue};
 
 use crate::Memory;
 use std::alloc::Global;
@@ -27,6 +27,16 @@ impl Text {
     {
         Text {
             inner: Vec::new(alloc),
+        }
+    }
+
+    /// A text of the bytes of a slice.
+    pub fn from_bytes(alloc: Global, bytes: &[u8]) -> Result<Text, Memory>
+        ensures { IfOk result (λ text. text ≡ bytes.now) }
+    {
+        match Vec::from_slice(alloc, bytes) {
+            Ok(inner) => Ok(Text { inner }),
+            Err(_) => Err(Memory),
         }
     }
 

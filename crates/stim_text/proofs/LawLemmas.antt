@@ -8,7 +8,7 @@ use Rattle.std.proofs.lemmas.List.Sums.{sum_by-append}
 use Rattle.std.proofs.lemmas.List.Elements.{All-from_recursion, All-from_get_or, recursion_from_All, filter_map-append}
 use Rattle.std.proofs.lemmas.Option.{get_or_from_slice_get, slice_get_within}
 use Rattle.text_lines.specs.Lines.{parts_of}
-use Rattle.text_lines.proofs.FirstLemmas.{first_none, none_below}
+use Rattle.text_lines.proofs.AnswerLemmas.{first_none, none_below}
 use Rattle.net_defs.specs.declared.stimulus.StimRow.{StimRow}
 use Rattle.net_defs.specs.declared.stimulus.Stimulus.{Stimulus}
 use Rattle.net_defs.specs.Time.{cycle_count}
@@ -54,6 +54,11 @@ none_from_reads inputs text stimulus reads =
     omega (arith, cycles_with parts i row within is, ap cycles_of reads.rows, reads.cycles)))
 
 -- ---- what a text reads as is one valid stimulus
+
+-- it has the columns that are asked and the rows of the text
+pub one_stimulus : (inputs : ℕ) (text : List ℕ) (stimulus other : Stimulus) → Reads inputs text stimulus → Reads inputs text other → stimulus ≡ other
+one_stimulus inputs text stimulus other reads reads_other =
+    rw (reads.columns ∙ sym reads_other.columns) (rw (reads.rows ∙ sym reads_other.rows) refl)
 
 rows_good : (inputs : ℕ) (parts : List (List ℕ)) → AllByRecursion (IsAllowed inputs) parts → AllByRecursion (IsGood inputs) (rows_of parts)
 unfolding rows_of

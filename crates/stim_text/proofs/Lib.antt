@@ -1,4 +1,4 @@
 mod LawLemmas
-mod PartLemmas
 mod RowLemmas
 mod StimLemmas
+mod TotalLemmas

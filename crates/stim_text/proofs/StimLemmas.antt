@@ -4,9 +4,9 @@ use Rattle.std.proofs.lemmas.List.{take_more, take_all}
 use Rattle.std.proofs.lemmas.List.Elements.{filter_map-append}
 use Rattle.std.proofs.lemmas.List.Sums.{sum_by-append}
 use Rattle.std.specs.List.{filter_map, cons_option}
-use Rattle.text_lines.specs.First.{first}
+use Rattle.text_lines.specs.Answers.{first}
 use Rattle.text_lines.specs.Lines.{parts_of}
-use Rattle.text_lines.proofs.FirstLemmas.{first-zero, first_none_more, first_some}
+use Rattle.text_lines.proofs.AnswerLemmas.{first-zero, first_none_more, first_some}
 use Rattle.text_lines.proofs.LineLemmas.{IsNextLine}
 use Rattle.net_defs.specs.declared.stimulus.StimRow.{StimRow}
 use Rattle.stim_text.specs.declared.refusal.StimNo.{StimNo}

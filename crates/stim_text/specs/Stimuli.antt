@@ -1,7 +1,7 @@
 -- Which stimulus a text reads as, and its first fault.
 use Rattle.std.specs.Prelude.{◌≡◌, ℕ, ◌+◌, ◌≤◌, List, [], length, take, slice_index_or, Option, All}
 use Rattle.std.specs.List.{sum_by, filter_map}
-use Rattle.text_lines.specs.First.{first}
+use Rattle.text_lines.specs.Answers.{first}
 use Rattle.text_lines.specs.Lines.{parts_of}
 use Rattle.net_defs.specs.declared.stimulus.StimRow.{StimRow}
 use Rattle.net_defs.specs.declared.stimulus.Stimulus.{Stimulus}

@@ -1,7 +1,7 @@
 //! The reader of stimulus texts.
 
 ghost use Rattle.std.specs.Prelude.{◌≡◌, ◌≤◌, None, MatchResult, IfOk, length};
-ghost use Rattle.text_lines.specs.First.{Answers};
+ghost use Rattle.text_lines.specs.Answers.{Answers};
 ghost use Rattle.net_defs.specs.declared.stimulus.Stimulus.{Stimulus};
 ghost use Rattle.net_defs.specs.Valid.{IsValidStimulus};
 ghost use Rattle.stim_text.specs.declared.refusal.StimNo.TheVariants.{Memory as NoMemory};
@@ -47,7 +47,7 @@ fn read_rows(alloc: Global, bytes: &[u8], inputs: u32) -> Result<List<StimRow>, 
 {
     let mut rows = List::new(alloc);
     let mut cycles = 0;
-    for (line, part) in Lines::of(bytes) {
+    for (line, part) in Lines::new(bytes) {
         if let Some(row) = read_row(alloc, inputs, cycles, line, part)? {
             cycles += row.times;
             rows.push(row)?;

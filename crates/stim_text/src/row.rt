@@ -2,7 +2,7 @@
 
 ghost use Rattle.std.specs.Prelude.{◌≡◌, ◌+◌, ◌≤◌, ◌<◌, ◌^◌, Some, None, max, List as Items, [], ◌∷◌, length, MatchResult, IfOk, IfSome};
 ghost use Rattle.std.specs.List.{list_all, filter_map};
-ghost use Rattle.text_lines.specs.First.{Answers};
+ghost use Rattle.text_lines.specs.Answers.{Answers};
 ghost use Rattle.text_lines.specs.Words.{words_of};
 ghost use Rattle.logic_four.specs.Values.{char_value};
 ghost use Rattle.stim_text.specs.declared.refusal.StimNo.TheVariants.{Memory as NoMemory};
@@ -101,7 +101,7 @@ fn cut_row(part: &[u8]) -> (&[u8], Option<u32>)
 fn repeat_in(text: &[u8]) -> Option<u32>
     ensures { result ≡ repeat_in (words_of text.now) }
 {
-    let mut words = Words::of(text);
+    let mut words = Words::new(text);
     let word = words.next()?;
     if words.next().is_some() {
         return None;

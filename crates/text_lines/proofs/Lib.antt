@@ -1,3 +1,5 @@
-pub mod FirstLemmas
+pub mod AnswerLemmas
 pub mod LineLemmas
+pub mod NameLemmas
+pub mod PartLemmas
 pub mod WordLemmas

@@ -4,7 +4,7 @@ use Rattle.std.specs.Option.{option_map}
 use Rattle.std.proofs.lemmas.Bool.{cases_lt, cond-true, lt-ltb}
 use Rattle.std.proofs.lemmas.List.{drop_all, drop_more}
 use Rattle.std.specs.List.{enumerate_from, before_first, after_first, position_or_len}
-use Rattle.text_lines.proofs.FirstLemmas.{none_is_not_some}
+use Rattle.text_lines.proofs.AnswerLemmas.{none_is_not_some}
 use Rattle.text_lines.specs.Bytes.{is_line_feed, cut_at}
 use Rattle.text_lines.specs.Lines.{lines_of, part_of, parts_of}
 

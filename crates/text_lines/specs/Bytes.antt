@@ -2,6 +2,7 @@
 use Rattle.std.specs.Prelude.{ℕ, Bool, ◌+◌, ◌==◌, ◌||◌, List, Option, take, drop}
 use Rattle.std.specs.List.{position}
 use Rattle.std.specs.Option.{option_map}
+use Rattle.std.specs.Char.{is_ascii_graphic}
 
 -- LF, which ends a line
 abbrev pub is_line_feed : ℕ → Bool
@@ -18,6 +19,10 @@ is_hash byte = byte == 35
 -- a space or a tab
 unfoldable pub is_blank : ℕ → Bool
 is_blank byte = byte == 32 || byte == 9
+
+-- from 0x21 to 0x7E
+unfoldable pub is_visible : ℕ → Bool
+is_visible byte = is_ascii_graphic byte
 
 -- what stands before and after the first of these bytes in a text, where there is one
 abbrev pub cut_at : ℕ → List ℕ → Option (List ℕ × List ℕ)

@@ -1,6 +1,7 @@
+pub mod Answers
 pub mod Bytes
-pub mod First
 pub mod Lines
+pub mod Names
 pub mod Numbers
 pub mod Places
 pub mod Words

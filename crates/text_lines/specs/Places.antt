@@ -4,13 +4,13 @@ use Rattle.text_lines.specs.Bytes.{is_line_feed, is_return, is_hash}
 
 -- Whether a byte is inside a comment, given whether the byte before it is: it begins one, or the
 -- line goes on.
-unfoldable pub goes_on : Bool → ℕ → Bool
-goes_on within byte = is_hash byte || (within && not (is_line_feed byte))
+unfoldable pub stays_in_comment : Bool → ℕ → Bool
+stays_in_comment within byte = is_hash byte || (within && not (is_line_feed byte))
 
 -- whether the byte at a place is inside a comment; the `#` is, and the LF is not
 unfoldable pub is_comment : List ℕ → ℕ → Bool
-is_comment text zero = goes_on false (slice_index text 0)
-is_comment text (suc i) = goes_on (is_comment text i) (slice_index text (suc i))
+is_comment text zero = stays_in_comment false (slice_index text 0)
+is_comment text (suc i) = stays_in_comment (is_comment text i) (slice_index text (suc i))
 
 -- the line of a place, from 1
 unfoldable pub line_at : List ℕ → ℕ → ℕ

@@ -14,18 +14,26 @@ pub fn is_blank(byte: u8) -> bool
     byte == b' ' || byte == b'\t'
 }
 
+/// Whether the byte is from 0x21 to 0x7E: a character of ASCII that is seen.
+#[tactic(auto, unfolding(crate::specs::Bytes::is_visible))]
+pub fn is_visible(byte: u8) -> bool
+    ensures { result ≡ byte_specs.is_visible byte }
+{
+    byte.is_ascii_graphic()
+}
+
 /// What stands before the first `byte` of the text, and what stands after it; `None` where the
 /// text has no such byte.
 pub fn split_once(text: &[u8], byte: u8) -> Option<(&[u8], &[u8])>
     ensures { option_map (λ parts. (parts.0.now, parts.1.now)) result ≡ cut_at byte text.now }
 {
-    match place_of(text, byte) {
+    match find_byte(text, byte) {
         Some(place) => Some((&text[..place], &text[place + 1..])),
         None => None,
     }
 }
 
-fn place_of(text: &[u8], byte: u8) -> Option<usize>
+fn find_byte(text: &[u8], byte: u8) -> Option<usize>
     ensures { result ≡ position (λ b. b == byte) text.now }
 {
     text.iter().position(|b| *b == byte)

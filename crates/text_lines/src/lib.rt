@@ -8,9 +8,10 @@
 #![tactic(auto)]
 
 pub mod bytes;
-pub mod lines;
+mod lines;
+pub mod names;
 pub mod numbers;
-pub mod words;
+mod words;
 
 pub use lines::Lines;
 pub use words::Words;
@@ -23,11 +24,11 @@ mod tests {
     /// CRLF, a comment with any byte in it, a line of blanks and a last line without its LF.
     #[test]
     fn reads_lines(rt: HostRuntime) {
-        let mut lines = Lines::of(b"slots 5\t07 # \xff\r\n\t \nx\r");
+        let mut lines = Lines::new(b"slots 5\t07 # \xff\r\n\t \nx\r");
         let first = lines.next().unwrap_or((0, b""));
         assert_eq!(rt; first.0, 1);
         assert_eq!(rt; first.1, b"slots 5\t07 ".as_slice());
-        let mut words = Words::of(first.1);
+        let mut words = Words::new(first.1);
         assert_eq!(rt; words.next().unwrap_or(b""), b"slots".as_slice());
         assert_eq!(rt; words.next().unwrap_or(b""), b"5".as_slice());
         assert_eq!(rt; number(words.next().unwrap_or(b"")), Some(7));

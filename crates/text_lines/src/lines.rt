@@ -32,7 +32,7 @@ impl<'a> Model for Lines<'a> {
 
 impl<'a> Lines<'a> {
     /// All lines of the text.
-    pub fn of(text: &'a [u8]) -> Lines<'a>
+    pub fn new(text: &'a [u8]) -> Lines<'a>
         requires { length text.now < 2 ^ 32 }
         ensures { result ≡ enumerate_from 1 (parts_of text.now) }
     {
@@ -57,7 +57,7 @@ impl<'a> Iterator for Lines<'a> {
         let (line, rest) = split_line(self.rest);
         self.rest = rest;
         self.passed += 1;
-        Some((self.passed, part(line)))
+        Some((self.passed, before_comment(line)))
     }
 }
 
@@ -76,7 +76,7 @@ fn split_line(text: &[u8]) -> (&[u8], &[u8])
 
 /// The part of a line outside its comment, without the CR that ends it.
 #[tactic(auto, unfolding(crate::specs::Lines::part_of))]
-fn part(line: &[u8]) -> &[u8]
+fn before_comment(line: &[u8]) -> &[u8]
     ensures { result.now ≡ part_of line.now }
 {
     let line = without_return(line);

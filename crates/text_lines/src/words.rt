@@ -27,7 +27,7 @@ impl<'a> Model for Words<'a> {
 
 impl<'a> Words<'a> {
     /// All words of the part.
-    pub fn of(part: &'a [u8]) -> Words<'a>
+    pub fn new(part: &'a [u8]) -> Words<'a>
         ensures { result ≡ words_of part.now }
     {
         Words { rest: part }

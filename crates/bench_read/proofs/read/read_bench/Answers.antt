@@ -1,6 +1,6 @@
 use Rattle.std.proofs.Common.{◌≡◌, length, ap, inl, inr, ⊎_elim, arith, subst}
 use Rattle.std.proofs.lemmas.Result.{err_from_is_err_and}
-use Rattle.text_lines.specs.First.{Answers}
+use Rattle.text_lines.specs.Answers.{Answers}
 use Rattle.bench_read.specs.declared.refusal.BenchNo.TheVariants.{Memory}
 use Rattle.bench_read.specs.Faults.{uses_fault, first_fault}
 use Rattle.bench_read.specs.Netlists.{netlist_of}

@@ -1,7 +1,7 @@
 use Rattle.std.proofs.Common.{◌≡◌, sym, ap, ◌∙◌, ⊎_elim, arith}
 use Rattle.std.proofs.lemmas.Result.{err_from_is_err_and}
 use Rattle.text_lines.specs.Lines.{parts_of}
-use Rattle.text_lines.proofs.FirstLemmas.{none_is_not_some}
+use Rattle.text_lines.proofs.AnswerLemmas.{none_is_not_some}
 use Rattle.machine_text.specs.declared.quantity.Quantity.TheVariants.{Logic, Array}
 use Rattle.machine_text.specs.Settings.{settings_of}
 use Rattle.machine_text.specs.Machines.{machine_of}

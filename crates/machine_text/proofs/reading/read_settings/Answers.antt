@@ -9,7 +9,7 @@ use Rattle.machine_text.proofs.reading.read_settings.Goals as goal
 pub loop-line-init : goal.loop-line-init
 loop-line-init c = record {
   within = omega arith;
-  left = c.into_iter-line-iterator.ensures.into_iter_gives ∙ c.of-line-items.ensures;
+  left = c.into_iter-line-iterator.ensures.into_iter_gives ∙ c.new-line-items.ensures;
   read = rw c.new-settings.ensures (read_none c.args.bytes.now);
 }
 

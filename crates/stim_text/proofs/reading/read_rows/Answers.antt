@@ -4,7 +4,7 @@ use Rattle.std.proofs.lemmas.Result.{err_from_is_err_and}
 use Rattle.std.proofs.lemmas.List.{length_push}
 use Rattle.text_lines.specs.Lines.{parts_of}
 use Rattle.text_lines.proofs.LineLemmas.{next_line, no_next_line}
-use Rattle.stim_text.proofs.PartLemmas.{part_length}
+use Rattle.text_lines.proofs.PartLemmas.{part_length}
 use Rattle.stim_text.proofs.StimLemmas.{read_none, read_more, read_blank, read_fault, read_all}
 use Rattle.stim_text.proofs.reading.read_rows.Goals as goal
 
@@ -14,7 +14,7 @@ ap_fits cycles row read is fits = subst (λ o. IfSome o (λ (r : StimRow). cycle
 pub loop-line-init : goal.loop-line-init
 loop-line-init c = record {
   within = omega arith;
-  left = c.into_iter-line-iterator.ensures.into_iter_gives ∙ c.of-line-items.ensures;
+  left = c.into_iter-line-iterator.ensures.into_iter_gives ∙ c.new-line-items.ensures;
   read = rw c.new-rows.ensures (read_none c.args.inputs c.args.bytes.now);
 }
 

@@ -10,13 +10,13 @@ returns-then-is_empty-clause-steps c =
     let none = sym c.self.view_is ∙ ap (λ rest. enumerate_from (c.self.inside.passed + 1) (parts_of rest)) (nil_from_length _ (search rules)) ∙ ap (enumerate_from (c.self.inside.passed + 1)) parts_of-nil in
     (none, none)
 
-first_line : (c : goal.After-part) → c.args.self.now ≡ (c.self.inside.passed + 1, c.part.result.now) ∷ enumerate_from (c.self.inside.passed + 1 + 1) (parts_of c.split_line.result.1.now)
+first_line : (c : goal.After-before_comment) → c.args.self.now ≡ (c.self.inside.passed + 1, c.before_comment.result.now) ∷ enumerate_from (c.self.inside.passed + 1 + 1) (parts_of c.split_line.result.1.now)
 first_line c =
     let passed = c.self.inside.passed in
     let rest = c.split_line.result.1.now in
     sym c.self.view_is
     ∙ ap (enumerate_from (passed + 1)) (parts_of_first c.self.inside.rest.now c.split_line.result.0.now rest c.split_line.ensures.lines)
-    ∙ ap (λ part. (passed + 1, part) ∷ enumerate_from (passed + 1 + 1) (parts_of rest)) (sym c.part.ensures)
+    ∙ ap (λ part. (passed + 1, part) ∷ enumerate_from (passed + 1 + 1) (parts_of rest)) (sym c.before_comment.ensures)
 
 pub returns-clause-steps : goal.returns-clause-steps
 returns-clause-steps c = first_line c

@@ -1,7 +1,8 @@
 -- The first fault of several places.
 use Rattle.std.proofs.Common.{◌≡◌, ℕ, zero, suc, ◌<◌, ◌⊎◌, Option, Some, None, Ok, Err, sym, ap, ◌∙◌, subst, refl, inl, inr, arith}
 use Rattle.std.proofs.lemmas.Bool.{cases_lt}
-use Rattle.text_lines.specs.First.{or_else, first, fault_or}
+use Rattle.std.specs.Option.{option_or}
+use Rattle.text_lines.specs.Answers.{first, fault_or}
 
 pub none_is_not_some : {A : Type 0} {x : A} → None ≡ Some x → ⊥
 none_is_not_some e = cc
@@ -10,32 +11,32 @@ pub first-zero : {E : Type 0} (fault : ℕ → Option E) → first fault 0 ≡ N
 unfolding first
 first-zero fault = refl
 
-pub first-suc : {E : Type 0} (fault : ℕ → Option E) (n : ℕ) → first fault (suc n) ≡ or_else (first fault n) (fault n)
+pub first-suc : {E : Type 0} (fault : ℕ → Option E) (n : ℕ) → first fault (suc n) ≡ option_or (first fault n) (fault n)
 unfolding first
 first-suc fault n = refl
 
 -- one more place without a fault
 pub first_none_more : {E : Type 0} (fault : ℕ → Option E) (n : ℕ) → first fault n ≡ None → fault n ≡ None → first fault (suc n) ≡ None
-first_none_more fault n before here = first-suc fault n ∙ ap (λ e. or_else e (fault n)) before ∙ here
+first_none_more fault n before here = first-suc fault n ∙ ap (λ e. option_or e (fault n)) before ∙ here
 
 -- where no place has a fault there is no first one
 pub first_none : {E : Type 0} (fault : ℕ → Option E) (n : ℕ) → ((i : ℕ) → i < n → fault i ≡ None) → first fault n ≡ None
 first_none fault zero none = first-zero fault
 first_none fault (suc n) none = first_none_more fault n (first_none fault n (λ i h. none i (omega arith))) (none n (omega arith))
 
-or_else_none : {E : Type 0} (a b : Option E) → or_else a b ≡ None → (a ≡ None) × (b ≡ None)
-or_else_none None b e = (refl, e)
-or_else_none (Some x) b e = cc
+pub or_none : {E : Type 0} (a b : Option E) → option_or a b ≡ None → (a ≡ None) × (b ≡ None)
+or_none None b e = (refl, e)
+or_none (Some x) b e = cc
 
-or_else_some : {E : Type 0} (a b : Option E) (x : E) → or_else a b ≡ Some x → (a ≡ Some x) ⊎ ((a ≡ None) × (b ≡ Some x))
-or_else_some None b x e = inr (refl, e)
-or_else_some (Some y) b x e = inl e
+pub or_some : {E : Type 0} (a b : Option E) (x : E) → option_or a b ≡ Some x → (a ≡ Some x) ⊎ ((a ≡ None) × (b ≡ Some x))
+or_some None b x e = inr (refl, e)
+or_some (Some y) b x e = inl e
 
 -- where there is no first fault no place has one
 pub none_below : {E : Type 0} (fault : ℕ → Option E) (n : ℕ) → first fault n ≡ None → (i : ℕ) → i < n → fault i ≡ None
 none_below fault zero none i h = absurd (omega arith)
 none_below fault (suc n) none i h =
-    let both = or_else_none (first fault n) (fault n) (sym (first-suc fault n) ∙ none) in
+    let both = or_none (first fault n) (fault n) (sym (first-suc fault n) ∙ none) in
     elim (last_or_below i n h) [
       | inl below ↦ none_below fault n both.0 i below
       | inr last ↦ subst (λ k. fault k ≡ None) (sym last) both.1
@@ -49,17 +50,17 @@ pub first_some : {E : Type 0} (fault : ℕ → Option E) (i n : ℕ) (e : E) →
 first_some fault i zero e h before here = absurd (omega arith)
 first_some fault i (suc n) e h before here =
     elim (cases_lt i n) [
-      | inl below ↦ first-suc fault n ∙ ap (λ a. or_else a (fault n)) (first_some fault i n e below before here)
+      | inl below ↦ first-suc fault n ∙ ap (λ a. option_or a (fault n)) (first_some fault i n e below before here)
       | inr last ↦
           let same : i ≡ n = omega arith in
-          first-suc fault n ∙ ap (λ a. or_else a (fault n)) (subst (λ k. first fault k ≡ None) same before) ∙ subst (λ k. fault k ≡ Some e) same here
+          first-suc fault n ∙ ap (λ a. option_or a (fault n)) (subst (λ k. first fault k ≡ None) same before) ∙ subst (λ k. fault k ≡ Some e) same here
     ]
 
 -- the first fault stands at a place, and none stands before it
 pub place_of_first : {E : Type 0} (fault : ℕ → Option E) (n : ℕ) (e : E) → first fault n ≡ Some e → (i : ℕ) × (i < n) × (first fault i ≡ None) × (fault i ≡ Some e)
 place_of_first fault zero e some = cc (first-zero fault)
 place_of_first fault (suc n) e some =
-    elim (or_else_some (first fault n) (fault n) e (sym (first-suc fault n) ∙ some)) [
+    elim (or_some (first fault n) (fault n) e (sym (first-suc fault n) ∙ some)) [
       | inl before ↦
           let found = place_of_first fault n e before in
           (found.0, omega (arith, found.1), found.2, found.3)

@@ -1,0 +1,42 @@
+//! The limits of this project's profile, each stated once.
+#![tactic(auto)]
+
+ghost use Rattle.std.specs.Prelude.{◌↔◌, ◌≤◌, IsTrue};
+
+/// The most bytes of a text that is read: 64 MiB.
+pub const MAX_TEXT_BYTES: usize = 67_108_864;
+
+/// The most signals of a netlist.
+pub const MAX_SIGNALS: usize = 1_048_576;
+
+/// The most operands of all the lines of a netlist together: the names within their round brackets,
+/// those of input and output lines not counted.
+pub const MAX_OPERANDS: usize = 4_194_304;
+
+/// The most operands of one gate, where its kind takes any number of them.
+pub const MAX_GATE_OPERANDS: usize = 1024;
+
+/// The most bytes of a name.
+pub const MAX_NAME_BYTES: usize = 255;
+
+/// The most address bits of a memory.
+pub const MAX_ADDRESS_BITS: usize = 16;
+
+/// The most bits of a word of a memory.
+pub const MAX_WORD_BITS: usize = 64;
+
+/// The most cycles of a run, and the most repeats of a row of a stimulus.
+pub const MAX_CYCLES: u32 = 1_000_000;
+
+/// The most values that a run prints: its cycles times its printed names.
+pub const MAX_CELLS: u64 = 268_435_456;
+
+/// The most turns of a cycle.
+pub const MAX_UNITS: u32 = 4096;
+
+/// Whether a text of so many bytes may be read.
+pub fn fits_text(bytes: usize) -> bool
+    ensures { IsTrue result ↔ (bytes ≤ MAX_TEXT_BYTES) }
+{
+    bytes <= MAX_TEXT_BYTES
+}

@@ -1,0 +1,71 @@
+-- The words of the kinds read back.
+use Rattle.std.proofs.Common.{inl, inr, ◌≡◌, ◌⊎◌, ℕ, Bool, true, false, List, Option, Some, None, refl, subst}
+use Rattle.std.specs.Prelude.{if◌then◌else◌, codes}
+use Rattle.std.specs.Str.{str_to_ascii_lowercase, str_eq_ignore_ascii_case}
+use Rattle.std.proofs.lemmas.Slice.Eq.{bytes_eq-Decides}
+use Rattle.logic_four.specs.declared.Kind.{Kind}
+use Rattle.logic_four.specs.declared.Kind.TheVariants.{And, Nand, Or, Nor, Xor, Xnor, Not, Buf, Tri, Bus}
+use Rattle.logic_four.specs.Kinds.{kind_word, kind_of, IsSameWord, ReadsInAnyCase, CanonicalWordsRead, BothWordsOfBuffers, WordsSayTheirKind}
+
+pub canonical : CanonicalWordsRead
+unfolding kind_of
+canonical And = refl
+canonical Nand = refl
+canonical Or = refl
+canonical Nor = refl
+canonical Xor = refl
+canonical Xnor = refl
+canonical Not = refl
+canonical Buf = refl
+canonical Tri = refl
+canonical Bus = refl
+
+pub buffers : BothWordsOfBuffers
+unfolding kind_of
+buffers = (refl, refl)
+
+-- words in small letters alone decide
+pub any_case : ReadsInAnyCase
+unfolding kind_of
+any_case word other same =
+    let lower : str_to_ascii_lowercase word ≡ str_to_ascii_lowercase other =
+    (bytes_eq-Decides (str_to_ascii_lowercase word) (str_to_ascii_lowercase other)).0 same in
+    rw lower refl
+
+-- the word is one of the kind's
+abbrev Says : List ℕ → Kind → Type 0
+Says word kind = IsSameWord word (kind_word kind) ⊎ (IsSameWord word (codes "BUF") × (kind ≡ Buf))
+
+by_word : (word : List ℕ) (found kind : Kind) → IsSameWord word (kind_word found) → Some found ≡ Some kind → Says word kind
+by_word word found kind is same = inl (subst (λ k. IsSameWord word (kind_word k)) (some_is found kind same) is) where
+  some_is : (found kind : Kind) → Some found ≡ Some kind → found ≡ kind
+  some_is found kind e = cc
+
+by_buf : (word : List ℕ) (kind : Kind) → IsSameWord word (codes "BUF") → Some Buf ≡ Some kind → Says word kind
+by_buf word kind is same = inr (is, cc)
+
+-- a test passes, or the others decide
+tested : (P : Type 0) (test : Bool) (found kind : Kind) (others : Option Kind)
+    → (test ≡ true → Some found ≡ Some kind → P) → (others ≡ Some kind → P)
+    → (if test then Some found else others) ≡ Some kind → P
+tested P true found kind others hit miss e = hit refl e
+tested P false found kind others hit miss e = miss e
+
+none_is : (word : List ℕ) (kind : Kind) → None ≡ Some kind → Says word kind
+none_is word kind e = cc
+
+pub says : WordsSayTheirKind
+unfolding kind_of
+says word kind e =
+    tested (Says word kind) (str_eq_ignore_ascii_case word (codes "AND")) And kind _ (by_word word And kind)
+    (tested (Says word kind) (str_eq_ignore_ascii_case word (codes "NAND")) Nand kind _ (by_word word Nand kind)
+    (tested (Says word kind) (str_eq_ignore_ascii_case word (codes "OR")) Or kind _ (by_word word Or kind)
+    (tested (Says word kind) (str_eq_ignore_ascii_case word (codes "NOR")) Nor kind _ (by_word word Nor kind)
+    (tested (Says word kind) (str_eq_ignore_ascii_case word (codes "XOR")) Xor kind _ (by_word word Xor kind)
+    (tested (Says word kind) (str_eq_ignore_ascii_case word (codes "XNOR")) Xnor kind _ (by_word word Xnor kind)
+    (tested (Says word kind) (str_eq_ignore_ascii_case word (codes "NOT")) Not kind _ (by_word word Not kind)
+    (tested (Says word kind) (str_eq_ignore_ascii_case word (codes "BUF")) Buf kind _ (by_buf word kind)
+    (tested (Says word kind) (str_eq_ignore_ascii_case word (codes "BUFF")) Buf kind _ (by_word word Buf kind)
+    (tested (Says word kind) (str_eq_ignore_ascii_case word (codes "TRI")) Tri kind _ (by_word word Tri kind)
+    (tested (Says word kind) (str_eq_ignore_ascii_case word (codes "BUS")) Bus kind _ (by_word word Bus kind)
+    (none_is word kind))))))))))) e
