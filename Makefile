@@ -1,17 +1,43 @@
 # Thin targets over the kit's command rt.
-YSE = crates/yse/out/yse
+BUILT = crates/yse/out/yse
+YSE = ./yse
+PREFIX = /usr/local
+DIST = yse-dist
 
-.PHONY: build run test
+.PHONY: build run try test examples install dist
 
-# Proves every crate that the program stands on, and leaves the executable at crates/yse/out/yse.
+# Proves every crate that the program stands on, and leaves a copy of the executable at ./yse. The
+# gate sets aside what lies under crates/*/out while it runs; the copy stays.
 build:
 	cd crates/yse && rt run -- run data/c17.bench data/c17.stim
+	cp $(BUILT) $(YSE).new && mv $(YSE).new $(YSE)
 	@echo "the executable is $(YSE)"
 
 # Simulates c17 and prints its trace.
 run: build
 	$(YSE) run examples/c17.bench examples/c17.stim
 
+# Simulates c17 by the kit's interpreter, before any proof. It proves nothing.
+try:
+	cd crates/yse && rt try -- run data/c17.bench data/c17.stim
+
 # The gate: every proof, every edit that must fail, every test, and the program's stored run.
 test:
 	rt ci
+
+# Simulates each example and compares its trace with the stored one.
+examples: build
+	examples/check $(YSE)
+
+# Puts the executable into PREFIX/bin.
+install: build
+	install -D -m 755 $(YSE) $(DESTDIR)$(PREFIX)/bin/yse
+
+# Packs the executable, the documents and the examples into one archive, which needs no kit.
+dist: build
+	rm -rf $(DIST) && mkdir $(DIST)
+	cp $(YSE) README.md $(DIST)
+	cp -R docs examples $(DIST)
+	tar -czf $(DIST).tar.gz $(DIST)
+	rm -rf $(DIST)
+	@echo "the archive is $(DIST).tar.gz"

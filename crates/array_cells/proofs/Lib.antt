@@ -1,4 +1,3 @@
-pub mod CodeLemmas
-pub mod PlaceLemmas
 pub mod AddressLemmas
+pub mod PlaceLemmas
 pub mod WordLemmas

@@ -10,17 +10,18 @@ use Rattle.logic_four.specs.declared.V4.{V4}
 use Rattle.logic_four.specs.declared.V4.TheVariants.{Zero, One, Undef, HighZ}
 use Rattle.logic_four.specs.Memory.{undefined_word, written_at}
 use Rattle.array_cells.specs.declared.cells.Cells.TheInside.{Inside}
-use Rattle.array_cells.specs.Packed.{value_at, values_from, words_of, HasRoom, Writes, stored}
+use Rattle.logic_four.specs.Packed.{packed_value}
+use Rattle.array_cells.specs.Places.{values_from, words_of, HasRoom, Writes, stored}
 
 pub length-values_from : (packed : List ℕ) (base n : ℕ) → length (values_from packed base n) ≡ n
 unfolding values_from
-length-values_from packed base n = length-map-range_with_len (λ i. value_at packed (base + i)) 0 n
+length-values_from packed base n = length-map-range_with_len (λ i. packed_value packed (base + i)) 0 n
 
 pub get_or-values_from : (packed : List ℕ) (base n i : ℕ) (d : V4) → i < n
-    → get_or (values_from packed base n) i d ≡ value_at packed (base + i)
+    → get_or (values_from packed base n) i d ≡ packed_value packed (base + i)
 unfolding values_from
 get_or-values_from packed base n i d within =
-    get_or-map-range_with_len (λ i. value_at packed (base + i)) 0 n i i d within (omega arith)
+    get_or-map-range_with_len (λ i. packed_value packed (base + i)) 0 n i i d within (omega arith)
 
 pub length-words_of : (packed : List ℕ) (w n : ℕ) → length (words_of packed w n) ≡ w
 unfolding words_of
@@ -68,7 +69,7 @@ same_words : (xs ys : List (List V4)) (w : ℕ) → length xs ≡ w → length y
 same_words xs ys w long long' each = ext_get_or [] xs ys (long ∙ sym long') (λ k h. each k (omega arith))
 
 values_from-is : (packed : List ℕ) (base : ℕ) (word : List V4)
-    → ((i : ℕ) → i < length word → value_at packed (base + i) ≡ get_or word i Undef)
+    → ((i : ℕ) → i < length word → packed_value packed (base + i) ≡ get_or word i Undef)
     → values_from packed base (length word) ≡ word
 values_from-is packed base word each =
     ext_get_or Undef _ word (length-values_from packed base (length word))
@@ -77,7 +78,7 @@ values_from-is packed base word each =
     get_or-values_from packed base (length word) i Undef within ∙ each i within)
 
 -- one value in each place of a word
-values_from-all : (packed : List ℕ) (base n : ℕ) (v : V4) → ((i : ℕ) → i < n → value_at packed (base + i) ≡ v)
+values_from-all : (packed : List ℕ) (base n : ℕ) (v : V4) → ((i : ℕ) → i < n → packed_value packed (base + i) ≡ v)
     → values_from packed base n ≡ replicate n v
 values_from-all packed base n v each =
     ap (values_from packed base) (sym (length-replicate n v))
@@ -88,7 +89,7 @@ values_from-all packed base n v each =
 
 -- a memory with one value in each bit
 pub words_of-filled : (packed : List ℕ) (w n : ℕ) (v : V4)
-    → ((place : ℕ) → place < w * n → value_at packed place ≡ v)
+    → ((place : ℕ) → place < w * n → packed_value packed place ≡ v)
     → words_of packed w n ≡ replicate w (replicate n v)
 words_of-filled packed w n v all =
     same_words (words_of packed w n) (replicate w (replicate n v)) w (length-words_of packed w n) (length-replicate w (replicate n v))
@@ -100,7 +101,7 @@ words_of-filled packed w n v all =
 
 -- every word is forgotten
 pub words_of-forgotten : (old new : List ℕ) (w n : ℕ) → HasRoom old w n
-    → ((place : ℕ) → place < 32 * length old → value_at new place ≡ Undef)
+    → ((place : ℕ) → place < 32 * length old → packed_value new place ≡ Undef)
     → words_of new w n ≡ map (λ word. undefined_word (length word)) (words_of old w n)
 words_of-forgotten old new w n room all =
     same_words (words_of new w n) (map (λ word. undefined_word (length word)) (words_of old w n)) w (length-words_of new w n)
@@ -124,7 +125,7 @@ apart_places k j n m i same apart within =
     ]
 
 stored_word : (new : List ℕ) (n base : ℕ) (we : V4) (word : List V4) → n ≡ length word
-    → ((i : ℕ) → i < length word → value_at new (base + i) ≡ stored we (get_or word i Zero))
+    → ((i : ℕ) → i < length word → packed_value new (base + i) ≡ stored we (get_or word i Zero))
     → values_from new base n ≡ map (stored we) word
 stored_word new n base we word width each =
     ap (values_from new base) (width ∙ sym (length-map word (stored we)))
@@ -134,7 +135,7 @@ stored_word new n base we word width each =
     each i within ∙ sym (get_or-map (stored we) word i Zero Undef within))
 
 kept_word : (old new : List ℕ) (base n : ℕ)
-    → ((i : ℕ) → i < n → value_at new (base + i) ≡ value_at old (base + i))
+    → ((i : ℕ) → i < n → packed_value new (base + i) ≡ packed_value old (base + i))
     → values_from new base n ≡ values_from old base n
 kept_word old new base n each =
     ext_get_or Undef (values_from new base n) (values_from old base n) (length-values_from new base n ∙ sym (length-values_from old base n))
@@ -178,7 +179,7 @@ written_at_forgotten HighZ enabled words d = refl
 -- a bit of a word
 pub bit_read : (packed : List ℕ) (w n : ℕ) (words : List (List V4)) (k i : ℕ) → words_of packed w n ≡ words
     → k < w → i < n
-    → slice_get (get_or words k []) i ≡ Some (value_at packed (k * n + i))
+    → slice_get (get_or words k []) i ≡ Some (packed_value packed (k * n + i))
 bit_read packed w n words k i view within inside =
     let word : get_or words k [] ≡ values_from packed (k * n) n =
     ap (λ ws. get_or ws k []) (sym view) ∙ get_or-words_of packed w n k [] within in

@@ -4,16 +4,18 @@ ghost use Rattle.std.specs.Prelude.{◌≡◌, ◌+◌, ◌*◌, ◌^◌, ◌<�
 ghost use Rattle.std.specs.List.{list_all};
 ghost use Rattle.logic_four.specs.Gates.{is_known, is_one};
 ghost use Rattle.logic_four.specs.Memory.{HasShape, initial_words, memory_act, bits_number, address_of, word_at, written_at, undefined_word};
-ghost use Rattle.array_cells.specs.Packed.{stored};
+ghost use Rattle.limits.specs.declared.TheConstants.{MAX_ADDRESS_BITS, MAX_WORD_BITS};
+ghost use Rattle.array_cells.specs.Places.{stored};
 
-use crate::packed;
-use logic_four::V4;
+use crate::places;
+use limits::MAX_ADDRESS_BITS;
+use logic_four::{V4, packed};
 use seen_list::Memory;
 use std::alloc::Global;
 use std::marker::Model;
 
 /// The words of a memory with the most address bits.
-const MOST_WORDS: usize = 1 << 16;
+const MAX_WORDS: usize = 1 << MAX_ADDRESS_BITS;
 
 /// The words of a memory, kept in two bits a value. A contract sees them as a list in address order,
 /// each word a list of its bits, bit 0 first.
@@ -27,7 +29,7 @@ pub struct Cells {
 impl Model for Cells {
     ghost use Rattle.std.specs.Prelude.{List};
     ghost use Rattle.logic_four.specs.declared.V4.{V4};
-    ghost use Rattle.array_cells.specs.Packed.{words_of, HasRoom};
+    ghost use Rattle.array_cells.specs.Places.{words_of, HasRoom};
 
     ghost Value = { List (List V4) };
 
@@ -53,7 +55,7 @@ fn digit(bit: V4) -> usize
 
 /// The number that an address says whose bits are known, bit 0 the least significant.
 fn number_of(address: &[V4]) -> usize
-    requires { length address.now ≤ 16 }
+    requires { length address.now ≤ MAX_ADDRESS_BITS }
     ensures { result ≡ bits_number address.now }
 {
     let mut number = 0;
@@ -65,17 +67,16 @@ fn number_of(address: &[V4]) -> usize
 
 impl Cells {
     /// A memory of 2 to the `address_bits` words, each of `word_bits` bits, with `init` in every bit.
-    /// It has at most 16 address bits and words of at most 64 bits (this project's profile), and takes
-    /// 1 MiB where it has them all.
+    /// It has at most 16 address bits and words of at most 64 bits (this project's profile).
     pub fn new(alloc: Global, address_bits: u32, word_bits: u32, init: V4) -> Result<Cells, Memory>
-        requires address { address_bits ≤ 16 }
-        requires word { word_bits ≤ 64 }
+        requires address { address_bits ≤ MAX_ADDRESS_BITS }
+        requires word { word_bits ≤ MAX_WORD_BITS }
         ensures words { IfOk result (λ cells. cells ≡ initial_words address_bits word_bits init) }
         ensures shape { IfOk result (λ cells. HasShape address_bits word_bits cells) }
     {
         let words = 1 << address_bits;
         let word_bits = word_bits as usize;
-        let packed = packed::room_for(alloc, words * word_bits, init)?;
+        let packed = places::room_for(alloc, words * word_bits, init)?;
         Ok(Cells {
             packed,
             words,
@@ -99,7 +100,7 @@ impl Cells {
         ensures within { IfSome result (λ n. n < length self.now) }
     {
         // So an address has few bits, and its number fits.
-        prove!(self.words <= MOST_WORDS);
+        prove!(self.words <= MAX_WORDS);
         if all_known(address) {
             Some(number_of(address))
         } else {
@@ -114,7 +115,7 @@ impl Cells {
         ensures { outs.new ≡ word_at self.now number (length outs.old) }
     {
         match number {
-            Some(number) => packed::read(self.packed.as_slice(), number * self.word_bits, outs),
+            Some(number) => places::read(self.packed.as_slice(), number * self.word_bits, outs),
             None => outs.fill(V4::Undef),
         }
     }
@@ -125,7 +126,7 @@ impl Cells {
         requires fits { length (slice_index_or self.old number []) ≡ length word.now }
         ensures { self.new ≡ slice_set self.old number (map (stored we) word.now) }
     {
-        packed::store(
+        places::store(
             self.packed.as_mut_slice(),
             number * self.word_bits,
             we,
@@ -137,7 +138,7 @@ impl Cells {
     fn forget(&mut self)
         ensures { self.new ≡ map (λ word. undefined_word (length word)) self.old }
     {
-        packed::forget(self.packed.as_mut_slice());
+        places::forget(self.packed.as_mut_slice());
     }
 
     /// What a write leaves, by its enable and the number of its word, if that is known.
@@ -159,7 +160,7 @@ impl Cells {
     /// What an edge does: first the read, then the write. The outputs become the bits of the word at
     /// the address. Then an enable of 1 writes the settled data into that word, an undefined one makes
     /// the word undefined, and an undefined address makes every word undefined unless the enable is 0
-    /// (this project's profile). It takes no memory.
+    /// (this project's profile).
     #[tactic(auto, using(logic_four::proofs::MemoryLemmas::shape_at), unfolding(logic_four::specs::Memory::read_word, logic_four::specs::Memory::written))]
     pub fn edge(&mut self, we: V4, address: &[V4], word: &[V4], outs: &mut [V4])
         requires shape { HasShape (length address.now) (length word.now) self.old }

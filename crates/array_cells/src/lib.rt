@@ -1,8 +1,8 @@
 //! The words of a memory, two bits a value, and what an edge reads and writes.
 #![tactic(auto)]
 
-pub mod cells;
-mod packed;
+mod cells;
+mod places;
 #[cfg(test)]
 mod tests;
 

@@ -38,7 +38,7 @@ output_line name = record { act = act.Output; driven = []; uses = name ∷ [] }
 -- the line of a memory: its outputs, and its write enable, its address and its data
 abbrev pub memory_line : Netlist → Block → Line
 memory_line net memory = record {
-  act = act.Memory (length memory.address);
+  act = act.Ram (length memory.address);
   driven = map (name_of net) memory.outs;
   uses = map (name_of net) (memory.we ∷ (memory.address ++ memory.word));
 }
@@ -123,11 +123,6 @@ pub record IsConsOf {X Y : Type 0} (f : X → Y) (xs : List X) (y : Y) (ys : Lis
 pub cons_of : {X Y : Type 0} (f : X → Y) (xs : List X) (y : Y) (ys : List Y) → map f xs ≡ y ∷ ys → IsConsOf f xs y ys
 cons_of f [] y ys e = cc
 cons_of f (x ∷ xs) y ys e = record { first = x; rest = xs; is = refl; here = cc; more = cc }
-
--- what a map takes to the empty list is empty
-pub nil_of : {X Y : Type 0} (f : X → Y) (xs : List X) → map f xs ≡ [] → xs ≡ []
-nil_of f [] e = refl
-nil_of f (x ∷ xs) e = cc
 
 -- the list is one that f takes to ys, and then one that f takes to zs
 pub record IsSplitOf {X Y : Type 0} (f : X → Y) (xs : List X) (ys zs : List Y) : Type 0 where

@@ -9,6 +9,9 @@ use Rattle.std.proofs.lemmas.List.Elements.{All-nil, All-cons, All-head, All-tai
 use Rattle.std.proofs.lemmas.List.Concat.{flat_map-append}
 use Rattle.std.proofs.lemmas.List.Sums.{sum_by-append, sum_by-cons}
 use Rattle.std.proofs.lemmas.Option.{slice_get-get_or, slice_get-map}
+use Rattle.list_laws.proofs.Tests.{count_none}
+use Rattle.list_laws.proofs.Members.{all_flat_of}
+use Rattle.list_laws.proofs.Maps.{flat_none, flat_one, flat_same, flat_empty, sum_none_of}
 use Rattle.net_defs.specs.declared.netlist.Netlist.{Netlist}
 use Rattle.net_defs.specs.declared.netlist.Signal.{Signal}
 use Rattle.net_defs.specs.declared.netlist.Block.{Block}
@@ -23,9 +26,9 @@ use Rattle.bench_read.specs.Netlists.{place_of, driver_by, memories_by}
 use Rattle.bench_read.specs.Reads.{AreOnce}
 use Rattle.bench_read.proofs.CanonicalLines.{Line, input_line, output_line, memory_line, inputs_say, memory_says, drivers_say, leading_lines, driving_lines, lines_of}
 use Rattle.bench_read.proofs.LineLemmas.{line_inputs, line_others, line_operands, names_in_order, numbers_in, signals_in, line_input_signals, other_signals_in, line_printed, line_blocks, netlist_in}
-use Rattle.bench_read.proofs.LeadingLemmas.{IsLed, first_cut, leading_are, leading_none, driving_none, inputs_back, flat_none, flat_one, sum_none_of, flat_same, flat_empty, all_flat_of, all_driving, is_driving, driver_each, skip_lines}
+use Rattle.bench_read.proofs.LeadingLemmas.{IsLed, first_cut, leading_are, leading_none, driving_none, inputs_back, all_driving, is_driving, driver_each, skip_lines}
 use Rattle.bench_read.proofs.DrivingLemmas.{name_is, HasNumbers, IsMade, made_from}
-use Rattle.bench_read.proofs.NameLemmas.{same_name, same_bytes, count_none}
+use Rattle.bench_read.proofs.NameLemmas.{same_name, same_bytes}
 use Rattle.bench_read.proofs.MadeLemmas.{place_self, signal_operands}
 
 -- ---- names
@@ -91,7 +94,7 @@ inputs_quiet act.Input driven uses e = cc
 inputs_quiet act.Output driven uses e = cc
 inputs_quiet (act.Gate kind) driven uses e = refl
 inputs_quiet act.Dff driven uses e = refl
-inputs_quiet (act.Memory address) driven uses e = refl
+inputs_quiet (act.Ram address) driven uses e = refl
 
 -- it makes no input
 signals_quiet : (one : Act) (driven uses : List (List ℕ)) → is_driving one ≡ true → line_input_signals (record { act = one; driven = driven; uses = uses }) ≡ []
@@ -99,7 +102,7 @@ signals_quiet act.Input driven uses e = cc
 signals_quiet act.Output driven uses e = cc
 signals_quiet (act.Gate kind) driven uses e = refl
 signals_quiet act.Dff driven uses e = refl
-signals_quiet (act.Memory address) driven uses e = refl
+signals_quiet (act.Ram address) driven uses e = refl
 
 -- it prints nothing
 printed_quiet : (names : List (List ℕ)) (one : Act) (driven uses : List (List ℕ)) → is_driving one ≡ true → line_printed names (record { act = one; driven = driven; uses = uses }) ≡ []
@@ -107,7 +110,7 @@ printed_quiet names act.Input driven uses e = cc
 printed_quiet names act.Output driven uses e = cc
 printed_quiet names (act.Gate kind) driven uses e = refl
 printed_quiet names act.Dff driven uses e = refl
-printed_quiet names (act.Memory address) driven uses e = refl
+printed_quiet names (act.Ram address) driven uses e = refl
 
 -- all names that it drives are of other signals
 all_others : (one : Act) (driven uses : List (List ℕ)) → is_driving one ≡ true → driven ≡ line_others (record { act = one; driven = driven; uses = uses })
@@ -115,7 +118,7 @@ all_others act.Input driven uses e = cc
 all_others act.Output driven uses e = cc
 all_others (act.Gate kind) driven uses e = refl
 all_others act.Dff driven uses e = refl
-all_others (act.Memory address) driven uses e = refl
+all_others (act.Ram address) driven uses e = refl
 
 module _ (net : Netlist) (valid : IsValid net) where
   -- ---- the names of the signals

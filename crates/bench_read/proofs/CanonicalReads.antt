@@ -2,6 +2,7 @@
 use Rattle.std.proofs.Common.{◌≡◌, ℕ, true, List, length, map, None, sym, ap, ◌∙◌, subst, arith}
 use Rattle.std.specs.List.{All, flat_map, sum_by}
 use Rattle.std.proofs.lemmas.List.{length-map}
+use Rattle.list_laws.proofs.Members.{all_of_map}
 use Rattle.bench_text.specs.declared.token.Token.{Token}
 use Rattle.bench_text.specs.Tokens.{tokens_of, first_fault as byte_fault}
 use Rattle.net_defs.specs.declared.netlist.Netlist.{Netlist}
@@ -16,7 +17,7 @@ use Rattle.bench_read.proofs.SeenLines.{seen, seen_lines}
 use Rattle.bench_read.proofs.SeenNetlist.{netlist_says}
 use Rattle.bench_read.proofs.CanonicalLines.{Line, shown, lines_of, Say}
 use Rattle.bench_read.proofs.LineLemmas.{line_operands, names_in_order, netlist_in, drivers_shown, uses_shown, operands_shown, names_shown, netlist_shown, all_ok, are_said}
-use Rattle.bench_read.proofs.LeadingLemmas.{IsLed, led, all_of_map}
+use Rattle.bench_read.proofs.LeadingLemmas.{IsLed, led}
 use Rattle.bench_read.proofs.CanonicalNet.{names_from, names_once, in_order, driven_are, netlist_back, operands_back, uses_among}
 
 -- The statements of rows make the netlist.

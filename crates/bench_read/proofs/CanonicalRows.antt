@@ -1,14 +1,15 @@
 -- The canonical text of a valid netlist has no fault of its bytes, and its rows are its lines.
-use Rattle.std.proofs.Common.{◌≡◌, ℕ, suc, ◌<◌, ◌≤◌, ◌⊎◌, Bool, true, false, cond, eqb, leb, List, [], ◌∷◌, ◌++◌, length, map, get_or, slice_get, Option, Some, None, sym, ◌∙◌, subst, refl, inl, inr, arith}
+use Rattle.std.proofs.Common.{◌≡◌, ℕ, suc, ◌<◌, ◌≤◌, ◌⊎◌, Bool, true, false, cond, eqb, leb, List, [], ◌∷◌, ◌++◌, length, map, get_or, slice_get, Option, Some, None, sym, subst, refl, inl, inr, arith}
 use Rattle.std.specs.Prelude.{codes}
 use Rattle.std.specs.List.{All, flat_map, list_all}
-use Rattle.std.proofs.lemmas.Bool.{leb-true, and_parts, and_from}
+use Rattle.std.proofs.lemmas.Bool.{leb-true}
 use Rattle.std.proofs.lemmas.List.Elements.{All-nil, All-cons, All-head, All-tail}
 use Rattle.std.proofs.lemmas.Option.{slice_get_cases, slice_get-get_or, slice_get_within}
+use Rattle.limits.specs.declared.TheConstants.{MAX_NAME_BYTES}
 use Rattle.logic_four.specs.declared.Kind.{Kind}
 use Rattle.logic_four.specs.declared.Kind.TheVariants.{And, Nand, Or, Nor, Xor, Xnor, Not, Buf, Tri, Bus}
 use Rattle.text_lines.specs.Bytes.{is_visible}
-use Rattle.text_lines.specs.Names.{is_mark, is_name_byte}
+use Rattle.text_lines.specs.Names.{is_mark, is_name_byte, IsName}
 use Rattle.bench_text.specs.Bytes.{sign_of}
 use Rattle.bench_text.specs.Tokens.{tokens_of, first_fault as byte_fault}
 use Rattle.net_defs.specs.declared.netlist.Netlist.{Netlist}
@@ -16,11 +17,9 @@ use Rattle.net_defs.specs.declared.netlist.Signal.{Signal}
 use Rattle.net_defs.specs.declared.netlist.Block.{Block}
 use Rattle.net_defs.specs.declared.netlist.Driver.{Driver}
 use Rattle.net_defs.specs.declared.netlist.Driver.TheVariants.{Input, Gate, Dff, BlockBit}
-use Rattle.net_defs.specs.Valid as valid
 use Rattle.net_defs.specs.Valid.{IsSignal, IsDrivable, IsMemory, IsValid}
 use Rattle.net_defs.specs.Canonical.{name_of, kind_word, canonical_text}
 use Rattle.bench_read.specs.Grammar.{rows_of}
-use Rattle.bench_read.proofs.NameByteLemmas.{same_name_byte}
 use Rattle.bench_read.proofs.SeenLines.{Seen, seen, word, open_sign, close_sign, comma_sign, equals_sign, semi_sign, seen_names, seen_port, seen_gate, seen_memory, input_lines, memory_lines, driver_lines, seen_lines}
 use Rattle.bench_read.proofs.LineSteps.{IsWord, IsLine, AreLines}
 use Rattle.bench_read.proofs.LineRows.{lines_rows}
@@ -29,8 +28,8 @@ use Rattle.bench_read.proofs.CanonicalShape.{text_is}
 -- ---- words
 
 -- a word that tests find to be one
-word_from : (bytes : List ℕ) → leb 1 (length bytes) ≡ true → leb (length bytes) 255 ≡ true → list_all is_name_byte bytes ≡ true → IsWord bytes
-word_from bytes some short named = record { some = leb-true 1 (length bytes) some; short = leb-true (length bytes) 255 short; named = named }
+word_from : (bytes : List ℕ) → leb 1 (length bytes) ≡ true → leb (length bytes) MAX_NAME_BYTES ≡ true → list_all is_name_byte bytes ≡ true → IsWord bytes
+word_from bytes some short named = record { some = leb-true 1 (length bytes) some; short = leb-true (length bytes) MAX_NAME_BYTES short; named = named }
 
 -- the words of kinds are words
 kind_is : (kind : Kind) → IsWord (kind_word kind)
@@ -63,16 +62,9 @@ memory_is : IsWord (codes "RAM")
 unfolding is_name_byte is_visible sign_of is_mark
 memory_is = word_from (codes "RAM") refl refl refl
 
--- the bytes of a netlist's name are name bytes of a text
-name_bytes : (name : List ℕ) → list_all valid.is_name_byte name ≡ true → list_all is_name_byte name ≡ true
-name_bytes [] e = refl
-name_bytes (byte ∷ name) e =
-    let both = and_parts (valid.is_name_byte byte) (list_all valid.is_name_byte name) e in
-    and_from _ _ (sym (same_name_byte byte) ∙ both.0) (name_bytes name both.1)
-
 -- a netlist's name is a word
-word_of_name : (name : List ℕ) → valid.IsName name → IsWord name
-word_of_name name is = record { some = is.some; short = is.short; named = name_bytes name is.bytes }
+word_of_name : (name : List ℕ) → IsName name → IsWord name
+word_of_name name is = record { some = is.some; short = is.short; named = is.bytes }
 
 -- ---- lines
 

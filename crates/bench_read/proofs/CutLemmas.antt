@@ -1,43 +1,17 @@
 -- Where the signals of a valid netlist can be cut: no memory's outputs stand on both sides.
-use Rattle.std.proofs.Common.{◌≡◌, ℕ, zero, suc, ◌+◌, ◌-◌, ◌<◌, ◌≤◌, false, List, [], ◌∷◌, length, drop, get_or, slice_get, Option, Some, None, sym, ap, ◌∙◌, subst, refl, arith, ⊎_elim}
-use Rattle.std.specs.List.{range_with_len}
-use Rattle.std.proofs.lemmas.List.{drop_more}
-use Rattle.std.proofs.lemmas.Option.{slice_get_within, slice_get-get_or, get_or_from_slice_get}
+use Rattle.std.proofs.Common.{◌≡◌, ℕ, suc, ◌+◌, ◌-◌, ◌<◌, ◌≤◌, false, [], length, drop, get_or, slice_get, Option, Some, None, sym, ap, ◌∙◌, subst, refl, arith, ⊎_elim}
+use Rattle.std.proofs.lemmas.List.{drop_all}
+use Rattle.std.proofs.lemmas.Option.{slice_get_within, slice_get-get_or}
+use Rattle.std.proofs.lemmas.Bool.{cases_lt}
+use Rattle.list_laws.proofs.Ranges.{range_get, range_at}
+use Rattle.list_laws.proofs.Places.{one_there, within_some}
 use Rattle.net_defs.specs.declared.netlist.Netlist.{Netlist}
 use Rattle.net_defs.specs.declared.netlist.Signal.{Signal}
 use Rattle.net_defs.specs.declared.netlist.Block.{Block}
 use Rattle.net_defs.specs.declared.netlist.Driver.TheVariants.{BlockBit}
 use Rattle.net_defs.specs.Valid.{IsDrivable, IsValid, is_input}
-use Rattle.bench_read.proofs.MadeLemmas.{range_at, below_or_past}
 
 -- ---- lists
-
--- a member of a range
-pub range_get : (a n k : ℕ) → k < n → slice_get (range_with_len a n) k ≡ Some (a + k)
-range_get a zero k h = absurd (omega arith)
-range_get a (suc n) zero h = let e : a ≡ a + 0 = omega arith in ap Some e
-range_get a (suc n) (suc k) h = let e : a + 1 + k ≡ a + suc k = omega arith in range_get (a + 1) n k (omega arith) ∙ ap Some e
-
--- the rest of a list from a member on
-pub drop_here : {X : Type 0} (xs : List X) (s : ℕ) (x : X) → slice_get xs s ≡ Some x → drop s xs ≡ x ∷ drop (s + 1) xs
-drop_here xs s x e = drop_more xs s x (slice_get_within xs s x e) ∙ ap (λ y. y ∷ drop (s + 1) xs) (get_or_from_slice_get xs s x x e)
-
--- past the end nothing is left
-pub drop_none : {X : Type 0} (xs : List X) (s : ℕ) → length xs ≤ s → drop s xs ≡ []
-drop_none [] zero h = refl
-drop_none [] (suc s) h = refl
-drop_none (x ∷ xs) zero h = absurd (omega arith)
-drop_none (x ∷ xs) (suc s) h = drop_none xs s (omega arith)
-
--- at one place stands one member
-pub one_there : {X : Type 0} (xs : List X) (s t : ℕ) (x y : X) → s ≡ t → slice_get xs s ≡ Some x → slice_get xs t ≡ Some y → x ≡ y
-one_there xs s t x y same e f = cc (ap (slice_get xs) same)
-
--- before the end stands some member
-within_some : {X : Type 0} (xs : List X) (i : ℕ) → i < length xs → slice_get xs i ≡ None → ⊥
-within_some [] i h e = absurd (omega arith)
-within_some (x ∷ xs) zero h e = cc
-within_some (x ∷ xs) (suc i) h e = within_some xs i (omega arith) e
 
 -- one signal is driven by one bit of one memory
 same_bit : (m n a b : ℕ) (one other : Signal) → one ≡ other → one.driver ≡ BlockBit m a → other.driver ≡ BlockBit n b → (m ≡ n) × (a ≡ b)
@@ -109,14 +83,14 @@ module _ (net : Netlist) (valid : IsValid net) where
     after = λ n memory at past.
         ⊎_elim (λ more. omega arith)
         (λ no_more. absurd (plain n 0 (driven_at n memory 0 s at (omega (arith, some_words n memory at)) (omega (arith, cut.after n memory at past)))))
-        (below_or_past s (first_of memory));
+        (cases_lt s (first_of memory));
   }
 
   -- the memory whose outputs begin at a cut is the next one
   pub next_memory : (s m n : ℕ) → IsCut s m → IsDriven n 0 s → n ≡ m
   next_memory s m n cut d =
       let b = bit_of n 0 s d.signal d.here d.driver in
-      ⊎_elim (λ less. absurd (too_early less b)) (λ past. ⊎_elim (λ more. absurd (too_late more b)) (λ no_more. omega arith) (below_or_past m n)) (below_or_past n m)
+      ⊎_elim (λ less. absurd (too_early less b)) (λ past. ⊎_elim (λ more. absurd (too_late more b)) (λ no_more. omega arith) (cases_lt m n)) (cases_lt n m)
     where
       too_early : n < m → IsBitOf n 0 s → ⊥
       too_early less b = omega (arith, cut.before n b.memory b.at less, b.place)
@@ -138,9 +112,9 @@ module _ (net : Netlist) (valid : IsValid net) where
         let same : n ≡ m = omega arith in
         let is : other ≡ memory = one_there net.blocks n m other memory same there at in
         omega (arith, ap first_of is, place, some_words m memory at))
-        (below_or_past n m);
+        (cases_lt n m);
     after = λ n other there past.
-        ⊎_elim (λ inside. absurd (overlap n other there past inside)) (λ outside. outside) (below_or_past (first_of other) (s + length memory.word));
+        ⊎_elim (λ inside. absurd (overlap n other there past inside)) (λ outside. outside) (cases_lt (first_of other) (s + length memory.word));
   } where
     inner : (n k : ℕ) → IsDriven n (suc k) (s + length memory.word) → ⊥
     inner n k d =
@@ -165,7 +139,7 @@ module _ (net : Netlist) (valid : IsValid net) where
   -- all memories stand before the end
   pub none_left : (s m : ℕ) → IsCut s m → length net.signals ≤ s → drop m net.blocks ≡ []
   none_left s m cut past =
-      ⊎_elim (λ more. absurd (left_over more)) (λ no_more. drop_none net.blocks m no_more) (below_or_past m (length net.blocks))
+      ⊎_elim (λ more. absurd (left_over more)) (λ no_more. drop_all m net.blocks no_more) (cases_lt m (length net.blocks))
     where
       at_least : m < length net.blocks → (memory : Block) → slice_get net.blocks m ≡ Some memory → ⊥
       at_least more memory at =

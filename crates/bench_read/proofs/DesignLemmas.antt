@@ -1,30 +1,28 @@
 -- The statements of rows, one row after another.
-use Rattle.std.proofs.Common.{◌≡◌, ℕ, ◌+◌, ◌-◌, ◌<◌, ◌≤◌, Bool, true, false, cond, ltb, leb, List, [], ◌∷◌, ◌++◌, append_assoc, append-nil, length, take, get_or, Option, Some, None, Result, Ok, Err, sym, ap, ◌∙◌, subst, refl, arith, add-one}
+use Rattle.std.proofs.Common.{◌≡◌, ℕ, ◌+◌, ◌<◌, ◌≤◌, Bool, true, false, cond, ltb, List, [], ◌∷◌, ◌++◌, append_assoc, append-nil, length, take, Option, Some, None, Result, Ok, Err, sym, ap, ◌∙◌, subst, refl, arith, add-one}
 use Rattle.std.specs.Prelude.{IsOk}
 use Rattle.std.specs.List.{filter_map, flat_map}
 use Rattle.std.specs.Result.{result_ok}
-use Rattle.std.proofs.Math.Seq.{take-append_seam}
+use Rattle.std.proofs.Math.Seq.{take-append_seam, get_or-append_seam}
 use Rattle.std.proofs.lemmas.Bool.{and_parts, ltb-false, leb-true, eqb-true}
 use Rattle.std.proofs.lemmas.List.{length_push}
 use Rattle.std.proofs.lemmas.List.Elements.{All-push, All-nil, filter_map-append}
 use Rattle.std.proofs.lemmas.List.Concat.{flat_map-append}
 use Rattle.std.proofs.lemmas.List.Sums.{sum_by_push}
 use Rattle.std.specs.Option.{option_or}
+use Rattle.limits.specs.declared.TheConstants.{MAX_ADDRESS_BITS, MAX_OPERANDS, MAX_SIGNALS, MAX_WORD_BITS}
 use Rattle.text_lines.specs.Answers.{first}
 use Rattle.text_lines.proofs.AnswerLemmas.{first-zero, first_none_more, first_some}
 use Rattle.bench_text.specs.declared.token.Token.{Token}
-use Rattle.logic_four.specs.declared.Kind.{Kind}
-use Rattle.logic_four.specs.declared.Kind.TheVariants.{And, Nand, Or, Nor, Xor, Xnor, Not, Buf, Tri, Bus}
 use Rattle.bench_read.specs.declared.refusal.BenchNo.{BenchNo}
 use Rattle.bench_read.specs.declared.refusal.BenchNo.TheVariants.{TooMany, Arity}
 use Rattle.bench_read.specs.declared.refusal.Many.TheVariants.{Signals, Operands}
 use Rattle.bench_read.specs.declared.statement.Form.{Form}
 use Rattle.bench_read.specs.declared.statement.Act.{Act}
-use Rattle.bench_read.specs.declared.statement.Act.TheVariants as act
 use Rattle.bench_read.specs.declared.statement.Statement.{Statement}
-use Rattle.bench_read.specs.Words.{allows, allows_operands, is_any_number, allows_memory}
+use Rattle.bench_read.specs.Words.{allows, allows_memory}
 use Rattle.bench_read.specs.Grammar.{rows_of, row_line, form_of, act_of, statement_by, said_by_act, said_by_form, said as said_of}
-use Rattle.bench_read.specs.Faults.{statements_of, drivers_of, operands_by, operands_of, operand_count, texts_of, twice_fault, limit_fault, many_fault, statement_fault, said_fault, row_fault, rows_fault}
+use Rattle.bench_read.specs.Faults.{statements_of, drivers_of, operands_of, operand_count, texts_of, twice_fault, limit_fault, many_fault, statement_fault, said_fault, row_fault, rows_fault}
 use Rattle.bench_read.specs.Reads.{AreOnce, AreNames, AreSound}
 
 -- ---- what one row says
@@ -57,27 +55,12 @@ is_checked text row statement e = by_form (form_of text row) e where
   by_form None f = cc
   by_form (Some form) f = by_act form (act_of text row form) f
 
-any_number-le : (n : ℕ) → is_any_number n ≡ true → n ≤ 1024
-any_number-le n e = leb-true n 1024 (and_parts (leb 1 n) (leb n 1024) e).1
-
-few_by_kind : (kind : Kind) (n : ℕ) → allows_operands kind n ≡ true → n ≤ 1024
-few_by_kind And n e = any_number-le n e
-few_by_kind Nand n e = any_number-le n e
-few_by_kind Or n e = any_number-le n e
-few_by_kind Nor n e = any_number-le n e
-few_by_kind Xor n e = any_number-le n e
-few_by_kind Xnor n e = any_number-le n e
-few_by_kind Not n e = omega (arith, eqb-true n 1 e)
-few_by_kind Buf n e = omega (arith, eqb-true n 1 e)
-few_by_kind Tri n e = omega (arith, eqb-true n 2 e)
-few_by_kind Bus n e = any_number-le n e
-
 -- what a memory's numbers are
 pub record AreMemoryBits (address words outputs : ℕ) : Type 0 where
   pub some_address : 1 ≤ address
-  pub few_address : address ≤ 16
+  pub few_address : address ≤ MAX_ADDRESS_BITS
   pub some_words : 1 ≤ words
-  pub few_words : words ≤ 64
+  pub few_words : words ≤ MAX_WORD_BITS
   pub outputs_are : words ≡ outputs
 
 pub memory_bits : (address words outputs : ℕ) → allows_memory address words outputs ≡ true → AreMemoryBits address words outputs
@@ -88,24 +71,11 @@ memory_bits address words outputs e =
     let d = and_parts _ _ c.0 in
     record {
       some_address = leb-true 1 address d.0;
-      few_address = leb-true address 16 d.1;
+      few_address = leb-true address MAX_ADDRESS_BITS d.1;
       some_words = leb-true 1 words c.1;
-      few_words = leb-true words 64 b.1;
+      few_words = leb-true words MAX_WORD_BITS b.1;
       outputs_are = eqb-true words outputs a.1;
     }
-
-few_by_act : (one : Act) (driven : ℕ) (uses : List Token) → allows one driven (length uses) ≡ true → operands_by one uses ≤ 1024
-few_by_act act.Input driven uses e = omega arith
-few_by_act act.Output driven uses e = omega arith
-few_by_act (act.Gate kind) driven uses e = few_by_kind kind (length uses) e
-few_by_act act.Dff driven uses e = omega (arith, eqb-true (length uses) 1 e)
-few_by_act (act.Memory address) driven uses e =
-    let bits = memory_bits address (length uses - (1 + address)) driven e in
-    omega (arith, bits.few_address, bits.few_words)
-
--- a line has few operands
-pub few_operands_of : (text : List ℕ) (row : List Token) (statement : Statement) → said_of text row ≡ Ok statement → operands_of statement ≤ 1024
-few_operands_of text row statement e = few_by_act statement.act (length statement.driven) statement.uses (is_checked text row statement e).allowed
 
 -- ---- one more statement
 
@@ -130,26 +100,22 @@ statements_push text rows row statement e =
 
 -- ---- rows
 
-at_seam : {X : Type 0} (xs : List X) (x d : X) (ys : List X) → get_or (xs ++ x ∷ ys) (length xs) d ≡ x
-at_seam [] x d ys = refl
-at_seam (w ∷ xs) x d ys = at_seam xs x d ys
-
 -- the fault of the row after those that are done
 fault_at_seam : (text : List ℕ) (rows done : List (List Token)) (row : List Token) (others : List (List Token)) (statements : List Statement) → rows ≡ done ++ row ∷ others → statements ≡ statements_of text done → row_fault text rows (length done) ≡ said_fault text (row_line row) statements (said_of text row)
 unfolding row_fault
 fault_at_seam text rows done row others statements are is =
     ap (λ rs. row_fault text rs (length done)) are
-    ∙ ap (λ r. said_fault text (row_line r) (statements_of text (take (length done) (done ++ row ∷ others))) (said_of text r)) (at_seam done row [] others)
+    ∙ ap (λ r. said_fault text (row_line r) (statements_of text (take (length done) (done ++ row ∷ others))) (said_of text r)) (get_or-append_seam done row others [])
     ∙ ap (λ ds. said_fault text (row_line row) (statements_of text ds) (said_of text row)) (take-append_seam done (row ∷ others))
     ∙ ap (λ ss. said_fault text (row_line row) ss (said_of text row)) (sym is)
 
 -- within the limits
-pub limits_from_none : (line signals operands : ℕ) → limit_fault line signals operands ≡ None → (signals ≤ 1048576) × (operands ≤ 4194304)
-limits_from_none line signals operands none = by_tests (ltb 1048576 signals) (ltb 4194304 operands) refl refl none where
-  by_tests : (b c : Bool) → ltb 1048576 signals ≡ b → ltb 4194304 operands ≡ c → cond b (Some (TooMany line Signals)) (cond c (Some (TooMany line Operands)) None) ≡ None → (signals ≤ 1048576) × (operands ≤ 4194304)
+pub limits_from_none : (line signals operands : ℕ) → limit_fault line signals operands ≡ None → (signals ≤ MAX_SIGNALS) × (operands ≤ MAX_OPERANDS)
+limits_from_none line signals operands none = by_tests (ltb MAX_SIGNALS signals) (ltb MAX_OPERANDS operands) refl refl none where
+  by_tests : (b c : Bool) → ltb MAX_SIGNALS signals ≡ b → ltb MAX_OPERANDS operands ≡ c → cond b (Some (TooMany line Signals)) (cond c (Some (TooMany line Operands)) None) ≡ None → (signals ≤ MAX_SIGNALS) × (operands ≤ MAX_OPERANDS)
   by_tests true c e f none = cc
   by_tests false true e f none = cc
-  by_tests false false e f none = (ltb-false 1048576 signals e, ltb-false 4194304 operands f)
+  by_tests false false e f none = (ltb-false MAX_SIGNALS signals e, ltb-false MAX_OPERANDS operands f)
 
 -- as far as the tokens that are left, the rows have these statements
 pub record HasRead (text : List ℕ) (tokens rest : List Token) (statements : List Statement) (names : List (List ℕ)) (drivers : List Token) (operands : ℕ) : Type 0 where
@@ -244,8 +210,8 @@ module _ (text : List ℕ) (tokens rest : List Token) (statements : List Stateme
               lines = All-push (λ r. IsOk (said_of text r)) before.done row before.sound.lines (is_ok says);
               said = ap (λ ss. ss ++ statement ∷ []) before.sound.said ∙ sym (statements_push text before.done row statement says);
               once = subst AreOnce (named.are ∙ ap (texts_of text) drivers_now) named.once;
-              few_signals = subst (λ ds. length ds ≤ 1048576) drivers_now limits.0;
-              few_operands = subst (λ n. n ≤ 4194304) operands_now limits.1;
+              few_signals = subst (λ ds. length ds ≤ MAX_SIGNALS) drivers_now limits.0;
+              few_operands = subst (λ n. n ≤ MAX_OPERANDS) operands_now limits.1;
             };
             drivers_are = drivers_now;
             named = named;

@@ -1,9 +1,11 @@
 -- The netlist of statements, one statement after another.
-use Rattle.std.proofs.Common.{◌≡◌, ℕ, zero, suc, ◌+◌, ◌<◌, ◌≤◌, Bool, true, false, not, ◌||◌, cond, List, [], ◌∷◌, ◌++◌, append_assoc, append-nil, length, map, take, drop, get_or, Option, Some, None, sym, ap, ◌∙◌, refl, arith, bytes_eq, length-append}
+use Rattle.std.proofs.Common.{◌≡◌, ℕ, zero, suc, ◌+◌, ◌<◌, ◌≤◌, Bool, true, false, not, ◌||◌, List, [], ◌∷◌, ◌++◌, append_assoc, append-nil, length, map, take, drop, get_or, Option, Some, None, sym, ap, ◌∙◌, refl, arith, bytes_eq, length-append}
 use Rattle.std.specs.List.{find, list_any, flat_map, enumerate_from}
 use Rattle.std.specs.Option.{option_map, option_or}
 use Rattle.std.proofs.lemmas.List.{take_more, take_all, drop_more, map-append, map_push, length-take-le, length-map}
 use Rattle.std.proofs.lemmas.List.Folds.{find-append, list_any-append}
+use Rattle.list_laws.proofs.Tests.{find_same}
+use Rattle.list_laws.proofs.Maps.{enumerate_push, flat_map_at, flat_map_grown}
 use Rattle.bench_text.specs.declared.token.Token.{Token}
 use Rattle.net_defs.specs.declared.netlist.Netlist.{Netlist}
 use Rattle.net_defs.specs.declared.netlist.Signal.{Signal}
@@ -16,15 +18,9 @@ use Rattle.bench_read.specs.declared.statement.Statement.{Statement}
 use Rattle.bench_read.specs.Grammar.{text_of}
 use Rattle.bench_read.specs.Faults.{texts_of, is_undriven, use_fault, uses_fault, uses_of, drivers_of}
 use Rattle.bench_read.specs.Netlists.{inputs_by, others_by, inputs_of, others_of, names_of, numbers_of, driver_by, signals_by, input_signals, other_signals, memories_by, printed_by, printed_of, blocks_by, blocks_of, netlist_of, with_line}
-use Rattle.bench_read.proofs.NumberLemmas.{flat_map_at, flat_map_grown, names_are}
+use Rattle.bench_read.proofs.NumberLemmas.{names_are}
 
 -- ---- signals
-
-enumerate_push : {X : Type 0} (n : ℕ) (xs : List X) (y : X) → enumerate_from n (xs ++ y ∷ []) ≡ enumerate_from n xs ++ (n + length xs, y) ∷ []
-enumerate_push n [] y = let e : n ≡ n + 0 = omega arith in ap (λ k. (k, y) ∷ []) e
-enumerate_push n (x ∷ xs) y =
-    let e : n + 1 + length xs ≡ n + suc (length xs) = omega arith in
-    ap (λ ps. (n, x) ∷ ps) (enumerate_push (n + 1) xs y ∙ ap (λ k. enumerate_from (n + 1) xs ++ (k, y) ∷ []) e)
 
 pub no_signals : (text : List ℕ) (one : Act) (uses : List ℕ) (memory : ℕ) → signals_by text one uses memory [] ≡ []
 unfolding signals_by
@@ -60,7 +56,7 @@ inputs-le act.Input driven = omega arith
 inputs-le act.Output driven = omega arith
 inputs-le (act.Gate kind) driven = omega arith
 inputs-le act.Dff driven = omega arith
-inputs-le (act.Memory address) driven = omega arith
+inputs-le (act.Ram address) driven = omega arith
 
 pub driven-le : (statements : List Statement) (i : ℕ) (here : Statement) → here ≡ get_or statements i here → i < length statements → length here.driven ≤ length (drivers_of statements)
 unfolding drivers_of
@@ -81,7 +77,7 @@ parts_length act.Input driven = omega arith
 parts_length act.Output driven = omega arith
 parts_length (act.Gate kind) driven = omega arith
 parts_length act.Dff driven = omega arith
-parts_length (act.Memory address) driven = omega arith
+parts_length (act.Ram address) driven = omega arith
 
 orders_length : (statements : List Statement) → length (inputs_of statements) + length (others_of statements) ≡ length (drivers_of statements)
 unfolding inputs_of others_of drivers_of
@@ -113,7 +109,7 @@ any_parts p text act.Input driven = sym (or_false (list_any p (texts_of text dri
 any_parts p text act.Output driven = refl
 any_parts p text (act.Gate kind) driven = refl
 any_parts p text act.Dff driven = refl
-any_parts p text (act.Memory address) driven = refl
+any_parts p text (act.Ram address) driven = refl
 
 any_texts : (p : List ℕ → Bool) (text : List ℕ) (xs ys : List Token) → list_any p (texts_of text (xs ++ ys)) ≡ (list_any p (texts_of text xs) || list_any p (texts_of text ys))
 any_texts p text xs ys = ap (list_any p) (map-append (text_of text) xs ys) ∙ list_any-append p (texts_of text xs) (texts_of text ys)
@@ -141,11 +137,6 @@ any_name p text statements =
     ap (list_any p) (names_are text statements)
     ∙ list_any-append p (texts_of text (inputs_of statements)) (texts_of text (others_of statements))
     ∙ sym (any_orders p text statements)
-
-find_same : {X : Type 0} (p q : X → Bool) (xs : List X) → ((x : X) → p x ≡ q x) → find p xs ≡ find q xs
-find_same p q [] same = refl
-find_same {X} p q (x ∷ xs) same =
-    ap (λ b. cond {A = Option X} b (Some x) (find p xs)) (same x) ∙ ap (cond (q x) (Some x)) (find_same p q xs same)
 
 -- the fault of the uses is the same by the names in either order
 pub either_order : (text : List ℕ) (statements : List Statement) → use_fault text (names_of text statements) (uses_of statements) ≡ uses_fault text statements
@@ -205,14 +196,14 @@ blocks_length act.Input uses outs = refl
 blocks_length act.Output uses outs = refl
 blocks_length (act.Gate kind) uses outs = refl
 blocks_length act.Dff uses outs = refl
-blocks_length (act.Memory address) uses outs = refl
+blocks_length (act.Ram address) uses outs = refl
 
 memories-le : (one : Act) → memories_by one ≤ 1
 memories-le act.Input = omega arith
 memories-le act.Output = omega arith
 memories-le (act.Gate kind) = omega arith
 memories-le act.Dff = omega arith
-memories-le (act.Memory address) = omega arith
+memories-le (act.Ram address) = omega arith
 
 module _ (text : List ℕ) (names : List (List ℕ)) (statements : List Statement) (i : ℕ) (here : Statement) (is : here ≡ get_or statements i here) (within : i < length statements) where
   left : drop i statements ≡ here ∷ drop (i + 1) statements

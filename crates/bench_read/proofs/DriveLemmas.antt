@@ -1,9 +1,10 @@
 -- The names that lines drive, one after another.
-use Rattle.std.proofs.Common.{◌≡◌, ℕ, ◌+◌, ◌<◌, Bool, true, false, List, [], ◌∷◌, ◌++◌, append_assoc, append-nil, length, take, get_or, slice_get, Some, None, sym, ap, ◌∙◌, subst, arith, add-one, bytes_eq}
+use Rattle.std.proofs.Common.{◌≡◌, ℕ, ◌+◌, ◌<◌, true, false, List, [], ◌∷◌, ◌++◌, append_assoc, append-nil, length, take, get_or, slice_get, Some, None, sym, ap, ◌∙◌, subst, arith, add-one, bytes_eq}
 use Rattle.std.specs.List.{list_any, find}
 use Rattle.std.specs.Option.{option_map}
 use Rattle.std.proofs.lemmas.List.{map_push, take_more, take_all}
 use Rattle.std.proofs.lemmas.Option.{slice_get-get_or}
+use Rattle.list_laws.proofs.Tests.{find_none}
 use Rattle.text_lines.specs.Answers.{first}
 use Rattle.text_lines.proofs.AnswerLemmas.{first-zero, first_none_more, first_some}
 use Rattle.bench_text.specs.declared.token.Token.{Token}
@@ -12,7 +13,7 @@ use Rattle.bench_read.specs.declared.refusal.BenchNo.TheVariants.{DrivenTwice}
 use Rattle.bench_read.specs.Grammar.{text_of}
 use Rattle.bench_read.specs.Faults.{texts_of, is_same, is_among, repeat_fault, option_repeat_fault, twice_fault}
 use Rattle.bench_read.specs.Reads.{AreOnce, AreNames}
-use Rattle.bench_read.proofs.NameLemmas.{any_text, find_none, any_not_none, once_more}
+use Rattle.bench_read.proofs.NameLemmas.{any_text, once_more}
 
 -- the first i of the tokens drive names
 pub record HasDriven (text : List ℕ) (before tokens : List Token) (i : ℕ) (names : List (List ℕ)) (drivers : List Token) : Type 0 where
@@ -36,9 +37,6 @@ pub repeat_is : (text : List ℕ) (drivers : List Token) (token driver : Token) 
 unfolding repeat_fault
 repeat_is text drivers token driver e found is =
     ap (option_map (λ driver. DrivenTwice (text_of text token) driver.line token.line)) found ∙ ap Some (sym is)
-
-pub found_some : {X : Type 0} (p : X → Bool) (xs : List X) → list_any p xs ≡ true → find p xs ≡ None → ⊥
-found_some p xs some none = cc (any_not_none p xs none)
 
 -- one more name
 pub names_more : (text : List ℕ) (names : List (List ℕ)) (drivers : List Token) (token : Token) → names ≡ texts_of text drivers → AreOnce names → list_any (bytes_eq (text_of text token)) names ≡ false → AreNames text (names ++ text_of text token ∷ []) (drivers ++ token ∷ [])

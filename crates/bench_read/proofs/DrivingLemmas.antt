@@ -2,11 +2,12 @@
 use Rattle.std.proofs.Common.{◌≡◌, ℕ, zero, suc, ◌+◌, ◌-◌, ◌<◌, ◌≤◌, eqb, List, [], ◌∷◌, ◌++◌, length, map, drop, get_or, slice_get, Option, Some, None, sym, ap, ◌∙◌, subst, refl, arith, ⊎_elim, length-append}
 use Rattle.std.specs.List.{All, flat_map, sum_by, enumerate_from, range_with_len}
 use Rattle.std.proofs.Math.Seq.{take-append_seam, drop-append_seam}
-use Rattle.std.proofs.lemmas.Bool.{cond-false, ne_eqb}
-use Rattle.std.proofs.lemmas.List.{length-map}
+use Rattle.std.proofs.lemmas.Bool.{cond-false, ne_eqb, cases_lt}
+use Rattle.std.proofs.lemmas.List.{length-map, drop_all}
 use Rattle.std.proofs.lemmas.List.Elements.{All-cons, All-head, All-tail, All-append}
 use Rattle.std.proofs.lemmas.List.Sums.{sum_by-cons}
 use Rattle.std.proofs.lemmas.Option.{slice_get_within, slice_get-get_or}
+use Rattle.list_laws.proofs.Places.{drop_here, one_there, past_end}
 use Rattle.net_defs.specs.declared.netlist.Netlist.{Netlist}
 use Rattle.net_defs.specs.declared.netlist.Signal.{Signal}
 use Rattle.net_defs.specs.declared.netlist.Block.{Block}
@@ -18,8 +19,8 @@ use Rattle.bench_read.specs.declared.statement.Act.TheVariants as act
 use Rattle.bench_read.specs.Netlists.{place_of, memories_by, block_by}
 use Rattle.bench_read.proofs.CanonicalLines.{Line, memory_line, memory_says, drivers_say, driving_lines}
 use Rattle.bench_read.proofs.LineLemmas.{line_others, line_operands, numbers_in, signals_in, other_signals_in, line_blocks}
-use Rattle.bench_read.proofs.CutLemmas.{drop_here, drop_none, one_there, first_of, IsDriven, driven_at, some_words, bit_of, IsCut, cut_after, next_memory, cut_past, none_left}
-use Rattle.bench_read.proofs.MadeLemmas.{below_or_past, signal_operands}
+use Rattle.bench_read.proofs.CutLemmas.{first_of, IsDriven, driven_at, some_words, bit_of, IsCut, cut_after, next_memory, cut_past, none_left}
+use Rattle.bench_read.proofs.MadeLemmas.{signal_operands}
 
 -- ---- names and numbers
 
@@ -43,12 +44,6 @@ numbers_back net names has [] all = refl
 numbers_back net names has (s ∷ ops) all =
     ap (λ n. n ∷ numbers_in names (map (name_of net) ops)) (has s (All-head (IsSignal net) s ops all))
     ∙ ap (λ ns. s ∷ ns) (numbers_back net names has ops (All-tail (IsSignal net) s ops all))
-
--- where no member stands the list has ended
-past_end : {X : Type 0} (xs : List X) (s : ℕ) → slice_get xs s ≡ None → length xs ≤ s
-past_end [] s e = omega arith
-past_end (x ∷ xs) zero e = cc
-past_end (x ∷ xs) (suc s) e = omega (arith, past_end xs s e)
 
 module _ (net : Netlist) (valid : IsValid net) (names : List (List ℕ)) (has : HasNumbers net names) where
   -- ---- the lines from a signal on
@@ -245,7 +240,7 @@ module _ (net : Netlist) (valid : IsValid net) (names : List (List ℕ)) (has : 
   -- at the end nothing is left to make
   at_end : (s m : ℕ) → IsCut net valid s m → length net.signals ≤ s → IsMade s m (driving_lines net (drop s net.signals))
   at_end s m cut past =
-      let signals = drop_none net.signals s past in
+      let signals = drop_all s net.signals past in
       let blocks = none_left net valid s m cut past in
       subst (IsMade s m) (sym (ap (driving_lines net) signals))
       (record { signals = sym signals; blocks = sym blocks; operands = omega (arith, ap (sum_by signal_operands) signals, ap (sum_by memory_operand_count) blocks) })
@@ -254,7 +249,7 @@ module _ (net : Netlist) (valid : IsValid net) (names : List (List ℕ)) (has : 
   pub made_from : (fuel s m : ℕ) → length net.signals ≤ s + fuel → IsCut net valid s m → IsMade s m (driving_lines net (drop s net.signals))
   made_from zero s m enough cut = at_end s m cut (omega arith)
   made_from (suc fuel) s m enough cut =
-      ⊎_elim (λ below. at_signal (slice_get net.signals s) refl (λ n j more next. made_from fuel n j (omega arith) next)) (λ past. at_end s m cut past) (below_or_past s (length net.signals))
+      ⊎_elim (λ below. at_signal (slice_get net.signals s) refl (λ n j more next. made_from fuel n j (omega arith) next)) (λ past. at_end s m cut past) (cases_lt s (length net.signals))
     where
       at_signal : (o : Option Signal) → slice_get net.signals s ≡ o → ((n j : ℕ) → s < n → IsCut net valid n j → IsMade n j (driving_lines net (drop n net.signals))) → IsMade s m (driving_lines net (drop s net.signals))
       at_signal None e rest = at_end s m cut (past_end net.signals s e)

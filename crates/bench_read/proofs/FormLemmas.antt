@@ -2,6 +2,7 @@
 use Rattle.std.proofs.Common.{◌≡◌, ℕ, zero, suc, ◌+◌, ◌-◌, ◌≤◌, Bool, true, false, cond, List, [], ◌∷◌, length, take, drop, Option, Some, None, Ok, Err, sym, subst, refl, arith}
 use Rattle.std.specs.List.{All, filter, slice_range}
 use Rattle.std.proofs.lemmas.List.Elements.{All-nil, All-cons, All-head, All-tail}
+use Rattle.list_laws.proofs.Places.{take_length}
 use Rattle.bench_text.specs.declared.token.Mark.{Mark}
 use Rattle.bench_text.specs.declared.token.Mark.TheVariants.{Open, Close, Comma, Equals, Semi, Left, Right, Name}
 use Rattle.bench_text.specs.declared.token.Token.{Token}
@@ -12,7 +13,8 @@ use Rattle.bench_read.specs.declared.statement.Form.TheVariants as form
 use Rattle.bench_read.specs.declared.statement.Act.{Act}
 use Rattle.bench_read.specs.declared.statement.Act.TheVariants as act
 use Rattle.bench_read.specs.declared.statement.Statement.{Statement}
-use Rattle.bench_read.specs.Words.{allows, gate_act, ram_act, act_of_kind, kind_of}
+use Rattle.bench_read.specs.Words.{allows, gate_act, ram_act, act_of_kind}
+use Rattle.logic_four.specs.Kinds.{kind_of}
 use Rattle.bench_read.specs.Grammar.{rows_of, join_row, row_line, form_of, act_of, word_at, address_count, right_of, statement_by, names_in, driven_part, used_part, has_mark, same_mark, said_by_act, said_by_form, said as said_of}
 use Rattle.logic_four.specs.declared.Kind.{Kind}
 use Rattle.bench_read.proofs.NameByteLemmas.{IsNameToken}
@@ -74,11 +76,6 @@ few_names (token ∷ tokens) = by_test (has_mark Name token) (few_names tokens) 
   by_test true h = omega arith
   by_test false h = omega arith
 
-take_length : {X : Type 0} (n : ℕ) (xs : List X) → length (take n xs) ≤ n
-take_length zero xs = omega arith
-take_length (suc n) [] = omega arith
-take_length (suc n) (x ∷ xs) = omega (arith, take_length n xs)
-
 one_name : (row : List Token) (i j : ℕ) → j ≤ i + 1 → length (names_in (slice_range row i j)) ≤ 1
 one_name row i j h = omega (arith, few_names (slice_range row i j), take_length (j - i) (drop i row))
 
@@ -94,7 +91,7 @@ IsShaped act.Input driven uses = length driven ≤ 1
 IsShaped act.Output driven uses = (driven ≡ []) × (length uses ≤ 1)
 IsShaped (act.Gate kind) driven uses = length driven ≤ 1
 IsShaped act.Dff driven uses = length driven ≤ 1
-IsShaped (act.Memory address) driven uses = Unit {0}
+IsShaped (act.Ram address) driven uses = Unit {0}
 
 -- a statement of a text
 pub record IsStatement (text : List ℕ) (statement : Statement) : Type 0 where
@@ -120,9 +117,9 @@ gate_acts word one row e = by_test _ e where
 ram_acts : (word : List ℕ) (address : ℕ) (one : Act) (driven uses : List Token) → ram_act word address ≡ Some one → IsShaped one driven uses
 unfolding ram_act
 ram_acts word address one driven uses e = by_test _ e where
-  by_test : (b : Bool) → cond b (Some (act.Memory address)) None ≡ Some one → IsShaped one driven uses
+  by_test : (b : Bool) → cond b (Some (act.Ram address)) None ≡ Some one → IsShaped one driven uses
   by_test true f =
-      let is : act.Memory address ≡ one = cc in
+      let is : act.Ram address ≡ one = cc in
       subst (λ a. IsShaped a driven uses) is tt
   by_test false f = cc
 
@@ -135,14 +132,14 @@ acts_shaped text row form.Output one e =
     let is : act.Output ≡ one = cc in
     subst (λ a. IsShaped a (names_in (driven_part row form.Output)) (names_in (used_part row form.Output))) is (no_name row, one_name row 2 3 (omega arith))
 acts_shaped text row form.Gate one e = gate_acts (word_at text row 2) one row e
-acts_shaped text row form.Memory one e = ram_acts (word_at text row (right_of row + 2)) (address_count row) one (names_in (driven_part row form.Memory)) (names_in (used_part row form.Memory)) e
+acts_shaped text row form.Ram one e = ram_acts (word_at text row (right_of row + 2)) (address_count row) one (names_in (driven_part row form.Ram)) (names_in (used_part row form.Ram)) e
 
 driven_in : (P : Token → Type 0) (row : List Token) (which : Form) → All P row → All P (driven_part row which)
 unfolding driven_part
 driven_in P row form.Input all = all_in_part P row 2 3 all
 driven_in P row form.Output all = all_in_part P row 0 0 all
 driven_in P row form.Gate all = all_in_part P row 0 1 all
-driven_in P row form.Memory all = all_in_part P row 1 (right_of row) all
+driven_in P row form.Ram all = all_in_part P row 1 (right_of row) all
 
 pub statement_is : (text : List ℕ) (row : List Token) (statement : Statement) → All (StandsIn text) row → said_of text row ≡ Ok statement → IsStatement text statement
 unfolding said_of

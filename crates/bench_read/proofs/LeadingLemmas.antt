@@ -1,9 +1,11 @@
 -- The inputs of a valid netlist, which stand before its other signals, and lists of lines.
 use Rattle.std.proofs.Common.{◌≡◌, ℕ, zero, suc, ◌+◌, ◌-◌, ◌<◌, ◌≤◌, Bool, true, false, cond, List, [], ◌∷◌, ◌++◌, length, map, get_or, slice_get, Option, Some, None, sym, ap, ◌∙◌, refl, arith, ⊎_elim}
-use Rattle.std.specs.List.{All, flat_map, sum_by}
+use Rattle.std.specs.List.{All}
 use Rattle.std.proofs.lemmas.List.Elements.{All-nil, All-cons, All-head, All-tail, All-append}
-use Rattle.std.proofs.lemmas.List.Sums.{sum_by-cons}
 use Rattle.std.proofs.lemmas.Option.{slice_get-get_or}
+use Rattle.std.proofs.lemmas.Bool.{cases_lt}
+use Rattle.list_laws.proofs.Places.{at_front, slice_past}
+use Rattle.list_laws.proofs.Members.{each}
 use Rattle.net_defs.specs.declared.netlist.Netlist.{Netlist}
 use Rattle.net_defs.specs.declared.netlist.Signal.{Signal}
 use Rattle.net_defs.specs.declared.netlist.Block.{Block}
@@ -17,8 +19,6 @@ use Rattle.bench_read.specs.Netlists.{memories_by}
 use Rattle.bench_read.proofs.CanonicalLines.{Line, input_line, memory_line, inputs_say, memory_says, drivers_say, leading_lines, driving_lines}
 use Rattle.bench_read.proofs.LineLemmas.{line_others, numbers_in, signals_in, other_signals_in}
 use Rattle.bench_read.proofs.CutLemmas.{first_of, IsDriven, driven_at, some_words, bit_of, IsCut}
-use Rattle.bench_read.proofs.SeenMemory.{slice_past}
-use Rattle.bench_read.proofs.MadeLemmas.{below_or_past, each}
 
 -- ---- the inputs come first
 
@@ -65,12 +65,6 @@ led (x ∷ signals) lead = by_test (is_input x.driver) refl (led signals (λ s t
     rest = All-cons (λ (s : Signal). is_input s.driver ≡ false) x signals e (no_later x signals lead e);
   }
 
--- a member of the first of two lists
-at_front : {X : Type 0} (xs ys : List X) (k : ℕ) → k < length xs → slice_get (xs ++ ys) k ≡ slice_get xs k
-at_front [] ys k h = absurd (omega arith)
-at_front (x ∷ xs) ys zero h = refl
-at_front (x ∷ xs) ys (suc k) h = at_front xs ys k (omega arith)
-
 module _ (net : Netlist) (valid : IsValid net) (leads : IsLed net.signals) where
   -- before the seam stand inputs
   input_at : (p : ℕ) (signal : Signal) → p < length leads.leading → slice_get net.signals p ≡ Some signal → is_input signal.driver ≡ true
@@ -99,7 +93,7 @@ module _ (net : Netlist) (valid : IsValid net) (leads : IsLed net.signals) where
     before = λ n memory at less. absurd (omega arith);
     after = λ n memory at past.
         ⊎_elim (λ less. absurd (no_bit n 0 (first_of memory) less (driven_at net valid n memory 0 (first_of memory) at (omega (arith, some_words net valid n memory at)) (omega arith)))) (λ more. more)
-        (below_or_past (first_of memory) (length leads.leading));
+        (cases_lt (first_of memory) (length leads.leading));
   }
 
 -- ---- lines of inputs
@@ -162,47 +156,6 @@ inputs_back (x ∷ signals) all =
 
 -- ---- lists of lines
 
--- a function that gives nothing of any line of a list
-pub flat_none : {X Y A : Type 0} (f : Y → List A) (g : X → Y) (xs : List X) → ((x : X) → f (g x) ≡ []) → flat_map f (map g xs) ≡ []
-flat_none f g [] none = refl
-flat_none f g (x ∷ xs) none = ap (λ ys. ys ++ flat_map f (map g xs)) (none x) ∙ flat_none f g xs none
-
--- a function that gives one thing of each line of a list
-pub flat_one : {X Y A : Type 0} (f : Y → List A) (g : X → Y) (h : X → A) (xs : List X) → ((x : X) → f (g x) ≡ h x ∷ []) → flat_map f (map g xs) ≡ map h xs
-flat_one f g h [] one = refl
-flat_one f g h (x ∷ xs) one = ap (λ ys. ys ++ flat_map f (map g xs)) (one x) ∙ ap (λ ys. h x ∷ ys) (flat_one f g h xs one)
-
--- a sum of nothing
-pub sum_none_of : {X Y : Type 0} (f : Y → ℕ) (g : X → Y) (xs : List X) → ((x : X) → f (g x) ≡ 0) → sum_by f (map g xs) ≡ 0
-sum_none_of f g [] none = refl
-sum_none_of f g (x ∷ xs) none = omega (arith, sum_by-cons f (g x) (map g xs), none x, sum_none_of f g xs none)
-
--- two functions that agree on each member of a list
-pub flat_same : {Y A : Type 0} (f g : Y → List A) (ys : List Y) → All (λ y. f y ≡ g y) ys → flat_map f ys ≡ flat_map g ys
-flat_same f g [] all = refl
-flat_same f g (y ∷ ys) all =
-    ap (λ xs. xs ++ flat_map f ys) (All-head (λ y. f y ≡ g y) y ys all) ∙ ap (λ xs. g y ++ xs) (flat_same f g ys (All-tail (λ y. f y ≡ g y) y ys all))
-
--- a function that gives nothing of any member of a list
-pub flat_empty : {Y A : Type 0} (f : Y → List A) (ys : List Y) → All (λ y. f y ≡ []) ys → flat_map f ys ≡ []
-flat_empty f [] all = refl
-flat_empty f (y ∷ ys) all = ap (λ xs. xs ++ flat_map f ys) (All-head (λ y. f y ≡ []) y ys all) ∙ flat_empty f ys (All-tail (λ y. f y ≡ []) y ys all)
-
--- what holds of all that a function gives
-pub all_flat_of : {Y A : Type 0} (Q : A → Type 0) (f : Y → List A) (ys : List Y) → All (λ y. All Q (f y)) ys → All Q (flat_map f ys)
-all_flat_of Q f [] all = All-nil Q
-all_flat_of Q f (y ∷ ys) all = All-append Q (f y) (flat_map f ys) (All-head (λ y. All Q (f y)) y ys all) (all_flat_of Q f ys (All-tail (λ y. All Q (f y)) y ys all))
-
--- what holds of all that a map gives
-pub all_map_of : {X Y : Type 0} (P : Y → Type 0) (g : X → Y) (xs : List X) → All (λ x. P (g x)) xs → All P (map g xs)
-all_map_of P g [] all = All-nil P
-all_map_of P g (x ∷ xs) all = All-cons P (g x) (map g xs) (All-head (λ y. P (g y)) x xs all) (all_map_of P g xs (All-tail (λ y. P (g y)) x xs all))
-
--- what holds of all that a map gives holds of its members
-pub all_of_map : {X Y : Type 0} (P : Y → Type 0) (g : X → Y) (xs : List X) → All P (map g xs) → All (λ x. P (g x)) xs
-all_of_map P g [] all = All-nil (λ x. P (g x))
-all_of_map P g (x ∷ xs) all = All-cons (λ y. P (g y)) x xs (All-head P (g x) (map g xs) all) (all_of_map P g xs (All-tail P (g x) (map g xs) all))
-
 -- what holds of each line of each signal
 pub all_driving : (net : Netlist) (P : Line → Type 0) (signals : List Signal) → ((s : ℕ) (signal : Signal) → slice_get signals s ≡ Some signal → All P (drivers_say net signal.name signal.driver)) → All P (driving_lines net signals)
 all_driving net P [] holds = All-nil P
@@ -214,7 +167,7 @@ is_driving act.Input = false
 is_driving act.Output = false
 is_driving (act.Gate kind) = true
 is_driving act.Dff = true
-is_driving (act.Memory address) = true
+is_driving (act.Ram address) = true
 
 -- what holds of lines of gates, registers and memories holds of the lines of a driver
 pub driver_each : (net : Netlist) (P : Line → Type 0) → ((one : Act) (driven uses : List (List ℕ)) → is_driving one ≡ true → P (record { act = one; driven = driven; uses = uses })) → (name : List ℕ) (driver : Driver) → All P (drivers_say net name driver)
@@ -223,7 +176,7 @@ driver_each net P holds name (Gate kind ops) = All-cons P _ [] (holds (act.Gate 
 driver_each net P holds name (Dff op) = All-cons P _ [] (holds act.Dff (name ∷ []) (name_of net op ∷ []) refl) (All-nil P)
 driver_each net P holds name (BlockBit m bit) = by_test _ (slice_get net.blocks m) where
   by_test : (b : Bool) (o : Option Block) → All P (cond b (memory_says net o) [])
-  by_test true (Some memory) = All-cons P (memory_line net memory) [] (holds (act.Memory (length memory.address)) (map (name_of net) memory.outs) (map (name_of net) (memory.we ∷ (memory.address ++ memory.word))) refl) (All-nil P)
+  by_test true (Some memory) = All-cons P (memory_line net memory) [] (holds (act.Ram (length memory.address)) (map (name_of net) memory.outs) (map (name_of net) (memory.we ∷ (memory.address ++ memory.word))) refl) (All-nil P)
   by_test true None = All-nil P
   by_test false o = All-nil P
 

@@ -13,7 +13,6 @@ mod LeadingLemmas
 mod LineLemmas
 mod LineRows
 mod LineSteps
-mod ListLemmas
 mod MadeLemmas
 mod NameByteLemmas
 mod NameLemmas

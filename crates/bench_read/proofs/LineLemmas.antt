@@ -27,7 +27,7 @@ inputs_in act.Input driven = driven
 inputs_in act.Output driven = []
 inputs_in (act.Gate kind) driven = []
 inputs_in act.Dff driven = []
-inputs_in (act.Memory address) driven = []
+inputs_in (act.Ram address) driven = []
 
 -- the other names that a line drives
 abbrev pub others_in : Act → List (List ℕ) → List (List ℕ)
@@ -35,7 +35,7 @@ others_in act.Input driven = []
 others_in act.Output driven = driven
 others_in (act.Gate kind) driven = driven
 others_in act.Dff driven = driven
-others_in (act.Memory address) driven = driven
+others_in (act.Ram address) driven = driven
 
 -- the operands of a line
 abbrev pub operands_in : Act → List (List ℕ) → ℕ
@@ -43,7 +43,7 @@ operands_in act.Input uses = 0
 operands_in act.Output uses = 0
 operands_in (act.Gate kind) uses = length uses
 operands_in act.Dff uses = length uses
-operands_in (act.Memory address) uses = length uses
+operands_in (act.Ram address) uses = length uses
 
 -- the same three, of a whole line
 abbrev pub line_inputs : Line → List (List ℕ)
@@ -116,7 +116,7 @@ module _ (text : List ℕ) where
   same_inputs act.Output driven = refl
   same_inputs (act.Gate kind) driven = refl
   same_inputs act.Dff driven = refl
-  same_inputs (act.Memory address) driven = refl
+  same_inputs (act.Ram address) driven = refl
 
   -- the other names
   same_others : (one : Act) (driven : List Token) → texts_of text (others_by one driven) ≡ others_in one (texts_of text driven)
@@ -124,7 +124,7 @@ module _ (text : List ℕ) where
   same_others act.Output driven = refl
   same_others (act.Gate kind) driven = refl
   same_others act.Dff driven = refl
-  same_others (act.Memory address) driven = refl
+  same_others (act.Ram address) driven = refl
 
   -- the number of operands
   same_operands : (one : Act) (uses : List Token) → operands_by one uses ≡ operands_in one (texts_of text uses)
@@ -132,7 +132,7 @@ module _ (text : List ℕ) where
   same_operands act.Output uses = refl
   same_operands (act.Gate kind) uses = sym (length-map uses (text_of text))
   same_operands act.Dff uses = sym (length-map uses (text_of text))
-  same_operands (act.Memory address) uses = sym (length-map uses (text_of text))
+  same_operands (act.Ram address) uses = sym (length-map uses (text_of text))
 
   -- the numbers of names
   same_numbers : (names : List (List ℕ)) (tokens : List Token) → numbers_of text names tokens ≡ numbers_in names (texts_of text tokens)

@@ -2,6 +2,7 @@
 use Rattle.std.proofs.Common.{◌≡◌, ℕ, ◌+◌, ◌≤◌, Bool, true, false, ◌&&◌, List, [], ◌∷◌, ◌++◌, length, map, None, sym, ap, ◌∙◌, subst, refl, arith, append-nil, append_assoc}
 use Rattle.std.specs.List.{list_all, flat_map}
 use Rattle.std.proofs.lemmas.List.{length-drop}
+use Rattle.limits.specs.declared.TheConstants.{MAX_NAME_BYTES}
 use Rattle.text_lines.specs.Places.{line_at}
 use Rattle.text_lines.specs.Answers.{first}
 use Rattle.text_lines.proofs.AnswerLemmas.{first-zero}
@@ -39,7 +40,7 @@ lines_text lines = flat_map line_text lines
 -- 1 to 255 bytes of names
 pub record IsWord (bytes : List ℕ) : Type 0 where
   pub some : 1 ≤ length bytes
-  pub short : length bytes ≤ 255
+  pub short : length bytes ≤ MAX_NAME_BYTES
   pub named : list_all is_name_byte bytes ≡ true
 
 -- the bytes are those of the mark

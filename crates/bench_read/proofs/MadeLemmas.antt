@@ -1,16 +1,18 @@
 -- The statements of a text, and the signals, memories and operands that they make.
-use Rattle.std.proofs.Common.{◌≡◌, ℕ, zero, suc, ◌+◌, ◌-◌, ◌<◌, ◌≤◌, Bool, true, false, not, List, [], ◌∷◌, ◌++◌, append_assoc, length, map, take, drop, get_or, slice_get, Some, Result, Ok, Err, sym, ap, ◌∙◌, subst, refl, arith, ◌⊎◌, length-append, bytes_eq}
-use Rattle.std.specs.List.{All, list_any, flat_map, cons_option, sum_by, enumerate_from, position_or_len, range_with_len}
+use Rattle.std.proofs.Common.{◌≡◌, ℕ, zero, suc, ◌+◌, ◌-◌, ◌<◌, ◌≤◌, true, false, List, [], ◌∷◌, ◌++◌, append_assoc, length, map, take, drop, slice_get, Some, Result, Ok, Err, sym, ap, ◌∙◌, subst, refl, arith, length-append, bytes_eq}
+use Rattle.std.specs.List.{All, flat_map, cons_option, sum_by, enumerate_from, range_with_len}
 use Rattle.std.specs.Result.{result_ok}
-use Rattle.std.proofs.lemmas.Bool.{cond-true, cond-false, or_parts, leb-true, and_parts, eqb-true}
-use Rattle.std.proofs.lemmas.List.{map-append, take-append-drop, length_push, length-map, length-drop, length-take-le}
-use Rattle.std.proofs.lemmas.List.Elements.{All-nil, All-cons, All-head, All-tail}
+use Rattle.std.proofs.lemmas.Bool.{eqb-true}
+use Rattle.std.proofs.lemmas.List.{map-append, length_push, length-map, length-drop, length-take-le}
+use Rattle.std.proofs.lemmas.List.Elements.{All-nil, All-cons, All-head, All-tail, All-append}
 use Rattle.std.proofs.lemmas.List.Concat.{flat_map-append}
 use Rattle.std.proofs.lemmas.Option.{slice_get_within, get_or_from_slice_get}
 use Rattle.std.proofs.lemmas.List.Sums.{sum_by-append, sum_by-cons}
+use Rattle.list_laws.proofs.Tests.{first_after}
+use Rattle.list_laws.proofs.Places.{seam_at, split_at}
+use Rattle.list_laws.proofs.Members.{each}
+use Rattle.list_laws.proofs.Maps.{sum_none}
 use Rattle.logic_four.specs.declared.Kind.{Kind}
-use Rattle.logic_four.specs.declared.Kind.TheVariants.{And, Nand, Or, Nor, Xor, Xnor, Not, Buf, Tri, Bus}
-use Rattle.logic_four.specs.Gates.{AllowsOperands}
 use Rattle.bench_text.specs.declared.token.Mark.TheVariants.{Name}
 use Rattle.bench_text.specs.declared.token.Token.{Token}
 use Rattle.bench_text.specs.Tokens.{tokens_of}
@@ -23,13 +25,13 @@ use Rattle.bench_read.specs.declared.refusal.BenchNo.{BenchNo}
 use Rattle.bench_read.specs.declared.statement.Act.{Act}
 use Rattle.bench_read.specs.declared.statement.Act.TheVariants as act
 use Rattle.bench_read.specs.declared.statement.Statement.{Statement}
-use Rattle.bench_read.specs.Words.{allows, allows_operands, is_any_number}
+use Rattle.bench_read.specs.Words.{allows}
 use Rattle.bench_read.specs.Grammar.{rows_of, text_of, said as said_of}
 use Rattle.bench_read.specs.Faults.{statements_of, operands_by, operands_of, operand_count, texts_of}
 use Rattle.bench_read.specs.Netlists.{inputs_by, others_by, inputs_of, others_of, names_of, place_of, numbers_of, driver_by, signals_by, input_signals, other_signals, memories_by, printed_by, printed_of, block_by, blocks_by, blocks_of, netlist_of}
 use Rattle.bench_read.specs.Reads.{AreOnce, IsRead}
 use Rattle.bench_read.proofs.NameLemmas.{same_bytes, new_from_once}
-use Rattle.bench_read.proofs.NumberLemmas.{split_at, names_are}
+use Rattle.bench_read.proofs.NumberLemmas.{names_are}
 use Rattle.bench_read.proofs.DraftLemmas.{no_signals}
 use Rattle.bench_read.proofs.DesignLemmas.{memory_bits}
 use Rattle.bench_read.proofs.FormLemmas.{IsStatement, IsShaped, statement_is, all_in_rows}
@@ -103,18 +105,8 @@ name_at [] s signal e = cc
 name_at (x ∷ signals) zero signal e = let same : x ≡ signal = cc in ap (λ (y : Signal). Some y.name) same
 name_at (x ∷ signals) (suc s) signal e = name_at signals s signal e
 
--- a name that stands once has one place
-pub place_at_seam : (p : List ℕ → Bool) (xs : List (List ℕ)) (x : List ℕ) (ys : List (List ℕ)) → list_any p xs ≡ false → p x ≡ true → position_or_len p (xs ++ x ∷ ys) ≡ length xs
-place_at_seam p [] x ys none here = cond-false {A = ℕ} (not (p x)) _ _ (ap not here)
-place_at_seam p (w ∷ xs) x ys none here =
-    let both = or_parts (p w) (list_any p xs) none in
-    cond-true {A = ℕ} (not (p w)) _ _ (ap not both.0) ∙ more (place_at_seam p xs x ys both.1 here)
-  where
-    more : position_or_len p (xs ++ x ∷ ys) ≡ length xs → 1 + position_or_len p (xs ++ x ∷ ys) ≡ suc (length xs)
-    more e = omega arith
-
 pub place_in : (xs : List (List ℕ)) (name : List ℕ) (ys : List (List ℕ)) → AreOnce (xs ++ name ∷ ys) → place_of (xs ++ name ∷ ys) name ≡ length xs
-place_in xs name ys once = place_at_seam (bytes_eq name) xs name ys (new_from_once xs name ys once) (same_bytes name)
+place_in xs name ys once = first_after (bytes_eq name) xs name ys (new_from_once xs name ys once) (same_bytes name)
 
 pub place_self : (names : List (List ℕ)) (s : ℕ) (name : List ℕ) → AreOnce names → slice_get names s ≡ Some name → place_of names name ≡ s
 place_self names s name once e =
@@ -126,28 +118,6 @@ place_self names s name once e =
     ∙ length-take-le s names (omega (arith, within))
 
 -- ---- lists
-
-pub each : {X : Type 0} (P : X → Type 0) (xs : List X) (i : ℕ) (x : X) → All P xs → slice_get xs i ≡ Some x → P x
-each P xs i x all e = subst P (get_or_from_slice_get xs i x x e) (all i x (slice_get_within xs i x e))
-
-pub all_append : {X : Type 0} (P : X → Type 0) (xs ys : List X) → All P xs → All P ys → All P (xs ++ ys)
-all_append P [] ys a b = b
-all_append P (x ∷ xs) ys a b = All-cons P x (xs ++ ys) (All-head P x xs a) (all_append P xs ys (All-tail P x xs a) b)
-
-pub seam_at : {X : Type 0} (xs : List X) (x : X) (ys : List X) → slice_get (xs ++ x ∷ ys) (length xs) ≡ Some x
-seam_at [] x ys = refl
-seam_at (w ∷ xs) x ys = seam_at xs x ys
-
-pub below_or_past : (a b : ℕ) → (a < b) ⊎ (b ≤ a)
-below_or_past a b = grind arith
-
-pub all_front : {X : Type 0} (P : X → Type 0) (xs ys : List X) → All P (xs ++ ys) → All P xs
-all_front P [] ys a = All-nil P
-all_front P (x ∷ xs) ys a = All-cons P x xs (All-head P x (xs ++ ys) a) (all_front P xs ys (All-tail P x (xs ++ ys) a))
-
-pub all_back : {X : Type 0} (P : X → Type 0) (xs ys : List X) → All P (xs ++ ys) → All P ys
-all_back P [] ys a = a
-all_back P (x ∷ xs) ys a = all_back P xs ys (All-tail P x (xs ++ ys) a)
 
 -- ---- signals, line by line
 
@@ -176,7 +146,7 @@ pub inputs_each : (Q : Signal → Type 0) (text : List ℕ) (statements : List S
 unfolding input_signals
 inputs_each Q text [] holds = All-nil Q
 inputs_each Q text (statement ∷ statements) holds =
-    all_append Q (signals_by text statement.act [] 0 (inputs_by statement.act statement.driven)) (input_signals text statements)
+    All-append Q (signals_by text statement.act [] 0 (inputs_by statement.act statement.driven)) (input_signals text statements)
     (by_act statement.act statement.driven) (inputs_each Q text statements holds)
   where
     none : (one : Act) → All Q (signals_by text one [] 0 [])
@@ -187,7 +157,7 @@ inputs_each Q text (statement ∷ statements) holds =
     by_act act.Output driven = none act.Output
     by_act (act.Gate kind) driven = none (act.Gate kind)
     by_act act.Dff driven = none act.Dff
-    by_act (act.Memory address) driven = none (act.Memory address)
+    by_act (act.Ram address) driven = none (act.Ram address)
 
 pub blocks_count : (text : List ℕ) (names : List (List ℕ)) (statement : Statement) (statements : List Statement) → length (blocks_of text names (statement ∷ statements)) ≡ memories_by statement.act + length (blocks_of text names statements)
 unfolding blocks_of
@@ -200,7 +170,7 @@ blocks_count text names statement statements =
     by_act act.Output = refl
     by_act (act.Gate kind) = refl
     by_act act.Dff = refl
-    by_act (act.Memory address) = refl
+    by_act (act.Ram address) = refl
 
 pub no_blocks : (text : List ℕ) (names : List (List ℕ)) → length (blocks_of text names []) ≡ 0
 unfolding blocks_of
@@ -213,7 +183,7 @@ pub others_each : (Q : Signal → Type 0) (text : List ℕ) (names : List (List 
 unfolding other_signals
 others_each Q text names memories [] holds = All-nil Q
 others_each Q text names memories (statement ∷ statements) holds =
-    all_append Q (signals_by text statement.act (numbers_of text names statement.uses) memories (others_by statement.act statement.driven)) (other_signals text names (memories + memories_by statement.act) statements)
+    All-append Q (signals_by text statement.act (numbers_of text names statement.uses) memories (others_by statement.act statement.driven)) (other_signals text names (memories + memories_by statement.act) statements)
     (each_by Q text statement.act (numbers_of text names statement.uses) memories (others_by statement.act statement.driven)
     (λ k token e. subst (λ m. Q (record { name = text_of text token; driver = driver_by statement.act (numbers_of text names statement.uses) m k })) (no_memories memories) (holds [] statement statements refl k token e)))
     (others_each Q text names (memories + memories_by statement.act) statements
@@ -226,33 +196,18 @@ others_each Q text names memories (statement ∷ statements) holds =
     more_memories : (m : ℕ) (front : List Statement) → m + length (blocks_of text names (statement ∷ front)) ≡ m + memories_by statement.act + length (blocks_of text names front)
     more_memories m front = omega (arith, blocks_count text names statement front)
 
-pub any_number : (n : ℕ) → is_any_number n ≡ true → (1 ≤ n) × (n ≤ 1024)
-any_number n e = let both = and_parts _ _ e in (leb-true 1 n both.0, leb-true n 1024 both.1)
-
-pub allows_is : (kind : Kind) (n : ℕ) → allows_operands kind n ≡ true → AllowsOperands kind n
-allows_is And n e = any_number n e
-allows_is Nand n e = any_number n e
-allows_is Or n e = any_number n e
-allows_is Nor n e = any_number n e
-allows_is Xor n e = any_number n e
-allows_is Xnor n e = any_number n e
-allows_is Not n e = eqb-true n 1 e
-allows_is Buf n e = eqb-true n 1 e
-allows_is Tri n e = eqb-true n 2 e
-allows_is Bus n e = any_number n e
-
 -- ---- memories, line by line
 
 pub blocks-append : (text : List ℕ) (names : List (List ℕ)) (xs ys : List Statement) → blocks_of text names (xs ++ ys) ≡ blocks_of text names xs ++ blocks_of text names ys
 unfolding blocks_of
 blocks-append text names xs ys = flat_map-append (λ (s : Statement). blocks_by s.act (numbers_of text names s.uses) (numbers_of text names s.driven)) xs ys
 
-pub block_first : (text : List ℕ) (names : List (List ℕ)) (statement : Statement) (back : List Statement) (address : ℕ) → statement.act ≡ act.Memory address → blocks_of text names (statement ∷ back) ≡ block_by address (numbers_of text names statement.uses) (numbers_of text names statement.driven) ∷ blocks_of text names back
+pub block_first : (text : List ℕ) (names : List (List ℕ)) (statement : Statement) (back : List Statement) (address : ℕ) → statement.act ≡ act.Ram address → blocks_of text names (statement ∷ back) ≡ block_by address (numbers_of text names statement.uses) (numbers_of text names statement.driven) ∷ blocks_of text names back
 unfolding blocks_of
 block_first text names statement back address is =
     ap (λ a. blocks_by a (numbers_of text names statement.uses) (numbers_of text names statement.driven) ++ blocks_of text names back) is
 
-pub block_at : (text : List ℕ) (names : List (List ℕ)) (statements front : List Statement) (statement : Statement) (back : List Statement) (address : ℕ) → statements ≡ front ++ statement ∷ back → statement.act ≡ act.Memory address → slice_get (blocks_of text names statements) (length (blocks_of text names front)) ≡ Some (block_by address (numbers_of text names statement.uses) (numbers_of text names statement.driven))
+pub block_at : (text : List ℕ) (names : List (List ℕ)) (statements front : List Statement) (statement : Statement) (back : List Statement) (address : ℕ) → statements ≡ front ++ statement ∷ back → statement.act ≡ act.Ram address → slice_get (blocks_of text names statements) (length (blocks_of text names front)) ≡ Some (block_by address (numbers_of text names statement.uses) (numbers_of text names statement.driven))
 block_at text names statements front statement back address split is =
     ap (λ bs. slice_get bs (length (blocks_of text names front)))
     (ap (blocks_of text names) split ∙ blocks-append text names front (statement ∷ back) ∙ ap (λ bs. blocks_of text names front ++ bs) (block_first text names statement back address is))
@@ -260,7 +215,7 @@ block_at text names statements front statement back address split is =
 
 abbrev pub HoldsOfBlocks : (ℕ → Block → Type 0) → List ℕ → List (List ℕ) → List Statement → ℕ → Type 0
 HoldsOfBlocks R text names statements memories =
-    (front : List Statement) (other : Statement) (back : List Statement) (address : ℕ) → statements ≡ front ++ other ∷ back → other.act ≡ act.Memory address
+    (front : List Statement) (other : Statement) (back : List Statement) (address : ℕ) → statements ≡ front ++ other ∷ back → other.act ≡ act.Ram address
     → R (memories + length (blocks_of text names front)) (block_by address (numbers_of text names other.uses) (numbers_of text names other.driven))
 
 pub blocks_each : (R : ℕ → Block → Type 0) (text : List ℕ) (names : List (List ℕ)) (memories : ℕ) (statements : List Statement) → HoldsOfBlocks R text names statements memories → (k : ℕ) (memory : Block) → slice_get (blocks_of text names statements) k ≡ Some memory → R (memories + k) memory
@@ -280,11 +235,11 @@ blocks_each R text names memories (statement ∷ statements) holds k memory e = 
   by_act act.Output is rest n f = plain rest (ap memories_by is) n f
   by_act (act.Gate kind) is rest n f = plain rest (ap memories_by is) n f
   by_act act.Dff is rest n f = plain rest (ap memories_by is) n f
-  by_act (act.Memory address) is rest zero f =
+  by_act (act.Ram address) is rest zero f =
       let same : block_by address (numbers_of text names statement.uses) (numbers_of text names statement.driven) ≡ memory = cc in
       let none : memories + length (blocks_of text names []) ≡ memories + 0 = omega (arith, no_blocks text names) in
       subst (R (memories + 0)) same (subst (λ j. R j (block_by address (numbers_of text names statement.uses) (numbers_of text names statement.driven))) none (holds [] statement statements address refl is))
-  by_act (act.Memory address) is rest (suc n) f =
+  by_act (act.Ram address) is rest (suc n) f =
       let same : memories + 1 + n ≡ memories + suc n = omega arith in
       subst (λ j. R j memory) same (rest (memories + 1) (held 1 (ap memories_by is)) n f)
 
@@ -299,23 +254,6 @@ numbers_range text before (token ∷ tokens) after once =
     ∙ ap (λ ns. length before ∷ numbers_of text ns tokens) moved
     ∙ ap (λ ns. length before ∷ ns) (numbers_range text (before ++ name ∷ []) tokens after (subst AreOnce moved once))
     ∙ ap (λ n. length before ∷ range_with_len n (length tokens)) (length_push before name)
-
-pub range_at : (a n k s : ℕ) → slice_get (range_with_len a n) k ≡ Some s → (s ≡ a + k) × (k < n)
-range_at a zero k s e = cc
-range_at a (suc n) zero s e = let same : a ≡ s = cc in (omega arith, omega arith)
-range_at a (suc n) (suc k) s e = let found = range_at (a + 1) n k s e in (omega (arith, found.0), omega (arith, found.1))
-
-pub range_length : (a n : ℕ) → length (range_with_len a n) ≡ n
-range_length a zero = refl
-range_length a (suc n) = ap suc (range_length (a + 1) n)
-
-pub inside_at : {X : Type 0} (xs ys zs : List X) (k : ℕ) (x : X) → slice_get ys k ≡ Some x → slice_get (xs ++ (ys ++ zs)) (length xs + k) ≡ Some x
-inside_at [] ys zs k x e = let n : 0 + k ≡ k = omega arith in rw n (front_at ys zs k x e) where
-  front_at : {X : Type 0} (ys zs : List X) (k : ℕ) (x : X) → slice_get ys k ≡ Some x → slice_get (ys ++ zs) k ≡ Some x
-  front_at [] zs k x e = cc
-  front_at (y ∷ ys) zs zero x e = e
-  front_at (y ∷ ys) zs (suc k) x e = front_at ys zs k x e
-inside_at (w ∷ xs) ys zs k x e = let n : suc (length xs) + k ≡ suc (length xs + k) = omega arith in rw n (inside_at xs ys zs k x e)
 
 pub made_at : (f : (ℕ × Token) → Signal) (n : ℕ) (tokens : List Token) (k : ℕ) (token : Token) → slice_get tokens k ≡ Some token → slice_get (map f (enumerate_from n tokens)) k ≡ Some (f (n + k, token))
 made_at f n [] k token e = cc
@@ -334,18 +272,8 @@ signal_by_at text one uses memory tokens k token e =
     made_at (λ p. record { name = text_of text p.1; driver = driver_by one uses memory p.0 }) 0 tokens k token e
     ∙ ap (λ m. Some (record { name = text_of text token; driver = driver_by one uses memory m })) zero_more
 
-pub first_of_range : (a n : ℕ) (xs : List ℕ) → xs ≡ range_with_len a n → 1 ≤ n → a ≡ get_or xs 0 0
-first_of_range a zero xs e some = absurd (omega arith)
-first_of_range a (suc n) xs e some = sym (ap (λ ys. get_or ys 0 0) e)
-
 pub no_token : Token
 no_token = record { mark = Name; from = 0; upto = 0; line = 0 }
-
-pub all_take : {X : Type 0} (P : X → Type 0) (n : ℕ) (xs : List X) → All P xs → All P (take n xs)
-all_take P n xs a = all_front P (take n xs) (drop n xs) (subst (All P) (sym (take-append-drop n xs)) a)
-
-pub all_drop : {X : Type 0} (P : X → Type 0) (n : ℕ) (xs : List X) → All P xs → All P (drop n xs)
-all_drop P n xs a = all_back P (take n xs) (drop n xs) (subst (All P) (sym (take-append-drop n xs)) a)
 
 pub others-append : (text : List ℕ) (names : List (List ℕ)) (memories : ℕ) (xs ys : List Statement) → other_signals text names memories (xs ++ ys) ≡ other_signals text names memories xs ++ other_signals text names (memories + length (blocks_of text names xs)) ys
 unfolding other_signals
@@ -369,7 +297,7 @@ named_by text act.Input driven a = (a, All-nil (IsNameToken text))
 named_by text act.Output driven a = (All-nil (IsNameToken text), a)
 named_by text (act.Gate kind) driven a = (All-nil (IsNameToken text), a)
 named_by text act.Dff driven a = (All-nil (IsNameToken text), a)
-named_by text (act.Memory address) driven a = (All-nil (IsNameToken text), a)
+named_by text (act.Ram address) driven a = (All-nil (IsNameToken text), a)
 
 pub named_orders : (text : List ℕ) (statements : List Statement) → All (IsStatement text) statements → All (IsNameToken text) (inputs_of statements) × All (IsNameToken text) (others_of statements)
 unfolding inputs_of others_of
@@ -377,8 +305,8 @@ named_orders text [] a = (All-nil (IsNameToken text), All-nil (IsNameToken text)
 named_orders text (statement ∷ statements) a =
     let here = named_by text statement.act statement.driven (All-head (IsStatement text) statement statements a).named in
     let rest = named_orders text statements (All-tail (IsStatement text) statement statements a) in (
-      all_append (IsNameToken text) (inputs_by statement.act statement.driven) (inputs_of statements) here.0 rest.0,
-      all_append (IsNameToken text) (others_by statement.act statement.driven) (others_of statements) here.1 rest.1,
+      All-append (IsNameToken text) (inputs_by statement.act statement.driven) (inputs_of statements) here.0 rest.0,
+      All-append (IsNameToken text) (others_by statement.act statement.driven) (others_of statements) here.1 rest.1,
     )
 
 -- ---- order
@@ -409,7 +337,7 @@ earlier_line text names (w ∷ front) one back (x ∷ front2) other back2 e fewe
 pub all_flat : {X : Type 0} (Q : X → Type 0) (f : Statement → List X) (statements : List Statement) → ((front : List Statement) (statement : Statement) (back : List Statement) → statements ≡ front ++ statement ∷ back → All Q (f statement)) → All Q (flat_map f statements)
 all_flat Q f [] holds = All-nil Q
 all_flat Q f (statement ∷ statements) holds =
-    all_append Q (f statement) (flat_map f statements) (holds [] statement statements refl)
+    All-append Q (f statement) (flat_map f statements) (holds [] statement statements refl)
     (all_flat Q f statements (λ front other back split. holds (statement ∷ front) other back (ap (λ ss. statement ∷ ss) split)))
 
 pub printed_one : (one : Act) (driven uses : List Token) (numbers : List ℕ) → length numbers ≡ length uses → IsShaped one driven uses → length (printed_by one numbers) ≤ 1
@@ -417,7 +345,7 @@ printed_one act.Input driven uses numbers e shaped = omega arith
 printed_one act.Output driven uses numbers e shaped = omega (arith, e, shaped.1)
 printed_one (act.Gate kind) driven uses numbers e shaped = omega arith
 printed_one act.Dff driven uses numbers e shaped = omega arith
-printed_one (act.Memory address) driven uses numbers e shaped = omega arith
+printed_one (act.Ram address) driven uses numbers e shaped = omega arith
 
 pub few_printed_of : (text : List ℕ) (names : List (List ℕ)) (statements : List Statement) → All (IsStatement text) statements → length (printed_of text names statements) ≤ length statements
 unfolding printed_of
@@ -431,10 +359,6 @@ few_printed_of text names (statement ∷ statements) a =
     )
 
 -- ---- operands
-
-pub sum_none : {X : Type 0} (f : X → ℕ) (xs : List X) → All (λ x. f x ≡ 0) xs → sum_by f xs ≡ 0
-sum_none f [] a = refl
-sum_none f (x ∷ xs) a = omega (arith, sum_by-cons f x xs, All-head (λ x. f x ≡ 0) x xs a, sum_none f xs (All-tail (λ x. f x ≡ 0) x xs a))
 
 abbrev pub signal_operands : Signal → ℕ
 signal_operands signal = driver_operands signal.driver
@@ -451,8 +375,8 @@ one_register text numbers memory [] few = omega arith
 one_register text numbers memory (t ∷ []) few = omega arith
 one_register text numbers memory (t ∷ u ∷ driven) few = absurd (omega arith)
 
-pub no_operands : (text : List ℕ) (address : ℕ) (numbers : List ℕ) (memory : ℕ) (driven : List Token) → sum_by signal_operands (signals_by text (act.Memory address) numbers memory driven) ≡ 0
-no_operands text address numbers memory driven = sum_none signal_operands (signals_by text (act.Memory address) numbers memory driven) (each_by (λ signal. signal_operands signal ≡ 0) text (act.Memory address) numbers memory driven (λ k token e. refl))
+pub no_operands : (text : List ℕ) (address : ℕ) (numbers : List ℕ) (memory : ℕ) (driven : List Token) → sum_by signal_operands (signals_by text (act.Ram address) numbers memory driven) ≡ 0
+no_operands text address numbers memory driven = sum_none signal_operands (signals_by text (act.Ram address) numbers memory driven) (each_by (λ signal. signal_operands signal ≡ 0) text (act.Ram address) numbers memory driven (λ k token e. refl))
 
 pub line_operands : (text : List ℕ) (one : Act) (driven uses : List Token) (numbers outs : List ℕ) (memory : ℕ) → length numbers ≡ length uses → IsShaped one driven uses → allows one (length driven) (length uses) ≡ true → sum_by signal_operands (signals_by text one numbers memory (others_by one driven)) + sum_by memory_operand_count (blocks_by one numbers outs) ≤ operands_by one uses
 line_operands text act.Input driven uses numbers outs memory e shaped allowed = omega (arith, ap (sum_by signal_operands) (no_signals text act.Input numbers memory))
@@ -460,7 +384,7 @@ line_operands text act.Output driven uses numbers outs memory e shaped allowed =
     omega (arith, ap (λ ts. sum_by signal_operands (signals_by text act.Output numbers memory ts)) shaped.0, ap (sum_by signal_operands) (no_signals text act.Output numbers memory))
 line_operands text (act.Gate kind) driven uses numbers outs memory e shaped allowed = omega (arith, one_gate text kind numbers memory driven shaped, e)
 line_operands text act.Dff driven uses numbers outs memory e shaped allowed = omega (arith, one_register text numbers memory driven shaped, eqb-true (length uses) 1 allowed)
-line_operands text (act.Memory address) driven uses numbers outs memory e shaped allowed =
+line_operands text (act.Ram address) driven uses numbers outs memory e shaped allowed =
     let bits = memory_bits address (length uses - (1 + address)) (length driven) allowed in
     omega (
       arith,

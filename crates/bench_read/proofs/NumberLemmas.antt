@@ -1,11 +1,14 @@
 -- The numbers of names, and names in signal order.
-use Rattle.std.proofs.Common.{◌≡◌, ℕ, suc, ◌+◌, ◌<◌, ◌≤◌, Bool, true, false, not, ◌||◌, cond, List, [], ◌∷◌, ◌++◌, append_assoc, append-nil, length, take, drop, get_or, Option, Some, None, sym, ap, ◌∙◌, subst, refl, ⊎_elim, arith, bytes_eq, ◌⊎◌}
+use Rattle.std.proofs.Common.{◌≡◌, ℕ, ◌+◌, ◌<◌, ◌≤◌, Bool, true, false, not, cond, List, [], ◌∷◌, ◌++◌, append_assoc, length, take, drop, get_or, Option, Some, None, sym, ap, ◌∙◌, subst, refl, ⊎_elim, inl, inr, arith, bytes_eq}
+use Rattle.std.specs.Prelude.{unwrap_or}
 use Rattle.std.specs.List.{count_by, list_any, flat_map, position, position_or_len}
 use Rattle.std.specs.Option.{option_map}
-use Rattle.std.proofs.lemmas.Bool.{cond-true, cond-false, lt-ltb, le-ltb}
-use Rattle.std.proofs.lemmas.List.{take_more, take_all, drop_more, map-append, map_push, take-append-drop}
-use Rattle.std.proofs.lemmas.List.Concat.{flat_map-append}
+use Rattle.std.proofs.lemmas.Bool.{cond-true, cond-false, cases_lt, lt-ltb, le-ltb}
+use Rattle.std.proofs.lemmas.List.{take_more, take_all, map-append, map_push}
 use Rattle.std.proofs.lemmas.List.Sums.{sum_by-append, prefix_len-le-length}
+use Rattle.list_laws.proofs.Tests.{find_none, find_first, any_within, none_past}
+use Rattle.list_laws.proofs.Places.{split_at}
+use Rattle.list_laws.proofs.Maps.{flat_map_at, flat_map_grown}
 use Rattle.bench_text.specs.declared.token.Token.{Token}
 use Rattle.bench_read.specs.declared.refusal.BenchNo.{BenchNo}
 use Rattle.bench_read.specs.declared.refusal.BenchNo.TheVariants.{Undriven}
@@ -16,23 +19,9 @@ use Rattle.bench_read.specs.Grammar.{text_of}
 use Rattle.bench_read.specs.Faults.{texts_of, is_among, is_undriven, use_fault, drivers_of}
 use Rattle.bench_read.specs.Netlists.{inputs_by, others_by, inputs_of, others_of, names_of, place_of, numbers_of}
 use Rattle.bench_read.specs.Reads.{AreOnce}
-use Rattle.bench_read.proofs.NameLemmas.{new_from_once, find_first, find_none}
+use Rattle.bench_read.proofs.NameLemmas.{new_from_once}
 
 -- ---- places
-
-pub any_within : {X : Type 0} (p : X → Bool) (xs : List X) → position_or_len p xs < length xs → list_any p xs ≡ true
-any_within p [] h = absurd (omega arith)
-any_within p (x ∷ xs) h = by_test (p x) (any_within p xs) h where
-  by_test : (b : Bool) → (position_or_len p xs < length xs → list_any p xs ≡ true) → cond (not b) (1 + position_or_len p xs) 0 < suc (length xs) → (b || list_any p xs) ≡ true
-  by_test true rest h = refl
-  by_test false rest h = rest (omega arith)
-
-pub none_past : {X : Type 0} (p : X → Bool) (xs : List X) → length xs ≤ position_or_len p xs → list_any p xs ≡ false
-none_past p [] h = refl
-none_past p (x ∷ xs) h = by_test (p x) (none_past p xs) h where
-  by_test : (b : Bool) → (length xs ≤ position_or_len p xs → list_any p xs ≡ false) → suc (length xs) ≤ cond (not b) (1 + position_or_len p xs) 0 → (b || list_any p xs) ≡ false
-  by_test true rest h = absurd (omega arith)
-  by_test false rest h = rest (omega arith)
 
 -- what a look-up tells
 pub record IsFound {X : Type 0} (p : X → Bool) (xs : List X) (i : ℕ) : Type 0 where
@@ -51,11 +40,8 @@ found p xs i e =
     let is : i ≡ position_or_len p xs = cc (e ∙ cond-true {A = Option ℕ} _ (Some (position_or_len p xs)) None (lt-ltb _ _ below)) in
     record { place = is; within = omega arith; some = any_within p xs below })
     (λ past. absurd (not_some i (e ∙ cond-false {A = Option ℕ} _ (Some (position_or_len p xs)) None (le-ltb _ _ past))))
-    (below_or_past (position_or_len p xs) (length xs))
+    (cases_lt (position_or_len p xs) (length xs))
   where
-    below_or_past : (a b : ℕ) → (a < b) ⊎ (b ≤ a)
-    below_or_past a b = grind arith
-
     not_some : (i : ℕ) → Some i ≡ None → ⊥
     not_some i e = cc
 
@@ -64,13 +50,18 @@ lost {X} p xs e =
     ⊎_elim
     (λ below. absurd (not_none _ (e ∙ cond-true {A = Option ℕ} _ (Some (position_or_len p xs)) None (lt-ltb _ _ below))))
     (λ past. record { place = omega (arith, prefix_len-le-length (λ (x : X). not (p x)) xs); none = none_past p xs past })
-    (below_or_past (position_or_len p xs) (length xs))
+    (cases_lt (position_or_len p xs) (length xs))
   where
-    below_or_past : (a b : ℕ) → (a < b) ⊎ (b ≤ a)
-    below_or_past a b = grind arith
-
     not_none : (i : ℕ) → None ≡ Some i → ⊥
     not_none i e = cc
+
+-- the place of the first that passes, and the length where none does
+pub place_or_len : {X : Type 0} (p : X → Bool) (xs : List X) → unwrap_or (position p xs) (length xs) ≡ position_or_len p xs
+place_or_len {X} p xs =
+    elim (cases_lt (position_or_len p xs) (length xs)) [
+      | inl below ↦ ap (λ o. unwrap_or o (length xs)) (cond-true {A = Option ℕ} _ (Some (position_or_len p xs)) None (lt-ltb _ _ below))
+      | inr past ↦ ap (λ o. unwrap_or o (length xs)) (cond-false {A = Option ℕ} _ (Some (position_or_len p xs)) None (le-ltb _ _ past)) ∙ omega (arith, prefix_len-le-length (λ (x : X). not (p x)) xs)
+    ]
 
 -- ---- resolving
 
@@ -94,26 +85,6 @@ numbers_more text names tokens i d number within is =
     ∙ ap (numbers_of text names) (sym (take_more tokens i d within))
 
 -- ---- names in order
-
--- a list is what stands before a place, what stands at it, and what stands after it
-pub split_at : {X : Type 0} (xs : List X) (i : ℕ) (d : X) → i < length xs → xs ≡ take i xs ++ get_or xs i d ∷ drop (i + 1) xs
-split_at xs i d within = sym (take-append-drop i xs) ∙ ap (λ rest. take i xs ++ rest) (drop_more xs i d within)
-
-pub flat_map_split : {X A : Type 0} (f : X → List A) (xs : List X) (i : ℕ) (d : X) → i < length xs → flat_map f xs ≡ flat_map f (take i xs) ++ (f (get_or xs i d) ++ flat_map f (drop (i + 1) xs))
-flat_map_split f xs i d within = ap (flat_map f) (split_at xs i d within) ∙ flat_map-append f (take i xs) (get_or xs i d ∷ drop (i + 1) xs)
-
-pub flat_map_more : {X A : Type 0} (f : X → List A) (xs : List X) (i : ℕ) (d : X) → i < length xs → flat_map f (take (i + 1) xs) ≡ flat_map f (take i xs) ++ f (get_or xs i d)
-flat_map_more f xs i d within =
-    ap (flat_map f) (take_more xs i d within)
-    ∙ flat_map-append f (take i xs) (get_or xs i d ∷ [])
-    ∙ ap (λ rest. flat_map f (take i xs) ++ rest) (append-nil (f (get_or xs i d)))
-
--- the same, of an element that is known
-pub flat_map_at : {X A : Type 0} (f : X → List A) (xs : List X) (i : ℕ) (here : X) → here ≡ get_or xs i here → i < length xs → flat_map f xs ≡ flat_map f (take i xs) ++ (f here ++ flat_map f (drop (i + 1) xs))
-flat_map_at f xs i here is within = flat_map_split f xs i here within ∙ ap (λ x. flat_map f (take i xs) ++ (f x ++ flat_map f (drop (i + 1) xs))) (sym is)
-
-pub flat_map_grown : {X A : Type 0} (f : X → List A) (xs : List X) (i : ℕ) (here : X) → here ≡ get_or xs i here → i < length xs → flat_map f (take (i + 1) xs) ≡ flat_map f (take i xs) ++ f here
-flat_map_grown f xs i here is within = flat_map_more f xs i here within ∙ ap (λ x. flat_map f (take i xs) ++ f x) (sym is)
 
 pub front_once : (names others : List (List ℕ)) → AreOnce (names ++ others) → AreOnce names
 front_once names others once name = omega (arith, once name, sum_by-append (λ n. cond (bytes_eq name n) 1 0) names others)
@@ -147,7 +118,7 @@ count_parts name text act.Input driven = omega arith
 count_parts name text act.Output driven = omega arith
 count_parts name text (act.Gate kind) driven = omega arith
 count_parts name text act.Dff driven = omega arith
-count_parts name text (act.Memory address) driven = omega arith
+count_parts name text (act.Ram address) driven = omega arith
 
 count_texts : (name text : List ℕ) (xs ys : List Token) → count_by (bytes_eq name) (texts_of text (xs ++ ys)) ≡ count_by (bytes_eq name) (texts_of text xs) + count_by (bytes_eq name) (texts_of text ys)
 count_texts name text xs ys =

@@ -3,6 +3,7 @@ use Rattle.std.proofs.Common.{◌≡◌, ℕ, Bool, true, false, cond, List, [],
 use Rattle.std.specs.Prelude.{IfErr}
 use Rattle.std.specs.List.{find}
 use Rattle.std.specs.Option.{option_map, option_or}
+use Rattle.limits.specs.declared.TheConstants.{MAX_OPERANDS, MAX_SIGNALS}
 use Rattle.text_lines.specs.Answers.{first, Answers}
 use Rattle.text_lines.proofs.AnswerLemmas.{place_of_first}
 use Rattle.bench_text.specs.declared.token.Token.{Token}
@@ -44,7 +45,7 @@ repeat_plain text drivers (Some token) e = by_driver (find (is_same text token) 
   by_driver (Some driver) f = cc
 
 limit_plain : (line signals operands : ℕ) → IsPlain (limit_fault line signals operands)
-limit_plain line signals operands e = by_tests (ltb 1048576 signals) (ltb 4194304 operands) e where
+limit_plain line signals operands e = by_tests (ltb MAX_SIGNALS signals) (ltb MAX_OPERANDS operands) e where
   by_tests : (a b : Bool) → cond a (Some (TooMany line Signals)) (cond b (Some (TooMany line Operands)) None) ≡ Some (Text text_no.Memory) → ⊥
   by_tests true b f = cc
   by_tests false true f = cc

@@ -1,5 +1,5 @@
 -- What a text reads as.
-use Rattle.std.proofs.Common.{◌≡◌, ℕ, zero, suc, ◌+◌, ◌<◌, ◌≤◌, Bool, true, false, not, cond, List, [], ◌∷◌, ◌++◌, append_assoc, length, take, drop, get_or, slice_get, Option, Some, None, Result, Ok, Err, sym, ap, ◌∙◌, subst, refl, inl, inr, ⊎_elim, arith, ◌⊎◌, length-append}
+use Rattle.std.proofs.Common.{◌≡◌, ℕ, zero, suc, ◌+◌, ◌<◌, ◌≤◌, Bool, true, false, not, cond, List, [], ◌∷◌, ◌++◌, append_assoc, length, take, drop, get_or, slice_get, Option, Some, None, Result, Ok, Err, sym, ap, ◌∙◌, subst, refl, inl, inr, ⊎_elim, arith, length-append}
 use Rattle.std.specs.Prelude.{IsOk, MatchResult}
 use Rattle.std.specs.List.{find, list_any, filter_map, cons_option}
 use Rattle.std.specs.Option.{option_map, option_or, option_to_list}
@@ -10,12 +10,14 @@ use Rattle.std.proofs.lemmas.List.Elements.{All-nil, All-cons, All-head, All-tai
 use Rattle.std.proofs.lemmas.List.Concat.{flat_map-append}
 use Rattle.std.proofs.lemmas.List.Sums.{sum_by-append}
 use Rattle.std.proofs.lemmas.Option.{slice_get-get_or}
+use Rattle.limits.specs.declared.TheConstants.{MAX_OPERANDS, MAX_SIGNALS}
+use Rattle.list_laws.proofs.Tests.{find_none, any_not_none}
+use Rattle.list_laws.proofs.Places.{split_at}
+use Rattle.list_laws.proofs.Options.{option_length, cons_length}
 use Rattle.text_lines.specs.Answers.{Answers}
 use Rattle.text_lines.proofs.AnswerLemmas.{first_none}
 use Rattle.bench_text.specs.declared.token.Mark.TheVariants.{Name}
 use Rattle.bench_text.specs.declared.token.Token.{Token}
-use Rattle.bench_text.specs.declared.token.TextNo.{TextNo}
-use Rattle.bench_text.specs.declared.token.TextNo.TheVariants as text_no
 use Rattle.bench_text.specs.Tokens.{token_at, tokens_before, tokens_of, first_fault as byte_fault}
 use Rattle.net_defs.specs.declared.netlist.Netlist.{Netlist}
 use Rattle.bench_read.specs.declared.refusal.BenchNo.{BenchNo}
@@ -25,16 +27,11 @@ use Rattle.bench_read.specs.Grammar.{rows_of, join_row, row_line, text_of, said 
 use Rattle.bench_read.specs.Faults.{statements_of, drivers_of, uses_of, operands_of, operand_count, texts_of, is_among, is_undriven, option_repeat_fault, twice_fault, limit_fault, many_fault, statement_fault, said_fault, row_fault, rows_fault, use_fault, uses_fault, of_text, lines_fault, first_fault}
 use Rattle.bench_read.specs.Netlists.{netlist_of}
 use Rattle.bench_read.specs.Reads.{AreOnce, AreAmong, AreSound, IsRead, Reads}
-use Rattle.bench_read.proofs.NameLemmas.{any_not_none, find_none, new_from_once}
-use Rattle.bench_read.proofs.NumberLemmas.{split_at}
+use Rattle.bench_read.proofs.NameLemmas.{new_from_once}
 use Rattle.bench_read.proofs.DriveLemmas.{no_repeat}
 use Rattle.bench_read.proofs.DesignLemmas.{drivers_push}
 
 -- ---- lengths
-
-option_length : {X : Type 0} (o : Option X) → length (option_to_list o) ≤ 1
-option_length None = omega arith
-option_length (Some x) = omega arith
 
 tokens_length : (text : List ℕ) (i : ℕ) → length (tokens_before text i) ≤ i
 unfolding tokens_before
@@ -57,10 +54,6 @@ unfolding rows_of
 few_rows [] = omega arith
 few_rows (token ∷ tokens) = omega (arith, few_rows tokens, join_length token (rows_of tokens))
 
-cons_length : {X : Type 0} (o : Option X) (xs : List X) → length (cons_option o xs) ≤ suc (length xs)
-cons_length None xs = omega arith
-cons_length (Some x) xs = omega arith
-
 few_statements : (text : List ℕ) (rows : List (List Token)) → length (statements_of text rows) ≤ length rows
 unfolding statements_of
 few_statements text [] = omega arith
@@ -71,11 +64,6 @@ short_statements text statements read =
     omega (arith, ap length read.sound.said, few_statements text (rows_of (tokens_of text)), few_rows (tokens_of text), few_tokens text)
 
 -- ---- from what the code finds
-
--- a fault of the bytes as a refusal, or the memory's error
-pub text_refused : (text : List ℕ) (e : TextNo) → (e ≡ text_no.Memory) ⊎ (byte_fault text ≡ Some e) → (of_text e ≡ Memory) ⊎ (option_map of_text (byte_fault text) ≡ Some (of_text e))
-text_refused text e (inl memory) = inl (ap of_text memory)
-text_refused text e (inr fault) = inr (ap (option_map of_text) fault)
 
 pub bytes_refused : (text : List ℕ) (e : BenchNo) → option_map of_text (byte_fault text) ≡ Some e → lines_fault text ≡ Some e
 unfolding lines_fault
@@ -148,8 +136,8 @@ no_twice text before tokens rest once = first_none _ (length tokens) at where
       ap (option_repeat_fault text front) (slice_get-get_or tokens i d within)
       ∙ no_repeat text (texts_of text front) front here refl (new_from_once (texts_of text front) (text_of text here) (texts_of text after) names)
 
-no_limit : (line signals operands : ℕ) → signals ≤ 1048576 → operands ≤ 4194304 → limit_fault line signals operands ≡ None
-no_limit line signals operands a b = cond-false _ _ _ (le-ltb 1048576 signals a) ∙ cond-false _ _ _ (le-ltb 4194304 operands b)
+no_limit : (line signals operands : ℕ) → signals ≤ MAX_SIGNALS → operands ≤ MAX_OPERANDS → limit_fault line signals operands ≡ None
+no_limit line signals operands a b = cond-false _ _ _ (le-ltb MAX_SIGNALS signals a) ∙ cond-false _ _ _ (le-ltb MAX_OPERANDS operands b)
 
 drivers-append : (xs ys : List Statement) → drivers_of (xs ++ ys) ≡ drivers_of xs ++ drivers_of ys
 unfolding drivers_of
@@ -160,7 +148,7 @@ unfolding operand_count
 operands-append xs ys = sum_by-append operands_of xs ys
 
 -- a statement after others and before the rest has no fault, where all of them are sound
-no_statement_fault : (text : List ℕ) (line : ℕ) (earlier : List Statement) (here : Statement) (rest : List Statement) → AreOnce (texts_of text (drivers_of ((earlier ++ here ∷ []) ++ rest))) → length (drivers_of ((earlier ++ here ∷ []) ++ rest)) ≤ 1048576 → operand_count ((earlier ++ here ∷ []) ++ rest) ≤ 4194304 → statement_fault text line earlier here ≡ None
+no_statement_fault : (text : List ℕ) (line : ℕ) (earlier : List Statement) (here : Statement) (rest : List Statement) → AreOnce (texts_of text (drivers_of ((earlier ++ here ∷ []) ++ rest))) → length (drivers_of ((earlier ++ here ∷ []) ++ rest)) ≤ MAX_SIGNALS → operand_count ((earlier ++ here ∷ []) ++ rest) ≤ MAX_OPERANDS → statement_fault text line earlier here ≡ None
 unfolding statement_fault many_fault
 no_statement_fault text line earlier here rest once signals operands =
     let upto = earlier ++ here ∷ [] in
@@ -199,8 +187,8 @@ no_row_fault text rows statements sound i within =
     ap (said_fault text (row_line row) earlier) found.1
     ∙ no_statement_fault text (row_line row) earlier found.0 rest
     (subst (λ ss. AreOnce (texts_of text (drivers_of ss))) whole sound.once)
-    (subst (λ ss. length (drivers_of ss) ≤ 1048576) whole sound.few_signals)
-    (subst (λ ss. operand_count ss ≤ 4194304) whole sound.few_operands)
+    (subst (λ ss. length (drivers_of ss) ≤ MAX_SIGNALS) whole sound.few_signals)
+    (subst (λ ss. operand_count ss ≤ MAX_OPERANDS) whole sound.few_operands)
 
 no_rows_fault : (text : List ℕ) (rows : List (List Token)) (statements : List Statement) → AreSound text rows statements → rows_fault text rows ≡ None
 unfolding rows_fault

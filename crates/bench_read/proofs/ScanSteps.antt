@@ -5,6 +5,7 @@ use Rattle.std.specs.List.{list_all, prefix_len}
 use Rattle.std.proofs.lemmas.Bool.{cases_lt, cond-true, cond-false, and_parts, or_from}
 use Rattle.std.proofs.lemmas.List.{drop_more, drop_all, map-append}
 use Rattle.std.proofs.Math.Seq.{take-append_seam}
+use Rattle.limits.specs.declared.TheConstants.{MAX_NAME_BYTES}
 use Rattle.text_lines.specs.Bytes.{is_hash, is_line_feed, is_blank}
 use Rattle.text_lines.specs.Places.{stays_in_comment, is_comment, line_at, is_line_end}
 use Rattle.text_lines.specs.Answers.{first}
@@ -133,7 +134,7 @@ module _ (text : List ℕ) (line : ℕ) (named : Bool) (tags : List (ℕ × Seen
       (step None is.no_hash answer) (cond-false _ _ _ (ink byte is.visible).no_feed) name (append-nil tags)
 
   -- the first byte of a name of n bytes
-  begin_step : (name : List ℕ) → named ≡ false → is_name_byte byte ≡ true → name_length text at.place ≡ length name → take (length name) (byte ∷ rest) ≡ name → length name ≤ 255 → At text line true (tags ++ (line, record { mark = Name; bytes = name }) ∷ []) rest
+  begin_step : (name : List ℕ) → named ≡ false → is_name_byte byte ≡ true → name_length text at.place ≡ length name → take (length name) (byte ∷ rest) ≡ name → length name ≤ MAX_NAME_BYTES → At text line true (tags ++ (line, record { mark = Name; bytes = name }) ∷ []) rest
   begin_step name fresh is_named long all short =
       let is = named_byte byte is_named in
       let n = name_length text at.place in
@@ -180,7 +181,7 @@ prefix_is_name (byte ∷ name) rest named ends =
     cond-true _ _ _ both.0 ∙ more
 
 -- a name, before a byte that is of none
-pub name_step : (text : List ℕ) (line : ℕ) (tags : List (ℕ × Seen)) (name rest : List ℕ) → 1 ≤ length name → length name ≤ 255 → list_all is_name_byte name ≡ true → begins_named rest ≡ false → At text line false tags (name ++ rest) → At text line true (tags ++ (line, record { mark = Name; bytes = name }) ∷ []) rest
+pub name_step : (text : List ℕ) (line : ℕ) (tags : List (ℕ × Seen)) (name rest : List ℕ) → 1 ≤ length name → length name ≤ MAX_NAME_BYTES → list_all is_name_byte name ≡ true → begins_named rest ≡ false → At text line false tags (name ++ rest) → At text line true (tags ++ (line, record { mark = Name; bytes = name }) ∷ []) rest
 unfolding name_length
 name_step text line tags [] rest some short named ends at = absurd (omega arith)
 name_step text line tags (byte ∷ name) rest some short named ends at =

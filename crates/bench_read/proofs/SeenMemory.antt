@@ -1,11 +1,15 @@
 -- What a row says that is seen as the line of a memory.
-use Rattle.std.proofs.Common.{◌≡◌, ℕ, suc, ◌+◌, ◌-◌, ◌≤◌, Bool, true, false, ◌||◌, List, [], ◌∷◌, ◌++◌, append_assoc, length, map, take, drop, slice_get, Some, sym, ap, ◌∙◌, subst, refl, arith, length-append}
+use Rattle.std.proofs.Common.{◌≡◌, ℕ, suc, ◌+◌, ◌-◌, ◌≤◌, true, false, List, [], ◌∷◌, ◌++◌, append_assoc, length, map, take, drop, slice_get, Some, sym, ap, ◌∙◌, subst, refl, arith, length-append}
 use Rattle.std.specs.Prelude.{codes}
 use Rattle.std.specs.List.{slice_range, count_by, position_or_len}
 use Rattle.std.proofs.Math.Seq.{take-append_seam, drop-append-add}
-use Rattle.std.proofs.lemmas.Bool.{and_from, cond-true, cond-false, le-leb, eq-eqb}
+use Rattle.std.proofs.lemmas.Bool.{and_from, cond-true, cond-false, le-leb, eq-eqb, or_from, and_left, and_right}
 use Rattle.std.proofs.lemmas.List.{length-map, length_push, map-append}
 use Rattle.std.proofs.lemmas.List.Elements.{filter-append}
+use Rattle.limits.specs.declared.TheConstants.{MAX_ADDRESS_BITS, MAX_WORD_BITS}
+use Rattle.list_laws.proofs.Tests.{first_after}
+use Rattle.list_laws.proofs.Places.{seam_at, slice_past}
+use Rattle.list_laws.proofs.Maps.{nil_of}
 use Rattle.bench_text.specs.declared.token.Mark.{Mark}
 use Rattle.bench_text.specs.declared.token.Mark.TheVariants.{Open, Close, Equals, Semi, Left, Right, Name}
 use Rattle.bench_text.specs.declared.token.Token.{Token}
@@ -18,34 +22,23 @@ use Rattle.bench_read.specs.Words.{ram_act, allows, allows_memory}
 use Rattle.bench_read.specs.Grammar.{text_of, has_mark, has, option_has_mark, option_text_of, word_at, are_names, names_in, last_of, is_port_row, is_gate_row, right_of, second_semi_of, has_memory_head, has_memory_tail, form_of, driven_part, used_part, address_count, act_of}
 use Rattle.bench_read.specs.Faults.{texts_of}
 use Rattle.bench_read.proofs.SeenLines.{seen, word, open_sign, close_sign, equals_sign, semi_sign, left_sign, right_sign, seen_names, seen_memory}
-use Rattle.bench_read.proofs.SeenNames.{names_some, texts_are, no_mark, count_is, first_after}
-use Rattle.bench_read.proofs.CanonicalLines.{memory_line, Say, cons_of, nil_of, split_of}
-use Rattle.bench_read.proofs.SeenRows.{first_fails, second_fails, mark_of, bytes_of, row_says}
-use Rattle.bench_read.proofs.MadeLemmas.{seam_at}
-
--- what stands past the seam of two lists
-pub slice_past : {X : Type 0} (xs ys : List X) (k : ℕ) → slice_get (xs ++ ys) (length xs + k) ≡ slice_get ys k
-slice_past [] ys k = let n : 0 + k ≡ k = omega arith in rw n refl
-slice_past (x ∷ xs) ys k = let n : suc (length xs) + k ≡ suc (length xs + k) = omega arith in rw n (slice_past xs ys k)
-
--- neither of two tests
-neither : (a b : Bool) → a ≡ false → b ≡ false → (a || b) ≡ false
-neither true b e f = cc
-neither false b e f = f
+use Rattle.bench_read.proofs.SeenNames.{names_some, texts_are, no_mark, count_is}
+use Rattle.bench_read.proofs.CanonicalLines.{memory_line, Say, cons_of, split_of}
+use Rattle.bench_read.proofs.SeenRows.{mark_of, bytes_of, row_says}
 
 -- the numbers of names of a memory
 pub record AreBits (address words outs : ℕ) : Type 0 where
   pub some_address : 1 ≤ address
-  pub few_address : address ≤ 16
+  pub few_address : address ≤ MAX_ADDRESS_BITS
   pub some_words : 1 ≤ words
-  pub few_words : words ≤ 64
+  pub few_words : words ≤ MAX_WORD_BITS
   pub same : words ≡ outs
 
 -- such numbers are allowed
 allowed_bits : (address words outs : ℕ) → AreBits address words outs → allows_memory address words outs ≡ true
 allowed_bits address words outs bits =
     and_from _ _
-    (and_from _ _ (and_from _ _ (and_from _ _ (le-leb 1 address bits.some_address) (le-leb address 16 bits.few_address)) (le-leb 1 words bits.some_words)) (le-leb words 64 bits.few_words))
+    (and_from _ _ (and_from _ _ (and_from _ _ (le-leb 1 address bits.some_address) (le-leb address MAX_ADDRESS_BITS bits.few_address)) (le-leb 1 words bits.some_words)) (le-leb words MAX_WORD_BITS bits.few_words))
     (eq-eqb words outs bits.same)
 
 module _ (text : List ℕ) (net : Netlist) (memory : Block) (l r q w o e s t z : Token) (os ad ws : List Token)
@@ -71,7 +64,7 @@ module _ (text : List ℕ) (net : Netlist) (memory : Block) (l r q w o e s t z :
   right : right_of row ≡ suc (length os)
   unfolding right_of
   right =
-      first_after (has_mark Right) (l ∷ os) r (q ∷ w ∷ o ∷ e ∷ s ∷ rest) (neither _ _ (mark_of text l left_sign Right el) (no_mark text net memory.outs os eos Right refl refl)) (mark_of text r right_sign Right er)
+      first_after (has_mark Right) (l ∷ os) r (q ∷ w ∷ o ∷ e ∷ s ∷ rest) (or_from _ _ (mark_of text l left_sign Right el) (no_mark text net memory.outs os eos Right refl refl)) (mark_of text r right_sign Right er)
 
   -- the token so many places after the `]`
   at : (k : ℕ) → slice_get row (right_of row + k) ≡ slice_get past k
@@ -136,12 +129,12 @@ module _ (text : List ℕ) (net : Netlist) (memory : Block) (l r q w o e s t z :
   -- it has not the form of an input or an output
   no_port : is_port_row row ≡ false
   unfolding is_port_row
-  no_port = first_fails _ _ (first_fails _ _ (first_fails _ _ (second_fails _ _ (mark_of text l left_sign Name el))))
+  no_port = and_left _ _ (and_left _ _ (and_left _ _ (and_right _ _ (mark_of text l left_sign Name el))))
 
   -- it has not the form of a gate
   no_gate : is_gate_row row ≡ false
   unfolding is_gate_row
-  no_gate = first_fails _ _ (first_fails _ _ (first_fails _ _ (first_fails _ _ (first_fails _ _ (mark_of text l left_sign Name el)))))
+  no_gate = and_left _ _ (and_left _ _ (and_left _ _ (and_left _ _ (and_left _ _ (mark_of text l left_sign Name el)))))
 
   -- the `]` stands there
   has_right : has row (right_of row) Right ≡ true
@@ -189,7 +182,7 @@ module _ (text : List ℕ) (net : Netlist) (memory : Block) (l r q w o e s t z :
       close_at
 
   -- so the row has the form of a memory
-  formed : form_of text row ≡ Some form.Memory
+  formed : form_of text row ≡ Some form.Ram
   unfolding form_of
   formed = cond-false _ _ _ no_port ∙ cond-false _ _ _ no_gate ∙ cond-true _ _ _ (and_from _ _ head tail)
 
@@ -205,9 +198,9 @@ module _ (text : List ℕ) (net : Netlist) (memory : Block) (l r q w o e s t z :
   word_is = ap (option_text_of text) (at 2) ∙ bytes_of text w (word (codes "RAM")) ew
 
   -- its word is known
-  acts : ram_act (word_at text row (right_of row + 2)) (address_count row) ≡ Some (act.Memory (length memory.address))
+  acts : ram_act (word_at text row (right_of row + 2)) (address_count row) ≡ Some (act.Ram (length memory.address))
   unfolding ram_act
-  acts = ap (λ n. ram_act n (address_count row)) word_is ∙ ap (λ n. Some (act.Memory n)) counted
+  acts = ap (λ n. ram_act n (address_count row)) word_is ∙ ap (λ n. Some (act.Ram n)) counted
 
   -- a name before tokens is one more name
   one_in : (token : Token) (more : List Token) → has_mark Name token ≡ true → names_in (token ∷ more) ≡ token ∷ names_in more
@@ -245,7 +238,7 @@ module _ (text : List ℕ) (net : Netlist) (memory : Block) (l r q w o e s t z :
       ∙ sym (map-append (name_of net) memory.address memory.word))
 
   -- so many names are allowed
-  allowed : allows (act.Memory (length memory.address)) (length (map (name_of net) memory.outs)) (length (map (name_of net) (memory.we ∷ (memory.address ++ memory.word)))) ≡ true
+  allowed : allows (act.Ram (length memory.address)) (length (map (name_of net) memory.outs)) (length (map (name_of net) (memory.we ∷ (memory.address ++ memory.word)))) ≡ true
   allowed =
       let outs : length (map (name_of net) memory.outs) ≡ length memory.outs = length-map memory.outs (name_of net) in
       let words : length (map (name_of net) (memory.we ∷ (memory.address ++ memory.word))) - (1 + length memory.address) ≡ length memory.word =
@@ -258,7 +251,7 @@ module _ (text : List ℕ) (net : Netlist) (memory : Block) (l r q w o e s t z :
   memory_tokens : Say text (row ∷ []) (memory_line net memory ∷ [])
   unfolding act_of driven_part used_part
   memory_tokens =
-      row_says text row form.Memory (act.Memory (length memory.address)) (map (name_of net) memory.outs) (map (name_of net) (memory.we ∷ (memory.address ++ memory.word)))
+      row_says text row form.Ram (act.Ram (length memory.address)) (map (name_of net) memory.outs) (map (name_of net) (memory.we ∷ (memory.address ++ memory.word)))
       formed acts
       (ap (λ ts. texts_of text (names_in ts)) outs_part ∙ texts_are text net memory.outs os eos)
       (ap (λ ts. texts_of text (names_in ts)) used ∙ texts_inside)

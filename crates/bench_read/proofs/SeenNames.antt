@@ -1,9 +1,10 @@
 -- Tokens that are seen as names with commas between them.
-use Rattle.std.proofs.Common.{◌≡◌, ℕ, suc, ◌+◌, ◌%◌, Bool, true, false, not, ◌||◌, ◌&&◌, cond, eqb, List, [], ◌∷◌, ◌++◌, length, map, ◌≤◌, sym, ap, ◌∙◌, refl, arith}
-use Rattle.std.specs.List.{filter, flat_map, list_all, list_any, enumerate_from, position_or_len, count_by}
-use Rattle.std.proofs.lemmas.Bool.{and_from, or_parts, cond-true, cond-false}
+use Rattle.std.proofs.Common.{◌≡◌, ℕ, suc, ◌+◌, ◌%◌, Bool, true, false, ◌&&◌, cond, eqb, List, [], ◌∷◌, length, map, ◌≤◌, sym, ap, ◌∙◌, refl, arith}
+use Rattle.std.specs.List.{filter, flat_map, list_all, list_any, enumerate_from, count_by}
+use Rattle.std.proofs.lemmas.Bool.{and_from, or_from}
 use Rattle.std.proofs.lemmas.List.{length-map}
 use Rattle.std.proofs.lemmas.List.Sums.{length-filter}
+use Rattle.list_laws.proofs.Tests.{list_any-map}
 use Rattle.bench_text.specs.declared.token.Mark.{Mark}
 use Rattle.bench_text.specs.declared.token.Mark.TheVariants.{Comma, Name}
 use Rattle.bench_text.specs.declared.token.Token.{Token}
@@ -12,7 +13,6 @@ use Rattle.net_defs.specs.Canonical.{name_of}
 use Rattle.bench_read.specs.Grammar.{text_of, same_mark, has_mark, place_mark, is_placed, are_names, names_in}
 use Rattle.bench_read.specs.Faults.{texts_of}
 use Rattle.bench_read.proofs.SeenLines.{Seen, seen, word, comma_sign, seen_names}
-use Rattle.bench_read.proofs.ListLemmas.{list_any-map}
 
 -- a seen token with this mark
 abbrev pub marked : Mark → Seen → Bool
@@ -24,20 +24,15 @@ more_names net signals = flat_map (λ t. comma_sign ∷ word (name_of net t) ∷
 
 -- ---- marks
 
--- neither of two tests
-or_none : (a b : Bool) → a ≡ false → b ≡ false → (a || b) ≡ false
-or_none true b e f = cc
-or_none false b e f = f
-
 -- names and commas have no other mark
 none_more : (mark : Mark) (net : Netlist) (ops : List ℕ) → same_mark Name mark ≡ false → same_mark Comma mark ≡ false → list_any (marked mark) (more_names net ops) ≡ false
 none_more mark net [] a b = refl
-none_more mark net (t ∷ ops) a b = or_none _ _ b (or_none _ _ a (none_more mark net ops a b))
+none_more mark net (t ∷ ops) a b = or_from _ _ b (or_from _ _ a (none_more mark net ops a b))
 
 -- the same, with the first name
 none_seen : (mark : Mark) (net : Netlist) (ops : List ℕ) → same_mark Name mark ≡ false → same_mark Comma mark ≡ false → list_any (marked mark) (seen_names net ops) ≡ false
 none_seen mark net [] a b = refl
-none_seen mark net (s ∷ ops) a b = or_none _ _ a (none_more mark net ops a b)
+none_seen mark net (s ∷ ops) a b = or_from _ _ a (none_more mark net ops a b)
 
 -- a comma may stand at an odd place
 comma_at : (n : ℕ) → n % 2 ≡ 1 → same_mark Comma (place_mark n) ≡ true
@@ -132,13 +127,3 @@ names_are text net s ops tokens are =
 pub names_some : (text : List ℕ) (net : Netlist) (ops : List ℕ) (tokens : List Token) → 1 ≤ length ops → map (seen text) tokens ≡ seen_names net ops → are_names tokens ≡ true
 names_some text net [] tokens some are = absurd (omega arith)
 names_some text net (s ∷ ops) tokens some are = names_are text net s ops tokens are
-
--- the first that passes comes after those that don't
-pub first_after : {X : Type 0} (p : X → Bool) (xs : List X) (x : X) (ys : List X) → list_any p xs ≡ false → p x ≡ true → position_or_len p (xs ++ x ∷ ys) ≡ length xs
-first_after p [] x ys none here = cond-false {A = ℕ} (not (p x)) _ _ (ap not here)
-first_after p (w ∷ xs) x ys none here =
-    let both = or_parts (p w) (list_any p xs) none in
-    cond-true {A = ℕ} (not (p w)) _ _ (ap not both.0) ∙ more (first_after p xs x ys both.1 here)
-  where
-    more : position_or_len p (xs ++ x ∷ ys) ≡ length xs → 1 + position_or_len p (xs ++ x ∷ ys) ≡ suc (length xs)
-    more e = omega arith

@@ -1,11 +1,14 @@
 -- Rows that are seen as the canonical text of a valid netlist say its lines.
-use Rattle.std.proofs.Common.{◌≡◌, ℕ, zero, suc, ◌≤◌, Bool, true, false, ◌==◌, cond, List, [], ◌∷◌, ◌++◌, length, map, slice_get, Option, Some, None, sym, ap, ◌∙◌, subst, refl, arith}
+use Rattle.std.proofs.Common.{◌≡◌, ℕ, zero, suc, Bool, true, false, ◌==◌, cond, List, [], ◌∷◌, ◌++◌, length, map, slice_get, Option, Some, None, sym, ap, ◌∙◌, subst, refl, arith}
 use Rattle.std.specs.Prelude.{codes}
 use Rattle.std.specs.List.{flat_map}
-use Rattle.std.proofs.lemmas.Bool.{and_from, le-leb, eq-eqb}
+use Rattle.std.proofs.lemmas.List.FromFn.{length-range_with_len}
+use Rattle.list_laws.proofs.Members.{each}
+use Rattle.list_laws.proofs.Maps.{nil_of}
 use Rattle.logic_four.specs.declared.Kind.{Kind}
 use Rattle.logic_four.specs.declared.Kind.TheVariants.{And, Nand, Or, Nor, Xor, Xnor, Not, Buf, Tri, Bus}
-use Rattle.logic_four.specs.Gates.{AllowsOperands}
+use Rattle.logic_four.specs.Kinds.{kind_of}
+use Rattle.logic_four.proofs.KindLemmas.{some_operands}
 use Rattle.bench_text.specs.declared.token.Token.{Token}
 use Rattle.net_defs.specs.declared.netlist.Netlist.{Netlist}
 use Rattle.net_defs.specs.declared.netlist.Signal.{Signal}
@@ -15,13 +18,12 @@ use Rattle.net_defs.specs.declared.netlist.Driver.TheVariants.{Input, Gate, Dff,
 use Rattle.net_defs.specs.Canonical.{name_of, kind_word}
 use Rattle.net_defs.specs.Valid.{IsDrivable, IsMemory, IsValid}
 use Rattle.bench_read.specs.declared.statement.Act.TheVariants as act
-use Rattle.bench_read.specs.Words.{kind_of, gate_act, allows_operands, is_any_number}
+use Rattle.bench_read.specs.Words.{gate_act}
 use Rattle.bench_read.proofs.SeenLines.{Seen, seen, seen_port, seen_gate, seen_memory, input_lines, memory_lines, driver_lines, seen_lines}
-use Rattle.bench_read.proofs.CanonicalLines.{Line, output_line, inputs_say, memory_says, drivers_say, leading_lines, printing_lines, driving_lines, lines_of, Say, say_none, say_both, cons_of, nil_of, split_of}
+use Rattle.bench_read.proofs.CanonicalLines.{Line, output_line, inputs_say, memory_says, drivers_say, leading_lines, printing_lines, driving_lines, lines_of, Say, say_none, say_both, cons_of, split_of}
 use Rattle.bench_read.proofs.SeenRows.{input_says, output_says, gate_says}
 use Rattle.bench_read.proofs.SeenMemory.{AreBits}
 use Rattle.bench_read.proofs.SeenMemory as memories
-use Rattle.bench_read.proofs.MadeLemmas.{range_length}
 
 -- ---- the words of kinds
 
@@ -43,36 +45,6 @@ kind_acts Bus = refl
 register_acts : gate_act (codes "DFF") ≡ Some act.Dff
 unfolding gate_act
 register_acts = refl
-
--- any number from 1 to 1,024 passes
-any_allowed : (n : ℕ) → (1 ≤ n) × (n ≤ 1024) → is_any_number n ≡ true
-any_allowed n few = and_from _ _ (le-leb 1 n few.0) (le-leb n 1024 few.1)
-
--- a number of operands that a kind has is allowed
-kind_allows : (kind : Kind) (n : ℕ) → AllowsOperands kind n → allows_operands kind n ≡ true
-kind_allows And n few = any_allowed n few
-kind_allows Nand n few = any_allowed n few
-kind_allows Or n few = any_allowed n few
-kind_allows Nor n few = any_allowed n few
-kind_allows Xor n few = any_allowed n few
-kind_allows Xnor n few = any_allowed n few
-kind_allows Not n few = eq-eqb n 1 few
-kind_allows Buf n few = eq-eqb n 1 few
-kind_allows Tri n few = eq-eqb n 2 few
-kind_allows Bus n few = any_allowed n few
-
--- each kind has an operand at least
-kind_some : (kind : Kind) (n : ℕ) → AllowsOperands kind n → 1 ≤ n
-kind_some And n few = few.0
-kind_some Nand n few = few.0
-kind_some Or n few = few.0
-kind_some Nor n few = few.0
-kind_some Xor n few = few.0
-kind_some Xnor n few = few.0
-kind_some Not n few = omega (arith, few)
-kind_some Buf n few = omega (arith, few)
-kind_some Tri n few = omega (arith, few)
-kind_some Bus n few = few.0
 
 -- ---- rows, part by part
 
@@ -119,7 +91,7 @@ bits_of net m memory is = record {
   few_address = is.address_bits.1;
   some_words = is.word_bits.0;
   few_words = is.word_bits.1;
-  same = sym (ap length is.outs ∙ range_length _ (length memory.word));
+  same = sym (ap length is.outs ∙ length-range_with_len _ (length memory.word));
 }
 
 module _ (text : List ℕ) (net : Netlist) (valid : IsValid net) where
@@ -134,7 +106,7 @@ module _ (text : List ℕ) (net : Netlist) (valid : IsValid net) where
   drivers_each s name Input is rows e = none_say text rows e
   drivers_each s name (Gate kind ops) is rows e =
       one_says text rows (seen_gate net name (kind_word kind) ops) _ e
-      (λ row h. gate_says text net row name (kind_word kind) ops (act.Gate kind) h (kind_some kind (length ops) is.0) (kind_acts kind) (kind_allows kind (length ops) is.0))
+      (λ row h. gate_says text net row name (kind_word kind) ops (act.Gate kind) h (some_operands kind (length ops) is.0) (kind_acts kind) is.0)
   drivers_each s name (Dff op) is rows e =
       one_says text rows (seen_gate net name (codes "DFF") (op ∷ [])) _ e
       (λ row h. gate_says text net row name (codes "DFF") (op ∷ []) act.Dff h (omega arith) register_acts refl)

@@ -1,10 +1,12 @@
 -- What rows say that are seen as the line of an input, of an output or of a gate.
-use Rattle.std.proofs.Common.{◌≡◌, ℕ, suc, ◌-◌, ◌≤◌, Bool, true, false, ◌&&◌, List, [], ◌∷◌, ◌++◌, length, map, take, Some, sym, ap, ◌∙◌, subst, refl, arith}
+use Rattle.std.proofs.Common.{◌≡◌, ℕ, suc, ◌-◌, ◌≤◌, true, false, List, [], ◌∷◌, ◌++◌, length, map, take, Some, sym, ap, ◌∙◌, subst, refl, arith}
 use Rattle.std.specs.Prelude.{codes}
 use Rattle.std.specs.List.{slice_range}
 use Rattle.std.proofs.Math.Seq.{take-append_seam}
-use Rattle.std.proofs.lemmas.Bool.{and_from, cond-true, cond-false}
+use Rattle.std.proofs.lemmas.Bool.{and_from, cond-true, cond-false, and_left, and_right}
 use Rattle.std.proofs.lemmas.List.{length-map, length_push}
+use Rattle.list_laws.proofs.Places.{seam_at}
+use Rattle.list_laws.proofs.Maps.{nil_of}
 use Rattle.bench_text.specs.declared.token.Mark.{Mark}
 use Rattle.bench_text.specs.declared.token.Mark.TheVariants.{Open, Close, Equals, Name}
 use Rattle.bench_text.specs.declared.token.Token.{Token}
@@ -19,20 +21,9 @@ use Rattle.bench_read.specs.Grammar.{text_of, same_mark, has_mark, has, option_h
 use Rattle.bench_read.specs.Faults.{texts_of}
 use Rattle.bench_read.proofs.SeenLines.{Seen, seen, word, open_sign, close_sign, equals_sign, seen_names, seen_port, seen_gate}
 use Rattle.bench_read.proofs.SeenNames.{names_some, texts_are}
-use Rattle.bench_read.proofs.CanonicalLines.{input_line, output_line, Say, say_one, cons_of, nil_of, split_of}
-use Rattle.bench_read.proofs.MadeLemmas.{seam_at}
+use Rattle.bench_read.proofs.CanonicalLines.{input_line, output_line, Say, say_one, cons_of, split_of}
 
 -- ---- tests
-
--- both of two tests fail where the first does
-pub first_fails : (a b : Bool) → a ≡ false → (a && b) ≡ false
-first_fails true b e = cc
-first_fails false b e = refl
-
--- both of two tests fail where the second does
-pub second_fails : (a b : Bool) → b ≡ false → (a && b) ≡ false
-second_fails true b e = e
-second_fails false b e = refl
 
 -- the mark of a token that is seen
 pub mark_of : (text : List ℕ) (token : Token) (s : Seen) (mark : Mark) → seen text token ≡ s → has_mark mark token ≡ same_mark s.mark mark
@@ -177,7 +168,7 @@ module _ (text : List ℕ) (net : Netlist) (name kind : List ℕ) (ops : List �
   -- it has not the form of an input or an output
   gate_no_port : is_port_row gate ≡ false
   unfolding is_port_row
-  gate_no_port = first_fails _ _ (first_fails _ _ (second_fails _ _ (mark_of text b equals_sign Open eb)))
+  gate_no_port = and_left _ _ (and_left _ _ (and_right _ _ (mark_of text b equals_sign Open eb)))
 
   -- it has the form of a gate
   gate_is : is_gate_row gate ≡ true

@@ -6,6 +6,9 @@ use Rattle.std.specs.Option.{option_map}
 use Rattle.std.proofs.lemmas.List.{map_push, take_more, take_all}
 use Rattle.std.proofs.lemmas.List.Elements.{All-nil, All-push}
 use Rattle.std.proofs.lemmas.Option.{slice_get-get_or}
+use Rattle.limits.specs.declared.TheConstants.{MAX_OPERANDS, MAX_SIGNALS}
+use Rattle.list_laws.proofs.Tests.{any_not_none}
+use Rattle.list_laws.proofs.Options.{mapped_none}
 use Rattle.text_lines.proofs.AnswerLemmas.{none_below, or_none}
 use Rattle.bench_text.specs.declared.token.Mark.TheVariants.{Name}
 use Rattle.bench_text.specs.declared.token.Token.{Token}
@@ -18,15 +21,11 @@ use Rattle.bench_read.specs.Grammar.{rows_of, row_line, text_of, said as said_of
 use Rattle.bench_read.specs.Faults.{statements_of, drivers_of, operand_count, texts_of, is_same, is_among, repeat_fault, option_repeat_fault, twice_fault, many_fault, statement_fault, said_fault, row_fault, rows_fault, uses_fault, of_text, lines_fault, first_fault}
 use Rattle.bench_read.specs.Netlists.{netlist_of}
 use Rattle.bench_read.specs.Reads.{AreOnce, AreSound, IsRead, Reads}
-use Rattle.bench_read.proofs.NameLemmas.{any_not_none, any_text, once_more}
+use Rattle.bench_read.proofs.NameLemmas.{any_text, once_more}
 use Rattle.bench_read.proofs.DesignLemmas.{drivers_push, statements_push, limits_from_none}
 use Rattle.bench_read.proofs.ReadLemmas.{bytes_refused, no_bytes, lines_refused, no_lines, reads_from}
 
 -- ---- names
-
-mapped_none : {X Y : Type 0} (f : X → Y) (o : Option X) → option_map f o ≡ None → o ≡ None
-mapped_none f None none = refl
-mapped_none f (Some x) none = cc
 
 -- a token that repeats none of the drivers has a name that is new
 new_name : (text : List ℕ) (drivers : List Token) (token : Token) → repeat_fault text drivers token ≡ None → is_among (texts_of text drivers) (text_of text token) ≡ false
@@ -73,8 +72,8 @@ sound_more text rows row sound none = by_said (said_of text row) refl none where
         once = subst (λ ss. AreOnce (texts_of text (drivers_of ss))) (sym pushed)
             (subst (λ ds. AreOnce (texts_of text ds)) driven
             (once_to text (drivers_of statements) statement.driven sound.once both.0 (length statement.driven) (omega arith)));
-        few_signals = subst (λ ss. length (drivers_of ss) ≤ 1048576) (sym pushed) limits.0;
-        few_operands = subst (λ ss. operand_count ss ≤ 4194304) (sym pushed) limits.1;
+        few_signals = subst (λ ss. length (drivers_of ss) ≤ MAX_SIGNALS) (sym pushed) limits.0;
+        few_operands = subst (λ ss. operand_count ss ≤ MAX_OPERANDS) (sym pushed) limits.1;
       }
 
 -- rows without a fault have statements

@@ -2,13 +2,19 @@
 use Rattle.std.proofs.Common.{◌≡◌, ℕ, ◌+◌, ◌-◌, ◌<◌, ◌≤◌, true, false, List, [], ◌∷◌, ◌++◌, append_assoc, length, take, drop, get_or, slice_get, Some, sym, ap, ◌∙◌, subst, refl, ⊎_elim, arith, length-append, bytes_eq}
 use Rattle.std.specs.List.{All, list_any, flat_map, sum_by, range_with_len}
 use Rattle.std.specs.Option.{option_map}
-use Rattle.std.proofs.lemmas.Bool.{both_ways, eqb-true}
+use Rattle.std.proofs.lemmas.Bool.{both_ways, eqb-true, cases_lt}
 use Rattle.std.proofs.lemmas.List.{map-append, length-map, length-drop, length-take-le}
-use Rattle.std.proofs.lemmas.List.Elements.{All-nil, All-cons, All-head, All-tail}
+use Rattle.std.proofs.lemmas.List.Elements.{All-nil, All-cons, All-head, All-tail, All-append, All-take, All-drop}
 use Rattle.std.proofs.lemmas.List.Concat.{flat_map-append}
 use Rattle.std.proofs.lemmas.Option.{slice_get-map, slice_get-get_or}
 use Rattle.std.proofs.lemmas.List.Sums.{sum_by-append}
-use Rattle.logic_four.specs.Gates.{AllowsOperands}
+use Rattle.limits.specs.declared.TheConstants.{MAX_TEXT_BYTES}
+use Rattle.list_laws.proofs.Tests.{none_past}
+use Rattle.list_laws.proofs.Ranges.{range_at, first_of_range}
+use Rattle.list_laws.proofs.Places.{seam_at, inside_at}
+use Rattle.list_laws.proofs.Members.{each, all_front, all_back}
+use Rattle.list_laws.proofs.Maps.{sum_none}
+use Rattle.logic_four.specs.Kinds.{AllowsOperands}
 use Rattle.bench_text.specs.declared.token.Token.{Token}
 use Rattle.net_defs.specs.declared.netlist.Netlist.{Netlist}
 use Rattle.net_defs.specs.declared.netlist.Signal.{Signal}
@@ -23,12 +29,12 @@ use Rattle.bench_read.specs.Grammar.{text_of}
 use Rattle.bench_read.specs.Faults.{drivers_of, uses_of, operand_count, texts_of, is_among}
 use Rattle.bench_read.specs.Netlists.{others_by, inputs_of, others_of, names_of, place_of, numbers_of, driver_by, signals_by, input_signals, other_signals, memories_by, printed_by, printed_of, block_by, blocks_of, netlist_of}
 use Rattle.bench_read.specs.Reads.{AreOnce, AreAmong, Reads}
-use Rattle.bench_read.proofs.NumberLemmas.{once_in_order, names_are, none_past}
+use Rattle.bench_read.proofs.NumberLemmas.{once_in_order, names_are}
 use Rattle.bench_read.proofs.DraftLemmas.{names_length, any_name}
 use Rattle.bench_read.proofs.DesignLemmas.{memory_bits}
 use Rattle.bench_read.proofs.ReadLemmas.{short_statements}
 use Rattle.bench_read.proofs.FormLemmas.{IsStatement, IsShaped}
-use Rattle.bench_read.proofs.MadeLemmas.{all_statements, signal_names, names-append, input_names, other_names, names_in_order, name_at, place_self, each, all_append, seam_at, below_or_past, all_front, all_back, inputs_each, others_each, allows_is, block_at, blocks_each, numbers_range, range_at, inside_at, signal_by_at, first_of_range, no_token, all_take, all_drop, others-append, named_texts, named_orders, lead_of, earlier_line, all_flat, few_printed_of, sum_none, signal_operands, lines_operands}
+use Rattle.bench_read.proofs.MadeLemmas.{all_statements, signal_names, names-append, input_names, other_names, names_in_order, name_at, place_self, inputs_each, others_each, block_at, blocks_each, numbers_range, signal_by_at, no_token, others-append, named_texts, named_orders, lead_of, earlier_line, all_flat, few_printed_of, signal_operands, lines_operands}
 
 -- ---- one netlist
 
@@ -54,7 +60,7 @@ module _ (text : List ℕ) (statements : List Statement) (all : All (IsStatement
   is_signal : (name : List ℕ) → list_any (bytes_eq name) (texts_of text (drivers_of statements)) ≡ true → IsSignal (netlist_of text statements) (place_of (names_of text statements) name)
   is_signal name some = omega (arith, signals_length, names_length text statements, found (any_name (bytes_eq name) text statements ∙ some)) where
     found : list_any (bytes_eq name) (names_of text statements) ≡ true → place_of (names_of text statements) name < length (names_of text statements)
-    found e = ⊎_elim (λ below. below) (λ past. absurd (both_ways _ (none_past (bytes_eq name) (names_of text statements) past) e)) (below_or_past (place_of (names_of text statements) name) (length (names_of text statements)))
+    found e = ⊎_elim (λ below. below) (λ past. absurd (both_ways _ (none_past (bytes_eq name) (names_of text statements) past) e)) (cases_lt (place_of (names_of text statements) name) (length (names_of text statements)))
 
   uses_are : (front : List Statement) (statement : Statement) (back : List Statement) → statements ≡ front ++ statement ∷ back → All (λ token. is_among (texts_of text (drivers_of statements)) (text_of text token) ≡ true) statement.uses
   unfolding uses_of
@@ -74,7 +80,7 @@ module _ (text : List ℕ) (statements : List Statement) (all : All (IsStatement
   statement_at front statement back split =
       each (IsStatement text) statements (length front) statement all (ap (λ ss. slice_get ss (length front)) split ∙ seam_at front statement back)
 
-  blocks_here : (front : List Statement) (statement : Statement) (back : List Statement) (address : ℕ) → statements ≡ front ++ statement ∷ back → statement.act ≡ act.Memory address → slice_get (netlist_of text statements).blocks (length (blocks_of text (names_of text statements) front)) ≡ Some (block_by address (numbers_of text (names_of text statements) statement.uses) (numbers_of text (names_of text statements) statement.driven))
+  blocks_here : (front : List Statement) (statement : Statement) (back : List Statement) (address : ℕ) → statements ≡ front ++ statement ∷ back → statement.act ≡ act.Ram address → slice_get (netlist_of text statements).blocks (length (blocks_of text (names_of text statements) front)) ≡ Some (block_by address (numbers_of text (names_of text statements) statement.uses) (numbers_of text (names_of text statements) statement.driven))
   unfolding netlist_of
   blocks_here front statement back address split is = block_at text (names_of text statements) statements front statement back address split is
 
@@ -85,14 +91,14 @@ module _ (text : List ℕ) (statements : List Statement) (all : All (IsStatement
   drivable_by front statement back split k token e act.Output is = tt
   drivable_by front statement back split k token e (act.Gate kind) is =
       let allowed = subst (λ a. allows a (length statement.driven) (length statement.uses) ≡ true) is (statement_at front statement back split).allowed in (
-        subst (AllowsOperands kind) (sym (length-map statement.uses (λ t. place_of (names_of text statements) (text_of text t)))) (allows_is kind (length statement.uses) allowed),
+        subst (AllowsOperands kind) (sym (length-map statement.uses (λ t. place_of (names_of text statements) (text_of text t)))) allowed,
         numbers_are statement.uses (uses_are front statement back split),
       )
   drivable_by front statement back split k token e act.Dff is =
       let allowed = subst (λ a. allows a (length statement.driven) (length statement.uses) ≡ true) is (statement_at front statement back split).allowed in
       numbers_are statement.uses (uses_are front statement back split) 0 0
       (omega (arith, length-map statement.uses (λ t. place_of (names_of text statements) (text_of text t)), eqb-true (length statement.uses) 1 allowed))
-  drivable_by front statement back split k token e (act.Memory address) is = (
+  drivable_by front statement back split k token e (act.Ram address) is = (
     block_by address (numbers_of text (names_of text statements) statement.uses) (numbers_of text (names_of text statements) statement.driven),
     blocks_here front statement back address split is,
     slice_get-map (λ t. place_of (names_of text statements) (text_of text t)) statement.driven k
@@ -106,7 +112,7 @@ module _ (text : List ℕ) (statements : List Statement) (all : All (IsStatement
       → All Q (netlist_of text statements).signals
   unfolding netlist_of
   all_signals Q of_inputs of_lines =
-      all_append Q (input_signals text statements) (other_signals text (names_of text statements) 0 statements) (inputs_each Q text statements of_inputs)
+      All-append Q (input_signals text statements) (other_signals text (names_of text statements) 0 statements) (inputs_each Q text statements of_inputs)
       (others_each Q text (names_of text statements) 0 statements
       (λ front statement back split k token e. subst (λ m. Q (record { name = text_of text token; driver = driver_by statement.act (numbers_of text (names_of text statements) statement.uses) m k }))
       (zero_more (length (blocks_of text (names_of text statements) front))) (of_lines front statement back split k token e)))
@@ -127,7 +133,7 @@ module _ (text : List ℕ) (statements : List Statement) (all : All (IsStatement
   before : List Statement → List (List ℕ)
   before front = texts_of text (inputs_of statements) ++ texts_of text (others_of front)
 
-  names_split : (front : List Statement) (statement : Statement) (back : List Statement) (address : ℕ) → statements ≡ front ++ statement ∷ back → statement.act ≡ act.Memory address → names_of text statements ≡ before front ++ (texts_of text statement.driven ++ texts_of text (others_of back))
+  names_split : (front : List Statement) (statement : Statement) (back : List Statement) (address : ℕ) → statements ≡ front ++ statement ∷ back → statement.act ≡ act.Ram address → names_of text statements ≡ before front ++ (texts_of text statement.driven ++ texts_of text (others_of back))
   unfolding before others_of
   names_split front statement back address split is =
       let f : Statement → List Token = λ s. others_by s.act s.driven in
@@ -139,7 +145,7 @@ module _ (text : List ℕ) (statements : List Statement) (all : All (IsStatement
       ∙ ap (λ ns. texts_of text (inputs_of statements) ++ (texts_of text (others_of front) ++ ns)) (map-append (text_of text) statement.driven (others_of back))
       ∙ sym (append_assoc (texts_of text (inputs_of statements)) (texts_of text (others_of front)) (texts_of text statement.driven ++ texts_of text (others_of back)))
 
-  outs_range : (front : List Statement) (statement : Statement) (back : List Statement) (address : ℕ) → statements ≡ front ++ statement ∷ back → statement.act ≡ act.Memory address → numbers_of text (names_of text statements) statement.driven ≡ range_with_len (length (before front)) (length statement.driven)
+  outs_range : (front : List Statement) (statement : Statement) (back : List Statement) (address : ℕ) → statements ≡ front ++ statement ∷ back → statement.act ≡ act.Ram address → numbers_of text (names_of text statements) statement.driven ≡ range_with_len (length (before front)) (length statement.driven)
   outs_range front statement back address split is =
       let same = names_split front statement back address split is in
       ap (λ ns. numbers_of text ns statement.driven) same
@@ -156,8 +162,8 @@ module _ (text : List ℕ) (statements : List Statement) (all : All (IsStatement
       ∙ ap (λ ns. ns ++ signal_names (other_signals text (names_of text statements) 0 front)) (input_names text statements)
       ∙ ap (λ ns. texts_of text (inputs_of statements) ++ ns) (other_names text (names_of text statements) 0 front))
 
-  signals_split : (front : List Statement) (statement : Statement) (back : List Statement) (address : ℕ) → statements ≡ front ++ statement ∷ back → statement.act ≡ act.Memory address
-      → (rest : List Signal) × ((netlist_of text statements).signals ≡ front_signals front ++ (signals_by text (act.Memory address) (numbers_of text (names_of text statements) statement.uses) (length (blocks_of text (names_of text statements) front)) statement.driven ++ rest))
+  signals_split : (front : List Statement) (statement : Statement) (back : List Statement) (address : ℕ) → statements ≡ front ++ statement ∷ back → statement.act ≡ act.Ram address
+      → (rest : List Signal) × ((netlist_of text statements).signals ≡ front_signals front ++ (signals_by text (act.Ram address) (numbers_of text (names_of text statements) statement.uses) (length (blocks_of text (names_of text statements) front)) statement.driven ++ rest))
   unfolding netlist_of front_signals other_signals
   signals_split front statement back address split is =
       let ns = names_of text statements in
@@ -169,10 +175,10 @@ module _ (text : List ℕ) (statements : List Statement) (all : All (IsStatement
             (ap (other_signals text ns 0) split ∙ others-append text ns 0 front (statement ∷ back)
             ∙ ap (λ k. other_signals text ns 0 front ++ other_signals text ns k (statement ∷ back)) zero_more
             ∙ ap (λ a. other_signals text ns 0 front ++ (signals_by text a (numbers_of text ns statement.uses) m (others_by a statement.driven) ++ rest)) is)
-            ∙ sym (append_assoc (input_signals text statements) (other_signals text ns 0 front) (signals_by text (act.Memory address) (numbers_of text ns statement.uses) m statement.driven ++ rest)),
+            ∙ sym (append_assoc (input_signals text statements) (other_signals text ns 0 front) (signals_by text (act.Ram address) (numbers_of text ns statement.uses) m statement.driven ++ rest)),
       )
 
-  is_memory : (front : List Statement) (statement : Statement) (back : List Statement) (address : ℕ) → statements ≡ front ++ statement ∷ back → statement.act ≡ act.Memory address
+  is_memory : (front : List Statement) (statement : Statement) (back : List Statement) (address : ℕ) → statements ≡ front ++ statement ∷ back → statement.act ≡ act.Ram address
       → IsMemory (netlist_of text statements) (length (blocks_of text (names_of text statements) front)) (block_by address (numbers_of text (names_of text statements) statement.uses) (numbers_of text (names_of text statements) statement.driven))
   is_memory front statement back address split is =
       let ns = names_of text statements in
@@ -188,9 +194,9 @@ module _ (text : List ℕ) (statements : List Statement) (all : All (IsStatement
       let range = outs_range front statement back address split is in
       record {
         enable = signals 0 0 (omega (arith, len, bits.some_words));
-        address = all_take (IsSignal (netlist_of text statements)) address (drop 1 uses) (all_drop (IsSignal (netlist_of text statements)) 1 uses signals);
+        address = All-take (IsSignal (netlist_of text statements)) address (drop 1 uses) (All-drop (IsSignal (netlist_of text statements)) 1 uses signals);
         address_bits = (omega (arith, taken, bits.some_address), omega (arith, taken, bits.few_address));
-        word = all_drop (IsSignal (netlist_of text statements)) address (drop 1 uses) (all_drop (IsSignal (netlist_of text statements)) 1 uses signals);
+        word = All-drop (IsSignal (netlist_of text statements)) address (drop 1 uses) (All-drop (IsSignal (netlist_of text statements)) 1 uses signals);
         word_bits = (omega (arith, left, one, len, bits.some_words), omega (arith, left, one, len, bits.few_words));
         outs = range ∙ ap (λ n. range_with_len n (length statement.driven)) (first_of_range (length (before front)) (length statement.driven) outs range (omega (arith, bits.some_words, bits.outputs_are)))
             ∙ ap (range_with_len (get_or outs 0 0)) (omega (arith, left, one, len, bits.outputs_are));
@@ -199,12 +205,12 @@ module _ (text : List ℕ) (statements : List Statement) (all : All (IsStatement
             let token = get_or statement.driven bit no_token in
             let here = slice_get-get_or statement.driven bit no_token found.1 in
             let parts = signals_split front statement back address split is in
-            let mine = signals_by text (act.Memory address) uses (length (blocks_of text ns front)) statement.driven in
+            let mine = signals_by text (act.Ram address) uses (length (blocks_of text ns front)) statement.driven in
             let at : s ≡ length (front_signals front) + bit = omega (arith, found.0, front_length front) in (
               record { name = text_of text token; driver = driver.BlockBit (length (blocks_of text ns front)) bit },
               ap (slice_get (netlist_of text statements).signals) at
                   ∙ ap (λ ss. slice_get ss (length (front_signals front) + bit)) parts.1
-                  ∙ inside_at (front_signals front) mine parts.0 bit _ (signal_by_at text (act.Memory address) uses (length (blocks_of text ns front)) statement.driven bit token here),
+                  ∙ inside_at (front_signals front) mine parts.0 bit _ (signal_by_at text (act.Ram address) uses (length (blocks_of text ns front)) statement.driven bit token here),
               refl,
             );
       }
@@ -229,7 +235,7 @@ module _ (text : List ℕ) (statements : List Statement) (all : All (IsStatement
   all_names =
       let both = named_orders text statements all in
       subst (All IsName) (sym (names_are text statements))
-      (all_append IsName (texts_of text (inputs_of statements)) (texts_of text (others_of statements)) (named_texts text (inputs_of statements) both.0) (named_texts text (others_of statements) both.1))
+      (All-append IsName (texts_of text (inputs_of statements)) (texts_of text (others_of statements)) (named_texts text (inputs_of statements) both.0) (named_texts text (others_of statements) both.1))
 
   pub named : AreNamed (netlist_of text statements).signals
   named s signal e = each IsName (names_of text statements) s signal.name all_names (name_here s signal e)
@@ -241,7 +247,7 @@ module _ (text : List ℕ) (statements : List Statement) (all : All (IsStatement
       cc (subst (λ ts. slice_get ts k ≡ Some token) shaped.0 (subst (λ a. slice_get (others_by a statement.driven) k ≡ Some token) is e))
   not_inputs front statement back split k token e uses memory (act.Gate kind) is = refl
   not_inputs front statement back split k token e uses memory act.Dff is = refl
-  not_inputs front statement back split k token e uses memory (act.Memory address) is = refl
+  not_inputs front statement back split k token e uses memory (act.Ram address) is = refl
 
   pub inputs_first : InputsLead (netlist_of text statements).signals
   unfolding netlist_of
@@ -259,7 +265,7 @@ module _ (text : List ℕ) (statements : List Statement) (all : All (IsStatement
     back : List Statement
     address : ℕ
     split : statements ≡ front ++ statement ∷ back
-    is : statement.act ≡ act.Memory address
+    is : statement.act ≡ act.Ram address
     place : m ≡ length (blocks_of text (names_of text statements) front)
     same : memory ≡ block_by address (numbers_of text (names_of text statements) statement.uses) (numbers_of text (names_of text statements) statement.driven)
 
@@ -281,7 +287,7 @@ module _ (text : List ℕ) (statements : List Statement) (all : All (IsStatement
         some,
       )
 
-  before_length : (front : List Statement) (statement : Statement) (between : List Statement) (address : ℕ) → statement.act ≡ act.Memory address → length (before front) + length statement.driven ≤ length (before (front ++ statement ∷ between))
+  before_length : (front : List Statement) (statement : Statement) (between : List Statement) (address : ℕ) → statement.act ≡ act.Ram address → length (before front) + length statement.driven ≤ length (before (front ++ statement ∷ between))
   unfolding before others_of
   before_length front statement between address is =
       let f : Statement → List Token = λ s. others_by s.act s.driven in
@@ -319,7 +325,7 @@ module _ (text : List ℕ) (statements : List Statement) (all : All (IsStatement
       by_act act.Output numbers a = a
       by_act (act.Gate kind) numbers a = All-nil (IsSignal (netlist_of text statements))
       by_act act.Dff numbers a = All-nil (IsSignal (netlist_of text statements))
-      by_act (act.Memory address) numbers a = All-nil (IsSignal (netlist_of text statements))
+      by_act (act.Ram address) numbers a = All-nil (IsSignal (netlist_of text statements))
 
   pub few_printed : length (netlist_of text statements).printed ≤ length statements
   unfolding netlist_of
@@ -336,7 +342,7 @@ module _ (text : List ℕ) (statements : List Statement) (all : All (IsStatement
       )
 
 -- what a text reads as is a valid netlist
-pub valid_from_reads : (text : List ℕ) (net : Netlist) → length text ≤ 67108864 → Reads text net → IsValid net
+pub valid_from_reads : (text : List ℕ) (net : Netlist) → length text ≤ MAX_TEXT_BYTES → Reads text net → IsValid net
 valid_from_reads text net short reads =
     let ss = reads.statements in
     let sound = reads.lines.sound in

@@ -3,6 +3,7 @@ use Rattle.std.specs.Prelude.{ℕ, Bool, not, List, [], ◌∷◌, ◌++◌, len
 use Rattle.std.specs.List.{find, filter_map, flat_map, sum_by, list_any}
 use Rattle.std.specs.Option.{option_map, option_or}
 use Rattle.std.specs.Result.{result_ok}
+use Rattle.limits.specs.declared.TheConstants.{MAX_OPERANDS, MAX_SIGNALS}
 use Rattle.text_lines.specs.Answers.{first}
 use Rattle.bench_text.specs.declared.token.Token.{Token}
 use Rattle.bench_text.specs.declared.token.TextNo.{TextNo}
@@ -35,7 +36,7 @@ operands_by act.Output uses = 0
 operands_by act.Input uses = 0
 operands_by (act.Gate kind) uses = length uses
 operands_by act.Dff uses = length uses
-operands_by (act.Memory address) uses = length uses
+operands_by (act.Ram address) uses = length uses
 
 -- the operands of a statement: the names that it uses, but for those of output lines
 abbrev pub operands_of : Statement → ℕ
@@ -75,8 +76,8 @@ twice_fault text drivers tokens =
 -- too many signals, or else too many operands
 abbrev pub limit_fault : ℕ → ℕ → ℕ → Option BenchNo
 limit_fault line signals operands =
-    if nat_lt 1048576 signals then Some (TooMany line Signals)
-    else if nat_lt 4194304 operands then Some (TooMany line Operands)
+    if nat_lt MAX_SIGNALS signals then Some (TooMany line Signals)
+    else if nat_lt MAX_OPERANDS operands then Some (TooMany line Operands)
     else None
 
 -- with the statement of this line there are too many of either

@@ -131,7 +131,7 @@ unfoldable pub form_of : List ℕ → List Token → Option Form
 form_of text row =
     if is_port_row row then port_form (word_at text row 0)
     else if is_gate_row row then Some form.Gate
-    else if is_memory_row row then Some form.Memory
+    else if is_memory_row row then Some form.Ram
     else None
 
 -- ---- what a row says
@@ -141,14 +141,14 @@ unfoldable pub driven_part : List Token → Form → List Token
 driven_part row form.Input = slice_range row 2 3
 driven_part row form.Output = slice_range row 0 0
 driven_part row form.Gate = slice_range row 0 1
-driven_part row form.Memory = slice_range row 1 (right_of row)
+driven_part row form.Ram = slice_range row 1 (right_of row)
 
 -- the part of the row with the names that it uses
 unfoldable pub used_part : List Token → Form → List Token
 used_part row form.Input = slice_range row 0 0
 used_part row form.Output = slice_range row 2 3
 used_part row form.Gate = slice_range row 4 (last_of row)
-used_part row form.Memory = slice_range row (right_of row + 4) (last_of row)
+used_part row form.Ram = slice_range row (right_of row + 4) (last_of row)
 
 -- the number of address names of a memory's row
 unfoldable pub address_count : List Token → ℕ
@@ -159,7 +159,7 @@ unfoldable pub act_of : List ℕ → List Token → Form → Option Act
 act_of text row form.Input = Some act.Input
 act_of text row form.Output = Some act.Output
 act_of text row form.Gate = gate_act (word_at text row 2)
-act_of text row form.Memory = ram_act (word_at text row (right_of row + 2)) (address_count row)
+act_of text row form.Ram = ram_act (word_at text row (right_of row + 2)) (address_count row)
 
 abbrev pub statement_by : List Token → Form → Act → Statement
 statement_by row form act = record {

@@ -19,14 +19,14 @@ inputs_by act.Input driven = driven
 inputs_by act.Output driven = []
 inputs_by (act.Gate kind) driven = []
 inputs_by act.Dff driven = []
-inputs_by (act.Memory address) driven = []
+inputs_by (act.Ram address) driven = []
 
 abbrev pub others_by : Act → List Token → List Token
 others_by act.Input driven = []
 others_by act.Output driven = driven
 others_by (act.Gate kind) driven = driven
 others_by act.Dff driven = driven
-others_by (act.Memory address) driven = driven
+others_by (act.Ram address) driven = driven
 
 -- the names of the inputs in file order
 unfoldable pub inputs_of : List Statement → List Token
@@ -57,7 +57,7 @@ driver_by act.Input uses memory bit = driver.Input
 driver_by act.Output uses memory bit = driver.Input
 driver_by (act.Gate kind) uses memory bit = driver.Gate kind uses
 driver_by act.Dff uses memory bit = driver.Dff (slice_index uses 0)
-driver_by (act.Memory address) uses memory bit = driver.BlockBit memory bit
+driver_by (act.Ram address) uses memory bit = driver.BlockBit memory bit
 
 -- the signals of these names of a line
 unfoldable pub signals_by : List ℕ → Act → List ℕ → ℕ → List Token → List Signal
@@ -75,7 +75,7 @@ memories_by act.Input = 0
 memories_by act.Output = 0
 memories_by (act.Gate kind) = 0
 memories_by act.Dff = 0
-memories_by (act.Memory address) = 1
+memories_by (act.Ram address) = 1
 
 -- the other signals, of lines after so many memories
 unfoldable pub other_signals : List ℕ → List (List ℕ) → ℕ → List Statement → List Signal
@@ -91,7 +91,7 @@ printed_by act.Input uses = []
 printed_by act.Output uses = uses
 printed_by (act.Gate kind) uses = []
 printed_by act.Dff uses = []
-printed_by (act.Memory address) uses = []
+printed_by (act.Ram address) uses = []
 
 -- the numbers of the printed signals in file order
 unfoldable pub printed_of : List ℕ → List (List ℕ) → List Statement → List ℕ
@@ -114,7 +114,7 @@ blocks_by act.Input uses outs = []
 blocks_by act.Output uses outs = []
 blocks_by (act.Gate kind) uses outs = []
 blocks_by act.Dff uses outs = []
-blocks_by (act.Memory address) uses outs = block_by address uses outs ∷ []
+blocks_by (act.Ram address) uses outs = block_by address uses outs ∷ []
 
 -- the memories in file order
 unfoldable pub blocks_of : List ℕ → List (List ℕ) → List Statement → List Block

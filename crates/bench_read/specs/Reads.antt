@@ -1,5 +1,6 @@
 -- Which netlist a text reads as.
 use Rattle.std.specs.Prelude.{◌≡◌, ℕ, ◌≤◌, true, List, length, None, IsOk, All, count_by, bytes_eq}
+use Rattle.limits.specs.declared.TheConstants.{MAX_OPERANDS, MAX_SIGNALS}
 use Rattle.bench_text.specs.Tokens.{tokens_of, first_fault as byte_fault}
 use Rattle.net_defs.specs.declared.netlist.Netlist.{Netlist}
 use Rattle.bench_text.specs.declared.token.Token.{Token}
@@ -27,8 +28,8 @@ pub record AreSound (text : List ℕ) (rows : List (List Token)) (statements : L
   pub lines : All (λ row. IsOk (said_of text row)) rows
   pub said : statements ≡ statements_of text rows
   pub once : AreOnce (texts_of text (drivers_of statements))
-  pub few_signals : length (drivers_of statements) ≤ 1048576
-  pub few_operands : operand_count statements ≤ 4194304
+  pub few_signals : length (drivers_of statements) ≤ MAX_SIGNALS
+  pub few_operands : operand_count statements ≤ MAX_OPERANDS
 
 -- The lines of the text say this: no byte is bad, no name is too long, and the rows of its tokens have
 -- these statements.

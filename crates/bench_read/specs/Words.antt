@@ -1,8 +1,9 @@
--- The words of a netlist text: its commands and the kinds of its gates, in any letter case.
+-- The words of a netlist text, in any letter case.
 use Rattle.std.specs.Prelude.{ℕ, ◌+◌, ◌-◌, ◌==◌, ◌&&◌, Bool, true, nat_le, List, Option, Some, None, if◌then◌else◌, codes}
 use Rattle.std.specs.Str.{str_eq_ignore_ascii_case}
+use Rattle.limits.specs.declared.TheConstants.{MAX_ADDRESS_BITS, MAX_WORD_BITS}
 use Rattle.logic_four.specs.declared.Kind.{Kind}
-use Rattle.logic_four.specs.declared.Kind.TheVariants.{And, Nand, Or, Nor, Xor, Xnor, Not, Buf, Tri, Bus}
+use Rattle.logic_four.specs.Kinds.{kind_of, allows_operands}
 use Rattle.bench_read.specs.declared.statement.Form.{Form}
 use Rattle.bench_read.specs.declared.statement.Form.TheVariants as form
 use Rattle.bench_read.specs.declared.statement.Act.{Act}
@@ -18,25 +19,6 @@ port_form word =
     is : List ℕ → Bool
     is name = str_eq_ignore_ascii_case word name
 
--- the kind of a gate
-unfoldable pub kind_of : List ℕ → Option Kind
-kind_of word =
-    if is (codes "AND") then Some And
-    else if is (codes "NAND") then Some Nand
-    else if is (codes "OR") then Some Or
-    else if is (codes "NOR") then Some Nor
-    else if is (codes "XOR") then Some Xor
-    else if is (codes "XNOR") then Some Xnor
-    else if is (codes "NOT") then Some Not
-    else if is (codes "BUF") then Some Buf
-    else if is (codes "BUFF") then Some Buf
-    else if is (codes "TRI") then Some Tri
-    else if is (codes "BUS") then Some Bus
-    else None
-  where
-    is : List ℕ → Bool
-    is name = str_eq_ignore_ascii_case word name
-
 abbrev pub act_of_kind : Option Kind → Option Act
 act_of_kind (Some kind) = Some (act.Gate kind)
 act_of_kind None = None
@@ -47,29 +29,12 @@ gate_act word = if str_eq_ignore_ascii_case word (codes "DFF") then Some act.Dff
 
 -- what a line of the memory form does, by its word and the number of its address names
 unfoldable pub ram_act : List ℕ → ℕ → Option Act
-ram_act word address = if str_eq_ignore_ascii_case word (codes "RAM") then Some (act.Memory address) else None
-
--- whether a number that may be any is from 1 to 1,024
-abbrev pub is_any_number : ℕ → Bool
-is_any_number n = nat_le 1 n && nat_le n 1024
-
--- whether a gate of this kind may have so many operands
-abbrev pub allows_operands : Kind → ℕ → Bool
-allows_operands And n = is_any_number n
-allows_operands Nand n = is_any_number n
-allows_operands Or n = is_any_number n
-allows_operands Nor n = is_any_number n
-allows_operands Xor n = is_any_number n
-allows_operands Xnor n = is_any_number n
-allows_operands Not n = n == 1
-allows_operands Buf n = n == 1
-allows_operands Tri n = n == 2
-allows_operands Bus n = is_any_number n
+ram_act word address = if str_eq_ignore_ascii_case word (codes "RAM") then Some (act.Ram address) else None
 
 -- whether a memory may have so many address names, data names and outputs
 abbrev pub allows_memory : ℕ → ℕ → ℕ → Bool
 allows_memory address words outputs =
-    nat_le 1 address && nat_le address 16 && nat_le 1 words && nat_le words 64 && (words == outputs)
+    nat_le 1 address && nat_le address MAX_ADDRESS_BITS && nat_le 1 words && nat_le words MAX_WORD_BITS && (words == outputs)
 
 -- whether a line may drive so many names and have so many names in its round brackets
 abbrev pub allows : Act → ℕ → ℕ → Bool
@@ -77,4 +42,4 @@ allows act.Input driven uses = true
 allows act.Output driven uses = true
 allows (act.Gate kind) driven uses = allows_operands kind uses
 allows act.Dff driven uses = uses == 1
-allows (act.Memory address) driven uses = allows_memory address (uses - (1 + address)) driven
+allows (act.Ram address) driven uses = allows_memory address (uses - (1 + address)) driven

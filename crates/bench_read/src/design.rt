@@ -13,14 +13,9 @@ use crate::refusal::{BenchNo, Many};
 use crate::row::{read_row, row_line, split_row};
 use crate::statement::{Act, Statement};
 use bench_text::Token;
+use limits::{MAX_OPERANDS, MAX_SIGNALS};
 use seen_list::List;
 use std::alloc::Global;
-
-/// The most signals of a netlist.
-const MOST_SIGNALS: usize = 1_048_576;
-
-/// The most operands of a netlist.
-const MOST_OPERANDS: usize = 4_194_304;
 
 /// What the lines of the text with these tokens say, or the fault of the first line that has one.
 pub fn read_statements(
@@ -68,13 +63,13 @@ fn operands_of(statement: &Statement) -> usize
 fn check_limits(line: u32, signals: usize, operands: usize) -> Result<(), BenchNo>
     ensures { MatchResult result (λ _. limit_fault line signals operands ≡ None) (λ no. limit_fault line signals operands ≡ Some no) }
 {
-    if signals > MOST_SIGNALS {
+    if signals > MAX_SIGNALS {
         return Err(BenchNo::TooMany {
             line,
             what: Many::Signals,
         });
     }
-    if operands > MOST_OPERANDS {
+    if operands > MAX_OPERANDS {
         return Err(BenchNo::TooMany {
             line,
             what: Many::Operands,

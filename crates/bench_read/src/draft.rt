@@ -1,6 +1,7 @@
 //! The netlist that statements make.
 
 ghost use Rattle.std.specs.Prelude.{◌≡◌, ◌++◌, ◌<◌, ◌≤◌, ◌^◌, [], drop, length, IfOk, OnOk, slice_index};
+ghost use Rattle.limits.specs.declared.TheConstants.{MAX_SIGNALS};
 ghost use Rattle.text_lines.specs.Answers.{Answers};
 ghost use Rattle.net_defs.specs.declared.netlist.Driver.TheVariants.{Gate};
 ghost use Rattle.bench_read.specs.declared.refusal.BenchNo.TheVariants.{Memory as NoMemory};
@@ -8,7 +9,6 @@ ghost use Rattle.bench_read.specs.Faults.{drivers_of, texts_of, use_fault, uses_
 ghost use Rattle.bench_read.specs.Netlists as specs;
 ghost use Rattle.bench_read.specs.Reads.{AreOnce};
 
-use crate::drivers::copy_of;
 use crate::form::text_of;
 use crate::names::Names;
 use crate::numbers::{inputs, name_signals, numbers, others, resolve};
@@ -17,7 +17,7 @@ use crate::statement::{Act, Statement};
 use bench_text::Token;
 use logic_four::Kind;
 use net_defs::{Block, Driver, Netlist, Signal};
-use seen_list::{List, Memory};
+use seen_list::{List, Memory, Text};
 use std::alloc::Global;
 
 /// The netlist of the statements, or the refusal of the first use that no line drives.
@@ -27,7 +27,7 @@ pub fn make_netlist(
     statements: &[Statement],
 ) -> Result<Netlist, BenchNo>
     requires once { AreOnce (texts_of text.now (drivers_of statements.now)) }
-    requires few { length (drivers_of statements.now) ≤ 1048576 }
+    requires few { length (drivers_of statements.now) ≤ MAX_SIGNALS }
     requires short { length statements.now < 2 ^ 32 }
     ensures { Answers NoMemory result (uses_fault text.now statements.now) (λ net. net ≡ specs.netlist_of text.now statements.now) }
 {
@@ -50,7 +50,7 @@ fn add_lines(
     statements: &[Statement],
 ) -> Result<(), BenchNo>
     requires names { names.now ≡ specs.names_of text.now statements.now }
-    requires few { length (drivers_of statements.now) ≤ 1048576 }
+    requires few { length (drivers_of statements.now) ≤ MAX_SIGNALS }
     requires short { length statements.now < 2 ^ 32 }
     requires signals { net.old.signals ≡ specs.input_signals text.now statements.now }
     requires printed { net.old.printed ≡ [] }
@@ -69,7 +69,7 @@ fn input_signals(
     text: &[u8],
     statements: &[Statement],
 ) -> Result<List<Signal>, Memory>
-    requires { length (drivers_of statements.now) ≤ 1048576 }
+    requires { length (drivers_of statements.now) ≤ MAX_SIGNALS }
     ensures { IfOk result (λ signals. signals ≡ specs.input_signals text.now statements.now) }
 {
     let mut signals = List::new(alloc);
@@ -138,7 +138,7 @@ fn push_printed(printed: &mut List<u32>, act: Act, uses: &[u32]) -> Result<(), M
     ensures { OnOk result (printed.new ≡ printed.old ++ specs.printed_by act uses.now) }
 {
     match act {
-        Act::Output => push_all(printed, uses),
+        Act::Output => printed.extend_from_slice(uses),
         _ => Ok(()),
     }
 }
@@ -154,31 +154,12 @@ fn push_block(
     ensures { OnOk result (blocks.new ≡ blocks.old ++ specs.blocks_by act uses.now outs) }
 {
     match act {
-        Act::Memory { address } => {
+        Act::Ram { address } => {
             blocks.push(block(alloc, uses, address, outs)?)?;
             Ok(())
         }
         _ => Ok(()),
     }
-}
-
-/// Adds the numbers.
-fn push_all(list: &mut List<u32>, numbers: &[u32]) -> Result<(), Memory>
-    ensures { OnOk result (list.new ≡ list.old ++ numbers.now) }
-{
-    for number in numbers {
-        list.push(*number)?;
-    }
-    Ok(())
-}
-
-/// A list of the numbers.
-fn list_of(alloc: Global, numbers: &[u32]) -> Result<List<u32>, Memory>
-    ensures { IfOk result (λ list. list ≡ numbers.now) }
-{
-    let mut list = List::new(alloc);
-    push_all(&mut list, numbers)?;
-    Ok(list)
 }
 
 /// The memory of a line that uses the write enable, so many address bits, and the data.
@@ -188,8 +169,8 @@ fn block(alloc: Global, uses: &[u32], address: usize, outs: List<u32>) -> Result
     let (address, word) = operands(uses).split_at(address.min(operands(uses).len()));
     Ok(Block {
         we: first_of(uses),
-        address: list_of(alloc, address)?,
-        word: list_of(alloc, word)?,
+        address: List::from_slice(alloc, address)?,
+        word: List::from_slice(alloc, word)?,
         outs,
     })
 }
@@ -229,7 +210,7 @@ fn push_signals(
 {
     for (bit, token) in tokens.iter().enumerate() {
         signals.push(Signal {
-            name: copy_of(alloc, text_of(text, *token))?,
+            name: Text::from_bytes(alloc, text_of(text, *token))?,
             driver: driver(alloc, act, uses, memory, bit as u32)?,
         })?;
     }
@@ -244,7 +225,7 @@ fn driver(alloc: Global, act: Act, uses: &[u32], memory: u32, bit: u32) -> Resul
         Act::Input | Act::Output => Ok(Driver::Input),
         Act::Gate { kind } => gate(alloc, kind, uses),
         Act::Dff => Ok(Driver::Dff { op: first_of(uses) }),
-        Act::Memory { address: _ } => Ok(Driver::BlockBit { block: memory, bit }),
+        Act::Ram { address: _ } => Ok(Driver::BlockBit { block: memory, bit }),
     }
 }
 
@@ -253,6 +234,6 @@ fn gate(alloc: Global, kind: Kind, uses: &[u32]) -> Result<Driver, Memory>
 {
     Ok(Driver::Gate {
         kind,
-        ops: list_of(alloc, uses)?,
+        ops: List::from_slice(alloc, uses)?,
     })
 }

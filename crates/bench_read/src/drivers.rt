@@ -1,6 +1,6 @@
 //! The names that the lines of a text drive, each with its token.
 
-ghost use Rattle.std.specs.Prelude.{◌≡◌, ◌⊎◌, ◌++◌, [], ◌∷◌, true, IfOk};
+ghost use Rattle.std.specs.Prelude.{◌≡◌, ◌⊎◌, ◌++◌, [], ◌∷◌, true};
 ghost use Rattle.std.specs.List.{find, list_any};
 ghost use Rattle.text_lines.specs.Answers.{Answers};
 ghost use Rattle.bench_read.specs.declared.refusal.BenchNo.TheVariants.{Memory as NoMemory, DrivenTwice};
@@ -13,7 +13,7 @@ use crate::form::text_of;
 use crate::names::Names;
 use crate::refusal::BenchNo;
 use bench_text::Token;
-use seen_list::{List, Memory, Text};
+use seen_list::{List, Text};
 use std::alloc::Global;
 
 /// Adds the tokens to those of the names that are driven, unless one of them is driven already.
@@ -88,7 +88,7 @@ fn is_same(text: &[u8], one: Token, other: Token) -> bool
 fn twice(alloc: Global, text: &[u8], driver: Token, token: Token) -> BenchNo
     ensures { (result ≡ NoMemory) ⊎ (result ≡ DrivenTwice (specs.text_of text.now token) driver.line token.line) }
 {
-    match copy_of(alloc, text_of(text, token)) {
+    match Text::from_bytes(alloc, text_of(text, token)) {
         Ok(name) => BenchNo::DrivenTwice {
             name,
             first: driver.line,
@@ -96,13 +96,4 @@ fn twice(alloc: Global, text: &[u8], driver: Token, token: Token) -> BenchNo
         },
         Err(_) => BenchNo::Memory,
     }
-}
-
-/// A text of the bytes.
-pub fn copy_of(alloc: Global, bytes: &[u8]) -> Result<Text, Memory>
-    ensures { IfOk result (λ text. text ≡ bytes.now) }
-{
-    let mut text = Text::new(alloc);
-    text.push_bytes(bytes)?;
-    Ok(text)
 }

@@ -24,7 +24,7 @@ pub fn form_of(text: &[u8], row: &[Token]) -> Option<Form>
         return Some(Form::Gate);
     }
     if is_memory_row(row) {
-        return Some(Form::Memory);
+        return Some(Form::Ram);
     }
     None
 }
@@ -118,6 +118,7 @@ fn place_of(tokens: &[Token], mark: Mark) -> usize
         .count()
 }
 
+/// The last place of the row, and 0 where it has no token.
 pub fn last_of(row: &[Token]) -> usize
     ensures { result ≡ specs.last_of row.now }
 {

@@ -2,6 +2,7 @@
 //! laws.
 
 ghost use Rattle.std.specs.Prelude.{◌≡◌, ◌≤◌, ◌⊎◌, List as Items, ℕ, Some, None, length};
+ghost use Rattle.limits.specs.declared.TheConstants.{MAX_TEXT_BYTES};
 ghost use Rattle.net_defs.specs.declared.netlist.Netlist.{Netlist};
 ghost use Rattle.net_defs.specs.Canonical.{canonical_text};
 ghost use Rattle.net_defs.specs.Valid.{IsValid};
@@ -20,7 +21,7 @@ pub fn reads_as_one()
 
 /// What a text reads as is a valid netlist.
 pub fn reads_as_valid(text: &[u8], net: &Netlist)
-    requires { length text.now ≤ 67108864 }
+    requires { length text.now ≤ MAX_TEXT_BYTES }
     ensures { Reads text.now net.now → IsValid net.now }
 {}
 

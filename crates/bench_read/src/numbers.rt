@@ -8,13 +8,12 @@ ghost use Rattle.bench_read.specs.Netlists.{names_of, inputs_by, others_by, plac
 ghost use Rattle.bench_read.specs.Grammar as specs;
 ghost use Rattle.bench_read.specs.Reads.{AreOnce};
 
-use crate::drivers::copy_of;
 use crate::form::text_of;
 use crate::names::Names;
 use crate::refusal::BenchNo;
 use crate::statement::{Act, Statement};
 use bench_text::Token;
-use seen_list::{List, Memory};
+use seen_list::{List, Memory, Text};
 use std::alloc::Global;
 
 /// The names in signal order: the inputs, and then the others.
@@ -91,7 +90,7 @@ pub fn resolve(
 fn undriven(alloc: Global, text: &[u8], token: Token) -> BenchNo
     ensures { (result ≡ NoMemory) ⊎ (result ≡ Undriven (specs.text_of text.now token) token.line) }
 {
-    match copy_of(alloc, text_of(text, token)) {
+    match Text::from_bytes(alloc, text_of(text, token)) {
         Ok(name) => BenchNo::Undriven {
             name,
             line: token.line,
@@ -118,12 +117,10 @@ pub fn numbers(
 }
 
 /// The place of a name among the names, and their number where it is none of them.
+#[tactic(auto, using(crate::proofs::NumberLemmas::place_or_len))]
 fn place_of(names: &Names, name: &[u8]) -> usize
     ensures value { result ≡ place_of names.now name.now }
     ensures within { result ≤ length names.now }
 {
-    match names.find(name) {
-        Some(place) => place,
-        None => names.len(),
-    }
+    names.find(name).unwrap_or(names.len())
 }

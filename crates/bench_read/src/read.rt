@@ -1,6 +1,7 @@
 //! The reader of netlist texts.
 
 ghost use Rattle.std.specs.Prelude.{◌≡◌, ◌≢◌, ◌≤◌, None, MatchResult, IfErr, length};
+ghost use Rattle.limits.specs.declared.TheConstants.{MAX_TEXT_BYTES};
 ghost use Rattle.std.specs.Option.{option_map};
 ghost use Rattle.text_lines.specs.Answers.{Answers};
 ghost use Rattle.net_defs.specs.declared.netlist.Netlist.{Netlist};
@@ -25,7 +26,7 @@ use std::alloc::Global;
 /// no line drives. The faults of one line come in the order of the variants of `BenchNo`, but for
 /// `Undriven`.
 pub fn read_bench(alloc: Global, bytes: &[u8]) -> Result<Netlist, BenchNo>
-    requires { length bytes.now ≤ 67108864 }
+    requires { length bytes.now ≤ MAX_TEXT_BYTES }
 
     // What is read is what the text reads as, a refusal is the first fault, or memory ran out.
     ensures answers { Answers NoMemory result (first_fault bytes.now) (Reads bytes.now) }
@@ -43,7 +44,7 @@ pub fn read_bench(alloc: Global, bytes: &[u8]) -> Result<Netlist, BenchNo>
 
 /// What the lines of the text say, or the first fault of its bytes, or else of its lines.
 fn read_lines(alloc: Global, bytes: &[u8]) -> Result<List<Statement>, BenchNo>
-    requires { length bytes.now ≤ 67108864 }
+    requires { length bytes.now ≤ MAX_TEXT_BYTES }
     ensures { Answers NoMemory result (lines_fault bytes.now) (IsRead bytes.now) }
 {
     let read = read_tokens(alloc, bytes)?;
@@ -52,7 +53,7 @@ fn read_lines(alloc: Global, bytes: &[u8]) -> Result<List<Statement>, BenchNo>
 
 /// The tokens of the text, or the first fault of its bytes.
 fn read_tokens(alloc: Global, bytes: &[u8]) -> Result<Tokens, BenchNo>
-    requires { length bytes.now ≤ 67108864 }
+    requires { length bytes.now ≤ MAX_TEXT_BYTES }
     ensures { Answers NoMemory result (option_map of_text (byte_fault bytes.now)) (λ read. (byte_fault bytes.now ≡ None) × (read.list ≡ tokens_of bytes.now)) }
 {
     match tokens(alloc, bytes) {

@@ -75,7 +75,7 @@ fn act_of(text: &[u8], row: &[Token], form: Form) -> Option<Act>
         Form::Input => Some(Act::Input),
         Form::Output => Some(Act::Output),
         Form::Gate => gate_act(word_at(text, row, 2)),
-        Form::Memory => ram_act(word_at(text, row, right_of(row) + 2), address_count(row)),
+        Form::Ram => ram_act(word_at(text, row, right_of(row) + 2), address_count(row)),
     }
 }
 
@@ -106,7 +106,7 @@ fn driven_part(row: &[Token], form: Form) -> &[Token]
         Form::Input => part(row, 2, 3),
         Form::Output => part(row, 0, 0),
         Form::Gate => part(row, 0, 1),
-        Form::Memory => part(row, 1, right_of(row)),
+        Form::Ram => part(row, 1, right_of(row)),
     }
 }
 
@@ -120,6 +120,6 @@ fn used_part(row: &[Token], form: Form) -> &[Token]
         Form::Input => part(row, 0, 0),
         Form::Output => part(row, 2, 3),
         Form::Gate => part(row, 4, last_of(row)),
-        Form::Memory => part(row, right_of(row) + 4, last_of(row)),
+        Form::Ram => part(row, right_of(row) + 4, last_of(row)),
     }
 }

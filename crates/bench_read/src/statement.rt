@@ -14,7 +14,7 @@ pub enum Form {
     /// `name = KIND(name, ..)`
     Gate,
     /// `[name, ..] = RAM(name; name, ..; name, ..)`
-    Memory,
+    Ram,
 }
 
 /// What a line does.
@@ -30,7 +30,7 @@ pub enum Act {
     Dff,
     /// A memory drives the names. Of the names that it uses the first is the write enable, so many
     /// are the address, and the others are the data.
-    Memory { address: usize },
+    Ram { address: usize },
 }
 
 /// What a line says: the names that it drives, by what, and the names that it uses, from left to

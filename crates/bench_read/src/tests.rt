@@ -4,9 +4,7 @@ use crate::read_bench;
 use crate::refusal::{BenchNo, Many};
 use bench_text::TextNo;
 use net_defs::{Netlist, show};
-use seen_list::{Memory, Text};
 use std::alloc::Global;
-use std::test::Fail;
 
 /// Reads a text of at most a million bytes.
 fn read(alloc: Global, text: &[u8]) -> Result<Netlist, BenchNo> {
@@ -129,86 +127,4 @@ fn refuses_texts(rt: HostRuntime) {
     for (text, name, want) in texts {
         assert_eq!(rt; told(read(rt.alloc(), text), name), want);
     }
-}
-
-/// A name of 255 bytes is read and one of 256 refused, as are gates of 1,024 and 1,025 operands, and
-/// memories of 16 and 17 address bits and of 64 and 65 data bits.
-#[test]
-fn limits_texts(rt: HostRuntime) -> Result<(), Fail> {
-    let alloc = rt.alloc();
-    assert_eq!(rt;
-        told(read(alloc, input(alloc, 255)?.as_bytes()), b""),
-        (0, 0, 0)
-    );
-    assert_eq!(rt;
-        told(read(alloc, input(alloc, 256)?.as_bytes()), b""),
-        (2, 1, 0)
-    );
-    assert_eq!(rt;
-        told(read(alloc, gate(alloc, 1024)?.as_bytes()), b""),
-        (0, 0, 0)
-    );
-    assert_eq!(rt;
-        told(read(alloc, gate(alloc, 1025)?.as_bytes()), b""),
-        (6, 2, 0)
-    );
-    assert_eq!(rt;
-        told(read(alloc, memory(alloc, 16, 64)?.as_bytes()), b""),
-        (0, 0, 0)
-    );
-    assert_eq!(rt;
-        told(read(alloc, memory(alloc, 17, 64)?.as_bytes()), b""),
-        (6, 2, 0)
-    );
-    assert_eq!(rt;
-        told(read(alloc, memory(alloc, 16, 65)?.as_bytes()), b""),
-        (6, 2, 0)
-    );
-    Ok(())
-}
-
-/// `INPUT(aa..)`, a name of so many bytes.
-fn input(alloc: Global, bytes: u32) -> Result<Text, Memory> {
-    let mut text = Text::new(alloc);
-    text.push_bytes(b"INPUT(")?;
-    push_times(&mut text, b"a", bytes)?;
-    text.push_bytes(b")")?;
-    Ok(text)
-}
-
-/// A gate of so many operands, at least one.
-fn gate(alloc: Global, operands: u32) -> Result<Text, Memory> {
-    let mut text = Text::new(alloc);
-    text.push_bytes(b"INPUT(a)\nz=AND(a")?;
-    push_times(&mut text, b",a", operands.saturating_sub(1))?;
-    text.push_bytes(b")")?;
-    Ok(text)
-}
-
-/// A memory of so many address and data bits, at least one of either.
-fn memory(alloc: Global, address: u32, data: u32) -> Result<Text, Memory> {
-    let mut text = Text::new(alloc);
-    text.push_bytes(b"INPUT(a)\n[")?;
-    let mut name = [b'q', b'0', b'0'];
-    for bit in 0..data.min(90) {
-        if bit > 0 {
-            text.push_bytes(b",")?;
-        }
-        name[1] = b'0' + (bit / 10) as u8;
-        name[2] = b'0' + (bit % 10) as u8;
-        text.push_bytes(&name)?;
-    }
-    text.push_bytes(b"]=RAM(a;a")?;
-    push_times(&mut text, b",a", address.saturating_sub(1))?;
-    text.push_bytes(b";a")?;
-    push_times(&mut text, b",a", data.saturating_sub(1))?;
-    text.push_bytes(b")")?;
-    Ok(text)
-}
-
-fn push_times(text: &mut Text, piece: &[u8], times: u32) -> Result<(), Memory> {
-    for _ in 0..times {
-        text.push_bytes(piece)?;
-    }
-    Ok(())
 }

@@ -4,7 +4,8 @@ ghost use Rattle.std.specs.Prelude.{◌≡◌, ◌+◌, ◌-◌};
 ghost use Rattle.bench_read.specs.Words as specs;
 
 use crate::statement::{Act, Form};
-use logic_four::{Kind, allows as allows_operands};
+use limits::{MAX_ADDRESS_BITS, MAX_WORD_BITS};
+use logic_four::{allows as allows_operands, kind_of};
 
 /// The form of a line that is a word and one name in brackets.
 #[tactic(auto, unfolding(crate::specs::Words::port_form))]
@@ -15,36 +16,6 @@ pub fn port_form(word: &[u8]) -> Option<Form>
         Some(Form::Input)
     } else if word.eq_ignore_ascii_case(b"OUTPUT") {
         Some(Form::Output)
-    } else {
-        None
-    }
-}
-
-/// The kind of a gate.
-#[tactic(auto, unfolding(crate::specs::Words::kind_of))]
-pub fn kind_of(word: &[u8]) -> Option<Kind>
-    ensures { result ≡ specs.kind_of word.now }
-{
-    if word.eq_ignore_ascii_case(b"AND") {
-        Some(Kind::And)
-    } else if word.eq_ignore_ascii_case(b"NAND") {
-        Some(Kind::Nand)
-    } else if word.eq_ignore_ascii_case(b"OR") {
-        Some(Kind::Or)
-    } else if word.eq_ignore_ascii_case(b"NOR") {
-        Some(Kind::Nor)
-    } else if word.eq_ignore_ascii_case(b"XOR") {
-        Some(Kind::Xor)
-    } else if word.eq_ignore_ascii_case(b"XNOR") {
-        Some(Kind::Xnor)
-    } else if word.eq_ignore_ascii_case(b"NOT") {
-        Some(Kind::Not)
-    } else if word.eq_ignore_ascii_case(b"BUF") || word.eq_ignore_ascii_case(b"BUFF") {
-        Some(Kind::Buf)
-    } else if word.eq_ignore_ascii_case(b"TRI") {
-        Some(Kind::Tri)
-    } else if word.eq_ignore_ascii_case(b"BUS") {
-        Some(Kind::Bus)
     } else {
         None
     }
@@ -70,7 +41,7 @@ pub fn ram_act(word: &[u8], address: usize) -> Option<Act>
     ensures { result ≡ specs.ram_act word.now address }
 {
     if word.eq_ignore_ascii_case(b"RAM") {
-        Some(Act::Memory { address })
+        Some(Act::Ram { address })
     } else {
         None
     }
@@ -84,7 +55,7 @@ pub fn allows(act: Act, driven: usize, uses: usize) -> bool
         Act::Input | Act::Output => true,
         Act::Gate { kind } => allows_operands(kind, uses),
         Act::Dff => uses == 1,
-        Act::Memory { address } => { allows_memory(address, data_count(uses, address), driven) }
+        Act::Ram { address } => { allows_memory(address, data_count(uses, address), driven) }
     }
 }
 
@@ -92,7 +63,11 @@ pub fn allows(act: Act, driven: usize, uses: usize) -> bool
 fn allows_memory(address: usize, words: usize, outputs: usize) -> bool
     ensures { result ≡ specs.allows_memory address words outputs }
 {
-    1 <= address && address <= 16 && 1 <= words && words <= 64 && words == outputs
+    1 <= address
+        && address <= MAX_ADDRESS_BITS
+        && 1 <= words
+        && words <= MAX_WORD_BITS
+        && words == outputs
 }
 
 /// The number of data names, beside the write enable and the address.

@@ -4,6 +4,7 @@ use Rattle.std.specs.Prelude.{is_some}
 use Rattle.std.specs.List.{prefix_len}
 use Rattle.std.proofs.lemmas.List.{take_rest}
 use Rattle.std.proofs.lemmas.Bool.{cond-true, cond-false, lt-ltb, le-ltb, and_left, and_right, and_from, or_parts, not_from_false, not_from_true, ne_eqb, both_ways}
+use Rattle.limits.specs.declared.TheConstants.{MAX_NAME_BYTES}
 use Rattle.text_lines.specs.Bytes.{is_visible, is_hash, is_blank}
 use Rattle.text_lines.specs.Answers.{fault_or}
 use Rattle.text_lines.specs.Places.{stays_in_comment, is_comment, line_at, column_at, is_line_end}
@@ -120,20 +121,20 @@ module _ (text : List ℕ) (i : ℕ) where
   unfolding begins_name
   begins outside visible sign follows = and_from _ _ (and_from _ _ (not_from_false _ outside) (name_here outside visible sign)) (not_from_false _ follows)
 
-  pub answer_long : is_comment text i ≡ false → is_visible (get_or text i 0) ≡ true → sign_of (get_or text i 0) ≡ None → follows_name text i ≡ false → 255 < name_length text i → answer_at text i ≡ Err (LongName (line_at text i))
+  pub answer_long : is_comment text i ≡ false → is_visible (get_or text i 0) ≡ true → sign_of (get_or text i 0) ≡ None → follows_name text i ≡ false → MAX_NAME_BYTES < name_length text i → answer_at text i ≡ Err (LongName (line_at text i))
   unfolding answer_at fault_at
   answer_long outside visible sign follows long =
-      ap (λ fault. fault_or fault (token_at text i)) (cond-false _ _ _ (good_visible visible) ∙ cond-true _ _ _ (and_from _ _ (begins outside visible sign follows) (lt-ltb 255 (name_length text i) long)))
+      ap (λ fault. fault_or fault (token_at text i)) (cond-false _ _ _ (good_visible visible) ∙ cond-true _ _ _ (and_from _ _ (begins outside visible sign follows) (lt-ltb MAX_NAME_BYTES (name_length text i) long)))
 
-  short_name : name_length text i ≤ 255 → is_bad text i ≡ false → fault_at text i ≡ None
+  short_name : name_length text i ≤ MAX_NAME_BYTES → is_bad text i ≡ false → fault_at text i ≡ None
   unfolding fault_at
-  short_name short good = cond-false _ _ _ good ∙ cond-false _ _ _ (and_right _ _ (le-ltb 255 (name_length text i) short))
+  short_name short good = cond-false _ _ _ good ∙ cond-false _ _ _ (and_right _ _ (le-ltb MAX_NAME_BYTES (name_length text i) short))
 
   pub name_token : is_comment text i ≡ false → sign_of (get_or text i 0) ≡ None → begins_name text i ≡ true → token_at text i ≡ Some (record { mark = Name; from = i; upto = i + name_length text i; line = line_at text i })
   unfolding token_at
   name_token outside sign begins = cond-false _ _ _ outside ∙ ap (token_of_sign text i) sign ∙ cond-true _ _ _ begins
 
-  pub answer_name : is_comment text i ≡ false → is_visible (get_or text i 0) ≡ true → sign_of (get_or text i 0) ≡ None → follows_name text i ≡ false → name_length text i ≤ 255 → answer_at text i ≡ Ok (Some (record { mark = Name; from = i; upto = i + name_length text i; line = line_at text i }))
+  pub answer_name : is_comment text i ≡ false → is_visible (get_or text i 0) ≡ true → sign_of (get_or text i 0) ≡ None → follows_name text i ≡ false → name_length text i ≤ MAX_NAME_BYTES → answer_at text i ≡ Ok (Some (record { mark = Name; from = i; upto = i + name_length text i; line = line_at text i }))
   unfolding answer_at
   answer_name outside visible sign follows short =
       ap (λ fault. fault_or fault (token_at text i)) (short_name short (good_visible visible))

@@ -8,6 +8,7 @@ use Rattle.std.proofs.lemmas.List.{length-drop, length-take, get_or-drop, get_or
 use Rattle.std.proofs.lemmas.List.Elements.{All-nil, All-push, All-weaker, All-from_get_or}
 use Rattle.std.proofs.lemmas.List.Quantifiers.{Any-push, all_pairs_push}
 use Rattle.std.proofs.lemmas.List.Sums.{prefix_len-le-length, prefix_len_passes, prefix_len_stops}
+use Rattle.limits.specs.declared.TheConstants.{MAX_NAME_BYTES}
 use Rattle.text_lines.specs.Bytes.{is_visible, is_hash, is_line_feed, is_return, is_blank}
 use Rattle.text_lines.specs.Places.{stays_in_comment, is_comment, line_at, is_line_end}
 use Rattle.text_lines.specs.Answers.{first}
@@ -202,13 +203,13 @@ sign_bytes text i mark within sign = by_byte mark (sign_byte (get_or text i 0) m
   by_byte Name is = absurd is
 
 -- no name that begins before the end is long, where no place has a fault
-pub short_name : (text : List ℕ) (i : ℕ) → fault_at text i ≡ None → begins_name text i ≡ true → name_length text i ≤ 255
+pub short_name : (text : List ℕ) (i : ℕ) → fault_at text i ≡ None → begins_name text i ≡ true → name_length text i ≤ MAX_NAME_BYTES
 unfolding fault_at
-short_name text i none begins = by_tests (is_bad text i) (begins_name text i) (ltb 255 (name_length text i)) _ _ none begins refl where
-  by_tests : (bad named long : Bool) (f g : TextNo) → cond bad (Some f) (cond (named && long) (Some g) None) ≡ None → named ≡ true → ltb 255 (name_length text i) ≡ long → name_length text i ≤ 255
+short_name text i none begins = by_tests (is_bad text i) (begins_name text i) (ltb MAX_NAME_BYTES (name_length text i)) _ _ none begins refl where
+  by_tests : (bad named long : Bool) (f g : TextNo) → cond bad (Some f) (cond (named && long) (Some g) None) ≡ None → named ≡ true → ltb MAX_NAME_BYTES (name_length text i) ≡ long → name_length text i ≤ MAX_NAME_BYTES
   by_tests true named long f g e n l = cc
   by_tests false true true f g e n l = cc
-  by_tests false true false f g e n l = ltb-false 255 (name_length text i) l
+  by_tests false true false f g e n l = ltb-false MAX_NAME_BYTES (name_length text i) l
   by_tests false false long f g e n l = absurd (false≢true n)
 
 no_name_before : (text : List ℕ) (i : ℕ) → follows_name text i ≡ false → 0 < i → is_name_byte (get_or text (i - 1) 0) ≡ false

@@ -1,6 +1,7 @@
 -- What the tokens of a text cover.
 use Rattle.std.specs.Prelude.{◌≡◌, ℕ, ◌+◌, ◌-◌, ◌<◌, ◌≤◌, false, List, length, slice_index, slice_range, codes}
 use Rattle.std.specs.List.{Any, AllPass}
+use Rattle.limits.specs.declared.TheConstants.{MAX_NAME_BYTES}
 use Rattle.text_lines.specs.Bytes.{is_blank}
 use Rattle.text_lines.specs.Places.{is_comment, line_at, is_line_end}
 use Rattle.bench_text.specs.declared.token.Mark.{Mark}
@@ -12,7 +13,7 @@ use Rattle.text_lines.specs.Names.{is_name_byte}
 -- before or just after them.
 pub record IsNameAt (text : List ℕ) (from upto : ℕ) : Type 0 where
   pub bytes : AllPass is_name_byte (slice_range text from upto)
-  pub short : upto ≤ from + 255
+  pub short : upto ≤ from + MAX_NAME_BYTES
   pub before : 0 < from → is_name_byte (slice_index text (from - 1)) ≡ false
   pub after : upto < length text → is_name_byte (slice_index text upto) ≡ false
 

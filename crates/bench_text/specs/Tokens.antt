@@ -2,6 +2,7 @@
 use Rattle.std.specs.Prelude.{ℕ, zero, suc, ◌+◌, Bool, false, ◌&&◌, not, List, [], ◌++◌, length, drop, slice_index, Option, Some, None, if◌then◌else◌, nat_lt}
 use Rattle.std.specs.Option.{option_to_list}
 use Rattle.std.specs.List.{prefix_len}
+use Rattle.limits.specs.declared.TheConstants.{MAX_NAME_BYTES}
 use Rattle.text_lines.specs.Bytes.{is_visible, is_blank}
 use Rattle.text_lines.specs.Places.{is_comment, line_at, column_at, is_line_end}
 use Rattle.text_lines.specs.Answers.{first}
@@ -59,7 +60,7 @@ is_bad text i =
 unfoldable pub fault_at : List ℕ → ℕ → Option TextNo
 fault_at text i =
     if is_bad text i then Some (BadByte (line_at text i) (column_at text i))
-    else if begins_name text i && nat_lt 255 (name_length text i) then Some (LongName (line_at text i))
+    else if begins_name text i && nat_lt MAX_NAME_BYTES (name_length text i) then Some (LongName (line_at text i))
     else None
 
 -- the fault of the first place that has one

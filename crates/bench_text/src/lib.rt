@@ -7,7 +7,7 @@
 #![tactic(auto)]
 
 pub mod scan;
-pub mod token;
+mod token;
 
 pub use token::{Mark, TextNo, Token, Tokens};
 
@@ -85,26 +85,6 @@ mod tests {
             Ok(_tokens) => None,
             Err(no) => Some(no),
         }
-    }
-
-    #[test]
-    fn says_why(rt: HostRuntime) -> Result<(), Fail> {
-        let lines = [
-            (
-                TextNo::BadByte {
-                    line: 2,
-                    column: 10,
-                },
-                "line 2, column 10: bad byte",
-            ),
-            (TextNo::LongName { line: 1 }, "line 1: name too long"),
-            (TextNo::Memory, "out of memory"),
-        ];
-        for (no, want) in lines {
-            let line = format!(in rt.alloc(); "{no}")?;
-            assert_eq!(rt; line.as_str(), want);
-        }
-        Ok(())
     }
 
     /// Where a bad byte stands. A CR is one unless LF or the end of the text comes next.

@@ -1,6 +1,7 @@
 //! The scanner: one pass over the bytes of a text, with the tokens in a list.
 
-ghost use Rattle.std.specs.Prelude.{◌≡◌, ◌≤◌, ◌<◌, ◌+◌, ◌^◌, ◌↔◌, ℕ, length, All, AllPairs, IfOk};
+ghost use Rattle.std.specs.Prelude.{◌≡◌, ◌≤◌, ◌<◌, ◌+◌, ◌^◌, ◌↔◌, ℕ, nat_lt, length, All, AllPairs, IfOk};
+ghost use Rattle.limits.specs.declared.TheConstants.{MAX_TEXT_BYTES};
 ghost use Rattle.std.specs.List.{prefix_len};
 ghost use Rattle.text_lines.specs.Answers.{Answers};
 ghost use Rattle.text_lines.specs.Places.{stays_in_comment, is_line_end as ends_line};
@@ -12,18 +13,16 @@ ghost use Rattle.bench_text.specs.Scans.{scan_at, scan_after, answer_at};
 ghost use Rattle.bench_text.specs.declared.token.TextNo.TheVariants.{Memory as NoMemory};
 
 use crate::token::{Mark, TextNo, Token, Tokens};
+use limits::MAX_NAME_BYTES;
 use seen_list::List;
 use std::alloc::Global;
 use text_lines::bytes::{is_blank, is_visible};
 use text_lines::names::is_name_byte;
 
-/// The most bytes of a name.
-const MOST_NAME_BYTES: usize = 255;
-
 /// The tokens of the text, or its first fault: the bad byte, or the name of more than 255 bytes,
 /// whose first byte stands first.
 pub fn tokens(alloc: Global, bytes: &[u8]) -> Result<Tokens, TextNo>
-    requires { length bytes.now ≤ 67108864 }
+    requires { length bytes.now ≤ MAX_TEXT_BYTES }
 
     // Either the tokens, or the first fault, or memory ran out.
     ensures answers { Answers NoMemory result (first_fault bytes.now) (λ read. read.list ≡ tokens_of bytes.now) }
@@ -91,7 +90,7 @@ impl Scan {
 #[tactic(auto, unfolding(crate::specs::Scans::answer_at, crate::specs::Tokens::token_at, crate::specs::Tokens::fault_at, crate::specs::Tokens::begins_name, crate::specs::Tokens::is_bad, crate::specs::Tokens::name_length))]
 fn read_place(bytes: &[u8], i: usize, scan: Scan) -> Result<Option<Token>, TextNo>
     requires within { i < length bytes.now }
-    requires short { length bytes.now ≤ 67108864 }
+    requires short { length bytes.now ≤ MAX_TEXT_BYTES }
     requires scan { scan ≡ scan_at bytes.now i }
     ensures { result ≡ answer_at bytes.now i }
 {
@@ -113,12 +112,19 @@ fn read_place(bytes: &[u8], i: usize, scan: Scan) -> Result<Option<Token>, TextN
         None if scan.in_name => Ok(None),
         None => {
             let len = name_len(&bytes[i..]);
-            if len > MOST_NAME_BYTES {
+            if is_too_long(len) {
                 return Err(TextNo::LongName { line: scan.line });
             }
             Ok(Some(token(Mark::Name, i, len, scan.line)))
         }
     }
+}
+
+/// Whether a name of so many bytes is too long.
+fn is_too_long(len: usize) -> bool
+    ensures { result ≡ nat_lt MAX_NAME_BYTES len }
+{
+    len > MAX_NAME_BYTES
 }
 
 /// A token of `len` bytes from place `from` on.

@@ -1,7 +1,6 @@
 //! Tokens, and why a text has none.
 
 use seen_list::{List, Memory};
-use std::fmt;
 
 /// What a token is.
 #[derive(Clone, Copy, Debug, PartialEq, Eq)]
@@ -61,15 +60,3 @@ impl From<Memory> for TextNo {
         TextNo::Memory
     }
 }
-
-impl fmt::Display for TextNo {
-    fn fmt<W: fmt::Write>(&self, f: &mut fmt::Formatter<W>) -> fmt::Result {
-        match self {
-            TextNo::BadByte { line, column } => write!(f, "line {line}, column {column}: bad byte"),
-            TextNo::LongName { line } => write!(f, "line {line}: name too long"),
-            TextNo::Memory => write!(f, "out of memory"),
-        }
-    }
-}
-
-impl std::error::Error for TextNo {}

@@ -1,7 +1,6 @@
 -- A store of files in memory.
 use Rattle.std.specs.Prelude.{ℕ, List, [], drop, Bool, not, ◌||◌, if◌then◌else◌, Option, None, Some, is_some, position, slice_get, bytes_eq}
 use Rattle.std.specs.Option.{option_map_or}
-use Rattle.edge_io.specs.Counts.{raised_if}
 use Rattle.edge_io.specs.declared.counts.FileCounts.{FileCounts}
 use Rattle.edge_io.specs.declared.script.Script.{Script}
 use Rattle.edge_io.specs.declared.mem_files.NamedBytes.{NamedBytes}
@@ -14,11 +13,10 @@ pub record MemStore : Type 0 where
   pub script : Script
   pub left : List ℕ
   pub counts : FileCounts
-  pub absent_starts : ℕ
 
 -- a store before its first call
 abbrev pub unread : List NamedBytes → List ℕ → MemStore
-unread files fails = record { files = files; script = record { fails = fails; calls = 0 }; left = []; counts = no_calls; absent_starts = 0 }
+unread files fails = record { files = files; script = record { fails = fails; calls = 0 }; left = []; counts = no_calls }
 
 -- the bytes of the file at a place, or none
 abbrev pub bytes_at : List NamedBytes → Option ℕ → List ℕ
@@ -46,8 +44,7 @@ abbrev pub started : MemStore → List ℕ → MemStore
 started s name = record s {
   script = called s.script;
   left = if start_fails s name then [] else bytes_named s.files name;
-  counts = after_start s.counts (start_fails s name);
-  absent_starts = raised_if (not (has_name s.files name)) s.absent_starts;
+  counts = after_start s.counts (not (has_name s.files name)) (start_fails s name);
 }
 
 -- after a `read` of the next n bytes

@@ -21,7 +21,7 @@ has_name name = true
 
 -- after a `start`: the whole file is left
 abbrev pub started : PlainStore → List ℕ → PlainStore
-started s name = record s { left = bytes_named s.files name; counts = after_start s.counts false }
+started s name = record s { left = bytes_named s.files name; counts = after_start s.counts false false }
 
 -- after a `read` of the next n bytes
 abbrev pub read_past : PlainStore → ℕ → PlainStore

@@ -5,13 +5,21 @@ ghost use Rattle.edge_io.specs.Counts.{raised};
 ghost use Rattle.edge_io.specs.FileCounts.{no_calls, after_start, after_read, after_failed_read};
 ghost use Rattle.edge_io.specs.SinkCounts.{no_writes, after_write};
 
-/// The counts of a store of files.
+/// The counts of a store of files, each of which stands still at its last value.
 #[derive(Clone, Copy)]
 pub struct FileCounts {
-    faults: u64,
-    starts: u64,
-    reads: u64,
-    given: u64,
+    /// The faults: each call that failed, and whatever else a store counts as one.
+    pub faults: u64,
+    /// The calls that answered `Failed`.
+    pub failures: u64,
+    /// The calls of `start`.
+    pub starts: u64,
+    /// The calls of `start` with a name that is told to be absent.
+    pub absent_starts: u64,
+    /// The calls of `read`.
+    pub reads: u64,
+    /// The bytes that they gave.
+    pub given: u64,
 }
 
 impl FileCounts {
@@ -20,17 +28,21 @@ impl FileCounts {
     {
         FileCounts {
             faults: 0,
+            failures: 0,
             starts: 0,
+            absent_starts: 0,
             reads: 0,
             given: 0,
         }
     }
 
-    pub(crate) fn start(&mut self, failed: bool)
-        ensures { self.new ≡ after_start self.old failed }
+    pub(crate) fn start(&mut self, absent: bool, failed: bool)
+        ensures { self.new ≡ after_start self.old absent failed }
     {
         raise(&mut self.starts, 1);
+        raise(&mut self.absent_starts, u64::from(absent));
         raise(&mut self.faults, u64::from(failed));
+        raise(&mut self.failures, u64::from(failed));
     }
 
     pub(crate) fn read(&mut self, n: usize)
@@ -45,6 +57,7 @@ impl FileCounts {
     {
         raise(&mut self.reads, 1);
         raise(&mut self.faults, 1);
+        raise(&mut self.failures, 1);
     }
 }
 

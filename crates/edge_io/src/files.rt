@@ -1,7 +1,8 @@
 //! A store of files.
 
-ghost use Rattle.std.specs.Prelude.{◌≡◌, ℕ, Option, ◌≤◌, List, Bool, length, IfOk, OnOk, OnErr, IsErr};
-ghost use Rattle.edge_io.specs.Counts.{raised, raised_if, Rose};
+ghost use Rattle.std.specs.Prelude.{◌≡◌, ℕ, Option, ◌≤◌, List, Bool, length, IfOk, OnOk, IsErr, is_err};
+ghost use Rattle.edge_io.specs.declared.counts.FileCounts.{FileCounts};
+ghost use Rattle.edge_io.specs.FileCounts.{CountsFaults, CountsStart, CountsRead, bytes_given};
 ghost use Rattle.edge_io.specs.Names.{is_absent, IsAbsent, OfTold};
 ghost use Rattle.edge_io.specs.Reading.{Gives};
 
@@ -24,18 +25,8 @@ pub trait Files {
     // what is left of the file begun last, where that is told
     ghost left: { Self → Option (List ℕ) };
 
-    // the faults
-    ghost faults: { Self → ℕ };
-
-    // the calls of `start`, and those of an absent name among them
-    ghost starts: { Self → ℕ };
-
-    ghost absent_starts: { Self → ℕ };
-
-    // the calls of `read`, and the bytes that they gave
-    ghost reads: { Self → ℕ };
-
-    ghost given: { Self → ℕ };
+    // the calls so far, and what came of them
+    ghost counts: { Self → FileCounts };
 
     /// Begins the named file, and ends the one before.
     fn start(&mut self, name: &[u8]) -> Result<(), Failed>
@@ -44,14 +35,9 @@ pub trait Files {
 
         ensures begins { OnOk result (OfTold (bytes self.old) name.now (λ whole. left self.new ≡ Some whole)) }
         ensures absent { IsAbsent (names self.old) name.now → IsErr result }
-        ensures failed { OnErr result (Rose (faults self.old) (faults self.new)) }
 
-        ensures faults_kept { faults self.old ≤ faults self.new }
-        ensures counted { starts self.new ≡ raised (starts self.old) 1 }
-        ensures absent_counted { absent_starts self.new
-            ≡ raised_if (is_absent (names self.old) name.now) (absent_starts self.old) }
-        ensures same_reads { reads self.new ≡ reads self.old }
-        ensures same_given { given self.new ≡ given self.old };
+        ensures faults { CountsFaults (is_err result) (counts self.old) (counts self.new) }
+        ensures counted { CountsStart (is_absent (names self.old) name.now) (counts self.old) (counts self.new) };
 
     /// Gives the next bytes of the file begun last, at most as many as `buf` is long, at the front
     /// of `buf`. 0 into a buffer that isn't empty is the end of the file. After `Failed` the file
@@ -62,12 +48,7 @@ pub trait Files {
 
         ensures bound { IfOk result (λ n. n ≤ length buf.new) }
         ensures gives { IfOk result (λ n. Gives (left self.old) (left self.new) n buf.new) }
-        ensures failed { OnErr result (Rose (faults self.old) (faults self.new)) }
 
-        ensures faults_kept { faults self.old ≤ faults self.new }
-        ensures counted { reads self.new ≡ raised (reads self.old) 1 }
-        ensures given_counted { IfOk result (λ n. given self.new ≡ raised (given self.old) n) }
-        ensures none_given { OnErr result (given self.new ≡ given self.old) }
-        ensures same_starts { starts self.new ≡ starts self.old }
-        ensures same_absent { absent_starts self.new ≡ absent_starts self.old };
+        ensures faults { CountsFaults (is_err result) (counts self.old) (counts self.new) }
+        ensures counted { CountsRead (bytes_given result) (counts self.old) (counts self.new) };
 }

@@ -1,6 +1,6 @@
 //! The files and the writers of the host.
 
-ghost use Rattle.std.specs.Prelude.{◌≡◌, ◌<◌, ◌≤◌, None, IfOk, MatchResult, is_err, length, take};
+ghost use Rattle.std.specs.Prelude.{◌≡◌, ◌<◌, ◌≤◌, None, false, IfOk, MatchResult, is_err, length, take};
 ghost use Rattle.std.specs.Io.KnownBytes.{Appends, ReadConsumes};
 ghost use Rattle.edge_io.specs.FileCounts.{no_calls, after_start, after_read, after_failed_read};
 ghost use Rattle.edge_io.specs.SinkCounts.{no_writes, after_write};
@@ -12,7 +12,7 @@ use std::marker::Model;
 use std::{fs, io, rt, str};
 
 /// How often a call of the host is made that a signal cuts off each time.
-const TRIES: u32 = 1000;
+const MAX_TRIES: u32 = 1000;
 
 /// The files of the host, by their paths. It tells no names and no bytes.
 ///
@@ -53,22 +53,14 @@ impl<'a, R: rt::Files> Files for HostFiles<'a, R> {
 
     ghost left = { λ _. None };
 
-    ghost faults = { λ s. s.faults };
-
-    ghost starts = { λ s. s.starts };
-
-    ghost absent_starts = { λ _. 0 };
-
-    ghost reads = { λ s. s.reads };
-
-    ghost given = { λ s. s.given };
+    ghost counts = { λ s. s };
 
     fn start(&mut self, name: &[u8]) -> Result<(), Failed>
-        ensures { self.new ≡ after_start self.old (is_err result) }
+        ensures { self.new ≡ after_start self.old false (is_err result) }
     {
         self.file = open(self.rt, name);
         let failed = self.file.is_none();
-        self.counts.start(failed);
+        self.counts.start(false, failed);
         if failed { Err(Failed) } else { Ok(()) }
     }
 
@@ -159,7 +151,7 @@ fn read_through<F: Read>(file: &mut F, buf: &mut [u8]) -> io::Result<usize>
     ensures bound { IfOk result (λ n. n ≤ length buf.new) }
     ensures bytes { ReadConsumes (F.remaining file.old) (F.remaining file.new) result buf.new }
 {
-    'tries: for _ in 0..TRIES {
+    'tries: for _ in 0..MAX_TRIES {
         match file.read(buf) {
             Err(e) if e.kind() == ErrorKind::Interrupted => {}
             other => return other,
@@ -173,7 +165,7 @@ fn write_through<W: Write>(writer: &mut W, piece: &[u8]) -> io::Result<usize>
     ensures bound { IfOk result (λ n. n ≤ length piece.now) }
     ensures bytes { IfOk result (λ n. Appends (W.contents writer.old) (W.contents writer.new) (take n piece.now)) }
 {
-    'tries: for _ in 0..TRIES {
+    'tries: for _ in 0..MAX_TRIES {
         match writer.write(piece) {
             Ok(n) => {
                 writer.flush()?;

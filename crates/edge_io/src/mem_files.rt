@@ -4,7 +4,7 @@ ghost use Rattle.std.specs.Prelude.{◌≡◌, ◌≤◌, Some, min, length, tak
 ghost use Rattle.edge_io.specs.Script.{next_fails};
 ghost use Rattle.edge_io.specs.MemStore.{place_named, bytes_at};
 
-use crate::counts::{FileCounts, raise};
+use crate::counts::FileCounts;
 use crate::script::Script;
 use crate::{Failed, Files};
 use seen_list::{List, Text};
@@ -25,10 +25,9 @@ pub struct NamedBytes {
 pub struct MemFiles {
     files: List<NamedBytes>,
     script: Script,
-    begun: Option<usize>,
-    at: usize,
+    current: Option<usize>,
+    offset: usize,
     counts: FileCounts,
-    absent_starts: u64,
 }
 
 impl Model for MemFiles {
@@ -40,12 +39,11 @@ impl Model for MemFiles {
     ghost view = { λ s. record {
       files = s.files;
       script = s.script;
-      left = drop s.at (bytes_at s.files s.begun);
+      left = drop s.offset (bytes_at s.files s.current);
       counts = s.counts;
-      absent_starts = s.absent_starts;
     } };
 
-    ghost invariant = { λ s. s.at ≤ length (bytes_at s.files s.begun) };
+    ghost invariant = { λ s. s.offset ≤ length (bytes_at s.files s.current) };
 }
 
 impl MemFiles {
@@ -59,10 +57,9 @@ impl MemFiles {
         MemFiles {
             files,
             script: Script::new(fails),
-            begun: None,
-            at: 0,
+            current: None,
+            offset: 0,
             counts: FileCounts::new(),
-            absent_starts: 0,
         }
     }
 }
@@ -76,31 +73,22 @@ impl Files for MemFiles {
 
     ghost left = { λ s. Some s.left };
 
-    ghost faults = { λ s. s.counts.faults };
-
-    ghost starts = { λ s. s.counts.starts };
-
-    ghost absent_starts = { λ s. s.absent_starts };
-
-    ghost reads = { λ s. s.counts.reads };
-
-    ghost given = { λ s. s.counts.given };
+    ghost counts = { λ s. s.counts };
 
     fn start(&mut self, name: &[u8]) -> Result<(), Failed>
         ensures answer { is_err result ≡ start_fails self.old name.now }
         ensures after { self.new ≡ started self.old name.now }
     {
         let fails = self.script.call();
-        let place = place_of(self.files.as_slice(), name);
+        let place = file_named(self.files.as_slice(), name);
         let failed = fails || place.is_none();
-        self.counts.start(failed);
-        raise(&mut self.absent_starts, u64::from(place.is_none()));
-        self.at = 0;
+        self.counts.start(place.is_none(), failed);
+        self.offset = 0;
         if failed {
-            self.begun = None;
+            self.current = None;
             return Err(Failed);
         }
-        self.begun = place;
+        self.current = place;
         Ok(())
     }
 
@@ -114,16 +102,16 @@ impl Files for MemFiles {
             self.counts.failed_read();
             return Err(Failed);
         }
-        let left = &bytes_of(self.files.as_slice(), self.begun)[self.at..];
+        let left = &bytes_of(self.files.as_slice(), self.current)[self.offset..];
         let n = copy_front(left, buf);
-        self.at += n;
+        self.offset += n;
         self.counts.read(n);
         Ok(n)
     }
 }
 
 /// The place of the first file with this name.
-pub(crate) fn place_of(files: &[NamedBytes], name: &[u8]) -> Option<usize>
+pub(crate) fn file_named(files: &[NamedBytes], name: &[u8]) -> Option<usize>
     ensures { result ≡ place_named files.now name.now }
 {
     files.iter().position(|file| file.name.as_bytes() == name)

@@ -3,7 +3,7 @@
 ghost use Rattle.std.specs.Prelude.{◌≡◌, Ok, min, length, take, drop, ◌++◌, IsOk, IfOk};
 
 use crate::counts::FileCounts;
-use crate::mem_files::{NamedBytes, bytes_of, copy_front, place_of};
+use crate::mem_files::{NamedBytes, bytes_of, copy_front, file_named};
 use crate::{Failed, Files};
 use seen_list::List;
 use std::marker::Model;
@@ -14,8 +14,8 @@ use std::marker::Model;
 #[derive(Drop)]
 pub struct PlainFiles {
     files: List<NamedBytes>,
-    begun: Option<usize>,
-    at: usize,
+    current: Option<usize>,
+    offset: usize,
     counts: FileCounts,
 }
 
@@ -28,11 +28,11 @@ impl Model for PlainFiles {
 
     ghost view = { λ s. record {
       files = s.files;
-      left = drop s.at (bytes_at s.files s.begun);
+      left = drop s.offset (bytes_at s.files s.current);
       counts = s.counts;
     } };
 
-    ghost invariant = { λ s. s.at ≤ length (bytes_at s.files s.begun) };
+    ghost invariant = { λ s. s.offset ≤ length (bytes_at s.files s.current) };
 }
 
 impl PlainFiles {
@@ -44,8 +44,8 @@ impl PlainFiles {
     {
         PlainFiles {
             files,
-            begun: None,
-            at: 0,
+            current: None,
+            offset: 0,
             counts: FileCounts::new(),
         }
     }
@@ -62,23 +62,15 @@ impl Files for PlainFiles {
 
     ghost left = { λ s. Some s.left };
 
-    ghost faults = { λ _. 0 };
-
-    ghost starts = { λ s. s.counts.starts };
-
-    ghost absent_starts = { λ _. 0 };
-
-    ghost reads = { λ s. s.counts.reads };
-
-    ghost given = { λ s. s.counts.given };
+    ghost counts = { λ s. s.counts };
 
     fn start(&mut self, name: &[u8]) -> Result<(), Failed>
         ensures answer { IsOk result }
         ensures after { self.new ≡ started self.old name.now }
     {
-        self.counts.start(false);
-        self.at = 0;
-        self.begun = place_of(self.files.as_slice(), name);
+        self.counts.start(false, false);
+        self.offset = 0;
+        self.current = file_named(self.files.as_slice(), name);
         Ok(())
     }
 
@@ -87,9 +79,9 @@ impl Files for PlainFiles {
         ensures buffer { IfOk result (λ n. buf.new ≡ take n self.old.left ++ drop n buf.old) }
         ensures after { IfOk result (λ n. self.new ≡ read_past self.old n) }
     {
-        let left = &bytes_of(self.files.as_slice(), self.begun)[self.at..];
+        let left = &bytes_of(self.files.as_slice(), self.current)[self.offset..];
         let n = copy_front(left, buf);
-        self.at += n;
+        self.offset += n;
         self.counts.read(n);
         Ok(n)
     }

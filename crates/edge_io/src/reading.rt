@@ -1,14 +1,12 @@
 //! The reading of a whole file.
 
 ghost use Rattle.std.specs.Prelude.{◌≡◌, ◌+◌, ◌-◌, ◌^◌, ◌<◌, ◌≤◌, ◌++◌, length, IfOk, IfSome, OnOk};
-ghost use Rattle.edge_io.specs.Counts.{raised, raised_if, Rose};
 ghost use Rattle.edge_io.specs.Names.{is_absent, IsAbsent, OfTold};
-ghost use Rattle.edge_io.specs.Reading.{UnlessFailed};
+ghost use Rattle.edge_io.specs.FileCounts.{CountsFile, CountsReads};
 
 use crate::{Failed, Files};
 use seen_list::{List, Memory};
 use std::alloc::Global;
-use std::fmt;
 
 /// Why a file wasn't read.
 #[derive(Clone, Copy, Debug, PartialEq, Eq)]
@@ -20,18 +18,6 @@ pub enum ReadNo {
     /// Want of memory.
     Memory,
 }
-
-impl fmt::Display for ReadNo {
-    fn fmt<W: fmt::Write>(&self, f: &mut fmt::Formatter<W>) -> fmt::Result {
-        match self {
-            ReadNo::Failed => write!(f, "the file can't be read"),
-            ReadNo::TooLong => write!(f, "the file is longer than the limit"),
-            ReadNo::Memory => write!(f, "out of memory"),
-        }
-    }
-}
-
-impl std::error::Error for ReadNo {}
 
 /// The most bytes that one read asks for.
 const CHUNK: usize = 65536;
@@ -52,19 +38,9 @@ pub fn read_file<F: Files>(
     ensures short { IfOk result (λ read. length read ≤ limit) }
     ensures too_long { result ≡ Err ReadNo.TooLong
         → OfTold (F.bytes files.old) name.now (λ whole. limit < length whole) }
-    ensures failed { result ≡ Err ReadNo.Failed → Rose (F.faults files.old) (F.faults files.new) }
     ensures absent { IsAbsent (F.names files.old) name.now → result ≡ Err ReadNo.Failed }
 
-    ensures faults_kept { F.faults files.old ≤ F.faults files.new }
-    ensures counted { F.starts files.new ≡ raised (F.starts files.old) 1 }
-    ensures absent_counted { F.absent_starts files.new
-        ≡ raised_if (is_absent (F.names files.old) name.now) (F.absent_starts files.old) }
-    ensures present { UnlessFailed result (F.absent_starts files.new ≡ F.absent_starts files.old) }
-    ensures given_whole { IfOk result (λ read. F.given files.new ≡ raised (F.given files.old) (length read)) }
-    ensures given_past { result ≡ Err ReadNo.TooLong → F.given files.new ≡ raised (F.given files.old) (limit + 1) }
-    ensures given_kept { F.given files.old ≤ F.given files.new }
-    ensures given_at_most { F.given files.new ≤ raised (F.given files.old) (limit + 1) }
-    ensures reads_at_most { F.reads files.new ≤ raised (F.reads files.old) (limit + 2) }
+    ensures counted { CountsFile (is_absent (F.names files.old) name.now) limit result (F.counts files.old) (F.counts files.new) }
 {
     if files.start(name).is_err() {
         return Err(ReadNo::Failed);
@@ -81,16 +57,8 @@ fn read_rest<F: Files>(alloc: Global, files: &mut F, limit: usize) -> Result<Lis
     ensures whole { IfOk result (λ read. IfSome (F.left files.old) (λ left. read ≡ left)) }
     ensures short { IfOk result (λ read. length read ≤ limit) }
     ensures too_long { result ≡ Err ReadNo.TooLong → IfSome (F.left files.old) (λ left. limit < length left) }
-    ensures failed { result ≡ Err ReadNo.Failed → Rose (F.faults files.old) (F.faults files.new) }
 
-    ensures faults_kept { F.faults files.old ≤ F.faults files.new }
-    ensures same_starts { F.starts files.new ≡ F.starts files.old }
-    ensures same_absent { F.absent_starts files.new ≡ F.absent_starts files.old }
-    ensures given_whole { IfOk result (λ read. F.given files.new ≡ raised (F.given files.old) (length read)) }
-    ensures given_past { result ≡ Err ReadNo.TooLong → F.given files.new ≡ raised (F.given files.old) (limit + 1) }
-    ensures given_kept { F.given files.old ≤ F.given files.new }
-    ensures given_at_most { F.given files.new ≤ raised (F.given files.old) (limit + 1) }
-    ensures reads_at_most { F.reads files.new ≤ raised (F.reads files.old) (limit + 2) }
+    ensures counted { CountsReads limit result (F.counts files.old) (F.counts files.new) }
 {
     let mut buffer = [0; CHUNK];
     let mut bytes = List::new(alloc);
@@ -99,7 +67,7 @@ fn read_rest<F: Files>(alloc: Global, files: &mut F, limit: usize) -> Result<Lis
         match files.read(&mut buffer[..room]) {
             Ok(0) => return Ok(bytes),
             Ok(n) => {
-                if append(&mut bytes, &buffer[..n]).is_err() {
+                if bytes.extend_from_slice(&buffer[..n]).is_err() {
                     return Err(ReadNo::Memory);
                 }
             }
@@ -107,14 +75,4 @@ fn read_rest<F: Files>(alloc: Global, files: &mut F, limit: usize) -> Result<Lis
         }
     }
     Err(ReadNo::TooLong)
-}
-
-/// Adds a piece at the end of a list of bytes. Refused, a part of the piece may stand there.
-fn append(bytes: &mut List<u8>, piece: &[u8]) -> Result<(), Memory>
-    ensures { OnOk result (bytes.new ≡ bytes.old ++ piece.now) }
-{
-    for byte in piece {
-        bytes.push(*byte)?;
-    }
-    Ok(())
 }

@@ -6,7 +6,6 @@ ghost use Rattle.edge_io.specs.Counts.{raised, Rose};
 ghost use Rattle.edge_io.specs.Writing.{TakesProperPrefix};
 
 use crate::{Failed, Sink};
-use std::fmt;
 
 /// Why a piece wasn't written.
 #[derive(Clone, Copy, Debug, PartialEq, Eq)]
@@ -14,16 +13,6 @@ pub enum WriteNo {
     /// A call of the sink failed.
     Failed,
 }
-
-impl fmt::Display for WriteNo {
-    fn fmt<W: fmt::Write>(&self, f: &mut fmt::Formatter<W>) -> fmt::Result {
-        match self {
-            WriteNo::Failed => write!(f, "the piece can't be written"),
-        }
-    }
-}
-
-impl std::error::Error for WriteNo {}
 
 /// Writes a whole piece, in as many writes as the sink wants. An empty piece makes no call.
 #[tactic(auto, using(crate::proofs::Taking::taken_more))]

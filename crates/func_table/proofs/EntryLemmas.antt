@@ -1,16 +1,17 @@
--- A table as it is built, word by word, against its entries.
-use Rattle.std.proofs.Common.{inl, inr, ◌≡◌, ℕ, zero, suc, ◌+◌, ◌*◌, ◌/◌, ◌%◌, ◌^◌, ◌<◌, List, [], ◌∷◌, length, take, set, sym, refl, ap, ◌∙◌, arith, get_or-set_same, get_or-set_other}
+-- A table as it is built, entry by entry, and as its entries.
+use Rattle.std.proofs.Common.{inl, inr, ◌≡◌, ◌≢◌, ℕ, ◌+◌, ◌*◌, ◌/◌, ◌%◌, ◌^◌, ◌<◌, List, [], ◌∷◌, length, take, ap, ◌∙◌, arith, Bool, true, false, refl}
 use Rattle.std.specs.Prelude.{slice_index}
+use Rattle.std.specs.Bool.{Decides, MatchBool}
 use Rattle.std.proofs.lemmas.Bool.{cases_eq}
-use Rattle.std.proofs.lemmas.List.{ext_get_or}
 use Rattle.logic_four.specs.declared.V4.{V4}
 use Rattle.logic_four.specs.declared.Kind.{Kind}
-use Rattle.logic_four.specs.Values.{code_of, value_of}
-use Rattle.logic_four.proofs.CodeLemmas.{value_of-code_of, code_of_small}
+use Rattle.logic_four.specs.Values.{code_of}
 use Rattle.logic_four.specs.Gates.{gate_value}
-use Rattle.func_table.proofs.Digits.{same_from_codes}
+use Rattle.logic_four.specs.Packed.{packed_value}
+use Rattle.logic_four.proofs.CodeLemmas.{value_of-code_of, code_of_small}
+use Rattle.logic_four.proofs.PackedLemmas.{same_words}
 use Rattle.func_table.specs.declared.table.Table.{Table}
-use Rattle.func_table.specs.Entries.{code_at, place_of, operands_at, answer_at}
+use Rattle.func_table.specs.Entries.{entry_of, place_of, operands_at, answer_at, AreAlike, AreOther}
 
 -- the entry for four operands is below 256, and the operands are read from it
 first_code : (x y z w : ℕ) → x < 4 → (x + 4 * y + 16 * z + 64 * w) % 4 ≡ x
@@ -41,67 +42,40 @@ operands_at-place_of a b c d =
       value_of-code_of d,
     )
 
--- codes of the words so far, and of one word more
-pub words_more : (f : ℕ → ℕ → ℕ) (words : List ℕ) (j word : ℕ) → j < length words
-    → ((k : ℕ) → k < j → (i : ℕ) → i < 32 → slice_index words k / 2 ^ (2 * i) % 4 ≡ f k i)
-    → ((i : ℕ) → i < 32 → word / 2 ^ (2 * i) % 4 ≡ f j i)
-    → (k : ℕ) → k < j + 1 → (i : ℕ) → i < 32 → slice_index (set words j word) k / 2 ^ (2 * i) % 4 ≡ f k i
-words_more f words j word within before here k h i small =
-    elim (cases_eq k j) as (λ _. slice_index (set words j word) k / 2 ^ (2 * i) % 4 ≡ f k i) [
-      | inl same ↦ rw (same, get_or-set_same words j word 0 within) (here i small)
-      | inr other ↦ rw (get_or-set_other words j k word 0 other) (before k (omega arith) i small)
+-- the entries so far, and one more
+pub entries_more : (f : ℕ → V4) (old new : List ℕ) (i : ℕ) → ((e : ℕ) → e < i → packed_value old e ≡ f e)
+    → packed_value new i ≡ f i → ((e : ℕ) → e ≢ i → packed_value new e ≡ packed_value old e)
+    → (e : ℕ) → e < i + 1 → packed_value new e ≡ f e
+entries_more f old new i before here others e h =
+    elim (cases_eq e i) as (λ _. packed_value new e ≡ f e) [
+      | inl same ↦ rw same here
+      | inr other ↦ others e other ∙ before e (omega arith)
     ]
 
--- where each code of the eight words is the answer at its entry, each entry is the gate value
-code_is_answer : (kind : Kind) (n : ℕ) (words : List ℕ)
-    → ((k : ℕ) → k < 8 → (i : ℕ) → i < 32 → slice_index words k / 2 ^ (2 * i) % 4 ≡ code_of (answer_at kind n (32 * k + i)))
-    → (e : ℕ) → e < 256 → code_at words e ≡ code_of (answer_at kind n e)
-code_is_answer kind n words codes e h =
-    let back : 32 * (e / 32) + e % 32 ≡ e = omega arith in
-    codes (e / 32) (omega arith) (e % 32) (omega arith) ∙ ap (λ m. code_of (answer_at kind n m)) back
-
-pub entries_are_answers : (kind : Kind) (n : ℕ) (words : List ℕ)
-    → ((k : ℕ) → k < 8 → (i : ℕ) → i < 32 → slice_index words k / 2 ^ (2 * i) % 4 ≡ code_of (answer_at kind n (32 * k + i)))
-    → (a b c d : V4) → value_of (code_at words (place_of a b c d)) ≡ gate_value kind (take n (a ∷ b ∷ c ∷ d ∷ []))
-entries_are_answers kind n words codes a b c d =
-    let small : place_of a b c d < 256 =
-    place_small (code_of a) (code_of b) (code_of c) (code_of d) (code_of_small a) (code_of_small b) (code_of_small c) (code_of_small d) in
-    ap value_of (code_is_answer kind n words codes (place_of a b c d) small)
-    ∙ value_of-code_of (answer_at kind n (place_of a b c d))
+-- where each entry is the answer there, the entry for four operands is the gate value of the first of them
+pub entries_are_answers : (kind : Kind) (n : ℕ) (words : List ℕ) → ((e : ℕ) → e < 256 → packed_value words e ≡ answer_at kind n e)
+    → (a b c d : V4) → packed_value words (place_of a b c d) ≡ gate_value kind (take n (a ∷ b ∷ c ∷ d ∷ []))
+entries_are_answers kind n words entries a b c d =
+    entries (place_of a b c d) (place_small (code_of a) (code_of b) (code_of c) (code_of d) (code_of_small a) (code_of_small b) (code_of_small c) (code_of_small d))
     ∙ ap (λ vs. gate_value kind (take n vs)) (operands_at-place_of a b c d)
 
 -- a table is its entries
-code_of-value_of : (n : ℕ) → n < 4 → code_of (value_of n) ≡ n
-code_of-value_of zero h = refl
-code_of-value_of (suc zero) h = refl
-code_of-value_of (suc (suc zero)) h = refl
-code_of-value_of (suc (suc (suc zero))) h = refl
-code_of-value_of (suc (suc (suc (suc n)))) h = absurd (omega arith)
+pub same_table : (s t : Table) → length s.words ≡ 8 → length t.words ≡ 8
+    → ((k : ℕ) → k < 8 → slice_index s.words k < 2 ^ 64) → ((k : ℕ) → k < 8 → slice_index t.words k < 2 ^ 64)
+    → AreAlike s t → s ≡ t
+unfolding entry_of
+same_table s t long long' below below' alike =
+    let table : List ℕ → Table = λ words. record { words = words } in
+    ap table
+    (same_words s.words t.words (omega arith) (λ k h. below k (omega arith)) (λ k h. below' k (omega arith))
+    (λ e h. alike e (omega arith)))
 
-same_code : (words others : List ℕ) (e : ℕ) → value_of (code_at words e) ≡ value_of (code_at others e)
-    → code_at words e ≡ code_at others e
-same_code words others e same =
-    sym (code_of-value_of (code_at words e) (omega arith)) ∙ ap code_of same ∙ code_of-value_of (code_at others e) (omega arith)
+same_from_words : (s t : Table) → s.words ≡ t.words → s ≡ t
+same_from_words s t e = let table : List ℕ → Table = λ words. record { words = words } in ap table e
 
-same_word : (words others : List ℕ) (k : ℕ) → k < 8
-    → slice_index words k < 2 ^ 64 → slice_index others k < 2 ^ 64
-    → ((e : ℕ) → e < 256 → value_of (code_at words e) ≡ value_of (code_at others e))
-    → slice_index words k ≡ slice_index others k
-same_word words others k h below below' entries =
-    same_from_codes 32 (slice_index words k) (slice_index others k) below below'
-    (λ i small.
-    let row : (32 * k + i) / 32 ≡ k = omega arith in
-    let column : (32 * k + i) % 32 ≡ i = omega arith in
-    rw (row, column) at (same_code words others (32 * k + i) (entries (32 * k + i) (omega arith))))
-
-pub same_words : (words others : List ℕ) → length words ≡ 8 → length others ≡ 8
-    → ((k : ℕ) → k < 8 → slice_index words k < 2 ^ 64) → ((k : ℕ) → k < 8 → slice_index others k < 2 ^ 64)
-    → ((e : ℕ) → e < 256 → value_of (code_at words e) ≡ value_of (code_at others e))
-    → words ≡ others
-same_words words others count count' below below' entries =
-    ext_get_or 0 words others (count ∙ sym count')
-    (λ k h. let small : k < 8 = omega arith in same_word words others k small (below k small) (below' k small) entries)
-
--- tables with the same words are the same
-pub same_table : (s t : Table) → s.words ≡ t.words → s ≡ t
-same_table s t e = let table : List ℕ → Table = λ words. record { words = words } in ap table e
+-- tables with the same words are the same, and others differ in an entry
+pub equal_or_other : (r : Bool) (s t : Table) → Decides r (s.words ≡ t.words) → (AreAlike s t → s ≡ t)
+    → MatchBool r (s ≡ t) (AreOther s t)
+equal_or_other true s t decides decided = same_from_words s t (decides.0 refl)
+equal_or_other false s t decides decided = λ alike.
+    let equal : false ≡ true = decides.1 (ap (λ (t : Table). t.words) (decided alike)) in cc

@@ -1,18 +1,24 @@
 -- A function table as its 256 entries.
-use Rattle.std.specs.Prelude.{◌≡◌, ℕ, ◌+◌, ◌*◌, ◌/◌, ◌%◌, ◌^◌, ◌==◌, if◌then◌else◌, List, [], ◌∷◌, take, slice_index}
+use Rattle.std.specs.Prelude.{◌≡◌, ℕ, ◌+◌, ◌*◌, ◌/◌, ◌%◌, ◌<◌, List, [], ◌∷◌, take, Option, Some, None}
 use Rattle.logic_four.specs.declared.V4.{V4}
+use Rattle.logic_four.specs.declared.V4.TheVariants.{Undef}
 use Rattle.logic_four.specs.declared.Kind.{Kind}
 use Rattle.logic_four.specs.Values.{code_of, value_of}
 use Rattle.logic_four.specs.Gates.{gate_value}
+use Rattle.logic_four.specs.Packed.{packed_value}
 use Rattle.func_table.specs.declared.table.Table.{Table}
-
--- the code of entry e: two bits of word e div 32, the first of them bit 2 * (e mod 32)
-abbrev pub code_at : List ℕ → ℕ → ℕ
-code_at words e = slice_index words (e / 32) / 2 ^ (2 * (e % 32)) % 4
 
 -- the value of entry e
 unfoldable pub entry_of : Table → ℕ → V4
-entry_of table e = value_of (code_at table.words e)
+entry_of table e = packed_value table.words e
+
+-- two tables have the same 256 entries
+abbrev pub AreAlike : Table → Table → Type 0
+AreAlike table other = (e : ℕ) → e < 256 → entry_of table e ≡ entry_of other e
+
+-- two tables differ in an entry
+abbrev pub AreOther : Table → Table → Type 0
+AreOther table other = ¬ AreAlike table other
 
 -- the number of the entry for four operands, and its value
 abbrev pub place_of : V4 → V4 → V4 → V4 → ℕ
@@ -20,6 +26,11 @@ place_of a b c d = code_of a + 4 * code_of b + 16 * code_of c + 64 * code_of d
 
 unfoldable pub entry_for : Table → V4 → V4 → V4 → V4 → V4
 entry_for table a b c d = entry_of table (place_of a b c d)
+
+-- the value that a table has for four operands, and undefined where there is no table
+abbrev pub looked_up : Option Table → V4 → V4 → V4 → V4 → V4
+looked_up None a b c d = Undef
+looked_up (Some table) a b c d = entry_for table a b c d
 
 -- the four operands for which entry e is
 abbrev pub operands_at : ℕ → List V4

@@ -1,14 +1,15 @@
 -- A shelf of tables, each of which has a number.
-use Rattle.std.specs.Prelude.{◌≡◌, ◌≢◌, ◌⊎◌, ℕ, List, [], ◌∷◌, ◌++◌, length, Some, slice_get, All, AllPairs}
+use Rattle.std.specs.Prelude.{◌≡◌, ◌⊎◌, ℕ, List, [], ◌∷◌, ◌++◌, length, Some, slice_get, All, AllPairs}
 use Rattle.func_table.specs.declared.table.Table.{Table}
+use Rattle.func_table.specs.Entries.{AreOther}
 
--- no table stands twice
+-- no table stands twice: every two of them differ in an entry
 abbrev pub AreDifferent : List Table → Type 0
-AreDifferent tables = AllPairs (λ s t. s ≢ t) tables
+AreDifferent tables = AllPairs AreOther tables
 
 -- the number n of a table in a shelf that holds the new tables after it held the old ones: an equal
 -- table has it and the shelf stays; or no equal one is there, and the table gets the next number
 abbrev pub IsNumbered : Table → List Table → List Table → ℕ → Type 0
 IsNumbered table old new n =
     ((slice_get old n ≡ Some table) × (new ≡ old)) ⊎
-    (All (λ t. t ≢ table) old × (n ≡ length old) × (new ≡ old ++ table ∷ []))
+    (All (λ t. AreOther t table) old × (n ≡ length old) × (new ≡ old ++ table ∷ []))

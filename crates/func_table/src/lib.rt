@@ -2,11 +2,11 @@
 //! equal tables share a number.
 #![tactic(auto)]
 
-pub mod shelf;
-pub mod table;
+mod shelf;
+mod table;
 
 pub use shelf::Shelf;
-pub use table::{Table, table_of};
+pub use table::{Table, entries_decide, table_of};
 
 #[cfg(test)]
 mod tests {

@@ -1,9 +1,11 @@
 //! Tables that share a number where they are equal.
 
-ghost use Rattle.std.specs.Prelude.{◌≡◌, ◌≢◌, ◌↔◌, IsTrue, ◌+◌, ◌-◌, ◌^◌, ◌<◌, [], All, MatchOption, IfOk, OnErr, Some, length, slice_get};
+ghost use Rattle.std.specs.Prelude.{◌≡◌, ◌+◌, ◌-◌, ◌^◌, ◌<◌, [], All, MatchOption, IfOk, OnErr, Some, length, slice_get};
+ghost use Rattle.std.specs.Bool.{MatchBool};
+ghost use Rattle.func_table.specs.Entries.{AreOther};
 ghost use Rattle.func_table.specs.Shelf.{AreDifferent, IsNumbered};
 
-use crate::table::Table;
+use crate::table::{Table, entries_decide};
 use seen_list::{List, Memory};
 use std::alloc::Global;
 
@@ -14,15 +16,17 @@ pub struct Shelf {
     pub ghost different: { AreDifferent tables },
 }
 
+/// Whether two tables are equal. They are where they have the same entries.
 fn is_equal(table: &Table, other: &Table) -> bool
-    ensures { IsTrue result ↔ (table.now ≡ other.now) }
+    ensures { MatchBool result (table.now ≡ other.now) (AreOther table.now other.now) }
 {
+    entries_decide(table, other);
     table == other
 }
 
 /// The place of a table that is equal to this one.
 fn place_of_equal(tables: &[Table], table: &Table) -> Option<usize>
-    ensures { MatchOption result (All (λ t. t ≢ table.now) tables.now) (λ n. slice_get tables.now n ≡ Some table.now) }
+    ensures { MatchOption result (All (λ t. AreOther t table.now) tables.now) (λ n. slice_get tables.now n ≡ Some table.now) }
 {
     for (place, other) in tables.iter().enumerate() {
         if is_equal(other, table) {

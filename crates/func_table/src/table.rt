@@ -1,14 +1,13 @@
 //! The table of a gate.
 
-ghost use Rattle.std.specs.Prelude.{◌≡◌, ◌+◌, ◌*◌, ◌/◌, ◌%◌, ◌^◌, ◌<◌, ◌≤◌, ℕ};
-ghost use Rattle.logic_four.specs.Values.{code_of};
-ghost use Rattle.logic_four.specs.Gates.{AllowsOperands};
+ghost use Rattle.std.specs.Prelude.{◌≡◌, ◌≤◌, ◌<◌, ℕ};
+ghost use Rattle.logic_four.specs.Kinds.{AllowsOperands};
 ghost use Rattle.func_table.specs.Entries.{entry_of, entry_for, answer_at, IsTableOf};
 
-use logic_four::{Kind, V4, code, decoded, gate};
+use logic_four::{Kind, V4, code, decoded, gate, packed};
 
-/// The entries of one word.
-const PER_WORD: usize = 32;
+/// The entries of a table.
+const ENTRIES: usize = 256;
 
 /// The answer of a gate for each of the 256 choices of four operands. Entry `a + 4b + 16c + 64d` is
 /// the answer for the operands of the codes a, b, c and d.
@@ -25,7 +24,7 @@ impl Table {
         ensures { result ≡ entry_for self.now a b c d }
     {
         let entry = (code(a) + 4 * code(b) + 16 * code(c) + 64 * code(d)) as usize;
-        decoded(self.words[entry / PER_WORD] >> (2 * (entry % PER_WORD)))
+        packed::value(&self.words, entry)
     }
 }
 
@@ -44,19 +43,6 @@ fn answer(kind: Kind, operands: usize, entry: usize) -> V4
     gate(kind, &values[..operands])
 }
 
-/// The word that begins with the entry `first`.
-fn word_from(kind: Kind, operands: usize, first: usize) -> u64
-    requires few { operands ≤ 4 }
-    requires small { first ≤ 224 }
-    ensures { (i : ℕ) → i < 32 → result / 2 ^ (2 * i) % 4 ≡ code_of (answer_at kind operands (first + i)) }
-{
-    let mut word = 0;
-    'entries: for i in 0..PER_WORD {
-        word |= code(answer(kind, operands, first + i)) << (2 * i);
-    }
-    word
-}
-
 /// The table of a gate of this kind with so many operands, 1 to 4. Operands past that number don't
 /// change the answer.
 pub fn table_of(kind: Kind, operands: u32) -> Table
@@ -65,8 +51,8 @@ pub fn table_of(kind: Kind, operands: u32) -> Table
     ensures { IsTableOf kind operands result }
 {
     let mut words = [0; 8];
-    'words: for k in 0..words.len() {
-        words[k] = word_from(kind, operands as usize, PER_WORD * k);
+    'entries: for entry in 0..ENTRIES {
+        packed::put(&mut words, entry, answer(kind, operands as usize, entry));
     }
     Table { words }
 }

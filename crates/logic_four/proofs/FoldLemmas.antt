@@ -9,7 +9,7 @@ use Rattle.logic_four.specs.declared.V4.TheVariants.{Zero, One, Undef, HighZ}
 use Rattle.logic_four.specs.declared.Kind.TheVariants.{And, Nand, Or, Nor, Xor, Xnor, Not, Buf, Tri, Bus}
 use Rattle.logic_four.specs.Values.{inverse}
 use Rattle.logic_four.specs.Gates.{is_one, is_high_z, and_value, or_value, xor_value, bus_value, is_driven_zero, is_driven_one}
-use Rattle.logic_four.specs.Folds.{JoinsParts, JoinsGroups}
+use Rattle.logic_four.specs.Folds.{JoinsFront, JoinsParts, JoinsGroups}
 
 -- a value of a list that is joined from the right: each law follows
 module _ (f : List V4 → V4) (each : (x : V4) (xs : List V4) → f (x ∷ xs) ≡ f (x ∷ f xs ∷ [])) (unit : (xs : List V4) → f (f [] ∷ f xs ∷ []) ≡ f xs) (turned : (a b c : V4) → f (a ∷ f (b ∷ c ∷ []) ∷ []) ≡ f (f (a ∷ b ∷ []) ∷ c ∷ [])) where
@@ -19,6 +19,9 @@ module _ (f : List V4 → V4) (each : (x : V4) (xs : List V4) → f (x ∷ xs) �
       each x (front ++ back)
       ∙ (ap (λ v. f (x ∷ v ∷ [])) (join_parts front back)
       ∙ (turned x (f front) (f back) ∙ ap (λ v. f (v ∷ f back ∷ [])) (sym (each x front))))
+
+  pub join_front : (front rest : List V4) → f (front ++ rest) ≡ f (f front ∷ rest)
+  join_front front rest = join_parts front rest ∙ sym (each (f front) rest)
 
   pub join_groups : (groups : List (List V4)) → f (flat_map (λ group. group) groups) ≡ f (map f groups)
   join_groups [] = refl
@@ -74,6 +77,18 @@ xor_turned a b c = grind arith
 
 bus_turned : (a b c : V4) → bus_value (a ∷ bus_value (b ∷ c ∷ []) ∷ []) ≡ bus_value (bus_value (a ∷ b ∷ []) ∷ c ∷ [])
 bus_turned a b c = grind arith
+
+pub front : JoinsFront
+front And first rest many = join_front and_value and_each and_unit and_turned first rest
+front Nand first rest many = ap inverse (join_front and_value and_each and_unit and_turned first rest)
+front Or first rest many = join_front or_value or_each or_unit or_turned first rest
+front Nor first rest many = ap inverse (join_front or_value or_each or_unit or_turned first rest)
+front Xor first rest many = join_front xor_value xor_each xor_unit xor_turned first rest
+front Xnor first rest many = ap inverse (join_front xor_value xor_each xor_unit xor_turned first rest)
+front Not first rest many = cc
+front Buf first rest many = cc
+front Tri first rest many = cc
+front Bus first rest many = join_front bus_value bus_each bus_unit bus_turned first rest
 
 pub parts : JoinsParts
 parts And front back many = join_parts and_value and_each and_unit and_turned front back

@@ -1,11 +1,12 @@
--- The words of the kinds read back.
-use Rattle.std.proofs.Common.{inl, inr, ◌≡◌, ◌⊎◌, ℕ, Bool, true, false, List, Option, Some, None, refl, subst}
+-- The words of the kinds read back, and the numbers of operands.
+use Rattle.std.proofs.Common.{inl, inr, ◌≡◌, ◌⊎◌, ℕ, Bool, true, false, List, Option, Some, None, refl, subst, ◌≤◌, arith}
 use Rattle.std.specs.Prelude.{if◌then◌else◌, codes}
 use Rattle.std.specs.Str.{str_to_ascii_lowercase, str_eq_ignore_ascii_case}
+use Rattle.std.proofs.lemmas.Bool.{and_parts, leb-true, eqb-true}
 use Rattle.std.proofs.lemmas.Slice.Eq.{bytes_eq-Decides}
 use Rattle.logic_four.specs.declared.Kind.{Kind}
 use Rattle.logic_four.specs.declared.Kind.TheVariants.{And, Nand, Or, Nor, Xor, Xnor, Not, Buf, Tri, Bus}
-use Rattle.logic_four.specs.Kinds.{kind_word, kind_of, IsSameWord, ReadsInAnyCase, CanonicalWordsRead, BothWordsOfBuffers, WordsSayTheirKind}
+use Rattle.logic_four.specs.Kinds.{kind_word, kind_of, is_any_number, AllowsOperands, IsSameWord, ReadsInAnyCase, CanonicalWordsRead, BothWordsOfBuffers, WordsSayTheirKind}
 
 pub canonical : CanonicalWordsRead
 unfolding kind_of
@@ -69,3 +70,31 @@ says word kind e =
     (tested (Says word kind) (str_eq_ignore_ascii_case word (codes "TRI")) Tri kind _ (by_word word Tri kind)
     (tested (Says word kind) (str_eq_ignore_ascii_case word (codes "BUS")) Bus kind _ (by_word word Bus kind)
     (none_is word kind))))))))))) e
+
+-- every kind has an operand at least, and none has more than the most
+any_number : (n : ℕ) → is_any_number n ≡ true → (1 ≤ n) × (n ≤ 1024)
+any_number n e = let both = and_parts _ _ e in (leb-true 1 n both.0, leb-true n 1024 both.1)
+
+pub some_operands : (kind : Kind) (n : ℕ) → AllowsOperands kind n → 1 ≤ n
+some_operands And n e = (any_number n e).0
+some_operands Nand n e = (any_number n e).0
+some_operands Or n e = (any_number n e).0
+some_operands Nor n e = (any_number n e).0
+some_operands Xor n e = (any_number n e).0
+some_operands Xnor n e = (any_number n e).0
+some_operands Not n e = omega (arith, eqb-true n 1 e)
+some_operands Buf n e = omega (arith, eqb-true n 1 e)
+some_operands Tri n e = omega (arith, eqb-true n 2 e)
+some_operands Bus n e = (any_number n e).0
+
+pub few_operands : (kind : Kind) (n : ℕ) → AllowsOperands kind n → n ≤ 1024
+few_operands And n e = (any_number n e).1
+few_operands Nand n e = (any_number n e).1
+few_operands Or n e = (any_number n e).1
+few_operands Nor n e = (any_number n e).1
+few_operands Xor n e = (any_number n e).1
+few_operands Xnor n e = (any_number n e).1
+few_operands Not n e = omega (arith, eqb-true n 1 e)
+few_operands Buf n e = omega (arith, eqb-true n 1 e)
+few_operands Tri n e = omega (arith, eqb-true n 2 e)
+few_operands Bus n e = (any_number n e).1

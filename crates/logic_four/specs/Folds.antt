@@ -54,6 +54,13 @@ JoinsTwo =
     → IsTrue (takes_many kind)
     → gate_value kind (a ∷ b ∷ rest) ≡ gate_value kind (gate_value (base_kind kind) (a ∷ b ∷ []) ∷ rest)
 
+-- the first operands, however many, may be joined to one
+abbrev pub JoinsFront : Type 0
+JoinsFront =
+    (kind : Kind) (front rest : List V4)
+    → IsTrue (takes_many kind)
+    → gate_value kind (front ++ rest) ≡ gate_value kind (gate_value (base_kind kind) front ∷ rest)
+
 -- the first operands may be joined to one, and those after them to another
 abbrev pub JoinsParts : Type 0
 JoinsParts =

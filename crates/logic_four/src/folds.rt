@@ -2,7 +2,7 @@
 
 ghost use Rattle.std.specs.Prelude.{◌≡◌};
 ghost use Rattle.logic_four.specs.declared.Kind.TheVariants.{Nand, Nor, Xnor, Not};
-ghost use Rattle.logic_four.specs.Folds.{takes_many, base_kind, lone_kind, JoinsTwo, JoinsParts, JoinsGroups, AnswersOne, IgnoresMore, Inverts};
+ghost use Rattle.logic_four.specs.Folds.{takes_many, base_kind, lone_kind, JoinsTwo, JoinsFront, JoinsParts, JoinsGroups, AnswersOne, IgnoresMore, Inverts};
 
 use crate::Kind;
 
@@ -44,6 +44,7 @@ pub fn lone_kind(kind: Kind) -> Kind
 /// Laws: a gate of many operands answers what gates of few answer that join them. It does nothing.
 pub fn fold_laws()
     ensures two { JoinsTwo }
+    ensures front { JoinsFront }
     ensures parts { JoinsParts }
     ensures groups { JoinsGroups }
     ensures one { AnswersOne }

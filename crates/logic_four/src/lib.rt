@@ -2,17 +2,18 @@
 //! operands. The memory act, which has no code here, is defined beside them for the crates above.
 #![tactic(auto)]
 
-pub mod folds;
-pub mod gates;
-pub mod kinds;
-pub mod memory;
+mod folds;
+mod gates;
+mod kinds;
+mod memory;
 pub mod packed;
-pub mod values;
+mod values;
 
-pub use folds::{base_kind, lone_kind, takes_many};
+pub use folds::{base_kind, fold_laws, lone_kind, takes_many};
 pub use gates::{and_all, bus_all, gate, or_all, tri, xor_all};
-pub use kinds::{allows, kind_of, word_of};
-pub use values::{code, decoded, not, of_char, settle, to_char};
+pub use kinds::{allows, kind_of, kind_words, word_of};
+pub use memory::memory_laws;
+pub use values::{char_round_trip, code, decoded, not, of_char, settle, to_char};
 
 /// The value of a signal.
 #[derive(Clone, Copy, Debug, PartialEq, Eq)]

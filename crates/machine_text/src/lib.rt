@@ -6,10 +6,10 @@
 #![tactic(auto)]
 
 pub mod law;
-pub mod line;
-pub mod machine;
-pub mod quantity;
-pub mod reading;
+mod line;
+mod machine;
+mod quantity;
+mod reading;
 
 pub use machine::{MachNo, Machine};
 pub use reading::read_machine;
@@ -17,7 +17,6 @@ pub use reading::read_machine;
 #[cfg(test)]
 mod tests {
     use super::*;
-    use std::test::Fail;
 
     const SMALLEST: Machine = Machine {
         logic: 1,
@@ -34,22 +33,6 @@ mod tests {
         functions: 256,
         bits: 65_536,
     };
-
-    #[test]
-    fn says_why(rt: HostRuntime) -> Result<(), Fail> {
-        let lines = [
-            (MachNo::Syntax { line: 3 }, "line 3: syntax"),
-            (MachNo::Twice { line: 20 }, "line 20: given twice"),
-            (MachNo::Range { line: 1 }, "line 1: out of range"),
-            (MachNo::Ports { sum: 257 }, "257 ports, limit is 256"),
-            (MachNo::Memory, "out of memory"),
-        ];
-        for (no, want) in lines {
-            let line = format!(in rt.alloc(); "{no}")?;
-            assert_eq!(rt; line.as_str(), want);
-        }
-        Ok(())
-    }
 
     /// The texts that are refused, with their lines, and texts at the ends of the ranges.
     #[test]

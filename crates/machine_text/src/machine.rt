@@ -5,7 +5,6 @@ ghost use Rattle.machine_text.specs.Machines.{default_machine, IsValid};
 
 use crate::quantity::Quantity;
 use seen_list::Memory;
-use std::fmt;
 
 /// The numbers and sizes of a machine's processors.
 #[derive(Clone, Copy, Debug, PartialEq, Eq)]
@@ -64,17 +63,3 @@ impl From<Memory> for MachNo {
         MachNo::Memory
     }
 }
-
-impl fmt::Display for MachNo {
-    fn fmt<W: fmt::Write>(&self, f: &mut fmt::Formatter<W>) -> fmt::Result {
-        match self {
-            MachNo::Syntax { line } => write!(f, "line {line}: syntax"),
-            MachNo::Range { line } => write!(f, "line {line}: out of range"),
-            MachNo::Twice { line } => write!(f, "line {line}: given twice"),
-            MachNo::Ports { sum } => write!(f, "{sum} ports, limit is 256"),
-            MachNo::Memory => write!(f, "out of memory"),
-        }
-    }
-}
-
-impl std::error::Error for MachNo {}

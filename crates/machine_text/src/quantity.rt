@@ -76,6 +76,7 @@ impl Quantity {
     }
 }
 
+/// Whether both are one quantity.
 pub fn is_same(a: Quantity, b: Quantity) -> bool
     ensures { result ≡ same_quantity a b }
 {

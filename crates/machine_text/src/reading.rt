@@ -1,6 +1,7 @@
 //! The reader of machine texts.
 
 ghost use Rattle.std.specs.Prelude.{◌≡◌, ◌≤◌, ℕ, None, MatchResult, IfOk, length};
+ghost use Rattle.limits.specs.declared.TheConstants.{MAX_TEXT_BYTES};
 ghost use Rattle.std.specs.List.{find};
 ghost use Rattle.text_lines.specs.Answers.{Answers, first};
 ghost use Rattle.text_lines.specs.Lines.{parts_of};
@@ -17,12 +18,12 @@ use std::alloc::Global;
 use text_lines::Lines;
 
 /// The most ports of a machine, the host's among them.
-const MOST_PORTS: u32 = 256;
+const MAX_PORTS: u32 = 256;
 
 /// The machine that the text describes, or the text's first fault. A fault of a line is a wrong
 /// form, a word that an earlier line has, or else a number out of its range.
 pub fn read_machine(alloc: Global, bytes: &[u8]) -> Result<Machine, MachNo>
-    requires { length bytes.now ≤ 67108864 }
+    requires { length bytes.now ≤ MAX_TEXT_BYTES }
 
     // What is read is what the text reads as, a refusal is the first fault, or memory ran out.
     ensures answers { Answers NoMemory result (first_fault bytes.now) (Reads bytes.now) }
@@ -37,7 +38,7 @@ pub fn read_machine(alloc: Global, bytes: &[u8]) -> Result<Machine, MachNo>
     let settings = read_settings(alloc, bytes)?;
     let machine = machine_of(settings.as_slice());
     let sum = machine.logic + machine.array + 1;
-    if sum > MOST_PORTS {
+    if sum > MAX_PORTS {
         return Err(MachNo::Ports { sum });
     }
     Ok(machine)
@@ -45,7 +46,7 @@ pub fn read_machine(alloc: Global, bytes: &[u8]) -> Result<Machine, MachNo>
 
 /// What the lines of the text set, or the fault of the first line that has one.
 fn read_settings(alloc: Global, bytes: &[u8]) -> Result<List<Setting>, MachNo>
-    requires { length bytes.now ≤ 67108864 }
+    requires { length bytes.now ≤ MAX_TEXT_BYTES }
     ensures { Answers NoMemory result (first (line_fault bytes.now) (length (parts_of bytes.now)))
         (λ settings. settings ≡ settings_of (parts_of bytes.now)) }
 {

@@ -2,8 +2,7 @@
 -- the other signals in signal order, a memory once, at its first output.
 use Rattle.std.specs.Prelude.{ℕ, List, [], ◌∷◌, ◌++◌, ◌==◌, if◌then◌else◌, Option, Some, None, slice_get, codes}
 use Rattle.std.specs.List.{flat_map, join_by}
-use Rattle.logic_four.specs.declared.Kind.{Kind}
-use Rattle.logic_four.specs.declared.Kind.TheVariants.{And, Nand, Or, Nor, Xor, Xnor, Not, Buf, Tri, Bus}
+pub use Rattle.logic_four.specs.Kinds.{kind_word}
 use Rattle.net_defs.specs.declared.netlist.Netlist.{Netlist}
 use Rattle.net_defs.specs.declared.netlist.Signal.{Signal}
 use Rattle.net_defs.specs.declared.netlist.Block.{Block}
@@ -20,19 +19,6 @@ name_of net s = name_in (slice_get net.signals s) where
 -- the names of these signals, a comma and a space between
 abbrev pub names_of : Netlist → List ℕ → List ℕ
 names_of net signals = join_by (name_of net) (codes ", ") signals
-
--- the word of a kind
-abbrev pub kind_word : Kind → List ℕ
-kind_word And = codes "AND"
-kind_word Nand = codes "NAND"
-kind_word Or = codes "OR"
-kind_word Nor = codes "NOR"
-kind_word Xor = codes "XOR"
-kind_word Xnor = codes "XNOR"
-kind_word Not = codes "NOT"
-kind_word Buf = codes "BUFF"
-kind_word Tri = codes "TRI"
-kind_word Bus = codes "BUS"
 
 -- `INPUT(a)`, for an input
 unfoldable pub input_line : Signal → List ℕ

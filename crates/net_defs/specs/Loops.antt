@@ -6,7 +6,7 @@ use Rattle.net_defs.specs.declared.netlist.Signal.{Signal}
 use Rattle.net_defs.specs.declared.netlist.Driver.{Driver}
 use Rattle.net_defs.specs.declared.netlist.Driver.TheVariants.{Input, Gate, Dff, BlockBit}
 use Rattle.net_defs.specs.declared.timing.Timing.{Timing}
-use Rattle.net_defs.specs.declared.stimulus.Ranks.{Ranks}
+use Rattle.net_defs.specs.declared.ranks.Ranks.{Ranks}
 use Rattle.net_defs.specs.Steps.{is_late}
 use Rattle.net_defs.specs.Valid.{IsSignal}
 
@@ -48,8 +48,11 @@ pub record IsLoop (net : Netlist) (timing : Timing) (loop : List ℕ) : Type 0 w
   pub some : 1 ≤ length loop
   pub different : AllPairs (λ s t. s ≢ t) loop
   pub gates : All (IsGate net) loop
-  pub next : (i : ℕ) → i + 1 < length loop → Contains (waits_for net timing (slice_index loop (i + 1))) (slice_index loop i)
-  pub closed : Contains (waits_for net timing (slice_index loop 0)) (slice_index loop (length loop - 1))
+  pub next :
+      (i : ℕ) → i + 1 < length loop
+      → Contains (waits_for net timing (slice_index loop (i + 1))) (slice_index loop i)
+  pub closed :
+      Contains (waits_for net timing (slice_index loop 0)) (slice_index loop (length loop - 1))
   pub least : All (λ s. slice_index loop 0 ≤ s) loop
 
 -- an order: each gate once, after all the gates that it waits for
@@ -57,7 +60,10 @@ pub record IsOrder (net : Netlist) (timing : Timing) (order : List ℕ) : Type 0
   pub different : AllPairs (λ s t. s ≢ t) order
   pub gates : All (IsGate net) order
   pub whole : (s : ℕ) → IsGate net s → Contains order s
-  pub after : (i operand : ℕ) → i < length order → Contains (waits_for net timing (slice_index order i)) operand → IsGate net operand → Contains (take i order) operand
+  pub after :
+      (i operand : ℕ) → i < length order
+      → Contains (waits_for net timing (slice_index order i)) operand
+      → IsGate net operand → Contains (take i order) operand
 
 -- the least rank of a gate that waits for this signal, as far as this signal goes
 abbrev pub rank_past : Netlist → List ℕ → ℕ → ℕ
@@ -65,18 +71,22 @@ rank_past net rank operand = if is_gate net operand then slice_index rank operan
 
 -- one more than the greatest rank of the gates among these signals, and 0 where there is none
 abbrev pub rank_above : Netlist → List ℕ → List ℕ → ℕ
-rank_above net rank signals = fold (λ greatest operand. max greatest (rank_past net rank operand)) 0 signals
+rank_above net rank signals =
+    fold (λ greatest operand. max greatest (rank_past net rank operand)) 0 signals
 
 -- the rank of each signal, by what it waits for; what waits for no gate has rank 0
 pub record IsRanking (net : Netlist) (timing : Timing) (rank : List ℕ) : Type 0 where
   pub signals : length rank ≡ length net.signals
-  pub numbers : (s : ℕ) → IsSignal net s → slice_index rank s ≡ rank_above net rank (waits_for net timing s)
+  pub numbers :
+      (s : ℕ) → IsSignal net s → slice_index rank s ≡ rank_above net rank (waits_for net timing s)
 
--- the order and the ranks of a netlist
+-- the order and the ranks of a netlist; an order is no longer than the netlist
 pub record AreRanks (net : Netlist) (timing : Timing) (ranks : Ranks) : Type 0 where
   pub order : IsOrder net timing ranks.order
+  pub few : length ranks.order ≤ length net.signals
   pub rank : IsRanking net timing ranks.rank
 
 -- there is an order or a loop
 abbrev pub OrderOrLoop : Netlist → Timing → Type 0
-OrderOrLoop net timing = ((order : List ℕ) × IsOrder net timing order) ⊎ ((loop : List ℕ) × IsLoop net timing loop)
+OrderOrLoop net timing =
+    ((order : List ℕ) × IsOrder net timing order) ⊎ ((loop : List ℕ) × IsLoop net timing loop)

@@ -11,7 +11,10 @@ use Rattle.net_defs.specs.Steps.{State, IsRightStep, first_state}
 pub record IsSimulation (net : Netlist) (timing : Timing) (stimulus : Stimulus) (states : List State) : Type 0 where
   pub turns : length states ≡ turn_count timing stimulus + 1
   pub first : slice_get states 0 ≡ Some (first_state net timing)
-  pub steps : (turn : ℕ) (old new : State) → slice_get states turn ≡ Some old → slice_get states (turn + 1) ≡ Some new → IsRightStep net timing stimulus (turn + 1) old new
+  pub steps :
+      (turn : ℕ) (old new : State)
+      → slice_get states turn ≡ Some old → slice_get states (turn + 1) ≡ Some new
+      → IsRightStep net timing stimulus (turn + 1) old new
 
 -- there is a reference simulation, and no second one
 pub record HasOneSimulation (net : Netlist) (timing : Timing) (stimulus : Stimulus) : Type 0 where

@@ -26,7 +26,7 @@ abbrev pub is_unit : Mode → Bool
 is_unit mode.Rank = false
 is_unit mode.Unit = true
 
--- a late gate reads the values of the last turn; the others read those of this turn
+-- a late gate reads the last turn; the others read this turn
 abbrev pub is_late : Netlist → Timing → ℕ → Bool
 is_late net timing signal = is_unit timing.mode
 
@@ -75,10 +75,14 @@ words_after timing turn old memory words =
 pub record IsRightStep (net : Netlist) (timing : Timing) (stimulus : Stimulus) (turn : ℕ) (old new : State) : Type 0 where
   -- there is one value for each signal, and each meets the equation of its driver
   pub signals : length new.row ≡ length net.signals
-  pub values : (s : ℕ) (signal : Signal) → slice_get net.signals s ≡ Some signal → value_at new.row s ≡ driven net timing stimulus turn old new s signal.driver
+  pub values :
+      (s : ℕ) (signal : Signal) → slice_get net.signals s ≡ Some signal
+      → value_at new.row s ≡ driven net timing stimulus turn old new s signal.driver
   -- there are words for each memory, those of its act at an edge and else as they were
   pub memories : length new.words ≡ length net.blocks
-  pub words : (m : ℕ) (memory : Block) → slice_get net.blocks m ≡ Some memory → words_of new m ≡ words_after timing turn old memory (words_of old m)
+  pub words :
+      (m : ℕ) (memory : Block) → slice_get net.blocks m ≡ Some memory
+      → words_of new m ≡ words_after timing turn old memory (words_of old m)
 
 -- the state before turn 1: every signal is undefined, and every word has the initial value
 abbrev pub first_state : Netlist → Timing → State

@@ -3,6 +3,7 @@ use Rattle.std.specs.Prelude.{ℕ, ◌+◌, ◌-◌, ◌*◌, ◌/◌, ◌%◌, 
 use Rattle.std.specs.List.{flat_map}
 use Rattle.logic_four.specs.declared.V4.{V4}
 use Rattle.logic_four.specs.declared.V4.TheVariants.{Undef, Zero}
+pub use Rattle.logic_four.specs.Values.{value_at}
 use Rattle.net_defs.specs.declared.timing.Timing.{Timing}
 use Rattle.net_defs.specs.declared.timing.Init.{Init}
 use Rattle.net_defs.specs.declared.timing.Init.TheVariants as init
@@ -20,10 +21,6 @@ is_edge units turn = nat_le 2 turn && ((turn - 1) % units == 0)
 abbrev pub initial_value : Init → V4
 initial_value init.Undef = Undef
 initial_value init.Zero = Zero
-
--- the value of a signal in a row of values
-abbrev pub value_at : List V4 → ℕ → V4
-value_at row signal = slice_index_or row signal Undef
 
 -- the rows of a stimulus with their repeats written out: one for each cycle
 abbrev pub cycle_rows : Stimulus → List (List V4)

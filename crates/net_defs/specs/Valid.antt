@@ -1,8 +1,10 @@
 -- Valid netlists, timings and stimuli, by plain facts that mention no text. The limits are this
 -- project's profile.
-use Rattle.std.specs.Prelude.{◌≡◌, ℕ, ◌+◌, ◌^◌, ◌<◌, ◌≤◌, ◌&&◌, ◌==◌, Bool, true, false, not, nat_le, List, [], ◌∷◌, length, IsTrue, Some, slice_get, slice_index, count_by, All}
-use Rattle.std.specs.List.{sum_by, list_all, list_any, range_with_len}
-use Rattle.logic_four.specs.Gates.{AllowsOperands}
+use Rattle.std.specs.Prelude.{◌≡◌, ℕ, ◌+◌, ◌^◌, ◌<◌, ◌≤◌, Bool, true, false, List, length, IsTrue, Some, slice_get, slice_index, count_by, All}
+use Rattle.std.specs.List.{sum_by, range_with_len}
+use Rattle.limits.specs.declared.TheConstants.{MAX_SIGNALS, MAX_OPERANDS, MAX_ADDRESS_BITS, MAX_WORD_BITS, MAX_UNITS, MAX_CYCLES}
+use Rattle.logic_four.specs.Kinds.{AllowsOperands}
+pub use Rattle.text_lines.specs.Names.{IsName}
 use Rattle.net_defs.specs.declared.netlist.Netlist.{Netlist}
 use Rattle.net_defs.specs.declared.netlist.Signal.{Signal}
 use Rattle.net_defs.specs.declared.netlist.Block.{Block}
@@ -13,20 +15,6 @@ use Rattle.net_defs.specs.declared.timing.Mode.TheVariants as mode
 use Rattle.net_defs.specs.declared.stimulus.StimRow.{StimRow}
 use Rattle.net_defs.specs.declared.stimulus.Stimulus.{Stimulus}
 use Rattle.net_defs.specs.Time.{cycle_count}
-
--- the bytes that no name has beside blanks: the marks `(` `)` `,` `=` `;` `[` `]` and the comment sign
-unfoldable pub mark_bytes : List ℕ
-mark_bytes = 40 ∷ 41 ∷ 44 ∷ 61 ∷ 59 ∷ 91 ∷ 93 ∷ 35 ∷ []
-
--- a byte of a name: 0x21 to 0x7E, and no mark
-unfoldable pub is_name_byte : ℕ → Bool
-is_name_byte byte = nat_le 33 byte && nat_le byte 126 && not (list_any (λ mark. byte == mark) mark_bytes)
-
--- a name: 1 to 255 such bytes
-pub record IsName (name : List ℕ) : Type 0 where
-  pub some : 1 ≤ length name
-  pub short : length name ≤ 255
-  pub bytes : IsTrue (list_all is_name_byte name)
 
 -- the number of a signal
 abbrev pub IsSignal : Netlist → ℕ → Type 0
@@ -44,18 +32,22 @@ abbrev pub IsDrivable : Netlist → ℕ → Driver → Type 0
 IsDrivable net s Input = Unit {0}
 IsDrivable net s (Gate kind ops) = AllowsOperands kind (length ops) × All (IsSignal net) ops
 IsDrivable net s (Dff op) = IsSignal net op
-IsDrivable net s (BlockBit m bit) = (memory : Block) × (slice_get net.blocks m ≡ Some memory) × (slice_get memory.outs bit ≡ Some s)
+IsDrivable net s (BlockBit m bit) =
+    (memory : Block) × (slice_get net.blocks m ≡ Some memory) × (slice_get memory.outs bit ≡ Some s)
 
 -- a memory of 1 to 16 address bits and 1 to 64 data bits, whose outputs stand side by side in signal
 -- order, each driven by its bit of this memory
 pub record IsMemory (net : Netlist) (m : ℕ) (memory : Block) : Type 0 where
   pub enable : IsSignal net memory.we
   pub address : All (IsSignal net) memory.address
-  pub address_bits : (1 ≤ length memory.address) × (length memory.address ≤ 16)
+  pub address_bits : (1 ≤ length memory.address) × (length memory.address ≤ MAX_ADDRESS_BITS)
   pub word : All (IsSignal net) memory.word
-  pub word_bits : (1 ≤ length memory.word) × (length memory.word ≤ 64)
+  pub word_bits : (1 ≤ length memory.word) × (length memory.word ≤ MAX_WORD_BITS)
   pub outs : memory.outs ≡ range_with_len (slice_index memory.outs 0) (length memory.word)
-  pub driven : (bit s : ℕ) → slice_get memory.outs bit ≡ Some s → (signal : Signal) × (slice_get net.signals s ≡ Some signal) × (signal.driver ≡ BlockBit m bit)
+  pub driven :
+      (bit s : ℕ) → slice_get memory.outs bit ≡ Some s
+      → (signal : Signal) × (slice_get net.signals s ≡ Some signal)
+      × (signal.driver ≡ BlockBit m bit)
 
 -- the operands within the round brackets of a signal's line; a memory's are counted by themselves
 abbrev pub operand_count : Driver → ℕ
@@ -69,15 +61,22 @@ memory_operand_count memory = 1 + length memory.address + length memory.word
 
 -- each signal has a name
 abbrev pub AreNamed : List Signal → Type 0
-AreNamed signals = (s : ℕ) (signal : Signal) → slice_get signals s ≡ Some signal → IsName signal.name
+AreNamed signals =
+    (s : ℕ) (signal : Signal) → slice_get signals s ≡ Some signal → IsName signal.name
 
 -- no two signals have one name
 abbrev pub NamesDiffer : List Signal → Type 0
-NamesDiffer signals = (s t : ℕ) (one other : Signal) → slice_get signals s ≡ Some one → slice_get signals t ≡ Some other → one.name ≡ other.name → s ≡ t
+NamesDiffer signals =
+    (s t : ℕ) (one other : Signal)
+    → slice_get signals s ≡ Some one → slice_get signals t ≡ Some other
+    → one.name ≡ other.name → s ≡ t
 
 -- what stands before an input is an input
 abbrev pub InputsLead : List Signal → Type 0
-InputsLead signals = (s t : ℕ) (one other : Signal) → slice_get signals s ≡ Some one → slice_get signals t ≡ Some other → s < t → IsTrue (is_input other.driver) → IsTrue (is_input one.driver)
+InputsLead signals =
+    (s t : ℕ) (one other : Signal)
+    → slice_get signals s ≡ Some one → slice_get signals t ≡ Some other
+    → s < t → IsTrue (is_input other.driver) → IsTrue (is_input one.driver)
 
 -- a valid netlist
 pub record IsValid (net : Netlist) : Type 0 where
@@ -85,27 +84,40 @@ pub record IsValid (net : Netlist) : Type 0 where
   pub distinct : NamesDiffer net.signals
   pub inputs_first : InputsLead net.signals
   -- what a driver, a memory or an output line names is there
-  pub drivers : (s : ℕ) (signal : Signal) → slice_get net.signals s ≡ Some signal → IsDrivable net s signal.driver
-  pub memories : (m : ℕ) (memory : Block) → slice_get net.blocks m ≡ Some memory → IsMemory net m memory
-  pub memories_in_order : (m n : ℕ) (one other : Block) → slice_get net.blocks m ≡ Some one → slice_get net.blocks n ≡ Some other → m < n → slice_index one.outs 0 < slice_index other.outs 0
+  pub drivers :
+      (s : ℕ) (signal : Signal) → slice_get net.signals s ≡ Some signal
+      → IsDrivable net s signal.driver
+  pub memories :
+      (m : ℕ) (memory : Block) → slice_get net.blocks m ≡ Some memory → IsMemory net m memory
+  pub memories_in_order :
+      (m n : ℕ) (one other : Block)
+      → slice_get net.blocks m ≡ Some one → slice_get net.blocks n ≡ Some other
+      → m < n → slice_index one.outs 0 < slice_index other.outs 0
   pub printed : All (IsSignal net) net.printed
   -- the limits
-  pub few_signals : length net.signals ≤ 1048576
-  pub few_operands : sum_by (λ signal. operand_count signal.driver) net.signals + sum_by memory_operand_count net.blocks ≤ 4194304
+  pub few_signals : length net.signals ≤ MAX_SIGNALS
+  pub few_operands :
+      sum_by (λ signal. operand_count signal.driver) net.signals
+      + sum_by memory_operand_count net.blocks
+      ≤ MAX_OPERANDS
   pub few_printed : length net.printed < 2 ^ 32
 
 -- a valid timing: 1 to 4,096 turns a cycle, and 1 in rank order
 pub record IsValidTiming (timing : Timing) : Type 0 where
   pub some : 1 ≤ timing.units
-  pub few : timing.units ≤ 4096
+  pub few : timing.units ≤ MAX_UNITS
   pub rank : timing.mode ≡ mode.Rank → timing.units ≡ 1
 
 -- a valid stimulus: each row has a value for each input and 1 to 1,000,000 cycles, of which there
 -- are at most 1,000,000 in all
 pub record IsValidStimulus (stimulus : Stimulus) : Type 0 where
-  pub columns : (r : ℕ) (row : StimRow) → slice_get stimulus.rows r ≡ Some row → length row.values ≡ stimulus.columns
-  pub times : (r : ℕ) (row : StimRow) → slice_get stimulus.rows r ≡ Some row → (1 ≤ row.times) × (row.times ≤ 1000000)
-  pub cycles : cycle_count stimulus ≤ 1000000
+  pub columns :
+      (r : ℕ) (row : StimRow) → slice_get stimulus.rows r ≡ Some row
+      → length row.values ≡ stimulus.columns
+  pub times :
+      (r : ℕ) (row : StimRow) → slice_get stimulus.rows r ≡ Some row
+      → (1 ≤ row.times) × (row.times ≤ MAX_CYCLES)
+  pub cycles : cycle_count stimulus ≤ MAX_CYCLES
 
 -- the number of inputs
 abbrev pub input_count : Netlist → ℕ

@@ -3,16 +3,20 @@
 //! order in which gates are evaluated.
 #![tactic(auto)]
 
-pub mod netlist;
-pub mod shown;
-pub mod stimulus;
+mod canonical;
+mod loops;
+mod netlist;
+mod ranks;
+mod stimulus;
 #[cfg(test)]
 mod tests;
-pub mod timing;
-pub mod waiting;
+mod timing;
+mod trace;
 
+pub use canonical::{name_of, show};
+pub use loops::{is_gate, is_late, waits_for};
 pub use netlist::{Block, Driver, Netlist, Signal};
-pub use shown::{name, show};
-pub use stimulus::{CellRow, Ranks, Rows, StimRow, Stimulus};
-pub use timing::{Init, Mode, Timing};
-pub use waiting::{awaited, is_gate, is_late};
+pub use ranks::Ranks;
+pub use stimulus::{StimRow, Stimulus};
+pub use timing::{Init, Mode, Timing, initial_value, is_edge};
+pub use trace::{CellRow, Rows};

@@ -1,5 +1,9 @@
 //! Netlists.
 
+ghost use Rattle.std.specs.Prelude.{◌≡◌, ◌≤◌, length, count_by};
+ghost use Rattle.limits.specs.declared.TheConstants.{MAX_SIGNALS};
+ghost use Rattle.net_defs.specs.Valid.{input_count, is_input};
+
 use logic_four::Kind;
 use seen_list::{List, Text};
 
@@ -50,4 +54,30 @@ pub struct Netlist {
     pub signals: List<Signal>,
     pub printed: List<u32>,
     pub blocks: List<Block>,
+}
+
+impl Netlist {
+    /// The number of inputs.
+    pub fn inputs(&self) -> u32
+        requires { length self.now.signals ≤ MAX_SIGNALS }
+        ensures { result ≡ input_count self.now }
+    {
+        count_inputs(self.signals.as_slice()) as u32
+    }
+}
+
+fn count_inputs(signals: &[Signal]) -> usize
+    ensures count { result ≡ count_by (λ signal. is_input signal.driver) signals.now }
+    ensures within { result ≤ length signals.now }
+{
+    signals
+        .iter()
+        .filter(|signal| is_input(&signal.driver))
+        .count()
+}
+
+fn is_input(driver: &Driver) -> bool
+    ensures { result ≡ is_input driver.now }
+{
+    matches!(driver, Driver::Input)
 }

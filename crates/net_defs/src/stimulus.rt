@@ -1,4 +1,4 @@
-//! Stimuli, and the rows of values and numbers that a run makes.
+//! Stimuli.
 
 ghost use Rattle.std.specs.Prelude.{◌≡◌};
 ghost use Rattle.net_defs.specs.Time.{cycle_count};
@@ -33,23 +33,4 @@ impl Stimulus {
         }
         cycles
     }
-}
-
-/// An order of all gates, and the rank of each signal.
-#[derive(Drop)]
-pub struct Ranks {
-    pub order: List<u32>,
-    pub rank: List<u32>,
-}
-
-/// The printed values of one cycle, in the order of the printed names.
-#[derive(Drop)]
-pub struct CellRow {
-    pub cells: List<V4>,
-}
-
-/// The printed values of each cycle.
-#[derive(Drop)]
-pub struct Rows {
-    pub rows: List<CellRow>,
 }

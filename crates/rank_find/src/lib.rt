@@ -46,8 +46,25 @@ pub fn rank(alloc: Global, net: &Netlist, timing: &Timing) -> Result<Ranks, Rank
     ensures looped { IfErr result (λ no. IfLoop no (IsLoop net.now timing.now)) }
     ensures in_rank_order { IfErr result (λ no. IfLoop no (λ _. timing.now.mode ≡ mode.Rank)) }
 {
+    match order(alloc, net, timing) {
+        Ok(order) => ranked(alloc, net, timing, order),
+        Err(no) => Err(no),
+    }
+}
+
+/// The order alone, of which `rank` says the rest. It is as long as the gates are many.
+pub fn order(alloc: Global, net: &Netlist, timing: &Timing) -> Result<List<u32>, RankNo>
+    requires { length net.now.signals < 2 ^ 32 }
+    ensures order { IfOk result (IsOrder net.now timing.now) }
+    ensures short { IfOk result (λ order. length order < 2 ^ 32) }
+
+    // A loop is answered exactly where there is one, which is in rank order alone.
+    ensures acyclic { OnOk result ((members : Items ℕ) → IsLoop net.now timing.now members → ⊥) }
+    ensures looped { IfErr result (λ no. IfLoop no (IsLoop net.now timing.now)) }
+    ensures in_rank_order { IfErr result (λ no. IfLoop no (λ _. timing.now.mode ≡ mode.Rank)) }
+{
     match find_order(alloc, net, timing) {
-        Ok(Found::Order(order)) => ranked(alloc, net, timing, order),
+        Ok(Found::Order(order)) => Ok(order),
         Ok(Found::Loop(members)) => Err(RankNo::Loop(members)),
         Err(Memory) => Err(RankNo::Memory),
     }
@@ -73,7 +90,8 @@ fn find_order(alloc: Global, net: &Netlist, timing: &Timing) -> Result<Found, Me
 
 fn ranked(alloc: Global, net: &Netlist, timing: &Timing, order: List<u32>) -> Result<Ranks, RankNo>
     requires order { IsOrder net.now timing.now order }
-    requires short { length order < 2 ^ 32 }
+    requires few { length order ≤ length net.now.signals }
+    requires short { length net.now.signals < 2 ^ 32 }
     ensures ranks { IfOk result (AreRanks net.now timing.now) }
     ensures memory { IfErr result (λ no. no ≡ RankNo.Memory) }
 {

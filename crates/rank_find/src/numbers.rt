@@ -3,7 +3,7 @@
 ghost use Rattle.std.specs.Prelude.{◌≡◌, ℕ, ◌+◌, ◌^◌, ◌<◌, ◌≤◌, length, replicate, slice_index, IfOk};
 ghost use Rattle.net_defs.specs.Loops.{waits_for, IsOrder, IsRanking, rank_past, rank_above};
 
-use net_defs::{Netlist, Timing, awaited, is_gate};
+use net_defs::{Netlist, Timing, is_gate, waits_for};
 use seen_list::{List, Memory};
 use std::alloc::Global;
 
@@ -20,7 +20,7 @@ pub(crate) fn rank_numbers(
 {
     let mut rank = zeros(alloc, net)?;
     for gate in order {
-        let number = rank_above(net, rank.as_slice(), awaited(net, timing, *gate));
+        let number = rank_above(net, rank.as_slice(), waits_for(net, timing, *gate));
         rank.set(*gate as usize, number);
     }
     Ok(rank)

@@ -6,7 +6,7 @@ ghost use Rattle.net_defs.specs.Valid.{IsValid};
 ghost use Rattle.rank_find.specs.Walk.{mark_at, first_mark, work_left, IsWalking, Advances, Reaches, IsTop, IsFirstUndone, AreDoneFrom, IsStart, IsIdle, IsOver, WentDown, StepsTo};
 
 use crate::circle::circle_at;
-use net_defs::{Driver, Netlist, Signal, Timing, awaited};
+use net_defs::{Driver, Netlist, Signal, Timing, waits_for};
 use seen_list::{List, Memory};
 use std::alloc::Global;
 
@@ -105,7 +105,7 @@ impl Walk {
         ensures { IfOk result (λ found.
             MatchOption found (StepsTo net.now timing.now self.old self.new) (IsLoop net.now timing.now)) }
     {
-        let operands = awaited(net, timing, gate);
+        let operands = waits_for(net, timing, gate);
         match self.first_undone(operands, self.places.as_slice()[gate as usize]) {
             None => {
                 self.finish(gate)?;

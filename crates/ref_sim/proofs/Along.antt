@@ -1,7 +1,7 @@
 -- The row that the gates make along an order: each gate that is not late has its value over the row
 -- as it ends.
-use Rattle.std.proofs.Common.{◌≡◌, ◌∙◌, ℕ, zero, suc, ◌+◌, ◌-◌, ◌<◌, ◌≤◌, ◌⊎◌, inl, inr, Bool, true, false, if◌then◌else◌, List, [], ◌∷◌, length, take, map, get_or, set, refl, sym, ap, subst, arith, Some}
-use Rattle.std.specs.List.{slice_get, Contains}
+use Rattle.std.proofs.Common.{◌≡◌, ◌∙◌, ℕ, zero, suc, ◌+◌, ◌-◌, ◌<◌, ◌≤◌, ◌⊎◌, inl, inr, Bool, true, false, if◌then◌else◌, List, [], ◌∷◌, length, take, map, get_or, set, refl, sym, ap, subst, arith, Option, Some, None}
+use Rattle.std.specs.List.{slice_get, Contains, fold}
 use Rattle.std.proofs.lemmas.List.Sums.{fold_more}
 use Rattle.std.proofs.lemmas.List.{take_all, length-set, get_or-set_same}
 use Rattle.logic_four.specs.declared.V4.{V4}
@@ -10,16 +10,36 @@ use Rattle.logic_four.specs.declared.Kind.{Kind}
 use Rattle.logic_four.specs.Gates.{gate_value}
 use Rattle.net_defs.specs.declared.netlist.Netlist.{Netlist}
 use Rattle.net_defs.specs.declared.netlist.Signal.{Signal}
-use Rattle.net_defs.specs.declared.netlist.Driver.TheVariants.{Gate}
+use Rattle.net_defs.specs.declared.netlist.Driver.{Driver}
+use Rattle.net_defs.specs.declared.netlist.Driver.TheVariants.{Input, Gate, Dff, BlockBit}
 use Rattle.net_defs.specs.declared.timing.Timing.{Timing}
 use Rattle.net_defs.specs.Time.{value_at}
 use Rattle.net_defs.specs.Steps.{is_late, values_of}
 use Rattle.net_defs.specs.Loops.{IsGate, waits_for, IsOrder}
 use Rattle.rank_find.proofs.ListLemmas.{differ_at, place_of}
 use Rattle.rank_find.proofs.NumberLemmas.{gate_within, place_below}
-use Rattle.ref_sim.specs.Flats.{gate_at}
-use Rattle.ref_sim.specs.Turns.{settle_gate, along}
 use Rattle.ref_sim.proofs.Rows.{put_value}
+
+-- what a gate answers over a row; what is no gate keeps its value
+abbrev pub gate_driven : List V4 → ℕ → Driver → V4
+gate_driven row s Input = value_at row s
+gate_driven row s (Gate kind ops) = gate_value kind (values_of row ops)
+gate_driven row s (Dff op) = value_at row s
+gate_driven row s (BlockBit memory bit) = value_at row s
+
+abbrev pub gate_at : Netlist → List V4 → ℕ → V4
+gate_at net row s = of_signal (slice_get net.signals s) where
+  of_signal : Option Signal → V4
+  of_signal None = value_at row s
+  of_signal (Some signal) = gate_driven row s signal.driver
+
+-- a gate that is not late takes its value from the row
+abbrev pub settle_gate : Netlist → Timing → List V4 → ℕ → List V4
+settle_gate net timing row s = if is_late net timing s then row else set row s (gate_at net row s)
+
+-- the gates one after the other
+abbrev pub along : Netlist → Timing → List ℕ → List V4 → List V4
+along net timing order row = fold (settle_gate net timing) row order
 
 -- maps that agree at each item
 pub map_same : {X : Type 0} (f g : ℕ → X) (xs : List ℕ) → ((x : ℕ) → Contains xs x → f x ≡ g x) → map f xs ≡ map g xs

@@ -1,6 +1,6 @@
 -- Turns, cycles and rows of a run, against every simulation.
-use Rattle.std.proofs.Common.{◌≡◌, ◌≢◌, ◌∙◌, ℕ, ◌+◌, ◌-◌, ◌*◌, ◌/◌, ◌%◌, ◌<◌, ◌≤◌, inl, inr, Bool, true, false, if◌then◌else◌, ◌&&◌, ◌==◌, nat_le, List, [], ◌∷◌, ◌++◌, length, take, replicate, get_or, set, refl, sym, ap, subst, arith, Some, IsTrue}
-use Rattle.std.specs.List.{slice_get}
+use Rattle.std.proofs.Common.{◌≡◌, ◌≢◌, ◌∙◌, ℕ, ◌+◌, ◌-◌, ◌*◌, ◌/◌, ◌%◌, ◌<◌, ◌≤◌, inl, inr, Bool, true, false, if◌then◌else◌, ◌&&◌, ◌==◌, nat_le, List, [], ◌∷◌, ◌++◌, length, map, take, replicate, get_or, set, refl, sym, ap, subst, arith, Some, IsTrue}
+use Rattle.std.specs.List.{slice_get, All}
 use Rattle.std.proofs.lemmas.Option.{slice_get_within, slice_get-get_or, get_or_from_slice_get}
 use Rattle.std.proofs.lemmas.List.{length-map, length-set, length-replicate, length-take-le, take_more_set}
 use Rattle.std.proofs.lemmas.List.Elements.{All-set}
@@ -12,7 +12,7 @@ use Rattle.net_defs.specs.declared.netlist.Driver.TheVariants.{Input, Gate, Dff,
 use Rattle.net_defs.specs.declared.timing.Timing.{Timing}
 use Rattle.net_defs.specs.declared.stimulus.Stimulus.{Stimulus}
 use Rattle.net_defs.specs.Time.{value_at, initial_value, is_edge, cycle_of, cycle_rows, cycle_count, turn_count, input_at}
-use Rattle.net_defs.specs.Valid.{is_input}
+use Rattle.net_defs.specs.Valid.{IsSignal, is_input}
 use Rattle.net_defs.specs.Steps.{State, values_of, first_state}
 use Rattle.net_defs.specs.Loops.{IsOrder}
 use Rattle.std.specs.List.{flat_map}
@@ -25,22 +25,33 @@ use Rattle.std.proofs.lemmas.List.Folds.{length-flat_map-take}
 use Rattle.std.proofs.lemmas.Grind.{flat_map-append}
 use Rattle.std.proofs.Common.{length-append, append-nil}
 use Rattle.net_defs.specs.declared.stimulus.StimRow.{StimRow}
-use Rattle.net_defs.specs.declared.stimulus.CellRow.{CellRow}
+use Rattle.net_defs.specs.declared.trace.CellRow.{CellRow}
 use Rattle.net_defs.specs.Trace.{cells_of}
 use Rattle.rank_find.proofs.ListLemmas.{last_or}
 use Rattle.ref_sim.specs.declared.turn.Phase.{Phase}
 use Rattle.ref_sim.specs.declared.turn.Phase.TheVariants as phase
 use Rattle.logic_four.specs.Memory.{initial_words}
 use Rattle.logic_four.proofs.MemoryLemmas.{first_shape}
-use Rattle.std.proofs.lemmas.List.{get_or-map}
-use Rattle.ref_sim.specs.declared.plan.Plan.{Plan}
-use Rattle.ref_sim.specs.declared.turn.Machine.{Machine}
-use Rattle.ref_sim.specs.declared.turn.Staged.{Staged}
-use Rattle.ref_sim.specs.Turns.{state_of, IsReady, phase_of, driven_by, HoldInputs, StepsBy}
-use Rattle.ref_sim.specs.Ports.{ArePorts}
+use Rattle.std.proofs.lemmas.List.{get_or-map, get_or-take, take-replicate}
+use Rattle.ref_sim.specs.declared.ram.RamPort.{RamPort}
+use Rattle.ref_sim.specs.declared.turn.SimState.{SimState}
+use Rattle.ref_sim.specs.Sequences.{place_count}
+use Rattle.ref_sim.specs.States.{state_of, row_of, IsInitial, IsReady, phase_of, driven_by, HoldInputs, StepsBy}
+use Rattle.ref_sim.specs.Rams.{ArePorts}
 use Rattle.ref_sim.specs.Runs.{StandsAt, RunsTo, phase_at, printed_row, HasRows}
+use Rattle.ref_sim.proofs.Along.{map_same}
 use Rattle.ref_sim.proofs.Phases.{right_step}
 use Rattle.ref_sim.proofs.Uniqueness.{next_state}
+
+-- a turn within a cycle is not the first of it
+pub within_later : (is_first : Bool) (place : ℕ) (at : Phase) → at ≡ phase_at is_first place → at ≡ phase.Within → 0 < place
+within_later is_first place at is within = elim (eqb_tells place 0) [
+  | inl none ↦ absurd (first is_first (sym (ap (λ b. if b then (if is_first then phase.Start else phase.Edge) else phase.Within) none.0) ∙ (sym is ∙ within)))
+  | inr some ↦ (let other = some.1 in omega arith)
+] where
+  first : (b : Bool) → (if b then phase.Start else phase.Edge) ≡ phase.Within → ⊥
+  first true same = cc
+  first false same = cc
 
 -- the inputs of a step are held
 pub step_inputs : (net : Netlist) (timing : Timing) (at : Phase) (inputs : List V4) (old new : State) → StepsBy net timing at inputs old new → HoldInputs net inputs new.row
@@ -187,6 +198,14 @@ pub row_given : (stimulus : Stimulus) (items : List StimRow) (i : ℕ) (row : St
 row_given stimulus items i row whole within is n same t below =
     (rw same (row_within stimulus items i row whole within is t below), rw same (row_values stimulus items i row whole within is t below))
 
+-- what is printed of the values of this turn
+pub printed_is : (net : Netlist) (values : List V4) (list : List ℕ) → list ≡ net.printed → All (IsSignal net) net.printed → map (λ s. value_at values (0 + s)) list ≡ values_of (row_of net values) net.printed
+printed_is net values list same low =
+    ap (map (λ s. value_at values (0 + s))) same
+    ∙ map_same (λ s. value_at values (0 + s)) (value_at (row_of net values)) net.printed (λ s held.
+    let none : 0 + s ≡ s = omega arith in
+    ap (value_at values) none ∙ sym (get_or-take (length net.signals) values s Undef (subst (IsSignal net) held.2 (low held.0 s held.1))))
+
 -- the rows are as many and as wide after those of a cycle were set
 pub rows_set : (net : Netlist) (cycles cycle : ℕ) (rows new_rows : List CellRow) (row : List V4) → HasRows net cycles rows → new_rows ≡ set rows cycle (printed_row net row) → HasRows net cycles new_rows
 rows_set net cycles cycle rows new_rows row has changed = rw changed (record {
@@ -194,20 +213,24 @@ rows_set net cycles cycle rows new_rows row has changed = rw changed (record {
   wide = All-set (λ r. length r.cells ≡ length net.printed) rows cycle (printed_row net row) (length-map net.printed (value_at row)) has.wide;
 })
 
--- the first state is ready for a turn
-pub first_ready : (net : Netlist) (timing : Timing) (plan : Plan) (machine : Machine) (staged : Staged) → state_of machine ≡ first_state net timing
-    → length staged.registers ≡ length plan.registers → length staged.late ≡ length plan.late → ArePorts net staged.ports → IsReady net plan machine staged
-first_ready net timing plan machine staged is registers late ports = record {
-  row = ap (λ s. length s.row) is ∙ length-replicate (length net.signals) Undef;
+-- the first state
+pub initial_first : (net : Netlist) (timing : Timing) (state : SimState) → IsInitial net timing state → state_of net state ≡ first_state net timing
+initial_first net timing state initial =
+    ap (λ values. record { row = row_of net values; words = state.memories }) initial.values
+    ∙ (ap (λ row. record { row = row; words = state.memories }) (take-replicate (length net.signals) (place_count net) Undef (omega arith))
+    ∙ ap (λ words. record { row = replicate (length net.signals) Undef; words = words }) initial.memories)
+
+-- it is ready for a turn
+pub first_ready : (net : Netlist) (timing : Timing) (state : SimState) (ports : List RamPort) → IsInitial net timing state → ArePorts net ports → IsReady net state ports
+first_ready net timing state ports initial fits = record {
+  places = ap length initial.values ∙ length-replicate (place_count net) Undef;
   words = record {
-    memories = ap (λ s. length s.words) is ∙ length-map net.blocks (λ memory. initial_words (length memory.address) (length memory.word) (initial_value timing.init));
+    memories = ap length initial.memories ∙ length-map net.blocks (λ memory. initial_words (length memory.address) (length memory.word) (initial_value timing.init));
     shape = λ m memory there.
-        let read : get_or machine.words m [] ≡ initial_words (length memory.address) (length memory.word) (initial_value timing.init) =
-        ap (λ s. get_or s.words m []) is ∙ (get_or-map (λ memory. initial_words (length memory.address) (length memory.word) (initial_value timing.init)) net.blocks m memory [] (slice_get_within net.blocks m memory there)
+        let read : get_or state.memories m [] ≡ initial_words (length memory.address) (length memory.word) (initial_value timing.init) =
+        ap (λ words. get_or words m []) initial.memories ∙ (get_or-map (λ memory. initial_words (length memory.address) (length memory.word) (initial_value timing.init)) net.blocks m memory [] (slice_get_within net.blocks m memory there)
         ∙ ap (λ block. initial_words (length block.address) (length block.word) (initial_value timing.init)) (get_or_from_slice_get net.blocks m memory memory there)) in
         rw read (first_shape (length memory.address) (length memory.word) (initial_value timing.init));
   };
-  registers = registers;
-  late = late;
-  ports = ports;
+  room = fits;
 }

@@ -1,5 +1,5 @@
 -- The writes of all memories, one after the other.
-use Rattle.std.proofs.Common.{◌≡◌, ◌≢◌, ◌∙◌, ℕ, ◌+◌, ◌<◌, inl, inr, List, [], length, get_or, set, sym, ap, subst, arith, Some}
+use Rattle.std.proofs.Common.{◌≡◌, ◌≢◌, ◌∙◌, ℕ, ◌+◌, ◌<◌, inl, inr, List, [], length, get_or, set, refl, sym, ap, subst, arith, Some}
 use Rattle.std.specs.List.{slice_get, refill}
 use Rattle.std.proofs.lemmas.Bool.Decides.{eqb_tells}
 use Rattle.std.proofs.lemmas.Option.{slice_get-get_or}
@@ -11,7 +11,7 @@ use Rattle.net_defs.specs.declared.netlist.Block.{Block}
 use Rattle.net_defs.specs.Time.{value_at}
 use Rattle.net_defs.specs.Steps.{values_of}
 use Rattle.rank_find.proofs.ListLemmas.{last_or}
-use Rattle.ref_sim.specs.Turns.{AreShaped, WroteMemories}
+use Rattle.ref_sim.specs.States.{AreShaped, WroteMemories}
 use Rattle.ref_sim.proofs.Writes.{refill_set}
 
 -- a memory of a netlist by its number
@@ -20,6 +20,14 @@ memory_here net m memory within is = slice_get-get_or net.blocks m memory within
 
 pub same_memory : (net : Netlist) (m : ℕ) (memory other : Block) → m < length net.blocks → memory ≡ get_or net.blocks m memory → slice_get net.blocks m ≡ Some other → other ≡ memory
 same_memory net m memory other within is at = let both = sym at ∙ memory_here net m memory within is in cc
+
+-- no memory has written yet
+pub wrote_none : (net : Netlist) (row : List V4) (words : List (List (List V4))) → WroteMemories net row 0 words words
+wrote_none net row words = record {
+  memories = refl;
+  written = λ m memory below at. absurd (omega arith);
+  others = λ m above. refl;
+}
 
 module _ (net : Netlist) (row : List V4) (old words now : List (List (List V4))) (m : ℕ) (memory : Block) (item : List (List V4)) (shaped : AreShaped net old) (so_far : WroteMemories net row m old words) (same : now ≡ words) (within : m < length net.blocks) (is : memory ≡ get_or net.blocks m memory) where
   pub here : get_or now m item ≡ get_or old m []

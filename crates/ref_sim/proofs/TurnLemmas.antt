@@ -1,9 +1,10 @@
 -- What a turn in place makes is a step of its phase.
-use Rattle.std.proofs.Common.{◌≡◌, ◌∙◌, ℕ, ◌<◌, inl, inr, true, false, if◌then◌else◌, ◌&&◌, List, length, refl, sym, ap, subst, arith, Some}
+use Rattle.std.proofs.Common.{◌≡◌, ◌≢◌, ◌∙◌, ℕ, ◌+◌, ◌<◌, inl, inr, false, if◌then◌else◌, List, length, map, refl, sym, ap, subst, arith, Some}
 use Rattle.std.specs.List.{slice_get}
-use Rattle.std.proofs.lemmas.Option.{slice_get_within}
-use Rattle.std.proofs.lemmas.List.{length-map}
+use Rattle.std.proofs.lemmas.Option.{slice_get_within, slice_get_past}
+use Rattle.std.proofs.lemmas.List.{length-map, length-take-le, get_or-take}
 use Rattle.logic_four.specs.declared.V4.{V4}
+use Rattle.logic_four.specs.declared.V4.TheVariants.{Undef}
 use Rattle.logic_four.specs.declared.Kind.{Kind}
 use Rattle.logic_four.specs.Values.{settled}
 use Rattle.logic_four.specs.Gates.{gate_value}
@@ -16,166 +17,150 @@ use Rattle.net_defs.specs.declared.netlist.Driver.{Driver}
 use Rattle.net_defs.specs.declared.netlist.Driver.TheVariants.{Input, Gate, Dff, BlockBit}
 use Rattle.net_defs.specs.declared.timing.Timing.{Timing}
 use Rattle.net_defs.specs.Time.{value_at, initial_value}
-use Rattle.net_defs.specs.Valid.{is_input}
+use Rattle.net_defs.specs.Valid.{IsValid, IsSignal, IsDrivable, is_input}
 use Rattle.net_defs.specs.Steps.{State, is_late, values_of, act_of, words_of, output_bit}
-use Rattle.net_defs.specs.Loops.{is_gate, IsGate, is_gate_driver}
-use Rattle.rank_find.proofs.ListLemmas.{place_of}
-use Rattle.ref_sim.specs.declared.plan.Role.{Role}
-use Rattle.ref_sim.specs.declared.plan.Role.TheVariants as role
-use Rattle.ref_sim.specs.declared.plan.Plan.{Plan}
+use Rattle.net_defs.specs.Loops.{is_gate, is_gate_driver}
+use Rattle.ref_sim.specs.declared.schedule.Role.{Role}
+use Rattle.ref_sim.specs.declared.schedule.Role.TheVariants as role
 use Rattle.ref_sim.specs.declared.turn.Phase.{Phase}
 use Rattle.ref_sim.specs.declared.turn.Phase.TheVariants as phase
-use Rattle.ref_sim.specs.Turns.{along, plays, has_role, is_register, held_value, held_driven, ListsRole, IsPlan, Puts, AreShaped, WordsBy, HoldInputs, by_phase, words_by_phase, driven_by, StepsBy}
-use Rattle.ref_sim.proofs.Along.{along_length, along_keeps, along_gate, late_or}
+use Rattle.ref_sim.specs.Values.{Keeps}
+use Rattle.ref_sim.specs.Sequences.{place_count, operand_place, here_value}
+use Rattle.ref_sim.specs.Schedules.{has_role, driver_has_role}
+use Rattle.ref_sim.specs.States.{row_of, last_row, output_value, AreShaped, Assigns, by_phase, words_by_phase, HoldInputs, WordsBy, driven_by, StepsBy}
+use Rattle.ref_sim.proofs.Along.{map_same, late_or}
+use Rattle.ref_sim.proofs.AnswerLemmas.{last_value}
+use Rattle.ref_sim.proofs.SequenceLemmas.{operand_low}
+
+row_value : (net : Netlist) (values : List V4) (s : ℕ) → s < length net.signals → value_at (row_of net values) s ≡ value_at values s
+row_value net values s low = get_or-take (length net.signals) values s Undef low
 
 -- the role of a signal by its driver
-role_here : (net : Netlist) (timing : Timing) (part : Role) (s : ℕ) (signal : Signal) → slice_get net.signals s ≡ Some signal → has_role net timing part s ≡ plays net timing s part signal.driver
-role_here net timing part s signal is = rw is refl
+role_here : (net : Netlist) (part : Role) (s : ℕ) (signal : Signal) (driver : Driver) → slice_get net.signals s ≡ Some signal → signal.driver ≡ driver → has_role net part s ≡ driver_has_role part driver
+role_here net part s signal driver is at = rw (is, at) refl
 
-held_here : (net : Netlist) (old : State) (s : ℕ) (signal : Signal) → slice_get net.signals s ≡ Some signal → held_value net old s ≡ held_driven net old s signal.driver
-held_here net old s signal is = rw is refl
+gate_here : (net : Netlist) (s : ℕ) (signal : Signal) (driver : Driver) → slice_get net.signals s ≡ Some signal → signal.driver ≡ driver → is_gate net s ≡ is_gate_driver driver
+gate_here net s signal driver is at = rw (is, at) refl
 
--- a driver that is no gate
-no_gate_here : (net : Netlist) (s : ℕ) (signal : Signal) → slice_get net.signals s ≡ Some signal → is_gate_driver signal.driver ≡ false → IsGate net s → ⊥
-no_gate_here net s signal is none gate =
-    let denied : is_gate net s ≡ false = rw is none in
-    cc
+past_role : (net : Netlist) (part : Role) (s : ℕ) → has_role net part (length net.signals + s) ≡ false
+past_role net part s = rw (slice_get_past net.signals (length net.signals + s) (omega arith)) refl
 
-module _ (net : Netlist) (timing : Timing) (part : Role) (list : List ℕ) (f : ℕ → V4) (old new : List V4) (lists : ListsRole net timing part list) (puts : Puts list f (length list) old new) where
-  -- a signal of the role has what was put
-  pub put_role : (s : ℕ) → has_role net timing part s ≡ true → s < length old → value_at new s ≡ f s
-  put_role s plays_it within =
-      let at = place_of list s (lists.each s plays_it) in
-      ap (value_at new) (sym at.2) ∙ (puts.inside at.0 at.1 (subst (λ x. x < length old) (sym at.2) within) ∙ ap f at.2)
+past_gate : (net : Netlist) (s : ℕ) → is_gate net (length net.signals + s) ≡ false
+past_gate net s = rw (slice_get_past net.signals (length net.signals + s) (omega arith)) refl
 
-  -- any other keeps its value
-  pub put_other : (s : ℕ) → has_role net timing part s ≡ false → value_at new s ≡ value_at old s
-  put_other s plays_none = puts.outside s (λ k within same.
-      let granted : has_role net timing part s ≡ true = ap (has_role net timing part) (sym same) ∙ lists.all k within in
-      cc)
+-- begun: the values once those of the last turn are kept; then as the outputs of memories, the
+-- registers, the inputs and the gates have got theirs
+module _ (net : Netlist) (timing : Timing) (at : Phase) (inputs : List V4) (words memories : List (List (List V4))) (before begun outs regs ins done : List V4) (valid : IsValid net)
+    (places : length before ≡ place_count net) (hold : at ≡ phase.Within → HoldInputs net inputs (row_of net before)) (keeps : Keeps (length net.signals) before begun)
+    (outputs : Assigns net (has_role net role.Output) (λ s. by_phase at (initial_value timing.init) (output_value net (record { row = last_row net begun; words = words }) s) (value_at begun s)) begun outs)
+    (registers : Assigns net (has_role net role.Register) (λ s. by_phase at (initial_value timing.init) (here_value net timing s regs) (value_at outs s)) outs regs)
+    (given : Assigns net (has_role net role.Input) (λ s. by_phase at (value_at inputs s) (value_at inputs s) (value_at regs s)) regs ins)
+    (gates : Assigns net (is_gate net) (λ s. here_value net timing s done) ins done)
+    (by_words : WordsBy net at (record { row = last_row net begun; words = words }) memories) where
+  abbrev old : State
+  old = record { row = row_of net before; words = words }
 
-module _ (net : Netlist) (timing : Timing) (plan : Plan) (old : State) (at : Phase) (inputs : List V4) (row1 row2 row3 row4 : List V4) (words : List (List (List V4)))
-    (is_plan : IsPlan net timing plan) (long : length old.row ≡ length net.signals) (hold : at ≡ phase.Within → HoldInputs net inputs old.row)
-    (late : Puts plan.late (held_value net old) (length plan.late) old.row row1)
-    (start : at ≡ phase.Start → Puts plan.registers (λ _. initial_value timing.init) (length plan.registers) row1 row2)
-    (edge : at ≡ phase.Edge → Puts plan.registers (held_value net old) (length plan.registers) row1 row2)
-    (within : at ≡ phase.Within → row2 ≡ row1)
-    (begins : (at ≡ phase.Within → ⊥) → Puts plan.inputs (value_at inputs) (length plan.inputs) row2 row3)
-    (goes_on : at ≡ phase.Within → row3 ≡ row2)
-    (settles : row4 ≡ along net timing plan.order row3)
-    (by_words : WordsBy net at old words) where
-  length2 : length row2 ≡ length net.signals
-  length2 = by_at at refl where
-    by_at : (p : Phase) → at ≡ p → length row2 ≡ length net.signals
-    by_at phase.Start is = (start is).signals ∙ (late.signals ∙ long)
-    by_at phase.Edge is = (edge is).signals ∙ (late.signals ∙ long)
-    by_at phase.Within is = ap length (within is) ∙ (late.signals ∙ long)
+  -- the values of the last turn
+  last_is : last_row net begun ≡ row_of net before
+  last_is = keeps.last
 
-  length3 : length row3 ≡ length net.signals
-  length3 = by_at at refl where
-    by_at : (p : Phase) → at ≡ p → length row3 ≡ length net.signals
-    by_at phase.Start is = (begins (λ odd. cc)).signals ∙ length2
-    by_at phase.Edge is = (begins (λ odd. cc)).signals ∙ length2
-    by_at phase.Within is = ap length (goes_on is) ∙ length2
+  begun_value : (s : ℕ) → s < length net.signals → value_at begun s ≡ value_at (row_of net before) s
+  begun_value s low = sym (row_value net begun s low) ∙ ap (λ row. value_at row s) keeps.this
 
-  pub length4 : length row4 ≡ length net.signals
-  length4 = ap length settles ∙ (along_length net timing plan.order is_plan.order row3 length3 ∙ length3)
+  begun_last : (s : ℕ) → s < length net.signals → value_at begun (length net.signals + s) ≡ value_at (row_of net before) s
+  begun_last s low = sym (last_value net begun s low) ∙ ap (λ row. value_at row s) keeps.last
+
+  registers_last : (s : ℕ) → s < length net.signals → value_at regs (length net.signals + s) ≡ value_at (row_of net before) s
+  registers_last s low =
+      let spared : length net.signals + s ≢ length net.signals + length net.signals = omega arith in
+      registers.others (length net.signals + s) (past_role net role.Register s) spared ∙ (outputs.others (length net.signals + s) (past_role net role.Output s) spared ∙ begun_last s low)
+
+  done_last : (s : ℕ) → s < length net.signals → value_at done (length net.signals + s) ≡ value_at (row_of net before) s
+  done_last s low =
+      let spared : length net.signals + s ≢ length net.signals + length net.signals = omega arith in
+      gates.others (length net.signals + s) (past_gate net s) spared ∙ (given.others (length net.signals + s) (past_role net role.Input s) spared ∙ registers_last s low)
+
+  done_long : length done ≡ place_count net
+  done_long = gates.long ∙ (given.long ∙ (registers.long ∙ (outputs.long ∙ (keeps.long ∙ places))))
 
   module _ (s : ℕ) (signal : Signal) (is : slice_get net.signals s ≡ Some signal) where
-    room : s < length net.signals
-    room = slice_get_within net.signals s signal is
+    low : s < length net.signals
+    low = slice_get_within net.signals s signal is
 
-    -- what the late gates leave
-    not_late_one : plays net timing s role.Late signal.driver ≡ false → value_at row1 s ≡ value_at old.row s
-    not_late_one denied = put_other net timing role.Late plan.late (held_value net old) old.row row1 is_plan.late late s (role_here net timing role.Late s signal is ∙ denied)
+    spared : s ≢ length net.signals + length net.signals
+    spared = let within = slice_get_within net.signals s signal is in omega arith
 
-    -- what the registers leave
-    not_register : is_register signal.driver ≡ false → value_at row2 s ≡ value_at row1 s
-    not_register denied = by_at at refl where
-      none : has_role net timing role.Register s ≡ false
-      none = role_here net timing role.Register s signal is ∙ denied
+    -- what comes after the registers, or the inputs, leaves what they got
+    after_inputs : (driver : Driver) → signal.driver ≡ driver → is_gate_driver driver ≡ false → value_at done s ≡ value_at ins s
+    after_inputs driver at none = gates.others s (gate_here net s signal driver is at ∙ none) spared
 
-      by_at : (p : Phase) → at ≡ p → value_at row2 s ≡ value_at row1 s
-      by_at phase.Start at_start = put_other net timing role.Register plan.registers (λ _. initial_value timing.init) row1 row2 is_plan.registers (start at_start) s none
-      by_at phase.Edge at_edge = put_other net timing role.Register plan.registers (held_value net old) row1 row2 is_plan.registers (edge at_edge) s none
-      by_at phase.Within at_within = ap (λ r. value_at r s) (within at_within)
+    after_registers : (driver : Driver) → signal.driver ≡ driver → is_gate_driver driver ≡ false → is_input driver ≡ false → value_at done s ≡ value_at regs s
+    after_registers driver at none no_input = after_inputs driver at none ∙ given.others s (role_here net role.Input s signal driver is at ∙ no_input) spared
 
-    -- what the inputs leave
-    not_input : is_input signal.driver ≡ false → value_at row3 s ≡ value_at row2 s
-    not_input denied = by_at at refl where
-      none : has_role net timing role.Input s ≡ false
-      none = role_here net timing role.Input s signal is ∙ denied
-
-      by_at : (p : Phase) → at ≡ p → value_at row3 s ≡ value_at row2 s
-      by_at phase.Start at_start = put_other net timing role.Input plan.inputs (value_at inputs) row2 row3 is_plan.inputs (begins (λ odd. cc)) s none
-      by_at phase.Edge at_edge = put_other net timing role.Input plan.inputs (value_at inputs) row2 row3 is_plan.inputs (begins (λ odd. cc)) s none
-      by_at phase.Within at_within = ap (λ r. value_at r s) (goes_on at_within)
-
-    -- what the gates leave
-    kept : (IsGate net s → is_late net timing s ≡ true) → value_at row4 s ≡ value_at row3 s
-    kept other = ap (λ r. value_at r s) settles ∙ along_keeps net timing plan.order is_plan.order row3 length3 s other
-
-    input_value : signal.driver ≡ Input → value_at row4 s ≡ value_at inputs s
+    input_value : signal.driver ≡ Input → value_at done s ≡ value_at inputs s
     input_value driver =
-        kept (λ gate. absurd (no_gate_here net s signal is (ap is_gate_driver driver) gate)) ∙ by_at at refl where
-          plays_it : has_role net timing role.Input s ≡ true
-          plays_it = role_here net timing role.Input s signal is ∙ ap is_input driver
+        after_inputs Input driver refl ∙ (given.here s (role_here net role.Input s signal Input is driver) ∙ by_at at refl) where
+          by_at : (p : Phase) → at ≡ p → by_phase p (value_at inputs s) (value_at inputs s) (value_at regs s) ≡ value_at inputs s
+          by_at phase.Start is_at = refl
+          by_at phase.Edge is_at = refl
+          by_at phase.Within is_at =
+              registers.others s (role_here net role.Register s signal Input is driver) spared
+              ∙ (outputs.others s (role_here net role.Output s signal Input is driver) spared ∙ (begun_value s low ∙ hold is_at s signal is (ap is_input driver)))
 
-          by_at : (p : Phase) → at ≡ p → value_at row3 s ≡ value_at inputs s
-          by_at phase.Start at_start = put_role net timing role.Input plan.inputs (value_at inputs) row2 row3 is_plan.inputs (begins (λ odd. cc)) s plays_it (omega (arith, room, length2))
-          by_at phase.Edge at_edge = put_role net timing role.Input plan.inputs (value_at inputs) row2 row3 is_plan.inputs (begins (λ odd. cc)) s plays_it (omega (arith, room, length2))
-          by_at phase.Within at_within =
-              ap (λ r. value_at r s) (goes_on at_within) ∙ (not_register (ap is_register driver) ∙ (not_late_one (ap (plays net timing s role.Late) driver) ∙ hold at_within s signal is (ap is_input driver)))
+    register_value : (op : ℕ) → signal.driver ≡ Dff op → value_at done s ≡ by_phase at (initial_value timing.init) (settled (value_at (row_of net before) op)) (value_at (row_of net before) s)
+    register_value op driver =
+        let op_low : IsSignal net op = subst (IsDrivable net s) driver (valid.drivers s signal is) in
+        let taken : here_value net timing s regs ≡ settled (value_at regs (length net.signals + op)) = rw (is, driver) refl in
+        after_registers (Dff op) driver refl refl
+        ∙ (registers.here s (role_here net role.Register s signal (Dff op) is driver)
+        ∙ (ap (λ v. by_phase at (initial_value timing.init) v (value_at outs s)) (taken ∙ ap settled (registers_last op op_low))
+        ∙ ap (λ v. by_phase at (initial_value timing.init) (settled (value_at (row_of net before) op)) v) (outputs.others s (role_here net role.Output s signal (Dff op) is driver) spared ∙ begun_value s low)))
 
-    register_value : (new : V4) → is_register signal.driver ≡ true → held_driven net old s signal.driver ≡ new → value_at row4 s ≡ by_phase at (initial_value timing.init) new (value_at old.row s)
-    register_value new register held =
-        kept (λ gate. absurd (no_gate_here net s signal is (no_gate signal.driver register) gate)) ∙ (not_input (no_input signal.driver register) ∙ by_at at refl) where
-          no_gate : (driver : Driver) → is_register driver ≡ true → is_gate_driver driver ≡ false
-          no_gate Input granted = refl
-          no_gate (Gate kind ops) granted = cc
-          no_gate (Dff op) granted = refl
-          no_gate (BlockBit memory bit) granted = refl
+    bit_value : (m bit : ℕ) → signal.driver ≡ BlockBit m bit → value_at done s ≡ by_phase at (initial_value timing.init) (output_bit net old m bit) (value_at (row_of net before) s)
+    bit_value m bit driver =
+        let answered : output_value net (record { row = last_row net begun; words = words }) s ≡ output_bit net (record { row = last_row net begun; words = words }) m bit = rw (is, driver) refl in
+        after_registers (BlockBit m bit) driver refl refl
+        ∙ (registers.others s (role_here net role.Register s signal (BlockBit m bit) is driver) spared
+        ∙ (outputs.here s (role_here net role.Output s signal (BlockBit m bit) is driver)
+        ∙ (ap (λ v. by_phase at (initial_value timing.init) v (value_at begun s)) (answered ∙ ap (λ row. output_bit net (record { row = row; words = words }) m bit) last_is)
+        ∙ ap (λ v. by_phase at (initial_value timing.init) (output_bit net (record { row = row_of net before; words = words }) m bit) v) (begun_value s low))))
 
-          no_input : (driver : Driver) → is_register driver ≡ true → is_input driver ≡ false
-          no_input Input granted = cc
-          no_input (Gate kind ops) granted = refl
-          no_input (Dff op) granted = refl
-          no_input (BlockBit memory bit) granted = refl
-
-          plays_it : has_role net timing role.Register s ≡ true
-          plays_it = role_here net timing role.Register s signal is ∙ register
-
-          by_at : (p : Phase) → at ≡ p → value_at row2 s ≡ by_phase at (initial_value timing.init) new (value_at old.row s)
-          by_at phase.Start is_at = rw is_at (put_role net timing role.Register plan.registers (λ _. initial_value timing.init) row1 row2 is_plan.registers (start is_at) s plays_it (omega (arith, room, late.signals, long)))
-          by_at phase.Edge is_at = rw is_at (put_role net timing role.Register plan.registers (held_value net old) row1 row2 is_plan.registers (edge is_at) s plays_it (omega (arith, room, late.signals, long)) ∙ (held_here net old s signal is ∙ held))
-          by_at phase.Within is_at = rw is_at (ap (λ r. value_at r s) (within is_at) ∙ not_late_one (ap (λ b. b && is_late net timing s) (no_gate signal.driver register)))
-
-    gate_result : (kind : Kind) (ops : List ℕ) → signal.driver ≡ Gate kind ops → value_at row4 s ≡ gate_value kind (values_of (if is_late net timing s then old.row else row4) ops)
-    gate_result kind ops driver = elim (late_or net timing s) [
-      | inl late_one ↦
-          let plays_it : has_role net timing role.Late s ≡ true = role_here net timing role.Late s signal is ∙ (ap (plays net timing s role.Late) driver ∙ late_one) in
-          let put = put_role net timing role.Late plan.late (held_value net old) old.row row1 is_plan.late late s plays_it (omega (arith, room, long)) in
-          kept (λ gate. late_one) ∙ (not_input (ap is_input driver) ∙ (not_register (ap is_register driver) ∙ (put ∙ (held_here net old s signal is ∙ (ap (held_driven net old s) driver
-          ∙ ap (λ b. gate_value kind (values_of (if b then old.row else row4) ops)) (sym late_one))))))
+    -- an operand of a gate
+    operand_is : (o : ℕ) → o < length net.signals → value_at done (operand_place net timing s o) ≡ value_at (if is_late net timing s then row_of net before else row_of net done) o
+    operand_is o o_low = elim (late_or net timing s) [
+      | inl late ↦
+          ap (λ b. value_at done ((if b then length net.signals else 0) + o)) late
+          ∙ (done_last o o_low ∙ ap (λ b. value_at (if b then row_of net before else row_of net done) o) (sym late))
       | inr early ↦
-          ap (λ r. value_at r s) settles ∙ (along_gate net timing plan.order is_plan.order row3 length3 s signal kind ops is driver early
-          ∙ (ap (λ r. gate_value kind (values_of r ops)) (sym settles) ∙ ap (λ b. gate_value kind (values_of (if b then old.row else row4) ops)) (sym early)))
+          let none : 0 + o ≡ o = omega arith in
+          ap (λ b. value_at done ((if b then length net.signals else 0) + o)) early
+          ∙ (ap (value_at done) none ∙ (sym (row_value net done o o_low) ∙ ap (λ b. value_at (if b then row_of net before else row_of net done) o) (sym early)))
     ]
 
-    pub turn_value : value_at row4 s ≡ driven_by net timing at inputs old (record { row = row4; words = words }) s signal.driver
-    turn_value = by_driver signal.driver refl where
-      by_driver : (driver : Driver) → signal.driver ≡ driver → value_at row4 s ≡ driven_by net timing at inputs old (record { row = row4; words = words }) s signal.driver
-      by_driver Input is_driver = rw is_driver (input_value is_driver)
-      by_driver (Gate kind ops) is_driver = rw is_driver (gate_result kind ops is_driver)
-      by_driver (Dff op) is_driver = rw is_driver (register_value (settled (value_at old.row op)) (ap is_register is_driver) (ap (held_driven net old s) is_driver))
-      by_driver (BlockBit memory bit) is_driver = rw is_driver (register_value (output_bit net old memory bit) (ap is_register is_driver) (ap (held_driven net old s) is_driver))
+    gate_result : (kind : Kind) (ops : List ℕ) → signal.driver ≡ Gate kind ops → value_at done s ≡ gate_value kind (values_of (if is_late net timing s then row_of net before else row_of net done) ops)
+    gate_result kind ops driver =
+        let here : here_value net timing s done ≡ gate_value kind (map (λ o. value_at done (operand_place net timing s o)) ops) = rw (is, driver) refl in
+        gates.here s (gate_here net s signal (Gate kind ops) is driver)
+        ∙ (here ∙ ap (gate_value kind) (map_same (λ o. value_at done (operand_place net timing s o)) (value_at (if is_late net timing s then row_of net before else row_of net done)) ops
+        (λ o held. operand_is o (operand_low net valid s signal kind ops is driver o held))))
 
-  pub turn_steps : StepsBy net timing at inputs old (record { row = row4; words = words })
+    pub turn_value : value_at (row_of net done) s ≡ driven_by net timing at inputs (record { row = row_of net before; words = words }) (record { row = row_of net done; words = memories }) s signal.driver
+    turn_value = row_value net done s low ∙ by_driver signal.driver refl where
+      by_driver : (driver : Driver) → signal.driver ≡ driver → value_at done s ≡ driven_by net timing at inputs (record { row = row_of net before; words = words }) (record { row = row_of net done; words = memories }) s signal.driver
+      by_driver Input driver = rw driver (input_value driver)
+      by_driver (Gate kind ops) driver = rw driver (gate_result kind ops driver)
+      by_driver (Dff op) driver = rw driver (register_value op driver)
+      by_driver (BlockBit m bit) driver = rw driver (bit_value m bit driver)
+
+  pub turn_words : WordsBy net at (record { row = row_of net before; words = words }) memories
+  turn_words = subst (λ row. WordsBy net at (record { row = row; words = words }) memories) last_is by_words
+
+  pub turn_steps : StepsBy net timing at inputs (record { row = row_of net before; words = words }) (record { row = row_of net done; words = memories })
   turn_steps = record {
-    signals = length4;
+    signals = length-take-le (length net.signals) done (omega (arith, done_long));
     values = turn_value;
-    memories = by_words.memories;
-    words = by_words.each;
+    memories = turn_words.memories;
+    words = turn_words.each;
   }
 
 -- the words stand in their shapes after a turn

@@ -1,6 +1,6 @@
 -- A list that is written from the left to the right.
 use Rattle.std.proofs.Common.{◌≡◌, ◌∙◌, ℕ, ◌+◌, ◌<◌, List, [], ◌∷◌, ◌++◌, length, take, drop, map, get_or, set, sym, ap, arith, append_assoc}
-use Rattle.std.proofs.lemmas.List.{drop_more, set_at, map_more, length-map, length-take-le, length-set, drop_all, append-nil, take_all, get_or-append_right, get_or-drop}
+use Rattle.std.proofs.lemmas.List.{drop_more, set_at, map_more, length-map, length-take-le, length-set, drop_all, append-nil, take_all}
 use Rattle.std.specs.List.{refill}
 
 pub write_more : {X : Type 0} (front old : List X) (i : ℕ) (y d : X) → length front ≡ i → i < length old → set (front ++ drop i old) i y ≡ (front ++ y ∷ []) ++ drop (i + 1) old
@@ -18,8 +18,3 @@ refill_set xs now i y same =
     let long : length (set now i y) ≡ length xs = length-set now i y ∙ ap length same in
     ap (λ rest. take (length xs) (set now i y ++ rest)) (drop_all (length (set now i y)) xs (omega arith))
     ∙ (ap (λ list. take (length xs) list) (append-nil (set now i y)) ∙ (take_all (length xs) (set now i y) (omega arith) ∙ ap (λ list. set list i y) same))
-
--- an item that was not reached yet
-pub read_ahead : {X : Type 0} (front old : List X) (i : ℕ) (d : X) → length front ≡ i → get_or (front ++ drop i old) i d ≡ get_or old i d
-read_ahead front old i d long =
-    get_or-append_right front (drop i old) i i d long (omega arith) ∙ (ap (λ n. get_or (drop i old) n d) (omega arith) ∙ (get_or-drop i old 0 d ∙ ap (λ n. get_or old n d) (omega arith)))

@@ -1,4 +1,7 @@
-pub mod Flats
-pub mod Ports
-pub mod Turns
+pub mod Ops
+pub mod Sequences
+pub mod Values
+pub mod Schedules
+pub mod Rams
+pub mod States
 pub mod Runs

@@ -1,18 +1,15 @@
 -- A run over all cycles, and what it answers.
-use Rattle.std.specs.Prelude.{◌≡◌, ℕ, ◌+◌, ◌*◌, ◌==◌, Bool, if◌then◌else◌, List, length, Some, slice_get, ⊤, map, All}
-use Rattle.logic_four.specs.Memory.{initial_words}
+use Rattle.std.specs.Prelude.{◌≡◌, ℕ, ◌+◌, ◌*◌, ◌==◌, Bool, if◌then◌else◌, List, length, Some, slice_get, All}
 use Rattle.logic_four.specs.declared.V4.{V4}
 use Rattle.net_defs.specs.declared.netlist.Netlist.{Netlist}
 use Rattle.net_defs.specs.declared.timing.Timing.{Timing}
 use Rattle.net_defs.specs.declared.stimulus.Stimulus.{Stimulus}
-use Rattle.net_defs.specs.declared.stimulus.CellRow.{CellRow}
-use Rattle.net_defs.specs.declared.stimulus.Rows.{Rows}
+use Rattle.net_defs.specs.declared.trace.CellRow.{CellRow}
+use Rattle.net_defs.specs.declared.trace.Rows.{Rows}
 use Rattle.net_defs.specs.Time.{cycle_count}
 use Rattle.net_defs.specs.Steps.{State, values_of}
 use Rattle.net_defs.specs.Reference.{IsSimulation}
 use Rattle.net_defs.specs.Trace.{cells_of}
-use Rattle.ref_sim.specs.declared.RefNo.{RefNo}
-use Rattle.ref_sim.specs.declared.RefNo.TheVariants.{Loop, Memory}
 use Rattle.ref_sim.specs.declared.turn.Phase.{Phase}
 use Rattle.ref_sim.specs.declared.turn.Phase.TheVariants as phase
 
@@ -26,11 +23,6 @@ abbrev pub AreRowsOf : Netlist → Timing → Stimulus → Rows → Type 0
 AreRowsOf net timing stimulus rows =
     (states : List State) → IsSimulation net timing stimulus states → AreCells net timing stimulus states rows
 
--- a refusal for a loop carries one that is so
-abbrev pub IfLoop : RefNo → (List ℕ → Type 0) → Type 0
-IfLoop (Loop signals) P = P signals
-IfLoop Memory P = ⊤
-
 -- each simulation is in this state at this turn
 pub record StandsAt (net : Netlist) (timing : Timing) (stimulus : Stimulus) (turn : ℕ) (state : State) : Type 0 where
   pub state_there : (states : List State) → IsSimulation net timing stimulus states → slice_get states turn ≡ Some state
@@ -43,10 +35,6 @@ pub record RunsTo (net : Netlist) (timing : Timing) (stimulus : Stimulus) (rows 
 -- the phase of a turn by its place in its cycle
 abbrev pub phase_at : Bool → ℕ → Phase
 phase_at is_first place = if place == 0 then (if is_first then phase.Start else phase.Edge) else phase.Within
-
--- the words of all memories before the first turn
-abbrev pub blank_words : Netlist → V4 → List (List (List V4))
-blank_words net v = map (λ memory. initial_words (length memory.address) (length memory.word) v) net.blocks
 
 -- the printed values of a row of signals
 abbrev pub printed_row : Netlist → List V4 → CellRow

@@ -7,6 +7,7 @@ use Rattle.std.proofs.lemmas.List.Concat.{length-flat_map}
 use Rattle.std.proofs.lemmas.List.Sums.{sum_by-append}
 use Rattle.std.proofs.lemmas.List.Elements.{All-from_recursion, All-from_get_or, recursion_from_All, filter_map-append}
 use Rattle.std.proofs.lemmas.Option.{get_or_from_slice_get, slice_get_within}
+use Rattle.limits.specs.declared.TheConstants.{MAX_CYCLES}
 use Rattle.text_lines.specs.Lines.{parts_of}
 use Rattle.text_lines.proofs.AnswerLemmas.{first_none, none_below}
 use Rattle.net_defs.specs.declared.stimulus.StimRow.{StimRow}
@@ -22,7 +23,7 @@ use Rattle.stim_text.proofs.StimLemmas.{rows_more}
 
 -- ---- no fault, so the text reads
 
-pub reads_from_none : (inputs : ℕ) (text : List ℕ) (rows : List StimRow) → first_fault inputs text ≡ None → rows ≡ rows_of (parts_of text) → cycles_of rows ≤ 1000000 → Reads inputs text (record { columns = inputs; rows = rows })
+pub reads_from_none : (inputs : ℕ) (text : List ℕ) (rows : List StimRow) → first_fault inputs text ≡ None → rows ≡ rows_of (parts_of text) → cycles_of rows ≤ MAX_CYCLES → Reads inputs text (record { columns = inputs; rows = rows })
 reads_from_none inputs text rows none is few = record {
   columns = refl;
   lines = All-from_get_or (IsAllowed inputs) (parts_of text) [] (λ i within. allowed_from_none inputs (cycles_of (rows_of (take i (parts_of text)))) (i + 1) (get_or (parts_of text) i []) (none_below (line_fault inputs text) (length (parts_of text)) none i within));

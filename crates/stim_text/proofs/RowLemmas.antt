@@ -5,6 +5,7 @@ use Rattle.std.specs.List.{list_all, filter_map, cons_option}
 use Rattle.std.specs.Option.{option_map}
 use Rattle.std.proofs.lemmas.Bool.{cond-true, cond-false, and_parts, or_cases, cases_Bool, cases_eq, eqb-true, leb-true, eq-eqb, le-leb, ne_eqb}
 use Rattle.std.proofs.lemmas.List.Sums.{sum_by-cons}
+use Rattle.limits.specs.declared.TheConstants.{MAX_CYCLES}
 use Rattle.logic_four.specs.declared.V4.{V4}
 use Rattle.text_lines.specs.Bytes.{cut_at}
 use Rattle.text_lines.specs.Words.{words_of}
@@ -22,7 +23,7 @@ pub record IsFit (inputs cycles : ℕ) (part : List ℕ) (times : ℕ) : Type 0 
   pub bytes : list_all (may_stand inputs) (values_part part) ≡ true
   pub repeat : repeat_of part ≡ Some times
   pub width : width_of inputs (values_part part) ≡ wanted inputs
-  pub fits : cycles + times ≤ 1000000
+  pub fits : cycles + times ≤ MAX_CYCLES
 
 no_row : (b : Bool) (e f : StimNo) → cond b (Some e) (Some f) ≡ None → ⊥
 no_row true e f none = cc
@@ -93,7 +94,7 @@ row_of-blank part blank = cond-true _ _ _ blank
 pub record IsGood (inputs : ℕ) (row : StimRow) : Type 0 where
   pub values : length row.values ≡ inputs
   pub some : 1 ≤ row.times
-  pub few : row.times ≤ 1000000
+  pub few : row.times ≤ MAX_CYCLES
 
 value_byte_some : (inputs byte : ℕ) → 0 < inputs → is_value_byte inputs byte ≡ is_some (char_value byte)
 unfolding is_value_byte
@@ -141,22 +142,22 @@ chosen_some : (b : Bool) (m n : ℕ) → cond b (Some m) None ≡ Some n → (b 
 chosen_some true m n e = (refl, cc)
 chosen_some false m n e = cc
 
-within_range : (o : Option ℕ) (n : ℕ) → within 1 1000000 o ≡ Some n → (1 ≤ n) × (n ≤ 1000000)
+within_range : (o : Option ℕ) (n : ℕ) → within 1 MAX_CYCLES o ≡ Some n → (1 ≤ n) × (n ≤ MAX_CYCLES)
 within_range None n is = cc
 within_range (Some m) n is =
-    let found = chosen_some (leb 1 m && leb m 1000000) m n is in
-    let both = and_parts (leb 1 m) (leb m 1000000) found.0 in
-    (omega (arith, leb-true 1 m both.0, found.1), omega (arith, leb-true m 1000000 both.1, found.1))
+    let found = chosen_some (leb 1 m && leb m MAX_CYCLES) m n is in
+    let both = and_parts (leb 1 m) (leb m MAX_CYCLES) found.0 in
+    (omega (arith, leb-true 1 m both.0, found.1), omega (arith, leb-true m MAX_CYCLES both.1, found.1))
 
-repeat_range : (part : List ℕ) (n : ℕ) → repeat_of part ≡ Some n → (1 ≤ n) × (n ≤ 1000000)
+repeat_range : (part : List ℕ) (n : ℕ) → repeat_of part ≡ Some n → (1 ≤ n) × (n ≤ MAX_CYCLES)
 unfolding repeat_of
 repeat_range part n is = cut (cut_at 42 part) n is where
-  words : (found : List (List ℕ)) (n : ℕ) → repeat_in found ≡ Some n → (1 ≤ n) × (n ≤ 1000000)
+  words : (found : List (List ℕ)) (n : ℕ) → repeat_in found ≡ Some n → (1 ≤ n) × (n ≤ MAX_CYCLES)
   words [] n is = cc
   words (word ∷ []) n is = within_range (number_of word) n is
   words (word ∷ other ∷ found) n is = cc
 
-  cut : (o : Option (List ℕ × List ℕ)) (n : ℕ) → after_star o ≡ Some n → (1 ≤ n) × (n ≤ 1000000)
+  cut : (o : Option (List ℕ × List ℕ)) (n : ℕ) → after_star o ≡ Some n → (1 ≤ n) × (n ≤ MAX_CYCLES)
   cut None n is = let one : Some 1 ≡ Some n = is in let same : 1 ≡ n = cc in (omega arith, omega arith)
   cut (Some parts) n is = words (words_of parts.1) n is
 
@@ -184,7 +185,7 @@ good_from_allowed inputs part row (inr is) made =
     ]
 
 -- a row of an allowed line has no fault where its cycles fit
-pub none_from_allowed : (inputs cycles line : ℕ) (part : List ℕ) → IsAllowed inputs part → ((row : StimRow) → row_of part ≡ Some row → cycles + row.times ≤ 1000000) → fault_of inputs cycles line part ≡ None
+pub none_from_allowed : (inputs cycles line : ℕ) (part : List ℕ) → IsAllowed inputs part → ((row : StimRow) → row_of part ≡ Some row → cycles + row.times ≤ MAX_CYCLES) → fault_of inputs cycles line part ≡ None
 unfolding row_of
 none_from_allowed inputs cycles line part (inl blank) fits = none_from_blank inputs cycles line part blank
 none_from_allowed inputs cycles line part (inr is) fits =

@@ -4,6 +4,7 @@ use Rattle.std.proofs.lemmas.List.{take_more, take_all}
 use Rattle.std.proofs.lemmas.List.Elements.{filter_map-append}
 use Rattle.std.proofs.lemmas.List.Sums.{sum_by-append}
 use Rattle.std.specs.List.{filter_map, cons_option}
+use Rattle.limits.specs.declared.TheConstants.{MAX_CYCLES}
 use Rattle.text_lines.specs.Answers.{first}
 use Rattle.text_lines.specs.Lines.{parts_of}
 use Rattle.text_lines.proofs.AnswerLemmas.{first-zero, first_none_more, first_some}
@@ -24,7 +25,7 @@ rows_more parts k within = ap (filter_map row_of) (take_more parts k [] within) 
 pub record HasRead (inputs : ℕ) (text : List ℕ) (k cycles : ℕ) (rows : List StimRow) : Type 0 where
   pub so_far : rows ≡ rows_of (take k (parts_of text))
   pub sum : cycles ≡ cycles_of rows
-  pub few : cycles ≤ 1000000
+  pub few : cycles ≤ MAX_CYCLES
   pub no_fault : first (line_fault inputs text) k ≡ None
 
 -- the line after the k that have passed has its fault
@@ -54,7 +55,7 @@ read_blank inputs text k cycles line part left rows read next none blank = recor
 }
 
 -- a row
-pub read_more : (inputs : ℕ) (text : List ℕ) (k cycles line : ℕ) (part : List ℕ) (left : List (ℕ × List ℕ)) (rows : List StimRow) (row : StimRow) → HasRead inputs text k cycles rows → IsNextLine (parts_of text) k line part left → fault_of inputs cycles line part ≡ None → Some row ≡ row_of part → cycles + row.times ≤ 1000000 → HasRead inputs text (k + 1) (cycles + row.times) (rows ++ row ∷ [])
+pub read_more : (inputs : ℕ) (text : List ℕ) (k cycles line : ℕ) (part : List ℕ) (left : List (ℕ × List ℕ)) (rows : List StimRow) (row : StimRow) → HasRead inputs text k cycles rows → IsNextLine (parts_of text) k line part left → fault_of inputs cycles line part ≡ None → Some row ≡ row_of part → cycles + row.times ≤ MAX_CYCLES → HasRead inputs text (k + 1) (cycles + row.times) (rows ++ row ∷ [])
 read_more inputs text k cycles line part left rows row read next none is fits = record {
   so_far =
       ap (λ (xs : List StimRow). xs ++ row ∷ []) read.so_far
@@ -66,7 +67,7 @@ read_more inputs text k cycles line part left rows row read next none is fits = 
 }
 
 -- all lines have passed
-pub read_all : (inputs : ℕ) (text : List ℕ) (k cycles : ℕ) (rows : List StimRow) → HasRead inputs text k cycles rows → k ≤ length (parts_of text) → length (parts_of text) ≤ k → (first_fault inputs text ≡ None) × ((rows ≡ rows_of (parts_of text)) × (cycles_of rows ≤ 1000000))
+pub read_all : (inputs : ℕ) (text : List ℕ) (k cycles : ℕ) (rows : List StimRow) → HasRead inputs text k cycles rows → k ≤ length (parts_of text) → length (parts_of text) ≤ k → (first_fault inputs text ≡ None) × ((rows ≡ rows_of (parts_of text)) × (cycles_of rows ≤ MAX_CYCLES))
 read_all inputs text k cycles rows read within past =
     let all : k ≡ length (parts_of text) = omega arith in
     (subst (λ n. first (line_fault inputs text) n ≡ None) all read.no_fault, (read.so_far ∙ ap rows_of (take_all k (parts_of text) past), omega (arith, read.sum, read.few)))

@@ -5,6 +5,7 @@ use Rattle.std.specs.Option.{option_map}
 use Rattle.std.proofs.lemmas.Bool.{cond-false, cases_Bool}
 use Rattle.std.proofs.lemmas.List.{take_all}
 use Rattle.std.proofs.lemmas.List.Sums.{sum_by-append}
+use Rattle.limits.specs.declared.TheConstants.{MAX_CYCLES}
 use Rattle.text_lines.specs.Lines.{parts_of}
 use Rattle.text_lines.proofs.AnswerLemmas.{none_below}
 use Rattle.logic_four.specs.Values.{char_value}
@@ -24,7 +25,7 @@ repeated part times filled is =
     ap (λ o. cycles_of (cons_option o [])) (cond-false _ _ _ filled ∙ ap (option_map (λ n. record { values = filter_map char_value (values_part part); times = n })) is) ∙ omega arith
 
 -- a line without a fault has cycles for which there is room
-fits_line : (inputs cycles line : ℕ) (part : List ℕ) → cycles ≤ 1000000 → fault_of inputs cycles line part ≡ None → cycles + cycles_of (cons_option (row_of part) []) ≤ 1000000
+fits_line : (inputs cycles line : ℕ) (part : List ℕ) → cycles ≤ MAX_CYCLES → fault_of inputs cycles line part ≡ None → cycles + cycles_of (cons_option (row_of part) []) ≤ MAX_CYCLES
 fits_line inputs cycles line part few none =
     elim (cases_Bool (is_blank_part part)) [
       | inl blank ↦ blank_fits blank
@@ -35,11 +36,11 @@ fits_line inputs cycles line part few none =
           ]
     ]
   where
-    blank_fits : is_blank_part part ≡ true → cycles + cycles_of (cons_option (row_of part) []) ≤ 1000000
+    blank_fits : is_blank_part part ≡ true → cycles + cycles_of (cons_option (row_of part) []) ≤ MAX_CYCLES
     blank_fits blank = omega (arith, ap (λ o. cycles_of (cons_option o [])) (row_of-blank part blank))
 
 -- lines without a fault have few cycles
-few_to : (inputs : ℕ) (text : List ℕ) → first_fault inputs text ≡ None → (k : ℕ) → k ≤ length (parts_of text) → cycles_of (rows_of (take k (parts_of text))) ≤ 1000000
+few_to : (inputs : ℕ) (text : List ℕ) → first_fault inputs text ≡ None → (k : ℕ) → k ≤ length (parts_of text) → cycles_of (rows_of (take k (parts_of text))) ≤ MAX_CYCLES
 unfolding rows_of
 few_to inputs text none zero within = omega arith
 few_to inputs text none (suc k) within =
@@ -55,5 +56,5 @@ reads_or_fault inputs text = by_fault (first_fault inputs text) refl where
   by_fault (Some why) is = inr (why, is)
   by_fault None none =
       let parts = parts_of text in
-      let few : cycles_of (rows_of parts) ≤ 1000000 = subst (λ ps. cycles_of (rows_of ps) ≤ 1000000) (take_all (length parts) parts (omega arith)) (few_to inputs text none (length parts) (omega arith)) in
+      let few : cycles_of (rows_of parts) ≤ MAX_CYCLES = subst (λ ps. cycles_of (rows_of ps) ≤ MAX_CYCLES) (take_all (length parts) parts (omega arith)) (few_to inputs text none (length parts) (omega arith)) in
       inl (record { columns = inputs; rows = rows_of parts }, reads_from_none inputs text (rows_of parts) none refl few)

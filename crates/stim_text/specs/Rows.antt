@@ -2,6 +2,7 @@
 use Rattle.std.specs.Prelude.{◌≡◌, ℕ, ◌+◌, ◌==◌, ◌||◌, ◌⊎◌, max, Bool, List, [], ◌∷◌, Option, Some, None, is_some, nat_le, if◌then◌else◌, IsTrue, IsSome, count_by}
 use Rattle.std.specs.List.{list_all, filter_map}
 use Rattle.std.specs.Option.{option_map}
+use Rattle.limits.specs.declared.TheConstants.{MAX_CYCLES}
 use Rattle.text_lines.specs.Bytes.{is_blank, cut_at}
 use Rattle.text_lines.specs.Words.{words_of}
 use Rattle.text_lines.specs.Numbers.{number_of, within}
@@ -26,7 +27,7 @@ values_part part = before_star part (cut_at 42 part)
 
 -- one word that is a number of 1 to 1,000,000
 abbrev pub repeat_in : List (List ℕ) → Option ℕ
-repeat_in (word ∷ []) = within 1 1000000 (number_of word)
+repeat_in (word ∷ []) = within 1 MAX_CYCLES (number_of word)
 repeat_in _ = None
 
 abbrev pub after_star : Option (List ℕ × List ℕ) → Option ℕ
@@ -78,7 +79,7 @@ IsAllowed inputs part = IsTrue (is_blank_part part) ⊎ IsRow inputs part
 
 -- whether a row with this repeat may follow so many cycles
 abbrev pub fits_after : ℕ → ℕ → Bool
-fits_after cycles times = nat_le (cycles + times) 1000000
+fits_after cycles times = nat_le (cycles + times) MAX_CYCLES
 
 abbrev pub repeat_fault : ℕ → ℕ → ℕ → List ℕ → Option ℕ → Option StimNo
 repeat_fault inputs cycles line values None = Some (Repeat line)

@@ -1,6 +1,7 @@
 -- Which stimulus a text reads as, and its first fault.
 use Rattle.std.specs.Prelude.{◌≡◌, ℕ, ◌+◌, ◌≤◌, List, [], length, take, slice_index_or, Option, All}
 use Rattle.std.specs.List.{sum_by, filter_map}
+use Rattle.limits.specs.declared.TheConstants.{MAX_CYCLES}
 use Rattle.text_lines.specs.Answers.{first}
 use Rattle.text_lines.specs.Lines.{parts_of}
 use Rattle.net_defs.specs.declared.stimulus.StimRow.{StimRow}
@@ -22,7 +23,7 @@ pub record Reads (inputs : ℕ) (text : List ℕ) (stimulus : Stimulus) : Type 0
   pub columns : stimulus.columns ≡ inputs
   pub lines : All (IsAllowed inputs) (parts_of text)
   pub rows : stimulus.rows ≡ rows_of (parts_of text)
-  pub cycles : cycles_of stimulus.rows ≤ 1000000
+  pub cycles : cycles_of stimulus.rows ≤ MAX_CYCLES
 
 -- the fault of the line at a place among the lines, counted from 0
 abbrev pub line_fault : ℕ → List ℕ → ℕ → Option StimNo

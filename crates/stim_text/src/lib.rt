@@ -8,9 +8,9 @@
 #![tactic(auto)]
 
 pub mod law;
-pub mod reading;
-pub mod refusal;
-pub mod row;
+mod reading;
+mod refusal;
+mod row;
 #[cfg(test)]
 mod tests;
 

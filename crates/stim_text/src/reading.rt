@@ -1,6 +1,7 @@
 //! The reader of stimulus texts.
 
-ghost use Rattle.std.specs.Prelude.{◌≡◌, ◌≤◌, None, MatchResult, IfOk, length};
+ghost use Rattle.std.specs.Prelude.{◌≡◌, ◌+◌, ◌≤◌, None, MatchResult, IfOk, length};
+ghost use Rattle.limits.specs.declared.TheConstants.{MAX_CYCLES, MAX_TEXT_BYTES};
 ghost use Rattle.text_lines.specs.Answers.{Answers};
 ghost use Rattle.net_defs.specs.declared.stimulus.Stimulus.{Stimulus};
 ghost use Rattle.net_defs.specs.Valid.{IsValidStimulus};
@@ -19,7 +20,7 @@ use text_lines::Lines;
 /// Of a line's faults the first of these is told: a bad character, a bad repeat, a wrong number of
 /// values, too many cycles.
 pub fn read_stim(alloc: Global, bytes: &[u8], inputs: u32) -> Result<Stimulus, StimNo>
-    requires { length bytes.now ≤ 67108864 }
+    requires { length bytes.now ≤ MAX_TEXT_BYTES }
 
     // What is read is what the text reads as, a refusal is the first fault, or memory ran out.
     ensures answers { Answers NoMemory result (first_fault inputs bytes.now) (Reads inputs bytes.now) }
@@ -41,17 +42,25 @@ pub fn read_stim(alloc: Global, bytes: &[u8], inputs: u32) -> Result<Stimulus, S
 
 /// The rows of the text, or the fault of the first line that has one.
 fn read_rows(alloc: Global, bytes: &[u8], inputs: u32) -> Result<List<StimRow>, StimNo>
-    requires { length bytes.now ≤ 67108864 }
+    requires { length bytes.now ≤ MAX_TEXT_BYTES }
     ensures { Answers NoMemory result (first_fault inputs bytes.now)
-        (λ rows. (rows ≡ rows_of (parts_of bytes.now)) × (cycles_of rows ≤ 1000000)) }
+        (λ rows. (rows ≡ rows_of (parts_of bytes.now)) × (cycles_of rows ≤ MAX_CYCLES)) }
 {
     let mut rows = List::new(alloc);
     let mut cycles = 0;
     for (line, part) in Lines::new(bytes) {
         if let Some(row) = read_row(alloc, inputs, cycles, line, part)? {
-            cycles += row.times;
+            cycles = cycles_with(cycles, &row);
             rows.push(row)?;
         }
     }
     Ok(rows)
+}
+
+/// The cycles of rows and of one row more.
+fn cycles_with(cycles: u32, row: &StimRow) -> u32
+    requires { cycles + row.now.times ≤ MAX_CYCLES }
+    ensures { result ≡ cycles + row.now.times }
+{
+    cycles + row.times
 }

@@ -1,7 +1,6 @@
 //! Why a stimulus text is refused.
 
 use seen_list::Memory;
-use std::fmt;
 
 /// Why a stimulus text is refused. Lines are counted from 1.
 #[derive(Clone, Copy, Debug, PartialEq, Eq)]
@@ -30,19 +29,3 @@ impl From<Memory> for StimNo {
         StimNo::Memory
     }
 }
-
-impl fmt::Display for StimNo {
-    fn fmt<W: fmt::Write>(&self, f: &mut fmt::Formatter<W>) -> fmt::Result {
-        match self {
-            StimNo::BadChar { line } => write!(f, "line {line}: bad character"),
-            StimNo::Width { line, got, want } => {
-                write!(f, "line {line}: {got} values, {want} wanted")
-            }
-            StimNo::Repeat { line } => write!(f, "line {line}: bad repeat"),
-            StimNo::TooManyCycles => write!(f, "too many cycles"),
-            StimNo::Memory => write!(f, "out of memory"),
-        }
-    }
-}
-
-impl std::error::Error for StimNo {}

@@ -9,6 +9,7 @@ ghost use Rattle.stim_text.specs.declared.refusal.StimNo.TheVariants.{Memory as 
 ghost use Rattle.stim_text.specs.Rows.{is_blank_part, values_part, repeat_of, repeat_in, is_value_byte, may_stand, width_of, row_of, row_fault, fault_of};
 
 use crate::refusal::StimNo;
+use limits::MAX_CYCLES;
 use logic_four::{V4, of_char};
 use net_defs::StimRow;
 use seen_list::{List, Memory};
@@ -16,9 +17,6 @@ use std::alloc::Global;
 use text_lines::Words;
 use text_lines::bytes::{is_blank, split_once};
 use text_lines::numbers::number_within;
-
-/// The most cycles of one row, and of all rows together.
-const MOST_CYCLES: u32 = 1_000_000;
 
 /// Reads the part of a line outside its comment, after rows of so many cycles: the row that it is,
 /// or `None` where it is blank, or its fault.
@@ -31,9 +29,9 @@ pub fn read_row(
     part: &[u8],
 ) -> Result<Option<StimRow>, StimNo>
     requires short { length part.now < 2 ^ 32 }
-    requires few { cycles ≤ 1000000 }
+    requires few { cycles ≤ MAX_CYCLES }
     ensures answers { Answers NoMemory result (fault_of inputs cycles line part.now) (λ row. row ≡ row_of part.now) }
-    ensures fits { IfOk result (λ read. IfSome read (λ row. cycles + row.times ≤ 1000000)) }
+    ensures fits { IfOk result (λ read. IfSome read (λ row. cycles + row.times ≤ MAX_CYCLES)) }
 {
     if is_blank_part(part) {
         return Ok(None);
@@ -53,11 +51,11 @@ fn checked_repeat(
     repeat: Option<u32>,
 ) -> Result<u32, StimNo>
     requires short { length values.now < 2 ^ 32 }
-    requires few { cycles ≤ 1000000 }
+    requires few { cycles ≤ MAX_CYCLES }
     ensures checked { MatchResult result
         (λ times. (row_fault inputs cycles line values.now repeat ≡ None) × (repeat ≡ Some times))
         (λ e. row_fault inputs cycles line values.now repeat ≡ Some e) }
-    ensures fits { IfOk result (λ times. cycles + times ≤ 1000000) }
+    ensures fits { IfOk result (λ times. cycles + times ≤ MAX_CYCLES) }
 {
     if !are_allowed(inputs, values) {
         return Err(StimNo::BadChar { line });
@@ -70,7 +68,7 @@ fn checked_repeat(
     if got != want {
         return Err(StimNo::Width { line, got, want });
     }
-    if times > MOST_CYCLES - cycles {
+    if times > MAX_CYCLES - cycles {
         return Err(StimNo::TooManyCycles);
     }
     Ok(times)
@@ -106,7 +104,7 @@ fn repeat_in(text: &[u8]) -> Option<u32>
     if words.next().is_some() {
         return None;
     }
-    number_within(word, 1, MOST_CYCLES)
+    number_within(word, 1, MAX_CYCLES)
 }
 
 /// Whether the byte stands for the value of an input; where there are no inputs, whether it is `-`.

@@ -1,6 +1,7 @@
 -- The names that texts give to signals.
 use Rattle.std.specs.Prelude.{ℕ, ◌≤◌, Bool, ◌==◌, ◌&&◌, ◌||◌, not, List, length, IsTrue}
 use Rattle.std.specs.List.{list_all}
+use Rattle.limits.specs.declared.TheConstants.{MAX_NAME_BYTES}
 use Rattle.text_lines.specs.Bytes.{is_visible, is_hash}
 
 -- one of the marks `(` `)` `,` `=` `;` `[` `]`
@@ -14,5 +15,5 @@ is_name_byte byte = is_visible byte && not (is_mark byte) && not (is_hash byte)
 -- a name: 1 to 255 such bytes
 pub record IsName (name : List ℕ) : Type 0 where
   pub some : 1 ≤ length name
-  pub short : length name ≤ 255
+  pub short : length name ≤ MAX_NAME_BYTES
   pub bytes : IsTrue (list_all is_name_byte name)

@@ -2,7 +2,7 @@
 //! a character for each printed signal. Each line is made in the same room, which is taken once.
 #![tactic(auto)]
 
-pub mod line;
+mod line;
 #[cfg(test)]
 mod tests;
 

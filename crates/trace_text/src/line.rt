@@ -2,6 +2,7 @@
 
 ghost use Rattle.std.specs.Prelude.{◌≡◌, ◌+◌, ◌^◌, ◌<◌, ◌≤◌, decimal, [], ◌∷◌, ◌++◌, length, map, max, IfOk, IfSome};
 ghost use Rattle.std.specs.List.{flat_map};
+ghost use Rattle.limits.specs.declared.TheConstants.{MAX_CYCLES};
 ghost use Rattle.logic_four.specs.Values.{value_char};
 ghost use Rattle.net_defs.specs.Canonical.{name_of};
 ghost use Rattle.net_defs.specs.Trace.{header_line, cycle_line};
@@ -9,8 +10,8 @@ ghost use Rattle.trace_text.specs.Line.{HasRoom, row_room};
 
 use itoa::Buffer;
 use logic_four::{V4, to_char};
-use net_defs::{Netlist, name};
-use seen_list::Memory;
+use net_defs::{Netlist, name_of};
+use seen_list::{Memory, Room};
 use std::alloc::Global;
 use std::marker::Model;
 
@@ -21,19 +22,15 @@ const ROW_ROOM: usize = 9;
 /// how many bytes there is room for.
 #[derive(Drop)]
 pub struct TraceLine {
-    buffer: Vec<u8>,
-    filled: usize,
+    line: Room,
 }
 
 impl Model for TraceLine {
-    ghost use Rattle.std.specs.Prelude.{◌≤◌, take, vec_len};
-    ghost use Rattle.trace_text.specs.Line.{Line};
+    ghost use Rattle.seen_list.specs.Filling.{Filling};
 
-    ghost Value = { Line };
+    ghost Value = { Filling };
 
-    ghost view = { λ l. record { bytes = take l.filled l.buffer.items; room = vec_len l.buffer } };
-
-    ghost invariant = { λ l. l.filled ≤ vec_len l.buffer };
+    ghost view = { λ l. l.line };
 }
 
 impl TraceLine {
@@ -45,104 +42,77 @@ impl TraceLine {
         let Some(room) = room_for(net) else {
             return Err(Memory);
         };
-        let buffer = vec![in alloc; 0u8; room]?;
-        Ok(TraceLine { buffer, filled: 0 })
+        let line = Room::new(alloc, room)?;
+        Ok(TraceLine { line })
     }
 
     /// The bytes of the line that was made last.
     pub fn bytes(&self) -> &[u8]
         ensures { result.now ≡ self.now.bytes }
     {
-        &self.buffer[..self.filled]
+        self.line.as_bytes()
     }
 
-    /// Makes the header: `cycle`, and each printed name in file order after a space. It takes no
-    /// memory.
+    /// Makes the header: `cycle`, and each printed name in file order after a space.
     #[tactic(auto, unfolding(net_defs::specs::Trace::header_line))]
     pub fn header(&mut self, net: &Netlist)
         requires { HasRoom net.now self.old }
         ensures { self.new ≡ record self.old { bytes = header_line net.now } }
     {
-        self.clear();
-        self.push_bytes(b"cycle");
-        self.push_names(net);
-        self.push(b'\n');
+        self.line.clear();
+        self.line.push_bytes(b"cycle");
+        push_names(&mut self.line, net);
+        self.line.push(b'\n');
     }
 
     /// Makes the line of a cycle, counted from 1, with the value of each printed signal in file order.
-    /// It takes no memory.
     #[tactic(auto, unfolding(net_defs::specs::Trace::cycle_line))]
     pub fn row(&mut self, cycle: u32, cells: &[V4])
         requires room { row_room (length cells.now) ≤ self.old.room }
-        requires cycle { cycle ≤ 1000000 }
+        requires cycle { cycle ≤ MAX_CYCLES }
         ensures { self.new ≡ record self.old { bytes = cycle_line cycle cells.now } }
     {
-        self.clear();
-        self.push_number(cycle);
-        self.push(b' ');
-        self.push_values(cells);
-        self.push(b'\n');
+        self.line.clear();
+        push_number(&mut self.line, cycle);
+        self.line.push(b' ');
+        push_values(&mut self.line, cells);
+        self.line.push(b'\n');
     }
+}
 
-    fn clear(&mut self)
-        ensures { self.new ≡ record self.old { bytes = [] } }
-    {
-        self.filled = 0;
+fn push_number(line: &mut Room, number: u32)
+    requires room { length line.old.bytes + 7 ≤ line.old.room }
+    requires short { number < 10 ^ 7 }
+    ensures bytes { line.new ≡ record line.old { bytes = line.old.bytes ++ decimal number } }
+    ensures len { length line.new.bytes ≤ length line.old.bytes + 7 }
+{
+    line.push_bytes(Buffer::new().format(number).as_bytes());
+}
+
+fn push_name(line: &mut Room, name: &[u8])
+    requires { length line.old.bytes + 1 + length name.now ≤ line.old.room }
+    ensures { line.new ≡ record line.old { bytes = line.old.bytes ++ 32 ∷ name.now } }
+{
+    line.push(b' ');
+    line.push_bytes(name);
+}
+
+fn push_names(line: &mut Room, net: &Netlist)
+    requires { length line.old.bytes + length (flat_map (λ s. 32 ∷ name_of net.now s) net.now.printed) ≤ line.old.room }
+    ensures { line.new ≡ record line.old { bytes = line.old.bytes ++ flat_map (λ s. 32 ∷ name_of net.now s) net.now.printed } }
+{
+    for number in net.printed.as_slice() {
+        push_name(line, name_of(net, *number));
     }
+}
 
-    fn push(&mut self, byte: u8)
-        requires { length self.old.bytes + 1 ≤ self.old.room }
-        ensures bytes { self.new ≡ record self.old { bytes = self.old.bytes ++ byte ∷ [] } }
-        ensures len { length self.new.bytes ≡ length self.old.bytes + 1 }
-    {
-        self.buffer[self.filled] = byte;
-        self.filled += 1;
-    }
-
-    fn push_bytes(&mut self, piece: &[u8])
-        requires { length self.old.bytes + length piece.now ≤ self.old.room }
-        ensures bytes { self.new ≡ record self.old { bytes = self.old.bytes ++ piece.now } }
-        ensures len { length self.new.bytes ≡ length self.old.bytes + length piece.now }
-    {
-        for byte in piece {
-            self.push(*byte);
-        }
-    }
-
-    fn push_number(&mut self, number: u32)
-        requires room { length self.old.bytes + 7 ≤ self.old.room }
-        requires short { number < 10 ^ 7 }
-        ensures bytes { self.new ≡ record self.old { bytes = self.old.bytes ++ decimal number } }
-        ensures len { length self.new.bytes ≤ length self.old.bytes + 7 }
-    {
-        self.push_bytes(Buffer::new().format(number).as_bytes());
-    }
-
-    fn push_name(&mut self, name: &[u8])
-        requires { length self.old.bytes + 1 + length name.now ≤ self.old.room }
-        ensures { self.new ≡ record self.old { bytes = self.old.bytes ++ 32 ∷ name.now } }
-    {
-        self.push(b' ');
-        self.push_bytes(name);
-    }
-
-    fn push_names(&mut self, net: &Netlist)
-        requires { length self.old.bytes + length (flat_map (λ s. 32 ∷ name_of net.now s) net.now.printed) ≤ self.old.room }
-        ensures { self.new ≡ record self.old { bytes = self.old.bytes ++ flat_map (λ s. 32 ∷ name_of net.now s) net.now.printed } }
-    {
-        for number in net.printed.as_slice() {
-            self.push_name(name(net, *number));
-        }
-    }
-
-    fn push_values(&mut self, values: &[V4])
-        requires { length self.old.bytes + length values.now ≤ self.old.room }
-        ensures bytes { self.new ≡ record self.old { bytes = self.old.bytes ++ map value_char values.now } }
-        ensures len { length self.new.bytes ≡ length self.old.bytes + length values.now }
-    {
-        for value in values {
-            self.push(to_char(*value));
-        }
+fn push_values(line: &mut Room, values: &[V4])
+    requires { length line.old.bytes + length values.now ≤ line.old.room }
+    ensures bytes { line.new ≡ record line.old { bytes = line.old.bytes ++ map value_char values.now } }
+    ensures len { length line.new.bytes ≡ length line.old.bytes + length values.now }
+{
+    for value in values {
+        line.push(to_char(*value));
     }
 }
 
@@ -169,7 +139,9 @@ fn names_length(net: &Netlist) -> Option<usize>
 {
     let mut names = 0usize;
     for number in net.printed.as_slice() {
-        names = names.checked_add(1)?.checked_add(name(net, *number).len())?;
+        names = names
+            .checked_add(1)?
+            .checked_add(name_of(net, *number).len())?;
     }
     Some(names)
 }

@@ -5,18 +5,18 @@ use Rattle.std.specs.Option.{option_map}
 use Rattle.std.proofs.lemmas.List.{append-nil}
 use Rattle.std.proofs.lemmas.Slice.Eq.{bytes_eq-Decides}
 use Rattle.net_defs.specs.declared.timing.Timing.{Timing}
-use Rattle.yse_top.specs.Words.{Simulation, Request, run, refer, show, is_plain, part_option, mode_of, units_of, init_of, are_none, timing_with, timing_of, simulation_of, shown_of, request_of}
+use Rattle.yse_top.specs.Words.{Simulation, Request, run, refer, show, is_file_name, take_option, mode_of, units_of, init_of, are_none, timing_with, timing_of, simulation_of, shown_of, request_of}
 use Rattle.yse_top.specs.Forms.{option_words, AreOptions, IsCall, HasForm}
 
 -- ---- options
 
 -- what is taken off and what is left are the words
-parted : (name : List ℕ) (words : List (List ℕ)) → words ≡ option_words name (part_option name words).value ++ (part_option name words).rest
+parted : (name : List ℕ) (words : List (List ℕ)) → words ≡ option_words name (take_option name words).value ++ (take_option name words).rest
 parted name [] = refl
 parted name (word ∷ []) = refl
 parted name (word ∷ value ∷ rest) = by (bytes_eq word name) refl
   where
-    by : (b : Bool) → bytes_eq word name ≡ b → word ∷ value ∷ rest ≡ option_words name (part_option name (word ∷ value ∷ rest)).value ++ (part_option name (word ∷ value ∷ rest)).rest
+    by : (b : Bool) → bytes_eq word name ≡ b → word ∷ value ∷ rest ≡ option_words name (take_option name (word ∷ value ∷ rest)).value ++ (take_option name (word ∷ value ∷ rest)).rest
     by true e = rw e (ap (λ (w : List ℕ). w ∷ value ∷ rest) ((bytes_eq-Decides word name).0 e))
     by false e = rw e refl
 
@@ -36,22 +36,22 @@ timing_from words timing o = ap timing_of o.words_are ∙ written o.mode o.units
 
 -- what is left of the words after each option
 abbrev after_mode : List (List ℕ) → List (List ℕ)
-after_mode words = (part_option (codes "--mode") words).rest
+after_mode words = (take_option (codes "--mode") words).rest
 
 abbrev after_units : List (List ℕ) → List (List ℕ)
-after_units words = (part_option (codes "--units") (after_mode words)).rest
+after_units words = (take_option (codes "--units") (after_mode words)).rest
 
 abbrev after_init : List (List ℕ) → List (List ℕ)
-after_init words = (part_option (codes "--init") (after_units words)).rest
+after_init words = (take_option (codes "--init") (after_units words)).rest
 
 abbrev mode_in : List (List ℕ) → Option (List ℕ)
-mode_in words = (part_option (codes "--mode") words).value
+mode_in words = (take_option (codes "--mode") words).value
 
 abbrev units_in : List (List ℕ) → Option (List ℕ)
-units_in words = (part_option (codes "--units") (after_mode words)).value
+units_in words = (take_option (codes "--units") (after_mode words)).value
 
 abbrev init_in : List (List ℕ) → Option (List ℕ)
-init_in words = (part_option (codes "--init") (after_units words)).value
+init_in words = (take_option (codes "--init") (after_units words)).value
 
 options_from : (words : List (List ℕ)) (timing : Timing) → timing_of words ≡ Some timing → AreOptions words timing
 options_from words timing read = by (after_init words) refl read
@@ -79,9 +79,9 @@ simulation_with netlist stimulus timing = record { netlist = netlist; stimulus =
 call_from : (command : List ℕ) (words : List (List ℕ)) (simulation : Simulation) → simulation_of words ≡ Some simulation → IsCall command (command ∷ words) simulation
 call_from command [] simulation read = cc
 call_from command (netlist ∷ []) simulation read = cc
-call_from command (netlist ∷ stimulus ∷ options) simulation read = by (is_plain netlist) (is_plain stimulus) refl refl (timing_of options) refl read
+call_from command (netlist ∷ stimulus ∷ options) simulation read = by (is_file_name netlist) (is_file_name stimulus) refl refl (timing_of options) refl read
   where
-    by : (p q : Bool) → is_plain netlist ≡ p → is_plain stimulus ≡ q → (o : Option Timing) → timing_of options ≡ o → (if p && q then option_map (simulation_with netlist stimulus) o else None) ≡ Some simulation → IsCall command (command ∷ netlist ∷ stimulus ∷ options) simulation
+    by : (p q : Bool) → is_file_name netlist ≡ p → is_file_name stimulus ≡ q → (o : Option Timing) → timing_of options ≡ o → (if p && q then option_map (simulation_with netlist stimulus) o else None) ≡ Some simulation → IsCall command (command ∷ netlist ∷ stimulus ∷ options) simulation
     by true true p q (Some timing) is e =
         let same : simulation_with netlist stimulus timing ≡ simulation = cc in
         subst (IsCall command (command ∷ netlist ∷ stimulus ∷ options)) same (record {
@@ -111,9 +111,9 @@ form_from (command ∷ words) request read = by (bytes_eq command (codes "run"))
 
     shown : (words : List (List ℕ)) (r : Request) → command ≡ codes "show" → option_map show (shown_of words) ≡ Some r → HasForm (command ∷ words) r
     shown [] r is e = cc
-    shown (netlist ∷ []) r is e = plain (is_plain netlist) refl e
+    shown (netlist ∷ []) r is e = plain (is_file_name netlist) refl e
       where
-        plain : (p : Bool) → is_plain netlist ≡ p → option_map show (if p then Some netlist else None) ≡ Some r → HasForm (command ∷ netlist ∷ []) r
+        plain : (p : Bool) → is_file_name netlist ≡ p → option_map show (if p then Some netlist else None) ≡ Some r → HasForm (command ∷ netlist ∷ []) r
         plain true p f =
             let asked : show netlist ≡ r = cc in
             subst (HasForm (command ∷ netlist ∷ [])) asked (ap (λ (w : List ℕ). w ∷ netlist ∷ []) is, p)
@@ -140,5 +140,5 @@ request_from words (refer simulation) call =
     ap request_of call.words_are ∙ ap (option_map refer) (simulation_from (codes "refer") words simulation call)
 request_from words (show netlist) form = ap request_of form.0 ∙ shown form.1
   where
-    shown : is_plain netlist ≡ true → option_map show (shown_of (netlist ∷ [])) ≡ Some (show netlist)
+    shown : is_file_name netlist ≡ true → option_map show (shown_of (netlist ∷ [])) ≡ Some (show netlist)
     shown p = rw p refl

@@ -1,5 +1,10 @@
-mod CauseLemmas
+mod ChainLemmas
+mod CheckLemmas
+mod EndLemmas
 mod FormLemmas
-mod OutcomeLemmas
+mod ProperLemmas
+mod TextLemmas
+mod TimingLemmas
 mod TraceLemmas
+mod TracedLemmas
 mod WritingLemmas

@@ -5,8 +5,8 @@ use Rattle.logic_four.specs.declared.V4.{V4}
 use Rattle.net_defs.specs.declared.netlist.Netlist.{Netlist}
 use Rattle.net_defs.specs.declared.timing.Timing.{Timing}
 use Rattle.net_defs.specs.declared.stimulus.Stimulus.{Stimulus}
-use Rattle.net_defs.specs.declared.stimulus.CellRow.{CellRow}
-use Rattle.net_defs.specs.declared.stimulus.Rows.{Rows}
+use Rattle.net_defs.specs.declared.trace.CellRow.{CellRow}
+use Rattle.net_defs.specs.declared.trace.Rows.{Rows}
 use Rattle.net_defs.specs.Trace.{header_line, cycle_line, cells_of, IsTrace}
 use Rattle.yse_top.specs.Outputs.{ArePrinted, cycle_lines}
 

@@ -12,7 +12,7 @@ use Rattle.edge_io.specs.Writing.{TakesProperPrefix}
 use Rattle.std.specs.Prelude.{slice_get, IfSome}
 use Rattle.std.specs.List.{flat_map}
 use Rattle.std.proofs.lemmas.Option.{slice_get_cases}
-use Rattle.yse_top.specs.Writing.{Writes, Tells}
+use Rattle.yse_top.specs.Writing.{Takes, TakesLine}
 
 -- a count that rose since a later moment rose since an earlier one
 pub rose_since : (early late now : ℕ) → early ≤ late → late ≤ now → Rose late now → Rose early now
@@ -21,6 +21,10 @@ rose_since early late now a b rose = λ h. by (cases_lt late (2 ^ 64 - 1)) h
     by : (late < 2 ^ 64 - 1) ⊎ (2 ^ 64 - 1 ≤ late) → early < 2 ^ 64 - 1 → early < now
     by (inl l) h = let r : late < now = rose l in omega arith
     by (inr l) h = omega arith
+
+-- a count that rose until an earlier moment rose until a later one
+pub rose_until : (old early now : ℕ) → early ≤ now → Rose old early → Rose old now
+rose_until old early now kept rose = λ h. let r : old < early = rose h in omega arith
 
 -- a proper prefix of the first piece is one of both
 pub prefix_of_both : (old new : Option (List ℕ)) (a b : List ℕ) → TakesProperPrefix old new a → TakesProperPrefix old new (a ++ b)
@@ -44,12 +48,12 @@ prefix_after old mid new a b is p =
     }
 
 -- a piece that ended at a fault ends what it begins
-pub writes_cut : (old new : Option (List ℕ)) (f g : ℕ) (e : WriteNo) (a b : List ℕ) → Writes old new f g (Err e) a → Writes old new f g (Err e) (a ++ b)
+pub writes_cut : (old new : Option (List ℕ)) (f g : ℕ) (e : WriteNo) (a b : List ℕ) → Takes old new f g (Err e) a → Takes old new f g (Err e) (a ++ b)
 writes_cut old new f g e a b w =
     record { whole = tt; prefix = prefix_of_both old new a b w.prefix; failed = w.failed; kept = w.kept }
 
 -- a piece after one that was taken
-pub writes_on : (old mid new : Option (List ℕ)) (f g h : ℕ) (r : Result (Unit {0}) WriteNo) (a b : List ℕ) → Writes old mid f g (Ok tt) a → Writes mid new g h r b → Writes old new f h r (a ++ b)
+pub writes_on : (old mid new : Option (List ℕ)) (f g h : ℕ) (r : Result (Unit {0}) WriteNo) (a b : List ℕ) → Takes old mid f g (Ok tt) a → Takes mid new g h r b → Takes old new f h r (a ++ b)
 writes_on old mid new f g h (Ok done) a b first then =
     record {
       whole = (then.whole ∙ ap (λ (told : Option (List ℕ)). append_known told b) first.whole) ∙ append_known-append old a b;
@@ -66,18 +70,18 @@ writes_on old mid new f g h (Err e) a b first then =
     }
 
 -- what is written of a line is told of it
-pub tells_written : (old new : Option (List ℕ)) (f g : ℕ) (r : Result (Unit {0}) WriteNo) (line : List ℕ) → Writes old new f g r line → Tells old new f g line
+pub tells_written : (old new : Option (List ℕ)) (f g : ℕ) (r : Result (Unit {0}) WriteNo) (line : List ℕ) → Takes old new f g r line → TakesLine old new f g line
 tells_written old new f g (Ok done) line w =
     record { front = (length line, w.whole ∙ ap (append_known old) (sym (take-length line))); whole = inr w.whole }
 tells_written old new f g (Err e) line w = record { front = (w.prefix.count, w.prefix.taken); whole = inl w.failed }
 
 -- a call that wrote one piece, and another that wrote the next
-pub writes_then : (old mid new : Option (List ℕ)) (f g h : ℕ) (q r : Result (Unit {0}) WriteNo) (done : Unit {0}) (piece a b : List ℕ) → q ≡ Ok done → piece ≡ a → Writes old mid f g q piece → Writes mid new g h r b → Writes old new f h r (a ++ b)
+pub writes_then : (old mid new : Option (List ℕ)) (f g h : ℕ) (q r : Result (Unit {0}) WriteNo) (done : Unit {0}) (piece a b : List ℕ) → q ≡ Ok done → piece ≡ a → Takes old mid f g q piece → Takes mid new g h r b → Takes old new f h r (a ++ b)
 writes_then old mid new f g h q r done piece a b is same first then =
     writes_on old mid new f g h r a b (rw (sym is) (rw (sym same) first)) then
 
 -- a call that ended at a fault in its first piece
-pub writes_stop : (old new : Option (List ℕ)) (f g : ℕ) (q : Result (Unit {0}) WriteNo) (e : WriteNo) (piece a b : List ℕ) → q ≡ Err e → piece ≡ a → Writes old new f g q piece → Writes old new f g (Err e) (a ++ b)
+pub writes_stop : (old new : Option (List ℕ)) (f g : ℕ) (q : Result (Unit {0}) WriteNo) (e : WriteNo) (piece a b : List ℕ) → q ≡ Err e → piece ≡ a → Takes old new f g q piece → Takes old new f g (Err e) (a ++ b)
 writes_stop old new f g q e piece a b is same first = writes_cut old new f g e a b (rw (sym is) (rw (sym same) first))
 
 append_known-nil : (told : Option (List ℕ)) → append_known told [] ≡ told
@@ -85,11 +89,11 @@ append_known-nil None = refl
 append_known-nil (Some bytes) = ap Some (append-nil bytes)
 
 -- equal pieces are written alike
-pub writes_same : (old new : Option (List ℕ)) (f g : ℕ) (r : Result (Unit {0}) WriteNo) (a b : List ℕ) → a ≡ b → Writes old new f g r a → Writes old new f g r b
-writes_same old new f g r a b same = subst (Writes old new f g r) same
+pub writes_same : (old new : Option (List ℕ)) (f g : ℕ) (r : Result (Unit {0}) WriteNo) (a b : List ℕ) → a ≡ b → Takes old new f g r a → Takes old new f g r b
+writes_same old new f g r a b same = subst (Takes old new f g r) same
 
 -- nothing is written of no piece
-pub writes_none : (told : Option (List ℕ)) (f : ℕ) → Writes told told f f (Ok tt) []
+pub writes_none : (told : Option (List ℕ)) (f : ℕ) → Takes told told f f (Ok tt) []
 writes_none told f = record { whole = sym (append_known-nil told); prefix = tt; failed = tt; kept = omega arith }
 
 -- the pieces before a place, and the one there
@@ -98,23 +102,23 @@ flat_map-more p xs i x within is =
     ap (flat_map p) (take_more xs i x within) ∙ flat_map-append p (take i xs) (get_or xs i x ∷ []) ∙ ap (λ y. flat_map p (take i xs) ++ y) (append-nil (p (get_or xs i x)) ∙ ap p (sym is))
 
 -- the pieces before a place were taken, and so was the one there
-pub writes_more : {X : Type 0} (p : X → List ℕ) (xs : List X) (i : ℕ) (x : X) (old mid new : Option (List ℕ)) (f g h : ℕ) (q : Result (Unit {0}) WriteNo) (done : Unit {0}) (piece : List ℕ) → i < length xs → x ≡ get_or xs i x → q ≡ Ok done → piece ≡ p x → Writes old mid f g (Ok tt) (flat_map p (take i xs)) → Writes mid new g h q piece → Writes old new f h (Ok tt) (flat_map p (take (i + 1) xs))
+pub writes_more : {X : Type 0} (p : X → List ℕ) (xs : List X) (i : ℕ) (x : X) (old mid new : Option (List ℕ)) (f g h : ℕ) (q : Result (Unit {0}) WriteNo) (done : Unit {0}) (piece : List ℕ) → i < length xs → x ≡ get_or xs i x → q ≡ Ok done → piece ≡ p x → Takes old mid f g (Ok tt) (flat_map p (take i xs)) → Takes mid new g h q piece → Takes old new f h (Ok tt) (flat_map p (take (i + 1) xs))
 writes_more p xs i x old mid new f g h q done piece within at is same before here =
-    subst (Writes old new f h (Ok tt)) (sym (flat_map-more p xs i x within at))
+    subst (Takes old new f h (Ok tt)) (sym (flat_map-more p xs i x within at))
     (writes_on old mid new f g h (Ok tt) (flat_map p (take i xs)) (p x) before (rw (sym is) (rw (sym same) here)))
 
 -- the pieces before a place were taken, and the one there ended at a fault
-pub writes_ended : {X : Type 0} (p : X → List ℕ) (xs : List X) (i : ℕ) (x : X) (old mid new : Option (List ℕ)) (f g h : ℕ) (q : Result (Unit {0}) WriteNo) (e : WriteNo) (piece : List ℕ) → i < length xs → x ≡ get_or xs i x → q ≡ Err e → piece ≡ p x → Writes old mid f g (Ok tt) (flat_map p (take i xs)) → Writes mid new g h q piece → Writes old new f h (Err e) (flat_map p xs)
+pub writes_ended : {X : Type 0} (p : X → List ℕ) (xs : List X) (i : ℕ) (x : X) (old mid new : Option (List ℕ)) (f g h : ℕ) (q : Result (Unit {0}) WriteNo) (e : WriteNo) (piece : List ℕ) → i < length xs → x ≡ get_or xs i x → q ≡ Err e → piece ≡ p x → Takes old mid f g (Ok tt) (flat_map p (take i xs)) → Takes mid new g h q piece → Takes old new f h (Err e) (flat_map p xs)
 writes_ended p xs i x old mid new f g h q e piece within at is same before here =
-    subst (Writes old new f h (Err e)) whole (writes_cut old new f h e (flat_map p (take i xs) ++ p x) (flat_map p (drop (i + 1) xs))
+    subst (Takes old new f h (Err e)) whole (writes_cut old new f h e (flat_map p (take i xs) ++ p x) (flat_map p (drop (i + 1) xs))
     (writes_on old mid new f g h (Err e) (flat_map p (take i xs)) (p x) before (rw (sym is) (rw (sym same) here))))
   where
     whole : (flat_map p (take i xs) ++ p x) ++ flat_map p (drop (i + 1) xs) ≡ flat_map p xs
     whole = ap (λ y. y ++ flat_map p (drop (i + 1) xs)) (sym (flat_map-more p xs i x within at)) ∙ sym (flat_map-append p (take (i + 1) xs) (drop (i + 1) xs)) ∙ ap (flat_map p) (take-append-drop (i + 1) xs)
 
 -- all pieces were taken
-pub writes_all : {X : Type 0} (p : X → List ℕ) (xs : List X) (i : ℕ) (old new : Option (List ℕ)) (f g : ℕ) → length xs ≤ i → Writes old new f g (Ok tt) (flat_map p (take i xs)) → Writes old new f g (Ok tt) (flat_map p xs)
-writes_all p xs i old new f g past w = subst (λ (ys : List _). Writes old new f g (Ok tt) (flat_map p ys)) (take_all i xs past) w
+pub writes_all : {X : Type 0} (p : X → List ℕ) (xs : List X) (i : ℕ) (old new : Option (List ℕ)) (f g : ℕ) → length xs ≤ i → Takes old new f g (Ok tt) (flat_map p (take i xs)) → Takes old new f g (Ok tt) (flat_map p xs)
+writes_all p xs i old new f g past w = subst (λ (ys : List _). Takes old new f g (Ok tt) (flat_map p ys)) (take_all i xs past) w
 
 -- the member at a place, and a fact of it
 pub member_at : {X : Type 0} (P : X → Type 0) (xs : List X) (i : ℕ) → i < length xs → IfSome (slice_get xs i) P → (x : X) × (x ≡ get_or xs i x) × P x

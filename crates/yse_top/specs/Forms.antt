@@ -1,7 +1,7 @@
 -- The forms of the words of a command line, as whole lists of words.
 use Rattle.std.specs.Prelude.{◌≡◌, ◌↔◌, ℕ, true, List, [], ◌∷◌, ◌++◌, Option, Some, None, codes}
 use Rattle.net_defs.specs.declared.timing.Timing.{Timing}
-use Rattle.yse_top.specs.Words.{Simulation, Request, run, refer, show, is_plain, mode_of, units_of, init_of, timing_with, request_of}
+use Rattle.yse_top.specs.Words.{Simulation, Request, run, refer, show, is_file_name, mode_of, units_of, init_of, timing_with, request_of}
 
 -- an option that is given or left out
 abbrev pub option_words : List ℕ → Option (List ℕ) → List (List ℕ)
@@ -20,15 +20,15 @@ pub record AreOptions (words : List (List ℕ)) (timing : Timing) : Type 0 where
 pub record IsCall (command : List ℕ) (words : List (List ℕ)) (simulation : Simulation) : Type 0 where
   pub options : List (List ℕ)
   pub words_are : words ≡ command ∷ simulation.netlist ∷ simulation.stimulus ∷ options
-  pub netlist : is_plain simulation.netlist ≡ true
-  pub stimulus : is_plain simulation.stimulus ≡ true
+  pub netlist : is_file_name simulation.netlist ≡ true
+  pub stimulus : is_file_name simulation.stimulus ≡ true
   pub timing : AreOptions options simulation.timing
 
 -- the words are of the form of the request
 abbrev pub HasForm : List (List ℕ) → Request → Type 0
 HasForm words (run simulation) = IsCall (codes "run") words simulation
 HasForm words (refer simulation) = IsCall (codes "refer") words simulation
-HasForm words (show netlist) = (words ≡ codes "show" ∷ netlist ∷ []) × (is_plain netlist ≡ true)
+HasForm words (show netlist) = (words ≡ codes "show" ∷ netlist ∷ []) × (is_file_name netlist ≡ true)
 
 -- a request is read exactly where the words are of its form
 abbrev pub ReadsForms : Type 0

@@ -1,10 +1,15 @@
-pub mod Causes
+pub mod Checks
+pub mod commands
+pub mod Ends
 pub mod Expected
 pub mod Forms
 pub mod Law
 pub mod Lines
+pub mod Outcome
 pub mod Outputs
+pub mod Readings
 pub mod Refusals
 pub mod Statuses
+pub mod Traced
 pub mod Words
 pub mod Writing

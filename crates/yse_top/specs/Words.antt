@@ -1,13 +1,15 @@
 -- The words of a command line, and what they ask for. The files come first, and then the options, each
 -- as two words, at most once and in their order.
-use Rattle.std.specs.Prelude.{ℕ, ◌==◌, ◌&&◌, Bool, true, false, not, nat_le, if◌then◌else◌, List, [], ◌∷◌, length, Option, Some, None, codes, bytes_eq}
+use Rattle.std.specs.Prelude.{ℕ, ◌==◌, ◌&&◌, Bool, true, false, not, nat_le, if◌then◌else◌, List, [], ◌∷◌, length, Option, Some, None, IfSome, codes, bytes_eq}
 use Rattle.std.specs.Option.{option_map}
+use Rattle.limits.specs.declared.TheConstants.{MAX_UNITS}
 use Rattle.text_lines.specs.Numbers.{number_of, within}
 use Rattle.net_defs.specs.declared.timing.Timing.{Timing}
 use Rattle.net_defs.specs.declared.timing.Mode.{Mode}
 use Rattle.net_defs.specs.declared.timing.Mode.TheVariants.{Rank, Unit}
 use Rattle.net_defs.specs.declared.timing.Init.{Init}
 use Rattle.net_defs.specs.declared.timing.Init.TheVariants.{Undef, Zero}
+use Rattle.net_defs.specs.Valid.{IsValidTiming}
 use Rattle.yse_top.specs.declared.words.RunWords.{RunWords}
 use Rattle.yse_top.specs.declared.words.Command.{Command}
 use Rattle.yse_top.specs.declared.words.Command.TheVariants as command
@@ -34,23 +36,34 @@ abbrev pub files_named : Option Request → List (List ℕ)
 files_named None = []
 files_named (Some request) = files_of request
 
+-- the simulation whose trace a request writes
+abbrev pub traced_by : Option Request → Option Simulation
+traced_by None = None
+traced_by (Some (run simulation)) = Some simulation
+traced_by (Some (refer simulation)) = Some simulation
+traced_by (Some (show netlist)) = None
+
+-- the timing of a request's simulation is valid
+abbrev pub HasValidTiming : Request → Type 0
+HasValidTiming request = IfSome (traced_by (Some request)) (λ simulation. IsValidTiming simulation.timing)
+
 -- ---- options
 
 -- a word that can name a file: not empty, and not begun by `-`
-abbrev pub is_plain : List ℕ → Bool
-is_plain [] = false
-is_plain (first ∷ others) = not (first == 45)
+abbrev pub is_file_name : List ℕ → Bool
+is_file_name [] = false
+is_file_name (first ∷ others) = not (first == 45)
 
 -- the value of the option with a name, where it is the first of the words, and the words behind it
-pub record Parted : Type 0 where
+pub record TakenOption : Type 0 where
   pub value : Option (List ℕ)
   pub rest : List (List ℕ)
 
-abbrev pub part_option : List ℕ → List (List ℕ) → Parted
-part_option name (word ∷ value ∷ rest) =
+abbrev pub take_option : List ℕ → List (List ℕ) → TakenOption
+take_option name (word ∷ value ∷ rest) =
     if bytes_eq word name then record { value = Some value; rest = rest }
     else record { value = None; rest = word ∷ value ∷ rest }
-part_option name words = record { value = None; rest = words }
+take_option name words = record { value = None; rest = words }
 
 -- the mode that a value says, and rank order where none is given
 abbrev pub mode_of : Option (List ℕ) → Option Mode
@@ -63,7 +76,7 @@ mode_of (Some value) =
 -- the turns of a cycle: 1 to 4,096 in at most ten digits, and 1 where none is given
 abbrev pub units_of : Option (List ℕ) → Option ℕ
 units_of None = Some 1
-units_of (Some value) = if nat_le (length value) 10 then within 1 4096 (number_of value) else None
+units_of (Some value) = if nat_le (length value) 10 then within 1 MAX_UNITS (number_of value) else None
 
 -- the initial value, and undefined where none is given
 abbrev pub init_of : Option (List ℕ) → Option Init
@@ -90,9 +103,9 @@ are_none (word ∷ words) = false
 -- the timing that options say: `--mode`, `--units` and `--init`
 abbrev pub timing_of : List (List ℕ) → Option Timing
 timing_of words =
-    let mode = part_option (codes "--mode") words in
-    let units = part_option (codes "--units") mode.rest in
-    let init = part_option (codes "--init") units.rest in
+    let mode = take_option (codes "--mode") words in
+    let units = take_option (codes "--units") mode.rest in
+    let init = take_option (codes "--init") units.rest in
     if are_none init.rest then timing_with (mode_of mode.value) (units_of units.value) (init_of init.value) else None
 
 -- ---- commands
@@ -100,14 +113,14 @@ timing_of words =
 -- `NETLIST STIMULUS [--mode rank|unit] [--units K] [--init x|0]`
 abbrev pub simulation_of : List (List ℕ) → Option Simulation
 simulation_of (netlist ∷ stimulus ∷ options) =
-    if is_plain netlist && is_plain stimulus
+    if is_file_name netlist && is_file_name stimulus
     then option_map (λ timing. record { netlist = netlist; stimulus = stimulus; timing = timing }) (timing_of options)
     else None
 simulation_of _ = None
 
 -- `NETLIST`
 abbrev pub shown_of : List (List ℕ) → Option (List ℕ)
-shown_of (netlist ∷ []) = if is_plain netlist then Some netlist else None
+shown_of (netlist ∷ []) = if is_file_name netlist then Some netlist else None
 shown_of _ = None
 
 -- the request of a command with these words after it

@@ -12,13 +12,13 @@ joined pieces = flat_map (λ piece. piece) pieces
 
 -- a sink that took `old` and now `new` was given the piece: it took the whole of it, or a proper prefix
 -- after a fault that it counted
-pub record Writes (old new : Option (List ℕ)) (faults_old faults_new : ℕ) (result : Result (Unit {0}) WriteNo) (piece : List ℕ) : Type 0 where
+pub record Takes (old new : Option (List ℕ)) (faults_old faults_new : ℕ) (result : Result (Unit {0}) WriteNo) (piece : List ℕ) : Type 0 where
   pub whole : OnOk result (new ≡ append_known old piece)
   pub prefix : OnErr result (TakesProperPrefix old new piece)
   pub failed : OnErr result (Rose faults_old faults_new)
   pub kept : faults_old ≤ faults_new
 
 -- a sink that took `old` and now `new` has taken a front of the line, and all of it unless its faults rose
-pub record Tells (old new : Option (List ℕ)) (faults_old faults_new : ℕ) (line : List ℕ) : Type 0 where
+pub record TakesLine (old new : Option (List ℕ)) (faults_old faults_new : ℕ) (line : List ℕ) : Type 0 where
   pub front : (count : ℕ) × (new ≡ append_known old (take count line))
   pub whole : Rose faults_old faults_new ⊎ (new ≡ append_known old line)

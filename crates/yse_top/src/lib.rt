@@ -1,35 +1,39 @@
 //! The whole program over any store of files and any sinks.
 #![tactic(auto)]
 
-ghost use Rattle.std.specs.Prelude.{◌≡◌, ◌≢◌, ◌≤◌, ◌↔◌, ℕ, List, map, length, IsNone};
+ghost use Rattle.std.specs.Prelude.{◌≡◌, ◌≢◌, ◌≤◌, ◌↔◌, ℕ, List, None, IfSome, map, length};
 ghost use Rattle.std.specs.Io.KnownBytes.{append_known};
 ghost use Rattle.std.specs.String.{string_bytes};
 ghost use Rattle.edge_io.specs.Counts.{raised, Rose};
-ghost use Rattle.edge_io.specs.Writing.{TakesProperPrefix};
-ghost use Rattle.yse_top.specs.Causes.{IsUnread, counts};
-ghost use Rattle.yse_top.specs.Expected.{Expected, WhereTold, IsAnswer, IsOfText, done, refusal};
-ghost use Rattle.yse_top.specs.Lines.{usage_line, read_fault_line, write_fault_line, memory_line};
-ghost use Rattle.yse_top.specs.Words.{request_of, files_named};
-ghost use Rattle.yse_top.specs.Writing.{Tells};
+ghost use Rattle.yse_top.specs.Ends.{EndsAs, IsAnswer, IsDoneOrMemory, MayWrite, AreToldBy};
+ghost use Rattle.yse_top.specs.Expected.{Expected};
+ghost use Rattle.yse_top.specs.Lines.{memory_line};
+ghost use Rattle.yse_top.specs.Outcome.{Outcome, done};
+ghost use Rattle.yse_top.specs.Readings.{Reading, AreReadings};
+ghost use Rattle.yse_top.specs.Traced.{IsTraceOfFiles};
+ghost use Rattle.yse_top.specs.Words.{request_of, files_named, traced_by};
+ghost use Rattle.yse_top.specs.Writing.{TakesLine};
 
+mod checks;
+mod commands;
+mod diagnostics;
 pub mod law;
 mod output;
 mod reading;
 mod refusal;
-mod run;
 mod status;
-mod telling;
 #[cfg(test)]
 mod tests;
 mod words;
 
+use commands::prepare;
+use diagnostics::{refuse, tell_write_fault};
 use edge_io::{Files, Sink};
+use law::calls_are_proper;
 use output::write_output;
 use refusal::Refusal;
-use run::prepare;
 pub use status::Status;
 use std::alloc::Global;
-use telling::refuse;
 
 /// Does what the words say. `run` and `refer` with `NETLIST STIMULUS [--mode rank|unit] [--units K]
 /// [--init x|0]` simulate the netlist of the one file with the stimulus of the other and write the
@@ -45,49 +49,56 @@ pub fn yse<F: Files, O: Sink, E: Sink>(
     out: &mut O,
     err: &mut E,
 ) -> Status
-    ensures statuses { IsAnswer result }
+    // After a simulation the output is the trace of the netlist and the stimulus that its files read as.
+    ensures trace { result ≡ Status.Done → (output : List ℕ)
+        × (O.taken out.new ≡ append_known (O.taken out.old) output)
+        × IfSome (traced_by (request_of (map string_bytes words.now))) (IsTraceOfFiles (F.bytes files.old) output) }
 
-    // The words are not of the form exactly where this status comes, and then nothing was begun.
-    ensures words { (result ≡ Status.Words) ↔ IsNone (request_of (map string_bytes words.now)) }
-    ensures untouched { result ≡ Status.Words → F.starts files.new ≡ F.starts files.old }
+    // The call comes to an outcome that is expected of the words and of what was read.
+    ensures expected { (readings : List Reading) × (outcome : Outcome)
+        × AreReadings (F.names files.old) (F.bytes files.old) (F.counts files.old) (F.counts files.new) readings
+        × Expected (map string_bytes words.now) readings outcome
+        × EndsAs result outcome (O.taken out.old) (O.taken out.new) (O.faults out.old) (O.faults out.new)
+        (TakesLine (E.taken err.old) (E.taken err.new) (E.faults err.old) (E.faults err.new)) }
 
-    // What was written is what is expected, and no more than a part of it after a fault.
-    ensures done { result ≡ Status.Done → (output : List ℕ) × WhereTold (F.names files.old) (F.bytes files.old)
-        (λ texts. Expected (map string_bytes words.now) texts (done output))
-        × (O.taken out.new ≡ append_known (O.taken out.old) output) }
-    ensures cut_short { result ≡ Status.WriteFault → (output : List ℕ) × WhereTold (F.names files.old) (F.bytes files.old)
-        (λ texts. Expected (map string_bytes words.now) texts (done output))
-        × TakesProperPrefix (O.taken out.old) (O.taken out.new) output }
-    ensures no_output { result ≢ Status.Done → result ≢ Status.WriteFault → out.new ≡ out.old }
+    // Where an output is expected of what the files tell, it is written, but for a fault or want of memory.
+    ensures complete { (readings : List Reading) (output : List ℕ)
+        → Expected (map string_bytes words.now) readings (done output)
+        → AreToldBy (F.names files.old) (F.bytes files.old) readings
+        → (Rose (F.counts files.old).faults (F.counts files.new).faults → ⊥)
+        → (Rose (O.faults out.old) (O.faults out.new) → ⊥)
+        → IsDoneOrMemory result }
 
-    // A text, a loop or a size is refused where that is expected, and with the line that is expected.
-    ensures refused { IsOfText result → (line : List ℕ) × WhereTold (F.names files.old) (F.bytes files.old)
-        (λ texts. Expected (map string_bytes words.now) texts (refusal result line))
-        × Tells (E.taken err.old) (E.taken err.new) (E.faults err.old) (E.faults err.new) line }
+    ensures words { (result ≡ Status.Words) ↔ (request_of (map string_bytes words.now) ≡ None) }
 
-    // Each fault has its cause: a file whose turn it was, or the sink.
-    ensures read_fault { result ≡ Status.ReadFault → (file : List ℕ)
-        × IsUnread (F.names files.old) (F.bytes files.old)
-        (counts (F.faults files.old) (F.starts files.old) (F.absent_starts files.old))
-        (counts (F.faults files.new) (F.starts files.new) (F.absent_starts files.new)) (map string_bytes words.now) file
-        × Tells (E.taken err.old) (E.taken err.new) (E.faults err.old) (E.faults err.new) (read_fault_line file) }
-    ensures write_fault { result ≡ Status.WriteFault → Rose (O.faults out.old) (O.faults out.new)
-        × Tells (E.taken err.old) (E.taken err.new) (E.faults err.old) (E.faults err.new) write_fault_line }
-
-    // The lines of the other statuses.
-    ensures usage { result ≡ Status.Words → Tells (E.taken err.old) (E.taken err.new) (E.faults err.old) (E.faults err.new) usage_line }
-    ensures memory { result ≡ Status.Memory → Tells (E.taken err.old) (E.taken err.new) (E.faults err.old) (E.faults err.new) memory_line }
+    // No call of a sink at all.
+    ensures no_output { (MayWrite result → ⊥) → out.new ≡ out.old }
     ensures no_line { result ≡ Status.Done → err.new ≡ err.old }
 
-    // At most the files that the words name are begun, and no absent one but that of a read fault.
-    ensures begun { F.starts files.new ≤ raised (F.starts files.old) (length (files_named (request_of (map string_bytes words.now)))) }
-    ensures absent { result ≢ Status.ReadFault → F.absent_starts files.new ≡ F.absent_starts files.old }
+    // What the counts show of the status. These follow from `expected`.
+    ensures read_fault { result ≡ Status.ReadFault → Rose (F.counts files.old).faults (F.counts files.new).faults }
+    ensures write_fault { result ≡ Status.WriteFault → Rose (O.faults out.old) (O.faults out.new) }
+    ensures begun { (F.counts files.new).starts
+        ≤ raised (F.counts files.old).starts (length (files_named (request_of (map string_bytes words.now)))) }
+    ensures absent { result ≢ Status.ReadFault → (F.counts files.new).absent_starts ≡ (F.counts files.old).absent_starts }
+
+    ensures statuses { IsAnswer result }
 {
+    calls_are_proper();
     match prepare(alloc, words, files) {
         Ok(output) => match write_output(out, output) {
             Ok(()) => Status::Done,
-            Err(_) => refuse(err, Refusal::Unwritten),
+            Err(_) => tell_write_fault(err),
         },
         Err(refusal) => refuse(err, refusal),
     }
+}
+
+/// Ends a call for want of memory before its words are read: writes the line to `err`, and answers the
+/// status. A fault of `err` changes nothing.
+pub fn out_of_memory<E: Sink>(err: &mut E) -> Status
+    ensures status { result ≡ Status.Memory }
+    ensures line { TakesLine (E.taken err.old) (E.taken err.new) (E.faults err.old) (E.faults err.new) memory_line }
+{
+    refuse(err, Refusal::Memory)
 }

@@ -1,11 +1,11 @@
 //! The output of a request, and how it is written.
 
 ghost use Rattle.std.specs.Prelude.{◌≡◌, ◌≤◌, ◌++◌, ℕ, Some, length, slice_get};
-ghost use Rattle.net_defs.specs.declared.stimulus.CellRow.{CellRow};
+ghost use Rattle.net_defs.specs.declared.trace.CellRow.{CellRow};
 ghost use Rattle.net_defs.specs.Trace.{header_line};
 ghost use Rattle.trace_text.specs.Line.{row_room};
 ghost use Rattle.yse_top.specs.Outputs.{bytes_of, CanWrite, CanPrint, cycle_lines};
-ghost use Rattle.yse_top.specs.Writing.{Writes};
+ghost use Rattle.yse_top.specs.Writing.{Takes};
 
 use edge_io::{Sink, WriteNo, write_whole};
 use net_defs::{CellRow, Netlist, Rows};
@@ -32,7 +32,8 @@ pub enum Output {
 /// Writes an output. It takes no memory.
 pub fn write_output<O: Sink>(out: &mut O, output: Output) -> Result<(), WriteNo>
     requires { CanWrite output }
-    ensures { Writes (O.taken out.old) (O.taken out.new) (O.faults out.old) (O.faults out.new) result (bytes_of output) }
+    ensures { Takes (O.taken out.old) (O.taken out.new) (O.faults out.old) (O.faults out.new)
+        result (bytes_of output) }
 {
     match output {
         Output::Text(text) => write_piece(out, text.as_bytes()),
@@ -42,7 +43,8 @@ pub fn write_output<O: Sink>(out: &mut O, output: Output) -> Result<(), WriteNo>
 
 /// Writes one piece.
 pub fn write_piece<S: Sink>(sink: &mut S, piece: &[u8]) -> Result<(), WriteNo>
-    ensures { Writes (S.taken sink.old) (S.taken sink.new) (S.faults sink.old) (S.faults sink.new) result piece.now }
+    ensures { Takes (S.taken sink.old) (S.taken sink.new) (S.faults sink.old) (S.faults sink.new)
+        result piece.now }
 {
     write_whole(sink, piece)
 }
@@ -50,7 +52,7 @@ pub fn write_piece<S: Sink>(sink: &mut S, piece: &[u8]) -> Result<(), WriteNo>
 #[tactic(auto, using(crate::proofs::WritingLemmas::writes_then, crate::proofs::WritingLemmas::writes_stop))]
 fn write_trace<O: Sink>(out: &mut O, trace: Trace) -> Result<(), WriteNo>
     requires { CanPrint trace }
-    ensures { Writes (O.taken out.old) (O.taken out.new) (O.faults out.old) (O.faults out.new) result
+    ensures { Takes (O.taken out.old) (O.taken out.new) (O.faults out.old) (O.faults out.new) result
         (header_line trace.net ++ cycle_lines trace.rows.rows) }
 {
     let Trace {
@@ -69,7 +71,8 @@ fn write_trace<O: Sink>(out: &mut O, trace: Trace) -> Result<(), WriteNo>
 fn write_rows<O: Sink>(out: &mut O, line: &mut TraceLine, rows: &[CellRow]) -> Result<(), WriteNo>
     requires room { (c : ℕ) (row : CellRow) → slice_get rows.now c ≡ Some row → row_room (length row.cells) ≤ line.old.room }
     requires cycles { length rows.now ≤ 1000000 }
-    ensures { Writes (O.taken out.old) (O.taken out.new) (O.faults out.old) (O.faults out.new) result (cycle_lines rows.now) }
+    ensures { Takes (O.taken out.old) (O.taken out.new) (O.faults out.old) (O.faults out.new)
+        result (cycle_lines rows.now) }
 {
     'rows: for (i, row) in rows.iter().enumerate() {
         line.row(i as u32 + 1, row.cells.as_slice());

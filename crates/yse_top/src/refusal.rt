@@ -1,4 +1,4 @@
-//! Why a call ends before its output.
+//! Why a call ends before its output. A fault of writing is no refusal.
 
 ghost use Rattle.std.specs.Prelude.{◌≡◌};
 ghost use Rattle.yse_top.specs.Refusals.{of_netlist, of_stimulus};
@@ -14,7 +14,7 @@ pub enum Refusal<'a> {
     /// The words are not of the form.
     Words,
     /// The file could not be read.
-    Unread(&'a [u8]),
+    ReadFault(&'a [u8]),
     /// The file has too many bytes.
     TooLong(&'a [u8]),
     /// The text is no netlist.
@@ -25,8 +25,6 @@ pub enum Refusal<'a> {
     Stimulus(StimNo),
     /// There are too many cells.
     Cells(u64),
-    /// The output could not be written.
-    Unwritten,
     /// Want of memory.
     Memory,
 }

@@ -1,15 +1,16 @@
 //! The words of a command line.
 
-ghost use Rattle.std.specs.Prelude.{◌≡◌, Option, Some, None, map};
+ghost use Rattle.std.specs.Prelude.{◌≡◌, Option, Some, None, IfSome, map};
 ghost use Rattle.std.specs.Option.{option_map};
 ghost use Rattle.std.specs.String.{string_bytes};
-ghost use Rattle.yse_top.specs.Words.{is_plain, part_option, mode_of, units_of, init_of, allows_units, timing_with, timing_of, simulation_of, shown_of, command_of, request_of, seen, seen_words};
+ghost use Rattle.yse_top.specs.Words.{is_file_name, take_option, mode_of, units_of, init_of, allows_units, timing_with, timing_of, simulation_of, HasValidTiming, shown_of, command_of, request_of, seen, seen_words};
 
+use limits::MAX_UNITS;
 use net_defs::{Init, Mode, Timing};
 use text_lines::numbers::number_within;
 
 /// The most digits of a number among the words.
-const MOST_DIGITS: usize = 10;
+const MAX_DIGITS: usize = 10;
 
 /// The files of a simulation, and its timing.
 #[derive(Clone, Copy)]
@@ -32,7 +33,8 @@ pub enum Command<'a> {
 
 /// What the words ask for, or `None` exactly where they are of none of the forms.
 pub fn read_words(words: &[String]) -> Option<Command<'_>>
-    ensures { option_map seen result ≡ request_of (map string_bytes words.now) }
+    ensures read { option_map seen result ≡ request_of (map string_bytes words.now) }
+    ensures valid { IfSome result (λ command. HasValidTiming (seen command)) }
 {
     match words {
         [command, others @ ..] => read_command(command.as_bytes(), others),
@@ -62,7 +64,7 @@ fn simulation(words: &[String]) -> Option<RunWords<'_>>
     match words {
         [netlist, stimulus, options @ ..] => {
             let (netlist, stimulus) = (netlist.as_bytes(), stimulus.as_bytes());
-            if !plain(netlist) || !plain(stimulus) {
+            if !is_file_name(netlist) || !is_file_name(stimulus) {
                 return None;
             }
             let timing = timing(options)?;
@@ -81,14 +83,14 @@ fn shown(words: &[String]) -> Option<&[u8]>
     ensures { option_map (λ name. name.now) result ≡ shown_of (map string_bytes words.now) }
 {
     match words {
-        [netlist] if plain(netlist.as_bytes()) => Some(netlist.as_bytes()),
+        [netlist] if is_file_name(netlist.as_bytes()) => Some(netlist.as_bytes()),
         _ => None,
     }
 }
 
 /// Whether a word can name a file: it is not empty, and begins with no `-`.
-fn plain(word: &[u8]) -> bool
-    ensures { result ≡ is_plain word.now }
+fn is_file_name(word: &[u8]) -> bool
+    ensures { result ≡ is_file_name word.now }
 {
     match word {
         [] => false,
@@ -100,9 +102,9 @@ fn plain(word: &[u8]) -> bool
 fn timing(words: &[String]) -> Option<Timing>
     ensures { result ≡ timing_of (map string_bytes words.now) }
 {
-    let (mode, words) = part(words, b"--mode");
-    let (units, words) = part(words, b"--units");
-    let (init, words) = part(words, b"--init");
+    let (mode, words) = take_option(words, b"--mode");
+    let (units, words) = take_option(words, b"--units");
+    let (init, words) = take_option(words, b"--init");
     if !words.is_empty() {
         return None;
     }
@@ -111,9 +113,9 @@ fn timing(words: &[String]) -> Option<Timing>
 
 /// The value of the option with this name, where it is the first of the words, and the words behind
 /// it.
-fn part<'a>(words: &'a [String], name: &[u8]) -> (Option<&'a [u8]>, &'a [String])
+fn take_option<'a>(words: &'a [String], name: &[u8]) -> (Option<&'a [u8]>, &'a [String])
     ensures { (record { value = option_map (λ value. value.now) result.0; rest = map string_bytes result.1.now })
-        ≡ part_option name.now (map string_bytes words.now) }
+        ≡ take_option name.now (map string_bytes words.now) }
 {
     match words {
         [word, value, rest @ ..] if word.as_bytes() == name => (Some(value.as_bytes()), rest),
@@ -142,7 +144,7 @@ fn units_of(value: Option<&[u8]>) -> Option<u32>
 {
     match value {
         None => Some(1),
-        Some(digits) if digits.len() <= MOST_DIGITS => number_within(digits, 1, 4096),
+        Some(digits) if digits.len() <= MAX_DIGITS => number_within(digits, 1, MAX_UNITS),
         Some(_) => None,
     }
 }

@@ -1,8 +1,8 @@
 use Rattle.std.proofs.Common.{sym, ap, ◌∙◌, arith}
 use Rattle.std.specs.List.{list_any}
 use Rattle.std.proofs.lemmas.List.{take_all}
+use Rattle.list_laws.proofs.Tests.{find_none, find_first, none_more}
 use Rattle.bench_read.specs.Faults.{is_same}
-use Rattle.bench_read.proofs.NameLemmas.{find_first, none_more, find_none}
 use Rattle.bench_read.proofs.drivers.first_driver.Goals as goal
 
 pub loop-driver-preserved : goal.loop-driver-preserved

@@ -1,6 +1,7 @@
 use Rattle.std.proofs.Common.{sym, ◌∙◌, inl, inr, ⊎_elim}
+use Rattle.list_laws.proofs.Tests.{found_some}
 use Rattle.bench_read.specs.Faults.{is_same}
-use Rattle.bench_read.proofs.DriveLemmas.{found_some, repeat_is}
+use Rattle.bench_read.proofs.DriveLemmas.{repeat_is}
 use Rattle.bench_read.proofs.drivers.repeated.Goals as goal
 
 pub unreachable-requires : goal.unreachable-requires

@@ -1,8 +1,8 @@
 use Rattle.std.proofs.Common.{◌++◌, [], ◌∷◌, not, sym, ap, ◌∙◌, inl, inr, ⊎_elim, arith, bytes_eq}
 use Rattle.std.proofs.lemmas.List.{take_all}
+use Rattle.list_laws.proofs.Tests.{none_more}
 use Rattle.bench_read.specs.Faults.{is_undriven, is_among}
 use Rattle.bench_read.specs.Netlists.{place_of, numbers_of}
-use Rattle.bench_read.proofs.NameLemmas.{none_more}
 use Rattle.bench_read.proofs.NumberLemmas.{found, lost, undriven_fault, all_driven, numbers_more}
 use Rattle.bench_read.proofs.numbers.resolve.Goals as goal
 

@@ -1,4 +1,5 @@
 use Rattle.std.proofs.Common.{◌+◌, Some, Ok, Err, sym, ap, ◌∙◌, inl, inr, arith}
+use Rattle.std.proofs.lemmas.Bool.{ltb-true, ltb-false}
 use Rattle.bench_text.specs.declared.token.TextNo.TheVariants.{BadByte, LongName}
 use Rattle.bench_text.specs.declared.token.Mark.TheVariants.{Name}
 use Rattle.bench_text.specs.Tokens.{name_length}
@@ -38,18 +39,18 @@ returns-in-Some c =
     (sym c.is_visible.ensures ∙ c.if-not-is_visible.false)
     (sym c.sign_of.ensures ∙ c.in-Some.is))
 
-pub returns-then-len-gt-MOST_NAME_BYTES : goal.returns-then-len-gt-MOST_NAME_BYTES
-returns-then-len-gt-MOST_NAME_BYTES c =
+pub returns-then-is_too_long : goal.returns-then-is_too_long
+returns-then-is_too_long c =
     ap (λ scan. Err (LongName scan.line)) c.requires.scan
     ∙ sym (answer_long c.args.bytes.now c.args.i
     (comment_is c.args.bytes.now c.args.i c.args.scan _ _ c.requires.scan c.is_comment.ensures c.if-is_comment.false)
     (sym c.is_visible.ensures ∙ c.if-not-is_visible.false)
     (sym c.sign_of.ensures ∙ c.in-None-2.is)
     (ap (λ scan. scan.in_name) (sym c.requires.scan) ∙ c.if-scan.false)
-    (omega (arith, length_is c.args.bytes.now c.args.i c.name_len-len.result c.name_len-len.ensures)))
+    (omega (arith, length_is c.args.bytes.now c.args.i c.name_len-len.result c.name_len-len.ensures, ltb-true _ _ (sym c.is_too_long.ensures ∙ c.if-is_too_long.true))))
 
-pub returns-else-len-gt-MOST_NAME_BYTES : goal.returns-else-len-gt-MOST_NAME_BYTES
-returns-else-len-gt-MOST_NAME_BYTES c =
+pub returns-else-is_too_long : goal.returns-else-is_too_long
+returns-else-is_too_long c =
     let length = length_is c.args.bytes.now c.args.i c.name_len-len.result c.name_len-len.ensures in
     ap (λ token. Ok (Some token)) c.token-in-None-2.ensures
     ∙ ap (λ n. Ok (Some (record { mark = Name; from = c.args.i; upto = c.args.i + n; line = c.args.scan.line }))) length
@@ -59,4 +60,4 @@ returns-else-len-gt-MOST_NAME_BYTES c =
     (sym c.is_visible.ensures ∙ c.if-not-is_visible.false)
     (sym c.sign_of.ensures ∙ c.in-None-2.is)
     (ap (λ scan. scan.in_name) (sym c.requires.scan) ∙ c.if-scan.false)
-    (omega (arith, length)))
+    (omega (arith, length, ltb-false _ _ (sym c.is_too_long.ensures ∙ c.if-is_too_long.false))))

@@ -1,6 +1,7 @@
-use Rattle.std.proofs.Common.{◌≢◌, ◌<◌, ℕ, slice_index_or}
+use Rattle.std.proofs.Common.{◌<◌, ℕ, slice_index_or}
 use Rattle.func_table.specs.declared.table.Table.{Table}
+use Rattle.func_table.specs.Entries.{AreOther}
 use Rattle.func_table.proofs.shelf.place_of_equal.Given as goal
 
 abbrev pub invariant-loop-place : goal.invariant-loop-place
-invariant-loop-place l = (k : ℕ) (d : Table) → k < l.place → slice_index_or l.tables k d ≢ l.table
+invariant-loop-place l = (k : ℕ) (d : Table) → k < l.place → AreOther (slice_index_or l.tables k d) l.table

@@ -1,5 +1,8 @@
-use Rattle.logic_four.proofs.FoldLemmas.{parts, groups}
+use Rattle.logic_four.proofs.FoldLemmas.{front, parts, groups}
 use Rattle.logic_four.proofs.folds.fold_laws.Goals as goal
+
+pub returns-clause-front : goal.returns-clause-front
+returns-clause-front c = front
 
 pub returns-clause-parts : goal.returns-clause-parts
 returns-clause-parts c = parts

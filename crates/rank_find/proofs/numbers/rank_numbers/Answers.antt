@@ -5,7 +5,7 @@ use Rattle.rank_find.proofs.numbers.rank_numbers.Goals as goal
 pub loop-gate-preserved : goal.loop-gate-preserved
 loop-gate-preserved c =
     rw c.set.ensures (ranked_more _ _ _ _ _ c.requires.order c.loop-gate.invariant c.loop-gate-test.true _
-    (rw (← c.as_slice.ensures, ← c.awaited.ensures) c.rank_above-number.ensures))
+    (rw (← c.as_slice.ensures, ← c.waits_for.ensures) c.rank_above-number.ensures))
 
 pub returns : goal.returns
 returns c =

@@ -2,14 +2,15 @@ use Rattle.std.proofs.Common.{◌≡◌, ℕ, ◌+◌, ◌≤◌, Option, Some, 
 use Rattle.net_defs.specs.declared.stimulus.StimRow.{StimRow}
 use Rattle.std.proofs.lemmas.Result.{err_from_is_err_and}
 use Rattle.std.proofs.lemmas.List.{length_push}
+use Rattle.limits.specs.declared.TheConstants.{MAX_CYCLES}
 use Rattle.text_lines.specs.Lines.{parts_of}
 use Rattle.text_lines.proofs.LineLemmas.{next_line, no_next_line}
 use Rattle.text_lines.proofs.PartLemmas.{part_length}
 use Rattle.stim_text.proofs.StimLemmas.{read_none, read_more, read_blank, read_fault, read_all}
 use Rattle.stim_text.proofs.reading.read_rows.Goals as goal
 
-ap_fits : (cycles : ℕ) (row : StimRow) (read : Option StimRow) → read ≡ Some row → IfSome read (λ r. cycles + r.times ≤ 1000000) → cycles + row.times ≤ 1000000
-ap_fits cycles row read is fits = subst (λ o. IfSome o (λ (r : StimRow). cycles + r.times ≤ 1000000)) is fits
+ap_fits : (cycles : ℕ) (row : StimRow) (read : Option StimRow) → read ≡ Some row → IfSome read (λ r. cycles + r.times ≤ MAX_CYCLES) → cycles + row.times ≤ MAX_CYCLES
+ap_fits cycles row read is fits = subst (λ o. IfSome o (λ (r : StimRow). cycles + r.times ≤ MAX_CYCLES)) is fits
 
 pub loop-line-init : goal.loop-line-init
 loop-line-init c = record {
@@ -36,7 +37,7 @@ pub loop-line-preserved-in-Continue-branch-3 : goal.loop-line-preserved-in-Conti
 loop-line-preserved-in-Continue-branch-3 c =
     let next = next_line (parts_of c.args.bytes.now) (length c.loop-line.yielded) c.in-Some.line c.in-Some.part.now c.next.new.self c.loop-line.line-iterator c.loop-line.invariant.left c.in-Some.ensures.steps in
     let fits = ap_fits _ _ _ c.in-Some-2.is c.in_ok-row.ensures.fits in
-    rw (length_push, c.in_ok-push.ensures.ok) (record {
+    rw (length_push, c.in_ok-push.ensures.ok, c.cycles_with-cycles.ensures) (record {
       within = omega (arith, next.within);
       left = next.rest;
       read = read_more c.args.inputs c.args.bytes.now (length c.loop-line.yielded) c.loop-line.cycles c.in-Some.line c.in-Some.part.now c.next.new.self c.loop-line.rows c.in-Some-2.row c.loop-line.invariant.read next c.in_ok-row.ensures.answers.0 (sym c.in-Some-2.is ∙ c.in_ok-row.ensures.answers.1) fits;

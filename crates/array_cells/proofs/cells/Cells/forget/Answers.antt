@@ -7,7 +7,7 @@ use Rattle.array_cells.proofs.cells.Cells.forget.Goals as goal
 pub returns : goal.returns
 returns c =
     let all = rw c.as_mut_slice.ensures.value at c.forget.ensures.all in
-    rw (with_items_is c.self.inside.packed c.forget.new.packed (c.forget.ensures.as_long ∙ c.as_mut_slice.ensures.len))
-    (words_of-forgotten c.self.inside.packed.items c.forget.new.packed
+    rw (with_items_is c.self.inside.packed c.forget.new.words (c.forget.ensures.as_long ∙ c.as_mut_slice.ensures.len))
+    (words_of-forgotten c.self.inside.packed.items c.forget.new.words
     c.self.inside.words c.self.inside.word_bits c.self.invariant all
     ∙ ap (map (λ word. undefined_word (length word))) c.self.view_is)

@@ -1,6 +1,6 @@
 use Rattle.std.proofs.Common.{length, map, set, ap, ◌∙◌, arith}
 use Rattle.std.proofs.lemmas.List.{with_items_is}
-use Rattle.array_cells.specs.Packed.{stored}
+use Rattle.array_cells.specs.Places.{stored}
 use Rattle.array_cells.proofs.WordLemmas.{word_in, words_of-stored}
 use Rattle.array_cells.proofs.cells.Cells.store.Goals as goal
 
@@ -31,7 +31,7 @@ returns c =
     word_in c.self.inside c.args.self.now c.args.number (length c.args.word.now)
     c.self.invariant c.self.view_is c.requires.within c.requires.fits in
     let writes = rw c.as_mut_slice.ensures.value at c.store.ensures in
-    rw (with_items_is c.self.inside.packed c.store.new.packed (c.store.ensures.as_long ∙ c.as_mut_slice.ensures.len))
-    (words_of-stored c.self.inside.packed.items c.store.new.packed c.self.inside.words c.self.inside.word_bits
+    rw (with_items_is c.self.inside.packed c.store.new.words (c.store.ensures.as_long ∙ c.as_mut_slice.ensures.len))
+    (words_of-stored c.self.inside.packed.items c.store.new.words c.self.inside.words c.self.inside.word_bits
     c.args.number c.args.we c.args.word.now is.within is.width writes
     ∙ ap (λ words. set words c.args.number (map (stored c.args.we) c.args.word.now)) c.self.view_is)

@@ -1,6 +1,6 @@
 -- The names are the keys as they are seen, and a key is found where its bytes are.
 use Rattle.std.proofs.Common.{◌∙◌, sym, ap, bytes_eq, position}
-use Rattle.bench_read.proofs.ListLemmas.{position-map}
+use Rattle.list_laws.proofs.Tests.{position-map}
 use Rattle.bench_read.proofs.names.Names.find.Goals as goal
 
 pub returns : goal.returns

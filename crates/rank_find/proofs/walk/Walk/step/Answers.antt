@@ -3,10 +3,10 @@ use Rattle.rank_find.proofs.StepLemmas.{finished_step, entered_step, closed_loop
 use Rattle.rank_find.proofs.walk.Walk.step.Goals as goal
 
 pub returns-in_ok-finish-in-None : goal.returns-in_ok-finish-in-None
-returns-in_ok-finish-in-None c = finished_step _ _ _ _ c.requires.walking c.requires.top _ _ c.awaited-operands.ensures c.as_slice.ensures (c.in-None.ensures.none refl) _ c.in_ok-finish-in-None.ensures
+returns-in_ok-finish-in-None c = finished_step _ _ _ _ c.requires.walking c.requires.top _ _ c.waits_for-operands.ensures c.as_slice.ensures (c.in-None.ensures.none refl) _ c.in_ok-finish-in-None.ensures
 
 pub returns-in_ok-enter-in-Fresh : goal.returns-in_ok-enter-in-Fresh
-returns-in_ok-enter-in-Fresh c = entered_step _ _ _ _ c.requires.walking c.requires.top _ _ _ _ c.awaited-operands.ensures c.as_slice.ensures c.set.ensures c.in-Some.ensures.some (sym c.in-Fresh.ensures) _ c.in_ok-enter-in-Fresh.ensures
+returns-in_ok-enter-in-Fresh c = entered_step _ _ _ _ c.requires.walking c.requires.top _ _ _ _ c.waits_for-operands.ensures c.as_slice.ensures c.set.ensures c.in-Some.ensures.some (sym c.in-Fresh.ensures) _ c.in_ok-enter-in-Fresh.ensures
 
 pub returns-in_ok-circle_at-in_default : goal.returns-in_ok-circle_at-in_default
-returns-in_ok-circle_at-in_default c = closed_loop _ _ _ _ c.requires.walking c.requires.top _ _ _ c.awaited-operands.ensures c.as_slice.ensures c.in-Some.ensures.some (λ fresh. c.in_default.not-Fresh (c.mark.ensures ∙ fresh)) _ _ c.as_slice-in_default.ensures c.in_ok-circle_at-in_default.ensures
+returns-in_ok-circle_at-in_default c = closed_loop _ _ _ _ c.requires.walking c.requires.top _ _ _ c.waits_for-operands.ensures c.as_slice.ensures c.in-Some.ensures.some (λ fresh. c.in_default.not-Fresh (c.mark.ensures ∙ fresh)) _ _ c.as_slice-in_default.ensures c.in_ok-circle_at-in_default.ensures

@@ -1,5 +1,0 @@
-use Rattle.std.proofs.Common.{◌≡◌, take, ◌++◌}
-use Rattle.edge_io.proofs.reading.append.Given as goal
-
-abbrev pub invariant-loop-byte : goal.invariant-loop-byte
-invariant-loop-byte l = l.bytes ≡ l.initial.bytes ++ take l.byte-index l.piece

@@ -1,0 +1,8 @@
+pub mod Differ
+pub mod Folds
+pub mod Maps
+pub mod Members
+pub mod Options
+pub mod Places
+pub mod Ranges
+pub mod Tests

@@ -1,0 +1,10 @@
+use Rattle.std.proofs.Common.{◌≡◌, ◌++◌, take}
+use Rattle.std.specs.List.{flat_map}
+use Rattle.net_defs.specs.Canonical.{input_line}
+use Rattle.net_defs.proofs.canonical.push_inputs.Given as goal
+
+abbrev pub invariant-loop-signal : goal.invariant-loop-signal
+invariant-loop-signal l = record {
+  so_far : l.text ≡ l.fn.text ++ flat_map input_line (take l.signal-index l.signal-items);
+  whole : l.signal-items ≡ l.net.signals;
+}

@@ -1,0 +1,5 @@
+use Rattle.ref_sim.specs.Sequences.{Settles}
+use Rattle.ref_sim.proofs.gate_list.signal_ops.Given as goal
+
+abbrev pub invariant-loop-signal : goal.invariant-loop-signal
+invariant-loop-signal l = Settles l.net l.timing l.list l.signal-index l.ops

@@ -1,0 +1,57 @@
+//! Operations on two places of a list of values, with all sixteen answers in each.
+
+ghost use Rattle.std.specs.Prelude.{◌≡◌, ◌∷◌, [], length, All};
+ghost use Rattle.logic_four.specs.declared.V4.{V4};
+ghost use Rattle.logic_four.specs.Gates.{gate_value};
+ghost use Rattle.ref_sim.specs.Ops.{pair_value, follow, IsWithin};
+
+use logic_four::{Kind, V4, code, decoded};
+
+/// Puts into the place `gate` what the table answers for the values in the places `a` and `b`. The
+/// table has the two-bit code of the answer at bit 2 (code of a + 4 code of b).
+#[derive(Clone, Copy, Debug, PartialEq, Eq)]
+pub(crate) struct GateOp {
+    pub(crate) gate: u32,
+    pub(crate) a: u32,
+    pub(crate) b: u32,
+    pub(crate) table: u32,
+}
+
+/// What a table answers for two values.
+fn pair_value(table: u32, a: V4, b: V4) -> V4
+    ensures { result ≡ pair_value table a b }
+{
+    decoded(u64::from(table) >> (2 * (code(a) + 4 * code(b))))
+}
+
+/// The answers of a gate of this kind for two operands.
+pub(crate) fn pair_table(kind: Kind) -> u32
+    ensures { (a b : V4) → pair_value result a b ≡ gate_value kind (a ∷ b ∷ []) }
+{
+    match kind {
+        Kind::And => 0xa8a8_a400,
+        Kind::Nand => 0xa9a9_a155,
+        Kind::Or => 0xa6a6_55a4,
+        Kind::Nor => 0xa2a2_00a1,
+        Kind::Xor => 0xaaaa_a1a4,
+        Kind::Xnor => 0xaaaa_a4a1,
+        Kind::Not => 0xa1a1_a1a1,
+        Kind::Buf => 0xa4a4_a4a4,
+        Kind::Tri => 0xabab_a7a3,
+        Kind::Bus => 0xe4aa_6628,
+    }
+}
+
+/// Does all operations, one after the other.
+pub(crate) fn eval_ops(values: &mut [V4], ops: &[GateOp])
+    requires { All (IsWithin (length values.old)) ops.now }
+    ensures { values.new ≡ follow ops.now values.old }
+{
+    for op in ops {
+        values[op.gate as usize] = pair_value(
+            op.table,
+            values[op.a as usize],
+            values[op.b as usize],
+        );
+    }
+}

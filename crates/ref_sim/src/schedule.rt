@@ -1,0 +1,80 @@
+//! What is made before a run: the operations of the gates and registers, and the signals of each role.
+
+ghost use Rattle.std.specs.Prelude.{◌≡◌, ◌<◌, ◌^◌, IfOk};
+ghost use Rattle.net_defs.specs.Loops.{IsOrder};
+ghost use Rattle.net_defs.specs.Valid.{IsValid};
+ghost use Rattle.ref_sim.specs.Schedules.{driver_has_role, has_role, ListsRole, IsSchedule};
+
+use crate::gate_list::signal_ops;
+use crate::ops::GateOp;
+use net_defs::{Driver, Netlist, Timing};
+use seen_list::{List, Memory};
+use std::alloc::Global;
+
+/// What gives a signal its value in a turn, if it is no gate.
+#[derive(Clone, Copy, Debug, PartialEq, Eq)]
+pub(crate) enum Role {
+    /// The stimulus.
+    Input,
+    /// A register.
+    Register,
+    /// An output of a memory.
+    Output,
+}
+
+/// The operations of all gates in an order, those of all registers, and the signals of each role.
+#[derive(Drop)]
+pub(crate) struct Schedule {
+    pub(crate) gate_ops: List<GateOp>,
+    pub(crate) register_ops: List<GateOp>,
+    pub(crate) inputs: List<u32>,
+    pub(crate) registers: List<u32>,
+    pub(crate) outputs: List<u32>,
+}
+
+/// The schedule of an order, which is given up.
+pub(crate) fn make_schedule(
+    alloc: Global,
+    net: &Netlist,
+    timing: &Timing,
+    order: List<u32>,
+) -> Result<Schedule, Memory>
+    requires valid { IsValid net.now }
+    requires order { IsOrder net.now timing.now order }
+    ensures { IfOk result (IsSchedule net.now timing.now) }
+{
+    let gate_ops = signal_ops(alloc, net, timing, order.as_slice())?;
+    let registers = signals_of(alloc, net, Role::Register)?;
+    let register_ops = signal_ops(alloc, net, timing, registers.as_slice())?;
+    Ok(Schedule {
+        gate_ops,
+        register_ops,
+        inputs: signals_of(alloc, net, Role::Input)?,
+        registers,
+        outputs: signals_of(alloc, net, Role::Output)?,
+    })
+}
+
+fn signals_of(alloc: Global, net: &Netlist, role: Role) -> Result<List<u32>, Memory>
+    requires { IsValid net.now }
+    ensures { IfOk result (ListsRole net.now role) }
+{
+    let mut list = List::new(alloc);
+    for signal in 0..net.signals.len() as u32 {
+        if driver_has_role(role, &net.signals.as_slice()[signal as usize].driver) {
+            list.push(signal)?;
+        }
+    }
+    Ok(list)
+}
+
+fn driver_has_role(role: Role, driver: &Driver) -> bool
+    ensures { result ≡ driver_has_role role driver.now }
+{
+    match (role, driver) {
+        (Role::Input, Driver::Input) => true,
+        (Role::Register, Driver::Dff { .. }) => true,
+        (Role::Output, Driver::BlockBit { .. }) => true,
+        _ => false,
+    }
+}

@@ -1,7 +1,0 @@
-use Rattle.std.proofs.Common.{◌≡◌, ◌++◌, take, map}
-use Rattle.logic_four.specs.Values.{value_char}
-use Rattle.trace_text.proofs.line.TraceLine.push_values.Given as goal
-
-abbrev pub invariant-loop-value : goal.invariant-loop-value
-invariant-loop-value l =
-    l.self ≡ record l.fn.self { bytes = l.fn.self.bytes ++ map value_char (take l.value-index l.values) }

@@ -1,0 +1,91 @@
+-- Each check answers once, and answers; and there is one trace.
+use Rattle.std.proofs.Common.{◌≡◌, ◌∙◌, sym, ap, refl, subst, ◌⊎◌, inl, inr, ℕ, ◌<◌, ◌≤◌, List, Option, Some, None, Result, Ok, Err, arith}
+use Rattle.std.proofs.lemmas.Bool.{cases_lt}
+use Rattle.limits.specs.declared.TheConstants.{MAX_CELLS}
+use Rattle.text_lines.specs.Answers.{IsReader}
+use Rattle.net_defs.specs.declared.netlist.Netlist.{Netlist}
+use Rattle.net_defs.specs.declared.timing.Timing.{Timing}
+use Rattle.net_defs.specs.declared.stimulus.Stimulus.{Stimulus}
+use Rattle.net_defs.specs.Loops.{IsLoop, IsOrder, OrderOrLoop}
+use Rattle.net_defs.specs.Reference.{HasOneSimulation}
+use Rattle.net_defs.specs.Time.{cycle_count}
+use Rattle.net_defs.specs.Trace.{IsTrace, trace_to}
+use Rattle.yse_top.specs.declared.status.Status.{Status}
+use Rattle.yse_top.specs.declared.status.Status.TheVariants as status
+use Rattle.yse_top.specs.Checks.{ReadsAs, HasNoLoop, HasFewCells, cell_count}
+use Rattle.yse_top.specs.Law.{AreAlike}
+use Rattle.yse_top.specs.Lines.{loop_line, cells_line}
+use Rattle.yse_top.specs.Outcome.{Outcome, refusal}
+use Rattle.yse_top.proofs.ProperLemmas.{IsCheck, IsOfText, alike}
+
+-- ---- readers of texts: each reads as one thing, or has a first fault
+
+pub reads_check : {X E : Type 0} (Reads : List ℕ → X → Type 0) (fault : List ℕ → Option E) → IsReader Reads fault → (text : List ℕ) (s : Status) (line : E → List ℕ) → IsOfText s → IsCheck (ReadsAs (Reads text) (fault text) (λ why. refusal s (line why)))
+reads_check {X} {E} Reads fault reader text s line of_text = record {
+  values = reader.one text;
+  either = λ x o reads refused. clash (reader.no_fault text x reads) refused.1;
+  refusals = λ o p refused refused_too.
+      alike o p (refused.2 ∙ ap (λ why. refusal s (line why)) (same refused.1 refused_too.1) ∙ sym refused_too.2);
+  some = some (reader.some text);
+  of_text = λ o refused. subst (λ (p : Outcome). IsOfText p.status) (sym refused.2) of_text;
+}
+  where
+    clash : {why : E} → fault text ≡ None → fault text ≡ Some why → ⊥
+    clash e f = cc
+
+    same : {why other : E} → fault text ≡ Some why → fault text ≡ Some other → why ≡ other
+    same e f = cc
+
+    some : ((x : X) × Reads text x) ⊎ ((why : E) × (fault text ≡ Some why)) → ((x : X) × ReadsAs (Reads text) (fault text) (λ why. refusal s (line why)) (Ok x)) ⊎ ((o : Outcome) × ReadsAs (Reads text) (fault text) (λ why. refusal s (line why)) (Err o))
+    some (inl (x, reads)) = inl (x, reads)
+    some (inr (why, is)) = inr (refusal s (line why), (why, is, refl))
+
+-- ---- loops
+
+-- two refusals for a loop
+loops_alike : (o p : Outcome) (l k : List ℕ) → o ≡ refusal status.Loop l → p ≡ refusal status.Loop k → AreAlike o p
+loops_alike o p l k e f = record {
+  status = ap (λ (x : Outcome). x.status) e ∙ sym (ap (λ (x : Outcome). x.status) f);
+  output = ap (λ (x : Outcome). x.output) e ∙ sym (ap (λ (x : Outcome). x.output) f);
+  line = λ other_status. absurd (other_status (ap (λ (x : Outcome). x.status) e));
+}
+
+pub loop_check : (net : Netlist) (timing : Timing) → OrderOrLoop net timing → ((order loop : List ℕ) → IsOrder net timing order → IsLoop net timing loop → ⊥) → IsCheck (HasNoLoop net timing)
+loop_check net timing order_or_loop never_both = record {
+  values = λ x y passed passed_too. refl;
+  either = λ x o passed refused. passed refused.0 refused.1;
+  refusals = λ o p refused refused_too. loops_alike o p _ _ refused.2 refused_too.2;
+  some = some order_or_loop;
+  of_text = λ o refused. subst (λ (p : Outcome). IsOfText p.status) (sym refused.2) tt;
+}
+  where
+    some : OrderOrLoop net timing → ((x : Unit {0}) × HasNoLoop net timing (Ok x)) ⊎ ((o : Outcome) × HasNoLoop net timing (Err o))
+    some (inl (order, is)) = inl (tt, λ loop is_loop. never_both order loop is is_loop)
+    some (inr (loop, is)) = inr (refusal status.Loop (loop_line net loop), (loop, is, refl))
+
+-- ---- cells
+
+pub cells_check : (net : Netlist) (stimulus : Stimulus) → IsCheck (HasFewCells net stimulus)
+cells_check net stimulus = record {
+  values = λ x y passed passed_too. refl;
+  either = λ x o passed refused. omega (arith, passed, refused.0);
+  refusals = λ o p refused refused_too. alike o p (refused.1 ∙ sym refused_too.1);
+  some = some (cases_lt MAX_CELLS (cell_count net stimulus));
+  of_text = λ o refused. subst (λ (p : Outcome). IsOfText p.status) (sym refused.1) tt;
+}
+  where
+    some : (MAX_CELLS < cell_count net stimulus) ⊎ (cell_count net stimulus ≤ MAX_CELLS) → ((x : Unit {0}) × HasFewCells net stimulus (Ok x)) ⊎ ((o : Outcome) × HasFewCells net stimulus (Err o))
+    some (inl many) = inr (refusal status.Limit (cells_line (cell_count net stimulus)), (many, refl))
+    some (inr few) = inl (tt, few)
+
+-- ---- the trace
+
+-- a trace of the one simulation is one
+pub trace_only : (net : Netlist) (timing : Timing) (stimulus : Stimulus) → HasOneSimulation net timing stimulus → (s t : List ℕ) → IsTrace net timing stimulus s → IsTrace net timing stimulus t → s ≡ t
+trace_only net timing stimulus simulation s t is is_too =
+    let states : is.states ≡ is_too.states = simulation.only is.states is.simulation ∙ sym (simulation.only is_too.states is_too.simulation) in
+    is.printed ∙ ap (λ states. trace_to net timing states (cycle_count stimulus)) states ∙ sym is_too.printed
+
+pub trace_some : (net : Netlist) (timing : Timing) (stimulus : Stimulus) → HasOneSimulation net timing stimulus → (s : List ℕ) × IsTrace net timing stimulus s
+trace_some net timing stimulus simulation =
+    (trace_to net timing simulation.states (cycle_count stimulus), record { states = simulation.states; simulation = simulation.exists; printed = refl })

@@ -1,0 +1,83 @@
+-- What a call that comes to an expected outcome says of the counts of its store, and of its status.
+use Rattle.std.proofs.Common.{◌≡◌, ◌≢◌, ◌∙◌, sym, ap, refl, subst, ℕ, zero, suc, Bool, true, false, List, [], ◌∷◌, ◌++◌, ◌+◌, length, Option, Some, None, Result, Ok, Err, arith}
+use Rattle.std.specs.Prelude.{slice_get, cond, count_by, OnSome, IfSome}
+use Rattle.std.proofs.lemmas.List.Sums.{sum_by-cons}
+use Rattle.edge_io.specs.Counts.{raised, Rose}
+use Rattle.edge_io.specs.Names.{is_absent, OfTold}
+use Rattle.edge_io.specs.declared.counts.FileCounts.{FileCounts}
+use Rattle.yse_top.specs.declared.output.Output.{Output}
+use Rattle.yse_top.specs.declared.refusal.Refusal.{Refusal}
+use Rattle.yse_top.specs.declared.status.Status.{Status}
+use Rattle.yse_top.specs.declared.status.Status.TheVariants as status
+use Rattle.yse_top.specs.Ends.{AreToldBy, IsDoneOrMemory}
+use Rattle.yse_top.specs.Law.{IsProper, AgreeOn}
+use Rattle.yse_top.specs.Outcome.{Outcome, done}
+use Rattle.yse_top.specs.Readings.{Reading, IsReading, AreReadings}
+use Rattle.yse_top.specs.Refusals.{Follows, outcome_of, refused_of, status_of}
+
+-- the member after a list
+last_at : (before : List Reading) (reading : Reading) → slice_get (before ++ reading ∷ []) (length before) ≡ Some reading
+last_at [] reading = refl
+last_at (first ∷ before) reading = last_at before reading
+
+-- a status that is Done unless it is Memory
+done_or_memory : (s : Status) → (s ≢ status.Memory → s ≡ status.Done) → IsDoneOrMemory s
+done_or_memory status.Done f = tt
+done_or_memory status.Memory f = tt
+done_or_memory s f = absurd (wrong (f (λ e. cc)))
+  where
+    wrong : s ≡ status.Done → ⊥
+    wrong e = cc
+
+module _ (names : Option (List ℕ → Bool)) (bytes : Option (List ℕ → List ℕ)) (old new : FileCounts) (files : List (List ℕ)) (Chain : List Reading → Outcome → Type 0) (proper : IsProper files Chain) where
+  -- ---- absent names
+
+  none_among : (readings : List Reading) → ((place : ℕ) (reading : Reading) → slice_get readings place ≡ Some reading → is_absent names reading.file ≡ false) → count_by (λ reading. is_absent names reading.file) readings ≡ 0
+  none_among [] there = refl
+  none_among (reading ∷ readings) there =
+      sum_by-cons (λ (r : Reading). cond (is_absent names r.file) 1 0) reading readings
+      ∙ ap (λ b. cond b 1 0 + count_by (λ r. is_absent names r.file) readings) (there zero reading refl)
+      ∙ ap (λ n. 0 + n) (none_among readings (λ place r at. there (suc place) r at))
+
+  -- a file that gave its bytes is there
+  there_of : (reading : Reading) → IsReading names bytes old new reading → (reading.bytes ≡ None → ⊥) → is_absent names reading.file ≡ false
+  there_of reading is some = by reading.bytes some is.there
+    where
+      by : (b : Option (List ℕ)) → (b ≡ None → ⊥) → OnSome b (is_absent names reading.file ≡ false) → is_absent names reading.file ≡ false
+      by None some there = absurd (some refl)
+      by (Some read) some there = there
+
+  pub absent_kept : (result : Result Output Refusal) → Follows names bytes old new result Chain → (outcome_of result).status ≢ status.ReadFault → new.absent_starts ≡ old.absent_starts
+  absent_kept result follows other =
+      follows.are.absent_starts
+      ∙ ap (raised old.absent_starts) (none_among follows.readings (λ place reading at. there_of reading (follows.are.each place reading at) (λ none. other ((proper.cause follows.readings (outcome_of result) follows.expected).unread place reading at none))))
+      ∙ same old.absent_starts
+    where
+      same : (count : ℕ) → raised count 0 ≡ count
+      same count = omega arith
+
+  -- ---- faults
+
+  pub fault_rose : (result : Result Output Refusal) → Follows names bytes old new result Chain → (outcome_of result).status ≡ status.ReadFault → Rose old.faults new.faults
+  fault_rose result follows is =
+      let last = (proper.cause follows.readings (outcome_of result) follows.expected).read_fault is in
+      (follows.are.each (length last.0) (record { file = last.1; bytes = None }) (ap (λ (rs : List Reading). slice_get rs (length last.0)) last.2 ∙ last_at last.0 (record { file = last.1; bytes = None }))).fault refl
+
+  -- ---- completeness
+
+  -- what was read without a fault is what is told
+  told_of : (told : Option (List ℕ → List ℕ)) (reading other : Reading) → IfSome reading.bytes (λ read. OfTold told reading.file (λ whole. read ≡ whole)) → (reading.bytes ≡ None → ⊥) → (readings : List Reading) (place : ℕ) → AreToldBy names told readings → slice_get readings place ≡ Some other → reading.file ≡ other.file → reading.bytes ≡ other.bytes
+  told_of None reading other whole some readings place are at same = absurd are
+  told_of (Some told) reading other whole some readings place are at same = by reading.bytes whole some
+    where
+      by : (b : Option (List ℕ)) → IfSome b (λ read. read ≡ told reading.file) → (b ≡ None → ⊥) → b ≡ other.bytes
+      by None whole some = absurd (some refl)
+      by (Some read) whole some = ap Some (whole ∙ ap told same) ∙ sym (are place other at).1
+
+  pub completes : (result : Result Output Refusal) → Follows names bytes old new result Chain → (readings : List Reading) (output : List ℕ) → Chain readings (done output) → AreToldBy names bytes readings → (Rose old.faults new.faults → ⊥) → IsDoneOrMemory (outcome_of result).status
+  completes result follows readings output expected told kept =
+      done_or_memory (outcome_of result).status (λ other. (proper.one follows.readings readings (outcome_of result) (done output) follows.expected expected agree other (λ e. cc)).status)
+    where
+      agree : AgreeOn follows.readings readings
+      agree place one other at at_too same =
+          told_of bytes one other (follows.are.each place one at).whole (λ none. kept ((follows.are.each place one at).fault none)) readings place told at_too same

@@ -1,0 +1,101 @@
+-- The chain of each command, link by link.
+use Rattle.std.proofs.Common.{◌≡◌, ◌∙◌, ◌↔◌, sym, refl, subst, ℕ, List, [], ◌∷◌, Option, Some, None}
+use Rattle.text_lines.specs.Answers.{IsReader}
+use Rattle.net_defs.specs.declared.netlist.Netlist.{Netlist}
+use Rattle.net_defs.specs.declared.stimulus.Stimulus.{Stimulus}
+use Rattle.net_defs.specs.declared.timing.Timing.{Timing}
+use Rattle.net_defs.specs.Canonical.{canonical_text}
+use Rattle.net_defs.specs.Loops.{IsLoop, IsOrder, OrderOrLoop}
+use Rattle.net_defs.specs.Reference.{HasOneSimulation}
+use Rattle.net_defs.specs.Trace.{IsTrace}
+use Rattle.net_defs.specs.Valid.{input_count}
+use Rattle.bench_read.specs.Faults as bench
+use Rattle.bench_read.specs.Reads as bench_reads
+use Rattle.stim_text.specs.Stimuli as stim
+use Rattle.yse_top.specs.declared.status.Status.TheVariants as status
+use Rattle.yse_top.specs.Checks.{After, AfterFile, Ends, Writes, IsNetlistOf, HasNoLoop, IsStimulusOf, HasFewCells}
+use Rattle.yse_top.specs.Ends.{IsAnswer}
+use Rattle.yse_top.specs.Expected.{Expected, ExpectedOf, ExpectedAsked}
+use Rattle.yse_top.specs.Law.{IsProper}
+use Rattle.yse_top.specs.Lines.{netlist_line, stimulus_line}
+use Rattle.yse_top.specs.Outcome.{Outcome}
+use Rattle.yse_top.specs.Readings.{Reading}
+use Rattle.yse_top.specs.Words.{Request, run, refer, show, Simulation, request_of, files_of, files_named}
+use Rattle.yse_top.specs.commands.Run.{ExpectedRun, ExpectedTrace}
+use Rattle.yse_top.specs.commands.Show.{ExpectedShow}
+use Rattle.yse_top.proofs.ProperLemmas.{IsCheck, IsCommand, IsOfCommand, command_after, command_file, command_ends, writes_ending, words_proper, words_status, answer_of_command, not_words}
+use Rattle.yse_top.proofs.CheckLemmas.{reads_check, loop_check, cells_check, trace_only, trace_some}
+use Rattle.yse_top.proofs.law.calls_are_proper.Goals as goal
+
+-- the laws of the layers below
+record Laws : Type 0 where
+  netlists : IsReader bench_reads.Reads bench.first_fault
+  stimuli : (inputs : ℕ) → IsReader (stim.Reads inputs) (stim.first_fault inputs)
+  order_or_loop : (net : Netlist) (timing : Timing) → OrderOrLoop net timing
+  never_both : (net : Netlist) (timing : Timing) (order loop : List ℕ) → IsOrder net timing order → IsLoop net timing loop → ⊥
+  one_simulation : (net : Netlist) (timing : Timing) (stimulus : Stimulus) → ((loop : List ℕ) → IsLoop net timing loop → ⊥) → HasOneSimulation net timing stimulus
+
+module _ (laws : Laws) where
+  netlist_check : (text : List ℕ) → IsCheck (IsNetlistOf text)
+  netlist_check text = reads_check bench_reads.Reads bench.first_fault laws.netlists text status.Netlist netlist_line tt
+
+  stimulus_check : (text : List ℕ) (net : Netlist) → IsCheck (IsStimulusOf text net)
+  stimulus_check text net =
+      reads_check (stim.Reads (input_count net)) (stim.first_fault (input_count net)) (laws.stimuli (input_count net)) text status.Stimulus stimulus_line tt
+
+  trace_proper : (file : List ℕ) (net : Netlist) (timing : Timing) → ((loop : List ℕ) → IsLoop net timing loop → ⊥) → IsCommand (file ∷ []) (ExpectedTrace file net timing)
+  unfolding ExpectedTrace
+  trace_proper file net timing acyclic =
+      command_file file [] (λ text. After (IsStimulusOf text net) (λ stimulus. After (HasFewCells net stimulus) (λ few. Ends (Writes (IsTrace net timing stimulus))))) (λ text short.
+      command_after [] (IsStimulusOf text net) (λ stimulus. After (HasFewCells net stimulus) (λ few. Ends (Writes (IsTrace net timing stimulus)))) (stimulus_check text net) (λ stimulus is.
+      command_after [] (HasFewCells net stimulus) (λ few. Ends (Writes (IsTrace net timing stimulus))) (cells_check net stimulus) (λ few cells.
+      command_ends (Writes (IsTrace net timing stimulus)) (writes_ending (IsTrace net timing stimulus)
+      (trace_only net timing stimulus (laws.one_simulation net timing stimulus acyclic)) (trace_some net timing stimulus (laws.one_simulation net timing stimulus acyclic))))))
+
+  run_proper : (s : Simulation) → IsCommand (s.netlist ∷ s.stimulus ∷ []) (ExpectedRun s)
+  unfolding ExpectedRun
+  run_proper s =
+      command_file s.netlist (s.stimulus ∷ []) (λ text. After (IsNetlistOf text) (λ net. After (HasNoLoop net s.timing) (λ passed. ExpectedTrace s.stimulus net s.timing))) (λ text short.
+      command_after (s.stimulus ∷ []) (IsNetlistOf text) (λ net. After (HasNoLoop net s.timing) (λ passed. ExpectedTrace s.stimulus net s.timing)) (netlist_check text) (λ net is.
+      command_after (s.stimulus ∷ []) (HasNoLoop net s.timing) (λ passed. ExpectedTrace s.stimulus net s.timing) (loop_check net s.timing (laws.order_or_loop net s.timing) (laws.never_both net s.timing)) (λ passed acyclic.
+      trace_proper s.stimulus net s.timing acyclic)))
+
+  show_proper : (file : List ℕ) → IsCommand (file ∷ []) (ExpectedShow file)
+  unfolding ExpectedShow
+  show_proper file =
+      command_file file [] (λ text. After (IsNetlistOf text) (λ net. Ends (Writes (λ output. output ≡ canonical_text net)))) (λ text short.
+      command_after [] (IsNetlistOf text) (λ net. Ends (Writes (λ output. output ≡ canonical_text net))) (netlist_check text) (λ net is.
+      command_ends (Writes (λ output. output ≡ canonical_text net)) (writes_ending (λ output. output ≡ canonical_text net) (λ s t e f. e ∙ sym f) (canonical_text net, refl))))
+
+  request_proper : (request : Request) → IsCommand (files_of request) (ExpectedOf request)
+  request_proper (run s) = run_proper s
+  request_proper (refer s) = run_proper s
+  request_proper (show file) = show_proper file
+
+  asked_proper : (asked : Option Request) → IsProper (files_named asked) (ExpectedAsked asked)
+  asked_proper None = words_proper
+  asked_proper (Some request) = (request_proper request).proper
+
+  asked_status : (asked : Option Request) (readings : List Reading) (outcome : Outcome) → ExpectedAsked asked readings outcome → IsAnswer outcome.status
+  asked_status None readings outcome is = subst IsAnswer (sym (words_status outcome is.1)) tt
+  asked_status (Some request) readings outcome is = answer_of_command outcome.status ((request_proper request).statuses readings outcome is)
+
+  asked_words : (asked : Option Request) (readings : List Reading) (outcome : Outcome) → ExpectedAsked asked readings outcome → (outcome.status ≡ status.Words) ↔ (asked ≡ None)
+  asked_words None readings outcome is = (λ s. refl, λ none. words_status outcome is.1)
+  asked_words (Some request) readings outcome is = (λ s. absurd (not_words outcome.status ((request_proper request).statuses readings outcome is) s), λ none. cc)
+
+pub returns : goal.returns
+unfolding Expected
+returns c =
+    let laws : Laws = record {
+      netlists = c.reads_or_faults.ensures.reader;
+      stimuli = c.reads_or_faults-2.ensures.reader;
+      order_or_loop = c.order_or_loop.ensures.one;
+      never_both = c.order_or_loop.ensures.never_both;
+      one_simulation = c.one_simulation.ensures.rank_order;
+    } in
+    record {
+      proper = λ words. asked_proper laws (request_of words);
+      words = λ words. asked_words laws (request_of words);
+      statuses = λ words. asked_status laws (request_of words);
+    }

@@ -1,0 +1,85 @@
+-- The checks of a call, one after the other: each lets a value pass, with which the next ones go on, or
+-- ends the call. A chain of checks is a relation between the files that are begun from here on and the
+-- outcome of the call.
+use Rattle.std.specs.Prelude.{◌≡◌, ◌⊎◌, ℕ, ◌+◌, ◌*◌, ◌<◌, ◌≤◌, nat_le, if◌then◌else◌, List, [], ◌∷◌, length, Option, Some, None, Result, Ok, Err}
+use Rattle.limits.specs.declared.TheConstants.{MAX_CELLS, MAX_TEXT_BYTES}
+use Rattle.net_defs.specs.declared.netlist.Netlist.{Netlist}
+use Rattle.net_defs.specs.declared.timing.Timing.{Timing}
+use Rattle.net_defs.specs.declared.stimulus.Stimulus.{Stimulus}
+use Rattle.net_defs.specs.Loops.{IsLoop}
+use Rattle.net_defs.specs.Time.{cycle_count}
+use Rattle.net_defs.specs.Valid.{input_count}
+use Rattle.bench_read.specs.Faults as bench
+use Rattle.bench_read.specs.Reads as bench_reads
+use Rattle.stim_text.specs.Stimuli as stim
+use Rattle.yse_top.specs.declared.status.Status.TheVariants as status
+use Rattle.yse_top.specs.Lines.{read_fault_line, too_long_line, netlist_line, loop_line, stimulus_line, cells_line}
+use Rattle.yse_top.specs.Outcome.{Outcome, done, refusal, out_of_memory}
+use Rattle.yse_top.specs.Readings.{Reading}
+
+-- ---- chains
+
+-- a check refuses with an outcome; want of memory may come in place of each answer
+abbrev pub Refuses : {X : Type 0} → (Result X Outcome → Type 0) → Outcome → Type 0
+Refuses Checked outcome = Checked (Err outcome) ⊎ (outcome ≡ out_of_memory)
+
+-- what a check lets pass goes on, and what it refuses ends here, with no further file begun
+abbrev pub After : {X : Type 0} → (Result X Outcome → Type 0) → (X → List Reading → Outcome → Type 0) → List Reading → Outcome → Type 0
+After {X} Checked Next readings outcome =
+    ((x : X) × Checked (Ok x) × Next x readings outcome) ⊎ ((readings ≡ []) × Refuses Checked outcome)
+
+-- the text of a file that isn't too long
+abbrev pub text_of : List ℕ → List ℕ → Result (List ℕ) Outcome
+text_of file bytes = if nat_le (length bytes) MAX_TEXT_BYTES then Ok bytes else Err (refusal status.Limit (too_long_line file))
+
+abbrev pub read_fault : List ℕ → Outcome
+read_fault file = refusal status.ReadFault (read_fault_line file)
+
+-- a file that was begun: what can't be read ends the call, and a text goes on
+abbrev pub AfterRead : List ℕ → Option (List ℕ) → (List ℕ → List Reading → Outcome → Type 0) → List Reading → Outcome → Type 0
+AfterRead file None Next readings outcome = (readings ≡ []) × (outcome ≡ read_fault file)
+AfterRead file (Some bytes) Next readings outcome = After (λ result. text_of file bytes ≡ result) Next readings outcome
+
+-- the named file is the next one that is begun
+abbrev pub AfterFile : List ℕ → (List ℕ → List Reading → Outcome → Type 0) → List Reading → Outcome → Type 0
+AfterFile file Next [] outcome = ⊥
+AfterFile file Next (reading ∷ readings) outcome = (reading.file ≡ file) × AfterRead file reading.bytes Next readings outcome
+
+-- the call comes to such an outcome, or to want of memory, with no further file begun
+abbrev pub Ends : (Outcome → Type 0) → List Reading → Outcome → Type 0
+Ends IsEnd readings outcome = (readings ≡ []) × (IsEnd outcome ⊎ (outcome ≡ out_of_memory))
+
+-- such an output is written, and nothing is refused
+abbrev pub Writes : (List ℕ → Type 0) → Outcome → Type 0
+Writes IsOutput outcome = (output : List ℕ) × IsOutput output × (outcome ≡ done output)
+
+-- ---- what is checked
+
+-- what a text reads as, and else its first fault
+abbrev pub ReadsAs : {X E : Type 0} → (X → Type 0) → Option E → (E → Outcome) → Result X Outcome → Type 0
+ReadsAs {X} {E} Reads fault refused (Ok x) = Reads x
+ReadsAs {X} {E} Reads fault refused (Err outcome) = (why : E) × (fault ≡ Some why) × (outcome ≡ refused why)
+
+-- the netlist of a text
+abbrev pub IsNetlistOf : List ℕ → Result Netlist Outcome → Type 0
+IsNetlistOf text = ReadsAs (bench_reads.Reads text) (bench.first_fault text) (λ why. refusal status.Netlist (netlist_line why))
+
+-- the stimulus of a text for the inputs of a netlist
+abbrev pub IsStimulusOf : List ℕ → Netlist → Result Stimulus Outcome → Type 0
+IsStimulusOf text net =
+    ReadsAs (stim.Reads (input_count net) text) (stim.first_fault (input_count net) text) (λ why. refusal status.Stimulus (stimulus_line why))
+
+-- no gates wait for one another
+abbrev pub HasNoLoop : Netlist → Timing → Result (Unit {0}) Outcome → Type 0
+HasNoLoop net timing (Ok passed) = (loop : List ℕ) → IsLoop net timing loop → ⊥
+HasNoLoop net timing (Err outcome) = (loop : List ℕ) × IsLoop net timing loop × (outcome ≡ refusal status.Loop (loop_line net loop))
+
+-- a cell for each input and each printed name in each cycle
+abbrev pub cell_count : Netlist → Stimulus → ℕ
+cell_count net stimulus = cycle_count stimulus * (input_count net + length net.printed)
+
+-- there are not too many cells
+abbrev pub HasFewCells : Netlist → Stimulus → Result (Unit {0}) Outcome → Type 0
+HasFewCells net stimulus (Ok passed) = cell_count net stimulus ≤ MAX_CELLS
+HasFewCells net stimulus (Err outcome) =
+    (MAX_CELLS < cell_count net stimulus) × (outcome ≡ refusal status.Limit (cells_line (cell_count net stimulus)))

@@ -1,0 +1,51 @@
+-- How a call ends in an outcome, by its status and its sinks.
+use Rattle.std.specs.Prelude.{◌≡◌, ◌⊎◌, ⊤, ℕ, List, Bool, false, Option, Some, None, slice_get}
+use Rattle.std.specs.Io.KnownBytes.{append_known}
+use Rattle.edge_io.specs.Counts.{Rose}
+use Rattle.edge_io.specs.Names.{is_absent}
+use Rattle.edge_io.specs.Writing.{TakesProperPrefix}
+use Rattle.yse_top.specs.declared.status.Status.{Status}
+use Rattle.yse_top.specs.declared.status.Status.TheVariants as status
+use Rattle.yse_top.specs.Lines.{write_fault_line}
+use Rattle.yse_top.specs.Outcome.{Outcome}
+use Rattle.yse_top.specs.Readings.{Reading}
+
+-- The sink has taken the output, and the line is told; or, after a fault of the sink, it has taken a proper
+-- prefix of the output, and the line of that fault is told.
+abbrev pub EndsAs : Status → Outcome → Option (List ℕ) → Option (List ℕ) → ℕ → ℕ → (List ℕ → Type 0) → Type 0
+EndsAs result outcome old new faults_old faults_new TakesLine =
+    ((result ≡ outcome.status) × (new ≡ append_known old outcome.output) × TakesLine outcome.line)
+    ⊎ ((result ≡ status.WriteFault) × TakesProperPrefix old new outcome.output × Rose faults_old faults_new × TakesLine write_fault_line)
+
+-- the statuses that exist
+abbrev pub IsAnswer : Status → Type 0
+IsAnswer status.Done = ⊤
+IsAnswer status.Words = ⊤
+IsAnswer status.ReadFault = ⊤
+IsAnswer status.WriteFault = ⊤
+IsAnswer status.Netlist = ⊤
+IsAnswer status.Loop = ⊤
+IsAnswer status.Stimulus = ⊤
+IsAnswer status.Limit = ⊤
+IsAnswer status.Memory = ⊤
+IsAnswer _ = ⊥
+
+-- the statuses at which something may have been written
+abbrev pub MayWrite : Status → Type 0
+MayWrite status.Done = ⊤
+MayWrite status.WriteFault = ⊤
+MayWrite status.Unfinished = ⊤
+MayWrite _ = ⊥
+
+-- the statuses of a call at which nothing is refused and nothing fails
+abbrev pub IsDoneOrMemory : Status → Type 0
+IsDoneOrMemory status.Done = ⊤
+IsDoneOrMemory status.Memory = ⊤
+IsDoneOrMemory _ = ⊥
+
+-- each reading is what a store tells of its file
+abbrev pub AreToldBy : Option (List ℕ → Bool) → Option (List ℕ → List ℕ) → List Reading → Type 0
+AreToldBy names None readings = ⊥
+AreToldBy names (Some bytes) readings =
+    (place : ℕ) (reading : Reading) → slice_get readings place ≡ Some reading
+    → (is_absent names reading.file ≡ false) × (reading.bytes ≡ Some (bytes reading.file))

@@ -1,0 +1,13 @@
+-- `show`: the canonical text of a netlist.
+use Rattle.std.specs.Prelude.{◌≡◌, List, ℕ}
+use Rattle.net_defs.specs.Canonical.{canonical_text}
+use Rattle.yse_top.specs.Checks.{After, AfterFile, Ends, Writes, IsNetlistOf}
+use Rattle.yse_top.specs.Outcome.{Outcome}
+use Rattle.yse_top.specs.Readings.{Reading}
+
+-- the netlist file, its text, and the canonical one
+unfoldable pub ExpectedShow : List ℕ → List Reading → Outcome → Type 0
+ExpectedShow netlist =
+    AfterFile netlist (λ text.
+    After (IsNetlistOf text) (λ net.
+    Ends (Writes (λ output. output ≡ canonical_text net))))

@@ -1,0 +1,92 @@
+//! The checks of what was read: one function a check.
+
+ghost use Rattle.std.specs.Prelude.{◌≡◌, ◌≤◌, Ok, Err, length, IfOk, IfErr, OnOk};
+ghost use Rattle.limits.specs.declared.TheConstants.{MAX_TEXT_BYTES};
+ghost use Rattle.net_defs.specs.Loops.{IsOrder};
+ghost use Rattle.net_defs.specs.Valid.{IsValid, IsValidStimulus};
+ghost use Rattle.yse_top.specs.Checks.{Refuses, IsNetlistOf, IsStimulusOf, HasNoLoop, HasFewCells, cell_count};
+ghost use Rattle.yse_top.specs.Refusals.{Satisfies, refused_of};
+
+use crate::refusal::{Refusal, of_netlist, of_stimulus};
+use bench_read::law::reads_as_valid;
+use bench_read::read_bench;
+use limits::MAX_CELLS;
+use net_defs::{Netlist, Ranks, Stimulus, Timing};
+use rank_find::{RankNo, rank};
+use seen_list::List;
+use std::alloc::Global;
+use stim_text::read_stim;
+
+/// A netlist, and an order of its gates.
+#[derive(Drop)]
+pub struct Design {
+    pub net: Netlist,
+    pub order: List<u32>,
+}
+
+/// The netlist of a text.
+pub fn netlist_of<'a>(alloc: Global, text: &[u8]) -> Result<Netlist, Refusal<'a>>
+    requires { length text.now ≤ MAX_TEXT_BYTES }
+    ensures checked { Satisfies result (IsNetlistOf text.now) }
+    ensures valid { IfOk result IsValid }
+{
+    match read_bench(alloc, text) {
+        Ok(net) => {
+            reads_as_valid(text, &net);
+            Ok(net)
+        }
+        Err(no) => Err(of_netlist(no)),
+    }
+}
+
+/// The stimulus of a text for the inputs of a netlist.
+pub fn stimulus_of<'a>(alloc: Global, text: &[u8], net: &Netlist) -> Result<Stimulus, Refusal<'a>>
+    requires valid { IsValid net.now }
+    requires short { length text.now ≤ MAX_TEXT_BYTES }
+    ensures checked { Satisfies result (IsStimulusOf text.now net.now) }
+    ensures valid { IfOk result IsValidStimulus }
+{
+    match read_stim(alloc, text, net.inputs()) {
+        Ok(stimulus) => Ok(stimulus),
+        Err(no) => Err(of_stimulus(no)),
+    }
+}
+
+/// The netlist with an order of its gates, and else a loop.
+pub fn ordered<'a>(alloc: Global, net: Netlist, timing: &Timing) -> Result<Design, Refusal<'a>>
+    requires { IsValid net }
+    ensures same { IfOk result (λ design. design.net ≡ net) }
+    ensures order { IfOk result (λ design. IsOrder net timing.now design.order) }
+    ensures acyclic { OnOk result (HasNoLoop net timing.now (Ok tt)) }
+    ensures looped { IfErr result (λ no. Refuses (HasNoLoop net timing.now) (refused_of no)) }
+{
+    match rank(alloc, &net, timing) {
+        Ok(Ranks { order, .. }) => Ok(Design { net, order }),
+        Err(RankNo::Loop(members)) => Err(Refusal::Loop(net, members)),
+        Err(RankNo::Memory) => Err(Refusal::Memory),
+    }
+}
+
+/// Whether there are not too many cells.
+pub fn few_cells<'a>(net: &Netlist, stimulus: &Stimulus) -> Result<(), Refusal<'a>>
+    requires valid { IsValid net.now }
+    requires stimulus { IsValidStimulus stimulus.now }
+    ensures { Satisfies result (HasFewCells net.now stimulus.now) }
+{
+    let cells = cell_count(net, stimulus);
+    if cells > MAX_CELLS {
+        Err(Refusal::Cells(cells))
+    } else {
+        Ok(())
+    }
+}
+
+/// A cell for each input and each printed name in each cycle.
+fn cell_count(net: &Netlist, stimulus: &Stimulus) -> u64
+    requires valid { IsValid net.now }
+    requires stimulus { IsValidStimulus stimulus.now }
+    ensures { result ≡ cell_count net.now stimulus.now }
+{
+    let columns = u64::from(net.inputs()) + net.printed.len() as u64;
+    u64::from(stimulus.cycles()) * columns
+}

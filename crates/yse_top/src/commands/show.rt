@@ -1,0 +1,38 @@
+//! `show`: the canonical text of a netlist.
+
+ghost use Rattle.std.specs.Prelude.{IfOk};
+ghost use Rattle.yse_top.specs.Outputs.{CanWrite};
+ghost use Rattle.yse_top.specs.Refusals.{Follows};
+ghost use Rattle.yse_top.specs.commands.Show.{ExpectedShow};
+
+use crate::checks::netlist_of;
+use crate::output::Output;
+use crate::reading::read_text;
+use crate::refusal::Refusal;
+use edge_io::Files;
+use net_defs::show as canonical_text;
+use seen_list::Memory;
+use std::alloc::Global;
+
+/// The canonical text of the netlist of a file.
+#[tactic(auto, using(crate::proofs::ChainLemmas::follows_refused), unfolding(crate::specs::commands::Show::ExpectedShow))]
+pub fn show<'a, F: Files>(
+    alloc: Global,
+    files: &mut F,
+    file: &'a [u8],
+) -> Result<Output, Refusal<'a>>
+    ensures expected { Follows (F.names files.old) (F.bytes files.old) (F.counts files.old) (F.counts files.new)
+        result (ExpectedShow file.now) }
+    ensures writable { IfOk result CanWrite }
+{
+    match read_text(alloc, files, file) {
+        Ok(text) => match netlist_of(alloc, text.as_slice()) {
+            Ok(net) => match canonical_text(alloc, &net) {
+                Ok(text) => Ok(Output::Text(text)),
+                Err(Memory) => Err(Refusal::Memory),
+            },
+            Err(no) => Err(no),
+        },
+        Err(no) => Err(no),
+    }
+}
