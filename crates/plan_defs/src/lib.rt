@@ -3,8 +3,12 @@
 //! fits a machine, and the settings of the switch.
 #![tactic(auto)]
 
+pub mod law;
 pub mod plan;
+pub mod readers;
 pub mod switch;
+mod users;
 
 pub use plan::{Homes, Plan};
+pub use readers::Readers;
 pub use switch::{PortLinks, Receipt, Sending, Switch};
