@@ -1,0 +1,5 @@
+pub mod ListLemmas
+pub mod PlanLemmas
+pub mod PortLemmas
+pub mod ReaderLemmas
+pub mod UserLemmas

@@ -1,0 +1,70 @@
+-- First-fit plans: items that would meet are apart, and there is one plan.
+use Rattle.std.proofs.Common.{◌≡◌, ◌∙◌, ◌⊎◌, inl, inr, ℕ, zero, suc, ◌+◌, ◌<◌, ◌≤◌, List, length, refl, sym, ap, subst, arith}
+use Rattle.std.proofs.lemmas.Bool.{cases_order}
+use Rattle.std.proofs.lemmas.List.{ext_get_or}
+use Rattle.node_defs.specs.declared.items.NodeNet.{NodeNet}
+use Rattle.node_defs.specs.WellFormed.{IsWellFormed}
+use Rattle.plan_defs.specs.declared.plan.Homes.{Homes}
+use Rattle.plan_defs.specs.declared.plan.Plan.{Plan}
+use Rattle.plan_defs.specs.Homes.{home_of}
+use Rattle.plan_defs.specs.Lists.{IsLeastFree}
+use Rattle.plan_defs.specs.Readers.{IsReader}
+use Rattle.plan_defs.specs.Slots.{slot_of, IsTooEarly, IsHeld, IsHeard, IsBlocked, AreFirstFit, IsFirstFitPlan, needed_of}
+use Rattle.plan_defs.proofs.ListLemmas.{last_or}
+
+-- two numbers are equal where neither is below the other
+neither_below : (i j : ℕ) → (i < j → ⊥) → (j < i → ⊥) → i ≡ j
+neither_below i j low high = elim (cases_order i j) [ inl same ↦ same | inr (inl below) ↦ absurd (low below) | inr (inr above) ↦ absurd (high above) ]
+
+module _ (nodes : NodeNet) (homes : Homes) (slots : List ℕ) (n : ℕ) (fit : AreFirstFit nodes homes slots n) where
+  held_apart : (i j : ℕ) → j < n → home_of homes i ≡ home_of homes j → slot_of slots i ≡ slot_of slots j → i < j → ⊥
+  held_apart i j within home slot low = (fit.least j within).free (inr (inl (record { holder = i; before = low; home = home; slot = slot })))
+
+  heard_apart : (i j port : ℕ) → j < n → IsReader nodes homes i port → IsReader nodes homes j port → slot_of slots i ≡ slot_of slots j → i < j → ⊥
+  heard_apart i j port within one other slot low = (fit.least j within).free (inr (inr (record { sent = i; before = low; slot = slot; reader = port; reads_sent = one; reads = other })))
+
+  -- two items of one slot at one home are one
+  pub one_at_home : (i j : ℕ) → i < n → j < n → home_of homes i ≡ home_of homes j → slot_of slots i ≡ slot_of slots j → i ≡ j
+  one_at_home i j low high home slot = neither_below i j (held_apart i j high home slot) (held_apart j i low (sym home) (sym slot))
+
+  -- two items of one slot with a common reader are one
+  pub one_received : (i j port : ℕ) → i < n → j < n → IsReader nodes homes i port → IsReader nodes homes j port → slot_of slots i ≡ slot_of slots j → i ≡ j
+  one_received i j port low high one other slot = neither_below i j (heard_apart i j port high one other slot) (heard_apart j i port low other one (sym slot))
+
+-- what rules a slot out asks nothing but the slots of the items before
+pub blocked_agree : (nodes : NodeNet) (homes : Homes) (a b : List ℕ) (i s : ℕ) → IsWellFormed nodes → ((j : ℕ) → j < i → slot_of a j ≡ slot_of b j) → IsBlocked nodes homes a i s → IsBlocked nodes homes b i s
+blocked_agree nodes homes a b i s formed agree (inl early) =
+    inl (record { operand = early.operand; item = early.item; is = early.is; awaits = early.awaits; late = subst (λ n. s ≤ n) (agree early.operand (formed.awaited i early.operand early.item early.is early.awaits)) early.late })
+blocked_agree nodes homes a b i s formed agree (inr (inl held)) =
+    inr (inl (record { holder = held.holder; before = held.before; home = held.home; slot = sym (agree held.holder held.before) ∙ held.slot }))
+blocked_agree nodes homes a b i s formed agree (inr (inr heard)) =
+    inr (inr (record { sent = heard.sent; before = heard.before; slot = sym (agree heard.sent heard.before) ∙ heard.slot; reader = heard.reader; reads_sent = heard.reads_sent; reads = heard.reads }))
+
+-- there is one least number
+pub least_one : (P : ℕ → Type 0) (m n : ℕ) → IsLeastFree P m → IsLeastFree P n → m ≡ n
+least_one P m n one other = neither_below m n (λ low. one.free (other.below m low)) (λ low. other.free (one.below n low))
+
+pub least_same : (P Q : ℕ → Type 0) (n : ℕ) → ((s : ℕ) → P s → Q s) → ((s : ℕ) → Q s → P s) → IsLeastFree P n → IsLeastFree Q n
+least_same P Q n there back least = record { free = λ is. least.free (back n is); below = λ m low. there m (least.below m low) }
+
+module _ (nodes : NodeNet) (homes : Homes) (a b : List ℕ) (n : ℕ) (formed : IsWellFormed nodes) (one : AreFirstFit nodes homes a n) (other : AreFirstFit nodes homes b n) where
+  agree_next : (i : ℕ) → i < n → ((j : ℕ) → j < i → slot_of a j ≡ slot_of b j) → slot_of a i ≡ slot_of b i
+  agree_next i low agree = least_one (IsBlocked nodes homes b i) (slot_of a i) (slot_of b i)
+      (least_same (IsBlocked nodes homes a i) (IsBlocked nodes homes b i) (slot_of a i)
+      (λ s. blocked_agree nodes homes a b i s formed agree) (λ s. blocked_agree nodes homes b a i s formed (λ j below. sym (agree j below))) (one.least i low))
+      (other.least i low)
+
+  agree_below : (m j : ℕ) → j < m → j < n → slot_of a j ≡ slot_of b j
+  agree_below zero j low within = absurd (omega (arith, low))
+  agree_below (suc m) j low within = agree_next j within (λ k below. agree_below m k (omega (arith, low, below)) (omega (arith, below, within)))
+
+  pub slots_agree : (i : ℕ) → i < n → slot_of a i ≡ slot_of b i
+  slots_agree i low = agree_below n i low low
+
+-- there is one first-fit plan
+pub plans_agree : (nodes : NodeNet) (homes : Homes) (one other : Plan) → IsWellFormed nodes → IsFirstFitPlan nodes homes one → IsFirstFitPlan nodes homes other → (one.slots ≡ other.slots) × (one.needed ≡ other.needed)
+plans_agree nodes homes one other formed first second =
+    let count = first.slots.items in
+    let same : one.slots ≡ other.slots = ext_get_or 0 one.slots other.slots (count ∙ sym second.slots.items)
+    (λ i low. slots_agree nodes homes one.slots other.slots (length nodes.items) formed first.slots second.slots i (omega (arith, low, count))) in
+    (same, first.needed ∙ (ap needed_of same ∙ sym second.needed))

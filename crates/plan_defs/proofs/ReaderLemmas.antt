@@ -1,0 +1,49 @@
+-- Readers that are listed one item after another.
+use Rattle.std.proofs.Common.{◌≡◌, ◌≢◌, ◌∙◌, ◌⊎◌, ◌↔◌, inl, inr, ℕ, ◌+◌, ◌-◌, ◌*◌, ◌<◌, ◌≤◌, List, [], ◌∷◌, ◌++◌, length, get_or, refl, sym, ap, subst, arith, Some, slice_get}
+use Rattle.std.specs.Int.{bit_at}
+use Rattle.std.proofs.lemmas.Nat.Bits.{bit_at-zero}
+use Rattle.std.proofs.lemmas.Option.{slice_get_within, get_or_from_slice_get, slice_get-get_or}
+use Rattle.std.proofs.lemmas.List.{get_or_append_left, length-append}
+use Rattle.std.proofs.Math.Seq.{get_or-append_seam}
+use Rattle.bit_rows.specs.declared.BitRows.{BitRows}
+use Rattle.bit_rows.specs.Bits.{HasBit}
+use Rattle.node_defs.specs.declared.items.NodeNet.{NodeNet}
+use Rattle.plan_defs.specs.declared.plan.Homes.{Homes}
+use Rattle.plan_defs.specs.Homes.{home_of}
+use Rattle.plan_defs.specs.Lists.{Lists}
+use Rattle.plan_defs.specs.Readers.{IsReader, IsReaderList}
+use Rattle.plan_defs.specs.UserRows.{AreUsers}
+use Rattle.plan_defs.proofs.ListLemmas.{last_or}
+
+-- a word that is 0 has none of its bits
+pub word_none : (rows : BitRows) (row w word : ℕ) → word ≡ 0 → ((b : ℕ) → b < 64 → (bit_at word b ≡ 1) ↔ HasBit rows row (64 * w + b)) → (m : ℕ) → 64 * w ≤ m → m < 64 * w + 64 → HasBit rows row m → ⊥
+word_none rows row w word is bits m from low has =
+    let place : m ≡ 64 * w + (m - 64 * w) = omega (arith, from) in
+    let set : bit_at word (m - 64 * w) ≡ 1 = (bits (m - 64 * w) (omega (arith, from, low))).1 (subst (HasBit rows row) place has) in
+    let unset : bit_at word (m - 64 * w) ≡ 0 = ap (λ n. bit_at n (m - 64 * w)) is ∙ bit_at-zero (m - 64 * w) in
+    omega (arith, set, unset)
+
+-- the ports of an item's row but for its home are its readers
+readers_are : (nodes : NodeNet) (homes : Homes) (users : BitRows) (i home : ℕ) (list : List ℕ) → AreUsers nodes homes users → home ≡ home_of homes i → Lists (λ port. HasBit users i port × (port ≢ home)) list → IsReaderList nodes homes i list
+readers_are nodes homes users i home list are is lists = record {
+  rising = lists.rising;
+  exact = λ port. (
+    λ among. (let known = (lists.exact port).0 among in record { user = (are.exact i port).0 known.0; away = λ same. known.1 (same ∙ sym is) }),
+    λ reads. (lists.exact port).1 ((are.exact i port).1 reads.user, λ same. reads.away (same ∙ is)),
+  );
+}
+
+-- one list more
+pub readers_more : (nodes : NodeNet) (homes : Homes) (users : BitRows) (lists : List (List ℕ)) (i home : ℕ) (list : List ℕ) → AreUsers nodes homes users → home ≡ home_of homes i → length lists ≡ i
+    → ((k : ℕ) (ports : List ℕ) → slice_get lists k ≡ Some ports → IsReaderList nodes homes k ports) → Lists (λ port. HasBit users i port × (port ≢ home)) list
+    → (k : ℕ) (ports : List ℕ) → slice_get (lists ++ list ∷ []) k ≡ Some ports → IsReaderList nodes homes k ports
+readers_more nodes homes users lists i home list are is count each last k ports at =
+    let long = length-append lists (list ∷ []) in
+    let low = slice_get_within (lists ++ list ∷ []) k ports at in
+    let read : get_or (lists ++ list ∷ []) k [] ≡ ports = get_or_from_slice_get (lists ++ list ∷ []) k ports [] at in
+    elim (last_or k (length lists) (omega (arith, long, low))) [
+      | inl below ↦ each k ports (slice_get-get_or lists k [] below ∙ ap Some (sym (get_or_append_left lists (list ∷ []) [] k below) ∙ read))
+      | inr same ↦
+          let here : list ≡ ports = sym (ap (λ n. get_or (lists ++ list ∷ []) n []) same ∙ get_or-append_seam lists list [] []) ∙ read in
+          subst (λ n. IsReaderList nodes homes n ports) (sym (same ∙ count)) (subst (λ l. IsReaderList nodes homes i l) here (readers_are nodes homes users i home list are is last))
+    ]

@@ -1,0 +1,9 @@
+pub mod Homes
+pub mod Lists
+pub mod Picks
+pub mod ReaderLists
+pub mod Readers
+pub mod Slots
+pub mod Switches
+pub mod Tables
+pub mod UserRows

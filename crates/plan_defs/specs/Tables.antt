@@ -1,0 +1,40 @@
+-- The different tables that a port's nodes use, and when a plan fits a machine.
+use Rattle.std.specs.Prelude.{◌≡◌, ℕ, ◌<◌, ◌≤◌, List, length, Some, slice_get}
+use Rattle.machine_text.specs.declared.machine.Machine.{Machine}
+use Rattle.node_defs.specs.declared.items.Feeds.{Feeds}
+use Rattle.node_defs.specs.declared.items.Item.TheVariants.{Node}
+use Rattle.node_defs.specs.declared.items.NodeNet.{NodeNet}
+use Rattle.plan_defs.specs.declared.plan.Homes.{Homes}
+use Rattle.plan_defs.specs.declared.plan.Plan.{Plan}
+use Rattle.plan_defs.specs.Homes.{home_of}
+use Rattle.plan_defs.specs.Lists.{Counts}
+
+-- a node at the port uses the table of this number
+pub record UsesTable (nodes : NodeNet) (homes : Homes) (port table : ℕ) : Type 0 where
+  pub node : ℕ
+  pub feeds : Feeds
+  pub is : slice_get nodes.items node ≡ Some (Node table feeds)
+  pub home : home_of homes node ≡ port
+
+-- so many different tables are used at the port
+abbrev pub UsesTables : NodeNet → Homes → ℕ → ℕ → Type 0
+UsesTables nodes homes port count = Counts (UsesTable nodes homes port) count
+
+-- the most slots of a turn
+abbrev pub slot_limit : Machine → ℕ
+slot_limit machine = machine.slots
+
+-- the most different tables that a logic port may use
+abbrev pub table_limit : Machine → ℕ → ℕ
+table_limit machine port = machine.functions
+
+-- the port's tables are few enough
+pub record FitsTables (nodes : NodeNet) (homes : Homes) (machine : Machine) (port : ℕ) : Type 0 where
+  pub count : ℕ
+  pub uses : UsesTables nodes homes port count
+  pub few : count ≤ table_limit machine port
+
+-- the plan fits the machine
+pub record Fits (nodes : NodeNet) (homes : Homes) (machine : Machine) (plan : Plan) : Type 0 where
+  pub slots : plan.needed ≤ slot_limit machine
+  pub tables : (port : ℕ) → port < homes.logic → FitsTables nodes homes machine port

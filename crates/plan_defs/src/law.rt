@@ -1,0 +1,33 @@
+//! Laws of first-fit plans: functions that do nothing, whose clauses hold of all items and homes.
+
+ghost use Rattle.std.specs.Prelude.{◌≡◌, ◌<◌, ℕ, length};
+ghost use Rattle.node_defs.specs.declared.items.NodeNet.{NodeNet};
+ghost use Rattle.node_defs.specs.WellFormed.{IsWellFormed};
+ghost use Rattle.plan_defs.specs.declared.plan.Homes.{Homes};
+ghost use Rattle.plan_defs.specs.declared.plan.Plan.{Plan};
+ghost use Rattle.plan_defs.specs.Homes.{home_of};
+ghost use Rattle.plan_defs.specs.Readers.{IsReader};
+ghost use Rattle.plan_defs.specs.Slots.{slot_of, IsFirstFitPlan};
+
+/// A law: no port sends twice in a slot. Two items of one slot at one home are one item. It does
+/// nothing.
+pub fn one_sending()
+    ensures { (nodes : NodeNet) (homes : Homes) (plan : Plan) → IsFirstFitPlan nodes homes plan
+        → (i j : ℕ) → i < length nodes.items → j < length nodes.items → home_of homes i ≡ home_of homes j
+        → slot_of plan.slots i ≡ slot_of plan.slots j → i ≡ j }
+{}
+
+/// A law: no port receives twice in a slot. Two items of one slot that one port reads are one item. It
+/// does nothing.
+pub fn one_receipt()
+    ensures { (nodes : NodeNet) (homes : Homes) (plan : Plan) → IsFirstFitPlan nodes homes plan
+        → (i j port : ℕ) → i < length nodes.items → j < length nodes.items → IsReader nodes homes i port
+        → IsReader nodes homes j port → slot_of plan.slots i ≡ slot_of plan.slots j → i ≡ j }
+{}
+
+/// A law: there is one first-fit plan of items at their homes. It does nothing.
+pub fn one_plan()
+    ensures { (nodes : NodeNet) (homes : Homes) (one other : Plan) → IsWellFormed nodes
+        → IsFirstFitPlan nodes homes one → IsFirstFitPlan nodes homes other
+        → (one.slots ≡ other.slots) × (one.needed ≡ other.needed) }
+{}

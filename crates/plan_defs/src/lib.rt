@@ -1,0 +1,14 @@
+//! Plans: at which port each item is, and in which slot of a turn. The definitions are in `specs/`:
+//! which homes are homes of these items, which ports read an item, the first-fit plan, when a design
+//! fits a machine, and the settings of the switch.
+#![tactic(auto)]
+
+pub mod law;
+pub mod plan;
+pub mod readers;
+pub mod switch;
+mod users;
+
+pub use plan::{Homes, Plan};
+pub use readers::Readers;
+pub use switch::{PortLinks, Receipt, Sending, Switch};

@@ -1,0 +1,105 @@
+//! The ports that read each item.
+
+ghost use Rattle.std.specs.Prelude.{◌≡◌, ◌≢◌, ◌+◌, ◌*◌, ◌<◌, ◌≤◌, ◌∷◌, ◌++◌, IfOk, OnOk, length, Some, slice_get, slice_index_or};
+ghost use Rattle.bit_rows.specs.Bits.{HasBit};
+ghost use Rattle.node_defs.specs.WellFormed.{IsWellFormed};
+ghost use Rattle.plan_defs.specs.Homes.{AreHomes};
+ghost use Rattle.plan_defs.specs.Lists.{Lists, ListsBelow};
+
+use crate::plan::Homes;
+use crate::users::users;
+use bit_rows::BitRows;
+use node_defs::NodeNet;
+use seen_list::{List, Memory};
+use std::alloc::Global;
+
+/// The readers of each item: one list of ports for each, in item order.
+#[derive(Drop)]
+pub struct Readers {
+    pub lists: List<List<u32>>,
+}
+
+impl Readers {
+    ghost use Rattle.plan_defs.specs.ReaderLists.{AreReaders};
+
+    /// The readers of all items at these homes, in one pass over the items and memories.
+    pub fn new(alloc: Global, nodes: &NodeNet, homes: &Homes) -> Result<Readers, Memory>
+        requires nodes { IsWellFormed nodes.now }
+        requires homes { AreHomes nodes.now homes.now }
+        ensures { IfOk result (AreReaders nodes.now homes.now) }
+    {
+        let rows = users(alloc, nodes, homes)?;
+        let mut lists = List::new(alloc);
+        let ports = homes.items.as_slice();
+        'items: for item in 0..ports.len() {
+            let list = row_readers(alloc, &rows, item, ports[item])?;
+            lists.push(list)?;
+        }
+        Ok(Readers { lists })
+    }
+
+    /// The readers of an item, in port order.
+    pub fn of(&self, item: usize) -> &[u32]
+        requires { item < length self.now.lists }
+        ensures { slice_get self.now.lists item ≡ Some result.now }
+    {
+        self.lists.as_slice()[item].as_slice()
+    }
+}
+
+/// The ports of an item's row but for its home, in order.
+fn row_readers(alloc: Global, rows: &BitRows, item: usize, home: u32) -> Result<List<u32>, Memory>
+    requires stride { rows.now.stride ≡ 4 }
+    requires room { item * rows.now.stride + rows.now.stride ≤ length rows.now.words }
+    ensures { IfOk result (Lists (λ port. HasBit rows.now item port × (port ≢ home))) }
+{
+    let mut ports = List::new(alloc);
+    'words: for w in 0..4usize {
+        push_word(&mut ports, rows, item, w, home)?;
+    }
+    Ok(ports)
+}
+
+/// Adds the ports of one word of an item's row but for its home.
+fn push_word(
+    ports: &mut List<u32>,
+    rows: &BitRows,
+    item: usize,
+    w: usize,
+    home: u32,
+) -> Result<(), Memory>
+    requires word { w < 4 }
+    requires stride { rows.now.stride ≡ 4 }
+    requires room { item * rows.now.stride + rows.now.stride ≤ length rows.now.words }
+    requires before { ListsBelow (λ port. HasBit rows.now item port × (port ≢ home)) (64 * w) ports.old }
+    ensures { OnOk result (ListsBelow (λ port. HasBit rows.now item port × (port ≢ home)) (64 * w + 64) ports.new) }
+{
+    let word = rows.word(item, w);
+    if word == 0 {
+        return Ok(());
+    }
+    'bits: for bit in 0..64usize {
+        push_port(ports, rows, item, (64 * w + bit) as u32, home)?;
+    }
+    Ok(())
+}
+
+/// Adds the port if an item's row has it and it is not the home.
+fn push_port(
+    ports: &mut List<u32>,
+    rows: &BitRows,
+    item: usize,
+    port: u32,
+    home: u32,
+) -> Result<(), Memory>
+    requires room { item * rows.now.stride + rows.now.stride ≤ length rows.now.words }
+    requires before { ListsBelow (λ p. HasBit rows.now item p × (p ≢ home)) port ports.old }
+    ensures { OnOk result (ListsBelow (λ p. HasBit rows.now item p × (p ≢ home)) (port + 1) ports.new) }
+{
+    if port != home && rows.has(item, port as usize) {
+        ports.push(port)?;
+        Ok(())
+    } else {
+        Ok(())
+    }
+}
