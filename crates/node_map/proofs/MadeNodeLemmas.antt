@@ -1,10 +1,11 @@
 -- The nodes of a gate as they are made.
 use Rattle.std.proofs.Common.{◌≡◌, ◌∙◌, inl, inr, ℕ, zero, suc, ◌+◌, ◌<◌, ◌≤◌, nat_lt, Bool, true, false, if◌then◌else◌, List, length, refl, sym, ap, arith}
-use Rattle.std.proofs.lemmas.Bool.{cases_lt}
+use Rattle.std.proofs.lemmas.Bool.{cases_lt, le-leb, eqb-true}
 use Rattle.logic_four.specs.declared.V4.TheVariants.{Zero}
 use Rattle.logic_four.specs.declared.Kind.{Kind}
 use Rattle.logic_four.specs.declared.Kind.TheVariants.{And, Nand, Or, Nor, Xor, Xnor, Not, Buf, Tri, Bus}
-use Rattle.logic_four.specs.Gates.{AllowsOperands, IsAnyNumber}
+use Rattle.logic_four.specs.Kinds.{AllowsOperands}
+use Rattle.logic_four.proofs.KindLemmas.{some_operands, few_operands}
 use Rattle.func_table.specs.declared.table.Table.{Table}
 use Rattle.node_defs.specs.declared.groups.Group.{Group}
 use Rattle.node_defs.specs.declared.items.Feed.TheVariants.{Fixed}
@@ -50,13 +51,19 @@ pick : (b : Bool) (one other : Kind) (size : ℕ) → AllowsOperands one size �
 pick true one other size first second = first
 pick false one other size first second = second
 
-any_size : (n place : ℕ) → IsAnyNumber n → place ≤ helper_count n → IsAnyNumber (group_at n place).size
+any_from : (n : ℕ) → 1 ≤ n → n ≤ 1024 → AllowsOperands And n
+any_from n some few = rw (le-leb 1 n some) (rw (le-leb n 1024 few) refl)
+
+any_size : (n place : ℕ) → AllowsOperands And n → place ≤ helper_count n → AllowsOperands And (group_at n place).size
 any_size n place any among =
-    let shape : _ = shaped n place any.0 (omega (arith, among, some_groups n)) in
-    (shape.some, omega (arith, shape.few))
+    let shape : _ = shaped n place (some_operands And n any) (omega (arith, among, some_groups n)) in
+    any_from (group_at n place).size shape.some (omega (arith, shape.few))
 
 narrow_size : (n place : ℕ) → n ≤ 4 → place ≤ helper_count n → (group_at n place).size ≡ n
 narrow_size n place few among = ap (λ g. g.size) (one_place n place few among).2
+
+single : (n place : ℕ) → n ≡ 1 → place ≤ helper_count n → (group_at n place).size ≡ 1
+single n place one among = narrow_size n place (omega (arith, one)) among ∙ one
 
 -- a node of a gate has as many operands as its kind allows
 pub kind_allowed : (kind : Kind) (n place : ℕ) → AllowsOperands kind n → place ≤ helper_count n → AllowsOperands (node_kind kind n place) (group_at n place).size
@@ -68,27 +75,19 @@ kind_allowed Xor n place allowed among = pick (nat_lt place (helper_count n)) Xo
 kind_allowed Xnor n place allowed among = pick (nat_lt place (helper_count n)) Xor Xnor (group_at n place).size (any_size n place allowed among) (any_size n place allowed among)
 kind_allowed Bus n place allowed among = pick (nat_lt place (helper_count n)) Bus Bus (group_at n place).size (any_size n place allowed among) (any_size n place allowed among)
 kind_allowed Not n place allowed among =
-    let size : (group_at n place).size ≡ 1 = narrow_size n place (omega (arith, allowed)) among ∙ allowed in
-    pick (nat_lt place (helper_count n)) Buf Not (group_at n place).size size size
+    let size : (group_at n place).size ≡ 1 = single n place (eqb-true n 1 allowed) among in
+    pick (nat_lt place (helper_count n)) Buf Not (group_at n place).size (rw size refl) (rw size refl)
 kind_allowed Buf n place allowed among =
-    let size : (group_at n place).size ≡ 1 = narrow_size n place (omega (arith, allowed)) among ∙ allowed in
-    pick (nat_lt place (helper_count n)) Buf Buf (group_at n place).size size size
+    let size : (group_at n place).size ≡ 1 = single n place (eqb-true n 1 allowed) among in
+    pick (nat_lt place (helper_count n)) Buf Buf (group_at n place).size (rw size refl) (rw size refl)
 kind_allowed Tri n place allowed among =
-    let size : (group_at n place).size ≡ 2 = narrow_size n place (omega (arith, allowed)) among ∙ allowed in
-    pick (nat_lt place (helper_count n)) Tri Tri (group_at n place).size size size
+    let two : n ≡ 2 = eqb-true n 2 allowed in
+    let size : (group_at n place).size ≡ 2 = narrow_size n place (omega (arith, two)) among ∙ two in
+    pick (nat_lt place (helper_count n)) Tri Tri (group_at n place).size (rw size refl) (rw size refl)
 
 -- no kind allows none, or more than these
 pub some_allowed : (kind : Kind) (n : ℕ) → AllowsOperands kind n → (1 ≤ n) × (n ≤ 1024)
-some_allowed And n allowed = allowed
-some_allowed Nand n allowed = allowed
-some_allowed Or n allowed = allowed
-some_allowed Nor n allowed = allowed
-some_allowed Xor n allowed = allowed
-some_allowed Xnor n allowed = allowed
-some_allowed Bus n allowed = allowed
-some_allowed Not n allowed = (omega (arith, allowed), omega (arith, allowed))
-some_allowed Buf n allowed = (omega (arith, allowed), omega (arith, allowed))
-some_allowed Tri n allowed = (omega (arith, allowed), omega (arith, allowed))
+some_allowed kind n allowed = (some_operands kind n allowed, few_operands kind n allowed)
 
 -- the node at a place of a gate
 pub made_node : (names : List ItemName) (old tables : List Table) (late : Bool) (s : ℕ) (ops : List ℕ) (kind : Kind) (place table : ℕ) (feeds : Feeds)

@@ -2,7 +2,7 @@
 
 ghost use Rattle.std.specs.Prelude.{◌≡◌, ◌+◌, ◌^◌, ◌<◌, ◌≤◌, ℕ, length, All, Some, slice_get, OnOk, IfOk};
 ghost use Rattle.logic_four.specs.declared.V4.TheVariants.{Zero};
-ghost use Rattle.logic_four.specs.Gates.{AllowsOperands};
+ghost use Rattle.logic_four.specs.Kinds.{AllowsOperands};
 ghost use Rattle.net_defs.specs.Valid.{IsSignal};
 ghost use Rattle.net_defs.specs.Steps.{is_late};
 ghost use Rattle.node_defs.specs.declared.items.Feed.TheVariants.{Fixed};

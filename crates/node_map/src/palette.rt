@@ -1,7 +1,7 @@
 //! Tables, each made once for its kind and number of operands.
 
 ghost use Rattle.std.specs.Prelude.{◌≡◌, ◌+◌, ◌^◌, ◌<◌, ◌≤◌, ℕ, [], length, slice_get, OnOk, IfOk, IfSome};
-ghost use Rattle.logic_four.specs.Gates.{AllowsOperands};
+ghost use Rattle.logic_four.specs.Kinds.{AllowsOperands};
 ghost use Rattle.node_map.specs.Tables.{Keeps, AddsOnly, HasTable, AreMadeIn};
 
 use func_table::{Shelf, table_of};
