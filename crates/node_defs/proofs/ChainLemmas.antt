@@ -61,5 +61,5 @@ module _ {S : Type 0} (first : S) (Step : ℕ → S → S → Type 0) (next : �
     pub states_only : others ≡ states_to turns
     states_only =
         same_lists others (states_to turns) (count ∙ sym (states_count turns)) (λ k d within.
-          let inside : k < turns + 1 = rw (← count) within in
-          get_or_from_slice_get others k (state_after k) d (other_at k inside) ∙ sym (state_read turns k d inside))
+        let inside : k < turns + 1 = rw (← count) within in
+        get_or_from_slice_get others k (state_after k) d (other_at k inside) ∙ sym (state_read turns k d inside))

@@ -21,7 +21,7 @@ use Rattle.node_defs.specs.declared.items.Item.TheVariants.{Input, BlockBit, Nod
 use Rattle.node_defs.specs.declared.items.ItemName.{ItemName}
 use Rattle.node_defs.specs.declared.items.NodeNet.{NodeNet}
 use Rattle.node_defs.specs.Items.{IsNamed, wire_name, wire_tag, feed_at, IsNode, IsGateItem, IsItemOf, IsItem}
-use Rattle.node_defs.specs.Order.{class_of, rank_past, rank_of, Key, key_of, HelperBefore, Before, AreItems}
+use Rattle.node_defs.specs.Order.{class_of, rank_after_feed, rank_of, Key, key_of, HelperBefore, Before, AreItems}
 use Rattle.node_defs.proofs.MemberLemmas.{member_at, some_only}
 
 -- no more than four operands
@@ -33,7 +33,7 @@ past_four feeds (suc (suc (suc zero))) past = absurd (omega (arith, past))
 past_four feeds (suc (suc (suc (suc i)))) past = refl
 
 -- a node's rank is at least what each operand asks for
-pub rank_at_least : (first_node : ℕ) (ranks : List ℕ) (table : ℕ) (feeds : Feeds) (i : ℕ) → rank_past first_node ranks (feed_at feeds i) ≤ rank_of first_node ranks (Node table feeds)
+pub rank_at_least : (first_node : ℕ) (ranks : List ℕ) (table : ℕ) (feeds : Feeds) (i : ℕ) → rank_after_feed first_node ranks (feed_at feeds i) ≤ rank_of first_node ranks (Node table feeds)
 rank_at_least first_node ranks table feeds zero = omega arith
 rank_at_least first_node ranks table feeds (suc zero) = omega arith
 rank_at_least first_node ranks table feeds (suc (suc zero)) = omega arith
@@ -96,6 +96,41 @@ module _ (net : Netlist) (timing : Timing) (nodes : NodeNet) (are : AreItems net
     by_signal (Some signal) is =
         in_driver (is_late net timing name.0.signal) name.0.signal signal.driver name.0.helper table feeds i y tag (rw is at right) from
 
+  -- the table of a node is there
+  table_in_node : (late : Bool) (s : ℕ) (ops : List ℕ) (kind : Kind) (group : Group) (table : ℕ) (feeds : Feeds)
+      → IsNode nodes.names nodes.tables late s ops kind group (Node table feeds) → table < length nodes.tables
+  table_in_node late s ops kind group table feeds node =
+      rw (← one_table node.table node.feeds node.is) (slice_get_within nodes.tables node.table node.answers.0 node.answers.1) where
+        one_table : (t : ℕ) (f : Feeds) → Node table feeds ≡ Node t f → t ≡ table
+        one_table t f same = cc
+
+  table_in_driver : (late : Bool) (s : ℕ) (d : Driver) (helper : Option ℕ) (table : ℕ) (feeds : Feeds)
+      → IsItemOf nodes.names nodes.tables late s d helper (Node table feeds) → table < length nodes.tables
+  table_in_driver late s driver.Input helper table feeds item = absurd (clash item.1) where
+    clash : Node table feeds ≡ Input s → ⊥
+    clash same = cc
+  table_in_driver late s (driver.Dff op) helper table feeds item = absurd (clash item.1 item.3) where
+    clash : (x : ℕ) → Node table feeds ≡ Latch x → ⊥
+    clash x same = cc
+  table_in_driver late s (driver.BlockBit block bit) helper table feeds item = absurd (clash item.1) where
+    clash : Node table feeds ≡ BlockBit block bit → ⊥
+    clash same = cc
+  table_in_driver late s (driver.Gate kind ops) None table feeds item = table_in_node late s ops kind _ table feeds item
+  table_in_driver late s (driver.Gate kind ops) (Some h) table feeds item = table_in_node late s ops _ _ table feeds item.1
+
+  pub table_there : (x table : ℕ) (feeds : Feeds) → slice_get nodes.items x ≡ Some (Node table feeds) → table < length nodes.tables
+  table_there x table feeds at = by_signal (slice_get net.signals name.0.signal) refl where
+    name : (n : ItemName) × (slice_get nodes.names x ≡ Some n)
+    name = member_at nodes.names x (omega (arith, are.named, slice_get_within nodes.items x (Node table feeds) at))
+
+    right : IsItem net timing nodes.names nodes.tables name.0 (Node table feeds)
+    right = are.right x name.0 (Node table feeds) name.1 at
+
+    by_signal : (found : Option Signal) → slice_get net.signals name.0.signal ≡ found → table < length nodes.tables
+    by_signal None is = absurd (rw is at right)
+    by_signal (Some signal) is =
+        table_in_driver (is_late net timing name.0.signal) name.0.signal signal.driver name.0.helper table feeds (rw is at right)
+
   -- an operand that is taken at this turn stands before the node
   pub earlier : (x table : ℕ) (feeds : Feeds) (i y : ℕ) → slice_get nodes.items x ≡ Some (Node table feeds) → feed_at feeds i ≡ From y This → y < x
   earlier x table feeds i y at from = by_place (cases_lt y x) where
@@ -105,8 +140,8 @@ module _ (net : Netlist) (timing : Timing) (nodes : NodeNet) (are : AreItems net
     class_here : nodes.first_node ≤ x
     class_here = (are.first_node x (Node table feeds) at).0 refl
 
-    rank_here : rank_past nodes.first_node are.ranks (From y This) ≤ get_or are.ranks x 0
-    rank_here = rw (are.ranked x (Node table feeds) at) (subst (λ f. rank_past nodes.first_node are.ranks f ≤ rank_of nodes.first_node are.ranks (Node table feeds)) from (rank_at_least nodes.first_node are.ranks table feeds i))
+    rank_here : rank_after_feed nodes.first_node are.ranks (From y This) ≤ get_or are.ranks x 0
+    rank_here = rw (are.ranked x (Node table feeds) at) (subst (λ f. rank_after_feed nodes.first_node are.ranks f ≤ rank_of nodes.first_node are.ranks (Node table feeds)) from (rank_at_least nodes.first_node are.ranks table feeds i))
 
     by_place : (y < x) ⊎ (x ≤ y) → y < x
     by_place (inl before) = before
@@ -122,5 +157,5 @@ module _ (net : Netlist) (timing : Timing) (nodes : NodeNet) (are : AreItems net
           let item : (j : Item) × (slice_get nodes.items y ≡ Some j) = member_at nodes.items y there in
           let class : class_of item.0 ≡ 2 = (are.first_node y item.0 item.1).1 (omega (arith, class_here, after)) in
           let low : get_or are.ranks x 0 ≤ get_or are.ranks y 0 =
-              before_rank (key_of are.ranks x one.0 (Node table feeds)) (key_of are.ranks y other.0 item.0) (are.ordered x y one.0 other.0 (Node table feeds) item.0 past one.1 other.1 at item.1) (sym class) in
+          before_rank (key_of are.ranks x one.0 (Node table feeds)) (key_of are.ranks y other.0 item.0) (are.ordered x y one.0 other.0 (Node table feeds) item.0 past one.1 other.1 at item.1) (sym class) in
           omega (arith, low, higher)

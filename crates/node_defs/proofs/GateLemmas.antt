@@ -29,7 +29,7 @@ use Rattle.node_defs.specs.declared.items.NodeNet.{NodeNet}
 use Rattle.node_defs.specs.Groups.{groups, group_at, helper_count}
 use Rattle.node_defs.specs.Items.{own, helper_of, IsNamed, IsNode, IsItemOf, IsGateItem, helpers_of}
 use Rattle.node_defs.specs.Order.{AreItems}
-use Rattle.node_defs.specs.Values.{IsItemStep, item_value, looked_up, feed_value}
+use Rattle.node_defs.specs.Values.{IsItemStep, item_value, feed_value}
 use Rattle.node_defs.proofs.GroupLemmas.{nowhere, groups_narrow}
 use Rattle.node_defs.proofs.LevelLemmas.{wires, Helps, last_of, levels_fold, some_group}
 use Rattle.node_defs.proofs.NodeLemmas.{node_is}
@@ -139,19 +139,19 @@ module _ (net : Netlist) (timing : Timing) (nodes : NodeNet) (are : AreItems net
   operands_seen : map value (range_with_len 0 (length ops)) ≡ values_of seen_row ops
   operands_seen =
       same_lists (map value (range_with_len 0 (length ops))) (values_of seen_row ops)
-        (length-map-range_with_len value 0 (length ops) ∙ sym (length-map ops (value_at seen_row)))
-        (λ i d within. at i d (rw (← length-map-range_with_len value 0 (length ops)) within)) where
-    seen_here : (late : Bool) (t : ℕ) → t < length net.signals
-        → value_at (if late then (seen net timing nodes are old).row else (seen net timing nodes are new).row) t ≡ value_at (if late then old.row else new.row) (number net timing nodes are t)
-    seen_here true t within = seen_at net timing nodes are old t within
-    seen_here false t within = seen_at net timing nodes are new t within
+      (length-map-range_with_len value 0 (length ops) ∙ sym (length-map ops (value_at seen_row)))
+      (λ i d within. at i d (rw (← length-map-range_with_len value 0 (length ops)) within)) where
+        seen_here : (late : Bool) (t : ℕ) → t < length net.signals
+            → value_at (if late then (seen net timing nodes are old).row else (seen net timing nodes are new).row) t ≡ value_at (if late then old.row else new.row) (number net timing nodes are t)
+        seen_here true t within = seen_at net timing nodes are old t within
+        seen_here false t within = seen_at net timing nodes are new t within
 
-    at : (i : ℕ) (d : V4) → i < length ops → get_or (map value (range_with_len 0 (length ops))) i d ≡ get_or (values_of seen_row ops) i d
-    at i d within =
-        get_or-map-range_with_len value 0 (length ops) i i d within (omega arith)
-        ∙ (operand_value i within
-        ∙ (sym (seen_here (is_late net timing s) (get_or ops i 0) (All-get_or (IsSignal net) ops i 0 within there))
-        ∙ sym (get_or-map (value_at seen_row) ops i 0 d within)))
+        at : (i : ℕ) (d : V4) → i < length ops → get_or (map value (range_with_len 0 (length ops))) i d ≡ get_or (values_of seen_row ops) i d
+        at i d within =
+            get_or-map-range_with_len value 0 (length ops) i i d within (omega arith)
+            ∙ (operand_value i within
+            ∙ (sym (seen_here (is_late net timing s) (get_or ops i 0) (All-get_or (IsSignal net) ops i 0 within there))
+            ∙ sym (get_or-map (value_at seen_row) ops i 0 d within)))
 
   -- the item of the gate has the gate's value
   pub gate_seen : AllowsOperands kind (length ops)

@@ -58,7 +58,7 @@ counted_more operands helpers count many counted = with_levels counted.levels re
     enough = omega (arith, counted.enough, many, some);
     all =
         let wide : length (groups_from counted.levels counted.first count) ≡ group_count count + length (groups_from levels (counted.first + count) (group_count count)) =
-            rw some (rw (groups_wide levels counted.first count many) (rw (length-append (level_of counted.first count) (groups_from levels (counted.first + count) (group_count count))) (rw (level_length counted.first count) refl))) in
+        rw some (rw (groups_wide levels counted.first count many) (rw (length-append (level_of counted.first count) (groups_from levels (counted.first + count) (group_count count))) (rw (level_length counted.first count) refl))) in
         omega (arith, counted.all, wide);
     few = omega (arith, counted.few, many);
   }
@@ -87,13 +87,13 @@ at_next operands place first count left many past at = with_levels at.levels ref
   with_levels zero none = absurd (omega (arith, at.enough, many, none))
   with_levels (suc levels) some =
       let wide : groups_from at.levels first count ≡ level_of first count ++ groups_from levels (first + count) (group_count count) =
-          rw some (groups_wide levels first count many) in
+      rw some (groups_wide levels first count many) in
       record {
         levels = levels;
         enough = omega (arith, at.enough, many, some);
         within =
             let long : length (groups_from at.levels first count) ≡ group_count count + length (groups_from levels (first + count) (group_count count)) =
-                rw wide (rw (length-append (level_of first count) (groups_from levels (first + count) (group_count count))) (rw (level_length first count) refl)) in
+            rw wide (rw (length-append (level_of first count) (groups_from levels (first + count) (group_count count))) (rw (level_length first count) refl)) in
             omega (arith, long, at.within, past);
         same = at.same ∙ rw wide (get_or-append_right (level_of first count) (groups_from levels (first + count) (group_count count)) (group_count count) left nowhere (level_length first count) past);
         few = omega (arith, at.few, many);
@@ -107,7 +107,7 @@ found_helper operands place first count left many here at = with_levels at.level
   with_levels zero none = absurd (omega (arith, at.enough, many, none))
   with_levels (suc levels) some =
       let wide : groups_from at.levels first count ≡ level_of first count ++ groups_from levels (first + count) (group_count count) =
-          rw some (groups_wide levels first count many) in
+      rw some (groups_wide levels first count many) in
       let short : left < length (level_of first count) = rw (level_length first count) here in
       at.same ∙ rw wide (get_or_append_left (level_of first count) (groups_from levels (first + count) (group_count count)) nowhere left short) ∙ level_at first count left here
 

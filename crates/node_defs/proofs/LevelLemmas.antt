@@ -37,18 +37,18 @@ cut_whole value first count i (suc c) all =
     flat_map-cons (λ vs. vs) (wires value (group_of first count i)) (map (λ k. wires value (group_of first count k)) (range_with_len (i + 1) c))
     ∙ (ap (λ vs. wires value (group_of first count i) ++ vs) (cut_whole value first count (i + 1) c (omega (arith, all)))
     ∙ by_size (cases_lt (count - 4 * i) 4)) where
-  by_size : (count - 4 * i < 4) ⊎ (4 ≤ count - 4 * i)
-      → wires value (group_of first count i) ++ map value (range_with_len (first + 4 * (i + 1)) (count - 4 * (i + 1))) ≡ map value (range_with_len (first + 4 * i) (count - 4 * i))
-  by_size (inl few) =
-      let size : min (count - 4 * i) 4 ≡ count - 4 * i = omega (arith, few) in
-      let none : count - 4 * (i + 1) ≡ zero = omega (arith, few) in
-      rw none (rw size (append-nil (map value (range_with_len (first + 4 * i) (count - 4 * i)))))
-  by_size (inr many) =
-      let size : min (count - 4 * i) 4 ≡ 4 = omega (arith, many) in
-      let others : count - 4 * i ≡ 4 + (count - 4 * (i + 1)) = omega (arith, many) in
-      let next : first + 4 * (i + 1) ≡ (first + 4 * i) + 4 = omega arith in
-      rw size (rw next (rw others (
-        sym (ap (map value) (range_split (first + 4 * i) 4 (count - 4 * (i + 1)))
+      by_size : (count - 4 * i < 4) ⊎ (4 ≤ count - 4 * i)
+          → wires value (group_of first count i) ++ map value (range_with_len (first + 4 * (i + 1)) (count - 4 * (i + 1))) ≡ map value (range_with_len (first + 4 * i) (count - 4 * i))
+      by_size (inl few) =
+          let size : min (count - 4 * i) 4 ≡ count - 4 * i = omega (arith, few) in
+          let none : count - 4 * (i + 1) ≡ zero = omega (arith, few) in
+          rw none (rw size (append-nil (map value (range_with_len (first + 4 * i) (count - 4 * i)))))
+      by_size (inr many) =
+          let size : min (count - 4 * i) 4 ≡ 4 = omega (arith, many) in
+          let others : count - 4 * i ≡ 4 + (count - 4 * (i + 1)) = omega (arith, many) in
+          let next : first + 4 * (i + 1) ≡ (first + 4 * i) + 4 = omega arith in
+          rw size (rw next (rw others (
+          sym (ap (map value) (range_split (first + 4 * i) 4 (count - 4 * (i + 1)))
           ∙ map-append value (range_with_len (first + 4 * i) 4) (range_with_len ((first + 4 * i) + 4) (count - 4 * (i + 1)))))))
 
 -- the groups of a level have all its wires
@@ -89,19 +89,19 @@ level_values : (value : ℕ → V4) (kind : Kind) (first count : ℕ)
     → map value (range_with_len (first + count) (group_count count)) ≡ map (gate_value (base_kind kind)) (map (λ k. wires value (group_of first count k)) (range_with_len 0 (group_count count)))
 level_values value kind first count helps =
     same_lists (map value (range_with_len (first + count) (group_count count))) (map (gate_value (base_kind kind)) (map (λ k. wires value (group_of first count k)) (range_with_len 0 (group_count count))))
-        (length-map-range_with_len value (first + count) (group_count count)
-          ∙ sym (length-map (map (λ k. wires value (group_of first count k)) (range_with_len 0 (group_count count))) (gate_value (base_kind kind))
-          ∙ length-map-range_with_len (λ k. wires value (group_of first count k)) 0 (group_count count)))
-        (λ h d within. at h d (rw (← length-map-range_with_len value (first + count) (group_count count)) within)) where
-  at : (h : ℕ) (d : V4) → h < group_count count
-      → get_or (map value (range_with_len (first + count) (group_count count))) h d ≡ get_or (map (gate_value (base_kind kind)) (map (λ k. wires value (group_of first count k)) (range_with_len 0 (group_count count)))) h d
-  at h d within =
-      let short : h < length (map (λ k. wires value (group_of first count k)) (range_with_len 0 (group_count count))) =
+    (length-map-range_with_len value (first + count) (group_count count)
+    ∙ sym (length-map (map (λ k. wires value (group_of first count k)) (range_with_len 0 (group_count count))) (gate_value (base_kind kind))
+    ∙ length-map-range_with_len (λ k. wires value (group_of first count k)) 0 (group_count count)))
+    (λ h d within. at h d (rw (← length-map-range_with_len value (first + count) (group_count count)) within)) where
+      at : (h : ℕ) (d : V4) → h < group_count count
+          → get_or (map value (range_with_len (first + count) (group_count count))) h d ≡ get_or (map (gate_value (base_kind kind)) (map (λ k. wires value (group_of first count k)) (range_with_len 0 (group_count count)))) h d
+      at h d within =
+          let short : h < length (map (λ k. wires value (group_of first count k)) (range_with_len 0 (group_count count))) =
           rw (length-map-range_with_len (λ k. wires value (group_of first count k)) 0 (group_count count)) within in
-      get_or-map-range_with_len value (first + count) (group_count count) h (first + count + h) d within refl
-      ∙ (helps h within
-      ∙ sym (get_or-map (gate_value (base_kind kind)) (map (λ k. wires value (group_of first count k)) (range_with_len 0 (group_count count))) h [] d short
-      ∙ ap (gate_value (base_kind kind)) (get_or-map-range_with_len (λ k. wires value (group_of first count k)) 0 (group_count count) h h [] within (omega arith))))
+          get_or-map-range_with_len value (first + count) (group_count count) h (first + count + h) d within refl
+          ∙ (helps h within
+          ∙ sym (get_or-map (gate_value (base_kind kind)) (map (λ k. wires value (group_of first count k)) (range_with_len 0 (group_count count))) h [] d short
+          ∙ ap (gate_value (base_kind kind)) (get_or-map-range_with_len (λ k. wires value (group_of first count k)) 0 (group_count count) h h [] within (omega arith))))
 
 -- where the helpers help, the last group answers what all wires of its level answer
 pub levels_fold : (value : ℕ → V4) (kind : Kind) (levels first count : ℕ) → IsTrue (takes_many kind)

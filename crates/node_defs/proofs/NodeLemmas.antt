@@ -9,7 +9,7 @@ use Rattle.logic_four.specs.Gates.{gate_value}
 use Rattle.net_defs.specs.Time.{value_at}
 use Rattle.net_defs.specs.Steps.{State}
 use Rattle.func_table.specs.declared.table.Table.{Table}
-use Rattle.func_table.specs.Entries.{IsTableOf}
+use Rattle.std.specs.Prelude.{slice_get}
 use Rattle.node_defs.specs.declared.groups.Group.{Group}
 use Rattle.node_defs.specs.declared.items.Feed.{Feed}
 use Rattle.node_defs.specs.declared.items.Feed.TheVariants.{From, Fixed}
@@ -17,7 +17,8 @@ use Rattle.node_defs.specs.declared.items.Feeds.{Feeds}
 use Rattle.node_defs.specs.declared.items.Item.{Item}
 use Rattle.node_defs.specs.declared.items.ItemName.{ItemName}
 use Rattle.node_defs.specs.Items.{own, helper_of, IsNamed, wire_name, wire_tag, feed_at, IsNode}
-use Rattle.node_defs.specs.Values.{feed_value, looked_up}
+use Rattle.func_table.specs.Entries.{IsTableOf, looked_up}
+use Rattle.node_defs.specs.Values.{feed_value}
 use Rattle.node_defs.proofs.LevelLemmas.{wires}
 
 -- the first values of a list, where each is that of the wire at its place
@@ -28,7 +29,7 @@ front value (suc n) [] first within each = absurd (omega (arith, within))
 front value (suc n) (x ∷ xs) first within each =
     let here : x ≡ value first = each 0 (omega arith) ∙ ap value (omega arith) in
     rw here (ap (λ rest. value first ∷ rest) (front value n xs (first + 1) (omega (arith, within))
-      (λ i below. each (suc i) (omega (arith, below)) ∙ ap value (omega arith))))
+    (λ i below. each (suc i) (omega (arith, below)) ∙ ap value (omega arith))))
 
 module _ (names : List ItemName) (tables : List Table) (old new : State) (late : Bool) (s : ℕ) (ops : List ℕ) (value : ℕ → V4)
     (operand : (w x : ℕ) → w < length ops → IsNamed names x (own (get_or ops w 0)) → value_at (if late then old.row else new.row) x ≡ value w)
@@ -70,18 +71,18 @@ module _ (names : List ItemName) (tables : List Table) (old new : State) (late :
       → take group.size (feed_values node.feeds) ≡ wires value group
   feeds_are kind group item node =
       front value group.size (feed_values node.feeds) group.first (omega (arith, few_wires kind group item node)) (λ i within. at i within (few_wires kind group item node)) where
-    at : (i : ℕ) → i < group.size → group.size ≤ 4 → get_or (feed_values node.feeds) i Undef ≡ value (group.first + i)
-    at i within few = place i within (omega (arith, within, few)) ∙ (ap (feed_value old new) (node.used i within).2 ∙ feed_is (group.first + i) (node.used i within).0 (node.used i within).1) where
-      place : (k : ℕ) → k < group.size → k < 4 → get_or (feed_values node.feeds) k Undef ≡ feed_value old new (feed_at node.feeds k)
-      place zero in_group low = refl
-      place (suc zero) in_group low = refl
-      place (suc (suc zero)) in_group low = refl
-      place (suc (suc (suc zero))) in_group low = refl
-      place (suc (suc (suc (suc k)))) in_group low = absurd (omega (arith, low))
+        at : (i : ℕ) → i < group.size → group.size ≤ 4 → get_or (feed_values node.feeds) i Undef ≡ value (group.first + i)
+        at i within few = place i within (omega (arith, within, few)) ∙ (ap (feed_value old new) (node.used i within).2 ∙ feed_is (group.first + i) (node.used i within).0 (node.used i within).1) where
+          place : (k : ℕ) → k < group.size → k < 4 → get_or (feed_values node.feeds) k Undef ≡ feed_value old new (feed_at node.feeds k)
+          place zero in_group low = refl
+          place (suc zero) in_group low = refl
+          place (suc (suc zero)) in_group low = refl
+          place (suc (suc (suc zero))) in_group low = refl
+          place (suc (suc (suc (suc k)))) in_group low = absurd (omega (arith, low))
 
   -- a node answers what its kind answers over its group
   pub node_is : (kind : Kind) (group : Group) (item : Item) → (node : IsNode names tables late s ops kind group item)
-      → looked_up tables node.table (feed_value old new node.feeds.a) (feed_value old new node.feeds.b) (feed_value old new node.feeds.c) (feed_value old new node.feeds.d) ≡ gate_value kind (wires value group)
+      → looked_up (slice_get tables node.table) (feed_value old new node.feeds.a) (feed_value old new node.feeds.b) (feed_value old new node.feeds.c) (feed_value old new node.feeds.d) ≡ gate_value kind (wires value group)
   node_is kind group item node =
       rw node.answers.1 (node.answers.2 (feed_value old new node.feeds.a) (feed_value old new node.feeds.b) (feed_value old new node.feeds.c) (feed_value old new node.feeds.d)
       ∙ ap (gate_value kind) (feeds_are kind group item node))

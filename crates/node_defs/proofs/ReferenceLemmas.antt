@@ -39,13 +39,13 @@ module _ (net : Netlist) (timing : Timing) (nodes : NodeNet) (valid : IsValid ne
   first_row : (seen net timing nodes are (first_items nodes timing)).row ≡ (first_state net timing).row
   first_row =
       same_lists (map (λ s. value_at (replicate (length nodes.items) Undef) (number net timing nodes are s)) (range_with_len 0 (length net.signals))) (replicate (length net.signals) Undef)
-        (length-map-range_with_len (λ s. value_at (replicate (length nodes.items) Undef) (number net timing nodes are s)) 0 (length net.signals) ∙ sym (length-replicate (length net.signals) Undef))
-        (λ s d within. at s d (rw (← length-map-range_with_len (λ t. value_at (replicate (length nodes.items) Undef) (number net timing nodes are t)) 0 (length net.signals)) within)) where
-    at : (s : ℕ) (d : V4) → s < length net.signals
-        → get_or (map (λ t. value_at (replicate (length nodes.items) Undef) (number net timing nodes are t)) (range_with_len 0 (length net.signals))) s d ≡ get_or (replicate (length net.signals) Undef) s d
-    at s d within =
-        get_or-map-range_with_len (λ t. value_at (replicate (length nodes.items) Undef) (number net timing nodes are t)) 0 (length net.signals) s s d within (omega arith)
-        ∙ (undefined_at (length nodes.items) (number net timing nodes are s) ∙ sym (get_or-replicate (length net.signals) s Undef d within))
+      (length-map-range_with_len (λ s. value_at (replicate (length nodes.items) Undef) (number net timing nodes are s)) 0 (length net.signals) ∙ sym (length-replicate (length net.signals) Undef))
+      (λ s d within. at s d (rw (← length-map-range_with_len (λ t. value_at (replicate (length nodes.items) Undef) (number net timing nodes are t)) 0 (length net.signals)) within)) where
+        at : (s : ℕ) (d : V4) → s < length net.signals
+            → get_or (map (λ t. value_at (replicate (length nodes.items) Undef) (number net timing nodes are t)) (range_with_len 0 (length net.signals))) s d ≡ get_or (replicate (length net.signals) Undef) s d
+        at s d within =
+            get_or-map-range_with_len (λ t. value_at (replicate (length nodes.items) Undef) (number net timing nodes are t)) 0 (length net.signals) s s d within (omega arith)
+            ∙ (undefined_at (length nodes.items) (number net timing nodes are s) ∙ sym (get_or-replicate (length net.signals) s Undef d within))
 
   -- the words that a memory holds at first
   abbrev first_words : NodeBlock → List (List V4)
@@ -57,17 +57,17 @@ module _ (net : Netlist) (timing : Timing) (nodes : NodeNet) (valid : IsValid ne
   first_memories : map first_words nodes.blocks ≡ map first_memory net.blocks
   first_memories =
       same_lists (map first_words nodes.blocks) (map first_memory net.blocks)
-        (length-map nodes.blocks first_words ∙ (are.memories ∙ sym (length-map net.blocks first_memory)))
-        (λ m d within. at m d (rw (← length-map nodes.blocks first_words) within)) where
-    at : (m : ℕ) (d : List (List V4)) → m < length nodes.blocks → get_or (map first_words nodes.blocks) m d ≡ get_or (map first_memory net.blocks) m d
-    at m d within =
-        let block : (b : NodeBlock) × (slice_get nodes.blocks m ≡ Some b) = member_at nodes.blocks m within in
-        let memory : (b : Block) × (slice_get net.blocks m ≡ Some b) = member_at net.blocks m (omega (arith, within, are.memories)) in
-        let same : IsNodeBlock nodes.names memory.0 block.0 = are.blocks m memory.0 block.0 memory.1 block.1 in
-        map_at first_words nodes.blocks m block.0 d block.1
-        ∙ (ap (λ n. initial_words n (length block.0.word) (initial_value timing.init)) same.address.each
-        ∙ (ap (λ n. initial_words (length memory.0.address) n (initial_value timing.init)) same.word.each
-        ∙ sym (map_at first_memory net.blocks m memory.0 d memory.1)))
+      (length-map nodes.blocks first_words ∙ (are.memories ∙ sym (length-map net.blocks first_memory)))
+      (λ m d within. at m d (rw (← length-map nodes.blocks first_words) within)) where
+        at : (m : ℕ) (d : List (List V4)) → m < length nodes.blocks → get_or (map first_words nodes.blocks) m d ≡ get_or (map first_memory net.blocks) m d
+        at m d within =
+            let block : (b : NodeBlock) × (slice_get nodes.blocks m ≡ Some b) = member_at nodes.blocks m within in
+            let memory : (b : Block) × (slice_get net.blocks m ≡ Some b) = member_at net.blocks m (omega (arith, within, are.memories)) in
+            let same : IsNodeBlock nodes.names memory.0 block.0 = are.blocks m memory.0 block.0 memory.1 block.1 in
+            map_at first_words nodes.blocks m block.0 d block.1
+            ∙ (ap (λ n. initial_words n (length block.0.word) (initial_value timing.init)) same.address.each
+            ∙ (ap (λ n. initial_words (length memory.0.address) n (initial_value timing.init)) same.word.each
+            ∙ sym (map_at first_memory net.blocks m memory.0 d memory.1)))
 
   first_seen : seen net timing nodes are (first_items nodes timing) ≡ first_state net timing
   first_seen = ap (state_of (map first_words nodes.blocks)) first_row ∙ ap (λ ws. state_of ws (first_state net timing).row) first_memories where
@@ -87,14 +87,15 @@ module _ (net : Netlist) (timing : Timing) (nodes : NodeNet) (valid : IsValid ne
         let before : (o : State) × (slice_get values turn ≡ Some o) × (seen net timing nodes are o ≡ old) = mapped_at (seen net timing nodes are) values turn old was in
         let after : (n : State) × (slice_get values (turn + 1) ≡ Some n) × (seen net timing nodes are n ≡ new) = mapped_at (seen net timing nodes are) values (turn + 1) new is in
         subst (λ o. IsRightStep net timing stimulus (turn + 1) o new) before.2
-          (subst (λ n. IsRightStep net timing stimulus (turn + 1) (seen net timing nodes are before.0) n) after.2
-            (right_step net timing nodes valid are stimulus (turn + 1) before.0 after.0 (run.steps turn before.0 after.0 before.1 after.1)))
+        (subst (λ n. IsRightStep net timing stimulus (turn + 1) (seen net timing nodes are before.0) n) after.2
+        (right_step net timing nodes valid are stimulus (turn + 1) before.0 after.0 (run.steps turn before.0 after.0 before.1 after.1)))
 
   -- the values of the items are those of a reference simulation
   pub reference_values : (stimulus : Stimulus) (values : List State) → AreItemValues nodes timing stimulus values → AreReferenceValues net timing stimulus nodes values
   reference_values stimulus values run = record {
     states = map (seen net timing nodes are) values;
     simulation = seen_simulation stimulus values run;
+    turns = sym (length-map values (seen net timing nodes are));
     same = same;
   } where
     a_signal : (s : ℕ) (item : Item) (found : Option Signal) → slice_get net.signals s ≡ found → IsItem net timing nodes.names nodes.tables (own s) item → s < length net.signals

@@ -23,7 +23,7 @@ use Rattle.node_defs.specs.declared.items.NodeBlock.{NodeBlock}
 use Rattle.node_defs.specs.declared.items.NodeNet.{NodeNet}
 use Rattle.node_defs.specs.Items.{feed_at}
 use Rattle.node_defs.specs.Order.{AreItems}
-use Rattle.node_defs.specs.Values.{feed_value, looked_up, item_value, block_words_after, IsItemStep, first_items, AreItemValues, HaveOneRun}
+use Rattle.node_defs.specs.Values.{feed_value, item_value, block_words_after, IsItemStep, first_items, AreItemValues, HaveOneRun}
 use Rattle.node_defs.proofs.MemberLemmas.{member_at}
 use Rattle.node_defs.proofs.ChainLemmas.{states_to, states_count, states_first, states_step, states_only}
 use Rattle.node_defs.proofs.EarlierLemmas.{earlier}
@@ -44,7 +44,7 @@ module _ (net : Netlist) (timing : Timing) (nodes : NodeNet) (are : AreItems net
     value_same one other x (Latch op) at agree = refl
     value_same one other x (Node table feeds) at agree =
         let same : (i : ℕ) → feed_value old one (feed_at feeds i) ≡ feed_value old other (feed_at feeds i) =
-            λ i. feed_same one other x (feed_at feeds i) (λ y from. earlier net timing nodes are x table feeds i y at from) agree in
+        λ i. feed_same one other x (feed_at feeds i) (λ y from. earlier net timing nodes are x table feeds i y at from) agree in
         rw (same 0) (rw (same 1) (rw (same 2) (rw (same 3) refl)))
 
     -- the value of item number n, after so many values
@@ -98,7 +98,7 @@ module _ (net : Netlist) (timing : Timing) (nodes : NodeNet) (are : AreItems net
           grown_at (length nodes.items) x within
           ∙ (rw at refl
           ∙ value_same (record { row = grown x; words = old.words }) next_state x item at
-            (λ y before. grown_at x y before ∙ sym (grown_at (length nodes.items) y (omega (arith, before, within)))))
+          (λ y before. grown_at x y before ∙ sym (grown_at (length nodes.items) y (omega (arith, before, within)))))
 
       words : (m : ℕ) (block : NodeBlock) → slice_get nodes.blocks m ≡ Some block → words_of next_state m ≡ block_words_after timing turn old block (words_of old m)
       words m block at =

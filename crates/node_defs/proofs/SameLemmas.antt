@@ -1,12 +1,13 @@
 -- Two lists of items of one netlist stand in the same order and hold the same items.
-use Rattle.std.proofs.Common.{◌≡◌, ◌∙◌, ◌⊎◌, inl, inr, ℕ, zero, suc, ◌+◌, ◌<◌, ◌≤◌, nat_lt, Bool, true, false, max, if◌then◌else◌, List, [], ◌∷◌, length, get_or, take, refl, sym, ap, subst, arith}
+use Rattle.std.proofs.Common.{◌≡◌, ◌∙◌, ◌⊎◌, inl, inr, ℕ, zero, suc, ◌+◌, ◌*◌, ◌/◌, ◌%◌, ◌<◌, ◌≤◌, nat_lt, Bool, true, false, max, if◌then◌else◌, List, [], ◌∷◌, length, get_or, take, refl, sym, ap, subst, arith}
 use Rattle.std.specs.Prelude.{◌↔◌, Option, Some, None, slice_get}
-use Rattle.std.proofs.lemmas.Bool.{cases_lt, lt-ltb, le-ltb}
+use Rattle.std.proofs.lemmas.Bool.{cases_lt, cases_order, lt-ltb, le-ltb}
 use Rattle.std.proofs.lemmas.Option.{slice_get-get_or, slice_get_within, slice_get_past, get_or_from_slice_get}
 use Rattle.std.proofs.lemmas.List.{same_lists, get_or_default}
 use Rattle.logic_four.specs.declared.V4.{V4}
 use Rattle.logic_four.specs.declared.V4.TheVariants.{Zero}
 use Rattle.logic_four.specs.declared.Kind.{Kind}
+use Rattle.logic_four.specs.Values.{code_of, value_of}
 use Rattle.net_defs.specs.declared.netlist.Netlist.{Netlist}
 use Rattle.net_defs.specs.declared.netlist.Signal.{Signal}
 use Rattle.net_defs.specs.declared.netlist.Block.{Block}
@@ -28,12 +29,13 @@ use Rattle.node_defs.specs.declared.items.NodeBlock.{NodeBlock}
 use Rattle.node_defs.specs.declared.items.NodeNet.{NodeNet}
 use Rattle.node_defs.specs.Groups.{group_at, helper_count}
 use Rattle.node_defs.specs.Items.{own, IsNamed, wire_name, wire_tag, feed_at, IsNode, IsGateItem, IsItemOf, IsItem, IsAmong, helpers_of, StandFor, IsNodeBlock}
-use Rattle.node_defs.specs.Order.{class_of, rank_past, rank_of, Key, key_of, HelperBefore, Before, AreItems}
-use Rattle.node_defs.specs.Same.{AreSameTables, AreSameItem, AreSameItems}
-use Rattle.node_defs.specs.Values.{looked_up}
+use Rattle.node_defs.specs.Order.{class_of, rank_after_feed, rank_of, Key, key_of, HelperBefore, Before, AreItems}
+use Rattle.node_defs.specs.Same.{IsSameTable, AreSameItem, AreSameItems}
+use Rattle.func_table.specs.Entries.{looked_up, entry_of, entry_for, place_of, AreAlike}
+use Rattle.func_table.specs.Shelf.{AreDifferent}
 use Rattle.node_defs.proofs.MemberLemmas.{member_at, some_only, none_some}
 use Rattle.node_defs.proofs.SeenLemmas.{item_named}
-use Rattle.node_defs.proofs.EarlierLemmas.{earlier, operand_there, past_four}
+use Rattle.node_defs.proofs.EarlierLemmas.{earlier, table_there}
 
 -- lists that hold the same at each place
 lists_same : {X : Type 0} (xs ys : List X) → ((k : ℕ) → slice_get xs k ≡ slice_get ys k) → xs ≡ ys
@@ -53,6 +55,14 @@ block_of we address word = record { we = we; address = address; word = word }
 
 three_same : (we we2 : ℕ) (address address2 word word2 : List ℕ) → we ≡ we2 → address ≡ address2 → word ≡ word2 → block_of we address word ≡ block_of we2 address2 word2
 three_same we we2 address address2 word word2 p q r = rw p (rw q (rw r refl))
+
+-- the value of a code has that code
+code_of_value : (code : ℕ) → code < 4 → code_of (value_of code) ≡ code
+code_of_value zero low = refl
+code_of_value (suc zero) low = refl
+code_of_value (suc (suc zero)) low = refl
+code_of_value (suc (suc (suc zero))) low = refl
+code_of_value (suc (suc (suc (suc code)))) low = absurd (omega (arith, low))
 
 -- nothing comes both before and after another
 helper_apart : (one other : Option ℕ) → HelperBefore one other → HelperBefore other one → ⊥
@@ -116,7 +126,7 @@ module _ (net : Netlist) (timing : Timing) where
         let item : _ = item_named net timing one first x name named in
         let says : Said one name item.0 = said one name item.0 item.2 in
         second.names.whole name.signal says.signal name.helper says.at
-          (among one.names one.tables (is_late net timing name.signal) name.signal says.signal.driver name.helper item.0 says.is)
+        (among one.names one.tables (is_late net timing name.signal) name.signal says.signal.driver name.helper item.0 says.is)
 
     -- items of one name are of one class
     class_same : (name : ItemName) (i j : Item) → IsItem net timing one.names one.tables name i → IsItem net timing other.names other.tables name j → class_of i ≡ class_of j
@@ -167,26 +177,26 @@ module _ (net : Netlist) (timing : Timing) where
     -- what the operands of a node ask for is the same, where the ranks of what stands before it are
     past_same : (x : ℕ) (f g : Feed) → SameOperands f g → ((u : ℕ) → f ≡ From u This → u < x)
         → ((u v : ℕ) (name : ItemName) → u < x → IsNamed one.names u name → IsNamed other.names v name → get_or first.ranks u 0 ≡ get_or second.ranks v 0)
-        → rank_past one.first_node first.ranks f ≡ rank_past other.first_node second.ranks g
+        → rank_after_feed one.first_node first.ranks f ≡ rank_after_feed other.first_node second.ranks g
     past_same x f g same before held = by_kept same.kept where
       of_tag : (u v : ℕ) (tag : Tag) (name : ItemName) → f ≡ From u tag → IsNamed one.names u name → IsNamed other.names v name
-          → rank_past one.first_node first.ranks (From u tag) ≡ rank_past other.first_node second.ranks (From v tag)
+          → rank_after_feed one.first_node first.ranks (From u tag) ≡ rank_after_feed other.first_node second.ranks (From v tag)
       of_tag u v Last name from one_named other_named = refl
       of_tag u v This name from one_named other_named =
           rw (node_same u v name one_named other_named) (ap (λ rank. if nat_lt v other.first_node then 0 else rank + 1) (held u v name (before u from) one_named other_named))
 
       by_kept : ((v : V4) × (f ≡ Fixed v) × (g ≡ Fixed v)) ⊎ ((u v : ℕ) × (tag : Tag) × (name : ItemName) × (f ≡ From u tag) × (g ≡ From v tag) × IsNamed one.names u name × IsNamed other.names v name)
-          → rank_past one.first_node first.ranks f ≡ rank_past other.first_node second.ranks g
+          → rank_after_feed one.first_node first.ranks f ≡ rank_after_feed other.first_node second.ranks g
       by_kept (inl (v, one_is, other_is)) = rw one_is (rw other_is refl)
       by_kept (inr (u, v, tag, name, one_is, other_is, one_named, other_named)) =
-          ap (rank_past one.first_node first.ranks) one_is ∙ (of_tag u v tag name one_is one_named other_named ∙ ap (rank_past other.first_node second.ranks) (sym other_is))
+          ap (rank_after_feed one.first_node first.ranks) one_is ∙ (of_tag u v tag name one_is one_named other_named ∙ ap (rank_after_feed other.first_node second.ranks) (sym other_is))
 
     node_rank : (x t u : ℕ) (feeds others : Feeds) → slice_get one.items x ≡ Some (Node t feeds) → ((place : ℕ) → SameOperands (feed_at feeds place) (feed_at others place))
         → ((u v : ℕ) (name : ItemName) → u < x → IsNamed one.names u name → IsNamed other.names v name → get_or first.ranks u 0 ≡ get_or second.ranks v 0)
         → rank_of one.first_node first.ranks (Node t feeds) ≡ rank_of other.first_node second.ranks (Node u others)
     node_rank x t u feeds others at same held =
-        let past : (place : ℕ) → rank_past one.first_node first.ranks (feed_at feeds place) ≡ rank_past other.first_node second.ranks (feed_at others place) =
-            λ place. past_same x (feed_at feeds place) (feed_at others place) (same place) (λ y from. earlier net timing one first x t feeds place y at from) held in
+        let past : (place : ℕ) → rank_after_feed one.first_node first.ranks (feed_at feeds place) ≡ rank_after_feed other.first_node second.ranks (feed_at others place) =
+        λ place. past_same x (feed_at feeds place) (feed_at others place) (same place) (λ y from. earlier net timing one first x t feeds place y at from) held in
         rw (past 0) (rw (past 1) (rw (past 2) (rw (past 3) refl)))
 
     -- nodes over the same operands, by tables with the same entries
@@ -198,7 +208,7 @@ module _ (net : Netlist) (timing : Timing) where
       one_is : i ≡ Node t feeds
       other_is : j ≡ Node u others
       operands : (place : ℕ) → SameOperands (feed_at feeds place) (feed_at others place)
-      tables : AreSameTables one.tables other.tables t u
+      tables : IsSameTable one.tables other.tables t u
 
     -- latches of the same operand
     record SameLatches (i j : Item) : Type 0 where
@@ -230,7 +240,7 @@ module _ (net : Netlist) (timing : Timing) where
       operands = same_operands late s ops kind group i j a b;
       tables = tables;
     }) where
-      tables : AreSameTables one.tables other.tables a.table b.table
+      tables : IsSameTable one.tables other.tables a.table b.table
       tables v w x y = rw a.answers.1 (rw b.answers.1 (a.answers.2 v w x y ∙ sym (b.answers.2 v w x y)))
 
     driver_same : (late : Bool) (s : ℕ) (d : Driver) (helper : Option ℕ) (i j : Item)
@@ -249,33 +259,33 @@ module _ (net : Netlist) (timing : Timing) where
         let b : Said other name j = said other name j other_is in
         let same : b.signal ≡ a.signal = some_only b.signal a.signal (sym b.at ∙ a.at) in
         driver_same (is_late net timing name.signal) name.signal a.signal.driver name.helper i j a.is
-          (subst (λ s. IsItemOf other.names other.tables (is_late net timing name.signal) name.signal s.driver name.helper j) same b.is)
+        (subst (λ s. IsItemOf other.names other.tables (is_late net timing name.signal) name.signal s.driver name.helper j) same b.is)
 
     -- items of one name have one rank
     rank_to : (n x y : ℕ) (name : ItemName) → x < n → IsNamed one.names x name → IsNamed other.names y name → get_or first.ranks x 0 ≡ get_or second.ranks y 0
     rank_to zero x y name within one_named other_named = absurd (omega (arith, within))
     rank_to (suc n) x y name within one_named other_named =
         first.ranked x i.0 i.1 ∙ (by_same (name_same name i.0 j.0 i.2 j.2) (rank_to n) ∙ sym (second.ranked y j.0 j.1)) where
-      i : (item : Item) × (slice_get one.items x ≡ Some item) × IsItem net timing one.names one.tables name item
-      i = item_named net timing one first x name one_named
+          i : (item : Item) × (slice_get one.items x ≡ Some item) × IsItem net timing one.names one.tables name item
+          i = item_named net timing one first x name one_named
 
-      j : (item : Item) × (slice_get other.items y ≡ Some item) × IsItem net timing other.names other.tables name item
-      j = item_named net timing other second y name other_named
+          j : (item : Item) × (slice_get other.items y ≡ Some item) × IsItem net timing other.names other.tables name item
+          j = item_named net timing other second y name other_named
 
-      by_same : SameName i.0 j.0 → ((u v : ℕ) (n2 : ItemName) → u < n → IsNamed one.names u n2 → IsNamed other.names v n2 → get_or first.ranks u 0 ≡ get_or second.ranks v 0)
-          → rank_of one.first_node first.ranks i.0 ≡ rank_of other.first_node second.ranks j.0
-      by_same (inl nodes) held =
-          ap (rank_of one.first_node first.ranks) nodes.one_is
-          ∙ (node_rank x nodes.t nodes.u nodes.feeds nodes.others (i.1 ∙ ap Some nodes.one_is) nodes.operands (λ u v n2 low. held u v n2 (omega (arith, low, within)))
-          ∙ sym (ap (rank_of other.first_node second.ranks) nodes.other_is))
-      by_same (inr (inl latches)) held =
-          ap (rank_of one.first_node first.ranks) latches.one_is ∙ sym (ap (rank_of other.first_node second.ranks) latches.other_is)
-      by_same (inr (inr plain)) held = of_plain plain.plain where
-        of_plain : ((column : ℕ) × (i.0 ≡ Input column)) ⊎ ((block bit : ℕ) × (i.0 ≡ BlockBit block bit)) → rank_of one.first_node first.ranks i.0 ≡ rank_of other.first_node second.ranks j.0
-        of_plain (inl (column, is)) =
-            ap (rank_of one.first_node first.ranks) is ∙ sym (ap (rank_of other.first_node second.ranks) (sym plain.same ∙ is))
-        of_plain (inr (block, bit, is)) =
-            ap (rank_of one.first_node first.ranks) is ∙ sym (ap (rank_of other.first_node second.ranks) (sym plain.same ∙ is))
+          by_same : SameName i.0 j.0 → ((u v : ℕ) (n2 : ItemName) → u < n → IsNamed one.names u n2 → IsNamed other.names v n2 → get_or first.ranks u 0 ≡ get_or second.ranks v 0)
+              → rank_of one.first_node first.ranks i.0 ≡ rank_of other.first_node second.ranks j.0
+          by_same (inl nodes) held =
+              ap (rank_of one.first_node first.ranks) nodes.one_is
+              ∙ (node_rank x nodes.t nodes.u nodes.feeds nodes.others (i.1 ∙ ap Some nodes.one_is) nodes.operands (λ u v n2 low. held u v n2 (omega (arith, low, within)))
+              ∙ sym (ap (rank_of other.first_node second.ranks) nodes.other_is))
+          by_same (inr (inl latches)) held =
+              ap (rank_of one.first_node first.ranks) latches.one_is ∙ sym (ap (rank_of other.first_node second.ranks) latches.other_is)
+          by_same (inr (inr plain)) held = of_plain plain.plain where
+            of_plain : ((column : ℕ) × (i.0 ≡ Input column)) ⊎ ((block bit : ℕ) × (i.0 ≡ BlockBit block bit)) → rank_of one.first_node first.ranks i.0 ≡ rank_of other.first_node second.ranks j.0
+            of_plain (inl (column, is)) =
+                ap (rank_of one.first_node first.ranks) is ∙ sym (ap (rank_of other.first_node second.ranks) (sym plain.same ∙ is))
+            of_plain (inr (block, bit, is)) =
+                ap (rank_of one.first_node first.ranks) is ∙ sym (ap (rank_of other.first_node second.ranks) (sym plain.same ∙ is))
 
     -- names stand in one order in both lists
     rising : (x z y w : ℕ) (low high : ItemName) → IsNamed one.names x low → IsNamed one.names z high → IsNamed other.names y low → IsNamed other.names w high → x < z → y < w
@@ -308,8 +318,8 @@ module _ (net : Netlist) (timing : Timing) where
       by_place (inl right) anywhere = right
       by_place (inr after) (inl past) =
           absurd (apart (key_of first.ranks x low i.0) (key_of first.ranks z high k.0) one_before
-            (subst (λ a. Before (key_of first.ranks z high k.0) a) (sym low_key) (subst (λ b. Before b (key_of second.ranks y low j.0)) (sym high_key)
-              (second.ordered w y high low l.0 j.0 past other_high other_low l.1 j.1))))
+          (subst (λ a. Before (key_of first.ranks z high k.0) a) (sym low_key) (subst (λ b. Before b (key_of second.ranks y low j.0)) (sym high_key)
+          (second.ordered w y high low l.0 j.0 past other_high other_low l.1 j.1))))
       by_place (inr after) (inr not_past) =
           let here : w ≡ y = omega (arith, after, not_past) in
           let same : low ≡ high = some_only low high (sym other_low ∙ (ap (slice_get other.names) (sym here) ∙ other_high)) in
@@ -376,7 +386,7 @@ module _ (net : Netlist) (timing : Timing) (one other : NodeNet) (first : AreIte
     other_is : IsItem net timing other.names other.tables name.0 j
     other_is = second.right x name.0 j (sym (names_at x) ∙ name.1) other_at
 
-    of_nodes : (t u : ℕ) (feeds others : Feeds) → i ≡ Node t feeds → j ≡ Node u others → feeds ≡ others → AreSameTables one.tables other.tables t u → AreSameItem one.tables other.tables i j
+    of_nodes : (t u : ℕ) (feeds others : Feeds) → i ≡ Node t feeds → j ≡ Node u others → feeds ≡ others → IsSameTable one.tables other.tables t u → AreSameItem one.tables other.tables i j
     of_nodes t u feeds others i_is j_is feeds_are tables = rw i_is (rw j_is (feeds_are, tables))
 
     by_same : SameName net timing one other first second i j → AreSameItem one.tables other.tables i j
@@ -388,21 +398,77 @@ module _ (net : Netlist) (timing : Timing) (one other : NodeNet) (first : AreIte
       of_plain (inl (column, is)) = rw is (sym is ∙ plain.same)
       of_plain (inr (block, bit, is)) = rw is (sym is ∙ plain.same)
 
+  -- tables with the same entries are alike
+  alike : (s t : Table) → ((a b c d : V4) → entry_for s a b c d ≡ entry_for t a b c d) → AreAlike s t
+  unfolding entry_for
+  alike s t same e low =
+      let place : place_of (value_of (e % 4)) (value_of (e / 4 % 4)) (value_of (e / 16 % 4)) (value_of (e / 64 % 4)) ≡ e =
+      rw (code_of_value (e % 4) (omega arith)) (rw (code_of_value (e / 4 % 4) (omega arith)) (rw (code_of_value (e / 16 % 4) (omega arith)) (rw (code_of_value (e / 64 % 4) (omega arith)) (omega (arith, low))))) in
+      let entries : _ = same (value_of (e % 4)) (value_of (e / 4 % 4)) (value_of (e / 16 % 4)) (value_of (e / 64 % 4)) in
+      ap (entry_of s) (sym place) ∙ (entries ∙ ap (entry_of t) place)
+
+  -- different tables of one list differ in an entry
+  one_number : (tables : List Table) (t u : ℕ) → AreDifferent tables → t < length tables → u < length tables → IsSameTable tables tables t u → t ≡ u
+  one_number tables t u different within inside same = by_order (cases_order t u) where
+    first_of : (T : Table) × (slice_get tables t ≡ Some T)
+    first_of = member_at tables t within
+
+    second_of : (U : Table) × (slice_get tables u ≡ Some U)
+    second_of = member_at tables u inside
+
+    entries : (a b c d : V4) → entry_for first_of.0 a b c d ≡ entry_for second_of.0 a b c d
+    entries a b c d = ap (λ o. looked_up o a b c d) (sym first_of.1) ∙ (same a b c d ∙ ap (λ o. looked_up o a b c d) second_of.1)
+
+    here : get_or tables t first_of.0 ≡ first_of.0
+    here = get_or_from_slice_get tables t first_of.0 first_of.0 first_of.1
+
+    there : get_or tables u first_of.0 ≡ second_of.0
+    there = get_or_from_slice_get tables u second_of.0 first_of.0 second_of.1
+
+    by_order : (t ≡ u) ⊎ ((t < u) ⊎ (u < t)) → t ≡ u
+    by_order (inl one) = one
+    by_order (inr (inl before)) =
+        absurd (different t u first_of.0 before inside (rw here (rw there (alike first_of.0 second_of.0 entries))))
+    by_order (inr (inr after)) =
+        absurd (different u t first_of.0 after within (rw here (rw there (alike second_of.0 first_of.0 (λ a b c d. sym (entries a b c d))))))
+
+  table_of_node : (x t v : ℕ) (f h : Feeds) → slice_get one.items x ≡ Some (Node t f) → slice_get other.items x ≡ Some (Node v h) → IsSameTable one.tables other.tables t v
+  table_of_node x t v f h one_at other_at = (items_same x (Node t f) (Node v h) one_at other_at).1
+
+  sharing : (x y t u v w : ℕ) (f g h k : Feeds) → slice_get one.items x ≡ Some (Node t f) → slice_get one.items y ≡ Some (Node u g)
+      → slice_get other.items x ≡ Some (Node v h) → slice_get other.items y ≡ Some (Node w k) → (t ≡ u) ↔ (v ≡ w)
+  sharing x y t u v w f g h k one_x one_y other_x other_y = (there, back) where
+    at_x : IsSameTable one.tables other.tables t v
+    at_x = table_of_node x t v f h one_x other_x
+
+    at_y : IsSameTable one.tables other.tables u w
+    at_y = table_of_node y u w g k one_y other_y
+
+    there : t ≡ u → v ≡ w
+    there same =
+        one_number other.tables v w second.tables (table_there net timing other second x v h other_x) (table_there net timing other second y w k other_y)
+        (λ a b c d. sym (at_x a b c d) ∙ (ap (λ n. looked_up (slice_get one.tables n) a b c d) same ∙ at_y a b c d))
+
+    back : v ≡ w → t ≡ u
+    back same =
+        one_number one.tables t u first.tables (table_there net timing one first x t f one_x) (table_there net timing one first y u g one_y)
+        (λ a b c d. at_x a b c d ∙ (ap (λ n. looked_up (slice_get other.tables n) a b c d) same ∙ sym (at_y a b c d)))
+
   numbers_same : (numbers others signals : List ℕ) → StandFor one.names numbers signals → StandFor other.names others signals → numbers ≡ others
   numbers_same numbers others signals a b =
       same_lists numbers others (a.each ∙ sym b.each) (λ k d within.
-        let inside : k < length signals = omega (arith, within, a.each) in
-        let at : slice_get signals k ≡ Some (get_or signals k 0) = slice_get-get_or signals k 0 inside in
-        get_or_default numbers k d 0 within
-        ∙ (one_place (get_or numbers k 0) (get_or others k 0) (own (get_or signals k 0)) (a.named k (get_or signals k 0) at) (b.named k (get_or signals k 0) at)
-        ∙ get_or_default others k 0 d (omega (arith, inside, b.each))))
+      let inside : k < length signals = omega (arith, within, a.each) in
+      let at : slice_get signals k ≡ Some (get_or signals k 0) = slice_get-get_or signals k 0 inside in
+      get_or_default numbers k d 0 within
+      ∙ (one_place (get_or numbers k 0) (get_or others k 0) (own (get_or signals k 0)) (a.named k (get_or signals k 0) at) (b.named k (get_or signals k 0) at)
+      ∙ get_or_default others k 0 d (omega (arith, inside, b.each))))
 
   block_same : (memory : Block) (block others : NodeBlock) → IsNodeBlock one.names memory block → IsNodeBlock other.names memory others → block ≡ others
   block_same memory block others a b =
       three_same block.we others.we block.address others.address block.word others.word
-        (one_place block.we others.we (own memory.we) a.we b.we)
-        (numbers_same block.address others.address memory.address a.address b.address)
-        (numbers_same block.word others.word memory.word a.word b.word)
+      (one_place block.we others.we (own memory.we) a.we b.we)
+      (numbers_same block.address others.address memory.address a.address b.address)
+      (numbers_same block.word others.word memory.word a.word b.word)
 
   blocks_same : one.blocks ≡ other.blocks
   blocks_same = same_lists one.blocks other.blocks (first.memories ∙ sym second.memories) (λ m d within.
@@ -419,19 +485,20 @@ nodes_no_earlier net timing one other first second = by_place (cases_lt other.fi
   by_place : (other.first_node < one.first_node) ⊎ (one.first_node ≤ other.first_node) → one.first_node ≤ other.first_node
   by_place (inr right) = right
   by_place (inl low) =
-      let inside : other.first_node < length one.names = omega (arith, low, first.nodes_from, first.named) in
+      let inside : other.first_node < length one.names = omega (arith, low, first.first_node_within, first.named) in
       let name : (n : ItemName) × (slice_get one.names other.first_node ≡ Some n) = member_at one.names other.first_node inside in
       let same : nat_lt other.first_node one.first_node ≡ nat_lt other.first_node other.first_node =
-          node_same net timing one other first second other.first_node other.first_node name.0 name.1 (sym (names_at net timing one other first second other.first_node) ∙ name.1) in
+      node_same net timing one other first second other.first_node other.first_node name.0 name.1 (sym (names_at net timing one other first second other.first_node) ∙ name.1) in
       absurd (clash (sym (lt-ltb other.first_node one.first_node low) ∙ (same ∙ le-ltb other.first_node other.first_node (omega arith)))) where
-    clash : true ≡ false → ⊥
-    clash same = cc
+        clash : true ≡ false → ⊥
+        clash same = cc
 
 pub one_list : (net : Netlist) (timing : Timing) (one other : NodeNet) → AreItems net timing one → AreItems net timing other → AreSameItems one other
 one_list net timing one other first second = record {
   names = names_same net timing one other first second;
   count = count_same net timing one other first second;
   items = items_same net timing one other first second;
+  sharing = sharing net timing one other first second;
   printed = numbers_same net timing one other first second one.printed other.printed net.printed first.printed second.printed;
   blocks = blocks_same net timing one other first second;
   first_node = ends (nodes_no_earlier net timing one other first second) (nodes_no_earlier net timing other one second first);

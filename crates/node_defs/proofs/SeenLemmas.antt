@@ -72,17 +72,17 @@ module _ (net : Netlist) (timing : Timing) (nodes : NodeNet) (are : AreItems net
       → values_of state.row numbers ≡ values_of (seen state).row signals
   seen_values state numbers signals there stand =
       same_lists (values_of state.row numbers) (values_of (seen state).row signals)
-        (length-map numbers (value_at state.row) ∙ (stand.each ∙ sym (length-map signals (value_at (seen state).row))))
-        (λ i d within. at i d (rw (← length-map numbers (value_at state.row)) within)) where
-    at : (i : ℕ) (d : V4) → i < length numbers → get_or (values_of state.row numbers) i d ≡ get_or (values_of (seen state).row signals) i d
-    at i d within =
-        let there_too : i < length signals = rw (← stand.each) within in
-        let inside : get_or signals i 0 < length net.signals = All-get_or (IsSignal net) signals i 0 there_too there in
-        let here : number (get_or signals i 0) ≡ get_or numbers i 0 = number_is (get_or signals i 0) (get_or numbers i 0) (stand.named i (get_or signals i 0) (slice_get-get_or signals i 0 there_too)) in
-        get_or-map (value_at state.row) numbers i 0 d within
-        ∙ (ap (value_at state.row) (sym here)
-        ∙ (sym (seen_at state (get_or signals i 0) inside)
-        ∙ sym (get_or-map (value_at (seen state).row) signals i 0 d there_too)))
+      (length-map numbers (value_at state.row) ∙ (stand.each ∙ sym (length-map signals (value_at (seen state).row))))
+      (λ i d within. at i d (rw (← length-map numbers (value_at state.row)) within)) where
+        at : (i : ℕ) (d : V4) → i < length numbers → get_or (values_of state.row numbers) i d ≡ get_or (values_of (seen state).row signals) i d
+        at i d within =
+            let there_too : i < length signals = rw (← stand.each) within in
+            let inside : get_or signals i 0 < length net.signals = All-get_or (IsSignal net) signals i 0 there_too there in
+            let here : number (get_or signals i 0) ≡ get_or numbers i 0 = number_is (get_or signals i 0) (get_or numbers i 0) (stand.named i (get_or signals i 0) (slice_get-get_or signals i 0 there_too)) in
+            get_or-map (value_at state.row) numbers i 0 d within
+            ∙ (ap (value_at state.row) (sym here)
+            ∙ (sym (seen_at state (get_or signals i 0) inside)
+            ∙ sym (get_or-map (value_at (seen state).row) signals i 0 d there_too)))
 
   -- so of one signal
   pub seen_value : (state : State) (x s : ℕ) → s < length net.signals → IsNamed nodes.names x (own s) → value_at state.row x ≡ value_at (seen state).row s

@@ -42,11 +42,11 @@ module _ (net : Netlist) (timing : Timing) (nodes : NodeNet) (valid : IsValid ne
   act_seen state m memory block words is there =
       let same : IsNodeBlock nodes.names memory block = are.blocks m memory block is there in
       ap (λ v. memory_act words v (values_of state.row block.address) (values_of state.row block.word))
-        (seen_value net timing nodes are state block.we memory.we (valid.memories m memory is).enable same.we)
+      (seen_value net timing nodes are state block.we memory.we (valid.memories m memory is).enable same.we)
       ∙ (ap (λ vs. memory_act words (value_at (seen net timing nodes are state).row memory.we) vs (values_of state.row block.word))
-        (seen_values net timing nodes are state block.address memory.address (valid.memories m memory is).address same.address)
+      (seen_values net timing nodes are state block.address memory.address (valid.memories m memory is).address same.address)
       ∙ ap (λ vs. memory_act words (value_at (seen net timing nodes are state).row memory.we) (values_of (seen net timing nodes are state).row memory.address) vs)
-        (seen_values net timing nodes are state block.word memory.word (valid.memories m memory is).word same.word))
+      (seen_values net timing nodes are state block.word memory.word (valid.memories m memory is).word same.word))
 
   -- the memory of this number, by its items
   block_here : (m : ℕ) → m < length net.blocks → (block : NodeBlock) × (slice_get nodes.blocks m ≡ Some block)
@@ -122,7 +122,7 @@ module _ (net : Netlist) (timing : Timing) (nodes : NodeNet) (valid : IsValid ne
       words_seen m memory is =
           let there : (block : NodeBlock) × (slice_get nodes.blocks m ≡ Some block) = block_here m (slice_get_within net.blocks m memory is) in
           step.words m there.0 there.1 ∙ act_words there.0 there.1 where
-        act_words : (block : NodeBlock) → slice_get nodes.blocks m ≡ Some block
-            → block_words_after timing turn old block (words_of old m) ≡ words_after timing turn (seen net timing nodes are old) memory (words_of old m)
-        act_words block there =
-            ap (λ act. if is_edge timing.units turn then act.words else words_of old m) (act_seen old m memory block (words_of old m) is there)
+            act_words : (block : NodeBlock) → slice_get nodes.blocks m ≡ Some block
+                → block_words_after timing turn old block (words_of old m) ≡ words_after timing turn (seen net timing nodes are old) memory (words_of old m)
+            act_words block there =
+                ap (λ act. if is_edge timing.units turn then act.words else words_of old m) (act_seen old m memory block (words_of old m) is there)

@@ -14,7 +14,8 @@ group_of first count i = record { first = first + 4 * i; size = min (count - 4 *
 
 -- the groups of a level of so many wires from the first one on, and those of the levels after it. Of
 -- more than four wires each group is a helper, and the helpers are the wires of the next level; at
--- most four feed the gate's own node. The first number is enough levels.
+-- most four feed the gate's own node. The first number bounds the levels; the number of operands is
+-- always enough.
 unfoldable pub groups_from : ℕ → ℕ → ℕ → List Group
 groups_from zero first count = record { first = first; size = count } ∷ []
 groups_from (suc levels) first count =

@@ -22,11 +22,11 @@ class_of (BlockBit block bit) = 1
 class_of (Node table feeds) = 2
 class_of (Latch op) = 2
 
--- the least rank of what takes this operand: one more than that of a node of this turn, and else 0
-abbrev pub rank_past : ℕ → List ℕ → Feed → ℕ
-rank_past first_node ranks (From x Last) = 0
-rank_past first_node ranks (From x This) = if nat_lt x first_node then 0 else slice_index ranks x + 1
-rank_past first_node ranks (Fixed v) = 0
+-- the least rank of what takes this operand: one more than that of a node or latch of this turn, and else 0
+abbrev pub rank_after_feed : ℕ → List ℕ → Feed → ℕ
+rank_after_feed first_node ranks (From x Last) = 0
+rank_after_feed first_node ranks (From x This) = if nat_lt x first_node then 0 else slice_index ranks x + 1
+rank_after_feed first_node ranks (Fixed v) = 0
 
 -- the rank of an item: of a node one more than the greatest rank of the nodes and latches whose
 -- values of this turn it takes, and 0 where there is none; of all else 0
@@ -35,7 +35,7 @@ rank_of first_node ranks (Input column) = 0
 rank_of first_node ranks (BlockBit block bit) = 0
 rank_of first_node ranks (Latch op) = 0
 rank_of first_node ranks (Node table feeds) =
-    max (max (rank_past first_node ranks feeds.a) (rank_past first_node ranks feeds.b)) (max (rank_past first_node ranks feeds.c) (rank_past first_node ranks feeds.d))
+    max (max (rank_after_feed first_node ranks feeds.a) (rank_after_feed first_node ranks feeds.b)) (max (rank_after_feed first_node ranks feeds.c) (rank_after_feed first_node ranks feeds.d))
 
 -- by what items are ordered
 pub record Key : Type 0 where
@@ -70,7 +70,7 @@ pub record AreItems (net : Netlist) (timing : Timing) (nodes : NodeNet) : Type 0
   pub ranked : (x : ℕ) (item : Item) → slice_get nodes.items x ≡ Some item → slice_index ranks x ≡ rank_of nodes.first_node ranks item
   pub ordered : (x y : ℕ) (one other : ItemName) (i j : Item) → x < y → IsNamed nodes.names x one → IsNamed nodes.names y other → slice_get nodes.items x ≡ Some i → slice_get nodes.items y ≡ Some j → Before (key_of ranks x one i) (key_of ranks y other j)
   pub first_node : (x : ℕ) (item : Item) → slice_get nodes.items x ≡ Some item → (class_of item ≡ 2) ↔ (nodes.first_node ≤ x)
-  pub nodes_from : nodes.first_node ≤ length nodes.items
+  pub first_node_within : nodes.first_node ≤ length nodes.items
   -- no two tables are equal, and each is of some node
   pub tables : AreDifferent nodes.tables
   pub tables_used : (t : ℕ) → t < length nodes.tables → (x : ℕ) × (feeds : Feeds) × (slice_get nodes.items x ≡ Some (Node t feeds))

@@ -11,8 +11,7 @@ use Rattle.net_defs.specs.declared.stimulus.Stimulus.{Stimulus}
 use Rattle.net_defs.specs.Time.{turn_count, is_edge, initial_value, value_at, input_at}
 use Rattle.net_defs.specs.Steps.{State, registered, values_of, words_of}
 use Rattle.net_defs.specs.Reference.{IsSimulation}
-use Rattle.func_table.specs.declared.table.Table.{Table}
-use Rattle.func_table.specs.Entries.{entry_for}
+use Rattle.func_table.specs.Entries.{looked_up}
 use Rattle.node_defs.specs.declared.items.Tag.TheVariants.{This, Last}
 use Rattle.node_defs.specs.declared.items.Feed.{Feed}
 use Rattle.node_defs.specs.declared.items.Feed.TheVariants.{From, Fixed}
@@ -41,20 +40,13 @@ feed_value old new (From x This) = value_at new.row x
 feed_value old new (From x Last) = value_at old.row x
 feed_value old new (Fixed v) = v
 
--- the entry of the table of this number for four operands
-abbrev pub looked_up : List Table → ℕ → V4 → V4 → V4 → V4 → V4
-looked_up tables t a b c d = of_table (slice_get tables t) where
-  of_table : Option Table → V4
-  of_table None = Undef
-  of_table (Some table) = entry_for table a b c d
-
 -- the value that an item has after a turn from the state old to the state new
 abbrev pub item_value : NodeNet → Timing → Stimulus → ℕ → State → State → ℕ → Item → V4
 item_value nodes timing stimulus turn old new x (Input column) = input_at timing stimulus turn column
 item_value nodes timing stimulus turn old new x (BlockBit block bit) =
     registered timing turn (block_bit nodes old block bit) (value_at old.row x)
 item_value nodes timing stimulus turn old new x (Node table feeds) =
-    looked_up nodes.tables table (feed_value old new feeds.a) (feed_value old new feeds.b) (feed_value old new feeds.c) (feed_value old new feeds.d)
+    looked_up (slice_get nodes.tables table) (feed_value old new feeds.a) (feed_value old new feeds.b) (feed_value old new feeds.c) (feed_value old new feeds.d)
 item_value nodes timing stimulus turn old new x (Latch op) =
     registered timing turn (settled (value_at old.row op)) (value_at old.row x)
 
@@ -94,4 +86,5 @@ pub record HaveOneRun (nodes : NodeNet) (timing : Timing) (stimulus : Stimulus) 
 pub record AreReferenceValues (net : Netlist) (timing : Timing) (stimulus : Stimulus) (nodes : NodeNet) (values : List State) : Type 0 where
   pub states : List State
   pub simulation : IsSimulation net timing stimulus states
+  pub turns : length values ≡ length states
   pub same : (turn : ℕ) (items signals : State) (x s : ℕ) → slice_get values turn ≡ Some items → slice_get states turn ≡ Some signals → IsNamed nodes.names x (own s) → value_at items.row x ≡ value_at signals.row s

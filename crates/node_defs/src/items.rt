@@ -32,7 +32,8 @@ pub struct Feeds {
 }
 
 /// An item. Items are numbered from 0: the inputs, then the memory outputs, both in signal order,
-/// then nodes and latches, each after all whose values of this turn it takes.
+/// then nodes and latches by rank, then by the signal of their gate or register, then by the number of
+/// the helper, a gate's own node last. So each stands after all whose values of this turn it takes.
 #[derive(Clone, Copy, Debug, PartialEq, Eq)]
 pub enum Item {
     /// The input of this column of the stimulus, counted from 0.
@@ -41,7 +42,7 @@ pub enum Item {
     BlockBit { block: u32, bit: u32 },
     /// A gate of at most four operands, or a part of a wider one, by the number of its table.
     Node { table: u32, feeds: Feeds },
-    /// A register (DFF) of the item `op`.
+    /// A register (DFF) of the item `op`, whose value of the last turn it takes at an edge.
     Latch { op: u32 },
 }
 
@@ -54,8 +55,8 @@ pub struct ItemName {
     pub helper: Option<u32>,
 }
 
-/// A memory by the numbers of the items that it reads, bit 0 first: the write enable, 1 to 16 address
-/// bits and 1 to 64 data bits.
+/// A memory by the numbers of the items that it reads at an edge, of which it takes the values of the
+/// last turn, bit 0 first: the write enable, 1 to 16 address bits and 1 to 64 data bits.
 #[derive(Drop)]
 pub struct NodeBlock {
     pub we: u32,

@@ -22,7 +22,7 @@ use Rattle.node_defs.specs.declared.items.ItemName.{ItemName}
 use Rattle.node_defs.specs.declared.items.NodeBlock.{NodeBlock}
 use Rattle.node_defs.specs.Groups.{groups, group_at, helper_count}
 use Rattle.node_defs.specs.Items.{own, IsNamed, wire_name, wire_tag, feed_at, IsNode, IsGateItem, IsItemOf, IsItem, helpers_of, IsAmong, StandFor}
-use Rattle.node_defs.specs.Order.{class_of, rank_past, rank_of, key_of, HelperBefore, Before, AreItems}
+use Rattle.node_defs.specs.Order.{class_of, rank_after_feed, rank_of, key_of, HelperBefore, Before, AreItems}
 use Rattle.node_defs.proofs.MemberLemmas.{mapped_at, some_only}
 use Rattle.node_map.specs.declared.keys.Key.{Key}
 use Rattle.node_map.specs.Wires.{operands_of, helpers_at, class_of_driver, class_at, past_of, most_of, pasts_to, pasts_of, rank_at, AreOwnRanks}
@@ -132,7 +132,7 @@ module _ (net : Netlist) (timing : Timing) (ranks_own : List ℕ) (keys : List K
         ((λ is. (nodes_at x k.0 k.1).0 (class ∙ is)), (λ past. sym class ∙ (nodes_at x k.0 k.1).1 past)),
       )
 
-  operand_past : (op x : ℕ) → IsNamed names x (own op) → rank_past first_node ranks (From x This) ≡ past_of net ranks_own false op
+  operand_past : (op x : ℕ) → IsNamed names x (own op) → rank_after_feed first_node ranks (From x This) ≡ past_of net ranks_own false op
   operand_past op x named =
       let k : _ = named_rank x op None named in
       let is : get_or ranks x 0 ≡ get_or ranks_own op 0 = k.0 ∙ sym (own_are.ranks op) in
@@ -165,7 +165,7 @@ module _ (net : Netlist) (timing : Timing) (ranks_own : List ℕ) (keys : List K
     place_low : place < length (groups (length ops))
     place_low = omega (arith, among, some_groups (length ops))
 
-    wire_past : (w x : ℕ) → w < length ops + place → IsNamed names x (wire_name s ops w) → rank_past first_node ranks (From x (wire_tag late ops w)) ≡ get_or pasts w 0
+    wire_past : (w x : ℕ) → w < length ops + place → IsNamed names x (wire_name s ops w) → rank_after_feed first_node ranks (From x (wire_tag late ops w)) ≡ get_or pasts w 0
     wire_past w x within named = elim (cases_lt w (length ops)) [
       | inl h ↦
           let test : nat_lt w (length ops) ≡ true = lt-ltb w (length ops) h in
@@ -182,11 +182,11 @@ module _ (net : Netlist) (timing : Timing) (ranks_own : List ℕ) (keys : List K
           let node : nat_lt x first_node ≡ false = le-ltb x first_node (k.1.0 gate) in
           rw test (of_tag late x ∙ rw node (omega (arith, k.0, entry, same, added_is (length ops) operands (w - length ops))))
     ] where
-      of_late : (b : Bool) (op : ℕ) → IsNamed names x (own op) → rank_past first_node ranks (From x (if b && true then Last else This)) ≡ past_of net ranks_own b op
+      of_late : (b : Bool) (op : ℕ) → IsNamed names x (own op) → rank_after_feed first_node ranks (From x (if b && true then Last else This)) ≡ past_of net ranks_own b op
       of_late true op is = refl
       of_late false op is = operand_past op x is
 
-      of_tag : (b : Bool) (y : ℕ) → rank_past first_node ranks (From y (if b && false then Last else This)) ≡ rank_past first_node ranks (From y This)
+      of_tag : (b : Bool) (y : ℕ) → rank_after_feed first_node ranks (From y (if b && false then Last else This)) ≡ rank_after_feed first_node ranks (From y This)
       of_tag true y = refl
       of_tag false y = refl
 
@@ -198,9 +198,9 @@ module _ (net : Netlist) (timing : Timing) (ranks_own : List ℕ) (keys : List K
         (λ i within. sym (pasts_before (length ops) operands place (length (groups (length ops))) ((group_at (length ops) place).first + i) (omega (arith, place_low)) (omega (arith, within, ends, wires)))) in
         let entry : get_or pasts (length ops + place) 0 ≡ added (length ops) operands place =
         ap (λ v. get_or pasts v 0) (omega (arith, wires)) ∙ past_helper (length ops) operands (length (groups (length ops))) place place_low in
-        let greatest : _ = four pasts (group_at (length ops) place).first (group_at (length ops) place).size (λ i. rank_past first_node ranks (feed_at node.feeds i)) (group_few (length ops) place place_low)
-        (λ i within. ap (rank_past first_node ranks) (node.used i within).2 ∙ wire_past ((group_at (length ops) place).first + i) (node.used i within).0 (omega (arith, within, ends)) (node.used i within).1)
-        (λ i past. ap (rank_past first_node ranks) (node.unused i past)) in
+        let greatest : _ = four pasts (group_at (length ops) place).first (group_at (length ops) place).size (λ i. rank_after_feed first_node ranks (feed_at node.feeds i)) (group_few (length ops) place place_low)
+        (λ i within. ap (rank_after_feed first_node ranks) (node.used i within).2 ∙ wire_past ((group_at (length ops) place).first + i) (node.used i within).0 (omega (arith, within, ends)) (node.used i within).1)
+        (λ i past. ap (rank_after_feed first_node ranks) (node.unused i past)) in
         let rank : get_or pasts (length ops + place) 0 - 1 ≡ most_of pasts (group_at (length ops) place).first (group_at (length ops) place).size = omega (arith, entry, added_is (length ops) operands place, most) in
         rank ∙ (sym greatest ∙ sym (ap (rank_of first_node ranks) node.is))
 
@@ -335,7 +335,7 @@ module _ (net : Netlist) (timing : Timing) (ranks_own : List ℕ) (keys : List K
     ranked = ranked;
     ordered = ordered;
     first_node = first_of;
-    nodes_from = omega (arith, first_within, made.long);
+    first_node_within = omega (arith, first_within, made.long);
     tables = different;
     tables_used = made.used;
     printed = stand;
