@@ -1,5 +1,5 @@
 -- The own node of a gate has what the gate answers for its operands.
-use Rattle.std.proofs.Common.{◌≡◌, ◌∙◌, ◌⊎◌, inl, inr, ℕ, zero, suc, ◌+◌, ◌-◌, ◌<◌, ◌≤◌, nat_lt, Bool, true, false, if◌then◌else◌, IsTrue, List, [], ◌∷◌, length, map, get_or, refl, sym, ap, arith}
+use Rattle.std.proofs.Common.{◌≡◌, ◌∙◌, ◌⊎◌, inl, inr, ℕ, ◌+◌, ◌-◌, ◌<◌, ◌≤◌, nat_lt, Bool, true, false, if◌then◌else◌, IsTrue, List, length, map, get_or, refl, sym, ap, arith}
 use Rattle.std.specs.Prelude.{Option, Some, None, slice_get, All}
 use Rattle.std.specs.List.{range_with_len}
 use Rattle.std.proofs.lemmas.Bool.{cases_lt, lt-ltb, le-ltb, eqb-true}
@@ -7,7 +7,6 @@ use Rattle.std.proofs.lemmas.List.{same_lists, length-map, get_or-map}
 use Rattle.std.proofs.lemmas.List.Elements.{All-get_or}
 use Rattle.std.proofs.lemmas.List.FromFn.{length-map-range_with_len, get_or-map-range_with_len}
 use Rattle.logic_four.specs.declared.V4.{V4}
-use Rattle.logic_four.specs.declared.V4.TheVariants.{Undef}
 use Rattle.logic_four.specs.declared.Kind.{Kind}
 use Rattle.logic_four.specs.declared.Kind.TheVariants.{And, Nand, Or, Nor, Xor, Xnor, Not, Buf, Tri, Bus}
 use Rattle.logic_four.specs.Gates.{gate_value}
@@ -15,7 +14,6 @@ use Rattle.logic_four.specs.Kinds.{AllowsOperands}
 use Rattle.logic_four.specs.Folds.{takes_many, base_kind}
 use Rattle.net_defs.specs.declared.netlist.Netlist.{Netlist}
 use Rattle.net_defs.specs.declared.netlist.Signal.{Signal}
-use Rattle.net_defs.specs.declared.netlist.Driver.{Driver}
 use Rattle.net_defs.specs.declared.netlist.Driver.TheVariants as driver
 use Rattle.net_defs.specs.declared.timing.Timing.{Timing}
 use Rattle.net_defs.specs.declared.stimulus.Stimulus.{Stimulus}
@@ -24,14 +22,13 @@ use Rattle.net_defs.specs.Steps.{State, is_late, values_of}
 use Rattle.net_defs.specs.Valid.{IsSignal}
 use Rattle.node_defs.specs.declared.groups.Group.{Group}
 use Rattle.node_defs.specs.declared.items.Item.{Item}
-use Rattle.node_defs.specs.declared.items.Item.TheVariants.{Node}
 use Rattle.node_defs.specs.declared.items.NodeNet.{NodeNet}
 use Rattle.node_defs.specs.Groups.{groups, group_at, helper_count}
-use Rattle.node_defs.specs.Items.{own, helper_of, IsNamed, IsNode, IsItemOf, IsGateItem, helpers_of}
+use Rattle.node_defs.specs.Items.{own, helper_of, IsNamed, IsNode, IsGateItem}
 use Rattle.node_defs.specs.Order.{AreItems}
-use Rattle.node_defs.specs.Values.{IsItemStep, item_value, feed_value}
-use Rattle.node_defs.proofs.GroupLemmas.{nowhere, groups_narrow}
-use Rattle.node_defs.proofs.LevelLemmas.{wires, Helps, last_of, levels_fold, some_group}
+use Rattle.node_defs.specs.Values.{IsItemStep, item_value}
+use Rattle.node_defs.proofs.GroupLemmas.{groups_narrow}
+use Rattle.node_defs.proofs.LevelLemmas.{wires, Helps, levels_fold}
 use Rattle.node_defs.proofs.NodeLemmas.{node_is}
 use Rattle.node_defs.proofs.SeenLemmas.{item_named, item_of_signal, number, number_is, number_named, seen, seen_at}
 

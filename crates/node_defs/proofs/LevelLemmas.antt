@@ -5,11 +5,11 @@ use Rattle.std.specs.List.{range_with_len, flat_map}
 use Rattle.std.proofs.lemmas.Bool.{cases_lt}
 use Rattle.std.proofs.lemmas.List.{length-append, length-map, get_or_append_left, get_or-append-add, map-append, append-nil, same_lists, get_or-map}
 use Rattle.std.proofs.lemmas.List.Concat.{flat_map-cons}
-use Rattle.std.proofs.lemmas.List.FromFn.{length-range_with_len, length-map-range_with_len, get_or-map-range_with_len}
+use Rattle.std.proofs.lemmas.List.FromFn.{length-map-range_with_len, get_or-map-range_with_len}
 use Rattle.logic_four.specs.declared.V4.{V4}
 use Rattle.logic_four.specs.declared.Kind.{Kind}
 use Rattle.logic_four.specs.Gates.{gate_value}
-use Rattle.logic_four.specs.Folds.{takes_many, base_kind, JoinsGroups}
+use Rattle.logic_four.specs.Folds.{takes_many, base_kind}
 use Rattle.logic_four.proofs.FoldLemmas.{groups}
 use Rattle.node_defs.specs.declared.groups.Group.{Group}
 use Rattle.node_defs.specs.Groups.{group_count, group_of, groups_from}

@@ -1,5 +1,5 @@
 -- A node answers what its kind answers over the wires of its group.
-use Rattle.std.proofs.Common.{◌≡◌, ◌∙◌, ◌⊎◌, inl, inr, ℕ, zero, suc, ◌+◌, ◌-◌, ◌<◌, ◌≤◌, nat_lt, Bool, true, false, if◌then◌else◌, List, [], ◌∷◌, length, map, take, get_or, refl, sym, ap, arith}
+use Rattle.std.proofs.Common.{◌≡◌, ◌∙◌, ◌⊎◌, inl, inr, ℕ, zero, suc, ◌+◌, ◌-◌, ◌<◌, ◌≤◌, nat_lt, Bool, true, false, if◌then◌else◌, List, [], ◌∷◌, length, map, take, get_or, refl, ap, arith}
 use Rattle.std.specs.List.{range_with_len}
 use Rattle.std.proofs.lemmas.Bool.{cases_lt, lt-ltb, le-ltb}
 use Rattle.logic_four.specs.declared.V4.{V4}
@@ -11,13 +11,12 @@ use Rattle.net_defs.specs.Steps.{State}
 use Rattle.func_table.specs.declared.table.Table.{Table}
 use Rattle.std.specs.Prelude.{slice_get}
 use Rattle.node_defs.specs.declared.groups.Group.{Group}
-use Rattle.node_defs.specs.declared.items.Feed.{Feed}
 use Rattle.node_defs.specs.declared.items.Feed.TheVariants.{From, Fixed}
 use Rattle.node_defs.specs.declared.items.Feeds.{Feeds}
 use Rattle.node_defs.specs.declared.items.Item.{Item}
 use Rattle.node_defs.specs.declared.items.ItemName.{ItemName}
 use Rattle.node_defs.specs.Items.{own, helper_of, IsNamed, wire_name, wire_tag, feed_at, IsNode}
-use Rattle.func_table.specs.Entries.{IsTableOf, looked_up}
+use Rattle.func_table.specs.Entries.{looked_up}
 use Rattle.node_defs.specs.Values.{feed_value}
 use Rattle.node_defs.proofs.LevelLemmas.{wires}
 

@@ -1,10 +1,10 @@
 -- The values of the items, as the signals see them, are the reference simulation.
-use Rattle.std.proofs.Common.{◌≡◌, ◌∙◌, ◌⊎◌, inl, inr, ℕ, zero, suc, ◌+◌, ◌<◌, ◌≤◌, List, [], ◌∷◌, length, map, get_or, replicate, refl, sym, ap, subst, arith}
+use Rattle.std.proofs.Common.{◌≡◌, ◌∙◌, inl, inr, ℕ, ◌+◌, ◌<◌, List, length, map, get_or, replicate, refl, sym, ap, subst, arith}
 use Rattle.std.specs.Prelude.{Option, Some, None, slice_get, option_map}
 use Rattle.std.specs.List.{range_with_len}
 use Rattle.std.proofs.lemmas.Bool.{cases_lt}
-use Rattle.std.proofs.lemmas.Option.{slice_get-get_or, slice_get_within, slice_get-map}
-use Rattle.std.proofs.lemmas.List.{same_lists, length-map, get_or-map, get_or-replicate, get_or_past, length-replicate}
+use Rattle.std.proofs.lemmas.Option.{slice_get_within, slice_get-map}
+use Rattle.std.proofs.lemmas.List.{same_lists, length-map, get_or-replicate, get_or_past, length-replicate}
 use Rattle.std.proofs.lemmas.List.FromFn.{length-map-range_with_len, get_or-map-range_with_len}
 use Rattle.logic_four.specs.declared.V4.{V4}
 use Rattle.logic_four.specs.declared.V4.TheVariants.{Undef}
@@ -14,7 +14,7 @@ use Rattle.net_defs.specs.declared.netlist.Signal.{Signal}
 use Rattle.net_defs.specs.declared.netlist.Block.{Block}
 use Rattle.net_defs.specs.declared.timing.Timing.{Timing}
 use Rattle.net_defs.specs.declared.stimulus.Stimulus.{Stimulus}
-use Rattle.net_defs.specs.Time.{value_at, initial_value, turn_count}
+use Rattle.net_defs.specs.Time.{value_at, initial_value}
 use Rattle.net_defs.specs.Steps.{State, IsRightStep, first_state}
 use Rattle.net_defs.specs.Reference.{IsSimulation}
 use Rattle.net_defs.specs.Valid.{IsValid}

@@ -1,5 +1,5 @@
 -- The items have exactly one run of values: each state is grown from the one before, item by item.
-use Rattle.std.proofs.Common.{◌≡◌, ◌∙◌, ◌⊎◌, inl, inr, ℕ, zero, suc, ◌+◌, ◌<◌, ◌≤◌, List, [], ◌∷◌, ◌++◌, length, map, get_or, refl, sym, ap, arith}
+use Rattle.std.proofs.Common.{◌≡◌, ◌∙◌, ◌⊎◌, inl, inr, ℕ, zero, suc, ◌+◌, ◌<◌, ◌≤◌, List, [], ◌∷◌, ◌++◌, length, map, refl, sym, ap, arith}
 use Rattle.std.specs.Prelude.{Option, Some, None, slice_get}
 use Rattle.std.specs.List.{range_with_len}
 use Rattle.std.proofs.lemmas.Bool.{cases_lt}
@@ -16,14 +16,13 @@ use Rattle.net_defs.specs.Steps.{State, words_of}
 use Rattle.node_defs.specs.declared.items.Tag.TheVariants.{This, Last}
 use Rattle.node_defs.specs.declared.items.Feed.{Feed}
 use Rattle.node_defs.specs.declared.items.Feed.TheVariants.{From, Fixed}
-use Rattle.node_defs.specs.declared.items.Feeds.{Feeds}
 use Rattle.node_defs.specs.declared.items.Item.{Item}
 use Rattle.node_defs.specs.declared.items.Item.TheVariants.{Input, BlockBit, Node, Latch}
 use Rattle.node_defs.specs.declared.items.NodeBlock.{NodeBlock}
 use Rattle.node_defs.specs.declared.items.NodeNet.{NodeNet}
 use Rattle.node_defs.specs.Items.{feed_at}
 use Rattle.node_defs.specs.Order.{AreItems}
-use Rattle.node_defs.specs.Values.{feed_value, item_value, block_words_after, IsItemStep, first_items, AreItemValues, HaveOneRun}
+use Rattle.node_defs.specs.Values.{feed_value, item_value, block_words_after, IsItemStep, first_items, HaveOneRun}
 use Rattle.node_defs.proofs.MemberLemmas.{member_at}
 use Rattle.node_defs.proofs.ChainLemmas.{states_to, states_count, states_first, states_step, states_only}
 use Rattle.node_defs.proofs.EarlierLemmas.{earlier}

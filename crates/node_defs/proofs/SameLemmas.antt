@@ -1,8 +1,8 @@
 -- Two lists of items of one netlist stand in the same order and hold the same items.
-use Rattle.std.proofs.Common.{◌≡◌, ◌∙◌, ◌⊎◌, inl, inr, ℕ, zero, suc, ◌+◌, ◌*◌, ◌/◌, ◌%◌, ◌<◌, ◌≤◌, nat_lt, Bool, true, false, max, if◌then◌else◌, List, [], ◌∷◌, length, get_or, take, refl, sym, ap, subst, arith}
+use Rattle.std.proofs.Common.{◌≡◌, ◌∙◌, ◌⊎◌, inl, inr, ℕ, zero, suc, ◌+◌, ◌/◌, ◌%◌, ◌<◌, ◌≤◌, nat_lt, Bool, true, false, if◌then◌else◌, List, [], ◌∷◌, length, get_or, refl, sym, ap, subst, arith}
 use Rattle.std.specs.Prelude.{◌↔◌, Option, Some, None, slice_get}
 use Rattle.std.proofs.lemmas.Bool.{cases_lt, cases_order, lt-ltb, le-ltb}
-use Rattle.std.proofs.lemmas.Option.{slice_get-get_or, slice_get_within, slice_get_past, get_or_from_slice_get}
+use Rattle.std.proofs.lemmas.Option.{slice_get-get_or, slice_get_within, get_or_from_slice_get}
 use Rattle.std.proofs.lemmas.List.{same_lists, get_or_default}
 use Rattle.logic_four.specs.declared.V4.{V4}
 use Rattle.logic_four.specs.declared.V4.TheVariants.{Zero}
@@ -27,8 +27,7 @@ use Rattle.node_defs.specs.declared.items.Item.TheVariants.{Input, BlockBit, Nod
 use Rattle.node_defs.specs.declared.items.ItemName.{ItemName}
 use Rattle.node_defs.specs.declared.items.NodeBlock.{NodeBlock}
 use Rattle.node_defs.specs.declared.items.NodeNet.{NodeNet}
-use Rattle.node_defs.specs.Groups.{group_at, helper_count}
-use Rattle.node_defs.specs.Items.{own, IsNamed, wire_name, wire_tag, feed_at, IsNode, IsGateItem, IsItemOf, IsItem, IsAmong, helpers_of, StandFor, IsNodeBlock}
+use Rattle.node_defs.specs.Items.{own, IsNamed, wire_name, wire_tag, feed_at, IsNode, IsItemOf, IsItem, IsAmong, helpers_of, StandFor, IsNodeBlock}
 use Rattle.node_defs.specs.Order.{class_of, rank_after_feed, rank_of, Key, key_of, HelperBefore, Before, AreItems}
 use Rattle.node_defs.specs.Same.{IsSameTable, AreSameItem, AreSameItems}
 use Rattle.func_table.specs.Entries.{looked_up, entry_of, entry_for, place_of, AreAlike}

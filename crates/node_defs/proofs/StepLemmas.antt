@@ -1,17 +1,12 @@
 -- A right step of the items is, as the signals see it, a right step of the netlist; so the values of
 -- the items are those of a reference simulation.
-use Rattle.std.proofs.Common.{◌≡◌, ◌∙◌, ◌⊎◌, inl, inr, ℕ, zero, suc, ◌+◌, ◌<◌, ◌≤◌, if◌then◌else◌, List, [], ◌∷◌, length, map, get_or, replicate, refl, sym, ap, subst, arith}
-use Rattle.std.specs.Prelude.{Option, Some, None, slice_get, All}
-use Rattle.std.specs.List.{range_with_len}
-use Rattle.std.proofs.lemmas.Bool.{cases_lt}
-use Rattle.std.proofs.lemmas.Option.{slice_get-get_or, slice_get_within, slice_get-map}
-use Rattle.std.proofs.lemmas.List.{same_lists, length-map, get_or-map, get_or-replicate, length-replicate}
-use Rattle.std.proofs.lemmas.List.FromFn.{length-map-range_with_len, get_or-map-range_with_len}
+use Rattle.std.proofs.Common.{◌≡◌, ◌∙◌, ℕ, ◌<◌, if◌then◌else◌, List, length, refl, sym, ap, subst, arith}
+use Rattle.std.specs.Prelude.{Option, Some, None, slice_get}
+use Rattle.std.proofs.lemmas.Option.{slice_get_within}
+use Rattle.std.proofs.lemmas.List.FromFn.{length-map-range_with_len}
 use Rattle.logic_four.specs.declared.V4.{V4}
-use Rattle.logic_four.specs.declared.V4.TheVariants.{Undef}
-use Rattle.logic_four.specs.declared.Kind.{Kind}
 use Rattle.logic_four.specs.Values.{settled}
-use Rattle.logic_four.specs.Memory.{MemoryAct, memory_act, initial_words}
+use Rattle.logic_four.specs.Memory.{memory_act}
 use Rattle.net_defs.specs.declared.netlist.Netlist.{Netlist}
 use Rattle.net_defs.specs.declared.netlist.Signal.{Signal}
 use Rattle.net_defs.specs.declared.netlist.Block.{Block}
@@ -19,19 +14,17 @@ use Rattle.net_defs.specs.declared.netlist.Driver.{Driver}
 use Rattle.net_defs.specs.declared.netlist.Driver.TheVariants as driver
 use Rattle.net_defs.specs.declared.timing.Timing.{Timing}
 use Rattle.net_defs.specs.declared.stimulus.Stimulus.{Stimulus}
-use Rattle.net_defs.specs.Time.{value_at, initial_value, is_edge, turn_count}
-use Rattle.net_defs.specs.Steps.{State, is_late, values_of, words_of, act_of, output_bit, registered, driven, words_after, IsRightStep, first_state}
-use Rattle.net_defs.specs.Reference.{IsSimulation}
-use Rattle.net_defs.specs.Valid.{IsValid, IsSignal, IsDrivable}
+use Rattle.net_defs.specs.Time.{value_at, is_edge}
+use Rattle.net_defs.specs.Steps.{State, is_late, values_of, words_of, act_of, output_bit, registered, driven, words_after, IsRightStep}
+use Rattle.net_defs.specs.Valid.{IsValid, IsDrivable}
 use Rattle.node_defs.specs.declared.items.Item.{Item}
-use Rattle.node_defs.specs.declared.items.Item.TheVariants.{Input, BlockBit, Latch}
 use Rattle.node_defs.specs.declared.items.NodeBlock.{NodeBlock}
 use Rattle.node_defs.specs.declared.items.NodeNet.{NodeNet}
-use Rattle.node_defs.specs.Items.{own, IsNamed, IsItemOf, IsNodeBlock}
+use Rattle.node_defs.specs.Items.{own, IsItemOf, IsNodeBlock}
 use Rattle.node_defs.specs.Order.{AreItems}
-use Rattle.node_defs.specs.Values.{block_act, block_bit, item_value, block_words_after, IsItemStep, first_items, AreItemValues, AreReferenceValues}
+use Rattle.node_defs.specs.Values.{block_act, block_bit, item_value, block_words_after, IsItemStep}
 use Rattle.node_defs.proofs.MemberLemmas.{member_at, no_member}
-use Rattle.node_defs.proofs.SeenLemmas.{item_named, item_of_signal, number, number_is, number_named, seen, seen_at, seen_value, seen_values}
+use Rattle.node_defs.proofs.SeenLemmas.{item_named, item_of_signal, number, number_named, seen, seen_at, seen_value, seen_values}
 use Rattle.node_defs.proofs.GateLemmas.{gate_seen}
 
 module _ (net : Netlist) (timing : Timing) (nodes : NodeNet) (valid : IsValid net) (are : AreItems net timing nodes) where

@@ -1,6 +1,6 @@
 -- What each item has at each turn: equations between whole states, one for each item, in no order. A
 -- state has a value for each item and the words of each memory.
-use Rattle.std.specs.Prelude.{◌≡◌, ℕ, ◌+◌, if◌then◌else◌, List, [], length, map, Option, Some, None, slice_get, replicate}
+use Rattle.std.specs.Prelude.{◌≡◌, ℕ, ◌+◌, if◌then◌else◌, List, length, map, Option, Some, None, slice_get, replicate}
 use Rattle.logic_four.specs.declared.V4.{V4}
 use Rattle.logic_four.specs.declared.V4.TheVariants.{Undef}
 use Rattle.logic_four.specs.Values.{settled}
@@ -15,7 +15,6 @@ use Rattle.func_table.specs.Entries.{looked_up}
 use Rattle.node_defs.specs.declared.items.Tag.TheVariants.{This, Last}
 use Rattle.node_defs.specs.declared.items.Feed.{Feed}
 use Rattle.node_defs.specs.declared.items.Feed.TheVariants.{From, Fixed}
-use Rattle.node_defs.specs.declared.items.Feeds.{Feeds}
 use Rattle.node_defs.specs.declared.items.Item.{Item}
 use Rattle.node_defs.specs.declared.items.Item.TheVariants.{Input, BlockBit, Node, Latch}
 use Rattle.node_defs.specs.declared.items.NodeBlock.{NodeBlock}

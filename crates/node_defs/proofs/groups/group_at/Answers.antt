@@ -1,4 +1,4 @@
-use Rattle.std.proofs.Common.{◌≡◌, ◌∙◌, ◌<◌, ◌≤◌, sym, arith}
+use Rattle.std.proofs.Common.{sym, arith}
 use Rattle.node_defs.proofs.GroupLemmas.{at_next, found_helper, found_own}
 use Rattle.node_defs.proofs.groups.group_at.Goals as goal
 

@@ -1,4 +1,4 @@
-use Rattle.std.proofs.Common.{◌≡◌, ◌<◌, ◌≤◌, arith}
+use Rattle.std.proofs.Common.{arith}
 use Rattle.node_defs.proofs.GroupLemmas.{counted_begun, counted_more, counted_all}
 use Rattle.node_defs.proofs.groups.helper_count.Goals as goal
 
