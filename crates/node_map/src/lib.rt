@@ -9,6 +9,8 @@ mod nodes;
 mod numbering;
 mod palette;
 mod ranks;
+#[cfg(test)]
+mod tests;
 mod wires;
 
 pub use map::map_nodes;
