@@ -30,7 +30,8 @@ adds_same a b P Q first same = record {
   stride = first.stride;
   bits = λ row bit. (
     λ has. elim ((first.bits row bit).0 has) [ inl old ↦ inl old | inr p ↦ inr ((same row bit).1 p) ],
-    λ is. elim is [ inl old ↦ (first.bits row bit).1 (inl old) | inr q ↦ (first.bits row bit).1 (inr ((same row bit).0 q)) ]);
+    λ is. elim is [ inl old ↦ (first.bits row bit).1 (inl old) | inr q ↦ (first.bits row bit).1 (inr ((same row bit).0 q)) ],
+  );
 }
 
 -- nothing is added

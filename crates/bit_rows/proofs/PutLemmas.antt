@@ -33,7 +33,7 @@ module _ (rows : BitRows) (row bit : ℕ) (within : bit < 64 * rows.stride) (roo
   put_here = record {
     within = within;
     set = ap (λ n. bit_at n (bit % 64)) (get_or-set_same rows.words (row * rows.stride + bit / 64) word_put 0 inside)
-      ∙ bit_at_set_same w64 (get_or rows.words (row * rows.stride + bit / 64) 0) (bit % 64) (omega arith);
+        ∙ bit_at_set_same w64 (get_or rows.words (row * rows.stride + bit / 64) 0) (bit % 64) (omega arith);
   }
 
   -- another bit of the same word
