@@ -2,11 +2,11 @@ pub mod GroupLemmas
 pub mod MemberLemmas
 pub mod LevelLemmas
 mod NodeLemmas
-mod SeenLemmas
+pub mod SeenLemmas
 mod GateLemmas
 mod StepLemmas
 mod ReferenceLemmas
 mod ChainLemmas
-mod EarlierLemmas
+pub mod EarlierLemmas
 mod RunLemmas
 mod SameLemmas
