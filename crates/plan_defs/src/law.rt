@@ -1,7 +1,11 @@
 //! Laws of first-fit plans: functions that do nothing, whose clauses hold of all items and homes.
 
 ghost use Rattle.std.specs.Prelude.{◌≡◌, ◌<◌, ℕ, length};
+ghost use Rattle.net_defs.specs.declared.netlist.Netlist.{Netlist};
+ghost use Rattle.net_defs.specs.declared.timing.Timing.{Timing};
+ghost use Rattle.net_defs.specs.Valid.{IsValid};
 ghost use Rattle.node_defs.specs.declared.items.NodeNet.{NodeNet};
+ghost use Rattle.node_defs.specs.Order.{AreItems};
 ghost use Rattle.node_defs.specs.WellFormed.{IsWellFormed};
 ghost use Rattle.plan_defs.specs.declared.plan.Homes.{Homes};
 ghost use Rattle.plan_defs.specs.declared.plan.Plan.{Plan};
@@ -30,4 +34,10 @@ pub fn one_plan()
     ensures { (nodes : NodeNet) (homes : Homes) (one other : Plan) → IsWellFormed nodes
         → IsFirstFitPlan nodes homes one → IsFirstFitPlan nodes homes other
         → (one.slots ≡ other.slots) × (one.needed ≡ other.needed) }
+{}
+
+/// A law: the items of a valid netlist are what planning asks of them. It does nothing.
+pub fn items_are_well_formed()
+    ensures { (net : Netlist) (timing : Timing) (nodes : NodeNet) → IsValid net → AreItems net timing nodes
+        → IsWellFormed nodes }
 {}

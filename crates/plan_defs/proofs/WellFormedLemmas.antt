@@ -1,0 +1,295 @@
+-- The items of a valid netlist are what planning asks of them.
+use Rattle.std.proofs.Common.{◌≡◌, ◌≢◌, ◌∙◌, ◌⊎◌, inl, inr, ℕ, zero, suc, ◌+◌, ◌*◌, ◌^◌, ◌<◌, ◌≤◌, Bool, List, [], ◌∷◌, length, get_or, refl, sym, ap, subst, arith}
+use Rattle.std.specs.Prelude.{◌↔◌, Option, Some, None, slice_get, All, Contains}
+use Rattle.std.specs.List.{sum_by}
+use Rattle.std.proofs.lemmas.Bool.{cases_lt, cases_order}
+use Rattle.std.proofs.lemmas.Option.{slice_get-get_or, slice_get_within, get_or_from_slice_get}
+use Rattle.std.proofs.lemmas.List.{get_or_default}
+use Rattle.std.proofs.lemmas.List.Elements.{All-get_or, All-from_get_or}
+use Rattle.logic_four.proofs.KindLemmas.{few_operands}
+use Rattle.net_defs.specs.declared.netlist.Netlist.{Netlist}
+use Rattle.net_defs.specs.declared.netlist.Signal.{Signal}
+use Rattle.net_defs.specs.declared.netlist.Block.{Block}
+use Rattle.net_defs.specs.declared.netlist.Driver.{Driver}
+use Rattle.net_defs.specs.declared.netlist.Driver.TheVariants as driver
+use Rattle.net_defs.specs.declared.timing.Timing.{Timing}
+use Rattle.net_defs.specs.Steps.{is_late}
+use Rattle.net_defs.specs.Valid.{IsValid, IsSignal, IsDrivable, memory_operand_count, operand_count}
+use Rattle.node_defs.specs.declared.items.Tag.TheVariants.{This, Last}
+use Rattle.node_defs.specs.declared.items.Feed.{Feed}
+use Rattle.node_defs.specs.declared.items.Feed.TheVariants.{From, Fixed}
+use Rattle.node_defs.specs.declared.items.Feeds.{Feeds}
+use Rattle.node_defs.specs.declared.items.Item.{Item}
+use Rattle.node_defs.specs.declared.items.Item.TheVariants.{Input, BlockBit, Node, Latch}
+use Rattle.node_defs.specs.declared.items.ItemName.{ItemName}
+use Rattle.node_defs.specs.declared.items.NodeBlock.{NodeBlock}
+use Rattle.node_defs.specs.declared.items.NodeNet.{NodeNet}
+use Rattle.node_defs.specs.Groups.{helper_count}
+use Rattle.node_defs.specs.Items.{own, IsNamed, feed_at, IsItem, IsItemOf, StandFor, IsNodeBlock}
+use Rattle.node_defs.specs.Order.{class_of, AreItems}
+use Rattle.node_defs.specs.Takes.{FeedTakes, FeedAwaits, Takes, Awaits, BlockTakes}
+use Rattle.node_defs.specs.WellFormed.{IsComputed, NamesParts, IsMemoryOf, IsWellFormed}
+use Rattle.node_defs.proofs.MemberLemmas.{member_at}
+use Rattle.node_defs.proofs.EarlierLemmas.{earlier, operand_there, table_there}
+use Rattle.plan_defs.proofs.CountLemmas.{few_partners, length-le-sum, helpers_few}
+
+module _ (net : Netlist) (timing : Timing) (nodes : NodeNet) (valid : IsValid net) (are : AreItems net timing nodes) where
+  -- a name is some item's
+  named_within : (x : ℕ) (name : ItemName) → IsNamed nodes.names x name → x < length nodes.items
+  named_within x name named = omega (arith, are.named, slice_get_within nodes.names x name named)
+
+  -- what an item's name says, by the driver of its signal
+  record Drives (item : Item) : Type 0 where
+    name : ItemName
+    signal : Signal
+    is_signal : slice_get net.signals name.signal ≡ Some signal
+    is : IsItemOf nodes.names nodes.tables (is_late net timing name.signal) name.signal signal.driver name.helper item
+
+  drives : (x : ℕ) (item : Item) → slice_get nodes.items x ≡ Some item → Drives item
+  drives x item at = by_signal (slice_get net.signals name.0.signal) refl where
+    name : (n : ItemName) × (slice_get nodes.names x ≡ Some n)
+    name = member_at nodes.names x (omega (arith, are.named, slice_get_within nodes.items x item at))
+
+    right : IsItem net timing nodes.names nodes.tables name.0 item
+    right = are.right x name.0 item name.1 at
+
+    by_signal : (found : Option Signal) → slice_get net.signals name.0.signal ≡ found → Drives item
+    by_signal None missing = absurd (rw missing at right)
+    by_signal (Some signal) there = record { name = name.0; signal = signal; is_signal = there; is = rw there at right }
+
+  -- ---- operands
+
+  feed_taken : (x table : ℕ) (feeds : Feeds) (place o : ℕ) (feed : Feed) → slice_get nodes.items x ≡ Some (Node table feeds) → feed_at feeds place ≡ feed → FeedTakes feed o → o < length nodes.items
+  feed_taken x table feeds place o (From y tag) at is takes = rw takes (operand_there net timing nodes are x table feeds place y tag at is)
+  feed_taken x table feeds place o (Fixed v) at is takes = absurd takes
+
+  feed_awaited : (x table : ℕ) (feeds : Feeds) (place o : ℕ) (feed : Feed) → slice_get nodes.items x ≡ Some (Node table feeds) → feed_at feeds place ≡ feed → FeedAwaits feed o → o < x
+  feed_awaited x table feeds place o (From y This) at is awaits = rw awaits (earlier net timing nodes are x table feeds place y at is)
+  feed_awaited x table feeds place o (From y Last) at is awaits = absurd awaits
+  feed_awaited x table feeds place o (Fixed v) at is awaits = absurd awaits
+
+  -- the operand of a latch is some item
+  latch_taken : (late : Bool) (s : ℕ) (d : Driver) (helper : Option ℕ) (op : ℕ) → IsItemOf nodes.names nodes.tables late s d helper (Latch op) → op < length nodes.items
+  latch_taken late s driver.Input helper op is = absurd (clash is.1) where
+    clash : Latch op ≡ Input s → ⊥
+    clash same = cc
+  latch_taken late s (driver.BlockBit block bit) helper op is = absurd (clash is.1) where
+    clash : Latch op ≡ BlockBit block bit → ⊥
+    clash same = cc
+  latch_taken late s (driver.Gate kind ops) None op is = absurd (clash is.is) where
+    clash : {table : ℕ} {feeds : Feeds} → Latch op ≡ Node table feeds → ⊥
+    clash same = cc
+  latch_taken late s (driver.Gate kind ops) (Some h) op is = absurd (clash is.1.is) where
+    clash : {table : ℕ} {feeds : Feeds} → Latch op ≡ Node table feeds → ⊥
+    clash same = cc
+  latch_taken late s (driver.Dff o) helper op is = rw (one op is.1 is.3) (named_within is.1 (own o) is.2) where
+    one : (a b : ℕ) → Latch a ≡ Latch b → a ≡ b
+    one a b same = cc
+
+  taken : (i o : ℕ) (item : Item) → slice_get nodes.items i ≡ Some item → Takes item o → o < length nodes.items
+  taken i o (Input column) at takes = absurd takes
+  taken i o (BlockBit block bit) at takes = absurd takes
+  taken i o (Latch op) at takes =
+      let found : Drives (Latch op) = drives i (Latch op) at in
+      rw takes (latch_taken (is_late net timing found.name.signal) found.name.signal found.signal.driver found.name.helper op found.is)
+  taken i o (Node table feeds) at (inl a) = feed_taken i table feeds 0 o feeds.a at refl a
+  taken i o (Node table feeds) at (inr (inl b)) = feed_taken i table feeds 1 o feeds.b at refl b
+  taken i o (Node table feeds) at (inr (inr (inl c))) = feed_taken i table feeds 2 o feeds.c at refl c
+  taken i o (Node table feeds) at (inr (inr (inr d))) = feed_taken i table feeds 3 o feeds.d at refl d
+
+  awaited : (i o : ℕ) (item : Item) → slice_get nodes.items i ≡ Some item → Awaits item o → o < i
+  awaited i o (Input column) at awaits = absurd awaits
+  awaited i o (BlockBit block bit) at awaits = absurd awaits
+  awaited i o (Latch op) at awaits = absurd awaits
+  awaited i o (Node table feeds) at (inl a) = feed_awaited i table feeds 0 o feeds.a at refl a
+  awaited i o (Node table feeds) at (inr (inl b)) = feed_awaited i table feeds 1 o feeds.b at refl b
+  awaited i o (Node table feeds) at (inr (inr (inl c))) = feed_awaited i table feeds 2 o feeds.c at refl c
+  awaited i o (Node table feeds) at (inr (inr (inr d))) = feed_awaited i table feeds 3 o feeds.d at refl d
+
+  -- ---- memories
+
+  -- a memory output is of some memory
+  block_there : (late : Bool) (s : ℕ) (d : Driver) (helper : Option ℕ) (block bit : ℕ) → IsDrivable net s d → IsItemOf nodes.names nodes.tables late s d helper (BlockBit block bit) → block < length nodes.blocks
+  block_there late s driver.Input helper block bit drivable is = absurd (clash is.1) where
+    clash : BlockBit block bit ≡ Input s → ⊥
+    clash same = cc
+  block_there late s (driver.Dff o) helper block bit drivable is = absurd (clash is.1 is.3) where
+    clash : (x : ℕ) → BlockBit block bit ≡ Latch x → ⊥
+    clash x same = cc
+  block_there late s (driver.Gate kind ops) None block bit drivable is = absurd (clash is.is) where
+    clash : {table : ℕ} {feeds : Feeds} → BlockBit block bit ≡ Node table feeds → ⊥
+    clash same = cc
+  block_there late s (driver.Gate kind ops) (Some h) block bit drivable is = absurd (clash is.1.is) where
+    clash : {table : ℕ} {feeds : Feeds} → BlockBit block bit ≡ Node table feeds → ⊥
+    clash same = cc
+  block_there late s (driver.BlockBit m b) helper block bit drivable is =
+      rw (one is.1) (omega (arith, are.memories, slice_get_within net.blocks m drivable.0 drivable.1)) where
+        one : BlockBit block bit ≡ BlockBit m b → block ≡ m
+        one same = cc
+
+  parts : (i : ℕ) (item : Item) → slice_get nodes.items i ≡ Some item → NamesParts nodes item
+  parts i (Input column) at = tt
+  parts i (Latch op) at = tt
+  parts i (Node table feeds) at = table_there net timing nodes are i table feeds at
+  parts i (BlockBit block bit) at =
+      let found : Drives (BlockBit block bit) = drives i (BlockBit block bit) at in
+      block_there (is_late net timing found.name.signal) found.name.signal found.signal.driver found.name.helper block bit (valid.drivers found.name.signal found.signal found.is_signal) found.is
+
+  -- numbers that stand for signals are items
+  stand_within : (numbers signals : List ℕ) → StandFor nodes.names numbers signals → (o : ℕ) → Contains numbers o → o < length nodes.items
+  stand_within numbers signals stand o (i, inside, is) =
+      let there : slice_get signals i ≡ Some (get_or signals i 0) = slice_get-get_or signals i 0 (omega (arith, inside, stand.each)) in
+      let named : IsNamed nodes.names (get_or numbers i 0) (own (get_or signals i 0)) = stand.named i (get_or signals i 0) there in
+      subst (λ x. x < length nodes.items) (get_or_default numbers i 0 o inside ∙ is) (named_within (get_or numbers i 0) (own (get_or signals i 0)) named)
+
+  memories : (m : ℕ) (block : NodeBlock) → slice_get nodes.blocks m ≡ Some block → IsMemoryOf nodes block
+  memories m block at =
+      let memory : (b : Block) × (slice_get net.blocks m ≡ Some b) = member_at net.blocks m (omega (arith, are.memories, slice_get_within nodes.blocks m block at)) in
+      let same : IsNodeBlock nodes.names memory.0 block = are.blocks m memory.0 block memory.1 at in
+      let bits : _ = valid.memories m memory.0 memory.1 in
+      record {
+        taken = λ o takes. elim takes [
+          | inl we ↦ rw we (named_within block.we (own memory.0.we) same.we)
+          | inr (inl address) ↦ stand_within block.address memory.0.address same.address o address
+          | inr (inr word) ↦ stand_within block.word memory.0.word same.word o word
+        ];
+        address = (omega (arith, same.address.each, bits.address_bits.0), omega (arith, same.address.each, bits.address_bits.1));
+        word = (omega (arith, same.word.each, bits.word_bits.0), omega (arith, same.word.each, bits.word_bits.1));
+      }
+
+  printed : All (λ o. o < length nodes.items) nodes.printed
+  printed = All-from_get_or (λ o. o < length nodes.items) nodes.printed 0 (λ i inside.
+      let there : slice_get net.printed i ≡ Some (get_or net.printed i 0) = slice_get-get_or net.printed i 0 (omega (arith, inside, are.printed.each)) in
+      named_within (get_or nodes.printed i 0) (own (get_or net.printed i 0)) (are.printed.named i (get_or net.printed i 0) there))
+
+  nodes_last : (i : ℕ) (item : Item) → slice_get nodes.items i ≡ Some item → IsComputed item ↔ (nodes.first_node ≤ i)
+  nodes_last i item at = ((λ is. (are.first_node i item at).0 (class_is item is)), (λ past. computed item ((are.first_node i item at).1 past))) where
+    class_is : (j : Item) → IsComputed j → class_of j ≡ 2
+    class_is (Input column) is = absurd is
+    class_is (BlockBit block bit) is = absurd is
+    class_is (Node table feeds) is = refl
+    class_is (Latch op) is = refl
+
+    computed : (j : Item) → class_of j ≡ 2 → IsComputed j
+    computed (Input column) is = absurd (omega (arith, is))
+    computed (BlockBit block bit) is = absurd (omega (arith, is))
+    computed (Node table feeds) is = tt
+    computed (Latch op) is = tt
+
+  -- ---- how many there are
+
+  -- a number for each name
+  helper_code : Option ℕ → ℕ
+  helper_code None = 0
+  helper_code (Some h) = h + 1
+
+  name_code : ItemName → ℕ
+  name_code name = name.signal * 1026 + helper_code name.helper
+
+  helper_small : (late : Bool) (s : ℕ) (d : Driver) (helper : Option ℕ) (item : Item) → IsDrivable net s d → IsItemOf nodes.names nodes.tables late s d helper item → helper_code helper < 1026
+  unfolding helper_code
+  helper_small late s driver.Input helper item drivable is = rw is.0 (omega arith)
+  helper_small late s (driver.Dff o) helper item drivable is = rw is.0 (omega arith)
+  helper_small late s (driver.BlockBit m b) helper item drivable is = rw is.0 (omega arith)
+  helper_small late s (driver.Gate kind ops) None item drivable is = omega arith
+  helper_small late s (driver.Gate kind ops) (Some h) item drivable is =
+      omega (arith, is.0, helpers_few (length ops), few_operands kind (length ops) drivable.0)
+
+  name_at : ℕ → ItemName
+  name_at x = get_or nodes.names x (own 0)
+
+  name_there : (x : ℕ) → x < length nodes.items → IsNamed nodes.names x (name_at x)
+  unfolding name_at
+  name_there x within = slice_get-get_or nodes.names x (own 0) (omega (arith, are.named, within))
+
+  -- the name of an item is of a signal, and of one of not too many helpers
+  code_low : (x : ℕ) → x < length nodes.items → ((name_at x).signal < length net.signals) × (helper_code (name_at x).helper < 1026)
+  code_low x within = by_signal (slice_get net.signals (name_at x).signal) refl where
+    item : (i : Item) × (slice_get nodes.items x ≡ Some i)
+    item = member_at nodes.items x within
+
+    right : IsItem net timing nodes.names nodes.tables (name_at x) item.0
+    right = are.right x (name_at x) item.0 (name_there x within) item.1
+
+    by_signal : (found : Option Signal) → slice_get net.signals (name_at x).signal ≡ found → ((name_at x).signal < length net.signals) × (helper_code (name_at x).helper < 1026)
+    by_signal None missing = absurd (rw missing at right)
+    by_signal (Some signal) there = (
+      slice_get_within net.signals (name_at x).signal signal there,
+      helper_small (is_late net timing (name_at x).signal) (name_at x).signal signal.driver (name_at x).helper item.0 (valid.drivers (name_at x).signal signal there) (rw there at right),
+    )
+
+  helper_one : (one other : Option ℕ) → helper_code one ≡ helper_code other → one ≡ other
+  unfolding helper_code
+  helper_one None None same = refl
+  helper_one None (Some h) same = absurd (omega (arith, same))
+  helper_one (Some h) None same = absurd (omega (arith, same))
+  helper_one (Some h) (Some i) same = ap Some (omega (arith, same))
+
+  named_by : ℕ → Option ℕ → ItemName
+  named_by s h = record { signal = s; helper = h }
+
+  name_same : (one other : ItemName) → one.signal ≡ other.signal → one.helper ≡ other.helper → one ≡ other
+  unfolding named_by
+  name_same one other signal helper = ap (λ s. named_by s one.helper) signal ∙ ap (λ h. named_by other.signal h) helper
+
+  few : length nodes.items < 2 ^ 31
+  unfolding name_code
+  few =
+      let below : length nodes.items ≤ length net.signals * 1026 =
+      few_partners (length nodes.items) (length net.signals * 1026) (λ x. name_code (name_at x)) different low in
+      omega (arith, below, valid.few_signals) where
+        low : (x : ℕ) → x < length nodes.items → name_code (name_at x) < length net.signals * 1026
+        low x within = omega (arith, (code_low x within).0, (code_low x within).1)
+
+        different : (x y : ℕ) → x < y → y < length nodes.items → name_code (name_at x) ≢ name_code (name_at y)
+        different x y before within same = by_code (omega (arith, same, (code_low x (omega (arith, before, within))).1, (code_low y within).1)) (omega (arith, same, (code_low x (omega (arith, before, within))).1, (code_low y within).1)) where
+          by_code : (name_at x).signal ≡ (name_at y).signal → helper_code (name_at x).helper ≡ helper_code (name_at y).helper → ⊥
+          by_code signal helper =
+              let names : name_at x ≡ name_at y = name_same (name_at x) (name_at y) signal (helper_one (name_at x).helper (name_at y).helper helper) in
+              let one : x ≡ y = are.names.once x y (name_at y) (name_there x (omega (arith, before, within)) ∙ ap Some names) (name_there y within) in
+              omega (arith, before, one)
+
+  -- the node that uses a table
+  user : (t : ℕ) → (t < length nodes.tables) ⊎ (length nodes.tables ≤ t) → ℕ
+  user t (inl within) = (are.tables_used t within).0
+  user t (inr past) = 0
+
+  user_is : (t : ℕ) (found : (t < length nodes.tables) ⊎ (length nodes.tables ≤ t)) → t < length nodes.tables → (feeds : Feeds) × (slice_get nodes.items (user t found) ≡ Some (Node t feeds))
+  unfolding user
+  user_is t (inl inside) within = ((are.tables_used t inside).1, (are.tables_used t inside).2)
+  user_is t (inr past) within = absurd (omega (arith, past, within))
+
+  few_tables : length nodes.tables ≤ length nodes.items
+  few_tables = few_partners (length nodes.tables) (length nodes.items) (λ t. user t (cases_lt t (length nodes.tables))) different low where
+    low : (t : ℕ) → t < length nodes.tables → user t (cases_lt t (length nodes.tables)) < length nodes.items
+    low t within =
+        let used : _ = user_is t (cases_lt t (length nodes.tables)) within in
+        slice_get_within nodes.items (user t (cases_lt t (length nodes.tables))) (Node t used.0) used.1
+
+    different : (t u : ℕ) → t < u → u < length nodes.tables → user t (cases_lt t (length nodes.tables)) ≢ user u (cases_lt u (length nodes.tables))
+    different t u before within same =
+        let one : (f : Feeds) × (slice_get nodes.items (user t (cases_lt t (length nodes.tables))) ≡ Some (Node t f)) = user_is t (cases_lt t (length nodes.tables)) (omega (arith, before, within)) in
+        let other : (f : Feeds) × (slice_get nodes.items (user u (cases_lt u (length nodes.tables))) ≡ Some (Node u f)) = user_is u (cases_lt u (length nodes.tables)) within in
+        let equal : t ≡ u = one_table t u one.0 other.0 (sym one.1 ∙ (ap (slice_get nodes.items) same ∙ other.1)) in
+        omega (arith, before, equal) where
+          one_table : (a b : ℕ) (f g : Feeds) → Some (Node a f) ≡ Some (Node b g) → a ≡ b
+          one_table a b f g equal = cc
+
+  few_memories : length nodes.blocks < 2 ^ 32
+  few_memories =
+      let some : length net.blocks ≤ sum_by memory_operand_count net.blocks = length-le-sum memory_operand_count net.blocks (λ i d inside. omega arith) in
+      omega (arith, some, are.memories, valid.few_operands)
+
+  pub well_formed : IsWellFormed nodes
+  well_formed = record {
+    taken = taken;
+    awaited = awaited;
+    parts = parts;
+    memories = memories;
+    printed = printed;
+    nodes_last = nodes_last;
+    tables = are.tables;
+    few = few;
+    few_tables = omega (arith, few_tables, few);
+    few_memories = few_memories;
+  }
