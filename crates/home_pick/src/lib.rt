@@ -1,0 +1,8 @@
+//! Which port each item and each memory is at: memories in their order at the first array port with
+//! room, nodes and latches in turn over the logic ports.
+#![tactic(auto)]
+
+mod blocks;
+pub mod pick;
+
+pub use pick::{HomeNo, homes};

@@ -1,0 +1,106 @@
+-- Boards that get bits.
+use Rattle.std.proofs.Common.{◌≡◌, ◌∙◌, ◌⊎◌, ◌↔◌, inl, inr, ℕ, ◌+◌, ◌*◌, ◌<◌, ◌≤◌, List, length, get_or, refl, sym, ap, subst, arith}
+use Rattle.std.specs.List.{Contains}
+use Rattle.std.specs.Int.{bit_at}
+use Rattle.std.proofs.Math.Nat.{mul-le-mul_right}
+use Rattle.std.proofs.lemmas.List.{get_or_default}
+use Rattle.bit_rows.specs.declared.BitRows.{BitRows}
+use Rattle.bit_rows.specs.Bits.{HasBit, Adds, IsShaped}
+use Rattle.bit_rows.proofs.AddLemmas.{adds_same}
+use Rattle.plan_defs.proofs.ListLemmas.{last_or}
+use Rattle.plan_defs.proofs.UserLemmas.{adds_either}
+use Rattle.slot_plan.specs.declared.board.Board.{Board}
+use Rattle.slot_plan.specs.Boards.{IsBoard, IsTaken, IsShut, IsRowFor}
+
+-- there is room for each row
+pub row_room : (rows : BitRows) (count stride row : ℕ) → IsShaped rows count stride → row < count → row * rows.stride + rows.stride ≤ length rows.words
+row_room rows count stride row shape low =
+    let bound : (row + 1) * stride ≤ count * stride = mul-le-mul_right stride (omega (arith, low)) in
+    rw (shape.stride_is, shape.words) (omega (arith, bound))
+
+-- a board that gets bits is a board
+pub board_kept : (old new : Board) (P : ℕ → ℕ → Type 0) → IsBoard old → new.ports ≡ old.ports → Adds old.rows new.rows P → IsBoard new
+board_kept old new P board ports adds = record {
+  few = let few = board.few in omega (arith, few, ports);
+  small = let small = board.small in let same = adds.stride in omega (arith, small, same);
+  room = λ row low. rw (adds.stride, adds.words) (board.room row (omega (arith, low, ports)));
+}
+
+-- ---- the slots taken for the first so many readers
+
+abbrev pub IsTakenTo : Board → ℕ → List ℕ → ℕ → ℕ → Type 0
+IsTakenTo board home readers n s = HasBit board.rows home s ⊎ ((k : ℕ) × (k < n) × HasBit board.rows (board.ports + get_or readers k 0) s)
+
+pub taken_none : (board : Board) (home : ℕ) (readers : List ℕ) (s : ℕ) → IsTakenTo board home readers 0 s → HasBit board.rows home s
+taken_none board home readers s (inl has) = has
+taken_none board home readers s (inr (k, low, has)) = absurd (omega (arith, low))
+
+pub taken_more : (board : Board) (home : ℕ) (readers : List ℕ) (n s : ℕ) → IsTakenTo board home readers (n + 1) s ↔ (IsTakenTo board home readers n s ⊎ HasBit board.rows (board.ports + get_or readers n 0) s)
+taken_more board home readers n s = (there, back) where
+  there : IsTakenTo board home readers (n + 1) s → IsTakenTo board home readers n s ⊎ HasBit board.rows (board.ports + get_or readers n 0) s
+  there (inl has) = inl (inl has)
+  there (inr (k, low, has)) = elim (last_or k n low) [
+    | inl below ↦ inl (inr (k, below, has))
+    | inr same ↦ inr (subst (λ i. HasBit board.rows (board.ports + get_or readers i 0) s) same has)
+  ]
+
+  back : IsTakenTo board home readers n s ⊎ HasBit board.rows (board.ports + get_or readers n 0) s → IsTakenTo board home readers (n + 1) s
+  back (inl (inl has)) = inl has
+  back (inl (inr (k, low, has))) = inr (k, omega arith, has)
+  back (inr has) = inr (n, omega arith, has)
+
+pub taken_all : (board : Board) (home : ℕ) (readers : List ℕ) (n s : ℕ) → n ≡ length readers → IsTakenTo board home readers n s ↔ IsTaken board home readers s
+taken_all board home readers n s whole = (there, back) where
+  there : IsTakenTo board home readers n s → IsTaken board home readers s
+  there (inl has) = inl has
+  there (inr (k, low, has)) =
+      let inside : k < length readers = omega (arith, low, whole) in
+      inr (get_or readers k 0, (k, inside, get_or_default readers k (get_or readers k 0) 0 inside), has)
+
+  back : IsTaken board home readers s → IsTakenTo board home readers n s
+  back (inl has) = inl has
+  back (inr (r, (k, low, is), has)) = inr (k, omega (arith, low, whole), subst (λ q. HasBit board.rows (board.ports + q) s) (sym (get_or_default readers k 0 r low ∙ is)) has)
+
+-- ---- the rows of the first so many readers
+
+abbrev pub IsRowTo : Board → ℕ → List ℕ → ℕ → ℕ → Type 0
+IsRowTo board home readers n row = (row ≡ home) ⊎ ((k : ℕ) × (k < n) × (row ≡ board.ports + get_or readers k 0))
+
+pub rows_none : (board : Board) (home : ℕ) (readers : List ℕ) (slot : ℕ) (a b : BitRows) → Adds a b (λ r k. (r ≡ home) × (k ≡ slot)) → Adds a b (λ row s. IsRowTo board home readers 0 row × (s ≡ slot))
+rows_none board home readers slot a b adds = adds_same a b (λ r k. (r ≡ home) × (k ≡ slot)) (λ row s. IsRowTo board home readers 0 row × (s ≡ slot)) adds (λ row s. (λ h. (there row h.0, h.1), λ h. (inl h.0, h.1))) where
+  there : (row : ℕ) → IsRowTo board home readers 0 row → row ≡ home
+  there row (inl same) = same
+  there row (inr (k, low, is)) = absurd (omega (arith, low))
+
+pub rows_more : (board : Board) (home : ℕ) (readers : List ℕ) (n slot : ℕ) (a b c : BitRows) → Adds a b (λ row s. IsRowTo board home readers n row × (s ≡ slot)) → Adds b c (λ row s. (row ≡ board.ports + get_or readers n 0) × (s ≡ slot)) → Adds a c (λ row s. IsRowTo board home readers (n + 1) row × (s ≡ slot))
+rows_more board home readers n slot a b c before adds =
+    adds_same a c (λ row s. (IsRowTo board home readers n row ⊎ (row ≡ board.ports + get_or readers n 0)) × (s ≡ slot)) (λ row s. IsRowTo board home readers (n + 1) row × (s ≡ slot))
+    (adds_either a b c (IsRowTo board home readers n) (λ row. row ≡ board.ports + get_or readers n 0) slot before adds)
+    (λ row s. (λ h. (there row h.0, h.1), λ h. (back row h.0, h.1))) where
+      there : (row : ℕ) → IsRowTo board home readers (n + 1) row → IsRowTo board home readers n row ⊎ (row ≡ board.ports + get_or readers n 0)
+      there row (inl same) = inl (inl same)
+      there row (inr (k, low, is)) = elim (last_or k n low) [ inl below ↦ inl (inr (k, below, is)) | inr same ↦ inr (is ∙ ap (λ i. board.ports + get_or readers i 0) same) ]
+
+      back : (row : ℕ) → IsRowTo board home readers n row ⊎ (row ≡ board.ports + get_or readers n 0) → IsRowTo board home readers (n + 1) row
+      back row (inl (inl same)) = inl same
+      back row (inl (inr (k, low, is))) = inr (k, omega arith, is)
+      back row (inr is) = inr (n, omega arith, is)
+
+pub rows_all : (board : Board) (home : ℕ) (readers : List ℕ) (n slot : ℕ) (a b : BitRows) → n ≡ length readers → Adds a b (λ row s. IsRowTo board home readers n row × (s ≡ slot)) → Adds a b (λ row s. IsRowFor board home readers row × (s ≡ slot))
+rows_all board home readers n slot a b whole adds =
+    adds_same a b (λ row s. IsRowTo board home readers n row × (s ≡ slot)) (λ row s. IsRowFor board home readers row × (s ≡ slot)) adds (λ row s. (λ h. (there row h.0, h.1), λ h. (back row h.0, h.1))) where
+      there : (row : ℕ) → IsRowFor board home readers row → IsRowTo board home readers n row
+      there row (inl same) = inl same
+      there row (inr (r, (k, low, is), at)) = inr (k, omega (arith, low, whole), at ∙ ap (λ q. board.ports + q) (sym (get_or_default readers k 0 r low ∙ is)))
+
+      back : (row : ℕ) → IsRowTo board home readers n row → IsRowFor board home readers row
+      back row (inl same) = inl same
+      back row (inr (k, low, at)) =
+          let inside : k < length readers = omega (arith, low, whole) in
+          inr (get_or readers k 0, (k, inside, get_or_default readers k (get_or readers k 0) 0 inside), at)
+
+-- past its last slot a board has nothing
+pub nothing_past : (board : Board) (home : ℕ) (readers : List ℕ) (from : ℕ) → from ≤ 64 * board.rows.stride → IsShut board home readers from (64 * board.rows.stride) → ⊥
+nothing_past board home readers from up (inl low) = omega (arith, up, low)
+nothing_past board home readers from up (inr (inl has)) = let within = has.within in omega (arith, within)
+nothing_past board home readers from up (inr (inr (r, among, has))) = let within = has.within in omega (arith, within)

@@ -1,0 +1,6 @@
+use Rattle.bit_rows.specs.Bits.{HasBit}
+use Rattle.slot_plan.specs.UsedTables.{CountsBelow}
+use Rattle.slot_plan.proofs.tables.count.Given as goal
+
+abbrev pub invariant-tables : goal.invariant-tables
+invariant-tables l = CountsBelow (HasBit l.rows l.port) l.table l.count

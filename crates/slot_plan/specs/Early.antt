@@ -1,0 +1,14 @@
+-- Which slots are too early for an item.
+use Rattle.std.specs.Prelude.{◌⊎◌, ◌↔◌, ℕ, ◌<◌, ◌≤◌, List, slice_index}
+use Rattle.node_defs.specs.declared.items.Feed.{Feed}
+use Rattle.node_defs.specs.declared.items.Feeds.{Feeds}
+use Rattle.node_defs.specs.declared.items.Item.{Item}
+use Rattle.node_defs.specs.Takes.{FeedAwaits, IsOneOf, Awaits}
+
+-- one of the items has slot s or a later one
+abbrev pub IsAnyLate : (ℕ → Type 0) → List ℕ → ℕ → Type 0
+IsAnyLate IsAwaited slots s = (o : ℕ) × IsAwaited o × (s ≤ slice_index slots o)
+
+-- the slots before this one, and no others, are too early for what awaits these items
+abbrev pub IsFrom : (ℕ → Type 0) → List ℕ → ℕ → Type 0
+IsFrom IsAwaited slots from = (s : ℕ) → (s < from) ↔ IsAnyLate IsAwaited slots s

@@ -1,0 +1,5 @@
+pub mod Boards
+pub mod Early
+pub mod Plannings
+pub mod Refusals
+pub mod UsedTables

@@ -1,0 +1,11 @@
+//! The first-fit plan: items, in their order, each in the first slot that nothing before it rules out,
+//! whatever the number of slots, and then whether the plan fits the machine.
+#![tactic(auto)]
+
+mod board;
+mod early;
+pub mod fit;
+mod planning;
+mod tables;
+
+pub use fit::{PlanNo, first_fit};
