@@ -1,5 +1,5 @@
 -- Homes that are picked are homes of their items.
-use Rattle.std.proofs.Common.{◌≡◌, ◌∙◌, inl, inr, ℕ, ◌+◌, ◌-◌, ◌%◌, ◌<◌, ◌≤◌, List, [], ◌∷◌, ◌++◌, length, get_or, refl, sym, ap, subst, arith, Some, slice_get}
+use Rattle.std.proofs.Common.{◌≡◌, ◌∙◌, inl, inr, ℕ, ◌+◌, ◌-◌, ◌<◌, ◌≤◌, List, [], ◌∷◌, ◌++◌, length, get_or, refl, sym, ap, subst, arith, Some, slice_get}
 use Rattle.std.proofs.lemmas.Nat.{mod_below}
 use Rattle.std.proofs.lemmas.Option.{slice_get_within}
 use Rattle.std.proofs.lemmas.List.{get_or_append_left, length-append}
@@ -11,7 +11,7 @@ use Rattle.node_defs.specs.declared.items.Item.TheVariants.{Input, BlockBit, Nod
 use Rattle.node_defs.specs.declared.items.NodeNet.{NodeNet}
 use Rattle.node_defs.specs.WellFormed.{IsWellFormed, IsComputed}
 use Rattle.plan_defs.specs.declared.plan.Homes.{Homes}
-use Rattle.plan_defs.specs.Homes.{AreHomes, MayHouse, home_of, block_home, host_of}
+use Rattle.plan_defs.specs.Homes.{AreHomes, MayHouse, home_of}
 use Rattle.plan_defs.specs.Picks.{AreHoused, ArePicked, picked_home}
 use Rattle.plan_defs.proofs.ListLemmas.{last_or}
 use Rattle.home_pick.specs.Rooms.{port_of, AreItemPorts}

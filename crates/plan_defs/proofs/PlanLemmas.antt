@@ -1,5 +1,5 @@
 -- First-fit plans: items that would meet are apart, and there is one plan.
-use Rattle.std.proofs.Common.{◌≡◌, ◌∙◌, ◌⊎◌, inl, inr, ℕ, zero, suc, ◌+◌, ◌<◌, ◌≤◌, List, length, refl, sym, ap, subst, arith}
+use Rattle.std.proofs.Common.{◌≡◌, ◌∙◌, inl, inr, ℕ, zero, suc, ◌<◌, ◌≤◌, List, length, sym, ap, subst, arith}
 use Rattle.std.proofs.lemmas.Bool.{cases_order}
 use Rattle.std.proofs.lemmas.List.{ext_get_or}
 use Rattle.node_defs.specs.declared.items.NodeNet.{NodeNet}
@@ -9,8 +9,7 @@ use Rattle.plan_defs.specs.declared.plan.Plan.{Plan}
 use Rattle.plan_defs.specs.Homes.{home_of}
 use Rattle.plan_defs.specs.Lists.{IsLeastFree}
 use Rattle.plan_defs.specs.Readers.{IsReader}
-use Rattle.plan_defs.specs.Slots.{slot_of, IsTooEarly, IsHeld, IsHeard, IsBlocked, AreFirstFit, IsFirstFitPlan, needed_of}
-use Rattle.plan_defs.proofs.ListLemmas.{last_or}
+use Rattle.plan_defs.specs.Slots.{slot_of, IsBlocked, AreFirstFit, IsFirstFitPlan, needed_of}
 
 -- two numbers are equal where neither is below the other
 neither_below : (i j : ℕ) → (i < j → ⊥) → (j < i → ⊥) → i ≡ j

@@ -1,11 +1,10 @@
 -- One more item gets its slot.
-use Rattle.std.proofs.Common.{◌≡◌, ◌≢◌, ◌∙◌, ◌⊎◌, ◌↔◌, inl, inr, ℕ, ◌+◌, ◌*◌, ◌<◌, ◌≤◌, max, List, [], ◌∷◌, ◌++◌, length, get_or, refl, sym, ap, subst, arith, Some, slice_get}
+use Rattle.std.proofs.Common.{◌≡◌, ◌∙◌, ◌↔◌, inl, inr, ℕ, ◌+◌, ◌<◌, ◌≤◌, max, List, [], ◌∷◌, ◌++◌, length, get_or, sym, ap, subst, arith, Some, slice_get}
 use Rattle.std.specs.List.{Contains}
 use Rattle.std.proofs.lemmas.Bool.{cases_lt}
 use Rattle.std.proofs.lemmas.List.{get_or_append_left, length-append}
 use Rattle.std.proofs.lemmas.List.Sums.{fold-append}
 use Rattle.std.proofs.Math.Seq.{get_or-append_seam}
-use Rattle.bit_rows.specs.declared.BitRows.{BitRows}
 use Rattle.bit_rows.specs.Bits.{HasBit, Adds}
 use Rattle.node_defs.specs.declared.items.Item.{Item}
 use Rattle.node_defs.specs.declared.items.NodeNet.{NodeNet}
@@ -15,13 +14,13 @@ use Rattle.plan_defs.specs.declared.plan.Homes.{Homes}
 use Rattle.plan_defs.specs.Homes.{AreHomes, home_of, ports_of}
 use Rattle.plan_defs.specs.Lists.{IsLeastFree}
 use Rattle.plan_defs.specs.Readers.{IsReader, IsReaderList}
-use Rattle.plan_defs.specs.Slots.{slot_of, needed_of, IsTooEarly, IsHeld, IsHeard, IsBlocked, AreFirstFit}
+use Rattle.plan_defs.specs.Slots.{slot_of, needed_of, IsBlocked, AreFirstFit}
 use Rattle.plan_defs.proofs.ListLemmas.{last_or}
 use Rattle.plan_defs.proofs.PortLemmas.{home_port, reader_port}
 use Rattle.plan_defs.proofs.PlanLemmas.{blocked_agree, least_same}
 use Rattle.slot_plan.specs.declared.board.Board.{Board}
 use Rattle.slot_plan.specs.declared.planning.Planning.{Planning}
-use Rattle.slot_plan.specs.Boards.{IsBoard, IsTaken, IsShut, IsRowFor}
+use Rattle.slot_plan.specs.Boards.{IsShut, IsRowFor}
 use Rattle.slot_plan.specs.Early.{IsFrom, IsAnyLate}
 use Rattle.slot_plan.specs.Plannings.{IsRowOf, IsOccupied, IsPlannedTo}
 use Rattle.slot_plan.proofs.BoardLemmas.{board_kept}

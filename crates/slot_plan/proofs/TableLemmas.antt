@@ -1,5 +1,5 @@
 -- Tables that are marked one node after another, and counted.
-use Rattle.std.proofs.Common.{◌≡◌, ◌∙◌, ◌⊎◌, ◌↔◌, inl, inr, ℕ, ◌+◌, ◌*◌, ◌<◌, ◌≤◌, Bool, true, false, if◌then◌else◌, IsTrue, List, [], ◌∷◌, ◌++◌, length, refl, sym, ap, subst, arith, Some, slice_get}
+use Rattle.std.proofs.Common.{◌≡◌, ◌∙◌, ◌⊎◌, ◌↔◌, inl, inr, ℕ, ◌+◌, ◌*◌, ◌<◌, ◌≤◌, Bool, true, false, if◌then◌else◌, IsTrue, [], ◌∷◌, ◌++◌, length, refl, sym, ap, subst, arith, Some, slice_get}
 use Rattle.std.proofs.lemmas.Option.{slice_get_within}
 use Rattle.std.proofs.lemmas.List.{length-append}
 use Rattle.bit_rows.specs.declared.BitRows.{BitRows}
@@ -12,7 +12,6 @@ use Rattle.node_defs.specs.declared.items.NodeNet.{NodeNet}
 use Rattle.node_defs.specs.WellFormed.{IsWellFormed}
 use Rattle.plan_defs.specs.declared.plan.Homes.{Homes}
 use Rattle.plan_defs.specs.Homes.{AreHomes, home_of}
-use Rattle.plan_defs.specs.Lists.{Counts, ListsBelow}
 use Rattle.plan_defs.specs.Tables.{UsesTable, UsesTables}
 use Rattle.plan_defs.specs.UserRows.{HasPlace}
 use Rattle.plan_defs.proofs.ListLemmas.{last_or, listed_none, listed_more, listed_not}

@@ -1,9 +1,5 @@
 -- Which slots are too early for an item.
-use Rattle.std.specs.Prelude.{◌⊎◌, ◌↔◌, ℕ, ◌<◌, ◌≤◌, List, slice_index}
-use Rattle.node_defs.specs.declared.items.Feed.{Feed}
-use Rattle.node_defs.specs.declared.items.Feeds.{Feeds}
-use Rattle.node_defs.specs.declared.items.Item.{Item}
-use Rattle.node_defs.specs.Takes.{FeedAwaits, IsOneOf, Awaits}
+use Rattle.std.specs.Prelude.{◌↔◌, ℕ, ◌<◌, ◌≤◌, List, slice_index}
 
 -- one of the items has slot s or a later one
 abbrev pub IsAnyLate : (ℕ → Type 0) → List ℕ → ℕ → Type 0

@@ -1,5 +1,4 @@
-use Rattle.std.proofs.Common.{◌≡◌, arith}
-use Rattle.home_pick.proofs.FillLemmas.{left_none, left_more}
+use Rattle.home_pick.proofs.FillLemmas.{left_none}
 use Rattle.home_pick.proofs.blocks.most_left.Goals as goal
 
 pub ports-init : goal.ports-init

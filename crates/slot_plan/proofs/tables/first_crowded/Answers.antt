@@ -1,4 +1,4 @@
-use Rattle.std.proofs.Common.{inl, inr, ◌<◌, ◌≤◌, length, sym, subst, arith}
+use Rattle.std.proofs.Common.{inl, inr, length, sym, subst, arith}
 use Rattle.bit_rows.specs.Bits.{HasBit}
 use Rattle.plan_defs.specs.Tables.{FitsTables}
 use Rattle.plan_defs.proofs.ListLemmas.{last_or}

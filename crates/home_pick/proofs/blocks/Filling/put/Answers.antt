@@ -1,4 +1,4 @@
-use Rattle.std.proofs.Common.{◌≡◌, ◌+◌, ◌<◌, ◌≤◌, inl, inr, get_or, arith}
+use Rattle.std.proofs.Common.{◌+◌, inl, inr, get_or, arith}
 use Rattle.std.proofs.lemmas.Bool.{cases_lt}
 use Rattle.plan_defs.specs.Picks.{bit_limit}
 use Rattle.home_pick.proofs.FillLemmas.{filled_more}

@@ -1,5 +1,4 @@
-use Rattle.std.proofs.Common.{◌≡◌, get_or, length, sym, ap, arith, length-append, [], ◌∷◌}
-use Rattle.plan_defs.proofs.UserLemmas.{shaped_place}
+use Rattle.std.proofs.Common.{get_or, length, ap, arith, length-append, [], ◌∷◌}
 use Rattle.plan_defs.proofs.ReaderLemmas.{readers_more}
 use Rattle.plan_defs.proofs.readers.Readers.new.Goals as goal
 

@@ -1,4 +1,4 @@
-use Rattle.std.proofs.Common.{◌≡◌, inl, ◌*◌, arith}
+use Rattle.std.proofs.Common.{inl, ◌*◌, arith}
 use Rattle.slot_plan.specs.Boards.{IsShut}
 use Rattle.slot_plan.proofs.BoardLemmas.{nothing_past}
 use Rattle.slot_plan.proofs.ScanLemmas.{scan_on, scan_stop}

@@ -1,4 +1,4 @@
-use Rattle.std.proofs.Common.{◌≡◌, ℕ, ◌*◌, ◌<◌}
+use Rattle.std.proofs.Common.{ℕ, ◌*◌, ◌<◌}
 use Rattle.slot_plan.specs.Boards.{IsShut}
 use Rattle.slot_plan.proofs.board.Board.first_free.Given as goal
 

@@ -1,4 +1,3 @@
-use Rattle.std.proofs.Common.{◌≡◌, ◌⊎◌, inl, inr}
 use Rattle.slot_plan.proofs.ScanLemmas.{or_more}
 use Rattle.slot_plan.proofs.board.Board.shut_word.Goals as goal
 

@@ -1,4 +1,4 @@
-use Rattle.std.proofs.Common.{◌≡◌, ◌⊎◌, inl, inr, ◌+◌, ◌*◌, ◌<◌, get_or, arith}
+use Rattle.std.proofs.Common.{inl, ◌+◌, ◌*◌, ◌<◌, get_or, arith}
 use Rattle.std.proofs.lemmas.List.Elements.{Contains-get_or}
 use Rattle.slot_plan.proofs.BoardLemmas.{taken_none, taken_more, taken_all}
 use Rattle.slot_plan.proofs.ScanLemmas.{or_more}
