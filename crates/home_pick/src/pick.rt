@@ -18,8 +18,8 @@ use std::alloc::Global;
 /// Why there are no homes.
 #[derive(Clone, Copy, Debug, PartialEq, Eq)]
 pub enum HomeNo {
-    /// This memory is the first that finds no array port with room for its bits. So many bits are left
-    /// on the array port that has the most, 0 without one.
+    /// This memory is the first that finds no array port with room for its bits. So many bits are
+    /// left on the array port that has the most, 0 without one.
     Bits { block: u32, needed: u32, left: u32 },
     /// There was not enough memory to pick homes.
     Memory,

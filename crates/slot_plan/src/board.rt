@@ -10,7 +10,8 @@ use bit_rows::BitRows;
 use seen_list::Memory;
 use std::alloc::Global;
 
-/// The slots in which a port sends are row `port`, and those in which it receives row `ports + port`.
+/// The slots in which a port sends are row `port`, and those in which it receives are row
+/// `ports + port`.
 #[derive(Drop)]
 pub(crate) struct Board {
     pub(crate) rows: BitRows,

@@ -40,9 +40,9 @@ impl From<Memory> for PlanNo {
     }
 }
 
-/// The first-fit plan of items at their homes, if it fits the machine. A design of at most as many items
-/// as a turn has slots, with at most as many tables as each port holds, is refused for want of memory
-/// alone, on any number of ports.
+/// The first-fit plan of items at their homes, if it fits the machine. A design of at most as many
+/// items as a turn has slots, with at most as many tables as each port holds, is refused for want of
+/// memory alone, on any number of ports.
 pub fn first_fit(
     alloc: Global,
     nodes: &NodeNet,

@@ -1,5 +1,5 @@
-//! The first-fit plan: items, in their order, each in the first slot that nothing before it rules out,
-//! whatever the number of slots, and then whether the plan fits the machine.
+//! The first-fit plan: items, in their order, each in the first slot that nothing before it rules
+//! out, whatever the number of slots, and then whether the plan fits the machine.
 #![tactic(auto)]
 
 mod board;
