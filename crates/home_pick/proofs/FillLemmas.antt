@@ -39,7 +39,7 @@ bits_more nodes ports m port =
     let one : 0 + bits_at nodes ports port m ≡ bits_at nodes ports port m = omega arith in
     ap (sum_by (bits_at nodes ports port)) range ∙ (sum_by-append (bits_at nodes ports port) (range_with_len 0 m) (m ∷ []) ∙ ap (λ n. bits_before nodes ports m port + n) one)
 
-bits_same : (nodes : NodeNet) (xs ys : List ℕ) (m port : ℕ) → ((k : ℕ) → k < m → get_or xs k 0 ≡ get_or ys k 0) → bits_before nodes xs m port ≡ bits_before nodes ys m port
+pub bits_same : (nodes : NodeNet) (xs ys : List ℕ) (m port : ℕ) → ((k : ℕ) → k < m → get_or xs k 0 ≡ get_or ys k 0) → bits_before nodes xs m port ≡ bits_before nodes ys m port
 bits_same nodes xs ys zero port same = refl
 bits_same nodes xs ys (suc m) port same =
     let more : suc m ≡ m + 1 = omega arith in
@@ -139,13 +139,14 @@ module _ (nodes : NodeNet) (machine : Machine) (filling : Filling) (n : ℕ) (be
   }
 
   -- the memory finds no port
-  pub none_found : (needed left : ℕ) → n < length nodes.blocks → needed ≡ bits_of nodes n → ((a : ℕ) → a < length filling.used → LacksBits machine filling.used needed a) → IsMostLeft machine filling.used (length filling.used) left → FindsNoPort nodes machine n needed left
-  none_found needed left there is none most = record {
+  pub none_found : (needed left : ℕ) → n < length nodes.blocks → needed ≡ bits_of nodes n → ((a : ℕ) → a < length filling.used → LacksBits machine filling.used needed a) → IsMostLeft machine filling.used (length filling.used) left → 1 ≤ needed → FindsNoPort nodes machine n needed left
+  none_found needed left there is none most some_bit = record {
     ports = filling.ports;
     before = before.housed;
     there = there;
     bits = is;
     none = λ a low. bits_lack a needed low is (none a (inside a low));
+    past = elim most.reached [ inl nothing ↦ omega (arith, nothing, some_bit) | inr one ↦ (let lacks = none one.0 one.1 in let is = one.2 in omega (arith, lacks, is, some_bit)) ];
     most = λ a low. (let used = before.bits a low in let up = most.most a (inside a low) in omega (arith, used, up));
     reached = (λ empty. elim most.reached [ inl nothing ↦ nothing | inr one ↦ (let low = one.1 in let count = before.array in absurd (omega (arith, low, count, empty))) ], some);
   } where
@@ -196,3 +197,14 @@ bits_few a w few narrow =
     let small = power_small a few in
     let bound : 2 ^ a * w ≤ 131072 * 64 = mul-le-mul {n₁ = 2 ^ a} {m₁ = w} {n₂ = 131072} {m₂ = 64} (omega (arith, small)) narrow in
     bound
+
+-- ---- a memory has a bit
+
+some_power : (a : ℕ) → 1 ≤ 2 ^ a
+some_power zero = omega arith
+some_power (suc a) = let more : 2 ^ 0 < 2 ^ suc a = pow-lt {i = 0} {j = suc a} (omega arith) in omega (arith, more)
+
+pub some_bits : (a w : ℕ) → 1 ≤ w → 1 ≤ 2 ^ a * w
+some_bits a w some =
+    let product : 1 * 1 ≤ 2 ^ a * w = mul-le-mul {n₁ = 1} {m₁ = 1} {n₂ = 2 ^ a} {m₂ = w} (some_power a) some in
+    omega (arith, product)

@@ -3,6 +3,7 @@
 #![tactic(auto)]
 
 mod blocks;
+pub mod law;
 pub mod pick;
 
 pub use pick::{HomeNo, homes};

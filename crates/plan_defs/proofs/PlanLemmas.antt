@@ -1,5 +1,5 @@
 -- First-fit plans: items that would meet are apart, and there is one plan.
-use Rattle.std.proofs.Common.{◌≡◌, ◌∙◌, inl, inr, ℕ, zero, suc, ◌<◌, ◌≤◌, List, length, sym, ap, subst, arith}
+use Rattle.std.proofs.Common.{◌≡◌, ◌∙◌, ◌⊎◌, inl, inr, ℕ, zero, suc, ◌+◌, ◌<◌, ◌≤◌, max, fold, List, [], ◌∷◌, length, get_or, sym, ap, subst, arith}
 use Rattle.std.proofs.lemmas.Bool.{cases_order}
 use Rattle.std.proofs.lemmas.List.{ext_get_or}
 use Rattle.node_defs.specs.declared.items.NodeNet.{NodeNet}
@@ -67,3 +67,41 @@ plans_agree nodes homes one other formed first second =
     let same : one.slots ≡ other.slots = ext_get_or 0 one.slots other.slots (count ∙ sym second.slots.items)
     (λ i low. slots_agree nodes homes one.slots other.slots (length nodes.items) formed first.slots second.slots i (omega (arith, low, count))) in
     (same, first.needed ∙ (ap needed_of same ∙ sym second.needed))
+
+-- an item has no higher slot than its place: each lower slot is ruled out by an item before it
+module _ (nodes : NodeNet) (homes : Homes) (slots : List ℕ) (n : ℕ) (formed : IsWellFormed nodes) (fit : AreFirstFit nodes homes slots n) where
+  -- what no item before reaches is not ruled out
+  free_above : (i s : ℕ) → ((j : ℕ) → j < i → slot_of slots j < s) → IsBlocked nodes homes slots i s → ⊥
+  free_above i s low (inl early) =
+      let below : slot_of slots early.operand < s = low early.operand (formed.awaited i early.operand early.item early.is early.awaits) in
+      omega (arith, below, early.late)
+  free_above i s low (inr (inl held)) = omega (arith, low held.holder held.before, held.slot)
+  free_above i s low (inr (inr heard)) = omega (arith, low heard.sent heard.before, heard.slot)
+
+  slot_next : (i : ℕ) → i < n → ((j : ℕ) → j < i → slot_of slots j ≤ j) → slot_of slots i ≤ i
+  slot_next i within low = by_place (cases_order i (slot_of slots i)) where
+    free : IsBlocked nodes homes slots i i → ⊥
+    free = free_above i i (λ j before. omega (arith, low j before, before))
+
+    by_place : (i ≡ slot_of slots i) ⊎ ((i < slot_of slots i) ⊎ (slot_of slots i < i)) → slot_of slots i ≤ i
+    by_place (inl same) = omega (arith, same)
+    by_place (inr (inl high)) = absurd (free ((fit.least i within).below i high))
+    by_place (inr (inr below)) = omega (arith, below)
+
+  slot_to : (m i : ℕ) → i < m → i < n → slot_of slots i ≤ i
+  slot_to zero i low within = absurd (omega (arith, low))
+  slot_to (suc m) i low within = slot_next i within (λ j before. slot_to m j (omega (arith, low, before)) (omega (arith, before, within)))
+
+-- one more than each of some numbers is at most a bound, and so is the greatest of these
+needed_low : (slots : List ℕ) (first bound : ℕ) → first ≤ bound → ((i : ℕ) → i < length slots → get_or slots i 0 + 1 ≤ bound) → fold (λ needed slot. max needed (slot + 1)) first slots ≤ bound
+needed_low [] first bound begun low = begun
+needed_low (slot ∷ slots) first bound begun low =
+    needed_low slots (max first (slot + 1)) bound (omega (arith, begun, low 0 (omega arith))) (λ i within. low (suc i) (omega (arith, within)))
+
+-- a plan needs no more slots than there are items
+pub few_slots : (nodes : NodeNet) (homes : Homes) (plan : Plan) → IsWellFormed nodes → IsFirstFitPlan nodes homes plan → plan.needed ≤ length nodes.items
+few_slots nodes homes plan formed is =
+    rw is.needed (needed_low plan.slots 0 (length nodes.items) (omega arith) (λ i within.
+    let inside : i < length nodes.items = omega (arith, within, is.slots.items) in
+    let low : slot_of plan.slots i ≤ i = slot_to nodes homes plan.slots (length nodes.items) formed is.slots (i + 1) i (omega arith) inside in
+    omega (arith, low, inside)))

@@ -20,8 +20,8 @@ home_of homes i = slice_index homes.items i
 abbrev pub block_home : Homes → ℕ → ℕ
 block_home homes m = slice_index homes.blocks m
 
--- the port may be the item's home: the host of an input, the memory's port of a memory output, any
--- logic port of a node or a latch
+-- the port may be the item's home: the host for an input, the memory's port for a memory output, any
+-- logic port for a node or a latch
 abbrev pub MayHouse : Homes → Item → ℕ → Type 0
 MayHouse homes (Input column) port = port ≡ host_of homes
 MayHouse homes (BlockBit block bit) port = port ≡ block_home homes block
@@ -34,7 +34,7 @@ pub record AreHomes (nodes : NodeNet) (homes : Homes) : Type 0 where
   pub logic : (1 ≤ homes.logic) × (homes.logic ≤ 254)
   pub array : homes.array ≤ 64
   pub ports : ports_of homes ≤ 256
-  -- each item and each memory has a home that may be its
+  -- each item and each memory has a home that it may have
   pub items : length homes.items ≡ length nodes.items
   pub housed : (i : ℕ) (item : Item) → slice_get nodes.items i ≡ Some item → MayHouse homes item (home_of homes i)
   pub blocks : length homes.blocks ≡ length nodes.blocks

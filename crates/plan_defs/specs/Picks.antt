@@ -35,7 +35,7 @@ pub record AreHoused (nodes : NodeNet) (machine : Machine) (ports : List ℕ) (n
   pub memories : length ports ≡ n
   pub array : (m : ℕ) → m < n → (a : ℕ) × (a < machine.array) × (slice_index ports m ≡ machine.logic + a) × IsLeastFree (LacksRoom nodes machine ports m) a
 
--- where an item is: node number i, counted from 0 in item order, at logic port i mod their number
+-- where an item is: node number n, which is item first_node + n, at logic port n mod their number
 abbrev pub picked_home : NodeNet → Homes → ℕ → Item → ℕ
 picked_home nodes homes i (Input column) = host_of homes
 picked_home nodes homes i (BlockBit block bit) = block_home homes block
@@ -62,5 +62,6 @@ pub record FindsNoPort (nodes : NodeNet) (machine : Machine) (block needed left 
   pub there : block < length nodes.blocks
   pub bits : needed ≡ bits_of nodes block
   pub none : (a : ℕ) → a < machine.array → LacksRoom nodes machine ports block a
+  pub past : left < needed
   pub most : (a : ℕ) → a < machine.array → bits_left nodes machine ports block a ≤ left
   pub reached : (machine.array ≡ 0 → left ≡ 0) × (1 ≤ machine.array → (a : ℕ) × (a < machine.array) × (bits_left nodes machine ports block a ≡ left))

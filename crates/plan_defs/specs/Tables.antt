@@ -16,7 +16,7 @@ pub record UsesTable (nodes : NodeNet) (homes : Homes) (port table : ℕ) : Type
   pub is : slice_get nodes.items node ≡ Some (Node table feeds)
   pub home : home_of homes node ≡ port
 
--- so many different tables are used at the port
+-- so many tables are used at the port; no two tables of well-formed items are equal
 abbrev pub UsesTables : NodeNet → Homes → ℕ → ℕ → Type 0
 UsesTables nodes homes port count = Counts (UsesTable nodes homes port) count
 
@@ -34,7 +34,8 @@ pub record FitsTables (nodes : NodeNet) (homes : Homes) (machine : Machine) (por
   pub uses : UsesTables nodes homes port count
   pub few : count ≤ table_limit machine port
 
--- the plan fits the machine
+-- the plan's slots and each logic port's tables are within the machine's limits; whether each memory
+-- finds a port is not asked here
 pub record Fits (nodes : NodeNet) (homes : Homes) (machine : Machine) (plan : Plan) : Type 0 where
   pub slots : plan.needed ≤ slot_limit machine
   pub tables : (port : ℕ) → port < homes.logic → FitsTables nodes homes machine port

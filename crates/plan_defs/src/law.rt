@@ -1,6 +1,7 @@
-//! Laws of first-fit plans: functions that do nothing, whose clauses hold of all items and homes.
+//! Laws of homes, first-fit plans and the items that are planned: functions that do nothing, whose
+//! clauses hold of all items and homes.
 
-ghost use Rattle.std.specs.Prelude.{◌≡◌, ◌<◌, ℕ, length};
+ghost use Rattle.std.specs.Prelude.{◌≡◌, ◌<◌, ◌≤◌, ℕ, length};
 ghost use Rattle.net_defs.specs.declared.netlist.Netlist.{Netlist};
 ghost use Rattle.net_defs.specs.declared.timing.Timing.{Timing};
 ghost use Rattle.net_defs.specs.Valid.{IsValid};
@@ -34,6 +35,12 @@ pub fn one_plan()
     ensures { (nodes : NodeNet) (homes : Homes) (one other : Plan) → IsWellFormed nodes
         → IsFirstFitPlan nodes homes one → IsFirstFitPlan nodes homes other
         → (one.slots ≡ other.slots) × (one.needed ≡ other.needed) }
+{}
+
+/// A law: a first-fit plan needs no more slots than there are items. It does nothing.
+pub fn few_slots()
+    ensures { (nodes : NodeNet) (homes : Homes) (plan : Plan) → IsWellFormed nodes
+        → IsFirstFitPlan nodes homes plan → plan.needed ≤ length nodes.items }
 {}
 
 /// A law: the items of a valid netlist are what planning asks of them. It does nothing.

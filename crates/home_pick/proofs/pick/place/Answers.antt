@@ -2,7 +2,7 @@ use Rattle.std.proofs.Common.{◌≡◌, ◌∙◌, ◌<◌, List, ℕ, Some, sl
 use Rattle.std.proofs.lemmas.Option.{slice_get_read}
 use Rattle.plan_defs.specs.Picks.{bits_of}
 use Rattle.home_pick.specs.Rooms.{LacksBits, IsMostLeft}
-use Rattle.home_pick.proofs.FillLemmas.{bits_few, bits_read, none_found}
+use Rattle.home_pick.proofs.FillLemmas.{bits_few, bits_read, none_found, some_bits}
 use Rattle.home_pick.proofs.pick.place.Goals as goal
 
 pub block_bits-needed-requires-clause-word : goal.block_bits-needed-requires-clause-word
@@ -24,3 +24,5 @@ returns-in-None-clause-refused c =
     (c.block_bits-needed.ensures ∙ sym (bits_read c.args.nodes.now c.args.block c.index-as_slice-block.result (subst (λ xs. slice_get xs c.args.block ≡ Some c.index-as_slice-block.result) c.as_slice.ensures (slice_get_read c.as_slice.result.now (length c.as_slice.result.now) c.args.block c.index-as_slice-block.result refl (omega (arith, ap length c.as_slice.ensures)) c.index-as_slice-block.is))))
     (subst (λ (used : List ℕ). (a : ℕ) → a < length used → LacksBits c.args.machine.now used c.block_bits-needed.result a) c.as_slice-2.ensures (c.in-None.ensures.none refl))
     (subst (λ (used : List ℕ). IsMostLeft c.args.machine.now used (length used) c.most_left.result) c.as_slice-in-None.ensures c.most_left.ensures)
+    (let memory = c.requires.nodes.memories c.args.block c.index-as_slice-block.result (subst (λ xs. slice_get xs c.args.block ≡ Some c.index-as_slice-block.result) c.as_slice.ensures (slice_get_read c.as_slice.result.now (length c.as_slice.result.now) c.args.block c.index-as_slice-block.result refl (omega (arith, ap length c.as_slice.ensures)) c.index-as_slice-block.is)) in
+    rw c.block_bits-needed.ensures (some_bits (length c.index-as_slice-block.result.address) (length c.index-as_slice-block.result.word) memory.word.0))

@@ -1,0 +1,18 @@
+//! Laws of picked homes: functions that do nothing, whose clauses hold of all items and machines.
+
+ghost use Rattle.std.specs.Prelude.{◌≡◌, List as Items, ℕ, length};
+ghost use Rattle.machine_text.specs.declared.machine.Machine.{Machine};
+ghost use Rattle.node_defs.specs.declared.items.NodeNet.{NodeNet};
+ghost use Rattle.plan_defs.specs.Picks.{AreHoused, FindsNoPort};
+
+/// A law: memories have one list of ports. It does nothing.
+pub fn one_housing()
+    ensures { (nodes : NodeNet) (machine : Machine) (ports others : Items ℕ) (n : ℕ)
+        → AreHoused nodes machine ports n → AreHoused nodes machine others n → ports ≡ others }
+{}
+
+/// A law: where all memories have ports, none is refused. It does nothing.
+pub fn housed_or_refused()
+    ensures { (nodes : NodeNet) (machine : Machine) (ports : Items ℕ) (block needed left : ℕ)
+        → AreHoused nodes machine ports (length nodes.blocks) → FindsNoPort nodes machine block needed left → ⊥ }
+{}
