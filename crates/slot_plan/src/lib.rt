@@ -7,5 +7,7 @@ mod early;
 pub mod fit;
 mod planning;
 mod tables;
+#[cfg(test)]
+mod tests;
 
 pub use fit::{PlanNo, first_fit};
