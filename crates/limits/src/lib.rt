@@ -1,4 +1,4 @@
-//! The limits of netlists, stimuli and texts that this project's profile sets, each stated once.
+//! The limits of netlists, stimuli, texts and machines that this project's profile sets, each stated once.
 #![tactic(auto)]
 
 ghost use Rattle.std.specs.Prelude.{◌↔◌, ◌≤◌, IsTrue};
@@ -33,6 +33,24 @@ pub const MAX_CELLS: u64 = 268_435_456;
 
 /// The most turns of a cycle.
 pub const MAX_UNITS: u32 = 4096;
+
+/// The most logic processors of a machine.
+pub const MAX_LOGIC: u32 = 254;
+
+/// The most array processors of a machine.
+pub const MAX_ARRAY: u32 = 64;
+
+/// The most ports of a machine: its processors and the host.
+pub const MAX_PORTS: u32 = 256;
+
+/// The most slots of a turn.
+pub const MAX_SLOTS: u32 = 65_536;
+
+/// The most different functions of a logic processor.
+pub const MAX_FUNCTIONS: u32 = 4096;
+
+/// The most bits of an array processor.
+pub const MAX_ARRAY_BITS: u32 = 16_777_216;
 
 /// Whether a text of so many bytes may be read.
 pub fn fits_text(bytes: usize) -> bool

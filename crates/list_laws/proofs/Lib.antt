@@ -1,5 +1,4 @@
 pub mod Differ
-pub mod Folds
 pub mod Maps
 pub mod Members
 pub mod Options

@@ -1,4 +1,5 @@
 -- A text reads as a machine exactly where it has no fault.
+use Rattle.limits.specs.declared.TheConstants.{MAX_PORTS}
 use Rattle.std.proofs.Common.{◌≡◌, ◌⊎◌, ℕ, ◌+◌, ◌<◌, ◌≤◌, Bool, true, false, cond, List, [], ◌∷◌, length, take, get_or, Option, Some, None, sym, ap, ◌∙◌, subst, refl, inl, inr, arith}
 use Rattle.std.specs.List.{All, AllPairs, AllByRecursion, list_any, find, cons_option}
 use Rattle.std.specs.Option.{option_map, option_or}
@@ -123,7 +124,7 @@ bounds_from_no_fault text quantity none =
     (leb-true _ _ within.0, leb-true _ _ within.1)
 
 -- a text whose lines have no fault, with few enough ports, reads as the machine that they make
-pub reads_from_made : (text : List ℕ) (machine : Machine) → machine ≡ machine_of (settings_of (parts_of text)) → first (line_fault text) (length (parts_of text)) ≡ None → ports_of machine ≤ 256 → Reads text machine
+pub reads_from_made : (text : List ℕ) (machine : Machine) → machine ≡ machine_of (settings_of (parts_of text)) → first (line_fault text) (length (parts_of text)) ≡ None → ports_of machine ≤ MAX_PORTS → Reads text machine
 reads_from_made text machine is none few = record {
   lines = All-from_recursion (λ part. IsAllowed (says part)) (parts_of text) (allowed_from_no_fault text none);
   once = apart_from_no_fault text none;
@@ -131,8 +132,8 @@ reads_from_made text machine is none few = record {
   ports = few;
 }
 
-ports_fault-none : (machine : Machine) → ports_of machine ≤ 256 → ports_fault machine ≡ None
-ports_fault-none machine few = cond-false _ _ _ (le-ltb 256 (ports_of machine) few)
+ports_fault-none : (machine : Machine) → ports_of machine ≤ MAX_PORTS → ports_fault machine ≡ None
+ports_fault-none machine few = cond-false _ _ _ (le-ltb MAX_PORTS (ports_of machine) few)
 
 pub lines_from_reads : (text : List ℕ) (machine : Machine) → Reads text machine → first (line_fault text) (length (parts_of text)) ≡ None
 lines_from_reads text machine reads =
@@ -148,7 +149,7 @@ lines_from_reads text machine reads =
 pub no_fault_from_reads : (text : List ℕ) (machine : Machine) → Reads text machine → first_fault text ≡ None
 no_fault_from_reads text machine reads =
     ap (λ fault. option_or fault (ports_fault (machine_of (settings_of (parts_of text))))) (lines_from_reads text machine reads)
-    ∙ ports_fault-none (machine_of (settings_of (parts_of text))) (subst (λ m. ports_of m ≤ 256) reads.numbers reads.ports)
+    ∙ ports_fault-none (machine_of (settings_of (parts_of text))) (subst (λ m. ports_of m ≤ MAX_PORTS) reads.numbers reads.ports)
 
 -- what a text reads as is a valid machine
 pub valid_from_reads : (text : List ℕ) (machine : Machine) → Reads text machine → IsValid machine
@@ -169,7 +170,7 @@ valid_from_reads text machine reads =
       functions_most = functions.1;
       bits_least = bits.0;
       bits_most = bits.1;
-      ports = subst (λ m. ports_of m ≤ 256) reads.numbers reads.ports;
+      ports = subst (λ m. ports_of m ≤ MAX_PORTS) reads.numbers reads.ports;
     })
 
 -- a text reads as one machine
@@ -184,7 +185,7 @@ reads_or_fault text = by_lines (first (line_fault text) (length (parts_of text))
   by_lines (Some why) is = inr (why, ap (λ fault. option_or fault (ports_fault (machine_of (settings_of (parts_of text))))) is)
   by_lines None is =
       let machine = machine_of (settings_of (parts_of text)) in
-      elim (cases_lt 256 (ports_of machine)) [
-        | inl many ↦ inr (Ports (ports_of machine), ap (λ fault. option_or fault (ports_fault machine)) is ∙ cond-true _ _ _ (lt-ltb 256 (ports_of machine) many))
+      elim (cases_lt MAX_PORTS (ports_of machine)) [
+        | inl many ↦ inr (Ports (ports_of machine), ap (λ fault. option_or fault (ports_fault machine)) is ∙ cond-true _ _ _ (lt-ltb MAX_PORTS (ports_of machine) many))
         | inr few ↦ inl (machine, reads_from_made text machine refl is few)
       ]

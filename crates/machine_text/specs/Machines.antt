@@ -2,6 +2,7 @@
 use Rattle.std.specs.Prelude.{◌≡◌, ℕ, ◌+◌, ◌≤◌, true, false, List, [], length, take, slice_index_or, Option, Some, None, unwrap_or, if◌then◌else◌, nat_lt, All, AllPairs}
 use Rattle.std.specs.List.{find}
 use Rattle.std.specs.Option.{option_map, option_or}
+use Rattle.limits.specs.declared.TheConstants.{MAX_LOGIC, MAX_ARRAY, MAX_PORTS, MAX_SLOTS, MAX_FUNCTIONS, MAX_ARRAY_BITS}
 use Rattle.text_lines.specs.Answers.{first}
 use Rattle.text_lines.specs.Lines.{parts_of}
 use Rattle.machine_text.specs.declared.quantity.Quantity.{Quantity}
@@ -38,18 +39,18 @@ default_machine = machine_of []
 abbrev pub ports_of : Machine → ℕ
 ports_of machine = machine.logic + machine.array + 1
 
--- each number is in its range, and there are at most 256 ports
+-- each number is in its range, and there are not too many ports
 pub record IsValid (machine : Machine) : Type 0 where
   pub logic_least : 1 ≤ machine.logic
-  pub logic_most : machine.logic ≤ 254
-  pub array_most : machine.array ≤ 64
+  pub logic_most : machine.logic ≤ MAX_LOGIC
+  pub array_most : machine.array ≤ MAX_ARRAY
   pub slots_least : 1 ≤ machine.slots
-  pub slots_most : machine.slots ≤ 65536
+  pub slots_most : machine.slots ≤ MAX_SLOTS
   pub functions_least : 1 ≤ machine.functions
-  pub functions_most : machine.functions ≤ 4096
+  pub functions_most : machine.functions ≤ MAX_FUNCTIONS
   pub bits_least : 1 ≤ machine.bits
-  pub bits_most : machine.bits ≤ 16777216
-  pub ports : ports_of machine ≤ 256
+  pub bits_most : machine.bits ≤ MAX_ARRAY_BITS
+  pub ports : ports_of machine ≤ MAX_PORTS
 
 -- ---- what a text reads as
 
@@ -65,12 +66,12 @@ AreApart (Sets a m) (Sets b n) = same_quantity b a ≡ false
 AreApart _ _ = Unit {0}
 
 -- The text reads as the machine: each line is allowed, no two give the same quantity, each quantity
--- has the number that a line gives it or else its default, and there are at most 256 ports.
+-- has the number that a line gives it or else its default, and there are not too many ports.
 pub record Reads (text : List ℕ) (machine : Machine) : Type 0 where
   pub lines : All (λ part. IsAllowed (says part)) (parts_of text)
   pub once : AllPairs (λ a b. AreApart (says a) (says b)) (parts_of text)
   pub numbers : machine ≡ machine_of (settings_of (parts_of text))
-  pub ports : ports_of machine ≤ 256
+  pub ports : ports_of machine ≤ MAX_PORTS
 
 -- ---- its first fault
 
@@ -80,7 +81,7 @@ line_fault text i =
     fault_of (settings_of (take i (parts_of text))) (i + 1) (says (slice_index_or (parts_of text) i []))
 
 abbrev pub ports_fault : Machine → Option MachNo
-ports_fault machine = if nat_lt 256 (ports_of machine) then Some (Ports (ports_of machine)) else None
+ports_fault machine = if nat_lt MAX_PORTS (ports_of machine) then Some (Ports (ports_of machine)) else None
 
 -- the fault of the first line that has one, and where no line has one, too many ports
 abbrev pub first_fault : List ℕ → Option MachNo

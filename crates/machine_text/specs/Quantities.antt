@@ -1,6 +1,7 @@
 -- The quantities of a machine: their words, ranges and defaults.
 use Rattle.std.specs.Prelude.{ℕ, Bool, true, false, List, Option, Some, None, if◌then◌else◌, codes, nat_le, ◌&&◌}
 use Rattle.std.specs.Str.{str_eq_ignore_ascii_case}
+use Rattle.limits.specs.declared.TheConstants.{MAX_LOGIC, MAX_ARRAY, MAX_SLOTS, MAX_FUNCTIONS, MAX_ARRAY_BITS}
 use Rattle.machine_text.specs.declared.quantity.Quantity.{Quantity}
 use Rattle.machine_text.specs.declared.quantity.Quantity.TheVariants.{Logic, Array, Slots, Functions, Bits}
 
@@ -33,16 +34,16 @@ least_of Functions = 1
 least_of Bits = 1
 
 abbrev pub most_of : Quantity → ℕ
-most_of Logic = 254
-most_of Array = 64
-most_of Slots = 65536
-most_of Functions = 4096
-most_of Bits = 16777216
+most_of Logic = MAX_LOGIC
+most_of Array = MAX_ARRAY
+most_of Slots = MAX_SLOTS
+most_of Functions = MAX_FUNCTIONS
+most_of Bits = MAX_ARRAY_BITS
 
 abbrev pub default_of : Quantity → ℕ
 default_of Logic = 4
 default_of Array = 1
-default_of Slots = 65536
+default_of Slots = MAX_SLOTS
 default_of Functions = 256
 default_of Bits = 65536
 

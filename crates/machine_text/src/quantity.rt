@@ -54,11 +54,11 @@ impl Quantity {
         ensures { result ≡ most_of self }
     {
         match self {
-            Quantity::Logic => 254,
-            Quantity::Array => 64,
-            Quantity::Slots => 65_536,
-            Quantity::Functions => 4_096,
-            Quantity::Bits => 16_777_216,
+            Quantity::Logic => limits::MAX_LOGIC,
+            Quantity::Array => limits::MAX_ARRAY,
+            Quantity::Slots => limits::MAX_SLOTS,
+            Quantity::Functions => limits::MAX_FUNCTIONS,
+            Quantity::Bits => limits::MAX_ARRAY_BITS,
         }
     }
 
@@ -69,7 +69,7 @@ impl Quantity {
         match self {
             Quantity::Logic => 4,
             Quantity::Array => 1,
-            Quantity::Slots => 65_536,
+            Quantity::Slots => limits::MAX_SLOTS,
             Quantity::Functions => 256,
             Quantity::Bits => 65_536,
         }

@@ -13,12 +13,10 @@ ghost use Rattle.machine_text.specs.Machines.{IsValid, Reads, first_fault, line_
 use crate::line::{Setting, read_line};
 use crate::machine::{MachNo, Machine};
 use crate::quantity::{Quantity, is_same};
+use limits::MAX_PORTS;
 use seen_list::List;
 use std::alloc::Global;
 use text_lines::Lines;
-
-/// The most ports of a machine, the host's among them.
-const MAX_PORTS: u32 = 256;
 
 /// The machine that the text describes, or the text's first fault. A fault of a line is a wrong
 /// form, a word that an earlier line has, or else a number out of its range.

@@ -1,6 +1,7 @@
 //! Keys of items, in whose order they stand.
 
 ghost use Rattle.std.specs.Prelude.{◌≡◌, ◌+◌, ◌-◌, ◌^◌, ◌<◌, ◌≤◌, ◌++◌, ℕ, [], length, map, slice_index, OnOk, IfOk};
+ghost use Rattle.limits.specs.declared.TheConstants.{MAX_SIGNALS};
 ghost use Rattle.std.specs.List.{range_with_len};
 ghost use Rattle.std.specs.List.Sorted.{IsPermutation, IsSorted};
 ghost use Rattle.net_defs.specs.Steps.{is_late};
@@ -60,7 +61,7 @@ fn push_keys(
 
 /// The keys of all items by signal and place.
 fn all_keys(alloc: Global, net: &Netlist, timing: &Timing, own: &[u32]) -> Result<Vec<Key>, Memory>
-    requires few { length net.now.signals ≤ 1048576 }
+    requires few { length net.now.signals ≤ MAX_SIGNALS }
     requires narrow { (s : ℕ) → length (operands_of net.now s) ≤ 1024 }
     requires low { (s : ℕ) → slice_index own.now s + 2052 < 2 ^ 32 }
     ensures { IfOk result (λ keys. keys.items ≡ keys_to net.now timing.now own.now (length net.now.signals)) }
@@ -88,7 +89,7 @@ pub(crate) fn sorted_keys(
     timing: &Timing,
     own: &[u32],
 ) -> Result<Vec<Key>, Memory>
-    requires few { length net.now.signals ≤ 1048576 }
+    requires few { length net.now.signals ≤ MAX_SIGNALS }
     requires narrow { (s : ℕ) → length (operands_of net.now s) ≤ 1024 }
     requires low { (s : ℕ) → slice_index own.now s + 2052 < 2 ^ 32 }
     ensures keyed { IfOk result (λ keys. AreKeyed net.now keys.items) }

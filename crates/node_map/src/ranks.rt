@@ -1,6 +1,7 @@
 //! The rank of the own node of each signal, along an order.
 
 ghost use Rattle.std.specs.Prelude.{◌≡◌, ◌+◌, ◌^◌, ◌<◌, ◌≤◌, ℕ, [], length, replicate, slice_index, IfOk};
+ghost use Rattle.limits.specs.declared.TheConstants.{MAX_SIGNALS};
 ghost use Rattle.net_defs.specs.Loops.{IsOrder};
 ghost use Rattle.node_map.specs.Wires.{operands_of, helpers_at, rank_at, AreOwnRanks};
 
@@ -48,7 +49,7 @@ pub(crate) fn own_ranks(
 ) -> Result<List<u32>, Memory>
     requires narrow { (s : ℕ) → length (operands_of net.now s) ≤ 1024 }
     requires order { IsOrder net.now timing.now order.now }
-    requires short { length order.now ≤ 1048576 }
+    requires short { length order.now ≤ MAX_SIGNALS }
     ensures ranks { IfOk result (AreOwnRanks net.now timing.now) }
     ensures low { IfOk result (λ own. (s : ℕ) → slice_index own s + 2052 < 2 ^ 32) }
 {

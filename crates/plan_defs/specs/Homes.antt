@@ -1,5 +1,6 @@
 -- Ports, and which homes are homes of these items.
 use Rattle.std.specs.Prelude.{◌≡◌, ℕ, ◌+◌, ◌<◌, ◌≤◌, length, Some, slice_get, slice_index}
+use Rattle.limits.specs.declared.TheConstants.{MAX_LOGIC, MAX_ARRAY, MAX_PORTS}
 use Rattle.node_defs.specs.declared.items.Item.{Item}
 use Rattle.node_defs.specs.declared.items.Item.TheVariants.{Input, BlockBit, Node, Latch}
 use Rattle.node_defs.specs.declared.items.NodeNet.{NodeNet}
@@ -31,9 +32,9 @@ MayHouse homes (Latch op) port = port < homes.logic
 -- the homes are of these items
 pub record AreHomes (nodes : NodeNet) (homes : Homes) : Type 0 where
   -- as many processors as a machine has
-  pub logic : (1 ≤ homes.logic) × (homes.logic ≤ 254)
-  pub array : homes.array ≤ 64
-  pub ports : ports_of homes ≤ 256
+  pub logic : (1 ≤ homes.logic) × (homes.logic ≤ MAX_LOGIC)
+  pub array : homes.array ≤ MAX_ARRAY
+  pub ports : ports_of homes ≤ MAX_PORTS
   -- each item and each memory has a home that it may have
   pub items : length homes.items ≡ length nodes.items
   pub housed : (i : ℕ) (item : Item) → slice_get nodes.items i ≡ Some item → MayHouse homes item (home_of homes i)

@@ -10,7 +10,7 @@ use Rattle.net_defs.specs.Loops.{IsGate, waits_for, IsLoop}
 use Rattle.rank_find.specs.declared.walk.Mark.{Mark}
 use Rattle.rank_find.specs.Walk.{IsWalk}
 use Rattle.rank_find.specs.Circle.{place_of_member, IsCircle, IsLeastPlace}
-use Rattle.rank_find.proofs.ListLemmas.{differ_at}
+use Rattle.list_laws.proofs.Differ.{differ_at}
 use Rattle.rank_find.proofs.WalkLemmas.{marked_gate}
 
 place_cases : (from least to i : ℕ) → ((from + i ≤ least) × (place_of_member from least to i ≡ least - i)) ⊎ ((least < from + i) × (place_of_member from least to i ≡ to + least - from - i))

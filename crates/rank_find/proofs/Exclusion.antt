@@ -7,7 +7,7 @@ use Rattle.net_defs.specs.declared.timing.Timing.{Timing}
 use Rattle.net_defs.specs.declared.timing.Mode.{Mode}
 use Rattle.net_defs.specs.declared.timing.Mode.TheVariants as mode
 use Rattle.net_defs.specs.Loops.{waits_for, IsOrder, IsLoop}
-use Rattle.rank_find.proofs.ListLemmas.{place_of}
+use Rattle.list_laws.proofs.Places.{place_of}
 use Rattle.rank_find.proofs.NumberLemmas.{place_below}
 
 module _ (net : Netlist) (timing : Timing) (order members : List ℕ) (is_order : IsOrder net timing order) (is_loop : IsLoop net timing members) where

@@ -11,7 +11,7 @@ use Rattle.rank_find.specs.declared.walk.Mark.{Mark}
 use Rattle.rank_find.specs.declared.walk.Mark.TheVariants.{Fresh, Open, Done}
 use Rattle.rank_find.specs.Walk.{mark_at, first_mark, work_left, IsWalk}
 use Rattle.rank_find.specs.Circle.{place_of_member, IsCircle, IsLeastPlace}
-use Rattle.rank_find.proofs.ListLemmas.{place_of, read_last}
+use Rattle.list_laws.proofs.Places.{place_of, read_last}
 use Rattle.rank_find.proofs.WalkLemmas.{enter, enter-nearer, finish, finish-nearer}
 use Rattle.rank_find.proofs.CircleLemmas.{circle-loop}
 use Rattle.rank_find.proofs.RunLemmas.{start_lists}

@@ -1,4 +1,3 @@
-pub mod ListLemmas
 pub mod WalkLemmas
 pub mod CircleLemmas
 pub mod StepLemmas

@@ -12,7 +12,9 @@ use Rattle.net_defs.specs.declared.netlist.Driver.TheVariants.{Input, Gate, Dff,
 use Rattle.net_defs.specs.declared.timing.Timing.{Timing}
 use Rattle.net_defs.specs.Steps.{is_late}
 use Rattle.net_defs.specs.Loops.{is_gate, is_gate_driver, gate_operands, IsGate, waits_for, IsOrder, rank_past, rank_above, IsRanking}
-use Rattle.rank_find.proofs.ListLemmas.{last_or, differ_at, place_of}
+use Rattle.list_laws.proofs.Differ.{differ_at}
+use Rattle.list_laws.proofs.Places.{place_of}
+use Rattle.list_laws.proofs.Ranges.{last_or}
 use Rattle.rank_find.proofs.WalkLemmas.{is_gate_or}
 
 -- a gate is a signal

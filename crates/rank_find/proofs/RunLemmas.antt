@@ -13,7 +13,7 @@ use Rattle.rank_find.specs.declared.walk.Mark.{Mark}
 use Rattle.rank_find.specs.declared.walk.Mark.TheVariants.{Fresh, Open, Done}
 use Rattle.rank_find.specs.declared.walk.Walk.{Walk}
 use Rattle.rank_find.specs.Walk.{mark_at, first_mark, freshness, IsWalk, IsWalking, Reaches, IsStart, IsIdle, IsOver}
-use Rattle.rank_find.proofs.ListLemmas.{place_of}
+use Rattle.list_laws.proofs.Places.{place_of}
 use Rattle.rank_find.proofs.WalkLemmas.{fresh_within, set_mark, enter}
 
 -- the first mark of a signal that may be missing

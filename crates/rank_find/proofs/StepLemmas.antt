@@ -13,7 +13,7 @@ use Rattle.rank_find.specs.declared.walk.Mark.TheVariants.{Fresh, Open, Done}
 use Rattle.rank_find.specs.declared.walk.Walk.{Walk}
 use Rattle.rank_find.specs.Walk.{mark_at, work_left, IsWalk, IsWalking, Advances, IsTop, IsFirstUndone, AreDoneFrom, StepsTo}
 use Rattle.rank_find.specs.Circle.{IsCircleAt}
-use Rattle.rank_find.proofs.ListLemmas.{read_last, place_of}
+use Rattle.list_laws.proofs.Places.{read_last, place_of}
 use Rattle.rank_find.proofs.WalkLemmas.{fresh_within, open_within, set_mark, enter, enter-nearer, finish, finish-nearer}
 use Rattle.rank_find.proofs.CircleLemmas.{circle-loop}
 

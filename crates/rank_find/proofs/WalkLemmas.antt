@@ -12,7 +12,9 @@ use Rattle.net_defs.specs.Loops.{is_gate, IsGate, waits_for}
 use Rattle.rank_find.specs.declared.walk.Mark.{Mark}
 use Rattle.rank_find.specs.declared.walk.Mark.TheVariants.{Fresh, Open, Done}
 use Rattle.rank_find.specs.Walk.{mark_at, freshness, work_left, IsWalk}
-use Rattle.rank_find.proofs.ListLemmas.{last_or, read_before, read_last, differ_at, differ_push, differ_front, take_front}
+use Rattle.list_laws.proofs.Differ.{differ_at, differ_push, differ_front}
+use Rattle.list_laws.proofs.Places.{read_before, read_last, take_front}
+use Rattle.list_laws.proofs.Ranges.{last_or}
 
 -- what is not done has its own mark
 pub marked_within : (marks : List Mark) (s : ℕ) → mark_at marks s ≢ Done → s < length marks

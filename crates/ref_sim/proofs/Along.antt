@@ -16,7 +16,8 @@ use Rattle.net_defs.specs.declared.timing.Timing.{Timing}
 use Rattle.net_defs.specs.Time.{value_at}
 use Rattle.net_defs.specs.Steps.{is_late, values_of}
 use Rattle.net_defs.specs.Loops.{IsGate, waits_for, IsOrder}
-use Rattle.rank_find.proofs.ListLemmas.{differ_at, place_of}
+use Rattle.list_laws.proofs.Differ.{differ_at}
+use Rattle.list_laws.proofs.Places.{place_of}
 use Rattle.rank_find.proofs.NumberLemmas.{gate_within, place_below}
 use Rattle.ref_sim.proofs.Rows.{put_value}
 

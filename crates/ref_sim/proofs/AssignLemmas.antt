@@ -7,7 +7,7 @@ use Rattle.net_defs.specs.declared.netlist.Netlist.{Netlist}
 use Rattle.net_defs.specs.declared.timing.Timing.{Timing}
 use Rattle.net_defs.specs.Time.{value_at}
 use Rattle.net_defs.specs.Loops.{is_gate, IsOrder}
-use Rattle.rank_find.proofs.ListLemmas.{place_of}
+use Rattle.list_laws.proofs.Places.{place_of}
 use Rattle.ref_sim.specs.declared.ops.GateOp.{GateOp}
 use Rattle.ref_sim.specs.declared.schedule.Role.{Role}
 use Rattle.ref_sim.specs.Ops.{follow}

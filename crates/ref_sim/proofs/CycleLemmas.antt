@@ -27,7 +27,7 @@ use Rattle.std.proofs.Common.{length-append, append-nil}
 use Rattle.net_defs.specs.declared.stimulus.StimRow.{StimRow}
 use Rattle.net_defs.specs.declared.trace.CellRow.{CellRow}
 use Rattle.net_defs.specs.Trace.{cells_of}
-use Rattle.rank_find.proofs.ListLemmas.{last_or}
+use Rattle.list_laws.proofs.Ranges.{last_or}
 use Rattle.ref_sim.specs.declared.turn.Phase.{Phase}
 use Rattle.ref_sim.specs.declared.turn.Phase.TheVariants as phase
 use Rattle.logic_four.specs.Memory.{initial_words}

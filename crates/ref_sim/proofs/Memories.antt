@@ -10,7 +10,7 @@ use Rattle.net_defs.specs.declared.netlist.Netlist.{Netlist}
 use Rattle.net_defs.specs.declared.netlist.Block.{Block}
 use Rattle.net_defs.specs.Time.{value_at}
 use Rattle.net_defs.specs.Steps.{values_of}
-use Rattle.rank_find.proofs.ListLemmas.{last_or}
+use Rattle.list_laws.proofs.Ranges.{last_or}
 use Rattle.ref_sim.specs.States.{AreShaped, WroteMemories}
 use Rattle.ref_sim.proofs.Writes.{refill_set}
 

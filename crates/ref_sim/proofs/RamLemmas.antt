@@ -7,7 +7,7 @@ use Rattle.std.proofs.lemmas.List.{length-set, length_push, get_or-set_same, get
 use Rattle.logic_four.specs.declared.V4.{V4}
 use Rattle.net_defs.specs.declared.netlist.Netlist.{Netlist}
 use Rattle.net_defs.specs.declared.netlist.Block.{Block}
-use Rattle.rank_find.proofs.ListLemmas.{last_or}
+use Rattle.list_laws.proofs.Ranges.{last_or}
 use Rattle.ref_sim.proofs.Memories.{memory_here, same_memory}
 use Rattle.ref_sim.proofs.Writes.{refill_set}
 use Rattle.ref_sim.specs.declared.ram.RamPort.{RamPort}

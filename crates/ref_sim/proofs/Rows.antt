@@ -5,7 +5,7 @@ use Rattle.std.proofs.lemmas.List.{length-set, get_or-set_same, get_or-set_other
 use Rattle.logic_four.specs.declared.V4.{V4}
 use Rattle.logic_four.specs.declared.V4.TheVariants.{Undef}
 use Rattle.net_defs.specs.Time.{value_at}
-use Rattle.rank_find.proofs.ListLemmas.{last_or}
+use Rattle.list_laws.proofs.Ranges.{last_or}
 use Rattle.ref_sim.specs.Values.{Puts}
 
 -- the value of each signal after one was put

@@ -11,7 +11,7 @@ use Rattle.net_defs.specs.declared.netlist.Driver.TheVariants.{Input, Gate, Dff,
 use Rattle.net_defs.specs.declared.timing.Timing.{Timing}
 use Rattle.net_defs.specs.Steps.{is_late}
 use Rattle.net_defs.specs.Loops.{IsGate, waits_for, gate_operands, IsOrder}
-use Rattle.rank_find.proofs.ListLemmas.{differ_at}
+use Rattle.list_laws.proofs.Differ.{differ_at}
 use Rattle.rank_find.proofs.NumberLemmas.{gate_within, place_below}
 use Rattle.ref_sim.specs.declared.schedule.Role.{Role}
 use Rattle.ref_sim.specs.declared.schedule.Role.TheVariants as role

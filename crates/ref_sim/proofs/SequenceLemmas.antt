@@ -18,7 +18,7 @@ use Rattle.net_defs.specs.Time.{value_at}
 use Rattle.net_defs.specs.Steps.{is_late}
 use Rattle.net_defs.specs.Valid.{IsValid, IsSignal, IsDrivable}
 use Rattle.net_defs.specs.Loops.{waits_for}
-use Rattle.rank_find.proofs.ListLemmas.{last_or}
+use Rattle.list_laws.proofs.Ranges.{last_or}
 use Rattle.ref_sim.specs.declared.ops.GateOp.{GateOp}
 use Rattle.ref_sim.specs.Ops.{do_op, follow, IsWithin, Adds}
 use Rattle.ref_sim.specs.Sequences.{spare_place, place_count, operand_place, here_driven, here_value, IsSequence, Settles}

@@ -18,7 +18,7 @@ use Rattle.net_defs.specs.Time.{value_at, turn_count}
 use Rattle.net_defs.specs.Steps.{State, is_late, values_of, words_of, driven, IsRightStep, first_state}
 use Rattle.net_defs.specs.Loops.{is_gate, IsGate, is_gate_driver, waits_for, IsOrder}
 use Rattle.net_defs.specs.Reference.{IsSimulation}
-use Rattle.rank_find.proofs.ListLemmas.{place_of}
+use Rattle.list_laws.proofs.Places.{place_of}
 use Rattle.rank_find.proofs.WalkLemmas.{is_gate_or}
 use Rattle.rank_find.proofs.NumberLemmas.{place_below}
 use Rattle.ref_sim.proofs.Along.{map_same, late_or, waits_here}

@@ -1,6 +1,7 @@
 //! Signals as operations on the places of their values.
 
 ghost use Rattle.std.specs.Prelude.{◌≡◌, ◌+◌, ◌*◌, ◌^◌, ◌<◌, ◌≤◌, ◌∷◌, [], length, map, All, IfOk, OnOk, IsTrue, if◌then◌else◌};
+ghost use Rattle.limits.specs.declared.TheConstants.{MAX_SIGNALS};
 ghost use Rattle.logic_four.specs.Gates.{gate_value};
 ghost use Rattle.logic_four.specs.Kinds.{AllowsOperands};
 ghost use Rattle.logic_four.specs.Folds.{takes_many};
@@ -67,7 +68,7 @@ fn push_driven(
     signal: u32,
     driver: &Driver,
 ) -> Result<(), Memory>
-    requires few { length net.now.signals ≤ 1048576 }
+    requires few { length net.now.signals ≤ MAX_SIGNALS }
     requires signal { IsSignal net.now signal }
     requires drivable { IsDrivable net.now signal driver.now }
     ensures { OnOk result (Adds (spare_place net.now) signal

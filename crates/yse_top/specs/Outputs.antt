@@ -1,5 +1,6 @@
 -- The output of a request.
 use Rattle.std.specs.Prelude.{◌≡◌, ⊤, ℕ, ◌+◌, ◌≤◌, List, ◌++◌, length, Some, slice_get}
+use Rattle.limits.specs.declared.TheConstants.{MAX_CYCLES}
 use Rattle.std.specs.List.{enumerate_from, flat_map}
 use Rattle.net_defs.specs.declared.netlist.Netlist.{Netlist}
 use Rattle.net_defs.specs.declared.timing.Timing.{Timing}
@@ -28,7 +29,7 @@ bytes_of (output.Trace trace) = header_line trace.net ++ cycle_lines trace.rows.
 pub record CanPrint (trace : Trace) : Type 0 where
   pub room : HasRoom trace.net trace.line
   pub cells : (c : ℕ) (row : CellRow) → slice_get trace.rows.rows c ≡ Some row → length row.cells ≡ length trace.net.printed
-  pub cycles : length trace.rows.rows ≤ 1000000
+  pub cycles : length trace.rows.rows ≤ MAX_CYCLES
 
 abbrev pub CanWrite : Output → Type 0
 CanWrite (output.Text text) = ⊤

@@ -1,6 +1,7 @@
 //! The output of a request, and how it is written.
 
 ghost use Rattle.std.specs.Prelude.{◌≡◌, ◌≤◌, ◌++◌, ℕ, Some, length, slice_get};
+ghost use Rattle.limits.specs.declared.TheConstants.{MAX_CYCLES};
 ghost use Rattle.net_defs.specs.declared.trace.CellRow.{CellRow};
 ghost use Rattle.net_defs.specs.Trace.{header_line};
 ghost use Rattle.trace_text.specs.Line.{row_room};
@@ -70,7 +71,7 @@ fn write_trace<O: Sink>(out: &mut O, trace: Trace) -> Result<(), WriteNo>
 /// Writes the line of each cycle, counted from 1.
 fn write_rows<O: Sink>(out: &mut O, line: &mut TraceLine, rows: &[CellRow]) -> Result<(), WriteNo>
     requires room { (c : ℕ) (row : CellRow) → slice_get rows.now c ≡ Some row → row_room (length row.cells) ≤ line.old.room }
-    requires cycles { length rows.now ≤ 1000000 }
+    requires cycles { length rows.now ≤ MAX_CYCLES }
     ensures { Takes (O.taken out.old) (O.taken out.new) (O.faults out.old) (O.faults out.new)
         result (cycle_lines rows.now) }
 {
