@@ -1,13 +1,13 @@
 -- The value of an image: the one that meets the equations of `Steps`. It is made turn by turn, and in a
 -- turn slot by slot; whoever uses it cites the equations, which are a law, and never how it is made.
-use Rattle.std.specs.Prelude.{ℕ, zero, suc, ◌*◌, ◌==◌, if◌then◌else◌, List, [], length, Option, Some, None, slice_get}
+use Rattle.std.specs.Prelude.{ℕ, zero, suc, ◌*◌, ◌==◌, if◌then◌else◌, List, [], length, Option, Some, None, slice_get, unwrap_or}
 use Rattle.std.specs.List.{position_or_len}
+use Rattle.std.specs.Option.{option_map}
 use Rattle.logic_four.specs.declared.V4.{V4}
 use Rattle.logic_four.specs.declared.V4.TheVariants.{Undef}
 use Rattle.logic_four.specs.Memory.{initial_words}
 use Rattle.net_defs.specs.declared.stimulus.Stimulus.{Stimulus}
 use Rattle.net_defs.specs.Time.{initial_value}
-use Rattle.image_defs.specs.declared.image.Source.{Source}
 use Rattle.image_defs.specs.declared.image.BlockWork.{BlockWork}
 use Rattle.image_defs.specs.declared.image.LinkIn.{LinkIn}
 use Rattle.image_defs.specs.declared.image.PortImage.{PortImage}
@@ -31,10 +31,7 @@ module _ (image : Image) (stimulus : Stimulus) where
   -- what words make of the memory of this number of a port, if it is there
   abbrev pub words_by : (List LinkIn → BlockWork → List (List V4)) → Option PortImage → ℕ → List (List V4)
   words_by words None b = []
-  words_by words (Some port) b = of_block (slice_get (blocks_of port.work) b) where
-    of_block : Option BlockWork → List (List V4)
-    of_block None = []
-    of_block (Some block) = words port.ins block
+  words_by words (Some port) b = unwrap_or (option_map (words port.ins) (slice_get (blocks_of port.work) b)) []
 
   abbrev pub next_frame : ℕ → Frame → Frame
   next_frame turn old = record {
