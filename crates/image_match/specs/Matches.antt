@@ -1,6 +1,6 @@
 -- When an image matches items through claims: each item of each port claims an item, and its sources
 -- carry what that item's operands name.
-use Rattle.std.specs.Prelude.{◌≡◌, ℕ, Bool, true, false, List, [], ◌∷◌, length, Some, slice_get, slice_index_or, count_by}
+use Rattle.std.specs.Prelude.{◌≡◌, ℕ, Bool, true, false, List, [], ◌∷◌, length, Some, slice_get, slice_index_or}
 use Rattle.logic_four.specs.declared.V4.{V4}
 use Rattle.net_defs.specs.declared.timing.Timing.{Timing}
 use Rattle.func_table.specs.declared.table.Table.{Table}
@@ -13,6 +13,7 @@ use Rattle.node_defs.specs.declared.items.Item.{Item}
 use Rattle.node_defs.specs.declared.items.Item.TheVariants as item
 use Rattle.node_defs.specs.declared.items.NodeBlock.{NodeBlock}
 use Rattle.node_defs.specs.declared.items.NodeNet.{NodeNet}
+use Rattle.node_defs.specs.WellFormed.{column_count}
 use Rattle.image_defs.specs.declared.image.Source.{Source}
 use Rattle.image_defs.specs.declared.image.Source.TheVariants.{Own, Got, Const}
 use Rattle.image_defs.specs.declared.image.Task.{Task}
@@ -112,15 +113,11 @@ pub record IsPrintedAs (image : Image) (claims : List (List ℕ)) (printed : Lis
   pub as_many : length (printed_of host.work) ≡ length printed
   pub each : (j x : ℕ) (source : Source) → slice_get (printed_of host.work) j ≡ Some source → slice_get printed j ≡ Some x → Carries image claims (host_of image) host.ins source (From x This)
 
-abbrev pub is_input : Item → Bool
-is_input (item.Input column) = true
-is_input other = false
-
 -- the image matches the items, in this timing, through these claims
 pub record Matches (image : Image) (claims : List (List ℕ)) (nodes : NodeNet) (timing : Timing) : Type 0 where
   pub units : image.units ≡ timing.units
   pub init : image.init ≡ timing.init
-  pub columns : image.columns ≡ count_by is_input nodes.items
+  pub columns : image.columns ≡ column_count nodes
   -- there is a claim for each item of each port, and each is as it claims
   pub ports : length claims ≡ length image.ports
   pub as_many : (p : ℕ) (port : PortImage) → IsPort image p port → length (claims_of claims p) ≡ length (item_slots port.work)

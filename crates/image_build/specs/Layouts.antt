@@ -1,0 +1,115 @@
+-- How each part of an image is laid out: from which slots a port takes values, and what it does.
+use Rattle.std.specs.Prelude.{◌≡◌, ℕ, ◌==◌, ◌<◌, ◌≤◌, Bool, true, false, if◌then◌else◌, List, length, map, Some, slice_get}
+use Rattle.net_defs.specs.declared.timing.Timing.{Timing}
+use Rattle.func_table.specs.declared.table.Table.{Table}
+use Rattle.node_defs.specs.declared.items.Feed.{Feed}
+use Rattle.node_defs.specs.declared.items.Feed.TheVariants.{From, Fixed}
+use Rattle.node_defs.specs.declared.items.Item.{Item}
+use Rattle.node_defs.specs.declared.items.Item.TheVariants as item
+use Rattle.node_defs.specs.declared.items.NodeBlock.{NodeBlock}
+use Rattle.node_defs.specs.declared.items.NodeNet.{NodeNet}
+use Rattle.node_defs.specs.WellFormed.{column_count}
+use Rattle.image_defs.specs.declared.image.Source.{Source}
+use Rattle.image_defs.specs.declared.image.Source.TheVariants.{Own, Got, Const}
+use Rattle.image_defs.specs.declared.image.Task.{Task}
+use Rattle.image_defs.specs.declared.image.Task.TheVariants.{Eval, Hold}
+use Rattle.image_defs.specs.declared.image.BlockWork.{BlockWork}
+use Rattle.image_defs.specs.declared.image.OutBit.{OutBit}
+use Rattle.image_defs.specs.declared.image.InColumn.{InColumn}
+use Rattle.image_defs.specs.declared.image.Work.{Work}
+use Rattle.image_defs.specs.declared.image.Work.TheVariants.{Logic, Array, Host}
+use Rattle.image_defs.specs.declared.image.PortImage.{PortImage}
+use Rattle.image_defs.specs.declared.image.Image.{Image}
+use Rattle.image_defs.specs.Places.{IsPort}
+use Rattle.image_match.specs.Matches.{claims_of, is_last}
+use Rattle.plan_defs.specs.declared.plan.Homes.{Homes}
+use Rattle.plan_defs.specs.declared.plan.Plan.{Plan}
+use Rattle.plan_defs.specs.declared.switch.PortLinks.{PortLinks}
+use Rattle.plan_defs.specs.declared.switch.Switch.{Switch}
+use Rattle.plan_defs.specs.Homes.{home_of, host_of, ports_of}
+use Rattle.plan_defs.specs.Slots.{slot_of}
+use Rattle.image_build.specs.PortItems.{ArePlanClaims}
+use Rattle.image_build.specs.Built.{AreInOrderOfUse, ArePortMemories, AreLinksOf}
+
+-- where port p takes item o from: its own slot where the item is at home, else what it receives
+abbrev pub source_of : Homes → List ℕ → ℕ → ℕ → Bool → Source
+source_of homes slots p o last = if home_of homes o == p then Own (slot_of slots o) last else Got (slot_of slots o) last
+
+abbrev pub feed_source : Homes → List ℕ → ℕ → Feed → Source
+feed_source homes slots p (From o tag) = source_of homes slots p o (is_last tag)
+feed_source homes slots p (Fixed v) = Const v
+
+-- ---- tasks
+
+-- port p has the item's table under this number, and looks up what the item takes; or it holds the item
+abbrev pub IsTaskFor : NodeNet → Homes → List ℕ → ℕ → List Table → ℕ → Item → Task → Type 0
+IsTaskFor nodes homes slots p tables x (item.Node t feeds) task =
+    (n : ℕ) × (n < length tables) × (slice_get tables n ≡ slice_get nodes.tables t)
+    × (task ≡ Eval (slot_of slots x) n (feed_source homes slots p feeds.a) (feed_source homes slots p feeds.b) (feed_source homes slots p feeds.c) (feed_source homes slots p feeds.d))
+IsTaskFor nodes homes slots p tables x (item.Latch op) task = task ≡ Hold (slot_of slots x) (source_of homes slots p op true)
+IsTaskFor nodes homes slots p tables x other task = ⊥
+
+-- one task for each of these items
+pub record AreTasks (nodes : NodeNet) (homes : Homes) (slots : List ℕ) (p : ℕ) (items : List ℕ) (tables : List Table) (tasks : List Task) : Type 0 where
+  pub as_many : length tasks ≡ length items
+  pub each : (i x : ℕ) (one : Item) (task : Task) → slice_get items i ≡ Some x → slice_get nodes.items x ≡ Some one → slice_get tasks i ≡ Some task → IsTaskFor nodes homes slots p tables x one task
+
+-- ---- memories
+
+-- the memory, by where port p takes its operands of the last turn from
+abbrev pub block_for : Homes → List ℕ → ℕ → NodeBlock → BlockWork
+block_for homes slots p memory = record {
+  we = source_of homes slots p memory.we true;
+  address = map (λ o. source_of homes slots p o true) memory.address;
+  word = map (λ o. source_of homes slots p o true) memory.word;
+}
+
+-- one block for each of the memories of these numbers
+pub record AreBlocks (nodes : NodeNet) (homes : Homes) (slots : List ℕ) (p : ℕ) (numbers : List ℕ) (blocks : List BlockWork) : Type 0 where
+  pub as_many : length blocks ≡ length numbers
+  pub each : (k m : ℕ) (memory : NodeBlock) → slice_get numbers k ≡ Some m → slice_get nodes.blocks m ≡ Some memory → slice_get blocks k ≡ Some (block_for homes slots p memory)
+
+-- the output bit is that of the item, by the place of its memory among these numbers
+abbrev pub IsBitFor : List ℕ → List ℕ → ℕ → Item → OutBit → Type 0
+IsBitFor slots numbers x (item.BlockBit m bit) out =
+    (k : ℕ) × (slice_get numbers k ≡ Some m) × (out ≡ record { slot = slot_of slots x; block = k; bit = bit })
+IsBitFor slots numbers x other out = ⊥
+
+-- one output bit for each of these items
+pub record AreBits (nodes : NodeNet) (slots items numbers : List ℕ) (outs : List OutBit) : Type 0 where
+  pub as_many : length outs ≡ length items
+  pub each : (i x : ℕ) (one : Item) (out : OutBit) → slice_get items i ≡ Some x → slice_get nodes.items x ≡ Some one → slice_get outs i ≡ Some out → IsBitFor slots numbers x one out
+
+-- ---- inputs
+
+abbrev pub IsInputFor : List ℕ → ℕ → Item → InColumn → Type 0
+IsInputFor slots x (item.Input column) input = input ≡ record { slot = slot_of slots x; column = column }
+IsInputFor slots x other input = ⊥
+
+-- one input for each of these items
+pub record AreInputs (nodes : NodeNet) (slots items : List ℕ) (inputs : List InColumn) : Type 0 where
+  pub as_many : length inputs ≡ length items
+  pub each : (i x : ℕ) (one : Item) (input : InColumn) → slice_get items i ≡ Some x → slice_get nodes.items x ≡ Some one → slice_get inputs i ≡ Some input → IsInputFor slots x one input
+
+-- ---- ports
+
+-- what port p does for its items
+abbrev pub IsWorkFor : NodeNet → Homes → List ℕ → ℕ → List ℕ → Work → Type 0
+IsWorkFor nodes homes slots p items (Logic tables tasks) =
+    (p < homes.logic) × AreTasks nodes homes slots p items tables tasks × AreInOrderOfUse tables tasks
+IsWorkFor nodes homes slots p items (Array blocks outs) =
+    (homes.logic ≤ p) × (p < host_of homes) × (numbers : List ℕ) × ArePortMemories nodes homes p numbers
+    × AreBlocks nodes homes slots p numbers blocks × AreBits nodes slots items numbers outs
+IsWorkFor nodes homes slots p items (Host inputs printed) =
+    (p ≡ host_of homes) × AreInputs nodes slots items inputs × (printed ≡ map (λ o. source_of homes slots p o false) nodes.printed)
+
+-- the image is laid out for these items in this plan
+pub record IsLaidOut (nodes : NodeNet) (homes : Homes) (plan : Plan) (switch : Switch) (timing : Timing) (claims : List (List ℕ)) (image : Image) : Type 0 where
+  pub slots : image.slots ≡ plan.needed
+  pub units : image.units ≡ timing.units
+  pub init : image.init ≡ timing.init
+  pub columns : image.columns ≡ column_count nodes
+  pub ports : length image.ports ≡ ports_of homes
+  pub planned : ArePlanClaims nodes homes plan.slots claims
+  pub works : (p : ℕ) (port : PortImage) → IsPort image p port → IsWorkFor nodes homes plan.slots p (claims_of claims p) port.work
+  pub links : (p : ℕ) (port : PortImage) (links : PortLinks) → IsPort image p port → slice_get switch.ports p ≡ Some links → AreLinksOf links port

@@ -1,0 +1,4 @@
+pub mod Built
+pub mod Layouts
+pub mod Plans
+pub mod PortItems

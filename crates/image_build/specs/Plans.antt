@@ -1,0 +1,63 @@
+-- Items in a plan, and what is known while their work is laid out.
+use Rattle.std.specs.Prelude.{◌≡◌, ℕ, ◌<◌, ◌≤◌, List, [], length, take, Some, slice_get}
+use Rattle.limits.specs.declared.TheConstants.{MAX_SLOTS}
+use Rattle.func_table.specs.declared.table.Table.{Table}
+use Rattle.func_table.specs.Shelf.{AreDifferent, IsNumbered}
+use Rattle.node_defs.specs.declared.items.Item.{Item}
+use Rattle.node_defs.specs.declared.items.NodeNet.{NodeNet}
+use Rattle.node_defs.specs.WellFormed.{IsWellFormed}
+use Rattle.image_defs.specs.declared.image.Task.{Task}
+use Rattle.image_defs.specs.declared.image.Task.TheVariants.{Eval, Hold}
+use Rattle.image_defs.specs.declared.image.OutBit.{OutBit}
+use Rattle.image_defs.specs.declared.image.InColumn.{InColumn}
+use Rattle.image_match.specs.Matches.{claims_of}
+use Rattle.plan_defs.specs.declared.plan.Homes.{Homes}
+use Rattle.plan_defs.specs.declared.plan.Plan.{Plan}
+use Rattle.plan_defs.specs.Homes.{AreHomes, block_home, ports_of}
+use Rattle.plan_defs.specs.Lists.{ListsBelow}
+use Rattle.plan_defs.specs.Slots.{IsFirstFitPlan}
+use Rattle.image_build.specs.declared.memories.Memories.{Memories}
+use Rattle.image_build.specs.PortItems.{ArePortItems}
+use Rattle.image_build.specs.Built.{ArePortMemories, AreInOrderOfUse}
+use Rattle.image_build.specs.Layouts.{IsTaskFor, IsBitFor, IsInputFor, AreTasks}
+
+-- well-formed items at their homes, in their first-fit plan
+pub record IsPlanned (nodes : NodeNet) (homes : Homes) (plan : Plan) : Type 0 where
+  pub nodes : IsWellFormed nodes
+  pub homes : AreHomes nodes homes
+  pub plan : IsFirstFitPlan nodes homes plan
+  pub few : plan.needed ≤ MAX_SLOTS
+
+-- these lists are empty
+pub record AreEmpty (count : ℕ) (lists : List (List ℕ)) : Type 0 where
+  pub are : length lists ≡ count
+  pub each : (p : ℕ) → claims_of lists p ≡ []
+
+-- item x is there, and what is made of it is right
+abbrev pub OfItem : NodeNet → ℕ → (Item → Type 0) → Type 0
+OfItem nodes x IsRight = (one : Item) → slice_get nodes.items x ≡ Some one → IsRight one
+
+-- a task's table is one of the old ones, or the next
+abbrev pub Shelves : List Table → List Table → Task → Type 0
+Shelves old new (Eval slot n a b c d) = (table : Table) × IsNumbered table old new n
+Shelves old new (Hold slot from) = new ≡ old
+
+-- the tasks of the first so many items
+pub record AreFirstTasks (nodes : NodeNet) (homes : Homes) (slots : List ℕ) (p k : ℕ) (items : List ℕ) (tables : List Table) (tasks : List Task) : Type 0 where
+  pub tasks_are : AreTasks nodes homes slots p (take k items) tables tasks
+  pub in_order : AreInOrderOfUse tables tasks
+  pub few : length tables ≤ k
+
+-- the memories of each port in their order, and for each memory its place among those of its port
+pub record AreMemories (nodes : NodeNet) (homes : Homes) (memories : Memories) : Type 0 where
+  pub ports : length memories.lists ≡ ports_of homes
+  pub lists : (p : ℕ) → p < ports_of homes → ArePortMemories nodes homes p (claims_of memories.lists p)
+  pub places_are : length memories.places ≡ length nodes.blocks
+  pub places : (m k : ℕ) → slice_get memories.places m ≡ Some k → slice_get (claims_of memories.lists (block_home homes m)) k ≡ Some m
+
+-- the same of the first n memories
+pub record AreFirstMemories (nodes : NodeNet) (homes : Homes) (n : ℕ) (memories : Memories) : Type 0 where
+  pub ports : length memories.lists ≡ ports_of homes
+  pub lists : (p : ℕ) → ListsBelow (λ m. block_home homes m ≡ p) n (claims_of memories.lists p)
+  pub places_are : length memories.places ≡ n
+  pub places : (m k : ℕ) → slice_get memories.places m ≡ Some k → slice_get (claims_of memories.lists (block_home homes m)) k ≡ Some m

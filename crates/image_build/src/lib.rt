@@ -1,0 +1,14 @@
+//! Builds an image: fixed programs for the ports of a machine and fixed links between them, for items
+//! at their homes in their slots.
+#![tactic(auto)]
+
+mod array;
+mod build;
+mod host;
+mod links;
+mod logic;
+mod memories;
+pub mod port_items;
+mod sources;
+
+pub use build::build;

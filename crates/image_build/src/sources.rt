@@ -1,0 +1,67 @@
+//! Where a port takes values from.
+
+ghost use Rattle.std.specs.Prelude.{IfOk, ◌≡◌, ◌<◌, length, map, true};
+ghost use Rattle.image_build.specs.Layouts.{source_of as taken_from, feed_source};
+ghost use Rattle.node_defs.specs.Takes.{FeedTakes};
+
+use image_defs::Source;
+use node_defs::{Feed, Tag};
+use plan_defs::{Homes, Plan};
+use seen_list::{List, Memory};
+use std::alloc::Global;
+
+/// Where port `port` takes item `item` from, in the last turn or in this one.
+pub(crate) fn source_of(homes: &Homes, plan: &Plan, port: u32, item: u32, last: bool) -> Source
+    requires homes { item < length homes.now.items }
+    requires slots { item < length plan.now.slots }
+    ensures { result ≡ taken_from homes.now plan.now.slots port item last }
+{
+    let slot = plan.slots.as_slice()[item as usize];
+    if homes.items.as_slice()[item as usize] == port {
+        Source::Own { slot, last }
+    } else {
+        Source::Got { slot, last }
+    }
+}
+
+/// Where port `port` takes an operand of a node from.
+pub(crate) fn feed_source(homes: &Homes, plan: &Plan, port: u32, feed: Feed) -> Source
+    requires homes { (o : ℕ) → FeedTakes feed o → o < length homes.now.items }
+    requires slots { (o : ℕ) → FeedTakes feed o → o < length plan.now.slots }
+    ensures { result ≡ feed_source homes.now plan.now.slots port feed }
+{
+    match feed {
+        Feed::From { item, tag } => source_of(homes, plan, port, item, is_last(tag)),
+        Feed::Fixed(value) => Source::Const(value),
+    }
+}
+
+/// Whether the operand is of the last turn.
+fn is_last(tag: Tag) -> bool
+    ensures { result ≡ is_last tag }
+{
+    match tag {
+        Tag::This => false,
+        Tag::Last => true,
+    }
+}
+
+/// Where port `port` takes each of these items from, all of them in the last turn or in this one.
+pub(crate) fn sources_of(
+    alloc: Global,
+    homes: &Homes,
+    plan: &Plan,
+    port: u32,
+    items: &[u32],
+    last: bool,
+) -> Result<List<Source>, Memory>
+    requires homes { (o : ℕ) → Contains items.now o → o < length homes.now.items }
+    requires slots { (o : ℕ) → Contains items.now o → o < length plan.now.slots }
+    ensures { IfOk result (λ sources. sources ≡ map (λ o. taken_from homes.now plan.now.slots port o last) items.now) }
+{
+    let mut sources = List::new(alloc);
+    'items: for k in 0..items.len() {
+        sources.push(source_of(homes, plan, port, items[k], last))?;
+    }
+    Ok(sources)
+}
