@@ -1,11 +1,11 @@
 -- The items of a valid netlist are what planning asks of them.
-use Rattle.std.proofs.Common.{◌≡◌, ◌≢◌, ◌∙◌, ◌⊎◌, inl, inr, ℕ, zero, suc, ◌+◌, ◌*◌, ◌^◌, ◌<◌, ◌≤◌, Bool, true, false, List, [], ◌∷◌, length, take, get_or, cond, refl, sym, ap, subst, arith}
+use Rattle.std.proofs.Common.{◌≡◌, ◌≢◌, ◌∙◌, ◌⊎◌, inl, inr, ℕ, zero, suc, ◌+◌, ◌*◌, ◌^◌, ◌<◌, ◌≤◌, Bool, true, false, List, length, take, get_or, cond, refl, sym, ap, subst, arith}
 use Rattle.std.specs.Prelude.{◌↔◌, Option, Some, None, slice_get, All, Contains}
 use Rattle.std.specs.List.{sum_by, count_by}
 use Rattle.std.proofs.lemmas.Bool.{cases_lt, cases_order}
 use Rattle.std.proofs.lemmas.Option.{slice_get-get_or, slice_get_within, get_or_from_slice_get}
 use Rattle.std.proofs.lemmas.List.{get_or_default}
-use Rattle.std.proofs.lemmas.List.Elements.{All-get_or, All-from_get_or}
+use Rattle.std.proofs.lemmas.List.Elements.{All-from_get_or}
 use Rattle.std.proofs.lemmas.List.FromFn.{length-range_with_len}
 use Rattle.std.proofs.lemmas.List.Sums.{count_by_more_yes, sum_by-take-le}
 use Rattle.logic_four.proofs.KindLemmas.{few_operands}
@@ -16,7 +16,7 @@ use Rattle.net_defs.specs.declared.netlist.Driver.{Driver}
 use Rattle.net_defs.specs.declared.netlist.Driver.TheVariants as driver
 use Rattle.net_defs.specs.declared.timing.Timing.{Timing}
 use Rattle.net_defs.specs.Steps.{is_late}
-use Rattle.net_defs.specs.Valid.{IsValid, IsSignal, IsDrivable, IsMemory, is_input as is_driven, memory_operand_count, operand_count}
+use Rattle.net_defs.specs.Valid.{IsValid, IsDrivable, IsMemory, is_input as is_input_driver, memory_operand_count}
 use Rattle.node_defs.specs.declared.items.Tag.TheVariants.{This, Last}
 use Rattle.node_defs.specs.declared.items.Feed.{Feed}
 use Rattle.node_defs.specs.declared.items.Feed.TheVariants.{From, Fixed}
@@ -26,12 +26,11 @@ use Rattle.node_defs.specs.declared.items.Item.TheVariants.{Input, BlockBit, Nod
 use Rattle.node_defs.specs.declared.items.ItemName.{ItemName}
 use Rattle.node_defs.specs.declared.items.NodeBlock.{NodeBlock}
 use Rattle.node_defs.specs.declared.items.NodeNet.{NodeNet}
-use Rattle.node_defs.specs.Groups.{helper_count}
 use Rattle.node_defs.specs.Items.{own, IsNamed, feed_at, IsItem, IsItemOf, StandFor, IsNodeBlock}
-use Rattle.node_defs.specs.Order.{class_of, Key, key_of, Before, AreItems}
-use Rattle.node_defs.specs.Takes.{FeedTakes, FeedAwaits, Takes, Awaits, BlockTakes}
+use Rattle.node_defs.specs.Order.{class_of, key_of, Before, AreItems}
+use Rattle.node_defs.specs.Takes.{FeedTakes, FeedAwaits, Takes, Awaits}
 use Rattle.node_defs.specs.WellFormed.{IsComputed, NamesParts, is_input, column_count, IsMemoryOf, IsWellFormed}
-use Rattle.node_defs.proofs.MemberLemmas.{member_at, some_only}
+use Rattle.node_defs.proofs.MemberLemmas.{member_at}
 use Rattle.node_defs.proofs.EarlierLemmas.{earlier, operand_there, table_there}
 use Rattle.plan_defs.proofs.CountLemmas.{few_partners, length-le-sum, count_later, helpers_few}
 
@@ -198,14 +197,9 @@ module _ (net : Netlist) (timing : Timing) (nodes : NodeNet) (valid : IsValid ne
 
   -- ---- columns
 
-  -- what an input's name says
-  record IsColumn (s : ℕ) (d : Driver) (helper : Option ℕ) (column : ℕ) : Type 0 where
-    driven : d ≡ driver.Input
-    own_name : helper ≡ None
-    column_is : column ≡ s
-
-  input_driver : (late : Bool) (s : ℕ) (d : Driver) (helper : Option ℕ) (column : ℕ) → IsItemOf nodes.names nodes.tables late s d helper (Input column) → IsColumn s d helper column
-  input_driver late s driver.Input helper column is = record { driven = refl; own_name = is.0; column_is = one is.1 } where
+  -- what drives the signal of an input, and which column it is
+  input_driver : (late : Bool) (s : ℕ) (d : Driver) (helper : Option ℕ) (column : ℕ) → IsItemOf nodes.names nodes.tables late s d helper (Input column) → (d ≡ driver.Input) × (column ≡ s)
+  input_driver late s driver.Input helper column is = (refl, one is.1) where
     one : Input column ≡ Input s → column ≡ s
     one same = cc
   input_driver late s (driver.Dff o) helper column is = absurd (clash is.1 is.3) where
@@ -228,24 +222,24 @@ module _ (net : Netlist) (timing : Timing) (nodes : NodeNet) (valid : IsValid ne
     signal_is : name.signal ≡ column
     signal : Signal
     is_signal : slice_get net.signals column ≡ Some signal
-    driven : is_driven signal.driver ≡ true
+    driven : is_input_driver signal.driver ≡ true
 
   input_at : (x column : ℕ) → slice_get nodes.items x ≡ Some (Input column) → IsInputAt x column
   input_at x column at =
       let found : Drives x (Input column) = drives x (Input column) at in
-      let is : IsColumn found.name.signal found.signal.driver found.name.helper column =
+      let is : (found.signal.driver ≡ driver.Input) × (column ≡ found.name.signal) =
       input_driver (is_late net timing found.name.signal) found.name.signal found.signal.driver found.name.helper column found.is in
       record {
         name = found.name;
         named = found.is_named;
-        signal_is = sym is.column_is;
+        signal_is = sym is.1;
         signal = found.signal;
-        is_signal = ap (slice_get net.signals) is.column_is ∙ found.is_signal;
-        driven = ap is_driven is.driven;
+        is_signal = ap (slice_get net.signals) is.1 ∙ found.is_signal;
+        driven = ap is_input_driver is.0;
       }
 
-  -- a driven signal has an input
-  input_of : (s : ℕ) (signal : Signal) → slice_get net.signals s ≡ Some signal → is_driven signal.driver ≡ true → (y : ℕ) × IsNamed nodes.names y (own s) × (slice_get nodes.items y ≡ Some (Input s))
+  -- a signal that the stimulus drives has an input
+  input_of : (s : ℕ) (signal : Signal) → slice_get net.signals s ≡ Some signal → is_input_driver signal.driver ≡ true → (y : ℕ) × IsNamed nodes.names y (own s) × (slice_get nodes.items y ≡ Some (Input s))
   input_of s signal there driven =
       let place : (y : ℕ) × IsNamed nodes.names y (own s) = are.names.whole s signal None there tt in
       let item : (i : Item) × (slice_get nodes.items place.0 ≡ Some i) = member_at nodes.items place.0 (named_within place.0 (own s) place.1) in
@@ -254,7 +248,7 @@ module _ (net : Netlist) (timing : Timing) (nodes : NodeNet) (valid : IsValid ne
         clash : false ≡ true → ⊥
         clash same = cc
 
-        is_column : (d : Driver) (i : Item) → is_driven d ≡ true → IsItemOf nodes.names nodes.tables (is_late net timing s) s d None i → i ≡ Input s
+        is_column : (d : Driver) (i : Item) → is_input_driver d ≡ true → IsItemOf nodes.names nodes.tables (is_late net timing s) s d None i → i ≡ Input s
         is_column driver.Input i same is = is.1
         is_column (driver.Gate kind ops) i same is = absurd (clash same)
         is_column (driver.Dff o) i same is = absurd (clash same)
@@ -278,7 +272,7 @@ module _ (net : Netlist) (timing : Timing) (nodes : NodeNet) (valid : IsValid ne
       let it : IsInputAt x (suc s) = input_at x (suc s) at in
       let signal : (g : Signal) × (slice_get net.signals s ≡ Some g) =
       member_at net.signals s (omega (arith, slice_get_within net.signals (suc s) it.signal it.is_signal)) in
-      let driven : is_driven signal.0.driver ≡ true = valid.inputs_first s (suc s) signal.0 it.signal signal.1 it.is_signal (omega arith) it.driven in
+      let driven : is_input_driver signal.0.driver ≡ true = valid.inputs_first s (suc s) signal.0 it.signal signal.1 it.is_signal (omega arith) it.driven in
       let found : _ = input_of s signal.0 signal.1 driven in
       (found.0, earlier_one found.0 found.2 (cases_order found.0 x), found.2) where
         one_column : Some (Input s) ≡ Some (Input (suc s)) → s ≡ suc s
