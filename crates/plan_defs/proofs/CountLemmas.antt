@@ -1,17 +1,14 @@
 -- How many items, tables and memories there are.
-use Rattle.std.proofs.Common.{◌≡◌, ◌≢◌, ◌∙◌, ◌⊎◌, inl, inr, ℕ, zero, suc, ◌+◌, ◌-◌, ◌*◌, ◌/◌, ◌^◌, ◌<◌, ◌≤◌, ◌==◌, Bool, true, false, List, [], ◌∷◌, ◌++◌, length, map, get_or, refl, sym, ap, subst, arith, Option, Some, None}
-use Rattle.std.specs.List.{All, AllPairs, Contains, sum_by, slice_get, range_with_len}
-use Rattle.std.proofs.lemmas.Bool.{cases_lt, cases_order}
+use Rattle.std.proofs.Common.{◌≡◌, ◌≢◌, ◌∙◌, ◌⊎◌, inl, inr, ℕ, zero, suc, ◌+◌, ◌<◌, ◌≤◌, ◌==◌, Bool, true, false, List, [], ◌∷◌, ◌++◌, length, take, map, get_or, cond, sym, subst, arith}
+use Rattle.std.specs.List.{All, AllPairs, Contains, sum_by, count_by, range_with_len}
+use Rattle.std.proofs.lemmas.Bool.{cases_lt}
 use Rattle.std.proofs.lemmas.Bool.Decides.{eqb_tells, Decides-eqb}
 use Rattle.std.proofs.lemmas.Map.Made.{IsDistinct-from_AllPairs}
 use Rattle.std.proofs.lemmas.Map.Steps.{length-le_from_distinct_below}
 use Rattle.std.proofs.lemmas.Map.Views.{Contains-from_any}
-use Rattle.std.proofs.lemmas.List.{length-append, length-map, get_or-map, get_or_default}
-use Rattle.std.proofs.lemmas.List.Elements.{All-get_or, All-from_get_or}
+use Rattle.std.proofs.lemmas.List.{length-append, get_or_default}
 use Rattle.std.proofs.lemmas.List.FromFn.{length-map-range_with_len, get_or-map-range_with_len}
 use Rattle.std.proofs.lemmas.List.Sums.{sum_by-cons}
-use Rattle.std.proofs.lemmas.Option.{slice_get-get_or, slice_get_within, get_or_from_slice_get}
-use Rattle.node_defs.specs.declared.groups.Group.{Group}
 use Rattle.node_defs.specs.Groups.{group_count, groups_from, groups, helper_count}
 use Rattle.node_defs.proofs.LevelLemmas.{groups_last}
 use Rattle.node_defs.proofs.GroupLemmas.{groups_narrow, groups_wide, level_of, level_length}
@@ -51,6 +48,16 @@ length-le-sum {X} f (x ∷ xs) all =
     let rest : length xs ≤ sum_by f xs = length-le-sum f xs (λ i d within. all (suc i) d (omega (arith, within))) in
     let here : 1 ≤ f x = all 0 x (omega arith) in
     rw (sum_by-cons f x xs) (omega (arith, rest, here))
+
+-- a longer front has no fewer that pass
+pub count_later : {X : Type 0} (p : X → Bool) (xs : List X) (i j : ℕ) → i ≤ j → count_by p (take i xs) ≤ count_by p (take j xs)
+count_later p xs zero j up = omega arith
+count_later p xs (suc i) zero up = absurd (omega (arith, up))
+count_later p [] (suc i) (suc j) up = omega arith
+count_later p (x ∷ xs) (suc i) (suc j) up =
+    let one = sum_by-cons (λ y. cond (p y) 1 0) x (take i xs) in
+    let other = sum_by-cons (λ y. cond (p y) 1 0) x (take j xs) in
+    omega (arith, one, other, count_later p xs i j (omega (arith, up)))
 
 -- a gate has no more groups than operands, and one
 pub groups_short : (levels first count : ℕ) → length (groups_from levels first count) ≤ count + 1

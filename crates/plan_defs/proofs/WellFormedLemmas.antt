@@ -1,11 +1,13 @@
 -- The items of a valid netlist are what planning asks of them.
-use Rattle.std.proofs.Common.{◌≡◌, ◌≢◌, ◌∙◌, ◌⊎◌, inl, inr, ℕ, zero, suc, ◌+◌, ◌*◌, ◌^◌, ◌<◌, ◌≤◌, Bool, List, [], ◌∷◌, length, get_or, refl, sym, ap, subst, arith}
+use Rattle.std.proofs.Common.{◌≡◌, ◌≢◌, ◌∙◌, ◌⊎◌, inl, inr, ℕ, zero, suc, ◌+◌, ◌*◌, ◌^◌, ◌<◌, ◌≤◌, Bool, true, false, List, length, take, get_or, cond, refl, sym, ap, subst, arith}
 use Rattle.std.specs.Prelude.{◌↔◌, Option, Some, None, slice_get, All, Contains}
-use Rattle.std.specs.List.{sum_by}
+use Rattle.std.specs.List.{sum_by, count_by}
 use Rattle.std.proofs.lemmas.Bool.{cases_lt, cases_order}
 use Rattle.std.proofs.lemmas.Option.{slice_get-get_or, slice_get_within, get_or_from_slice_get}
 use Rattle.std.proofs.lemmas.List.{get_or_default}
-use Rattle.std.proofs.lemmas.List.Elements.{All-get_or, All-from_get_or}
+use Rattle.std.proofs.lemmas.List.Elements.{All-from_get_or}
+use Rattle.std.proofs.lemmas.List.FromFn.{length-range_with_len}
+use Rattle.std.proofs.lemmas.List.Sums.{count_by_more_yes, sum_by-take-le}
 use Rattle.logic_four.proofs.KindLemmas.{few_operands}
 use Rattle.net_defs.specs.declared.netlist.Netlist.{Netlist}
 use Rattle.net_defs.specs.declared.netlist.Signal.{Signal}
@@ -14,7 +16,7 @@ use Rattle.net_defs.specs.declared.netlist.Driver.{Driver}
 use Rattle.net_defs.specs.declared.netlist.Driver.TheVariants as driver
 use Rattle.net_defs.specs.declared.timing.Timing.{Timing}
 use Rattle.net_defs.specs.Steps.{is_late}
-use Rattle.net_defs.specs.Valid.{IsValid, IsSignal, IsDrivable, memory_operand_count, operand_count}
+use Rattle.net_defs.specs.Valid.{IsValid, IsDrivable, IsMemory, is_input as is_input_driver, memory_operand_count}
 use Rattle.node_defs.specs.declared.items.Tag.TheVariants.{This, Last}
 use Rattle.node_defs.specs.declared.items.Feed.{Feed}
 use Rattle.node_defs.specs.declared.items.Feed.TheVariants.{From, Fixed}
@@ -24,14 +26,13 @@ use Rattle.node_defs.specs.declared.items.Item.TheVariants.{Input, BlockBit, Nod
 use Rattle.node_defs.specs.declared.items.ItemName.{ItemName}
 use Rattle.node_defs.specs.declared.items.NodeBlock.{NodeBlock}
 use Rattle.node_defs.specs.declared.items.NodeNet.{NodeNet}
-use Rattle.node_defs.specs.Groups.{helper_count}
 use Rattle.node_defs.specs.Items.{own, IsNamed, feed_at, IsItem, IsItemOf, StandFor, IsNodeBlock}
-use Rattle.node_defs.specs.Order.{class_of, AreItems}
-use Rattle.node_defs.specs.Takes.{FeedTakes, FeedAwaits, Takes, Awaits, BlockTakes}
-use Rattle.node_defs.specs.WellFormed.{IsComputed, NamesParts, IsMemoryOf, IsWellFormed}
+use Rattle.node_defs.specs.Order.{class_of, key_of, Before, AreItems}
+use Rattle.node_defs.specs.Takes.{FeedTakes, FeedAwaits, Takes, Awaits}
+use Rattle.node_defs.specs.WellFormed.{IsComputed, NamesParts, is_input, column_count, IsMemoryOf, IsWellFormed}
 use Rattle.node_defs.proofs.MemberLemmas.{member_at}
 use Rattle.node_defs.proofs.EarlierLemmas.{earlier, operand_there, table_there}
-use Rattle.plan_defs.proofs.CountLemmas.{few_partners, length-le-sum, helpers_few}
+use Rattle.plan_defs.proofs.CountLemmas.{few_partners, length-le-sum, count_later, helpers_few}
 
 module _ (net : Netlist) (timing : Timing) (nodes : NodeNet) (valid : IsValid net) (are : AreItems net timing nodes) where
   -- a name is some item's
@@ -39,13 +40,14 @@ module _ (net : Netlist) (timing : Timing) (nodes : NodeNet) (valid : IsValid ne
   named_within x name named = omega (arith, are.named, slice_get_within nodes.names x name named)
 
   -- what an item's name says, by the driver of its signal
-  record Drives (item : Item) : Type 0 where
+  record Drives (x : ℕ) (item : Item) : Type 0 where
     name : ItemName
+    is_named : IsNamed nodes.names x name
     signal : Signal
     is_signal : slice_get net.signals name.signal ≡ Some signal
     is : IsItemOf nodes.names nodes.tables (is_late net timing name.signal) name.signal signal.driver name.helper item
 
-  drives : (x : ℕ) (item : Item) → slice_get nodes.items x ≡ Some item → Drives item
+  drives : (x : ℕ) (item : Item) → slice_get nodes.items x ≡ Some item → Drives x item
   drives x item at = by_signal (slice_get net.signals name.0.signal) refl where
     name : (n : ItemName) × (slice_get nodes.names x ≡ Some n)
     name = member_at nodes.names x (omega (arith, are.named, slice_get_within nodes.items x item at))
@@ -53,9 +55,9 @@ module _ (net : Netlist) (timing : Timing) (nodes : NodeNet) (valid : IsValid ne
     right : IsItem net timing nodes.names nodes.tables name.0 item
     right = are.right x name.0 item name.1 at
 
-    by_signal : (found : Option Signal) → slice_get net.signals name.0.signal ≡ found → Drives item
+    by_signal : (found : Option Signal) → slice_get net.signals name.0.signal ≡ found → Drives x item
     by_signal None missing = absurd (rw missing at right)
-    by_signal (Some signal) there = record { name = name.0; signal = signal; is_signal = there; is = rw there at right }
+    by_signal (Some signal) there = record { name = name.0; is_named = name.1; signal = signal; is_signal = there; is = rw there at right }
 
   -- ---- operands
 
@@ -90,7 +92,7 @@ module _ (net : Netlist) (timing : Timing) (nodes : NodeNet) (valid : IsValid ne
   taken i o (Input column) at takes = absurd takes
   taken i o (BlockBit block bit) at takes = absurd takes
   taken i o (Latch op) at takes =
-      let found : Drives (Latch op) = drives i (Latch op) at in
+      let found : Drives i (Latch op) = drives i (Latch op) at in
       rw takes (latch_taken (is_late net timing found.name.signal) found.name.signal found.signal.driver found.name.helper op found.is)
   taken i o (Node table feeds) at (inl a) = feed_taken i table feeds 0 o feeds.a at refl a
   taken i o (Node table feeds) at (inr (inl b)) = feed_taken i table feeds 1 o feeds.b at refl b
@@ -108,32 +110,49 @@ module _ (net : Netlist) (timing : Timing) (nodes : NodeNet) (valid : IsValid ne
 
   -- ---- memories
 
-  -- a memory output is of some memory
-  block_there : (late : Bool) (s : ℕ) (d : Driver) (helper : Option ℕ) (block bit : ℕ) → IsDrivable net s d → IsItemOf nodes.names nodes.tables late s d helper (BlockBit block bit) → block < length nodes.blocks
-  block_there late s driver.Input helper block bit drivable is = absurd (clash is.1) where
+  -- what drives the signal of a memory output
+  bit_driver : (late : Bool) (s : ℕ) (d : Driver) (helper : Option ℕ) (block bit : ℕ) → IsItemOf nodes.names nodes.tables late s d helper (BlockBit block bit) → d ≡ driver.BlockBit block bit
+  bit_driver late s driver.Input helper block bit is = absurd (clash is.1) where
     clash : BlockBit block bit ≡ Input s → ⊥
     clash same = cc
-  block_there late s (driver.Dff o) helper block bit drivable is = absurd (clash is.1 is.3) where
+  bit_driver late s (driver.Dff o) helper block bit is = absurd (clash is.1 is.3) where
     clash : (x : ℕ) → BlockBit block bit ≡ Latch x → ⊥
     clash x same = cc
-  block_there late s (driver.Gate kind ops) None block bit drivable is = absurd (clash is.is) where
+  bit_driver late s (driver.Gate kind ops) None block bit is = absurd (clash is.is) where
     clash : {table : ℕ} {feeds : Feeds} → BlockBit block bit ≡ Node table feeds → ⊥
     clash same = cc
-  block_there late s (driver.Gate kind ops) (Some h) block bit drivable is = absurd (clash is.1.is) where
+  bit_driver late s (driver.Gate kind ops) (Some h) block bit is = absurd (clash is.1.is) where
     clash : {table : ℕ} {feeds : Feeds} → BlockBit block bit ≡ Node table feeds → ⊥
     clash same = cc
-  block_there late s (driver.BlockBit m b) helper block bit drivable is =
-      rw (one is.1) (omega (arith, are.memories, slice_get_within net.blocks m drivable.0 drivable.1)) where
-        one : BlockBit block bit ≡ BlockBit m b → block ≡ m
-        one same = cc
+  bit_driver late s (driver.BlockBit m b) helper block bit is = one is.1 where
+    one : BlockBit block bit ≡ BlockBit m b → driver.BlockBit m b ≡ driver.BlockBit block bit
+    one same = cc
+
+  -- a memory output is at its bit of some memory
+  bit_there : (i block bit : ℕ) → slice_get nodes.items i ≡ Some (BlockBit block bit) → (s : ℕ) × (memory : Block) × (slice_get net.blocks block ≡ Some memory) × (slice_get memory.outs bit ≡ Some s)
+  bit_there i block bit at =
+      let found : Drives i (BlockBit block bit) = drives i (BlockBit block bit) at in
+      let it : found.signal.driver ≡ driver.BlockBit block bit =
+      bit_driver (is_late net timing found.name.signal) found.name.signal found.signal.driver found.name.helper block bit found.is in
+      let out : IsDrivable net found.name.signal (driver.BlockBit block bit) =
+      subst (IsDrivable net found.name.signal) it (valid.drivers found.name.signal found.signal found.is_signal) in
+      (found.name.signal, out.0, out.1, out.2)
 
   parts : (i : ℕ) (item : Item) → slice_get nodes.items i ≡ Some item → NamesParts nodes item
   parts i (Input column) at = tt
   parts i (Latch op) at = tt
   parts i (Node table feeds) at = table_there net timing nodes are i table feeds at
   parts i (BlockBit block bit) at =
-      let found : Drives (BlockBit block bit) = drives i (BlockBit block bit) at in
-      block_there (is_late net timing found.name.signal) found.name.signal found.signal.driver found.name.helper block bit (valid.drivers found.name.signal found.signal found.is_signal) found.is
+      let out : _ = bit_there i block bit at in
+      omega (arith, are.memories, slice_get_within net.blocks block out.1 out.2)
+
+  bits : (i m bit : ℕ) (memory : NodeBlock) → slice_get nodes.items i ≡ Some (BlockBit m bit) → slice_get nodes.blocks m ≡ Some memory → bit < length memory.word
+  bits i m bit memory at there =
+      let out : _ = bit_there i m bit at in
+      let is : IsMemory net m out.1 = valid.memories m out.1 out.2 in
+      let same : IsNodeBlock nodes.names out.1 memory = are.blocks m out.1 memory out.2 there in
+      let wide : length out.1.outs ≡ length out.1.word = ap length is.outs ∙ length-range_with_len (get_or out.1.outs 0 0) (length out.1.word) in
+      omega (arith, slice_get_within out.1.outs bit out.0 out.3, wide, same.word.each)
 
   -- numbers that stand for signals are items
   stand_within : (numbers signals : List ℕ) → StandFor nodes.names numbers signals → (o : ℕ) → Contains numbers o → o < length nodes.items
@@ -175,6 +194,109 @@ module _ (net : Netlist) (timing : Timing) (nodes : NodeNet) (valid : IsValid ne
     computed (BlockBit block bit) is = absurd (omega (arith, is))
     computed (Node table feeds) is = tt
     computed (Latch op) is = tt
+
+  -- ---- columns
+
+  -- what drives the signal of an input, and which column it is
+  input_driver : (late : Bool) (s : ℕ) (d : Driver) (helper : Option ℕ) (column : ℕ) → IsItemOf nodes.names nodes.tables late s d helper (Input column) → (d ≡ driver.Input) × (column ≡ s)
+  input_driver late s driver.Input helper column is = (refl, one is.1) where
+    one : Input column ≡ Input s → column ≡ s
+    one same = cc
+  input_driver late s (driver.Dff o) helper column is = absurd (clash is.1 is.3) where
+    clash : (x : ℕ) → Input column ≡ Latch x → ⊥
+    clash x same = cc
+  input_driver late s (driver.Gate kind ops) None column is = absurd (clash is.is) where
+    clash : {table : ℕ} {feeds : Feeds} → Input column ≡ Node table feeds → ⊥
+    clash same = cc
+  input_driver late s (driver.Gate kind ops) (Some h) column is = absurd (clash is.1.is) where
+    clash : {table : ℕ} {feeds : Feeds} → Input column ≡ Node table feeds → ⊥
+    clash same = cc
+  input_driver late s (driver.BlockBit block bit) helper column is = absurd (clash is.1) where
+    clash : Input column ≡ BlockBit block bit → ⊥
+    clash same = cc
+
+  -- the item of an input stands for the signal of its column
+  record IsInputAt (x column : ℕ) : Type 0 where
+    name : ItemName
+    named : IsNamed nodes.names x name
+    signal_is : name.signal ≡ column
+    signal : Signal
+    is_signal : slice_get net.signals column ≡ Some signal
+    driven : is_input_driver signal.driver ≡ true
+
+  input_at : (x column : ℕ) → slice_get nodes.items x ≡ Some (Input column) → IsInputAt x column
+  input_at x column at =
+      let found : Drives x (Input column) = drives x (Input column) at in
+      let is : (found.signal.driver ≡ driver.Input) × (column ≡ found.name.signal) =
+      input_driver (is_late net timing found.name.signal) found.name.signal found.signal.driver found.name.helper column found.is in
+      record {
+        name = found.name;
+        named = found.is_named;
+        signal_is = sym is.1;
+        signal = found.signal;
+        is_signal = ap (slice_get net.signals) is.1 ∙ found.is_signal;
+        driven = ap is_input_driver is.0;
+      }
+
+  -- a signal that the stimulus drives has an input
+  input_of : (s : ℕ) (signal : Signal) → slice_get net.signals s ≡ Some signal → is_input_driver signal.driver ≡ true → (y : ℕ) × IsNamed nodes.names y (own s) × (slice_get nodes.items y ≡ Some (Input s))
+  input_of s signal there driven =
+      let place : (y : ℕ) × IsNamed nodes.names y (own s) = are.names.whole s signal None there tt in
+      let item : (i : Item) × (slice_get nodes.items place.0 ≡ Some i) = member_at nodes.items place.0 (named_within place.0 (own s) place.1) in
+      let right : IsItem net timing nodes.names nodes.tables (own s) item.0 = are.right place.0 (own s) item.0 place.1 item.1 in
+      (place.0, place.1, item.1 ∙ ap Some (is_column signal.driver item.0 driven (rw there at right))) where
+        clash : false ≡ true → ⊥
+        clash same = cc
+
+        is_column : (d : Driver) (i : Item) → is_input_driver d ≡ true → IsItemOf nodes.names nodes.tables (is_late net timing s) s d None i → i ≡ Input s
+        is_column driver.Input i same is = is.1
+        is_column (driver.Gate kind ops) i same is = absurd (clash same)
+        is_column (driver.Dff o) i same is = absurd (clash same)
+        is_column (driver.BlockBit block bit) i same is = absurd (clash same)
+
+  -- inputs stand in the order of their columns
+  in_order : (x y s t : ℕ) → slice_get nodes.items x ≡ Some (Input s) → slice_get nodes.items y ≡ Some (Input t) → x < y → s ≤ t
+  in_order x y s t one other before =
+      let first : IsInputAt x s = input_at x s one in
+      let second : IsInputAt y t = input_at y t other in
+      by_key first.name second.name (are.ordered x y first.name second.name (Input s) (Input t) before first.named second.named one other) first.signal_is second.signal_is where
+        by_key : (a b : ItemName) → Before (key_of are.ranks x a (Input s)) (key_of are.ranks y b (Input t)) → a.signal ≡ s → b.signal ≡ t → s ≤ t
+        by_key a b (inl class) left right = absurd (omega (arith, class))
+        by_key a b (inr (class, inl rank)) left right = absurd (omega (arith, rank, are.ranked x (Input s) one, are.ranked y (Input t) other))
+        by_key a b (inr (class, inr (rank, inl signal))) left right = omega (arith, signal, left, right)
+        by_key a b (inr (class, inr (rank, inr (signal, helper)))) left right = omega (arith, signal, left, right)
+
+  -- the input of the column before
+  input_before : (x s : ℕ) → slice_get nodes.items x ≡ Some (Input (suc s)) → (y : ℕ) × (y < x) × (slice_get nodes.items y ≡ Some (Input s))
+  input_before x s at =
+      let it : IsInputAt x (suc s) = input_at x (suc s) at in
+      let signal : (g : Signal) × (slice_get net.signals s ≡ Some g) =
+      member_at net.signals s (omega (arith, slice_get_within net.signals (suc s) it.signal it.is_signal)) in
+      let driven : is_input_driver signal.0.driver ≡ true = valid.inputs_first s (suc s) signal.0 it.signal signal.1 it.is_signal (omega arith) it.driven in
+      let found : _ = input_of s signal.0 signal.1 driven in
+      (found.0, earlier_one found.0 found.2 (cases_order found.0 x), found.2) where
+        one_column : Some (Input s) ≡ Some (Input (suc s)) → s ≡ suc s
+        one_column same = cc
+
+        earlier_one : (y : ℕ) → slice_get nodes.items y ≡ Some (Input s) → (y ≡ x) ⊎ ((y < x) ⊎ (x < y)) → y < x
+        earlier_one y there (inl same) = absurd (omega (arith, one_column (sym there ∙ (ap (slice_get nodes.items) same ∙ at))))
+        earlier_one y there (inr (inl before)) = before
+        earlier_one y there (inr (inr after)) = absurd (omega (arith, in_order x y (suc s) s at there after))
+
+  -- an input is one more
+  counted : (x s : ℕ) → slice_get nodes.items x ≡ Some (Input s) → count_by is_input (take (x + 1) nodes.items) ≡ count_by is_input (take x nodes.items) + 1
+  counted x s at =
+      count_by_more_yes is_input nodes.items x (Input s) (slice_get_within nodes.items x (Input s) at) (ap is_input (get_or_from_slice_get nodes.items x (Input s) (Input s) at))
+
+  -- up to the input of a column there are inputs of all columns before
+  columns_before : (s x : ℕ) → slice_get nodes.items x ≡ Some (Input s) → s + 1 ≤ count_by is_input (take (x + 1) nodes.items)
+  columns_before zero x at = omega (arith, counted x zero at)
+  columns_before (suc s) x at =
+      let found : _ = input_before x s at in
+      omega (arith, columns_before s found.0 found.2, counted x (suc s) at, count_later is_input nodes.items (found.0 + 1) x (omega (arith, found.1)))
+
+  columns : (i column : ℕ) → slice_get nodes.items i ≡ Some (Input column) → column < column_count nodes
+  columns i column at = omega (arith, columns_before column i at, sum_by-take-le (λ item. cond (is_input item) 1 0) nodes.items (i + 1))
 
   -- ---- how many there are
 
@@ -285,6 +407,8 @@ module _ (net : Netlist) (timing : Timing) (nodes : NodeNet) (valid : IsValid ne
     taken = taken;
     awaited = awaited;
     parts = parts;
+    columns = columns;
+    bits = bits;
     memories = memories;
     printed = printed;
     nodes_last = nodes_last;
