@@ -42,7 +42,7 @@ pub record ClaimsIn (image : Image) (claims : List (List ℕ)) (p slot x : ℕ) 
   pub port : PortImage
   pub is : IsPort image p port
   pub stands : IsItemIn port.work i slot
-  pub claims : IsClaim claims p i x
+  pub claimed : IsClaim claims p i x
 
 abbrev pub is_last : Tag → Bool
 is_last This = false
@@ -106,7 +106,7 @@ IsAs image claims nodes p ins (Host inputs printed) i other =
 pub record IsAsClaimed (image : Image) (claims : List (List ℕ)) (nodes : NodeNet) (p i x : ℕ) (port : PortImage) : Type 0 where
   pub item : Item
   pub is : slice_get nodes.items x ≡ Some item
-  pub as : IsAs image claims nodes p port.ins port.work i item
+  pub same : IsAs image claims nodes p port.ins port.work i item
 
 -- the host prints these items of this turn, one for one
 pub record IsPrintedAs (image : Image) (claims : List (List ℕ)) (printed : List ℕ) (host : PortImage) : Type 0 where
