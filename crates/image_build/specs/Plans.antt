@@ -23,9 +23,9 @@ use Rattle.image_build.specs.Layouts.{IsTaskFor, IsBitFor, IsInputFor, AreTasks}
 
 -- well-formed items at their homes, in their first-fit plan
 pub record IsPlanned (nodes : NodeNet) (homes : Homes) (plan : Plan) : Type 0 where
-  pub nodes : IsWellFormed nodes
-  pub homes : AreHomes nodes homes
-  pub plan : IsFirstFitPlan nodes homes plan
+  pub formed : IsWellFormed nodes
+  pub housed : AreHomes nodes homes
+  pub first_fit : IsFirstFitPlan nodes homes plan
   pub few : plan.needed ≤ MAX_SLOTS
 
 -- these lists are empty

@@ -1,6 +1,6 @@
 //! The work of an array port.
 
-ghost use Rattle.std.specs.Prelude.{◌≡◌, ◌<◌, ◌≤◌, IfOk, Some, length, slice_get};
+ghost use Rattle.std.specs.Prelude.{◌≡◌, ◌<◌, ◌≤◌, ℕ, IfOk, Some, length, slice_get};
 ghost use Rattle.plan_defs.specs.Homes.{host_of};
 ghost use Rattle.image_match.specs.Matches.{claims_of};
 ghost use Rattle.node_defs.specs.Takes.{BlockTakes};

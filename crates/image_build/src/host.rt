@@ -1,8 +1,8 @@
 //! The work of the host.
 
-ghost use Rattle.std.specs.Prelude.{◌≡◌, ◌<◌, IfOk, Some, length, slice_get};
+ghost use Rattle.std.specs.Prelude.{◌≡◌, ◌<◌, ◌^◌, IfOk, count_by, length};
 ghost use Rattle.plan_defs.specs.Homes.{host_of};
-ghost use Rattle.node_defs.specs.WellFormed.{column_count, is_input};
+ghost use Rattle.node_defs.specs.WellFormed.{is_input};
 ghost use Rattle.image_build.specs.PortItems.{ArePortItems, IsAt};
 ghost use Rattle.image_build.specs.Layouts.{AreInputs, IsInputFor, IsWorkFor};
 ghost use Rattle.image_build.specs.Plans.{IsPlanned, OfItem};

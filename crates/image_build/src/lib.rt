@@ -3,12 +3,13 @@
 #![tactic(auto)]
 
 mod array;
-mod build;
+mod image;
 mod host;
 mod links;
 mod logic;
 mod memories;
+mod order;
 pub mod port_items;
 mod sources;
 
-pub use build::build;
+pub use image::build;

@@ -1,18 +1,18 @@
 //! The items of each port.
 
-ghost use Rattle.std.specs.Prelude.{IfOk, OnOk, ◌≡◌, ◌<◌, ◌∷◌, ◌++◌, [], length, slice_set, slice_index_or};
-ghost use Rattle.node_defs.specs.declared.items.NodeNet.{NodeNet};
+ghost use Rattle.std.specs.Prelude.{◌≡◌, ◌<◌, ◌∷◌, ◌++◌, [], IfOk, OnOk, length, slice_set};
 ghost use Rattle.node_defs.specs.WellFormed.{IsWellFormed};
 ghost use Rattle.plan_defs.specs.Homes.{AreHomes};
 ghost use Rattle.plan_defs.specs.Slots.{IsFirstFitPlan};
 ghost use Rattle.image_match.specs.Matches.{claims_of};
 ghost use Rattle.image_build.specs.PortItems.{ArePlanClaims};
+ghost use Rattle.image_build.specs.Plans.{AreEmpty};
 
 use node_defs::NodeNet;
 use plan_defs::{Homes, Plan};
 use seen_list::{List, Memory};
 use std::alloc::Global;
-use switch_set::order::slot_order;
+use crate::order::slot_order;
 
 /// The items of each port in slot order: a list for each port, in port order.
 pub fn port_items(

@@ -1,8 +1,9 @@
 //! Where a port takes values from.
 
-ghost use Rattle.std.specs.Prelude.{IfOk, ◌≡◌, ◌<◌, length, map, true};
-ghost use Rattle.image_build.specs.Layouts.{source_of as taken_from, feed_source};
+ghost use Rattle.std.specs.Prelude.{◌≡◌, ◌<◌, ℕ, Contains, IfOk, length, map};
+ghost use Rattle.image_build.specs.Layouts.{source_of as taken_from, feed_source as fed_from};
 ghost use Rattle.node_defs.specs.Takes.{FeedTakes};
+ghost use Rattle.image_match.specs.Matches.{is_last as is_of_last};
 
 use image_defs::Source;
 use node_defs::{Feed, Tag};
@@ -28,7 +29,7 @@ pub(crate) fn source_of(homes: &Homes, plan: &Plan, port: u32, item: u32, last: 
 pub(crate) fn feed_source(homes: &Homes, plan: &Plan, port: u32, feed: Feed) -> Source
     requires homes { (o : ℕ) → FeedTakes feed o → o < length homes.now.items }
     requires slots { (o : ℕ) → FeedTakes feed o → o < length plan.now.slots }
-    ensures { result ≡ feed_source homes.now plan.now.slots port feed }
+    ensures { result ≡ fed_from homes.now plan.now.slots port feed }
 {
     match feed {
         Feed::From { item, tag } => source_of(homes, plan, port, item, is_last(tag)),
@@ -38,7 +39,7 @@ pub(crate) fn feed_source(homes: &Homes, plan: &Plan, port: u32, feed: Feed) -> 
 
 /// Whether the operand is of the last turn.
 fn is_last(tag: Tag) -> bool
-    ensures { result ≡ is_last tag }
+    ensures { result ≡ is_of_last tag }
 {
     match tag {
         Tag::This => false,

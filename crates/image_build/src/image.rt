@@ -1,6 +1,6 @@
 //! The whole image.
 
-ghost use Rattle.std.specs.Prelude.{◌≡◌, ◌<◌, ◌≤◌, List as Items, IfOk, length};
+ghost use Rattle.std.specs.Prelude.{◌≡◌, ◌<◌, ◌≤◌, ℕ, List as Items, IfOk};
 ghost use Rattle.limits.specs.declared.TheConstants.{MAX_SLOTS};
 ghost use Rattle.net_defs.specs.declared.stimulus.Stimulus.{Stimulus};
 ghost use Rattle.net_defs.specs.Steps.{State};
@@ -11,7 +11,7 @@ ghost use Rattle.plan_defs.specs.Homes.{AreHomes, ports_of};
 ghost use Rattle.plan_defs.specs.Slots.{IsFirstFitPlan};
 ghost use Rattle.plan_defs.specs.Switches.{IsSwitch};
 ghost use Rattle.image_build.specs.PortItems.{ArePortItems};
-ghost use Rattle.image_build.specs.Built.{IsBuilt, GivesItems};
+ghost use Rattle.image_build.specs.Built.{AreLinksOf, IsBuilt, GivesItems};
 ghost use Rattle.image_build.specs.Layouts.{IsWorkFor, IsLaidOut};
 ghost use Rattle.image_build.specs.Plans.{IsPlanned, AreMemories};
 
