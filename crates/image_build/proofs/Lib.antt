@@ -1,2 +1,4 @@
+mod GrowLemmas
 mod OrderLemmas
+mod PlannedLemmas
 mod SlotListLemmas

@@ -39,6 +39,11 @@ abbrev pub feed_source : Homes → List ℕ → ℕ → Feed → Source
 feed_source homes slots p (From o tag) = source_of homes slots p o (is_last tag)
 feed_source homes slots p (Fixed v) = Const v
 
+-- one thing for each of these items, each of which is for its item
+pub record AreMadeFor {T : Type 0} (nodes : NodeNet) (IsFor : ℕ → Item → T → Type 0) (items : List ℕ) (made : List T) : Type 0 where
+  pub as_many : length made ≡ length items
+  pub each : (i x : ℕ) (one : Item) (thing : T) → slice_get items i ≡ Some x → slice_get nodes.items x ≡ Some one → slice_get made i ≡ Some thing → IsFor x one thing
+
 -- ---- tasks
 
 -- port p has the item's table under this number, and looks up what the item takes; or it holds the item
@@ -50,9 +55,8 @@ IsTaskFor nodes homes slots p tables x (item.Latch op) task = task ≡ Hold (slo
 IsTaskFor nodes homes slots p tables x other task = ⊥
 
 -- one task for each of these items
-pub record AreTasks (nodes : NodeNet) (homes : Homes) (slots : List ℕ) (p : ℕ) (items : List ℕ) (tables : List Table) (tasks : List Task) : Type 0 where
-  pub as_many : length tasks ≡ length items
-  pub each : (i x : ℕ) (one : Item) (task : Task) → slice_get items i ≡ Some x → slice_get nodes.items x ≡ Some one → slice_get tasks i ≡ Some task → IsTaskFor nodes homes slots p tables x one task
+abbrev pub AreTasks : NodeNet → Homes → List ℕ → ℕ → List ℕ → List Table → List Task → Type 0
+AreTasks nodes homes slots p items tables tasks = AreMadeFor nodes (IsTaskFor nodes homes slots p tables) items tasks
 
 -- ---- memories
 
@@ -76,9 +80,8 @@ IsBitFor slots numbers x (item.BlockBit m bit) out =
 IsBitFor slots numbers x other out = ⊥
 
 -- one output bit for each of these items
-pub record AreBits (nodes : NodeNet) (slots items numbers : List ℕ) (outs : List OutBit) : Type 0 where
-  pub as_many : length outs ≡ length items
-  pub each : (i x : ℕ) (one : Item) (out : OutBit) → slice_get items i ≡ Some x → slice_get nodes.items x ≡ Some one → slice_get outs i ≡ Some out → IsBitFor slots numbers x one out
+abbrev pub AreBits : NodeNet → List ℕ → List ℕ → List ℕ → List OutBit → Type 0
+AreBits nodes slots items numbers outs = AreMadeFor nodes (IsBitFor slots numbers) items outs
 
 -- ---- inputs
 
@@ -87,9 +90,8 @@ IsInputFor slots x (item.Input column) input = input ≡ record { slot = slot_of
 IsInputFor slots x other input = ⊥
 
 -- one input for each of these items
-pub record AreInputs (nodes : NodeNet) (slots items : List ℕ) (inputs : List InColumn) : Type 0 where
-  pub as_many : length inputs ≡ length items
-  pub each : (i x : ℕ) (one : Item) (input : InColumn) → slice_get items i ≡ Some x → slice_get nodes.items x ≡ Some one → slice_get inputs i ≡ Some input → IsInputFor slots x one input
+abbrev pub AreInputs : NodeNet → List ℕ → List ℕ → List InColumn → Type 0
+AreInputs nodes slots items inputs = AreMadeFor nodes (IsInputFor slots) items inputs
 
 -- ---- ports
 

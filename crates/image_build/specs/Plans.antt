@@ -1,9 +1,10 @@
 -- Items in a plan, and what is known while their work is laid out.
-use Rattle.std.specs.Prelude.{◌≡◌, ℕ, ◌<◌, ◌≤◌, List, [], length, take, Some, slice_get}
+use Rattle.std.specs.Prelude.{◌≡◌, ℕ, ◌<◌, ◌≤◌, List, [], length, take, Some, slice_get, slice_index}
 use Rattle.limits.specs.declared.TheConstants.{MAX_SLOTS}
 use Rattle.func_table.specs.declared.table.Table.{Table}
 use Rattle.func_table.specs.Shelf.{AreDifferent, IsNumbered}
 use Rattle.node_defs.specs.declared.items.Item.{Item}
+use Rattle.node_defs.specs.declared.items.Item.TheVariants.{Input, BlockBit, Node, Latch}
 use Rattle.node_defs.specs.declared.items.NodeNet.{NodeNet}
 use Rattle.node_defs.specs.WellFormed.{IsWellFormed}
 use Rattle.image_defs.specs.declared.image.Task.{Task}
@@ -15,7 +16,7 @@ use Rattle.plan_defs.specs.declared.plan.Homes.{Homes}
 use Rattle.plan_defs.specs.declared.plan.Plan.{Plan}
 use Rattle.plan_defs.specs.Homes.{AreHomes, block_home, ports_of}
 use Rattle.plan_defs.specs.Lists.{ListsBelow}
-use Rattle.plan_defs.specs.Slots.{IsFirstFitPlan}
+use Rattle.plan_defs.specs.Slots.{slot_of, IsFirstFitPlan}
 use Rattle.image_build.specs.declared.memories.Memories.{Memories}
 use Rattle.image_build.specs.PortItems.{ArePortItems}
 use Rattle.image_build.specs.Built.{ArePortMemories, AreInOrderOfUse}
@@ -33,16 +34,32 @@ pub record AreEmpty (count : ℕ) (lists : List (List ℕ)) : Type 0 where
   pub are : length lists ≡ count
   pub each : (p : ℕ) → claims_of lists p ≡ []
 
--- item x is there, and what is made of it is right
-abbrev pub OfItem : NodeNet → ℕ → (Item → Type 0) → Type 0
-OfItem nodes x IsRight = (one : Item) → slice_get nodes.items x ≡ Some one → IsRight one
+-- the item is an input, or a memory output
+abbrev pub IsInputItem : Item → Type 0
+IsInputItem (Input column) = Unit {0}
+IsInputItem (BlockBit m bit) = ⊥
+IsInputItem (Node t feeds) = ⊥
+IsInputItem (Latch op) = ⊥
+
+abbrev pub IsBitItem : Item → Type 0
+IsBitItem (Input column) = ⊥
+IsBitItem (BlockBit m bit) = Unit {0}
+IsBitItem (Node t feeds) = ⊥
+IsBitItem (Latch op) = ⊥
+
+-- the output bit is that of the item, by the place of its memory
+abbrev pub IsBitAt : List ℕ → List ℕ → ℕ → Item → OutBit → Type 0
+IsBitAt slots places x (BlockBit m bit) out = out ≡ record { slot = slot_of slots x; block = slice_index places m; bit = bit }
+IsBitAt slots places x (Input column) out = ⊥
+IsBitAt slots places x (Node t feeds) out = ⊥
+IsBitAt slots places x (Latch op) out = ⊥
 
 -- a task's table is one of the old ones, or the next
 abbrev pub Shelves : List Table → List Table → Task → Type 0
 Shelves old new (Eval slot n a b c d) = (table : Table) × IsNumbered table old new n
 Shelves old new (Hold slot from) = new ≡ old
 
--- the tasks of the first so many items
+-- the tasks of the first so many items, and their tables
 pub record AreFirstTasks (nodes : NodeNet) (homes : Homes) (slots : List ℕ) (p k : ℕ) (items : List ℕ) (tables : List Table) (tasks : List Task) : Type 0 where
   pub tasks_are : AreTasks nodes homes slots p (take k items) tables tasks
   pub in_order : AreInOrderOfUse tables tasks

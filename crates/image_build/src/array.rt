@@ -3,11 +3,12 @@
 ghost use Rattle.std.specs.Prelude.{◌≡◌, ◌<◌, ◌≤◌, ℕ, IfOk, Some, length, slice_get};
 ghost use Rattle.plan_defs.specs.Homes.{host_of};
 ghost use Rattle.image_match.specs.Matches.{claims_of};
+ghost use Rattle.node_defs.specs.declared.items.Item.TheVariants.{BlockBit};
 ghost use Rattle.node_defs.specs.Takes.{BlockTakes};
-ghost use Rattle.image_build.specs.PortItems.{ArePortItems, IsAt};
+ghost use Rattle.image_build.specs.PortItems.{ArePortItems};
 ghost use Rattle.image_build.specs.Built.{ArePortMemories};
-ghost use Rattle.image_build.specs.Layouts.{block_for, AreBlocks, AreBits, IsBitFor, IsWorkFor};
-ghost use Rattle.image_build.specs.Plans.{IsPlanned, AreMemories, OfItem};
+ghost use Rattle.image_build.specs.Layouts.{block_for, AreBlocks, AreBits, IsWorkFor};
+ghost use Rattle.image_build.specs.Plans.{IsPlanned, AreMemories, IsBitItem, IsBitAt};
 
 use crate::memories::Memories;
 use crate::sources::{source_of, sources_of};
@@ -68,8 +69,8 @@ fn block_of(
     port: u32,
     memory: &NodeBlock,
 ) -> Result<BlockWork, Memory>
-    requires homes { (o : ℕ) → BlockTakes memory.now o → o < length homes.now.items }
-    requires slots { (o : ℕ) → BlockTakes memory.now o → o < length plan.now.slots }
+    requires as_long { length homes.now.items ≡ length plan.now.slots }
+    requires taken { (o : ℕ) → BlockTakes memory.now o → o < length plan.now.slots }
     ensures { IfOk result (λ block. block ≡ block_for homes.now plan.now.slots port memory.now) }
 {
     Ok(BlockWork {
@@ -95,34 +96,29 @@ fn bits_of(
     requires array { (homes.now.logic ≤ port) × (port < host_of homes.now) }
     ensures { IfOk result (AreBits nodes.now plan.now.slots items.now (claims_of memories.now.lists port)) }
 {
+    let list = nodes.items.as_slice();
+    let places = memories.places.as_slice();
     let mut outs = List::new(alloc);
     'items: for k in 0..items.len() {
-        outs.push(bit_of(nodes, homes, plan, memories, port, items[k]))?;
+        let x = items[k];
+        outs.push(bit_of(plan, places, x, &list[x as usize]))?;
     }
     Ok(outs)
 }
 
-/// The output bit of an item.
-fn bit_of(
-    nodes: &NodeNet,
-    homes: &Homes,
-    plan: &Plan,
-    memories: &Memories,
-    port: u32,
-    item: u32,
-) -> OutBit
-    requires planned { IsPlanned nodes.now homes.now plan.now }
-    requires memories { AreMemories nodes.now homes.now memories.now }
-    requires here { IsAt nodes.now homes.now port item }
-    requires array { (homes.now.logic ≤ port) × (port < host_of homes.now) }
-    ensures { OfItem nodes.now item (λ one. IsBitFor plan.now.slots (claims_of memories.now.lists port) item one result) }
+/// The output bit of an item, by the place of its memory.
+fn bit_of(plan: &Plan, places: &[u32], x: u32, item: &Item) -> OutBit
+    requires within { x < length plan.now.slots }
+    requires bit { IsBitItem item.now }
+    requires memory { (m bit : ℕ) → item.now ≡ BlockBit m bit → m < length places.now }
+    ensures { IsBitAt plan.now.slots places.now x item.now result }
 {
-    let slot = plan.slots.as_slice()[item as usize];
-    match nodes.items.as_slice()[item as usize] {
+    let slot = plan.slots.as_slice()[x as usize];
+    match item {
         Item::BlockBit { block, bit } => OutBit {
             slot,
-            block: memories.places.as_slice()[block as usize],
-            bit,
+            block: places[*block as usize],
+            bit: *bit,
         },
         Item::Input { .. } => unreachable!(),
         Item::Node { .. } => unreachable!(),

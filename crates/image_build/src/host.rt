@@ -3,9 +3,9 @@
 ghost use Rattle.std.specs.Prelude.{◌≡◌, ◌<◌, ◌^◌, IfOk, count_by, length};
 ghost use Rattle.plan_defs.specs.Homes.{host_of};
 ghost use Rattle.node_defs.specs.WellFormed.{is_input};
-ghost use Rattle.image_build.specs.PortItems.{ArePortItems, IsAt};
+ghost use Rattle.image_build.specs.PortItems.{ArePortItems};
 ghost use Rattle.image_build.specs.Layouts.{AreInputs, IsInputFor, IsWorkFor};
-ghost use Rattle.image_build.specs.Plans.{IsPlanned, OfItem};
+ghost use Rattle.image_build.specs.Plans.{IsPlanned, IsInputItem};
 
 use crate::sources::sources_of;
 use image_defs::{InColumn, Work};
@@ -47,23 +47,27 @@ fn inputs_of(
     requires host { port ≡ host_of homes.now }
     ensures { IfOk result (AreInputs nodes.now plan.now.slots items.now) }
 {
+    let list = nodes.items.as_slice();
     let mut inputs = List::new(alloc);
     'items: for k in 0..items.len() {
-        inputs.push(input_of(nodes, homes, plan, port, items[k]))?;
+        let x = items[k];
+        inputs.push(input_of(plan, x, &list[x as usize]))?;
     }
     Ok(inputs)
 }
 
 /// The input of an item.
-fn input_of(nodes: &NodeNet, homes: &Homes, plan: &Plan, port: u32, item: u32) -> InColumn
-    requires planned { IsPlanned nodes.now homes.now plan.now }
-    requires here { IsAt nodes.now homes.now port item }
-    requires host { port ≡ host_of homes.now }
-    ensures { OfItem nodes.now item (λ one. IsInputFor plan.now.slots item one result) }
+fn input_of(plan: &Plan, x: u32, item: &Item) -> InColumn
+    requires within { x < length plan.now.slots }
+    requires input { IsInputItem item.now }
+    ensures { IsInputFor plan.now.slots x item.now result }
 {
-    let slot = plan.slots.as_slice()[item as usize];
-    match nodes.items.as_slice()[item as usize] {
-        Item::Input { column } => InColumn { slot, column },
+    let slot = plan.slots.as_slice()[x as usize];
+    match item {
+        Item::Input { column } => InColumn {
+            slot,
+            column: *column,
+        },
         Item::BlockBit { .. } => unreachable!(),
         Item::Node { .. } => unreachable!(),
         Item::Latch { .. } => unreachable!(),

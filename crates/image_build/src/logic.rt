@@ -1,9 +1,11 @@
 //! The work of a logic port.
 
-ghost use Rattle.std.specs.Prelude.{IfOk, ◌<◌, ◌-◌, ◌^◌, length};
-ghost use Rattle.image_build.specs.PortItems.{ArePortItems, IsAt};
+ghost use Rattle.std.specs.Prelude.{◌<◌, ◌-◌, ◌^◌, ℕ, IfOk, length};
+ghost use Rattle.node_defs.specs.Takes.{Takes};
+ghost use Rattle.node_defs.specs.WellFormed.{IsComputed, NamesParts};
+ghost use Rattle.image_build.specs.PortItems.{ArePortItems};
 ghost use Rattle.image_build.specs.Layouts.{IsTaskFor, IsWorkFor};
-ghost use Rattle.image_build.specs.Plans.{IsPlanned, OfItem, Shelves};
+ghost use Rattle.image_build.specs.Plans.{IsPlanned, Shelves};
 
 use crate::sources::{feed_source, source_of};
 use func_table::Shelf;
@@ -27,10 +29,12 @@ pub(crate) fn logic_work(
     requires logic { port < homes.now.logic }
     ensures { IfOk result (IsWorkFor nodes.now homes.now plan.now.slots port items.now) }
 {
+    let list = nodes.items.as_slice();
     let mut shelf = Shelf::new(alloc);
     let mut tasks = List::new(alloc);
     'items: for k in 0..items.len() {
-        let task = task_of(&mut shelf, nodes, homes, plan, port, items[k])?;
+        let x = items[k];
+        let task = task_of(&mut shelf, nodes, homes, plan, port, x, &list[x as usize])?;
         tasks.push(task)?;
     }
     Ok(Work::Logic {
@@ -46,17 +50,20 @@ fn task_of(
     homes: &Homes,
     plan: &Plan,
     port: u32,
-    item: u32,
+    x: u32,
+    item: &Item,
 ) -> Result<Task, Memory>
-    requires planned { IsPlanned nodes.now homes.now plan.now }
-    requires here { IsAt nodes.now homes.now port item }
-    requires logic { port < homes.now.logic }
     requires room { length shelf.old.tables < 2 ^ 32 - 1 }
-    ensures task { IfOk result (λ task. OfItem nodes.now item (λ one. IsTaskFor nodes.now homes.now plan.now.slots port shelf.new.tables item one task)) }
+    requires within { x < length plan.now.slots }
+    requires computed { IsComputed item.now }
+    requires table { NamesParts nodes.now item.now }
+    requires as_long { length homes.now.items ≡ length plan.now.slots }
+    requires taken { (o : ℕ) → Takes item.now o → o < length plan.now.slots }
+    ensures task { IfOk result (IsTaskFor nodes.now homes.now plan.now.slots port shelf.new.tables x item.now) }
     ensures shelf { IfOk result (Shelves shelf.old.tables shelf.new.tables) }
 {
-    let slot = plan.slots.as_slice()[item as usize];
-    match &nodes.items.as_slice()[item as usize] {
+    let slot = plan.slots.as_slice()[x as usize];
+    match item {
         Item::Node { table, feeds } => {
             let table = shelf.intern(nodes.tables.as_slice()[*table as usize])?;
             Ok(Task::Eval {

@@ -13,8 +13,8 @@ use std::alloc::Global;
 
 /// Where port `port` takes item `item` from, in the last turn or in this one.
 pub(crate) fn source_of(homes: &Homes, plan: &Plan, port: u32, item: u32, last: bool) -> Source
-    requires homes { item < length homes.now.items }
-    requires slots { item < length plan.now.slots }
+    requires as_long { length homes.now.items ≡ length plan.now.slots }
+    requires item { item < length plan.now.slots }
     ensures { result ≡ taken_from homes.now plan.now.slots port item last }
 {
     let slot = plan.slots.as_slice()[item as usize];
@@ -27,8 +27,8 @@ pub(crate) fn source_of(homes: &Homes, plan: &Plan, port: u32, item: u32, last: 
 
 /// Where port `port` takes an operand of a node from.
 pub(crate) fn feed_source(homes: &Homes, plan: &Plan, port: u32, feed: Feed) -> Source
-    requires homes { (o : ℕ) → FeedTakes feed o → o < length homes.now.items }
-    requires slots { (o : ℕ) → FeedTakes feed o → o < length plan.now.slots }
+    requires as_long { length homes.now.items ≡ length plan.now.slots }
+    requires taken { (o : ℕ) → FeedTakes feed o → o < length plan.now.slots }
     ensures { result ≡ fed_from homes.now plan.now.slots port feed }
 {
     match feed {
@@ -56,8 +56,8 @@ pub(crate) fn sources_of(
     items: &[u32],
     last: bool,
 ) -> Result<List<Source>, Memory>
-    requires homes { (o : ℕ) → Contains items.now o → o < length homes.now.items }
-    requires slots { (o : ℕ) → Contains items.now o → o < length plan.now.slots }
+    requires as_long { length homes.now.items ≡ length plan.now.slots }
+    requires items { (o : ℕ) → Contains items.now o → o < length plan.now.slots }
     ensures { IfOk result (λ sources. sources ≡ map (λ o. taken_from homes.now plan.now.slots port o last) items.now) }
 {
     let mut sources = List::new(alloc);

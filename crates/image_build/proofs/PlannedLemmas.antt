@@ -1,0 +1,60 @@
+-- Items at their ports: which items a port has, by its kind.
+use Rattle.std.proofs.Common.{◌≡◌, ◌⊎◌, inl, inr, ℕ, ◌+◌, ◌<◌, ◌≤◌, List, length, map, get_or, Some, slice_get, sym, ap, ◌∙◌, subst, refl, arith}
+use Rattle.std.specs.List.{Contains}
+use Rattle.std.proofs.lemmas.List.{length-map}
+use Rattle.std.proofs.lemmas.Option.{slice_get_within, slice_get-get_or}
+use Rattle.limits.specs.declared.TheConstants.{MAX_SLOTS}
+use Rattle.node_defs.specs.declared.items.Item.{Item}
+use Rattle.node_defs.specs.declared.items.Item.TheVariants.{Input, BlockBit, Node, Latch}
+use Rattle.node_defs.specs.declared.items.NodeNet.{NodeNet}
+use Rattle.node_defs.specs.Takes.{Takes, BlockTakes}
+use Rattle.node_defs.specs.WellFormed.{IsComputed, NamesParts}
+use Rattle.node_defs.proofs.MemberLemmas.{member_at}
+use Rattle.plan_defs.specs.declared.plan.Homes.{Homes}
+use Rattle.plan_defs.specs.declared.plan.Plan.{Plan}
+use Rattle.plan_defs.specs.Homes.{home_of, block_home, host_of, MayHouse}
+use Rattle.image_build.specs.PortItems.{IsAt, ArePortItems}
+use Rattle.image_build.specs.Plans.{IsPlanned, IsInputItem, IsBitItem}
+
+-- what stands in a port's list is at the port
+pub at_port : (nodes : NodeNet) (homes : Homes) (slots : List ℕ) (p : ℕ) (items : List ℕ) (k x : ℕ) → ArePortItems nodes homes slots p items → slice_get items k ≡ Some x → IsAt nodes homes p x
+at_port nodes homes slots p items k x are here =
+    let found = are.each k x here in
+    subst (IsAt nodes homes p) (sym found.2) found.1
+
+pub at_place : (nodes : NodeNet) (homes : Homes) (slots : List ℕ) (p : ℕ) (items : List ℕ) (k d : ℕ) → ArePortItems nodes homes slots p items → k < length items → IsAt nodes homes p (get_or items k d)
+at_place nodes homes slots p items k d are within = at_port nodes homes slots p items k (get_or items k d) are (slice_get-get_or items k d within)
+
+module _ (nodes : NodeNet) (homes : Homes) (plan : Plan) (planned : IsPlanned nodes homes plan) where
+  pub homes_long : length homes.items ≡ length nodes.items
+  homes_long = planned.housed.items
+
+  pub slots_long : length plan.slots ≡ length nodes.items
+  slots_long = planned.first_fit.slots.items
+
+  -- a logic port has nodes and latches
+  pub computed_at : (p x : ℕ) (one : Item) → IsAt nodes homes p x → slice_get nodes.items x ≡ Some one → p < homes.logic → IsComputed one
+  computed_at p x one (within, at) is low = by_kind one (planned.housed.housed x one is) (planned.formed.parts x one is) where
+    by_kind : (item : Item) → MayHouse homes item (home_of homes x) → NamesParts nodes item → IsComputed item
+    by_kind (Input column) home parts = absurd (omega (arith, home, at, low))
+    by_kind (BlockBit m bit) home parts = absurd (omega (arith, home, at, low, (planned.housed.memories m parts).0))
+    by_kind (Node t feeds) home parts = tt
+    by_kind (Latch op) home parts = tt
+
+  -- an array port has memory outputs
+  pub bit_at_array : (p x : ℕ) (one : Item) → IsAt nodes homes p x → slice_get nodes.items x ≡ Some one → homes.logic ≤ p → p < host_of homes → IsBitItem one
+  bit_at_array p x one (within, at) is low high = by_kind one (planned.housed.housed x one is) where
+    by_kind : (item : Item) → MayHouse homes item (home_of homes x) → IsBitItem item
+    by_kind (Input column) home = absurd (omega (arith, home, at, high))
+    by_kind (BlockBit m bit) home = tt
+    by_kind (Node t feeds) home = absurd (omega (arith, home, at, low))
+    by_kind (Latch op) home = absurd (omega (arith, home, at, low))
+
+  -- the host has inputs
+  pub input_at_host : (p x : ℕ) (one : Item) → IsAt nodes homes p x → slice_get nodes.items x ≡ Some one → p ≡ host_of homes → IsInputItem one
+  input_at_host p x one (within, at) is host = by_kind one (planned.housed.housed x one is) (planned.formed.parts x one is) where
+    by_kind : (item : Item) → MayHouse homes item (home_of homes x) → NamesParts nodes item → IsInputItem item
+    by_kind (Input column) home parts = tt
+    by_kind (BlockBit m bit) home parts = absurd (omega (arith, home, at, host, (planned.housed.memories m parts).1))
+    by_kind (Node t feeds) home parts = absurd (omega (arith, home, at, host))
+    by_kind (Latch op) home parts = absurd (omega (arith, home, at, host))
