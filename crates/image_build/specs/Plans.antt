@@ -29,10 +29,6 @@ pub record IsPlanned (nodes : NodeNet) (homes : Homes) (plan : Plan) : Type 0 wh
   pub first_fit : IsFirstFitPlan nodes homes plan
   pub few : plan.needed ≤ MAX_SLOTS
 
--- these lists are empty
-pub record AreEmpty (count : ℕ) (lists : List (List ℕ)) : Type 0 where
-  pub are : length lists ≡ count
-  pub each : (p : ℕ) → claims_of lists p ≡ []
 
 -- the item is an input, or a memory output
 abbrev pub IsInputItem : Item → Type 0

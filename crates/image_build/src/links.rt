@@ -14,10 +14,7 @@ pub(crate) fn links_out(alloc: Global, sends: &[Sending]) -> Result<List<LinkOut
 {
     let mut outs = List::new(alloc);
     'sends: for sending in sends {
-        outs.push(LinkOut {
-            slot: sending.slot,
-            readers: sending.readers.copy()?,
-        })?;
+        outs.push(out_of(sending)?)?;
     }
     Ok(outs)
 }
@@ -28,10 +25,26 @@ pub(crate) fn links_in(alloc: Global, receipts: &[Receipt]) -> Result<List<LinkI
 {
     let mut ins = List::new(alloc);
     'receipts: for receipt in receipts {
-        ins.push(LinkIn {
-            slot: receipt.slot,
-            sender: receipt.sender,
-        })?;
+        ins.push(in_of(receipt))?;
     }
     Ok(ins)
+}
+
+fn out_of(sending: &Sending) -> Result<LinkOut, Memory>
+    ensures { IfOk result (λ out. out ≡ link_out sending.now) }
+{
+    let readers = sending.readers.copy()?;
+    Ok(LinkOut {
+        slot: sending.slot,
+        readers,
+    })
+}
+
+fn in_of(receipt: &Receipt) -> LinkIn
+    ensures { result ≡ link_in receipt.now }
+{
+    LinkIn {
+        slot: receipt.slot,
+        sender: receipt.sender,
+    }
 }

@@ -1,6 +1,6 @@
 //! The work of a logic port.
 
-ghost use Rattle.std.specs.Prelude.{◌<◌, ◌-◌, ◌^◌, ℕ, IfOk, length};
+ghost use Rattle.std.specs.Prelude.{◌≡◌, ◌<◌, ◌-◌, ◌^◌, ℕ, IfOk, length};
 ghost use Rattle.node_defs.specs.Takes.{Takes};
 ghost use Rattle.node_defs.specs.WellFormed.{IsComputed, NamesParts};
 ghost use Rattle.image_build.specs.PortItems.{ArePortItems};

@@ -1,12 +1,11 @@
 //! The items of each port.
 
-ghost use Rattle.std.specs.Prelude.{◌≡◌, ◌<◌, ◌∷◌, ◌++◌, [], IfOk, OnOk, length, slice_set};
+ghost use Rattle.std.specs.Prelude.{◌≡◌, ◌<◌, ◌∷◌, ◌++◌, [], IfOk, OnOk, length, replicate, slice_set};
 ghost use Rattle.node_defs.specs.WellFormed.{IsWellFormed};
 ghost use Rattle.plan_defs.specs.Homes.{AreHomes};
 ghost use Rattle.plan_defs.specs.Slots.{IsFirstFitPlan};
 ghost use Rattle.image_match.specs.Matches.{claims_of};
 ghost use Rattle.image_build.specs.PortItems.{ArePlanClaims};
-ghost use Rattle.image_build.specs.Plans.{AreEmpty};
 
 use node_defs::NodeNet;
 use plan_defs::{Homes, Plan};
@@ -37,7 +36,7 @@ pub fn port_items(
 
 /// So many empty lists.
 pub(crate) fn empty_lists(alloc: Global, count: usize) -> Result<List<List<u32>>, Memory>
-    ensures { IfOk result (AreEmpty count) }
+    ensures { IfOk result (λ lists. lists ≡ replicate count []) }
 {
     let mut lists = List::new(alloc);
     'lists: for _list in 0..count {

@@ -1,21 +1,20 @@
 -- An image that matches items has at each place the value of the item that the place claims: by the
 -- turn, and in a turn by the slot.
-use Rattle.std.proofs.Common.{◌≡◌, ℕ, zero, suc, ◌+◌, ◌*◌, ◌-◌, ◌<◌, ◌≤◌, if◌then◌else◌, true, false, List, [], ◌∷◌, length, map, slice_get, Option, Some, None, sym, ap, ◌∙◌, subst, refl, arith, inl, inr, replicate}
+use Rattle.std.proofs.Common.{◌≡◌, ℕ, zero, suc, ◌+◌, ◌*◌, ◌<◌, if◌then◌else◌, true, false, List, [], ◌∷◌, length, map, slice_get, Some, sym, ap, ◌∙◌, subst, refl, arith, inl, inr, replicate}
 use Rattle.std.specs.Option.{option_map}
 use Rattle.std.proofs.lemmas.Bool.{cases_lt}
 use Rattle.std.proofs.lemmas.List.{get_or-replicate, get_or_past, length-replicate}
-use Rattle.std.proofs.lemmas.Option.{slice_get_within, slice_get-map, get_or_from_slice_get}
+use Rattle.std.proofs.lemmas.Option.{slice_get_within, slice_get-map}
 use Rattle.logic_four.specs.declared.V4.{V4}
 use Rattle.logic_four.specs.declared.V4.TheVariants.{Undef}
 use Rattle.logic_four.specs.Values.{settled, value_at}
-use Rattle.logic_four.specs.Memory.{initial_words}
 use Rattle.logic_four.proofs.CodeLemmas.{code_of_small}
 use Rattle.net_defs.specs.declared.timing.Timing.{Timing}
 use Rattle.net_defs.specs.declared.stimulus.Stimulus.{Stimulus}
-use Rattle.net_defs.specs.Time.{initial_value, is_edge}
+use Rattle.net_defs.specs.Time.{is_edge}
 use Rattle.net_defs.specs.Steps.{State, registered, values_of, words_of}
 use Rattle.func_table.specs.declared.table.Table.{Table}
-use Rattle.func_table.specs.Entries.{AreAlike, entry_for, looked_up, place_of}
+use Rattle.func_table.specs.Entries.{AreAlike, entry_for, place_of}
 use Rattle.node_defs.specs.declared.items.Tag.{Tag}
 use Rattle.node_defs.specs.declared.items.Tag.TheVariants.{This, Last}
 use Rattle.node_defs.specs.declared.items.Feed.{Feed}
@@ -41,10 +40,10 @@ use Rattle.image_defs.specs.declared.image.PortImage.{PortImage}
 use Rattle.image_defs.specs.declared.image.Image.{Image}
 use Rattle.image_defs.specs.Places.{IsPort, IsItemIn, IsBlockOf, task_slot, blocks_of, printed_of, sender_in, host_of}
 use Rattle.image_defs.specs.WellFormed.{IsWellFormed, IsWork, IsTask, IsBefore}
-use Rattle.image_defs.specs.Steps.{Frame, Grid, times_of, source_value, past_value, value_of_member, block_act, block_bit, task_value, bit_value, column_value, item_value, IsImageStep}
-use Rattle.image_defs.specs.Frames.{frame, printed_value, shown}
+use Rattle.image_defs.specs.Steps.{Frame, Grid, times_of, source_value, past_value, value_of_member, block_act, task_value, bit_value, column_value, item_value, IsImageStep}
+use Rattle.image_defs.specs.Frames.{frame, shown}
 use Rattle.image_defs.proofs.ValueLemmas.{value_meets}
-use Rattle.image_match.specs.Matches.{IsClaim, ClaimsIn, Carries, CarryAll, IsMemoryAs, IsTaskAs, IsBitAs, IsInputAs, IsAs, IsAsClaimed, IsPrintedAs, Matches}
+use Rattle.image_match.specs.Matches.{ClaimsIn, Carries, CarryAll, IsMemoryAs, IsTaskAs, IsBitAs, IsInputAs, IsAs, IsAsClaimed, IsPrintedAs, Matches}
 use Rattle.image_match.specs.Shows.{ShowsItems}
 
 -- ---- lists and tables

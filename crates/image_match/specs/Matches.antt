@@ -1,7 +1,6 @@
 -- When an image matches items through claims: each item of each port claims an item, and its sources
 -- carry what that item's operands name.
-use Rattle.std.specs.Prelude.{◌≡◌, ℕ, Bool, true, false, List, [], ◌∷◌, length, Some, slice_get, slice_index_or}
-use Rattle.logic_four.specs.declared.V4.{V4}
+use Rattle.std.specs.Prelude.{◌≡◌, ℕ, Bool, true, false, List, [], length, Some, slice_get, slice_index_or}
 use Rattle.net_defs.specs.declared.timing.Timing.{Timing}
 use Rattle.func_table.specs.declared.table.Table.{Table}
 use Rattle.func_table.specs.Entries.{AreAlike}

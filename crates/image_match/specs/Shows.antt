@@ -1,6 +1,6 @@
 -- What it means that an image matches items: each place has the value of the item that it claims, and
 -- what is shown are the values of the printed items.
-use Rattle.std.specs.Prelude.{◌≡◌, ℕ, ◌*◌, ◌≤◌, List, Some, slice_get}
+use Rattle.std.specs.Prelude.{◌≡◌, ℕ, ◌*◌, List, Some, slice_get}
 use Rattle.logic_four.specs.Values.{value_at}
 use Rattle.net_defs.specs.declared.stimulus.Stimulus.{Stimulus}
 use Rattle.net_defs.specs.Steps.{State}
