@@ -2,3 +2,4 @@ mod GrowLemmas
 mod OrderLemmas
 mod PlannedLemmas
 mod SlotListLemmas
+mod TaskLemmas

@@ -13,8 +13,12 @@ use Rattle.node_defs.proofs.MemberLemmas.{member_at}
 use Rattle.plan_defs.specs.declared.plan.Homes.{Homes}
 use Rattle.plan_defs.specs.declared.plan.Plan.{Plan}
 use Rattle.plan_defs.specs.Homes.{home_of, block_home, host_of, MayHouse}
+use Rattle.image_defs.specs.declared.image.OutBit.{OutBit}
+use Rattle.image_match.specs.Matches.{claims_of}
+use Rattle.image_build.specs.declared.memories.Memories.{Memories}
 use Rattle.image_build.specs.PortItems.{IsAt, ArePortItems}
-use Rattle.image_build.specs.Plans.{IsPlanned, IsInputItem, IsBitItem}
+use Rattle.image_build.specs.Layouts.{IsBitFor}
+use Rattle.image_build.specs.Plans.{IsPlanned, IsInputItem, IsBitItem, IsBitAt, AreMemories}
 
 -- what stands in a port's list is at the port
 pub at_port : (nodes : NodeNet) (homes : Homes) (slots : List ℕ) (p : ℕ) (items : List ℕ) (k x : ℕ) → ArePortItems nodes homes slots p items → slice_get items k ≡ Some x → IsAt nodes homes p x
@@ -58,3 +62,19 @@ module _ (nodes : NodeNet) (homes : Homes) (plan : Plan) (planned : IsPlanned no
     by_kind (BlockBit m bit) home parts = absurd (omega (arith, home, at, host, (planned.housed.memories m parts).1))
     by_kind (Node t feeds) home parts = absurd (omega (arith, home, at, host))
     by_kind (Latch op) home parts = absurd (omega (arith, home, at, host))
+
+  -- the item at a place of a port's list
+  pub item_at : (p : ℕ) (items : List ℕ) (k d : ℕ) (list : List Item) (e : Item) → ArePortItems nodes homes plan.slots p items → k < length items → list ≡ nodes.items → slice_get nodes.items (get_or items k d) ≡ Some (get_or list (get_or items k d) e)
+  item_at p items k d list e are within whole =
+      slice_get-get_or nodes.items (get_or items k d) e (at_place nodes homes plan.slots p items k d are within).0 ∙ ap (λ xs. Some (get_or xs (get_or items k d) e)) (sym whole)
+
+  -- an output bit by its memory's place is one by the memories of its port
+  pub bit_right : (memories : Memories) (p x : ℕ) (one : Item) (out : OutBit) → AreMemories nodes homes memories → IsAt nodes homes p x → slice_get nodes.items x ≡ Some one → IsBitAt plan.slots memories.places x one out → IsBitFor plan.slots (claims_of memories.lists p) x one out
+  bit_right memories p x (Input column) out are at is made = absurd made
+  bit_right memories p x (Node t feeds) out are at is made = absurd made
+  bit_right memories p x (Latch op) out are at is made = absurd made
+  bit_right memories p x (BlockBit m bit) out are at is made =
+      let parts : m < length nodes.blocks = planned.formed.parts x (BlockBit m bit) is in
+      let home : home_of homes x ≡ block_home homes m = planned.housed.housed x (BlockBit m bit) is in
+      let there = are.places m (get_or memories.places m 0) (slice_get-get_or memories.places m 0 (omega (arith, parts, are.places_are))) in
+      (get_or memories.places m 0, subst (λ q. slice_get (claims_of memories.lists q) (get_or memories.places m 0) ≡ Some m) (sym home ∙ at.1) there, made)

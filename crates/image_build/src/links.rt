@@ -13,8 +13,8 @@ pub(crate) fn links_out(alloc: Global, sends: &[Sending]) -> Result<List<LinkOut
     ensures { IfOk result (λ outs. outs ≡ map link_out sends.now) }
 {
     let mut outs = List::new(alloc);
-    'sends: for sending in sends {
-        outs.push(out_of(sending)?)?;
+    'sends: for k in 0..sends.len() {
+        outs.push(out_of(&sends[k])?)?;
     }
     Ok(outs)
 }
@@ -24,8 +24,8 @@ pub(crate) fn links_in(alloc: Global, receipts: &[Receipt]) -> Result<List<LinkI
     ensures { IfOk result (λ ins. ins ≡ map link_in receipts.now) }
 {
     let mut ins = List::new(alloc);
-    'receipts: for receipt in receipts {
-        ins.push(in_of(receipt))?;
+    'receipts: for k in 0..receipts.len() {
+        ins.push(in_of(&receipts[k]))?;
     }
     Ok(ins)
 }

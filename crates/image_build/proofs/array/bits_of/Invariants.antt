@@ -1,11 +1,7 @@
-use Rattle.std.proofs.Common.{◌≡◌, take}
+use Rattle.std.proofs.Common.{take}
 use Rattle.image_match.specs.Matches.{claims_of}
 use Rattle.image_build.specs.Layouts.{AreBits}
 use Rattle.image_build.proofs.array.bits_of.Given as goal
 
 abbrev pub invariant-items : goal.invariant-items
-invariant-items l = record {
-  so_far : AreBits l.nodes l.plan.slots (take l.k l.items) (claims_of l.memories.lists l.port) l.outs;
-  whole : l.list ≡ l.nodes.items;
-  are_places : l.places ≡ l.memories.places;
-}
+invariant-items l = AreBits l.nodes l.plan.slots (take l.k l.items) (claims_of l.memories.lists l.port) l.outs

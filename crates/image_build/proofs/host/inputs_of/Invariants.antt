@@ -1,9 +1,6 @@
-use Rattle.std.proofs.Common.{◌≡◌, take}
+use Rattle.std.proofs.Common.{take}
 use Rattle.image_build.specs.Layouts.{AreInputs}
 use Rattle.image_build.proofs.host.inputs_of.Given as goal
 
 abbrev pub invariant-items : goal.invariant-items
-invariant-items l = record {
-  so_far : AreInputs l.nodes l.plan.slots (take l.k l.items) l.inputs;
-  whole : l.list ≡ l.nodes.items;
-}
+invariant-items l = AreInputs l.nodes l.plan.slots (take l.k l.items) l.inputs

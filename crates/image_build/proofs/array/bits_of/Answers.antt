@@ -1,0 +1,30 @@
+use Rattle.std.proofs.Common.{◌<◌, get_or, arith, length, subst, sym}
+use Rattle.node_defs.specs.declared.items.Item.TheVariants.{Input, BlockBit}
+use Rattle.node_defs.specs.WellFormed.{NamesParts}
+use Rattle.image_match.specs.Matches.{claims_of}
+use Rattle.image_build.specs.Layouts.{IsBitFor}
+use Rattle.image_build.specs.Plans.{IsBitAt}
+use Rattle.image_build.proofs.GrowLemmas.{made_next}
+use Rattle.image_build.proofs.PlannedLemmas.{at_place, item_at, bit_at_array, bit_right}
+use Rattle.image_build.proofs.array.bits_of.Goals as goal
+
+pub bit_of-requires-clause-bit : goal.bit_of-requires-clause-bit
+bit_of-requires-clause-bit c =
+    bit_at_array c.args.nodes.now c.args.homes.now c.args.plan.now c.requires.planned c.args.port (get_or c.args.items.now c.items.k 0) (get_or c.as_slice-list.result.now (get_or c.args.items.now c.items.k 0) (Input 0))
+    (at_place c.args.nodes.now c.args.homes.now c.args.plan.now.slots c.args.port c.args.items.now c.items.k 0 c.requires.items c.items-test.true)
+    (item_at c.args.nodes.now c.args.homes.now c.args.plan.now c.requires.planned c.args.port c.args.items.now c.items.k 0 c.as_slice-list.result.now (Input 0) c.requires.items c.items-test.true c.as_slice-list.ensures)
+    c.requires.array.0 c.requires.array.1
+
+pub bit_of-requires-clause-memory : goal.bit_of-requires-clause-memory
+bit_of-requires-clause-memory c = λ m bit is.
+    let there = item_at c.args.nodes.now c.args.homes.now c.args.plan.now c.requires.planned c.args.port c.args.items.now c.items.k 0 c.as_slice-list.result.now (Input 0) c.requires.items c.items-test.true c.as_slice-list.ensures in
+    let low : m < length c.args.nodes.now.blocks = subst (NamesParts c.args.nodes.now) is (c.requires.planned.formed.parts _ _ there) in
+    subst (λ places. m < length places) (sym c.as_slice-places.ensures) (omega (arith, low, c.requires.memories.places_are))
+
+pub items-preserved : goal.items-preserved
+items-preserved c =
+    let there = item_at c.args.nodes.now c.args.homes.now c.args.plan.now c.requires.planned c.args.port c.args.items.now c.items.k 0 c.as_slice-list.result.now (Input 0) c.requires.items c.items-test.true c.as_slice-list.ensures in
+    rw c.in_ok-push.ensures.ok (made_next c.args.nodes.now (IsBitFor c.args.plan.now.slots (claims_of c.args.memories.now.lists c.args.port)) c.args.items.now c.items.k 0 c.items.outs (get_or c.as_slice-list.result.now (get_or c.args.items.now c.items.k 0) (Input 0)) c.bit_of.result c.items-test.true c.items.invariant there
+    (bit_right c.args.nodes.now c.args.homes.now c.args.plan.now c.requires.planned c.args.memories.now c.args.port (get_or c.args.items.now c.items.k 0) (get_or c.as_slice-list.result.now (get_or c.args.items.now c.items.k 0) (Input 0)) c.bit_of.result c.requires.memories
+    (at_place c.args.nodes.now c.args.homes.now c.args.plan.now.slots c.args.port c.args.items.now c.items.k 0 c.requires.items c.items-test.true) there
+    (subst (λ places. IsBitAt c.args.plan.now.slots places (get_or c.args.items.now c.items.k 0) (get_or c.as_slice-list.result.now (get_or c.args.items.now c.items.k 0) (Input 0)) c.bit_of.result) c.as_slice-places.ensures c.bit_of.ensures)))

@@ -1,4 +1,0 @@
-pub mod LinkLemmas
-pub mod ListLemmas
-pub mod OrderLemmas
-pub mod SwitchLemmas
