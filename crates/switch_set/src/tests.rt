@@ -56,8 +56,12 @@ fn switched(alloc: Global, text: &[u8], sizes: &[u8]) -> Option<Switch> {
     }
     let machine = read_machine(alloc, sizes).ok()?;
     let nodes = mapped(alloc, text)?;
-    let ports = homes(alloc, &nodes, &machine).ok()?;
-    let plan = first_fit(alloc, &nodes, &ports, &machine).ok()?;
+    let Ok(ports) = homes(alloc, &nodes, &machine) else {
+        return None;
+    };
+    let Ok(plan) = first_fit(alloc, &nodes, &ports, &machine) else {
+        return None;
+    };
     settings(alloc, &nodes, &ports, &plan).ok()
 }
 
