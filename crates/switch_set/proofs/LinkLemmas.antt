@@ -1,13 +1,12 @@
 -- Ports that send and receive more.
-use Rattle.std.proofs.Common.{◌≡◌, ◌≢◌, ◌∙◌, ◌⊎◌, inl, inr, ℕ, ◌+◌, ◌<◌, ◌≤◌, List, [], ◌∷◌, ◌++◌, length, get_or, set, take, refl, sym, ap, subst, arith}
-use Rattle.std.specs.List.{Contains, refill}
+use Rattle.std.proofs.Common.{◌≡◌, ◌≢◌, ◌∙◌, ◌⊎◌, inl, inr, ℕ, ◌+◌, ◌<◌, List, [], ◌∷◌, ◌++◌, length, get_or, set, take, refl, sym, ap, subst, arith}
+use Rattle.std.specs.List.{Contains}
 use Rattle.std.specs.List.Sorted.{IsStrictlyIncreasing}
 use Rattle.std.proofs.lemmas.Bool.{cases_eq, cases_lt}
 use Rattle.std.proofs.lemmas.List.{get_or-set_same, get_or-set_other, get_or_append_left, get_or_push, get_or_past, length-set, length_push, take_more, take_all}
 use Rattle.std.proofs.lemmas.List.Kept.{AllPairs-from_increasing}
 use Rattle.std.proofs.lemmas.List.Elements.{Contains-append_left, Contains-push, Contains-push_cases}
 use Rattle.list_laws.proofs.Places.{place_below}
-use Rattle.plan_defs.specs.declared.switch.Sending.{Sending}
 use Rattle.plan_defs.specs.declared.switch.Receipt.{Receipt}
 use Rattle.plan_defs.specs.declared.switch.PortLinks.{PortLinks}
 use Rattle.switch_set.specs.Links.{links_at, with_sending, with_receipt, AreUnlinked, Receives, Links}

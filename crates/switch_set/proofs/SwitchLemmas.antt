@@ -1,5 +1,5 @@
 -- One more item is linked, and the settings once all are.
-use Rattle.std.proofs.Common.{◌≡◌, ◌≢◌, ◌∙◌, ◌⊎◌, inl, inr, ℕ, ◌+◌, ◌<◌, ◌≤◌, List, [], ◌∷◌, ◌++◌, length, map, get_or, take, Some, slice_get, refl, sym, ap, subst, arith}
+use Rattle.std.proofs.Common.{◌≡◌, ◌≢◌, ◌∙◌, ◌⊎◌, inl, inr, ℕ, ◌+◌, ◌<◌, ◌≤◌, List, [], ◌∷◌, ◌++◌, length, get_or, take, Some, slice_get, refl, sym, ap, subst, arith}
 use Rattle.std.specs.List.{Contains}
 use Rattle.std.proofs.lemmas.Bool.{cases_eq, cases_lt}
 use Rattle.std.proofs.lemmas.List.{get_or-map, length-map, nil_from_length, take_more, take_all}
@@ -14,7 +14,6 @@ use Rattle.plan_defs.specs.declared.plan.Plan.{Plan}
 use Rattle.plan_defs.specs.declared.switch.Sending.{Sending}
 use Rattle.plan_defs.specs.declared.switch.Receipt.{Receipt}
 use Rattle.plan_defs.specs.declared.switch.PortLinks.{PortLinks}
-use Rattle.plan_defs.specs.declared.switch.Switch.{Switch}
 use Rattle.plan_defs.specs.Homes.{AreHomes, home_of, ports_of}
 use Rattle.plan_defs.specs.Readers.{IsReader, IsReaderList}
 use Rattle.plan_defs.specs.Slots.{slot_of, IsFirstFitPlan}

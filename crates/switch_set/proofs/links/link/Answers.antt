@@ -1,4 +1,3 @@
-use Rattle.std.proofs.Common.{◌<◌, length}
 use Rattle.std.proofs.lemmas.List.{length-set}
 use Rattle.switch_set.proofs.links.link.Goals as goal
 

@@ -1,4 +1,4 @@
-use Rattle.std.proofs.Common.{◌<◌, get_or, length, arith}
+use Rattle.std.proofs.Common.{get_or, arith}
 use Rattle.std.proofs.lemmas.List.Elements.{Contains-get_or}
 use Rattle.switch_set.proofs.LinkLemmas.{receives_none, receives_more, receives_all}
 use Rattle.switch_set.proofs.links.push_receipts.Goals as goal

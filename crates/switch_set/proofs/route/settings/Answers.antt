@@ -1,8 +1,6 @@
-use Rattle.std.proofs.Common.{◌≡◌, ◌<◌, List, length, get_or, slice_index_or, Some, slice_get, ap, subst, arith}
+use Rattle.std.proofs.Common.{arith}
 use Rattle.std.proofs.lemmas.Option.{slice_get-get_or}
-use Rattle.plan_defs.specs.Homes.{home_of}
-use Rattle.switch_set.specs.Links.{Links}
-use Rattle.switch_set.proofs.SwitchLemmas.{linked_none, linked_more, home_low, readers_low, switch_is}
+use Rattle.switch_set.proofs.SwitchLemmas.{linked_more, home_low, readers_low, switch_is}
 use Rattle.switch_set.proofs.route.settings.Goals as goal
 
 pub link-requires-clause-home : goal.link-requires-clause-home
