@@ -1,37 +1,15 @@
 -- Ports that send and receive more.
-use Rattle.std.proofs.Common.{◌≡◌, ◌≢◌, ◌∙◌, ◌⊎◌, inl, inr, ℕ, ◌+◌, ◌<◌, List, [], ◌∷◌, ◌++◌, length, get_or, set, take, refl, sym, ap, subst, arith}
+use Rattle.std.proofs.Common.{◌≡◌, ◌≢◌, ◌∙◌, ◌⊎◌, inl, inr, ℕ, ◌+◌, ◌<◌, List, [], ◌∷◌, ◌++◌, length, get_or, set, take, sym, ap, subst, arith}
 use Rattle.std.specs.List.{Contains}
 use Rattle.std.specs.List.Sorted.{IsStrictlyIncreasing}
-use Rattle.std.proofs.lemmas.Bool.{cases_eq, cases_lt}
-use Rattle.std.proofs.lemmas.List.{get_or-set_same, get_or-set_other, get_or_append_left, get_or_push, get_or_past, length-set, length_push, take_more, take_all}
+use Rattle.std.proofs.lemmas.Bool.{cases_eq}
+use Rattle.std.proofs.lemmas.List.{get_or-set_same, get_or-set_other, length-set, take_more}
 use Rattle.std.proofs.lemmas.List.Kept.{AllPairs-from_increasing}
 use Rattle.std.proofs.lemmas.List.Elements.{Contains-append_left, Contains-push, Contains-push_cases}
 use Rattle.list_laws.proofs.Places.{place_below}
 use Rattle.plan_defs.specs.declared.switch.Receipt.{Receipt}
 use Rattle.plan_defs.specs.declared.switch.PortLinks.{PortLinks}
-use Rattle.switch_set.specs.Links.{links_at, with_sending, with_receipt, AreUnlinked, Receives, Links}
-
--- ---- ports that do nothing
-
-pub unlinked_none : AreUnlinked 0 []
-unlinked_none = record { are = refl; sends = λ port. refl; receipts = λ port. refl }
-
-pub unlinked_more : (count : ℕ) (ports : List PortLinks) → AreUnlinked count ports → AreUnlinked (count + 1) (ports ++ record { sends = []; receipts = [] } ∷ [])
-unlinked_more count ports before = record {
-  are = omega (arith, length_push {X = PortLinks} ports (record { sends = []; receipts = [] }), before.are);
-  sends = λ port. ap (λ (links : PortLinks). links.sends) (same port) ∙ before.sends port;
-  receipts = λ port. ap (λ (links : PortLinks). links.receipts) (same port) ∙ before.receipts port;
-} where
-  same : (port : ℕ) → links_at (ports ++ record { sends = []; receipts = [] } ∷ []) port ≡ links_at ports port
-  same port = elim (cases_lt port (length ports)) [
-    | inl inside ↦ get_or_append_left ports (record { sends = []; receipts = [] } ∷ []) (record { sends = []; receipts = [] }) port inside
-    | inr past ↦ elim (cases_eq (length ports) port) [
-      | inl last ↦ get_or_push ports (record { sends = []; receipts = [] }) (record { sends = []; receipts = [] }) port last
-          ∙ sym (get_or_past ports port (record { sends = []; receipts = [] }) past)
-      | inr other ↦ get_or_past (ports ++ record { sends = []; receipts = [] } ∷ []) port (record { sends = []; receipts = [] }) (omega (arith, past, other, length_push {X = PortLinks} ports (record { sends = []; receipts = [] })))
-          ∙ sym (get_or_past ports port (record { sends = []; receipts = [] }) past)
-    ]
-  ]
+use Rattle.switch_set.specs.Links.{links_at, with_receipt, Receives}
 
 -- ---- one port that does more
 
@@ -42,14 +20,6 @@ pub set_other : (ports : List PortLinks) (port other : ℕ) (links : PortLinks) 
 set_other ports port other links differ = get_or-set_other ports port other links (record { sends = []; receipts = [] }) differ
 
 -- ---- receivers
-
-pub receives_none : (ports : List PortLinks) (readers : List ℕ) (receipt : Receipt) → Receives ports ports (Contains (take 0 readers)) receipt
-receives_none ports readers receipt = record {
-  ports = refl;
-  sends = λ port. refl;
-  more = λ port h. let low = h.1 in absurd (omega (arith, low));
-  same = λ port h. refl;
-}
 
 module _ (old ports : List PortLinks) (readers : List ℕ) (receipt : Receipt) (k : ℕ) (low : k < length readers) (once : IsStrictlyIncreasing readers)
     (within : get_or readers k 0 < length ports) (before : Receives old ports (Contains (take k readers)) receipt) where
@@ -101,41 +71,3 @@ module _ (old ports : List PortLinks) (readers : List ℕ) (receipt : Receipt) (
     more = λ port h. more_now port (Contains-push_cases (take k readers) (get_or readers k 0) port (subst (λ xs. Contains xs port) (take_more readers k 0 low) h));
     same = λ port none. ap (λ (links : PortLinks). links.receipts) (now_other port (λ is. none (subst (Contains (take (k + 1) readers)) (sym is) here))) ∙ before.same port (λ h. none (kept port h));
   }
-
--- all readers received
-pub receives_all : (old ports : List PortLinks) (readers : List ℕ) (receipt : Receipt) (k : ℕ) → k ≡ length readers → Receives old ports (Contains (take k readers)) receipt → Receives old ports (Contains readers) receipt
-receives_all old ports readers receipt k all before =
-    subst (λ xs. Receives old ports (Contains xs) receipt) (take_all k readers (omega (arith, all))) before
-
--- ---- one item
-
--- without readers nothing is sent
-pub links_none : (ports : List PortLinks) (slot home : ℕ) (readers : List ℕ) → readers ≡ [] → Links ports ports slot home readers
-links_none ports slot home readers none = record {
-  ports = refl;
-  sender = λ some. absurd (let long = ap length none in omega (arith, some, long));
-  silent = λ port h. refl;
-  receivers = λ port h. (let low = h.1 in let long = ap length none in absurd (omega (arith, low, long)));
-  others = λ port h. refl;
-}
-
--- the home sends, and then the readers receive
-pub links_some : (old new : List PortLinks) (slot home : ℕ) (readers : List ℕ) → home < length old → 0 < length readers
-    → Receives (set old home (with_sending (links_at old home) (record { slot = slot; readers = readers }))) new (Contains readers) (record { slot = slot; sender = home })
-    → Links old new slot home readers
-links_some old new slot home readers within some heard = record {
-  ports = heard.ports ∙ length-set old home (with_sending (links_at old home) (record { slot = slot; readers = readers }));
-  sender = λ any. heard.sends home ∙ ap (λ (links : PortLinks). links.sends) sent;
-  silent = λ port quiet. heard.sends port ∙ ap (λ (links : PortLinks). links.sends) (set_other old home port _ (λ is. (let long = ap length (quiet is) in omega (arith, some, long))));
-  receivers = λ port h. heard.more port h ∙ ap (λ receipts. receipts ++ record { slot = slot; sender = home } ∷ []) (received port);
-  others = λ port h. heard.same port h ∙ received port;
-} where
-  sent : links_at (set old home (with_sending (links_at old home) (record { slot = slot; readers = readers }))) home ≡ with_sending (links_at old home) (record { slot = slot; readers = readers })
-  sent = set_same old home (with_sending (links_at old home) (record { slot = slot; readers = readers })) within
-
-  received : (port : ℕ) → (links_at (set old home (with_sending (links_at old home) (record { slot = slot; readers = readers }))) port).receipts ≡ (links_at old port).receipts
-  received port = elim (cases_eq port home) [
-    | inl same ↦ subst (λ p. (links_at (set old home (with_sending (links_at old home) (record { slot = slot; readers = readers }))) p).receipts ≡ (links_at old p).receipts) (sym same)
-        (ap (λ (links : PortLinks). links.receipts) sent)
-    | inr other ↦ ap (λ (links : PortLinks). links.receipts) (set_other old home port _ other)
-  ]

@@ -21,19 +21,9 @@ use Rattle.plan_defs.specs.Switches.{IsSendingOf, IsSent, IsReceiptOf, IsSwitch}
 use Rattle.plan_defs.proofs.PlanLemmas.{one_at_home, one_received}
 use Rattle.plan_defs.proofs.PortLemmas.{home_port, reader_port}
 use Rattle.switch_set.specs.declared.order.Placed.{Placed}
-use Rattle.switch_set.specs.Links.{links_at, AreUnlinked, Links, AreSendsOf, AreReceiptsOf, AreLinked}
+use Rattle.switch_set.specs.Links.{links_at, Links, AreSendsOf, AreReceiptsOf, AreLinked}
 use Rattle.switch_set.specs.Order.{items_of, IsPlaced, IsSlotOrder}
-use Rattle.switch_set.proofs.ListLemmas.{among, listed_none, listed_same, listed_more}
-
--- no item is linked
-pub linked_none : (nodes : NodeNet) (homes : Homes) (slots items : List ℕ) (ports : List PortLinks) → AreUnlinked (ports_of homes) ports → AreLinked nodes homes slots (take 0 items) ports
-linked_none nodes homes slots items ports unlinked = record {
-  ports_are = unlinked.are;
-  sends = λ port. rw (unlinked.sends port) (listed_none (λ (sending : Sending). sending.slot) (IsSendingOf nodes homes slots) (λ i. IsSent nodes homes port i × Contains (take 0 items) i)
-      (λ i h. let low = h.1.1 in omega (arith, low)));
-  receipts = λ port. rw (unlinked.receipts port) (listed_none (λ (receipt : Receipt). receipt.slot) (IsReceiptOf homes slots) (λ i. IsReader nodes homes i port × Contains (take 0 items) i)
-      (λ i h. let low = h.1.1 in omega (arith, low)));
-}
+use Rattle.switch_set.proofs.ListLemmas.{among, listed_same, listed_more}
 
 module _ (nodes : NodeNet) (homes : Homes) (plan : Plan) (formed : IsWellFormed nodes) (are : AreHomes nodes homes) (fit : IsFirstFitPlan nodes homes plan)
     (order : List Placed) (is : IsSlotOrder plan.slots order) (k : ℕ) (placed : Placed) (at : slice_get order k ≡ Some placed) where
