@@ -1,5 +1,3 @@
 mod GrowLemmas
-mod OrderLemmas
 mod PlannedLemmas
-mod SlotListLemmas
 mod TaskLemmas

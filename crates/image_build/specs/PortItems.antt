@@ -4,7 +4,7 @@ use Rattle.node_defs.specs.declared.items.NodeNet.{NodeNet}
 use Rattle.plan_defs.specs.declared.plan.Homes.{Homes}
 use Rattle.plan_defs.specs.Homes.{home_of, ports_of}
 use Rattle.plan_defs.specs.Slots.{slot_of}
-use Rattle.image_build.specs.SlotLists.{IsSlotList}
+use Rattle.switch_set.specs.Links.{IsSlotList}
 use Rattle.image_match.specs.Matches.{claims_of}
 
 -- item i is at the port

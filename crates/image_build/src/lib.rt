@@ -8,7 +8,6 @@ mod host;
 mod links;
 mod logic;
 mod memories;
-mod order;
 pub mod port_items;
 mod sources;
 

@@ -11,7 +11,7 @@ use node_defs::NodeNet;
 use plan_defs::{Homes, Plan};
 use seen_list::{List, Memory};
 use std::alloc::Global;
-use crate::order::slot_order;
+use switch_set::order::slot_order;
 
 /// The items of each port in slot order: a list for each port, in port order.
 pub fn port_items(

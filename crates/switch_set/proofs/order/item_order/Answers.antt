@@ -1,7 +1,7 @@
 use Rattle.std.proofs.Common.{◌∙◌, ◌++◌, ◌∷◌, [], sym, ap, arith}
 use Rattle.std.proofs.lemmas.List.FromFn.{map-range_with_len_more}
-use Rattle.image_build.specs.Order.{placed_at}
-use Rattle.image_build.proofs.order.item_order.Goals as goal
+use Rattle.switch_set.specs.Order.{placed_at}
+use Rattle.switch_set.proofs.order.item_order.Goals as goal
 
 pub items-preserved : goal.items-preserved
 items-preserved c =

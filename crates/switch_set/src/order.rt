@@ -2,20 +2,20 @@
 
 ghost use Rattle.std.specs.Prelude.{◌≡◌, ◌<◌, ◌≤◌, ◌^◌, IfOk, length, map};
 ghost use Rattle.std.specs.List.{range_with_len};
-ghost use Rattle.image_build.specs.Order.{placed_at, IsSlotOrder};
+ghost use Rattle.switch_set.specs.Order.{placed_at, IsSlotOrder};
 
 use seen_list::Memory;
 use std::alloc::Global;
 
 /// An item and its slot.
 #[derive(Clone, Copy)]
-pub(crate) struct Placed {
-    pub(crate) slot: u32,
-    pub(crate) item: u32,
+pub struct Placed {
+    pub slot: u32,
+    pub item: u32,
 }
 
 /// The items in slot order, given the slot of each.
-pub(crate) fn slot_order(alloc: Global, slots: &[u32]) -> Result<Vec<Placed>, Memory>
+pub fn slot_order(alloc: Global, slots: &[u32]) -> Result<Vec<Placed>, Memory>
     requires { length slots.now < 2 ^ 32 }
     ensures { IfOk result (λ order. IsSlotOrder slots.now order.items) }
 {

@@ -1,8 +1,8 @@
-use Rattle.std.proofs.Common.{◌∙◌, map, subst, rules}
+use Rattle.std.proofs.Common.{subst, rules}
 use Rattle.std.specs.List.Sorted.{IsPermutation}
 use Rattle.std.proofs.lemmas.List.Sorted.{IsNonDecreasingBy-from_sort_by_key}
-use Rattle.image_build.proofs.OrderLemmas.{sorted_items}
-use Rattle.image_build.proofs.order.slot_order.Goals as goal
+use Rattle.switch_set.proofs.OrderLemmas.{sorted_items}
+use Rattle.switch_set.proofs.order.slot_order.Goals as goal
 
 pub returns : goal.returns
 returns c =

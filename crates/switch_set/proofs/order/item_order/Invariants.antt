@@ -1,7 +1,7 @@
 use Rattle.std.proofs.Common.{◌≡◌, map}
 use Rattle.std.specs.List.{range_with_len}
-use Rattle.image_build.specs.Order.{placed_at}
-use Rattle.image_build.proofs.order.item_order.Given as goal
+use Rattle.switch_set.specs.Order.{placed_at}
+use Rattle.switch_set.proofs.order.item_order.Given as goal
 
 abbrev pub invariant-items : goal.invariant-items
 invariant-items l = l.order.items ≡ map (placed_at l.slots) (range_with_len 0 l.item)

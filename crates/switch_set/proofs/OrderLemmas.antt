@@ -1,5 +1,5 @@
 -- Items that are sorted by their slots.
-use Rattle.std.proofs.Common.{◌≡◌, ◌≢◌, ◌∙◌, ℕ, ◌+◌, ◌<◌, eqb, List, [], ◌∷◌, length, map, get_or, refl, sym, ap, subst, arith}
+use Rattle.std.proofs.Common.{◌≡◌, ◌≢◌, ℕ, ◌<◌, eqb, List, [], ◌∷◌, length, map, get_or, refl, sym, ap, subst, arith}
 use Rattle.std.specs.List.{All, AllPairs, Contains, range_with_len}
 use Rattle.std.specs.List.Sorted.{IsNonDecreasingBy, IsPermutation}
 use Rattle.std.proofs.lemmas.Bool.Decides.{Decides-eqb, nat_tests}
@@ -8,8 +8,8 @@ use Rattle.std.proofs.lemmas.List.FromFn.{length-range_with_len, get_or-range_wi
 use Rattle.std.proofs.lemmas.List.Sorted.{IsPermutation-map, All-permutation, Contains-permutation}
 use Rattle.std.proofs.lemmas.Map.Keys.{IsDistinct-IsPermutation}
 use Rattle.std.proofs.lemmas.Map.Made.{IsDistinct-from_AllPairs, AllPairs-from_IsDistinct}
-use Rattle.image_build.specs.declared.order.Placed.{Placed}
-use Rattle.image_build.specs.Order.{placed_at, IsPlaced, items_of, IsSlotOrder}
+use Rattle.switch_set.specs.declared.order.Placed.{Placed}
+use Rattle.switch_set.specs.Order.{placed_at, IsPlaced, items_of, IsSlotOrder}
 
 -- the numbers of items in item order
 items_same : (slots numbers : List ℕ) → items_of (map (placed_at slots) numbers) ≡ numbers

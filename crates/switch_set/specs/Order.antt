@@ -3,7 +3,7 @@ use Rattle.std.specs.Prelude.{◌≡◌, ◌≢◌, ℕ, ◌<◌, List, length, 
 use Rattle.std.specs.List.{AllPairs}
 use Rattle.std.specs.List.Sorted.{IsNonDecreasingBy}
 use Rattle.plan_defs.specs.Slots.{slot_of}
-use Rattle.image_build.specs.declared.order.Placed.{Placed}
+use Rattle.switch_set.specs.declared.order.Placed.{Placed}
 
 -- item i in its slot
 abbrev pub placed_at : List ℕ → ℕ → Placed

@@ -1,0 +1,5 @@
+use Rattle.switch_set.specs.Links.{AreUnlinked}
+use Rattle.switch_set.proofs.links.unlinked.Given as goal
+
+abbrev pub invariant-ports : goal.invariant-ports
+invariant-ports l = AreUnlinked l._port l.ports

@@ -1,0 +1,11 @@
+//! The settings of the switch: what each port sends and receives in each slot, so that every item
+//! reaches the ports that read it, and no port sends or receives twice in a slot.
+#![tactic(auto)]
+
+mod links;
+pub mod order;
+pub mod route;
+#[cfg(test)]
+mod tests;
+
+pub use route::settings;
