@@ -1,3 +1,5 @@
 mod GrowLemmas
+mod ItemLemmas
+mod MemoryLemmas
 mod PlannedLemmas
 mod TaskLemmas

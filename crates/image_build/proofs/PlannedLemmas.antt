@@ -1,7 +1,8 @@
 -- Items at their ports: which items a port has, by its kind.
-use Rattle.std.proofs.Common.{◌≡◌, ◌⊎◌, inl, inr, ℕ, ◌+◌, ◌<◌, ◌≤◌, List, length, map, get_or, Some, slice_get, sym, ap, ◌∙◌, subst, refl, arith}
-use Rattle.std.specs.List.{Contains}
-use Rattle.std.proofs.lemmas.List.{length-map}
+use Rattle.std.proofs.Common.{◌≡◌, ◌⊎◌, inl, inr, ℕ, zero, suc, ◌+◌, ◌<◌, ◌≤◌, List, [], ◌∷◌, length, map, max, get_or, Some, slice_get, sym, ap, ◌∙◌, subst, refl, arith}
+use Rattle.std.specs.List.{Contains, fold}
+use Rattle.std.specs.List.Sorted.{IsStrictlyIncreasing}
+use Rattle.std.proofs.lemmas.List.{length-map, get_or-map}
 use Rattle.std.proofs.lemmas.Option.{slice_get_within, slice_get-get_or}
 use Rattle.limits.specs.declared.TheConstants.{MAX_SLOTS}
 use Rattle.node_defs.specs.declared.items.Item.{Item}
@@ -13,6 +14,7 @@ use Rattle.node_defs.proofs.MemberLemmas.{member_at}
 use Rattle.plan_defs.specs.declared.plan.Homes.{Homes}
 use Rattle.plan_defs.specs.declared.plan.Plan.{Plan}
 use Rattle.plan_defs.specs.Homes.{home_of, block_home, host_of, MayHouse}
+use Rattle.plan_defs.specs.Slots.{slot_of}
 use Rattle.image_defs.specs.declared.image.OutBit.{OutBit}
 use Rattle.image_match.specs.Matches.{claims_of}
 use Rattle.image_build.specs.declared.memories.Memories.{Memories}
@@ -28,6 +30,26 @@ at_port nodes homes slots p items k x are here =
 
 pub at_place : (nodes : NodeNet) (homes : Homes) (slots : List ℕ) (p : ℕ) (items : List ℕ) (k d : ℕ) → ArePortItems nodes homes slots p items → k < length items → IsAt nodes homes p (get_or items k d)
 at_place nodes homes slots p items k d are within = at_port nodes homes slots p items k (get_or items k d) are (slice_get-get_or items k d within)
+
+-- a number of a list is below what the list needs
+start_low : (slots : List ℕ) (a : ℕ) → a ≤ fold (λ needed slot. max needed (slot + 1)) a slots
+start_low [] a = omega arith
+start_low (s ∷ slots) a = omega (arith, start_low slots (max a (s + 1)))
+
+below_needed : (slots : List ℕ) (i a : ℕ) → i < length slots → get_or slots i 0 < fold (λ needed slot. max needed (slot + 1)) a slots
+below_needed [] i a low = absurd (omega arith)
+below_needed (s ∷ slots) zero a low = omega (arith, start_low slots (max a (s + 1)))
+below_needed (s ∷ slots) (suc i) a low = below_needed slots i (max a (s + 1)) (omega arith)
+
+-- a rising number is at least its place
+reaches : (xs : List ℕ) → IsStrictlyIncreasing xs → (k : ℕ) → k < length xs → k ≤ get_or xs k 0
+reaches xs rising zero low = omega arith
+reaches xs rising (suc k) low =
+    let before = reaches xs rising k (omega arith) in
+    let step = rising k (omega arith) in
+    let on : k + 1 ≡ suc k = omega arith in
+    let up : get_or xs k 0 < get_or xs (suc k) 0 = rw on at step in
+    omega (arith, before, up)
 
 module _ (nodes : NodeNet) (homes : Homes) (plan : Plan) (planned : IsPlanned nodes homes plan) where
   pub homes_long : length homes.items ≡ length nodes.items
@@ -78,3 +100,13 @@ module _ (nodes : NodeNet) (homes : Homes) (plan : Plan) (planned : IsPlanned no
       let home : home_of homes x ≡ block_home homes m = planned.housed.housed x (BlockBit m bit) is in
       let there = are.places m (get_or memories.places m 0) (slice_get-get_or memories.places m 0 (omega (arith, parts, are.places_are))) in
       (get_or memories.places m 0, subst (λ q. slice_get (claims_of memories.lists q) (get_or memories.places m 0) ≡ Some m) (sym home ∙ at.1) there, made)
+
+  -- a slot is below the number that is needed
+  pub slot_low : (x : ℕ) → x < length nodes.items → slot_of plan.slots x < plan.needed
+  slot_low x within = rw planned.first_fit.needed (below_needed plan.slots x 0 (omega (arith, within, planned.first_fit.slots.items)))
+
+  -- a port has no more items than a turn has slots
+  pub place_few : (p : ℕ) (items : List ℕ) (k : ℕ) → ArePortItems nodes homes plan.slots p items → k < length items → k < MAX_SLOTS
+  place_few p items k are within =
+      let reached : k ≤ slot_of plan.slots (get_or items k 0) = rw (← get_or-map (slot_of plan.slots) items k 0 0 within) (reaches (map (slot_of plan.slots) items) are.rising k (omega (arith, within, length-map items (slot_of plan.slots)))) in
+      omega (arith, reached, slot_low (get_or items k 0) (at_place nodes homes plan.slots p items k 0 are within).0, planned.few)

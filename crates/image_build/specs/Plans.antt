@@ -1,5 +1,5 @@
 -- Items in a plan, and what is known while their work is laid out.
-use Rattle.std.specs.Prelude.{◌≡◌, ℕ, ◌<◌, ◌≤◌, List, [], length, take, Some, slice_get, slice_index}
+use Rattle.std.specs.Prelude.{◌≡◌, ℕ, ◌<◌, ◌≤◌, List, [], length, take, Some, slice_get, slice_index, Contains}
 use Rattle.limits.specs.declared.TheConstants.{MAX_SLOTS}
 use Rattle.func_table.specs.declared.table.Table.{Table}
 use Rattle.func_table.specs.Shelf.{AreDifferent, IsNumbered}
@@ -11,16 +11,20 @@ use Rattle.image_defs.specs.declared.image.Task.{Task}
 use Rattle.image_defs.specs.declared.image.Task.TheVariants.{Eval, Hold}
 use Rattle.image_defs.specs.declared.image.OutBit.{OutBit}
 use Rattle.image_defs.specs.declared.image.InColumn.{InColumn}
+use Rattle.image_defs.specs.declared.image.PortImage.{PortImage}
 use Rattle.image_match.specs.Matches.{claims_of}
 use Rattle.plan_defs.specs.declared.plan.Homes.{Homes}
 use Rattle.plan_defs.specs.declared.plan.Plan.{Plan}
+use Rattle.plan_defs.specs.declared.switch.PortLinks.{PortLinks}
+use Rattle.plan_defs.specs.declared.switch.Switch.{Switch}
 use Rattle.plan_defs.specs.Homes.{AreHomes, block_home, ports_of}
 use Rattle.plan_defs.specs.Lists.{ListsBelow}
 use Rattle.plan_defs.specs.Slots.{slot_of, IsFirstFitPlan}
 use Rattle.image_build.specs.declared.memories.Memories.{Memories}
-use Rattle.image_build.specs.PortItems.{ArePortItems}
-use Rattle.image_build.specs.Built.{ArePortMemories, AreInOrderOfUse}
-use Rattle.image_build.specs.Layouts.{IsTaskFor, IsBitFor, IsInputFor, AreTasks}
+use Rattle.switch_set.specs.Links.{IsSlotList}
+use Rattle.image_build.specs.PortItems.{IsAt}
+use Rattle.image_build.specs.Built.{ArePortMemories, AreInOrderOfUse, AreLinksOf}
+use Rattle.image_build.specs.Layouts.{AreTasks, IsWorkFor}
 
 -- well-formed items at their homes, in their first-fit plan
 pub record IsPlanned (nodes : NodeNet) (homes : Homes) (plan : Plan) : Type 0 where
@@ -29,6 +33,11 @@ pub record IsPlanned (nodes : NodeNet) (homes : Homes) (plan : Plan) : Type 0 wh
   pub first_fit : IsFirstFitPlan nodes homes plan
   pub few : plan.needed ≤ MAX_SLOTS
 
+
+-- the lists of the ports have these items, each in slot order
+pub record AreItemsAmong (nodes : NodeNet) (homes : Homes) (slots done : List ℕ) (lists : List (List ℕ)) : Type 0 where
+  pub ports : length lists ≡ ports_of homes
+  pub items : (p : ℕ) → IsSlotList (slot_of slots) (λ i x. x ≡ i) (λ i. IsAt nodes homes p i × Contains done i) (claims_of lists p)
 
 -- the item is an input, or a memory output
 abbrev pub IsInputItem : Item → Type 0
@@ -74,3 +83,9 @@ pub record AreFirstMemories (nodes : NodeNet) (homes : Homes) (n : ℕ) (memorie
   pub lists : (p : ℕ) → ListsBelow (λ m. block_home homes m ≡ p) n (claims_of memories.lists p)
   pub places_are : length memories.places ≡ n
   pub places : (m k : ℕ) → slice_get memories.places m ≡ Some k → slice_get (claims_of memories.lists (block_home homes m)) k ≡ Some m
+
+-- the first n ports do the work for their items, with their links
+pub record AreFirstPorts (nodes : NodeNet) (homes : Homes) (plan : Plan) (switch : Switch) (claims : List (List ℕ)) (n : ℕ) (ports : List PortImage) : Type 0 where
+  pub are : length ports ≡ n
+  pub works : (p : ℕ) (port : PortImage) → slice_get ports p ≡ Some port → IsWorkFor nodes homes plan.slots p (claims_of claims p) port.work
+  pub links : (p : ℕ) (port : PortImage) (links : PortLinks) → slice_get ports p ≡ Some port → slice_get switch.ports p ≡ Some links → AreLinksOf links port

@@ -1,11 +1,9 @@
 //! The items of each port.
 
 ghost use Rattle.std.specs.Prelude.{◌≡◌, ◌<◌, ◌∷◌, ◌++◌, [], IfOk, OnOk, length, replicate, slice_set};
-ghost use Rattle.node_defs.specs.WellFormed.{IsWellFormed};
-ghost use Rattle.plan_defs.specs.Homes.{AreHomes};
-ghost use Rattle.plan_defs.specs.Slots.{IsFirstFitPlan};
 ghost use Rattle.image_match.specs.Matches.{claims_of};
 ghost use Rattle.image_build.specs.PortItems.{ArePlanClaims};
+ghost use Rattle.image_build.specs.Plans.{IsPlanned};
 
 use node_defs::NodeNet;
 use plan_defs::{Homes, Plan};
@@ -20,16 +18,15 @@ pub fn port_items(
     homes: &Homes,
     plan: &Plan,
 ) -> Result<List<List<u32>>, Memory>
-    requires nodes { IsWellFormed _nodes.now }
-    requires homes { AreHomes _nodes.now homes.now }
-    requires plan { IsFirstFitPlan _nodes.now homes.now plan.now }
+    requires { IsPlanned _nodes.now homes.now plan.now }
     ensures { IfOk result (ArePlanClaims _nodes.now homes.now plan.now.slots) }
 {
     let order = slot_order(alloc, plan.slots.as_slice())?;
     let mut lists = empty_lists(alloc, (homes.logic + homes.array + 1) as usize)?;
     let ports = homes.items.as_slice();
-    'items: for placed in &order {
-        push_to(&mut lists, ports[placed.item as usize] as usize, placed.item)?;
+    'items: for k in 0..order.len() {
+        let item = order[k].item;
+        push_to(&mut lists, ports[item as usize] as usize, item)?;
     }
     Ok(lists)
 }

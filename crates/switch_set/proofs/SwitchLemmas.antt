@@ -36,7 +36,7 @@ module _ (nodes : NodeNet) (homes : Homes) (plan : Plan) (formed : IsWellFormed 
   item_here : get_or (items_of order) k 0 ≡ placed.item
   item_here = get_or-map (λ (p : Placed). p.item) order k placed 0 order_low ∙ ap (λ (p : Placed). p.item) (get_or_from_slice_get order k placed placed at)
 
-  here_is : IsPlaced plan.slots placed
+  pub here_is : IsPlaced plan.slots placed
   here_is = each (IsPlaced plan.slots) order k placed is.placed at
 
   pub item_low : placed.item < length nodes.items

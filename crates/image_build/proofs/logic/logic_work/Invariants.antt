@@ -1,9 +1,5 @@
-use Rattle.std.proofs.Common.{◌≡◌, take}
 use Rattle.image_build.specs.Plans.{AreFirstTasks}
 use Rattle.image_build.proofs.logic.logic_work.Given as goal
 
 abbrev pub invariant-items : goal.invariant-items
-invariant-items l = record {
-  so_far : AreFirstTasks l.nodes l.homes l.plan.slots l.port l.k l.items l.shelf.tables l.tasks;
-  whole : l.list ≡ l.nodes.items;
-}
+invariant-items l = AreFirstTasks l.nodes l.homes l.plan.slots l.port l.k l.items l.shelf.tables l.tasks

@@ -1,0 +1,19 @@
+use Rattle.std.proofs.Common.{◌≡◌, ◌∙◌, ◌<◌, length, get_or, Some, slice_get, ap, sym, arith}
+use Rattle.std.proofs.lemmas.Option.{slice_get-get_or}
+use Rattle.image_build.proofs.MemoryLemmas.{blocks_more}
+use Rattle.image_build.proofs.array.blocks_of.Goals as goal
+
+pub block_of-requires-clause-taken : goal.block_of-requires-clause-taken
+block_of-requires-clause-taken c = λ o takes.
+    let number = c.requires.there c.numbers.k (get_or c.args.numbers.now c.numbers.k 0) (slice_get-get_or c.args.numbers.now c.numbers.k 0 c.numbers-test.true) in
+    let is = rw c.as_slice-memories.ensures at c.index-memories-numbers.is in
+    let there : slice_get c.args.nodes.now.blocks (get_or c.args.numbers.now c.numbers.k 0) ≡ Some c.index-memories-numbers.result = slice_get-get_or c.args.nodes.now.blocks (get_or c.args.numbers.now c.numbers.k 0) c.index-memories-numbers.result number ∙ ap Some (sym is) in
+    let low = (c.requires.planned.formed.memories (get_or c.args.numbers.now c.numbers.k 0) c.index-memories-numbers.result there).taken o takes in
+    omega (arith, low, c.requires.planned.first_fit.slots.items)
+
+pub numbers-preserved : goal.numbers-preserved
+numbers-preserved c =
+    let number = c.requires.there c.numbers.k (get_or c.args.numbers.now c.numbers.k 0) (slice_get-get_or c.args.numbers.now c.numbers.k 0 c.numbers-test.true) in
+    let is = rw c.as_slice-memories.ensures at c.index-memories-numbers.is in
+    let there : slice_get c.args.nodes.now.blocks (get_or c.args.numbers.now c.numbers.k 0) ≡ Some c.index-memories-numbers.result = slice_get-get_or c.args.nodes.now.blocks (get_or c.args.numbers.now c.numbers.k 0) c.index-memories-numbers.result number ∙ ap Some (sym is) in
+    rw (c.in_ok-push.ensures.ok, c.in_ok-block_of.ensures) (blocks_more c.args.nodes.now c.args.homes.now c.args.plan.now.slots c.args.port c.numbers.k 0 c.args.numbers.now c.numbers.blocks c.index-memories-numbers.result c.numbers-test.true c.numbers.invariant there)

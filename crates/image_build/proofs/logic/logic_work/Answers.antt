@@ -1,0 +1,41 @@
+use Rattle.std.proofs.Common.{◌<◌, get_or, arith, length, subst, sym}
+use Rattle.node_defs.specs.declared.items.Item.TheVariants.{Input}
+use Rattle.image_build.proofs.PlannedLemmas.{at_place, item_at, computed_at, place_few}
+use Rattle.image_build.proofs.TaskLemmas.{tasks_none, tasks_more}
+use Rattle.image_build.proofs.logic.logic_work.Goals as goal
+
+pub task_of-requires-clause-room : goal.task_of-requires-clause-room
+task_of-requires-clause-room c =
+    let few = c.items.invariant.few in
+    let low = place_few c.args.nodes.now c.args.homes.now c.args.plan.now c.requires.planned c.args.port c.args.items.now c.items.k c.requires.items c.items-test.true in
+    omega (arith, few, low)
+
+pub task_of-requires-clause-within : goal.task_of-requires-clause-within
+task_of-requires-clause-within c =
+    let at = at_place c.args.nodes.now c.args.homes.now c.args.plan.now.slots c.args.port c.args.items.now c.items.k 0 c.requires.items c.items-test.true in
+    omega (arith, at.0, c.requires.planned.first_fit.slots.items)
+
+pub task_of-requires-clause-computed : goal.task_of-requires-clause-computed
+task_of-requires-clause-computed c =
+    computed_at c.args.nodes.now c.args.homes.now c.args.plan.now c.requires.planned c.args.port (get_or c.args.items.now c.items.k 0) (get_or c.as_slice-list.result.now (get_or c.args.items.now c.items.k 0) (Input 0))
+    (at_place c.args.nodes.now c.args.homes.now c.args.plan.now.slots c.args.port c.args.items.now c.items.k 0 c.requires.items c.items-test.true)
+    (item_at c.args.nodes.now c.args.homes.now c.args.plan.now c.requires.planned c.args.port c.args.items.now c.items.k 0 c.as_slice-list.result.now (Input 0) c.requires.items c.items-test.true c.as_slice-list.ensures)
+    c.requires.logic
+
+pub task_of-requires-clause-table : goal.task_of-requires-clause-table
+task_of-requires-clause-table c =
+    c.requires.planned.formed.parts (get_or c.args.items.now c.items.k 0) (get_or c.as_slice-list.result.now (get_or c.args.items.now c.items.k 0) (Input 0))
+    (item_at c.args.nodes.now c.args.homes.now c.args.plan.now c.requires.planned c.args.port c.args.items.now c.items.k 0 c.as_slice-list.result.now (Input 0) c.requires.items c.items-test.true c.as_slice-list.ensures)
+
+pub task_of-requires-clause-taken : goal.task_of-requires-clause-taken
+task_of-requires-clause-taken c = λ o takes.
+    let low = c.requires.planned.formed.taken (get_or c.args.items.now c.items.k 0) o (get_or c.as_slice-list.result.now (get_or c.args.items.now c.items.k 0) (Input 0))
+        (item_at c.args.nodes.now c.args.homes.now c.args.plan.now c.requires.planned c.args.port c.args.items.now c.items.k 0 c.as_slice-list.result.now (Input 0) c.requires.items c.items-test.true c.as_slice-list.ensures) takes in
+    omega (arith, low, c.requires.planned.first_fit.slots.items)
+
+pub items-preserved : goal.items-preserved
+items-preserved c =
+    rw c.in_ok-push.ensures.ok (tasks_more c.args.nodes.now c.args.homes.now c.args.plan.now.slots c.args.port c.items.k 0 c.args.items.now c.items.shelf.tables c.task_of.new.shelf.tables c.items.tasks
+    (get_or c.as_slice-list.result.now (get_or c.args.items.now c.items.k 0) (Input 0)) c.in_ok-task.task c.items.invariant c.items-test.true
+    (item_at c.args.nodes.now c.args.homes.now c.args.plan.now c.requires.planned c.args.port c.args.items.now c.items.k 0 c.as_slice-list.result.now (Input 0) c.requires.items c.items-test.true c.as_slice-list.ensures)
+    c.in_ok-task.ensures.task c.task_of.new.shelf.different c.in_ok-task.ensures.shelf)

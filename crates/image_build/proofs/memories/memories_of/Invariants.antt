@@ -1,0 +1,6 @@
+use Rattle.std.proofs.Common.{◌≡◌}
+use Rattle.image_build.specs.Plans.{AreFirstMemories}
+use Rattle.image_build.proofs.memories.memories_of.Given as goal
+
+abbrev pub invariant-memories : goal.invariant-memories
+invariant-memories l = AreFirstMemories l.nodes l.homes l.m l.memories
