@@ -1,3 +1,9 @@
+mod BuiltLemmas
+mod ClaimLemmas
 mod GrowLemmas
+mod LinkLemmas
+mod MemberLemmas
 mod PlannedLemmas
+mod SourceLemmas
 mod TaskLemmas
+mod WorkLemmas
