@@ -1,5 +1,5 @@
 -- The items of the ports, one after another in slot order.
-use Rattle.std.proofs.Common.{◌≡◌, ◌≢◌, ◌⊎◌, inl, inr, ℕ, ◌+◌, ◌<◌, ◌≤◌, List, [], ◌∷◌, ◌++◌, length, map, take, get_or, Some, slice_get, slice_set, replicate, sym, ap, ◌∙◌, subst, refl, arith}
+use Rattle.std.proofs.Common.{◌≡◌, ◌≢◌, ◌⊎◌, inl, inr, ℕ, ◌+◌, ◌<◌, List, [], ◌∷◌, ◌++◌, length, take, get_or, Some, slice_get, slice_set, replicate, sym, ap, ◌∙◌, subst, refl, arith}
 use Rattle.std.specs.List.{Contains}
 use Rattle.std.proofs.lemmas.Bool.{cases_eq, cases_lt}
 use Rattle.std.proofs.lemmas.List.{take_all, length-map, length-replicate, length-set, get_or-replicate, get_or_past, get_or-set_same, get_or-set_other}
@@ -73,8 +73,8 @@ module _ (nodes : NodeNet) (homes : Homes) (plan : Plan) (planned : IsPlanned no
         (listed_more (slot_of plan.slots) (λ i x. x ≡ i) (λ i. IsAt nodes homes p i × Contains (take k (items_of order)) i) (λ i. IsAt nodes homes p i × Contains (take (k + 1) (items_of order)) i)
         (claims_of old p) placed.item placed.item (so_far.items p)
         (λ j y h of. subst (λ s. slot_of plan.slots y < s) slot_is
-            (lower nodes homes plan planned.formed planned.housed planned.first_fit order is k placed at j (slot_of plan.slots y) h.1 (ap (slot_of plan.slots) of)
-            (one_at_home nodes homes plan.slots (length nodes.items) planned.first_fit.slots j placed.item (h.0).0 low ((h.0).1 ∙ same))))
+        (lower nodes homes plan planned.formed planned.housed planned.first_fit order is k placed at j (slot_of plan.slots y) h.1 (ap (slot_of plan.slots) of)
+        (one_at_home nodes homes plan.slots (length nodes.items) planned.first_fit.slots j placed.item (h.0).0 low ((h.0).1 ∙ same))))
         (λ j h. (h.0, stays j h.1))
         (λ j h. elim (either j h.1) [ inl past ↦ inl (h.0, past) | inr new ↦ inr new ])
         ((low, sym same), added nodes homes plan planned.formed planned.housed planned.first_fit order is k placed at)

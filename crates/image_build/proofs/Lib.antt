@@ -1,5 +1,12 @@
+mod BuiltLemmas
+mod ClaimLemmas
 mod GrowLemmas
 mod ItemLemmas
+mod LinkLemmas
+mod MemberLemmas
 mod MemoryLemmas
 mod PlannedLemmas
+mod PortLemmas
+mod SourceLemmas
 mod TaskLemmas
+mod WorkLemmas

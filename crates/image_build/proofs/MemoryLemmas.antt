@@ -1,17 +1,15 @@
 -- The memories of the ports, one after another.
-use Rattle.std.proofs.Common.{◌≡◌, ◌≢◌, inl, inr, ℕ, ◌+◌, ◌<◌, ◌≤◌, List, [], ◌∷◌, ◌++◌, length, take, get_or, Some, slice_get, slice_set, replicate, sym, ap, ◌∙◌, subst, refl, arith}
-use Rattle.std.specs.Prelude.{◌↔◌}
-use Rattle.std.specs.List.{Contains}
+use Rattle.std.proofs.Common.{◌≡◌, ◌≢◌, inl, inr, ℕ, ◌+◌, ◌<◌, List, [], ◌∷◌, ◌++◌, length, take, get_or, Some, slice_get, slice_set, replicate, sym, ap, ◌∙◌, subst, refl, arith}
 use Rattle.std.proofs.lemmas.Bool.{cases_eq, cases_lt}
-use Rattle.std.proofs.lemmas.List.{take_all, take_more, length_push, length-set, length-replicate}
-use Rattle.std.proofs.lemmas.Option.{slice_get_within, slice_get-get_or, get_or_from_slice_get}
+use Rattle.std.proofs.lemmas.List.{take_more, length_push, length-set, length-replicate}
+use Rattle.std.proofs.lemmas.Option.{slice_get_within, get_or_from_slice_get}
 use Rattle.list_laws.proofs.Places.{at_front, seam_at}
 use Rattle.node_defs.specs.declared.items.NodeBlock.{NodeBlock}
 use Rattle.node_defs.specs.declared.items.NodeNet.{NodeNet}
 use Rattle.image_defs.specs.declared.image.BlockWork.{BlockWork}
 use Rattle.plan_defs.specs.declared.plan.Homes.{Homes}
-use Rattle.plan_defs.specs.Homes.{AreHomes, block_home, host_of, ports_of}
-use Rattle.plan_defs.specs.Lists.{Lists, ListsBelow}
+use Rattle.plan_defs.specs.Homes.{block_home, ports_of}
+use Rattle.plan_defs.specs.Lists.{ListsBelow}
 use Rattle.plan_defs.proofs.ListLemmas.{listed_none, listed_more, listed_not}
 use Rattle.image_match.specs.Matches.{claims_of}
 use Rattle.image_build.specs.declared.memories.Memories.{Memories}
@@ -72,7 +70,8 @@ module _ (nodes : NodeNet) (homes : Homes) where
       rising = (so_far.lists p).rising;
       exact = λ m. (
         (λ held. ((rw all at (so_far.lists p).below m held), (so_far.lists p).holds m held)),
-        (λ at. (so_far.lists p).whole m (rw all at.0) at.1));
+        (λ at. (so_far.lists p).whole m (rw all at.0) at.1),
+      );
     };
     places_are = so_far.places_are ∙ all;
     places = so_far.places;
@@ -90,15 +89,15 @@ module _ (nodes : NodeNet) (homes : Homes) where
         as_many = omega (arith, so_far.as_many, length_push (take k numbers) (get_or numbers k d), length_push blocks (block_for homes slots p memory));
         each = each;
       }) where
-    each : (i m : ℕ) (one : NodeBlock) → slice_get (take k numbers ++ get_or numbers k d ∷ []) i ≡ Some m → slice_get nodes.blocks m ≡ Some one → slice_get (blocks ++ block_for homes slots p memory ∷ []) i ≡ Some (block_for homes slots p one)
-    each i m one here is = elim (cases_lt i (length (take k numbers))) [
-      | inl inside ↦ at_front blocks _ i (omega (arith, inside, so_far.as_many)) ∙ so_far.each i m one (sym (at_front (take k numbers) (get_or numbers k d ∷ []) i inside) ∙ here) is
-      | inr past ↦
-          let last = last_place (take k numbers) (get_or numbers k d) i m past here in
-          let same : one ≡ memory = cc (last.1, is, there) in
-          let at : i ≡ length blocks = omega (arith, last.0, so_far.as_many) in
-          rw (at, same) (seam_at blocks (block_for homes slots p memory) [])
-    ]
+        each : (i m : ℕ) (one : NodeBlock) → slice_get (take k numbers ++ get_or numbers k d ∷ []) i ≡ Some m → slice_get nodes.blocks m ≡ Some one → slice_get (blocks ++ block_for homes slots p memory ∷ []) i ≡ Some (block_for homes slots p one)
+        each i m one here is = elim (cases_lt i (length (take k numbers))) [
+          | inl inside ↦ at_front blocks _ i (omega (arith, inside, so_far.as_many)) ∙ so_far.each i m one (sym (at_front (take k numbers) (get_or numbers k d ∷ []) i inside) ∙ here) is
+          | inr past ↦
+              let last = last_place (take k numbers) (get_or numbers k d) i m past here in
+              let same : one ≡ memory = cc (last.1, is, there) in
+              let at : i ≡ length blocks = omega (arith, last.0, so_far.as_many) in
+              rw (at, same) (seam_at blocks (block_for homes slots p memory) [])
+        ]
 
   -- the numbers of a port's memories are memories
   pub numbers_low : (p : ℕ) (numbers : List ℕ) (k m : ℕ) → ArePortMemories nodes homes p numbers → slice_get numbers k ≡ Some m → m < length nodes.blocks

@@ -5,7 +5,7 @@ use Rattle.std.proofs.lemmas.List.{length_push}
 use Rattle.std.proofs.lemmas.Option.{slice_get_within}
 use Rattle.list_laws.proofs.Places.{at_front, seam_at}
 use Rattle.func_table.specs.declared.table.Table.{Table}
-use Rattle.func_table.specs.Shelf.{AreDifferent, IsNumbered}
+use Rattle.func_table.specs.Shelf.{AreDifferent}
 use Rattle.node_defs.specs.declared.items.Item.{Item}
 use Rattle.node_defs.specs.declared.items.Item.TheVariants.{Input, BlockBit, Node, Latch}
 use Rattle.node_defs.specs.declared.items.NodeNet.{NodeNet}

@@ -1,8 +1,8 @@
 -- Items in a plan, and what is known while their work is laid out.
-use Rattle.std.specs.Prelude.{◌≡◌, ℕ, ◌<◌, ◌≤◌, List, [], length, take, Some, slice_get, slice_index, Contains}
+use Rattle.std.specs.Prelude.{◌≡◌, ℕ, ◌<◌, ◌≤◌, List, length, take, Some, slice_get, slice_index, Contains}
 use Rattle.limits.specs.declared.TheConstants.{MAX_SLOTS}
 use Rattle.func_table.specs.declared.table.Table.{Table}
-use Rattle.func_table.specs.Shelf.{AreDifferent, IsNumbered}
+use Rattle.func_table.specs.Shelf.{IsNumbered}
 use Rattle.node_defs.specs.declared.items.Item.{Item}
 use Rattle.node_defs.specs.declared.items.Item.TheVariants.{Input, BlockBit, Node, Latch}
 use Rattle.node_defs.specs.declared.items.NodeNet.{NodeNet}
@@ -10,7 +10,6 @@ use Rattle.node_defs.specs.WellFormed.{IsWellFormed}
 use Rattle.image_defs.specs.declared.image.Task.{Task}
 use Rattle.image_defs.specs.declared.image.Task.TheVariants.{Eval, Hold}
 use Rattle.image_defs.specs.declared.image.OutBit.{OutBit}
-use Rattle.image_defs.specs.declared.image.InColumn.{InColumn}
 use Rattle.image_defs.specs.declared.image.PortImage.{PortImage}
 use Rattle.image_match.specs.Matches.{claims_of}
 use Rattle.plan_defs.specs.declared.plan.Homes.{Homes}
@@ -32,7 +31,6 @@ pub record IsPlanned (nodes : NodeNet) (homes : Homes) (plan : Plan) : Type 0 wh
   pub housed : AreHomes nodes homes
   pub first_fit : IsFirstFitPlan nodes homes plan
   pub few : plan.needed ≤ MAX_SLOTS
-
 
 -- the lists of the ports have these items, each in slot order
 pub record AreItemsAmong (nodes : NodeNet) (homes : Homes) (slots done : List ℕ) (lists : List (List ℕ)) : Type 0 where

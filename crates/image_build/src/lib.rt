@@ -3,8 +3,8 @@
 #![tactic(auto)]
 
 mod array;
-mod image;
 mod host;
+mod image;
 mod links;
 mod logic;
 mod memories;

@@ -20,11 +20,7 @@ pub(crate) struct Memories {
 }
 
 /// Where the memories stand at their homes.
-pub(crate) fn memories_of(
-    alloc: Global,
-    nodes: &NodeNet,
-    homes: &Homes,
-) -> Result<Memories, Memory>
+pub(crate) fn memories_of(alloc: Global, nodes: &NodeNet, homes: &Homes) -> Result<Memories, Memory>
     requires nodes { IsWellFormed nodes.now }
     requires homes { AreHomes nodes.now homes.now }
     ensures { IfOk result (AreMemories nodes.now homes.now) }

@@ -1,2 +1,2 @@
 mod Example
-mod MatchLemmas
+pub mod MatchLemmas

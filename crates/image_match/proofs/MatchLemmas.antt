@@ -55,7 +55,7 @@ answers_same one other a b c d alike =
     alike (place_of a b c d) (omega (arith, code_of_small a, code_of_small b, code_of_small c, code_of_small d))
 
 -- two lists give the same where their members do, one for one
-maps_same : {X Y Z : Type 0} (f : X → Z) (g : Y → Z) (xs : List X) (ys : List Y) → length xs ≡ length ys
+pub maps_same : {X Y Z : Type 0} (f : X → Z) (g : Y → Z) (xs : List X) (ys : List Y) → length xs ≡ length ys
     → ((k : ℕ) (x : X) (y : Y) → slice_get xs k ≡ Some x → slice_get ys k ≡ Some y → f x ≡ g y) → map f xs ≡ map g ys
 maps_same f g [] [] long each = refl
 maps_same f g [] (y ∷ ys) long each = absurd (omega (arith, long))

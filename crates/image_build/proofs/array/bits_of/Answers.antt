@@ -1,5 +1,5 @@
 use Rattle.std.proofs.Common.{◌<◌, get_or, arith, length, subst, sym}
-use Rattle.node_defs.specs.declared.items.Item.TheVariants.{Input, BlockBit}
+use Rattle.node_defs.specs.declared.items.Item.TheVariants.{Input}
 use Rattle.node_defs.specs.WellFormed.{NamesParts}
 use Rattle.image_match.specs.Matches.{claims_of}
 use Rattle.image_build.specs.Layouts.{IsBitFor}

@@ -1,7 +1,7 @@
-use Rattle.std.proofs.Common.{◌<◌, get_or, arith, length, subst, sym}
+use Rattle.std.proofs.Common.{get_or, arith}
 use Rattle.node_defs.specs.declared.items.Item.TheVariants.{Input}
 use Rattle.image_build.proofs.PlannedLemmas.{at_place, item_at, computed_at, place_few}
-use Rattle.image_build.proofs.TaskLemmas.{tasks_none, tasks_more}
+use Rattle.image_build.proofs.TaskLemmas.{tasks_more}
 use Rattle.image_build.proofs.logic.logic_work.Goals as goal
 
 pub task_of-requires-clause-room : goal.task_of-requires-clause-room
@@ -30,7 +30,7 @@ task_of-requires-clause-table c =
 pub task_of-requires-clause-taken : goal.task_of-requires-clause-taken
 task_of-requires-clause-taken c = λ o takes.
     let low = c.requires.planned.formed.taken (get_or c.args.items.now c.items.k 0) o (get_or c.as_slice-list.result.now (get_or c.args.items.now c.items.k 0) (Input 0))
-        (item_at c.args.nodes.now c.args.homes.now c.args.plan.now c.requires.planned c.args.port c.args.items.now c.items.k 0 c.as_slice-list.result.now (Input 0) c.requires.items c.items-test.true c.as_slice-list.ensures) takes in
+    (item_at c.args.nodes.now c.args.homes.now c.args.plan.now c.requires.planned c.args.port c.args.items.now c.items.k 0 c.as_slice-list.result.now (Input 0) c.requires.items c.items-test.true c.as_slice-list.ensures) takes in
     omega (arith, low, c.requires.planned.first_fit.slots.items)
 
 pub items-preserved : goal.items-preserved

@@ -1,4 +1,4 @@
-use Rattle.std.proofs.Common.{◌≡◌, ◌<◌, length, get_or, ap, sym, subst, arith}
+use Rattle.std.proofs.Common.{◌<◌, length, ap, arith}
 use Rattle.image_build.proofs.MemoryLemmas.{memories_more, memories_all}
 use Rattle.image_build.proofs.memories.memories_of.Goals as goal
 

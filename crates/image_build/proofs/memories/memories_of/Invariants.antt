@@ -1,4 +1,3 @@
-use Rattle.std.proofs.Common.{◌≡◌}
 use Rattle.image_build.specs.Plans.{AreFirstMemories}
 use Rattle.image_build.proofs.memories.memories_of.Given as goal
 

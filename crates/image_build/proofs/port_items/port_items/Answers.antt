@@ -1,10 +1,9 @@
 use Rattle.std.proofs.Common.{◌≡◌, ◌∙◌, ◌<◌, Some, slice_get, ap, subst, length, arith, sym}
 use Rattle.std.proofs.lemmas.Option.{slice_get-get_or}
-use Rattle.plan_defs.specs.Homes.{home_of}
 use Rattle.plan_defs.proofs.PortLemmas.{home_port}
 use Rattle.switch_set.specs.Order.{IsSlotOrder}
 use Rattle.switch_set.proofs.SwitchLemmas.{item_low}
-use Rattle.image_build.proofs.ItemLemmas.{items_none, items_more, items_all}
+use Rattle.image_build.proofs.ItemLemmas.{items_more, items_all}
 use Rattle.image_build.proofs.port_items.port_items.Goals as goal
 
 pub push_to-requires : goal.push_to-requires

@@ -1,0 +1,17 @@
+-- Members of lists: where they stand, and what is made of them.
+use Rattle.std.proofs.Common.{◌≡◌, ◌∙◌, ℕ, List, map, Some, slice_get, ap}
+use Rattle.std.specs.List.{Contains}
+use Rattle.std.specs.Option.{option_map}
+use Rattle.std.proofs.lemmas.Option.{slice_get_within, slice_get-map, slice_get-get_or, get_or_from_slice_get}
+use Rattle.image_defs.specs.Places.{Stands}
+
+-- a number at a place of a list stands in it
+pub listed : (xs : List ℕ) (k x : ℕ) → slice_get xs k ≡ Some x → Contains xs x
+listed xs k x at = (k, slice_get_within xs k x at, get_or_from_slice_get xs k x x at)
+
+pub stands : (xs : List ℕ) (x : ℕ) → Contains xs x → Stands xs x
+stands xs x (k, low, is) = (k, slice_get-get_or xs k x low ∙ ap Some is)
+
+-- what is made of a member stands in its place
+pub made_there : {X Y : Type 0} (f : X → Y) (ys : List Y) (xs : List X) (k : ℕ) (x : X) → ys ≡ map f xs → slice_get xs k ≡ Some x → slice_get ys k ≡ Some (f x)
+made_there f ys xs k x made at = ap (λ list. slice_get list k) made ∙ (slice_get-map f xs k ∙ ap (option_map f) at)

@@ -1,0 +1,44 @@
+-- The ports, one after another.
+use Rattle.std.proofs.Common.{◌≡◌, inl, inr, ℕ, ◌+◌, List, [], ◌∷◌, ◌++◌, length, Some, slice_get, sym, ap, ◌∙◌, refl, arith}
+use Rattle.std.proofs.lemmas.Bool.{cases_lt}
+use Rattle.std.proofs.lemmas.List.{length_push}
+use Rattle.std.proofs.lemmas.Option.{slice_get_within}
+use Rattle.list_laws.proofs.Places.{at_front}
+use Rattle.node_defs.specs.declared.items.NodeNet.{NodeNet}
+use Rattle.image_defs.specs.declared.image.PortImage.{PortImage}
+use Rattle.plan_defs.specs.declared.plan.Homes.{Homes}
+use Rattle.plan_defs.specs.declared.plan.Plan.{Plan}
+use Rattle.plan_defs.specs.declared.switch.PortLinks.{PortLinks}
+use Rattle.plan_defs.specs.declared.switch.Switch.{Switch}
+use Rattle.image_match.specs.Matches.{claims_of}
+use Rattle.image_build.specs.Built.{AreLinksOf}
+use Rattle.image_build.specs.Layouts.{IsWorkFor}
+use Rattle.image_build.specs.Plans.{AreFirstPorts}
+use Rattle.image_build.proofs.GrowLemmas.{last_place}
+
+module _ (nodes : NodeNet) (homes : Homes) (plan : Plan) (switch : Switch) (claims : List (List ℕ)) where
+  pub ports_none : AreFirstPorts nodes homes plan switch claims 0 []
+  ports_none = record {
+    are = refl;
+    works = λ p port here. (let low = slice_get_within {A = PortImage} [] p port here in absurd (omega (arith, low)));
+    links = λ p port links here at. (let low = slice_get_within {A = PortImage} [] p port here in absurd (omega (arith, low)));
+  }
+
+  -- one more port
+  pub ports_more : (n : ℕ) (ports : List PortImage) (port : PortImage) (links : PortLinks) → AreFirstPorts nodes homes plan switch claims n ports → IsWorkFor nodes homes plan.slots n (claims_of claims n) port.work
+      → slice_get switch.ports n ≡ Some links → AreLinksOf links port → AreFirstPorts nodes homes plan switch claims (n + 1) (ports ++ port ∷ [])
+  ports_more n ports port links so_far work at linked = record {
+    are = length_push ports port ∙ ap (λ k. k + 1) so_far.are;
+    works = λ p one here. elim (cases_lt p (length ports)) [
+      | inl inside ↦ so_far.works p one (sym (at_front ports (port ∷ []) p inside) ∙ here)
+      | inr past ↦ (let last = last_place ports port p one past here in let is : p ≡ n = last.0 ∙ so_far.are in rw (is, last.1) work)
+    ];
+    links = λ p one other here there. elim (cases_lt p (length ports)) [
+      | inl inside ↦ so_far.links p one other (sym (at_front ports (port ∷ []) p inside) ∙ here) there
+      | inr past ↦ (
+          let last = last_place ports port p one past here in
+          let is : p ≡ n = last.0 ∙ so_far.are in
+          let same : other ≡ links = cc (is, there, at) in
+          rw (same, last.1) linked)
+    ];
+  }
