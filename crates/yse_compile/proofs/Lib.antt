@@ -1,0 +1,4 @@
+pub mod SameItems
+pub mod SameHomes
+pub mod SamePlans
+pub mod SameTables

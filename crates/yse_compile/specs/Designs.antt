@@ -1,0 +1,63 @@
+-- When a design fits a machine, and why it doesn't.
+use Rattle.std.specs.Prelude.{◌≡◌, ℕ, List}
+use Rattle.machine_text.specs.declared.machine.Machine.{Machine}
+use Rattle.net_defs.specs.declared.netlist.Netlist.{Netlist}
+use Rattle.net_defs.specs.declared.timing.Timing.{Timing}
+use Rattle.net_defs.specs.declared.timing.Mode.TheVariants as mode
+use Rattle.net_defs.specs.Loops.{IsLoop}
+use Rattle.node_defs.specs.declared.items.NodeNet.{NodeNet}
+use Rattle.node_defs.specs.Order.{AreItems}
+use Rattle.plan_defs.specs.declared.plan.Homes.{Homes}
+use Rattle.plan_defs.specs.declared.plan.Plan.{Plan}
+use Rattle.plan_defs.specs.Picks.{ArePicked, FindsNoPort}
+use Rattle.plan_defs.specs.Slots.{IsFirstFitPlan}
+use Rattle.plan_defs.specs.Tables.{Fits}
+use Rattle.slot_plan.specs.Refusals.{IsLong, IsCrowded}
+
+-- there is no loop; in unit delay there never is one
+abbrev pub IsAcyclic : Netlist → Timing → Type 0
+IsAcyclic net timing = (members : List ℕ) → IsLoop net timing members → ⊥
+
+-- the design fits the machine: without a loop its items have homes, every memory among them, and a
+-- first-fit plan of few enough slots and tables
+pub record DesignFits (net : Netlist) (machine : Machine) (timing : Timing) : Type 0 where
+  pub acyclic : IsAcyclic net timing
+  pub nodes : NodeNet
+  pub items : AreItems net timing nodes
+  pub homes : Homes
+  pub picked : ArePicked nodes machine homes
+  pub plan : Plan
+  pub first_fit : IsFirstFitPlan nodes homes plan
+  pub fits : Fits nodes homes machine plan
+
+-- ---- refusals, each after those before it
+
+-- in rank order there is this loop
+pub record HasLoop (net : Netlist) (timing : Timing) (members : List ℕ) : Type 0 where
+  pub rank_order : timing.mode ≡ mode.Rank
+  pub is : IsLoop net timing members
+
+-- without a loop, this memory is the first that finds no port
+pub record LacksBits (net : Netlist) (machine : Machine) (timing : Timing) (block needed left : ℕ) : Type 0 where
+  pub acyclic : IsAcyclic net timing
+  pub nodes : NodeNet
+  pub items : AreItems net timing nodes
+  pub none : FindsNoPort nodes machine block needed left
+
+-- each memory has a port, and the plan needs more slots than a turn has
+pub record LacksSlots (net : Netlist) (machine : Machine) (timing : Timing) (needed limit : ℕ) : Type 0 where
+  pub acyclic : IsAcyclic net timing
+  pub nodes : NodeNet
+  pub items : AreItems net timing nodes
+  pub homes : Homes
+  pub picked : ArePicked nodes machine homes
+  pub long : IsLong nodes homes machine needed limit
+
+-- the slots suffice, and this port is the first whose nodes use too many different tables
+pub record LacksFunctions (net : Netlist) (machine : Machine) (timing : Timing) (port needed limit : ℕ) : Type 0 where
+  pub acyclic : IsAcyclic net timing
+  pub nodes : NodeNet
+  pub items : AreItems net timing nodes
+  pub homes : Homes
+  pub picked : ArePicked nodes machine homes
+  pub crowded : IsCrowded nodes homes machine port needed limit

@@ -1,0 +1,4 @@
+//! Compiles a netlist for a machine.
+#![tactic(auto)]
+
+pub mod law;
