@@ -1,4 +1,5 @@
-pub mod SameItems
 pub mod SameHomes
+pub mod SameItems
 pub mod SamePlans
 pub mod SameTables
+pub mod ShownLemmas

@@ -1,0 +1,49 @@
+-- What a compiled design is, and what a refusal says.
+use Rattle.std.specs.Prelude.{◌≡◌, ℕ, ◌<◌, ◌≤◌, List, length}
+use Rattle.logic_four.specs.Values.{value_at}
+use Rattle.machine_text.specs.declared.machine.Machine.{Machine}
+use Rattle.net_defs.specs.declared.netlist.Netlist.{Netlist}
+use Rattle.net_defs.specs.declared.timing.Timing.{Timing}
+use Rattle.net_defs.specs.declared.stimulus.Stimulus.{Stimulus}
+use Rattle.net_defs.specs.Time.{cycle_count}
+use Rattle.net_defs.specs.Steps.{State}
+use Rattle.net_defs.specs.Reference.{IsSimulation}
+use Rattle.net_defs.specs.Trace.{cells_of}
+use Rattle.node_defs.specs.Order.{AreItems}
+use Rattle.plan_defs.specs.Picks.{ArePicked}
+use Rattle.plan_defs.specs.Slots.{IsFirstFitPlan}
+use Rattle.plan_defs.specs.Switches.{IsSwitch}
+use Rattle.plan_defs.specs.Tables.{Fits}
+use Rattle.image_defs.specs.declared.image.Image.{Image}
+use Rattle.image_defs.specs.Frames.{shown}
+use Rattle.image_build.specs.Built.{IsBuilt}
+use Rattle.yse_compile.specs.declared.compiler.Compiled.{Compiled}
+use Rattle.yse_compile.specs.declared.compiler.CompNo.{CompNo}
+use Rattle.yse_compile.specs.declared.compiler.CompNo.TheVariants.{Loop, Bits, Slots, Functions, Memory}
+use Rattle.yse_compile.specs.Designs.{IsAcyclic, HasLoop, LacksBits, LacksSlots, LacksFunctions}
+
+-- these are the netlist's items, their homes on the machine, their first-fit plan, which fits, its switch
+-- and its image
+pub record IsCompiled (net : Netlist) (machine : Machine) (timing : Timing) (compiled : Compiled) : Type 0 where
+  pub acyclic : IsAcyclic net timing
+  pub items : AreItems net timing compiled.nodes
+  pub picked : ArePicked compiled.nodes machine compiled.homes
+  pub first_fit : IsFirstFitPlan compiled.nodes compiled.homes compiled.plan
+  pub fits : Fits compiled.nodes compiled.homes machine compiled.plan
+  pub routed : IsSwitch compiled.nodes compiled.homes compiled.plan.slots compiled.switch
+  pub built : IsBuilt compiled.nodes compiled.homes compiled.plan compiled.switch timing compiled.image
+
+-- the image shows the cells of the reference simulation: those of each cycle, counted from 1, and each
+-- printed name
+pub record ShowsReference (net : Netlist) (timing : Timing) (stimulus : Stimulus) (image : Image) : Type 0 where
+  pub states : List State
+  pub simulation : IsSimulation net timing stimulus states
+  pub cells : (c j : ℕ) → c ≤ cycle_count stimulus → j < length net.printed → shown image stimulus c j ≡ value_at (cells_of net timing states c) j
+
+-- what a refusal says is so
+abbrev pub IsRight : Netlist → Machine → Timing → CompNo → Type 0
+IsRight net machine timing (Loop members) = HasLoop net timing members
+IsRight net machine timing (Bits block needed left) = LacksBits net machine timing block needed left
+IsRight net machine timing (Slots needed limit) = LacksSlots net machine timing needed limit
+IsRight net machine timing (Functions port needed limit) = LacksFunctions net machine timing port needed limit
+IsRight net machine timing Memory = Unit {0}
