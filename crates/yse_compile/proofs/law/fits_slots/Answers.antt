@@ -4,7 +4,7 @@ use Rattle.yse_compile.proofs.SamePlans.{plan_kept}
 use Rattle.yse_compile.proofs.law.fits_slots.Goals as goal
 
 pub returns : goal.returns
-returns c net machine timing valid machine_valid fits needed limit lacks =
+returns c net machine timing valid fits needed limit lacks =
     let there = c.one_list.ensures net timing lacks.nodes fits.nodes lacks.items fits.items in
     let back = c.one_list.ensures net timing fits.nodes lacks.nodes fits.items lacks.items in
     let homes : lacks.homes ≡ fits.homes = c.one_homes.ensures net machine timing lacks.nodes fits.nodes lacks.items fits.items lacks.homes fits.homes lacks.picked fits.picked in
