@@ -77,8 +77,8 @@ impl Board {
         None
     }
 
-    /// Those of the 64 words of a span in which no slot is free: they end before `from`, or are noted
-    /// as full for the home or one of the readers.
+    /// Those of the 64 words of a span in which no slot is free: they end before `from`, or are
+    /// noted as full for the home or one of the readers.
     fn passed_words(&self, home: usize, readers: &[u32], from: usize, span: usize) -> u64
         requires board { IsBoard self.now }
         requires home { home < self.now.ports }
