@@ -1,5 +1,5 @@
 -- Boards that get bits.
-use Rattle.std.proofs.Common.{◌≡◌, ◌∙◌, ◌⊎◌, ◌↔◌, inl, inr, ℕ, ◌+◌, ◌*◌, ◌<◌, ◌≤◌, List, length, get_or, sym, ap, subst, arith}
+use Rattle.std.proofs.Common.{◌≡◌, ◌∙◌, ◌⊎◌, ◌↔◌, inl, inr, ℕ, ◌+◌, ◌*◌, ◌/◌, ◌<◌, ◌≤◌, List, length, get_or, sym, ap, subst, arith}
 use Rattle.std.proofs.Math.Nat.{mul-le-mul_right}
 use Rattle.std.proofs.lemmas.List.{get_or_default}
 use Rattle.bit_rows.specs.declared.BitRows.{BitRows}
@@ -8,7 +8,7 @@ use Rattle.bit_rows.proofs.AddLemmas.{adds_same}
 use Rattle.plan_defs.proofs.ListLemmas.{last_or}
 use Rattle.plan_defs.proofs.UserLemmas.{adds_either}
 use Rattle.slot_plan.specs.declared.board.Board.{Board}
-use Rattle.slot_plan.specs.Boards.{IsBoard, IsTaken, IsShut, IsRowFor}
+use Rattle.slot_plan.specs.Boards.{IsBoard, IsTaken, IsRuledOut, IsShut, IsRowFor}
 
 -- there is room for each row
 pub row_room : (rows : BitRows) (count stride row : ℕ) → IsShaped rows count stride → row < count → row * rows.stride + rows.stride ≤ length rows.words
@@ -16,48 +16,71 @@ row_room rows count stride row shape low =
     let bound : (row + 1) * stride ≤ count * stride = mul-le-mul_right stride (omega (arith, low)) in
     rw (shape.stride_is, shape.words) (omega (arith, bound))
 
--- a board that gets bits is a board
-pub board_kept : (old new : Board) (P : ℕ → ℕ → Type 0) → IsBoard old → new.ports ≡ old.ports → Adds old.rows new.rows P → IsBoard new
-board_kept old new P board ports adds = record {
-  few = let few = board.few in omega (arith, few, ports);
-  small = let small = board.small in let same = adds.stride in omega (arith, small, same);
-  room = λ row low. rw (adds.stride, adds.words) (board.room row (omega (arith, low, ports)));
+-- a board that gets slots is a board: what is full stays full
+pub board_more : (board : Board) (rows : BitRows) (P : ℕ → ℕ → Type 0) → IsBoard board → Adds board.rows rows P → IsBoard (record { rows = rows; full = board.full; ports = board.ports })
+board_more board rows P is adds = record {
+  few = is.few;
+  small = let small = is.small in let same = adds.stride in omega (arith, small, same);
+  room = λ row low. rw (adds.stride, adds.words) (is.room row low);
+  bits = adds.stride ∙ is.bits;
+  notes = is.notes;
+  full = λ row w b noted low. (adds.bits row (64 * w + b)).1 (inl (is.full row w b noted low));
 }
+
+-- so is one in which a full word is noted
+pub board_noted : (board : Board) (full : BitRows) (row w : ℕ) → IsBoard board → ((b : ℕ) → b < 64 → HasBit board.rows row (64 * w + b)) → Adds board.full full (λ r k. (r ≡ row) × (k ≡ w)) → IsBoard (record { rows = board.rows; full = full; ports = board.ports })
+board_noted board full row w is all adds = record {
+  few = is.few;
+  small = is.small;
+  room = is.room;
+  bits = is.bits ∙ ap (λ n. 64 * n) (sym adds.stride);
+  notes = λ r low. rw (adds.stride, adds.words) (is.notes r low);
+  full = λ r k b noted low. elim ((adds.bits r k).0 noted) [
+    | inl old ↦ is.full r k b old low
+    | inr new ↦ subst (λ q. HasBit board.rows q (64 * k + b)) (sym new.0) (subst (λ n. HasBit board.rows row (64 * n + b)) (sym new.1) (all b low))
+  ];
+}
+
+-- the slots of a word that is before the first slot or noted as full are shut
+pub passed_shut : (board : Board) (home : ℕ) (readers : List ℕ) (from w b : ℕ) → IsBoard board → b < 64 → IsRuledOut board.full board.ports home readers (from / 64) w → IsShut board home readers from (64 * w + b)
+passed_shut board home readers from w b is low (inl before) = inl (omega (arith, before, low))
+passed_shut board home readers from w b is low (inr (inl noted)) = inr (inl (is.full home w b noted low))
+passed_shut board home readers from w b is low (inr (inr (r, among, noted))) = inr (inr (r, among, is.full (board.ports + r) w b noted low))
 
 -- ---- the slots taken for the first so many readers
 
-abbrev pub IsTakenTo : Board → ℕ → List ℕ → ℕ → ℕ → Type 0
-IsTakenTo board home readers n s = HasBit board.rows home s ⊎ ((k : ℕ) × (k < n) × HasBit board.rows (board.ports + get_or readers k 0) s)
+abbrev pub IsTakenTo : BitRows → ℕ → ℕ → List ℕ → ℕ → ℕ → Type 0
+IsTakenTo rows ports home readers n s = HasBit rows home s ⊎ ((k : ℕ) × (k < n) × HasBit rows (ports + get_or readers k 0) s)
 
-pub taken_none : (board : Board) (home : ℕ) (readers : List ℕ) (s : ℕ) → IsTakenTo board home readers 0 s → HasBit board.rows home s
-taken_none board home readers s (inl has) = has
-taken_none board home readers s (inr (k, low, has)) = absurd (omega (arith, low))
+pub taken_none : (rows : BitRows) (ports home : ℕ) (readers : List ℕ) (s : ℕ) → IsTakenTo rows ports home readers 0 s → HasBit rows home s
+taken_none rows ports home readers s (inl has) = has
+taken_none rows ports home readers s (inr (k, low, has)) = absurd (omega (arith, low))
 
-pub taken_more : (board : Board) (home : ℕ) (readers : List ℕ) (n s : ℕ) → IsTakenTo board home readers (n + 1) s ↔ (IsTakenTo board home readers n s ⊎ HasBit board.rows (board.ports + get_or readers n 0) s)
-taken_more board home readers n s = (there, back) where
-  there : IsTakenTo board home readers (n + 1) s → IsTakenTo board home readers n s ⊎ HasBit board.rows (board.ports + get_or readers n 0) s
+pub taken_more : (rows : BitRows) (ports home : ℕ) (readers : List ℕ) (n s : ℕ) → IsTakenTo rows ports home readers (n + 1) s ↔ (IsTakenTo rows ports home readers n s ⊎ HasBit rows (ports + get_or readers n 0) s)
+taken_more rows ports home readers n s = (there, back) where
+  there : IsTakenTo rows ports home readers (n + 1) s → IsTakenTo rows ports home readers n s ⊎ HasBit rows (ports + get_or readers n 0) s
   there (inl has) = inl (inl has)
   there (inr (k, low, has)) = elim (last_or k n low) [
     | inl below ↦ inl (inr (k, below, has))
-    | inr same ↦ inr (subst (λ i. HasBit board.rows (board.ports + get_or readers i 0) s) same has)
+    | inr same ↦ inr (subst (λ i. HasBit rows (ports + get_or readers i 0) s) same has)
   ]
 
-  back : IsTakenTo board home readers n s ⊎ HasBit board.rows (board.ports + get_or readers n 0) s → IsTakenTo board home readers (n + 1) s
+  back : IsTakenTo rows ports home readers n s ⊎ HasBit rows (ports + get_or readers n 0) s → IsTakenTo rows ports home readers (n + 1) s
   back (inl (inl has)) = inl has
   back (inl (inr (k, low, has))) = inr (k, omega arith, has)
   back (inr has) = inr (n, omega arith, has)
 
-pub taken_all : (board : Board) (home : ℕ) (readers : List ℕ) (n s : ℕ) → n ≡ length readers → IsTakenTo board home readers n s ↔ IsTaken board home readers s
-taken_all board home readers n s whole = (there, back) where
-  there : IsTakenTo board home readers n s → IsTaken board home readers s
+pub taken_all : (rows : BitRows) (ports home : ℕ) (readers : List ℕ) (n s : ℕ) → n ≡ length readers → IsTakenTo rows ports home readers n s ↔ IsTaken rows ports home readers s
+taken_all rows ports home readers n s whole = (there, back) where
+  there : IsTakenTo rows ports home readers n s → IsTaken rows ports home readers s
   there (inl has) = inl has
   there (inr (k, low, has)) =
       let inside : k < length readers = omega (arith, low, whole) in
       inr (get_or readers k 0, (k, inside, get_or_default readers k (get_or readers k 0) 0 inside), has)
 
-  back : IsTaken board home readers s → IsTakenTo board home readers n s
+  back : IsTaken rows ports home readers s → IsTakenTo rows ports home readers n s
   back (inl has) = inl has
-  back (inr (r, (k, low, is), has)) = inr (k, omega (arith, low, whole), subst (λ q. HasBit board.rows (board.ports + q) s) (sym (get_or_default readers k 0 r low ∙ is)) has)
+  back (inr (r, (k, low, is), has)) = inr (k, omega (arith, low, whole), subst (λ q. HasBit rows (ports + q) s) (sym (get_or_default readers k 0 r low ∙ is)) has)
 
 -- ---- the rows of the first so many readers
 

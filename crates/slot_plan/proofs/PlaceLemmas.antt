@@ -20,10 +20,9 @@ use Rattle.plan_defs.proofs.PortLemmas.{home_port, reader_port}
 use Rattle.plan_defs.proofs.PlanLemmas.{blocked_agree, least_same}
 use Rattle.slot_plan.specs.declared.board.Board.{Board}
 use Rattle.slot_plan.specs.declared.planning.Planning.{Planning}
-use Rattle.slot_plan.specs.Boards.{IsShut, IsRowFor}
+use Rattle.slot_plan.specs.Boards.{IsBoard, IsShut, IsRowFor}
 use Rattle.slot_plan.specs.Early.{IsFrom, IsAnyLate}
 use Rattle.slot_plan.specs.Plannings.{IsRowOf, IsOccupied, IsPlannedTo}
-use Rattle.slot_plan.proofs.BoardLemmas.{board_kept}
 
 -- ---- a slot more
 
@@ -142,10 +141,10 @@ module _ (nodes : NodeNet) (homes : Homes) (n : ℕ) (planning : Planning) (form
     back (inl same) = inl (same ∙ sym home_is)
     back (inr (r, reads, at)) = inr (r, (lists.exact r).1 reads, at ∙ ap (λ p. p + r) (sym before.ports))
 
-  pub planned_more : (slot : ℕ) (board : Board) → IsLeastFree (IsShut planning.board home readers from) slot → board.ports ≡ planning.board.ports
+  pub planned_more : (slot : ℕ) (board : Board) → IsLeastFree (IsShut planning.board home readers from) slot → IsBoard board → board.ports ≡ planning.board.ports
       → Adds planning.board.rows board.rows (λ row s. IsRowFor planning.board home readers row × (s ≡ slot))
       → IsPlannedTo nodes homes (n + 1) (record { board = board; slots = planning.slots ++ slot ∷ []; needed = max planning.needed (slot + 1) })
-  planned_more slot board least ports adds = record {
+  planned_more slot board least is_board ports adds = record {
     fit = fit_more nodes homes planning.slots n slot formed before.fit (least_is slot least);
     needed = ap (λ m. max m (slot + 1)) before.needed ∙ sym (needed_more planning.slots slot);
     low = λ i below. elim (last_or i n below) [
@@ -153,7 +152,7 @@ module _ (nodes : NodeNet) (homes : Homes) (n : ℕ) (planning : Planning) (form
       | inr same ↦ (let new = ap (slot_of (planning.slots ++ slot ∷ [])) same ∙ new_slot planning.slots slot n before.fit.items in omega (arith, new))
     ];
     most = let up = slot_low slot least in let most = before.most in omega (arith, up, most);
-    board = board_kept planning.board board (λ row s. IsRowFor planning.board home readers row × (s ≡ slot)) before.board ports adds;
+    board = is_board;
     ports = ports ∙ before.ports;
     room = rw adds.stride before.room;
     taken = λ row s. (there row s, back row s);

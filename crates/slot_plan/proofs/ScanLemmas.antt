@@ -1,9 +1,9 @@
 -- Words of bits, looked through for the first bit that is not set.
-use Rattle.std.proofs.Common.{◌≡◌, ◌≢◌, ◌∙◌, ◌⊎◌, ◌↔◌, inl, inr, ℕ, ◌+◌, ◌-◌, ◌*◌, ◌%◌, ◌^◌, ◌<◌, ◌≤◌, max, bit_or, w64, sym, ap, subst, arith}
+use Rattle.std.proofs.Common.{◌≡◌, ◌≢◌, ◌∙◌, ◌⊎◌, ◌↔◌, inl, inr, ℕ, ◌+◌, ◌-◌, ◌*◌, ◌/◌, ◌%◌, ◌^◌, ◌<◌, ◌≤◌, max, bit_and, bit_or, w64, sym, ap, subst, arith}
 use Rattle.std.specs.Int.{bit_at, trailing_ones}
 use Rattle.std.proofs.Math.Pow.{pow-lt}
 use Rattle.std.proofs.lemmas.Bool.{cases_lt}
-use Rattle.std.proofs.lemmas.Nat.Bits.{bit_at_or, bit_at-lt, bit_at_ones, bit_at_ones_above, bit_at-trailing_ones}
+use Rattle.std.proofs.lemmas.Nat.Bits.{shr_and_one, bit_at_or, bit_at-lt, bit_at_ones, bit_at_ones_above, bit_at-trailing_ones}
 use Rattle.plan_defs.specs.Lists.{IsLeastFree}
 
 pub or_bit : (a b i : ℕ) → (bit_at (bit_or a b) i ≡ 1) ↔ ((bit_at a i ≡ 1) ⊎ (bit_at b i ≡ 1))
@@ -27,16 +27,35 @@ low_bits k b = (there, λ low. bit_at_ones k b low) where
 pub record Shows (word first : ℕ) (P : ℕ → Type 0) : Type 0 where
   pub bits : (b : ℕ) → b < 64 → (bit_at word b ≡ 1) ↔ P (first + b)
 
+-- where all numbers before some have a property, and these have it, all before their end have it
+pub all_more : (first count : ℕ) (P : ℕ → Type 0) → ((m : ℕ) → m < first → P m) → ((b : ℕ) → b < count → P (first + b)) → (m : ℕ) → m < first + count → P m
+all_more first count P before these m low = elim (cases_lt m first) [
+  | inl below ↦ before m below
+  | inr from ↦ subst P (omega (arith, from)) (these (m - first) (omega (arith, from, low)))
+]
+
 -- all of them have it
 pub scan_on : (word first : ℕ) (P : ℕ → Type 0) → Shows word first P → word ≡ 2 ^ 64 - 1 → ((m : ℕ) → m < first → P m) → (m : ℕ) → m < first + 64 → P m
-scan_on word first P shows full before m low = elim (cases_lt m first) [
-  | inl below ↦ before m below
-  | inr from ↦
-      let place : first + (m - first) ≡ m = omega (arith, from) in
-      let within : m - first < 64 = omega (arith, from, low) in
-      let set : bit_at word (m - first) ≡ 1 = ap (λ n. bit_at n (m - first)) full ∙ bit_at_ones 64 (m - first) within in
-      subst P place ((shows.bits (m - first) within).0 set)
+scan_on word first P shows full before = all_more first 64 P before (λ b low. (shows.bits b low).0 (ap (λ n. bit_at n b) full ∙ bit_at_ones 64 b low))
+
+-- all of 64 words of numbers have it
+pub span_on : (word span : ℕ) (P : ℕ → Type 0) → ((k b : ℕ) → k < 64 → b < 64 → bit_at word k ≡ 1 → P (64 * (64 * span + k) + b)) → word ≡ 2 ^ 64 - 1 → ((m : ℕ) → m < 4096 * span → P m) → (m : ℕ) → m < 4096 * (span + 1) → P m
+span_on word span P passed full before m low = all_more (4096 * span) 4096 P before these m (omega (arith, low)) where
+  these : (b : ℕ) → b < 4096 → P (4096 * span + b)
+  these b below =
+      let within : b / 64 < 64 = omega (arith, below) in
+      subst P (omega arith) (passed (b / 64) (b % 64) within (omega arith) (ap (λ n. bit_at n (b / 64)) full ∙ bit_at_ones 64 (b / 64) within))
+
+-- a bit that isn't read as 0 is set
+pub bit_set : (n k : ℕ) → (bit_and (n / 2 ^ k) 1 ≢ 0) → bit_at n k ≡ 1
+bit_set n k other = elim (cases_lt 0 (bit_at n k)) [
+  | inl some ↦ omega (arith, some, bit_at-lt n k)
+  | inr none ↦ absurd (other (shr_and_one n k ∙ omega (arith, none)))
 ]
+
+-- one of the words has it
+pub word_on : (word span k : ℕ) (P : ℕ → Type 0) → ((k b : ℕ) → k < 64 → b < 64 → bit_at word k ≡ 1 → P (64 * (64 * span + k) + b)) → k < 64 → bit_at word k ≡ 1 → ((m : ℕ) → m < 64 * (64 * span + k) → P m) → (m : ℕ) → m < 64 * (64 * span + (k + 1)) → P m
+word_on word span k P passed within set before m low = all_more (64 * (64 * span + k)) 64 P before (λ b below. passed k b within below set) m (omega (arith, low))
 
 -- one of them has not, and the lowest of these is the least number of all
 pub scan_stop : (word first : ℕ) (P : ℕ → Type 0) → Shows word first P → word < 2 ^ 64 → word ≢ 2 ^ 64 - 1 → ((m : ℕ) → m < first → P m) → IsLeastFree P (first + trailing_ones w64 word)

@@ -54,4 +54,4 @@ overflow_add-slot c =
     omega (arith, low, few, within)
 
 pub returns : goal.returns
-returns c = rw c.in_ok-push.ensures.ok (rw c.max-self.ensures (planned_more c.args.nodes.now c.args.homes.now c.args.item c.args.self.now c.requires.nodes c.requires.homes c.requires.before c.requires.item c.args.found.now c.requires.found c.args.home c.requires.home c.args.heard.now c.requires.heard c.first_slot-from.result (subst (λ slots. IsFrom (Awaits c.args.found.now) slots c.first_slot-from.result) c.as_slice.ensures c.first_slot-from.ensures) c.first_free-slot.result c.take.new.self c.first_free-slot.ensures c.take.ensures.ports c.take.ensures.adds))
+returns c = rw c.in_ok-push.ensures.ok (rw c.max-self.ensures (planned_more c.args.nodes.now c.args.homes.now c.args.item c.args.self.now c.requires.nodes c.requires.homes c.requires.before c.requires.item c.args.found.now c.requires.found c.args.home c.requires.home c.args.heard.now c.requires.heard c.first_slot-from.result (subst (λ slots. IsFrom (Awaits c.args.found.now) slots c.first_slot-from.result) c.as_slice.ensures c.first_slot-from.ensures) c.first_free-slot.result c.take.new.self c.first_free-slot.ensures c.take.ensures.board c.take.ensures.ports c.take.ensures.adds))
