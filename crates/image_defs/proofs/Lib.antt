@@ -1,2 +1,2 @@
 pub mod PlaceLemmas
-mod ValueLemmas
+pub mod ValueLemmas
