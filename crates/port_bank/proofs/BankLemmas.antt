@@ -1,7 +1,7 @@
 -- The banks of a port keep the values of its turn and of the turn before.
-use Rattle.std.proofs.Common.{◌≡◌, ◌≢◌, ◌∙◌, ◌⊎◌, inl, inr, Bool, ℕ, zero, suc, ◌+◌, ◌-◌, ◌*◌, ◌<◌, ◌≤◌, true, false, List, [], ◌∷◌, ◌++◌, length, replicate, get_or, set, slice_get, Some, sym, ap, subst, refl, arith}
+use Rattle.std.proofs.Common.{◌≡◌, ◌∙◌, ◌⊎◌, inl, inr, Bool, ℕ, zero, suc, ◌+◌, ◌-◌, ◌*◌, ◌<◌, ◌≤◌, true, false, List, [], ◌∷◌, length, replicate, get_or, set, slice_get, Some, sym, ap, subst, refl, arith}
 use Rattle.std.specs.Option.{option_map}
-use Rattle.std.proofs.Math.Nat.{sub-add_cancel, add-sub_cancel}
+use Rattle.std.proofs.Math.Nat.{add-sub_cancel}
 use Rattle.std.proofs.lemmas.Nat.{mul-le}
 use Rattle.std.proofs.lemmas.Bool.{cases_lt}
 use Rattle.std.proofs.lemmas.List.{length-set, length-append, length-replicate, get_or-set_same, get_or-set_other, get_or_append_left, get_or-replicate}
@@ -19,14 +19,14 @@ use Rattle.image_defs.specs.declared.image.LinkIn.{LinkIn}
 use Rattle.image_defs.specs.declared.image.PortImage.{PortImage}
 use Rattle.image_defs.specs.declared.image.Image.{Image}
 use Rattle.image_defs.specs.Places.{item_slots, in_slots, sender_in, IsPort, IsItemIn}
-use Rattle.image_defs.specs.WellFormed.{IsWellFormed, IsPortImage}
-use Rattle.image_defs.specs.Frames.{frame, image_value}
-use Rattle.image_defs.specs.Ports.{PortView, CanExecute, CanReceive, CanEnd, value_in, last_turn}
+use Rattle.image_defs.specs.WellFormed.{IsWellFormed}
+use Rattle.image_defs.specs.Frames.{image_value}
+use Rattle.image_defs.specs.Ports.{CanExecute, CanReceive, CanEnd, value_in}
 use Rattle.image_defs.proofs.PlaceLemmas.{Rises, rises, sender_found}
 use Rattle.image_defs.proofs.ValueLemmas.{value_meets}
 use Rattle.port_bank.specs.declared.steps.Operand.{Operand}
 use Rattle.port_bank.specs.declared.bank.Bank.TheInside.{Inside}
-use Rattle.port_bank.specs.Flat.{place_count, operand_of}
+use Rattle.port_bank.specs.Flat.{operand_of}
 use Rattle.port_bank.specs.Reads.{IsAtHand, IsRead, value_taken}
 use Rattle.port_bank.specs.Banks.{blank, value_in_place, IsRoom, Holds, HoldsAll, view_of, IsKept}
 
@@ -71,7 +71,7 @@ read_right a operand kept port source is hand at =
         → value_at old (a.image.now.slots + slot) ≡ image_value a.image.now a.stim.now turn (sender_in port.ins slot) slot
     of_link old turn i slot link there same got =
         subst (λ s. value_at old (a.image.now.slots + s) ≡ image_value a.image.now a.stim.now turn (sender_in port.ins s) s) same
-          (got ∙ ap (λ q. image_value a.image.now a.stim.now turn q link.slot) (sym (sender_found port.ins i link (kept.image.ports a.port port is).ins there)))
+        (got ∙ ap (λ q. image_value a.image.now a.stim.now turn q link.slot) (sym (sender_found port.ins i link (kept.image.ports a.port port is).ins there)))
 
     of_source : (source : Source) → IsAtHand (view_of a) port source → value_in_place a.this a.past (operand_of a.image.now.slots source) ≡ value_taken (view_of a) port source
     of_source (Own slot true) (i, stands, early) = (kept.past port is).own i slot (slice_get_within (item_slots port.work) i slot stands) stands
@@ -132,7 +132,7 @@ holds_received image stimulus turn p port bank n m link v fits is room holds her
       let small : link.slot < image.slots = link_low image p port m link fits is here in
       let places = room.places in
       subst (λ l. value_at (set bank (image.slots + link.slot) v) (image.slots + l.slot) ≡ image_value image stimulus turn l.sender l.slot) same
-        (get_or-set_same bank (image.slots + link.slot) v Undef (omega arith) ∙ value)
+      (get_or-set_same bank (image.slots + link.slot) v Undef (omega arith) ∙ value)
 
 pub kept_executed : (a : Inside) (slot : ℕ) (v : V4) → IsKept a → CanExecute (view_of a) slot → v ≡ value_in (view_of a) slot
     → IsKept (record a { executed = a.executed + 1; this = set a.this slot v })
@@ -148,7 +148,7 @@ kept_executed a slot v kept can value = record {
   past_room = kept.past_room;
   this = λ port is.
       holds_executed a.image.now a.stim.now a.turn a.port port a.this a.executed a.received slot v kept.image is kept.this_room (kept.this port is)
-        (subst (λ q. IsItemIn q.work a.executed slot) (same_port a.image.now a.port can.port port can.is is) can.next) value;
+      (subst (λ q. IsItemIn q.work a.executed slot) (same_port a.image.now a.port can.port port can.is is) can.next) value;
   past = kept.past;
 }
 
@@ -167,8 +167,8 @@ kept_received a slot v kept can =
       past_room = kept.past_room;
       this = λ port is.
           holds_received a.image.now a.stim.now a.turn a.port port a.this a.executed a.received can.link v kept.image is kept.this_room (kept.this port is)
-            (subst (λ q. slice_get q.ins a.received ≡ Some can.link) (same_port a.image.now a.port can.port port can.is is) can.next)
-            (can.value ∙ ap (λ s. image_value a.image.now a.stim.now a.turn can.link.sender s) (sym can.slot_is));
+          (subst (λ q. slice_get q.ins a.received ≡ Some can.link) (same_port a.image.now a.port can.port port can.is is) can.next)
+          (can.value ∙ ap (λ s. image_value a.image.now a.stim.now a.turn can.link.sender s) (sym can.slot_is));
       past = kept.past;
     }
 
@@ -190,8 +190,8 @@ kept_ended a edge kept can is_right = record {
       let items : a.executed ≡ length (item_slots port.work) = can.executed_all ∙ ap (λ q. length (item_slots q.work)) same in
       let receipts : a.received ≡ length port.ins = can.received_all ∙ ap (λ q. length q.ins) same in
       subst (λ t. HoldsAll a.image.now a.stim.now t a.port port a.this) (sym (add-sub_cancel a.turn 1))
-        (subst (λ n. Holds a.image.now a.stim.now a.turn a.port port n (length port.ins) a.this) items
-          (subst (λ m. Holds a.image.now a.stim.now a.turn a.port port a.executed m a.this) receipts (kept.this port is)));
+      (subst (λ n. Holds a.image.now a.stim.now a.turn a.port port n (length port.ins) a.this) items
+      (subst (λ m. Holds a.image.now a.stim.now a.turn a.port port a.executed m a.this) receipts (kept.this port is)));
 }
 
 -- the turns of a run
@@ -243,5 +243,5 @@ kept_new a fits valid turn begun at_edge executed received this past = record {
   this = λ port is. record { own = λ i slot low stands. absurd (omega arith); got = λ i link low there. absurd (omega arith) };
   past = λ port is.
       subst (λ t. HoldsAll a.image.now a.stim.now (t - 1) a.port port a.past) (sym turn)
-        (subst (HoldsAll a.image.now a.stim.now 0 a.port port) (sym past) (blank_holds a.image.now a.stim.now a.port port fits is));
+      (subst (HoldsAll a.image.now a.stim.now 0 a.port port) (sym past) (blank_holds a.image.now a.stim.now a.port port fits is));
 }

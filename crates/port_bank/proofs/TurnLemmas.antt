@@ -1,7 +1,5 @@
 -- What a port finds at hand in its turn, and what the items of its turn are.
-use Rattle.std.proofs.Common.{◌≡◌, ◌∙◌, inl, inr, ℕ, ◌+◌, ◌-◌, ◌*◌, ◌<◌, ◌≤◌, true, false, List, get_or, slice_get, Some, sym, ap, subst, refl, arith}
-use Rattle.std.specs.Option.{option_map}
-use Rattle.std.proofs.Math.Nat.{sub-add_cancel}
+use Rattle.std.proofs.Common.{◌≡◌, ◌∙◌, inl, inr, ℕ, ◌+◌, ◌-◌, ◌*◌, ◌<◌, ◌≤◌, List, get_or, slice_get, Some, sym, ap, subst, refl, arith}
 use Rattle.std.proofs.lemmas.Bool.{cases_lt}
 use Rattle.std.proofs.lemmas.Option.{get_or_from_slice_get}
 use Rattle.logic_four.specs.declared.V4.{V4}
@@ -13,8 +11,8 @@ use Rattle.image_defs.specs.declared.image.LinkIn.{LinkIn}
 use Rattle.image_defs.specs.declared.image.PortImage.{PortImage}
 use Rattle.image_defs.specs.declared.image.Image.{Image}
 use Rattle.image_defs.specs.Places.{item_slots, in_slots, IsPort, IsItemIn}
-use Rattle.image_defs.specs.WellFormed.{IsWellFormed, IsThere, IsOperand, IsPast, IsPresent}
-use Rattle.image_defs.specs.Steps.{Grid, past_value, item_value, IsImageStep}
+use Rattle.image_defs.specs.WellFormed.{IsWellFormed, IsThere, IsOperand, IsPast}
+use Rattle.image_defs.specs.Steps.{past_value, item_value, IsImageStep}
 use Rattle.image_defs.specs.Frames.{frame}
 use Rattle.image_defs.specs.Ports.{PortView, CanExecute, value_in}
 use Rattle.image_defs.proofs.PlaceLemmas.{Rises, rises, at_map}
@@ -32,7 +30,7 @@ pub item_meets : (view : PortView) (port : PortImage) (i slot : ℕ) → IsWellF
 item_meets view port i slot fits first is stands =
     let turn : view.turn - 1 + 1 ≡ view.turn = omega arith in
     let step : IsImageStep view.image view.stimulus view.turn (past_in view) (now_in view) =
-        subst (λ t. IsImageStep view.image view.stimulus t (past_in view) (frame view.image view.stimulus t)) turn ((value_meets view.image view.stimulus fits).steps (view.turn - 1)) in
+    subst (λ t. IsImageStep view.image view.stimulus t (past_in view) (frame view.image view.stimulus t)) turn ((value_meets view.image view.stimulus fits).steps (view.turn - 1)) in
     step.values view.port i slot port is stands
 
 -- what a source names stands in a slot that there is

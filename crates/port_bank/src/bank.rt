@@ -10,7 +10,7 @@ ghost use Rattle.port_bank.specs.Flat.{place_count, IsWithin};
 ghost use Rattle.port_bank.specs.Reads.{IsRead, IsHeld, IsTaken};
 ghost use Rattle.port_bank.specs.Banks.{blank, value_in_place};
 
-use crate::steps::{Operand, operand_of};
+use crate::steps::{Operand, got_place, operand_of};
 use image_defs::{Image, Source};
 use logic_four::V4;
 use net_defs::{Stimulus, initial_value, is_edge};
@@ -48,7 +48,7 @@ impl<'a> Model for Bank<'a> {
 }
 
 /// A bank of undefined values, with the constants at its end.
-fn blank(alloc: Global, slots: u32) -> Result<List<V4>, Memory>
+pub(crate) fn blank(alloc: Global, slots: u32) -> Result<List<V4>, Memory>
     requires { slots ≤ MAX_SLOTS }
     ensures { IfOk result (λ bank. bank ≡ blank slots) }
 {
@@ -156,6 +156,7 @@ impl<'a> Bank<'a> {
 
     /// Keeps the value of the item in a slot, which is now executed.
     #[inline]
+    #[tactic(auto, using(crate::proofs::BankLemmas::item_low))]
     pub fn execute(&mut self, slot: u32, v: V4)
         requires can { CanExecute self.old slot }
         requires value { v ≡ value_in self.old slot }
@@ -167,15 +168,18 @@ impl<'a> Bank<'a> {
 
     /// Keeps the value that is received in a slot.
     #[inline]
+    #[tactic(auto, using(crate::proofs::BankLemmas::link_low, crate::proofs::BankLemmas::receipt_low))]
     pub fn receive(&mut self, slot: u32, v: V4)
         requires { CanReceive self.old slot v }
         ensures { self.new ≡ after_receive self.old }
     {
-        self.this.set((self.image.slots + slot) as usize, v);
+        let place = got_place(self.image.slots, slot);
+        self.this.set(place as usize, v);
         self.received += 1;
     }
 
     /// Ends the turn: the banks change places.
+    #[tactic(auto, using(crate::proofs::BankLemmas::kept_ended))]
     pub fn end_turn(&mut self)
         requires { CanEnd self.old }
         ensures { self.new ≡ after_end self.old }

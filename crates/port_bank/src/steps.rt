@@ -1,6 +1,6 @@
 //! Tasks laid flat: each operand is a place of a bank.
 
-ghost use Rattle.std.specs.Prelude.{◌≡◌, ◌≤◌, map, IfOk};
+ghost use Rattle.std.specs.Prelude.{◌≡◌, ◌+◌, ◌<◌, ◌≤◌, map, IfOk};
 ghost use Rattle.limits.specs.declared.TheConstants.{MAX_SLOTS};
 ghost use Rattle.image_defs.specs.Places.{Each};
 ghost use Rattle.port_bank.specs.Flat.{operand_of, step_of, IsWithin, IsTaskWithin};
@@ -32,7 +32,18 @@ pub enum Step {
         d: Operand,
     },
     /// Holds a register, which takes this operand at an edge.
-    Keep { from: Operand },
+    Keep {
+        from: Operand,
+    },
+}
+
+/// The place of what is received in a slot, where a turn has so many slots.
+pub(crate) fn got_place(slots: u32, slot: u32) -> u32
+    requires few { slots ≤ MAX_SLOTS }
+    requires within { slot < slots }
+    ensures { result ≡ slots + slot }
+{
+    slots + slot
 }
 
 /// The place of a source, where a turn has so many slots.
@@ -44,7 +55,7 @@ pub fn operand_of(slots: u32, source: Source) -> Operand
     match source {
         Source::Own { slot, last } => Operand { place: slot, last },
         Source::Got { slot, last } => Operand {
-            place: slots + slot,
+            place: got_place(slots, slot),
             last,
         },
         Source::Const(v) => Operand {
@@ -62,7 +73,12 @@ pub fn step_of(slots: u32, task: &Task) -> Step
 {
     match task {
         Task::Eval {
-            table, a, b, c, d, ..
+            table,
+            a,
+            b,
+            c,
+            d,
+            ..
         } => Step::Look {
             table: *table,
             a: operand_of(slots, *a),

@@ -9,19 +9,17 @@ use Rattle.func_table.specs.declared.table.Table.{Table}
 use Rattle.image_defs.specs.declared.image.Source.{Source}
 use Rattle.image_defs.specs.declared.image.Task.{Task}
 use Rattle.image_defs.specs.declared.image.Task.TheVariants.{Eval, Hold}
-use Rattle.image_defs.specs.declared.image.Work.{Work}
 use Rattle.image_defs.specs.declared.image.Work.TheVariants.{Logic}
 use Rattle.image_defs.specs.declared.image.PortImage.{PortImage}
 use Rattle.image_defs.specs.declared.image.Image.{Image}
 use Rattle.net_defs.specs.declared.stimulus.Stimulus.{Stimulus}
 use Rattle.image_defs.specs.Places.{Each, task_slot, IsPort, IsItemIn}
-use Rattle.image_defs.specs.WellFormed.{IsWellFormed, IsOperand, IsPast, IsTask, IsWork}
+use Rattle.image_defs.specs.WellFormed.{IsWellFormed, IsOperand, IsTask, IsWork}
 use Rattle.image_defs.specs.Steps.{past_value, task_value, item_value, value_of_member, times_of}
 use Rattle.image_defs.specs.Ports.{PortView, CanExecute, at_first, value_in}
 use Rattle.image_defs.proofs.PlaceLemmas.{at_map}
 use Rattle.port_bank.specs.declared.steps.Operand.{Operand}
-use Rattle.port_bank.specs.declared.steps.Step.{Step}
-use Rattle.port_bank.specs.declared.steps.Step.TheVariants.{Look, Keep}
+use Rattle.port_bank.specs.declared.steps.Step.TheVariants.{Keep}
 use Rattle.port_bank.specs.Flat.{place_count, operand_of, step_of, IsTaskWithin, FitsStep}
 use Rattle.port_bank.specs.Reads.{IsAtHand, IsRead, IsHeld, now_in, past_in}
 use Rattle.port_bank.proofs.TurnLemmas.{item_meets, there_within, place_within, operand_at_hand, past_at_hand, past_taken}
@@ -60,7 +58,6 @@ task_at_hand view slot tables (Eval s table a b c d) can fits at right =
   where
     right_here : (source : Source) → IsOperand can.port s source → IsAtHand view can.port source
     right_here source operand = operand_at_hand view slot source can fits (subst (λ t. IsOperand can.port t source) at operand)
-
 task_at_hand view slot tables (Hold s from) can fits at right = right
 
 -- the work of a logic processor

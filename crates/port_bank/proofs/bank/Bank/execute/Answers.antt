@@ -1,14 +1,8 @@
-use Rattle.std.proofs.Common.{◌≤◌, ◌≡◌, ◌∙◌, ap, subst, sym, arith}
+use Rattle.std.proofs.Common.{◌∙◌, ap, subst, sym}
 use Rattle.image_defs.specs.Ports.{CanExecute, value_in}
-use Rattle.port_bank.specs.Banks.{view_of, IsKept}
-use Rattle.port_bank.proofs.BankLemmas.{item_low, kept_executed}
+use Rattle.port_bank.specs.Banks.{view_of}
+use Rattle.port_bank.proofs.BankLemmas.{kept_executed}
 use Rattle.port_bank.proofs.bank.Bank.execute.Goals as goal
-
-pub overflow_add-self : goal.overflow_add-self
-overflow_add-self c =
-    let can : CanExecute (view_of c.self.inside) c.args.slot = subst (λ v. CanExecute v c.args.slot) (sym c.self.view_is) c.requires.can in
-    let low : c.self.inside.executed ≤ c.args.slot = item_low c.self.inside.image.now c.self.inside.port can.port c.self.inside.executed c.args.slot c.self.invariant.image can.is can.next in
-    omega (arith, low, c.ranges.slot)
 
 pub invariant_of-self : goal.invariant_of-self
 invariant_of-self c =

@@ -1,5 +1,3 @@
-use Rattle.std.proofs.Common.{◌≡◌, ◌∙◌, subst, sym}
-use Rattle.port_bank.specs.Reads.{IsRead}
 use Rattle.port_bank.proofs.BankLemmas.{read_right}
 use Rattle.port_bank.proofs.bank.Bank.read.Goals as goal
 
