@@ -29,7 +29,10 @@ pub enum Task {
         d: Source,
     },
     /// Holds a register, which takes a value of the last turn at an edge.
-    Hold { slot: u32, from: Source },
+    Hold {
+        slot: u32,
+        from: Source,
+    },
 }
 
 /// A memory of an array processor by what it reads at an edge, of the last turn, bit 0 first: the
