@@ -70,4 +70,4 @@ pub record AreFit (blocks : List BlockWork) (memories : List MemoryState) : Type
 -- the first n went through an edge, and the others stayed
 pub record AreActed (view : PortView) (blocks : List BlockWork) (n : ℕ) (old new : List MemoryState) : Type 0 where
   pub acted : (b : ℕ) (block : BlockWork) (one other : MemoryState) → b < n → slice_get blocks b ≡ Some block → slice_get old b ≡ Some one → slice_get new b ≡ Some other → Acted view block one other
-  pub rest : (b : ℕ) → n ≤ b → slice_get new b ≡ slice_get old b
+  pub rest : (b : ℕ) (memory : MemoryState) → n ≤ b → slice_get new b ≡ Some memory → slice_get old b ≡ Some memory

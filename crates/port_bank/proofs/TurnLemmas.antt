@@ -24,14 +24,16 @@ use Rattle.port_bank.specs.Reads.{IsAtHand, value_taken, now_in, past_in}
 pub seat_found : (image : Image) (p : ℕ) (port seat : PortImage) (ports : List PortImage) → IsPort image p port → ports ≡ image.ports → seat ≡ get_or ports p seat → port ≡ seat
 seat_found image p port seat ports is whole there = sym (there ∙ ap (λ xs. get_or xs p seat) whole ∙ get_or_from_slice_get image.ports p port seat is)
 
+-- the image makes a right step at the port's turn
+pub turn_meets : (view : PortView) → IsWellFormed view.image → 1 ≤ view.turn → IsImageStep view.image view.stimulus view.turn (past_in view) (now_in view)
+turn_meets view fits first =
+    let turn : view.turn - 1 + 1 ≡ view.turn = omega arith in
+    subst (λ t. IsImageStep view.image view.stimulus t (past_in view) (frame view.image view.stimulus t)) turn ((value_meets view.image view.stimulus fits).steps (view.turn - 1))
+
 -- the item of a slot meets its equation at the port's turn
 pub item_meets : (view : PortView) (port : PortImage) (i slot : ℕ) → IsWellFormed view.image → 1 ≤ view.turn → IsPort view.image view.port port → IsItemIn port.work i slot
     → value_in view slot ≡ item_value view.image view.stimulus view.turn (past_in view) (now_in view).value view.port port.ins port.work i
-item_meets view port i slot fits first is stands =
-    let turn : view.turn - 1 + 1 ≡ view.turn = omega arith in
-    let step : IsImageStep view.image view.stimulus view.turn (past_in view) (now_in view) =
-    subst (λ t. IsImageStep view.image view.stimulus t (past_in view) (frame view.image view.stimulus t)) turn ((value_meets view.image view.stimulus fits).steps (view.turn - 1)) in
-    step.values view.port i slot port is stands
+item_meets view port i slot fits first is stands = (turn_meets view fits first).values view.port i slot port is stands
 
 -- what a source names stands in a slot that there is
 pub there_within : (image : Image) (p : ℕ) (port : PortImage) (source : Source) → IsWellFormed image → IsPort image p port → IsThere port source → IsWithin image.slots source
