@@ -1,11 +1,9 @@
 -- An array processor keeps the words and the answers of its memories.
 use Rattle.std.proofs.Common.{◌≡◌, ◌∙◌, ℕ, ◌-◌, ◌<◌, ◌≤◌, Bool, true, false, if◌then◌else◌, List, length, map, get_or, slice_get, ◌==◌, Option, Some, None, sym, ap, subst, refl, arith}
 use Rattle.std.proofs.lemmas.Bool.{cond-true, cond-false}
-use Rattle.std.proofs.lemmas.List.{get_or_default}
 use Rattle.std.proofs.lemmas.Option.{slice_get_within, slice_get-get_or, get_or_from_slice_get}
 use Rattle.list_laws.proofs.Places.{within_some}
 use Rattle.logic_four.specs.declared.V4.{V4}
-use Rattle.logic_four.specs.declared.V4.TheVariants.{Undef}
 use Rattle.logic_four.specs.Values.{value_at}
 use Rattle.logic_four.specs.Memory.{memory_act, MemoryAct}
 use Rattle.net_defs.specs.declared.stimulus.Stimulus.{Stimulus}
@@ -28,7 +26,7 @@ use Rattle.port_bank.specs.Reads.{IsHeld, now_in, past_in}
 use Rattle.port_bank.proofs.TurnLemmas.{turn_meets, item_meets, there_within}
 use Rattle.port_array.specs.declared.memory.MemoryState.{MemoryState}
 use Rattle.port_array.specs.declared.port.ArrayPort.TheInside.{Inside}
-use Rattle.port_array.specs.Acts.{act_at, IsPastAt, ReadsPast, HasFewBits, AreFirst, Acted, AreFit, AreActed}
+use Rattle.port_array.specs.Acts.{act_at, IsPastAt, ReadsPast, HasFewBits, AreFirst, Acted, AreFit, AreActed, FitsBit, answered_bit}
 use Rattle.port_array.specs.Kept.{words_turn, IsReady}
 
 -- ---- the work of an array processor
@@ -82,8 +80,8 @@ ready_first a image stimulus p seat bank fits is work first = record {
   fit = record { long = first.long; each = λ b block memory at there. (first.each b block memory at there).fits };
   words = λ b block memory at there.
       subst (λ view. memory.cells ≡ (frame view.image view.stimulus (words_turn view)).words view.port b) (sym bank)
-        ((first.each b block memory at there).words
-          ∙ sym ((value_meets image stimulus fits).first_words p b seat block (record { port_is = is; block_is = ap (λ w. slice_get (blocks_of w) b) work ∙ at })));
+      ((first.each b block memory at there).words
+      ∙ sym ((value_meets image stimulus fits).first_words p b seat block (record { port_is = is; block_is = ap (λ w. slice_get (blocks_of w) b) work ∙ at })));
   outs = λ begun edge b block memory at there. absurd (not_begun (ap (λ view. view.begun) (sym bank) ∙ begun));
 } where
   not_begun : false ≡ true → ⊥
@@ -135,15 +133,12 @@ module _ (a : Inside) (memories : List MemoryState) (ready : IsReady a) (fresh :
 
 -- ---- an item is executed
 
-pub record IsNext (a : Inside) (port : PortImage) (slot : ℕ) : Type 0 where
-  pub bit : OutBit
+-- the output bit that is executed next, and its memory
+pub record IsNext (a : Inside) (port : PortImage) (slot : ℕ) (bit : OutBit) : Type 0 where
   pub there : slice_get a.bits.now a.bank.executed ≡ Some bit
   pub at : bit.slot ≡ slot
-  pub block : BlockWork
-  pub block_there : slice_get a.blocks.now bit.block ≡ Some block
-  pub memory : MemoryState
-  pub memory_there : slice_get a.memories bit.block ≡ Some memory
-  pub within : bit.bit < length memory.outs
+  pub fits : FitsBit a.memories bit
+  pub answers : is_edge a.bank.image.units a.bank.turn ≡ true → answered_bit a.memories bit ≡ block_bit a.bank.port port.ins (past_in a.bank) a.blocks.now bit.block bit.bit
 
 same_seat : (a : Inside) (port : PortImage) (ready : IsReady a) → IsPort a.bank.image a.bank.port port → ready.seat ≡ port
 same_seat a port ready is = let here = ready.is in cc
@@ -151,40 +146,30 @@ same_seat a port ready is = let here = ready.is in cc
 same_work : (a : Inside) (port : PortImage) → IsReady a → IsPort a.bank.image a.bank.port port → port.work ≡ Array a.blocks.now a.bits.now
 same_work a port ready is = subst (λ q. q.work ≡ Array a.blocks.now a.bits.now) (same_seat a port ready is) ready.work
 
-pub next_bit : (a : Inside) (slot : ℕ) → IsReady a → (can : CanExecute a.bank slot) → IsNext a can.port slot
-next_bit a slot ready can = of_bit (at_map (λ out. out.slot) a.bits.now a.bank.executed slot (subst (λ work. IsItemIn work a.bank.executed slot) (same_work a can.port ready can.is) can.next)) where
+pub next_bit : (a : Inside) (slot i : ℕ) (d : OutBit) → IsReady a → (can : CanExecute a.bank slot) → i ≡ a.bank.executed → IsNext a can.port slot (get_or a.bits.now i d)
+next_bit a slot i d ready can same = of_bit (at_map (λ out. out.slot) a.bits.now a.bank.executed slot (subst (λ work. IsItemIn work a.bank.executed slot) (same_work a can.port ready can.is) can.next)) where
   of_memory : (bit : OutBit) (block : BlockWork) (o : Option MemoryState) → slice_get a.bits.now a.bank.executed ≡ Some bit → bit.slot ≡ slot → slice_get a.blocks.now bit.block ≡ Some block → bit.bit < length block.word
-      → slice_get a.memories bit.block ≡ o → IsNext a can.port slot
+      → slice_get a.memories bit.block ≡ o → IsNext a can.port slot bit
   of_memory bit block None there at block_there low none = absurd (within_some a.memories bit.block (omega (arith, slice_get_within a.blocks.now bit.block block block_there, ready.fit.long)) none)
   of_memory bit block (Some memory) there at block_there low memory_there = record {
-    bit = bit;
     there = there;
     at = at;
-    block = block;
-    block_there = block_there;
-    memory = memory;
-    memory_there = memory_there;
-    within = omega (arith, low, (ready.fit.each bit.block block memory block_there memory_there).outs);
+    fits = record {
+      memory = slice_get_within a.memories bit.block memory memory_there;
+      within = λ other is. omega (arith, low, (ready.fit.each bit.block block other block_there is).outs);
+    };
+    answers = λ edge.
+        ap (value_of_member (λ m. value_at m.outs bit.bit)) memory_there
+        ∙ ap (λ outs. value_at outs bit.bit) (ready.outs can.begun edge bit.block block memory block_there memory_there)
+        ∙ ap (λ q. value_at (block_act a.bank.port q.ins (past_in a.bank).value block ((past_in a.bank).words a.bank.port bit.block)).outputs bit.bit) (same_seat a can.port ready can.is)
+        ∙ ap (value_of_member (λ b. value_at (block_act a.bank.port can.port.ins (past_in a.bank).value b ((past_in a.bank).words a.bank.port bit.block)).outputs bit.bit)) (sym block_there);
   }
 
-  of_bit : (bit : OutBit) × (slice_get a.bits.now a.bank.executed ≡ Some bit) × (bit.slot ≡ slot) → IsNext a can.port slot
+  of_bit : (bit : OutBit) × (slice_get a.bits.now a.bank.executed ≡ Some bit) × (bit.slot ≡ slot) → IsNext a can.port slot (get_or a.bits.now i d)
   of_bit (bit, there, at) =
       let right : IsBit a.blocks.now bit = (work_right a.bank.image a.bank.port can.port a.blocks.now a.bits.now ready.image can.is (same_work a can.port ready can.is)).1 a.bank.executed bit there in
-      of_memory bit right.0 (slice_get a.memories bit.block) there at right.1 right.2 refl
-
--- what is read there
-pub bit_found : (a : Inside) (port : PortImage) (slot i : ℕ) (d : OutBit) → (next : IsNext a port slot) → i ≡ a.bank.executed → get_or a.bits.now i d ≡ next.bit
-bit_found a port slot i d next at = ap (λ k. get_or a.bits.now k d) at ∙ get_or_from_slice_get a.bits.now a.bank.executed next.bit d next.there
-
-pub memory_found : (a : Inside) (port : PortImage) (slot : ℕ) (memory : MemoryState) (memories : List MemoryState) (bit : OutBit) → (next : IsNext a port slot) → memories ≡ a.memories → bit ≡ next.bit
-    → memory ≡ get_or memories bit.block memory → memory ≡ next.memory
-memory_found a port slot memory memories bit next same at is =
-    is ∙ ap (λ list. get_or list bit.block memory) same ∙ ap (λ b. get_or a.memories b.block memory) at ∙ get_or_from_slice_get a.memories next.bit.block next.memory memory next.memory_there
-
-pub answer_found : (a : Inside) (port : PortImage) (slot : ℕ) (outs : List V4) (bit : OutBit) (d : V4) → (next : IsNext a port slot) → outs ≡ next.memory.outs → bit ≡ next.bit
-    → (bit.bit < length outs) × (get_or outs bit.bit d ≡ value_at next.memory.outs next.bit.bit)
-answer_found a port slot outs bit d next same at =
-    rw (same, at) (next.within, get_or_default next.memory.outs next.bit.bit d Undef next.within)
+      let found : get_or a.bits.now i d ≡ bit = ap (λ k. get_or a.bits.now k d) same ∙ get_or_from_slice_get a.bits.now a.bank.executed bit d there in
+      subst (IsNext a can.port slot) (sym found) (of_memory bit right.0 (slice_get a.memories bit.block) there at right.1 right.2 refl)
 
 pub ready_executed : (a : Inside) (bank : PortView) → IsReady a → bank ≡ after_execute a.bank → IsReady (record a { bank = bank })
 ready_executed a bank ready same = subst (λ view. IsReady (record a { bank = view })) (sym same) (record {
@@ -207,18 +192,12 @@ held_same image turn one other kept same = by_edge (is_edge image.units turn) re
     held_by : V4 → Bool → V4
     held_by v edge = if turn == 1 then initial_value image.init else if edge then v else kept
 
-pub next_answers : (a : Inside) (slot : ℕ) (answered v : V4) → (ready : IsReady a) → (can : CanExecute a.bank slot) → (next : IsNext a can.port slot)
-    → answered ≡ value_at next.memory.outs next.bit.bit → IsHeld a.bank slot answered v → v ≡ value_in a.bank slot
-next_answers a slot answered v ready can next is held =
+pub next_answers : (a : Inside) (slot : ℕ) (bit : OutBit) (answer v : V4) → (ready : IsReady a) → (can : CanExecute a.bank slot) → IsNext a can.port slot bit
+    → answer ≡ answered_bit a.memories bit → IsHeld a.bank slot answer v → v ≡ value_in a.bank slot
+next_answers a slot bit answer v ready can next is held =
     held can.port a.bank.executed can.is can.next
-    ∙ held_same a.bank.image a.bank.turn answered (block_bit a.bank.port can.port.ins (past_in a.bank) a.blocks.now next.bit.block next.bit.bit) ((past_in a.bank).value a.bank.port slot) at_edge
-    ∙ ap (λ s. registered (times_of a.bank.image) a.bank.turn (block_bit a.bank.port can.port.ins (past_in a.bank) a.blocks.now next.bit.block next.bit.bit) ((past_in a.bank).value a.bank.port s)) (sym next.at)
+    ∙ held_same a.bank.image a.bank.turn answer (block_bit a.bank.port can.port.ins (past_in a.bank) a.blocks.now bit.block bit.bit) ((past_in a.bank).value a.bank.port slot) (λ edge. is ∙ next.answers edge)
+    ∙ ap (λ s. registered (times_of a.bank.image) a.bank.turn (block_bit a.bank.port can.port.ins (past_in a.bank) a.blocks.now bit.block bit.bit) ((past_in a.bank).value a.bank.port s)) (sym next.at)
     ∙ ap (value_of_member (bit_value a.bank.image a.bank.turn a.bank.port can.port.ins (past_in a.bank) a.blocks.now)) (sym next.there)
     ∙ ap (λ work. item_value a.bank.image a.bank.stimulus a.bank.turn (past_in a.bank) (now_in a.bank).value a.bank.port can.port.ins work a.bank.executed) (sym (same_work a can.port ready can.is))
     ∙ sym (item_meets a.bank can.port a.bank.executed slot ready.image ready.first can.is can.next)
-  where
-    at_edge : is_edge a.bank.image.units a.bank.turn ≡ true → answered ≡ block_bit a.bank.port can.port.ins (past_in a.bank) a.blocks.now next.bit.block next.bit.bit
-    at_edge edge =
-        is ∙ ap (λ outs. value_at outs next.bit.bit) (ready.outs can.begun edge next.bit.block next.block next.memory next.block_there next.memory_there)
-        ∙ ap (λ q. value_at (block_act a.bank.port q.ins (past_in a.bank).value next.block ((past_in a.bank).words a.bank.port next.bit.block)).outputs next.bit.bit) (same_seat a can.port ready can.is)
-        ∙ ap (value_of_member (λ block. value_at (block_act a.bank.port can.port.ins (past_in a.bank).value block ((past_in a.bank).words a.bank.port next.bit.block)).outputs next.bit.bit)) (sym next.block_there)

@@ -2,9 +2,11 @@
 use Rattle.std.specs.Prelude.{◌≡◌, ℕ, ◌<◌, ◌≤◌, List, length, map, Some, slice_get}
 use Rattle.limits.specs.declared.TheConstants.{MAX_ADDRESS_BITS, MAX_WORD_BITS}
 use Rattle.logic_four.specs.declared.V4.{V4}
+use Rattle.logic_four.specs.Values.{value_at}
 use Rattle.logic_four.specs.Memory.{memory_act, MemoryAct, initial_words, HasShape}
 use Rattle.image_defs.specs.declared.image.Source.{Source}
 use Rattle.image_defs.specs.declared.image.BlockWork.{BlockWork}
+use Rattle.image_defs.specs.declared.image.OutBit.{OutBit}
 use Rattle.image_defs.specs.declared.image.PortImage.{PortImage}
 use Rattle.image_defs.specs.Places.{Each, IsPort}
 use Rattle.image_defs.specs.WellFormed.{IsPast}
@@ -58,6 +60,15 @@ pub record Acted (view : PortView) (block : BlockWork) (old new : MemoryState) :
   pub outputs : new.outs ≡ (act_at view block old.cells).outputs
 
 -- ---- all memories of a port
+
+-- an output bit is one of a memory that is there
+pub record FitsBit (memories : List MemoryState) (bit : OutBit) : Type 0 where
+  pub memory : bit.block < length memories
+  pub within : (memory : MemoryState) → slice_get memories bit.block ≡ Some memory → bit.bit < length memory.outs
+
+-- what its memory answered for it
+abbrev pub answered_bit : List MemoryState → OutBit → V4
+answered_bit memories bit = value_of_member (λ memory. value_at memory.outs bit.bit) (slice_get memories bit.block)
 
 pub record AreFirst (v : V4) (blocks : List BlockWork) (memories : List MemoryState) : Type 0 where
   pub long : length memories ≡ length blocks

@@ -3,5 +3,7 @@
 
 mod memory;
 mod port;
+#[cfg(test)]
+mod tests;
 
 pub use port::ArrayPort;

@@ -4,10 +4,10 @@ ghost use Rattle.std.specs.Prelude.{◌≡◌, ◌≤◌, true, false, length, m
 ghost use Rattle.limits.specs.declared.TheConstants.{MAX_ADDRESS_BITS, MAX_WORD_BITS};
 ghost use Rattle.net_defs.specs.Time.{is_edge};
 ghost use Rattle.image_defs.specs.Places.{Each};
-ghost use Rattle.port_array.specs.Acts.{past_of, IsPastAt, ReadsPast, HasFewBits, FitsMemory, IsFirst, AreFirst, Acted, AreFit, AreActed};
+ghost use Rattle.port_array.specs.Acts.{past_of, answered_bit, FitsBit, IsPastAt, ReadsPast, HasFewBits, FitsMemory, IsFirst, AreFirst, Acted, AreFit, AreActed};
 
 use array_cells::Cells;
-use image_defs::{BlockWork, Source};
+use image_defs::{BlockWork, OutBit, Source};
 use logic_four::V4;
 use port_bank::Bank;
 use seen_list::{List, Memory};
@@ -23,7 +23,7 @@ pub(crate) struct MemoryState {
 }
 
 /// A memory with `v` in every bit of every word.
-fn make_memory(alloc: Global, block: &BlockWork, v: V4) -> Result<MemoryState, Memory>
+pub(crate) fn make_memory(alloc: Global, block: &BlockWork, v: V4) -> Result<MemoryState, Memory>
     requires { HasFewBits block.now }
     ensures { IfOk result (IsFirst v block.now) }
 {
@@ -100,6 +100,14 @@ fn edge_all(memories: &mut [MemoryState], blocks: &[BlockWork], bank: &Bank<'_>)
     'all: for b in 0..blocks.len() {
         edge(&mut memories[b], &blocks[b], bank);
     }
+}
+
+/// What the memory of an output bit answered for it at the last edge.
+pub(crate) fn answered(memories: &[MemoryState], bit: OutBit) -> V4
+    requires { FitsBit memories.now bit }
+    ensures { result ≡ answered_bit memories.now bit }
+{
+    memories[bit.block as usize].outs.as_slice()[bit.bit as usize]
 }
 
 /// Takes each memory through the edge of this turn, if it is one.

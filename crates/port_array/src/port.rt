@@ -5,7 +5,7 @@ ghost use Rattle.net_defs.specs.Valid.{IsValidStimulus};
 ghost use Rattle.image_defs.specs.WellFormed.{IsWellFormed, IsPortOf, IsArray};
 ghost use Rattle.image_defs.specs.Ports.{at_first, after_begin, after_execute, after_receive, after_end, value_in, next_item, CanBegin, CanExecute, CanReceive, CanEnd};
 
-use crate::memory::{MemoryState, begin_memories, make_memories};
+use crate::memory::{MemoryState, answered, begin_memories, make_memories};
 use image_defs::{BlockWork, Image, OutBit, Work};
 use logic_four::V4;
 use net_defs::{Stimulus, initial_value};
@@ -14,8 +14,8 @@ use seen_list::{List, Memory};
 use std::alloc::Global;
 use std::marker::Model;
 
-/// An array processor in its run. A contract sees whose image and stimulus it runs and how far it has
-/// come.
+/// An array processor in its run. A contract sees whose image and stimulus it runs and how far it
+/// has come.
 #[derive(Drop)]
 pub struct ArrayPort<'a> {
     bank: Bank<'a>,
@@ -37,8 +37,8 @@ impl<'a> Model for ArrayPort<'a> {
 }
 
 impl<'a> ArrayPort<'a> {
-    /// The array processor before its first turn. It takes memory for its memories, and for four values
-    /// a slot.
+    /// The array processor before its first turn. It takes memory for its memories, and for four
+    /// values a slot.
     pub fn new(
         alloc: Global,
         image: &'a Image,
@@ -93,9 +93,8 @@ impl<'a> ArrayPort<'a> {
         ensures view { self.new ≡ after_execute self.old }
     {
         let bit = self.bits[self.bank.executed()];
-        let memory = &self.memories.as_slice()[bit.block as usize];
-        let answered = memory.outs.as_slice()[bit.bit as usize];
-        let value = self.bank.held(slot, answered);
+        let answer = answered(self.memories.as_slice(), bit);
+        let value = self.bank.held(slot, answer);
         self.bank.execute(slot, value);
         value
     }

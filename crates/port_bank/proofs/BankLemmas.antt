@@ -57,6 +57,9 @@ pub receipt_low : (image : Image) (p : ℕ) (port : PortImage) (i : ℕ) (link :
 receipt_low image p port i link fits is there =
     place_low (in_slots port.ins) i link.slot (rises (in_slots port.ins) (fits.ports p port is).ins) (link_slot port.ins i link there)
 
+pub receipt_bounds : (image : Image) (p : ℕ) (port : PortImage) (i : ℕ) (link : LinkIn) → IsWellFormed image → IsPort image p port → slice_get port.ins i ≡ Some link → (i ≤ link.slot) × (link.slot < image.slots)
+receipt_bounds image p port i link fits is there = (receipt_low image p port i link fits is there, link_low image p port i link fits is there)
+
 same_port : (image : Image) (p : ℕ) (one other : PortImage) → IsPort image p one → IsPort image p other → one ≡ other
 same_port image p one other is is_other = cc
 

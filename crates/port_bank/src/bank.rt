@@ -19,8 +19,8 @@ use std::alloc::Global;
 use std::marker::Model;
 use std::mem;
 
-/// The values of a port in its run, of its turn and of the turn before, in two banks. A contract sees
-/// whose image and stimulus it runs and how far it has come, and nothing of the banks.
+/// The values of a port in its run, of its turn and of the turn before, in two banks. A contract
+/// sees whose image and stimulus it runs and how far it has come, and nothing of the banks.
 #[derive(Drop)]
 pub struct Bank<'a> {
     image: &'a Image,
@@ -168,7 +168,7 @@ impl<'a> Bank<'a> {
 
     /// Keeps the value that is received in a slot.
     #[inline]
-    #[tactic(auto, using(crate::proofs::BankLemmas::link_low, crate::proofs::BankLemmas::receipt_low))]
+    #[tactic(auto, using(crate::proofs::BankLemmas::receipt_bounds))]
     pub fn receive(&mut self, slot: u32, v: V4)
         requires { CanReceive self.old slot v }
         ensures { self.new ≡ after_receive self.old }

@@ -18,8 +18,8 @@ use seen_list::{List, Memory};
 use std::alloc::Global;
 use std::marker::Model;
 
-/// A logic processor in its run. A contract sees whose image and stimulus it runs and how far it has
-/// come.
+/// A logic processor in its run. A contract sees whose image and stimulus it runs and how far it
+/// has come.
 #[derive(Drop)]
 pub struct LogicPort<'a> {
     bank: Bank<'a>,
@@ -68,8 +68,8 @@ fn answer(bank: &Bank<'_>, tables: &[Table], step: Step, slot: u32) -> V4
 }
 
 impl<'a> LogicPort<'a> {
-    /// The logic processor before its first turn. It takes memory for its tasks, and for four values a
-    /// slot.
+    /// The logic processor before its first turn. It takes memory for its tasks, and for four values
+    /// a slot.
     pub fn new(
         alloc: Global,
         image: &'a Image,

@@ -12,5 +12,5 @@ each-preserved c =
     rw c.in_ok-push.ensures.ok (record {
       long = length_push c.each.memories _ ∙ ap (λ n. n + 1) c.each.invariant.long;
       first = first_more c.args.v c.args.blocks.now c.each.memories c.each.block-index c.block-item.result _ c.each.invariant.long
-        (member_at c.args.blocks.now c.each.block-index c.block-item.result (omega arith) c.block-item.is) c.in_ok-make_memory.ensures c.each.invariant.first;
+          (member_at c.args.blocks.now c.each.block-index c.block-item.result (omega arith) c.block-item.is) c.in_ok-make_memory.ensures c.each.invariant.first;
     })

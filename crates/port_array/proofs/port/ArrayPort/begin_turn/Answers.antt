@@ -9,4 +9,4 @@ pub invariant_of-self : goal.invariant_of-self
 invariant_of-self c =
     let fresh : c.self.inside.bank.begun ≡ false = ap (λ view. view.begun) c.self.view_is ∙ c.requires.fresh in
     ready_begun c.self.inside c.begin_memories.new.memories c.self.invariant fresh c.begin_memories.ensures.fit c.begin_memories.ensures.acted c.begin_memories.ensures.same
-      c.begin_turn.new.self c.begin_turn.ensures
+    c.begin_turn.new.self c.begin_turn.ensures
