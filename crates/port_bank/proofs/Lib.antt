@@ -1,0 +1,2 @@
+pub mod BankLemmas
+pub mod TurnLemmas

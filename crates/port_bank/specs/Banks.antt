@@ -1,0 +1,57 @@
+-- What the banks of a port have: one the values of its turn so far, the other those of the turn before.
+use Rattle.std.specs.Prelude.{◌≡◌, ℕ, ◌+◌, ◌-◌, ◌*◌, ◌<◌, ◌≤◌, true, if◌then◌else◌, List, [], ◌∷◌, ◌++◌, length, replicate, Some, slice_get}
+use Rattle.logic_four.specs.declared.V4.{V4}
+use Rattle.logic_four.specs.declared.V4.TheVariants.{Zero, One, Undef, HighZ}
+use Rattle.logic_four.specs.Values.{code_of, value_at}
+use Rattle.net_defs.specs.declared.stimulus.Stimulus.{Stimulus}
+use Rattle.net_defs.specs.Time.{is_edge}
+use Rattle.net_defs.specs.Valid.{IsValidStimulus}
+use Rattle.image_defs.specs.declared.image.LinkIn.{LinkIn}
+use Rattle.image_defs.specs.declared.image.PortImage.{PortImage}
+use Rattle.image_defs.specs.declared.image.Image.{Image}
+use Rattle.image_defs.specs.Places.{item_slots, IsPort, IsItemIn}
+use Rattle.image_defs.specs.WellFormed.{IsWellFormed}
+use Rattle.image_defs.specs.Frames.{image_value}
+use Rattle.image_defs.specs.Ports.{PortView, last_turn}
+use Rattle.port_bank.specs.declared.steps.Operand.{Operand}
+use Rattle.port_bank.specs.Flat.{place_count}
+use Rattle.port_bank.specs.declared.bank.Bank.TheInside.{Inside}
+
+-- undefined values, and the four values by their codes
+abbrev pub blank : ℕ → List V4
+blank slots = replicate (2 * slots) Undef ++ (Zero ∷ One ∷ Undef ∷ HighZ ∷ [])
+
+-- the value in an operand's place
+abbrev pub value_in_place : List V4 → List V4 → Operand → V4
+value_in_place this past operand = value_at (if operand.last then past else this) operand.place
+
+-- there are all places for so many slots, and the constants stand in theirs
+pub record IsRoom (slots : ℕ) (bank : List V4) : Type 0 where
+  pub places : length bank ≡ place_count slots
+  pub constants : (v : V4) → value_at bank (2 * slots + code_of v) ≡ v
+
+-- a bank of port p has the values of a turn: those of its first so many items, and the first so many that
+-- it receives
+pub record Holds (image : Image) (stimulus : Stimulus) (turn p : ℕ) (port : PortImage) (items receipts : ℕ) (bank : List V4) : Type 0 where
+  pub own : (i slot : ℕ) → i < items → IsItemIn port.work i slot → value_at bank slot ≡ image_value image stimulus turn p slot
+  pub got : (i : ℕ) (link : LinkIn) → i < receipts → slice_get port.ins i ≡ Some link → value_at bank (image.slots + link.slot) ≡ image_value image stimulus turn link.sender link.slot
+
+-- it has all values of a turn
+abbrev pub HoldsAll : Image → Stimulus → ℕ → ℕ → PortImage → List V4 → Type 0
+HoldsAll image stimulus turn p port bank = Holds image stimulus turn p port (length (item_slots port.work)) (length port.ins) bank
+
+-- what contracts see of a bank
+abbrev pub view_of : Inside → PortView
+view_of a = record { image = a.image.now; stimulus = a.stim.now; port = a.port; turn = a.turn; begun = a.begun; executed = a.executed; received = a.received }
+
+pub record IsKept (a : Inside) : Type 0 where
+  pub image : IsWellFormed a.image.now
+  pub stimulus : IsValidStimulus a.stim.now
+  pub first : 1 ≤ a.turn
+  pub until : a.turn ≤ last_turn (view_of a) + 1
+  pub running : a.begun ≡ true → a.turn ≤ last_turn (view_of a)
+  pub edge : a.at_edge ≡ is_edge a.image.now.units a.turn
+  pub this_room : IsRoom a.image.now.slots a.this
+  pub past_room : IsRoom a.image.now.slots a.past
+  pub this : (port : PortImage) → IsPort a.image.now a.port port → Holds a.image.now a.stim.now a.turn a.port port a.executed a.received a.this
+  pub past : (port : PortImage) → IsPort a.image.now a.port port → HoldsAll a.image.now a.stim.now (a.turn - 1) a.port port a.past

@@ -1,0 +1,11 @@
+//! What the ports of an image have in common: the flat memory of a port in its run, which has the
+//! values of its own items, those that it receives and the constants in places of their own, and
+//! the tasks of a port laid flat over these places.
+#![tactic(auto)]
+
+mod bank;
+pub mod steps;
+#[cfg(test)]
+mod tests;
+
+pub use bank::Bank;
