@@ -17,7 +17,7 @@ use Rattle.image_defs.specs.declared.image.Image.{Image}
 use Rattle.image_defs.specs.Places as places
 use Rattle.image_defs.specs.Places.{Each, IsPort, item_slots, in_slots}
 use Rattle.image_defs.specs.WellFormed.{IsHost, IsPortImage, IsWellFormed}
-use Rattle.image_match.specs.Matches.{claims_of, IsClaim, ClaimsIn, IsAsClaimed, IsPrintedAs, Matches}
+use Rattle.image_match.specs.Matches.{claims_of, IsClaim, ClaimsIn, ImplementsClaim, PrintsItems, Matches}
 use Rattle.image_match.specs.Shows.{ShowsItems}
 use Rattle.image_match.proofs.MatchLemmas.{shows_items}
 use Rattle.plan_defs.specs.declared.plan.Homes.{Homes}
@@ -80,14 +80,14 @@ module _ {nodes : NodeNet} {homes : Homes} {plan : Plan} {switch : Switch} {timi
     slots = let few = planned.few in let slots = laid.slots in omega (arith, few, slots);
     units = (let some = valid.some in let units = laid.units in omega (arith, some, units), let few = valid.few in let units = laid.units in omega (arith, few, units));
     some_ports = let count = laid.ports in omega (arith, count);
-    few_ports = let few = planned.housed.ports in let count = laid.ports in omega (arith, few, count);
+    most_ports = let few = planned.housed.ports in let count = laid.ports in omega (arith, few, count);
     ports = port_right;
     host = λ p port at. subst (λ count. IsHost port.work ↔ (p + 1 ≡ count)) (sym laid.ports) (host_last nodes homes plan.slots p (claims_of claims p) port.work (laid.works p port at));
   }
 
   -- ---- matching
 
-  item_as : (p i x : ℕ) (port : PortImage) → IsPort image p port → IsClaim claims p i x → IsAsClaimed image claims nodes p i x port
+  item_as : (p i x : ℕ) (port : PortImage) → IsPort image p port → IsClaim claims p i x → ImplementsClaim image claims nodes p i x port
   item_as p i x port at claim =
       let one : (one : Item) × (slice_get nodes.items x ≡ Some one) = member_at nodes.items x (claim_at laid p i x (port_low laid p port at) claim).0 in
       record { item = one.0; is = one.1; same = (port_done planned routed laid p port at).same i x one.0 claim one.1 }
@@ -95,7 +95,7 @@ module _ {nodes : NodeNet} {homes : Homes} {plan : Plan} {switch : Switch} {timi
   host_is : places.host_of image ≡ host_of homes
   host_is = let count = laid.ports in omega (arith, count)
 
-  printed_as : (host : PortImage) → IsPort image (places.host_of image) host → IsPrintedAs image claims nodes.printed host
+  printed_as : (host : PortImage) → IsPort image (places.host_of image) host → PrintsItems image claims nodes.printed host
   printed_as host at =
       let prints = port_prints planned routed laid (places.host_of image) host at host_is in
       record { as_many = prints.0; each = prints.1 }

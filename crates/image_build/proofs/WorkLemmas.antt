@@ -27,7 +27,7 @@ use Rattle.image_defs.specs.declared.image.PortImage.{PortImage}
 use Rattle.image_defs.specs.declared.image.Image.{Image}
 use Rattle.image_defs.specs.Places.{Each, IsPort, printed_of}
 use Rattle.image_defs.specs.WellFormed.{IsPast, IsPresent, IsTask, IsBlock, IsBit, IsWork}
-use Rattle.image_match.specs.Matches.{claims_of, IsClaim, Carries, CarryAll, IsMemoryAs, IsTaskAs, IsBitAs, IsInputAs, IsAs}
+use Rattle.image_match.specs.Matches.{claims_of, IsClaim, Carries, CarryAll, MemoryImplements, TaskImplements, BitImplements, InputImplements, Implements}
 use Rattle.plan_defs.specs.declared.plan.Homes.{Homes}
 use Rattle.plan_defs.specs.declared.plan.Plan.{Plan}
 use Rattle.plan_defs.specs.declared.switch.Switch.{Switch}
@@ -54,12 +54,12 @@ pasts homes slots p items = map (λ o. source_of homes slots p o true) items
 
 -- a task names what is there, and does what the item does
 abbrev IsTaskRight : NodeNet → Image → List (List ℕ) → ℕ → PortImage → List Table → Item → Task → Type 0
-IsTaskRight nodes image claims p port tables one task = IsTask port (length tables) task × IsTaskAs image claims nodes p port.ins tables task one
+IsTaskRight nodes image claims p port tables one task = IsTask port (length tables) task × TaskImplements image claims nodes p port.ins tables task one
 
 -- what port p does names what is there, and each of its items is as the item that it claims
 pub record IsDone (nodes : NodeNet) (homes : Homes) (claims : List (List ℕ)) (image : Image) (p : ℕ) (port : PortImage) (work : Work) : Type 0 where
   pub names : IsWork image.columns port work
-  pub same : (i x : ℕ) (one : Item) → IsClaim claims p i x → slice_get nodes.items x ≡ Some one → IsAs image claims nodes p port.ins work i one
+  pub same : (i x : ℕ) (one : Item) → IsClaim claims p i x → slice_get nodes.items x ≡ Some one → Implements image claims nodes p port.ins work i one
   pub ordered : IsOrdered nodes homes image claims p port.ins work
 
 module _ {nodes : NodeNet} {homes : Homes} {plan : Plan} {switch : Switch} {timing : Timing} {claims : List (List ℕ)} {image : Image}
@@ -109,7 +109,7 @@ module _ {nodes : NodeNet} {homes : Homes} {plan : Plan} {switch : Switch} {timi
     }
 
   memory_right : (m : ℕ) (memory : NodeBlock) → slice_get nodes.blocks m ≡ Some memory → block_home homes m ≡ p
-      → IsBlock port (block_for homes plan.slots p memory) × IsMemoryAs image claims p port.ins (block_for homes plan.slots p memory) memory
+      → IsBlock port (block_for homes plan.slots p memory) × MemoryImplements image claims p port.ins (block_for homes plan.slots p memory) memory
   memory_right m memory is home =
       let we = past_right planned routed laid p memory.we port at (uses memory.we (inl refl)) in
       let address = pasts_right memory.address (λ o among. uses o (inr (inl among))) in
@@ -160,7 +160,7 @@ module _ {nodes : NodeNet} {homes : Homes} {plan : Plan} {switch : Switch} {timi
   module _ (numbers : List ℕ) (blocks : List BlockWork) (lists : ArePortMemories nodes homes p numbers) (are : AreBlocks nodes homes plan.slots p numbers blocks) where
     -- memory number k of the port
     memory_at : (k m : ℕ) → slice_get numbers k ≡ Some m → (memory : NodeBlock) × (slice_get nodes.blocks m ≡ Some memory) × (slice_get blocks k ≡ Some (block_for homes plan.slots p memory))
-        × IsBlock port (block_for homes plan.slots p memory) × IsMemoryAs image claims p port.ins (block_for homes plan.slots p memory) memory
+        × IsBlock port (block_for homes plan.slots p memory) × MemoryImplements image claims p port.ins (block_for homes plan.slots p memory) memory
     memory_at k m here =
         let known : (m < length nodes.blocks) × (block_home homes m ≡ p) = (lists.exact m).0 (listed numbers k m here) in
         let memory : (memory : NodeBlock) × (slice_get nodes.blocks m ≡ Some memory) = member_at nodes.blocks m known.0 in
@@ -180,11 +180,11 @@ module _ {nodes : NodeNet} {homes : Homes} {plan : Plan} {switch : Switch} {timi
       as_many = are.as_many;
       each = λ k m block memory here is memory_is.
           let known : (m < length nodes.blocks) × (block_home homes m ≡ p) = (lists.exact m).0 (listed numbers k m is) in
-          subst (λ b. IsMemoryAs image claims p port.ins b memory) (some_only (block_for homes plan.slots p memory) block (sym (are.each k m memory is memory_is) ∙ here)) (memory_right m memory memory_is known.1).1;
+          subst (λ b. MemoryImplements image claims p port.ins b memory) (some_only (block_for homes plan.slots p memory) block (sym (are.each k m memory is memory_is) ∙ here)) (memory_right m memory memory_is known.1).1;
     }
 
     bit_right : (x : ℕ) (one : Item) (out : OutBit) → slice_get nodes.items x ≡ Some one → IsBitFor plan.slots numbers x one out
-        → IsBit blocks out × IsBitAs image claims nodes p port.ins blocks out one
+        → IsBit blocks out × BitImplements image claims nodes p port.ins blocks out one
     bit_right x (Input column) out is for_it = absurd for_it
     bit_right x (Node t feeds) out is for_it = absurd for_it
     bit_right x (Latch op) out is for_it = absurd for_it
@@ -192,7 +192,7 @@ module _ {nodes : NodeNet} {homes : Homes} {plan : Plan} {switch : Switch} {timi
         let found = memory_at k m here in
         let low : bit < length found.0.word = planned.formed.bits x m bit found.0 is found.1 in
         let long : length (pasts homes plan.slots p found.0.word) ≡ length found.0.word = length-map found.0.word (λ o. source_of homes plan.slots p o true) in
-        subst (λ o. IsBit blocks o × IsBitAs image claims nodes p port.ins blocks o (BlockBit m bit)) (sym out_is)
+        subst (λ o. IsBit blocks o × BitImplements image claims nodes p port.ins blocks o (BlockBit m bit)) (sym out_is)
         ((block_for homes plan.slots p found.0, found.2, omega (arith, low, long)), (refl, block_for homes plan.slots p found.0, found.0, found.2, found.1, found.4))
 
     array_done : (outs : List OutBit) → homes.logic ≤ p → p < host_of homes → AreBits nodes plan.slots (claims_of claims p) numbers outs → IsDone nodes homes claims image p port (Array blocks outs)
@@ -211,7 +211,7 @@ module _ {nodes : NodeNet} {homes : Homes} {plan : Plan} {switch : Switch} {timi
 
   -- ---- the host
 
-  input_right : (x : ℕ) (one : Item) (input : InColumn) → slice_get nodes.items x ≡ Some one → IsInputFor plan.slots x one input → (input.column < image.columns) × IsInputAs input one
+  input_right : (x : ℕ) (one : Item) (input : InColumn) → slice_get nodes.items x ≡ Some one → IsInputFor plan.slots x one input → (input.column < image.columns) × InputImplements input one
   input_right x (Input column) input is for_it =
       let low : column < column_count nodes = planned.formed.columns x column is in
       let count = laid.columns in

@@ -22,7 +22,7 @@ use Rattle.image_defs.specs.declared.image.Image.{Image}
 use Rattle.image_defs.specs.Places.{IsPort, item_slots}
 use Rattle.image_defs.specs.WellFormed.{IsWellFormed}
 use Rattle.image_defs.specs.Frames.{image_value, shown}
-use Rattle.image_match.specs.Matches.{claims_of, Matches, IsMemoryAs}
+use Rattle.image_match.specs.Matches.{claims_of, Matches, MemoryImplements}
 use Rattle.plan_defs.specs.declared.plan.Homes.{Homes}
 use Rattle.plan_defs.specs.declared.plan.Plan.{Plan}
 use Rattle.plan_defs.specs.declared.switch.Sending.{Sending}
@@ -60,7 +60,7 @@ pub record AreBlocksOf (nodes : NodeNet) (homes : Homes) (image : Image) (claims
   pub numbers : List ℕ
   pub lists : ArePortMemories nodes homes p numbers
   pub as_many : length blocks ≡ length numbers
-  pub each : (k m : ℕ) (block : BlockWork) (memory : NodeBlock) → slice_get blocks k ≡ Some block → slice_get numbers k ≡ Some m → slice_get nodes.blocks m ≡ Some memory → IsMemoryAs image claims p ins block memory
+  pub each : (k m : ℕ) (block : BlockWork) (memory : NodeBlock) → slice_get blocks k ≡ Some block → slice_get numbers k ≡ Some m → slice_get nodes.blocks m ≡ Some memory → MemoryImplements image claims p ins block memory
 
 -- logic ports come first, then array ports, then the host; tables and memories stand in order
 abbrev pub IsOrdered : NodeNet → Homes → Image → List (List ℕ) → ℕ → List LinkIn → Work → Type 0

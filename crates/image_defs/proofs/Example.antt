@@ -181,7 +181,7 @@ module _ (table : Table) where
     slots = omega arith;
     units = (omega arith, omega arith);
     some_ports = omega arith;
-    few_ports = omega arith;
+    most_ports = omega arith;
     ports = ports;
     host = host;
   } where

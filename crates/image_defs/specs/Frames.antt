@@ -1,5 +1,6 @@
--- The value of an image: the one that meets the equations of `Steps`. It is made turn by turn, and in a
--- turn slot by slot; whoever uses it cites the equations, which are a law, and never how it is made.
+-- The value of an image. It meets the equations of `Steps`, which leave no choice where an item stands. It
+-- is made turn by turn, and in a turn slot by slot; whoever uses it cites the equations, which are a law,
+-- and never how it is made.
 use Rattle.std.specs.Prelude.{ℕ, zero, suc, ◌*◌, ◌==◌, if◌then◌else◌, List, [], length, Option, Some, None, slice_get, unwrap_or}
 use Rattle.std.specs.List.{position_or_len}
 use Rattle.std.specs.Option.{option_map}
@@ -56,7 +57,7 @@ image_value image stimulus turn p slot = (frame image stimulus turn).value p slo
 
 -- ---- what is shown
 
--- the value of printed source j, by the values of a turn
+-- the value of printed source j, by the values of a turn; all of them are of this turn, in a well-formed image
 abbrev pub printed_value : Image → Grid → ℕ → V4
 printed_value image values j =
     value_of_member (λ port. value_of_member (source_value (host_of image) port.ins values values) (slice_get (printed_of port.work) j)) (slice_get image.ports (host_of image))

@@ -13,11 +13,11 @@ use Rattle.image_defs.specs.declared.image.LinkOut.{LinkOut}
 use Rattle.image_defs.specs.declared.image.PortImage.{PortImage}
 use Rattle.image_defs.specs.declared.image.Image.{Image}
 
--- it holds of each member of a list
+-- it holds of each member of a list, by its place and value
 abbrev pub Each : {X : Type 0} → (X → Type 0) → List X → Type 0
 Each {X} P xs = (i : ℕ) (x : X) → slice_get xs i ≡ Some x → P x
 
--- it stands in the list
+-- it stands at some place of the list
 abbrev pub Stands : {X : Type 0} → List X → X → Type 0
 Stands xs x = (i : ℕ) × (slice_get xs i ≡ Some x)
 
@@ -63,7 +63,7 @@ pub record IsBlockOf (image : Image) (p b : ℕ) (port : PortImage) (block : Blo
   pub port_is : IsPort image p port
   pub block_is : slice_get (blocks_of port.work) b ≡ Some block
 
--- the port from which what comes in a slot is received
+-- the sender of what a port receives in a slot, and 0 where it receives nothing
 unfoldable pub sender_in : List LinkIn → ℕ → ℕ
 sender_in ins slot = unwrap_or (option_map (λ link. link.sender) (find (λ link. link.slot == slot) ins)) 0
 

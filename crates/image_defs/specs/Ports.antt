@@ -8,7 +8,7 @@ use Rattle.image_defs.specs.declared.image.LinkIn.{LinkIn}
 use Rattle.image_defs.specs.declared.image.PortImage.{PortImage}
 use Rattle.image_defs.specs.declared.image.Image.{Image}
 use Rattle.image_defs.specs.Places.{IsPort, IsItemIn, item_slots}
-use Rattle.image_defs.specs.Steps.{times_of}
+use Rattle.image_defs.specs.Steps.{timing_of}
 use Rattle.image_defs.specs.Frames.{image_value}
 
 -- a port in its turn, counted from 1: whether the turn has begun, how many of the port's items it has
@@ -41,7 +41,7 @@ after_end view = record view { turn = view.turn + 1; begun = false; executed = 0
 
 -- the number of turns that the port runs
 abbrev pub last_turn : PortView → ℕ
-last_turn view = turn_count (times_of view.image) view.stimulus
+last_turn view = turn_count (timing_of view.image) view.stimulus
 
 -- the value of the port's item in a slot at its turn
 abbrev pub value_in : PortView → ℕ → V4
@@ -59,7 +59,7 @@ pub record CanExecute (view : PortView) (slot : ℕ) : Type 0 where
   pub port : PortImage
   pub is : IsPort view.image view.port port
   pub next : IsItemIn port.work view.executed slot
-  pub heard : (i : ℕ) (link : LinkIn) → slice_get port.ins i ≡ Some link → link.slot < slot → i < view.received
+  pub received_before : (i : ℕ) (link : LinkIn) → slice_get port.ins i ≡ Some link → link.slot < slot → i < view.received
 
 -- it may receive this value in this slot: that is the next one that it receives, and the value is what
 -- its sender has there at this turn

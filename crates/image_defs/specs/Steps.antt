@@ -27,8 +27,8 @@ use Rattle.image_defs.specs.declared.image.Image.{Image}
 use Rattle.image_defs.specs.Places.{sender_in, IsPort, IsItemIn, IsBlockOf}
 
 -- the turns of a cycle and the initial value of an image, as a timing; its mode is of no account
-abbrev pub times_of : Image → Timing
-times_of image = record { mode = mode.Unit; units = image.units; init = image.init }
+abbrev pub timing_of : Image → Timing
+timing_of image = record { mode = mode.Unit; units = image.units; init = image.init }
 
 -- a value for each port and slot
 abbrev pub Grid : Type 0
@@ -48,7 +48,7 @@ source_value p ins old new (Own slot last) = (if last then old else new) p slot
 source_value p ins old new (Got slot last) = (if last then old else new) (sender_in ins slot) slot
 source_value p ins old new (Const v) = v
 
--- the value of a source of the last turn
+-- the value of a source of the last turn; those of registers and memories are, in a well-formed image
 abbrev pub past_value : ℕ → List LinkIn → Grid → Source → V4
 past_value p ins old source = source_value p ins old old source
 
@@ -77,14 +77,14 @@ abbrev pub task_value : Image → ℕ → ℕ → List LinkIn → Frame → Grid
 task_value image turn p ins old new tables (Eval slot table a b c d) =
     looked_up (slice_get tables table) (source_value p ins old.value new a) (source_value p ins old.value new b) (source_value p ins old.value new c) (source_value p ins old.value new d)
 task_value image turn p ins old new tables (Hold slot from) =
-    registered (times_of image) turn (settled (past_value p ins old.value from)) (old.value p slot)
+    registered (timing_of image) turn (settled (past_value p ins old.value from)) (old.value p slot)
 
 abbrev pub bit_value : Image → ℕ → ℕ → List LinkIn → Frame → List BlockWork → OutBit → V4
 bit_value image turn p ins old blocks out =
-    registered (times_of image) turn (block_bit p ins old blocks out.block out.bit) (old.value p out.slot)
+    registered (timing_of image) turn (block_bit p ins old blocks out.block out.bit) (old.value p out.slot)
 
 abbrev pub column_value : Image → Stimulus → ℕ → InColumn → V4
-column_value image stimulus turn input = input_at (times_of image) stimulus turn input.column
+column_value image stimulus turn input = input_at (timing_of image) stimulus turn input.column
 
 -- the value of item number i of port p, which does this work, at this turn
 abbrev pub item_value : Image → Stimulus → ℕ → Frame → Grid → ℕ → List LinkIn → Work → ℕ → V4

@@ -30,7 +30,7 @@ IsBefore slot (Own s last) = last ≡ false → s < slot
 IsBefore slot (Got s last) = last ≡ false → s < slot
 IsBefore slot (Const v) = Unit {0}
 
--- it takes the last turn, or this one, as is said; or it is a constant
+-- its flag `last` is this one; a constant has none
 abbrev pub IsOfLast : Bool → Source → Type 0
 IsOfLast said (Own s last) = last ≡ said
 IsOfLast said (Got s last) = last ≡ said
@@ -135,7 +135,7 @@ pub record IsWellFormed (image : Image) : Type 0 where
   pub slots : image.slots ≤ MAX_SLOTS
   pub units : (1 ≤ image.units) × (image.units ≤ MAX_UNITS)
   pub some_ports : 1 ≤ length image.ports
-  pub few_ports : length image.ports ≤ MAX_PORTS
+  pub most_ports : length image.ports ≤ MAX_PORTS
   pub ports : (p : ℕ) (port : PortImage) → IsPort image p port → IsPortImage image p port
   -- the last port is the host, and no other is
   pub host : (p : ℕ) (port : PortImage) → IsPort image p port → IsHost port.work ↔ (p + 1 ≡ length image.ports)

@@ -35,8 +35,8 @@ pub enum Task {
     },
 }
 
-/// A memory of an array processor by what it reads at an edge, of the last turn, bit 0 first: the
-/// write enable, 1 to 16 address bits and 1 to 64 data bits.
+/// A memory of an array processor, by its sources, bit 0 first: the write enable, 1 to 16 address bits
+/// and 1 to 64 data bits. It reads them at an edge, as they were in the last turn.
 #[derive(Drop)]
 pub struct BlockWork {
     pub we: Source,

@@ -18,7 +18,7 @@ use Rattle.image_defs.specs.declared.image.Source.TheVariants.{Own, Got}
 use Rattle.image_defs.specs.declared.image.PortImage.{PortImage}
 use Rattle.image_defs.specs.Places.{IsPort, item_slots, printed_of, sender_in}
 use Rattle.image_defs.proofs.Example.{image, logic_port, array_port, host_port, looks, holds, feeds, memory, out_bit}
-use Rattle.image_match.specs.Matches.{IsClaim, ClaimsIn, Carries, CarryAll, IsMemoryAs, IsAsClaimed, IsPrintedAs, Matches, claims_of}
+use Rattle.image_match.specs.Matches.{IsClaim, ClaimsIn, Carries, CarryAll, MemoryImplements, ImplementsClaim, PrintsItems, Matches, claims_of}
 
 abbrev timing : Timing
 timing = record { mode = mode.Rank; units = 1; init = init.Zero }
@@ -74,25 +74,25 @@ module _ (table : Table) where
         subst (λ s. Carries (image table) claims 1 array_port.ins s (From x Last)) from (subst (λ y. Carries (image table) claims 1 array_port.ins (Got 0 true) (From y Last)) at carries_past)
     each (suc k) x source here there = cc
 
-  memory_as : IsMemoryAs (image table) claims 1 array_port.ins memory block
+  memory_as : MemoryImplements (image table) claims 1 array_port.ins memory block
   memory_as = record { we = carries_past; address = carry_past; word = carry_past }
 
   -- each item is as the one that it claims
-  node_as : IsAsClaimed (image table) claims nodes 0 0 2 (logic_port table)
+  node_as : ImplementsClaim (image table) claims nodes 0 0 2 (logic_port table)
   unfolding sender_in
   node_as = record { item = node; is = refl; same = (looks, refl, (table, table, refl, refl, (λ e low. refl), (claims_input, refl), refl, refl, refl)) }
 
-  latch_as : IsAsClaimed (image table) claims nodes 0 1 3 (logic_port table)
+  latch_as : ImplementsClaim (image table) claims nodes 0 1 3 (logic_port table)
   latch_as = record { item = Latch 2; is = refl; same = (holds, refl, (claims_node, refl)) }
 
-  bit_as : IsAsClaimed (image table) claims nodes 1 0 1 array_port
+  bit_as : ImplementsClaim (image table) claims nodes 1 0 1 array_port
   bit_as = record { item = BlockBit 0 0; is = refl; same = (out_bit, refl, (refl, memory, block, refl, refl, memory_as)) }
 
-  input_as : IsAsClaimed (image table) claims nodes 2 0 0 host_port
+  input_as : ImplementsClaim (image table) claims nodes 2 0 0 host_port
   input_as = record { item = Input 0; is = refl; same = (feeds, refl, refl) }
 
   -- the host prints the printed items
-  prints : IsPrintedAs (image table) claims nodes.printed host_port
+  prints : PrintsItems (image table) claims nodes.printed host_port
   unfolding sender_in
   prints = record { as_many = refl; each = each } where
     from : (source other : Source) (x y : ℕ) → Some source ≡ Some other → Some x ≡ Some y → Carries (image table) claims 2 host_port.ins source (From x This)
@@ -117,7 +117,7 @@ module _ (table : Table) where
     ports = refl;
     as_many = as_many;
     items = each;
-    printed = λ host is. subst (IsPrintedAs (image table) claims nodes.printed) (port_is host_port host is) prints;
+    printed = λ host is. subst (PrintsItems (image table) claims nodes.printed) (port_is host_port host is) prints;
   } where
     port_is : (one other : PortImage) → Some one ≡ Some other → one ≡ other
     port_is one other e = cc
@@ -128,12 +128,12 @@ module _ (table : Table) where
     as_many (suc (suc zero)) port is = subst (λ q. 1 ≡ length (item_slots q.work)) (port_is host_port port is) refl
     as_many (suc (suc (suc p))) port is = cc
 
-    claimed : (p i x y : ℕ) (one other : PortImage) → Some one ≡ Some other → Some x ≡ Some y → IsAsClaimed (image table) claims nodes p i x one → IsAsClaimed (image table) claims nodes p i y other
+    claimed : (p i x y : ℕ) (one other : PortImage) → Some one ≡ Some other → Some x ≡ Some y → ImplementsClaim (image table) claims nodes p i x one → ImplementsClaim (image table) claims nodes p i y other
     claimed p i x y one other is claim as_item =
         let at : x ≡ y = cc in
-        subst (IsAsClaimed (image table) claims nodes p i y) (port_is one other is) (subst (λ z. IsAsClaimed (image table) claims nodes p i z one) at as_item)
+        subst (ImplementsClaim (image table) claims nodes p i y) (port_is one other is) (subst (λ z. ImplementsClaim (image table) claims nodes p i z one) at as_item)
 
-    each : (p i x : ℕ) (port : PortImage) → IsPort (image table) p port → IsClaim claims p i x → IsAsClaimed (image table) claims nodes p i x port
+    each : (p i x : ℕ) (port : PortImage) → IsPort (image table) p port → IsClaim claims p i x → ImplementsClaim (image table) claims nodes p i x port
     each zero zero x port is claim = claimed 0 0 2 x (logic_port table) port is claim node_as
     each zero (suc zero) x port is claim = claimed 0 1 3 x (logic_port table) port is claim latch_as
     each zero (suc (suc i)) x port is claim = cc

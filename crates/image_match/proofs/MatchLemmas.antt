@@ -40,10 +40,10 @@ use Rattle.image_defs.specs.declared.image.PortImage.{PortImage}
 use Rattle.image_defs.specs.declared.image.Image.{Image}
 use Rattle.image_defs.specs.Places.{IsPort, IsItemIn, IsBlockOf, task_slot, blocks_of, printed_of, sender_in, host_of}
 use Rattle.image_defs.specs.WellFormed.{IsWellFormed, IsWork, IsTask, IsBefore}
-use Rattle.image_defs.specs.Steps.{Frame, Grid, times_of, source_value, past_value, value_of_member, block_act, task_value, bit_value, column_value, item_value, IsImageStep}
+use Rattle.image_defs.specs.Steps.{Frame, Grid, timing_of, source_value, past_value, value_of_member, block_act, task_value, bit_value, column_value, item_value, IsImageStep}
 use Rattle.image_defs.specs.Frames.{frame, shown}
 use Rattle.image_defs.proofs.ValueLemmas.{value_meets}
-use Rattle.image_match.specs.Matches.{ClaimsIn, Carries, CarryAll, IsMemoryAs, IsTaskAs, IsBitAs, IsInputAs, IsAs, IsAsClaimed, IsPrintedAs, Matches}
+use Rattle.image_match.specs.Matches.{ClaimsIn, Carries, CarryAll, MemoryImplements, TaskImplements, BitImplements, InputImplements, Implements, ImplementsClaim, PrintsItems, Matches}
 use Rattle.image_match.specs.Shows.{ShowsItems}
 
 -- ---- lists and tables
@@ -87,7 +87,7 @@ module _ (image : Image) (claims : List (List ℕ)) where
   abbrev SameWords : NodeNet → Frame → State → Type 0
   SameWords nodes values state =
       (p b m : ℕ) (port : PortImage) (block : BlockWork) (memory : NodeBlock) → IsBlockOf image p b port block → slice_get nodes.blocks m ≡ Some memory
-      → IsMemoryAs image claims p port.ins block memory → values.words p b ≡ words_of state m
+      → MemoryImplements image claims p port.ins block memory → values.words p b ≡ words_of state m
 
   -- ---- sources
 
@@ -104,7 +104,7 @@ module _ (image : Image) (claims : List (List ℕ)) where
     all_taken sources taken carry =
         maps_same (past_value p ins old) (value_at before.row) sources taken carry.as_many (λ k source x here there. past_taken source x Last (carry.each k x source here there))
 
-    act_same : (block : BlockWork) (memory : NodeBlock) (words : List (List V4)) → IsMemoryAs image claims p ins block memory → block_act p ins old block words ≡ items.block_act before memory words
+    act_same : (block : BlockWork) (memory : NodeBlock) (words : List (List V4)) → MemoryImplements image claims p ins block memory → block_act p ins old block words ≡ items.block_act before memory words
     act_same block memory words is =
         rw (past_taken block.we memory.we Last is.we, all_taken block.address memory.address is.address, all_taken block.word memory.word is.word) refl
 
@@ -125,7 +125,7 @@ module _ (image : Image) (claims : List (List ℕ)) where
     taken n new after (Const v) (Fixed w) below early carries = carries
 
   module _ (nodes : NodeNet) (timing : Timing) (stimulus : Stimulus) (units : image.units ≡ timing.units) (init : image.init ≡ timing.init) where
-    registered_same : (turn : ℕ) (u v k w : V4) → u ≡ v → k ≡ w → registered (times_of image) turn u k ≡ registered timing turn v w
+    registered_same : (turn : ℕ) (u v k w : V4) → u ≡ v → k ≡ w → registered (timing_of image) turn u k ≡ registered timing turn v w
     registered_same turn u v k w value kept = rw (units, init, value, kept) refl
 
     acted_same : (turn : ℕ) (acted others words kept : List (List V4)) → acted ≡ others → words ≡ kept
@@ -136,7 +136,7 @@ module _ (image : Image) (claims : List (List ℕ)) where
 
     module _ (turn : ℕ) (old : Frame) (before : State) (same : Same old.value before) (same_words : SameWords nodes old before) (new : Grid) (after : State) where
       task_same : (p x : ℕ) (port : PortImage) (tables : List Table) (task : Task) (item : Item) → SameBelow (task_slot task) new after → old.value p (task_slot task) ≡ value_at before.row x
-          → IsTask port (length tables) task → IsTaskAs image claims nodes p port.ins tables task item
+          → IsTask port (length tables) task → TaskImplements image claims nodes p port.ins tables task item
           → task_value image turn p port.ins old new tables task ≡ items.item_value nodes timing stimulus turn before after x item
       task_same p x port tables (Eval s table a b c d) (Node t feeds) below kept right (one, other, one_at, other_at, alike, on_a, on_b, on_c, on_d) =
           rw (
@@ -158,7 +158,7 @@ module _ (image : Image) (claims : List (List ℕ)) where
       task_same p x port tables (Hold s from) (Node t feeds) below kept right is = absurd is
 
       bit_same : (p x : ℕ) (port : PortImage) (out : OutBit) (item : Item) → IsPort image p port → old.value p out.slot ≡ value_at before.row x
-          → IsBitAs image claims nodes p port.ins (blocks_of port.work) out item
+          → BitImplements image claims nodes p port.ins (blocks_of port.work) out item
           → bit_value image turn p port.ins old (blocks_of port.work) out ≡ items.item_value nodes timing stimulus turn before after x item
       bit_same p x port out (BlockBit m bit) is kept (bit_is, block, memory, block_at, memory_at, as_memory) =
           registered_same turn _ _ _ _
@@ -169,7 +169,7 @@ module _ (image : Image) (claims : List (List ℕ)) where
       bit_same p x port out (Node t feeds) is kept as_item = absurd as_item
       bit_same p x port out (Latch op) is kept as_item = absurd as_item
 
-      column_same : (x : ℕ) (input : InColumn) (item : Item) → IsInputAs input item → column_value image stimulus turn input ≡ items.item_value nodes timing stimulus turn before after x item
+      column_same : (x : ℕ) (input : InColumn) (item : Item) → InputImplements input item → column_value image stimulus turn input ≡ items.item_value nodes timing stimulus turn before after x item
       column_same x input (Input column) is = rw (units, is) refl
       column_same x input (BlockBit m bit) is = absurd is
       column_same x input (Node t feeds) is = absurd is
@@ -177,7 +177,7 @@ module _ (image : Image) (claims : List (List ℕ)) where
 
       -- an item of a port has the value of the item that it is as
       work_same : (p i slot x : ℕ) (port : PortImage) (work : Work) (item : Item) → IsPort image p port → port.work ≡ work → IsWork image.columns port work → IsItemIn work i slot
-          → SameBelow slot new after → old.value p slot ≡ value_at before.row x → IsAs image claims nodes p port.ins work i item
+          → SameBelow slot new after → old.value p slot ≡ value_at before.row x → Implements image claims nodes p port.ins work i item
           → item_value image stimulus turn old new p port.ins work i ≡ items.item_value nodes timing stimulus turn before after x item
       work_same p i slot x port (Logic tables tasks) item is does right stands below kept (task, at, as_item) =
           let slot_is : task_slot task ≡ slot = made_of task_slot tasks i task slot at stands in
@@ -188,7 +188,7 @@ module _ (image : Image) (claims : List (List ℕ)) where
           let blocks_are : blocks ≡ blocks_of port.work = ap blocks_of (sym does) in
           ap (value_of_member (bit_value image turn p port.ins old blocks)) at
           ∙ ap (λ bs. bit_value image turn p port.ins old bs out) blocks_are
-          ∙ bit_same p x port out item is (ap (old.value p) slot_is ∙ kept) (subst (λ bs. IsBitAs image claims nodes p port.ins bs out item) blocks_are as_item)
+          ∙ bit_same p x port out item is (ap (old.value p) slot_is ∙ kept) (subst (λ bs. BitImplements image claims nodes p port.ins bs out item) blocks_are as_item)
       work_same p i slot x port (Host inputs printed) item is does right stands below kept (input, at, as_item) =
           ap (value_of_member (column_value image stimulus turn)) at ∙ column_same x input item as_item
 
@@ -198,7 +198,7 @@ module _ (image : Image) (claims : List (List ℕ)) where
       module _ (turn : ℕ) (old new : Frame) (before after : State) (same : Same old.value before) (same_words : SameWords nodes old before) (step : IsImageStep image stimulus turn old new) (item_step : IsItemStep nodes timing stimulus turn before after) where
         place_same : (p slot x : ℕ) → SameBelow slot new.value after → ClaimsIn image claims p slot x → new.value p slot ≡ value_at after.row x
         place_same p slot x below claim =
-            let claimed : IsAsClaimed image claims nodes p claim.i x claim.port = matches.items p claim.i x claim.port claim.is claim.claimed in
+            let claimed : ImplementsClaim image claims nodes p claim.i x claim.port = matches.items p claim.i x claim.port claim.is claim.claimed in
             step.values p claim.i slot claim.port claim.is claim.stands
             ∙ work_same turn old before same same_words new.value after p claim.i slot x claim.port claim.port.work claimed.item claim.is refl (fits.ports p claim.port claim.is).work claim.stands below (same p slot x claim) claimed.same
             ∙ sym (item_step.values x claimed.item claimed.is)
@@ -260,7 +260,7 @@ module _ (image : Image) (claims : List (List ℕ)) where
         shown_same : (c j x : ℕ) (state : State) → slice_get values (c * image.units) ≡ Some state → slice_get nodes.printed j ≡ Some x → shown image stimulus c j ≡ value_at state.row x
         shown_same c j x state at printed_at =
             let host : (port : PortImage) × IsPort image (host_of image) port = member_at image.ports (host_of image) (omega (arith, fits.some_ports)) in
-            let prints : IsPrintedAs image claims nodes.printed host.0 = matches.printed host.0 host.1 in
+            let prints : PrintsItems image claims nodes.printed host.0 = matches.printed host.0 host.1 in
             let source : (s : Source) × (slice_get (printed_of host.0.work) j ≡ Some s) = member_at (printed_of host.0.work) j (omega (arith, prints.as_many, slice_get_within nodes.printed j x printed_at)) in
             let values_at : Grid = (frame image stimulus (c * image.units)).value in
             ap (λ o. value_of_member (λ port. value_of_member (source_value (host_of image) port.ins values_at values_at) (slice_get (printed_of port.work) j)) o) host.1

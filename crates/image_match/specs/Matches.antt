@@ -49,8 +49,8 @@ is_last Last = true
 
 -- ---- sources
 
--- a source of port p, which receives by these links, carries an operand: what claims the operand's item,
--- of the same turn, or the same constant
+-- a source of port p, which receives by these links, carries an operand: the place that it names claims the
+-- operand's item, and `last` fits the tag; or both are the same constant
 abbrev pub Carries : Image → List (List ℕ) → ℕ → List LinkIn → Source → Feed → Type 0
 Carries image claims p ins (Own slot last) (From x tag) = ClaimsIn image claims p slot x × (last ≡ is_last tag)
 Carries image claims p ins (Got slot last) (From x tag) = ClaimsIn image claims (sender_in ins slot) slot x × (last ≡ is_last tag)
@@ -65,50 +65,51 @@ pub record CarryAll (image : Image) (claims : List (List ℕ)) (p : ℕ) (ins : 
 -- ---- what stands in a slot
 
 -- the memory of a port has the operands of a memory of the items
-pub record IsMemoryAs (image : Image) (claims : List (List ℕ)) (p : ℕ) (ins : List LinkIn) (block : BlockWork) (memory : NodeBlock) : Type 0 where
+pub record MemoryImplements (image : Image) (claims : List (List ℕ)) (p : ℕ) (ins : List LinkIn) (block : BlockWork) (memory : NodeBlock) : Type 0 where
   pub we : Carries image claims p ins block.we (From memory.we Last)
   pub address : CarryAll image claims p ins block.address memory.address
   pub word : CarryAll image claims p ins block.word memory.word
 
--- the task looks its operands up in a table with the entries of the item's table; or it holds the register
-abbrev pub IsTaskAs : Image → List (List ℕ) → NodeNet → ℕ → List LinkIn → List Table → Task → Item → Type 0
-IsTaskAs image claims nodes p ins tables (Eval slot table a b c d) (item.Node t feeds) =
+-- the task evaluates the node, by a table with the same entries, from sources that carry its operands; or it
+-- holds the register, from a source that carries its operand
+abbrev pub TaskImplements : Image → List (List ℕ) → NodeNet → ℕ → List LinkIn → List Table → Task → Item → Type 0
+TaskImplements image claims nodes p ins tables (Eval slot table a b c d) (item.Node t feeds) =
     (one : Table) × (other : Table) × (slice_get tables table ≡ Some one) × (slice_get nodes.tables t ≡ Some other) × AreAlike one other
     × Carries image claims p ins a feeds.a × Carries image claims p ins b feeds.b × Carries image claims p ins c feeds.c × Carries image claims p ins d feeds.d
-IsTaskAs image claims nodes p ins tables (Hold slot from) (item.Latch op) = Carries image claims p ins from (From op Last)
-IsTaskAs image claims nodes p ins tables task other = ⊥
+TaskImplements image claims nodes p ins tables (Hold slot from) (item.Latch op) = Carries image claims p ins from (From op Last)
+TaskImplements image claims nodes p ins tables task other = ⊥
 
 -- the output bit is the same bit of a memory with the operands of the item's memory
-abbrev pub IsBitAs : Image → List (List ℕ) → NodeNet → ℕ → List LinkIn → List BlockWork → OutBit → Item → Type 0
-IsBitAs image claims nodes p ins blocks out (item.BlockBit m bit) =
+abbrev pub BitImplements : Image → List (List ℕ) → NodeNet → ℕ → List LinkIn → List BlockWork → OutBit → Item → Type 0
+BitImplements image claims nodes p ins blocks out (item.BlockBit m bit) =
     (out.bit ≡ bit) × (block : BlockWork) × (memory : NodeBlock) × (slice_get blocks out.block ≡ Some block) × (slice_get nodes.blocks m ≡ Some memory)
-    × IsMemoryAs image claims p ins block memory
-IsBitAs image claims nodes p ins blocks out other = ⊥
+    × MemoryImplements image claims p ins block memory
+BitImplements image claims nodes p ins blocks out other = ⊥
 
 -- the input is that of the same column
-abbrev pub IsInputAs : InColumn → Item → Type 0
-IsInputAs input (item.Input column) = input.column ≡ column
-IsInputAs input other = ⊥
+abbrev pub InputImplements : InColumn → Item → Type 0
+InputImplements input (item.Input column) = input.column ≡ column
+InputImplements input other = ⊥
 
 -- item number i of port p, which does this work, is as the item
-abbrev pub IsAs : Image → List (List ℕ) → NodeNet → ℕ → List LinkIn → Work → ℕ → Item → Type 0
-IsAs image claims nodes p ins (Logic tables tasks) i other =
-    (task : Task) × (slice_get tasks i ≡ Some task) × IsTaskAs image claims nodes p ins tables task other
-IsAs image claims nodes p ins (Array blocks outs) i other =
-    (out : OutBit) × (slice_get outs i ≡ Some out) × IsBitAs image claims nodes p ins blocks out other
-IsAs image claims nodes p ins (Host inputs printed) i other =
-    (input : InColumn) × (slice_get inputs i ≡ Some input) × IsInputAs input other
+abbrev pub Implements : Image → List (List ℕ) → NodeNet → ℕ → List LinkIn → Work → ℕ → Item → Type 0
+Implements image claims nodes p ins (Logic tables tasks) i other =
+    (task : Task) × (slice_get tasks i ≡ Some task) × TaskImplements image claims nodes p ins tables task other
+Implements image claims nodes p ins (Array blocks outs) i other =
+    (out : OutBit) × (slice_get outs i ≡ Some out) × BitImplements image claims nodes p ins blocks out other
+Implements image claims nodes p ins (Host inputs printed) i other =
+    (input : InColumn) × (slice_get inputs i ≡ Some input) × InputImplements input other
 
 -- ---- the whole image
 
 -- item number i of port p is as the item x that it claims
-pub record IsAsClaimed (image : Image) (claims : List (List ℕ)) (nodes : NodeNet) (p i x : ℕ) (port : PortImage) : Type 0 where
+pub record ImplementsClaim (image : Image) (claims : List (List ℕ)) (nodes : NodeNet) (p i x : ℕ) (port : PortImage) : Type 0 where
   pub item : Item
   pub is : slice_get nodes.items x ≡ Some item
-  pub same : IsAs image claims nodes p port.ins port.work i item
+  pub same : Implements image claims nodes p port.ins port.work i item
 
 -- the host prints these items of this turn, one for one
-pub record IsPrintedAs (image : Image) (claims : List (List ℕ)) (printed : List ℕ) (host : PortImage) : Type 0 where
+pub record PrintsItems (image : Image) (claims : List (List ℕ)) (printed : List ℕ) (host : PortImage) : Type 0 where
   pub as_many : length (printed_of host.work) ≡ length printed
   pub each : (j x : ℕ) (source : Source) → slice_get (printed_of host.work) j ≡ Some source → slice_get printed j ≡ Some x → Carries image claims (host_of image) host.ins source (From x This)
 
@@ -120,5 +121,5 @@ pub record Matches (image : Image) (claims : List (List ℕ)) (nodes : NodeNet) 
   -- there is a claim for each item of each port, and each is as it claims
   pub ports : length claims ≡ length image.ports
   pub as_many : (p : ℕ) (port : PortImage) → IsPort image p port → length (claims_of claims p) ≡ length (item_slots port.work)
-  pub items : (p i x : ℕ) (port : PortImage) → IsPort image p port → IsClaim claims p i x → IsAsClaimed image claims nodes p i x port
-  pub printed : (host : PortImage) → IsPort image (host_of image) host → IsPrintedAs image claims nodes.printed host
+  pub items : (p i x : ℕ) (port : PortImage) → IsPort image p port → IsClaim claims p i x → ImplementsClaim image claims nodes p i x port
+  pub printed : (host : PortImage) → IsPort image (host_of image) host → PrintsItems image claims nodes.printed host

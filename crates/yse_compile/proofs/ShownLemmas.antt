@@ -7,7 +7,7 @@ use Rattle.logic_four.specs.Values.{value_at}
 use Rattle.net_defs.specs.declared.netlist.Netlist.{Netlist}
 use Rattle.net_defs.specs.declared.timing.Timing.{Timing}
 use Rattle.net_defs.specs.declared.stimulus.Stimulus.{Stimulus}
-use Rattle.net_defs.specs.Time.{cycle_count, turn_count}
+use Rattle.net_defs.specs.Time.{cycle_count}
 use Rattle.net_defs.specs.Steps.{State}
 use Rattle.net_defs.specs.Trace.{cells_of}
 use Rattle.node_defs.specs.declared.items.NodeNet.{NodeNet}
