@@ -8,6 +8,6 @@ ghost use Rattle.plan_defs.specs.Switches.{IsSwitch};
 
 /// A law: there is one switch for items at their homes in their slots. It does nothing.
 pub fn one_switch()
-    ensures { (nodes : NodeNet) (homes : Homes) (slots : List ℕ) (one other : Switch) → IsSwitch nodes homes slots one
-        → IsSwitch nodes homes slots other → one ≡ other }
+    ensures { (nodes : NodeNet) (homes : Homes) (slots : List ℕ) (one other : Switch)
+        → IsSwitch nodes homes slots one → IsSwitch nodes homes slots other → one ≡ other }
 {}
