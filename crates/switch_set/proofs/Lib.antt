@@ -1,4 +1,5 @@
 pub mod LinkLemmas
 pub mod ListLemmas
 pub mod OrderLemmas
+pub mod SameLemmas
 pub mod SwitchLemmas

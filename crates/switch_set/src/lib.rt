@@ -2,6 +2,7 @@
 //! reaches the ports that read it, and no port sends or receives twice in a slot.
 #![tactic(auto)]
 
+pub mod law;
 mod links;
 pub mod order;
 pub mod route;

@@ -2,7 +2,8 @@
 
 ghost use Rattle.std.specs.Prelude.{◌≡◌, ℕ, ◌<◌, IfOk, OnOk, Contains, length, slice_set};
 ghost use Rattle.std.specs.List.Sorted.{IsStrictlyIncreasing};
-ghost use Rattle.switch_set.specs.Links.{links_at, with_sending, with_receipt, AreUnlinked, Receives, Links};
+ghost use Rattle.switch_set.specs.Links.{links_at, with_sending, with_receipt};
+ghost use Rattle.switch_set.specs.Links.{AreUnlinked, Receives, Links};
 
 use plan_defs::{PortLinks, Receipt, Sending};
 use seen_list::{List, Memory};
@@ -50,7 +51,8 @@ pub(crate) fn link(
 /// The port sends this too.
 fn push_sending(ports: &mut List<PortLinks>, port: usize, sending: Sending) -> Result<(), Memory>
     requires { port < length ports.old }
-    ensures { OnOk result (ports.new ≡ slice_set ports.old port (with_sending (links_at ports.old port) sending)) }
+    ensures { OnOk result (ports.new
+        ≡ slice_set ports.old port (with_sending (links_at ports.old port) sending)) }
 {
     let links = ports.as_mut_slice();
     links[port].sends.push(sending)?;
@@ -76,7 +78,8 @@ fn push_receipts(
 /// The port receives this too.
 fn push_receipt(ports: &mut List<PortLinks>, port: usize, receipt: Receipt) -> Result<(), Memory>
     requires { port < length ports.old }
-    ensures { OnOk result (ports.new ≡ slice_set ports.old port (with_receipt (links_at ports.old port) receipt)) }
+    ensures { OnOk result (ports.new
+        ≡ slice_set ports.old port (with_receipt (links_at ports.old port) receipt)) }
 {
     let links = ports.as_mut_slice();
     links[port].receipts.push(receipt)?;

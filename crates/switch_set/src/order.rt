@@ -27,7 +27,8 @@ pub fn slot_order(alloc: Global, slots: &[u32]) -> Result<Vec<Placed>, Memory>
 /// The items in item order, given the slot of each.
 fn item_order(alloc: Global, slots: &[u32]) -> Result<Vec<Placed>, Memory>
     requires { length slots.now < 2 ^ 32 }
-    ensures { IfOk result (λ order. order.items ≡ map (placed_at slots.now) (range_with_len 0 (length slots.now))) }
+    ensures { IfOk result (λ order. order.items
+        ≡ map (placed_at slots.now) (range_with_len 0 (length slots.now))) }
 {
     let mut order = Vec::with_capacity(alloc, slots.len())?;
     'items: for item in 0..slots.len() {

@@ -108,8 +108,8 @@ fn receipts_agree(port: &PortLinks, wanted: &[(u32, u32)]) -> bool {
     true
 }
 
-/// On two logic processors and an array processor the host is port 3. It has the inputs in slots 0 to
-/// 4. Of the gates `11`, `16`, `22` and `23` are read elsewhere, from slots 4 to 7.
+/// On two logic processors and an array processor the host is port 3. It has the inputs in slots 0
+/// to 4. The gates `11`, `16`, `22` and `23`, in slots 4 to 7, are read at other ports too.
 #[test]
 fn c17_on_two(rt: HostRuntime) -> Result<(), Fail> {
     let switch = switched(rt.alloc(), C17, b"logic 2\narray 1\n").ok_or("no settings")?;
