@@ -10,11 +10,15 @@ use Rattle.net_defs.specs.Loops.{IsLoop, IsOrder, OrderOrLoop}
 use Rattle.net_defs.specs.Reference.{HasOneSimulation}
 use Rattle.net_defs.specs.Time.{cycle_count}
 use Rattle.net_defs.specs.Trace.{IsTrace, trace_to}
+use Rattle.machine_text.specs.declared.machine.Machine.{Machine}
+use Rattle.yse_compile.specs.declared.compiler.CompNo.{CompNo}
+use Rattle.yse_compile.specs.Compiled.{IsRight, IsOverfull}
+use Rattle.yse_compile.specs.Designs.{DesignFits}
 use Rattle.yse_top.specs.declared.status.Status.{Status}
 use Rattle.yse_top.specs.declared.status.Status.TheVariants as status
-use Rattle.yse_top.specs.Checks.{ReadsAs, HasNoLoop, HasFewCells, cell_count}
+use Rattle.yse_top.specs.Checks.{ReadsAs, HasNoLoop, HasRoom, HasFewCells, cell_count}
 use Rattle.yse_top.specs.Law.{AreAlike}
-use Rattle.yse_top.specs.Lines.{loop_line, cells_line}
+use Rattle.yse_top.specs.Lines.{loop_line, overfull_line, cells_line}
 use Rattle.yse_top.specs.Outcome.{Outcome, refusal}
 use Rattle.yse_top.proofs.ProperLemmas.{IsCheck, IsOfText, alike}
 
@@ -62,6 +66,28 @@ loop_check net timing order_or_loop never_both = record {
     some : OrderOrLoop net timing → ((x : Unit {0}) × HasNoLoop net timing (Ok x)) ⊎ ((o : Outcome) × HasNoLoop net timing (Err o))
     some (inl (order, is)) = inl (tt, λ loop is_loop. never_both order loop is is_loop)
     some (inr (loop, is)) = inr (refusal status.Loop (loop_line net loop), (loop, is, refl))
+
+-- ---- whether a design fits
+
+-- a design fits or doesn't, for one reason
+pub record IsRoomLaw (net : Netlist) (machine : Machine) (timing : Timing) : Type 0 where
+  pub some : DesignFits net machine timing ⊎ ((why : CompNo) × IsOverfull why × IsRight net machine timing why)
+  pub never_both : (why : CompNo) → DesignFits net machine timing → IsOverfull why → IsRight net machine timing why → ⊥
+  pub one : (why other : CompNo) → IsOverfull why → IsOverfull other → IsRight net machine timing why → IsRight net machine timing other → why ≡ other
+
+pub room_check : (net : Netlist) (machine : Machine) (timing : Timing) → IsRoomLaw net machine timing → IsCheck (HasRoom net machine timing)
+room_check net machine timing law = record {
+  values = λ x y passed passed_too. refl;
+  either = λ x o passed refused. law.never_both refused.0 passed refused.1 refused.2;
+  refusals = λ o p refused refused_too.
+      alike o p (refused.3 ∙ ap (λ why. refusal status.Overfull (overfull_line net why)) (law.one refused.0 refused_too.0 refused.1 refused_too.1 refused.2 refused_too.2) ∙ sym refused_too.3);
+  some = some law.some;
+  of_text = λ o refused. subst (λ (p : Outcome). IsOfText p.status) (sym refused.3) tt;
+}
+  where
+    some : DesignFits net machine timing ⊎ ((why : CompNo) × IsOverfull why × IsRight net machine timing why) → ((x : Unit {0}) × HasRoom net machine timing (Ok x)) ⊎ ((o : Outcome) × HasRoom net machine timing (Err o))
+    some (inl fits) = inl (tt, fits)
+    some (inr (why, is, right)) = inr (refusal status.Overfull (overfull_line net why), (why, is, right, refl))
 
 -- ---- cells
 

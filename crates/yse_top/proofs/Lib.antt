@@ -3,6 +3,7 @@ mod CheckLemmas
 mod EndLemmas
 mod FormLemmas
 mod ProperLemmas
+mod ShownLemmas
 mod TextLemmas
 mod TimingLemmas
 mod TraceLemmas

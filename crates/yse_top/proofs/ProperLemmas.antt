@@ -17,7 +17,9 @@ use Rattle.yse_top.specs.Readings.{Reading}
 -- the statuses of what a text or its length refuses
 abbrev pub IsOfText : Status → Type 0
 IsOfText status.Netlist = ⊤
+IsOfText status.Machine = ⊤
 IsOfText status.Loop = ⊤
+IsOfText status.Overfull = ⊤
 IsOfText status.Stimulus = ⊤
 IsOfText status.Limit = ⊤
 IsOfText _ = ⊥
@@ -32,7 +34,9 @@ abbrev pub IsOfCommand : Status → Type 0
 IsOfCommand status.Done = ⊤
 IsOfCommand status.ReadFault = ⊤
 IsOfCommand status.Netlist = ⊤
+IsOfCommand status.Machine = ⊤
 IsOfCommand status.Loop = ⊤
+IsOfCommand status.Overfull = ⊤
 IsOfCommand status.Stimulus = ⊤
 IsOfCommand status.Limit = ⊤
 IsOfCommand status.Memory = ⊤
@@ -55,7 +59,9 @@ of_end_not s other is not same = not (subst IsOfEnd same is)
 
 text_is_command : (s : Status) → IsOfText s → IsOfCommand s
 text_is_command status.Netlist is = tt
+text_is_command status.Machine is = tt
 text_is_command status.Loop is = tt
+text_is_command status.Overfull is = tt
 text_is_command status.Stimulus is = tt
 text_is_command status.Limit is = tt
 text_is_command _ is = absurd is

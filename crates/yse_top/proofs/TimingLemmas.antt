@@ -58,7 +58,7 @@ options_valid : (words : List (List ℕ)) (timing : Timing) → AreOptions words
 options_valid words timing options = timed options.units (mode_of options.mode) (units_of options.units) (init_of options.init) timing refl options.timing_is
 
 form_valid : (words : List (List ℕ)) (request : Request) → HasForm words request → HasValidTiming request
-form_valid words (run simulation) form = options_valid form.options simulation.timing form.timing
+form_valid words (run machine simulation) form = options_valid form.options simulation.timing form.timing
 form_valid words (refer simulation) form = options_valid form.options simulation.timing form.timing
 form_valid words (show netlist) form = tt
 

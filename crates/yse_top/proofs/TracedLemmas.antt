@@ -9,12 +9,15 @@ use Rattle.net_defs.specs.declared.timing.Timing.{Timing}
 use Rattle.net_defs.specs.declared.stimulus.Stimulus.{Stimulus}
 use Rattle.net_defs.specs.Trace.{IsTrace}
 use Rattle.net_defs.specs.Valid.{input_count}
+use Rattle.bench_read.specs.Reads as bench
+use Rattle.machine_text.specs.declared.machine.Machine.{Machine}
+use Rattle.machine_text.specs.Machines.{default_machine}
 use Rattle.stim_text.specs.Stimuli as stim
 use Rattle.yse_top.specs.declared.output.Output.{Output}
 use Rattle.yse_top.specs.declared.refusal.Refusal.{Refusal}
 use Rattle.yse_top.specs.declared.status.Status.{Status}
 use Rattle.yse_top.specs.declared.status.Status.TheVariants as status
-use Rattle.yse_top.specs.Checks.{After, AfterRead, AfterFile, Ends, Writes, text_of, IsNetlistOf, HasNoLoop, IsStimulusOf, HasFewCells}
+use Rattle.yse_top.specs.Checks.{After, AfterRead, AfterFile, Ends, Writes, text_of, IsMachineOf, IsNetlistOf, HasNoLoop, HasRoom, IsStimulusOf, HasFewCells}
 use Rattle.yse_top.specs.Expected.{Expected, ExpectedOf, ExpectedAsked}
 use Rattle.yse_top.specs.Outcome.{Outcome, done, refusal}
 use Rattle.yse_top.specs.Lines.{too_long_line}
@@ -23,7 +26,7 @@ use Rattle.yse_top.specs.Readings.{Reading, AreReadings}
 use Rattle.yse_top.specs.Refusals.{Follows}
 use Rattle.yse_top.specs.Traced.{IsTraceOfFiles}
 use Rattle.yse_top.specs.Words.{Simulation, Request, run, refer, show, request_of, traced_by}
-use Rattle.yse_top.specs.commands.Run.{ExpectedRun, ExpectedTrace}
+use Rattle.yse_top.specs.commands.Run.{ExpectedRun, ExpectedOn, ExpectedRefer, ExpectedTrace}
 use Rattle.yse_top.proofs.ProperLemmas.{passes, refuses, refused_once, never_both}
 use Rattle.std.specs.Prelude.{nat_le, length, if◌then◌else◌}
 
@@ -81,36 +84,59 @@ module _ (bytes : Option (List ℕ → List ℕ)) where
               by_test true f = never_both read (done output) f
               by_test false f = not_done (refusal status.Limit (too_long_line file)) status.Limit output (sym (refused_once (refusal status.Limit (too_long_line file)) (done output) f)) refl (λ e. cc)
 
-  run_traced : (s : Simulation) (readings : List Reading) (output : List ℕ) → AreTold readings → ExpectedRun s readings (done output) → IsTraceOfFiles bytes output s
-  unfolding ExpectedRun ExpectedTrace
-  run_traced s readings output are expected =
+  -- the trace of the rest of a simulation, once its netlist is read
+  module _ (s : Simulation) (netlist_text : List ℕ) (netlist_told : OfTold bytes s.netlist (λ told. netlist_text ≡ told)) (net : Netlist) (netlist_reads : bench.Reads netlist_text net) where
+    rest_traced : (readings : List Reading) (output : List ℕ) → AreTold readings → ExpectedTrace s.stimulus net s.timing readings (done output) → IsTraceOfFiles bytes output s
+    unfolding ExpectedTrace
+    rest_traced readings output are expected =
+        let second = gave s.stimulus (λ text. After (IsStimulusOf text net) (λ stimulus. After (HasFewCells net stimulus) (λ few. Ends (Writes (IsTrace net s.timing stimulus))))) readings output are expected in
+        let stimulus = passed (IsStimulusOf second.text net) (λ stimulus. After (HasFewCells net stimulus) (λ few. Ends (Writes (IsTrace net s.timing stimulus)))) second.others output (λ e. not_done _ status.Stimulus output e.2 refl (λ e. cc)) second.next in
+        let cells = passed (HasFewCells net stimulus.0) (λ few. Ends (Writes (IsTrace net s.timing stimulus.0))) second.others output (λ e. not_done _ status.Limit output e.1 refl (λ e. cc)) stimulus.2 in
+        record {
+          netlist_text = netlist_text;
+          netlist_told = netlist_told;
+          net = net;
+          netlist_reads = netlist_reads;
+          stimulus_text = second.text;
+          stimulus_told = second.told;
+          stimulus = stimulus.0;
+          stimulus_reads = stimulus.1;
+          trace = ended stimulus.0 second.others cells.2;
+        }
+      where
+        ended : (stimulus : Stimulus) (others : List Reading) → Ends (Writes (IsTrace net s.timing stimulus)) others (done output) → IsTrace net s.timing stimulus output
+        ended stimulus others (none, inl (text, is, same)) = subst (IsTrace net s.timing stimulus) (sym (ap (λ (o : Outcome). o.output) same)) is
+        ended stimulus others (none, inr memory) = absurd (not_done _ status.Memory output memory refl (λ e. cc))
+
+  refer_traced : (s : Simulation) (readings : List Reading) (output : List ℕ) → AreTold readings → ExpectedRefer s readings (done output) → IsTraceOfFiles bytes output s
+  unfolding ExpectedRefer
+  refer_traced s readings output are expected =
       let first = gave s.netlist (λ text. After (IsNetlistOf text) (λ net. After (HasNoLoop net s.timing) (λ passed. ExpectedTrace s.stimulus net s.timing))) readings output are expected in
       let netlist = passed (IsNetlistOf first.text) (λ net. After (HasNoLoop net s.timing) (λ passed. ExpectedTrace s.stimulus net s.timing)) first.others output (λ e. not_done _ status.Netlist output e.2 refl (λ e. cc)) first.next in
-      let net = netlist.0 in
-      let order = passed (HasNoLoop net s.timing) (λ passed. ExpectedTrace s.stimulus net s.timing) first.others output (λ e. not_done _ status.Loop output e.2 refl (λ e. cc)) netlist.2 in
-      let second = gave s.stimulus (λ text. After (IsStimulusOf text net) (λ stimulus. After (HasFewCells net stimulus) (λ few. Ends (Writes (IsTrace net s.timing stimulus))))) first.others output first.are order.2 in
-      let stimulus = passed (IsStimulusOf second.text net) (λ stimulus. After (HasFewCells net stimulus) (λ few. Ends (Writes (IsTrace net s.timing stimulus)))) second.others output (λ e. not_done _ status.Stimulus output e.2 refl (λ e. cc)) second.next in
-      let cells = passed (HasFewCells net stimulus.0) (λ few. Ends (Writes (IsTrace net s.timing stimulus.0))) second.others output (λ e. not_done _ status.Limit output e.1 refl (λ e. cc)) stimulus.2 in
-      record {
-        netlist_text = first.text;
-        netlist_told = first.told;
-        net = net;
-        netlist_reads = netlist.1;
-        stimulus_text = second.text;
-        stimulus_told = second.told;
-        stimulus = stimulus.0;
-        stimulus_reads = stimulus.1;
-        trace = ended net s.timing stimulus.0 second.others cells.2;
-      }
-    where
-      ended : (net : Netlist) (timing : Timing) (stimulus : Stimulus) (others : List Reading) → Ends (Writes (IsTrace net timing stimulus)) others (done output) → IsTrace net timing stimulus output
-      ended net timing stimulus others (none, inl (text, is, same)) = subst (IsTrace net timing stimulus) (sym (ap (λ (o : Outcome). o.output) same)) is
-      ended net timing stimulus others (none, inr memory) = absurd (not_done _ status.Memory output memory refl (λ e. cc))
+      let order = passed (HasNoLoop netlist.0 s.timing) (λ passed. ExpectedTrace s.stimulus netlist.0 s.timing) first.others output (λ e. not_done _ status.Loop output e.2 refl (λ e. cc)) netlist.2 in
+      rest_traced s first.text first.told netlist.0 netlist.1 first.others output first.are order.2
+
+  on_traced : (machine : Machine) (s : Simulation) (readings : List Reading) (output : List ℕ) → AreTold readings → ExpectedOn machine s readings (done output) → IsTraceOfFiles bytes output s
+  unfolding ExpectedOn
+  on_traced machine s readings output are expected =
+      let first = gave s.netlist (λ text. After (IsNetlistOf text) (λ net. After (HasNoLoop net s.timing) (λ passed. After (HasRoom net machine s.timing) (λ fits. ExpectedTrace s.stimulus net s.timing)))) readings output are expected in
+      let netlist = passed (IsNetlistOf first.text) (λ net. After (HasNoLoop net s.timing) (λ passed. After (HasRoom net machine s.timing) (λ fits. ExpectedTrace s.stimulus net s.timing))) first.others output (λ e. not_done _ status.Netlist output e.2 refl (λ e. cc)) first.next in
+      let order = passed (HasNoLoop netlist.0 s.timing) (λ passed. After (HasRoom netlist.0 machine s.timing) (λ fits. ExpectedTrace s.stimulus netlist.0 s.timing)) first.others output (λ e. not_done _ status.Loop output e.2 refl (λ e. cc)) netlist.2 in
+      let room = passed (HasRoom netlist.0 machine s.timing) (λ fits. ExpectedTrace s.stimulus netlist.0 s.timing) first.others output (λ e. not_done _ status.Overfull output e.3 refl (λ e. cc)) order.2 in
+      rest_traced s first.text first.told netlist.0 netlist.1 first.others output first.are room.2
+
+  run_traced : (machine : Option (List ℕ)) (s : Simulation) (readings : List Reading) (output : List ℕ) → AreTold readings → ExpectedRun machine s readings (done output) → IsTraceOfFiles bytes output s
+  unfolding ExpectedRun
+  run_traced None s readings output are expected = on_traced default_machine s readings output are expected
+  run_traced (Some file) s readings output are expected =
+      let first = gave file (λ text. After (IsMachineOf text) (λ machine. ExpectedOn machine s)) readings output are expected in
+      let machine = passed (IsMachineOf first.text) (λ machine. ExpectedOn machine s) first.others output (λ e. not_done _ status.Machine output e.2 refl (λ e. cc)) first.next in
+      on_traced machine.0 s first.others output first.are machine.2
 
   asked_traced : (asked : Option Request) (readings : List Reading) (output : List ℕ) → AreTold readings → ExpectedAsked asked readings (done output) → IfSome (traced_by asked) (IsTraceOfFiles bytes output)
   asked_traced None readings output are expected = tt
-  asked_traced (Some (run s)) readings output are expected = run_traced s readings output are expected
-  asked_traced (Some (refer s)) readings output are expected = run_traced s readings output are expected
+  asked_traced (Some (run machine s)) readings output are expected = run_traced machine s readings output are expected
+  asked_traced (Some (refer s)) readings output are expected = refer_traced s readings output are expected
   asked_traced (Some (show file)) readings output are expected = tt
 
   pub traced : (names : Option (List ℕ → Bool)) (old new : FileCounts) (words : List (List ℕ)) (output : Output) → Follows names bytes old new (Ok output) (Expected words) → IfSome (traced_by (request_of words)) (IsTraceOfFiles bytes (bytes_of output))

@@ -7,13 +7,18 @@ use Rattle.net_defs.specs.declared.netlist.Netlist.{Netlist}
 use Rattle.net_defs.specs.declared.timing.Timing.{Timing}
 use Rattle.net_defs.specs.declared.stimulus.Stimulus.{Stimulus}
 use Rattle.net_defs.specs.Loops.{IsLoop}
+use Rattle.machine_text.specs.Machines as machine_text
+use Rattle.machine_text.specs.declared.machine.Machine.{Machine}
 use Rattle.net_defs.specs.Time.{cycle_count}
 use Rattle.net_defs.specs.Valid.{input_count}
 use Rattle.bench_read.specs.Faults as bench
 use Rattle.bench_read.specs.Reads as bench_reads
 use Rattle.stim_text.specs.Stimuli as stim
+use Rattle.yse_compile.specs.declared.compiler.CompNo.{CompNo}
+use Rattle.yse_compile.specs.Compiled.{IsRight, IsOverfull}
+use Rattle.yse_compile.specs.Designs.{DesignFits}
 use Rattle.yse_top.specs.declared.status.Status.TheVariants as status
-use Rattle.yse_top.specs.Lines.{read_fault_line, too_long_line, netlist_line, loop_line, stimulus_line, cells_line}
+use Rattle.yse_top.specs.Lines.{read_fault_line, too_long_line, machine_line, netlist_line, loop_line, overfull_line, stimulus_line, cells_line}
 use Rattle.yse_top.specs.Outcome.{Outcome, done, refusal, out_of_memory}
 use Rattle.yse_top.specs.Readings.{Reading}
 
@@ -60,6 +65,10 @@ abbrev pub ReadsAs : {X E : Type 0} → (X → Type 0) → Option E → (E → O
 ReadsAs {X} {E} Reads fault refused (Ok x) = Reads x
 ReadsAs {X} {E} Reads fault refused (Err outcome) = (why : E) × (fault ≡ Some why) × (outcome ≡ refused why)
 
+-- the machine of a text
+abbrev pub IsMachineOf : List ℕ → Result Machine Outcome → Type 0
+IsMachineOf text = ReadsAs (machine_text.Reads text) (machine_text.first_fault text) (λ why. refusal status.Machine (machine_line why))
+
 -- the netlist of a text
 abbrev pub IsNetlistOf : List ℕ → Result Netlist Outcome → Type 0
 IsNetlistOf text = ReadsAs (bench_reads.Reads text) (bench.first_fault text) (λ why. refusal status.Netlist (netlist_line why))
@@ -73,6 +82,17 @@ IsStimulusOf text net =
 abbrev pub HasNoLoop : Netlist → Timing → Result (Unit {0}) Outcome → Type 0
 HasNoLoop net timing (Ok passed) = (loop : List ℕ) → IsLoop net timing loop → ⊥
 HasNoLoop net timing (Err outcome) = (loop : List ℕ) × IsLoop net timing loop × (outcome ≡ refusal status.Loop (loop_line net loop))
+
+-- the design fits the machine; where it doesn't, the refusal says why
+abbrev pub HasRoom : Netlist → Machine → Timing → Result (Unit {0}) Outcome → Type 0
+HasRoom net machine timing (Ok passed) = DesignFits net machine timing
+HasRoom net machine timing (Err outcome) =
+    (why : CompNo) × IsOverfull why × IsRight net machine timing why × (outcome ≡ refusal status.Overfull (overfull_line net why))
+
+-- a loop refuses the design, or else that it does not fit
+abbrev pub RefusesDesign : Netlist → Machine → Timing → Outcome → Type 0
+RefusesDesign net machine timing outcome =
+    Refuses (HasNoLoop net timing) outcome ⊎ (HasNoLoop net timing (Ok tt) × Refuses (HasRoom net machine timing) outcome)
 
 -- a cell for each input and each printed name in each cycle
 abbrev pub cell_count : Netlist → Stimulus → ℕ

@@ -5,12 +5,12 @@ use Rattle.yse_top.specs.Lines.{usage_line}
 use Rattle.yse_top.specs.Outcome.{Outcome, refusal}
 use Rattle.yse_top.specs.Readings.{Reading}
 use Rattle.yse_top.specs.Words.{Request, run, refer, show, request_of}
-use Rattle.yse_top.specs.commands.Run.{ExpectedRun}
+use Rattle.yse_top.specs.commands.Run.{ExpectedRun, ExpectedRefer}
 use Rattle.yse_top.specs.commands.Show.{ExpectedShow}
 
 abbrev pub ExpectedOf : Request → List Reading → Outcome → Type 0
-ExpectedOf (run simulation) readings outcome = ExpectedRun simulation readings outcome
-ExpectedOf (refer simulation) readings outcome = ExpectedRun simulation readings outcome
+ExpectedOf (run machine simulation) readings outcome = ExpectedRun machine simulation readings outcome
+ExpectedOf (refer simulation) readings outcome = ExpectedRefer simulation readings outcome
 ExpectedOf (show netlist) readings outcome = ExpectedShow netlist readings outcome
 
 -- words of no form begin no file

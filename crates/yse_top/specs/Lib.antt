@@ -4,6 +4,7 @@ pub mod Ends
 pub mod Expected
 pub mod Forms
 pub mod Law
+pub mod Images
 pub mod Lines
 pub mod Outcome
 pub mod Outputs

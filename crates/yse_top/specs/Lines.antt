@@ -1,5 +1,5 @@
 -- The line that each refusal writes to the error sink.
-use Rattle.std.specs.Prelude.{ℕ, List, [], ◌∷◌, ◌++◌, codes, decimal}
+use Rattle.std.specs.Prelude.{ℕ, List, [], ◌∷◌, ◌++◌, Option, Some, None, slice_get, slice_index, codes, decimal}
 use Rattle.std.specs.List.{flat_map}
 use Rattle.bench_text.specs.declared.token.TextNo.{TextNo}
 use Rattle.bench_text.specs.declared.token.TextNo.TheVariants as text_no
@@ -7,9 +7,14 @@ use Rattle.bench_read.specs.declared.refusal.Many.{Many}
 use Rattle.bench_read.specs.declared.refusal.Many.TheVariants.{Signals, Operands}
 use Rattle.bench_read.specs.declared.refusal.BenchNo.{BenchNo}
 use Rattle.bench_read.specs.declared.refusal.BenchNo.TheVariants as bench_no
+use Rattle.machine_text.specs.declared.machine.MachNo.{MachNo}
+use Rattle.machine_text.specs.declared.machine.MachNo.TheVariants as mach_no
+use Rattle.yse_compile.specs.declared.compiler.CompNo.{CompNo}
+use Rattle.yse_compile.specs.declared.compiler.CompNo.TheVariants as comp_no
 use Rattle.stim_text.specs.declared.refusal.StimNo.{StimNo}
 use Rattle.stim_text.specs.declared.refusal.StimNo.TheVariants as stim_no
 use Rattle.net_defs.specs.declared.netlist.Netlist.{Netlist}
+use Rattle.net_defs.specs.declared.netlist.Block.{Block}
 use Rattle.net_defs.specs.Canonical.{name_of}
 use Rattle.yse_top.specs.Writing.{joined}
 
@@ -34,6 +39,49 @@ cells_line cells = joined (codes "limit: " ∷ decimal cells ∷ codes " cells, 
 -- the names of a loop, each after a space
 unfoldable pub loop_line : Netlist → List ℕ → List ℕ
 loop_line net loop = codes "loop:" ++ flat_map (λ s. codes " " ++ name_of net s) loop ++ codes "\n"
+
+-- ---- machines
+
+unfoldable pub setting_line : ℕ → List ℕ → List ℕ
+setting_line line fault = joined (codes "machine: line " ∷ decimal line ∷ codes ": " ∷ fault ∷ codes "\n" ∷ [])
+
+unfoldable pub ports_line : ℕ → List ℕ
+ports_line ports = joined (codes "machine: " ∷ decimal ports ∷ codes " ports, limit is 256\n" ∷ [])
+
+abbrev pub machine_line : MachNo → List ℕ
+machine_line (mach_no.Syntax line) = setting_line line (codes "syntax")
+machine_line (mach_no.Range line) = setting_line line (codes "out of range")
+machine_line (mach_no.Twice line) = setting_line line (codes "given twice")
+machine_line (mach_no.Ports sum) = ports_line sum
+machine_line mach_no.Memory = memory_line
+
+-- ---- designs that don't fit
+
+-- the name of a memory, which is that of its first output
+abbrev pub memory_name : Netlist → ℕ → List ℕ
+memory_name net block = of_memory (slice_get net.blocks block) where
+  of_memory : Option Block → List ℕ
+  of_memory None = []
+  of_memory (Some memory) = name_of net (slice_index memory.outs 0)
+
+unfoldable pub bits_line : List ℕ → ℕ → ℕ → List ℕ
+bits_line name needed left =
+    joined (codes "overfull: bits of memory " ∷ name ∷ codes ": " ∷ decimal needed ∷ codes " needed, " ∷ decimal left ∷ codes " left\n" ∷ [])
+
+unfoldable pub slots_line : ℕ → ℕ → List ℕ
+slots_line needed limit =
+    joined (codes "overfull: slots: " ∷ decimal needed ∷ codes " needed, limit is " ∷ decimal limit ∷ codes "\n" ∷ [])
+
+unfoldable pub functions_line : ℕ → ℕ → ℕ → List ℕ
+functions_line port needed limit =
+    joined (codes "overfull: functions of logic port " ∷ decimal port ∷ codes ": " ∷ decimal needed ∷ codes " needed, limit is " ∷ decimal limit ∷ codes "\n" ∷ [])
+
+abbrev pub overfull_line : Netlist → CompNo → List ℕ
+overfull_line net (comp_no.Loop members) = loop_line net members
+overfull_line net (comp_no.Bits block needed left) = bits_line (memory_name net block) needed left
+overfull_line net (comp_no.Slots needed limit) = slots_line needed limit
+overfull_line net (comp_no.Functions port needed limit) = functions_line port needed limit
+overfull_line net comp_no.Memory = memory_line
 
 -- ---- netlists
 

@@ -1,6 +1,8 @@
 -- The line and the status of each refusal, and what a call that may refuse says of its check.
 use Rattle.std.specs.Prelude.{◌≡◌, ℕ, List, [], ◌∷◌, Bool, Option, Some, None, Result, Ok, Err}
 use Rattle.edge_io.specs.declared.counts.FileCounts.{FileCounts}
+use Rattle.machine_text.specs.declared.machine.MachNo.{MachNo}
+use Rattle.machine_text.specs.declared.machine.MachNo.TheVariants as mach_no
 use Rattle.bench_read.specs.declared.refusal.BenchNo.{BenchNo}
 use Rattle.bench_read.specs.declared.refusal.BenchNo.TheVariants as bench_no
 use Rattle.stim_text.specs.declared.refusal.StimNo.{StimNo}
@@ -11,7 +13,7 @@ use Rattle.yse_top.specs.declared.refusal.Refusal.TheVariants as refusal
 use Rattle.yse_top.specs.declared.status.Status.{Status}
 use Rattle.yse_top.specs.declared.status.Status.TheVariants as status
 use Rattle.yse_top.specs.Checks.{Refuses, text_of, read_fault}
-use Rattle.yse_top.specs.Lines.{usage_line, read_fault_line, memory_line, too_long_line, netlist_line, loop_line, stimulus_line, cells_line}
+use Rattle.yse_top.specs.Lines.{usage_line, read_fault_line, memory_line, too_long_line, machine_line, netlist_line, loop_line, overfull_line, stimulus_line, cells_line}
 use Rattle.yse_top.specs.Outcome.{Outcome, done, refusal as refused}
 use Rattle.yse_top.specs.Outputs.{bytes_of}
 use Rattle.yse_top.specs.Readings.{Reading, AreReadings}
@@ -20,8 +22,10 @@ abbrev pub line_of : Refusal → List ℕ
 line_of refusal.Words = usage_line
 line_of (refusal.ReadFault file) = read_fault_line file.now
 line_of (refusal.TooLong file) = too_long_line file.now
+line_of (refusal.Machine why) = machine_line why
 line_of (refusal.Netlist why) = netlist_line why
 line_of (refusal.Loop net loop) = loop_line net loop
+line_of (refusal.Overfull net why) = overfull_line net why
 line_of (refusal.Stimulus why) = stimulus_line why
 line_of (refusal.Cells cells) = cells_line cells
 line_of refusal.Memory = memory_line
@@ -30,11 +34,18 @@ abbrev pub status_of : Refusal → Status
 status_of refusal.Words = status.Words
 status_of (refusal.ReadFault file) = status.ReadFault
 status_of (refusal.TooLong file) = status.Limit
+status_of (refusal.Machine why) = status.Machine
 status_of (refusal.Netlist why) = status.Netlist
 status_of (refusal.Loop net loop) = status.Loop
+status_of (refusal.Overfull net why) = status.Overfull
 status_of (refusal.Stimulus why) = status.Stimulus
 status_of (refusal.Cells cells) = status.Limit
 status_of refusal.Memory = status.Memory
+
+-- the refusal of a machine text
+abbrev pub of_machine : MachNo → Refusal
+of_machine mach_no.Memory = refusal.Memory
+of_machine why = refusal.Machine why
 
 -- the refusal of a netlist text
 abbrev pub of_netlist : BenchNo → Refusal

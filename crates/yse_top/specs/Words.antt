@@ -1,7 +1,7 @@
 -- The words of a command line, and what they ask for. The files come first, and then the options, each
 -- as two words, at most once and in their order.
-use Rattle.std.specs.Prelude.{ℕ, ◌==◌, ◌&&◌, Bool, true, false, not, nat_le, if◌then◌else◌, List, [], ◌∷◌, length, Option, Some, None, IfSome, codes, bytes_eq}
-use Rattle.std.specs.Option.{option_map}
+use Rattle.std.specs.Prelude.{ℕ, ◌==◌, ◌&&◌, Bool, true, false, not, nat_le, if◌then◌else◌, List, [], ◌∷◌, ◌++◌, length, Option, Some, None, IfSome, codes, bytes_eq}
+use Rattle.std.specs.Option.{option_map, option_to_list}
 use Rattle.limits.specs.declared.TheConstants.{MAX_UNITS}
 use Rattle.text_lines.specs.Numbers.{number_of, within}
 use Rattle.net_defs.specs.declared.timing.Timing.{Timing}
@@ -20,15 +20,15 @@ pub record Simulation : Type 0 where
   pub stimulus : List ℕ
   pub timing : Timing
 
--- what words ask for
+-- what words ask for: a run names the file of its machine, or none for the default machine
 pub data Request : Type 0 where
-  run : Simulation → Request
+  run : Option (List ℕ) → Simulation → Request
   refer : Simulation → Request
   show : List ℕ → Request
 
 -- the files that a request reads, in the order in which it does
 abbrev pub files_of : Request → List (List ℕ)
-files_of (run simulation) = simulation.netlist ∷ simulation.stimulus ∷ []
+files_of (run machine simulation) = option_to_list machine ++ (simulation.netlist ∷ simulation.stimulus ∷ [])
 files_of (refer simulation) = simulation.netlist ∷ simulation.stimulus ∷ []
 files_of (show netlist) = netlist ∷ []
 
@@ -39,7 +39,7 @@ files_named (Some request) = files_of request
 -- the simulation whose trace a request writes
 abbrev pub traced_by : Option Request → Option Simulation
 traced_by None = None
-traced_by (Some (run simulation)) = Some simulation
+traced_by (Some (run machine simulation)) = Some simulation
 traced_by (Some (refer simulation)) = Some simulation
 traced_by (Some (show netlist)) = None
 
@@ -110,13 +110,29 @@ timing_of words =
 
 -- ---- commands
 
--- `NETLIST STIMULUS [--mode rank|unit] [--units K] [--init x|0]`
-abbrev pub simulation_of : List (List ℕ) → Option Simulation
-simulation_of (netlist ∷ stimulus ∷ options) =
+-- two files and `[--mode rank|unit] [--units K] [--init x|0]`
+abbrev pub simulation_with : List ℕ → List ℕ → List (List ℕ) → Option Simulation
+simulation_with netlist stimulus options =
     if is_file_name netlist && is_file_name stimulus
     then option_map (λ timing. record { netlist = netlist; stimulus = stimulus; timing = timing }) (timing_of options)
     else None
+
+-- `NETLIST STIMULUS [--mode rank|unit] [--units K] [--init x|0]`
+abbrev pub simulation_of : List (List ℕ) → Option Simulation
+simulation_of (netlist ∷ stimulus ∷ options) = simulation_with netlist stimulus options
 simulation_of _ = None
+
+-- the value of an option can name a file, or none is given
+abbrev pub may_name : Option (List ℕ) → Bool
+may_name None = true
+may_name (Some value) = is_file_name value
+
+-- `NETLIST STIMULUS [--machine FILE] [--mode rank|unit] [--units K] [--init x|0]`
+abbrev pub run_of : List (List ℕ) → Option Request
+run_of (netlist ∷ stimulus ∷ options) =
+    let machine = take_option (codes "--machine") options in
+    if may_name machine.value then option_map (run machine.value) (simulation_with netlist stimulus machine.rest) else None
+run_of _ = None
 
 -- `NETLIST`
 abbrev pub shown_of : List (List ℕ) → Option (List ℕ)
@@ -126,7 +142,7 @@ shown_of _ = None
 -- the request of a command with these words after it
 abbrev pub command_of : List ℕ → List (List ℕ) → Option Request
 command_of command words =
-    if bytes_eq command (codes "run") then option_map run (simulation_of words)
+    if bytes_eq command (codes "run") then run_of words
     else if bytes_eq command (codes "refer") then option_map refer (simulation_of words)
     else if bytes_eq command (codes "show") then option_map show (shown_of words)
     else None
@@ -141,6 +157,6 @@ abbrev pub seen_words : RunWords → Simulation
 seen_words words = record { netlist = words.netlist.now; stimulus = words.stimulus.now; timing = words.timing }
 
 abbrev pub seen : Command → Request
-seen (command.Run words) = run (seen_words words)
+seen (command.Run words machine) = run (option_map (λ file. file.now) machine) (seen_words words)
 seen (command.Refer words) = refer (seen_words words)
 seen (command.Show netlist) = show netlist.now

@@ -3,25 +3,49 @@
 ghost use Rattle.std.specs.Prelude.{◌≡◌, ◌≤◌, Ok, Err, length, IfOk, IfErr, OnOk};
 ghost use Rattle.limits.specs.declared.TheConstants.{MAX_TEXT_BYTES};
 ghost use Rattle.net_defs.specs.Loops.{IsOrder};
-ghost use Rattle.net_defs.specs.Valid.{IsValid, IsValidStimulus};
-ghost use Rattle.yse_top.specs.Checks.{Refuses, IsNetlistOf, IsStimulusOf, HasNoLoop, HasFewCells, cell_count};
+ghost use Rattle.machine_text.specs.Machines.{IsValid as IsValidMachine};
+ghost use Rattle.net_defs.specs.Valid.{IsValid, IsValidStimulus, IsValidTiming};
+ghost use Rattle.yse_top.specs.Checks.{Refuses, RefusesDesign, IsMachineOf, IsNetlistOf, IsStimulusOf, HasNoLoop, HasRoom, HasFewCells, cell_count};
+ghost use Rattle.yse_top.specs.Images.{IsImageOf};
 ghost use Rattle.yse_top.specs.Refusals.{Satisfies, refused_of};
 
-use crate::refusal::{Refusal, of_netlist, of_stimulus};
+use crate::refusal::{Refusal, of_machine, of_netlist, of_stimulus};
 use bench_read::law::reads_as_valid;
 use bench_read::read_bench;
+use image_defs::Image;
 use limits::MAX_CELLS;
+use machine_text::{Machine, read_machine};
 use net_defs::{Netlist, Stimulus, Timing};
 use rank_find::{RankNo, order};
 use seen_list::List;
 use std::alloc::Global;
 use stim_text::read_stim;
+use yse_compile::{CompNo, compile};
 
 /// A netlist, and an order of its gates.
 #[derive(Drop)]
 pub struct Design {
     pub net: Netlist,
     pub order: List<u32>,
+}
+
+/// A netlist, and the image of it that a machine runs.
+#[derive(Drop)]
+pub struct Built {
+    pub net: Netlist,
+    pub image: Image,
+}
+
+/// The machine of a text.
+pub fn machine_of<'a>(alloc: Global, text: &[u8]) -> Result<Machine, Refusal<'a>>
+    requires { length text.now ≤ MAX_TEXT_BYTES }
+    ensures checked { Satisfies result (IsMachineOf text.now) }
+    ensures valid { IfOk result IsValidMachine }
+{
+    match read_machine(alloc, text) {
+        Ok(machine) => Ok(machine),
+        Err(no) => Err(of_machine(no)),
+    }
 }
 
 /// The netlist of a text.
@@ -64,6 +88,33 @@ pub fn ordered<'a>(alloc: Global, net: Netlist, timing: &Timing) -> Result<Desig
         Ok(order) => Ok(Design { net, order }),
         Err(RankNo::Loop(members)) => Err(Refusal::Loop(net, members)),
         Err(RankNo::Memory) => Err(Refusal::Memory),
+    }
+}
+
+/// The netlist with its image for the machine, and else a loop, or why it does not fit.
+pub fn compiled<'a>(
+    alloc: Global,
+    net: Netlist,
+    machine: &Machine,
+    timing: &Timing,
+) -> Result<Built, Refusal<'a>>
+    requires net { IsValid net }
+    requires machine { IsValidMachine machine.now }
+    requires timing { IsValidTiming timing.now }
+    ensures same { IfOk result (λ built. built.net ≡ net) }
+    ensures acyclic { OnOk result (HasNoLoop net timing.now (Ok tt)) }
+    ensures fits { OnOk result (HasRoom net machine.now timing.now (Ok tt)) }
+    ensures image { IfOk result (λ built. IsImageOf net timing.now built.image) }
+    ensures refused { IfErr result (λ no. RefusesDesign net machine.now timing.now (refused_of no)) }
+{
+    match compile(alloc, &net, machine, timing) {
+        Ok(compiled) => Ok(Built {
+            net,
+            image: compiled.image,
+        }),
+        Err(CompNo::Loop(members)) => Err(Refusal::Loop(net, members)),
+        Err(CompNo::Memory) => Err(Refusal::Memory),
+        Err(no) => Err(Refusal::Overfull(net, no)),
     }
 }
 

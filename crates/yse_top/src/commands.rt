@@ -5,8 +5,9 @@ ghost use Rattle.std.specs.String.{string_bytes};
 ghost use Rattle.yse_top.specs.Expected.{Expected, ExpectedOf};
 ghost use Rattle.yse_top.specs.Outputs.{CanWrite};
 ghost use Rattle.yse_top.specs.Refusals.{Follows};
-ghost use Rattle.yse_top.specs.Words.{seen};
+ghost use Rattle.yse_top.specs.Words.{seen, HasValidTiming};
 
+mod refer;
 mod run;
 mod show;
 
@@ -39,13 +40,14 @@ fn answer<'a, F: Files>(
     files: &mut F,
     command: Command<'a>,
 ) -> Result<Output, Refusal<'a>>
+    requires { HasValidTiming (seen command) }
     ensures expected { Follows (F.names files.old) (F.bytes files.old) (F.counts files.old) (F.counts files.new)
         result (ExpectedOf (seen command.entry)) }
     ensures writable { IfOk result CanWrite }
 {
     match command {
-        Command::Run(words) => run::run(alloc, files, words),
-        Command::Refer(words) => run::run(alloc, files, words),
+        Command::Run { words, machine } => run::run(alloc, files, words, machine),
+        Command::Refer(words) => refer::refer(alloc, files, words),
         Command::Show { netlist } => show::show(alloc, files, netlist),
     }
 }

@@ -8,6 +8,7 @@ ghost use Rattle.yse_top.specs.Refusals.{line_of, status_of};
 ghost use Rattle.yse_top.specs.Writing.{Takes, TakesLine};
 
 use crate::output::write_piece;
+use crate::overfull::{write_machine_line, write_overfull_line};
 use crate::refusal::Refusal;
 use crate::status::Status;
 use bench_read::{BenchNo, Many};
@@ -43,8 +44,10 @@ fn status_of(refusal: &Refusal<'_>) -> Status
     match refusal {
         Refusal::Words => Status::Words,
         Refusal::ReadFault(_) => Status::ReadFault,
+        Refusal::Machine(_) => Status::Machine,
         Refusal::Netlist(_) => Status::Netlist,
         Refusal::Loop(..) => Status::Loop,
+        Refusal::Overfull(..) => Status::Overfull,
         Refusal::Stimulus(_) => Status::Stimulus,
         Refusal::TooLong(_) | Refusal::Cells(_) => Status::Limit,
         Refusal::Memory => Status::Memory,
@@ -52,7 +55,7 @@ fn status_of(refusal: &Refusal<'_>) -> Status
 }
 
 /// Writes pieces one after the other, up to the first fault.
-fn write_pieces<S: Sink>(sink: &mut S, pieces: &[&[u8]]) -> Result<(), WriteNo>
+pub fn write_pieces<S: Sink>(sink: &mut S, pieces: &[&[u8]]) -> Result<(), WriteNo>
     ensures { Takes (S.taken sink.old) (S.taken sink.new) (S.faults sink.old) (S.faults sink.new)
         result (flat_map (λ piece. piece.now) pieces.now) }
 {
@@ -79,8 +82,10 @@ fn write_line<S: Sink>(sink: &mut S, refusal: &Refusal<'_>) -> Result<(), WriteN
         Refusal::Words => write_usage_line(sink),
         Refusal::ReadFault(file) => write_read_fault_line(sink, file),
         Refusal::TooLong(file) => write_too_long_line(sink, file),
+        Refusal::Machine(no) => write_machine_line(sink, no),
         Refusal::Netlist(no) => write_netlist_line(sink, no),
         Refusal::Loop(net, members) => write_loop_line(sink, net, members.as_slice()),
+        Refusal::Overfull(net, no) => write_overfull_line(sink, net, no),
         Refusal::Stimulus(no) => write_stimulus_line(sink, no),
         Refusal::Cells(cells) => write_cells_line(sink, *cells),
         Refusal::Memory => write_memory_line(sink),
@@ -178,7 +183,7 @@ fn many_words(what: Many) -> &'static [u8]
 }
 
 #[tactic(auto, unfolding(crate::specs::Lines::memory_line))]
-fn write_memory_line<S: Sink>(sink: &mut S) -> Result<(), WriteNo>
+pub fn write_memory_line<S: Sink>(sink: &mut S) -> Result<(), WriteNo>
     ensures { Takes (S.taken sink.old) (S.taken sink.new) (S.faults sink.old) (S.faults sink.new)
         result memory_line }
 {
@@ -310,7 +315,7 @@ fn write_cycles_line<S: Sink>(sink: &mut S) -> Result<(), WriteNo>
 }
 
 #[tactic(auto, unfolding(crate::specs::Lines::loop_line))]
-fn write_loop_line<S: Sink>(sink: &mut S, net: &Netlist, members: &[u32]) -> Result<(), WriteNo>
+pub fn write_loop_line<S: Sink>(sink: &mut S, net: &Netlist, members: &[u32]) -> Result<(), WriteNo>
     ensures { Takes (S.taken sink.old) (S.taken sink.new) (S.faults sink.old) (S.faults sink.new)
         result (loop_line net.now members.now) }
 {

@@ -19,6 +19,7 @@ mod commands;
 mod diagnostics;
 pub mod law;
 mod output;
+mod overfull;
 mod reading;
 mod refusal;
 mod status;

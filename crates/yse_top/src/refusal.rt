@@ -1,12 +1,14 @@
 //! Why a call ends before its output. A fault of writing is no refusal.
 
 ghost use Rattle.std.specs.Prelude.{◌≡◌};
-ghost use Rattle.yse_top.specs.Refusals.{of_netlist, of_stimulus};
+ghost use Rattle.yse_top.specs.Refusals.{of_machine, of_netlist, of_stimulus};
 
 use bench_read::BenchNo;
+use machine_text::MachNo;
 use net_defs::Netlist;
 use seen_list::List;
 use stim_text::StimNo;
+use yse_compile::CompNo;
 
 /// A refusal, with what its line names.
 #[derive(Drop)]
@@ -17,16 +19,30 @@ pub enum Refusal<'a> {
     ReadFault(&'a [u8]),
     /// The file has too many bytes.
     TooLong(&'a [u8]),
+    /// The text is no machine.
+    Machine(MachNo),
     /// The text is no netlist.
     Netlist(BenchNo),
     /// Gates of the netlist wait for one another.
     Loop(Netlist, List<u32>),
+    /// The netlist does not fit the machine.
+    Overfull(Netlist, CompNo),
     /// The text is no stimulus for the netlist.
     Stimulus(StimNo),
     /// There are too many cells.
     Cells(u64),
     /// Want of memory.
     Memory,
+}
+
+/// The refusal of a machine text.
+pub fn of_machine<'a>(no: MachNo) -> Refusal<'a>
+    ensures { result ≡ of_machine no }
+{
+    match no {
+        MachNo::Memory => Refusal::Memory,
+        other => Refusal::Machine(other),
+    }
 }
 
 /// The refusal of a netlist text.

@@ -3,7 +3,7 @@
 ghost use Rattle.std.specs.Prelude.{◌≡◌, Option, Some, None, IfSome, map};
 ghost use Rattle.std.specs.Option.{option_map};
 ghost use Rattle.std.specs.String.{string_bytes};
-ghost use Rattle.yse_top.specs.Words.{is_file_name, take_option, mode_of, units_of, init_of, allows_units, timing_with, timing_of, simulation_of, HasValidTiming, shown_of, command_of, request_of, seen, seen_words};
+ghost use Rattle.yse_top.specs.Words.{is_file_name, take_option, mode_of, units_of, init_of, allows_units, timing_with, timing_of, may_name, simulation_with, simulation_of, run_of, HasValidTiming, shown_of, command_of, request_of, seen, seen_words};
 
 use limits::MAX_UNITS;
 use net_defs::{Init, Mode, Timing};
@@ -23,9 +23,12 @@ pub struct RunWords<'a> {
 /// What words ask for.
 #[derive(Clone, Copy)]
 pub enum Command<'a> {
-    /// `run NETLIST STIMULUS [--mode rank|unit] [--units K] [--init x|0]`
-    Run(RunWords<'a>),
-    /// `refer`, with the words of `run`
+    /// `run NETLIST STIMULUS [--machine FILE] [--mode rank|unit] [--units K] [--init x|0]`
+    Run {
+        words: RunWords<'a>,
+        machine: Option<&'a [u8]>,
+    },
+    /// `refer`, with the words of `run` but for the machine
     Refer(RunWords<'a>),
     /// `show NETLIST`
     Show { netlist: &'a [u8] },
@@ -46,7 +49,7 @@ fn read_command<'a>(command: &[u8], words: &'a [String]) -> Option<Command<'a>>
     ensures { option_map seen result ≡ command_of command.now (map string_bytes words.now) }
 {
     if command == b"run".as_slice() {
-        Some(Command::Run(simulation(words)?))
+        run_command(words)
     } else if command == b"refer".as_slice() {
         Some(Command::Refer(simulation(words)?))
     } else if command == b"show".as_slice() {
@@ -57,25 +60,62 @@ fn read_command<'a>(command: &[u8], words: &'a [String]) -> Option<Command<'a>>
     }
 }
 
-/// The words of `run` and `refer` after the command.
+/// The words of `run` after the command.
+fn run_command(words: &[String]) -> Option<Command<'_>>
+    ensures { option_map seen result ≡ run_of (map string_bytes words.now) }
+{
+    match words {
+        [netlist, stimulus, options @ ..] => {
+            let (machine, options) = take_option(options, b"--machine");
+            if !may_name(machine) {
+                return None;
+            }
+            let words = simulation_with(netlist.as_bytes(), stimulus.as_bytes(), options)?;
+            Some(Command::Run { words, machine })
+        }
+        _ => None,
+    }
+}
+
+/// Whether the value of an option can name a file, where one is given.
+fn may_name(value: Option<&[u8]>) -> bool
+    ensures { result ≡ may_name (option_map (λ value. value.now) value.entry) }
+{
+    match value {
+        Some(value) => is_file_name(value),
+        None => true,
+    }
+}
+
+/// The words of `refer` after the command.
 fn simulation(words: &[String]) -> Option<RunWords<'_>>
     ensures { option_map seen_words result ≡ simulation_of (map string_bytes words.now) }
 {
     match words {
         [netlist, stimulus, options @ ..] => {
-            let (netlist, stimulus) = (netlist.as_bytes(), stimulus.as_bytes());
-            if !is_file_name(netlist) || !is_file_name(stimulus) {
-                return None;
-            }
-            let timing = timing(options)?;
-            Some(RunWords {
-                netlist,
-                stimulus,
-                timing,
-            })
+            simulation_with(netlist.as_bytes(), stimulus.as_bytes(), options)
         }
         _ => None,
     }
+}
+
+/// The files of a simulation, with the timing that the options say.
+fn simulation_with<'a>(
+    netlist: &'a [u8],
+    stimulus: &'a [u8],
+    options: &[String],
+) -> Option<RunWords<'a>>
+    ensures { option_map seen_words result ≡ simulation_with netlist.now stimulus.now (map string_bytes options.now) }
+{
+    if !is_file_name(netlist) || !is_file_name(stimulus) {
+        return None;
+    }
+    let timing = timing(options)?;
+    Some(RunWords {
+        netlist,
+        stimulus,
+        timing,
+    })
 }
 
 /// The word of `show` after the command.

@@ -21,7 +21,7 @@ use Rattle.yse_top.specs.Lines.{netlist_line, stimulus_line}
 use Rattle.yse_top.specs.Outcome.{Outcome}
 use Rattle.yse_top.specs.Readings.{Reading}
 use Rattle.yse_top.specs.Words.{Request, run, refer, show, Simulation, request_of, files_of, files_named}
-use Rattle.yse_top.specs.commands.Run.{ExpectedRun, ExpectedTrace}
+use Rattle.yse_top.specs.commands.Run.{ExpectedRun, ExpectedOn, ExpectedRefer, ExpectedTrace}
 use Rattle.yse_top.specs.commands.Show.{ExpectedShow}
 use Rattle.yse_top.proofs.ProperLemmas.{IsCheck, IsCommand, IsOfCommand, command_after, command_file, command_ends, writes_ending, words_proper, words_status, answer_of_command, not_words}
 use Rattle.yse_top.proofs.CheckLemmas.{reads_check, loop_check, cells_check, trace_only, trace_some}
@@ -30,6 +30,11 @@ use Rattle.yse_top.proofs.law.calls_are_proper.Goals as goal
 -- the laws of the layers below
 record Laws : Type 0 where
   netlists : IsReader bench_reads.Reads bench.first_fault
+  machines : IsReader machine_text.Reads machine_text.first_fault
+  valid_machines : (text : List ℕ) (machine : Machine) → machine_text.Reads text machine → IsValidMachine machine
+  default_valid : IsValidMachine default_machine
+  valid_netlists : (text : List ℕ) (net : Netlist) → length text ≤ MAX_TEXT_BYTES → bench_reads.Reads text net → IsValid net
+  room : (net : Netlist) (machine : Machine) (timing : Timing) → IsValid net → IsValidMachine machine → ((loop : List ℕ) → IsLoop net timing loop → ⊥) → IsRoomLaw net machine timing
   stimuli : (inputs : ℕ) → IsReader (stim.Reads inputs) (stim.first_fault inputs)
   order_or_loop : (net : Netlist) (timing : Timing) → OrderOrLoop net timing
   never_both : (net : Netlist) (timing : Timing) (order loop : List ℕ) → IsOrder net timing order → IsLoop net timing loop → ⊥
@@ -38,6 +43,9 @@ record Laws : Type 0 where
 module _ (laws : Laws) where
   netlist_check : (text : List ℕ) → IsCheck (IsNetlistOf text)
   netlist_check text = reads_check bench_reads.Reads bench.first_fault laws.netlists text status.Netlist netlist_line tt
+
+  machine_check : (text : List ℕ) → IsCheck (IsMachineOf text)
+  machine_check text = reads_check machine_text.Reads machine_text.first_fault laws.machines text status.Machine machine_line tt
 
   stimulus_check : (text : List ℕ) (net : Netlist) → IsCheck (IsStimulusOf text net)
   stimulus_check text net =
@@ -52,13 +60,30 @@ module _ (laws : Laws) where
       command_ends (Writes (IsTrace net timing stimulus)) (writes_ending (IsTrace net timing stimulus)
       (trace_only net timing stimulus (laws.one_simulation net timing stimulus acyclic)) (trace_some net timing stimulus (laws.one_simulation net timing stimulus acyclic))))))
 
-  run_proper : (s : Simulation) → IsCommand (s.netlist ∷ s.stimulus ∷ []) (ExpectedRun s)
-  unfolding ExpectedRun
-  run_proper s =
+  refer_proper : (s : Simulation) → IsCommand (s.netlist ∷ s.stimulus ∷ []) (ExpectedRefer s)
+  unfolding ExpectedRefer
+  refer_proper s =
       command_file s.netlist (s.stimulus ∷ []) (λ text. After (IsNetlistOf text) (λ net. After (HasNoLoop net s.timing) (λ passed. ExpectedTrace s.stimulus net s.timing))) (λ text short.
       command_after (s.stimulus ∷ []) (IsNetlistOf text) (λ net. After (HasNoLoop net s.timing) (λ passed. ExpectedTrace s.stimulus net s.timing)) (netlist_check text) (λ net is.
       command_after (s.stimulus ∷ []) (HasNoLoop net s.timing) (λ passed. ExpectedTrace s.stimulus net s.timing) (loop_check net s.timing (laws.order_or_loop net s.timing) (laws.never_both net s.timing)) (λ passed acyclic.
       trace_proper s.stimulus net s.timing acyclic)))
+
+  on_proper : (machine : Machine) (s : Simulation) → IsValidMachine machine → IsCommand (s.netlist ∷ s.stimulus ∷ []) (ExpectedOn machine s)
+  unfolding ExpectedOn
+  on_proper machine s valid =
+      command_file s.netlist (s.stimulus ∷ []) (λ text. After (IsNetlistOf text) (λ net. After (HasNoLoop net s.timing) (λ passed. After (HasRoom net machine s.timing) (λ fits. ExpectedTrace s.stimulus net s.timing)))) (λ text short.
+      command_after (s.stimulus ∷ []) (IsNetlistOf text) (λ net. After (HasNoLoop net s.timing) (λ passed. After (HasRoom net machine s.timing) (λ fits. ExpectedTrace s.stimulus net s.timing))) (netlist_check text) (λ net is.
+      command_after (s.stimulus ∷ []) (HasNoLoop net s.timing) (λ passed. After (HasRoom net machine s.timing) (λ fits. ExpectedTrace s.stimulus net s.timing)) (loop_check net s.timing (laws.order_or_loop net s.timing) (laws.never_both net s.timing)) (λ passed acyclic.
+      command_after (s.stimulus ∷ []) (HasRoom net machine s.timing) (λ fits. ExpectedTrace s.stimulus net s.timing) (room_check net machine s.timing (laws.room net machine s.timing (laws.valid_netlists text net short is) valid acyclic)) (λ fits has.
+      trace_proper s.stimulus net s.timing acyclic))))
+
+  run_proper : (machine : Option (List ℕ)) (s : Simulation) → IsCommand (files_of (run machine s)) (ExpectedRun machine s)
+  unfolding ExpectedRun
+  run_proper None s = on_proper default_machine s laws.default_valid
+  run_proper (Some file) s =
+      command_file file (s.netlist ∷ s.stimulus ∷ []) (λ text. After (IsMachineOf text) (λ machine. ExpectedOn machine s)) (λ text short.
+      command_after (s.netlist ∷ s.stimulus ∷ []) (IsMachineOf text) (λ machine. ExpectedOn machine s) (machine_check text) (λ machine is.
+      on_proper machine s (laws.valid_machines text machine is)))
 
   show_proper : (file : List ℕ) → IsCommand (file ∷ []) (ExpectedShow file)
   unfolding ExpectedShow
@@ -68,8 +93,8 @@ module _ (laws : Laws) where
       command_ends (Writes (λ output. output ≡ canonical_text net)) (writes_ending (λ output. output ≡ canonical_text net) (λ s t e f. e ∙ sym f) (canonical_text net, refl))))
 
   request_proper : (request : Request) → IsCommand (files_of request) (ExpectedOf request)
-  request_proper (run s) = run_proper s
-  request_proper (refer s) = run_proper s
+  request_proper (run machine s) = run_proper machine s
+  request_proper (refer s) = refer_proper s
   request_proper (show file) = show_proper file
 
   asked_proper : (asked : Option Request) → IsProper (files_named asked) (ExpectedAsked asked)

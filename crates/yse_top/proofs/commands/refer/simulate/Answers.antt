@@ -11,7 +11,7 @@ use Rattle.yse_top.specs.Readings.{Reading}
 use Rattle.yse_top.specs.commands.Run.{ExpectedTrace}
 use Rattle.yse_top.proofs.ChainLemmas.{follows_file, follows_on, follows_here}
 use Rattle.yse_top.proofs.TraceLemmas.{printed_is_trace}
-use Rattle.yse_top.proofs.commands.run.simulate.Goals as goal
+use Rattle.yse_top.proofs.commands.refer.simulate.Goals as goal
 
 module _ (net : Netlist) (timing : Timing) where
   abbrev of_cells : Stimulus → List Reading → Outcome → Type 0

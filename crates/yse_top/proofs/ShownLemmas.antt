@@ -1,0 +1,81 @@
+-- The cells that the host keeps are the printed values of the reference simulation.
+use Rattle.std.proofs.Common.{◌≡◌, ◌∙◌, inl, inr, ℕ, zero, suc, ◌+◌, ◌<◌, ◌≤◌, List, [], ◌∷◌, ◌++◌, length, map, get_or, Some, slice_get, sym, ap, subst, refl, arith}
+use Rattle.std.proofs.lemmas.Bool.{cases_lt}
+use Rattle.std.proofs.lemmas.List.{length_push, length-map}
+use Rattle.std.proofs.lemmas.Option.{slice_get_within}
+use Rattle.list_laws.proofs.Places.{at_front, seam_at}
+use Rattle.logic_four.specs.declared.V4.{V4}
+use Rattle.logic_four.specs.declared.V4.TheVariants.{Undef}
+use Rattle.logic_four.specs.Values.{value_at}
+use Rattle.net_defs.specs.declared.netlist.Netlist.{Netlist}
+use Rattle.net_defs.specs.declared.timing.Timing.{Timing}
+use Rattle.net_defs.specs.declared.stimulus.Stimulus.{Stimulus}
+use Rattle.net_defs.specs.declared.trace.CellRow.{CellRow}
+use Rattle.net_defs.specs.declared.trace.Rows.{Rows}
+use Rattle.net_defs.specs.Time.{cycle_count}
+use Rattle.net_defs.specs.Trace.{cells_of}
+use Rattle.image_defs.specs.declared.image.Image.{Image}
+use Rattle.image_defs.specs.Frames.{shown}
+use Rattle.image_defs.specs.Ports.{PortView}
+use Rattle.port_host.specs.Rows.{printed_sources}
+use Rattle.yse_top.specs.Images.{IsImageOf, AreShown}
+use Rattle.yse_top.specs.Outputs.{ArePrinted}
+
+-- lists of values that agree at each place
+same_values : (xs ys : List V4) → length xs ≡ length ys → ((j : ℕ) → j < length xs → value_at xs j ≡ value_at ys j) → xs ≡ ys
+same_values [] [] long same = refl
+same_values [] (y ∷ ys) long same = absurd (omega (arith, long))
+same_values (x ∷ xs) [] long same = absurd (omega (arith, long))
+same_values (x ∷ xs) (y ∷ ys) long same =
+    let first : x ≡ y = same zero (omega arith) in
+    ap (λ v. v ∷ xs) first ∙ ap (λ vs. y ∷ vs) (same_values xs ys (omega (arith, long)) (λ j low. same (suc j) (omega (arith, low))))
+
+pub shown_none : (view : PortView) → AreShown view 0 []
+shown_none view = record {
+  cycles_are = refl;
+  width = λ c row at. (let low = slice_get_within {A = CellRow} [] c row at in absurd (omega (arith, low)));
+  cells = λ c j row at low. (let past = slice_get_within {A = CellRow} [] c row at in absurd (omega (arith, past)));
+}
+
+-- the row of one more cycle
+pub shown_more : (view : PortView) (n : ℕ) (rows : List CellRow) (cells : List V4) → AreShown view n rows → length cells ≡ length (printed_sources view.image)
+    → ((j : ℕ) → j < length cells → value_at cells j ≡ shown view.image view.stimulus (n + 1) j) → AreShown view (n + 1) (rows ++ record { cells = cells } ∷ [])
+shown_more view n rows cells so_far wide are = record {
+  cycles_are = length_push rows (record { cells = cells }) ∙ ap (λ k. k + 1) so_far.cycles_are;
+  width = λ c row at. elim (cases_lt c (length rows)) [
+    | inl inside ↦ so_far.width c row (sym (at_front rows (record { cells = cells } ∷ []) c inside) ∙ at)
+    | inr past ↦ subst (λ (r : CellRow). length r.cells ≡ length (printed_sources view.image)) (sym (last c row past at).1) wide
+  ];
+  cells = λ c j row at low. elim (cases_lt c (length rows)) [
+    | inl inside ↦ so_far.cells c j row (sym (at_front rows (record { cells = cells } ∷ []) c inside) ∙ at) low
+    | inr past ↦
+        let is = last c row past at in
+        ap (λ (r : CellRow). value_at r.cells j) is.1 ∙ are j (omega (arith, low, wide)) ∙ ap (λ k. shown view.image view.stimulus (k + 1) j) (sym is.0)
+  ];
+} where
+  last : (c : ℕ) (row : CellRow) → length rows ≤ c → slice_get (rows ++ record { cells = cells } ∷ []) c ≡ Some row → (c ≡ n) × (row ≡ record { cells = cells })
+  last c row past at =
+      let low = slice_get_within (rows ++ record { cells = cells } ∷ []) c row at in
+      let here : c ≡ length rows = omega (arith, low, past, length_push {A = CellRow} rows (record { cells = cells })) in
+      (here ∙ so_far.cycles_are, cc (ap (slice_get (rows ++ record { cells = cells } ∷ [])) here, seam_at {X = CellRow} rows (record { cells = cells }) [], at))
+
+-- what is shown of all cycles is the trace's
+pub printed_shown : (net : Netlist) (timing : Timing) (stimulus : Stimulus) (image : Image) (view : PortView) (rows : Rows) → IsImageOf net timing image → view.image ≡ image → view.stimulus ≡ stimulus → AreShown view (cycle_count stimulus) rows.rows → ArePrinted net timing stimulus rows
+printed_shown net timing stimulus image view rows of image_is stimulus_is are = record {
+  states = (of.shows stimulus).states;
+  simulation = (of.shows stimulus).simulation;
+  cells = record {
+    cycles = are.cycles_are;
+    cells = cells;
+  };
+} where
+  wide : length (printed_sources view.image) ≡ length net.printed
+  wide = ap (λ i. length (printed_sources i)) image_is ∙ of.printed
+
+  cells : (c : ℕ) (row : CellRow) → slice_get rows.rows c ≡ Some row → row.cells ≡ cells_of net timing (of.shows stimulus).states (c + 1)
+  cells c row at =
+      let low = slice_get_within rows.rows c row at in
+      same_values row.cells (cells_of net timing (of.shows stimulus).states (c + 1)) (are.width c row at ∙ wide ∙ sym (length-map net.printed _)) (λ j inside.
+      are.cells c j row at (omega (arith, inside, are.width c row at))
+      ∙ ap (λ i. shown i view.stimulus (c + 1) j) image_is ∙ ap (λ s. shown image s (c + 1) j) stimulus_is
+      ∙ (of.shows stimulus).cells (c + 1) j (omega (arith, low, are.cycles_are)) (omega (arith, inside, are.width c row at, wide)))

@@ -1,0 +1,14 @@
+-- The pieces are those of the line, its number in decimal.
+use Rattle.std.proofs.Common.{◌∙◌, ap, [], ◌∷◌, List, ℕ}
+use Rattle.std.specs.Prelude.{codes}
+use Rattle.yse_top.specs.Lines.{ports_line}
+use Rattle.yse_top.specs.Writing.{joined}
+use Rattle.yse_top.proofs.WritingLemmas.{writes_same}
+use Rattle.yse_top.proofs.overfull.write_ports_line.Goals as goal
+
+pub returns : goal.returns
+unfolding ports_line
+returns g c =
+    writes_same _ _ _ _ _ _ _
+    (ap (λ (d : List ℕ). joined (codes "machine: " ∷ d ∷ codes " ports, limit is 256\n" ∷ [])) (c.as_bytes-ports.ensures.value ∙ c.format.ensures.text))
+    c.write_pieces.ensures

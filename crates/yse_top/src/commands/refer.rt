@@ -1,0 +1,93 @@
+//! `refer`: the trace of the reference simulation.
+
+ghost use Rattle.std.specs.Prelude.{◌≡◌, IfOk};
+ghost use Rattle.net_defs.specs.Loops.{IsOrder};
+ghost use Rattle.net_defs.specs.Valid.{IsValid, IsValidStimulus};
+ghost use Rattle.yse_top.specs.Outputs.{CanWrite, CanPrint, ArePrinted};
+ghost use Rattle.yse_top.specs.Refusals.{Follows};
+ghost use Rattle.yse_top.specs.Words.{seen_words};
+ghost use Rattle.yse_top.specs.commands.Run.{ExpectedRefer, ExpectedTrace};
+
+use crate::checks::{Design, few_cells, netlist_of, ordered, stimulus_of};
+use crate::output::{Output, Trace};
+use crate::reading::read_text;
+use crate::refusal::Refusal;
+use crate::words::RunWords;
+use edge_io::Files;
+use net_defs::{Stimulus, Timing};
+use ref_sim::refer_in_order;
+use seen_list::Memory;
+use std::alloc::Global;
+use trace_text::TraceLine;
+
+/// The trace of a simulation.
+#[tactic(auto, using(crate::proofs::ChainLemmas::follows_refused), unfolding(crate::specs::commands::Run::ExpectedRefer))]
+pub fn refer<'a, F: Files>(
+    alloc: Global,
+    files: &mut F,
+    words: RunWords<'a>,
+) -> Result<Output, Refusal<'a>>
+    ensures expected { Follows (F.names files.old) (F.bytes files.old) (F.counts files.old) (F.counts files.new)
+        result (ExpectedRefer (seen_words words.entry)) }
+    ensures writable { IfOk result CanWrite }
+{
+    match read_text(alloc, files, words.netlist) {
+        Ok(text) => match netlist_of(alloc, text.as_slice()) {
+            Ok(net) => match ordered(alloc, net, &words.timing) {
+                Ok(design) => simulate(alloc, files, words.stimulus, &words.timing, design),
+                Err(no) => Err(no),
+            },
+            Err(no) => Err(no),
+        },
+        Err(no) => Err(no),
+    }
+}
+
+/// The trace of a netlist under the stimulus of the named file.
+#[tactic(auto, using(crate::proofs::ChainLemmas::follows_refused), unfolding(crate::specs::commands::Run::ExpectedTrace))]
+fn simulate<'a, F: Files>(
+    alloc: Global,
+    files: &mut F,
+    file: &'a [u8],
+    timing: &Timing,
+    design: Design,
+) -> Result<Output, Refusal<'a>>
+    requires valid { IsValid design.net }
+    requires order { IsOrder design.net timing.now design.order }
+    ensures expected { Follows (F.names files.old) (F.bytes files.old) (F.counts files.old) (F.counts files.new)
+        result (ExpectedTrace file.now design.net timing.now) }
+    ensures writable { IfOk result CanWrite }
+{
+    match read_text(alloc, files, file) {
+        Ok(text) => match stimulus_of(alloc, text.as_slice(), &design.net) {
+            Ok(stimulus) => match few_cells(&design.net, &stimulus) {
+                Ok(()) => match printed(alloc, timing, design, &stimulus) {
+                    Ok(trace) => Ok(Output::Trace(trace)),
+                    Err(Memory) => Err(Refusal::Memory),
+                },
+                Err(no) => Err(no),
+            },
+            Err(no) => Err(no),
+        },
+        Err(no) => Err(no),
+    }
+}
+
+/// The printed values of the reference simulation, with room for a line of the trace.
+fn printed(
+    alloc: Global,
+    timing: &Timing,
+    design: Design,
+    stimulus: &Stimulus,
+) -> Result<Trace, Memory>
+    requires valid { IsValid design.net }
+    requires order { IsOrder design.net timing.now design.order }
+    requires stimulus { IsValidStimulus stimulus.now }
+    ensures printed { IfOk result (λ trace. (trace.net ≡ design.net) × ArePrinted design.net timing.now stimulus.now trace.rows) }
+    ensures writable { IfOk result CanPrint }
+{
+    let Design { net, order } = design;
+    let line = TraceLine::new(alloc, &net)?;
+    let rows = refer_in_order(alloc, &net, timing, stimulus, order)?;
+    Ok(Trace { net, rows, line })
+}

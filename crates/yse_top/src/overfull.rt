@@ -1,0 +1,163 @@
+//! The lines of machine texts that are refused, and of designs that do not fit a machine.
+
+ghost use Rattle.std.specs.Prelude.{◌≡◌};
+ghost use Rattle.yse_top.specs.Lines.{machine_line, setting_line, ports_line, overfull_line, bits_line, slots_line, functions_line, memory_name as name_of_memory};
+ghost use Rattle.yse_top.specs.Writing.{Takes};
+
+use crate::diagnostics::{write_loop_line, write_memory_line, write_pieces};
+use edge_io::{Sink, WriteNo};
+use itoa::Buffer;
+use machine_text::MachNo;
+use net_defs::{Netlist, name_of};
+use yse_compile::CompNo;
+
+/// Writes the line of a machine text that is refused.
+pub fn write_machine_line<S: Sink>(sink: &mut S, no: &MachNo) -> Result<(), WriteNo>
+    ensures { Takes (S.taken sink.old) (S.taken sink.new) (S.faults sink.old) (S.faults sink.new)
+        result (machine_line no.now) }
+{
+    match no {
+        MachNo::Syntax { line } => write_setting_line(sink, *line, b"syntax"),
+        MachNo::Range { line } => write_setting_line(sink, *line, b"out of range"),
+        MachNo::Twice { line } => write_setting_line(sink, *line, b"given twice"),
+        MachNo::Ports { sum } => write_ports_line(sink, *sum),
+        MachNo::Memory => write_memory_line(sink),
+    }
+}
+
+#[tactic(auto, unfolding(crate::specs::Lines::setting_line))]
+fn write_setting_line<S: Sink>(sink: &mut S, line: u32, fault: &[u8]) -> Result<(), WriteNo>
+    ensures { Takes (S.taken sink.old) (S.taken sink.new) (S.faults sink.old) (S.faults sink.new)
+        result (setting_line line fault.now) }
+{
+    let mut number = Buffer::new();
+    let line = number.format(line).as_bytes();
+    write_pieces(sink, &[b"machine: line ", line, b": ", fault, b"\n"])
+}
+
+#[tactic(auto, unfolding(crate::specs::Lines::ports_line))]
+fn write_ports_line<S: Sink>(sink: &mut S, ports: u32) -> Result<(), WriteNo>
+    ensures { Takes (S.taken sink.old) (S.taken sink.new) (S.faults sink.old) (S.faults sink.new)
+        result (ports_line ports) }
+{
+    let mut number = Buffer::new();
+    let ports = number.format(ports).as_bytes();
+    write_pieces(sink, &[b"machine: ", ports, b" ports, limit is 256\n"])
+}
+
+/// Writes the line of a design that does not fit.
+pub fn write_overfull_line<S: Sink>(
+    sink: &mut S,
+    net: &Netlist,
+    no: &CompNo,
+) -> Result<(), WriteNo>
+    ensures { Takes (S.taken sink.old) (S.taken sink.new) (S.faults sink.old) (S.faults sink.new)
+        result (overfull_line net.now no.now) }
+{
+    match no {
+        CompNo::Loop(members) => write_loop_line(sink, net, members.as_slice()),
+        CompNo::Bits {
+            block,
+            needed,
+            left,
+        } => write_bits_line(sink, memory_name(net, *block), *needed, *left),
+        CompNo::Slots { needed, limit } => write_slots_line(sink, *needed, *limit),
+        CompNo::Functions {
+            port,
+            needed,
+            limit,
+        } => write_functions_line(sink, *port, *needed, *limit),
+        CompNo::Memory => write_memory_line(sink),
+    }
+}
+
+/// The name of a memory, which is that of its first output.
+fn memory_name(net: &Netlist, block: u32) -> &[u8]
+    ensures { result.now ≡ name_of_memory net.now block }
+{
+    match net.blocks.get(block as usize) {
+        Some(memory) => {
+            let first = match memory.outs.get(0) {
+                Some(first) => *first,
+                None => 0,
+            };
+            name_of(net, first)
+        }
+        None => b"",
+    }
+}
+
+#[tactic(auto, unfolding(crate::specs::Lines::bits_line))]
+fn write_bits_line<S: Sink>(
+    sink: &mut S,
+    name: &[u8],
+    needed: u32,
+    left: u32,
+) -> Result<(), WriteNo>
+    ensures { Takes (S.taken sink.old) (S.taken sink.new) (S.faults sink.old) (S.faults sink.new)
+        result (bits_line name.now needed left) }
+{
+    let (mut first, mut second) = (Buffer::new(), Buffer::new());
+    let needed = first.format(needed).as_bytes();
+    let left = second.format(left).as_bytes();
+    write_pieces(
+        sink,
+        &[
+            b"overfull: bits of memory ",
+            name,
+            b": ",
+            needed,
+            b" needed, ",
+            left,
+            b" left\n",
+        ],
+    )
+}
+
+#[tactic(auto, unfolding(crate::specs::Lines::slots_line))]
+fn write_slots_line<S: Sink>(sink: &mut S, needed: u32, limit: u32) -> Result<(), WriteNo>
+    ensures { Takes (S.taken sink.old) (S.taken sink.new) (S.faults sink.old) (S.faults sink.new)
+        result (slots_line needed limit) }
+{
+    let (mut first, mut second) = (Buffer::new(), Buffer::new());
+    let needed = first.format(needed).as_bytes();
+    let limit = second.format(limit).as_bytes();
+    write_pieces(
+        sink,
+        &[
+            b"overfull: slots: ",
+            needed,
+            b" needed, limit is ",
+            limit,
+            b"\n",
+        ],
+    )
+}
+
+#[tactic(auto, unfolding(crate::specs::Lines::functions_line))]
+fn write_functions_line<S: Sink>(
+    sink: &mut S,
+    port: u32,
+    needed: u32,
+    limit: u32,
+) -> Result<(), WriteNo>
+    ensures { Takes (S.taken sink.old) (S.taken sink.new) (S.faults sink.old) (S.faults sink.new)
+        result (functions_line port needed limit) }
+{
+    let (mut first, mut second, mut third) = (Buffer::new(), Buffer::new(), Buffer::new());
+    let port = first.format(port).as_bytes();
+    let needed = second.format(needed).as_bytes();
+    let limit = third.format(limit).as_bytes();
+    write_pieces(
+        sink,
+        &[
+            b"overfull: functions of logic port ",
+            port,
+            b": ",
+            needed,
+            b" needed, limit is ",
+            limit,
+            b"\n",
+        ],
+    )
+}
