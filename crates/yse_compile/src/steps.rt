@@ -101,11 +101,13 @@ fn homes_of(
 {
     match homes(alloc, nodes, machine) {
         Ok(homes) => Ok(homes),
-        Err(HomeNo::Bits {
-            block,
-            needed,
-            left,
-        }) => Err(CompNo::Bits {
+        Err(
+            HomeNo::Bits {
+                block,
+                needed,
+                left,
+            },
+        ) => Err(CompNo::Bits {
             block,
             needed,
             left,
@@ -135,11 +137,13 @@ fn plan_of(
     match first_fit(alloc, nodes, homes, machine) {
         Ok(plan) => Ok(plan),
         Err(PlanNo::Slots { needed, limit }) => Err(CompNo::Slots { needed, limit }),
-        Err(PlanNo::Functions {
-            port,
-            needed,
-            limit,
-        }) => Err(CompNo::Functions {
+        Err(
+            PlanNo::Functions {
+                port,
+                needed,
+                limit,
+            },
+        ) => Err(CompNo::Functions {
             port,
             needed,
             limit,
