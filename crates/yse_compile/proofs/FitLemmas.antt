@@ -11,10 +11,10 @@ use Rattle.plan_defs.specs.declared.plan.Homes.{Homes}
 use Rattle.plan_defs.specs.declared.plan.Plan.{Plan}
 use Rattle.plan_defs.specs.Picks.{ArePicked, FindsNoPort}
 use Rattle.plan_defs.specs.Slots.{IsFirstFitPlan}
-use Rattle.plan_defs.specs.Tables.{UsesTables, FitsTables, Fits, slot_limit, table_limit}
+use Rattle.plan_defs.specs.Tables.{UsesTables, FitsTables, slot_limit, table_limit}
 use Rattle.slot_plan.specs.Refusals.{IsCrowded}
 use Rattle.yse_compile.specs.declared.compiler.CompNo.{CompNo}
-use Rattle.yse_compile.specs.declared.compiler.CompNo.TheVariants.{Loop, Bits, Slots, Functions, Memory}
+use Rattle.yse_compile.specs.declared.compiler.CompNo.TheVariants.{Bits, Slots, Functions}
 use Rattle.yse_compile.specs.Designs.{IsAcyclic, DesignFits}
 use Rattle.yse_compile.specs.Compiled.{IsRight, IsOverfull}
 use Rattle.yse_compile.proofs.KnownLemmas.{first_or_all}

@@ -2,6 +2,7 @@
 use Rattle.std.proofs.Common.{◌≡◌, ◌⊎◌, inl, inr, ℕ, zero, suc, ◌+◌, ◌-◌, ◌<◌, ◌≤◌, List, [], ◌∷◌, ◌++◌, length, get_or, set, replicate, refl, sym, subst, arith}
 use Rattle.std.specs.Prelude.{Some, slice_get}
 use Rattle.std.proofs.lemmas.Bool.{cases_lt}
+use Rattle.std.proofs.Math.Numerals.{add-one}
 use Rattle.machine_text.specs.declared.machine.Machine.{Machine}
 use Rattle.node_defs.specs.declared.items.Item.{Item}
 use Rattle.node_defs.specs.declared.items.NodeBlock.{NodeBlock}
@@ -10,14 +11,11 @@ use Rattle.node_defs.specs.WellFormed.{IsWellFormed}
 use Rattle.node_defs.proofs.MemberLemmas.{member_at}
 use Rattle.plan_defs.specs.declared.plan.Homes.{Homes}
 use Rattle.plan_defs.specs.Lists.{IsLeastFree}
-use Rattle.plan_defs.specs.Picks.{bits_of, bit_limit, AreHoused, ArePicked, FindsNoPort}
+use Rattle.plan_defs.specs.Picks.{bits_of, bit_limit, ArePicked, FindsNoPort}
 use Rattle.home_pick.specs.Rooms.{LacksBits, IsMostLeft, AreFilled, port_of, AreItemPorts}
 use Rattle.home_pick.proofs.FillLemmas.{filled_none, filled_more, none_found, left_none, left_more, bits_read, some_bits}
 use Rattle.home_pick.proofs.HomeLemmas.{picked_are, ports_more}
 use Rattle.yse_compile.proofs.KnownLemmas.{known_less, least_or_all}
-
-more : (n : ℕ) → n + 1 ≡ suc n
-more n = omega arith
 
 -- the most that is left on the first n array ports
 most_left : (machine : Machine) (used : List ℕ) (n : ℕ) → (left : ℕ) × IsMostLeft machine used n left
@@ -25,9 +23,12 @@ most_left machine used zero = (0, left_none machine used)
 most_left machine used (suc n) = next (most_left machine used n).0 (most_left machine used n).1 where
   next : (left : ℕ) → IsMostLeft machine used n left → (new : ℕ) × IsMostLeft machine used (suc n) new
   next left before = elim (cases_lt left (bit_limit machine n - get_or used n 0)) [
-    | inl low ↦ (bit_limit machine n - get_or used n 0, subst (λ k. IsMostLeft machine used k (bit_limit machine n - get_or used n 0)) (more n)
-      (left_more machine used n left (bit_limit machine n - get_or used n 0) before (omega (arith, low), omega arith) (inr refl)))
-    | inr up ↦ (left, subst (λ k. IsMostLeft machine used k left) (more n) (left_more machine used n left left before (omega arith, up) (inl refl)))
+    | inl low ↦ (
+      bit_limit machine n - get_or used n 0,
+      subst (λ k. IsMostLeft machine used k (bit_limit machine n - get_or used n 0)) (add-one n)
+          (left_more machine used n left (bit_limit machine n - get_or used n 0) before (omega (arith, low), omega arith) (inr refl)),
+    )
+    | inr up ↦ (left, subst (λ k. IsMostLeft machine used k left) (add-one n) (left_more machine used n left left before (omega arith, up) (inl refl)))
   ]
 
 -- a memory has a bit
@@ -64,7 +65,7 @@ filled_to : (nodes : NodeNet) (machine : Machine) (n : ℕ) → IsWellFormed nod
 filled_to nodes machine zero formed up = inl (record { ports = []; used = replicate machine.array 0 }, filled_none nodes machine)
 filled_to nodes machine (suc n) formed up = next (filled_to nodes machine n formed (omega (arith, up))) where
   next : AreFilledOrNot nodes machine n → AreFilledOrNot nodes machine (suc n)
-  next (inl (filling, before)) = subst (AreFilledOrNot nodes machine) (more n) (filled_next nodes machine n formed (omega (arith, up)) filling before)
+  next (inl (filling, before)) = subst (AreFilledOrNot nodes machine) (add-one n) (filled_next nodes machine n formed (omega (arith, up)) filling before)
   next (inr refused) = inr refused
 
 -- the ports of the first n items
@@ -74,7 +75,7 @@ ports_to nodes machine blocks (suc n) up = next (ports_to nodes machine blocks n
   next : (ports : List ℕ) × AreItemPorts nodes machine blocks n ports → (item : Item) × (slice_get nodes.items n ≡ Some item) → (ports : List ℕ) × AreItemPorts nodes machine blocks (suc n) ports
   next (ports, before) (item, is) = (
     ports ++ port_of nodes machine blocks n item ∷ [],
-    subst (λ k. AreItemPorts nodes machine blocks k (ports ++ port_of nodes machine blocks n item ∷ [])) (more n)
+    subst (λ k. AreItemPorts nodes machine blocks k (ports ++ port_of nodes machine blocks n item ∷ [])) (add-one n)
         (ports_more nodes machine blocks ports n (port_of nodes machine blocks n item) item before is refl),
   )
 

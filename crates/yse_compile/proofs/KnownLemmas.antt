@@ -1,9 +1,10 @@
 -- What is known to be so or not so, and the first number that fails.
-use Rattle.std.proofs.Common.{◌≡◌, ◌∙◌, ◌⊎◌, inl, inr, ℕ, zero, suc, ◌+◌, ◌<◌, ◌≤◌, List, [], ◌∷◌, ◌++◌, length, get_or, refl, sym, subst, arith}
+use Rattle.std.proofs.Common.{◌≡◌, ◌∙◌, ◌⊎◌, inl, inr, ℕ, zero, suc, ◌<◌, ◌≤◌, List, [], ◌∷◌, ◌++◌, length, get_or, refl, sym, subst, arith}
 use Rattle.std.specs.Prelude.{Option, Some, None, slice_get}
 use Rattle.std.specs.List.{Contains}
 use Rattle.std.proofs.lemmas.Bool.{cases_eq, cases_lt}
 use Rattle.std.proofs.lemmas.Option.{slice_get_within}
+use Rattle.std.proofs.Math.Numerals.{add-one}
 use Rattle.node_defs.proofs.MemberLemmas.{some_only, none_some}
 use Rattle.plan_defs.specs.Lists.{ListsBelow, IsLeastFree}
 use Rattle.plan_defs.proofs.ListLemmas.{last_or, listed_none, listed_more, listed_not}
@@ -86,9 +87,6 @@ known_member {X} P each xs =
 pub listed_to : (P : ℕ → Type 0) → ((k : ℕ) → IsKnown (P k)) → (n : ℕ) → (xs : List ℕ) × ListsBelow P n xs
 listed_to P each zero = ([], listed_none P)
 listed_to P each (suc n) = next (listed_to P each n) (each n) where
-  more : n + 1 ≡ suc n
-  more = omega arith
-
   next : (xs : List ℕ) × ListsBelow P n xs → IsKnown (P n) → (xs : List ℕ) × ListsBelow P (suc n) xs
-  next (xs, listed) (inl is) = (xs ++ n ∷ [], subst (λ k. ListsBelow P k (xs ++ n ∷ [])) more (listed_more P n xs listed is))
-  next (xs, listed) (inr never) = (xs, subst (λ k. ListsBelow P k xs) more (listed_not P n xs listed never))
+  next (xs, listed) (inl is) = (xs ++ n ∷ [], subst (λ k. ListsBelow P k (xs ++ n ∷ [])) (add-one n) (listed_more P n xs listed is))
+  next (xs, listed) (inr never) = (xs, subst (λ k. ListsBelow P k xs) (add-one n) (listed_not P n xs listed never))

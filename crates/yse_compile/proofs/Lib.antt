@@ -1,7 +1,7 @@
 pub mod FitLemmas
 pub mod HousedLemmas
 pub mod KnownLemmas
-pub mod KnownReaders
+pub mod KnownUses
 pub mod OneNone
 pub mod OneRefusal
 pub mod PlanExists

@@ -1,6 +1,6 @@
 -- There is a first-fit plan, and each port's tables are counted.
-use Rattle.std.proofs.Common.{◌≡◌, ◌∙◌, ◌⊎◌, inl, inr, ℕ, zero, suc, ◌+◌, ◌<◌, ◌≤◌, List, [], ◌∷◌, ◌++◌, length, refl, sym, ap, subst, arith}
-use Rattle.std.proofs.lemmas.Bool.{cases_lt}
+use Rattle.std.proofs.Common.{◌≡◌, inl, inr, ℕ, zero, suc, ◌+◌, ◌<◌, List, [], ◌∷◌, ◌++◌, length, refl, sym, ap, subst, arith}
+use Rattle.std.proofs.Math.Numerals.{add-one}
 use Rattle.std.proofs.lemmas.List.{length-append}
 use Rattle.list_laws.proofs.Places.{read_before, read_last}
 use Rattle.node_defs.specs.declared.items.Item.TheVariants.{Node}
@@ -15,20 +15,20 @@ use Rattle.plan_defs.specs.Tables.{UsesTable, UsesTables}
 use Rattle.plan_defs.proofs.ListLemmas.{last_or, listed_all}
 use Rattle.plan_defs.proofs.PlanLemmas.{blocked_agree, least_same}
 use Rattle.yse_compile.proofs.KnownLemmas.{least_or_all, listed_to}
-use Rattle.yse_compile.proofs.KnownReaders.{blocked_known, table_known}
-
-more : (n : ℕ) → n + 1 ≡ suc n
-more n = omega arith
+use Rattle.yse_compile.proofs.KnownUses.{blocked_known, table_known}
 
 -- the slots of the first n items are below some number
 slots_end : (slots : List ℕ) (n : ℕ) → (end : ℕ) × ((k : ℕ) → k < n → slot_of slots k < end)
 slots_end slots zero = (0, λ k low. absurd (omega (arith, low)))
 slots_end slots (suc n) = next (slots_end slots n).0 (slots_end slots n).1 where
   next : (end : ℕ) → ((k : ℕ) → k < n → slot_of slots k < end) → (past : ℕ) × ((k : ℕ) → k < suc n → slot_of slots k < past)
-  next end below = (end + slot_of slots n + 1, λ k low. elim (last_or k n (omega (arith, low))) [
-    | inl under ↦ omega (arith, below k under)
-    | inr same ↦ omega (arith, ap (slot_of slots) same)
-  ])
+  next end below = (
+    end + slot_of slots n + 1,
+    λ k low. elim (last_or k n (omega (arith, low))) [
+      | inl under ↦ omega (arith, below k under)
+      | inr same ↦ omega (arith, ap (slot_of slots) same)
+    ],
+  )
 
 module _ (nodes : NodeNet) (homes : Homes) (formed : IsWellFormed nodes) where
   -- what rules a slot out is an item before
@@ -70,7 +70,7 @@ module _ (nodes : NodeNet) (homes : Homes) (formed : IsWellFormed nodes) where
     next : (slots : List ℕ) → AreFirstFit nodes homes slots n → (longer : List ℕ) × AreFirstFit nodes homes longer (suc n)
     next slots fit =
         let slot = least_there are slots n in
-        (slots ++ slot.0 ∷ [], subst (AreFirstFit nodes homes (slots ++ slot.0 ∷ [])) (more n) (fit_next slots n slot.0 fit slot.1))
+        (slots ++ slot.0 ∷ [], subst (AreFirstFit nodes homes (slots ++ slot.0 ∷ [])) (add-one n) (fit_next slots n slot.0 fit slot.1))
 
   pub plan_exists : AreHomes nodes homes → (plan : Plan) × IsFirstFitPlan nodes homes plan
   plan_exists are =
@@ -79,9 +79,11 @@ module _ (nodes : NodeNet) (homes : Homes) (formed : IsWellFormed nodes) where
 
   pub tables_counted : (port : ℕ) → (count : ℕ) × UsesTables nodes homes port count
   tables_counted port =
-      let found = listed_to (UsesTable nodes homes port) (λ t. table_known nodes homes port t) (length nodes.tables) in
-      (length found.0, record {
-        numbers = found.0;
-        lists = listed_all (UsesTable nodes homes port) (length nodes.tables) found.0 found.1 (λ t u. formed.parts u.node (Node t u.feeds) u.is);
-        are = refl;
-      })
+      let found = listed_to (UsesTable nodes homes port) (λ t. table_known nodes homes port t) (length nodes.tables) in (
+        length found.0,
+        record {
+          numbers = found.0;
+          lists = listed_all (UsesTable nodes homes port) (length nodes.tables) found.0 found.1 (λ t u. formed.parts u.node (Node t u.feeds) u.is);
+          are = refl;
+        },
+      )

@@ -1,4 +1,3 @@
-use Rattle.std.proofs.Common.{sym}
 use Rattle.yse_compile.proofs.OneNone.{one_none}
 use Rattle.yse_compile.proofs.SameHomes.{refused_kept}
 use Rattle.yse_compile.proofs.law.one_lack.Goals as goal
