@@ -1,3 +1,10 @@
+pub mod FitLemmas
+pub mod HousedLemmas
+pub mod KnownLemmas
+pub mod KnownUses
+pub mod OneNone
+pub mod OneRefusal
+pub mod PlanExists
 pub mod SameHomes
 pub mod SameItems
 pub mod SamePlans

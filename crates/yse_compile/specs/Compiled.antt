@@ -47,3 +47,11 @@ IsRight net machine timing (Bits block needed left) = LacksBits net machine timi
 IsRight net machine timing (Slots needed limit) = LacksSlots net machine timing needed limit
 IsRight net machine timing (Functions port needed limit) = LacksFunctions net machine timing port needed limit
 IsRight net machine timing Memory = Unit {0}
+
+-- the refusal says that the machine is too small for the design
+abbrev pub IsOverfull : CompNo → Type 0
+IsOverfull (Loop members) = ⊥
+IsOverfull (Bits block needed left) = Unit {0}
+IsOverfull (Slots needed limit) = Unit {0}
+IsOverfull (Functions port needed limit) = Unit {0}
+IsOverfull Memory = ⊥
