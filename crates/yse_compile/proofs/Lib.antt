@@ -1,3 +1,4 @@
+pub mod InputLemmas
 pub mod SameHomes
 pub mod SameItems
 pub mod SamePlans
