@@ -1,5 +1,6 @@
 pub mod FitLemmas
 pub mod HousedLemmas
+pub mod InputLemmas
 pub mod KnownLemmas
 pub mod KnownUses
 pub mod OneNone
