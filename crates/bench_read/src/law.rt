@@ -25,6 +25,11 @@ pub fn reads_as_valid(text: &[u8], net: &Netlist)
     ensures { Reads text.now net.now → IsValid net.now }
 {}
 
+/// The same of all texts.
+pub fn texts_read_as_valid()
+    ensures { (text : Items ℕ) (net : Netlist) → length text ≤ MAX_TEXT_BYTES → Reads text net → IsValid net }
+{}
+
 /// The canonical text of a valid netlist reads as that netlist.
 pub fn canonical_reads(net: &Netlist)
     requires { IsValid net.now }

@@ -8,3 +8,6 @@ pub mod law;
 mod steps;
 
 pub use compiler::{CompNo, Compiled, compile};
+
+#[cfg(test)]
+mod tests;
