@@ -37,8 +37,8 @@ module _ {nodes : NodeNet} {homes : Homes} {plan : Plan} {switch : Switch} {timi
   -- ---- links out
 
   -- each reader of an item receives it
-  heard : (o r : ℕ) → IsReader nodes homes o r → ReceivesFrom image r (slot_of plan.slots o) (home_of homes o)
-  heard o r reads =
+  received_before : (o r : ℕ) → IsReader nodes homes o r → ReceivesFrom image r (slot_of plan.slots o) (home_of homes o)
+  received_before o r reads =
       let known : (o < length nodes.items) × (r < ports_of homes) = reader_port nodes homes o r planned.formed planned.housed reads in
       let port : (port : PortImage) × IsPort image r port = port_at laid r known.1 in
       record { port = port.0; is = port.1; receives = received planned routed laid r o port.0 port.1 known.0 reads }
@@ -49,7 +49,7 @@ module _ {nodes : NodeNet} {homes : Homes} {plan : Plan} {switch : Switch} {timi
     some = let low = ((of.readers.exact sent.reader).1 sent.reads).1 in omega (arith, low);
     rising = of.readers.rising;
     other = λ k r here same. (reads k r here).away (same ∙ sym sent.home);
-    received = λ k r here. subst (λ s. ReceivesFrom image r s p) (sym of.slot) (subst (ReceivesFrom image r (slot_of plan.slots o)) sent.home (heard o r (reads k r here)));
+    received = λ k r here. subst (λ s. ReceivesFrom image r s p) (sym of.slot) (subst (ReceivesFrom image r (slot_of plan.slots o)) sent.home (received_before o r (reads k r here)));
   } where
     reads : (k r : ℕ) → slice_get sending.readers k ≡ Some r → IsReader nodes homes o r
     reads k r here = (of.readers.exact r).0 (listed sending.readers k r here)

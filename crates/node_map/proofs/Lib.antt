@@ -8,3 +8,6 @@ pub mod TableLemmas
 pub mod MadeNodeLemmas
 pub mod ItemLemmas
 pub mod MadeLemmas
+pub mod SortLemmas
+pub mod ShelfLemmas
+pub mod ExistLemmas

@@ -59,7 +59,7 @@ before_from_sorted a b h differ =
         ]
       ]
 
-key_total : IsTotalOrder key_cmp
+pub key_total : IsTotalOrder key_cmp
 key_total = then_total (on_total (λ k. k.class) nat_cmp_total) (then_total (on_total (λ k. k.rank) nat_cmp_total) (then_total (on_total (λ k. k.signal) nat_cmp_total) (on_total (λ k. k.place) nat_cmp_total)))
 
 -- ---- keys that were moved

@@ -4,6 +4,7 @@
 
 mod items;
 mod keys;
+pub mod law;
 pub mod map;
 mod nodes;
 mod numbering;

@@ -17,7 +17,7 @@ use Rattle.image_defs.specs.declared.image.PortImage.{PortImage}
 use Rattle.image_defs.specs.declared.image.Image.{Image}
 use Rattle.image_defs.specs.Places.{Each, blocks_of, IsPort, IsItemIn, IsBlockOf}
 use Rattle.image_defs.specs.WellFormed.{IsWellFormed, IsPast, IsBlock, IsBit, IsWork}
-use Rattle.image_defs.specs.Steps.{value_of_member, past_value, block_act, block_bit, block_words_after, bit_value, item_value, times_of}
+use Rattle.image_defs.specs.Steps.{value_of_member, past_value, block_act, block_bit, block_words_after, bit_value, item_value, timing_of}
 use Rattle.image_defs.specs.Frames.{frame}
 use Rattle.image_defs.specs.Ports.{PortView, CanExecute, at_first, after_begin, after_execute, value_in}
 use Rattle.image_defs.proofs.PlaceLemmas.{at_map}
@@ -184,10 +184,10 @@ ready_executed a bank ready same = subst (λ view. IsReady (record a { bank = vi
 })
 
 -- a register's value does not depend on what it would take where there is no edge
-held_same : (image : Image) (turn : ℕ) (one other kept : V4) → (is_edge image.units turn ≡ true → one ≡ other) → registered (times_of image) turn one kept ≡ registered (times_of image) turn other kept
+held_same : (image : Image) (turn : ℕ) (one other kept : V4) → (is_edge image.units turn ≡ true → one ≡ other) → registered (timing_of image) turn one kept ≡ registered (timing_of image) turn other kept
 held_same image turn one other kept same = by_edge (is_edge image.units turn) refl where
-  by_edge : (edge : Bool) → is_edge image.units turn ≡ edge → registered (times_of image) turn one kept ≡ registered (times_of image) turn other kept
-  by_edge true is = ap (λ v. registered (times_of image) turn v kept) (same is)
+  by_edge : (edge : Bool) → is_edge image.units turn ≡ edge → registered (timing_of image) turn one kept ≡ registered (timing_of image) turn other kept
+  by_edge true is = ap (λ v. registered (timing_of image) turn v kept) (same is)
   by_edge false is = ap (held_by one) is ∙ sym (ap (held_by other) is) where
     held_by : V4 → Bool → V4
     held_by v edge = if turn == 1 then initial_value image.init else if edge then v else kept
@@ -197,7 +197,7 @@ pub next_answers : (a : Inside) (slot : ℕ) (bit : OutBit) (answer v : V4) → 
 next_answers a slot bit answer v ready can next is held =
     held can.port a.bank.executed can.is can.next
     ∙ held_same a.bank.image a.bank.turn answer (block_bit a.bank.port can.port.ins (past_in a.bank) a.blocks.now bit.block bit.bit) ((past_in a.bank).value a.bank.port slot) (λ edge. is ∙ next.answers edge)
-    ∙ ap (λ s. registered (times_of a.bank.image) a.bank.turn (block_bit a.bank.port can.port.ins (past_in a.bank) a.blocks.now bit.block bit.bit) ((past_in a.bank).value a.bank.port s)) (sym next.at)
+    ∙ ap (λ s. registered (timing_of a.bank.image) a.bank.turn (block_bit a.bank.port can.port.ins (past_in a.bank) a.blocks.now bit.block bit.bit) ((past_in a.bank).value a.bank.port s)) (sym next.at)
     ∙ ap (value_of_member (bit_value a.bank.image a.bank.turn a.bank.port can.port.ins (past_in a.bank) a.blocks.now)) (sym next.there)
     ∙ ap (λ work. item_value a.bank.image a.bank.stimulus a.bank.turn (past_in a.bank) (now_in a.bank).value a.bank.port can.port.ins work a.bank.executed) (sym (same_work a can.port ready can.is))
     ∙ sym (item_meets a.bank can.port a.bank.executed slot ready.image ready.first can.is can.next)

@@ -70,7 +70,7 @@ operand_at_hand view slot (Own s last) can fits operand = of_place operand.there
       (i, stands, λ now. stands_before (item_slots can.port.work) i view.executed s slot (rises (item_slots can.port.work) (fits.ports view.port can.port can.is).items) stands can.next (operand.before now))
 operand_at_hand view slot (Got s last) can fits operand = of_place operand.there where
   of_link : (i : ℕ) → (link : LinkIn) × (slice_get can.port.ins i ≡ Some link) × (link.slot ≡ s) → IsAtHand view can.port (Got s last)
-  of_link i (link, there, same) = (i, link, there, same, λ now. can.heard i link there (subst (λ t. t < slot) (sym same) (operand.before now)))
+  of_link i (link, there, same) = (i, link, there, same, λ now. can.received_before i link there (subst (λ t. t < slot) (sym same) (operand.before now)))
 
   of_place : (i : ℕ) × (slice_get (in_slots can.port.ins) i ≡ Some s) → IsAtHand view can.port (Got s last)
   of_place (i, stands) = of_link i (at_map (λ link. link.slot) can.port.ins i s stands)

@@ -7,7 +7,7 @@ use Rattle.image_defs.specs.declared.image.Source.TheVariants.{Own, Got, Const}
 use Rattle.image_defs.specs.declared.image.LinkIn.{LinkIn}
 use Rattle.image_defs.specs.declared.image.PortImage.{PortImage}
 use Rattle.image_defs.specs.Places.{IsPort, IsItemIn}
-use Rattle.image_defs.specs.Steps.{Frame, source_value, times_of}
+use Rattle.image_defs.specs.Steps.{Frame, source_value, timing_of}
 use Rattle.image_defs.specs.Frames.{frame}
 use Rattle.image_defs.specs.Ports.{PortView}
 use Rattle.port_bank.specs.declared.steps.Operand.{Operand}
@@ -47,4 +47,4 @@ IsTaken view source v =
 abbrev pub IsHeld : PortView → ℕ → V4 → V4 → Type 0
 IsHeld view slot new v =
     (port : PortImage) (i : ℕ) → IsPort view.image view.port port → IsItemIn port.work i slot
-    → v ≡ registered (times_of view.image) view.turn new ((past_in view).value view.port slot)
+    → v ≡ registered (timing_of view.image) view.turn new ((past_in view).value view.port slot)

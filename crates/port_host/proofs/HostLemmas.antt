@@ -18,7 +18,7 @@ use Rattle.image_defs.specs.declared.image.PortImage.{PortImage}
 use Rattle.image_defs.specs.declared.image.Image.{Image}
 use Rattle.image_defs.specs.Places.{Each, host_of, printed_of, item_slots, in_slots, IsPort, IsItemIn}
 use Rattle.image_defs.specs.WellFormed.{IsWellFormed, IsPresent, IsWork}
-use Rattle.image_defs.specs.Steps.{Grid, value_of_member, source_value, column_value, item_value, times_of}
+use Rattle.image_defs.specs.Steps.{Grid, value_of_member, source_value, column_value, item_value, timing_of}
 use Rattle.image_defs.specs.Frames.{frame, printed_value, shown}
 use Rattle.image_defs.specs.Ports.{PortView, CanExecute, CanEnd, at_first, after_end, value_in, last_turn}
 use Rattle.image_defs.proofs.PlaceLemmas.{at_map}

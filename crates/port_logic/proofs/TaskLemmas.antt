@@ -15,7 +15,7 @@ use Rattle.image_defs.specs.declared.image.Image.{Image}
 use Rattle.net_defs.specs.declared.stimulus.Stimulus.{Stimulus}
 use Rattle.image_defs.specs.Places.{Each, task_slot, IsPort, IsItemIn}
 use Rattle.image_defs.specs.WellFormed.{IsWellFormed, IsOperand, IsTask, IsWork}
-use Rattle.image_defs.specs.Steps.{past_value, task_value, item_value, value_of_member, times_of}
+use Rattle.image_defs.specs.Steps.{past_value, task_value, item_value, value_of_member, timing_of}
 use Rattle.image_defs.specs.Ports.{PortView, CanExecute, at_first, value_in}
 use Rattle.image_defs.proofs.PlaceLemmas.{at_map}
 use Rattle.port_bank.specs.declared.steps.Operand.{Operand}
@@ -37,8 +37,8 @@ held_right view tables from slot read kept is_read is_held port i task is stands
       let place : from ≡ operand_of view.image.slots source = cc in
       let taken : read ≡ past_value view.port port.ins (past_in view).value source = is_read port source is (past_at_hand view port source hand) place ∙ past_taken view port source hand in
       is_held port i is stands
-      ∙ ap (λ v. registered (times_of view.image) view.turn (settled v) ((past_in view).value view.port slot)) taken
-      ∙ ap (λ t. registered (times_of view.image) view.turn (settled (past_value view.port port.ins (past_in view).value source)) ((past_in view).value view.port t)) (sym at)
+      ∙ ap (λ v. registered (timing_of view.image) view.turn (settled v) ((past_in view).value view.port slot)) taken
+      ∙ ap (λ t. registered (timing_of view.image) view.turn (settled (past_value view.port port.ins (past_in view).value source)) ((past_in view).value view.port t)) (sym at)
 
 -- ---- the tasks of a logic processor
 

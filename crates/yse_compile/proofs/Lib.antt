@@ -1,3 +1,11 @@
+pub mod FitLemmas
+pub mod HousedLemmas
+pub mod InputLemmas
+pub mod KnownLemmas
+pub mod KnownUses
+pub mod OneNone
+pub mod OneRefusal
+pub mod PlanExists
 pub mod SameHomes
 pub mod SameItems
 pub mod SamePlans

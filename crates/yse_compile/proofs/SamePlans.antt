@@ -53,19 +53,19 @@ module _ (one other : NodeNet) (same : AreSameItems one other) (homes : Homes) w
       }
 
   heard_kept : (slots : List ℕ) (i s : ℕ) → IsHeard one homes slots i s → IsHeard other homes slots i s
-  heard_kept slots i s heard = record {
-    sent = heard.sent;
-    before = heard.before;
-    slot = heard.slot;
-    reader = heard.reader;
-    reads_sent = reader_kept heard.sent heard.reader heard.reads_sent;
-    reads = reader_kept i heard.reader heard.reads;
+  heard_kept slots i s received_before = record {
+    sent = received_before.sent;
+    before = received_before.before;
+    slot = received_before.slot;
+    reader = received_before.reader;
+    reads_sent = reader_kept received_before.sent received_before.reader received_before.reads_sent;
+    reads = reader_kept i received_before.reader received_before.reads;
   }
 
   blocked_kept : (slots : List ℕ) (i s : ℕ) → IsBlocked one homes slots i s → IsBlocked other homes slots i s
   blocked_kept slots i s (inl early) = inl (early_kept slots i s early)
   blocked_kept slots i s (inr (inl held)) = inr (inl held)
-  blocked_kept slots i s (inr (inr heard)) = inr (inr (heard_kept slots i s heard))
+  blocked_kept slots i s (inr (inr received_before)) = inr (inr (heard_kept slots i s received_before))
 
 -- a first-fit plan of the one is that of the other
 pub plan_kept : (one other : NodeNet) (homes : Homes) (plan : Plan) → AreSameItems one other → AreSameItems other one → IsFirstFitPlan one homes plan → IsFirstFitPlan other homes plan

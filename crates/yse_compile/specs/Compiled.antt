@@ -48,7 +48,7 @@ IsRight net machine timing (Slots needed limit) = LacksSlots net machine timing 
 IsRight net machine timing (Functions port needed limit) = LacksFunctions net machine timing port needed limit
 IsRight net machine timing Memory = Unit {0}
 
--- the refusals of designs that do not fit
+-- the refusal says that the machine is too small for the design
 abbrev pub IsOverfull : CompNo → Type 0
 IsOverfull (Loop members) = ⊥
 IsOverfull (Bits block needed left) = Unit {0}

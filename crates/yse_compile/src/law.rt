@@ -1,15 +1,24 @@
 //! Laws of designs and machines: functions that do nothing, whose clauses hold of all of them.
 
-ghost use Rattle.std.specs.Prelude.{◌≡◌, ℕ};
+ghost use Rattle.std.specs.Prelude.{◌≡◌, ◌⊎◌, ℕ};
 ghost use Rattle.machine_text.specs.declared.machine.Machine.{Machine};
+ghost use Rattle.machine_text.specs.Machines.{IsValid as IsValidMachine};
 ghost use Rattle.net_defs.specs.declared.netlist.Netlist.{Netlist};
 ghost use Rattle.net_defs.specs.declared.timing.Timing.{Timing};
 ghost use Rattle.net_defs.specs.Valid.{IsValid};
 ghost use Rattle.node_defs.specs.declared.items.NodeNet.{NodeNet};
 ghost use Rattle.node_defs.specs.Order.{AreItems};
+ghost use Rattle.node_defs.specs.WellFormed.{IsWellFormed};
 ghost use Rattle.plan_defs.specs.declared.plan.Homes.{Homes};
-ghost use Rattle.plan_defs.specs.Picks.{ArePicked};
-ghost use Rattle.yse_compile.specs.Designs.{DesignFits, LacksBits, LacksSlots, LacksFunctions};
+ghost use Rattle.plan_defs.specs.declared.plan.Plan.{Plan};
+ghost use Rattle.plan_defs.specs.Homes.{AreHomes};
+ghost use Rattle.plan_defs.specs.Picks.{ArePicked, FindsNoPort};
+ghost use Rattle.plan_defs.specs.Slots.{IsFirstFitPlan};
+ghost use Rattle.plan_defs.specs.Tables.{UsesTables};
+ghost use Rattle.yse_compile.specs.declared.compiler.CompNo.{CompNo};
+ghost use Rattle.yse_compile.specs.Compiled.{IsRight, IsOverfull};
+ghost use Rattle.yse_compile.specs.Designs.{IsAcyclic, DesignFits};
+ghost use Rattle.yse_compile.specs.Designs.{LacksBits, LacksSlots, LacksFunctions};
 
 use home_pick::law::{housed_or_refused, one_housing};
 use node_defs::law::one_list;
@@ -27,13 +36,81 @@ pub fn one_homes()
     one_housing();
 }
 
+/// A law: on a machine the first-fit plans of a netlist need one number of slots, whichever numbers
+/// its tables have. It does nothing.
+pub fn one_need()
+    ensures { (net : Netlist) (machine : Machine) (timing : Timing) (nodes others : NodeNet)
+        → IsValid net → AreItems net timing nodes → AreItems net timing others
+        → (homes other_homes : Homes) → ArePicked nodes machine homes
+        → ArePicked others machine other_homes
+        → (plan other : Plan) → IsFirstFitPlan nodes homes plan
+        → IsFirstFitPlan others other_homes other → plan.needed ≡ other.needed }
+{
+    one_list();
+    one_homes();
+    items_are_well_formed();
+    one_plan();
+}
+
+/// A law: on a machine there are homes that are picked for items, or a memory is the first that
+/// finds no port. It does nothing.
+pub fn homes_or_refusal()
+    ensures { (nodes : NodeNet) (machine : Machine) → IsWellFormed nodes → IsValidMachine machine
+        → ((homes : Homes) × ArePicked nodes machine homes × AreHomes nodes homes)
+        ⊎ ((block needed left : ℕ) × FindsNoPort nodes machine block needed left) }
+{}
+
+/// A law: items at their homes have a first-fit plan. It does nothing.
+pub fn plan_exists()
+    ensures { (nodes : NodeNet) (homes : Homes) → IsWellFormed nodes → AreHomes nodes homes
+        → (plan : Plan) × IsFirstFitPlan nodes homes plan }
+{}
+
+/// A law: the tables of a port's nodes have a number. It does nothing.
+pub fn tables_counted()
+    ensures { (nodes : NodeNet) (homes : Homes) → IsWellFormed nodes
+        → (port : ℕ) → (count : ℕ) × UsesTables nodes homes port count }
+{}
+
+/// A law: without a loop, a design fits a machine, or a refusal is right which says that the
+/// machine is too small. It does nothing.
+pub fn fits_or_refused()
+    ensures { (net : Netlist) (machine : Machine) (timing : Timing) (nodes : NodeNet) → IsValid net
+        → IsValidMachine machine → IsAcyclic net timing → AreItems net timing nodes
+        → DesignFits net machine timing
+        ⊎ ((refusal : CompNo) × IsRight net machine timing refusal × IsOverfull refusal) }
+{
+    items_are_well_formed();
+    homes_or_refusal();
+    plan_exists();
+    tables_counted();
+}
+
+/// A law: where a memory finds no port, the items have no homes. It does nothing.
+pub fn bits_first()
+    ensures { (net : Netlist) (machine : Machine) (timing : Timing) (nodes : NodeNet)
+        → (homes : Homes) → AreItems net timing nodes → ArePicked nodes machine homes
+        → (block needed left : ℕ) → LacksBits net machine timing block needed left → ⊥ }
+{
+    one_list();
+    housed_or_refused();
+}
+
+/// A law: where a plan has too many slots, no port's tables are spoken of. It does nothing.
+pub fn slots_first()
+    ensures { (net : Netlist) (machine : Machine) (timing : Timing) → IsValid net
+        → (needed limit port tables most : ℕ) → LacksSlots net machine timing needed limit
+        → LacksFunctions net machine timing port tables most → ⊥ }
+{
+    one_need();
+}
+
 /// A law: where a design fits, no memory is without a port. It does nothing.
 pub fn fits_bits()
     ensures { (net : Netlist) (machine : Machine) (timing : Timing) → DesignFits net machine timing
         → (block needed left : ℕ) → LacksBits net machine timing block needed left → ⊥ }
 {
-    one_list();
-    housed_or_refused();
+    bits_first();
 }
 
 /// A law: where a design fits, its plan needs no more slots than a turn has. It does nothing.
@@ -42,10 +119,7 @@ pub fn fits_slots()
         → DesignFits net machine timing
         → (needed limit : ℕ) → LacksSlots net machine timing needed limit → ⊥ }
 {
-    one_list();
-    one_homes();
-    items_are_well_formed();
-    one_plan();
+    one_need();
 }
 
 /// A law: where a design fits, no port's nodes use too many tables. It does nothing.
@@ -55,4 +129,55 @@ pub fn fits_functions()
 {
     one_list();
     one_homes();
+}
+
+/// A law: one memory is the first that finds no port, its bits are one number, and so are those
+/// that are left. It does nothing.
+pub fn one_lack()
+    ensures { (net : Netlist) (machine : Machine) (timing : Timing)
+        → (block needed left other_block other_needed other_left : ℕ)
+        → LacksBits net machine timing block needed left
+        → LacksBits net machine timing other_block other_needed other_left
+        → (block ≡ other_block) × (needed ≡ other_needed) × (left ≡ other_left) }
+{
+    one_list();
+    one_housing();
+}
+
+/// A law: a plan of too many slots needs one number of them. It does nothing.
+pub fn one_length()
+    ensures { (net : Netlist) (machine : Machine) (timing : Timing) → IsValid net
+        → (needed limit other_needed other_limit : ℕ)
+        → LacksSlots net machine timing needed limit
+        → LacksSlots net machine timing other_needed other_limit
+        → (needed ≡ other_needed) × (limit ≡ other_limit) }
+{
+    one_need();
+}
+
+/// A law: one port is the first whose nodes use too many tables, and they are one number. It does
+/// nothing.
+pub fn one_crowd()
+    ensures { (net : Netlist) (machine : Machine) (timing : Timing)
+        → (port needed limit other_port other_needed other_limit : ℕ)
+        → LacksFunctions net machine timing port needed limit
+        → LacksFunctions net machine timing other_port other_needed other_limit
+        → (port ≡ other_port) × (needed ≡ other_needed) × (limit ≡ other_limit) }
+{
+    one_list();
+    one_homes();
+}
+
+/// A law: of the refusals which say that a machine is too small for a design, one is right. It does
+/// nothing.
+pub fn one_refusal()
+    ensures { (net : Netlist) (machine : Machine) (timing : Timing) → IsValid net
+        → (one other : CompNo) → IsRight net machine timing one → IsRight net machine timing other
+        → IsOverfull one → IsOverfull other → one ≡ other }
+{
+    one_lack();
+    bits_first();
+    one_length();
+    slots_first();
+    one_crowd();
 }

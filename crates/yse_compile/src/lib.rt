@@ -4,6 +4,7 @@
 #![tactic(auto)]
 
 pub mod compiler;
+pub mod inputs;
 pub mod law;
 mod steps;
 

@@ -14,10 +14,10 @@ input_value-value-requires-clause-column c =
 pub execute-requires-clause-value : goal.execute-requires-clause-value
 execute-requires-clause-value c =
     let can : CanExecute c.self.inside.bank c.args.slot = subst (λ v. CanExecute v c.args.slot) (sym c.self.view_is) c.requires in
-    next_answers c.self.inside c.args.slot _ c.value-value.result c.self.invariant can (next_input c.self.inside c.args.slot c.executed.result _ c.self.invariant can c.executed.ensures) c.value-value.ensures
+    next_answers c.self.inside c.args.slot _ c.input_value-value.result c.self.invariant can (next_input c.self.inside c.args.slot c.executed.result _ c.self.invariant can c.executed.ensures) c.input_value-value.ensures
 
 pub returns-clause-value : goal.returns-clause-value
 returns-clause-value c =
     let can : CanExecute c.self.inside.bank c.args.slot = subst (λ v. CanExecute v c.args.slot) (sym c.self.view_is) c.requires in
-    next_answers c.self.inside c.args.slot _ c.value-value.result c.self.invariant can (next_input c.self.inside c.args.slot c.executed.result _ c.self.invariant can c.executed.ensures) c.value-value.ensures
+    next_answers c.self.inside c.args.slot _ c.input_value-value.result c.self.invariant can (next_input c.self.inside c.args.slot c.executed.result _ c.self.invariant can c.executed.ensures) c.input_value-value.ensures
     ∙ ap (λ v. value_in v c.args.slot) c.self.view_is

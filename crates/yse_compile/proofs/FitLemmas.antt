@@ -1,0 +1,100 @@
+-- A design fits, or there is a refusal; and refusals exclude each other.
+use Rattle.std.proofs.Common.{◌≡◌, ◌∙◌, ◌⊎◌, inl, inr, ℕ, ◌<◌, ◌≤◌, ap, subst, arith, sym, refl}
+use Rattle.std.proofs.lemmas.Bool.{cases_lt, cases_order}
+use Rattle.machine_text.specs.declared.machine.Machine.{Machine}
+use Rattle.net_defs.specs.declared.netlist.Netlist.{Netlist}
+use Rattle.net_defs.specs.declared.timing.Timing.{Timing}
+use Rattle.node_defs.specs.declared.items.NodeNet.{NodeNet}
+use Rattle.node_defs.specs.Order.{AreItems}
+use Rattle.node_defs.specs.Same.{AreSameItems}
+use Rattle.plan_defs.specs.declared.plan.Homes.{Homes}
+use Rattle.plan_defs.specs.declared.plan.Plan.{Plan}
+use Rattle.plan_defs.specs.Picks.{ArePicked, FindsNoPort}
+use Rattle.plan_defs.specs.Slots.{IsFirstFitPlan}
+use Rattle.plan_defs.specs.Tables.{UsesTables, FitsTables, slot_limit, table_limit}
+use Rattle.slot_plan.specs.Refusals.{IsCrowded}
+use Rattle.yse_compile.specs.declared.compiler.CompNo.{CompNo}
+use Rattle.yse_compile.specs.declared.compiler.CompNo.TheVariants.{Bits, Slots, Functions}
+use Rattle.yse_compile.specs.Designs.{IsAcyclic, DesignFits}
+use Rattle.yse_compile.specs.Compiled.{IsRight, IsOverfull}
+use Rattle.yse_compile.proofs.KnownLemmas.{first_or_all}
+use Rattle.yse_compile.proofs.SameTables.{tables_few}
+
+-- ---- a design fits or is refused
+
+-- it fits, or a refusal of a machine that is too small is right
+abbrev pub FitsOrNot : Netlist → Machine → Timing → Type 0
+FitsOrNot net machine timing = DesignFits net machine timing ⊎ ((refusal : CompNo) × IsRight net machine timing refusal × IsOverfull refusal)
+
+module _ (net : Netlist) (machine : Machine) (timing : Timing) (nodes : NodeNet) (acyclic : IsAcyclic net timing) (items : AreItems net timing nodes) where
+  module _ (homes : Homes) (picked : ArePicked nodes machine homes) (counted : (port : ℕ) → (count : ℕ) × UsesTables nodes homes port count) (plan : Plan) (first_fit : IsFirstFitPlan nodes homes plan) where
+    port_fits : (port : ℕ) → FitsTables nodes homes machine port ⊎ ((count : ℕ) × UsesTables nodes homes port count × (table_limit machine port < count))
+    port_fits port = elim (cases_lt (table_limit machine port) (counted port).0) [
+      | inl past ↦ inr ((counted port).0, (counted port).1, past)
+      | inr few ↦ inl (record { count = (counted port).0; uses = (counted port).1; few = few })
+    ]
+
+    tables_fit : plan.needed ≤ slot_limit machine → FitsOrNot net machine timing
+    tables_fit short = elim (first_or_all (FitsTables nodes homes machine) (λ port. (count : ℕ) × UsesTables nodes homes port count × (table_limit machine port < count)) port_fits homes.logic) [
+      | inl found ↦ inr (
+        Functions found.0 found.2.0 (table_limit machine found.0),
+        record {
+          acyclic = acyclic;
+          nodes = nodes;
+          items = items;
+          homes = homes;
+          picked = picked;
+          crowded = record { plan = plan; is = first_fit; short = short; logic = found.1; uses = found.2.1; most = refl; past = found.2.2; before = found.3 };
+        },
+        tt,
+      )
+      | inr all ↦ inl (record { acyclic = acyclic; nodes = nodes; items = items; homes = homes; picked = picked; plan = plan; first_fit = first_fit; fits = record { slots = short; tables = all } })
+    ]
+
+    pub plan_fits : FitsOrNot net machine timing
+    plan_fits = elim (cases_lt (slot_limit machine) plan.needed) [
+      | inr short ↦ tables_fit short
+      | inl past ↦ inr (
+        Slots plan.needed (slot_limit machine),
+        record {
+          acyclic = acyclic;
+          nodes = nodes;
+          items = items;
+          homes = homes;
+          picked = picked;
+          long = record { plan = plan; is = first_fit; needs = refl; most = refl; past = past };
+        },
+        tt,
+      )
+    ]
+
+  pub none_fits : (block needed left : ℕ) → FindsNoPort nodes machine block needed left → FitsOrNot net machine timing
+  none_fits block needed left none = inr (Bits block needed left, record { acyclic = acyclic; nodes = nodes; items = items; none = none }, tt)
+
+-- ---- one port is the first whose tables are too many
+
+module _ (one other : NodeNet) (homes : Homes) (machine : Machine) (there : AreSameItems one other) where
+  not_both : (port needed : ℕ) → UsesTables one homes port needed → table_limit machine port < needed → FitsTables other homes machine port → ⊥
+  not_both port needed uses past few =
+      let up : needed ≤ few.count = tables_few one other homes port needed few.count there uses few.uses in
+      omega (arith, up, past, few.few)
+
+  pub one_port : (port needed limit next more most : ℕ) → IsCrowded one homes machine port needed limit → IsCrowded other homes machine next more most → (port < next → ⊥) × ((port ≡ next) → (needed ≤ more) × (limit ≡ most))
+  one_port port needed limit next more most first second = (
+    λ low. not_both port needed first.uses (subst (λ n. n < needed) first.most first.past) (second.before port low),
+    λ same. (
+      tables_few one other homes port needed more there first.uses (subst (λ p. UsesTables other homes p more) (sym same) second.uses),
+      first.most ∙ (ap (table_limit machine) same ∙ sym second.most),
+    ),
+  )
+
+pub one_crowded : (one other : NodeNet) (homes : Homes) (machine : Machine) (port needed limit next more most : ℕ) → AreSameItems one other → AreSameItems other one
+    → IsCrowded one homes machine port needed limit → IsCrowded other homes machine next more most → (port ≡ next) × (needed ≡ more) × (limit ≡ most)
+one_crowded one other homes machine port needed limit next more most there back first second =
+    let here = one_port one other homes machine there port needed limit next more most first second in
+    let over = one_port other one homes machine back next more most port needed limit second first in
+    elim (cases_order port next) [
+      | inr (inl below) ↦ absurd (here.0 below)
+      | inr (inr above) ↦ absurd (over.0 above)
+      | inl same ↦ (same, omega (arith, (here.1 same).0, (over.1 (sym same)).0), (here.1 same).1)
+    ]

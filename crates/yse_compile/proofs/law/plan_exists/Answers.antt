@@ -1,0 +1,5 @@
+use Rattle.yse_compile.proofs.PlanExists as plans
+use Rattle.yse_compile.proofs.law.plan_exists.Goals as goal
+
+pub returns : goal.returns
+returns c nodes homes formed are = plans.plan_exists nodes homes formed are
