@@ -5,10 +5,13 @@ ghost use Rattle.yse_top.specs.Forms.{ReadsForms};
 ghost use Rattle.yse_top.specs.Law.{AreProper, TellsWords, HasStatus};
 ghost use Rattle.yse_top.specs.Words.{HasValidTiming, request_of};
 
-use bench_read::law::reads_or_faults as netlists_or_faults;
+use bench_read::law::{reads_or_faults as netlists_or_faults, texts_read_as_valid};
+use machine_text::law::{reads_as_valid as machines_are_valid, reads_or_faults as machines_or_faults};
+use node_map::law::items_exist;
 use rank_find::order_or_loop;
 use ref_sim::one_simulation;
 use stim_text::law::reads_or_faults as stimuli_or_faults;
+use yse_compile::law::{fits_bits, fits_functions, fits_or_refused, fits_slots, one_refusal};
 
 /// Words are read as a request exactly where they are of its form: the command, the files, and options
 /// in their order, each at most once.
@@ -31,6 +34,15 @@ pub fn calls_are_proper()
 {
     netlists_or_faults();
     stimuli_or_faults();
+    machines_or_faults();
+    machines_are_valid();
+    texts_read_as_valid();
     order_or_loop();
     one_simulation();
+    items_exist();
+    fits_or_refused();
+    fits_bits();
+    fits_slots();
+    fits_functions();
+    one_refusal();
 }

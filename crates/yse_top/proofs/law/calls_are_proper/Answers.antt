@@ -1,5 +1,14 @@
 -- The chain of each command, link by link.
-use Rattle.std.proofs.Common.{◌≡◌, ◌∙◌, ◌↔◌, sym, refl, subst, ℕ, List, [], ◌∷◌, Option, Some, None}
+use Rattle.std.proofs.Common.{◌≡◌, ◌∙◌, ◌↔◌, ◌⊎◌, inl, inr, ◌≤◌, sym, refl, subst, ℕ, List, [], ◌∷◌, length, Option, Some, None, arith}
+use Rattle.limits.specs.declared.TheConstants.{MAX_TEXT_BYTES}
+use Rattle.machine_text.specs.declared.machine.Machine.{Machine}
+use Rattle.machine_text.specs.Machines as machine_text
+use Rattle.machine_text.specs.Machines.{default_machine, IsValid as IsValidMachine}
+use Rattle.net_defs.specs.Valid.{IsValid}
+use Rattle.yse_compile.specs.declared.compiler.CompNo.{CompNo}
+use Rattle.yse_compile.specs.declared.compiler.CompNo.TheVariants as comp_no
+use Rattle.yse_compile.specs.Compiled.{IsRight, IsOverfull}
+use Rattle.yse_compile.specs.Designs.{DesignFits, LacksBits, LacksSlots, LacksFunctions}
 use Rattle.text_lines.specs.Answers.{IsReader}
 use Rattle.net_defs.specs.declared.netlist.Netlist.{Netlist}
 use Rattle.net_defs.specs.declared.stimulus.Stimulus.{Stimulus}
@@ -13,18 +22,18 @@ use Rattle.bench_read.specs.Faults as bench
 use Rattle.bench_read.specs.Reads as bench_reads
 use Rattle.stim_text.specs.Stimuli as stim
 use Rattle.yse_top.specs.declared.status.Status.TheVariants as status
-use Rattle.yse_top.specs.Checks.{After, AfterFile, Ends, Writes, IsNetlistOf, HasNoLoop, IsStimulusOf, HasFewCells}
+use Rattle.yse_top.specs.Checks.{After, AfterFile, Ends, Writes, IsMachineOf, IsNetlistOf, HasNoLoop, HasRoom, IsStimulusOf, HasFewCells}
 use Rattle.yse_top.specs.Ends.{IsAnswer}
 use Rattle.yse_top.specs.Expected.{Expected, ExpectedOf, ExpectedAsked}
 use Rattle.yse_top.specs.Law.{IsProper}
-use Rattle.yse_top.specs.Lines.{netlist_line, stimulus_line}
+use Rattle.yse_top.specs.Lines.{machine_line, netlist_line, stimulus_line}
 use Rattle.yse_top.specs.Outcome.{Outcome}
 use Rattle.yse_top.specs.Readings.{Reading}
 use Rattle.yse_top.specs.Words.{Request, run, refer, show, Simulation, request_of, files_of, files_named}
 use Rattle.yse_top.specs.commands.Run.{ExpectedRun, ExpectedOn, ExpectedRefer, ExpectedTrace}
 use Rattle.yse_top.specs.commands.Show.{ExpectedShow}
 use Rattle.yse_top.proofs.ProperLemmas.{IsCheck, IsCommand, IsOfCommand, command_after, command_file, command_ends, writes_ending, words_proper, words_status, answer_of_command, not_words}
-use Rattle.yse_top.proofs.CheckLemmas.{reads_check, loop_check, cells_check, trace_only, trace_some}
+use Rattle.yse_top.proofs.CheckLemmas.{reads_check, loop_check, IsRoomLaw, room_check, cells_check, trace_only, trace_some}
 use Rattle.yse_top.proofs.law.calls_are_proper.Goals as goal
 
 -- the laws of the layers below
@@ -109,12 +118,57 @@ module _ (laws : Laws) where
   asked_words None readings outcome is = (λ s. refl, λ none. words_status outcome is.1)
   asked_words (Some request) readings outcome is = (λ s. absurd (not_words outcome.status ((request_proper request).statuses readings outcome is) s), λ none. cc)
 
+module _ {net : Netlist} {machine : Machine} {timing : Timing} where
+  some_room : DesignFits net machine timing ⊎ ((why : CompNo) × IsRight net machine timing why × IsOverfull why) → DesignFits net machine timing ⊎ ((why : CompNo) × IsOverfull why × IsRight net machine timing why)
+  some_room (inl fits) = inl fits
+  some_room (inr (why, right, is)) = inr (why, is, right)
+
+  -- a refusal is one of the three
+  never_room : (why : CompNo) → IsOverfull why → IsRight net machine timing why
+      → ((block needed left : ℕ) → LacksBits net machine timing block needed left → ⊥)
+      → ((needed limit : ℕ) → LacksSlots net machine timing needed limit → ⊥)
+      → ((port needed limit : ℕ) → LacksFunctions net machine timing port needed limit → ⊥) → ⊥
+  never_room (comp_no.Loop members) is right bits slots functions = is
+  never_room (comp_no.Bits block needed left) is right bits slots functions = bits block needed left right
+  never_room (comp_no.Slots needed limit) is right bits slots functions = slots needed limit right
+  never_room (comp_no.Functions port needed limit) is right bits slots functions = functions port needed limit right
+  never_room comp_no.Memory is right bits slots functions = is
+
+default_is_valid : IsValidMachine default_machine
+default_is_valid = record {
+  logic_least = omega arith;
+  logic_most = omega arith;
+  array_most = omega arith;
+  slots_least = omega arith;
+  slots_most = omega arith;
+  functions_least = omega arith;
+  functions_most = omega arith;
+  bits_least = omega arith;
+  bits_most = omega arith;
+  ports = omega arith;
+}
+
 pub returns : goal.returns
 unfolding Expected
 returns c =
     let laws : Laws = record {
       netlists = c.reads_or_faults.ensures.reader;
       stimuli = c.reads_or_faults-2.ensures.reader;
+      machines = c.reads_or_faults-3.ensures.reader;
+      valid_machines = c.reads_as_valid.ensures;
+      default_valid = default_is_valid;
+      valid_netlists = c.texts_read_as_valid.ensures;
+      room = λ net machine timing valid machine_valid acyclic. record {
+        some = elim (c.order_or_loop.ensures.one net timing) [
+          | inl (order, is) ↦ some_room (c.fits_or_refused.ensures net machine timing (c.items_exist.ensures net timing order valid is).0 valid machine_valid acyclic (c.items_exist.ensures net timing order valid is).1)
+          | inr (loop, is) ↦ absurd (acyclic loop is)
+        ];
+        never_both = λ why fits is right. never_room why is right
+            (λ block needed left lacks. c.fits_bits.ensures net machine timing fits block needed left lacks)
+            (λ needed limit lacks. c.fits_slots.ensures net machine timing valid fits needed limit lacks)
+            (λ port needed limit lacks. c.fits_functions.ensures net machine timing fits port needed limit lacks);
+        one = λ why other is is_too right right_too. c.one_refusal.ensures net machine timing valid why other right right_too is is_too;
+      };
       order_or_loop = c.order_or_loop.ensures.one;
       never_both = c.order_or_loop.ensures.never_both;
       one_simulation = c.one_simulation.ensures.rank_order;
