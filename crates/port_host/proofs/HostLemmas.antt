@@ -87,7 +87,7 @@ ready_first a image stimulus seat bank fits valid columns is work stim units on 
 pub runs_here : (a : Inside) → IsReady a → a.bank.begun ≡ true → a.progress.rows < cycle_count a.stim.now
 runs_here a ready begun =
     let few : a.bank.turn ≤ a.units * cycle_count a.stim.now =
-        subst (λ u. a.bank.turn ≤ u * cycle_count a.stim.now) (sym ready.units_is) (subst (λ s. a.bank.turn ≤ a.bank.image.units * cycle_count s) ready.stimulus_is (ready.running begun)) in
+    subst (λ u. a.bank.turn ≤ u * cycle_count a.stim.now) (sym ready.units_is) (subst (λ s. a.bank.turn ≤ a.bank.image.units * cycle_count s) ready.stimulus_is (ready.running begun)) in
     cycle_runs a.units (cycle_count a.stim.now) a.bank.turn a.progress ready.turn few
 
 -- and there is a row of this cycle
@@ -104,7 +104,7 @@ next_input a slot i d ready can same = of_input (at_map (λ input. input.slot) a
   of_input : (input : InColumn) × (slice_get a.inputs.now a.bank.executed ≡ Some input) × (input.slot ≡ slot) → IsNext a (get_or a.inputs.now i d)
   of_input (input, there, at) =
       let here : slice_get a.inputs.now a.bank.executed ≡ Some (get_or a.inputs.now i d) =
-          ap (slice_get a.inputs.now) (sym same) ∙ slice_get-get_or a.inputs.now i d (omega (arith, same, slice_get_within a.inputs.now a.bank.executed input there)) in
+      ap (slice_get a.inputs.now) (sym same) ∙ slice_get-get_or a.inputs.now i d (omega (arith, same, slice_get_within a.inputs.now a.bank.executed input there)) in
       record {
         there = here;
         low = subst (λ n. (get_or a.inputs.now i d).column < n) (sym ready.columns)

@@ -48,11 +48,7 @@ impl<'a> HostPort<'a> {
     /// The host before its first turn. It takes memory for four values a slot, and for the printed
     /// values of all cycles: `Memory` also where these are more than can be counted. No later call
     /// takes any.
-    pub fn new(
-        alloc: Global,
-        image: &'a Image,
-        stim: &'a Stimulus,
-    ) -> Result<HostPort<'a>, Memory>
+    pub fn new(alloc: Global, image: &'a Image, stim: &'a Stimulus) -> Result<HostPort<'a>, Memory>
         requires image { IsWellFormed image.now }
         requires stimulus { IsValidStimulus stim.now }
         requires columns { stim.now.columns ≡ image.now.columns }
