@@ -1,28 +1,33 @@
 -- All ports in a turn, pass by pass.
-use Rattle.std.proofs.Common.{◌≡◌, ◌≢◌, ◌⊎◌, inl, inr, ◌∙◌, ℕ, ◌+◌, ◌<◌, ◌≤◌, Bool, true, false, if◌then◌else◌, List, [], ◌++◌, length, take, drop, slice_get, Option, Some, None, sym, ap, subst, refl, arith}
+use Rattle.std.proofs.Common.{◌≡◌, ◌≢◌, ◌⊎◌, inl, inr, ◌∙◌, ℕ, ◌+◌, ◌/◌, ◌<◌, ◌≤◌, Bool, true, false, if◌then◌else◌, List, [], ◌∷◌, ◌++◌, length, take, drop, slice_get, Option, Some, None, sym, ap, subst, refl, arith}
 use Rattle.std.specs.List.{refill}
+use Rattle.std.proofs.Math.Nat.{add-sub_cancel, mul-div_cancel_left}
 use Rattle.std.proofs.Math.Seq.{take-length}
+use Rattle.std.proofs.lemmas.Bool.{false≢true}
 use Rattle.std.proofs.lemmas.Bool.Decides.{eqb_tells}
-use Rattle.std.proofs.lemmas.List.{drop_all, append-nil, length-map}
+use Rattle.std.proofs.lemmas.List.{drop_all, append-nil, length-map, length_push}
 use Rattle.std.proofs.lemmas.Option.{slice_get_within, slice_get-map}
 use Rattle.std.specs.Option.{option_map}
-use Rattle.list_laws.proofs.Places.{one_there}
+use Rattle.list_laws.proofs.Places.{one_there, at_front, seam_at}
+use Rattle.list_laws.proofs.Ranges.{last_or}
 use Rattle.logic_four.specs.declared.V4.{V4}
 use Rattle.logic_four.specs.Values.{value_at}
 use Rattle.net_defs.specs.declared.stimulus.Stimulus.{Stimulus}
+use Rattle.net_defs.specs.Time.{cycle_count}
 use Rattle.image_defs.specs.declared.image.LinkIn.{LinkIn}
 use Rattle.image_defs.specs.declared.image.PortImage.{PortImage}
 use Rattle.image_defs.specs.declared.image.Image.{Image}
-use Rattle.image_defs.specs.Places.{IsPort, IsItemIn, item_slots, in_slots}
+use Rattle.image_defs.specs.Places.{IsPort, IsItemIn, item_slots, in_slots, host_of}
 use Rattle.image_defs.specs.WellFormed.{IsWellFormed, IsLinkIn}
 use Rattle.image_defs.specs.Frames.{image_value}
 use Rattle.image_defs.specs.Ports.{PortView, after_begin, after_execute, after_receive, after_end, next_item, value_in, CanBegin, CanExecute, CanReceive, CanEnd}
 use Rattle.image_defs.proofs.PlaceLemmas.{Rises, rises, at_map}
 use Rattle.port_bank.specs.Links.{next_link}
+use Rattle.port_host.specs.Rows.{rows_done}
 use Rattle.lockstep.specs.declared.any_port.AnyPort.{AnyPort}
-use Rattle.lockstep.specs.AnyPort.{view_in}
+use Rattle.lockstep.specs.AnyPort.{view_in, is_host, IsFirst}
 use Rattle.lockstep.specs.Passes.{after_item, after_link, MayBegin, MayExecute, MayReceive, MayEnd, HasPassed, HavePassed, HaveValues}
-use Rattle.lockstep.specs.Run.{turns_of, at_turn, IsFront, StandsBefore, IsInTurn, AllBefore, AllInTurn}
+use Rattle.lockstep.specs.Run.{turns_of, at_turn, at_end, EndsInHost, IsFront, StandsBefore, IsInTurn, AllBefore, AllInTurn}
 use Rattle.lockstep.proofs.FrontLemmas.{standing, front_none, front_here, front_there, front_place, front_before, front_all}
 
 -- as many members in place of those of a list
@@ -232,3 +237,43 @@ module _ (image : Image) (stimulus : Stimulus) (turn : ℕ) (good : IsWellFormed
     each = all_passed after_end old new (IsInTurn image stimulus turn image.slots image.slots) (StandsBefore image stimulus (turn + 1)) passed
         (λ p before after there. ended_port image stimulus turn good p image.slots image.slots before after) all.each;
   }
+
+-- ---- before the first turn
+
+-- one port more is made
+pub made_more : (image : Image) (stimulus : Stimulus) (ports : List AnyPort) (n : ℕ) (port : AnyPort) → length ports ≡ n → IsFirst image stimulus n port
+    → ((p : ℕ) (other : AnyPort) → slice_get ports p ≡ Some other → StandsBefore image stimulus 1 p other)
+    → (p : ℕ) (other : AnyPort) → slice_get (ports ++ port ∷ []) p ≡ Some other → StandsBefore image stimulus 1 p other
+made_more image stimulus ports n port long first so_far p other there = elim (last_or p (length ports) (omega (arith, length_push ports port, slice_get_within (ports ++ port ∷ []) p other there))) [
+  | inl low ↦ so_far p other (sym (at_front ports (port ∷ []) p low) ∙ there)
+  | inr last ↦
+      let same : port ≡ other = one_there (ports ++ port ∷ []) (length ports) p port other (sym last) (seam_at ports port []) there in
+      rw (← same, last ∙ long) (record { view = first.view; kind = first.last })
+]
+
+-- ---- after the last turn
+
+pub rows_at_end : (image : Image) (stimulus : Stimulus) → 1 ≤ image.units → rows_done (at_end image stimulus) ≡ cycle_count stimulus
+rows_at_end image stimulus some =
+    ap (λ n. n / image.units) (add-sub_cancel (turns_of image stimulus) 1) ∙ mul-div_cancel_left (cycle_count stimulus) some
+
+pub ends_in_host : (image : Image) (stimulus : Stimulus) (turn : ℕ) (ports : List AnyPort) → IsWellFormed image → AllBefore image stimulus turn ports → EndsInHost ports
+ends_in_host image stimulus turn ports good all = record {
+  some = omega (arith, all.count, good.some_ports);
+  last = λ p port at is. (all.each p port is).kind (at ∙ all.count);
+}
+
+-- the last port is not of another kind
+pub not_other : (ports rest : List AnyPort) (port : AnyPort) → EndsInHost ports → ports ≡ rest ++ port ∷ [] → is_host port ≡ false → ⊥
+not_other ports rest port ends is other =
+    let last : slice_get ports (length rest) ≡ Some port = ap (λ all. slice_get all (length rest)) is ∙ seam_at rest port [] in
+    let long : length rest + 1 ≡ length ports = sym (length_push rest port) ∙ ap length (sym is) in
+    let host : is_host port ≡ true = ends.last (length rest) port long last in
+    false≢true (sym other ∙ host)
+
+-- how the last port stands
+pub host_stands : (image : Image) (stimulus : Stimulus) (turn : ℕ) (ports : List AnyPort) (view : PortView) → IsWellFormed image → AllBefore image stimulus turn ports
+    → ((p : ℕ) (port : AnyPort) → p + 1 ≡ length ports → slice_get ports p ≡ Some port → view ≡ view_in port) → view ≡ at_turn image stimulus turn (host_of image)
+host_stands image stimulus turn ports view good all is =
+    let last = standing ports (host_of image) (omega (arith, all.count, good.some_ports)) in
+    is (host_of image) last.0 (omega (arith, all.count, good.some_ports)) last.1 ∙ (all.each (host_of image) last.0 last.1).view

@@ -10,7 +10,7 @@ use Rattle.image_defs.specs.WellFormed.{IsWellFormed}
 use Rattle.image_defs.specs.Steps.{timing_of}
 use Rattle.image_defs.specs.Ports.{PortView, at_first}
 use Rattle.lockstep.specs.declared.any_port.AnyPort.{AnyPort}
-use Rattle.lockstep.specs.declared.run.Machine.{Machine}
+use Rattle.lockstep.specs.declared.machine.Machine.{Machine}
 use Rattle.lockstep.specs.AnyPort.{view_in, is_host}
 
 -- the number of turns
@@ -61,12 +61,15 @@ pub record AllInTurn (image : Image) (stimulus : Stimulus) (turn item_bound link
   pub count : length ports ≡ length image.ports
   pub each : (p : ℕ) (port : AnyPort) → slice_get ports p ≡ Some port → IsInTurn image stimulus turn item_bound link_bound p port
 
--- a machine in one of its turns
-pub record IsRunning (machine : Machine) : Type 0 where
+-- a machine of a well-formed image and a valid stimulus, with room for a value of each port
+pub record IsMachine (machine : Machine) : Type 0 where
   pub image : IsWellFormed machine.image.now
   pub stimulus : IsValidStimulus machine.stim.now
-  pub turn : machine.turn ≤ turns_of machine.image.now machine.stim.now
   pub room : length machine.values ≡ length machine.image.now.ports
+
+-- the number of its turns
+abbrev pub turns_in : Machine → ℕ
+turns_in machine = turns_of machine.image.now machine.stim.now
 
 -- the machine stands before its turn, or is in it
 abbrev pub IsBefore : Machine → Type 0
@@ -83,7 +86,7 @@ pub record IsLater (turns : ℕ) (old new : Machine) : Type 0 where
   pub turn : new.turn ≡ old.turn + turns
   pub room : length new.values ≡ length old.values
 
--- the last port of the list is the host, and stands so
-pub record EndsAtHost (ports : List AnyPort) (view : PortView) : Type 0 where
+-- the last of some ports is the host
+pub record EndsInHost (ports : List AnyPort) : Type 0 where
   pub some : 1 ≤ length ports
-  pub last : (p : ℕ) (port : AnyPort) → p + 1 ≡ length ports → slice_get ports p ≡ Some port → (is_host port ≡ true) × (view_in port ≡ view)
+  pub last : (p : ℕ) (port : AnyPort) → p + 1 ≡ length ports → slice_get ports p ≡ Some port → is_host port ≡ true

@@ -4,4 +4,6 @@
 
 mod any_port;
 mod passes;
-mod run;
+mod machine;
+
+pub use machine::run;
