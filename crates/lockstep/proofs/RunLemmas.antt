@@ -1,5 +1,5 @@
 -- All ports in a turn, pass by pass.
-use Rattle.std.proofs.Common.{◌≡◌, ◌≢◌, ◌⊎◌, inl, inr, ◌∙◌, ℕ, ◌+◌, ◌/◌, ◌<◌, ◌≤◌, Bool, true, false, if◌then◌else◌, List, [], ◌∷◌, ◌++◌, length, take, drop, slice_get, Option, Some, None, sym, ap, subst, refl, arith}
+use Rattle.std.proofs.Common.{◌≡◌, ◌≢◌, ◌⊎◌, inl, inr, ◌∙◌, ℕ, ◌+◌, ◌/◌, ◌<◌, ◌≤◌, Bool, true, false, if◌then◌else◌, List, [], ◌∷◌, ◌++◌, length, take, drop, get_or, slice_get, Option, Some, None, sym, ap, subst, refl, arith}
 use Rattle.std.specs.List.{refill}
 use Rattle.std.proofs.Math.Nat.{add-sub_cancel, mul-div_cancel_left}
 use Rattle.std.proofs.Math.Seq.{take-length}
@@ -14,17 +14,22 @@ use Rattle.logic_four.specs.declared.V4.{V4}
 use Rattle.logic_four.specs.Values.{value_at}
 use Rattle.net_defs.specs.declared.stimulus.Stimulus.{Stimulus}
 use Rattle.net_defs.specs.Time.{cycle_count}
+use Rattle.image_defs.specs.declared.image.Source.{Source}
+use Rattle.image_defs.specs.declared.image.InColumn.{InColumn}
+use Rattle.image_defs.specs.declared.image.Work.TheVariants as work
 use Rattle.image_defs.specs.declared.image.LinkIn.{LinkIn}
 use Rattle.image_defs.specs.declared.image.PortImage.{PortImage}
 use Rattle.image_defs.specs.declared.image.Image.{Image}
 use Rattle.image_defs.specs.Places.{IsPort, IsItemIn, item_slots, in_slots, host_of}
-use Rattle.image_defs.specs.WellFormed.{IsWellFormed, IsLinkIn}
+use Rattle.image_defs.specs.WellFormed.{IsWellFormed, IsLinkIn, IsHost}
 use Rattle.image_defs.specs.Frames.{image_value}
-use Rattle.image_defs.specs.Ports.{PortView, after_begin, after_execute, after_receive, after_end, next_item, value_in, CanBegin, CanExecute, CanReceive, CanEnd}
+use Rattle.image_defs.specs.Ports.{PortView, at_first, after_begin, after_execute, after_receive, after_end, next_item, value_in, CanBegin, CanExecute, CanReceive, CanEnd}
 use Rattle.image_defs.proofs.PlaceLemmas.{Rises, rises, at_map}
+use Rattle.port_array.proofs.MemoryLemmas.{member_at}
 use Rattle.port_bank.specs.Links.{next_link}
 use Rattle.port_host.specs.Rows.{rows_done}
 use Rattle.lockstep.specs.declared.any_port.AnyPort.{AnyPort}
+use Rattle.lockstep.specs.declared.any_port.AnyPort.TheVariants.{Host}
 use Rattle.lockstep.specs.AnyPort.{view_in, is_host, IsFirst}
 use Rattle.lockstep.specs.Passes.{after_item, after_link, MayBegin, MayExecute, MayReceive, MayEnd, HasPassed, HavePassed, HaveValues}
 use Rattle.lockstep.specs.Run.{turns_of, at_turn, at_end, EndsInHost, IsFront, StandsBefore, IsInTurn, AllBefore, AllInTurn}
@@ -239,6 +244,15 @@ module _ (image : Image) (stimulus : Stimulus) (turn : ℕ) (good : IsWellFormed
   }
 
 -- ---- before the first turn
+
+-- the port that was made as the host is the last one
+pub host_first : (image : Image) (stimulus : Stimulus) (p : ℕ) (seat : PortImage) (ports : List PortImage) (inputs : List InColumn) (printed : List Source) (made : PortView) → IsWellFormed image → ports ≡ image.ports
+    → p < length image.ports → seat ≡ get_or ports p seat → seat.work ≡ work.Host inputs printed → made ≡ at_first image stimulus (host_of image) → IsFirst image stimulus p (Host made)
+host_first image stimulus p seat ports inputs printed made good same there at work is =
+    let stands : IsPort image p seat = member_at image.ports p seat there (at ∙ ap (λ all. get_or all p seat) same) in
+    let last : p + 1 ≡ length image.ports = (good.host p seat stands).0 (subst IsHost (sym work) tt) in
+    let number : host_of image ≡ p = omega (arith, last) in
+    record { view = is ∙ ap (at_first image stimulus) number; last = λ at_end. refl }
 
 -- one port more is made
 pub made_more : (image : Image) (stimulus : Stimulus) (ports : List AnyPort) (n : ℕ) (port : AnyPort) → length ports ≡ n → IsFirst image stimulus n port
