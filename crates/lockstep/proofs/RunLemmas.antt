@@ -80,7 +80,10 @@ module _ (image : Image) (stimulus : Stimulus) (turn : ℕ) (good : IsWellFormed
   begun_port p before after there stands passed =
       let seat = standing image.ports p there in
       record {
-        seat = seat.0; is = seat.1; executed = 0; received = 0;
+        seat = seat.0;
+        is = seat.1;
+        executed = 0;
+        received = 0;
         view = passed.view ∙ ap after_begin stands.view;
         items = front_none (item_slots seat.0.work);
         links = front_none (in_slots seat.0.ins);
@@ -108,19 +111,25 @@ module _ (image : Image) (stimulus : Stimulus) (turn : ℕ) (good : IsWellFormed
       let gone : view_in after ≡ after_item t view = passed.view ∙ ap (after_item t) in_turn.view in
       elim (item_cases t view) [
         | inl h ↦ record {
-            seat = in_turn.seat; is = in_turn.is; executed = in_turn.executed + 1; received = in_turn.received;
-            view = gone ∙ h.1;
-            items = front_here slots t in_turn.executed up in_turn.items (sym next ∙ h.0);
-            links = in_turn.links;
-            kind = λ last. passed.kind ∙ in_turn.kind last;
-          }
+          seat = in_turn.seat;
+          is = in_turn.is;
+          executed = in_turn.executed + 1;
+          received = in_turn.received;
+          view = gone ∙ h.1;
+          items = front_here slots t in_turn.executed up in_turn.items (sym next ∙ h.0);
+          links = in_turn.links;
+          kind = λ last. passed.kind ∙ in_turn.kind last;
+        }
         | inr h ↦ record {
-            seat = in_turn.seat; is = in_turn.is; executed = in_turn.executed; received = in_turn.received;
-            view = gone ∙ h.1;
-            items = front_there slots t in_turn.executed up in_turn.items (λ here. h.0 (next ∙ here));
-            links = in_turn.links;
-            kind = λ last. passed.kind ∙ in_turn.kind last;
-          }
+          seat = in_turn.seat;
+          is = in_turn.is;
+          executed = in_turn.executed;
+          received = in_turn.received;
+          view = gone ∙ h.1;
+          items = front_there slots t in_turn.executed up in_turn.items (λ here. h.0 (next ∙ here));
+          links = in_turn.links;
+          kind = λ last. passed.kind ∙ in_turn.kind last;
+        }
       ]
 
   pub received_port : (m t p : ℕ) (before after : AnyPort) → IsInTurn image stimulus turn m t p before → HasPassed (after_link t) before after → IsInTurn image stimulus turn m (t + 1) p after
@@ -132,21 +141,27 @@ module _ (image : Image) (stimulus : Stimulus) (turn : ℕ) (good : IsWellFormed
       let gone : view_in after ≡ after_link t view = passed.view ∙ ap (after_link t) in_turn.view in
       elim (link_cases t view) [
         | inl h ↦ record {
-            seat = in_turn.seat; is = in_turn.is; executed = in_turn.executed; received = in_turn.received + 1;
-            view = gone ∙ h.3;
-            items = in_turn.items;
-            links = front_here slots t in_turn.received up in_turn.links
-                (slice_get-map (λ l. l.slot) in_turn.seat.ins in_turn.received ∙ (ap (option_map (λ l. l.slot)) (sym next ∙ h.1) ∙ ap Some h.2));
-            kind = λ last. passed.kind ∙ in_turn.kind last;
-          }
+          seat = in_turn.seat;
+          is = in_turn.is;
+          executed = in_turn.executed;
+          received = in_turn.received + 1;
+          view = gone ∙ h.3;
+          items = in_turn.items;
+          links = front_here slots t in_turn.received up in_turn.links
+              (slice_get-map (λ l. l.slot) in_turn.seat.ins in_turn.received ∙ (ap (option_map (λ l. l.slot)) (sym next ∙ h.1) ∙ ap Some h.2));
+          kind = λ last. passed.kind ∙ in_turn.kind last;
+        }
         | inr h ↦ record {
-            seat = in_turn.seat; is = in_turn.is; executed = in_turn.executed; received = in_turn.received;
-            view = gone ∙ h.1;
-            items = in_turn.items;
-            links = front_there slots t in_turn.received up in_turn.links
-                (λ here. let link = at_map (λ l. l.slot) in_turn.seat.ins in_turn.received t here in h.0 link.0 (next ∙ link.1) link.2);
-            kind = λ last. passed.kind ∙ in_turn.kind last;
-          }
+          seat = in_turn.seat;
+          is = in_turn.is;
+          executed = in_turn.executed;
+          received = in_turn.received;
+          view = gone ∙ h.1;
+          items = in_turn.items;
+          links = front_there slots t in_turn.received up in_turn.links
+              (λ here. let link = at_map (λ l. l.slot) in_turn.seat.ins in_turn.received t here in h.0 link.0 (next ∙ link.1) link.2);
+          kind = λ last. passed.kind ∙ in_turn.kind last;
+        }
       ]
 
   pub may_end : (p : ℕ) (port : AnyPort) → IsInTurn image stimulus turn image.slots image.slots p port → MayEnd port
@@ -180,7 +195,7 @@ module _ (image : Image) (stimulus : Stimulus) (turn : ℕ) (good : IsWellFormed
       let here : slice_get slots i ≡ Some t = subst (λ s. slice_get (item_slots s.work) i ≡ Some t) same stands in
       let place : i ≡ in_turn.executed = front_place slots t in_turn.executed (rises slots (good.ports q in_turn.seat in_turn.is).items) in_turn.items i here in
       let next : next_item (view_in port.0) ≡ Some t =
-          ap next_item in_turn.view ∙ (next_of (on q in_turn.executed in_turn.received) in_turn.seat in_turn.is ∙ (ap (slice_get slots) (sym place) ∙ here)) in
+      ap next_item in_turn.view ∙ (next_of (on q in_turn.executed in_turn.received) in_turn.seat in_turn.is ∙ (ap (slice_get slots) (sym place) ∙ here)) in
       given.each q port.0 there port.1 next ∙ ap (λ view. value_in view t) in_turn.view
 
   pub may_receive : (m t p : ℕ) (port : AnyPort) (values : List V4) → length values ≡ length image.ports → Values t values → IsInTurn image stimulus turn m t p port → MayReceive t values port

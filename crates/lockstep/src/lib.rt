@@ -3,7 +3,7 @@
 #![tactic(auto)]
 
 mod any_port;
-mod passes;
 mod machine;
+mod passes;
 
 pub use machine::run;

@@ -123,11 +123,7 @@ fn last_host<'a>(mut ports: List<AnyPort<'a>>) -> HostPort<'a>
 
 /// Runs a well-formed image through all turns of a stimulus, and answers the host, which then has the
 /// printed values of every cycle. It takes memory before the first turn, and none after.
-pub fn run<'a>(
-    alloc: Global,
-    image: &'a Image,
-    stim: &'a Stimulus,
-) -> Result<HostPort<'a>, Memory>
+pub fn run<'a>(alloc: Global, image: &'a Image, stim: &'a Stimulus) -> Result<HostPort<'a>, Memory>
     requires image { IsWellFormed image.now }
     requires stimulus { IsValidStimulus stim.now }
     requires columns { stim.now.columns ≡ image.now.columns }

@@ -1,8 +1,9 @@
 //! Passes over all ports, each port once.
 
-ghost use Rattle.std.specs.Prelude.{◌≡◌, ◌≤◌, ◌<◌, length, Some};
+ghost use Rattle.std.specs.Prelude.{◌≡◌, ◌<◌, length, Some};
+ghost use Rattle.logic_four.specs.Values.{value_at};
 ghost use Rattle.image_defs.specs.Places.{Each};
-ghost use Rattle.image_defs.specs.Ports.{after_begin, after_end, next_item, value_in, CanBegin, CanEnd};
+ghost use Rattle.image_defs.specs.Ports.{after_begin, after_end, next_item, value_in};
 ghost use Rattle.lockstep.specs.AnyPort.{view_in, is_host};
 ghost use Rattle.lockstep.specs.Passes.{after_item, after_link, MayBegin, MayExecute, MayReceive, MayEnd, HavePassed, HaveValues};
 
@@ -48,6 +49,15 @@ pub(crate) fn execute_all(ports: &mut [AnyPort], values: &mut [V4], slot: u32)
     }
 }
 
+/// The value of a port.
+#[tactic(auto, using(std::proofs::lemmas::List::get_or_default))]
+fn value_of(values: &[V4], port: u32) -> V4
+    requires { port < length values.now }
+    ensures { result ≡ value_at values.now port }
+{
+    values[port as usize]
+}
+
 /// Receives what is sent to the port in a slot, out of the values that the ports gave there.
 fn receive_in(port: &mut AnyPort, slot: u32, values: &[V4])
     requires { MayReceive slot values.now port.old }
@@ -56,7 +66,7 @@ fn receive_in(port: &mut AnyPort, slot: u32, values: &[V4])
 {
     if let Some(link) = port.next_link() {
         if link.slot == slot {
-            port.receive(slot, values[link.sender as usize]);
+            port.receive(slot, value_of(values, link.sender));
         }
     }
 }

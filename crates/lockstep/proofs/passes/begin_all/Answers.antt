@@ -13,5 +13,5 @@ pub all-preserved : goal.all-preserved
 all-preserved c =
     let port = get_or c.all.ports c.all.p c.index-ports-p.result in
     passed_more after_begin c.all.p c.args.ports.now c.all.ports port c.begin_turn.new.self c.all.invariant
-        (slice_get-get_or c.all.ports c.all.p c.index-ports-p.result (omega (arith, c.all.invariant.long)))
-        (record { view = c.begin_turn.ensures.view; kind = c.begin_turn.ensures.kind })
+    (slice_get-get_or c.all.ports c.all.p c.index-ports-p.result (omega (arith, c.all.invariant.long)))
+    (record { view = c.begin_turn.ensures.view; kind = c.begin_turn.ensures.kind })

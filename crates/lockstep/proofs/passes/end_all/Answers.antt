@@ -13,5 +13,5 @@ pub all-preserved : goal.all-preserved
 all-preserved c =
     let port = get_or c.all.ports c.all.p c.index-ports-p.result in
     passed_more after_end c.all.p c.args.ports.now c.all.ports port c.end_turn.new.self c.all.invariant
-        (slice_get-get_or c.all.ports c.all.p c.index-ports-p.result (omega (arith, c.all.invariant.long)))
-        (record { view = c.end_turn.ensures.view; kind = c.end_turn.ensures.kind })
+    (slice_get-get_or c.all.ports c.all.p c.index-ports-p.result (omega (arith, c.all.invariant.long)))
+    (record { view = c.end_turn.ensures.view; kind = c.end_turn.ensures.kind })

@@ -11,7 +11,7 @@ run_slots-requires-clause-at c =
     let machine = c.args.self.now in
     let begun = subst (λ ports. HavePassed after_begin (length ports) ports c.begin_all.new.ports) c.as_mut_slice.ensures.value c.begin_all.ensures in
     subst (AllInTurn machine.image.now machine.stim.now machine.turn 0 0) (sym (refilled machine.ports c.begin_all.new.ports begun.long))
-        (all_begun machine.image.now machine.stim.now machine.turn c.requires.machine.image machine.ports c.begin_all.new.ports c.requires.before begun)
+    (all_begun machine.image.now machine.stim.now machine.turn c.requires.machine.image machine.ports c.begin_all.new.ports c.requires.before begun)
 
 pub end_all-requires : goal.end_all-requires
 end_all-requires c i x at =
@@ -29,4 +29,4 @@ returns-clause-before c =
     let run = subst (λ image. AllInTurn machine.image.now machine.stim.now machine.turn image.now.slots image.now.slots machine.ports) same c.run_slots.ensures.at in
     let ended = subst (λ ports. HavePassed after_end (length ports) ports c.end_all.new.ports) c.as_mut_slice-2.ensures.value c.end_all.ensures in
     subst (AllBefore machine.image.now machine.stim.now (machine.turn + 1)) (sym (refilled machine.ports c.end_all.new.ports ended.long))
-        (all_ended machine.image.now machine.stim.now machine.turn good machine.ports c.end_all.new.ports run ended)
+    (all_ended machine.image.now machine.stim.now machine.turn good machine.ports c.end_all.new.ports run ended)
