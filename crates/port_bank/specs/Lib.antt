@@ -1,3 +1,4 @@
 pub mod Banks
 pub mod Flat
+pub mod Links
 pub mod Reads

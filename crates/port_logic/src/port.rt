@@ -5,11 +5,12 @@ ghost use Rattle.net_defs.specs.Valid.{IsValidStimulus};
 ghost use Rattle.image_defs.specs.Places.{task_slot};
 ghost use Rattle.image_defs.specs.WellFormed.{IsWellFormed, IsPortOf, IsLogic};
 ghost use Rattle.image_defs.specs.Ports.{at_first, after_begin, after_execute, after_receive, after_end, value_in, next_item, CanBegin, CanExecute, CanReceive, CanEnd};
+ghost use Rattle.port_bank.specs.Links.{next_link};
 ghost use Rattle.port_bank.specs.Flat.{place_count, FitsStep};
 ghost use Rattle.port_logic.specs.Tasks.{IsAnswer};
 
 use func_table::Table;
-use image_defs::{Image, Task, Work};
+use image_defs::{Image, LinkIn, Task, Work};
 use logic_four::{V4, settle};
 use net_defs::Stimulus;
 use port_bank::Bank;
@@ -106,6 +107,13 @@ impl<'a> LogicPort<'a> {
             Some(task) => Some(slot_of(task)),
             None => None,
         }
+    }
+
+    /// What the port receives next in this turn, and `None` where it has received all.
+    pub fn next_link(&self) -> Option<LinkIn>
+        ensures { result ≡ next_link self.now }
+    {
+        self.bank.next_link()
     }
 
     /// Begins a turn.

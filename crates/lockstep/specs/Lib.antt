@@ -1,0 +1,3 @@
+pub mod AnyPort
+pub mod Passes
+pub mod Run

@@ -1,0 +1,28 @@
+-- What the host keeps: its place in the stimulus, and the rows of the cycles that are over.
+use Rattle.std.specs.Prelude.{◌≡◌, ℕ, ◌*◌, ◌<◌, ◌≤◌, true, length}
+use Rattle.net_defs.specs.Time.{cycle_count}
+use Rattle.net_defs.specs.Valid.{IsValidStimulus}
+use Rattle.image_defs.specs.declared.image.PortImage.{PortImage}
+use Rattle.image_defs.specs.declared.image.Work.TheVariants.{Host}
+use Rattle.image_defs.specs.Places.{host_of, IsPort}
+use Rattle.image_defs.specs.WellFormed.{IsWellFormed}
+use Rattle.image_defs.specs.Frames.{shown}
+use Rattle.image_defs.specs.Ports.{last_turn}
+use Rattle.port_host.specs.Rows.{turn_of, IsOn, HasRows}
+use Rattle.port_host.specs.declared.port.HostPort.TheInside.{Inside}
+
+pub record IsReady (a : Inside) : Type 0 where
+  pub image : IsWellFormed a.bank.image
+  pub stimulus : IsValidStimulus a.stim.now
+  pub columns : a.stim.now.columns ≡ a.bank.image.columns
+  pub stimulus_is : a.bank.stimulus ≡ a.stim.now
+  pub units_is : a.units ≡ a.bank.image.units
+  pub host : a.bank.port ≡ host_of a.bank.image
+  pub seat : PortImage
+  pub is : IsPort a.bank.image a.bank.port seat
+  pub work : seat.work ≡ Host a.inputs.now a.printed.now
+  pub running : a.bank.begun ≡ true → a.bank.turn ≤ last_turn a.bank
+  pub turn : a.bank.turn ≡ turn_of a.units a.progress
+  pub on : IsOn a.stim.now a.units a.progress
+  pub room : length a.cells ≡ cycle_count a.stim.now * length a.printed.now
+  pub cells : HasRows a.progress.rows (length a.printed.now) (shown a.bank.image a.bank.stimulus) a.cells

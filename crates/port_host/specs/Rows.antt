@@ -1,0 +1,78 @@
+-- The rows of a stimulus by a cursor, the cycles of a run, and the cells that are printed.
+use Rattle.std.specs.Prelude.{◌≡◌, ℕ, ◌+◌, ◌-◌, ◌*◌, ◌/◌, ◌<◌, ◌≤◌, List, [], ◌++◌, length, replicate, drop, Option, Some, None, slice_get}
+use Rattle.std.specs.List.{flat_map}
+use Rattle.logic_four.specs.declared.V4.{V4}
+use Rattle.logic_four.specs.Values.{value_at}
+use Rattle.net_defs.specs.declared.stimulus.StimRow.{StimRow}
+use Rattle.net_defs.specs.declared.stimulus.Stimulus.{Stimulus}
+use Rattle.net_defs.specs.Time.{cycle_rows, cycle_count}
+use Rattle.image_defs.specs.declared.image.Source.{Source}
+use Rattle.image_defs.specs.declared.image.PortImage.{PortImage}
+use Rattle.image_defs.specs.declared.image.Image.{Image}
+use Rattle.image_defs.specs.Places.{host_of, printed_of}
+use Rattle.image_defs.specs.Ports.{PortView}
+use Rattle.port_bank.specs.Reads.{IsTaken}
+use Rattle.port_host.specs.declared.cursor.RowCursor.{RowCursor}
+use Rattle.port_host.specs.declared.cursor.Progress.{Progress}
+
+-- ---- rows of the stimulus
+
+-- for how many cycles a row serves, and its values; there are none where there is no row
+abbrev pub times_in : Option StimRow → ℕ
+times_in None = 0
+times_in (Some row) = row.times
+
+abbrev pub values_in : Option StimRow → List V4
+values_in None = []
+values_in (Some row) = row.values
+
+-- the rows of all cycles from the cursor's on
+abbrev pub rows_left : Stimulus → RowCursor → List (List V4)
+rows_left stimulus cursor =
+    replicate cursor.rest (values_in (slice_get stimulus.rows cursor.row))
+    ++ flat_map (λ row. replicate row.times row.values) (drop (cursor.row + 1) stimulus.rows)
+
+-- it stands at the cycle after the first n, or behind all rows
+pub record IsAt (stimulus : Stimulus) (n : ℕ) (cursor : RowCursor) : Type 0 where
+  pub left : drop n (cycle_rows stimulus) ≡ rows_left stimulus cursor
+  pub serves : cursor.row < length stimulus.rows → 1 ≤ cursor.rest
+  pub behind : length stimulus.rows ≤ cursor.row → cursor.rest ≡ 0
+
+-- ---- cycles of a run
+
+-- the turn, counted from 1, where a cycle has so many
+abbrev pub turn_of : ℕ → Progress → ℕ
+turn_of units progress = progress.rows * units + progress.unit + 1
+
+-- it is within the run, and the cursor stands at its cycle
+pub record IsOn (stimulus : Stimulus) (units : ℕ) (progress : Progress) : Type 0 where
+  pub rows : progress.rows ≤ cycle_count stimulus
+  pub unit : progress.unit < units
+  pub cursor : IsAt stimulus progress.rows progress.cursor
+
+-- the cycles that are over before a port's turn
+abbrev pub rows_done : PortView → ℕ
+rows_done view = (view.turn - 1) / view.image.units
+
+-- ---- cells
+
+-- the sources that an image prints
+abbrev pub printed_sources : Image → List Source
+printed_sources image = of_port (slice_get image.ports (host_of image)) where
+  of_port : Option PortImage → List Source
+  of_port None = []
+  of_port (Some port) = printed_of port.work
+
+-- the place of the first cell of a row, where so many rows come before it
+abbrev pub row_start : ℕ → ℕ → ℕ
+row_start rows width = rows * width
+
+-- what the first n sources have stands in the cells from this place on; what is before stays
+pub record HasPrinted (view : PortView) (sources : List Source) (n start : ℕ) (old new : List V4) : Type 0 where
+  pub long : length new ≡ length old
+  pub printed : (j : ℕ) (source : Source) → j < n → slice_get sources j ≡ Some source → IsTaken view source (value_at new (start + j))
+  pub before : (k : ℕ) → k < start → value_at new k ≡ value_at old k
+
+-- the cells have the rows of the first cycles, one after the other
+pub record HasRows (rows width : ℕ) (shown : ℕ → ℕ → V4) (cells : List V4) : Type 0 where
+  pub each : (c j : ℕ) → 1 ≤ c → c ≤ rows → j < width → value_at cells (row_start (c - 1) width + j) ≡ shown c j

@@ -1,0 +1,12 @@
+//! The host: it feeds the inputs from the rows of a stimulus, and keeps what is printed after the
+//! last turn of each cycle.
+#![tactic(auto)]
+
+mod cells;
+mod cursor;
+pub mod law;
+mod port;
+#[cfg(test)]
+mod tests;
+
+pub use port::HostPort;

@@ -1,0 +1,158 @@
+//! The host in its run.
+
+ghost use Rattle.std.specs.Prelude.{ℕ, ◌≡◌, ◌<◌, ◌≤◌, length, IfOk};
+ghost use Rattle.net_defs.specs.Time.{value_at};
+ghost use Rattle.net_defs.specs.Valid.{IsValidStimulus};
+ghost use Rattle.image_defs.specs.Places.{host_of};
+ghost use Rattle.image_defs.specs.WellFormed.{IsWellFormed};
+ghost use Rattle.image_defs.specs.Frames.{shown};
+ghost use Rattle.image_defs.specs.Ports.{at_first, after_begin, after_execute, after_receive, after_end, value_in, next_item, CanBegin, CanExecute, CanReceive, CanEnd};
+ghost use Rattle.port_bank.specs.Links.{next_link};
+ghost use Rattle.port_host.specs.Rows.{rows_done, printed_sources};
+
+use crate::cells::{keep_row, room, row, row_start};
+use crate::cursor::{Progress, begin, input_value, turn_over};
+use image_defs::{Image, InColumn, LinkIn, Source, Work};
+use logic_four::V4;
+use net_defs::Stimulus;
+use port_bank::Bank;
+use seen_list::{List, Memory};
+use std::alloc::Global;
+use std::marker::Model;
+
+/// The host in its run. A contract sees whose image and stimulus it runs and how far it has come.
+#[derive(Drop)]
+pub struct HostPort<'a> {
+    bank: Bank<'a>,
+    stim: &'a Stimulus,
+    units: u32,
+    inputs: &'a [InColumn],
+    printed: &'a [Source],
+    progress: Progress,
+    cells: List<V4>,
+}
+
+impl<'a> Model for HostPort<'a> {
+    ghost use Rattle.image_defs.specs.Ports.{PortView};
+
+    ghost Value = { PortView };
+
+    ghost use Rattle.port_host.specs.Kept.{IsReady};
+
+    ghost view = { λ a. a.bank };
+
+    ghost invariant = { IsReady };
+}
+
+impl<'a> HostPort<'a> {
+    /// The host before its first turn. It takes memory for four values a slot, and for the printed
+    /// values of all cycles: `Memory` also where these are more than can be counted. No later call
+    /// takes any.
+    pub fn new(alloc: Global, image: &'a Image, stim: &'a Stimulus) -> Result<HostPort<'a>, Memory>
+        requires image { IsWellFormed image.now }
+        requires stimulus { IsValidStimulus stim.now }
+        requires columns { stim.now.columns ≡ image.now.columns }
+        ensures { IfOk result (λ made. made ≡ at_first image.now stim.now (host_of image.now)) }
+    {
+        let port = image.ports.len() - 1;
+        let seat = &image.ports.as_slice()[port];
+        match &seat.work {
+            Work::Logic { .. } => unreachable!(),
+            Work::Array { .. } => unreachable!(),
+            Work::Host { inputs, printed } => {
+                let cells = room(alloc, stim.cycles(), printed.len())?;
+                let bank = Bank::new(alloc, image, stim, port as u32)?;
+                Ok(HostPort {
+                    bank,
+                    stim,
+                    units: image.units,
+                    inputs: inputs.as_slice(),
+                    printed: printed.as_slice(),
+                    progress: begin(stim),
+                    cells,
+                })
+            }
+        }
+    }
+
+    /// The slot of the next item of this turn, and `None` where all are executed.
+    pub fn next_slot(&self) -> Option<u32>
+        ensures { result ≡ next_item self.now }
+    {
+        match self.inputs.get(self.bank.executed()) {
+            Some(input) => Some(input.slot),
+            None => None,
+        }
+    }
+
+    /// What the port receives next in this turn, and `None` where it has received all.
+    pub fn next_link(&self) -> Option<LinkIn>
+        ensures { result ≡ next_link self.now }
+    {
+        self.bank.next_link()
+    }
+
+    /// Begins a turn.
+    pub fn begin_turn(&mut self)
+        requires { CanBegin self.old }
+        ensures { self.new ≡ after_begin self.old }
+    {
+        self.bank.begin_turn();
+    }
+
+    /// Executes the item in a slot, and answers its value: that of its input in this cycle.
+    pub fn execute(&mut self, slot: u32) -> V4
+        requires { CanExecute self.old slot }
+        ensures value { result ≡ value_in self.old slot }
+        ensures view { self.new ≡ after_execute self.old }
+    {
+        let input = self.inputs[self.bank.executed()];
+        let value = input_value(self.stim, self.progress.cursor, input.column);
+        self.bank.execute(slot, value);
+        value
+    }
+
+    /// Receives the value that is sent in a slot.
+    pub fn receive(&mut self, slot: u32, v: V4)
+        requires { CanReceive self.old slot v }
+        ensures { self.new ≡ after_receive self.old }
+    {
+        self.bank.receive(slot, v);
+    }
+
+    /// Ends the turn. After the last turn of a cycle the host keeps the row that is printed.
+    pub fn end_turn(&mut self)
+        requires { CanEnd self.old }
+        ensures { self.new ≡ after_end self.old }
+    {
+        keep_row(
+            &mut self.cells,
+            self.units,
+            self.progress,
+            self.printed,
+            &self.bank,
+        );
+        self.progress = turn_over(self.stim, self.units, self.progress);
+        self.bank.end_turn();
+    }
+
+    /// The number of cycles that are over, each of which has its row.
+    pub fn rows_done(&self) -> u32
+        ensures { result ≡ rows_done self.now }
+    {
+        self.progress.rows
+    }
+
+    /// The row of a cycle, counted from 1: what each printed source had at its last turn.
+    pub fn cells(&self, cycle: u32) -> &[V4]
+        requires some { 1 ≤ cycle }
+        requires done { cycle ≤ rows_done self.now }
+        ensures long { length result.now ≡ length (printed_sources self.now.image) }
+        ensures cells { (j : ℕ) → j < length result.now
+            → value_at result.now j ≡ shown self.now.image self.now.stimulus cycle j }
+    {
+        let width = self.printed.len();
+        let start = row_start(cycle - 1, width, self.cells.len());
+        row(self.cells.as_slice(), start, width)
+    }
+}
