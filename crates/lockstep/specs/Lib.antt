@@ -1,1 +1,3 @@
-pub mod Done
+pub mod AnyPort
+pub mod Passes
+pub mod Run
