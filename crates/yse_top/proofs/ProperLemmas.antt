@@ -365,7 +365,9 @@ pub answer_of_command : (s : Status) → IsOfCommand s → IsAnswer s
 answer_of_command status.Done is = tt
 answer_of_command status.ReadFault is = tt
 answer_of_command status.Netlist is = tt
+answer_of_command status.Machine is = tt
 answer_of_command status.Loop is = tt
+answer_of_command status.Overfull is = tt
 answer_of_command status.Stimulus is = tt
 answer_of_command status.Limit is = tt
 answer_of_command status.Memory is = tt

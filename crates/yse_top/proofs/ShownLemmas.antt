@@ -17,9 +17,20 @@ use Rattle.net_defs.specs.Trace.{cells_of}
 use Rattle.image_defs.specs.declared.image.Image.{Image}
 use Rattle.image_defs.specs.Frames.{shown}
 use Rattle.image_defs.specs.Ports.{PortView}
+use Rattle.machine_text.specs.declared.machine.Machine.{Machine}
+use Rattle.net_defs.specs.Valid.{input_count}
+use Rattle.node_defs.specs.WellFormed.{column_count}
+use Rattle.node_defs.proofs.MemberLemmas.{member_at}
+use Rattle.image_defs.specs.declared.image.PortImage.{PortImage}
+use Rattle.image_defs.specs.Places.{host_of}
 use Rattle.port_host.specs.Rows.{printed_sources}
+use Rattle.yse_compile.specs.declared.compiler.Compiled.{Compiled}
+use Rattle.yse_compile.specs.Compiled.{IsCompiled, ShowsReference}
 use Rattle.yse_top.specs.Images.{IsImageOf, AreShown}
-use Rattle.yse_top.specs.Outputs.{ArePrinted}
+use Rattle.net_defs.specs.Valid.{IsValidStimulus}
+use Rattle.seen_list.specs.Filling.{Filling}
+use Rattle.trace_text.specs.Line.{HasRoom}
+use Rattle.yse_top.specs.Outputs.{ArePrinted, CanPrint}
 
 -- lists of values that agree at each place
 same_values : (xs ys : List V4) → length xs ≡ length ys → ((j : ℕ) → j < length xs → value_at xs j ≡ value_at ys j) → xs ≡ ys
@@ -56,7 +67,7 @@ shown_more view n rows cells so_far wide are = record {
   last : (c : ℕ) (row : CellRow) → length rows ≤ c → slice_get (rows ++ record { cells = cells } ∷ []) c ≡ Some row → (c ≡ n) × (row ≡ record { cells = cells })
   last c row past at =
       let low = slice_get_within (rows ++ record { cells = cells } ∷ []) c row at in
-      let here : c ≡ length rows = omega (arith, low, past, length_push {A = CellRow} rows (record { cells = cells })) in
+      let here : c ≡ length rows = omega (arith, low, past, length_push rows (record { cells = cells })) in
       (here ∙ so_far.cycles_are, cc (ap (slice_get (rows ++ record { cells = cells } ∷ [])) here, seam_at {X = CellRow} rows (record { cells = cells }) [], at))
 
 -- what is shown of all cycles is the trace's
@@ -79,3 +90,27 @@ printed_shown net timing stimulus image view rows of image_is stimulus_is are = 
       are.cells c j row at (omega (arith, inside, are.width c row at))
       ∙ ap (λ i. shown i view.stimulus (c + 1) j) image_is ∙ ap (λ s. shown image s (c + 1) j) stimulus_is
       ∙ (of.shows stimulus).cells (c + 1) j (omega (arith, low, are.cycles_are)) (omega (arith, inside, are.width c row at, wide)))
+
+-- the image of a compiled netlist is one of the netlist
+pub image_of : (net : Netlist) (machine : Machine) (timing : Timing) (compiled : Compiled) → IsCompiled net machine timing compiled → column_count compiled.nodes ≡ input_count net → ((stimulus : Stimulus) → ShowsReference net timing stimulus compiled.image) → IsImageOf net timing compiled.image
+image_of net machine timing compiled is inputs shows = record {
+  fits = is.built.fits;
+  units = is.built.matches.units;
+  columns = is.built.matches.columns ∙ inputs;
+  printed = printed;
+  shows = shows;
+} where
+  host : (port : PortImage) × (slice_get compiled.image.ports (host_of compiled.image) ≡ Some port)
+  host = member_at compiled.image.ports (host_of compiled.image) (omega (arith, is.built.fits.some_ports))
+
+  printed : length (printed_sources compiled.image) ≡ length net.printed
+  printed = rw host.1 ((is.built.matches.printed host.0 host.1).as_many ∙ is.items.printed.each)
+
+-- the rows of a run fit the line
+pub shown_prints : (net : Netlist) (timing : Timing) (stimulus : Stimulus) (image : Image) (view : PortView) (rows : Rows) (line : Filling) → HasRoom net line → IsValidStimulus stimulus → IsImageOf net timing image → view.image ≡ image → AreShown view (cycle_count stimulus) rows.rows
+    → CanPrint (record { net = net; rows = rows; line = line })
+shown_prints net timing stimulus image view rows line room valid of image_is are = record {
+  room = room;
+  cells = λ c row at. are.width c row at ∙ ap (λ i. length (printed_sources i)) image_is ∙ of.printed;
+  cycles = omega (arith, are.cycles_are, valid.cycles);
+}

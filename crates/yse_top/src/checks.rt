@@ -20,6 +20,7 @@ use rank_find::{RankNo, order};
 use seen_list::List;
 use std::alloc::Global;
 use stim_text::read_stim;
+use yse_compile::inputs::same_inputs;
 use yse_compile::{CompNo, compile};
 
 /// A netlist, and an order of its gates.
@@ -107,6 +108,7 @@ pub fn compiled<'a>(
     ensures image { IfOk result (λ built. IsImageOf net timing.now built.image) }
     ensures refused { IfErr result (λ no. RefusesDesign net machine.now timing.now (refused_of no)) }
 {
+    same_inputs();
     match compile(alloc, &net, machine, timing) {
         Ok(compiled) => Ok(Built {
             net,

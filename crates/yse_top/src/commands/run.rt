@@ -1,6 +1,6 @@
 //! `run`: the trace of the reference simulation, by the compiled machine.
 
-ghost use Rattle.std.specs.Prelude.{◌≡◌, ◌≤◌, IfOk};
+ghost use Rattle.std.specs.Prelude.{◌≡◌, ◌≤◌, Some, IfOk};
 ghost use Rattle.std.specs.Option.{option_map};
 ghost use Rattle.machine_text.specs.Machines.{IsValid as IsValidMachine};
 ghost use Rattle.net_defs.specs.Valid.{IsValid, IsValidStimulus, IsValidTiming, input_count};
@@ -25,7 +25,7 @@ use std::alloc::Global;
 use trace_text::TraceLine;
 
 /// The trace of a run on the machine of the named file, or on the default machine.
-#[tactic(auto, using(crate::proofs::ChainLemmas::follows_refused), unfolding(crate::specs::commands::Run::ExpectedRun))]
+#[tactic(auto, unfolding(crate::specs::commands::Run::ExpectedRun))]
 pub fn run<'a, F: Files>(
     alloc: Global,
     files: &mut F,
@@ -39,13 +39,29 @@ pub fn run<'a, F: Files>(
 {
     match machine {
         None => run_on(alloc, files, words, Machine::default_size()),
-        Some(file) => match read_text(alloc, files, file) {
-            Ok(text) => match machine_of(alloc, text.as_slice()) {
-                Ok(machine) => run_on(alloc, files, words, machine),
-                Err(no) => Err(no),
-            },
+        Some(file) => run_by(alloc, files, words, file),
+    }
+}
+
+/// The trace of a run on the machine of the named file.
+#[tactic(auto, using(crate::proofs::ChainLemmas::follows_refused), unfolding(crate::specs::commands::Run::ExpectedRun))]
+fn run_by<'a, F: Files>(
+    alloc: Global,
+    files: &mut F,
+    words: RunWords<'a>,
+    file: &'a [u8],
+) -> Result<Output, Refusal<'a>>
+    requires { IsValidTiming words.timing }
+    ensures expected { Follows (F.names files.old) (F.bytes files.old) (F.counts files.old) (F.counts files.new)
+        result (ExpectedRun (Some file.now) (seen_words words.entry)) }
+    ensures writable { IfOk result CanWrite }
+{
+    match read_text(alloc, files, file) {
+        Ok(text) => match machine_of(alloc, text.as_slice()) {
+            Ok(machine) => run_on(alloc, files, words, machine),
             Err(no) => Err(no),
         },
+        Err(no) => Err(no),
     }
 }
 
@@ -60,7 +76,7 @@ fn run_on<'a, F: Files>(
     requires timing { IsValidTiming words.timing }
     requires machine { IsValidMachine machine }
     ensures expected { Follows (F.names files.old) (F.bytes files.old) (F.counts files.old) (F.counts files.new)
-        result (ExpectedOn machine.entry (seen_words words.entry)) }
+        result (ExpectedOn machine (seen_words words.entry)) }
     ensures writable { IfOk result CanWrite }
 {
     match read_text(alloc, files, words.netlist) {

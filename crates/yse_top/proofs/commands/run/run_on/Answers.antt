@@ -1,0 +1,54 @@
+-- The trace is expected after the netlist, its order and its fit.
+use Rattle.std.proofs.Common.{List, ℕ, refl, inl, inr}
+use Rattle.machine_text.specs.declared.machine.Machine.{Machine}
+use Rattle.net_defs.specs.declared.netlist.Netlist.{Netlist}
+use Rattle.yse_top.specs.Checks.{After, IsNetlistOf, HasNoLoop, HasRoom}
+use Rattle.yse_top.specs.Outcome.{Outcome}
+use Rattle.yse_top.specs.Readings.{Reading}
+use Rattle.yse_top.specs.Words.{Simulation, seen_words}
+use Rattle.yse_top.specs.commands.Run.{ExpectedOn, ExpectedTrace}
+use Rattle.yse_top.proofs.ChainLemmas.{follows_file, follows_on, follows_here}
+use Rattle.yse_top.proofs.commands.run.run_on.Goals as goal
+
+module _ (machine : Machine) (simulation : Simulation) where
+  abbrev of_room : Netlist → List Reading → Outcome → Type 0
+  of_room net = ExpectedTrace simulation.stimulus net simulation.timing
+
+  abbrev of_order : Netlist → List Reading → Outcome → Type 0
+  of_order net = After (HasRoom net machine simulation.timing) (λ fits. of_room net)
+
+  abbrev of_netlist : Netlist → List Reading → Outcome → Type 0
+  of_netlist net = After (HasNoLoop net simulation.timing) (λ passed. of_order net)
+
+  abbrev of_text : List ℕ → List Reading → Outcome → Type 0
+  of_text text = After (IsNetlistOf text) of_netlist
+
+pub returns-in-Ok-compiled-clause-expected : goal.returns-in-Ok-compiled-clause-expected
+unfolding ExpectedOn
+returns-in-Ok-compiled-clause-expected g c =
+    let e = rw c.as_slice.ensures at c.in-Ok-netlist_of.ensures in
+    let machine = c.args.machine in
+    let simulation = seen_words c.args.words in
+    let net = c.in-Ok-netlist_of.net in
+    let text = c.in-Ok.text in
+    let trace = rw c.in-Ok-compiled.ensures.same at c.execute.ensures.expected in
+    follows_file _ _ _ _ _ _ _ _ text _ (of_text machine simulation) c.in-Ok.ensures.same_names c.in-Ok.ensures.same_bytes c.in-Ok.ensures.text
+    (follows_on _ _ (IsNetlistOf text) (of_netlist machine simulation) net _ _ _ e.checked
+    (follows_on _ _ (HasNoLoop net simulation.timing) (λ passed. of_order machine simulation net) tt _ _ _ c.in-Ok-compiled.ensures.acyclic
+    (follows_on _ _ (HasRoom net machine simulation.timing) (λ fits. of_room machine simulation net) tt _ _ _ c.in-Ok-compiled.ensures.fits trace)))
+
+pub returns-in-Ok-netlist_of-clause-expected : goal.returns-in-Ok-netlist_of-clause-expected
+unfolding ExpectedOn
+returns-in-Ok-netlist_of-clause-expected g c =
+    let e = rw c.as_slice.ensures at c.in-Ok-netlist_of.ensures in
+    let machine = c.args.machine in
+    let simulation = seen_words c.args.words in
+    let net = c.in-Ok-netlist_of.net in
+    let text = c.in-Ok.text in
+    follows_file _ _ _ _ _ _ _ _ text _ (of_text machine simulation) c.in-Ok.ensures.same_names c.in-Ok.ensures.same_bytes c.in-Ok.ensures.text
+    (follows_on _ _ (IsNetlistOf text) (of_netlist machine simulation) net _ _ _ e.checked
+    (elim c.in-Err-compiled.ensures.refused [
+      | inl looped ↦ follows_here _ _ _ _ (of_netlist machine simulation net) (inr (refl, looped))
+      | inr (acyclic, crowded) ↦ follows_on _ _ (HasNoLoop net simulation.timing) (λ passed. of_order machine simulation net) tt _ _ _ acyclic
+          (follows_here _ _ _ _ (of_order machine simulation net) (inr (refl, crowded)))
+    ]))
