@@ -2,7 +2,7 @@
 use Rattle.std.proofs.Common.{◌≡◌, ◌∙◌, sym, refl, subst, inl, inr, ap, ℕ, zero, suc, ◌+◌, ◌≤◌, Bool, true, false, List, [], ◌∷◌, length, Option, Some, None, Result, Ok, Err, arith}
 use Rattle.std.specs.Prelude.{slice_get, cond, count_by}
 use Rattle.std.proofs.lemmas.List.Sums.{sum_by-cons}
-use Rattle.edge_io.specs.Counts.{raised, raised_if, Rose}
+use Rattle.edge_io.specs.Counts.{raised, raised_if}
 use Rattle.edge_io.specs.Names.{is_absent}
 use Rattle.edge_io.specs.declared.counts.FileCounts.{FileCounts}
 use Rattle.yse_top.specs.declared.output.Output.{Output}

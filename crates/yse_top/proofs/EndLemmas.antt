@@ -1,5 +1,5 @@
 -- What a call that comes to an expected outcome says of the counts of its store, and of its status.
-use Rattle.std.proofs.Common.{◌≡◌, ◌≢◌, ◌∙◌, sym, ap, refl, subst, ℕ, zero, suc, Bool, true, false, List, [], ◌∷◌, ◌++◌, ◌+◌, length, Option, Some, None, Result, Ok, Err, arith}
+use Rattle.std.proofs.Common.{◌≡◌, ◌≢◌, ◌∙◌, sym, ap, refl, ℕ, zero, suc, Bool, false, List, [], ◌∷◌, ◌++◌, ◌+◌, length, Option, Some, None, Result, arith}
 use Rattle.std.specs.Prelude.{slice_get, cond, count_by, OnSome, IfSome}
 use Rattle.std.proofs.lemmas.List.Sums.{sum_by-cons}
 use Rattle.edge_io.specs.Counts.{raised, Rose}
@@ -12,8 +12,8 @@ use Rattle.yse_top.specs.declared.status.Status.TheVariants as status
 use Rattle.yse_top.specs.Ends.{AreToldBy, IsDoneOrMemory}
 use Rattle.yse_top.specs.Law.{IsProper, AgreeOn}
 use Rattle.yse_top.specs.Outcome.{Outcome, done}
-use Rattle.yse_top.specs.Readings.{Reading, IsReading, AreReadings}
-use Rattle.yse_top.specs.Refusals.{Follows, outcome_of, refused_of, status_of}
+use Rattle.yse_top.specs.Readings.{Reading, IsReading}
+use Rattle.yse_top.specs.Refusals.{Follows, outcome_of}
 
 -- the member after a list
 last_at : (before : List Reading) (reading : Reading) → slice_get (before ++ reading ∷ []) (length before) ≡ Some reading

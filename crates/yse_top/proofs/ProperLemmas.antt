@@ -1,5 +1,5 @@
 -- A chain of checks is proper where each check and each end is: one lemma for each of the three links.
-use Rattle.std.proofs.Common.{◌≡◌, ◌≢◌, ◌∙◌, sym, ap, refl, subst, ◌⊎◌, inl, inr, ℕ, zero, suc, ◌≤◌, List, [], ◌∷◌, ◌++◌, length, take, map, Option, Some, None, Result, Ok, Err, Bool, true, false}
+use Rattle.std.proofs.Common.{◌≡◌, ◌≢◌, ◌∙◌, sym, ap, refl, subst, ◌⊎◌, inl, inr, ℕ, zero, suc, ◌≤◌, List, [], ◌∷◌, length, take, map, Option, Some, None, Result, Ok, Err, Bool, true, false}
 use Rattle.std.specs.Prelude.{⊤, slice_get, nat_le, if◌then◌else◌}
 use Rattle.std.proofs.lemmas.Bool.{leb-true}
 use Rattle.limits.specs.declared.TheConstants.{MAX_TEXT_BYTES}
@@ -8,7 +8,7 @@ use Rattle.yse_top.specs.declared.status.Status.TheVariants as status
 use Rattle.yse_top.specs.Checks.{After, AfterRead, AfterFile, Ends, Writes, text_of, read_fault}
 use Rattle.yse_top.specs.Ends.{IsAnswer}
 use Rattle.yse_top.specs.Law.{AreAlike, AgreeOn, AreGiven, HasCause, IsProper}
-use Rattle.yse_top.specs.Lines.{read_fault_line, too_long_line, usage_line}
+use Rattle.yse_top.specs.Lines.{too_long_line, usage_line}
 use Rattle.yse_top.specs.Outcome.{Outcome, done, refusal, out_of_memory}
 use Rattle.yse_top.specs.Readings.{Reading}
 

@@ -1,6 +1,5 @@
 -- What the reading of a whole file says of its text.
-use Rattle.std.proofs.Common.{◌≡◌, ◌∙◌, sym, ap, refl, inl, inr, ℕ, zero, suc, ◌<◌, ◌≤◌, Bool, true, false, List, [], ◌∷◌, length, replicate, IsTrue, Option, None, Some, Result, Ok, Err, arith}
-use Rattle.std.specs.Prelude.{if◌then◌else◌}
+use Rattle.std.proofs.Common.{◌≡◌, ◌∙◌, sym, ap, refl, inl, inr, ℕ, suc, ◌<◌, ◌≤◌, Bool, true, false, List, [], ◌∷◌, length, replicate, IsTrue, Option, None, Some, Result, Ok, Err, arith}
 use Rattle.std.proofs.lemmas.Bool.{le-leb, lt-leb}
 use Rattle.std.proofs.lemmas.List.{length-replicate}
 use Rattle.limits.specs.declared.TheConstants.{MAX_TEXT_BYTES}
@@ -13,8 +12,8 @@ use Rattle.yse_top.specs.declared.refusal.Refusal.{Refusal}
 use Rattle.yse_top.specs.declared.status.Status.TheVariants.{Limit}
 use Rattle.yse_top.specs.Checks.{text_of}
 use Rattle.yse_top.specs.Lines.{too_long_line}
-use Rattle.yse_top.specs.Outcome.{Outcome, refusal, out_of_memory}
-use Rattle.yse_top.specs.Readings.{Reading, AreReadings}
+use Rattle.yse_top.specs.Outcome.{refusal, out_of_memory}
+use Rattle.yse_top.specs.Readings.{AreReadings}
 use Rattle.yse_top.specs.Refusals.{GivesText, refused_of}
 use Rattle.yse_top.proofs.ChainLemmas.{one_reading}
 

@@ -1,6 +1,6 @@
 -- The timing that words say is valid.
-use Rattle.std.proofs.Common.{◌≡◌, refl, sym, subst, ℕ, ◌≤◌, Bool, true, false, ◌&&◌, List, [], ◌∷◌, length, Option, None, Some, arith}
-use Rattle.std.specs.Prelude.{nat_le, ◌==◌, IfSome, if◌then◌else◌, codes}
+use Rattle.std.proofs.Common.{◌≡◌, refl, sym, subst, ℕ, ◌≤◌, Bool, true, false, ◌&&◌, List, length, Option, None, Some, arith}
+use Rattle.std.specs.Prelude.{nat_le, IfSome, if◌then◌else◌}
 use Rattle.std.specs.Option.{option_map}
 use Rattle.std.proofs.lemmas.Bool.{leb-true}
 use Rattle.limits.specs.declared.TheConstants.{MAX_UNITS}
@@ -11,9 +11,8 @@ use Rattle.net_defs.specs.declared.timing.Mode.TheVariants.{Rank, Unit}
 use Rattle.net_defs.specs.declared.timing.Init.{Init}
 use Rattle.net_defs.specs.Valid.{IsValidTiming}
 use Rattle.yse_top.specs.declared.words.Command.{Command}
-use Rattle.yse_top.specs.declared.words.Command.TheVariants as command
 use Rattle.yse_top.specs.Forms.{HasForm, AreOptions}
-use Rattle.yse_top.specs.Words.{Request, run, refer, show, Simulation, HasValidTiming, units_of, mode_of, init_of, allows_units, timing_with, request_of, seen}
+use Rattle.yse_top.specs.Words.{Request, run, refer, show, HasValidTiming, units_of, mode_of, init_of, allows_units, timing_with, request_of, seen}
 use Rattle.yse_top.proofs.FormLemmas.{form_from}
 
 -- a number within limits

@@ -5,24 +5,20 @@ use Rattle.limits.specs.declared.TheConstants.{MAX_TEXT_BYTES}
 use Rattle.edge_io.specs.Names.{OfTold}
 use Rattle.edge_io.specs.declared.counts.FileCounts.{FileCounts}
 use Rattle.net_defs.specs.declared.netlist.Netlist.{Netlist}
-use Rattle.net_defs.specs.declared.timing.Timing.{Timing}
 use Rattle.net_defs.specs.declared.stimulus.Stimulus.{Stimulus}
 use Rattle.net_defs.specs.Trace.{IsTrace}
-use Rattle.net_defs.specs.Valid.{input_count}
 use Rattle.bench_read.specs.Reads as bench
 use Rattle.machine_text.specs.declared.machine.Machine.{Machine}
 use Rattle.machine_text.specs.Machines.{default_machine}
-use Rattle.stim_text.specs.Stimuli as stim
 use Rattle.yse_top.specs.declared.output.Output.{Output}
-use Rattle.yse_top.specs.declared.refusal.Refusal.{Refusal}
 use Rattle.yse_top.specs.declared.status.Status.{Status}
 use Rattle.yse_top.specs.declared.status.Status.TheVariants as status
 use Rattle.yse_top.specs.Checks.{After, AfterRead, AfterFile, Ends, Writes, text_of, IsMachineOf, IsNetlistOf, HasNoLoop, HasRoom, IsStimulusOf, HasFewCells}
-use Rattle.yse_top.specs.Expected.{Expected, ExpectedOf, ExpectedAsked}
+use Rattle.yse_top.specs.Expected.{Expected, ExpectedAsked}
 use Rattle.yse_top.specs.Outcome.{Outcome, done, refusal}
 use Rattle.yse_top.specs.Lines.{too_long_line}
 use Rattle.yse_top.specs.Outputs.{bytes_of}
-use Rattle.yse_top.specs.Readings.{Reading, AreReadings}
+use Rattle.yse_top.specs.Readings.{Reading}
 use Rattle.yse_top.specs.Refusals.{Follows}
 use Rattle.yse_top.specs.Traced.{IsTraceOfFiles}
 use Rattle.yse_top.specs.Words.{Simulation, Request, run, refer, show, request_of, traced_by}

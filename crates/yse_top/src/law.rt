@@ -6,7 +6,9 @@ ghost use Rattle.yse_top.specs.Law.{AreProper, TellsWords, HasStatus};
 ghost use Rattle.yse_top.specs.Words.{HasValidTiming, request_of};
 
 use bench_read::law::{reads_or_faults as netlists_or_faults, texts_read_as_valid};
-use machine_text::law::{reads_as_valid as machines_are_valid, reads_or_faults as machines_or_faults};
+use machine_text::law::{
+    reads_as_valid as machines_are_valid, reads_or_faults as machines_or_faults,
+};
 use node_map::law::items_exist;
 use rank_find::order_or_loop;
 use ref_sim::one_simulation;

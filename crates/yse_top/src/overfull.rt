@@ -46,11 +46,7 @@ fn write_ports_line<S: Sink>(sink: &mut S, ports: u32) -> Result<(), WriteNo>
 }
 
 /// Writes the line of a design that does not fit.
-pub fn write_overfull_line<S: Sink>(
-    sink: &mut S,
-    net: &Netlist,
-    no: &CompNo,
-) -> Result<(), WriteNo>
+pub fn write_overfull_line<S: Sink>(sink: &mut S, net: &Netlist, no: &CompNo) -> Result<(), WriteNo>
     ensures { Takes (S.taken sink.old) (S.taken sink.new) (S.faults sink.old) (S.faults sink.new)
         result (overfull_line net.now no.now) }
 {

@@ -31,7 +31,9 @@ pub enum Command<'a> {
     /// `refer`, with the words of `run` but for the machine
     Refer(RunWords<'a>),
     /// `show NETLIST`
-    Show { netlist: &'a [u8] },
+    Show {
+        netlist: &'a [u8],
+    },
 }
 
 /// What the words ask for, or `None` exactly where they are of none of the forms.

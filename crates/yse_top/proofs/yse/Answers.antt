@@ -1,5 +1,5 @@
 -- What was read, and the outcome that is expected of it, say the rest.
-use Rattle.std.proofs.Common.{◌∙◌, sym, refl, subst, map}
+use Rattle.std.proofs.Common.{◌∙◌, sym, subst, map}
 use Rattle.std.specs.String.{string_bytes}
 use Rattle.yse_top.specs.Ends.{IsDoneOrMemory}
 use Rattle.yse_top.specs.Outputs.{bytes_of}

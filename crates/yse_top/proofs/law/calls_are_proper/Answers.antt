@@ -22,7 +22,7 @@ use Rattle.bench_read.specs.Faults as bench
 use Rattle.bench_read.specs.Reads as bench_reads
 use Rattle.stim_text.specs.Stimuli as stim
 use Rattle.yse_top.specs.declared.status.Status.TheVariants as status
-use Rattle.yse_top.specs.Checks.{After, AfterFile, Ends, Writes, IsMachineOf, IsNetlistOf, HasNoLoop, HasRoom, IsStimulusOf, HasFewCells}
+use Rattle.yse_top.specs.Checks.{After, Ends, Writes, IsMachineOf, IsNetlistOf, HasNoLoop, HasRoom, IsStimulusOf, HasFewCells}
 use Rattle.yse_top.specs.Ends.{IsAnswer}
 use Rattle.yse_top.specs.Expected.{Expected, ExpectedOf, ExpectedAsked}
 use Rattle.yse_top.specs.Law.{IsProper}
@@ -32,7 +32,7 @@ use Rattle.yse_top.specs.Readings.{Reading}
 use Rattle.yse_top.specs.Words.{Request, run, refer, show, Simulation, request_of, files_of, files_named}
 use Rattle.yse_top.specs.commands.Run.{ExpectedRun, ExpectedOn, ExpectedRefer, ExpectedTrace}
 use Rattle.yse_top.specs.commands.Show.{ExpectedShow}
-use Rattle.yse_top.proofs.ProperLemmas.{IsCheck, IsCommand, IsOfCommand, command_after, command_file, command_ends, writes_ending, words_proper, words_status, answer_of_command, not_words}
+use Rattle.yse_top.proofs.ProperLemmas.{IsCheck, IsCommand, command_after, command_file, command_ends, writes_ending, words_proper, words_status, answer_of_command, not_words}
 use Rattle.yse_top.proofs.CheckLemmas.{reads_check, loop_check, IsRoomLaw, room_check, cells_check, trace_only, trace_some}
 use Rattle.yse_top.proofs.law.calls_are_proper.Goals as goal
 

@@ -7,7 +7,7 @@ pub returns-clause-printed : goal.returns-clause-printed
 returns-clause-printed c = (
   refl,
   printed_shown c.args.built.net c.args._timing.now c.args.stimulus.now c.args.built.image c.in_ok-host.host c.in_ok-rows.rows c.requires.image
-  (ap (λ (v : PortView). v.image) c.in_ok-host.ensures.host) (ap (λ (v : PortView). v.stimulus) c.in_ok-host.ensures.host) (rw c.cycles.ensures at c.in_ok-rows.ensures),
+      (ap (λ (v : PortView). v.image) c.in_ok-host.ensures.host) (ap (λ (v : PortView). v.stimulus) c.in_ok-host.ensures.host) (rw c.cycles.ensures at c.in_ok-rows.ensures),
 )
 
 pub returns-clause-writable : goal.returns-clause-writable

@@ -1,5 +1,5 @@
 -- The canonical text of what was read.
-use Rattle.std.proofs.Common.{◌≡◌, List, ℕ, refl, inl}
+use Rattle.std.proofs.Common.{◌≡◌, List, refl, inl}
 use Rattle.net_defs.specs.declared.netlist.Netlist.{Netlist}
 use Rattle.net_defs.specs.Canonical.{canonical_text}
 use Rattle.yse_top.specs.Checks.{After, Ends, Writes, IsNetlistOf}
