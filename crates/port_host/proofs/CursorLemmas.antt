@@ -1,12 +1,10 @@
 -- The cursor stands at the row of its cycle.
-use Rattle.std.proofs.Common.{◌≡◌, ◌∙◌, ◌⊎◌, inl, inr, ℕ, zero, suc, ◌+◌, ◌-◌, ◌*◌, ◌<◌, ◌≤◌, List, [], ◌∷◌, ◌++◌, length, replicate, drop, get_or, Option, Some, None, slice_get, sym, ap, subst, refl, arith}
+use Rattle.std.proofs.Common.{◌≡◌, ◌∙◌, inl, inr, ℕ, zero, suc, ◌+◌, ◌-◌, ◌<◌, ◌≤◌, List, [], ◌++◌, length, replicate, drop, get_or, Option, Some, None, slice_get, sym, ap, subst, refl, arith}
 use Rattle.std.specs.List.{flat_map}
 use Rattle.std.proofs.Math.ListN.{drop_of_length-le}
-use Rattle.std.proofs.Math.Nat.{suc-mul, mul-le-mul_right}
 use Rattle.std.proofs.lemmas.Bool.{cases_lt}
-use Rattle.std.proofs.lemmas.Nat.{div-mul-add}
 use Rattle.std.proofs.lemmas.List.{drop-drop, length-drop, get_or-drop}
-use Rattle.std.proofs.lemmas.Option.{slice_get_past, slice_get_within, slice_get-get_or}
+use Rattle.std.proofs.lemmas.Option.{slice_get_past}
 use Rattle.list_laws.proofs.Places.{drop_here, past_end}
 use Rattle.logic_four.specs.declared.V4.{V4}
 use Rattle.net_defs.specs.declared.stimulus.StimRow.{StimRow}
@@ -42,10 +40,6 @@ at_row stimulus n row rest valid times here = record {
   of_option within (Some r) there =
       let same : rest ≡ r.times = times ∙ ap times_in there in
       omega (arith, same, (valid.times row r there).0)
-
--- at the first cycle
-pub at_first_row : (stimulus : Stimulus) (rest : ℕ) → IsValidStimulus stimulus → rest ≡ times_in (slice_get stimulus.rows 0) → IsAt stimulus 0 (record { row = 0; rest = rest })
-at_first_row stimulus rest valid times = at_row stimulus 0 0 rest valid times refl
 
 -- ---- the next cycle
 

@@ -1,29 +1,28 @@
 -- The host keeps its place in the stimulus, and the rows of the cycles that are over.
-use Rattle.std.proofs.Common.{◌≡◌, ◌≢◌, ◌∙◌, ◌⊎◌, inl, inr, ℕ, ◌+◌, ◌-◌, ◌*◌, ◌/◌, ◌<◌, ◌≤◌, Bool, true, false, List, [], length, get_or, Option, Some, None, slice_get, sym, ap, subst, refl, arith}
+use Rattle.std.proofs.Common.{◌≡◌, ◌≢◌, ◌∙◌, ◌⊎◌, inl, inr, ℕ, ◌+◌, ◌-◌, ◌*◌, ◌/◌, ◌<◌, ◌≤◌, true, false, List, [], length, get_or, Option, Some, None, slice_get, sym, ap, subst, refl, arith}
 use Rattle.std.proofs.lemmas.Bool.{cases_lt}
 use Rattle.std.proofs.lemmas.Option.{slice_get_within, slice_get-get_or, slice_get_read}
 use Rattle.logic_four.specs.declared.V4.{V4}
 use Rattle.logic_four.specs.declared.V4.TheVariants.{Undef}
 use Rattle.logic_four.specs.Values.{value_at}
 use Rattle.net_defs.specs.declared.stimulus.Stimulus.{Stimulus}
-use Rattle.net_defs.specs.Time.{cycle_rows, cycle_count, cycle_of, input_at}
+use Rattle.net_defs.specs.Time.{cycle_rows, cycle_count, cycle_of}
 use Rattle.net_defs.specs.Valid.{IsValidStimulus}
 use Rattle.image_defs.specs.declared.image.Source.{Source}
 use Rattle.image_defs.specs.declared.image.Source.TheVariants.{Own, Got, Const}
 use Rattle.image_defs.specs.declared.image.LinkIn.{LinkIn}
 use Rattle.image_defs.specs.declared.image.InColumn.{InColumn}
-use Rattle.image_defs.specs.declared.image.Work.{Work}
 use Rattle.image_defs.specs.declared.image.Work.TheVariants.{Host}
 use Rattle.image_defs.specs.declared.image.PortImage.{PortImage}
 use Rattle.image_defs.specs.declared.image.Image.{Image}
 use Rattle.image_defs.specs.Places.{Each, host_of, printed_of, item_slots, in_slots, IsPort, IsItemIn}
 use Rattle.image_defs.specs.WellFormed.{IsWellFormed, IsPresent, IsWork}
-use Rattle.image_defs.specs.Steps.{Grid, value_of_member, source_value, column_value, item_value, timing_of}
+use Rattle.image_defs.specs.Steps.{Grid, value_of_member, source_value, column_value, item_value}
 use Rattle.image_defs.specs.Frames.{frame, printed_value, shown}
-use Rattle.image_defs.specs.Ports.{PortView, CanExecute, CanEnd, at_first, after_end, value_in, last_turn}
+use Rattle.image_defs.specs.Ports.{PortView, CanExecute, CanEnd, at_first, after_end, value_in}
 use Rattle.image_defs.proofs.PlaceLemmas.{at_map}
 use Rattle.port_bank.specs.Flat.{IsWithin}
-use Rattle.port_bank.specs.Reads.{IsAtHand, IsTaken, value_taken, now_in, past_in}
+use Rattle.port_bank.specs.Reads.{IsAtHand, now_in, past_in}
 use Rattle.port_bank.proofs.TurnLemmas.{item_meets, there_within}
 use Rattle.port_host.specs.declared.cursor.Progress.{Progress}
 use Rattle.port_host.specs.declared.port.HostPort.TheInside.{Inside}

@@ -1,5 +1,5 @@
 -- What the host keeps: its place in the stimulus, and the rows of the cycles that are over.
-use Rattle.std.specs.Prelude.{◌≡◌, ℕ, ◌*◌, ◌<◌, ◌≤◌, true, length}
+use Rattle.std.specs.Prelude.{◌≡◌, ◌*◌, ◌≤◌, true, length}
 use Rattle.net_defs.specs.Time.{cycle_count}
 use Rattle.net_defs.specs.Valid.{IsValidStimulus}
 use Rattle.image_defs.specs.declared.image.PortImage.{PortImage}

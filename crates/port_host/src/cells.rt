@@ -52,9 +52,12 @@ pub(crate) fn keep_row(
     bank: &Bank<'_>,
 )
     requires unit { progress.unit < units }
-    requires room { row_start progress.rows (length sources.now) + length sources.now ≤ length cells.old }
+    requires room { row_start progress.rows (length sources.now) + length sources.now
+        ≤ length cells.old }
     requires within { Each (IsWithin bank.now.image.slots) sources.now }
-    ensures kept { progress.unit + 1 ≡ units → HasPrinted bank.now sources.now (length sources.now) (row_start progress.rows (length sources.now)) cells.old cells.new }
+    ensures kept { progress.unit + 1 ≡ units
+        → HasPrinted bank.now sources.now (length sources.now)
+        (row_start progress.rows (length sources.now)) cells.old cells.new }
     ensures same { progress.unit + 1 ≢ units → cells.new ≡ cells.old }
 {
     let count = cells.len();

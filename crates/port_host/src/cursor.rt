@@ -46,7 +46,8 @@ pub(crate) fn first(stim: &Stimulus) -> RowCursor
 /// At the next cycle.
 pub(crate) fn next(stim: &Stimulus, cursor: RowCursor) -> RowCursor
     requires { cursor.row < length stim.now.rows }
-    ensures { (n : ℕ) → IsValidStimulus stim.now → IsAt stim.now n cursor → IsAt stim.now (n + 1) result }
+    ensures { (n : ℕ) → IsValidStimulus stim.now → IsAt stim.now n cursor
+        → IsAt stim.now (n + 1) result }
 {
     let _count = stim.rows.len();
     if cursor.rest > 1 {

@@ -6,6 +6,6 @@ ghost use Rattle.port_host.specs.Rows.{rows_done};
 
 /// A law: once the host has ended the last turn of a cycle, so many rows are done. It does nothing.
 pub fn cycle_is_done()
-    ensures { (view : PortView) (cycle : ℕ) → 1 ≤ view.image.units → view.turn ≡ cycle * view.image.units
-        → rows_done (after_end view) ≡ cycle }
+    ensures { (view : PortView) (cycle : ℕ) → 1 ≤ view.image.units
+        → view.turn ≡ cycle * view.image.units → rows_done (after_end view) ≡ cycle }
 {}

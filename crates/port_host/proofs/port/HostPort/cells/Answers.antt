@@ -1,4 +1,4 @@
-use Rattle.std.proofs.Common.{◌≡◌, ◌∙◌, ◌<◌, ◌≤◌, length, ap, subst, sym, arith}
+use Rattle.std.proofs.Common.{◌∙◌, ◌<◌, ◌≤◌, length, ap, subst, sym, arith}
 use Rattle.image_defs.specs.Frames.{shown}
 use Rattle.port_host.specs.Rows.{rows_done}
 use Rattle.port_host.proofs.HostLemmas.{row_done, cells_done}

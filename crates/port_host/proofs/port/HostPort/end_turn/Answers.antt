@@ -1,5 +1,5 @@
-use Rattle.std.proofs.Common.{◌∙◌, ap, subst, sym}
-use Rattle.image_defs.specs.Ports.{CanEnd, after_end}
+use Rattle.std.proofs.Common.{subst, sym}
+use Rattle.image_defs.specs.Ports.{CanEnd}
 use Rattle.port_host.proofs.HostLemmas.{printed_within, ready_ended}
 use Rattle.port_host.proofs.port.HostPort.end_turn.Goals as goal
 
