@@ -1,7 +1,6 @@
 -- Passes, one port after the other.
-use Rattle.std.proofs.Common.{◌≡◌, ◌∙◌, inl, inr, ℕ, ◌+◌, ◌<◌, ◌≤◌, List, length, get_or, set, slice_get, Some, sym, ap, arith, rules}
+use Rattle.std.proofs.Common.{◌≡◌, ◌∙◌, inl, inr, ℕ, ◌+◌, ◌<◌, List, length, set, slice_get, Some, sym, ap, arith, rules}
 use Rattle.std.proofs.lemmas.List.{length-set, get_or-set_same, get_or-set_other}
-use Rattle.std.proofs.lemmas.Option.{slice_get-get_or}
 use Rattle.list_laws.proofs.Places.{one_there}
 use Rattle.list_laws.proofs.Ranges.{last_or}
 use Rattle.logic_four.specs.declared.V4.{V4}
@@ -11,7 +10,7 @@ use Rattle.image_defs.specs.Ports.{PortView, next_item, value_in}
 use Rattle.port_array.proofs.MemoryLemmas.{set_place}
 use Rattle.lockstep.specs.declared.any_port.AnyPort.{AnyPort}
 use Rattle.lockstep.specs.AnyPort.{view_in}
-use Rattle.lockstep.specs.Passes.{HasPassed, HavePassed, HaveValues}
+use Rattle.lockstep.specs.Passes.{HasPassed, HavePassed, HaveKept}
 
 -- before the first port
 pub none_passed : (change : PortView → PortView) (ports : List AnyPort) → HavePassed change 0 ports ports
@@ -38,7 +37,7 @@ passed_more change n old now before after so_far stood passed = record {
 }
 
 -- the value of one port more
-pub value_more : (slot n : ℕ) (old : List AnyPort) (values : List V4) (before : AnyPort) (v : V4) → n < length values → slice_get old n ≡ Some before → (next_item (view_in before) ≡ Some slot → v ≡ value_in (view_in before) slot) → HaveValues slot n old values → HaveValues slot (n + 1) old (set values n v)
+pub value_more : (slot n : ℕ) (old : List AnyPort) (values : List V4) (before : AnyPort) (v : V4) → n < length values → slice_get old n ≡ Some before → (next_item (view_in before) ≡ Some slot → v ≡ value_in (view_in before) slot) → HaveKept slot n old values → HaveKept slot (n + 1) old (set values n v)
 value_more slot n old values before v within stood right so_far = record {
   each = λ p port low is next. elim (last_or p n low) [
     | inl less ↦ get_or-set_other values n p v Undef (omega arith) ∙ so_far.each p port less is next

@@ -1,5 +1,5 @@
 -- All ports in a turn, pass by pass.
-use Rattle.std.proofs.Common.{◌≡◌, ◌≢◌, ◌⊎◌, inl, inr, ◌∙◌, ℕ, ◌+◌, ◌/◌, ◌<◌, ◌≤◌, Bool, true, false, if◌then◌else◌, List, [], ◌∷◌, ◌++◌, length, take, drop, get_or, slice_get, Option, Some, None, sym, ap, subst, refl, arith}
+use Rattle.std.proofs.Common.{◌≡◌, ◌≢◌, ◌⊎◌, inl, inr, ◌∙◌, ℕ, ◌+◌, ◌/◌, ◌<◌, ◌≤◌, true, false, List, [], ◌∷◌, ◌++◌, length, take, get_or, slice_get, Option, Some, None, sym, ap, subst, refl, arith}
 use Rattle.std.specs.List.{refill}
 use Rattle.std.proofs.Math.Nat.{add-sub_cancel, mul-div_cancel_left}
 use Rattle.std.proofs.Math.Seq.{take-length}
@@ -20,9 +20,8 @@ use Rattle.image_defs.specs.declared.image.Work.TheVariants as work
 use Rattle.image_defs.specs.declared.image.LinkIn.{LinkIn}
 use Rattle.image_defs.specs.declared.image.PortImage.{PortImage}
 use Rattle.image_defs.specs.declared.image.Image.{Image}
-use Rattle.image_defs.specs.Places.{IsPort, IsItemIn, item_slots, in_slots, host_of}
+use Rattle.image_defs.specs.Places.{IsPort, item_slots, in_slots, host_of}
 use Rattle.image_defs.specs.WellFormed.{IsWellFormed, IsLinkIn, IsHost}
-use Rattle.image_defs.specs.Frames.{image_value}
 use Rattle.image_defs.specs.Ports.{PortView, at_first, after_begin, after_execute, after_receive, after_end, next_item, value_in, CanBegin, CanExecute, CanReceive, CanEnd}
 use Rattle.image_defs.proofs.PlaceLemmas.{Rises, rises, at_map}
 use Rattle.port_array.proofs.MemoryLemmas.{member_at}
@@ -31,8 +30,8 @@ use Rattle.port_host.specs.Rows.{rows_done}
 use Rattle.lockstep.specs.declared.any_port.AnyPort.{AnyPort}
 use Rattle.lockstep.specs.declared.any_port.AnyPort.TheVariants.{Host}
 use Rattle.lockstep.specs.AnyPort.{view_in, is_host, IsFirst}
-use Rattle.lockstep.specs.Passes.{after_item, after_link, MayBegin, MayExecute, MayReceive, MayEnd, HasPassed, HavePassed, HaveValues}
-use Rattle.lockstep.specs.Run.{turns_of, at_turn, at_end, EndsInHost, IsFront, StandsBefore, IsInTurn, AllBefore, AllInTurn}
+use Rattle.lockstep.specs.Passes.{after_item, after_link, MayBegin, MayExecute, MayReceive, MayEnd, HasPassed, HavePassed, HaveKept}
+use Rattle.lockstep.specs.Run.{turns_of, at_turn, at_end, EndsInHost, StandsBefore, IsInTurn, AllBefore, AllInTurn, AreValues}
 use Rattle.lockstep.proofs.FrontLemmas.{standing, front_none, front_here, front_there, front_place, front_before, front_all}
 
 -- as many members in place of those of a list
@@ -181,11 +180,7 @@ module _ (image : Image) (stimulus : Stimulus) (turn : ℕ) (good : IsWellFormed
 
   -- ---- all ports
 
-  -- the value of each item in a slot
-  abbrev pub Values : ℕ → List V4 → Type 0
-  Values t values = (q i : ℕ) (seat : PortImage) → IsPort image q seat → IsItemIn seat.work i t → value_at values q ≡ image_value image stimulus turn q t
-
-  pub values_given : (t : ℕ) (ports : List AnyPort) (values : List V4) → AllInTurn image stimulus turn t t ports → HaveValues t (length ports) ports values → Values t values
+  pub values_given : (t : ℕ) (ports : List AnyPort) (values : List V4) → AllInTurn image stimulus turn t t ports → HaveKept t (length ports) ports values → AreValues image stimulus turn t values
   values_given t ports values all given q i seat is stands =
       let there : q < length ports = omega (arith, all.count, slice_get_within image.ports q seat is) in
       let port = standing ports q there in
@@ -198,7 +193,7 @@ module _ (image : Image) (stimulus : Stimulus) (turn : ℕ) (good : IsWellFormed
       ap next_item in_turn.view ∙ (next_of (on q in_turn.executed in_turn.received) in_turn.seat in_turn.is ∙ (ap (slice_get slots) (sym place) ∙ here)) in
       given.each q port.0 there port.1 next ∙ ap (λ view. value_in view t) in_turn.view
 
-  pub may_receive : (m t p : ℕ) (port : AnyPort) (values : List V4) → length values ≡ length image.ports → Values t values → IsInTurn image stimulus turn m t p port → MayReceive t values port
+  pub may_receive : (m t p : ℕ) (port : AnyPort) (values : List V4) → length values ≡ length image.ports → AreValues image stimulus turn t values → IsInTurn image stimulus turn m t p port → MayReceive t values port
   may_receive m t p port values room given in_turn = record {
     sent = λ link next same. omega (arith, room, slice_get_within image.ports link.sender (from link next).sender (from link next).is);
     can = λ link next same. subst (λ view. CanReceive view t (value_at values link.sender)) (sym in_turn.view) (record {

@@ -52,5 +52,5 @@ pub record HavePassed (change : PortView → PortView) (n : ℕ) (old new : List
   pub rest : (p : ℕ) (port : AnyPort) → n ≤ p → slice_get new p ≡ Some port → slice_get old p ≡ Some port
 
 -- of the first n ports, each with an item in the slot has its value among these
-pub record HaveValues (slot n : ℕ) (ports : List AnyPort) (values : List V4) : Type 0 where
+pub record HaveKept (slot n : ℕ) (ports : List AnyPort) (values : List V4) : Type 0 where
   pub each : (p : ℕ) (port : AnyPort) → p < n → slice_get ports p ≡ Some port → next_item (view_in port) ≡ Some slot → value_at values p ≡ value_in (view_in port) slot

@@ -1,13 +1,16 @@
 -- A run: how far all ports have come.
 use Rattle.std.specs.Prelude.{◌≡◌, ℕ, ◌+◌, ◌<◌, ◌≤◌, true, List, length, Some, slice_get}
+use Rattle.logic_four.specs.declared.V4.{V4}
+use Rattle.logic_four.specs.Values.{value_at}
 use Rattle.net_defs.specs.declared.stimulus.Stimulus.{Stimulus}
 use Rattle.net_defs.specs.Time.{turn_count}
 use Rattle.net_defs.specs.Valid.{IsValidStimulus}
 use Rattle.image_defs.specs.declared.image.PortImage.{PortImage}
 use Rattle.image_defs.specs.declared.image.Image.{Image}
-use Rattle.image_defs.specs.Places.{IsPort, item_slots, in_slots, host_of}
+use Rattle.image_defs.specs.Places.{IsPort, IsItemIn, item_slots, in_slots, host_of}
 use Rattle.image_defs.specs.WellFormed.{IsWellFormed}
 use Rattle.image_defs.specs.Steps.{timing_of}
+use Rattle.image_defs.specs.Frames.{image_value}
 use Rattle.image_defs.specs.Ports.{PortView, at_first}
 use Rattle.lockstep.specs.declared.any_port.AnyPort.{AnyPort}
 use Rattle.lockstep.specs.declared.machine.Machine.{Machine}
@@ -78,6 +81,18 @@ IsBefore machine = AllBefore machine.image.now machine.stim.now machine.turn mac
 -- in the turn, each port has executed its items and received in the slots before this one
 abbrev pub IsAt : ℕ → Machine → Type 0
 IsAt slot machine = AllInTurn machine.image.now machine.stim.now machine.turn slot slot machine.ports
+
+-- each port has executed its item in this slot too, and has not yet received there
+abbrev pub HasExecuted : ℕ → Machine → Type 0
+HasExecuted slot machine = AllInTurn machine.image.now machine.stim.now machine.turn (slot + 1) slot machine.ports
+
+-- each port with an item in the slot has its value among these
+abbrev pub AreValues : Image → Stimulus → ℕ → ℕ → List V4 → Type 0
+AreValues image stimulus turn slot values =
+    (p i : ℕ) (seat : PortImage) → IsPort image p seat → IsItemIn seat.work i slot → value_at values p ≡ image_value image stimulus turn p slot
+
+abbrev pub HasValues : ℕ → Machine → Type 0
+HasValues slot machine = AreValues machine.image.now machine.stim.now machine.turn slot machine.values
 
 -- a machine of the same image, stimulus and room, this many turns later
 pub record IsLater (turns : ℕ) (old new : Machine) : Type 0 where

@@ -6,7 +6,7 @@ ghost use Rattle.net_defs.specs.Valid.{IsValidStimulus};
 ghost use Rattle.image_defs.specs.WellFormed.{IsWellFormed};
 ghost use Rattle.port_host.specs.Rows.{rows_done};
 ghost use Rattle.lockstep.specs.AnyPort.{view_in};
-ghost use Rattle.lockstep.specs.Run.{at_end, turns_of, turns_in, AllBefore, IsMachine, IsBefore, IsAt, IsLater, EndsInHost};
+ghost use Rattle.lockstep.specs.Run.{at_end, turns_of, turns_in, AllBefore, IsMachine, IsBefore, IsAt, HasExecuted, HasValues, IsLater, EndsInHost};
 
 use crate::any_port::AnyPort;
 use crate::passes::{begin_all, end_all, execute_all, receive_all};
@@ -56,6 +56,28 @@ fn turn_count(image: &Image, stim: &Stimulus) -> u64
 }
 
 impl<'a> Machine<'a> {
+    /// Executes the items in a slot.
+    fn execute_slot(&mut self, slot: u32)
+        requires machine { IsMachine self.old }
+        requires at { IsAt slot self.old }
+        ensures same { IsLater 0 self.old self.new }
+        ensures executed { HasExecuted slot self.new }
+        ensures values { HasValues slot self.new }
+    {
+        execute_all(self.ports.as_mut_slice(), self.values.as_mut_slice(), slot);
+    }
+
+    /// Receives what is sent in a slot.
+    fn receive_slot(&mut self, slot: u32)
+        requires machine { IsMachine self.old }
+        requires executed { HasExecuted slot self.old }
+        requires values { HasValues slot self.old }
+        ensures same { IsLater 0 self.old self.new }
+        ensures at { IsAt (slot + 1) self.new }
+    {
+        receive_all(self.ports.as_mut_slice(), self.values.as_slice(), slot);
+    }
+
     /// Executes the items in a slot, and then receives what is sent there.
     fn run_slot(&mut self, slot: u32)
         requires machine { IsMachine self.old }
@@ -63,8 +85,8 @@ impl<'a> Machine<'a> {
         ensures same { IsLater 0 self.old self.new }
         ensures at { IsAt (slot + 1) self.new }
     {
-        execute_all(self.ports.as_mut_slice(), self.values.as_mut_slice(), slot);
-        receive_all(self.ports.as_mut_slice(), self.values.as_slice(), slot);
+        self.execute_slot(slot);
+        self.receive_slot(slot);
     }
 
     /// Runs the slots of a turn.

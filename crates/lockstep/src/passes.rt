@@ -5,7 +5,7 @@ ghost use Rattle.logic_four.specs.Values.{value_at};
 ghost use Rattle.image_defs.specs.Places.{Each};
 ghost use Rattle.image_defs.specs.Ports.{after_begin, after_end, next_item, value_in};
 ghost use Rattle.lockstep.specs.AnyPort.{view_in, is_host};
-ghost use Rattle.lockstep.specs.Passes.{after_item, after_link, MayBegin, MayExecute, MayReceive, MayEnd, HavePassed, HaveValues};
+ghost use Rattle.lockstep.specs.Passes.{after_item, after_link, MayBegin, MayExecute, MayReceive, MayEnd, HavePassed, HaveKept};
 
 use crate::any_port::AnyPort;
 use logic_four::V4;
@@ -42,7 +42,7 @@ pub(crate) fn execute_all(ports: &mut [AnyPort], values: &mut [V4], slot: u32)
     requires room { length values.old ≡ length ports.old }
     ensures ports { HavePassed (after_item slot) (length ports.old) ports.old ports.new }
     ensures room { length values.new ≡ length values.old }
-    ensures values { HaveValues slot (length ports.old) ports.old values.new }
+    ensures values { HaveKept slot (length ports.old) ports.old values.new }
 {
     'all: for p in 0..ports.len() {
         values[p] = execute_in(&mut ports[p], slot, values[p]);

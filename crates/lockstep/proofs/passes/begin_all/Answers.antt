@@ -1,4 +1,4 @@
-use Rattle.std.proofs.Common.{◌≡◌, get_or, slice_get, Some, arith}
+use Rattle.std.proofs.Common.{get_or, arith}
 use Rattle.std.proofs.lemmas.Option.{slice_get-get_or}
 use Rattle.image_defs.specs.Ports.{after_begin}
 use Rattle.lockstep.proofs.PassLemmas.{passed_more}

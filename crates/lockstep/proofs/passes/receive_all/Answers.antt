@@ -1,4 +1,4 @@
-use Rattle.std.proofs.Common.{◌≡◌, get_or, slice_get, Some, arith}
+use Rattle.std.proofs.Common.{get_or, arith}
 use Rattle.std.proofs.lemmas.Option.{slice_get-get_or}
 use Rattle.lockstep.specs.Passes.{after_link}
 use Rattle.lockstep.proofs.PassLemmas.{passed_more}

@@ -1,5 +1,5 @@
 use Rattle.std.proofs.Common.{◌≡◌, ◌≤◌, ◌+◌, ◌-◌}
-use Rattle.lockstep.specs.Run.{IsMachine, IsBefore, turns_in}
+use Rattle.lockstep.specs.Run.{IsMachine, IsBefore}
 use Rattle.lockstep.proofs.machine.Machine.run_turns.Given as goal
 
 abbrev pub invariant-turns : goal.invariant-turns
