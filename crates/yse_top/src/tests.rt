@@ -2,6 +2,8 @@
 
 ghost use Rattle.net_defs.specs.Valid.{IsValid};
 
+mod machines;
+
 use crate::checks::{netlist_of, stimulus_of};
 use crate::{Status, yse};
 use bench_read::read_bench;
