@@ -9,5 +9,6 @@ pub mod PlanExists
 pub mod SameHomes
 pub mod SameItems
 pub mod SamePlans
+pub mod SameSwitches
 pub mod SameTables
 pub mod ShownLemmas

@@ -38,7 +38,7 @@ module _ (one other : NodeNet) (same : AreSameItems one other) (homes : Homes) w
   user_kept i port (inr (inl memory)) = inr (inl (memory_kept i port memory))
   user_kept i port (inr (inr printed)) = inr (inr (subst (λ items. Contains items i) same.printed printed.0, printed.1))
 
-  reader_kept : (i port : ℕ) → IsReader one homes i port → IsReader other homes i port
+  pub reader_kept : (i port : ℕ) → IsReader one homes i port → IsReader other homes i port
   reader_kept i port reads = record { user = user_kept i port reads.user; away = reads.away }
 
   early_kept : (slots : List ℕ) (i s : ℕ) → IsTooEarly one slots i s → IsTooEarly other slots i s

@@ -1,2 +1,3 @@
 pub mod Compiled
 pub mod Designs
+pub mod Links

@@ -16,9 +16,11 @@ ghost use Rattle.plan_defs.specs.Picks.{ArePicked, FindsNoPort};
 ghost use Rattle.plan_defs.specs.Slots.{IsFirstFitPlan};
 ghost use Rattle.plan_defs.specs.Tables.{UsesTables};
 ghost use Rattle.yse_compile.specs.declared.compiler.CompNo.{CompNo};
-ghost use Rattle.yse_compile.specs.Compiled.{IsRight, IsOverfull};
+ghost use Rattle.yse_compile.specs.declared.compiler.Compiled.{Compiled};
+ghost use Rattle.yse_compile.specs.Compiled.{IsCompiled, IsRight, IsOverfull};
 ghost use Rattle.yse_compile.specs.Designs.{IsAcyclic, DesignFits};
 ghost use Rattle.yse_compile.specs.Designs.{LacksBits, LacksSlots, LacksFunctions};
+ghost use Rattle.yse_compile.specs.Links.{HaveSameLinks};
 
 use home_pick::law::{housed_or_refused, one_housing};
 use node_defs::law::one_list;
@@ -180,4 +182,17 @@ pub fn one_refusal()
     one_length();
     slots_first();
     one_crowd();
+}
+
+/// A law: the compiled images of a netlist on a machine have the same links, whichever numbers their
+/// tables have. It does nothing.
+pub fn one_linking()
+    ensures { (net : Netlist) (machine : Machine) (timing : Timing) (one other : Compiled)
+        → IsValid net → IsCompiled net machine timing one → IsCompiled net machine timing other
+        → HaveSameLinks one.image other.image }
+{
+    one_list();
+    one_homes();
+    items_are_well_formed();
+    one_plan();
 }

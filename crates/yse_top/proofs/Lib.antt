@@ -1,11 +1,11 @@
 mod ChainLemmas
 mod CheckLemmas
 mod EndLemmas
-mod FormLemmas
+mod OrderLemmas
+mod OutcomeLemmas
 mod ProperLemmas
 mod ShownLemmas
 mod TextLemmas
-mod TimingLemmas
 mod TraceLemmas
 mod TracedLemmas
 mod WritingLemmas

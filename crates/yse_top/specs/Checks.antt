@@ -14,11 +14,13 @@ use Rattle.net_defs.specs.Valid.{input_count}
 use Rattle.bench_read.specs.Faults as bench
 use Rattle.bench_read.specs.Reads as bench_reads
 use Rattle.stim_text.specs.Stimuli as stim
+use Rattle.stim_text.specs.declared.order.Order.{Order}
+use Rattle.stim_text.specs.Orders as orders
 use Rattle.yse_compile.specs.declared.compiler.CompNo.{CompNo}
 use Rattle.yse_compile.specs.Compiled.{IsRight, IsOverfull}
 use Rattle.yse_compile.specs.Designs.{DesignFits}
 use Rattle.yse_top.specs.declared.status.Status.TheVariants as status
-use Rattle.yse_top.specs.Lines.{read_fault_line, too_long_line, machine_line, netlist_line, loop_line, overfull_line, stimulus_line, cells_line}
+use Rattle.yse_top.specs.Lines.{read_fault_line, too_long_line, machine_line, netlist_line, loop_line, overfull_line, stimulus_line, cells_line, order_line}
 use Rattle.yse_top.specs.Outcome.{Outcome, done, refusal, out_of_memory}
 use Rattle.yse_top.specs.Readings.{Reading}
 
@@ -77,6 +79,15 @@ IsNetlistOf text = ReadsAs (bench_reads.Reads text) (bench.first_fault text) (λ
 abbrev pub IsStimulusOf : List ℕ → Netlist → Result Stimulus Outcome → Type 0
 IsStimulusOf text net =
     ReadsAs (stim.Reads (input_count net) text) (stim.first_fault (input_count net) text) (λ why. refusal status.Stimulus (stimulus_line why))
+
+-- the number of a machine's ports: its processors and the host
+abbrev pub port_count : Machine → ℕ
+port_count machine = machine.logic + machine.array + 1
+
+-- the order of a text for the ports of a machine
+abbrev pub IsOrderOf : List ℕ → Machine → Result Order Outcome → Type 0
+IsOrderOf text machine =
+    ReadsAs (orders.Reads (port_count machine) text) (orders.first_fault (port_count machine) text) (λ why. refusal status.OrderText (order_line why))
 
 -- no gates wait for one another
 abbrev pub HasNoLoop : Netlist → Timing → Result (Unit {0}) Outcome → Type 0

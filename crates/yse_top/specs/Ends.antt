@@ -17,21 +17,6 @@ EndsAs result outcome old new faults_old faults_new TakesLine =
     ((result ≡ outcome.status) × (new ≡ append_known old outcome.output) × TakesLine outcome.line)
     ⊎ ((result ≡ status.WriteFault) × TakesProperPrefix old new outcome.output × Rose faults_old faults_new × TakesLine write_fault_line)
 
--- the statuses that exist
-abbrev pub IsAnswer : Status → Type 0
-IsAnswer status.Done = ⊤
-IsAnswer status.Words = ⊤
-IsAnswer status.ReadFault = ⊤
-IsAnswer status.WriteFault = ⊤
-IsAnswer status.Netlist = ⊤
-IsAnswer status.Machine = ⊤
-IsAnswer status.Loop = ⊤
-IsAnswer status.Overfull = ⊤
-IsAnswer status.Stimulus = ⊤
-IsAnswer status.Limit = ⊤
-IsAnswer status.Memory = ⊤
-IsAnswer _ = ⊥
-
 -- the statuses at which something may have been written
 abbrev pub MayWrite : Status → Type 0
 MayWrite status.Done = ⊤

@@ -1,23 +1,26 @@
 -- What a whole call comes to, given the words and what was read: the chain of checks of its command.
 use Rattle.std.specs.Prelude.{◌≡◌, ℕ, List, [], Option, Some, None}
+use Rattle.cmd_words.specs.declared.command.Command.{Command}
+use Rattle.cmd_words.specs.declared.command.Command.TheVariants as command
+use Rattle.cmd_words.specs.Asked.{asked}
 use Rattle.yse_top.specs.declared.status.Status.TheVariants as status
 use Rattle.yse_top.specs.Lines.{usage_line}
 use Rattle.yse_top.specs.Outcome.{Outcome, refusal}
 use Rattle.yse_top.specs.Readings.{Reading}
-use Rattle.yse_top.specs.Words.{Request, run, refer, show, request_of}
 use Rattle.yse_top.specs.commands.Run.{ExpectedRun, ExpectedRefer}
 use Rattle.yse_top.specs.commands.Show.{ExpectedShow}
 
-abbrev pub ExpectedOf : Request → List Reading → Outcome → Type 0
-ExpectedOf (run machine simulation) readings outcome = ExpectedRun machine simulation readings outcome
-ExpectedOf (refer simulation) readings outcome = ExpectedRefer simulation readings outcome
-ExpectedOf (show netlist) readings outcome = ExpectedShow netlist readings outcome
+abbrev pub ExpectedOf : Command → List Reading → Outcome → Type 0
+ExpectedOf (command.Run words) readings outcome = ExpectedRun words None readings outcome
+ExpectedOf (command.Refer words) readings outcome = ExpectedRefer words readings outcome
+ExpectedOf (command.Order words) readings outcome = ExpectedRun words words.order readings outcome
+ExpectedOf (command.Show netlist) readings outcome = ExpectedShow netlist readings outcome
 
 -- words of no form begin no file
-abbrev pub ExpectedAsked : Option Request → List Reading → Outcome → Type 0
+abbrev pub ExpectedAsked : Option Command → List Reading → Outcome → Type 0
 ExpectedAsked None readings outcome = (readings ≡ []) × (outcome ≡ refusal status.Words usage_line)
-ExpectedAsked (Some request) readings outcome = ExpectedOf request readings outcome
+ExpectedAsked (Some asked) readings outcome = ExpectedOf asked readings outcome
 
 -- these words come to this outcome, where the files that are begun read as these readings, in their order
 unfoldable pub Expected : List (List ℕ) → List Reading → Outcome → Type 0
-Expected words = ExpectedAsked (request_of words)
+Expected words = ExpectedAsked (asked words)

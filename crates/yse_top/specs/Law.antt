@@ -1,12 +1,14 @@
 -- The laws of whole calls: what is expected is one outcome, and there is one, whatever the files hold.
 use Rattle.std.specs.Prelude.{◌≡◌, ◌≢◌, ◌↔◌, ℕ, List, [], ◌∷◌, ◌++◌, length, take, map, Option, Some, None, slice_get}
 use Rattle.yse_top.specs.declared.status.Status.TheVariants as ends
-use Rattle.yse_top.specs.Ends.{IsAnswer}
 use Rattle.yse_top.specs.Expected.{Expected}
 use Rattle.yse_top.specs.Lines.{read_fault_line}
 use Rattle.yse_top.specs.Outcome.{Outcome}
 use Rattle.yse_top.specs.Readings.{Reading}
-use Rattle.yse_top.specs.Words.{request_of, files_named}
+use Rattle.cmd_words.specs.declared.command.Command.{Command}
+use Rattle.cmd_words.specs.Asked.{asked}
+use Rattle.cmd_words.specs.Forms.{HasForm}
+use Rattle.yse_top.specs.Words.{files_named, order_named}
 
 -- two outcomes with the same status and output, and with the same line unless it names a loop
 pub record AreAlike (one other : Outcome) : Type 0 where
@@ -37,21 +39,25 @@ pub record IsProper (files : List (List ℕ)) (Chain : List Reading → Outcome 
   -- the same readings come to outcomes that are alike, but for want of memory
   pub one : (readings others : List Reading) (outcome other : Outcome) → Chain readings outcome → Chain others other
       → AgreeOn readings others → outcome.status ≢ ends.Memory → other.status ≢ ends.Memory → AreAlike outcome other
-  -- whatever the files hold, there is an outcome that is no want of memory
-  pub some : (give : ℕ → List ℕ → Option (List ℕ))
-      → (readings : List Reading) × (outcome : Outcome) × Chain readings outcome × AreGiven give readings × (outcome.status ≢ ends.Memory)
   -- the files are begun in their order, and no other
   pub begun : (readings : List Reading) (outcome : Outcome) → Chain readings outcome → map (λ reading. reading.file) readings ≡ take (length readings) files
   pub cause : (readings : List Reading) (outcome : Outcome) → Chain readings outcome → HasCause readings outcome
 
+-- whatever the files hold, there is an outcome that is no want of memory
+pub record HasOutcome (Chain : List Reading → Outcome → Type 0) : Type 0 where
+  pub some : (give : ℕ → List ℕ → Option (List ℕ))
+      → (readings : List Reading) × (outcome : Outcome) × Chain readings outcome × AreGiven give readings × (outcome.status ≢ ends.Memory)
+
 abbrev pub AreProper : Type 0
-AreProper = (words : List (List ℕ)) → IsProper (files_named (request_of words)) (Expected words)
+AreProper = (words : List (List ℕ)) → IsProper (files_named (asked words)) (Expected words)
 
--- the words alone decide whether the status of refused words comes
-abbrev pub TellsWords : Type 0
-TellsWords = (words : List (List ℕ)) (readings : List Reading) (outcome : Outcome) → Expected words readings outcome
-    → (outcome.status ≡ ends.Words) ↔ (request_of words ≡ None)
+-- words that name no file of an order come to an outcome; for those that name one the calls say so
+abbrev pub HaveOutcomes : Type 0
+HaveOutcomes = (words : List (List ℕ)) → order_named (asked words) ≡ None → HasOutcome (Expected words)
 
--- no status but those that exist
-abbrev pub HasStatus : Type 0
-HasStatus = (words : List (List ℕ)) (readings : List Reading) (outcome : Outcome) → Expected words readings outcome → IsAnswer outcome.status
+-- the words alone decide whether the status of refused words comes, and they ask for a command exactly where
+-- they are of its form
+pub record TellsWords : Type 0 where
+  pub refused : (words : List (List ℕ)) (readings : List Reading) (outcome : Outcome) → Expected words readings outcome
+      → (outcome.status ≡ ends.Words) ↔ (asked words ≡ None)
+  pub forms : (words : List (List ℕ)) (command : Command) → (asked words ≡ Some command) ↔ HasForm words command

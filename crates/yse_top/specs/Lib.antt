@@ -1,11 +1,12 @@
 pub mod Checks
 pub mod commands
+pub mod Endings
 pub mod Ends
 pub mod Expected
-pub mod Forms
 pub mod Law
 pub mod Images
 pub mod Lines
+pub mod Orders
 pub mod Outcome
 pub mod Outputs
 pub mod Readings

@@ -1,6 +1,7 @@
 -- The line that each refusal writes to the error sink.
 use Rattle.std.specs.Prelude.{ℕ, List, [], ◌∷◌, ◌++◌, Option, Some, None, slice_get, slice_index, codes, decimal}
 use Rattle.std.specs.List.{flat_map}
+use Rattle.limits.specs.declared.TheConstants.{MAX_CELLS, MAX_PORTS, MAX_TEXT_BYTES}
 use Rattle.bench_text.specs.declared.token.TextNo.{TextNo}
 use Rattle.bench_text.specs.declared.token.TextNo.TheVariants as text_no
 use Rattle.bench_read.specs.declared.refusal.Many.{Many}
@@ -13,6 +14,8 @@ use Rattle.yse_compile.specs.declared.compiler.CompNo.{CompNo}
 use Rattle.yse_compile.specs.declared.compiler.CompNo.TheVariants as comp_no
 use Rattle.stim_text.specs.declared.refusal.StimNo.{StimNo}
 use Rattle.stim_text.specs.declared.refusal.StimNo.TheVariants as stim_no
+use Rattle.stim_text.specs.declared.refusal.OrderNo.{OrderNo}
+use Rattle.stim_text.specs.declared.refusal.OrderNo.TheVariants as order_no
 use Rattle.net_defs.specs.declared.netlist.Netlist.{Netlist}
 use Rattle.net_defs.specs.declared.netlist.Block.{Block}
 use Rattle.net_defs.specs.Canonical.{name_of}
@@ -31,10 +34,10 @@ unfoldable pub memory_line : List ℕ
 memory_line = codes "out of memory\n"
 
 unfoldable pub too_long_line : List ℕ → List ℕ
-too_long_line file = joined (codes "limit: " ∷ file ∷ codes " has more than 67108864 bytes\n" ∷ [])
+too_long_line file = joined (codes "limit: " ∷ file ∷ codes " has more than " ∷ decimal MAX_TEXT_BYTES ∷ codes " bytes\n" ∷ [])
 
 unfoldable pub cells_line : ℕ → List ℕ
-cells_line cells = joined (codes "limit: " ∷ decimal cells ∷ codes " cells, at most 268435456\n" ∷ [])
+cells_line cells = joined (codes "limit: " ∷ decimal cells ∷ codes " cells, at most " ∷ decimal MAX_CELLS ∷ codes "\n" ∷ [])
 
 -- the names of a loop, each after a space
 unfoldable pub loop_line : Netlist → List ℕ → List ℕ
@@ -46,7 +49,7 @@ unfoldable pub setting_line : ℕ → List ℕ → List ℕ
 setting_line line fault = joined (codes "machine: line " ∷ decimal line ∷ codes ": " ∷ fault ∷ codes "\n" ∷ [])
 
 unfoldable pub ports_line : ℕ → List ℕ
-ports_line ports = joined (codes "machine: " ∷ decimal ports ∷ codes " ports, limit is 256\n" ∷ [])
+ports_line ports = joined (codes "machine: " ∷ decimal ports ∷ codes " ports, limit is " ∷ decimal MAX_PORTS ∷ codes "\n" ∷ [])
 
 abbrev pub machine_line : MachNo → List ℕ
 machine_line (mach_no.Syntax line) = setting_line line (codes "syntax")
@@ -136,3 +139,19 @@ stimulus_line (stim_no.Width line got want) = width_line line got want
 stimulus_line (stim_no.Repeat line) = row_line line (codes "bad repeat")
 stimulus_line stim_no.TooManyCycles = cycles_line
 stimulus_line stim_no.Memory = memory_line
+
+-- ---- orders
+
+-- a fault of a line of an order text
+unfoldable pub step_line : ℕ → List ℕ → List ℕ
+step_line line fault = joined (codes "order: line " ∷ decimal line ∷ codes ": " ∷ fault ∷ codes "\n" ∷ [])
+
+abbrev pub order_line : OrderNo → List ℕ
+order_line (order_no.Syntax line) = step_line line (codes "syntax")
+order_line (order_no.Port line) = step_line line (codes "no such port")
+order_line (order_no.TooLong line) = step_line line (codes "too long")
+order_line order_no.Memory = memory_line
+
+-- an order that ended with so many of the rows done
+unfoldable pub unfinished_line : ℕ → ℕ → List ℕ
+unfinished_line rows total = joined (codes "order: ended with " ∷ decimal rows ∷ codes " of " ∷ decimal total ∷ codes " rows done\n" ∷ [])

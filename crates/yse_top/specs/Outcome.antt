@@ -2,7 +2,7 @@
 use Rattle.std.specs.Prelude.{List, [], ℕ}
 use Rattle.yse_top.specs.declared.status.Status.{Status}
 use Rattle.yse_top.specs.declared.status.Status.TheVariants as status
-use Rattle.yse_top.specs.Lines.{memory_line}
+use Rattle.yse_top.specs.Lines.{memory_line, unfinished_line}
 
 -- the status, the line to the error sink, and the output
 pub record Outcome : Type 0 where
@@ -20,3 +20,7 @@ refusal s l = record { status = s; line = l; output = [] }
 
 abbrev pub out_of_memory : Outcome
 out_of_memory = refusal status.Memory memory_line
+
+-- an end with so many of the rows, and a line that says so
+abbrev pub unfinished : ℕ → ℕ → List ℕ → Outcome
+unfinished rows total output = record { status = status.Unfinished; line = unfinished_line rows total; output = output }

@@ -20,10 +20,15 @@ use Rattle.yse_top.specs.declared.output.Trace.{Trace}
 abbrev pub cycle_lines : List CellRow → List ℕ
 cycle_lines rows = flat_map (λ p. cycle_line (p.0 + 1) p.1.cells) (enumerate_from 0 rows)
 
+-- the header and the lines of the rows
+abbrev pub trace_bytes : Trace → List ℕ
+trace_bytes trace = header_line trace.net ++ cycle_lines trace.rows.rows
+
 -- the bytes of an output
 abbrev pub bytes_of : Output → List ℕ
 bytes_of (output.Text text) = text
-bytes_of (output.Trace trace) = header_line trace.net ++ cycle_lines trace.rows.rows
+bytes_of (output.Trace trace) = trace_bytes trace
+bytes_of (output.Unfinished trace ending) = trace_bytes trace
 
 -- the rows fit the line's room
 pub record CanPrint (trace : Trace) : Type 0 where
@@ -34,6 +39,7 @@ pub record CanPrint (trace : Trace) : Type 0 where
 abbrev pub CanWrite : Output → Type 0
 CanWrite (output.Text text) = ⊤
 CanWrite (output.Trace trace) = CanPrint trace
+CanWrite (output.Unfinished trace ending) = CanPrint trace
 
 -- the rows are the printed values of the reference simulation
 pub record ArePrinted (net : Netlist) (timing : Timing) (stimulus : Stimulus) (rows : Rows) : Type 0 where

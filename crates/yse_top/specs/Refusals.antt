@@ -7,15 +7,18 @@ use Rattle.bench_read.specs.declared.refusal.BenchNo.{BenchNo}
 use Rattle.bench_read.specs.declared.refusal.BenchNo.TheVariants as bench_no
 use Rattle.stim_text.specs.declared.refusal.StimNo.{StimNo}
 use Rattle.stim_text.specs.declared.refusal.StimNo.TheVariants as stim_no
+use Rattle.stim_text.specs.declared.refusal.OrderNo.{OrderNo}
+use Rattle.stim_text.specs.declared.refusal.OrderNo.TheVariants as order_no
 use Rattle.yse_top.specs.declared.output.Output.{Output}
+use Rattle.yse_top.specs.declared.output.Output.TheVariants as output
 use Rattle.yse_top.specs.declared.refusal.Refusal.{Refusal}
 use Rattle.yse_top.specs.declared.refusal.Refusal.TheVariants as refusal
 use Rattle.yse_top.specs.declared.status.Status.{Status}
 use Rattle.yse_top.specs.declared.status.Status.TheVariants as status
 use Rattle.yse_top.specs.Checks.{Refuses, text_of, read_fault}
-use Rattle.yse_top.specs.Lines.{usage_line, read_fault_line, memory_line, too_long_line, machine_line, netlist_line, loop_line, overfull_line, stimulus_line, cells_line}
-use Rattle.yse_top.specs.Outcome.{Outcome, done, refusal as refused}
-use Rattle.yse_top.specs.Outputs.{bytes_of}
+use Rattle.yse_top.specs.Lines.{usage_line, read_fault_line, memory_line, too_long_line, machine_line, netlist_line, loop_line, overfull_line, stimulus_line, cells_line, order_line}
+use Rattle.yse_top.specs.Outcome.{Outcome, done, unfinished, refusal as refused}
+use Rattle.yse_top.specs.Outputs.{trace_bytes}
 use Rattle.yse_top.specs.Readings.{Reading, AreReadings}
 
 abbrev pub line_of : Refusal → List ℕ
@@ -28,6 +31,7 @@ line_of (refusal.Loop net loop) = loop_line net loop
 line_of (refusal.Overfull net why) = overfull_line net why
 line_of (refusal.Stimulus why) = stimulus_line why
 line_of (refusal.Cells cells) = cells_line cells
+line_of (refusal.OrderText why) = order_line why
 line_of refusal.Memory = memory_line
 
 abbrev pub status_of : Refusal → Status
@@ -40,6 +44,7 @@ status_of (refusal.Loop net loop) = status.Loop
 status_of (refusal.Overfull net why) = status.Overfull
 status_of (refusal.Stimulus why) = status.Stimulus
 status_of (refusal.Cells cells) = status.Limit
+status_of (refusal.OrderText why) = status.OrderText
 status_of refusal.Memory = status.Memory
 
 -- the refusal of a machine text
@@ -57,13 +62,24 @@ abbrev pub of_stimulus : StimNo → Refusal
 of_stimulus stim_no.Memory = refusal.Memory
 of_stimulus why = refusal.Stimulus why
 
+-- the refusal of an order text
+abbrev pub of_order : OrderNo → Refusal
+of_order order_no.Memory = refusal.Memory
+of_order why = refusal.OrderText why
+
 -- ---- outcomes
+
+-- an end with the output, which may be that of a run that was not finished
+abbrev pub ended_with : Output → Outcome
+ended_with (output.Text text) = done text
+ended_with (output.Trace trace) = done (trace_bytes trace)
+ended_with (output.Unfinished trace ending) = unfinished ending.rows ending.cycles (trace_bytes trace)
 
 abbrev pub refused_of : Refusal → Outcome
 refused_of why = refused (status_of why) (line_of why)
 
 abbrev pub outcome_of : Result Output Refusal → Outcome
-outcome_of (Ok output) = done (bytes_of output)
+outcome_of (Ok output) = ended_with output
 outcome_of (Err why) = refused_of why
 
 -- a call answers what the check lets pass, or its refusal

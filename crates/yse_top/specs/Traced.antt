@@ -7,18 +7,18 @@ use Rattle.net_defs.specs.Trace.{IsTrace}
 use Rattle.net_defs.specs.Valid.{input_count}
 use Rattle.bench_read.specs.Reads as bench
 use Rattle.stim_text.specs.Stimuli as stim
-use Rattle.yse_top.specs.Words.{Simulation}
+use Rattle.cmd_words.specs.declared.command.RunWords.{RunWords}
 
 -- The text of the netlist file, the netlist that it reads as, the text of the stimulus file, the stimulus
 -- that it reads as, and the output is their trace. Where the store tells the bytes of its files, the texts
 -- are those bytes.
-pub record IsTraceOfFiles (bytes : Option (List ℕ → List ℕ)) (output : List ℕ) (simulation : Simulation) : Type 0 where
+pub record IsTraceOfFiles (bytes : Option (List ℕ → List ℕ)) (output : List ℕ) (words : RunWords) : Type 0 where
   pub netlist_text : List ℕ
-  pub netlist_told : OfTold bytes simulation.netlist (λ told. netlist_text ≡ told)
+  pub netlist_told : OfTold bytes words.netlist (λ told. netlist_text ≡ told)
   pub net : Netlist
   pub netlist_reads : bench.Reads netlist_text net
   pub stimulus_text : List ℕ
-  pub stimulus_told : OfTold bytes simulation.stimulus (λ told. stimulus_text ≡ told)
+  pub stimulus_told : OfTold bytes words.stimulus (λ told. stimulus_text ≡ told)
   pub stimulus : Stimulus
   pub stimulus_reads : stim.Reads (input_count net) stimulus_text stimulus
-  pub trace : IsTrace net simulation.timing stimulus output
+  pub trace : IsTrace net words.timing stimulus output

@@ -5,11 +5,13 @@ ghost use Rattle.limits.specs.declared.TheConstants.{MAX_TEXT_BYTES};
 ghost use Rattle.net_defs.specs.Loops.{IsOrder};
 ghost use Rattle.machine_text.specs.Machines.{IsValid as IsValidMachine};
 ghost use Rattle.net_defs.specs.Valid.{IsValid, IsValidStimulus, IsValidTiming};
-ghost use Rattle.yse_top.specs.Checks.{Refuses, RefusesDesign, IsMachineOf, IsNetlistOf, IsStimulusOf, HasNoLoop, HasRoom, HasFewCells, cell_count};
+ghost use Rattle.yse_top.specs.Checks.{Refuses, RefusesDesign, IsMachineOf, IsNetlistOf, IsOrderOf, IsStimulusOf, HasNoLoop, HasRoom, HasFewCells, cell_count, port_count};
+ghost use Rattle.stim_text.specs.Orders.{IsValidOrder};
 ghost use Rattle.yse_top.specs.Images.{IsImageOf};
+ghost use Rattle.yse_top.specs.Orders.{IsMachineImage};
 ghost use Rattle.yse_top.specs.Refusals.{Satisfies, refused_of};
 
-use crate::refusal::{Refusal, of_machine, of_netlist, of_stimulus};
+use crate::refusal::{Refusal, of_machine, of_netlist, of_order, of_stimulus};
 use bench_read::law::reads_as_valid;
 use bench_read::read_bench;
 use image_defs::Image;
@@ -19,7 +21,7 @@ use net_defs::{Netlist, Stimulus, Timing};
 use rank_find::{RankNo, order};
 use seen_list::List;
 use std::alloc::Global;
-use stim_text::read_stim;
+use stim_text::{Order, read_order, read_stim};
 use yse_compile::inputs::same_inputs;
 use yse_compile::{CompNo, compile};
 
@@ -106,6 +108,7 @@ pub fn compiled<'a>(
     ensures acyclic { OnOk result (HasNoLoop net timing.now (Ok tt)) }
     ensures fits { OnOk result (HasRoom net machine.now timing.now (Ok tt)) }
     ensures image { IfOk result (λ built. IsImageOf net timing.now built.image) }
+    ensures made { IfOk result (λ built. IsMachineImage net machine.now timing.now built.image) }
     ensures refused { IfErr result (λ no. RefusesDesign net machine.now timing.now (refused_of no)) }
 {
     same_inputs();
@@ -142,4 +145,17 @@ fn cell_count(net: &Netlist, stimulus: &Stimulus) -> u64
 {
     let columns = u64::from(net.inputs()) + net.printed.len() as u64;
     u64::from(stimulus.cycles()) * columns
+}
+
+/// The order of a text for the ports of a machine.
+pub fn order_of<'a>(alloc: Global, text: &[u8], machine: &Machine) -> Result<Order, Refusal<'a>>
+    requires machine { IsValidMachine machine.now }
+    requires short { length text.now ≤ MAX_TEXT_BYTES }
+    ensures checked { Satisfies result (IsOrderOf text.now machine.now) }
+    ensures valid { IfOk result (IsValidOrder (port_count machine.now)) }
+{
+    match read_order(alloc, text, machine.logic + machine.array + 1) {
+        Ok(order) => Ok(order),
+        Err(no) => Err(of_order(no)),
+    }
 }

@@ -1,53 +1,43 @@
-//! What the words of a call come to before anything is written: one module for each command.
+//! What a command comes to before anything is written: one module for each command.
 
-ghost use Rattle.std.specs.Prelude.{◌≡◌, map, IfOk};
-ghost use Rattle.std.specs.String.{string_bytes};
-ghost use Rattle.yse_top.specs.Expected.{Expected, ExpectedOf};
+ghost use Rattle.std.specs.Prelude.{◌≡◌, IfOk};
+ghost use Rattle.cmd_words.specs.Forms.{IsInRange};
+ghost use Rattle.yse_top.specs.Expected.{ExpectedOf};
 ghost use Rattle.yse_top.specs.Outputs.{CanWrite};
 ghost use Rattle.yse_top.specs.Refusals.{Follows};
-ghost use Rattle.yse_top.specs.Words.{seen, HasValidTiming};
 
 mod refer;
 mod run;
 mod show;
+mod steps;
 
 use crate::output::Output;
 use crate::refusal::Refusal;
-use crate::words::{Command, read_words};
+use cmd_words::Command;
 use edge_io::Files;
 use std::alloc::Global;
 
-/// The output that the words ask for, and else the refusal.
-#[tactic(auto, unfolding(crate::specs::Expected::Expected))]
+/// The output of a command, and else the refusal.
 pub fn prepare<'a, F: Files>(
     alloc: Global,
-    words: &'a [String],
+    command: &'a Command,
     files: &mut F,
 ) -> Result<Output, Refusal<'a>>
+    requires { IsInRange command.now }
     ensures expected { Follows (F.names files.old) (F.bytes files.old) (F.counts files.old) (F.counts files.new)
-        result (Expected (map string_bytes words.now)) }
-    ensures writable { IfOk result CanWrite }
-{
-    match read_words(words) {
-        Some(command) => answer(alloc, files, command),
-        None => Err(Refusal::Words),
-    }
-}
-
-/// The output of a command.
-fn answer<'a, F: Files>(
-    alloc: Global,
-    files: &mut F,
-    command: Command<'a>,
-) -> Result<Output, Refusal<'a>>
-    requires { HasValidTiming (seen command) }
-    ensures expected { Follows (F.names files.old) (F.bytes files.old) (F.counts files.old) (F.counts files.new)
-        result (ExpectedOf (seen command.entry)) }
+        result (ExpectedOf command.now) }
     ensures writable { IfOk result CanWrite }
 {
     match command {
-        Command::Run { words, machine } => run::run(alloc, files, words, machine),
+        Command::Run(words) => run::run(alloc, files, words, None),
         Command::Refer(words) => refer::refer(alloc, files, words),
-        Command::Show { netlist } => show::show(alloc, files, netlist),
+        Command::Order(words) => {
+            let order = match &words.order {
+                Some(file) => Some(file.as_bytes()),
+                None => None,
+            };
+            run::run(alloc, files, words, order)
+        }
+        Command::Show { netlist } => show::show(alloc, files, netlist.as_bytes()),
     }
 }

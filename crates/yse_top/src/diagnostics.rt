@@ -7,6 +7,7 @@ ghost use Rattle.yse_top.specs.Lines.{usage_line, read_fault_line, write_fault_l
 ghost use Rattle.yse_top.specs.Refusals.{line_of, status_of};
 ghost use Rattle.yse_top.specs.Writing.{Takes, TakesLine};
 
+use crate::order_lines::write_order_line;
 use crate::output::write_piece;
 use crate::overfull::{write_machine_line, write_overfull_line};
 use crate::refusal::Refusal;
@@ -15,6 +16,7 @@ use bench_read::{BenchNo, Many};
 use bench_text::TextNo;
 use edge_io::{Sink, WriteNo};
 use itoa::Buffer;
+use limits::{MAX_CELLS, MAX_TEXT_BYTES};
 use net_defs::{Netlist, name_of};
 use stim_text::StimNo;
 
@@ -50,6 +52,7 @@ fn status_of(refusal: &Refusal<'_>) -> Status
         Refusal::Overfull(..) => Status::Overfull,
         Refusal::Stimulus(_) => Status::Stimulus,
         Refusal::TooLong(_) | Refusal::Cells(_) => Status::Limit,
+        Refusal::OrderText(_) => Status::OrderText,
         Refusal::Memory => Status::Memory,
     }
 }
@@ -88,6 +91,7 @@ fn write_line<S: Sink>(sink: &mut S, refusal: &Refusal<'_>) -> Result<(), WriteN
         Refusal::Overfull(net, no) => write_overfull_line(sink, net, no),
         Refusal::Stimulus(no) => write_stimulus_line(sink, no),
         Refusal::Cells(cells) => write_cells_line(sink, *cells),
+        Refusal::OrderText(no) => write_order_line(sink, no),
         Refusal::Memory => write_memory_line(sink),
     }
 }
@@ -120,9 +124,11 @@ fn write_too_long_line<S: Sink>(sink: &mut S, file: &[u8]) -> Result<(), WriteNo
     ensures { Takes (S.taken sink.old) (S.taken sink.new) (S.faults sink.old) (S.faults sink.new)
         result (too_long_line file.now) }
 {
+    let mut number = Buffer::new();
+    let most = number.format(MAX_TEXT_BYTES).as_bytes();
     write_pieces(
         sink,
-        &[b"limit: ", file, b" has more than 67108864 bytes\n"],
+        &[b"limit: ", file, b" has more than ", most, b" bytes\n"],
     )
 }
 
@@ -131,9 +137,13 @@ fn write_cells_line<S: Sink>(sink: &mut S, cells: u64) -> Result<(), WriteNo>
     ensures { Takes (S.taken sink.old) (S.taken sink.new) (S.faults sink.old) (S.faults sink.new)
         result (cells_line cells) }
 {
-    let mut number = Buffer::new();
-    let cells = number.format(cells).as_bytes();
-    write_pieces(sink, &[b"limit: ", cells, b" cells, at most 268435456\n"])
+    let (mut first, mut second) = (Buffer::new(), Buffer::new());
+    let cells = first.format(cells).as_bytes();
+    let most = second.format(MAX_CELLS).as_bytes();
+    write_pieces(
+        sink,
+        &[b"limit: ", cells, b" cells, at most ", most, b"\n"],
+    )
 }
 
 #[tactic(auto, unfolding(crate::specs::Lines::write_fault_line))]

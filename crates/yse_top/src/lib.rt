@@ -5,19 +5,21 @@ ghost use Rattle.std.specs.Prelude.{◌≡◌, ◌≢◌, ◌≤◌, ◌↔◌, 
 ghost use Rattle.std.specs.Io.KnownBytes.{append_known};
 ghost use Rattle.std.specs.String.{string_bytes};
 ghost use Rattle.edge_io.specs.Counts.{raised, Rose};
-ghost use Rattle.yse_top.specs.Ends.{EndsAs, IsAnswer, IsDoneOrMemory, MayWrite, AreToldBy};
+ghost use Rattle.cmd_words.specs.Asked.{asked};
+ghost use Rattle.yse_top.specs.Ends.{EndsAs, IsDoneOrMemory, MayWrite, AreToldBy};
 ghost use Rattle.yse_top.specs.Expected.{Expected};
 ghost use Rattle.yse_top.specs.Lines.{memory_line};
 ghost use Rattle.yse_top.specs.Outcome.{Outcome, done};
 ghost use Rattle.yse_top.specs.Readings.{Reading, AreReadings};
 ghost use Rattle.yse_top.specs.Traced.{IsTraceOfFiles};
-ghost use Rattle.yse_top.specs.Words.{request_of, files_named, traced_by};
+ghost use Rattle.yse_top.specs.Words.{files_named, traced_by};
 ghost use Rattle.yse_top.specs.Writing.{TakesLine};
 
 mod checks;
 mod commands;
 mod diagnostics;
 pub mod law;
+mod order_lines;
 mod output;
 mod overfull;
 mod reading;
@@ -25,7 +27,6 @@ mod refusal;
 mod status;
 #[cfg(test)]
 mod tests;
-mod words;
 
 use commands::prepare;
 use diagnostics::{refuse, tell_write_fault};
@@ -53,7 +54,7 @@ pub fn yse<F: Files, O: Sink, E: Sink>(
     // After a simulation the output is the trace of the netlist and the stimulus that its files read as.
     ensures trace { result ≡ Status.Done → (output : List ℕ)
         × (O.taken out.new ≡ append_known (O.taken out.old) output)
-        × IfSome (traced_by (request_of (map string_bytes words.now))) (IsTraceOfFiles (F.bytes files.old) output) }
+        × IfSome (traced_by (asked (map string_bytes words.now))) (IsTraceOfFiles (F.bytes files.old) output) }
 
     // The call comes to an outcome that is expected of the words and of what was read.
     ensures expected { (readings : List Reading) × (outcome : Outcome)
@@ -70,7 +71,7 @@ pub fn yse<F: Files, O: Sink, E: Sink>(
         → (Rose (O.faults out.old) (O.faults out.new) → ⊥)
         → IsDoneOrMemory result }
 
-    ensures words { (result ≡ Status.Words) ↔ (request_of (map string_bytes words.now) ≡ None) }
+    ensures words { (result ≡ Status.Words) ↔ (asked (map string_bytes words.now) ≡ None) }
 
     // No call of a sink at all.
     ensures no_output { (MayWrite result → ⊥) → out.new ≡ out.old }
@@ -80,18 +81,20 @@ pub fn yse<F: Files, O: Sink, E: Sink>(
     ensures read_fault { result ≡ Status.ReadFault → Rose (F.counts files.old).faults (F.counts files.new).faults }
     ensures write_fault { result ≡ Status.WriteFault → Rose (O.faults out.old) (O.faults out.new) }
     ensures begun { (F.counts files.new).starts
-        ≤ raised (F.counts files.old).starts (length (files_named (request_of (map string_bytes words.now)))) }
+        ≤ raised (F.counts files.old).starts (length (files_named (asked (map string_bytes words.now)))) }
     ensures absent { result ≢ Status.ReadFault → (F.counts files.new).absent_starts ≡ (F.counts files.old).absent_starts }
-
-    ensures statuses { IsAnswer result }
 {
     calls_are_proper();
-    match prepare(alloc, words, files) {
-        Ok(output) => match write_output(out, output) {
-            Ok(()) => Status::Done,
-            Err(_) => tell_write_fault(err),
-        },
-        Err(refusal) => refuse(err, refusal),
+    match read_words(alloc, words) {
+        Ok(command) => {
+            forms_are_in_range();
+            match prepare(alloc, &command, files) {
+                Ok(output) => end(out, err, output),
+                Err(refusal) => refuse(err, refusal),
+            }
+        }
+        Err(WordNo::Usage) => refuse(err, Refusal::Words),
+        Err(WordNo::Memory) => refuse(err, Refusal::Memory),
     }
 }
 

@@ -3,9 +3,8 @@
 ghost use Rattle.std.specs.Prelude.{◌≡◌, ◌≤◌, ◌++◌, ℕ, Some, length, slice_get};
 ghost use Rattle.limits.specs.declared.TheConstants.{MAX_CYCLES};
 ghost use Rattle.net_defs.specs.declared.trace.CellRow.{CellRow};
-ghost use Rattle.net_defs.specs.Trace.{header_line};
 ghost use Rattle.trace_text.specs.Line.{row_room};
-ghost use Rattle.yse_top.specs.Outputs.{bytes_of, CanWrite, CanPrint, cycle_lines};
+ghost use Rattle.yse_top.specs.Outputs.{bytes_of, trace_bytes, CanWrite, CanPrint, cycle_lines};
 ghost use Rattle.yse_top.specs.Writing.{Takes};
 
 use edge_io::{Sink, WriteNo, write_whole};
@@ -28,6 +27,15 @@ pub enum Output {
     Text(Text),
     /// One piece for each line.
     Trace(Trace),
+    /// The same, of a run that was not finished.
+    Unfinished(Trace, Ending),
+}
+
+/// Where a run ended: the rows that are done, and those of a whole run.
+#[derive(Clone, Copy, Debug, PartialEq, Eq)]
+pub struct Ending {
+    pub rows: u32,
+    pub cycles: u32,
 }
 
 /// Writes an output. It takes no memory.
@@ -38,7 +46,7 @@ pub fn write_output<O: Sink>(out: &mut O, output: Output) -> Result<(), WriteNo>
 {
     match output {
         Output::Text(text) => write_piece(out, text.as_bytes()),
-        Output::Trace(trace) => write_trace(out, trace),
+        Output::Trace(trace) | Output::Unfinished(trace, _) => write_trace(out, trace),
     }
 }
 
@@ -54,7 +62,7 @@ pub fn write_piece<S: Sink>(sink: &mut S, piece: &[u8]) -> Result<(), WriteNo>
 fn write_trace<O: Sink>(out: &mut O, trace: Trace) -> Result<(), WriteNo>
     requires { CanPrint trace }
     ensures { Takes (O.taken out.old) (O.taken out.new) (O.faults out.old) (O.faults out.new) result
-        (header_line trace.net ++ cycle_lines trace.rows.rows) }
+        (trace_bytes trace) }
 {
     let Trace {
         net,

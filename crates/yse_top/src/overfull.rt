@@ -7,6 +7,7 @@ ghost use Rattle.yse_top.specs.Writing.{Takes};
 use crate::diagnostics::{write_loop_line, write_memory_line, write_pieces};
 use edge_io::{Sink, WriteNo};
 use itoa::Buffer;
+use limits::MAX_PORTS;
 use machine_text::MachNo;
 use net_defs::{Netlist, name_of};
 use yse_compile::CompNo;
@@ -40,9 +41,13 @@ fn write_ports_line<S: Sink>(sink: &mut S, ports: u32) -> Result<(), WriteNo>
     ensures { Takes (S.taken sink.old) (S.taken sink.new) (S.faults sink.old) (S.faults sink.new)
         result (ports_line ports) }
 {
-    let mut number = Buffer::new();
-    let ports = number.format(ports).as_bytes();
-    write_pieces(sink, &[b"machine: ", ports, b" ports, limit is 256\n"])
+    let (mut first, mut second) = (Buffer::new(), Buffer::new());
+    let ports = first.format(ports).as_bytes();
+    let most = second.format(MAX_PORTS).as_bytes();
+    write_pieces(
+        sink,
+        &[b"machine: ", ports, b" ports, limit is ", most, b"\n"],
+    )
 }
 
 /// Writes the line of a design that does not fit.

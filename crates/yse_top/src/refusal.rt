@@ -1,13 +1,13 @@
 //! Why a call ends before its output. A fault of writing is no refusal.
 
 ghost use Rattle.std.specs.Prelude.{◌≡◌};
-ghost use Rattle.yse_top.specs.Refusals.{of_machine, of_netlist, of_stimulus};
+ghost use Rattle.yse_top.specs.Refusals.{of_machine, of_netlist, of_order, of_stimulus};
 
 use bench_read::BenchNo;
 use machine_text::MachNo;
 use net_defs::Netlist;
 use seen_list::List;
-use stim_text::StimNo;
+use stim_text::{OrderNo, StimNo};
 use yse_compile::CompNo;
 
 /// A refusal, with what its line names.
@@ -31,6 +31,8 @@ pub enum Refusal<'a> {
     Stimulus(StimNo),
     /// There are too many cells.
     Cells(u64),
+    /// The text is no order of the machine's ports.
+    OrderText(OrderNo),
     /// Want of memory.
     Memory,
 }
@@ -62,5 +64,15 @@ pub fn of_stimulus<'a>(no: StimNo) -> Refusal<'a>
     match no {
         StimNo::Memory => Refusal::Memory,
         other => Refusal::Stimulus(other),
+    }
+}
+
+/// The refusal of an order text.
+pub fn of_order<'a>(no: OrderNo) -> Refusal<'a>
+    ensures { result ≡ of_order no }
+{
+    match no {
+        OrderNo::Memory => Refusal::Memory,
+        other => Refusal::OrderText(other),
     }
 }

@@ -1,45 +1,60 @@
--- `run` and `refer`: the trace of the reference simulation. A run is one of a compiled machine, and a
--- design that does not fit the machine is refused.
+-- `run`, `refer` and `order`: the trace of the reference simulation. A run and an order are runs of a
+-- compiled machine, and a design that does not fit the machine is refused.
 use Rattle.std.specs.Prelude.{List, ℕ, Option, Some, None}
 use Rattle.machine_text.specs.declared.machine.Machine.{Machine}
 use Rattle.machine_text.specs.Machines.{default_machine}
 use Rattle.net_defs.specs.declared.netlist.Netlist.{Netlist}
+use Rattle.net_defs.specs.declared.stimulus.Stimulus.{Stimulus}
 use Rattle.net_defs.specs.declared.timing.Timing.{Timing}
 use Rattle.net_defs.specs.Trace.{IsTrace}
-use Rattle.yse_top.specs.Checks.{After, AfterFile, Ends, Writes, IsMachineOf, IsNetlistOf, HasNoLoop, HasRoom, IsStimulusOf, HasFewCells}
+use Rattle.cmd_words.specs.declared.command.RunWords.{RunWords}
+use Rattle.yse_top.specs.Checks.{After, AfterFile, Ends, Writes, IsMachineOf, IsNetlistOf, HasNoLoop, HasRoom, IsStimulusOf, HasFewCells, IsOrderOf}
+use Rattle.yse_top.specs.Orders.{EndsInOrder}
 use Rattle.yse_top.specs.Outcome.{Outcome}
 use Rattle.yse_top.specs.Readings.{Reading}
-use Rattle.yse_top.specs.Words.{Simulation}
 
--- once the gates have an order: the stimulus file, its text, the cells, and the trace
-unfoldable pub ExpectedTrace : List ℕ → Netlist → Timing → List Reading → Outcome → Type 0
-ExpectedTrace stimulus net timing =
-    AfterFile stimulus (λ text.
-    After (IsStimulusOf text net) (λ stimulus.
-    After (HasFewCells net stimulus) (λ few.
-    Ends (Writes (IsTrace net timing stimulus)))))
+-- the machine file and its text, where one is named, and else the default machine
+unfoldable pub AfterMachine : Option (List ℕ) → (Machine → List Reading → Outcome → Type 0) → List Reading → Outcome → Type 0
+AfterMachine None Next = Next default_machine
+AfterMachine (Some file) Next = AfterFile file (λ text. After (IsMachineOf text) Next)
 
--- the netlist file, its text, the loop, whether the design fits, and then the trace
-unfoldable pub ExpectedOn : Machine → Simulation → List Reading → Outcome → Type 0
-ExpectedOn machine simulation =
-    AfterFile simulation.netlist (λ text.
-    After (IsNetlistOf text) (λ net.
-    After (HasNoLoop net simulation.timing) (λ passed.
-    After (HasRoom net machine simulation.timing) (λ fits.
-    ExpectedTrace simulation.stimulus net simulation.timing))))
-
--- the machine file and its text, where one is named, and then a run on the machine
-unfoldable pub ExpectedRun : Option (List ℕ) → Simulation → List Reading → Outcome → Type 0
-ExpectedRun None simulation = ExpectedOn default_machine simulation
-ExpectedRun (Some file) simulation =
+-- the stimulus file, its text and the cells
+unfoldable pub AfterStimulus : List ℕ → Netlist → (Stimulus → List Reading → Outcome → Type 0) → List Reading → Outcome → Type 0
+AfterStimulus file net Next =
     AfterFile file (λ text.
-    After (IsMachineOf text) (λ machine.
-    ExpectedOn machine simulation))
+    After (IsStimulusOf text net) (λ stimulus.
+    After (HasFewCells net stimulus) (λ few. Next stimulus)))
 
--- the netlist file, its text, the loop, and then the trace
-unfoldable pub ExpectedRefer : Simulation → List Reading → Outcome → Type 0
-ExpectedRefer simulation =
-    AfterFile simulation.netlist (λ text.
+-- the trace is written
+abbrev pub WritesTrace : Netlist → Timing → Stimulus → List Reading → Outcome → Type 0
+WritesTrace net timing stimulus = Ends (Writes (IsTrace net timing stimulus))
+
+-- by rounds the trace is written; in the order of the named file, once its text is read, what is done by
+-- its end
+unfoldable pub EndsBy : Option (List ℕ) → RunWords → Machine → Netlist → Stimulus → List Reading → Outcome → Type 0
+EndsBy None words machine net stimulus = WritesTrace net words.timing stimulus
+EndsBy (Some file) words machine net stimulus =
+    AfterFile file (λ text.
+    After (IsOrderOf text machine) (λ order.
+    Ends (EndsInOrder order words.banks net machine words.timing stimulus)))
+
+-- the netlist file, its text, the loop, whether the design fits, the stimulus, and then the run
+unfoldable pub ExpectedOn : RunWords → Option (List ℕ) → Machine → List Reading → Outcome → Type 0
+ExpectedOn words order machine =
+    AfterFile words.netlist (λ text.
     After (IsNetlistOf text) (λ net.
-    After (HasNoLoop net simulation.timing) (λ passed.
-    ExpectedTrace simulation.stimulus net simulation.timing)))
+    After (HasNoLoop net words.timing) (λ passed.
+    After (HasRoom net machine words.timing) (λ fits.
+    AfterStimulus words.stimulus net (EndsBy order words machine net)))))
+
+-- the machine, and then a run on it, by rounds or in the order of the named file
+unfoldable pub ExpectedRun : RunWords → Option (List ℕ) → List Reading → Outcome → Type 0
+ExpectedRun words order = AfterMachine words.machine (ExpectedOn words order)
+
+-- the netlist file, its text, the loop, the stimulus, and then the trace
+unfoldable pub ExpectedRefer : RunWords → List Reading → Outcome → Type 0
+ExpectedRefer words =
+    AfterFile words.netlist (λ text.
+    After (IsNetlistOf text) (λ net.
+    After (HasNoLoop net words.timing) (λ passed.
+    AfterStimulus words.stimulus net (WritesTrace net words.timing))))

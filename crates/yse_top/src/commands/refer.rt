@@ -5,14 +5,13 @@ ghost use Rattle.net_defs.specs.Loops.{IsOrder};
 ghost use Rattle.net_defs.specs.Valid.{IsValid, IsValidStimulus};
 ghost use Rattle.yse_top.specs.Outputs.{CanWrite, CanPrint, ArePrinted};
 ghost use Rattle.yse_top.specs.Refusals.{Follows};
-ghost use Rattle.yse_top.specs.Words.{seen_words};
-ghost use Rattle.yse_top.specs.commands.Run.{ExpectedRefer, ExpectedTrace};
+ghost use Rattle.yse_top.specs.commands.Run.{AfterStimulus, WritesTrace, ExpectedRefer};
 
 use crate::checks::{Design, few_cells, netlist_of, ordered, stimulus_of};
 use crate::output::{Output, Trace};
 use crate::reading::read_text;
 use crate::refusal::Refusal;
-use crate::words::RunWords;
+use cmd_words::RunWords;
 use edge_io::Files;
 use net_defs::{Stimulus, Timing};
 use ref_sim::refer_in_order;
@@ -25,16 +24,18 @@ use trace_text::TraceLine;
 pub fn refer<'a, F: Files>(
     alloc: Global,
     files: &mut F,
-    words: RunWords<'a>,
+    words: &'a RunWords,
 ) -> Result<Output, Refusal<'a>>
     ensures expected { Follows (F.names files.old) (F.bytes files.old) (F.counts files.old) (F.counts files.new)
-        result (ExpectedRefer (seen_words words.entry)) }
+        result (ExpectedRefer words.now) }
     ensures writable { IfOk result CanWrite }
 {
-    match read_text(alloc, files, words.netlist) {
+    match read_text(alloc, files, words.netlist.as_bytes()) {
         Ok(text) => match netlist_of(alloc, text.as_slice()) {
             Ok(net) => match ordered(alloc, net, &words.timing) {
-                Ok(design) => simulate(alloc, files, words.stimulus, &words.timing, design),
+                Ok(design) => {
+                    simulate(alloc, files, words.stimulus.as_bytes(), &words.timing, design)
+                }
                 Err(no) => Err(no),
             },
             Err(no) => Err(no),
@@ -44,7 +45,7 @@ pub fn refer<'a, F: Files>(
 }
 
 /// The trace of a netlist under the stimulus of the named file.
-#[tactic(auto, using(crate::proofs::ChainLemmas::follows_refused), unfolding(crate::specs::commands::Run::ExpectedTrace))]
+#[tactic(auto, using(crate::proofs::ChainLemmas::follows_refused), unfolding(crate::specs::commands::Run::AfterStimulus))]
 fn simulate<'a, F: Files>(
     alloc: Global,
     files: &mut F,
@@ -55,7 +56,7 @@ fn simulate<'a, F: Files>(
     requires valid { IsValid design.net }
     requires order { IsOrder design.net timing.now design.order }
     ensures expected { Follows (F.names files.old) (F.bytes files.old) (F.counts files.old) (F.counts files.new)
-        result (ExpectedTrace file.now design.net timing.now) }
+        result (AfterStimulus file.now design.net (WritesTrace design.net timing.now)) }
     ensures writable { IfOk result CanWrite }
 {
     match read_text(alloc, files, file) {

@@ -1,64 +1,65 @@
-//! `run`: the trace of the reference simulation, by the compiled machine.
+//! `run` and `order`: the trace of the reference simulation, by the compiled machine.
 
-ghost use Rattle.std.specs.Prelude.{◌≡◌, ◌≤◌, Some, IfOk};
+ghost use Rattle.std.specs.Prelude.{◌≡◌, Some, IfOk};
 ghost use Rattle.std.specs.Option.{option_map};
 ghost use Rattle.machine_text.specs.Machines.{IsValid as IsValidMachine};
-ghost use Rattle.net_defs.specs.Valid.{IsValid, IsValidStimulus, IsValidTiming, input_count};
-ghost use Rattle.port_host.specs.Rows.{rows_done};
-ghost use Rattle.yse_top.specs.Images.{IsImageOf, AreShown};
-ghost use Rattle.yse_top.specs.Outputs.{CanWrite, CanPrint, ArePrinted};
+ghost use Rattle.net_defs.specs.Valid.{IsValid, IsValidStimulus, input_count};
+ghost use Rattle.cmd_words.specs.Forms.{IsRunInRange};
+ghost use Rattle.yse_top.specs.Images.{IsImageOf};
+ghost use Rattle.yse_top.specs.Orders.{IsMachineImage};
+ghost use Rattle.yse_top.specs.Outputs.{CanWrite};
 ghost use Rattle.yse_top.specs.Refusals.{Follows};
-ghost use Rattle.yse_top.specs.Words.{seen_words};
-ghost use Rattle.yse_top.specs.commands.Run.{ExpectedRun, ExpectedOn, ExpectedTrace};
+ghost use Rattle.yse_top.specs.commands.Run.{AfterStimulus, EndsBy, ExpectedOn, ExpectedRun};
 
-use crate::checks::{Built, compiled, few_cells, machine_of, netlist_of, stimulus_of};
-use crate::output::{Output, Trace};
+use crate::checks::{Built, compiled, few_cells, machine_of, netlist_of, order_of, stimulus_of};
+use crate::commands::steps::{by_order, by_rounds};
+use crate::output::Output;
 use crate::reading::read_text;
 use crate::refusal::Refusal;
-use crate::words::RunWords;
+use cmd_words::RunWords;
 use edge_io::Files;
 use machine_text::Machine;
-use net_defs::{CellRow, Rows, Stimulus, Timing};
-use port_host::HostPort;
-use seen_list::{List, Memory};
+use net_defs::Stimulus;
+use seen_list::Memory;
 use std::alloc::Global;
-use trace_text::TraceLine;
 
-/// The trace of a run on the machine of the named file, or on the default machine.
-#[tactic(auto, unfolding(crate::specs::commands::Run::ExpectedRun))]
+/// The trace of a run on the machine of the named file, or on the default machine; by rounds, or in the
+/// order of the named file.
+#[tactic(auto, unfolding(crate::specs::commands::Run::ExpectedRun, crate::specs::commands::Run::AfterMachine))]
 pub fn run<'a, F: Files>(
     alloc: Global,
     files: &mut F,
-    words: RunWords<'a>,
-    machine: Option<&'a [u8]>,
+    words: &'a RunWords,
+    order: Option<&'a [u8]>,
 ) -> Result<Output, Refusal<'a>>
-    requires { IsValidTiming words.timing }
+    requires { IsRunInRange words.now }
     ensures expected { Follows (F.names files.old) (F.bytes files.old) (F.counts files.old) (F.counts files.new)
-        result (ExpectedRun (option_map (λ file. file.now) machine.entry) (seen_words words.entry)) }
+        result (ExpectedRun words.now (option_map (λ file. file.now) order.entry)) }
     ensures writable { IfOk result CanWrite }
 {
-    match machine {
-        None => run_on(alloc, files, words, Machine::default_size()),
-        Some(file) => run_by(alloc, files, words, file),
+    match &words.machine {
+        None => run_on(alloc, files, words, order, Machine::default_size()),
+        Some(file) => run_by(alloc, files, words, order, file.as_bytes()),
     }
 }
 
 /// The trace of a run on the machine of the named file.
-#[tactic(auto, using(crate::proofs::ChainLemmas::follows_refused), unfolding(crate::specs::commands::Run::ExpectedRun))]
+#[tactic(auto, using(crate::proofs::ChainLemmas::follows_refused), unfolding(crate::specs::commands::Run::AfterMachine))]
 fn run_by<'a, F: Files>(
     alloc: Global,
     files: &mut F,
-    words: RunWords<'a>,
+    words: &'a RunWords,
+    order: Option<&'a [u8]>,
     file: &'a [u8],
 ) -> Result<Output, Refusal<'a>>
-    requires { IsValidTiming words.timing }
+    requires { IsRunInRange words.now }
     ensures expected { Follows (F.names files.old) (F.bytes files.old) (F.counts files.old) (F.counts files.new)
-        result (ExpectedRun (Some file.now) (seen_words words.entry)) }
+        result (AfterMachine (Some file.now) (ExpectedOn words.now (option_map (λ file. file.now) order.entry))) }
     ensures writable { IfOk result CanWrite }
 {
     match read_text(alloc, files, file) {
         Ok(text) => match machine_of(alloc, text.as_slice()) {
-            Ok(machine) => run_on(alloc, files, words, machine),
+            Ok(machine) => run_on(alloc, files, words, order, machine),
             Err(no) => Err(no),
         },
         Err(no) => Err(no),
@@ -70,19 +71,20 @@ fn run_by<'a, F: Files>(
 fn run_on<'a, F: Files>(
     alloc: Global,
     files: &mut F,
-    words: RunWords<'a>,
+    words: &'a RunWords,
+    order: Option<&'a [u8]>,
     machine: Machine,
 ) -> Result<Output, Refusal<'a>>
-    requires timing { IsValidTiming words.timing }
+    requires range { IsRunInRange words.now }
     requires machine { IsValidMachine machine }
     ensures expected { Follows (F.names files.old) (F.bytes files.old) (F.counts files.old) (F.counts files.new)
-        result (ExpectedOn machine (seen_words words.entry)) }
+        result (ExpectedOn words.now (option_map (λ file. file.now) order.entry) machine) }
     ensures writable { IfOk result CanWrite }
 {
-    match read_text(alloc, files, words.netlist) {
+    match read_text(alloc, files, words.netlist.as_bytes()) {
         Ok(text) => match netlist_of(alloc, text.as_slice()) {
             Ok(net) => match compiled(alloc, net, &machine, &words.timing) {
-                Ok(built) => execute(alloc, files, words.stimulus, &words.timing, built),
+                Ok(built) => execute(alloc, files, words, order, &machine, built),
                 Err(no) => Err(no),
             },
             Err(no) => Err(no),
@@ -92,27 +94,28 @@ fn run_on<'a, F: Files>(
 }
 
 /// The trace of an image under the stimulus of the named file.
-#[tactic(auto, using(crate::proofs::ChainLemmas::follows_refused), unfolding(crate::specs::commands::Run::ExpectedTrace))]
+#[tactic(auto, using(crate::proofs::ChainLemmas::follows_refused), unfolding(crate::specs::commands::Run::AfterStimulus))]
 fn execute<'a, F: Files>(
     alloc: Global,
     files: &mut F,
-    file: &'a [u8],
-    timing: &Timing,
+    words: &'a RunWords,
+    order: Option<&'a [u8]>,
+    machine: &Machine,
     built: Built,
 ) -> Result<Output, Refusal<'a>>
+    requires range { IsRunInRange words.now }
+    requires machine { IsValidMachine machine.now }
     requires valid { IsValid built.net }
-    requires image { IsImageOf built.net timing.now built.image }
+    requires image { IsImageOf built.net words.now.timing built.image }
+    requires made { IsMachineImage built.net machine.now words.now.timing built.image }
     ensures expected { Follows (F.names files.old) (F.bytes files.old) (F.counts files.old) (F.counts files.new)
-        result (ExpectedTrace file.now built.net timing.now) }
+        result (AfterStimulus words.now.stimulus built.net (EndsBy (option_map (λ file. file.now) order.entry) words.now machine.now built.net)) }
     ensures writable { IfOk result CanWrite }
 {
-    match read_text(alloc, files, file) {
+    match read_text(alloc, files, words.stimulus.as_bytes()) {
         Ok(text) => match stimulus_of(alloc, text.as_slice(), &built.net) {
             Ok(stimulus) => match few_cells(&built.net, &stimulus) {
-                Ok(()) => match shown(alloc, timing, built, &stimulus) {
-                    Ok(trace) => Ok(Output::Trace(trace)),
-                    Err(Memory) => Err(Refusal::Memory),
-                },
+                Ok(()) => finish(alloc, files, words, order, machine, built, &stimulus),
                 Err(no) => Err(no),
             },
             Err(no) => Err(no),
@@ -121,36 +124,67 @@ fn execute<'a, F: Files>(
     }
 }
 
-/// The cells that the host keeps of a run, with room for a line of the trace.
-fn shown(
+/// The trace of an image under a stimulus.
+#[tactic(auto, unfolding(crate::specs::commands::Run::EndsBy))]
+fn finish<'a, F: Files>(
     alloc: Global,
-    _timing: &Timing,
+    files: &mut F,
+    words: &'a RunWords,
+    order: Option<&'a [u8]>,
+    machine: &Machine,
     built: Built,
     stimulus: &Stimulus,
-) -> Result<Trace, Memory>
+) -> Result<Output, Refusal<'a>>
+    requires range { IsRunInRange words.now }
+    requires machine { IsValidMachine machine.now }
     requires valid { IsValid built.net }
-    requires image { IsImageOf built.net _timing.now built.image }
+    requires image { IsImageOf built.net words.now.timing built.image }
+    requires made { IsMachineImage built.net machine.now words.now.timing built.image }
     requires stimulus { IsValidStimulus stimulus.now }
     requires columns { stimulus.now.columns ≡ input_count built.net }
-    ensures printed { IfOk result (λ trace. (trace.net ≡ built.net) × ArePrinted built.net _timing.now stimulus.now trace.rows) }
-    ensures writable { IfOk result CanPrint }
+    ensures expected { Follows (F.names files.old) (F.bytes files.old) (F.counts files.old) (F.counts files.new)
+        result (EndsBy (option_map (λ file. file.now) order.entry) words.now machine.now built.net stimulus.now) }
+    ensures writable { IfOk result CanWrite }
 {
-    let Built { net, image } = built;
-    let line = TraceLine::new(alloc, &net)?;
-    let host = lockstep::run(alloc, &image, stimulus)?;
-    let rows = rows_of(alloc, &host, stimulus.cycles())?;
-    Ok(Trace { net, rows, line })
+    match order {
+        None => match by_rounds(alloc, words, built, stimulus) {
+            Ok(trace) => Ok(Output::Trace(trace)),
+            Err(Memory) => Err(Refusal::Memory),
+        },
+        Some(file) => in_order(alloc, files, words, file, machine, built, stimulus),
+    }
 }
 
-/// The rows of all cycles.
-fn rows_of(alloc: Global, host: &HostPort<'_>, cycles: u32) -> Result<Rows, Memory>
-    requires done { cycles ≤ rows_done host.now }
-    ensures { IfOk result (λ rows. AreShown host.now cycles rows.rows) }
+/// What is done of the trace of an image by the end of the order of the named file.
+#[tactic(auto, using(crate::proofs::ChainLemmas::follows_refused), unfolding(crate::specs::commands::Run::EndsBy))]
+fn in_order<'a, F: Files>(
+    alloc: Global,
+    files: &mut F,
+    words: &'a RunWords,
+    file: &'a [u8],
+    machine: &Machine,
+    built: Built,
+    stimulus: &Stimulus,
+) -> Result<Output, Refusal<'a>>
+    requires range { IsRunInRange words.now }
+    requires machine { IsValidMachine machine.now }
+    requires valid { IsValid built.net }
+    requires image { IsImageOf built.net words.now.timing built.image }
+    requires made { IsMachineImage built.net machine.now words.now.timing built.image }
+    requires stimulus { IsValidStimulus stimulus.now }
+    requires columns { stimulus.now.columns ≡ input_count built.net }
+    ensures expected { Follows (F.names files.old) (F.bytes files.old) (F.counts files.old) (F.counts files.new)
+        result (EndsBy (Some file.now) words.now machine.now built.net stimulus.now) }
+    ensures writable { IfOk result CanWrite }
 {
-    let mut rows = List::new(alloc);
-    'cycles: for c in 0..cycles {
-        let cells = List::from_slice(alloc, host.cells(c + 1))?;
-        rows.push(CellRow { cells })?;
+    match read_text(alloc, files, file) {
+        Ok(text) => match order_of(alloc, text.as_slice(), machine) {
+            Ok(order) => match by_order(alloc, words, machine, built, stimulus, &order) {
+                Ok(output) => Ok(output),
+                Err(Memory) => Err(Refusal::Memory),
+            },
+            Err(no) => Err(no),
+        },
+        Err(no) => Err(no),
     }
-    Ok(Rows { rows })
 }
