@@ -1,0 +1,1 @@
+//! Laws of events: functions that do nothing, whose clauses hold of all images.
