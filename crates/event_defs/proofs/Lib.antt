@@ -1,7 +1,9 @@
+pub mod CountLemmas
 pub mod KeptLemmas
 pub mod NextLemmas
 pub mod PaceLemmas
 pub mod SlotLemmas
 pub mod StampLemmas
 pub mod StuckLemmas
+pub mod SumLemmas
 pub mod WordLemmas
