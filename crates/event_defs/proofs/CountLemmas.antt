@@ -33,13 +33,13 @@ module _ (ports banks until : ℕ) where
 abbrev pub left : Image → ℕ → ℕ → (ℕ → Place) → ℕ
 left image banks until place = sum_to (length image.ports) (λ p. of_port (port_left (length image.ports) banks until (place p)) (slice_get image.ports p))
 
-from_test : (b : Bool) (x y : ℕ) → b ≡ true → (if b then x else y) ≡ x
+pub from_test : (b : Bool) (x y : ℕ) → b ≡ true → (if b then x else y) ≡ x
 from_test b x y e = ap {A = Bool} {B = ℕ} (λ c. if c then x else y) e
 
-from_other : (b : Bool) (x y : ℕ) → b ≡ false → (if b then x else y) ≡ y
+pub from_other : (b : Bool) (x y : ℕ) → b ≡ false → (if b then x else y) ≡ y
 from_other b x y e = ap {A = Bool} {B = ℕ} (λ c. if c then x else y) e
 
-product : (m n w : ℕ) → n ≡ m + 1 → n * w ≡ m * w + w
+pub product : (m n w : ℕ) → n ≡ m + 1 → n * w ≡ m * w + w
 product m n w e = ap (λ k. k * w) (e ∙ add-one m) ∙ suc-mul m w
 
 -- what is left of one port's events
@@ -47,7 +47,7 @@ module _ (ports banks until : ℕ) (port : PortImage) (place : Place) (early : p
   runs : (x y : ℕ) → (if nat_le place.turn until then x else y) ≡ x
   runs x y = from_test (nat_le place.turn until) x y (le-leb place.turn until early)
 
-  put_falls : Rises (out_slots port.outs) → (i : ℕ) (link : LinkOut) → slice_get port.outs i ≡ Some link → is_in link.slot place.puts ≡ false
+  pub put_falls : Rises (out_slots port.outs) → (i : ℕ) (link : LinkOut) → slice_get port.outs i ≡ Some link → is_in link.slot place.puts ≡ false
       → port_left ports banks until (after_put place link.slot) port + 1 ≡ port_left ports banks until place port
   put_falls up i link at not_put =
       let falls = missing_falls place.puts (out_slots port.outs) i link.slot up (to_map (λ (l : LinkOut). l.slot) port.outs i link at) not_put in
@@ -61,7 +61,7 @@ module _ (ports banks until : ℕ) (port : PortImage) (place : Place) (early : p
       let sums : w + x + z + 1 + a + 1 ≡ w + y + z + 1 + a = let f : x + 1 ≡ y = falls in omega arith in
       ap (λ n. n + a + 1) now ∙ (sums ∙ ap (λ n. n + a) (sym was))
 
-  take_falls : Rises (in_slots port.ins) → (j : ℕ) (link : LinkIn) → slice_get port.ins j ≡ Some link → is_in link.slot place.takes ≡ false
+  pub take_falls : Rises (in_slots port.ins) → (j : ℕ) (link : LinkIn) → slice_get port.ins j ≡ Some link → is_in link.slot place.takes ≡ false
       → port_left ports banks until (after_take place link.slot) port + 1 ≡ port_left ports banks until place port
   take_falls up j link at not_taken =
       let falls = missing_falls place.takes (in_slots port.ins) j link.slot up (to_map (λ (l : LinkIn). l.slot) port.ins j link at) not_taken in
@@ -81,7 +81,7 @@ module _ (ports banks until : ℕ) (port : PortImage) (place : Place) (early : p
     none_missing place.takes (in_slots port.ins) (λ i s at. let l = at_map (λ (l : LinkIn). l.slot) port.ins i s at in subst (λ t. is_in t place.takes ≡ true) l.2 (next.all_taken i l.0 l.1)),
   )
 
-  tell_falls : EndsNext port place.puts place.takes → port_left ports banks until (after_tell place) port + 1 ≡ port_left ports banks until place port
+  pub tell_falls : EndsNext port place.puts place.takes → port_left ports banks until (after_tell place) port + 1 ≡ port_left ports banks until place port
   tell_falls next =
       let none = all_done_slots next in
       let was = runs ((until - place.turn) * work_of port + missing place.puts (out_slots port.outs) + missing place.takes (in_slots port.ins) + 1) 0 in
@@ -115,7 +115,7 @@ module _ (ports banks until : ℕ) (port : PortImage) (place : Place) (early : p
             ap (λ n. n + a + 1) now ∙ (sums ∙ ap (λ n. n + a) (sym was))
       ]
 
-  ask_falls : (r n : ℕ) → r < ports → r < length place.known → is_read_by port r ≡ true → known_of place r ≤ n
+  pub ask_falls : (r n : ℕ) → r < ports → r < length place.known → is_read_by port r ≡ true → known_of place r ≤ n
       → port_left ports banks until (after_ask place r n) port + ((until - banks - known_of place r) - (until - banks - n)) ≡ port_left ports banks until place port
   ask_falls r n r_in room reads more =
       let k : ℕ = until - banks - known_of place r in
@@ -125,11 +125,11 @@ module _ (ports banks until : ℕ) (port : PortImage) (place : Place) (early : p
       let now : (if is_read_by port r then until - banks - known_of (after_ask place r n) r else 0) ≡ until - banks - n = from_test (is_read_by port r) (until - banks - known_of (after_ask place r n) r) 0 reads ∙ ap (λ x. until - banks - x) same_known in
       let was : (if is_read_by port r then until - banks - known_of place r else 0) ≡ until - banks - known_of place r = from_test (is_read_by port r) (until - banks - known_of place r) 0 reads in
       let falls : (if is_read_by port r then until - banks - known_of (after_ask place r n) r else 0) + (k - m) ≡ (if is_read_by port r then until - banks - known_of place r else 0) =
-          ap (λ x. x + (k - m)) now ∙ ((let e : m + (k - m) ≡ k = omega arith in e) ∙ sym was) in
+      ap (λ x. x + (k - m)) now ∙ ((let e : m + (k - m) ≡ k = omega arith in e) ∙ sym was) in
       let sums = sum_falls ports r (k - m)
-          (λ q. if is_read_by port q then until - banks - known_of place q else 0)
-          (λ q. if is_read_by port q then until - banks - known_of (after_ask place r n) q else 0) r_in
-          (λ q _ other. ap (λ x. if is_read_by port q then until - banks - x else 0) (sym (get_or-set_other place.known r q n 0 other))) falls in
+      (λ q. if is_read_by port q then until - banks - known_of place q else 0)
+      (λ q. if is_read_by port q then until - banks - known_of (after_ask place r n) q else 0) r_in
+      (λ q _ other. ap (λ x. if is_read_by port q then until - banks - x else 0) (sym (get_or-set_other place.known r q n 0 other))) falls in
       let b : ℕ = asks_left ports banks until port (after_ask place r n) in
       let a : ℕ = asks_left ports banks until port place in
       let sums' : b + (k - m) ≡ a = sums in

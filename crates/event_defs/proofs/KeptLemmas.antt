@@ -64,7 +64,7 @@ module _ (image : Image) (stimulus : Stimulus) (banks until : ℕ) (fits : IsWel
         let stamps = sound.stamps.each r.link.sender r.i r.sent r.send in
         let found = found_stamp banks (latest (old.place r.link.sender) r.sent.slot) here.turn (old.word r.link.sender r.i) some begun k.behind k.ahead stamps in
         subst (λ s. ((here.turn ≤ latest (old.place r.link.sender) s) × (stamp_of x ≡ here.turn)) ⊎ ((latest (old.place r.link.sender) s < here.turn) × (stamp_of x < here.turn))) r.same_slot
-          (subst (λ w. ((here.turn ≤ latest (old.place r.link.sender) r.sent.slot) × (stamp_of w ≡ here.turn)) ⊎ ((latest (old.place r.link.sender) r.sent.slot < here.turn) × (stamp_of w < here.turn))) (sym r.word) found)
+        (subst (λ w. ((here.turn ≤ latest (old.place r.link.sender) r.sent.slot) × (stamp_of w ≡ here.turn)) ⊎ ((latest (old.place r.link.sender) r.sent.slot < here.turn) × (stamp_of w < here.turn))) (sym r.word) found)
 
     -- a word of this turn is there only where its sender has put it
     pub read_put : (slot x : ℕ) (r : Reads image banks p port old slot x) → stamp_of x ≡ here.turn → here.turn ≤ latest (old.place r.link.sender) slot
@@ -100,7 +100,7 @@ module _ (image : Image) (stimulus : Stimulus) (banks until : ℕ) (fits : IsWel
     asks_sound r new a =
         let r_in = reader_in image fits p a.next.i r a.next.link (record { port = port; is = is; link_is = a.next.sends.is }) a.next.reads in
         subst (IsSound image stimulus banks until) (sym a.is)
-          (still (after_ask here r (old.finished r)) refl (λ i link s. refl) (asks image fits banks until old.place sound.paced p port is r (old.finished r) r_in (let e = sound.finished r r_in in omega arith)))
+        (still (after_ask here r (old.finished r)) refl (λ i link s. refl) (asks image fits banks until old.place sound.paced p port is r (old.finished r) r_in (let e = sound.finished r r_in in omega arith)))
 
     takes_sound : (slot : ℕ) (new : CoreState) → here.turn ≤ until → Takes image banks p port old slot new → IsSound image stimulus banks until new
     takes_sound slot new early t =
@@ -136,7 +136,7 @@ module _ (image : Image) (stimulus : Stimulus) (banks until : ℕ) (fits : IsWel
           codes = coded_put image fits banks stimulus old.word p t.next.i (here.turn % banks) here.turn t.next.link sound.codes mine begun;
         } in
         subst (IsSound image stimulus banks until) (sym t.is)
-          (subst (λ s. IsSound image stimulus banks until (record old { place = updated old.place p (after_put here s); word = written old.word p t.next.i (here.turn % banks) (4 * here.turn + code_of (image_value image stimulus here.turn p s)) })) t.next.slot_is made)
+        (subst (λ s. IsSound image stimulus banks until (record old { place = updated old.place p (after_put here s); word = written old.word p t.next.i (here.turn % banks) (4 * here.turn + code_of (image_value image stimulus here.turn p s)) })) t.next.slot_is made)
 
     pub step_sound : (answer : CoreStep) (new : CoreState) → IsStep image stimulus banks until p port old answer new → IsSound image stimulus banks until new
     step_sound (Moved (Ask r)) new step = asks_sound r new step.1

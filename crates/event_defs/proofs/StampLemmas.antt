@@ -77,11 +77,11 @@ module _ (image : Image) (fits : IsWellFormed image) (banks : ℕ) where
           let found = same_send image fits p j i other link send mine same in
           let turn_is : latest (after_put (place p) link.slot) other.slot ≡ (place p).turn = ap (latest (after_put (place p) link.slot)) same ∙ latest_here (place p) link.slot in
           subst (λ k. AreStamps banks k (written word p i ((place p).turn % banks) x p j)) (sym turn_is)
-            (subst (λ k. AreStamps banks (place p).turn (written word p i ((place p).turn % banks) x p k)) (sym found.0)
-              (subst (λ w. AreStamps banks (place p).turn w) (sym (written_here word p i ((place p).turn % banks) x)) words_now))
+          (subst (λ k. AreStamps banks (place p).turn (written word p i ((place p).turn % banks) x p k)) (sym found.0)
+          (subst (λ w. AreStamps banks (place p).turn w) (sym (written_here word p i ((place p).turn % banks) x)) words_now))
       | inr differs ↦
           subst (λ k. AreStamps banks k (written word p i ((place p).turn % banks) x p j)) (sym (latest_there (place p) link.slot other.slot differs))
-            (subst (λ w. AreStamps banks (latest (place p) other.slot) w) (sym (written_there word p i ((place p).turn % banks) x p j (λ e. differs (slot_same j other send e.1)))) (stamped.each p j other send))
+          (subst (λ w. AreStamps banks (latest (place p) other.slot) w) (sym (written_there word p i ((place p).turn % banks) x p j (λ e. differs (slot_same j other send e.1)))) (stamped.each p j other send))
     ] where
       slot_same : (j : ℕ) (other : LinkOut) → IsSend image p j other → j ≡ i → other.slot ≡ link.slot
       slot_same j other s e =
@@ -106,7 +106,7 @@ module _ (image : Image) (fits : IsWellFormed image) (banks : ℕ) where
         | inl same ↦ elim (cases_eq j i) [
           | inl same_i ↦ subst (λ q. IsCoded (value_of_send q other) (written word p i b x q j c)) (sym same)
               (subst (λ j. IsCoded (value_of_send p other) (written word p i b x p j c)) (sym same_i)
-                (at_here c other (subst (λ j. IsSend image p j other) same_i (subst (λ q. IsSend image q j other) same send)) within))
+              (at_here c other (subst (λ j. IsSend image p j other) same_i (subst (λ q. IsSend image q j other) same send)) within))
           | inr differs ↦ subst (λ w. IsCoded (value_of_send q other) (w c)) (sym (written_there word p i b x q j (λ e. differs e.1))) (coded.each q j c other send within)
         ]
         | inr away ↦ subst (λ w. IsCoded (value_of_send q other) (w c)) (sym (written_there word p i b x q j (λ e. away e.0))) (coded.each q j c other send within)
@@ -124,7 +124,7 @@ module _ (image : Image) (fits : IsWellFormed image) (banks : ℕ) where
           elim (cases_eq c b) [
             | inl same ↦ subst (λ (l : LinkOut). IsCoded (value_of_send p l) (written word p i b (4 * k + code_of (image_value image stimulus k p link.slot)) p i c)) link_is
                 (subst (λ w. IsCoded (value_of_send p link) w) (sym (ap (λ w. w c) row ∙ subst (λ c. updated (word p i) b (4 * k + code_of (image_value image stimulus k p link.slot)) c ≡ 4 * k + code_of (image_value image stimulus k p link.slot)) (sym same) (updated_here (word p i) b (4 * k + code_of (image_value image stimulus k p link.slot)))))
-                  (put_coded (value_of_send p link) k first))
+                (put_coded (value_of_send p link) k first))
             | inr away ↦ subst (λ w. IsCoded (value_of_send p other) w) (sym (ap (λ w. w c) row ∙ updated_there (word p i) b c (4 * k + code_of (image_value image stimulus k p link.slot)) away)) (coded.each p i c other send within)
           ]
 

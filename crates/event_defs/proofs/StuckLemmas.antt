@@ -40,14 +40,20 @@ module _ (image : Image) (stimulus : Stimulus) (banks until : ℕ) (fits : IsWel
         | inl now ↦ let less = waits.less in let stamp = now.1 in absurd (omega arith)
       ]) in
       let first = (sound.paced.places q r.send.port r.send.is).begun in
-      let behind = k.behind in
-      (q, r.i, r.sent, r.send, r.same_slot, elim (cases_Bool (is_in r.sent.slot (state.place q).puts)) [
-        | inl there ↦ let e = latest_put (state.place q) r.sent.slot there in inl (omega arith)
-        | inr missing ↦ let e = latest_missing (state.place q) r.sent.slot missing in elim (cases_lt (turn q) (turn p)) [
-          | inl less ↦ inl less
-          | inr more ↦ inr (omega arith, missing)
-        ]
-      ])
+      let behind = k.behind in (
+        q,
+        r.i,
+        r.sent,
+        r.send,
+        r.same_slot,
+        elim (cases_Bool (is_in r.sent.slot (state.place q).puts)) [
+          | inl there ↦ let e = latest_put (state.place q) r.sent.slot there in inl (omega arith)
+          | inr missing ↦ let e = latest_missing (state.place q) r.sent.slot missing in elim (cases_lt (turn q) (turn p)) [
+            | inl less ↦ inl less
+            | inr more ↦ inr (omega arith, missing)
+          ]
+        ],
+      )
 
   -- a Take that is next stands below a Put that is missing
   earlier : (q i : ℕ) (sent : LinkOut) (s : IsSend image q i sent) (slot : ℕ) → TakeWaits image banks q s.port state slot → is_in sent.slot (state.place q).puts ≡ false → slot < sent.slot
