@@ -1,0 +1,54 @@
+-- How many events a run has.
+use Rattle.std.specs.Prelude.{ℕ, zero, suc, ◌+◌, ◌-◌, ◌*◌, if◌then◌else◌, Bool, List, [], ◌∷◌, length, Option, Some, None, slice_get}
+use Rattle.std.specs.List.{list_any}
+use Rattle.image_defs.specs.declared.image.PortImage.{PortImage}
+use Rattle.image_defs.specs.declared.image.Image.{Image}
+use Rattle.event_defs.specs.declared.place.CoreStep.{CoreStep}
+use Rattle.event_defs.specs.declared.place.CoreStep.TheVariants.{Moved, NotYet, Done}
+use Rattle.event_defs.specs.Places.{is_in}
+
+-- the sum of the first n of these numbers
+unfoldable pub sum_to : ℕ → (ℕ → ℕ) → ℕ
+sum_to zero f = 0
+sum_to (suc n) f = sum_to n f + f n
+
+-- 1 for a step that moved, else 0
+abbrev pub moves : CoreStep → ℕ
+moves (Moved event) = 1
+moves NotYet = 0
+moves Done = 0
+
+-- how many of the steps moved
+unfoldable pub moved_in : List CoreStep → ℕ
+moved_in [] = 0
+moved_in (answer ∷ answers) = moves answer + moved_in answers
+
+-- a number of port p of the image, and 0 where there is no such port
+abbrev pub of_port : (PortImage → ℕ) → Option PortImage → ℕ
+of_port f None = 0
+of_port f (Some port) = f port
+
+-- the sum of a number of each port
+abbrev pub of_ports : Image → (PortImage → ℕ) → ℕ
+of_ports image f = sum_to (length image.ports) (λ p. of_port f (slice_get image.ports p))
+
+-- whether port q reads what this one sends
+abbrev pub is_read_by : PortImage → ℕ → Bool
+is_read_by port q = list_any (λ link. is_in q link.readers) port.outs
+
+-- how many of so many ports read what this one sends
+abbrev pub readers_of : ℕ → PortImage → ℕ
+readers_of ports port = sum_to ports (λ q. if is_read_by port q then 1 else 0)
+
+-- the sends and receipts of a port in a turn, and its Tell
+abbrev pub work_of : PortImage → ℕ
+work_of port = length port.outs + length port.ins + 1
+
+-- the pairs of a port and a port that reads it
+abbrev pub pairs : Image → ℕ
+pairs image = of_ports image (readers_of (length image.ports))
+
+-- the events of a run of so many turns: in each turn each send, each receipt and each port's Tell; and an Ask
+-- for each pair in each turn after the first few, of which there are as many as banks
+abbrev pub events : Image → ℕ → ℕ → ℕ
+events image banks until = until * of_ports image work_of + (until - banks) * pairs image

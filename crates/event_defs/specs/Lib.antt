@@ -1,0 +1,6 @@
+pub mod Counts
+pub mod Linked
+pub mod Next
+pub mod Places
+pub mod Sound
+pub mod Steps
