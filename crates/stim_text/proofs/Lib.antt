@@ -1,4 +1,5 @@
 mod LawLemmas
+mod OrderLemmas
+mod ReadingLemmas
+mod RepeatLemmas
 mod RowLemmas
-mod StimLemmas
-mod TotalLemmas

@@ -1,28 +1,27 @@
 -- One line: where it has no fault it is allowed, and the row that it is.
-use Rattle.std.proofs.Common.{◌≡◌, ℕ, ◌+◌, ◌<◌, ◌≤◌, Bool, true, false, cond, eqb, leb, List, [], ◌∷◌, length, Option, Some, None, inl, inr, sym, ap, ◌∙◌, subst, refl, arith}
-use Rattle.std.specs.Prelude.{◌⊎◌, ◌||◌, ◌&&◌, is_some, count_by}
+use Rattle.std.proofs.Common.{◌≡◌, ℕ, ◌+◌, ◌<◌, ◌≤◌, Bool, true, false, cond, eqb, List, [], ◌∷◌, length, Option, Some, None, inl, inr, sym, ap, ◌∙◌, subst, refl, arith}
+use Rattle.std.specs.Prelude.{◌⊎◌, ◌||◌, is_some, count_by}
 use Rattle.std.specs.List.{list_all, filter_map, cons_option}
 use Rattle.std.specs.Option.{option_map}
 use Rattle.std.proofs.lemmas.Bool.{cond-true, cond-false, and_parts, or_cases, cases_Bool, cases_eq, eqb-true, leb-true, eq-eqb, le-leb, ne_eqb}
 use Rattle.std.proofs.lemmas.List.Sums.{sum_by-cons}
 use Rattle.limits.specs.declared.TheConstants.{MAX_CYCLES}
 use Rattle.logic_four.specs.declared.V4.{V4}
-use Rattle.text_lines.specs.Bytes.{cut_at}
-use Rattle.text_lines.specs.Words.{words_of}
-use Rattle.text_lines.specs.Numbers.{number_of, within}
 use Rattle.logic_four.specs.Values.{char_value}
 use Rattle.net_defs.specs.declared.stimulus.StimRow.{StimRow}
 use Rattle.text_lines.specs.Bytes.{is_blank}
 use Rattle.stim_text.specs.declared.refusal.StimNo.{StimNo}
-use Rattle.stim_text.specs.Rows.{IsRow, IsAllowed, is_blank_part, values_part, repeat_of, may_stand, is_value_byte, width_of, wanted, fits_after, repeat_in, after_star, row_of, row_fault, fault_of}
+use Rattle.stim_text.specs.Repeats.{is_blank_part, before_repeat, repeat_of}
+use Rattle.stim_text.specs.Rows.{IsRow, IsAllowed, may_stand, is_value_byte, width_of, wanted, fits_after, row_of, row_fault, fault_of}
+use Rattle.stim_text.proofs.RepeatLemmas.{repeat_range}
 
 -- ---- no fault, and allowed
 
 -- what a line without a fault is, if it is not blank
-pub record IsFit (inputs cycles : ℕ) (part : List ℕ) (times : ℕ) : Type 0 where
-  pub bytes : list_all (may_stand inputs) (values_part part) ≡ true
+record IsFit (inputs cycles : ℕ) (part : List ℕ) (times : ℕ) : Type 0 where
+  pub bytes : list_all (may_stand inputs) (before_repeat part) ≡ true
   pub repeat : repeat_of part ≡ Some times
-  pub width : width_of inputs (values_part part) ≡ wanted inputs
+  pub width : width_of inputs (before_repeat part) ≡ wanted inputs
   pub fits : cycles + times ≤ MAX_CYCLES
 
 no_row : (b : Bool) (e f : StimNo) → cond b (Some e) (Some f) ≡ None → ⊥
@@ -35,10 +34,10 @@ all_pass true true false e f g none = cc
 all_pass true false c e f g none = cc
 all_pass false b c e f g none = cc
 
-row_from_none : (inputs cycles line : ℕ) (part : List ℕ) (times : Option ℕ) → repeat_of part ≡ times → row_fault inputs cycles line (values_part part) times ≡ None → (n : ℕ) × IsFit inputs cycles part n
-row_from_none inputs cycles line part None is none = absurd (no_row (list_all (may_stand inputs) (values_part part)) _ _ none)
+row_from_none : (inputs cycles line : ℕ) (part : List ℕ) (times : Option ℕ) → repeat_of part ≡ times → row_fault inputs cycles line (before_repeat part) times ≡ None → (n : ℕ) × IsFit inputs cycles part n
+row_from_none inputs cycles line part None is none = absurd (no_row (list_all (may_stand inputs) (before_repeat part)) _ _ none)
 row_from_none inputs cycles line part (Some times) is none =
-    let pass = all_pass (list_all (may_stand inputs) (values_part part)) (eqb (width_of inputs (values_part part)) (wanted inputs)) (fits_after cycles times) _ _ _ none in (
+    let pass = all_pass (list_all (may_stand inputs) (before_repeat part)) (eqb (width_of inputs (before_repeat part)) (wanted inputs)) (fits_after cycles times) _ _ _ none in (
       times,
       record {
         bytes = pass.0;
@@ -48,7 +47,7 @@ row_from_none inputs cycles line part (Some times) is none =
       },
     )
 
-pub fit_from_none : (inputs cycles line : ℕ) (part : List ℕ) → fault_of inputs cycles line part ≡ None → (is_blank_part part ≡ true) ⊎ ((times : ℕ) × IsFit inputs cycles part times)
+fit_from_none : (inputs cycles line : ℕ) (part : List ℕ) → fault_of inputs cycles line part ≡ None → (is_blank_part part ≡ true) ⊎ ((times : ℕ) × IsFit inputs cycles part times)
 unfolding fault_of
 fit_from_none inputs cycles line part none =
     elim (cases_Bool (is_blank_part part)) [
@@ -56,18 +55,18 @@ fit_from_none inputs cycles line part none =
       | inr filled ↦ inr (row_from_none inputs cycles line part (repeat_of part) refl (sym (cond-false _ _ _ filled) ∙ none))
     ]
 
-pub none_from_blank : (inputs cycles line : ℕ) (part : List ℕ) → is_blank_part part ≡ true → fault_of inputs cycles line part ≡ None
+none_from_blank : (inputs cycles line : ℕ) (part : List ℕ) → is_blank_part part ≡ true → fault_of inputs cycles line part ≡ None
 unfolding fault_of
 none_from_blank inputs cycles line part blank = cond-true _ _ _ blank
 
-pub none_from_fit : (inputs cycles line : ℕ) (part : List ℕ) (times : ℕ) → IsFit inputs cycles part times → fault_of inputs cycles line part ≡ None
+none_from_fit : (inputs cycles line : ℕ) (part : List ℕ) (times : ℕ) → IsFit inputs cycles part times → fault_of inputs cycles line part ≡ None
 unfolding fault_of
 none_from_fit inputs cycles line part times fit =
     elim (cases_Bool (is_blank_part part)) [
       | inl blank ↦ cond-true _ _ _ blank
       | inr filled ↦
           cond-false _ _ _ filled
-          ∙ ap (row_fault inputs cycles line (values_part part)) fit.repeat
+          ∙ ap (row_fault inputs cycles line (before_repeat part)) fit.repeat
           ∙ cond-true _ _ _ fit.bytes
           ∙ cond-true _ _ _ (eq-eqb _ _ fit.width)
           ∙ cond-true _ _ _ (le-leb _ _ fit.fits)
@@ -86,7 +85,7 @@ some_of : (o : Option ℕ) → is_some o ≡ true → (n : ℕ) × (o ≡ Some n
 some_of None some = cc
 some_of (Some n) some = (n, refl)
 
-pub row_of-blank : (part : List ℕ) → is_blank_part part ≡ true → row_of part ≡ None
+row_of-blank : (part : List ℕ) → is_blank_part part ≡ true → row_of part ≡ None
 unfolding row_of
 row_of-blank part blank = cond-true _ _ _ blank
 
@@ -131,41 +130,18 @@ some_values inputs (byte ∷ bytes) some =
     one_more (Some v) rest = omega arith
 
 -- an allowed row has a value for each input
-values_fit : (inputs : ℕ) (part : List ℕ) → IsRow inputs part → length (filter_map char_value (values_part part)) ≡ inputs
+values_fit : (inputs : ℕ) (part : List ℕ) → IsRow inputs part → length (filter_map char_value (before_repeat part)) ≡ inputs
 values_fit inputs part is =
     elim (cases_eq inputs 0) [
-      | inl none ↦ no_values (values_part part) (subst (λ n. list_all (may_stand n) (values_part part) ≡ true) none is.bytes) ∙ sym none
-      | inr some ↦ some_values inputs (values_part part) (omega arith) ∙ is.width ∙ omega arith
+      | inl none ↦ no_values (before_repeat part) (subst (λ n. list_all (may_stand n) (before_repeat part) ≡ true) none is.bytes) ∙ sym none
+      | inr some ↦ some_values inputs (before_repeat part) (omega arith) ∙ is.width ∙ omega arith
     ]
 
-chosen_some : (b : Bool) (m n : ℕ) → cond b (Some m) None ≡ Some n → (b ≡ true) × (m ≡ n)
-chosen_some true m n e = (refl, cc)
-chosen_some false m n e = cc
-
-within_range : (o : Option ℕ) (n : ℕ) → within 1 MAX_CYCLES o ≡ Some n → (1 ≤ n) × (n ≤ MAX_CYCLES)
-within_range None n is = cc
-within_range (Some m) n is =
-    let found = chosen_some (leb 1 m && leb m MAX_CYCLES) m n is in
-    let both = and_parts (leb 1 m) (leb m MAX_CYCLES) found.0 in
-    (omega (arith, leb-true 1 m both.0, found.1), omega (arith, leb-true m MAX_CYCLES both.1, found.1))
-
-repeat_range : (part : List ℕ) (n : ℕ) → repeat_of part ≡ Some n → (1 ≤ n) × (n ≤ MAX_CYCLES)
-unfolding repeat_of
-repeat_range part n is = cut (cut_at 42 part) n is where
-  words : (found : List (List ℕ)) (n : ℕ) → repeat_in found ≡ Some n → (1 ≤ n) × (n ≤ MAX_CYCLES)
-  words [] n is = cc
-  words (word ∷ []) n is = within_range (number_of word) n is
-  words (word ∷ other ∷ found) n is = cc
-
-  cut : (o : Option (List ℕ × List ℕ)) (n : ℕ) → after_star o ≡ Some n → (1 ≤ n) × (n ≤ MAX_CYCLES)
-  cut None n is = let one : Some 1 ≡ Some n = is in let same : 1 ≡ n = cc in (omega arith, omega arith)
-  cut (Some parts) n is = words (words_of parts.1) n is
-
-row_made : (part : List ℕ) (times : ℕ) (row : StimRow) → is_blank_part part ≡ false → repeat_of part ≡ Some times → row_of part ≡ Some row → (row.values ≡ filter_map char_value (values_part part)) × (row.times ≡ times)
+row_made : (part : List ℕ) (times : ℕ) (row : StimRow) → is_blank_part part ≡ false → repeat_of part ≡ Some times → row_of part ≡ Some row → (row.values ≡ filter_map char_value (before_repeat part)) × (row.times ≡ times)
 unfolding row_of
 row_made part times row filled is made =
-    let same : Some row ≡ Some (record { values = filter_map char_value (values_part part); times = times }) = sym made ∙ cond-false _ _ _ filled ∙ ap (option_map (λ n. record { values = filter_map char_value (values_part part); times = n })) is in
-    let equal : row ≡ record { values = filter_map char_value (values_part part); times = times } = cc in
+    let same : Some row ≡ Some (record { values = filter_map char_value (before_repeat part); times = times }) = sym made ∙ cond-false _ _ _ filled ∙ ap (option_map (λ n. record { values = filter_map char_value (before_repeat part); times = n })) is in
+    let equal : row ≡ record { values = filter_map char_value (before_repeat part); times = times } = cc in
     (ap (λ (r : StimRow). r.values) equal, ap (λ (r : StimRow). r.times) equal)
 
 pub good_from_allowed : (inputs : ℕ) (part : List ℕ) (row : StimRow) → IsAllowed inputs part → row_of part ≡ Some row → IsGood inputs row
@@ -184,6 +160,18 @@ good_from_allowed inputs part row (inr is) made =
           }
     ]
 
+-- a row of a line without a fault has cycles for which there is room
+pub fits_from_none : (inputs cycles line : ℕ) (part : List ℕ) (row : StimRow) → fault_of inputs cycles line part ≡ None → row_of part ≡ Some row → cycles + row.times ≤ MAX_CYCLES
+fits_from_none inputs cycles line part row none made =
+    elim (cases_Bool (is_blank_part part)) [
+      | inl blank ↦ cc (row_of-blank part blank)
+      | inr filled ↦
+          elim (fit_from_none inputs cycles line part none) [
+            | inl blank ↦ cc (row_of-blank part blank)
+            | inr fit ↦ omega (arith, (row_made part fit.0 row filled fit.1.repeat made).1, fit.1.fits)
+          ]
+    ]
+
 -- a row of an allowed line has no fault where its cycles fit
 pub none_from_allowed : (inputs cycles line : ℕ) (part : List ℕ) → IsAllowed inputs part → ((row : StimRow) → row_of part ≡ Some row → cycles + row.times ≤ MAX_CYCLES) → fault_of inputs cycles line part ≡ None
 unfolding row_of
@@ -197,6 +185,6 @@ none_from_allowed inputs cycles line part (inr is) fits =
             bytes = is.bytes;
             repeat = times.1;
             width = is.width;
-            fits = fits (record { values = filter_map char_value (values_part part); times = times.0 }) (cond-false _ _ _ filled ∙ ap (option_map (λ n. record { values = filter_map char_value (values_part part); times = n })) times.1);
+            fits = fits (record { values = filter_map char_value (before_repeat part); times = times.0 }) (cond-false _ _ _ filled ∙ ap (option_map (λ n. record { values = filter_map char_value (before_repeat part); times = n })) times.1);
           })
     ]

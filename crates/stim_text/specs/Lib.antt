@@ -1,2 +1,5 @@
+pub mod OrderLines
+pub mod Orders
+pub mod Repeats
 pub mod Rows
 pub mod Stimuli

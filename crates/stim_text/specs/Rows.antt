@@ -1,43 +1,14 @@
 -- A line of a stimulus text, outside its comment: it is blank, or it is a row.
-use Rattle.std.specs.Prelude.{◌≡◌, ℕ, ◌+◌, ◌==◌, ◌||◌, ◌⊎◌, max, Bool, List, [], ◌∷◌, Option, Some, None, is_some, nat_le, if◌then◌else◌, IsTrue, IsSome, count_by}
+use Rattle.std.specs.Prelude.{◌≡◌, ℕ, ◌+◌, ◌==◌, ◌||◌, ◌⊎◌, max, Bool, List, Option, Some, None, is_some, nat_le, if◌then◌else◌, IsTrue, IsSome, count_by}
 use Rattle.std.specs.List.{list_all, filter_map}
 use Rattle.std.specs.Option.{option_map}
 use Rattle.limits.specs.declared.TheConstants.{MAX_CYCLES}
-use Rattle.text_lines.specs.Bytes.{is_blank, cut_at}
-use Rattle.text_lines.specs.Words.{words_of}
-use Rattle.text_lines.specs.Numbers.{number_of, within}
+use Rattle.text_lines.specs.Bytes.{is_blank}
 use Rattle.logic_four.specs.Values.{char_value}
 use Rattle.net_defs.specs.declared.stimulus.StimRow.{StimRow}
 use Rattle.stim_text.specs.declared.refusal.StimNo.{StimNo}
 use Rattle.stim_text.specs.declared.refusal.StimNo.TheVariants.{BadChar, Width, Repeat, TooManyCycles}
-
--- whether the part of a line has blanks alone
-unfoldable pub is_blank_part : List ℕ → Bool
-is_blank_part part = list_all is_blank part
-
--- ---- the values part of a row and its repeat
-
-abbrev pub before_star : List ℕ → Option (List ℕ × List ℕ) → List ℕ
-before_star part None = part
-before_star part (Some parts) = parts.0
-
--- what stands before the first `*` of a row, or the whole row where it has none
-unfoldable pub values_part : List ℕ → List ℕ
-values_part part = before_star part (cut_at 42 part)
-
--- one word that is a number of 1 to 1,000,000
-abbrev pub repeat_in : List (List ℕ) → Option ℕ
-repeat_in (word ∷ []) = within 1 MAX_CYCLES (number_of word)
-repeat_in _ = None
-
-abbrev pub after_star : Option (List ℕ × List ℕ) → Option ℕ
-after_star None = Some 1
-after_star (Some parts) = repeat_in (words_of parts.1)
-
--- the repeat of a row: the number after its first `*`, where that is an allowed one, or 1 where it
--- has no `*`
-unfoldable pub repeat_of : List ℕ → Option ℕ
-repeat_of part = after_star (cut_at 42 part)
+use Rattle.stim_text.specs.Repeats.{is_blank_part, before_repeat, repeat_of}
 
 -- ---- the values
 
@@ -45,7 +16,7 @@ repeat_of part = after_star (cut_at 42 part)
 unfoldable pub is_value_byte : ℕ → ℕ → Bool
 is_value_byte inputs byte = if inputs == 0 then byte == 45 else is_some (char_value byte)
 
--- whether a byte may stand in the values part
+-- whether a byte may stand among the values of a row, before its repeat
 unfoldable pub may_stand : ℕ → ℕ → Bool
 may_stand inputs byte = is_blank byte || is_value_byte inputs byte
 
@@ -53,7 +24,7 @@ may_stand inputs byte = is_blank byte || is_value_byte inputs byte
 abbrev pub wanted : ℕ → ℕ
 wanted inputs = max inputs 1
 
--- how many value bytes a values part has
+-- how many value bytes stand there
 unfoldable pub width_of : ℕ → List ℕ → ℕ
 width_of inputs values = count_by (is_value_byte inputs) values
 
@@ -61,15 +32,15 @@ width_of inputs values = count_by (is_value_byte inputs) values
 unfoldable pub row_of : List ℕ → Option StimRow
 row_of part =
     if is_blank_part part then None
-    else option_map (λ times. record { values = filter_map char_value (values_part part); times = times }) (repeat_of part)
+    else option_map (λ times. record { values = filter_map char_value (before_repeat part); times = times }) (repeat_of part)
 
 -- ---- which lines are allowed
 
 -- the line is a row for so many inputs
 pub record IsRow (inputs : ℕ) (part : List ℕ) : Type 0 where
-  pub bytes : IsTrue (list_all (may_stand inputs) (values_part part))
+  pub bytes : IsTrue (list_all (may_stand inputs) (before_repeat part))
   pub repeat : IsSome (repeat_of part)
-  pub width : width_of inputs (values_part part) ≡ wanted inputs
+  pub width : width_of inputs (before_repeat part) ≡ wanted inputs
 
 -- the line is blank or such a row
 abbrev pub IsAllowed : ℕ → List ℕ → Type 0
@@ -88,8 +59,8 @@ repeat_fault inputs cycles line values (Some times) =
     then (if fits_after cycles times then None else Some TooManyCycles)
     else Some (Width line (width_of inputs values) (wanted inputs))
 
--- the fault of a row with this values part and this repeat, in the line of this number, after lines of
--- so many cycles
+-- the fault of a row with these values and this repeat, in the line of this number, after lines of so
+-- many cycles
 abbrev pub row_fault : ℕ → ℕ → ℕ → List ℕ → Option ℕ → Option StimNo
 row_fault inputs cycles line values times =
     if list_all (may_stand inputs) values then repeat_fault inputs cycles line values times
@@ -99,4 +70,4 @@ row_fault inputs cycles line values times =
 unfoldable pub fault_of : ℕ → ℕ → ℕ → List ℕ → Option StimNo
 fault_of inputs cycles line part =
     if is_blank_part part then None
-    else row_fault inputs cycles line (values_part part) (repeat_of part)
+    else row_fault inputs cycles line (before_repeat part) (repeat_of part)

@@ -1,16 +1,16 @@
 -- Which stimulus a text reads as, and its first fault.
-use Rattle.std.specs.Prelude.{◌≡◌, ℕ, ◌+◌, ◌≤◌, List, [], length, take, slice_index_or, Option, All}
+use Rattle.std.specs.Prelude.{◌≡◌, ℕ, ◌≤◌, List, Option, All}
 use Rattle.std.specs.List.{sum_by, filter_map}
 use Rattle.limits.specs.declared.TheConstants.{MAX_CYCLES}
-use Rattle.text_lines.specs.Answers.{first}
 use Rattle.text_lines.specs.Lines.{parts_of}
 use Rattle.net_defs.specs.declared.stimulus.StimRow.{StimRow}
 use Rattle.net_defs.specs.declared.stimulus.Stimulus.{Stimulus}
 use Rattle.stim_text.specs.declared.refusal.StimNo.{StimNo}
+use Rattle.stim_text.specs.Repeats.{first_fault_of}
 use Rattle.stim_text.specs.Rows.{IsAllowed, row_of, fault_of}
 
 -- the rows among lines, in order
-unfoldable pub rows_of : List (List ℕ) → List StimRow
+abbrev pub rows_of : List (List ℕ) → List StimRow
 rows_of parts = filter_map row_of parts
 
 -- the sum of the repeats
@@ -25,11 +25,6 @@ pub record Reads (inputs : ℕ) (text : List ℕ) (stimulus : Stimulus) : Type 0
   pub rows : stimulus.rows ≡ rows_of (parts_of text)
   pub cycles : cycles_of stimulus.rows ≤ MAX_CYCLES
 
--- the fault of the line at a place among the lines, counted from 0
-abbrev pub line_fault : ℕ → List ℕ → ℕ → Option StimNo
-line_fault inputs text i =
-    fault_of inputs (cycles_of (rows_of (take i (parts_of text)))) (i + 1) (slice_index_or (parts_of text) i [])
-
--- the fault of the first line that has one
+-- the fault of the first line that has one, each being asked after the cycles of the rows before it
 abbrev pub first_fault : ℕ → List ℕ → Option StimNo
-first_fault inputs text = first (line_fault inputs text) (length (parts_of text))
+first_fault inputs text = first_fault_of row_of (λ row. row.times) (fault_of inputs) (parts_of text)

@@ -1,18 +1,33 @@
-//! The stimulus text: the values of the inputs in each cycle.
+//! The stimulus text, which has the values of the inputs in each cycle, and the order text, which says
+//! whose step comes when.
 //!
-//! A line outside its comment is blank, or it is a row: the values of the inputs in file order, each
-//! one of `0`, `1`, `x`, `X`, `z` and `Z`, with blanks anywhere, and then, where the row stands for
-//! several cycles, `*` and their number, 1 to 1,000,000, with blanks around. A row of a netlist
-//! without inputs has the single byte `-` in place of values. All rows together stand for at most
-//! 1,000,000 cycles. The format is this project's profile.
+//! Stimulus text: a line outside its comment is blank, or it is a row: the values of the inputs in
+//! file order, each one of `0`, `1`, `x`, `X`, `z` and `Z`, with blanks anywhere, and then, where the
+//! row stands for several cycles, `*` and their number, 1 to 1,000,000, with blanks around. A row of a
+//! netlist without inputs has the single byte `-` in place of values. All rows together stand for at
+//! most 1,000,000 cycles.
+//!
+//! Order text: a line outside its comment is blank, or it is the number of a port with blanks around,
+//! and then, where it stands for several steps of the port, `*` and their number, as in a row. All
+//! lines together stand for at most 1,000,000,000 steps.
+//!
+//! Both formats are this project's profile.
 #![tactic(auto)]
 
 pub mod law;
+mod order;
+pub mod order_law;
+mod order_line;
+mod order_reading;
 mod reading;
 mod refusal;
+mod repeat;
 mod row;
 #[cfg(test)]
 mod tests;
 
+pub use order::{MAX_STEPS, Order, OrderLine};
+pub use order_reading::read_order;
 pub use reading::read_stim;
-pub use refusal::StimNo;
+pub use refusal::{OrderNo, StimNo};
+pub use repeat::MAX_REPEAT;

@@ -1,4 +1,4 @@
-//! Why a stimulus text is refused.
+//! Why a stimulus text or an order text is refused.
 
 use seen_list::Memory;
 
@@ -27,5 +27,29 @@ impl From<Memory> for StimNo {
 
     fn from(_refused: Memory) -> StimNo {
         StimNo::Memory
+    }
+}
+
+/// Why an order text is refused. Lines are counted from 1.
+#[derive(Clone, Copy, Debug, PartialEq, Eq)]
+pub enum OrderNo {
+    /// The line is neither blank, nor a number, nor a number, `*` and a number of 1 to 1,000,000.
+    Syntax { line: u32 },
+    /// The line's number is that of no port.
+    Port { line: u32 },
+    /// The lines up to this one stand for more than 1,000,000,000 steps.
+    TooLong { line: u32 },
+    /// There was not enough memory to read the text.
+    Memory,
+}
+
+impl From<Memory> for OrderNo {
+    ghost use Rattle.std.specs.Prelude.{◌≡◌};
+    ghost use Rattle.stim_text.specs.declared.refusal.OrderNo.TheVariants.{Memory as NoMemory};
+
+    ghost from_gives = { λ _ e. e ≡ NoMemory };
+
+    fn from(_refused: Memory) -> OrderNo {
+        OrderNo::Memory
     }
 }

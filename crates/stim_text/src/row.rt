@@ -3,20 +3,18 @@
 ghost use Rattle.std.specs.Prelude.{◌≡◌, ◌+◌, ◌≤◌, ◌<◌, ◌^◌, Some, None, max, List as Items, [], ◌∷◌, length, MatchResult, IfOk, IfSome};
 ghost use Rattle.std.specs.List.{list_all, filter_map};
 ghost use Rattle.text_lines.specs.Answers.{Answers};
-ghost use Rattle.text_lines.specs.Words.{words_of};
 ghost use Rattle.logic_four.specs.Values.{char_value};
 ghost use Rattle.stim_text.specs.declared.refusal.StimNo.TheVariants.{Memory as NoMemory};
-ghost use Rattle.stim_text.specs.Rows.{is_blank_part, values_part, repeat_of, repeat_in, is_value_byte, may_stand, width_of, row_of, row_fault, fault_of};
+ghost use Rattle.stim_text.specs.Rows.{is_value_byte, may_stand, width_of, row_of, row_fault, fault_of};
 
 use crate::refusal::StimNo;
+use crate::repeat::{cut_repeat, is_blank_part};
 use limits::MAX_CYCLES;
 use logic_four::{V4, of_char};
 use net_defs::StimRow;
 use seen_list::{List, Memory};
 use std::alloc::Global;
-use text_lines::Words;
-use text_lines::bytes::{is_blank, split_once};
-use text_lines::numbers::number_within;
+use text_lines::bytes::is_blank;
 
 /// Reads the part of a line outside its comment, after rows of so many cycles: the row that it is,
 /// or `None` where it is blank, or its fault.
@@ -36,7 +34,7 @@ pub fn read_row(
     if is_blank_part(part) {
         return Ok(None);
     }
-    let (values, repeat) = cut_row(part);
+    let (values, repeat) = cut_repeat(part);
     let times = checked_repeat(inputs, cycles, line, values, repeat)?;
     let values = values_in(alloc, values)?;
     Ok(Some(StimRow { values, times }))
@@ -74,39 +72,6 @@ fn checked_repeat(
     Ok(times)
 }
 
-/// Whether the part of a line has blanks alone.
-#[tactic(auto, unfolding(crate::specs::Rows::is_blank_part))]
-fn is_blank_part(part: &[u8]) -> bool
-    ensures { result ≡ is_blank_part part.now }
-{
-    part.iter().all(|byte| is_blank(*byte))
-}
-
-/// The part of a row that holds its values, and its repeat, if that is an allowed one.
-#[tactic(auto, unfolding(crate::specs::Rows::values_part, crate::specs::Rows::repeat_of))]
-fn cut_row(part: &[u8]) -> (&[u8], Option<u32>)
-    ensures values { result.0.now ≡ values_part part.now }
-    ensures repeat { result.1 ≡ repeat_of part.now }
-    ensures shorter { length result.0.now ≤ length part.now }
-{
-    match split_once(part, b'*') {
-        Some((values, repeat)) => (values, repeat_in(repeat)),
-        None => (part, Some(1)),
-    }
-}
-
-/// The number of 1 to 1,000,000 that the text is, with blanks around.
-fn repeat_in(text: &[u8]) -> Option<u32>
-    ensures { result ≡ repeat_in (words_of text.now) }
-{
-    let mut words = Words::new(text);
-    let word = words.next()?;
-    if words.next().is_some() {
-        return None;
-    }
-    number_within(word, 1, MAX_CYCLES)
-}
-
 /// Whether the byte stands for the value of an input; where there are no inputs, whether it is `-`.
 #[tactic(auto, unfolding(crate::specs::Rows::is_value_byte))]
 fn is_value_byte(inputs: u32, byte: u8) -> bool
@@ -119,7 +84,7 @@ fn is_value_byte(inputs: u32, byte: u8) -> bool
     }
 }
 
-/// Whether the values part has value bytes and blanks alone.
+/// Whether value bytes and blanks alone stand among the values.
 #[tactic(auto, unfolding(crate::specs::Rows::may_stand))]
 fn are_allowed(inputs: u32, values: &[u8]) -> bool
     ensures { result ≡ list_all (may_stand inputs) values.now }

@@ -1,4 +1,4 @@
-//! `read_stim` with ample memory, against rows and refusals from outside.
+//! `read_stim` and `read_order` with ample memory, against values and refusals from outside.
 
 use crate::*;
 use logic_four::to_char;
@@ -8,7 +8,7 @@ use std::alloc::Global;
 use std::test::Fail;
 
 /// The rows as a text: the values, `*`, the repeat, and a line end.
-fn shown(alloc: Global, stimulus: &Stimulus) -> Result<Text, Memory> {
+fn shown_rows(alloc: Global, stimulus: &Stimulus) -> Result<Text, Memory> {
     let mut text = Text::new(alloc);
     for row in stimulus.rows.as_slice() {
         for value in row.values.as_slice() {
@@ -35,7 +35,7 @@ fn reads_rows(rt: HostRuntime) -> Result<(), Fail> {
     for (text, inputs, want) in texts {
         let stimulus = read_stim(rt.alloc(), text, inputs)?;
         assert_eq!(rt; stimulus.columns, inputs);
-        assert_eq!(rt; shown(rt.alloc(), &stimulus)?.as_bytes(), want);
+        assert_eq!(rt; shown_rows(rt.alloc(), &stimulus)?.as_bytes(), want);
     }
     Ok(())
 }
@@ -73,4 +73,60 @@ fn refuses_texts(rt: HostRuntime) {
 
 fn width(line: u32, got: u32, want: u32) -> StimNo {
     StimNo::Width { line, got, want }
+}
+
+/// The lines as a text: the port, `*`, the repeat, and a line end.
+fn shown_lines(alloc: Global, order: &Order) -> Result<Text, Memory> {
+    let mut text = Text::new(alloc);
+    for line in order.lines.as_slice() {
+        text.push_bytes(format!(in alloc; "{}*{}\n", line.port, line.times)?.as_bytes())?;
+    }
+    Ok(text)
+}
+
+/// Order texts for so many ports, and the lines of their orders or why they are refused.
+#[test]
+fn reads_orders(rt: HostRuntime) -> Result<(), Fail> {
+    let texts: [(&[u8], u32, Result<&[u8], OrderNo>); 18] = [
+        (b"", 4, Ok(b"")),
+        (b"2*1000\n3 * 1000", 4, Ok(b"2*1000\n3*1000\n")),
+        (b"1 * 100\n0 * 100\n", 2, Ok(b"1*100\n0*100\n")),
+        (
+            b" 00000000000000000000003\t* 000000000000000000001000000 # \xff\r\n\n \t# 9\n\t1\r",
+            4,
+            Ok(b"3*1000000\n1*1\n"),
+        ),
+        (b"4", 4, port(1)),
+        (b"0", 0, port(1)),
+        (b"0\n\n18446744073709551617", 4, port(3)),
+        (b"0 * 0", 4, syntax(1)),
+        (b"0 * 1000001", 4, syntax(1)),
+        (b"4 * 0", 4, syntax(1)),
+        (b"0\n0 1", 4, syntax(2)),
+        (b"* 3", 4, syntax(1)),
+        (b"1 *", 4, syntax(1)),
+        (b"1 * 2 * 3", 4, syntax(1)),
+        (b"1 * 2 3", 4, syntax(1)),
+        (b"-1", 4, syntax(1)),
+        (b"4\nx", 4, port(1)),
+        (b"x\n4", 4, syntax(1)),
+    ];
+    for (text, ports, want) in texts {
+        match read_order(rt.alloc(), text, ports) {
+            Ok(order) => {
+                let lines = shown_lines(rt.alloc(), &order)?;
+                assert_eq!(rt; Ok(lines.as_bytes()), want);
+            }
+            Err(why) => assert_eq!(rt; Err(why), want),
+        }
+    }
+    Ok(())
+}
+
+fn port(line: u32) -> Result<&'static [u8], OrderNo> {
+    Err(OrderNo::Port { line })
+}
+
+fn syntax(line: u32) -> Result<&'static [u8], OrderNo> {
+    Err(OrderNo::Syntax { line })
 }

@@ -1,5 +1,4 @@
-use Rattle.stim_text.proofs.LawLemmas.{one_stimulus, none_from_reads}
-use Rattle.stim_text.proofs.TotalLemmas.{reads_or_fault}
+use Rattle.stim_text.proofs.LawLemmas.{one_stimulus, none_from_reads, reads_or_fault}
 use Rattle.stim_text.proofs.law.reads_or_faults.Goals as goal
 
 pub returns : goal.returns

@@ -1,6 +1,9 @@
 use Rattle.std.proofs.Common.{◌∙◌}
 use Rattle.std.proofs.lemmas.Result.{err_from_is_err_and}
-use Rattle.stim_text.proofs.LawLemmas.{reads_from_none, none_from_reads, valid_from_reads, memory_from_reads}
+use Rattle.stim_text.specs.declared.refusal.StimNo.TheVariants.{Memory as NoMemory}
+use Rattle.stim_text.specs.Stimuli.{first_fault}
+use Rattle.stim_text.proofs.LawLemmas.{reads_from_none, none_from_reads, valid_from_reads}
+use Rattle.stim_text.proofs.ReadingLemmas.{memory_alone}
 use Rattle.stim_text.proofs.reading.read_stim.Goals as goal
 
 pub returns-clause-answers : goal.returns-clause-answers
@@ -16,6 +19,6 @@ returns-clause-valid c =
 pub returns-in_err-rows-clause-only : goal.returns-in_err-rows-clause-only
 returns-in_err-rows-clause-only c stimulus reads =
     let p = err_from_is_err_and c.from_residual.result c.from_residual.ensures.1 in
-    let text = c.args.bytes.now in
-    let memory = memory_from_reads c.args.inputs text stimulus c.in_err-rows.field-0.0 reads c.in_err-rows.ensures in
-    (none_from_reads c.args.inputs text stimulus reads, rw p.1 (p.2 ∙ memory))
+    let none = none_from_reads c.args.inputs c.args.bytes.now stimulus reads in
+    let memory = memory_alone (first_fault c.args.inputs c.args.bytes.now) NoMemory c.in_err-rows.field-0.0 none c.in_err-rows.ensures in
+    (none, rw p.1 (p.2 ∙ memory))

@@ -1,0 +1,20 @@
+//! Orders: whose step comes when.
+
+use seen_list::List;
+
+/// The most steps of an order.
+pub const MAX_STEPS: u32 = 1_000_000_000;
+
+/// Steps of one port, one after another: `times` of them, 1 to 1,000,000.
+#[derive(Clone, Copy, Debug, PartialEq, Eq)]
+pub struct OrderLine {
+    pub port: u32,
+    pub times: u32,
+}
+
+/// The steps of ports in the order in which they come, line after line. There are at most
+/// 1,000,000,000 steps; a line keeps its own in one number.
+#[derive(Drop)]
+pub struct Order {
+    pub lines: List<OrderLine>,
+}
