@@ -1,3 +1,2 @@
 pub mod Compiled
 pub mod Designs
-pub mod Links

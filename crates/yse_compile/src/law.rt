@@ -1,6 +1,7 @@
 //! Laws of designs and machines: functions that do nothing, whose clauses hold of all of them.
 
 ghost use Rattle.std.specs.Prelude.{◌≡◌, ◌⊎◌, ℕ};
+ghost use Rattle.event_defs.specs.Linked.{AreLinkedAlike};
 ghost use Rattle.machine_text.specs.declared.machine.Machine.{Machine};
 ghost use Rattle.machine_text.specs.Machines.{IsValid as IsValidMachine};
 ghost use Rattle.net_defs.specs.declared.netlist.Netlist.{Netlist};
@@ -20,7 +21,6 @@ ghost use Rattle.yse_compile.specs.declared.compiler.Compiled.{Compiled};
 ghost use Rattle.yse_compile.specs.Compiled.{IsCompiled, IsRight, IsOverfull};
 ghost use Rattle.yse_compile.specs.Designs.{IsAcyclic, DesignFits};
 ghost use Rattle.yse_compile.specs.Designs.{LacksBits, LacksSlots, LacksFunctions};
-ghost use Rattle.yse_compile.specs.Links.{HaveSameLinks};
 
 use home_pick::law::{housed_or_refused, one_housing};
 use node_defs::law::one_list;
@@ -184,12 +184,12 @@ pub fn one_refusal()
     one_crowd();
 }
 
-/// A law: the compiled images of a netlist on a machine have the same links, whichever numbers their
-/// tables have. It does nothing.
+/// A law: the ports of the compiled images of a netlist on a machine send and receive alike, whichever
+/// numbers their tables have. It does nothing.
 pub fn one_linking()
     ensures { (net : Netlist) (machine : Machine) (timing : Timing) (one other : Compiled)
         → IsValid net → IsCompiled net machine timing one → IsCompiled net machine timing other
-        → HaveSameLinks one.image other.image }
+        → AreLinkedAlike one.image other.image }
 {
     one_list();
     one_homes();

@@ -49,19 +49,20 @@ returns c net machine timing one other valid is is_too =
     let slots : one.plan.slots ≡ other.plan.slots = (c.one_plan.ensures other.nodes other.homes one.plan other.plan (c.items_are_well_formed.ensures net timing other.nodes valid is_too.items) kept is_too.first_fit).0 in
     record {
       units = is.built.matches.units ∙ sym is_too.built.matches.units;
-      ports = as_many one is ∙ ap ports_of homes ∙ sym (as_many other is_too);
-      outs = λ p port another at at_too.
+      count = as_many one is ∙ ap ports_of homes ∙ sym (as_many other is_too);
+      ports = λ p port twin at at_too.
           let links = links_of one is p port at in
-          let others = links_of other is_too p another at_too in
-          links.are.outs
-          ∙ ap (map link_out) (same_sends one.nodes other.nodes there back other.homes other.plan.slots p links.links.sends others.links.sends
-          (subst (λ h. AreSends one.nodes h other.plan.slots p links.links.sends) homes (subst (λ s. AreSends one.nodes one.homes s p links.links.sends) slots links.sends)) others.sends)
-          ∙ sym others.are.outs;
-      ins = λ p port another at at_too.
-          let links = links_of one is p port at in
-          let others = links_of other is_too p another at_too in
-          links.are.ins
-          ∙ ap (map link_in) (same_receipts one.nodes other.nodes there back other.homes other.plan.slots p links.links.receipts others.links.receipts
-          (subst (λ h. AreReceipts one.nodes h other.plan.slots p links.links.receipts) homes (subst (λ s. AreReceipts one.nodes one.homes s p links.links.receipts) slots links.receipts)) others.receipts)
-          ∙ sym others.are.ins;
+          let others = links_of other is_too p twin at_too in
+          record {
+            outs =
+                links.are.outs
+                ∙ ap (map link_out) (same_sends one.nodes other.nodes there back other.homes other.plan.slots p links.links.sends others.links.sends
+                (subst (λ h. AreSends one.nodes h other.plan.slots p links.links.sends) homes (subst (λ s. AreSends one.nodes one.homes s p links.links.sends) slots links.sends)) others.sends)
+                ∙ sym others.are.outs;
+            ins =
+                links.are.ins
+                ∙ ap (map link_in) (same_receipts one.nodes other.nodes there back other.homes other.plan.slots p links.links.receipts others.links.receipts
+                (subst (λ h. AreReceipts one.nodes h other.plan.slots p links.links.receipts) homes (subst (λ s. AreReceipts one.nodes one.homes s p links.links.receipts) slots links.receipts)) others.receipts)
+                ∙ sym others.are.ins;
+          };
     }
