@@ -1,5 +1,6 @@
 mod ChainLemmas
 mod CheckLemmas
+mod CommandLemmas
 mod EndLemmas
 mod OrderLemmas
 mod OutcomeLemmas

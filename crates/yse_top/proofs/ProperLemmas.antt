@@ -6,8 +6,7 @@ use Rattle.limits.specs.declared.TheConstants.{MAX_TEXT_BYTES}
 use Rattle.yse_top.specs.declared.status.Status.{Status}
 use Rattle.yse_top.specs.declared.status.Status.TheVariants as status
 use Rattle.yse_top.specs.Checks.{After, AfterRead, AfterFile, Ends, Writes, text_of, read_fault}
-use Rattle.yse_top.specs.Ends.{IsAnswer}
-use Rattle.yse_top.specs.Law.{AreAlike, AgreeOn, AreGiven, HasCause, IsProper}
+use Rattle.yse_top.specs.Law.{AreAlike, AgreeOn, HasCause, IsProper}
 use Rattle.yse_top.specs.Lines.{too_long_line, usage_line}
 use Rattle.yse_top.specs.Outcome.{Outcome, done, refusal, out_of_memory}
 use Rattle.yse_top.specs.Readings.{Reading}
@@ -22,25 +21,14 @@ IsOfText status.Loop = ⊤
 IsOfText status.Overfull = ⊤
 IsOfText status.Stimulus = ⊤
 IsOfText status.Limit = ⊤
+IsOfText status.OrderText = ⊤
 IsOfText _ = ⊥
 
 -- the statuses that an end may have
 abbrev pub IsOfEnd : Status → Type 0
 IsOfEnd status.Done = ⊤
+IsOfEnd status.Unfinished = ⊤
 IsOfEnd _ = ⊥
-
--- the statuses that a command may have
-abbrev pub IsOfCommand : Status → Type 0
-IsOfCommand status.Done = ⊤
-IsOfCommand status.ReadFault = ⊤
-IsOfCommand status.Netlist = ⊤
-IsOfCommand status.Machine = ⊤
-IsOfCommand status.Loop = ⊤
-IsOfCommand status.Overfull = ⊤
-IsOfCommand status.Stimulus = ⊤
-IsOfCommand status.Limit = ⊤
-IsOfCommand status.Memory = ⊤
-IsOfCommand _ = ⊥
 
 -- one outcome is like itself
 pub alike : (one other : Outcome) → one ≡ other → AreAlike one other
@@ -51,26 +39,13 @@ alike one other same = record {
 }
 
 -- a status that the text or an end has is no other one
-of_text_not : (s other : Status) → IsOfText s → (IsOfText other → ⊥) → s ≢ other
+pub of_text_not : (s other : Status) → IsOfText s → (IsOfText other → ⊥) → s ≢ other
 of_text_not s other is not same = not (subst IsOfText same is)
 
-of_end_not : (s other : Status) → IsOfEnd s → (IsOfEnd other → ⊥) → s ≢ other
+pub of_end_not : (s other : Status) → IsOfEnd s → (IsOfEnd other → ⊥) → s ≢ other
 of_end_not s other is not same = not (subst IsOfEnd same is)
 
-text_is_command : (s : Status) → IsOfText s → IsOfCommand s
-text_is_command status.Netlist is = tt
-text_is_command status.Machine is = tt
-text_is_command status.Loop is = tt
-text_is_command status.Overfull is = tt
-text_is_command status.Stimulus is = tt
-text_is_command status.Limit is = tt
-text_is_command _ is = absurd is
-
-end_is_command : (s : Status) → IsOfEnd s → IsOfCommand s
-end_is_command status.Done is = tt
-end_is_command _ is = absurd is
-
-memory_status : (o : Outcome) → o ≡ out_of_memory → o.status ≡ status.Memory
+pub memory_status : (o : Outcome) → o ≡ out_of_memory → o.status ≡ status.Memory
 memory_status o is = ap (λ (o : Outcome). o.status) is
 
 -- ---- what is known of each link
@@ -83,16 +58,31 @@ pub record IsCheck {X : Type 0} (Checked : Result X Outcome → Type 0) : Type 0
   pub some : ((x : X) × Checked (Ok x)) ⊎ ((o : Outcome) × Checked (Err o))
   pub of_text : (o : Outcome) → Checked (Err o) → IsOfText o.status
 
--- an end is one outcome, and is one
+-- a check answers once, and answers, and what it refuses is no want of memory and no fault
+pub record IsAnswered {X : Type 0} (Checked : Result X Outcome → Type 0) : Type 0 where
+  pub values : (x y : X) → Checked (Ok x) → Checked (Ok y) → x ≡ y
+  pub either : (x : X) (o : Outcome) → Checked (Ok x) → Checked (Err o) → ⊥
+  pub refusals : (o p : Outcome) → Checked (Err o) → Checked (Err p) → AreAlike o p
+  pub some : ((x : X) × Checked (Ok x)) ⊎ ((o : Outcome) × Checked (Err o))
+  pub not_memory : (o : Outcome) → Checked (Err o) → o.status ≢ status.Memory
+  pub not_read : (o : Outcome) → Checked (Err o) → o.status ≢ status.ReadFault
+  pub not_written : (o : Outcome) → Checked (Err o) → o.status ≢ status.WriteFault
+
+pub answered : {X : Type 0} (Checked : Result X Outcome → Type 0) → IsCheck Checked → IsAnswered Checked
+answered Checked check = record {
+  values = check.values;
+  either = check.either;
+  refusals = check.refusals;
+  some = check.some;
+  not_memory = λ o refused. of_text_not o.status status.Memory (check.of_text o refused) (λ is. is);
+  not_read = λ o refused. of_text_not o.status status.ReadFault (check.of_text o refused) (λ is. is);
+  not_written = λ o refused. of_text_not o.status status.WriteFault (check.of_text o refused) (λ is. is);
+}
+
+-- an end is one outcome
 pub record IsEnding (IsEnd : Outcome → Type 0) : Type 0 where
   pub one : (o p : Outcome) → IsEnd o → IsEnd p → AreAlike o p
-  pub some : (o : Outcome) × IsEnd o
   pub ends : (o : Outcome) → IsEnd o → IsOfEnd o.status
-
--- a chain is proper, and has the statuses of commands
-pub record IsCommand (files : List (List ℕ)) (Chain : List Reading → Outcome → Type 0) : Type 0 where
-  pub proper : IsProper files Chain
-  pub statuses : (readings : List Reading) (outcome : Outcome) → Chain readings outcome → IsOfCommand outcome.status
 
 -- ---- causes
 
@@ -151,11 +141,8 @@ cause_unread reading file outcome file_is none is = record {
 begun_none : (readings : List Reading) (files : List (List ℕ)) → readings ≡ [] → map (λ reading. reading.file) readings ≡ take (length readings) files
 begun_none readings files none = subst (λ (rs : List Reading). map (λ reading. reading.file) rs ≡ take (length rs) files) (sym none) refl
 
-given_none : (give : ℕ → List ℕ → Option (List ℕ)) → AreGiven give []
-given_none give place reading at = cc
-
-pub proper_after : {X : Type 0} (files : List (List ℕ)) (Checked : Result X Outcome → Type 0) (Next : X → List Reading → Outcome → Type 0) → IsCheck Checked → ((x : X) → Checked (Ok x) → IsProper files (Next x)) → IsProper files (After Checked Next)
-proper_after {X} files Checked Next check on = record { one = one; some = λ give. some give check.some; begun = begun; cause = cause }
+pub proper_after : {X : Type 0} (files : List (List ℕ)) (Checked : Result X Outcome → Type 0) (Next : X → List Reading → Outcome → Type 0) → IsAnswered Checked → ((x : X) → Checked (Ok x) → IsProper files (Next x)) → IsProper files (After Checked Next)
+proper_after {X} files Checked Next check on = record { one = one; begun = begun; cause = cause }
   where
     one : (readings others : List Reading) (o p : Outcome) → After Checked Next readings o → After Checked Next others p → AgreeOn readings others → o.status ≢ status.Memory → p.status ≢ status.Memory → AreAlike o p
     one readings others o p (inl (x, passed, next)) (inl (y, passed_too, next_too)) agree n m =
@@ -168,12 +155,6 @@ proper_after {X} files Checked Next check on = record { one = one; some = λ giv
     one readings others o p (inr (none, inl refused)) (inr (none_too, inr memory)) agree n m = absurd (m (memory_status p memory))
     one readings others o p (inr (none, inr memory)) (inr (none_too, either_too)) agree n m = absurd (n (memory_status o memory))
 
-    some : (give : ℕ → List ℕ → Option (List ℕ)) → ((x : X) × Checked (Ok x)) ⊎ ((o : Outcome) × Checked (Err o)) → (readings : List Reading) × (outcome : Outcome) × After Checked Next readings outcome × AreGiven give readings × (outcome.status ≢ status.Memory)
-    some give (inl (x, passed)) =
-        let s = (on x passed).some give in
-        (s.0, s.1, inl (x, passed, s.2), s.3, s.4)
-    some give (inr (o, refused)) = ([], o, inr (refl, inl refused), given_none give, of_text_not o.status status.Memory (check.of_text o refused) (λ is. is))
-
     begun : (readings : List Reading) (o : Outcome) → After Checked Next readings o → map (λ reading. reading.file) readings ≡ take (length readings) files
     begun readings o (inl (x, passed, next)) = (on x passed).begun readings o next
     begun readings o (inr (none, refused)) = begun_none readings files none
@@ -181,17 +162,8 @@ proper_after {X} files Checked Next check on = record { one = one; some = λ giv
     cause : (readings : List Reading) (o : Outcome) → After Checked Next readings o → HasCause readings o
     cause readings o (inl (x, passed, next)) = (on x passed).cause readings o next
     cause readings o (inr (none, inl refused)) =
-        cause_here readings o none (of_text_not o.status status.ReadFault (check.of_text o refused) (λ is. is)) (of_text_not o.status status.WriteFault (check.of_text o refused) (λ is. is))
+        cause_here readings o none (check.not_read o refused) (check.not_written o refused)
     cause readings o (inr (none, inr memory)) = cause_memory readings o none memory
-
-pub command_after : {X : Type 0} (files : List (List ℕ)) (Checked : Result X Outcome → Type 0) (Next : X → List Reading → Outcome → Type 0) → IsCheck Checked → ((x : X) → Checked (Ok x) → IsCommand files (Next x)) → IsCommand files (After Checked Next)
-command_after {X} files Checked Next check on =
-    record { proper = proper_after files Checked Next check (λ x passed. (on x passed).proper); statuses = statuses }
-  where
-    statuses : (readings : List Reading) (o : Outcome) → After Checked Next readings o → IsOfCommand o.status
-    statuses readings o (inl (x, passed, next)) = (on x passed).statuses readings o next
-    statuses readings o (inr (none, inl refused)) = text_is_command o.status (check.of_text o refused)
-    statuses readings o (inr (none, inr memory)) = subst IsOfCommand (sym (memory_status o memory)) tt
 
 -- ---- a file
 
@@ -212,7 +184,7 @@ pub never_both : (text : List ℕ) (o : Outcome) → passes text ≡ refuses o �
 never_both text o e = cc
 
 -- the length of a text
-text_check : (file bytes : List ℕ) → IsCheck (λ result. text_of file bytes ≡ result)
+pub text_check : (file bytes : List ℕ) → IsCheck (λ result. text_of file bytes ≡ result)
 text_check file bytes = record {
   values = λ x y e f. passed_once x y (sym e ∙ f);
   either = λ x o e f. never_both x o (sym e ∙ f);
@@ -230,7 +202,7 @@ text_check file bytes = record {
     of_text false o e = subst (λ (p : Outcome). IsOfText p.status) (refused_once (refusal status.Limit (too_long_line file)) o e) tt
 
 -- a text that passes is short
-passed_short : (file bytes text : List ℕ) → text_of file bytes ≡ Ok text → length text ≤ MAX_TEXT_BYTES
+pub passed_short : (file bytes text : List ℕ) → text_of file bytes ≡ Ok text → length text ≤ MAX_TEXT_BYTES
 passed_short file bytes text = by (nat_le (length bytes) MAX_TEXT_BYTES) refl
   where
     by : (b : Bool) → nat_le (length bytes) MAX_TEXT_BYTES ≡ b → (if b then Ok bytes else Err (refusal status.Limit (too_long_line file))) ≡ Ok text → length text ≤ MAX_TEXT_BYTES
@@ -239,10 +211,10 @@ passed_short file bytes text = by (nat_le (length bytes) MAX_TEXT_BYTES) refl
 
 module _ (file : List ℕ) (files : List (List ℕ)) (Next : List ℕ → List Reading → Outcome → Type 0) where
   read_proper : ((text : List ℕ) → length text ≤ MAX_TEXT_BYTES → IsProper files (Next text)) → (bytes : List ℕ) → IsProper files (AfterRead file (Some bytes) Next)
-  read_proper on bytes = proper_after files (λ result. text_of file bytes ≡ result) Next (text_check file bytes) (λ text passed. on text (passed_short file bytes text passed))
+  read_proper on bytes = proper_after files (λ result. text_of file bytes ≡ result) Next (answered (λ result. text_of file bytes ≡ result) (text_check file bytes)) (λ text passed. on text (passed_short file bytes text passed))
 
   pub proper_file : ((text : List ℕ) → length text ≤ MAX_TEXT_BYTES → IsProper files (Next text)) → IsProper (file ∷ files) (AfterFile file Next)
-  proper_file on = record { one = one; some = λ give. some give (give zero file) refl; begun = begun; cause = cause }
+  proper_file on = record { one = one; begun = begun; cause = cause }
     where
       one : (readings others : List Reading) (o p : Outcome) → AfterFile file Next readings o → AfterFile file Next others p → AgreeOn readings others → o.status ≢ status.Memory → p.status ≢ status.Memory → AreAlike o p
       one [] others o p after other agree n m = absurd after
@@ -258,20 +230,6 @@ module _ (file : List ℕ) (files : List (List ℕ)) (Next : List ℕ → List R
           by (Some bytes) same here =
               (read_proper on bytes).one readings others o p here (subst (λ c. AfterRead file c Next others p) (sym same) after_too)
               (λ place r q at at_too. agree (suc place) r q at at_too) n m
-
-      some : (give : ℕ → List ℕ → Option (List ℕ)) (b : Option (List ℕ)) → give zero file ≡ b → (readings : List Reading) × (outcome : Outcome) × AfterFile file Next readings outcome × AreGiven give readings × (outcome.status ≢ status.Memory)
-      some give None is = (record { file = file; bytes = None } ∷ [], read_fault file, (refl, (refl, refl)), given, λ s. cc)
-        where
-          given : AreGiven give (record { file = file; bytes = None } ∷ [])
-          given zero reading at = let same : record { file = file; bytes = None } ≡ reading = cc in subst (λ (r : Reading). r.bytes ≡ give zero r.file) same (sym is)
-          given (suc place) reading at = cc
-      some give (Some bytes) is =
-          let s = (read_proper on bytes).some (λ place. give (suc place)) in
-          (record { file = file; bytes = Some bytes } ∷ s.0, s.1, (refl, s.2), given s.0 s.3, s.4)
-        where
-          given : (readings : List Reading) → AreGiven (λ place. give (suc place)) readings → AreGiven give (record { file = file; bytes = Some bytes } ∷ readings)
-          given readings others zero reading at = let same : record { file = file; bytes = Some bytes } ≡ reading = cc in subst (λ (r : Reading). r.bytes ≡ give zero r.file) same (sym is)
-          given readings others (suc place) reading at = others place reading at
 
       begun : (readings : List Reading) (o : Outcome) → AfterFile file Next readings o → map (λ reading. reading.file) readings ≡ take (length readings) (file ∷ files)
       begun [] o after = absurd after
@@ -289,86 +247,25 @@ module _ (file : List ℕ) (files : List (List ℕ)) (Next : List ℕ → List R
           by None unread (none, fault) = subst (λ rs. HasCause (reading ∷ rs) o) (sym none) (cause_unread reading file o is unread fault)
           by (Some bytes) read here = subst (λ (b : Option (List ℕ)). HasCause (record { file = reading.file; bytes = b } ∷ readings) o) (sym read) (cause_after reading.file bytes readings o ((read_proper on bytes).cause readings o here))
 
-  pub command_file : ((text : List ℕ) → length text ≤ MAX_TEXT_BYTES → IsCommand files (Next text)) → IsCommand (file ∷ files) (AfterFile file Next)
-  command_file on = record { proper = proper_file (λ text short. (on text short).proper); statuses = statuses }
-    where
-      statuses : (readings : List Reading) (o : Outcome) → AfterFile file Next readings o → IsOfCommand o.status
-      statuses [] o after = absurd after
-      statuses (reading ∷ readings) o (is, after) = by reading.bytes after
-        where
-          by : (b : Option (List ℕ)) → AfterRead file b Next readings o → IsOfCommand o.status
-          by None (none, fault) = subst (λ (p : Outcome). IsOfCommand p.status) (sym fault) tt
-          by (Some bytes) here = (command_after files (λ result. text_of file bytes ≡ result) Next (text_check file bytes) (λ text passed. on text (passed_short file bytes text passed))).statuses readings o here
-
 -- ---- an end
 
 module _ (IsEnd : Outcome → Type 0) where
   pub proper_ends : IsEnding IsEnd → IsProper [] (Ends IsEnd)
-  proper_ends end = record { one = one; some = some; begun = λ readings o ends. begun_none readings [] ends.0; cause = cause }
+  proper_ends end = record { one = one; begun = λ readings o ends. begun_none readings [] ends.0; cause = cause }
     where
       one : (readings others : List Reading) (o p : Outcome) → Ends IsEnd readings o → Ends IsEnd others p → AgreeOn readings others → o.status ≢ status.Memory → p.status ≢ status.Memory → AreAlike o p
       one readings others o p (none, inl is) (none_too, inl is_too) agree n m = end.one o p is is_too
       one readings others o p (none, inl is) (none_too, inr memory) agree n m = absurd (m (memory_status p memory))
       one readings others o p (none, inr memory) (none_too, either) agree n m = absurd (n (memory_status o memory))
 
-      some : (give : ℕ → List ℕ → Option (List ℕ)) → (readings : List Reading) × (outcome : Outcome) × Ends IsEnd readings outcome × AreGiven give readings × (outcome.status ≢ status.Memory)
-      some give = ([], end.some.0, (refl, inl end.some.1), given_none give, of_end_not end.some.0.status status.Memory (end.ends end.some.0 end.some.1) (λ is. is))
-
       cause : (readings : List Reading) (o : Outcome) → Ends IsEnd readings o → HasCause readings o
       cause readings o (none, inl is) =
           cause_here readings o none (of_end_not o.status status.ReadFault (end.ends o is) (λ is. is)) (of_end_not o.status status.WriteFault (end.ends o is) (λ is. is))
       cause readings o (none, inr memory) = cause_memory readings o none memory
 
-  pub command_ends : IsEnding IsEnd → IsCommand [] (Ends IsEnd)
-  command_ends end = record { proper = proper_ends end; statuses = statuses }
-    where
-      statuses : (readings : List Reading) (o : Outcome) → Ends IsEnd readings o → IsOfCommand o.status
-      statuses readings o (none, inl is) = end_is_command o.status (end.ends o is)
-      statuses readings o (none, inr memory) = subst IsOfCommand (sym (memory_status o memory)) tt
-
 -- an output that is one
-pub writes_ending : (IsOutput : List ℕ → Type 0) → ((s t : List ℕ) → IsOutput s → IsOutput t → s ≡ t) → (s : List ℕ) × IsOutput s → IsEnding (Writes IsOutput)
-writes_ending IsOutput only some = record {
+pub writes_ending : (IsOutput : List ℕ → Type 0) → ((s t : List ℕ) → IsOutput s → IsOutput t → s ≡ t) → IsEnding (Writes IsOutput)
+writes_ending IsOutput only = record {
   one = λ o p is is_too. alike o p (is.2 ∙ ap done (only is.0 is_too.0 is.1 is_too.1) ∙ sym is_too.2);
-  some = (done some.0, (some.0, some.1, refl));
   ends = λ o is. subst (λ (p : Outcome). IsOfEnd p.status) (sym is.2) tt;
 }
-
--- ---- words of no form
-
-abbrev no_words : List Reading → Outcome → Type 0
-no_words readings outcome = (readings ≡ []) × (outcome ≡ refusal status.Words usage_line)
-
-pub words_status : (o : Outcome) → o ≡ refusal status.Words usage_line → o.status ≡ status.Words
-words_status o is = ap (λ (o : Outcome). o.status) is
-
-pub words_proper : IsProper [] no_words
-words_proper = record {
-  one = λ readings others o p is is_too agree n m. alike o p (is.1 ∙ sym is_too.1);
-  some = λ give. ([], refusal status.Words usage_line, (refl, refl), given_none give, λ s. cc);
-  begun = λ readings o is. begun_none readings [] is.0;
-  cause = λ readings o is. cause_here readings o is.0 (not_read (words_status o is.1)) (not_written (words_status o is.1));
-}
-  where
-    not_read : {s : Status} → s ≡ status.Words → s ≡ status.ReadFault → ⊥
-    not_read a b = cc
-
-    not_written : {s : Status} → s ≡ status.Words → s ≡ status.WriteFault → ⊥
-    not_written a b = cc
-
--- ---- statuses of commands
-
-pub not_words : (s : Status) → IsOfCommand s → s ≢ status.Words
-not_words s is same = subst IsOfCommand same is
-
-pub answer_of_command : (s : Status) → IsOfCommand s → IsAnswer s
-answer_of_command status.Done is = tt
-answer_of_command status.ReadFault is = tt
-answer_of_command status.Netlist is = tt
-answer_of_command status.Machine is = tt
-answer_of_command status.Loop is = tt
-answer_of_command status.Overfull is = tt
-answer_of_command status.Stimulus is = tt
-answer_of_command status.Limit is = tt
-answer_of_command status.Memory is = tt
-answer_of_command _ is = absurd is

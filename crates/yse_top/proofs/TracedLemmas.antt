@@ -8,21 +8,30 @@ use Rattle.net_defs.specs.declared.netlist.Netlist.{Netlist}
 use Rattle.net_defs.specs.declared.stimulus.Stimulus.{Stimulus}
 use Rattle.net_defs.specs.Trace.{IsTrace}
 use Rattle.bench_read.specs.Reads as bench
+use Rattle.cmd_words.specs.declared.command.Command.{Command}
+use Rattle.cmd_words.specs.declared.command.Command.TheVariants as command
+use Rattle.cmd_words.specs.declared.command.RunWords.{RunWords}
+use Rattle.net_defs.specs.Valid.{input_count}
+use Rattle.stim_text.specs.declared.order.Order.{Order}
+use Rattle.stim_text.specs.Stimuli as stim
 use Rattle.machine_text.specs.declared.machine.Machine.{Machine}
 use Rattle.machine_text.specs.Machines.{default_machine}
 use Rattle.yse_top.specs.declared.output.Output.{Output}
+use Rattle.yse_top.specs.declared.output.Output.TheVariants as output
 use Rattle.yse_top.specs.declared.status.Status.{Status}
 use Rattle.yse_top.specs.declared.status.Status.TheVariants as status
-use Rattle.yse_top.specs.Checks.{After, AfterRead, AfterFile, Ends, Writes, text_of, IsMachineOf, IsNetlistOf, HasNoLoop, HasRoom, IsStimulusOf, HasFewCells}
-use Rattle.yse_top.specs.Expected.{Expected, ExpectedAsked}
+use Rattle.yse_top.specs.Checks.{After, AfterRead, AfterFile, Ends, Writes, text_of, IsMachineOf, IsNetlistOf, HasNoLoop, HasRoom, IsStimulusOf, HasFewCells, IsOrderOf}
+use Rattle.yse_top.specs.Expected.{ExpectedOf}
 use Rattle.yse_top.specs.Outcome.{Outcome, done, refusal}
 use Rattle.yse_top.specs.Lines.{too_long_line}
 use Rattle.yse_top.specs.Outputs.{bytes_of}
 use Rattle.yse_top.specs.Readings.{Reading}
-use Rattle.yse_top.specs.Refusals.{Follows}
+use Rattle.yse_top.specs.Refusals.{Follows, ended_with}
 use Rattle.yse_top.specs.Traced.{IsTraceOfFiles}
-use Rattle.yse_top.specs.Words.{Simulation, Request, run, refer, show, request_of, traced_by}
-use Rattle.yse_top.specs.commands.Run.{ExpectedRun, ExpectedOn, ExpectedRefer, ExpectedTrace}
+use Rattle.yse_top.specs.Orders.{EndsIn, EndsInOrder}
+use Rattle.yse_top.specs.Endings.{ending_in, status_after}
+use Rattle.yse_top.specs.Words.{traced_by}
+use Rattle.yse_top.specs.commands.Run.{AfterMachine, AfterStimulus, WritesTrace, EndsBy, ExpectedRun, ExpectedOn, ExpectedRefer}
 use Rattle.yse_top.proofs.ProperLemmas.{passes, refuses, refused_once, never_both}
 use Rattle.std.specs.Prelude.{nat_le, length, if◌then◌else◌}
 
@@ -80,62 +89,112 @@ module _ (bytes : Option (List ℕ → List ℕ)) where
               by_test true f = never_both read (done output) f
               by_test false f = not_done (refusal status.Limit (too_long_line file)) status.Limit output (sym (refused_once (refusal status.Limit (too_long_line file)) (done output) f)) refl (λ e. cc)
 
-  -- the trace of the rest of a simulation, once its netlist is read
-  module _ (s : Simulation) (netlist_text : List ℕ) (netlist_told : OfTold bytes s.netlist (λ told. netlist_text ≡ told)) (net : Netlist) (netlist_reads : bench.Reads netlist_text net) where
-    rest_traced : (readings : List Reading) (output : List ℕ) → AreTold readings → ExpectedTrace s.stimulus net s.timing readings (done output) → IsTraceOfFiles bytes output s
-    unfolding ExpectedTrace
-    rest_traced readings output are expected =
-        let second = gave s.stimulus (λ text. After (IsStimulusOf text net) (λ stimulus. After (HasFewCells net stimulus) (λ few. Ends (Writes (IsTrace net s.timing stimulus))))) readings output are expected in
-        let stimulus = passed (IsStimulusOf second.text net) (λ stimulus. After (HasFewCells net stimulus) (λ few. Ends (Writes (IsTrace net s.timing stimulus)))) second.others output (λ e. not_done _ status.Stimulus output e.2 refl (λ e. cc)) second.next in
-        let cells = passed (HasFewCells net stimulus.0) (λ few. Ends (Writes (IsTrace net s.timing stimulus.0))) second.others output (λ e. not_done _ status.Limit output e.1 refl (λ e. cc)) stimulus.2 in
-        record {
-          netlist_text = netlist_text;
-          netlist_told = netlist_told;
-          net = net;
-          netlist_reads = netlist_reads;
-          stimulus_text = second.text;
-          stimulus_told = second.told;
-          stimulus = stimulus.0;
-          stimulus_reads = stimulus.1;
-          trace = ended stimulus.0 second.others cells.2;
-        }
-      where
-        ended : (stimulus : Stimulus) (others : List Reading) → Ends (Writes (IsTrace net s.timing stimulus)) others (done output) → IsTrace net s.timing stimulus output
-        ended stimulus others (none, inl (text, is, same)) = subst (IsTrace net s.timing stimulus) (sym (ap (λ (o : Outcome). o.output) same)) is
-        ended stimulus others (none, inr memory) = absurd (not_done _ status.Memory output memory refl (λ e. cc))
+  -- ---- the trace, once the netlist and the stimulus are read
 
-  refer_traced : (s : Simulation) (readings : List Reading) (output : List ℕ) → AreTold readings → ExpectedRefer s readings (done output) → IsTraceOfFiles bytes output s
+  -- a netlist and a stimulus whose trace is the output
+  record Traces (words : RunWords) (net : Netlist) (output : List ℕ) : Type 0 where
+    stimulus_text : List ℕ
+    stimulus_told : OfTold bytes words.stimulus (λ told. stimulus_text ≡ told)
+    stimulus : Stimulus
+    stimulus_reads : stim.Reads (input_count net) stimulus_text stimulus
+    trace : IsTrace net words.timing stimulus output
+
+  written : (net : Netlist) (words : RunWords) (stimulus : Stimulus) (readings : List Reading) (output : List ℕ) → WritesTrace net words.timing stimulus readings (done output) → IsTrace net words.timing stimulus output
+  written net words stimulus readings output (none, inl (text, is, same)) = subst (IsTrace net words.timing stimulus) (sym (ap (λ (o : Outcome). o.output) same)) is
+  written net words stimulus readings output (none, inr memory) = absurd (not_done _ status.Memory output memory refl (λ e. cc))
+
+  ordered : (net : Netlist) (words : RunWords) (machine : Machine) (stimulus : Stimulus) (order : Order) (readings : List Reading) (output : List ℕ) → Ends (EndsInOrder order words.banks net machine words.timing stimulus) readings (done output) → IsTrace net words.timing stimulus output
+  ordered net words machine stimulus order readings output (none, inr memory) = absurd (not_done _ status.Memory output memory refl (λ e. cc))
+  ordered net words machine stimulus order readings output (none, inl is) = by is.ends
+    where
+      by : EndsIn net words.timing stimulus is.states is.image is.state (done output) → IsTrace net words.timing stimulus output
+      by (inl (all, same)) = record { states = is.states; simulation = is.simulation; printed = ap (λ (o : Outcome). o.output) same }
+      by (inr (some, same)) = absurd (not_done _ status.Unfinished output same refl (λ e. cc))
+
+  ends_traced : (order : Option (List ℕ)) (words : RunWords) (machine : Machine) (net : Netlist) (stimulus : Stimulus) (readings : List Reading) (output : List ℕ) → AreTold readings → EndsBy order words machine net stimulus readings (done output) → IsTrace net words.timing stimulus output
+  unfolding EndsBy
+  ends_traced None words machine net stimulus readings output are expected = written net words stimulus readings output expected
+  ends_traced (Some file) words machine net stimulus readings output are expected =
+      let first = gave file (λ text. After (IsOrderOf text machine) (λ order. Ends (EndsInOrder order words.banks net machine words.timing stimulus))) readings output are expected in
+      let order = passed (IsOrderOf first.text machine) (λ order. Ends (EndsInOrder order words.banks net machine words.timing stimulus)) first.others output (λ e. not_done _ status.OrderText output e.2 refl (λ e. cc)) first.next in
+      ordered net words machine stimulus order.0 first.others output order.2
+
+  stimulus_traced : (words : RunWords) (net : Netlist) (Next : Stimulus → List Reading → Outcome → Type 0) (output : List ℕ) → ((stimulus : Stimulus) (others : List Reading) → AreTold others → Next stimulus others (done output) → IsTrace net words.timing stimulus output)
+      → (readings : List Reading) → AreTold readings → AfterStimulus words.stimulus net Next readings (done output) → Traces words net output
+  unfolding AfterStimulus
+  stimulus_traced words net Next output on readings are expected =
+      let second = gave words.stimulus (λ text. After (IsStimulusOf text net) (λ stimulus. After (HasFewCells net stimulus) (λ few. Next stimulus))) readings output are expected in
+      let stimulus = passed (IsStimulusOf second.text net) (λ stimulus. After (HasFewCells net stimulus) (λ few. Next stimulus)) second.others output (λ e. not_done _ status.Stimulus output e.2 refl (λ e. cc)) second.next in
+      let cells = passed (HasFewCells net stimulus.0) (λ few. Next stimulus.0) second.others output (λ e. not_done _ status.Limit output e.1 refl (λ e. cc)) stimulus.2 in
+      record {
+        stimulus_text = second.text;
+        stimulus_told = second.told;
+        stimulus = stimulus.0;
+        stimulus_reads = stimulus.1;
+        trace = on stimulus.0 second.others second.are cells.2;
+      }
+
+  -- ---- commands
+
+  traced_files : (words : RunWords) (text : List ℕ) → OfTold bytes words.netlist (λ told. text ≡ told) → (net : Netlist) → bench.Reads text net → (output : List ℕ) → Traces words net output → IsTraceOfFiles bytes output words
+  traced_files words text told net reads output traces = record {
+    netlist_text = text;
+    netlist_told = told;
+    net = net;
+    netlist_reads = reads;
+    stimulus_text = traces.stimulus_text;
+    stimulus_told = traces.stimulus_told;
+    stimulus = traces.stimulus;
+    stimulus_reads = traces.stimulus_reads;
+    trace = traces.trace;
+  }
+
+  refer_traced : (words : RunWords) (readings : List Reading) (output : List ℕ) → AreTold readings → ExpectedRefer words readings (done output) → IsTraceOfFiles bytes output words
   unfolding ExpectedRefer
-  refer_traced s readings output are expected =
-      let first = gave s.netlist (λ text. After (IsNetlistOf text) (λ net. After (HasNoLoop net s.timing) (λ passed. ExpectedTrace s.stimulus net s.timing))) readings output are expected in
-      let netlist = passed (IsNetlistOf first.text) (λ net. After (HasNoLoop net s.timing) (λ passed. ExpectedTrace s.stimulus net s.timing)) first.others output (λ e. not_done _ status.Netlist output e.2 refl (λ e. cc)) first.next in
-      let order = passed (HasNoLoop netlist.0 s.timing) (λ passed. ExpectedTrace s.stimulus netlist.0 s.timing) first.others output (λ e. not_done _ status.Loop output e.2 refl (λ e. cc)) netlist.2 in
-      rest_traced s first.text first.told netlist.0 netlist.1 first.others output first.are order.2
+  refer_traced words readings output are expected =
+      let first = gave words.netlist (λ text. After (IsNetlistOf text) (λ net. After (HasNoLoop net words.timing) (λ passed. AfterStimulus words.stimulus net (WritesTrace net words.timing)))) readings output are expected in
+      let netlist = passed (IsNetlistOf first.text) (λ net. After (HasNoLoop net words.timing) (λ passed. AfterStimulus words.stimulus net (WritesTrace net words.timing))) first.others output (λ e. not_done _ status.Netlist output e.2 refl (λ e. cc)) first.next in
+      let order = passed (HasNoLoop netlist.0 words.timing) (λ passed. AfterStimulus words.stimulus netlist.0 (WritesTrace netlist.0 words.timing)) first.others output (λ e. not_done _ status.Loop output e.2 refl (λ e. cc)) netlist.2 in
+      traced_files words first.text first.told netlist.0 netlist.1 output
+      (stimulus_traced words netlist.0 (WritesTrace netlist.0 words.timing) output (λ stimulus others told next. written netlist.0 words stimulus others output next) first.others first.are order.2)
 
-  on_traced : (machine : Machine) (s : Simulation) (readings : List Reading) (output : List ℕ) → AreTold readings → ExpectedOn machine s readings (done output) → IsTraceOfFiles bytes output s
+  on_traced : (words : RunWords) (by : Option (List ℕ)) (machine : Machine) (readings : List Reading) (output : List ℕ) → AreTold readings → ExpectedOn words by machine readings (done output) → IsTraceOfFiles bytes output words
   unfolding ExpectedOn
-  on_traced machine s readings output are expected =
-      let first = gave s.netlist (λ text. After (IsNetlistOf text) (λ net. After (HasNoLoop net s.timing) (λ passed. After (HasRoom net machine s.timing) (λ fits. ExpectedTrace s.stimulus net s.timing)))) readings output are expected in
-      let netlist = passed (IsNetlistOf first.text) (λ net. After (HasNoLoop net s.timing) (λ passed. After (HasRoom net machine s.timing) (λ fits. ExpectedTrace s.stimulus net s.timing))) first.others output (λ e. not_done _ status.Netlist output e.2 refl (λ e. cc)) first.next in
-      let order = passed (HasNoLoop netlist.0 s.timing) (λ passed. After (HasRoom netlist.0 machine s.timing) (λ fits. ExpectedTrace s.stimulus netlist.0 s.timing)) first.others output (λ e. not_done _ status.Loop output e.2 refl (λ e. cc)) netlist.2 in
-      let room = passed (HasRoom netlist.0 machine s.timing) (λ fits. ExpectedTrace s.stimulus netlist.0 s.timing) first.others output (λ e. not_done _ status.Overfull output e.3 refl (λ e. cc)) order.2 in
-      rest_traced s first.text first.told netlist.0 netlist.1 first.others output first.are room.2
+  on_traced words by machine readings output are expected =
+      let first = gave words.netlist (λ text. After (IsNetlistOf text) (λ net. After (HasNoLoop net words.timing) (λ passed. After (HasRoom net machine words.timing) (λ fits. AfterStimulus words.stimulus net (EndsBy by words machine net))))) readings output are expected in
+      let netlist = passed (IsNetlistOf first.text) (λ net. After (HasNoLoop net words.timing) (λ passed. After (HasRoom net machine words.timing) (λ fits. AfterStimulus words.stimulus net (EndsBy by words machine net)))) first.others output (λ e. not_done _ status.Netlist output e.2 refl (λ e. cc)) first.next in
+      let order = passed (HasNoLoop netlist.0 words.timing) (λ passed. After (HasRoom netlist.0 machine words.timing) (λ fits. AfterStimulus words.stimulus netlist.0 (EndsBy by words machine netlist.0))) first.others output (λ e. not_done _ status.Loop output e.2 refl (λ e. cc)) netlist.2 in
+      let room = passed (HasRoom netlist.0 machine words.timing) (λ fits. AfterStimulus words.stimulus netlist.0 (EndsBy by words machine netlist.0)) first.others output (λ e. not_done _ status.Overfull output e.3 refl (λ e. cc)) order.2 in
+      traced_files words first.text first.told netlist.0 netlist.1 output
+      (stimulus_traced words netlist.0 (EndsBy by words machine netlist.0) output (λ stimulus others told next. ends_traced by words machine netlist.0 stimulus others output told next) first.others first.are room.2)
 
-  run_traced : (machine : Option (List ℕ)) (s : Simulation) (readings : List Reading) (output : List ℕ) → AreTold readings → ExpectedRun machine s readings (done output) → IsTraceOfFiles bytes output s
+  machine_traced : (words : RunWords) (file : Option (List ℕ)) (Next : Machine → List Reading → Outcome → Type 0) (output : List ℕ) → ((machine : Machine) (others : List Reading) → AreTold others → Next machine others (done output) → IsTraceOfFiles bytes output words)
+      → (readings : List Reading) → AreTold readings → AfterMachine file Next readings (done output) → IsTraceOfFiles bytes output words
+  unfolding AfterMachine
+  machine_traced words None Next output on readings are expected = on default_machine readings are expected
+  machine_traced words (Some file) Next output on readings are expected =
+      let first = gave file (λ text. After (IsMachineOf text) Next) readings output are expected in
+      let machine = passed (IsMachineOf first.text) Next first.others output (λ e. not_done _ status.Machine output e.2 refl (λ e. cc)) first.next in
+      on machine.0 first.others first.are machine.2
+
+  run_traced : (words : RunWords) (by : Option (List ℕ)) (readings : List Reading) (output : List ℕ) → AreTold readings → ExpectedRun words by readings (done output) → IsTraceOfFiles bytes output words
   unfolding ExpectedRun
-  run_traced None s readings output are expected = on_traced default_machine s readings output are expected
-  run_traced (Some file) s readings output are expected =
-      let first = gave file (λ text. After (IsMachineOf text) (λ machine. ExpectedOn machine s)) readings output are expected in
-      let machine = passed (IsMachineOf first.text) (λ machine. ExpectedOn machine s) first.others output (λ e. not_done _ status.Machine output e.2 refl (λ e. cc)) first.next in
-      on_traced machine.0 s first.others output first.are machine.2
+  run_traced words by readings output are expected =
+      machine_traced words words.machine (ExpectedOn words by) output (λ machine others told next. on_traced words by machine others output told next) readings are expected
 
-  asked_traced : (asked : Option Request) (readings : List Reading) (output : List ℕ) → AreTold readings → ExpectedAsked asked readings (done output) → IfSome (traced_by asked) (IsTraceOfFiles bytes output)
-  asked_traced None readings output are expected = tt
-  asked_traced (Some (run machine s)) readings output are expected = run_traced machine s readings output are expected
-  asked_traced (Some (refer s)) readings output are expected = refer_traced s readings output are expected
-  asked_traced (Some (show file)) readings output are expected = tt
+  command_traced : (command : Command) (readings : List Reading) (output : List ℕ) → AreTold readings → ExpectedOf command readings (done output) → IfSome (traced_by (Some command)) (IsTraceOfFiles bytes output)
+  command_traced (command.Run words) readings output are expected = run_traced words None readings output are expected
+  command_traced (command.Refer words) readings output are expected = refer_traced words readings output are expected
+  command_traced (command.Order words) readings output are expected = run_traced words words.order readings output are expected
+  command_traced (command.Show file) readings output are expected = tt
 
-  pub traced : (names : Option (List ℕ → Bool)) (old new : FileCounts) (words : List (List ℕ)) (output : Output) → Follows names bytes old new (Ok output) (Expected words) → IfSome (traced_by (request_of words)) (IsTraceOfFiles bytes (bytes_of output))
-  unfolding Expected
-  traced names old new words output follows =
-      asked_traced (request_of words) follows.readings (bytes_of output) (λ place reading at. (follows.are.each place reading at).whole) follows.expected
+  -- an output after which nothing is told is the whole one
+  whole_output : (output : Output) → status_after (ending_in output) ≡ status.Done → ended_with output ≡ done (bytes_of output)
+  whole_output (output.Text text) is = refl
+  whole_output (output.Trace trace) is = refl
+  whole_output (output.Unfinished trace ending) is = cc
+
+  pub traced : (names : Option (List ℕ → Bool)) (old new : FileCounts) (command : Command) (output : Output) → status_after (ending_in output) ≡ status.Done → Follows names bytes old new (Ok output) (ExpectedOf command) → IfSome (traced_by (Some command)) (IsTraceOfFiles bytes (bytes_of output))
+  traced names old new command output whole follows =
+      command_traced command follows.readings (bytes_of output) (λ place reading at. (follows.are.each place reading at).whole)
+      (subst (λ (o : Outcome). ExpectedOf command follows.readings o) (whole_output output whole) follows.expected)

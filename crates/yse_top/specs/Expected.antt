@@ -1,9 +1,10 @@
 -- What a whole call comes to, given the words and what was read: the chain of checks of its command.
-use Rattle.std.specs.Prelude.{◌≡◌, ℕ, List, [], Option, Some, None}
+use Rattle.std.specs.Prelude.{◌≡◌, ℕ, List, None, Result, Ok, Err}
 use Rattle.cmd_words.specs.declared.command.Command.{Command}
 use Rattle.cmd_words.specs.declared.command.Command.TheVariants as command
-use Rattle.cmd_words.specs.Asked.{asked}
+use Rattle.cmd_words.specs.Forms.{HasForm}
 use Rattle.yse_top.specs.declared.status.Status.TheVariants as status
+use Rattle.yse_top.specs.Checks.{After}
 use Rattle.yse_top.specs.Lines.{usage_line}
 use Rattle.yse_top.specs.Outcome.{Outcome, refusal}
 use Rattle.yse_top.specs.Readings.{Reading}
@@ -16,11 +17,11 @@ ExpectedOf (command.Refer words) readings outcome = ExpectedRefer words readings
 ExpectedOf (command.Order words) readings outcome = ExpectedRun words words.order readings outcome
 ExpectedOf (command.Show netlist) readings outcome = ExpectedShow netlist readings outcome
 
--- words of no form begin no file
-abbrev pub ExpectedAsked : Option Command → List Reading → Outcome → Type 0
-ExpectedAsked None readings outcome = (readings ≡ []) × (outcome ≡ refusal status.Words usage_line)
-ExpectedAsked (Some asked) readings outcome = ExpectedOf asked readings outcome
+-- the command of whose form the words are; words of no form are refused
+abbrev pub Asks : List (List ℕ) → Result Command Outcome → Type 0
+Asks words (Ok command) = HasForm words command
+Asks words (Err outcome) = ((command : Command) → HasForm words command → ⊥) × (outcome ≡ refusal status.Words usage_line)
 
 -- these words come to this outcome, where the files that are begun read as these readings, in their order
 unfoldable pub Expected : List (List ℕ) → List Reading → Outcome → Type 0
-Expected words = ExpectedAsked (asked words)
+Expected words = After (Asks words) ExpectedOf

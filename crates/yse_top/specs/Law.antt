@@ -59,5 +59,5 @@ HaveOutcomes = (words : List (List ℕ)) → order_named (asked words) ≡ None 
 -- they are of its form
 pub record TellsWords : Type 0 where
   pub refused : (words : List (List ℕ)) (readings : List Reading) (outcome : Outcome) → Expected words readings outcome
-      → (outcome.status ≡ ends.Words) ↔ (asked words ≡ None)
+      → outcome.status ≢ ends.Memory → (outcome.status ≡ ends.Words) ↔ (asked words ≡ None)
   pub forms : (words : List (List ℕ)) (command : Command) → (asked words ≡ Some command) ↔ HasForm words command

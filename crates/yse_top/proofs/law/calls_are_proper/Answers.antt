@@ -1,5 +1,6 @@
 -- The chain of each command, link by link.
-use Rattle.std.proofs.Common.{◌≡◌, ◌∙◌, ◌↔◌, ◌⊎◌, inl, inr, ◌≤◌, sym, refl, subst, ℕ, List, [], ◌∷◌, length, Option, Some, None, arith}
+use Rattle.std.proofs.Common.{◌≡◌, ◌∙◌, ◌↔◌, ◌⊎◌, inl, inr, ◌≢◌, ◌≤◌, sym, ap, refl, subst, ℕ, List, [], ◌∷◌, ◌++◌, length, Option, Some, None, Result, Ok, Err, arith}
+use Rattle.std.specs.Option.{option_to_list}
 use Rattle.limits.specs.declared.TheConstants.{MAX_TEXT_BYTES}
 use Rattle.machine_text.specs.declared.machine.Machine.{Machine}
 use Rattle.machine_text.specs.Machines as machine_text
@@ -8,7 +9,7 @@ use Rattle.net_defs.specs.Valid.{IsValid}
 use Rattle.yse_compile.specs.declared.compiler.CompNo.{CompNo}
 use Rattle.yse_compile.specs.declared.compiler.CompNo.TheVariants as comp_no
 use Rattle.yse_compile.specs.Compiled.{IsRight, IsOverfull}
-use Rattle.yse_compile.specs.Designs.{DesignFits, LacksBits, LacksSlots, LacksFunctions}
+use Rattle.yse_compile.specs.Designs.{DesignFits, IsAcyclic, LacksBits, LacksSlots, LacksFunctions}
 use Rattle.text_lines.specs.Answers.{IsReader}
 use Rattle.net_defs.specs.declared.netlist.Netlist.{Netlist}
 use Rattle.net_defs.specs.declared.stimulus.Stimulus.{Stimulus}
@@ -20,19 +21,30 @@ use Rattle.net_defs.specs.Trace.{IsTrace}
 use Rattle.net_defs.specs.Valid.{input_count}
 use Rattle.bench_read.specs.Faults as bench
 use Rattle.bench_read.specs.Reads as bench_reads
+use Rattle.stim_text.specs.declared.order.Order.{Order}
+use Rattle.stim_text.specs.Orders as orders
 use Rattle.stim_text.specs.Stimuli as stim
+use Rattle.cmd_words.specs.declared.command.Command.{Command}
+use Rattle.cmd_words.specs.declared.command.Command.TheVariants as command
+use Rattle.cmd_words.specs.declared.command.RunWords.{RunWords}
+use Rattle.cmd_words.specs.Asked.{asked}
 use Rattle.yse_top.specs.declared.status.Status.TheVariants as status
-use Rattle.yse_top.specs.Checks.{After, Ends, Writes, IsMachineOf, IsNetlistOf, HasNoLoop, HasRoom, IsStimulusOf, HasFewCells}
-use Rattle.yse_top.specs.Ends.{IsAnswer}
-use Rattle.yse_top.specs.Expected.{Expected, ExpectedOf, ExpectedAsked}
-use Rattle.yse_top.specs.Law.{IsProper}
-use Rattle.yse_top.specs.Lines.{machine_line, netlist_line, stimulus_line}
-use Rattle.yse_top.specs.Outcome.{Outcome}
+use Rattle.yse_top.specs.Checks.{After, Ends, Writes, IsMachineOf, IsNetlistOf, HasNoLoop, HasRoom, IsStimulusOf, HasFewCells, IsOrderOf, port_count}
+use Rattle.cmd_words.specs.Forms.{HasForm}
+use Rattle.yse_top.specs.declared.status.Status.{Status}
+use Rattle.yse_top.specs.Expected.{Expected, ExpectedOf, Asks}
+use Rattle.yse_top.specs.Law.{IsProper, HasOutcome}
+use Rattle.yse_top.specs.Lines.{usage_line, machine_line, netlist_line, stimulus_line, order_line}
+use Rattle.yse_top.specs.Outcome.{Outcome, refusal}
 use Rattle.yse_top.specs.Readings.{Reading}
-use Rattle.yse_top.specs.Words.{Request, run, refer, show, Simulation, request_of, files_of, files_named}
-use Rattle.yse_top.specs.commands.Run.{ExpectedRun, ExpectedOn, ExpectedRefer, ExpectedTrace}
+use Rattle.yse_top.specs.Orders.{EndsInOrder}
+use Rattle.yse_top.specs.Words.{files_of, files_named, order_named}
+use Rattle.yse_top.specs.commands.Run.{AfterMachine, AfterStimulus, WritesTrace, EndsBy, ExpectedRun, ExpectedOn, ExpectedRefer}
 use Rattle.yse_top.specs.commands.Show.{ExpectedShow}
-use Rattle.yse_top.proofs.ProperLemmas.{IsCheck, IsCommand, command_after, command_file, command_ends, writes_ending, words_proper, words_status, answer_of_command, not_words}
+use Rattle.yse_top.proofs.CommandLemmas.{IsCommand, command_after, command_file, command_ends, not_words}
+use Rattle.yse_top.proofs.OrderLemmas.{DecidesOrder, AreDoneAlike, order_ending}
+use Rattle.yse_top.proofs.OutcomeLemmas.{outcome_after, outcome_writes}
+use Rattle.yse_top.proofs.ProperLemmas.{IsCheck, IsAnswered, alike, memory_status, proper_after, writes_ending}
 use Rattle.yse_top.proofs.CheckLemmas.{reads_check, loop_check, IsRoomLaw, room_check, cells_check, trace_only, trace_some}
 use Rattle.yse_top.proofs.law.calls_are_proper.Goals as goal
 
@@ -45,9 +57,27 @@ record Laws : Type 0 where
   valid_netlists : (text : List ℕ) (net : Netlist) → length text ≤ MAX_TEXT_BYTES → bench_reads.Reads text net → IsValid net
   room : (net : Netlist) (machine : Machine) (timing : Timing) → IsValid net → IsValidMachine machine → ((loop : List ℕ) → IsLoop net timing loop → ⊥) → IsRoomLaw net machine timing
   stimuli : (inputs : ℕ) → IsReader (stim.Reads inputs) (stim.first_fault inputs)
+  orders : (ports : ℕ) → IsReader (orders.Reads ports) (orders.first_fault ports)
+  forms : (words : List (List ℕ)) (command : Command) → (asked words ≡ Some command) ↔ HasForm words command
+  decides : (order : Order) (banks : ℕ) (net : Netlist) (machine : Machine) (timing : Timing) (stimulus : Stimulus) → IsValid net → DecidesOrder order banks net machine timing stimulus
   order_or_loop : (net : Netlist) (timing : Timing) → OrderOrLoop net timing
   never_both : (net : Netlist) (timing : Timing) (order loop : List ℕ) → IsOrder net timing order → IsLoop net timing loop → ⊥
   one_simulation : (net : Netlist) (timing : Timing) (stimulus : Stimulus) → ((loop : List ℕ) → IsLoop net timing loop → ⊥) → HasOneSimulation net timing stimulus
+
+words_status : (o : Outcome) → o ≡ refusal status.Words usage_line → o.status ≡ status.Words
+words_status o is = ap (λ (o : Outcome). o.status) is
+
+not_memory : {s : Status} → s ≡ status.Words → s ≡ status.Memory → ⊥
+not_memory a b = cc
+
+not_read : {s : Status} → s ≡ status.Words → s ≡ status.ReadFault → ⊥
+not_read a b = cc
+
+not_written : {s : Status} → s ≡ status.Words → s ≡ status.WriteFault → ⊥
+not_written a b = cc
+
+none_some : {c : Command} → None ≡ Some c → ⊥
+none_some e = cc
 
 module _ (laws : Laws) where
   netlist_check : (text : List ℕ) → IsCheck (IsNetlistOf text)
@@ -60,63 +90,120 @@ module _ (laws : Laws) where
   stimulus_check text net =
       reads_check (stim.Reads (input_count net)) (stim.first_fault (input_count net)) (laws.stimuli (input_count net)) text status.Stimulus stimulus_line tt
 
-  trace_proper : (file : List ℕ) (net : Netlist) (timing : Timing) → ((loop : List ℕ) → IsLoop net timing loop → ⊥) → IsCommand (file ∷ []) (ExpectedTrace file net timing)
-  unfolding ExpectedTrace
-  trace_proper file net timing acyclic =
-      command_file file [] (λ text. After (IsStimulusOf text net) (λ stimulus. After (HasFewCells net stimulus) (λ few. Ends (Writes (IsTrace net timing stimulus))))) (λ text short.
-      command_after [] (IsStimulusOf text net) (λ stimulus. After (HasFewCells net stimulus) (λ few. Ends (Writes (IsTrace net timing stimulus)))) (stimulus_check text net) (λ stimulus is.
-      command_after [] (HasFewCells net stimulus) (λ few. Ends (Writes (IsTrace net timing stimulus))) (cells_check net stimulus) (λ few cells.
-      command_ends (Writes (IsTrace net timing stimulus)) (writes_ending (IsTrace net timing stimulus)
-      (trace_only net timing stimulus (laws.one_simulation net timing stimulus acyclic)) (trace_some net timing stimulus (laws.one_simulation net timing stimulus acyclic))))))
+  order_check : (text : List ℕ) (machine : Machine) → IsCheck (IsOrderOf text machine)
+  order_check text machine =
+      reads_check (orders.Reads (port_count machine)) (orders.first_fault (port_count machine)) (laws.orders (port_count machine)) text status.OrderText order_line tt
 
-  refer_proper : (s : Simulation) → IsCommand (s.netlist ∷ s.stimulus ∷ []) (ExpectedRefer s)
-  unfolding ExpectedRefer
-  refer_proper s =
-      command_file s.netlist (s.stimulus ∷ []) (λ text. After (IsNetlistOf text) (λ net. After (HasNoLoop net s.timing) (λ passed. ExpectedTrace s.stimulus net s.timing))) (λ text short.
-      command_after (s.stimulus ∷ []) (IsNetlistOf text) (λ net. After (HasNoLoop net s.timing) (λ passed. ExpectedTrace s.stimulus net s.timing)) (netlist_check text) (λ net is.
-      command_after (s.stimulus ∷ []) (HasNoLoop net s.timing) (λ passed. ExpectedTrace s.stimulus net s.timing) (loop_check net s.timing (laws.order_or_loop net s.timing) (laws.never_both net s.timing)) (λ passed acyclic.
-      trace_proper s.stimulus net s.timing acyclic)))
+  module _ (Settled : Type 0) where
+    trace_proper : (net : Netlist) (timing : Timing) (stimulus : Stimulus) → IsAcyclic net timing → IsCommand Settled [] (WritesTrace net timing stimulus)
+    trace_proper net timing stimulus acyclic =
+        let simulation = laws.one_simulation net timing stimulus acyclic in
+        let trace = trace_some net timing stimulus simulation in
+        command_ends Settled (Writes (IsTrace net timing stimulus)) (writes_ending (IsTrace net timing stimulus) (trace_only net timing stimulus simulation))
+        (λ settled. outcome_writes (IsTrace net timing stimulus) trace.0 trace.1)
 
-  on_proper : (machine : Machine) (s : Simulation) → IsValidMachine machine → IsCommand (s.netlist ∷ s.stimulus ∷ []) (ExpectedOn machine s)
+    stimulus_proper : (file : List ℕ) (files : List (List ℕ)) (net : Netlist) (Next : Stimulus → List Reading → Outcome → Type 0) → ((stimulus : Stimulus) → IsCommand Settled files (Next stimulus)) → IsCommand Settled (file ∷ files) (AfterStimulus file net Next)
+    unfolding AfterStimulus
+    stimulus_proper file files net Next on =
+        command_file Settled file files (λ text. After (IsStimulusOf text net) (λ stimulus. After (HasFewCells net stimulus) (λ few. Next stimulus))) (λ text short.
+        command_after Settled files (IsStimulusOf text net) (λ stimulus. After (HasFewCells net stimulus) (λ few. Next stimulus)) (stimulus_check text net) (λ stimulus is.
+        command_after Settled files (HasFewCells net stimulus) (λ few. Next stimulus) (cells_check net stimulus) (λ few cells. on stimulus)))
+
+    machine_proper : (file : Option (List ℕ)) (files : List (List ℕ)) (Next : Machine → List Reading → Outcome → Type 0) → ((machine : Machine) → IsValidMachine machine → IsCommand Settled files (Next machine)) → IsCommand Settled (option_to_list file ++ files) (AfterMachine file Next)
+    unfolding AfterMachine
+    machine_proper None files Next on = on default_machine laws.default_valid
+    machine_proper (Some file) files Next on =
+        command_file Settled file files (λ text. After (IsMachineOf text) Next) (λ text short.
+        command_after Settled files (IsMachineOf text) Next (machine_check text) (λ machine is. on machine (laws.valid_machines text machine is)))
+
+    refer_proper : (words : RunWords) → IsCommand Settled (words.netlist ∷ words.stimulus ∷ []) (ExpectedRefer words)
+    unfolding ExpectedRefer
+    refer_proper words =
+        command_file Settled words.netlist (words.stimulus ∷ []) (λ text. After (IsNetlistOf text) (λ net. After (HasNoLoop net words.timing) (λ passed. AfterStimulus words.stimulus net (WritesTrace net words.timing)))) (λ text short.
+        command_after Settled (words.stimulus ∷ []) (IsNetlistOf text) (λ net. After (HasNoLoop net words.timing) (λ passed. AfterStimulus words.stimulus net (WritesTrace net words.timing))) (netlist_check text) (λ net is.
+        command_after Settled (words.stimulus ∷ []) (HasNoLoop net words.timing) (λ passed. AfterStimulus words.stimulus net (WritesTrace net words.timing)) (loop_check net words.timing (laws.order_or_loop net words.timing) (laws.never_both net words.timing)) (λ passed acyclic.
+        stimulus_proper words.stimulus [] net (WritesTrace net words.timing) (λ stimulus. trace_proper net words.timing stimulus acyclic))))
+
+    show_proper : (file : List ℕ) → IsCommand Settled (file ∷ []) (ExpectedShow file)
+    unfolding ExpectedShow
+    show_proper file =
+        command_file Settled file [] (λ text. After (IsNetlistOf text) (λ net. Ends (Writes (λ output. output ≡ canonical_text net)))) (λ text short.
+        command_after Settled [] (IsNetlistOf text) (λ net. Ends (Writes (λ output. output ≡ canonical_text net))) (netlist_check text) (λ net is.
+        command_ends Settled (Writes (λ output. output ≡ canonical_text net)) (writes_ending (λ output. output ≡ canonical_text net) (λ s t e f. e ∙ sym f))
+        (λ settled. outcome_writes (λ output. output ≡ canonical_text net) (canonical_text net) refl)))
+
+  -- by rounds there is an outcome
+  ends_proper : (file : Option (List ℕ)) (words : RunWords) (machine : Machine) (net : Netlist) (stimulus : Stimulus) → IsValid net → IsAcyclic net words.timing → IsCommand (file ≡ None) (option_to_list file) (EndsBy file words machine net stimulus)
+  unfolding EndsBy
+  ends_proper None words machine net stimulus valid acyclic = trace_proper (None ≡ None) net words.timing stimulus acyclic
+  ends_proper (Some file) words machine net stimulus valid acyclic =
+      command_file (Some file ≡ None) file [] (λ text. After (IsOrderOf text machine) (λ order. Ends (EndsInOrder order words.banks net machine words.timing stimulus))) (λ text short.
+      command_after (Some file ≡ None) [] (IsOrderOf text machine) (λ order. Ends (EndsInOrder order words.banks net machine words.timing stimulus)) (order_check text machine) (λ order is.
+      command_ends (Some file ≡ None) (EndsInOrder order words.banks net machine words.timing stimulus)
+      (order_ending net words.timing stimulus order words.banks machine (laws.one_simulation net words.timing stimulus acyclic) (laws.decides order words.banks net machine words.timing stimulus valid))
+      (λ none. cc)))
+
+  on_proper : (words : RunWords) (order : Option (List ℕ)) (machine : Machine) → IsValidMachine machine → IsCommand (order ≡ None) (words.netlist ∷ words.stimulus ∷ option_to_list order) (ExpectedOn words order machine)
   unfolding ExpectedOn
-  on_proper machine s valid =
-      command_file s.netlist (s.stimulus ∷ []) (λ text. After (IsNetlistOf text) (λ net. After (HasNoLoop net s.timing) (λ passed. After (HasRoom net machine s.timing) (λ fits. ExpectedTrace s.stimulus net s.timing)))) (λ text short.
-      command_after (s.stimulus ∷ []) (IsNetlistOf text) (λ net. After (HasNoLoop net s.timing) (λ passed. After (HasRoom net machine s.timing) (λ fits. ExpectedTrace s.stimulus net s.timing))) (netlist_check text) (λ net is.
-      command_after (s.stimulus ∷ []) (HasNoLoop net s.timing) (λ passed. After (HasRoom net machine s.timing) (λ fits. ExpectedTrace s.stimulus net s.timing)) (loop_check net s.timing (laws.order_or_loop net s.timing) (laws.never_both net s.timing)) (λ passed acyclic.
-      command_after (s.stimulus ∷ []) (HasRoom net machine s.timing) (λ fits. ExpectedTrace s.stimulus net s.timing) (room_check net machine s.timing (laws.room net machine s.timing (laws.valid_netlists text net short is) valid acyclic)) (λ fits has.
-      trace_proper s.stimulus net s.timing acyclic))))
+  on_proper words order machine valid =
+      command_file (order ≡ None) words.netlist (words.stimulus ∷ option_to_list order) (λ text. After (IsNetlistOf text) (λ net. After (HasNoLoop net words.timing) (λ passed. After (HasRoom net machine words.timing) (λ fits. AfterStimulus words.stimulus net (EndsBy order words machine net))))) (λ text short.
+      command_after (order ≡ None) (words.stimulus ∷ option_to_list order) (IsNetlistOf text) (λ net. After (HasNoLoop net words.timing) (λ passed. After (HasRoom net machine words.timing) (λ fits. AfterStimulus words.stimulus net (EndsBy order words machine net)))) (netlist_check text) (λ net is.
+      command_after (order ≡ None) (words.stimulus ∷ option_to_list order) (HasNoLoop net words.timing) (λ passed. After (HasRoom net machine words.timing) (λ fits. AfterStimulus words.stimulus net (EndsBy order words machine net))) (loop_check net words.timing (laws.order_or_loop net words.timing) (laws.never_both net words.timing)) (λ passed acyclic.
+      command_after (order ≡ None) (words.stimulus ∷ option_to_list order) (HasRoom net machine words.timing) (λ fits. AfterStimulus words.stimulus net (EndsBy order words machine net)) (room_check net machine words.timing (laws.room net machine words.timing (laws.valid_netlists text net short is) valid acyclic)) (λ fits has.
+      stimulus_proper (order ≡ None) words.stimulus (option_to_list order) net (EndsBy order words machine net) (λ stimulus. ends_proper order words machine net stimulus (laws.valid_netlists text net short is) acyclic)))))
 
-  run_proper : (machine : Option (List ℕ)) (s : Simulation) → IsCommand (files_of (run machine s)) (ExpectedRun machine s)
+  run_proper : (words : RunWords) (order : Option (List ℕ)) → IsCommand (order ≡ None) (option_to_list words.machine ++ (words.netlist ∷ words.stimulus ∷ option_to_list order)) (ExpectedRun words order)
   unfolding ExpectedRun
-  run_proper None s = on_proper default_machine s laws.default_valid
-  run_proper (Some file) s =
-      command_file file (s.netlist ∷ s.stimulus ∷ []) (λ text. After (IsMachineOf text) (λ machine. ExpectedOn machine s)) (λ text short.
-      command_after (s.netlist ∷ s.stimulus ∷ []) (IsMachineOf text) (λ machine. ExpectedOn machine s) (machine_check text) (λ machine is.
-      on_proper machine s (laws.valid_machines text machine is)))
+  run_proper words order = machine_proper (order ≡ None) words.machine (words.netlist ∷ words.stimulus ∷ option_to_list order) (ExpectedOn words order) (on_proper words order)
 
-  show_proper : (file : List ℕ) → IsCommand (file ∷ []) (ExpectedShow file)
-  unfolding ExpectedShow
-  show_proper file =
-      command_file file [] (λ text. After (IsNetlistOf text) (λ net. Ends (Writes (λ output. output ≡ canonical_text net)))) (λ text short.
-      command_after [] (IsNetlistOf text) (λ net. Ends (Writes (λ output. output ≡ canonical_text net))) (netlist_check text) (λ net is.
-      command_ends (Writes (λ output. output ≡ canonical_text net)) (writes_ending (λ output. output ≡ canonical_text net) (λ s t e f. e ∙ sym f) (canonical_text net, refl))))
+  command_proper : (asked : Command) → IsCommand (order_named (Some asked) ≡ None) (files_of asked) (ExpectedOf asked)
+  command_proper (command.Run words) = run_proper words None
+  command_proper (command.Refer words) = refer_proper (None ≡ None) words
+  command_proper (command.Order words) = run_proper words words.order
+  command_proper (command.Show file) = show_proper (None ≡ None) file
 
-  request_proper : (request : Request) → IsCommand (files_of request) (ExpectedOf request)
-  request_proper (run machine s) = run_proper machine s
-  request_proper (refer s) = refer_proper s
-  request_proper (show file) = show_proper file
+  -- ---- words
 
-  asked_proper : (asked : Option Request) → IsProper (files_named asked) (ExpectedAsked asked)
-  asked_proper None = words_proper
-  asked_proper (Some request) = (request_proper request).proper
+  asked_as : (words : List (List ℕ)) (one : Command) → HasForm words one → asked words ≡ Some one
+  asked_as words one has = (laws.forms words one).1 has
 
-  asked_status : (asked : Option Request) (readings : List Reading) (outcome : Outcome) → ExpectedAsked asked readings outcome → IsAnswer outcome.status
-  asked_status None readings outcome is = subst IsAnswer (sym (words_status outcome is.1)) tt
-  asked_status (Some request) readings outcome is = answer_of_command outcome.status ((request_proper request).statuses readings outcome is)
+  words_check : (words : List (List ℕ)) → IsAnswered (Asks words)
+  words_check words = record {
+    values = λ x y has has_too. same x y (sym (asked_as words x has) ∙ asked_as words y has_too);
+    either = λ x o has refused. refused.0 x has;
+    refusals = λ o p refused refused_too. alike o p (refused.1 ∙ sym refused_too.1);
+    some = some (asked words) refl;
+    not_memory = λ o refused memory. not_memory (words_status o refused.1) memory;
+    not_read = λ o refused read. not_read (words_status o refused.1) read;
+    not_written = λ o refused written. not_written (words_status o refused.1) written;
+  }
+    where
+      same : (x y : Command) → Some x ≡ Some y → x ≡ y
+      same x y e = cc
 
-  asked_words : (asked : Option Request) (readings : List Reading) (outcome : Outcome) → ExpectedAsked asked readings outcome → (outcome.status ≡ status.Words) ↔ (asked ≡ None)
-  asked_words None readings outcome is = (λ s. refl, λ none. words_status outcome is.1)
-  asked_words (Some request) readings outcome is = (λ s. absurd (not_words outcome.status ((request_proper request).statuses readings outcome is) s), λ none. cc)
+      some : (o : Option Command) → asked words ≡ o → ((x : Command) × Asks words (Ok x)) ⊎ ((o : Outcome) × Asks words (Err o))
+      some None is = inr (refusal status.Words usage_line, (λ command has. none_some (sym is ∙ asked_as words command has)), refl)
+      some (Some command) is = inl (command, (laws.forms words command).0 is)
+
+  asked_proper : (words : List (List ℕ)) → IsProper (files_named (asked words)) (After (Asks words) ExpectedOf)
+  asked_proper words =
+      proper_after (files_named (asked words)) (Asks words) ExpectedOf (words_check words)
+      (λ command has. subst (λ a. IsProper (files_named a) (ExpectedOf command)) (sym (asked_as words command has)) (command_proper command).proper)
+
+  asked_some : (words : List (List ℕ)) → order_named (asked words) ≡ None → HasOutcome (After (Asks words) ExpectedOf)
+  asked_some words none =
+      outcome_after (Asks words) ExpectedOf (words_check words)
+      (λ command has. (command_proper command).some (subst (λ a. order_named a ≡ None) (asked_as words command has) none))
+
+  asked_words : (words : List (List ℕ)) (readings : List Reading) (outcome : Outcome) → After (Asks words) ExpectedOf readings outcome → outcome.status ≢ status.Memory → (outcome.status ≡ status.Words) ↔ (asked words ≡ None)
+  asked_words words readings outcome (inl (command, has, next)) other =
+      (λ s. absurd (not_words outcome.status ((command_proper command).statuses readings outcome next) s), λ none. absurd (none_some (sym none ∙ asked_as words command has)))
+  asked_words words readings outcome (inr (none, inl refused)) other = (λ s. no_command (asked words) refl, λ n. words_status outcome refused.1)
+    where
+      no_command : (o : Option Command) → asked words ≡ o → asked words ≡ None
+      no_command None is = is
+      no_command (Some command) is = absurd (refused.0 command ((laws.forms words command).0 is))
+  asked_words words readings outcome (inr (none, inr memory)) other = absurd (other (memory_status outcome memory))
 
 module _ {net : Netlist} {machine : Machine} {timing : Timing} where
   some_room : DesignFits net machine timing ⊎ ((why : CompNo) × IsRight net machine timing why × IsOverfull why) → DesignFits net machine timing ⊎ ((why : CompNo) × IsOverfull why × IsRight net machine timing why)
@@ -155,6 +242,9 @@ returns c =
       netlists = c.reads_or_faults.ensures.reader;
       stimuli = c.reads_or_faults-2.ensures.reader;
       machines = c.reads_or_faults-3.ensures.reader;
+      orders = c.reads_or_faults-4.ensures.reader;
+      forms = c.forms_are_asked.ensures;
+      decides = λ order banks net machine timing stimulus valid image other one two made made_too after after_too. cc;
       valid_machines = c.reads_as_valid.ensures;
       default_valid = default_is_valid;
       valid_netlists = c.texts_read_as_valid.ensures;
@@ -174,7 +264,10 @@ returns c =
       one_simulation = c.one_simulation.ensures.rank_order;
     } in
     record {
-      proper = λ words. asked_proper laws (request_of words);
-      words = λ words. asked_words laws (request_of words);
-      statuses = λ words. asked_status laws (request_of words);
+      proper = asked_proper laws;
+      outcomes = asked_some laws;
+      words = record {
+        refused = asked_words laws;
+        forms = c.forms_are_asked.ensures;
+      };
     }

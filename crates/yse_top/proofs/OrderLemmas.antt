@@ -1,0 +1,56 @@
+-- Where a run in an order ends is one outcome, whichever image the netlist was compiled to.
+use Rattle.std.proofs.Common.{◌≡◌, ◌∙◌, sym, ap, subst, ◌⊎◌, inl, inr, ℕ, ◌≤◌, List}
+use Rattle.machine_text.specs.declared.machine.Machine.{Machine}
+use Rattle.net_defs.specs.declared.netlist.Netlist.{Netlist}
+use Rattle.net_defs.specs.declared.stimulus.Stimulus.{Stimulus}
+use Rattle.net_defs.specs.declared.timing.Timing.{Timing}
+use Rattle.net_defs.specs.Reference.{HasOneSimulation}
+use Rattle.net_defs.specs.Steps.{State}
+use Rattle.net_defs.specs.Time.{cycle_count, turn_count}
+use Rattle.net_defs.specs.Trace.{trace_to}
+use Rattle.image_defs.specs.declared.image.Image.{Image}
+use Rattle.event_defs.specs.Steps.{CoreState, AllDone, rows_done}
+use Rattle.stim_text.specs.declared.order.Order.{Order}
+use Rattle.yse_top.specs.Orders.{IsMachineImage, IsAfterOrder, EndsIn, EndsInOrder}
+use Rattle.yse_top.specs.Outcome.{Outcome, done, unfinished}
+use Rattle.yse_top.proofs.ProperLemmas.{IsEnding, IsOfEnd, alike}
+
+-- two states of which all that is printed is the same
+pub record AreDoneAlike (until : ℕ) (image other : Image) (one two : CoreState) : Type 0 where
+  pub there : AllDone image until one → AllDone other until two
+  pub back : AllDone other until two → AllDone image until one
+  pub rows : rows_done image one ≡ rows_done other two
+
+-- the state after an order decides, for all images of the netlist, what is done
+abbrev pub DecidesOrder : Order → ℕ → Netlist → Machine → Timing → Stimulus → Type 0
+DecidesOrder order banks net machine timing stimulus =
+    (image other : Image) (one two : CoreState) → IsMachineImage net machine timing image → IsMachineImage net machine timing other
+    → IsAfterOrder order banks timing stimulus image one → IsAfterOrder order banks timing stimulus other two
+    → AreDoneAlike (turn_count timing stimulus) image other one two
+
+module _ (net : Netlist) (timing : Timing) (stimulus : Stimulus) where
+  -- the trace of some rows
+  abbrev to : List State → ℕ → List ℕ
+  to states rows = trace_to net timing states rows
+
+  ends_one : (states others : List State) (image other : Image) (one two : CoreState) (o p : Outcome) → states ≡ others → AreDoneAlike (turn_count timing stimulus) image other one two
+      → EndsIn net timing stimulus states image one o → EndsIn net timing stimulus others other two p → o ≡ p
+  ends_one states others image other one two o p same alike_states (inl (all, is)) (inl (all_too, is_too)) =
+      is ∙ ap (λ s. done (to s (cycle_count stimulus))) same ∙ sym is_too
+  ends_one states others image other one two o p same alike_states (inl (all, is)) (inr (some, is_too)) = absurd (some (alike_states.there all))
+  ends_one states others image other one two o p same alike_states (inr (some, is)) (inl (all, is_too)) = absurd (some (alike_states.back all))
+  ends_one states others image other one two o p same alike_states (inr (some, is)) (inr (some_too, is_too)) =
+      is ∙ ap (λ s. unfinished (rows_done image one) (cycle_count stimulus) (to s (rows_done image one))) same
+      ∙ ap (λ rows. unfinished rows (cycle_count stimulus) (to others rows)) alike_states.rows ∙ sym is_too
+
+  ends_status : (states : List State) (image : Image) (state : CoreState) (o : Outcome) → EndsIn net timing stimulus states image state o → IsOfEnd o.status
+  ends_status states image state o (inl (all, is)) = subst (λ (p : Outcome). IsOfEnd p.status) (sym is) tt
+  ends_status states image state o (inr (some, is)) = subst (λ (p : Outcome). IsOfEnd p.status) (sym is) tt
+
+  pub order_ending : (order : Order) (banks : ℕ) (machine : Machine) → HasOneSimulation net timing stimulus → DecidesOrder order banks net machine timing stimulus → IsEnding (EndsInOrder order banks net machine timing stimulus)
+  order_ending order banks machine simulation decides = record {
+    one = λ o p is is_too. alike o p (ends_one is.states is_too.states is.image is_too.image is.state is_too.state o p
+        (simulation.only is.states is.simulation ∙ sym (simulation.only is_too.states is_too.simulation))
+        (decides is.image is_too.image is.state is_too.state is.made is_too.made is.after is_too.after) is.ends is_too.ends);
+    ends = λ o is. ends_status is.states is.image is.state o is.ends;
+  }
