@@ -12,10 +12,9 @@ use Rattle.net_defs.specs.declared.stimulus.Stimulus.{Stimulus}
 use Rattle.net_defs.specs.declared.trace.CellRow.{CellRow}
 use Rattle.net_defs.specs.declared.trace.Rows.{Rows}
 use Rattle.net_defs.specs.Time.{cycle_count}
-use Rattle.net_defs.specs.Trace.{cells_of}
+use Rattle.net_defs.specs.Trace.{header_line, cells_of, trace_to, IsTrace}
 use Rattle.image_defs.specs.declared.image.Image.{Image}
 use Rattle.image_defs.specs.Frames.{shown}
-use Rattle.image_defs.specs.Ports.{PortView}
 use Rattle.machine_text.specs.declared.machine.Machine.{Machine}
 use Rattle.net_defs.specs.Valid.{input_count}
 use Rattle.node_defs.specs.WellFormed.{column_count}
@@ -29,7 +28,8 @@ use Rattle.yse_top.specs.Images.{IsImageOf, AreShown}
 use Rattle.net_defs.specs.Valid.{IsValidStimulus}
 use Rattle.seen_list.specs.Filling.{Filling}
 use Rattle.trace_text.specs.Line.{HasRoom}
-use Rattle.yse_top.specs.Outputs.{ArePrinted, CanPrint}
+use Rattle.yse_top.specs.Outputs.{CanPrint, cycle_lines}
+use Rattle.yse_top.proofs.TraceLemmas.{printed_front}
 
 -- lists of values that agree at each place
 same_values : (xs ys : List V4) → length xs ≡ length ys → ((j : ℕ) → j < length xs → value_at xs j ≡ value_at ys j) → xs ≡ ys
@@ -40,27 +40,27 @@ same_values (x ∷ xs) (y ∷ ys) long same =
     let first : x ≡ y = same zero (omega arith) in
     ap (λ v. v ∷ xs) first ∙ ap (λ vs. y ∷ vs) (same_values xs ys (omega (arith, long)) (λ j low. same (suc j) (omega (arith, low))))
 
-pub shown_none : (view : PortView) → AreShown view 0 []
-shown_none view = record {
+pub shown_none : (image : Image) (stimulus : Stimulus) → AreShown image stimulus 0 []
+shown_none image stimulus = record {
   cycles_are = refl;
   width = λ c row at. (let low = slice_get_within {A = CellRow} [] c row at in absurd (omega (arith, low)));
   cells = λ c j row at low. (let past = slice_get_within {A = CellRow} [] c row at in absurd (omega (arith, past)));
 }
 
 -- the row of one more cycle
-pub shown_more : (view : PortView) (n : ℕ) (rows : List CellRow) (cells : List V4) → AreShown view n rows → length cells ≡ length (printed_sources view.image)
-    → ((j : ℕ) → j < length cells → value_at cells j ≡ shown view.image view.stimulus (n + 1) j) → AreShown view (n + 1) (rows ++ record { cells = cells } ∷ [])
-shown_more view n rows cells so_far wide are = record {
+pub shown_more : (image : Image) (stimulus : Stimulus) (n : ℕ) (rows : List CellRow) (cells : List V4) → AreShown image stimulus n rows → length cells ≡ length (printed_sources image)
+    → ((j : ℕ) → j < length cells → value_at cells j ≡ shown image stimulus (n + 1) j) → AreShown image stimulus (n + 1) (rows ++ record { cells = cells } ∷ [])
+shown_more image stimulus n rows cells so_far wide are = record {
   cycles_are = length_push rows (record { cells = cells }) ∙ ap (λ k. k + 1) so_far.cycles_are;
   width = λ c row at. elim (cases_lt c (length rows)) [
     | inl inside ↦ so_far.width c row (sym (at_front rows (record { cells = cells } ∷ []) c inside) ∙ at)
-    | inr past ↦ subst (λ (r : CellRow). length r.cells ≡ length (printed_sources view.image)) (sym (last c row past at).1) wide
+    | inr past ↦ subst (λ (r : CellRow). length r.cells ≡ length (printed_sources image)) (sym (last c row past at).1) wide
   ];
   cells = λ c j row at low. elim (cases_lt c (length rows)) [
     | inl inside ↦ so_far.cells c j row (sym (at_front rows (record { cells = cells } ∷ []) c inside) ∙ at) low
     | inr past ↦
         let is = last c row past at in
-        ap (λ (r : CellRow). value_at r.cells j) is.1 ∙ are j (omega (arith, low, wide)) ∙ ap (λ k. shown view.image view.stimulus (k + 1) j) (sym is.0)
+        ap (λ (r : CellRow). value_at r.cells j) is.1 ∙ are j (omega (arith, low, wide)) ∙ ap (λ k. shown image stimulus (k + 1) j) (sym is.0)
   ];
 } where
   last : (c : ℕ) (row : CellRow) → length rows ≤ c → slice_get (rows ++ record { cells = cells } ∷ []) c ≡ Some row → (c ≡ n) × (row ≡ record { cells = cells })
@@ -69,26 +69,30 @@ shown_more view n rows cells so_far wide are = record {
       let here : c ≡ length rows = omega (arith, low, past, length_push rows (record { cells = cells })) in
       (here ∙ so_far.cycles_are, cc (ap (slice_get (rows ++ record { cells = cells } ∷ [])) here, seam_at {X = CellRow} rows (record { cells = cells }) [], at))
 
--- what is shown of all cycles is the trace's
-pub printed_shown : (net : Netlist) (timing : Timing) (stimulus : Stimulus) (image : Image) (view : PortView) (rows : Rows) → IsImageOf net timing image → view.image ≡ image → view.stimulus ≡ stimulus → AreShown view (cycle_count stimulus) rows.rows → ArePrinted net timing stimulus rows
-printed_shown net timing stimulus image view rows of image_is stimulus_is are = record {
+-- what is shown of the first cycles are the trace's cells
+pub cells_shown : (net : Netlist) (timing : Timing) (stimulus : Stimulus) (image : Image) (n : ℕ) (rows : List CellRow) (of : IsImageOf net timing image) → AreShown image stimulus n rows → n ≤ cycle_count stimulus
+    → (c : ℕ) (row : CellRow) → slice_get rows c ≡ Some row → row.cells ≡ cells_of net timing (of.shows stimulus).states (c + 1)
+cells_shown net timing stimulus image n rows of are few c row at =
+    let low = slice_get_within rows c row at in
+    let wide = are.width c row at ∙ of.printed in
+    same_values row.cells (cells_of net timing (of.shows stimulus).states (c + 1)) (wide ∙ sym (length-map net.printed _)) (λ j inside.
+    are.cells c j row at (omega (arith, inside, are.width c row at))
+    ∙ (of.shows stimulus).cells (c + 1) j (omega (arith, low, are.cycles_are, few)) (omega (arith, inside, wide)))
+
+-- the header and the rows of the first cycles are the trace up to them
+pub front_shown : (net : Netlist) (timing : Timing) (stimulus : Stimulus) (image : Image) (n : ℕ) (rows : List CellRow) (of : IsImageOf net timing image) → AreShown image stimulus n rows → n ≤ cycle_count stimulus
+    → header_line net ++ cycle_lines rows ≡ trace_to net timing (of.shows stimulus).states n
+front_shown net timing stimulus image n rows of are few =
+    printed_front net timing (of.shows stimulus).states n rows are.cycles_are (cells_shown net timing stimulus image n rows of are few)
+
+-- and those of all cycles are the trace
+pub trace_shown : (net : Netlist) (timing : Timing) (stimulus : Stimulus) (image : Image) (rows : List CellRow) → IsImageOf net timing image → AreShown image stimulus (cycle_count stimulus) rows
+    → IsTrace net timing stimulus (header_line net ++ cycle_lines rows)
+trace_shown net timing stimulus image rows of are = record {
   states = (of.shows stimulus).states;
   simulation = (of.shows stimulus).simulation;
-  cells = record {
-    cycles = are.cycles_are;
-    cells = cells;
-  };
-} where
-  wide : length (printed_sources view.image) ≡ length net.printed
-  wide = ap (λ i. length (printed_sources i)) image_is ∙ of.printed
-
-  cells : (c : ℕ) (row : CellRow) → slice_get rows.rows c ≡ Some row → row.cells ≡ cells_of net timing (of.shows stimulus).states (c + 1)
-  cells c row at =
-      let low = slice_get_within rows.rows c row at in
-      same_values row.cells (cells_of net timing (of.shows stimulus).states (c + 1)) (are.width c row at ∙ wide ∙ sym (length-map net.printed _)) (λ j inside.
-      are.cells c j row at (omega (arith, inside, are.width c row at))
-      ∙ ap (λ i. shown i view.stimulus (c + 1) j) image_is ∙ ap (λ s. shown image s (c + 1) j) stimulus_is
-      ∙ (of.shows stimulus).cells (c + 1) j (omega (arith, low, are.cycles_are)) (omega (arith, inside, are.width c row at, wide)))
+  printed = front_shown net timing stimulus image (cycle_count stimulus) rows of are (omega arith);
+}
 
 -- the image of a compiled netlist is one of the netlist
 pub image_of : (net : Netlist) (machine : Machine) (timing : Timing) (compiled : Compiled) → IsCompiled net machine timing compiled → column_count compiled.nodes ≡ input_count net → ((stimulus : Stimulus) → ShowsReference net timing stimulus compiled.image) → IsImageOf net timing compiled.image
@@ -105,11 +109,11 @@ image_of net machine timing compiled is inputs shows = record {
   printed : length (printed_sources compiled.image) ≡ length net.printed
   printed = rw host.1 ((is.built.matches.printed host.0 host.1).as_many ∙ is.items.printed.each)
 
--- the rows of a run fit the line
-pub shown_prints : (net : Netlist) (timing : Timing) (stimulus : Stimulus) (image : Image) (view : PortView) (rows : Rows) (line : Filling) → HasRoom net line → IsValidStimulus stimulus → IsImageOf net timing image → view.image ≡ image → AreShown view (cycle_count stimulus) rows.rows
+-- the rows of the first cycles fit the line
+pub shown_prints : (net : Netlist) (timing : Timing) (stimulus : Stimulus) (image : Image) (n : ℕ) (rows : Rows) (line : Filling) → HasRoom net line → IsValidStimulus stimulus → IsImageOf net timing image → AreShown image stimulus n rows.rows → n ≤ cycle_count stimulus
     → CanPrint (record { net = net; rows = rows; line = line })
-shown_prints net timing stimulus image view rows line room valid of image_is are = record {
+shown_prints net timing stimulus image n rows line room valid of are few = record {
   room = room;
-  cells = λ c row at. are.width c row at ∙ ap (λ i. length (printed_sources i)) image_is ∙ of.printed;
-  cycles = omega (arith, are.cycles_are, valid.cycles);
+  cells = λ c row at. are.width c row at ∙ of.printed;
+  cycles = omega (arith, are.cycles_are, valid.cycles, few);
 }

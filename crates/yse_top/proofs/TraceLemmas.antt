@@ -7,7 +7,9 @@ use Rattle.net_defs.specs.declared.timing.Timing.{Timing}
 use Rattle.net_defs.specs.declared.stimulus.Stimulus.{Stimulus}
 use Rattle.net_defs.specs.declared.trace.CellRow.{CellRow}
 use Rattle.net_defs.specs.declared.trace.Rows.{Rows}
-use Rattle.net_defs.specs.Trace.{header_line, cycle_line, cells_of, IsTrace}
+use Rattle.net_defs.specs.Steps.{State}
+use Rattle.net_defs.specs.Time.{cycle_count}
+use Rattle.net_defs.specs.Trace.{header_line, cycle_line, cells_of, trace_to, IsTrace}
 use Rattle.yse_top.specs.Outputs.{ArePrinted, cycle_lines}
 
 -- lines of rows from a cycle on, whose cells f says
@@ -23,14 +25,19 @@ lines_from f (row ∷ rows) n cells =
     later : (c : ℕ) → n + suc c ≡ n + 1 + c
     later c = omega arith
 
--- the header and the lines of the printed values are the trace of the reference simulation
+-- the header and the lines of the first cycles' printed values are the trace up to them
+pub printed_front : (net : Netlist) (timing : Timing) (states : List State) (n : ℕ) (rows : List CellRow) → length rows ≡ n → ((c : ℕ) (row : CellRow) → slice_get rows c ≡ Some row → row.cells ≡ cells_of net timing states (c + 1))
+    → header_line net ++ cycle_lines rows ≡ trace_to net timing states n
+printed_front net timing states n rows many cells =
+    ap (λ lines. header_line net ++ lines)
+    (lines_from (λ c. cells_of net timing states (c + 1)) rows 0
+    (λ c row at. cells c row at ∙ ap (λ k. cells_of net timing states (k + 1)) (sym (zero-add c)))
+    ∙ ap (λ count. flat_map (λ c. cycle_line (c + 1) (cells_of net timing states (c + 1))) (range_with_len 0 count)) many)
+
+-- those of all cycles are the trace of the reference simulation
 pub printed_is_trace : (net : Netlist) (timing : Timing) (stimulus : Stimulus) (rows : Rows) → ArePrinted net timing stimulus rows → IsTrace net timing stimulus (header_line net ++ cycle_lines rows.rows)
 printed_is_trace net timing stimulus rows printed = record {
   states = printed.states;
   simulation = printed.simulation;
-  printed =
-      ap (λ lines. header_line net ++ lines)
-      (lines_from (λ c. cells_of net timing printed.states (c + 1)) rows.rows 0
-      (λ c row at. printed.cells.cells c row at ∙ ap (λ k. cells_of net timing printed.states (k + 1)) (sym (zero-add c)))
-      ∙ ap (λ count. flat_map (λ c. cycle_line (c + 1) (cells_of net timing printed.states (c + 1))) (range_with_len 0 count)) printed.cells.cycles);
+  printed = printed_front net timing printed.states (cycle_count stimulus) rows.rows printed.cells.cycles printed.cells.cells;
 }

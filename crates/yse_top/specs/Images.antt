@@ -7,7 +7,6 @@ use Rattle.net_defs.specs.Valid.{input_count}
 use Rattle.image_defs.specs.declared.image.Image.{Image}
 use Rattle.image_defs.specs.WellFormed.{IsWellFormed}
 use Rattle.image_defs.specs.Frames.{shown}
-use Rattle.image_defs.specs.Ports.{PortView}
 use Rattle.port_host.specs.Rows.{printed_sources}
 use Rattle.yse_compile.specs.Compiled.{ShowsReference}
 use Rattle.net_defs.specs.declared.trace.CellRow.{CellRow}
@@ -22,8 +21,8 @@ pub record IsImageOf (net : Netlist) (timing : Timing) (image : Image) : Type 0 
   pub printed : length (printed_sources image) ≡ length net.printed
   pub shows : (stimulus : Stimulus) → ShowsReference net timing stimulus image
 
--- the rows of the first cycles, one for each, with the cells that the image of a port shows
-pub record AreShown (view : PortView) (cycles : ℕ) (rows : List CellRow) : Type 0 where
+-- the rows of the first cycles, one for each, with the cells that the image shows
+pub record AreShown (image : Image) (stimulus : Stimulus) (cycles : ℕ) (rows : List CellRow) : Type 0 where
   pub cycles_are : length rows ≡ cycles
-  pub width : (c : ℕ) (row : CellRow) → slice_get rows c ≡ Some row → length row.cells ≡ length (printed_sources view.image)
-  pub cells : (c j : ℕ) (row : CellRow) → slice_get rows c ≡ Some row → j < length (printed_sources view.image) → value_at row.cells j ≡ shown view.image view.stimulus (c + 1) j
+  pub width : (c : ℕ) (row : CellRow) → slice_get rows c ≡ Some row → length row.cells ≡ length (printed_sources image)
+  pub cells : (c j : ℕ) (row : CellRow) → slice_get rows c ≡ Some row → j < length (printed_sources image) → value_at row.cells j ≡ shown image stimulus (c + 1) j

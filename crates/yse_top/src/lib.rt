@@ -18,6 +18,7 @@ ghost use Rattle.yse_top.specs.Writing.{TakesLine};
 mod checks;
 mod commands;
 mod diagnostics;
+mod ending;
 pub mod law;
 mod order_lines;
 mod output;
@@ -28,11 +29,13 @@ mod status;
 #[cfg(test)]
 mod tests;
 
+use cmd_words::law::forms_are_asked;
+use cmd_words::{WordNo, read_words};
 use commands::prepare;
-use diagnostics::{refuse, tell_write_fault};
+use diagnostics::refuse;
 use edge_io::{Files, Sink};
+use ending::end;
 use law::calls_are_proper;
-use output::write_output;
 use refusal::Refusal;
 pub use status::Status;
 use std::alloc::Global;
@@ -71,7 +74,8 @@ pub fn yse<F: Files, O: Sink, E: Sink>(
         → (Rose (O.faults out.old) (O.faults out.new) → ⊥)
         → IsDoneOrMemory result }
 
-    ensures words { (result ≡ Status.Words) ↔ (asked (map string_bytes words.now) ≡ None) }
+    // Words are refused exactly where they are of no form, unless memory ran out.
+    ensures words { result ≢ Status.Memory → (result ≡ Status.Words) ↔ (asked (map string_bytes words.now) ≡ None) }
 
     // No call of a sink at all.
     ensures no_output { (MayWrite result → ⊥) → out.new ≡ out.old }
@@ -86,13 +90,10 @@ pub fn yse<F: Files, O: Sink, E: Sink>(
 {
     calls_are_proper();
     match read_words(alloc, words) {
-        Ok(command) => {
-            forms_are_in_range();
-            match prepare(alloc, &command, files) {
-                Ok(output) => end(out, err, output),
-                Err(refusal) => refuse(err, refusal),
-            }
-        }
+        Ok(command) => match prepare(alloc, &command, files) {
+            Ok(output) => end(out, err, output),
+            Err(refusal) => refuse(err, refusal),
+        },
         Err(WordNo::Usage) => refuse(err, Refusal::Words),
         Err(WordNo::Memory) => refuse(err, Refusal::Memory),
     }

@@ -8,7 +8,7 @@ use Rattle.yse_top.specs.Checks.{After, Ends, Writes, IsStimulusOf, HasFewCells}
 use Rattle.yse_top.specs.Outcome.{Outcome}
 use Rattle.yse_top.specs.Outputs.{cycle_lines}
 use Rattle.yse_top.specs.Readings.{Reading}
-use Rattle.yse_top.specs.commands.Run.{ExpectedTrace}
+use Rattle.yse_top.specs.commands.Run.{AfterStimulus}
 use Rattle.yse_top.proofs.ChainLemmas.{follows_file, follows_on, follows_here}
 use Rattle.yse_top.proofs.TraceLemmas.{printed_is_trace}
 use Rattle.yse_top.proofs.commands.refer.simulate.Goals as goal
@@ -24,7 +24,7 @@ module _ (net : Netlist) (timing : Timing) where
   of_text text = After (IsStimulusOf text net) of_stimulus
 
 pub returns-in-Ok-printed-clause-expected : goal.returns-in-Ok-printed-clause-expected
-unfolding ExpectedTrace
+unfolding AfterStimulus
 returns-in-Ok-printed-clause-expected g c =
     let e = rw c.as_slice.ensures at c.in-Ok-stimulus_of.ensures in
     let trace = c.in-Ok-printed.trace in

@@ -1,40 +1,30 @@
--- What the host keeps is the trace.
-use Rattle.std.proofs.Common.{List, ℕ, refl, inl, sym, subst, ◌++◌}
+-- The run is expected after the stimulus and the cells.
+use Rattle.std.proofs.Common.{List, ℕ, Option, refl, inr}
+use Rattle.std.specs.Option.{option_map}
 use Rattle.net_defs.specs.declared.netlist.Netlist.{Netlist}
 use Rattle.net_defs.specs.declared.stimulus.Stimulus.{Stimulus}
-use Rattle.net_defs.specs.declared.timing.Timing.{Timing}
-use Rattle.net_defs.specs.Trace.{header_line, IsTrace}
-use Rattle.yse_top.specs.Checks.{After, Ends, Writes, IsStimulusOf, HasFewCells}
+use Rattle.yse_top.specs.Checks.{After, IsStimulusOf, HasFewCells}
 use Rattle.yse_top.specs.Outcome.{Outcome}
-use Rattle.yse_top.specs.Outputs.{cycle_lines}
 use Rattle.yse_top.specs.Readings.{Reading}
-use Rattle.yse_top.specs.commands.Run.{ExpectedTrace}
+use Rattle.yse_top.specs.commands.Run.{AfterStimulus, EndsBy}
 use Rattle.yse_top.proofs.ChainLemmas.{follows_file, follows_on, follows_here}
-use Rattle.yse_top.proofs.TraceLemmas.{printed_is_trace}
 use Rattle.yse_top.proofs.commands.run.execute.Goals as goal
 
-module _ (net : Netlist) (timing : Timing) where
-  abbrev of_cells : Stimulus → List Reading → Outcome → Type 0
-  of_cells stimulus = Ends (Writes (IsTrace net timing stimulus))
-
+module _ (net : Netlist) (Next : Stimulus → List Reading → Outcome → Type 0) where
   abbrev of_stimulus : Stimulus → List Reading → Outcome → Type 0
-  of_stimulus stimulus = After (HasFewCells net stimulus) (λ few. of_cells stimulus)
+  of_stimulus stimulus = After (HasFewCells net stimulus) (λ few. Next stimulus)
 
   abbrev of_text : List ℕ → List Reading → Outcome → Type 0
   of_text text = After (IsStimulusOf text net) of_stimulus
 
-pub returns-in-Ok-shown-clause-expected : goal.returns-in-Ok-shown-clause-expected
-unfolding ExpectedTrace
-returns-in-Ok-shown-clause-expected g c =
+pub returns-in-Ok-few_cells-clause-expected : goal.returns-in-Ok-few_cells-clause-expected
+unfolding AfterStimulus
+returns-in-Ok-few_cells-clause-expected g c =
     let e = rw c.as_slice.ensures at c.in-Ok-stimulus_of.ensures in
-    let trace = c.in-Ok-shown.trace in
     let net = c.args.built.net in
-    let timing = c.args.timing.now in
+    let next = EndsBy (option_map (λ file. file.now) c.args.order) c.args.words.now c.args.machine.now net in
     let stimulus = c.in-Ok-stimulus_of.stimulus in
     let text = c.in-Ok.text in
-    let is_trace = subst (λ n. IsTrace net timing stimulus (header_line n ++ cycle_lines trace.rows.rows)) (sym c.in-Ok-shown.ensures.printed.0)
-    (printed_is_trace net timing stimulus trace.rows c.in-Ok-shown.ensures.printed.1) in
-    follows_file _ _ _ _ _ _ _ _ text _ (of_text net timing) c.in-Ok.ensures.same_names c.in-Ok.ensures.same_bytes c.in-Ok.ensures.text
-    (follows_on _ _ (IsStimulusOf text net) (of_stimulus net timing) stimulus _ _ _ e.checked
-    (follows_on _ _ (HasFewCells net stimulus) (λ few. of_cells net timing stimulus) tt _ _ _ c.in-Ok-few_cells.ensures
-    (follows_here _ _ _ _ (of_cells net timing stimulus) (refl, inl (_, is_trace, refl)))))
+    follows_file _ _ _ _ _ _ _ _ text _ (of_text net next) c.in-Ok.ensures.same_names c.in-Ok.ensures.same_bytes c.in-Ok.ensures.text
+    (follows_on _ _ (IsStimulusOf text net) (of_stimulus net next) stimulus _ _ _ e.checked
+    (follows_on _ _ (HasFewCells net stimulus) (λ few. next stimulus) tt _ _ _ c.in-Ok-few_cells.ensures c.finish.ensures.expected))

@@ -1,24 +1,25 @@
--- The trace is expected after the netlist, its order and its fit.
-use Rattle.std.proofs.Common.{List, ℕ, refl, inl, inr}
+-- The run is expected after the netlist, its order and its fit.
+use Rattle.std.proofs.Common.{List, ℕ, Option, refl, inl, inr}
+use Rattle.std.specs.Option.{option_map}
+use Rattle.cmd_words.specs.declared.command.RunWords.{RunWords}
 use Rattle.machine_text.specs.declared.machine.Machine.{Machine}
 use Rattle.net_defs.specs.declared.netlist.Netlist.{Netlist}
 use Rattle.yse_top.specs.Checks.{After, IsNetlistOf, HasNoLoop, HasRoom}
 use Rattle.yse_top.specs.Outcome.{Outcome}
 use Rattle.yse_top.specs.Readings.{Reading}
-use Rattle.yse_top.specs.Words.{Simulation, seen_words}
-use Rattle.yse_top.specs.commands.Run.{ExpectedOn, ExpectedTrace}
+use Rattle.yse_top.specs.commands.Run.{AfterStimulus, EndsBy, ExpectedOn}
 use Rattle.yse_top.proofs.ChainLemmas.{follows_file, follows_on, follows_here}
 use Rattle.yse_top.proofs.commands.run.run_on.Goals as goal
 
-module _ (machine : Machine) (simulation : Simulation) where
+module _ (words : RunWords) (order : Option (List ℕ)) (machine : Machine) where
   abbrev of_room : Netlist → List Reading → Outcome → Type 0
-  of_room net = ExpectedTrace simulation.stimulus net simulation.timing
+  of_room net = AfterStimulus words.stimulus net (EndsBy order words machine net)
 
   abbrev of_order : Netlist → List Reading → Outcome → Type 0
-  of_order net = After (HasRoom net machine simulation.timing) (λ fits. of_room net)
+  of_order net = After (HasRoom net machine words.timing) (λ fits. of_room net)
 
   abbrev of_netlist : Netlist → List Reading → Outcome → Type 0
-  of_netlist net = After (HasNoLoop net simulation.timing) (λ passed. of_order net)
+  of_netlist net = After (HasNoLoop net words.timing) (λ passed. of_order net)
 
   abbrev of_text : List ℕ → List Reading → Outcome → Type 0
   of_text text = After (IsNetlistOf text) of_netlist
@@ -28,27 +29,29 @@ unfolding ExpectedOn
 returns-in-Ok-compiled-clause-expected g c =
     let e = rw c.as_slice.ensures at c.in-Ok-netlist_of.ensures in
     let machine = c.args.machine in
-    let simulation = seen_words c.args.words in
+    let words = c.args.words.now in
+    let order = option_map (λ file. file.now) c.args.order in
     let net = c.in-Ok-netlist_of.net in
     let text = c.in-Ok.text in
-    let trace = rw c.in-Ok-compiled.ensures.same at c.execute.ensures.expected in
-    follows_file _ _ _ _ _ _ _ _ text _ (of_text machine simulation) c.in-Ok.ensures.same_names c.in-Ok.ensures.same_bytes c.in-Ok.ensures.text
-    (follows_on _ _ (IsNetlistOf text) (of_netlist machine simulation) net _ _ _ e.checked
-    (follows_on _ _ (HasNoLoop net simulation.timing) (λ passed. of_order machine simulation net) tt _ _ _ c.in-Ok-compiled.ensures.acyclic
-    (follows_on _ _ (HasRoom net machine simulation.timing) (λ fits. of_room machine simulation net) tt _ _ _ c.in-Ok-compiled.ensures.fits trace)))
+    let run = rw c.in-Ok-compiled.ensures.same at c.execute.ensures.expected in
+    follows_file _ _ _ _ _ _ _ _ text _ (of_text words order machine) c.in-Ok.ensures.same_names c.in-Ok.ensures.same_bytes c.in-Ok.ensures.text
+    (follows_on _ _ (IsNetlistOf text) (of_netlist words order machine) net _ _ _ e.checked
+    (follows_on _ _ (HasNoLoop net words.timing) (λ passed. of_order words order machine net) tt _ _ _ c.in-Ok-compiled.ensures.acyclic
+    (follows_on _ _ (HasRoom net machine words.timing) (λ fits. of_room words order machine net) tt _ _ _ c.in-Ok-compiled.ensures.fits run)))
 
 pub returns-in-Ok-netlist_of-clause-expected : goal.returns-in-Ok-netlist_of-clause-expected
 unfolding ExpectedOn
 returns-in-Ok-netlist_of-clause-expected g c =
     let e = rw c.as_slice.ensures at c.in-Ok-netlist_of.ensures in
     let machine = c.args.machine in
-    let simulation = seen_words c.args.words in
+    let words = c.args.words.now in
+    let order = option_map (λ file. file.now) c.args.order in
     let net = c.in-Ok-netlist_of.net in
     let text = c.in-Ok.text in
-    follows_file _ _ _ _ _ _ _ _ text _ (of_text machine simulation) c.in-Ok.ensures.same_names c.in-Ok.ensures.same_bytes c.in-Ok.ensures.text
-    (follows_on _ _ (IsNetlistOf text) (of_netlist machine simulation) net _ _ _ e.checked
+    follows_file _ _ _ _ _ _ _ _ text _ (of_text words order machine) c.in-Ok.ensures.same_names c.in-Ok.ensures.same_bytes c.in-Ok.ensures.text
+    (follows_on _ _ (IsNetlistOf text) (of_netlist words order machine) net _ _ _ e.checked
     (elim c.in-Err-compiled.ensures.refused [
-      | inl looped ↦ follows_here _ _ _ _ (of_netlist machine simulation net) (inr (refl, looped))
-      | inr (acyclic, crowded) ↦ follows_on _ _ (HasNoLoop net simulation.timing) (λ passed. of_order machine simulation net) tt _ _ _ acyclic
-          (follows_here _ _ _ _ (of_order machine simulation net) (inr (refl, crowded)))
+      | inl looped ↦ follows_here _ _ _ _ (of_netlist words order machine net) (inr (refl, looped))
+      | inr (acyclic, crowded) ↦ follows_on _ _ (HasNoLoop net words.timing) (λ passed. of_order words order machine net) tt _ _ _ acyclic
+          (follows_here _ _ _ _ (of_order words order machine net) (inr (refl, crowded)))
     ]))

@@ -1,0 +1,16 @@
+-- The pieces are those of the line, its numbers in decimal.
+use Rattle.std.proofs.Common.{◌∙◌, ap, [], ◌∷◌, List, ℕ}
+use Rattle.std.specs.Prelude.{codes, decimal}
+use Rattle.limits.specs.declared.TheConstants.{MAX_CELLS}
+use Rattle.yse_top.specs.Lines.{cells_line}
+use Rattle.yse_top.specs.Writing.{joined}
+use Rattle.yse_top.proofs.WritingLemmas.{writes_same}
+use Rattle.yse_top.proofs.diagnostics.write_cells_line.Goals as goal
+
+pub returns : goal.returns
+unfolding cells_line
+returns g c =
+    writes_same _ _ _ _ _ _ _
+    (ap (λ (d : List ℕ). joined (codes "limit: " ∷ d ∷ codes " cells, at most " ∷ c.as_bytes-most.result.now ∷ codes "\n" ∷ [])) (c.as_bytes-cells.ensures.value ∙ c.format.ensures.text)
+    ∙ ap (λ (d : List ℕ). joined (codes "limit: " ∷ decimal c.args.cells ∷ codes " cells, at most " ∷ d ∷ codes "\n" ∷ [])) (c.as_bytes-most.ensures.value ∙ c.format-2.ensures.text))
+    c.write_pieces.ensures

@@ -1,0 +1,78 @@
+//! The end of a call whose output is had.
+
+ghost use Rattle.std.specs.Prelude.{◌≡◌};
+ghost use Rattle.std.specs.Io.KnownBytes.{append_known};
+ghost use Rattle.yse_top.specs.Endings.{ending_in, status_after, IsTold};
+ghost use Rattle.yse_top.specs.Ends.{EndsAs, MayWrite};
+ghost use Rattle.yse_top.specs.Lines.{unfinished_line};
+ghost use Rattle.yse_top.specs.Outputs.{bytes_of, CanWrite};
+ghost use Rattle.yse_top.specs.Refusals.{ended_with};
+ghost use Rattle.yse_top.specs.Writing.{Takes, TakesLine};
+
+use crate::diagnostics::{tell_write_fault, write_pieces};
+use crate::output::{Ending, Output, write_output};
+use crate::status::Status;
+use edge_io::{Sink, WriteNo};
+use itoa::Buffer;
+
+/// Writes an output to `out`, and then a line to `err` where its run was not finished, and answers the
+/// status. A fault of `err` changes nothing.
+pub fn end<O: Sink, E: Sink>(out: &mut O, err: &mut E, output: Output) -> Status
+    requires { CanWrite output }
+    ensures ends { EndsAs result (ended_with output) (O.taken out.old) (O.taken out.new) (O.faults out.old) (O.faults out.new)
+        (TakesLine (E.taken err.old) (E.taken err.new) (E.faults err.old) (E.faults err.new)) }
+    ensures whole { result ≡ Status.Done → (status_after (ending_in output) ≡ Status.Done) × (O.taken out.new ≡ append_known (O.taken out.old) (bytes_of output)) }
+    ensures silent { result ≡ Status.Done → err.new ≡ err.old }
+    ensures may_write { MayWrite result }
+{
+    let ending = ending_of(&output);
+    match write_output(out, output) {
+        Ok(()) => tell_ending(err, ending),
+        Err(_) => tell_write_fault(err),
+    }
+}
+
+/// Where the run of an output ended, if it was not finished.
+fn ending_of(output: &Output) -> Option<Ending>
+    ensures { result ≡ ending_in output.now }
+{
+    match output {
+        Output::Unfinished(_, ending) => Some(*ending),
+        Output::Text(_) | Output::Trace(_) => None,
+    }
+}
+
+/// Writes the line of a run that was not finished to `err`, and answers the status; without one it
+/// writes nothing. A fault of `err` changes nothing.
+fn tell_ending<E: Sink>(err: &mut E, ending: Option<Ending>) -> Status
+    ensures status { result ≡ status_after ending }
+    ensures told { IsTold err.old err.new (E.taken err.old) (E.taken err.new) (E.faults err.old) (E.faults err.new) ending }
+{
+    match ending {
+        None => Status::Done,
+        Some(ending) => {
+            let _ = write_unfinished_line(err, ending.rows, ending.cycles);
+            Status::Unfinished
+        }
+    }
+}
+
+#[tactic(auto, unfolding(crate::specs::Lines::unfinished_line))]
+fn write_unfinished_line<S: Sink>(sink: &mut S, rows: u32, cycles: u32) -> Result<(), WriteNo>
+    ensures { Takes (S.taken sink.old) (S.taken sink.new) (S.faults sink.old) (S.faults sink.new)
+        result (unfinished_line rows cycles) }
+{
+    let (mut first, mut second) = (Buffer::new(), Buffer::new());
+    let rows = first.format(rows).as_bytes();
+    let cycles = second.format(cycles).as_bytes();
+    write_pieces(
+        sink,
+        &[
+            b"order: ended with ",
+            rows,
+            b" of ",
+            cycles,
+            b" rows done\n",
+        ],
+    )
+}
