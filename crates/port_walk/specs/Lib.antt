@@ -1,0 +1,4 @@
+pub mod Kept
+pub mod Kinds
+pub mod Placed
+pub mod Stops
