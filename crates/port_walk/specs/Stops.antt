@@ -1,8 +1,15 @@
 -- The stops of a turn, by the slots in which a port sends, receives and has items.
 use Rattle.std.specs.Prelude.{◌≡◌, ℕ, zero, suc, ◌+◌, ◌<◌, ◌≤◌, Bool, true, false, nat_le, if◌then◌else◌, List, length, Option, Some, None, slice_get}
+use Rattle.std.specs.List.Sorted.{IsStrictlyIncreasing}
+use Rattle.image_defs.specs.Places.{Each}
 use Rattle.port_walk.specs.declared.stops.Stop.{Stop}
 use Rattle.port_walk.specs.declared.stops.StopKind.{StopKind}
 use Rattle.port_walk.specs.declared.stops.StopKind.TheVariants.{Send, Receive, End}
+
+-- ascending slots of a turn that has so many
+pub record ArePlaces (slots : ℕ) (places : List ℕ) : Type 0 where
+  pub rising : IsStrictlyIncreasing places
+  pub low : Each (λ slot. slot < slots) places
 
 -- ascending slots: the first n of them, and no others, are before this bound
 pub record IsFront (slots : List ℕ) (bound n : ℕ) : Type 0 where
@@ -63,3 +70,13 @@ module _ (outs ins : List ℕ) where
   pub record AreStops (slots : ℕ) (items : List ℕ) (stops : List Stop) : Type 0 where
     pub count : length stops ≡ length outs + length ins + 1
     pub each : AreFirstStops slots items stops
+
+  -- the first stops of a turn are there, after which the port has sent and received so often, and the first
+  -- `from` items stand in the slots up to the next stop
+  pub record IsOnTheWay (slots : ℕ) (items : List ℕ) (stops : List Stop) (sent took from : ℕ) : Type 0 where
+    pub each : AreFirstStops slots items stops
+    pub come : counts (length stops) ≡ (sent, took)
+    pub count : length stops ≡ sent + took
+    pub sent_within : sent ≤ length outs
+    pub took_within : took ≤ length ins
+    pub items_before : AreAllBefore items (slot_at slots sent took + 1) from

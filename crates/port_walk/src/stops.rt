@@ -3,7 +3,7 @@
 ghost use Rattle.std.specs.Prelude.{◌≡◌, ◌+◌, ◌≤◌, map, length, slice_get, IfOk};
 ghost use Rattle.std.specs.List.Sorted.{IsStrictlyIncreasing};
 ghost use Rattle.image_defs.specs.Places.{item_slots, task_slot, in_slots, out_slots};
-ghost use Rattle.port_walk.specs.Stops.{kind_at, slot_at, kind_of, slot_of, AreAllBefore, IsFront, IsStop, AreStops};
+ghost use Rattle.port_walk.specs.Stops.{kind_at, slot_at, kind_of, slot_of, ArePlaces, AreAllBefore, IsFront, AreStops};
 
 use image_defs::{InColumn, LinkIn, LinkOut, OutBit, Task, Work};
 use seen_list::{List, Memory};
@@ -174,8 +174,8 @@ pub(crate) fn stops_of(
     ins: &[LinkIn],
 ) -> Result<List<Stop>, Memory>
     requires rising { IsStrictlyIncreasing items.now }
-    requires outs { IsStrictlyIncreasing (out_slots outs.now) }
-    requires ins { IsStrictlyIncreasing (in_slots ins.now) }
+    requires outs { ArePlaces slots (out_slots outs.now) }
+    requires ins { ArePlaces slots (in_slots ins.now) }
     ensures { IfOk result (AreStops (out_slots outs.now) (in_slots ins.now) slots items.now) }
 {
     let mut stops = List::new(alloc);
