@@ -1,0 +1,10 @@
+pub mod CountLemmas
+pub mod KeptLemmas
+pub mod NextLemmas
+pub mod PaceLemmas
+pub mod RunLemmas
+pub mod SlotLemmas
+pub mod StampLemmas
+pub mod StuckLemmas
+pub mod SumLemmas
+pub mod WordLemmas

@@ -134,6 +134,10 @@ module _ (image : Image) (stimulus : Stimulus) (banks until : ℕ) where
 pub record AllDone (image : Image) (until : ℕ) (state : CoreState) : Type 0 where
   pub each : (p : ℕ) (port : PortImage) → IsPort image p port → (state.place p).turn ≡ until + 1
 
+-- no port moves: each is done, or must wait at its next event
+pub record AllIdle (image : Image) (banks until : ℕ) (state : CoreState) : Type 0 where
+  pub each : (p : ℕ) (port : PortImage) → IsPort image p port → ((state.place p).turn ≡ until + 1) ⊎ Waits image banks p port state
+
 -- the rows that are done: the cycles whose last turn the host has finished
 abbrev pub rows_done : Image → CoreState → ℕ
 rows_done image state = state.finished (host_of image) / image.units

@@ -1,1 +1,69 @@
-//! Laws of events: functions that do nothing, whose clauses hold of all images.
+//! Laws of events: functions that do nothing, whose clauses hold of all well-formed images, stimuli, numbers
+//! of banks and orders.
+
+ghost use Rattle.std.specs.Prelude.{◌≡◌, ℕ, ◌+◌, ◌*◌, ◌<◌, ◌≤◌, List};
+ghost use Rattle.logic_four.specs.declared.V4.{V4};
+ghost use Rattle.logic_four.specs.Values.{code_of};
+ghost use Rattle.net_defs.specs.declared.stimulus.Stimulus.{Stimulus};
+ghost use Rattle.image_defs.specs.declared.image.PortImage.{PortImage};
+ghost use Rattle.image_defs.specs.declared.image.Image.{Image};
+ghost use Rattle.image_defs.specs.Places.{IsPort, Stands};
+ghost use Rattle.image_defs.specs.WellFormed.{IsWellFormed};
+ghost use Rattle.image_defs.specs.Frames.{image_value};
+ghost use Rattle.event_defs.specs.declared.place.Action.{Action};
+ghost use Rattle.event_defs.specs.declared.place.CoreStep.{CoreStep};
+ghost use Rattle.event_defs.specs.declared.place.Place.{Place};
+ghost use Rattle.event_defs.specs.Next.{IsNext};
+ghost use Rattle.event_defs.specs.Steps.{CoreState, Puts, Takes, AreFirstSteps, AllIdle, AllDone};
+ghost use Rattle.event_defs.specs.Sound.{IsSound};
+ghost use Rattle.event_defs.specs.Counts.{moved_in, events};
+
+/// A law: what a port does next is one.
+pub fn one_next()
+    ensures { (image : Image) (p : ℕ) (port : PortImage) (place : Place) (banks until : ℕ) (value : ℕ → V4) (one other : Action)
+        → IsWellFormed image → IsPort image p port
+        → IsNext port place banks until value one → IsNext port place banks until value other → one ≡ other }
+{}
+
+/// A law: whatever the order of the steps, the state is sound.
+pub fn steps_are_sound()
+    ensures { (image : Image) (stimulus : Stimulus) (banks until : ℕ) (order : List ℕ) (answers : List CoreStep) (state : CoreState)
+        → IsWellFormed image → 1 ≤ banks
+        → AreFirstSteps image stimulus banks until order answers state → IsSound image stimulus banks until state }
+{}
+
+/// A law: in a sound state a Take that moves reads its sender's value of this turn.
+pub fn takes_find_this_turn()
+    ensures { (image : Image) (stimulus : Stimulus) (banks until p : ℕ) (port : PortImage) (slot : ℕ) (old new : CoreState)
+        → IsWellFormed image → 1 ≤ banks → IsPort image p port → IsSound image stimulus banks until old
+        → (take : Takes image banks p port old slot new)
+        → take.x ≡ 4 * (old.place p).turn + code_of (image_value image stimulus (old.place p).turn take.reads.link.sender slot) }
+{}
+
+/// A law: in a sound state a Put comes when every reader has finished the turn whose value it overwrites,
+/// which is as many turns before as there are banks.
+pub fn puts_spare_readers()
+    ensures { (image : Image) (stimulus : Stimulus) (banks until p : ℕ) (port : PortImage) (slot : ℕ) (old new : CoreState)
+        → IsWellFormed image → 1 ≤ banks → IsPort image p port → IsSound image stimulus banks until old
+        → (put : Puts image banks p port old stimulus slot new)
+        → (r : ℕ) → Stands put.next.link.readers r → (old.place p).turn ≤ old.finished r + banks }
+{}
+
+/// A law: it is never stuck. In a sound state in which no port moves, all ports are done.
+pub fn some_port_moves()
+    ensures { (image : Image) (stimulus : Stimulus) (banks until : ℕ) (state : CoreState)
+        → IsWellFormed image → 1 ≤ banks → IsSound image stimulus banks until state
+        → AllIdle image banks until state → AllDone image until state }
+{}
+
+/// A law: a run moves at most as often as it has events, whatever the order of its steps, and with one bank a
+/// run to its end exactly so often.
+pub fn events_of_a_run()
+    ensures most { (image : Image) (stimulus : Stimulus) (banks until : ℕ) (order : List ℕ) (answers : List CoreStep) (state : CoreState)
+        → IsWellFormed image → 1 ≤ banks
+        → AreFirstSteps image stimulus banks until order answers state → moved_in answers ≤ events image banks until }
+    ensures exact { (image : Image) (stimulus : Stimulus) (until : ℕ) (order : List ℕ) (answers : List CoreStep) (state : CoreState)
+        → IsWellFormed image
+        → AreFirstSteps image stimulus 1 until order answers state → AllDone image until state
+        → moved_in answers ≡ events image 1 until }
+{}
