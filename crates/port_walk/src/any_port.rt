@@ -2,12 +2,14 @@
 
 ghost use Rattle.std.specs.Prelude.{◌≡◌, ◌≢◌, ◌<◌, ◌≤◌, length, IfOk, MatchOption};
 ghost use Rattle.net_defs.specs.Valid.{IsValidStimulus};
-ghost use Rattle.image_defs.specs.Places.{host_of};
+ghost use Rattle.std.specs.List.Sorted.{IsStrictlyIncreasing};
+ghost use Rattle.image_defs.specs.Places.{Each, host_of};
 ghost use Rattle.image_defs.specs.WellFormed.{IsWellFormed};
+ghost use Rattle.port_walk.specs.Readers.{NoneLags, IsFirstLagging, IsSendAction};
 ghost use Rattle.port_walk.specs.Placed.{at_start, in_next_turn, IsNextOf, CanPut, CanTake, CanTakeValue, IsEnding, HasPut, HasTaken, IsNextSend, IsNextReceipt, IsHostIn};
 
 use crate::kind::Kind;
-use crate::stops::{Stop, StopKind};
+use crate::stops::{Stop, StopKind, slots_of, stops_of};
 use event_defs::Action;
 use image_defs::{Image, PortImage};
 use logic_four::V4;
@@ -38,7 +40,8 @@ pub struct AnyPort<'a> {
 }
 
 impl<'a> Model for AnyPort<'a> {
-    ghost use Rattle.port_walk.specs.Placed.{PlacedPort};
+    ghost use Rattle.port_walk.specs.Readers.{NoneLags, IsFirstLagging, IsSendAction};
+ghost use Rattle.port_walk.specs.Placed.{PlacedPort};
 
     ghost Value = { PlacedPort };
 
@@ -47,6 +50,33 @@ impl<'a> Model for AnyPort<'a> {
     ghost view = { view_of };
 
     ghost invariant = { IsKept };
+}
+
+/// The first of the readers that isn't known to have finished so many turns.
+fn first_lagging(readers: &[u32], known: &[u64], turns: u64) -> Option<u32>
+    requires there { Each (λ r. r < length known.now) readers.now }
+    requires rising { IsStrictlyIncreasing readers.now }
+    ensures { MatchOption result (NoneLags readers.now known.now turns) (IsFirstLagging readers.now known.now turns) }
+{
+    'readers: for reader in readers {
+        if known[*reader as usize] < turns {
+            return Some(*reader);
+        }
+    }
+    None
+}
+
+/// What comes next where a Put is missing: an Ask of a reader that isn't known to have finished so many
+/// turns, or the Put.
+fn send_action(readers: &[u32], known: &[u64], turns: u64, slot: u32, value: V4) -> Action
+    requires there { Each (λ r. r < length known.now) readers.now }
+    requires rising { IsStrictlyIncreasing readers.now }
+    ensures { IsSendAction readers.now known.now turns slot value result }
+{
+    match first_lagging(readers, known, turns) {
+        Some(reader) => Action::Ask { reader },
+        None => Action::Put { slot, value },
+    }
 }
 
 impl<'a> AnyPort<'a> {
@@ -64,7 +94,33 @@ impl<'a> AnyPort<'a> {
         requires there { port < length image.now.ports }
         ensures { IfOk result (λ made. made ≡ at_start image.now stim.now port) }
     {
-        unreachable!()
+        let seat = &image.ports.as_slice()[port as usize];
+        let slots = slots_of(alloc, &seat.work)?;
+        let stops = stops_of(
+            alloc,
+            image.slots,
+            slots.as_slice(),
+            seat.outs.as_slice(),
+            seat.ins.as_slice(),
+        )?;
+        let mut kind = Kind::new(alloc, image, stim, port)?;
+        let until = image.units as u64 * stim.cycles() as u64;
+        let value = kind.enter(slots.as_slice(), stops.as_slice()[0].items, 1 <= until);
+        Ok(AnyPort {
+            kind,
+            slots,
+            stops,
+            at: 0,
+            sent: 0,
+            took: 0,
+            value,
+            turn: 1,
+            until,
+            port,
+            seat,
+            image,
+            stim,
+        })
     }
 
     /// The next event, by what is known of how many turns each port has finished, with so many banks.
@@ -72,7 +128,19 @@ impl<'a> AnyPort<'a> {
         requires { length known.now ≡ length self.now.image.ports }
         ensures { IsNextOf self.now known.now banks result }
     {
-        unreachable!()
+        if self.until < self.turn {
+            return Action::Done;
+        }
+        let stop = self.stops.as_slice()[self.at];
+        match stop.kind {
+            StopKind::Send => {
+                let readers = self.seat.outs.as_slice()[self.sent].readers.as_slice();
+                let turns = self.turn.saturating_sub(banks as u64);
+                send_action(readers, known, turns, stop.slot, self.value)
+            }
+            StopKind::Receive => Action::Take { slot: stop.slot },
+            StopKind::End => Action::Tell,
+        }
     }
 
     /// The number of the send whose Put is missing next, in slot order.
@@ -96,7 +164,12 @@ impl<'a> AnyPort<'a> {
         requires { CanPut self.old }
         ensures { HasPut self.old self.new }
     {
-        unreachable!()
+        let stops = self.stops.as_slice();
+        let from = stops[self.at].items;
+        let to = stops[self.at + 1].items;
+        self.value = self.kind.run(self.slots.as_slice(), from, to, self.value);
+        self.at += 1;
+        self.sent += 1;
     }
 
     /// The Take that was next is made, and gave this value.
@@ -104,7 +177,13 @@ impl<'a> AnyPort<'a> {
         requires { CanTakeValue self.old v }
         ensures { HasTaken self.old self.new }
     {
-        unreachable!()
+        let stops = self.stops.as_slice();
+        let stop = stops[self.at];
+        let to = stops[self.at + 1].items;
+        self.kind.receive(stop.slot, v);
+        self.value = self.kind.run(self.slots.as_slice(), stop.items, to, self.value);
+        self.at += 1;
+        self.took += 1;
     }
 
     /// The Tell that was next is made: the next turn begins.
@@ -112,7 +191,13 @@ impl<'a> AnyPort<'a> {
         requires { IsEnding self.old }
         ensures { self.new ≡ in_next_turn self.old }
     {
-        unreachable!()
+        self.kind.end_turn();
+        self.turn += 1;
+        self.at = 0;
+        self.sent = 0;
+        self.took = 0;
+        let first = self.stops.as_slice()[0].items;
+        self.value = self.kind.enter(self.slots.as_slice(), first, self.turn <= self.until);
     }
 
     /// The turn that it is in, or the last one that it executes plus one when it is done.

@@ -4,7 +4,7 @@ ghost use Rattle.std.specs.Prelude.{◌≡◌, ◌<◌, length, IfOk};
 ghost use Rattle.net_defs.specs.Valid.{IsValidStimulus};
 ghost use Rattle.image_defs.specs.WellFormed.{IsWellFormed};
 ghost use Rattle.image_defs.specs.Ports.{after_begin, after_execute, after_receive, after_end, value_in, CanBegin, CanExecute, CanReceive, CanEnd};
-ghost use Rattle.port_walk.specs.Kinds.{view_in, is_host, IsFirst, CanRun, HasRun, IsLastValue};
+ghost use Rattle.port_walk.specs.Kinds.{view_in, is_host, IsFirst, CanRun, HasRun, CanEnter, HasEntered, IsLastValue};
 
 use image_defs::{Image, Work};
 use logic_four::V4;
@@ -114,5 +114,21 @@ impl<'a> Kind<'a> {
             value = self.execute(slots[i]);
         }
         value
+    }
+
+    /// Begins the turn and executes its items below number `to`, if it is one that the port `runs`, and
+    /// answers the value of the last of them.
+    pub(crate) fn enter(&mut self, slots: &[u32], to: usize, runs: bool) -> V4
+        requires { CanEnter (view_in self.old) slots.now to runs }
+        ensures entered { HasEntered (view_in self.old) (view_in self.new) to runs }
+        ensures last { IsLastValue (view_in self.new) result }
+        ensures kind { is_host self.new ≡ is_host self.old }
+    {
+        if runs {
+            self.begin_turn();
+            self.run(slots, 0, to, V4::Undef)
+        } else {
+            V4::Undef
+        }
     }
 }
