@@ -1,0 +1,3 @@
+pub mod CursorLemmas
+pub mod KindLemmas
+pub mod StopLemmas

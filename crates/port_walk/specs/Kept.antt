@@ -1,0 +1,48 @@
+-- What a port with its place keeps: it has executed all items up to its next stop, and no others.
+use Rattle.std.specs.Prelude.{◌≡◌, ℕ, ◌+◌, ◌<◌, ◌≤◌, ◌^◌, nat_le, take, length, Some, slice_get}
+use Rattle.net_defs.specs.Time.{turn_count}
+use Rattle.net_defs.specs.Valid.{IsValidStimulus}
+use Rattle.image_defs.specs.Places.{IsPort, item_slots, in_slots, out_slots}
+use Rattle.image_defs.specs.WellFormed.{IsWellFormed}
+use Rattle.image_defs.specs.Steps.{timing_of}
+use Rattle.image_defs.specs.Ports.{PortView}
+use Rattle.port_walk.specs.declared.stops.Stop.{Stop}
+use Rattle.port_walk.specs.declared.any_port.AnyPort.TheInside.{Inside}
+use Rattle.port_walk.specs.Kinds.{view_in, FitsKind, IsLastValue}
+use Rattle.port_walk.specs.Placed.{PlacedPort}
+use Rattle.port_walk.specs.Stops.{counts, AreStops}
+
+abbrev pub view_of : Inside → PlacedPort
+view_of a = record {
+  image = a.image.now;
+  stimulus = a.stim.now;
+  port = a.port;
+  until = a.until;
+  turn = a.turn;
+  puts = take a.sent (out_slots a.seat.now.outs);
+  takes = take a.took (in_slots a.seat.now.ins);
+}
+
+-- the port within, which has executed so many items: it is in the same turn, which has begun if it is one
+-- that the port executes
+abbrev pub inner : Inside → ℕ → PortView
+inner a executed = record { image = a.image.now; stimulus = a.stim.now; port = a.port; turn = a.turn; begun = nat_le a.turn a.until; executed = executed; received = a.took }
+
+pub record IsKept (a : Inside) : Type 0 where
+  pub image : IsWellFormed a.image.now
+  pub stimulus : IsValidStimulus a.stim.now
+  pub seat : IsPort a.image.now a.port a.seat.now
+  pub kind : FitsKind a.image.now a.port a.kind
+  pub few : a.until ≤ turn_count (timing_of a.image.now) a.stim.now
+  pub first : 1 ≤ a.turn
+  pub last : a.turn ≤ a.until + 1
+  pub slots : a.slots ≡ item_slots a.seat.now.work
+  pub stops : AreStops (out_slots a.seat.now.outs) (in_slots a.seat.now.ins) a.image.now.slots a.slots a.stops
+  pub come : counts (out_slots a.seat.now.outs) (in_slots a.seat.now.ins) a.at ≡ (a.sent, a.took)
+  pub at : a.at ≡ a.sent + a.took
+  pub sent : a.sent ≤ length a.seat.now.outs
+  pub took : a.took ≤ length a.seat.now.ins
+  pub inner : view_in a.kind ≡ inner a (view_in a.kind).executed
+  pub executed : a.turn ≤ a.until → (stop : Stop) → slice_get a.stops a.at ≡ Some stop → (view_in a.kind).executed ≡ stop.items
+  pub rests : a.until < a.turn → (view_in a.kind).executed ≡ 0
+  pub value : IsLastValue (view_in a.kind) a.value

@@ -1,0 +1,5 @@
+pub mod Kept
+pub mod Kinds
+pub mod Placed
+pub mod Readers
+pub mod Stops

@@ -1,0 +1,114 @@
+-- A port with its place in the turn, as contracts see it, and what comes next.
+use Rattle.std.specs.Prelude.{◌≡◌, ◌≢◌, ℕ, ◌+◌, ◌≤◌, List, [], ◌∷◌, ◌++◌, length}
+use Rattle.logic_four.specs.declared.V4.{V4}
+use Rattle.net_defs.specs.declared.stimulus.Stimulus.{Stimulus}
+use Rattle.net_defs.specs.Time.{turn_count}
+use Rattle.image_defs.specs.declared.image.LinkIn.{LinkIn}
+use Rattle.image_defs.specs.declared.image.LinkOut.{LinkOut}
+use Rattle.image_defs.specs.declared.image.PortImage.{PortImage}
+use Rattle.image_defs.specs.declared.image.Image.{Image}
+use Rattle.image_defs.specs.Places.{IsPort, host_of}
+use Rattle.image_defs.specs.Steps.{timing_of}
+use Rattle.image_defs.specs.Frames.{image_value}
+use Rattle.image_defs.specs.Ports.{PortView}
+use Rattle.event_defs.specs.declared.place.Place.{Place}
+use Rattle.event_defs.specs.declared.place.Action.{Action}
+use Rattle.event_defs.specs.Next.{SendsNext, ReceivesNext, EndsNext, IsNext}
+
+-- a port of an image with a stimulus: the last turn that it executes, its turn, the slots whose items it has
+-- sent in this turn, and those in which it has received
+pub record PlacedPort : Type 0 where
+  pub image : Image
+  pub stimulus : Stimulus
+  pub port : ℕ
+  pub until : ℕ
+  pub turn : ℕ
+  pub puts : List ℕ
+  pub takes : List ℕ
+
+-- its place, where it knows each port to have finished so many turns
+abbrev pub place_of : PlacedPort → List ℕ → Place
+place_of view known = record { turn = view.turn; puts = view.puts; takes = view.takes; known = known }
+
+-- the port before its first event
+abbrev pub at_start : Image → Stimulus → ℕ → PlacedPort
+at_start image stimulus port = record { image = image; stimulus = stimulus; port = port; until = turn_count (timing_of image) stimulus; turn = 1; puts = []; takes = [] }
+
+-- ---- what comes next
+
+-- the next thing that is missing is the Put of this link, number i of what the port sends
+pub record IsSending (view : PlacedPort) (i : ℕ) (link : LinkOut) : Type 0 where
+  pub early : view.turn ≤ view.until
+  pub seat : PortImage
+  pub is : IsPort view.image view.port seat
+  pub next : SendsNext seat view.puts view.takes i link
+
+-- it is the Take of this link, number j of what the port receives
+pub record IsReceiving (view : PlacedPort) (j : ℕ) (link : LinkIn) : Type 0 where
+  pub early : view.turn ≤ view.until
+  pub seat : PortImage
+  pub is : IsPort view.image view.port seat
+  pub next : ReceivesNext seat view.puts view.takes j link
+
+-- nothing is missing in the turn
+pub record IsEnding (view : PlacedPort) : Type 0 where
+  pub early : view.turn ≤ view.until
+  pub seat : PortImage
+  pub is : IsPort view.image view.port seat
+  pub next : EndsNext seat view.puts view.takes
+
+-- this is its next event, by what it knows and with so many banks; a Put has the image's value
+pub record IsNextOf (view : PlacedPort) (known : List ℕ) (banks : ℕ) (action : Action) : Type 0 where
+  pub each : (seat : PortImage) → IsPort view.image view.port seat
+      → IsNext seat (place_of view known) banks view.until (image_value view.image view.stimulus view.turn view.port) action
+
+-- ---- what a call may do
+
+pub record CanPut (view : PlacedPort) : Type 0 where
+  pub i : ℕ
+  pub link : LinkOut
+  pub sending : IsSending view i link
+
+pub record CanTake (view : PlacedPort) : Type 0 where
+  pub j : ℕ
+  pub link : LinkIn
+  pub receiving : IsReceiving view j link
+
+-- and this is the value that the sender has there
+pub record CanTakeValue (view : PlacedPort) (v : V4) : Type 0 where
+  pub j : ℕ
+  pub link : LinkIn
+  pub receiving : IsReceiving view j link
+  pub value : v ≡ image_value view.image view.stimulus view.turn link.sender link.slot
+
+-- ---- what it did
+
+-- the Put that was next is made
+pub record HasPut (old new : PlacedPort) : Type 0 where
+  pub each : (i : ℕ) (link : LinkOut) → IsSending old i link → new ≡ record old { puts = old.puts ++ link.slot ∷ [] }
+
+-- the Take that was next is made
+pub record HasTaken (old new : PlacedPort) : Type 0 where
+  pub each : (j : ℕ) (link : LinkIn) → IsReceiving old j link → new ≡ record old { takes = old.takes ++ link.slot ∷ [] }
+
+-- the turn is over, and the next one has begun
+abbrev pub in_next_turn : PlacedPort → PlacedPort
+in_next_turn view = record view { turn = view.turn + 1; puts = []; takes = [] }
+
+-- ---- numbers of links, and the host
+
+-- what it sends next is link number n of what it sends
+pub record IsNextSend (view : PlacedPort) (n : ℕ) : Type 0 where
+  pub each : (i : ℕ) (link : LinkOut) → IsSending view i link → i ≡ n
+
+-- what it receives next is link number n of what it receives
+pub record IsNextReceipt (view : PlacedPort) (n : ℕ) : Type 0 where
+  pub each : (j : ℕ) (link : LinkIn) → IsReceiving view j link → j ≡ n
+
+-- this is the host of the same image and stimulus, in the same turn
+pub record IsHostIn (view : PlacedPort) (host : PortView) : Type 0 where
+  pub is_host : view.port ≡ host_of view.image
+  pub image : host.image ≡ view.image
+  pub stimulus : host.stimulus ≡ view.stimulus
+  pub port : host.port ≡ view.port
+  pub turn : host.turn ≡ view.turn

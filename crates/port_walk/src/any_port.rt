@@ -1,0 +1,227 @@
+//! A port of any kind with its place in the turn.
+
+ghost use Rattle.std.specs.Prelude.{◌≡◌, ◌≢◌, ◌<◌, ◌≤◌, length, IfOk, MatchOption};
+ghost use Rattle.net_defs.specs.Valid.{IsValidStimulus};
+ghost use Rattle.std.specs.List.Sorted.{IsStrictlyIncreasing};
+ghost use Rattle.image_defs.specs.Places.{Each, host_of};
+ghost use Rattle.image_defs.specs.WellFormed.{IsWellFormed};
+ghost use Rattle.port_walk.specs.Readers.{NoneLags, IsFirstLagging, IsSendAction};
+ghost use Rattle.port_walk.specs.Placed.{at_start, in_next_turn, IsNextOf, CanPut, CanTake, CanTakeValue, IsEnding, HasPut, HasTaken, IsNextSend, IsNextReceipt, IsHostIn};
+
+use crate::kind::Kind;
+use crate::stops::{Stop, StopKind, slots_of, stops_of};
+use event_defs::Action;
+use image_defs::{Image, PortImage};
+use logic_four::V4;
+use net_defs::Stimulus;
+use port_host::HostPort;
+use seen_list::{List, Memory};
+use std::alloc::Global;
+use std::marker::Model;
+
+/// A port of any kind with its place in the turn. After each call it has executed all its items in the
+/// slots up to that of its next event, before which it can't execute more. A contract sees whose image
+/// and stimulus it runs, and its place.
+#[derive(Drop)]
+pub struct AnyPort<'a> {
+    kind: Kind<'a>,
+    slots: List<u32>,
+    stops: List<Stop>,
+    at: usize,
+    sent: usize,
+    took: usize,
+    value: V4,
+    turn: u64,
+    until: u64,
+    port: u32,
+    seat: &'a PortImage,
+    image: &'a Image,
+    stim: &'a Stimulus,
+}
+
+impl<'a> Model for AnyPort<'a> {
+    ghost use Rattle.port_walk.specs.Readers.{NoneLags, IsFirstLagging, IsSendAction};
+ghost use Rattle.port_walk.specs.Placed.{PlacedPort};
+
+    ghost Value = { PlacedPort };
+
+    ghost use Rattle.port_walk.specs.Kept.{view_of, IsKept};
+
+    ghost view = { view_of };
+
+    ghost invariant = { IsKept };
+}
+
+/// The first of the readers that isn't known to have finished so many turns.
+fn first_lagging(readers: &[u32], known: &[u64], turns: u64) -> Option<u32>
+    requires there { Each (λ r. r < length known.now) readers.now }
+    requires rising { IsStrictlyIncreasing readers.now }
+    ensures { MatchOption result (NoneLags readers.now known.now turns) (IsFirstLagging readers.now known.now turns) }
+{
+    'readers: for reader in readers {
+        if known[*reader as usize] < turns {
+            return Some(*reader);
+        }
+    }
+    None
+}
+
+/// What comes next where a Put is missing: an Ask of a reader that isn't known to have finished so many
+/// turns, or the Put.
+fn send_action(readers: &[u32], known: &[u64], turns: u64, slot: u32, value: V4) -> Action
+    requires there { Each (λ r. r < length known.now) readers.now }
+    requires rising { IsStrictlyIncreasing readers.now }
+    ensures { IsSendAction readers.now known.now turns slot value result }
+{
+    match first_lagging(readers, known, turns) {
+        Some(reader) => Action::Ask { reader },
+        None => Action::Put { slot, value },
+    }
+}
+
+impl<'a> AnyPort<'a> {
+    /// The port of this number before its first event. It takes memory for what its kind needs, for a
+    /// number for each item, and for what it sends and receives in a turn. No later call takes any.
+    pub fn new(
+        alloc: Global,
+        image: &'a Image,
+        stim: &'a Stimulus,
+        port: u32,
+    ) -> Result<AnyPort<'a>, Memory>
+        requires image { IsWellFormed image.now }
+        requires stimulus { IsValidStimulus stim.now }
+        requires columns { stim.now.columns ≡ image.now.columns }
+        requires there { port < length image.now.ports }
+        ensures { IfOk result (λ made. made ≡ at_start image.now stim.now port) }
+    {
+        let seat = &image.ports.as_slice()[port as usize];
+        let slots = slots_of(alloc, &seat.work)?;
+        let stops = stops_of(
+            alloc,
+            image.slots,
+            slots.as_slice(),
+            seat.outs.as_slice(),
+            seat.ins.as_slice(),
+        )?;
+        let mut kind = Kind::new(alloc, image, stim, port)?;
+        let until = image.units as u64 * stim.cycles() as u64;
+        let value = kind.enter(slots.as_slice(), stops.as_slice()[0].items, 1 <= until);
+        Ok(AnyPort {
+            kind,
+            slots,
+            stops,
+            at: 0,
+            sent: 0,
+            took: 0,
+            value,
+            turn: 1,
+            until,
+            port,
+            seat,
+            image,
+            stim,
+        })
+    }
+
+    /// The next event, by what is known of how many turns each port has finished, with so many banks.
+    pub fn next(&self, known: &[u64], banks: u32) -> Action
+        requires { length known.now ≡ length self.now.image.ports }
+        ensures { IsNextOf self.now known.now banks result }
+    {
+        if self.until < self.turn {
+            return Action::Done;
+        }
+        let stop = self.stops.as_slice()[self.at];
+        match stop.kind {
+            StopKind::Send => {
+                let readers = self.seat.outs.as_slice()[self.sent].readers.as_slice();
+                let turns = self.turn.saturating_sub(banks as u64);
+                send_action(readers, known, turns, stop.slot, self.value)
+            }
+            StopKind::Receive => Action::Take { slot: stop.slot },
+            StopKind::End => Action::Tell,
+        }
+    }
+
+    /// The number of the send whose Put is missing next, in slot order.
+    pub fn next_send(&self) -> usize
+        requires { CanPut self.now }
+        ensures { IsNextSend self.now result }
+    {
+        self.sent
+    }
+
+    /// The number of the receipt whose Take is missing next, in slot order.
+    pub fn next_receipt(&self) -> usize
+        requires { CanTake self.now }
+        ensures { IsNextReceipt self.now result }
+    {
+        self.took
+    }
+
+    /// The Put that was next is made.
+    pub fn put_done(&mut self)
+        requires { CanPut self.old }
+        ensures { HasPut self.old self.new }
+    {
+        let stops = self.stops.as_slice();
+        let from = stops[self.at].items;
+        let to = stops[self.at + 1].items;
+        self.value = self.kind.run(self.slots.as_slice(), from, to, self.value);
+        self.at += 1;
+        self.sent += 1;
+    }
+
+    /// The Take that was next is made, and gave this value.
+    pub fn took(&mut self, v: V4)
+        requires { CanTakeValue self.old v }
+        ensures { HasTaken self.old self.new }
+    {
+        let stops = self.stops.as_slice();
+        let stop = stops[self.at];
+        let to = stops[self.at + 1].items;
+        self.kind.receive(stop.slot, v);
+        self.value = self.kind.run(self.slots.as_slice(), stop.items, to, self.value);
+        self.at += 1;
+        self.took += 1;
+    }
+
+    /// The Tell that was next is made: the next turn begins.
+    pub fn told(&mut self)
+        requires { IsEnding self.old }
+        ensures { self.new ≡ in_next_turn self.old }
+    {
+        self.kind.end_turn();
+        self.turn += 1;
+        self.at = 0;
+        self.sent = 0;
+        self.took = 0;
+        let first = self.stops.as_slice()[0].items;
+        self.value = self.kind.enter(self.slots.as_slice(), first, self.turn <= self.until);
+    }
+
+    /// The turn that it is in, or the last one that it executes plus one when it is done.
+    pub fn turn(&self) -> u64
+        ensures { result ≡ self.now.turn }
+    {
+        self.turn
+    }
+
+    /// The last turn that it executes, which is the number of turns.
+    pub fn until(&self) -> u64
+        ensures { result ≡ self.now.until }
+    {
+        self.until
+    }
+
+    /// The port as the host. `None` exactly where it is another.
+    pub fn host(&self) -> Option<&HostPort<'a>>
+        ensures { MatchOption result (self.now.port ≢ host_of self.now.image) (λ host. IsHostIn self.now host.now) }
+    {
+        match &self.kind {
+            Kind::Host(host) => Some(host),
+            Kind::Logic(_) => None,
+            Kind::Array(_) => None,
+        }
+    }
+}

@@ -1,0 +1,134 @@
+//! The kinds of port, behind one contract.
+
+ghost use Rattle.std.specs.Prelude.{◌≡◌, ◌<◌, length, IfOk};
+ghost use Rattle.net_defs.specs.Valid.{IsValidStimulus};
+ghost use Rattle.image_defs.specs.WellFormed.{IsWellFormed};
+ghost use Rattle.image_defs.specs.Ports.{after_begin, after_execute, after_receive, after_end, value_in, CanBegin, CanExecute, CanReceive, CanEnd};
+ghost use Rattle.port_walk.specs.Kinds.{view_in, is_host, IsFirst, CanRun, HasRun, CanEnter, HasEntered, IsLastValue};
+
+use image_defs::{Image, Work};
+use logic_four::V4;
+use net_defs::Stimulus;
+use port_array::ArrayPort;
+use port_host::HostPort;
+use port_logic::LogicPort;
+use seen_list::Memory;
+use std::alloc::Global;
+
+/// A port in its run, by its kind.
+#[derive(Drop)]
+pub(crate) enum Kind<'a> {
+    Logic(LogicPort<'a>),
+    Array(ArrayPort<'a>),
+    Host(HostPort<'a>),
+}
+
+impl<'a> Kind<'a> {
+    /// Port number `port` of the image before its first turn.
+    pub(crate) fn new(
+        alloc: Global,
+        image: &'a Image,
+        stim: &'a Stimulus,
+        port: u32,
+    ) -> Result<Kind<'a>, Memory>
+        requires image { IsWellFormed image.now }
+        requires stimulus { IsValidStimulus stim.now }
+        requires columns { stim.now.columns ≡ image.now.columns }
+        requires there { port < length image.now.ports }
+        ensures { IfOk result (IsFirst image.now stim.now port) }
+    {
+        match &image.ports.as_slice()[port as usize].work {
+            Work::Logic { .. } => Ok(Kind::Logic(LogicPort::new(alloc, image, stim, port)?)),
+            Work::Array { .. } => Ok(Kind::Array(ArrayPort::new(alloc, image, stim, port)?)),
+            Work::Host { .. } => Ok(Kind::Host(HostPort::new(alloc, image, stim)?)),
+        }
+    }
+
+    /// Begins a turn.
+    pub(crate) fn begin_turn(&mut self)
+        requires { CanBegin (view_in self.old) }
+        ensures view { view_in self.new ≡ after_begin (view_in self.old) }
+        ensures kind { is_host self.new ≡ is_host self.old }
+    {
+        match self {
+            Kind::Logic(port) => port.begin_turn(),
+            Kind::Array(port) => port.begin_turn(),
+            Kind::Host(port) => port.begin_turn(),
+        }
+    }
+
+    /// Executes the item in a slot, and answers its value.
+    #[inline]
+    pub(crate) fn execute(&mut self, slot: u32) -> V4
+        requires { CanExecute (view_in self.old) slot }
+        ensures value { result ≡ value_in (view_in self.old) slot }
+        ensures view { view_in self.new ≡ after_execute (view_in self.old) }
+        ensures kind { is_host self.new ≡ is_host self.old }
+    {
+        match self {
+            Kind::Logic(port) => port.execute(slot),
+            Kind::Array(port) => port.execute(slot),
+            Kind::Host(port) => port.execute(slot),
+        }
+    }
+
+    /// Receives the value that is sent in a slot.
+    #[inline]
+    pub(crate) fn receive(&mut self, slot: u32, v: V4)
+        requires { CanReceive (view_in self.old) slot v }
+        ensures view { view_in self.new ≡ after_receive (view_in self.old) }
+        ensures kind { is_host self.new ≡ is_host self.old }
+    {
+        match self {
+            Kind::Logic(port) => port.receive(slot, v),
+            Kind::Array(port) => port.receive(slot, v),
+            Kind::Host(port) => port.receive(slot, v),
+        }
+    }
+
+    /// Ends the turn.
+    pub(crate) fn end_turn(&mut self)
+        requires { CanEnd (view_in self.old) }
+        ensures view { view_in self.new ≡ after_end (view_in self.old) }
+        ensures kind { is_host self.new ≡ is_host self.old }
+    {
+        match self {
+            Kind::Logic(port) => port.end_turn(),
+            Kind::Array(port) => port.end_turn(),
+            Kind::Host(port) => port.end_turn(),
+        }
+    }
+
+    /// Executes the items whose numbers are from `from` on and below `to`, where `slots` has the slots
+    /// of all items, and answers the value of the last one executed this turn; that was `last`.
+    #[inline]
+    pub(crate) fn run(&mut self, slots: &[u32], from: usize, to: usize, last: V4) -> V4
+        requires can { CanRun (view_in self.old) slots.now from to }
+        requires last { IsLastValue (view_in self.old) last }
+        ensures run { HasRun (view_in self.old) (view_in self.new) to }
+        ensures last { IsLastValue (view_in self.new) result }
+        ensures kind { is_host self.new ≡ is_host self.old }
+    {
+        let mut value = last;
+        'items: for i in from..to {
+            value = self.execute(slots[i]);
+        }
+        value
+    }
+
+    /// Begins the turn and executes its items below number `to`, if it is one that the port `runs`, and
+    /// answers the value of the last of them.
+    pub(crate) fn enter(&mut self, slots: &[u32], to: usize, runs: bool) -> V4
+        requires { CanEnter (view_in self.old) slots.now to runs }
+        ensures entered { HasEntered (view_in self.old) (view_in self.new) to runs }
+        ensures last { IsLastValue (view_in self.new) result }
+        ensures kind { is_host self.new ≡ is_host self.old }
+    {
+        if runs {
+            self.begin_turn();
+            self.run(slots, 0, to, V4::Undef)
+        } else {
+            V4::Undef
+        }
+    }
+}
