@@ -6,6 +6,7 @@ mod OrderLemmas
 mod OutcomeLemmas
 mod ProperLemmas
 mod ShownLemmas
+mod StepLemmas
 mod TextLemmas
 mod TraceLemmas
 mod TracedLemmas

@@ -1,0 +1,8 @@
+use Rattle.yse_top.proofs.StepLemmas.{same_then}
+use Rattle.yse_top.proofs.commands.steps.run_to_end.Goals as goal
+
+pub rounds-preserved : goal.rounds-preserved
+rounds-preserved c = record {
+  same = same_then _ _ _ c.rounds.invariant.same c.run_round.ensures.round.same;
+  sound = c.run_round.ensures.sound;
+}

@@ -1,0 +1,136 @@
+//! Runs of the machine: by rounds, and in a given order.
+
+ghost use Rattle.std.specs.Prelude.{◌≡◌, ◌<◌, ℕ, Some, IfOk, length, replicate, slice_get};
+ghost use Rattle.std.specs.List.{flat_map};
+ghost use Rattle.net_defs.specs.Trace.{IsTrace};
+ghost use Rattle.net_defs.specs.Valid.{IsValid, IsValidStimulus, input_count};
+ghost use Rattle.stim_text.specs.declared.order.OrderLine.{OrderLine};
+ghost use Rattle.stim_text.specs.Orders.{IsValidOrder};
+ghost use Rattle.event_core.specs.Core.{AreDone, IsSameCore, IsSoundCore, rows_of};
+ghost use Rattle.cmd_words.specs.Forms.{IsRunInRange};
+ghost use Rattle.yse_top.specs.Checks.{port_count};
+ghost use Rattle.yse_top.specs.Images.{IsImageOf, AreShown};
+ghost use Rattle.yse_top.specs.Orders.{EndsInOrder, IsMachineImage, HasStepped};
+ghost use Rattle.yse_top.specs.Outputs.{trace_bytes, CanPrint, CanWrite};
+ghost use Rattle.yse_top.specs.Refusals.{ended_with};
+
+use crate::checks::Built;
+use crate::output::{Ending, Output, Trace};
+use cmd_words::RunWords;
+use event_core::{Core, CoreStep};
+use machine_text::Machine;
+use net_defs::{CellRow, Rows, Stimulus};
+use seen_list::{List, Memory};
+use std::alloc::Global;
+use stim_text::{Order, OrderLine};
+use trace_text::TraceLine;
+
+/// The trace of an image under a stimulus: all ports step by rounds until they are done.
+pub fn by_rounds(
+    alloc: Global,
+    words: &RunWords,
+    built: Built,
+    stimulus: &Stimulus,
+) -> Result<Trace, Memory>
+    requires range { IsRunInRange words.now }
+    requires valid { IsValid built.net }
+    requires image { IsImageOf built.net words.now.timing built.image }
+    requires stimulus { IsValidStimulus stimulus.now }
+    requires columns { stimulus.now.columns ≡ input_count built.net }
+    ensures printed { IfOk result (λ trace. IsTrace built.net words.now.timing stimulus.now (trace_bytes trace)) }
+    ensures writable { IfOk result CanPrint }
+{
+    let Built { net, image } = built;
+    let line = TraceLine::new(alloc, &net)?;
+    let mut core = Core::new(alloc, &image, stimulus, words.banks)?;
+    run_to_end(&mut core);
+    let rows = rows_of(alloc, &core)?;
+    Ok(Trace { net, rows, line })
+}
+
+/// What is done of the trace by the end of an order of the machine's ports.
+pub fn by_order(
+    alloc: Global,
+    words: &RunWords,
+    _machine: &Machine,
+    built: Built,
+    stimulus: &Stimulus,
+    order: &Order,
+) -> Result<Output, Memory>
+    requires range { IsRunInRange words.now }
+    requires valid { IsValid built.net }
+    requires image { IsImageOf built.net words.now.timing built.image }
+    requires made { IsMachineImage built.net _machine.now words.now.timing built.image }
+    requires stimulus { IsValidStimulus stimulus.now }
+    requires columns { stimulus.now.columns ≡ input_count built.net }
+    requires order { IsValidOrder (port_count _machine.now) order.now }
+    ensures ended { IfOk result (λ output. EndsInOrder order.now words.now.banks built.net _machine.now words.now.timing stimulus.now (ended_with output)) }
+    ensures writable { IfOk result CanWrite }
+{
+    let Built { net, image } = built;
+    let line = TraceLine::new(alloc, &net)?;
+    let mut core = Core::new(alloc, &image, stimulus, words.banks)?;
+    step_lines(&mut core, order.lines.as_slice());
+    let rows = rows_of(alloc, &core)?;
+    let trace = Trace { net, rows, line };
+    if core.all_done() {
+        return Ok(Output::Trace(trace));
+    }
+    let ending = Ending {
+        rows: core.rows_done(),
+        cycles: stimulus.cycles(),
+    };
+    Ok(Output::Unfinished(trace, ending))
+}
+
+/// Steps all ports, round after round, until they are done.
+fn run_to_end(core: &mut Core<'_>)
+    requires { IsSoundCore core.old }
+    ensures same { IsSameCore core.old core.new }
+    ensures sound { IsSoundCore core.new }
+    ensures done { AreDone core.new }
+{
+    'rounds: while !core.all_done() {
+        core.run_round();
+    }
+}
+
+/// Steps the ports that the lines name, until the last line or until all ports are done: then no later
+/// step would change anything.
+fn step_lines(core: &mut Core<'_>, lines: &[OrderLine])
+    requires { (l : ℕ) (line : OrderLine) → slice_get lines.now l ≡ Some line → line.port < length core.old.image.ports }
+    ensures { HasStepped core.old core.new (flat_map (λ line. replicate line.times line.port) lines.now) }
+{
+    'lines: for l in 0..lines.len() {
+        if core.all_done() {
+            return;
+        }
+        repeat_step(core, lines[l].port, lines[l].times);
+    }
+}
+
+/// Steps a port so many times, or until it does not move: then none of these steps would change
+/// anything.
+fn repeat_step(core: &mut Core<'_>, port: u32, times: u32)
+    requires { port < length core.old.image.ports }
+    ensures { HasStepped core.old core.new (replicate times port) }
+{
+    'steps: for _step in 0..times {
+        match core.apply(port) {
+            CoreStep::Moved(_) => {}
+            CoreStep::NotYet | CoreStep::Done => return,
+        }
+    }
+}
+
+/// The rows that are done.
+fn rows_of(alloc: Global, core: &Core<'_>) -> Result<Rows, Memory>
+    ensures { IfOk result (λ rows. AreShown core.now.image core.now.stimulus (rows_of core.now) rows.rows) }
+{
+    let mut rows = List::new(alloc);
+    'cycles: for c in 0..core.rows_done() {
+        let cells = List::from_slice(alloc, core.cells(c + 1))?;
+        rows.push(CellRow { cells })?;
+    }
+    Ok(Rows { rows })
+}
