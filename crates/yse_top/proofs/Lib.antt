@@ -2,6 +2,7 @@ mod ChainLemmas
 mod CheckLemmas
 mod CommandLemmas
 mod EndLemmas
+mod EndingLemmas
 mod OrderLemmas
 mod OutcomeLemmas
 mod ProperLemmas

@@ -17,7 +17,6 @@ use Rattle.stim_text.specs.Stimuli as stim
 use Rattle.machine_text.specs.declared.machine.Machine.{Machine}
 use Rattle.machine_text.specs.Machines.{default_machine}
 use Rattle.yse_top.specs.declared.output.Output.{Output}
-use Rattle.yse_top.specs.declared.output.Output.TheVariants as output
 use Rattle.yse_top.specs.declared.status.Status.{Status}
 use Rattle.yse_top.specs.declared.status.Status.TheVariants as status
 use Rattle.yse_top.specs.Checks.{After, AfterRead, AfterFile, Ends, Writes, text_of, IsMachineOf, IsNetlistOf, HasNoLoop, HasRoom, IsStimulusOf, HasFewCells, IsOrderOf}
@@ -26,12 +25,13 @@ use Rattle.yse_top.specs.Outcome.{Outcome, done, refusal}
 use Rattle.yse_top.specs.Lines.{too_long_line}
 use Rattle.yse_top.specs.Outputs.{bytes_of}
 use Rattle.yse_top.specs.Readings.{Reading}
-use Rattle.yse_top.specs.Refusals.{Follows, ended_with}
+use Rattle.yse_top.specs.Refusals.{Follows}
 use Rattle.yse_top.specs.Traced.{IsTraceOfFiles}
 use Rattle.yse_top.specs.Orders.{EndsIn, EndsInOrder}
 use Rattle.yse_top.specs.Endings.{ending_in, status_after}
 use Rattle.yse_top.specs.Words.{traced_by}
 use Rattle.yse_top.specs.commands.Run.{AfterMachine, AfterStimulus, WritesTrace, EndsBy, ExpectedRun, ExpectedOn, ExpectedRefer}
+use Rattle.yse_top.proofs.EndingLemmas.{whole_output}
 use Rattle.yse_top.proofs.ProperLemmas.{passes, refuses, refused_once, never_both}
 use Rattle.std.specs.Prelude.{nat_le, length, if◌then◌else◌}
 
@@ -187,12 +187,6 @@ module _ (bytes : Option (List ℕ → List ℕ)) where
   command_traced (command.Refer words) readings output are expected = refer_traced words readings output are expected
   command_traced (command.Order words) readings output are expected = run_traced words words.order readings output are expected
   command_traced (command.Show file) readings output are expected = tt
-
-  -- an output after which nothing is told is the whole one
-  whole_output : (output : Output) → status_after (ending_in output) ≡ status.Done → ended_with output ≡ done (bytes_of output)
-  whole_output (output.Text text) is = refl
-  whole_output (output.Trace trace) is = refl
-  whole_output (output.Unfinished trace ending) is = cc
 
   pub traced : (names : Option (List ℕ → Bool)) (old new : FileCounts) (command : Command) (output : Output) → status_after (ending_in output) ≡ status.Done → Follows names bytes old new (Ok output) (ExpectedOf command) → IfSome (traced_by (Some command)) (IsTraceOfFiles bytes (bytes_of output))
   traced names old new command output whole follows =

@@ -1,0 +1,48 @@
+-- The outcome that an output is, by where its run ended.
+use Rattle.std.proofs.Common.{◌≡◌, ◌∙◌, sym, refl, inl, inr, subst, ℕ, List, [], Option, Some, None, Result, Ok, Err}
+use Rattle.std.specs.Io.KnownBytes.{append_known}
+use Rattle.yse_top.specs.declared.output.Ending.{Ending}
+use Rattle.yse_top.specs.declared.output.Output.{Output}
+use Rattle.yse_top.specs.declared.output.Output.TheVariants as output
+use Rattle.yse_top.specs.declared.status.Status.TheVariants as status
+use Rattle.yse_top.specs.Endings.{ending_in, status_after, IsTold}
+use Rattle.yse_top.specs.Ends.{MayWrite}
+use Rattle.yse_top.specs.Outputs.{bytes_of}
+use Rattle.yse_top.specs.Outcome.{done}
+use Rattle.yse_top.specs.Refusals.{ended_with}
+use Rattle.yse_top.specs.Writing.{TakesLine}
+use Rattle.yse_top.proofs.WritingLemmas.{writes_none, tells_written}
+
+pub ended_status : (output : Output) → status_after (ending_in output) ≡ (ended_with output).status
+ended_status (output.Text text) = refl
+ended_status (output.Trace trace) = refl
+ended_status (output.Unfinished trace ending) = refl
+
+pub ended_output : (output : Output) → bytes_of output ≡ (ended_with output).output
+ended_output (output.Text text) = refl
+ended_output (output.Trace trace) = refl
+ended_output (output.Unfinished trace ending) = refl
+
+-- an output after which nothing is told is the whole one
+pub whole_output : (output : Output) → status_after (ending_in output) ≡ status.Done → ended_with output ≡ done (bytes_of output)
+whole_output (output.Text text) is = refl
+whole_output (output.Trace trace) is = refl
+whole_output (output.Unfinished trace ending) is = cc
+
+module _ {E : Type 0} (taken : E → Option (List ℕ)) (faults : E → ℕ) where
+  -- nothing is told where nothing is to be told
+  quiet : (old new : E) → new ≡ old → TakesLine (taken old) (taken new) (faults old) (faults new) []
+  quiet old new same = subst (λ (s : E). TakesLine (taken old) (taken s) (faults old) (faults s) []) (sym same) (tells_written (taken old) (taken old) (faults old) (faults old) (Ok tt) [] (writes_none (taken old) (faults old)))
+
+  pub told_line : (output : Output) (old new : E) → IsTold old new (taken old) (taken new) (faults old) (faults new) (ending_in output) → TakesLine (taken old) (taken new) (faults old) (faults new) (ended_with output).line
+  told_line (output.Text text) old new told = quiet old new told
+  told_line (output.Trace trace) old new told = quiet old new told
+  told_line (output.Unfinished trace ending) old new told = told
+
+  pub told_nothing : (ending : Option Ending) (old new : E) → status_after ending ≡ status.Done → IsTold old new (taken old) (taken new) (faults old) (faults new) ending → new ≡ old
+  told_nothing None old new is told = told
+  told_nothing (Some ending) old new is told = cc
+
+pub may_write : (ending : Option Ending) → MayWrite (status_after ending)
+may_write None = tt
+may_write (Some ending) = tt
