@@ -1,0 +1,2 @@
+-- Lemmas on words.
+mod AppLemmas

@@ -1,0 +1,7 @@
+//! The words of a command line, and the command that they ask for.
+#![tactic(auto)]
+
+mod command;
+mod options;
+
+pub use command::{Command, RunWords, WordNo};
