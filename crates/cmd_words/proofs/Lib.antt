@@ -1,2 +1,3 @@
 -- Lemmas on words.
 mod AppLemmas
+mod WalkLemmas
