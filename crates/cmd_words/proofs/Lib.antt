@@ -1,3 +1,4 @@
 -- Lemmas on words.
 mod AppLemmas
 mod WalkLemmas
+mod RowLemmas

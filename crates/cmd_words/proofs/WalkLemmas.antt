@@ -35,7 +35,7 @@ gate_none true = refl
 gate_none false = refl
 
 -- the rows at the end of a walk, where it has no fault
-pub outcome : List Word → Walk → List Word → Option (List Row)
+unfoldable pub outcome : List Word → Walk → List Word → Option (List Row)
 outcome names walk words =
     let end = (fold (walked (rules_with names) []) walk words).held in
     gate (fine (walk_fault (shape_with names) [] walk words))
