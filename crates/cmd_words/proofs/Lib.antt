@@ -2,3 +2,4 @@
 mod AppLemmas
 mod WalkLemmas
 mod RowLemmas
+mod ParseLemmas

@@ -26,7 +26,7 @@ defaults_kept (name ∷ names) rows = ap (λ (rows : List Row). fold with_defaul
     same true = refl
     same false = refl
 
-same_or : {X : Type 0} (b : Bool) (x : X) → (if b then x else x) ≡ x
+pub same_or : {X : Type 0} (b : Bool) (x : X) → (if b then x else x) ≡ x
 same_or true x = refl
 same_or false x = refl
 
