@@ -3,3 +3,4 @@ mod AppLemmas
 mod WalkLemmas
 mod RowLemmas
 mod ParseLemmas
+mod MatchLemmas

@@ -76,7 +76,7 @@ apart_sym one other apart = false_from_ne_true (bytes_eq other one) (λ same.
 
 -- ---- rows hold what was found
 
-abbrev listed : List Word → Option (List Word)
+abbrev pub listed : List Word → Option (List Word)
 listed [] = None
 listed (first ∷ words) = Some (first ∷ words)
 
@@ -136,7 +136,7 @@ shows_option rows found name word shows apart fresh =
 
 -- ---- uses in a row
 
-abbrev AreShown : Option (List Row) → Option Found → Type 0
+abbrev pub AreShown : Option (List Row) → Option Found → Type 0
 AreShown None None = Unit {0}
 AreShown (Some rows) (Some found) = Shows rows found
 AreShown _ _ = ⊥

@@ -74,3 +74,8 @@ pub record IsParsedAs (names words : List Word) (matches : ArgMatches) : Type 0 
 abbrev pub refusal_of : ErrorKind → WordNo
 refusal_of OutOfMemory = Memory
 refusal_of _ = Usage
+
+-- two positional arguments, where there are so many
+abbrev pub both_of : List Word → Option (Word × Word)
+both_of (one ∷ other ∷ []) = Some (one, other)
+both_of _ = None

@@ -3,5 +3,6 @@
 
 mod command;
 mod options;
+mod parsing;
 
 pub use command::{Command, RunWords, WordNo};
