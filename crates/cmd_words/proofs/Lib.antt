@@ -4,3 +4,4 @@ mod WalkLemmas
 mod RowLemmas
 mod ParseLemmas
 mod MatchLemmas
+mod LookLemmas
