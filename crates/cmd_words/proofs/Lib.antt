@@ -5,3 +5,4 @@ mod RowLemmas
 mod ParseLemmas
 mod MatchLemmas
 mod LookLemmas
+mod ArgumentLemmas
