@@ -6,3 +6,5 @@ mod ParseLemmas
 mod MatchLemmas
 mod LookLemmas
 mod ArgumentLemmas
+mod AskLemmas
+mod FormLemmas

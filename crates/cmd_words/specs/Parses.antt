@@ -75,6 +75,11 @@ abbrev pub refusal_of : ErrorKind → WordNo
 refusal_of OutOfMemory = Memory
 refusal_of _ = Usage
 
+-- one positional argument, where there is one
+abbrev pub one_of : List Word → Option Word
+one_of (one ∷ []) = Some one
+one_of _ = None
+
 -- two positional arguments, where there are so many
 abbrev pub both_of : List Word → Option (Word × Word)
 both_of (one ∷ other ∷ []) = Some (one, other)

@@ -4,5 +4,7 @@
 mod command;
 mod options;
 mod parsing;
+mod reading;
+mod settings;
 
 pub use command::{Command, RunWords, WordNo};

@@ -5,7 +5,7 @@ ghost use Rattle.std.specs.String.{string_bytes};
 ghost use Rattle.clap.specs.Words.{app_of, kind_of, rule_of};
 ghost use Rattle.cmd_words.specs.Arguments.{has_name};
 ghost use Rattle.cmd_words.specs.Asked.{IsRefusal};
-ghost use Rattle.cmd_words.specs.Parses.{files_id, files_rule, option_rule, app_with, both_of, texts_in, has_no_short, is_short, arguments_found, value_found, IsParsedAs, refusal_of};
+ghost use Rattle.cmd_words.specs.Parses.{files_id, files_rule, option_rule, app_with, one_of, both_of, texts_in, has_no_short, is_short, arguments_found, value_found, IsParsedAs, refusal_of};
 ghost use Rattle.cmd_words.specs.Uses.{parsed};
 
 use crate::command::WordNo;
@@ -54,6 +54,16 @@ pub fn two_files<'b, 'a>(matches: &'b ArgMatches<'a>) -> Option<(&'a str, &'a st
 {
     match matches.get_strs(FILES) {
         Some([netlist, stimulus]) => Some((*netlist, *stimulus)),
+        _ => None,
+    }
+}
+
+/// The one positional argument, where there is one.
+pub fn one_file<'b, 'a>(matches: &'b ArgMatches<'a>) -> Option<&'a str>
+    ensures { option_map (λ file. file.now) result ≡ one_of (arguments_found matches.now) }
+{
+    match matches.get_strs(FILES) {
+        Some([file]) => Some(*file),
         _ => None,
     }
 }
