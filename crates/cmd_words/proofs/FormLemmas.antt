@@ -174,3 +174,11 @@ pub read_by_form : (words : List Word) (result : Result Command WordNo) → Answ
 read_by_form words (Ok command) e = form_from words command e
 read_by_form words (Err refusal) (inl memory) = inl memory
 read_by_form words (Err refusal) (inr usage) = inr (usage.0, λ command form. let bad : None ≡ Some command = sym usage.1 ∙ asked_from words command form in cc)
+
+-- ---- laws
+
+pub one_form : (words : List Word) (one other : Command) → HasForm words one → HasForm words other → one ≡ other
+one_form words one other first second = some_same (sym (asked_from words one first) ∙ asked_from words other second)
+  where
+    some_same : Some one ≡ Some other → one ≡ other
+    some_same e = cc

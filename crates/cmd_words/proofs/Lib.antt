@@ -8,3 +8,4 @@ mod LookLemmas
 mod ArgumentLemmas
 mod AskLemmas
 mod FormLemmas
+mod RangeLemmas

@@ -1,5 +1,5 @@
 -- The form of the words of each command.
-use Rattle.std.specs.Prelude.{◌≡◌, ◌⊎◌, ◌≤◌, ⊤, ℕ, List, [], ◌∷◌, Some, codes}
+use Rattle.std.specs.Prelude.{◌≡◌, ◌↔◌, ◌⊎◌, ◌≤◌, ⊤, ℕ, List, [], ◌∷◌, Some, codes}
 use Rattle.net_defs.specs.Valid.{IsValidTiming}
 use Rattle.cmd_words.specs.declared.command.Command.{Command}
 use Rattle.cmd_words.specs.declared.command.Command.TheVariants.{Run, Refer, Order, Show}
@@ -8,6 +8,7 @@ use Rattle.cmd_words.specs.declared.command.WordNo.{WordNo}
 use Rattle.cmd_words.specs.declared.command.WordNo.TheVariants.{Usage, Memory}
 use Rattle.cmd_words.specs.declared.options.TheConstants.{MAX_BANKS}
 use Rattle.cmd_words.specs.Arguments.{Word, AreArguments, value_given}
+use Rattle.cmd_words.specs.Asked.{asked}
 use Rattle.cmd_words.specs.Settings.{run_options, refer_options, order_options, show_options, timing_by, banks_by}
 
 -- the name of a command, and behind it these positional arguments and options
@@ -55,6 +56,10 @@ IsInRange (Show netlist) = ⊤
 -- words are of the form of one command at most
 abbrev pub HasOneForm : Type 0
 HasOneForm = (words : List Word) (one other : Command) → HasForm words one → HasForm words other → one ≡ other
+
+-- the command that words ask for, as a function, is the one whose form they have
+abbrev pub AreFormsAsked : Type 0
+AreFormsAsked = (words : List Word) (command : Command) → asked words ≡ Some command ↔ HasForm words command
 
 -- what has the form of a command is in range
 abbrev pub AreFormsInRange : Type 0

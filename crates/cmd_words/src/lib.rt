@@ -2,9 +2,12 @@
 #![tactic(auto)]
 
 mod command;
+pub mod law;
 mod options;
 mod parsing;
 mod reading;
 mod settings;
 
 pub use command::{Command, RunWords, WordNo};
+pub use options::MAX_BANKS;
+pub use reading::read_words;

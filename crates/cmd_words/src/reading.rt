@@ -19,9 +19,21 @@ use clap::ArgMatches;
 use seen_list::Text;
 use std::alloc::Global;
 
-/// The command that the words ask for.
+/// The command that the words ask for. The refusal for want of memory is free.
+#[tactic(auto, using(crate::proofs::FormLemmas::read_by_form, crate::proofs::RangeLemmas::read_in_range))]
+pub fn read_words(alloc: Global, words: &[String]) -> Result<Command, WordNo>
+    // A command exactly where the words are of its form, and no command exactly where they are of none.
+    ensures form { MatchResult result (HasForm (map string_bytes words.now)) (HasNoForm (map string_bytes words.now)) }
+
+    // The same by the function of words that `forms_are_asked` speaks of.
+    ensures asked { Answers result (asked (map string_bytes words.now)) }
+    ensures range { IfOk result IsInRange }
+{
+    read_asked(alloc, words)
+}
+
 #[tactic(auto, unfolding(crate::specs::Asked::asked))]
-pub fn read_asked(alloc: Global, words: &[String]) -> Result<Command, WordNo>
+fn read_asked(alloc: Global, words: &[String]) -> Result<Command, WordNo>
     ensures { Answers result (asked (map string_bytes words.now)) }
 {
     match words {
