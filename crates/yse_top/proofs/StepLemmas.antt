@@ -20,7 +20,7 @@ use Rattle.event_defs.specs.declared.place.CoreStep.{CoreStep}
 use Rattle.event_defs.specs.declared.place.CoreStep.TheVariants.{Moved, NotYet, Done}
 use Rattle.event_defs.specs.Steps.{CoreState, AreSteps, IsStep, AllDone}
 use Rattle.event_core.specs.Core.{CoreView, IsSameCore, IsSoundCore, Applies, AreDone, state_of, turns_of, rows_of}
-use Rattle.yse_top.specs.Orders.{HasStepped}
+use Rattle.yse_top.specs.Stepped.{HasStepped}
 
 -- ---- steps of states
 

@@ -12,6 +12,7 @@ pub mod Outputs
 pub mod Readings
 pub mod Refusals
 pub mod Statuses
+pub mod Stepped
 pub mod Traced
 pub mod Words
 pub mod Writing

@@ -10,8 +10,7 @@ use Rattle.net_defs.specs.Time.{cycle_count, turn_count}
 use Rattle.net_defs.specs.Trace.{trace_to}
 use Rattle.image_defs.specs.declared.image.Image.{Image}
 use Rattle.event_defs.specs.declared.place.CoreStep.{CoreStep}
-use Rattle.event_defs.specs.Steps.{CoreState, AreSteps, AreFirstSteps, AllDone, rows_done}
-use Rattle.event_core.specs.Core.{CoreView, IsSameCore, state_of, turns_of}
+use Rattle.event_defs.specs.Steps.{CoreState, AreFirstSteps, AllDone, rows_done}
 use Rattle.stim_text.specs.declared.order.Order.{Order}
 use Rattle.stim_text.specs.Orders.{steps_of}
 use Rattle.yse_compile.specs.declared.compiler.Compiled.{Compiled}
@@ -45,9 +44,3 @@ pub record EndsInOrder (order : Order) (banks : ℕ) (net : Netlist) (machine : 
   pub states : List State
   pub simulation : IsSimulation net timing stimulus states
   pub ends : EndsIn net timing stimulus states image state outcome
-
--- a core has made the steps of these ports, one by one
-pub record HasStepped (old new : CoreView) (order : List ℕ) : Type 0 where
-  pub same : IsSameCore old new
-  pub answers : List CoreStep
-  pub steps : AreSteps old.image old.stimulus old.banks (turns_of old) order (state_of old) answers (state_of new)

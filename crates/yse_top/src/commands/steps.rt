@@ -10,7 +10,8 @@ ghost use Rattle.event_core.specs.Core.{AreDone, IsSameCore, IsSoundCore, rows_o
 ghost use Rattle.cmd_words.specs.Forms.{IsRunInRange};
 ghost use Rattle.yse_top.specs.Checks.{port_count};
 ghost use Rattle.yse_top.specs.Images.{IsImageOf, AreShown};
-ghost use Rattle.yse_top.specs.Orders.{EndsInOrder, IsMachineImage, HasStepped};
+ghost use Rattle.yse_top.specs.Orders.{EndsInOrder, IsMachineImage};
+ghost use Rattle.yse_top.specs.Stepped.{HasStepped};
 ghost use Rattle.yse_top.specs.Outputs.{trace_bytes, CanPrint, CanWrite};
 ghost use Rattle.yse_top.specs.Refusals.{ended_with};
 

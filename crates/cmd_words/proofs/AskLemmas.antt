@@ -1,0 +1,30 @@
+-- What arguments and values say, said of a parse.
+use Rattle.std.proofs.Common.{◌≡◌, List, [], ◌∷◌, Option, Some, None, refl, sym, ap, ap₂, ◌∙◌}
+use Rattle.std.specs.Prelude.{option_and_then}
+use Rattle.clap.specs.declared.parser.matches.ArgMatches.{ArgMatches}
+use Rattle.cmd_words.specs.declared.command.RunWords.{RunWords}
+use Rattle.cmd_words.specs.Arguments.{Word, value_given}
+use Rattle.cmd_words.specs.Asked.{Values, of_two_files, run_by, says}
+use Rattle.cmd_words.specs.Parses.{arguments_found, both_of, value_found, IsParsedAs}
+use Rattle.cmd_words.specs.Uses.{Found}
+
+-- what words say is what a parse of them found says
+pub says_found : {T : Type 0} (names words : List Word) (reading : List Word → Values → Option T) (matches : ArgMatches) → IsParsedAs names words matches
+    → says names reading words ≡ reading (arguments_found matches) (value_found matches)
+says_found names words reading matches is =
+    ap (option_and_then (λ (found : Found). reading found.arguments (value_given found.given))) is.parsed_as ∙ sym (ap₂ reading is.arguments is.values)
+
+both_are : (arguments : List Word) (value : Values) (netlist stimulus : Word) → both_of arguments ≡ Some (netlist, stimulus) → of_two_files arguments value ≡ run_by netlist stimulus value
+both_are (one ∷ other ∷ []) value netlist stimulus e =
+    ap (λ (files : Word × Word). run_by files.0 files.1 value) (same_files (one, other) (netlist, stimulus) e)
+  where
+    same_files : (files others : Word × Word) → Some files ≡ Some others → files ≡ others
+    same_files files others e = cc
+both_are [] value netlist stimulus e = cc
+both_are (one ∷ []) value netlist stimulus e = cc
+both_are (one ∷ other ∷ third ∷ others) value netlist stimulus e = cc
+
+pub says_two : (names words : List Word) (matches : ArgMatches) (netlist stimulus : Word) → IsParsedAs names words matches
+    → Some (netlist, stimulus) ≡ both_of (arguments_found matches) → says names of_two_files words ≡ run_by netlist stimulus (value_found matches)
+says_two names words matches netlist stimulus is both =
+    says_found names words of_two_files matches is ∙ both_are (arguments_found matches) (value_found matches) netlist stimulus (sym both)

@@ -1,0 +1,11 @@
+-- Lemmas on words.
+mod AppLemmas
+mod WalkLemmas
+mod RowLemmas
+mod ParseLemmas
+mod MatchLemmas
+mod LookLemmas
+mod ArgumentLemmas
+mod AskLemmas
+mod FormLemmas
+mod RangeLemmas

@@ -1,0 +1,82 @@
+-- The numbers of a command that words ask for are in their ranges.
+use Rattle.std.proofs.Common.{◌≡◌, refl, sym, subst, ℕ, ◌≤◌, Bool, true, false, ◌&&◌, List, length, Option, None, Some, arith, codes}
+use Rattle.std.specs.Prelude.{nat_le, if◌then◌else◌, IfOk, Result, Ok, Err, MatchResult}
+use Rattle.std.proofs.lemmas.Bool.{leb-true}
+use Rattle.limits.specs.declared.TheConstants.{MAX_UNITS}
+use Rattle.text_lines.specs.Numbers.{number_of, within}
+use Rattle.net_defs.specs.declared.timing.Timing.{Timing}
+use Rattle.net_defs.specs.declared.timing.Mode.{Mode}
+use Rattle.net_defs.specs.declared.timing.Mode.TheVariants.{Rank, Unit}
+use Rattle.net_defs.specs.declared.timing.Init.{Init}
+use Rattle.net_defs.specs.Valid.{IsValidTiming}
+use Rattle.cmd_words.specs.declared.command.Command.{Command}
+use Rattle.cmd_words.specs.declared.command.Command.TheVariants.{Run, Refer, Order, Show}
+use Rattle.cmd_words.specs.declared.command.RunWords.{RunWords}
+use Rattle.cmd_words.specs.declared.command.WordNo.{WordNo}
+use Rattle.cmd_words.specs.declared.options.TheConstants.{MAX_BANKS}
+use Rattle.cmd_words.specs.Arguments.{Word, value_given}
+use Rattle.cmd_words.specs.Asked.{Values, Answers, asked}
+use Rattle.cmd_words.specs.Forms.{HasForm, HasNoForm, IsInRange, IsRun, IsRunInRange}
+use Rattle.cmd_words.specs.Settings.{allows_units, count_of, count_or, mode_of, init_of, timing_by, timing_with, banks_by}
+use Rattle.cmd_words.proofs.FormLemmas.{form_from}
+
+-- a number within limits
+ranged : (least most : ℕ) (number : Option ℕ) (n : ℕ) → within least most number ≡ Some n → (least ≤ n) × (n ≤ most)
+ranged least most None n is = cc
+ranged least most (Some m) n is = by (nat_le least m) (nat_le m most) refl refl is
+  where
+    by : (a b : Bool) → nat_le least m ≡ a → nat_le m most ≡ b → (if a && b then Some m else None) ≡ Some n → (least ≤ n) × (n ≤ most)
+    by true true p q e = let same : m ≡ n = cc in rw (sym same) (leb-true least m p, leb-true m most q)
+    by true false p q e = cc
+    by false b p q e = cc
+
+-- a count, or one where none is given
+counted : (most : ℕ) (value : Option Word) (n : ℕ) → 1 ≤ most → count_or most 1 value ≡ Some n → (1 ≤ n) × (n ≤ most)
+counted most None n some is = let same : 1 ≡ n = cc in rw (sym same) (omega arith, some)
+counted most (Some digits) n some is = by (nat_le (length digits) 10) is
+  where
+    by : (b : Bool) → (if b then within 1 most (number_of digits) else None) ≡ Some n → (1 ≤ n) × (n ≤ most)
+    by true e = ranged 1 most (number_of digits) n e
+    by false e = cc
+
+-- in rank order a cycle is one turn
+one_turn : (mode : Mode) (units : ℕ) → allows_units mode units ≡ true → mode ≡ Rank → units ≡ 1
+one_turn Rank units allows is = by_test
+  where
+    by_test : units ≡ 1
+    by_test = grind arith
+one_turn Unit units allows is = cc
+
+timed : (value : Option Word) (mode : Option Mode) (units : Option ℕ) (init : Option Init) (timing : Timing) → count_or MAX_UNITS 1 value ≡ units
+    → timing_with mode units init ≡ Some timing → IsValidTiming timing
+timed value None units init timing are is = cc
+timed value (Some mode) None init timing are is = cc
+timed value (Some mode) (Some units) None timing are is = cc
+timed value (Some mode) (Some units) (Some init) timing are is = by (allows_units mode units) refl is
+  where
+    by : (b : Bool) → allows_units mode units ≡ b → (if b then Some (record { mode = mode; units = units; init = init }) else None) ≡ Some timing → IsValidTiming timing
+    by true allows e =
+        let same : record { mode = mode; units = units; init = init } ≡ timing = cc in
+        let range = counted MAX_UNITS value units (omega arith) are in
+        subst IsValidTiming same (record { some = range.0; few = range.1; rank = one_turn mode units allows })
+    by false allows e = cc
+
+run_in_range : (name : Word) (options words arguments : List Word) (run : RunWords) → IsRun name options words arguments run → IsRunInRange run
+run_in_range name options words arguments run form =
+    let value : Values = value_given form.given in
+    let banks = counted MAX_BANKS (value (codes "banks")) run.banks (omega arith) form.banks in
+    record {
+      timing = timed (value (codes "units")) (mode_of (value (codes "mode"))) (count_or MAX_UNITS 1 (value (codes "units"))) (init_of (value (codes "init"))) run.timing refl form.timing;
+      banks_some = banks.0;
+      banks_few = banks.1;
+    }
+
+pub in_range : (words : List Word) (command : Command) → HasForm words command → IsInRange command
+in_range words (Run run) form = run_in_range _ _ words _ run form
+in_range words (Refer run) form = run_in_range _ _ words _ run form
+in_range words (Order run) form = run_in_range _ _ words _ run form
+in_range words (Show netlist) form = tt
+
+pub read_in_range : (words : List Word) (result : Result Command WordNo) → Answers result (asked words) → IfOk result IsInRange
+read_in_range words (Ok command) answers = in_range words command (form_from words command answers)
+read_in_range words (Err refusal) answers = tt

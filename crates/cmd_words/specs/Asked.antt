@@ -1,0 +1,65 @@
+-- The command that words ask for, as a function.
+use Rattle.std.specs.Prelude.{◌≡◌, ◌⊎◌, List, [], ◌∷◌, if◌then◌else◌, Option, Some, None, option_map, option_and_then, Result, MatchResult, codes, bytes_eq}
+use Rattle.net_defs.specs.declared.timing.Timing.{Timing}
+use Rattle.std.specs.Prelude.{ℕ}
+use Rattle.cmd_words.specs.declared.command.Command.{Command}
+use Rattle.cmd_words.specs.declared.command.Command.TheVariants.{Run, Refer, Order, Show}
+use Rattle.cmd_words.specs.declared.command.RunWords.{RunWords}
+use Rattle.cmd_words.specs.declared.command.WordNo.{WordNo}
+use Rattle.cmd_words.specs.declared.command.WordNo.TheVariants.{Usage, Memory}
+use Rattle.cmd_words.specs.Arguments.{Word, value_given}
+use Rattle.cmd_words.specs.Settings.{run_options, refer_options, order_options, show_options, timing_by, banks_by}
+use Rattle.cmd_words.specs.Uses.{parsed}
+
+-- the value of each option that is given
+abbrev pub Values : Type 0
+Values = Word → Option Word
+
+abbrev pub run_with : Word → Word → Values → Option Timing → Option ℕ → Option RunWords
+run_with netlist stimulus value (Some timing) (Some banks) = Some (record {
+  netlist = netlist;
+  stimulus = stimulus;
+  machine = value (codes "machine");
+  order = value (codes "order");
+  timing = timing;
+  banks = banks;
+})
+run_with netlist stimulus value _ _ = None
+
+-- a simulation, by its files and the values of its options
+abbrev pub run_by : Word → Word → Values → Option RunWords
+run_by netlist stimulus value = run_with netlist stimulus value (timing_by value) (banks_by value)
+
+-- a simulation, by its positional arguments
+abbrev pub of_two_files : List Word → Values → Option RunWords
+of_two_files (netlist ∷ stimulus ∷ []) value = run_by netlist stimulus value
+of_two_files _ value = None
+
+abbrev pub of_one_file : List Word → Values → Option Word
+of_one_file (netlist ∷ []) value = Some netlist
+of_one_file _ value = None
+
+-- what the words behind the name of a command say, by what their arguments and values say
+abbrev pub says : {T : Type 0} → List Word → (List Word → Values → Option T) → List Word → Option T
+says names reading words = option_and_then (λ found. reading found.arguments (value_given found.given)) (parsed names words)
+
+abbrev pub asked_by : Word → List Word → Option Command
+asked_by name words =
+    if bytes_eq name (codes "run") then option_map Run (says run_options of_two_files words)
+    else if bytes_eq name (codes "refer") then option_map Refer (says refer_options of_two_files words)
+    else if bytes_eq name (codes "order") then option_map Order (says order_options of_two_files words)
+    else if bytes_eq name (codes "show") then option_map Show (says show_options of_one_file words)
+    else None
+
+-- the command of the words, and none where they are of no form
+unfoldable pub asked : List Word → Option Command
+asked [] = None
+asked (name ∷ words) = asked_by name words
+
+-- memory ran out, or nothing is asked
+abbrev pub IsRefusal : {T : Type 0} → Option T → WordNo → Type 0
+IsRefusal answer refusal = (refusal ≡ Memory) ⊎ ((refusal ≡ Usage) × (answer ≡ None))
+
+-- the answer, or a refusal
+abbrev pub Answers : {T : Type 0} → Result T WordNo → Option T → Type 0
+Answers result answer = MatchResult result (λ found. answer ≡ Some found) (IsRefusal answer)

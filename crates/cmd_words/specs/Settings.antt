@@ -1,0 +1,73 @@
+-- The options of each command, and what the values of options say.
+use Rattle.std.specs.Prelude.{◌==◌, ℕ, Bool, true, List, [], ◌∷◌, length, nat_le, if◌then◌else◌, Option, Some, None, codes, bytes_eq}
+use Rattle.limits.specs.declared.TheConstants.{MAX_UNITS}
+use Rattle.text_lines.specs.Numbers.{number_of, within}
+use Rattle.net_defs.specs.declared.timing.Timing.{Timing}
+use Rattle.net_defs.specs.declared.timing.Mode.{Mode}
+use Rattle.net_defs.specs.declared.timing.Mode.TheVariants.{Rank, Unit}
+use Rattle.net_defs.specs.declared.timing.Init.{Init}
+use Rattle.net_defs.specs.declared.timing.Init.TheVariants.{Undef, Zero}
+use Rattle.cmd_words.specs.declared.options.TheConstants.{MAX_BANKS}
+use Rattle.cmd_words.specs.Arguments.{Word}
+
+-- ---- the options of each command
+
+abbrev pub run_options : List Word
+run_options = codes "machine" ∷ codes "mode" ∷ codes "units" ∷ codes "init" ∷ []
+
+abbrev pub refer_options : List Word
+refer_options = codes "mode" ∷ codes "units" ∷ codes "init" ∷ []
+
+abbrev pub order_options : List Word
+order_options = codes "machine" ∷ codes "mode" ∷ codes "units" ∷ codes "init" ∷ codes "order" ∷ codes "banks" ∷ []
+
+abbrev pub show_options : List Word
+show_options = []
+
+-- ---- what one value says
+
+-- a number of at most ten digits, from 1 to `most`
+abbrev pub count_of : ℕ → Word → Option ℕ
+count_of most digits = if nat_le (length digits) 10 then within 1 most (number_of digits) else None
+
+-- the same, and `missing` where none is given
+abbrev pub count_or : ℕ → ℕ → Option Word → Option ℕ
+count_or most missing None = Some missing
+count_or most missing (Some digits) = count_of most digits
+
+-- the mode, and rank order where none is given
+abbrev pub mode_of : Option Word → Option Mode
+mode_of None = Some Rank
+mode_of (Some value) =
+    if bytes_eq value (codes "rank") then Some Rank
+    else if bytes_eq value (codes "unit") then Some Unit
+    else None
+
+-- the initial value, and undefined where none is given
+abbrev pub init_of : Option Word → Option Init
+init_of None = Some Undef
+init_of (Some value) =
+    if bytes_eq value (codes "x") then Some Undef
+    else if bytes_eq value (codes "0") then Some Zero
+    else None
+
+-- ---- what the values say together
+
+-- in rank order a cycle is one turn
+abbrev pub allows_units : Mode → ℕ → Bool
+allows_units Rank units = units == 1
+allows_units Unit units = true
+
+abbrev pub timing_with : Option Mode → Option ℕ → Option Init → Option Timing
+timing_with (Some mode) (Some units) (Some init) =
+    if allows_units mode units then Some (record { mode = mode; units = units; init = init }) else None
+timing_with _ _ _ = None
+
+-- the timing that the values of options say: 1 to 4,096 turns a cycle, and 1 where none are given
+abbrev pub timing_by : (Word → Option Word) → Option Timing
+timing_by value =
+    timing_with (mode_of (value (codes "mode"))) (count_or MAX_UNITS 1 (value (codes "units"))) (init_of (value (codes "init")))
+
+-- the words of each send: 1 to 8, and 1 where none are given
+abbrev pub banks_by : (Word → Option Word) → Option ℕ
+banks_by value = count_or MAX_BANKS 1 (value (codes "banks"))

@@ -1,0 +1,58 @@
+//! Commands, and why words are no command.
+
+use net_defs::Timing;
+use seen_list::{Memory, Text};
+
+/// What a simulation is asked for: its files, and its options, each with its default where it is not
+/// given.
+#[derive(Drop)]
+pub struct RunWords {
+    /// The file of the netlist.
+    pub netlist: Text,
+    /// The file of the stimulus.
+    pub stimulus: Text,
+    /// The file of the machine. `None` stands for the default machine.
+    pub machine: Option<Text>,
+    /// The file of the order of the ports. `None` stands for rounds.
+    pub order: Option<Text>,
+    /// How the netlist is run in time. It is valid: `IsInRange`.
+    pub timing: Timing,
+    /// The words that the crossbar has for each send, 1 to 8.
+    pub banks: u32,
+}
+
+/// What words ask for.
+#[derive(Drop)]
+pub enum Command {
+    /// The trace of the simulation, by the compiled machine.
+    Run(RunWords),
+    /// The same trace, by the reference simulation.
+    Refer(RunWords),
+    /// The same trace, by the compiled machine under an order of its ports.
+    Order(RunWords),
+    /// The canonical text of a netlist.
+    Show {
+        /// The file of the netlist.
+        netlist: Text,
+    },
+}
+
+/// Why words are refused.
+#[derive(Clone, Copy, Debug, PartialEq, Eq)]
+pub enum WordNo {
+    /// The words are of the form of no command.
+    Usage,
+    /// There was not enough memory to read the words.
+    Memory,
+}
+
+impl From<Memory> for WordNo {
+    ghost use Rattle.std.specs.Prelude.{◌≡◌};
+    ghost use Rattle.cmd_words.specs.declared.command.WordNo.TheVariants.{Memory as NoMemory};
+
+    ghost from_gives = { λ _ e. e ≡ NoMemory };
+
+    fn from(_refused: Memory) -> WordNo {
+        WordNo::Memory
+    }
+}

@@ -1,0 +1,13 @@
+//! The words of a command line, and the command that they ask for.
+#![tactic(auto)]
+
+mod command;
+pub mod law;
+mod options;
+mod parsing;
+mod reading;
+mod settings;
+
+pub use command::{Command, RunWords, WordNo};
+pub use options::MAX_BANKS;
+pub use reading::read_words;

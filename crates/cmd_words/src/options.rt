@@ -1,0 +1,16 @@
+//! The options of each command. A command that is to have a further option gets its name here.
+
+/// The most words that the crossbar has for a send.
+pub const MAX_BANKS: u32 = 8;
+
+/// The options of `run`.
+pub static RUN: [&str; 4] = ["machine", "mode", "units", "init"];
+
+/// The options of `refer`.
+pub static REFER: [&str; 3] = ["mode", "units", "init"];
+
+/// The options of `order`.
+pub static ORDER: [&str; 6] = ["machine", "mode", "units", "init", "order", "banks"];
+
+/// The options of `show`: none.
+pub static SHOW: [&str; 0] = [];

@@ -1,0 +1,155 @@
+//! The reader of words: the first word picks the command, and the others are parsed by its options.
+
+ghost use Rattle.std.specs.Prelude.{◌≡◌, false, map, option_map, codes, MatchResult, IfOk};
+ghost use Rattle.std.specs.String.{string_bytes};
+ghost use Rattle.cmd_words.specs.declared.command.Command.TheVariants as command;
+ghost use Rattle.cmd_words.specs.declared.command.WordNo.{WordNo as Refusal};
+ghost use Rattle.cmd_words.specs.declared.command.WordNo.TheVariants.{Memory as NoMemory};
+ghost use Rattle.cmd_words.specs.Arguments.{has_name};
+ghost use Rattle.cmd_words.specs.Asked.{Answers, asked, asked_by, says, of_two_files, of_one_file, run_by};
+ghost use Rattle.cmd_words.specs.Forms.{HasForm, HasNoForm, IsInRange};
+ghost use Rattle.cmd_words.specs.Parses.{files_id, texts_in, arguments_found, value_found};
+ghost use Rattle.cmd_words.specs.Settings.{run_options, refer_options, order_options, show_options};
+
+use crate::command::{Command, RunWords, WordNo};
+use crate::options::{ORDER, REFER, RUN, SHOW};
+use crate::parsing::{one_file, parse, two_files, value};
+use crate::settings::{banks, timing};
+use clap::ArgMatches;
+use seen_list::Text;
+use std::alloc::Global;
+
+/// The command that the words ask for. The refusal for want of memory is free.
+#[tactic(auto, using(crate::proofs::FormLemmas::read_by_form, crate::proofs::RangeLemmas::read_in_range))]
+pub fn read_words(alloc: Global, words: &[String]) -> Result<Command, WordNo>
+    // A command exactly where the words are of its form, and no command exactly where they are of none.
+    ensures form { MatchResult result (HasForm (map string_bytes words.now)) (HasNoForm (map string_bytes words.now)) }
+
+    // The same by the function of words that `forms_are_asked` speaks of.
+    ensures asked { Answers result (asked (map string_bytes words.now)) }
+    ensures range { IfOk result IsInRange }
+{
+    read_asked(alloc, words)
+}
+
+#[tactic(auto, unfolding(crate::specs::Asked::asked))]
+fn read_asked(alloc: Global, words: &[String]) -> Result<Command, WordNo>
+    ensures { Answers result (asked (map string_bytes words.now)) }
+{
+    match words {
+        [name, others @ ..] => read_command(alloc, name.as_bytes(), others),
+        [] => Err(WordNo::Usage),
+    }
+}
+
+fn read_command(alloc: Global, name: &[u8], words: &[String]) -> Result<Command, WordNo>
+    ensures { Answers result (asked_by name.now (map string_bytes words.now)) }
+{
+    if name == b"run".as_slice() {
+        run(alloc, words)
+    } else if name == b"refer".as_slice() {
+        refer(alloc, words)
+    } else if name == b"order".as_slice() {
+        order(alloc, words)
+    } else if name == b"show".as_slice() {
+        show(alloc, words)
+    } else {
+        Err(WordNo::Usage)
+    }
+}
+
+// ---- one function a command
+
+fn run(alloc: Global, words: &[String]) -> Result<Command, WordNo>
+    ensures { Answers result (option_map command.Run (says run_options of_two_files (map string_bytes words.now))) }
+{
+    let words = simulation(alloc, words, RUN.as_slice())?;
+    Ok(Command::Run(words))
+}
+
+fn refer(alloc: Global, words: &[String]) -> Result<Command, WordNo>
+    ensures { Answers result (option_map command.Refer (says refer_options of_two_files (map string_bytes words.now))) }
+{
+    let words = simulation(alloc, words, REFER.as_slice())?;
+    Ok(Command::Refer(words))
+}
+
+fn order(alloc: Global, words: &[String]) -> Result<Command, WordNo>
+    ensures { Answers result (option_map command.Order (says order_options of_two_files (map string_bytes words.now))) }
+{
+    let words = simulation(alloc, words, ORDER.as_slice())?;
+    Ok(Command::Order(words))
+}
+
+fn show(alloc: Global, words: &[String]) -> Result<Command, WordNo>
+    ensures { Answers result (option_map command.Show (says show_options of_one_file (map string_bytes words.now))) }
+{
+    let netlist = netlist(alloc, words, SHOW.as_slice())?;
+    Ok(Command::Show { netlist })
+}
+
+// ---- what commands have in common
+
+/// Two files and the options of a simulation.
+fn simulation<'a>(
+    alloc: Global,
+    words: &'a [String],
+    options: &'a [&'a str],
+) -> Result<RunWords, WordNo>
+    requires { has_name (texts_in options.now) files_id ≡ false }
+    ensures { Answers result (says (texts_in options.entry.now) of_two_files (map string_bytes words.entry.now)) }
+{
+    let matches = parse(alloc, words, options)?;
+    match two_files(&matches) {
+        Some((netlist, stimulus)) => run_words(alloc, netlist, stimulus, &matches),
+        None => Err(WordNo::Usage),
+    }
+}
+
+/// One file, the netlist's.
+fn netlist<'a>(
+    alloc: Global,
+    words: &'a [String],
+    options: &'a [&'a str],
+) -> Result<Text, WordNo>
+    requires { has_name (texts_in options.now) files_id ≡ false }
+    ensures { Answers result (says (texts_in options.entry.now) of_one_file (map string_bytes words.entry.now)) }
+{
+    let matches = parse(alloc, words, options)?;
+    match one_file(&matches) {
+        Some(netlist) => Ok(Text::from_bytes(alloc, netlist.as_bytes())?),
+        None => Err(WordNo::Usage),
+    }
+}
+
+/// What two files and the values of options ask for.
+fn run_words(
+    alloc: Global,
+    netlist: &str,
+    stimulus: &str,
+    matches: &ArgMatches<'_>,
+) -> Result<RunWords, WordNo>
+    ensures { Answers result (run_by netlist.now stimulus.now (value_found matches.now)) }
+{
+    let (Some(timing), Some(banks)) = (timing(matches), banks(matches)) else {
+        return Err(WordNo::Usage);
+    };
+    Ok(RunWords {
+        netlist: Text::from_bytes(alloc, netlist.as_bytes())?,
+        stimulus: Text::from_bytes(alloc, stimulus.as_bytes())?,
+        machine: text(alloc, value(matches, "machine"))?,
+        order: text(alloc, value(matches, "order"))?,
+        timing,
+        banks,
+    })
+}
+
+/// The value of an option as a text, where it is given.
+fn text(alloc: Global, value: Option<&str>) -> Result<Option<Text>, WordNo>
+    ensures { MatchResult result (λ text. text ≡ option_map (λ value. value.now) value.entry) (λ no. no ≡ NoMemory) }
+{
+    match value {
+        Some(value) => Ok(Some(Text::from_bytes(alloc, value.as_bytes())?)),
+        None => Ok(None),
+    }
+}

@@ -1,0 +1,104 @@
+//! What the values of options say.
+
+ghost use Rattle.std.specs.Prelude.{◌≡◌, option_map};
+ghost use Rattle.cmd_words.specs.Parses.{value_found};
+ghost use Rattle.cmd_words.specs.Settings.{count_of, count_or, mode_of, init_of, allows_units, timing_with, timing_by, banks_by};
+
+use crate::options::MAX_BANKS;
+use crate::parsing::value;
+use clap::ArgMatches;
+use limits::MAX_UNITS;
+use net_defs::{Init, Mode, Timing};
+use text_lines::numbers::number_within;
+
+/// The most digits of a number among the words.
+const MAX_DIGITS: usize = 10;
+
+/// The timing that the options say.
+pub fn timing(matches: &ArgMatches<'_>) -> Option<Timing>
+    ensures { result ≡ timing_by (value_found matches.now) }
+{
+    let mode = mode_of(value(matches, "mode"));
+    let units = count_or(value(matches, "units"), MAX_UNITS, 1);
+    let init = init_of(value(matches, "init"));
+    timing_with(mode, units, init)
+}
+
+/// The words that the crossbar is to have for each send.
+pub fn banks(matches: &ArgMatches<'_>) -> Option<u32>
+    ensures { result ≡ banks_by (value_found matches.now) }
+{
+    count_or(value(matches, "banks"), MAX_BANKS, 1)
+}
+
+fn timing_with(mode: Option<Mode>, units: Option<u32>, init: Option<Init>) -> Option<Timing>
+    ensures { result ≡ timing_with mode units init }
+{
+    let (mode, units, init) = (mode?, units?, init?);
+    if allows_units(mode, units) {
+        Some(Timing { mode, units, init })
+    } else {
+        None
+    }
+}
+
+/// In rank order a cycle is one turn.
+fn allows_units(mode: Mode, units: u32) -> bool
+    ensures { result ≡ allows_units mode units }
+{
+    match mode {
+        Mode::Rank => units == 1,
+        Mode::Unit => true,
+    }
+}
+
+fn mode_of(value: Option<&str>) -> Option<Mode>
+    ensures { result ≡ mode_of (option_map (λ text. text.now) value.entry) }
+{
+    let Some(value) = value else {
+        return Some(Mode::Rank);
+    };
+    if value == "rank" {
+        Some(Mode::Rank)
+    } else if value == "unit" {
+        Some(Mode::Unit)
+    } else {
+        None
+    }
+}
+
+fn init_of(value: Option<&str>) -> Option<Init>
+    ensures { result ≡ init_of (option_map (λ text. text.now) value.entry) }
+{
+    let Some(value) = value else {
+        return Some(Init::Undef);
+    };
+    if value == "x" {
+        Some(Init::Undef)
+    } else if value == "0" {
+        Some(Init::Zero)
+    } else {
+        None
+    }
+}
+
+/// The number that is given, and `missing` where none is.
+fn count_or(value: Option<&str>, most: u32, missing: u32) -> Option<u32>
+    ensures { result ≡ count_or most missing (option_map (λ text. text.now) value.entry) }
+{
+    match value {
+        Some(digits) => count_of(digits.as_bytes(), most),
+        None => Some(missing),
+    }
+}
+
+/// A number of at most ten digits, from 1 to `most`.
+fn count_of(digits: &[u8], most: u32) -> Option<u32>
+    ensures { result ≡ count_of most digits.now }
+{
+    if digits.len() <= MAX_DIGITS {
+        number_within(digits, 1, most)
+    } else {
+        None
+    }
+}
