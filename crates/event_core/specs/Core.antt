@@ -1,23 +1,26 @@
 -- A core as contracts see it, and what its steps do.
-use Rattle.std.specs.Prelude.{◌≡◌, ℕ, ◌+◌, ◌*◌, ◌≤◌, List, length, slice_index_or}
+use Rattle.std.specs.Prelude.{List, length, slice_index_or, ℕ, ◌*◌, ◌+◌, ◌≡◌, ◌≤◌}
 use Rattle.logic_four.specs.Values.{code_of}
-use Rattle.net_defs.specs.declared.stimulus.Stimulus.{Stimulus}
 use Rattle.net_defs.specs.Time.{turn_count}
-use Rattle.image_defs.specs.declared.image.PortImage.{PortImage}
-use Rattle.image_defs.specs.declared.image.Image.{Image}
+use Rattle.net_defs.specs.declared.stimulus.Stimulus.{Stimulus}
+use Rattle.image_defs.specs.Frames.{image_value}
 use Rattle.image_defs.specs.Places.{IsPort, Stands}
 use Rattle.image_defs.specs.Steps.{timing_of}
-use Rattle.image_defs.specs.Frames.{image_value}
+use Rattle.image_defs.specs.WellFormed.{IsWellFormed}
+use Rattle.image_defs.specs.declared.image.Image.{Image}
+use Rattle.image_defs.specs.declared.image.PortImage.{PortImage}
+use Rattle.event_defs.specs.Counts.{events_left, moved_in}
+use Rattle.event_defs.specs.Next.{IsNext, PutsNext}
+use Rattle.event_defs.specs.Places.{start}
+use Rattle.event_defs.specs.Row.{word_in}
+use Rattle.event_defs.specs.Sound.{IsSound}
+use Rattle.event_defs.specs.Steps.{AllDone, CoreState, IsRound, IsStep, Reads, first_state, rows_done}
+use Rattle.event_defs.specs.declared.place.Action.{Action}
 use Rattle.event_defs.specs.declared.place.CoreStep.{CoreStep}
 use Rattle.event_defs.specs.declared.place.CoreStep.TheVariants.{Moved}
 use Rattle.event_defs.specs.declared.place.Event.TheVariants.{Put, Take}
 use Rattle.event_defs.specs.declared.place.Place.{Place}
-use Rattle.event_defs.specs.Places.{start}
-use Rattle.event_defs.specs.Next.{PutsNext}
-use Rattle.event_defs.specs.Steps.{CoreState, Reads, IsStep, IsRound, AllDone, first_state, rows_done}
-use Rattle.event_defs.specs.Sound.{IsSound}
-use Rattle.event_defs.specs.Counts.{events_left, moved_in}
-use Rattle.event_defs.specs.Row.{word_in}
+
 
 -- a core of an image and a stimulus, with so many banks: the places of its ports, how many turns each has told
 -- to be finished, and the words of all sends in one row
@@ -96,3 +99,16 @@ left_of view = events_left view.image view.banks (turns_of view) (state_of view)
 -- the rows that are done
 abbrev pub rows_of : CoreView → ℕ
 rows_of view = rows_done view.image (state_of view)
+
+-- ---- between the steps
+
+-- this is the next event of port p
+pub record IsUpcoming (view : CoreView) (p : ℕ) (action : Action) : Type 0 where
+  pub each : (port : PortImage) → IsPort view.image p port
+      → IsNext port ((state_of view).place p) view.banks (turns_of view) (image_value view.image view.stimulus ((state_of view).place p).turn p) action
+
+-- its image is well formed, it has a bank, and its state is sound
+pub record IsReady (view : CoreView) : Type 0 where
+  pub image : IsWellFormed view.image
+  pub some : 1 ≤ view.banks
+  pub sound : IsSoundCore view

@@ -27,10 +27,7 @@ view_of a = record {
 
 -- the seat of port p
 pub record IsSeat (image : Image) (stimulus : Stimulus) (banks p : ℕ) (seat : Seat) : Type 0 where
-  pub image_is : seat.port.image ≡ image
-  pub stimulus_is : seat.port.stimulus ≡ stimulus
-  pub port_is : seat.port.port ≡ p
-  pub until : seat.port.until ≡ turn_count (timing_of image) stimulus
+  pub port : seat.port ≡ record seat.port { image = image; stimulus = stimulus; port = p; until = turn_count (timing_of image) stimulus }
   pub bank : seat.bank ≡ seat.port.turn % banks
   pub first : seat.first ≡ sends_before image p
   pub sources : (port : PortImage) → IsPort image p port → AreSources image port.ins (length port.ins) seat.sources

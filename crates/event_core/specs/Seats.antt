@@ -1,6 +1,6 @@
 -- A port in the core, and what each event makes of it.
-use Rattle.std.specs.Prelude.{List, Some, [], length, slice_get, slice_set, ℕ, ◌++◌, ◌+◌, ◌-◌, ◌/◌, ◌<◌, ◌∷◌, ◌≡◌}
-use Rattle.logic_four.specs.Values.{value_at}
+use Rattle.std.specs.Prelude.{List, Some, [], length, slice_get, slice_index_or, slice_set, ℕ, ◌*◌, ◌++◌, ◌+◌, ◌-◌, ◌/◌, ◌<◌, ◌∷◌, ◌≡◌}
+use Rattle.logic_four.specs.Values.{code_of, value_at}
 use Rattle.logic_four.specs.declared.V4.{V4}
 use Rattle.image_defs.specs.Frames.{shown}
 use Rattle.image_defs.specs.Places.{host_of}
@@ -33,22 +33,24 @@ IsReseated old p seat new = new ≡ slice_set old p seat
 pub record IsNextIn (seat : Seat) (banks : ℕ) (action : Action) : Type 0 where
   pub next : IsNextOf seat.port seat.known banks action
 
--- this is the place of the word that its next Put writes
-pub record IsPutPlace (seat : Seat) (banks place : ℕ) : Type 0 where
-  pub each : (i : ℕ) (link : LinkOut) → IsSending seat.port i link → place ≡ word_place banks (seat.first + i) seat.bank
-
--- there is room for that word
+-- there is room for the word that its next Put writes
 pub record HasPutRoom (seat : Seat) (banks words : ℕ) : Type 0 where
   pub each : (i : ℕ) (link : LinkOut) → IsSending seat.port i link → word_place banks (seat.first + i) seat.bank < words
 
--- this is the place of the word that its next Take reads
-pub record IsTakePlace (seat : Seat) (banks place : ℕ) : Type 0 where
-  pub each : (j n : ℕ) (link : LinkIn) → IsReceiving seat.port j link → slice_get seat.sources j ≡ Some n → place ≡ word_place banks n seat.bank
+-- that word has its turn and the code of the value
+pub record HasWritten (seat : Seat) (banks : ℕ) (value : V4) (old new : List ℕ) : Type 0 where
+  pub each : (i : ℕ) (link : LinkOut) → IsSending seat.port i link
+      → new ≡ slice_set old (word_place banks (seat.first + i) seat.bank) (4 * seat.port.turn + code_of value)
 
--- there is such a word
+-- there is a word that its next Take reads
 pub record HasTakeRoom (seat : Seat) (banks words : ℕ) : Type 0 where
   pub there : (j : ℕ) (link : LinkIn) → IsReceiving seat.port j link → j < length seat.sources
   pub each : (j n : ℕ) (link : LinkIn) → IsReceiving seat.port j link → slice_get seat.sources j ≡ Some n → word_place banks n seat.bank < words
+
+-- it is this one
+pub record IsWordRead (seat : Seat) (banks : ℕ) (words : List ℕ) (word : ℕ) : Type 0 where
+  pub each : (j n : ℕ) (link : LinkIn) → IsReceiving seat.port j link → slice_get seat.sources j ≡ Some n
+      → word ≡ slice_index_or words (word_place banks n seat.bank) 0
 
 -- ---- the seat after an event
 
@@ -77,4 +79,4 @@ host_rows seat = (seat.port.turn - 1) / seat.port.image.units
 -- these are what the image shows for a cycle
 pub record IsRowOf (seat : Seat) (cycle : ℕ) (cells : List V4) : Type 0 where
   pub long : length cells ≡ length (printed_sources seat.port.image)
-  pub cells : (j : ℕ) → j < length cells → value_at cells j ≡ shown seat.port.image seat.port.stimulus cycle j
+  pub shows : (j : ℕ) → j < length cells → value_at cells j ≡ shown seat.port.image seat.port.stimulus cycle j

@@ -6,15 +6,18 @@ ghost use Rattle.net_defs.specs.Valid.{IsValidStimulus};
 ghost use Rattle.image_defs.specs.Frames.{shown};
 ghost use Rattle.image_defs.specs.WellFormed.{IsWellFormed};
 ghost use Rattle.event_defs.specs.Counts.{moves};
+ghost use Rattle.event_defs.specs.declared.place.CoreStep.TheVariants.{Moved};
+ghost use Rattle.event_defs.specs.declared.place.Action.TheVariants as action;
+ghost use Rattle.event_defs.specs.declared.place.Event.TheVariants as event;
 ghost use Rattle.port_host.specs.Rows.{printed_sources};
-ghost use Rattle.event_core.specs.Core.{Applies, AreDone, IsRoundOf, IsSoundCore, IsStart, SparesReaders, TakesThisTurn, left_of, rows_of};
+ghost use Rattle.event_core.specs.Core.{Applies, AreDone, IsReady, IsRoundOf, IsSoundCore, IsStart, IsUpcoming, SparesReaders, TakesThisTurn, left_of, rows_of};
 
 use crate::rows;
 use crate::seats::{self, Seat};
 use crate::sources;
 use event_defs::{Action, CoreStep, Event};
 use image_defs::Image;
-use logic_four::V4;
+use logic_four::{V4, decoded};
 use net_defs::Stimulus;
 use seen_list::{List, Memory};
 use std::alloc::Global;
@@ -122,6 +125,69 @@ impl<'a> Core<'a> {
             moved += moves(self.apply(port));
         }
         moved
+    }
+
+    /// The next event of a port.
+    fn next(&self, port: u32) -> Action
+        requires { port < length self.now.image.ports }
+        ensures next { IsUpcoming self.now port result }
+        ensures ready { IsReady self.now }
+    {
+        seats::next(self.seats.as_slice(), port as usize, self.banks)
+    }
+
+    /// A port looks how many turns a reader has finished.
+    fn ask(&mut self, port: u32, reader: u32) -> CoreStep
+        requires inside { port < length self.old.image.ports }
+        requires next { IsUpcoming self.old port (action.Ask reader) }
+        ensures { Applies self.old port result self.new }
+    {
+        let p = port as usize;
+        let turn = seats::turn(self.seats.as_slice(), p);
+        let finished = self.finished.as_slice()[reader as usize];
+        if finished < turn.saturating_sub(self.banks as u64) {
+            return CoreStep::NotYet;
+        }
+        seats::ask(self.seats.as_mut_slice(), p, reader, finished);
+        CoreStep::Moved(Event::Ask { reader })
+    }
+
+    /// A port writes the value of its item in a slot.
+    fn put(&mut self, port: u32, slot: u32, value: V4)
+        requires inside { port < length self.old.image.ports }
+        requires next { IsUpcoming self.old port (action.Put slot value) }
+        ensures { Applies self.old port (Moved (event.Put slot)) self.new }
+    {
+        let p = port as usize;
+        seats::write(self.seats.as_slice(), p, self.banks, &mut self.words, value);
+        seats::put(self.seats.as_mut_slice(), p);
+    }
+
+    /// A port reads the value that is sent to it in a slot, if it is there.
+    fn take(&mut self, port: u32, slot: u32) -> CoreStep
+        requires inside { port < length self.old.image.ports }
+        requires next { IsUpcoming self.old port (action.Take slot) }
+        ensures { Applies self.old port result self.new }
+    {
+        let p = port as usize;
+        let word = seats::read(self.seats.as_slice(), p, self.banks, &self.words);
+        if word / 4 != seats::turn(self.seats.as_slice(), p) {
+            return CoreStep::NotYet;
+        }
+        seats::take(self.seats.as_mut_slice(), p, decoded(word));
+        CoreStep::Moved(Event::Take { slot })
+    }
+
+    /// A port tells that it has finished its turn.
+    fn tell(&mut self, port: u32)
+        requires inside { port < length self.old.image.ports }
+        requires next { IsUpcoming self.old port action.Tell }
+        ensures { Applies self.old port (Moved event.Tell) self.new }
+    {
+        let p = port as usize;
+        let turn = seats::turn(self.seats.as_slice(), p);
+        seats::tell(self.seats.as_mut_slice(), p, self.banks);
+        self.finished.set(p, turn);
     }
 
     /// The number of rows that are done: of the cycles whose last turn the host has finished.

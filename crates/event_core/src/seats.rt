@@ -1,18 +1,18 @@
 //! The ports in the core, each with what it knows and where its words stand.
 
-ghost use Rattle.std.specs.Prelude.{IfOk, length, slice_set, ℕ, ◌%◌, ◌+◌, ◌<◌, ◌≡◌, ◌≤◌};
+ghost use Rattle.std.specs.Prelude.{IfOk, length, slice_set, ℕ, ◌%◌, ◌+◌, ◌<◌, ◌^◌, ◌≡◌, ◌≤◌};
 ghost use Rattle.net_defs.specs.Valid.{IsValidStimulus};
 ghost use Rattle.image_defs.specs.WellFormed.{IsWellFormed};
 ghost use Rattle.image_defs.specs.declared.image.LinkIn.{LinkIn};
 ghost use Rattle.image_defs.specs.declared.image.LinkOut.{LinkOut};
 ghost use Rattle.port_walk.specs.Placed.{CanPut, CanTake, CanTakeValue, IsEnding, IsReceiving, IsSending};
 ghost use Rattle.event_core.specs.Made.{AreFirstSeats, AreFirsts};
-ghost use Rattle.event_core.specs.Seats.{AtSeat, HasPutRoom, HasTakeRoom, IsNextIn, IsPutPlace, IsTakePlace, seat_asked, seat_put, seat_taken, seat_told};
+ghost use Rattle.event_core.specs.Seats.{AtSeat, HasPutRoom, HasTakeRoom, HasWritten, IsNextIn, IsWordRead, seat_asked, seat_put, seat_taken, seat_told};
 
 use crate::sources;
 use event_defs::Action;
 use image_defs::Image;
-use logic_four::V4;
+use logic_four::{V4, code};
 use net_defs::Stimulus;
 use port_walk::AnyPort;
 use seen_list::{List, Memory};
@@ -103,15 +103,20 @@ pub(crate) fn ask(seats: &mut [Seat], p: usize, reader: u32, finished: u64)
     seats[p].known.set(reader as usize, finished);
 }
 
-/// The place of the word that a port writes next.
-pub(crate) fn put_place(seats: &[Seat], p: usize, banks: u32, words: usize) -> usize
+/// A port writes the word of its next Put: its turn and the code of the value.
+pub(crate) fn write(seats: &[Seat], p: usize, banks: u32, words: &mut List<u64>, value: V4)
     requires there { p < length seats.now }
     requires can { AtSeat seats.now p (λ seat. CanPut seat.port) }
-    requires room { AtSeat seats.now p (λ seat. HasPutRoom seat banks words) }
-    ensures place { AtSeat seats.now p (λ seat. IsPutPlace seat banks result) }
+    requires room { AtSeat seats.now p (λ seat. HasPutRoom seat banks (length words.old)) }
+    requires early { AtSeat seats.now p (λ seat. seat.port.turn < 2 ^ 60) }
+    requires some { 1 ≤ banks }
+    ensures { AtSeat seats.now p (λ seat. HasWritten seat banks value words.old words.new) }
 {
     let seat = &seats[p];
-    (seat.first as usize + seat.port.next_send()) * banks as usize + seat.bank as usize
+    let _room = words.len();
+    let send = seat.first as usize + seat.port.next_send();
+    let place = send * banks as usize + seat.bank as usize;
+    words.set(place, 4 * seat.port.turn() + code(value));
 }
 
 /// The Put of a port that was next is made.
@@ -124,16 +129,16 @@ pub(crate) fn put(seats: &mut [Seat], p: usize)
     seats[p].port.put_done();
 }
 
-/// The place of the word that a port reads next.
-pub(crate) fn take_place(seats: &[Seat], p: usize, banks: u32, words: usize) -> usize
+/// The word that a port's next Take reads.
+pub(crate) fn read(seats: &[Seat], p: usize, banks: u32, words: &List<u64>) -> u64
     requires there { p < length seats.now }
     requires can { AtSeat seats.now p (λ seat. CanTake seat.port) }
-    requires room { AtSeat seats.now p (λ seat. HasTakeRoom seat banks words) }
-    ensures place { AtSeat seats.now p (λ seat. IsTakePlace seat banks result) }
+    requires room { AtSeat seats.now p (λ seat. HasTakeRoom seat banks (length words.now)) }
+    ensures { AtSeat seats.now p (λ seat. IsWordRead seat banks words.now result) }
 {
     let seat = &seats[p];
     let source = seat.sources.as_slice()[seat.port.next_receipt()];
-    source as usize * banks as usize + seat.bank as usize
+    words.as_slice()[source as usize * banks as usize + seat.bank as usize]
 }
 
 /// The Take of a port that was next is made, and gave this value.
