@@ -1,5 +1,6 @@
 -- A core as contracts see it, and what its steps do.
 use Rattle.std.specs.Prelude.{List, length, slice_index_or, ℕ, ◌*◌, ◌+◌, ◌≡◌, ◌≤◌}
+use Rattle.std.specs.List.{range_with_len}
 use Rattle.logic_four.specs.Values.{code_of}
 use Rattle.net_defs.specs.Time.{turn_count}
 use Rattle.net_defs.specs.declared.stimulus.Stimulus.{Stimulus}
@@ -14,13 +15,12 @@ use Rattle.event_defs.specs.Next.{IsNext, PutsNext}
 use Rattle.event_defs.specs.Places.{start}
 use Rattle.event_defs.specs.Row.{word_in}
 use Rattle.event_defs.specs.Sound.{IsSound}
-use Rattle.event_defs.specs.Steps.{AllDone, CoreState, IsRound, IsStep, Reads, first_state, rows_done}
+use Rattle.event_defs.specs.Steps.{AllDone, AreSteps, CoreState, IsRound, IsStep, Reads, first_state, rows_done}
 use Rattle.event_defs.specs.declared.place.Action.{Action}
 use Rattle.event_defs.specs.declared.place.CoreStep.{CoreStep}
 use Rattle.event_defs.specs.declared.place.CoreStep.TheVariants.{Moved}
 use Rattle.event_defs.specs.declared.place.Event.TheVariants.{Put, Take}
 use Rattle.event_defs.specs.declared.place.Place.{Place}
-
 
 -- a core of an image and a stimulus, with so many banks: the places of its ports, how many turns each has told
 -- to be finished, and the words of all sends in one row
@@ -112,3 +112,11 @@ pub record IsReady (view : CoreView) : Type 0 where
   pub image : IsWellFormed view.image
   pub some : 1 ≤ view.banks
   pub sound : IsSoundCore view
+
+-- one step of each of the first n ports, in ascending order, of which so many moved
+pub record HasStepped (old : CoreView) (n moved : ℕ) (new : CoreView) : Type 0 where
+  pub same : IsSameCore old new
+  pub answers : List CoreStep
+  pub steps : AreSteps old.image old.stimulus old.banks (turns_of old) (range_with_len 0 n) (state_of old) answers (state_of new)
+  pub moved_are : moved_in answers ≡ moved
+  pub few : moved ≤ n

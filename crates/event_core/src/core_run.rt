@@ -4,6 +4,7 @@ ghost use Rattle.std.specs.Prelude.{IfOk, IsTrue, length, ℕ, ◌+◌, ◌<◌,
 ghost use Rattle.logic_four.specs.Values.{value_at};
 ghost use Rattle.net_defs.specs.Valid.{IsValidStimulus};
 ghost use Rattle.image_defs.specs.Frames.{shown};
+ghost use Rattle.image_defs.specs.Places.{Each};
 ghost use Rattle.image_defs.specs.WellFormed.{IsWellFormed};
 ghost use Rattle.event_defs.specs.Counts.{moves};
 ghost use Rattle.event_defs.specs.declared.place.CoreStep.TheVariants.{Moved};
@@ -58,6 +59,18 @@ fn moves(step: CoreStep) -> u32
         CoreStep::NotYet => 0,
         CoreStep::Done => 0,
     }
+}
+
+/// Whether all ports have finished so many turns.
+fn have_finished(finished: &[u64], turns: u64) -> bool
+    ensures { IsTrue result ↔ Each (λ n. turns ≤ n) finished.now }
+{
+    'ports: for p in 0..finished.len() {
+        if finished[p] < turns {
+            return false;
+        }
+    }
+    true
 }
 
 impl<'a> Core<'a> {
@@ -212,11 +225,6 @@ impl<'a> Core<'a> {
     pub fn all_done(&self) -> bool
         ensures { IsTrue result ↔ AreDone self.now }
     {
-        'ports: for finished in &self.finished {
-            if *finished < self.until {
-                return false;
-            }
-        }
-        true
+        have_finished(self.finished.as_slice(), self.until)
     }
 }

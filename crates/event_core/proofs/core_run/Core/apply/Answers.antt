@@ -1,44 +1,28 @@
-use Rattle.std.proofs.Common.{rules, IfOk, IsTrue, length, ℕ, ◌%◌, ◌+◌, ◌<◌, ◌↔◌, ◌≡◌, ◌≤◌, ◌-◌, ◌*◌, ◌/◌, Bool, true, false, nat_eq, nat_lt, List, [], ◌∷◌, ◌++◌, slice_index_or, slice_set, bit_and, bit_or, Fits, w8, w32, w64, Bor, MutBor}
-use Rattle.logic_four.specs.Values.{value_at, value_of}
-use Rattle.net_defs.specs.Valid.{IsValidStimulus}
-use Rattle.image_defs.specs.Frames.{shown}
-use Rattle.image_defs.specs.WellFormed.{IsWellFormed}
-use Rattle.event_defs.specs.Counts.{moves}
 use Rattle.event_defs.specs.declared.place.CoreStep.TheVariants.{Moved}
-use Rattle.event_defs.specs.declared.place.Action.TheVariants as action
 use Rattle.event_defs.specs.declared.place.Event.TheVariants as event
-use Rattle.port_host.specs.Rows.{printed_sources}
-use Rattle.event_core.specs.Core.{Applies, AreDone, IsReady, IsRoundOf, IsSoundCore, IsStart, IsUpcoming, SparesReaders, TakesThisTurn, left_of, rows_of}
+use Rattle.event_core.proofs.RoundLemmas.{puts_right, sound_after, takes_right}
 use Rattle.event_core.proofs.core_run.Core.apply.Goals as goal
 
--- src/core_run.rt:106:5
 pub returns-in-Ask-clause-takes : goal.returns-in-Ask-clause-takes
-returns-in-Ask-clause-takes c = ?
+returns-in-Ask-clause-takes c = takes_right c.args.self.now c.ask.new.self c.args.port c.ask.result c.next.ensures.ready c.requires c.ask.ensures
 
--- src/core_run.rt:106:5
 pub returns-in-Ask-clause-puts : goal.returns-in-Ask-clause-puts
-returns-in-Ask-clause-puts c = ?
+returns-in-Ask-clause-puts c = puts_right c.args.self.now c.ask.new.self c.args.port c.ask.result c.next.ensures.ready c.requires
 
--- src/core_run.rt:106:5
 pub returns-in-Ask-clause-sound : goal.returns-in-Ask-clause-sound
-returns-in-Ask-clause-sound c = ?
+returns-in-Ask-clause-sound c = sound_after c.args.self.now c.ask.new.self c.args.port c.ask.result c.next.ensures.ready c.requires c.ask.ensures
 
--- src/core_run.rt:106:5
 pub returns-in-Put-clause-puts : goal.returns-in-Put-clause-puts
-returns-in-Put-clause-puts c = ?
+returns-in-Put-clause-puts c = puts_right c.args.self.now c.put.new.self c.args.port (Moved (event.Put c.in-Put.slot)) c.next.ensures.ready c.requires
 
--- src/core_run.rt:106:5
 pub returns-in-Put-clause-sound : goal.returns-in-Put-clause-sound
-returns-in-Put-clause-sound c = ?
+returns-in-Put-clause-sound c = sound_after c.args.self.now c.put.new.self c.args.port (Moved (event.Put c.in-Put.slot)) c.next.ensures.ready c.requires c.put.ensures
 
--- src/core_run.rt:106:5
 pub returns-in-Take-clause-takes : goal.returns-in-Take-clause-takes
-returns-in-Take-clause-takes c = ?
+returns-in-Take-clause-takes c = takes_right c.args.self.now c.take.new.self c.args.port c.take.result c.next.ensures.ready c.requires c.take.ensures
 
--- src/core_run.rt:106:5
 pub returns-in-Take-clause-sound : goal.returns-in-Take-clause-sound
-returns-in-Take-clause-sound c = ?
+returns-in-Take-clause-sound c = sound_after c.args.self.now c.take.new.self c.args.port c.take.result c.next.ensures.ready c.requires c.take.ensures
 
--- src/core_run.rt:106:5
 pub returns-in-Tell-clause-sound : goal.returns-in-Tell-clause-sound
-returns-in-Tell-clause-sound c = ?
+returns-in-Tell-clause-sound c = sound_after c.args.self.now c.tell.new.self c.args.port (Moved event.Tell) c.next.ensures.ready c.requires c.tell.ensures
