@@ -1,4 +1,5 @@
 pub mod CountLemmas
+pub mod JoinLemmas
 pub mod KeptLemmas
 pub mod NextLemmas
 pub mod PaceLemmas

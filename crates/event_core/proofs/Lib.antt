@@ -1,0 +1,4 @@
+mod CoreLemmas
+mod EventLemmas
+mod RoundLemmas
+mod SeatLemmas
