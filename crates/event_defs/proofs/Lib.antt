@@ -1,6 +1,7 @@
 pub mod CountLemmas
 pub mod JoinLemmas
 pub mod KeptLemmas
+pub mod LinkLemmas
 pub mod NextLemmas
 pub mod PaceLemmas
 pub mod RowLemmas

@@ -13,6 +13,7 @@ ghost use Rattle.image_defs.specs.Frames.{image_value};
 ghost use Rattle.event_defs.specs.declared.place.Action.{Action};
 ghost use Rattle.event_defs.specs.declared.place.CoreStep.{CoreStep};
 ghost use Rattle.event_defs.specs.declared.place.Place.{Place};
+ghost use Rattle.event_defs.specs.Linked.{AreAlike, AreLinkedAlike};
 ghost use Rattle.event_defs.specs.Next.{IsNext};
 ghost use Rattle.event_defs.specs.Steps.{CoreState, Puts, Takes, AreFirstSteps, AreRounds, AllIdle, AllDone, first_state};
 ghost use Rattle.event_defs.specs.Sound.{IsSound};
@@ -74,4 +75,13 @@ pub fn rounds_suffice()
         → IsWellFormed image → 1 ≤ banks
         → AreRounds image stimulus banks until (events image banks until) (first_state (length image.ports)) state
         → AllDone image until state }
+{}
+
+/// A law: on images that are linked alike an order of steps goes through the same places and comes to the
+/// same answers, whatever the images compute.
+pub fn links_decide()
+    ensures { (one other : Image) (stimulus : Stimulus) (banks until : ℕ) (order : List ℕ) (answers others : List CoreStep) (state twin : CoreState)
+        → IsWellFormed one → AreLinkedAlike one other
+        → AreFirstSteps one stimulus banks until order answers state → AreFirstSteps other stimulus banks until order others twin
+        → (answers ≡ others) × AreAlike state twin }
 {}
