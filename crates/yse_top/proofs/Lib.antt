@@ -1,3 +1,4 @@
+mod CallLemmas
 mod ChainLemmas
 mod CheckLemmas
 mod CommandLemmas

@@ -84,7 +84,7 @@ writes_then old mid new f g h q r done piece a b is same first then =
 pub writes_stop : (old new : Option (List ℕ)) (f g : ℕ) (q : Result (Unit {0}) WriteNo) (e : WriteNo) (piece a b : List ℕ) → q ≡ Err e → piece ≡ a → Takes old new f g q piece → Takes old new f g (Err e) (a ++ b)
 writes_stop old new f g q e piece a b is same first = writes_cut old new f g e a b (rw (sym is) (rw (sym same) first))
 
-append_known-nil : (told : Option (List ℕ)) → append_known told [] ≡ told
+pub append_known-nil : (told : Option (List ℕ)) → append_known told [] ≡ told
 append_known-nil None = refl
 append_known-nil (Some bytes) = ap Some (append-nil bytes)
 

@@ -46,7 +46,8 @@ pub fn write_output<O: Sink>(out: &mut O, output: Output) -> Result<(), WriteNo>
 {
     match output {
         Output::Text(text) => write_piece(out, text.as_bytes()),
-        Output::Trace(trace) | Output::Unfinished(trace, _) => write_trace(out, trace),
+        Output::Trace(trace) => write_trace(out, trace),
+        Output::Unfinished(trace, _) => write_trace(out, trace),
     }
 }
 

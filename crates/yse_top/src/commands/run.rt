@@ -9,7 +9,7 @@ ghost use Rattle.yse_top.specs.Images.{IsImageOf};
 ghost use Rattle.yse_top.specs.Orders.{IsMachineImage};
 ghost use Rattle.yse_top.specs.Outputs.{CanWrite};
 ghost use Rattle.yse_top.specs.Refusals.{Follows};
-ghost use Rattle.yse_top.specs.commands.Run.{AfterStimulus, EndsBy, ExpectedOn, ExpectedRun};
+ghost use Rattle.yse_top.specs.commands.Run.{AfterMachine, AfterStimulus, EndsBy, ExpectedOn, ExpectedRun};
 
 use crate::checks::{Built, compiled, few_cells, machine_of, netlist_of, order_of, stimulus_of};
 use crate::commands::steps::{by_order, by_rounds};

@@ -17,7 +17,11 @@ use Rattle.net_defs.specs.declared.timing.Timing.{Timing}
 use Rattle.net_defs.specs.Canonical.{canonical_text}
 use Rattle.net_defs.specs.Loops.{IsLoop, IsOrder, OrderOrLoop}
 use Rattle.net_defs.specs.Reference.{HasOneSimulation}
+use Rattle.net_defs.specs.Time.{turn_count}
 use Rattle.net_defs.specs.Trace.{IsTrace}
+use Rattle.image_defs.specs.WellFormed.{IsWellFormed}
+use Rattle.event_defs.specs.Linked.{AreLinkedAlike}
+use Rattle.stim_text.specs.Orders.{steps_of}
 use Rattle.net_defs.specs.Valid.{input_count}
 use Rattle.bench_read.specs.Faults as bench
 use Rattle.bench_read.specs.Reads as bench_reads
@@ -42,7 +46,7 @@ use Rattle.yse_top.specs.Words.{files_of, files_named, order_named}
 use Rattle.yse_top.specs.commands.Run.{AfterMachine, AfterStimulus, WritesTrace, EndsBy, ExpectedRun, ExpectedOn, ExpectedRefer}
 use Rattle.yse_top.specs.commands.Show.{ExpectedShow}
 use Rattle.yse_top.proofs.CommandLemmas.{IsCommand, command_after, command_file, command_ends, not_words}
-use Rattle.yse_top.proofs.OrderLemmas.{DecidesOrder, AreDoneAlike, order_ending}
+use Rattle.yse_top.proofs.OrderLemmas.{DecidesOrder, done_alike, order_ending}
 use Rattle.yse_top.proofs.OutcomeLemmas.{outcome_after, outcome_writes}
 use Rattle.yse_top.proofs.ProperLemmas.{IsCheck, IsAnswered, alike, memory_status, proper_after, writes_ending}
 use Rattle.yse_top.proofs.CheckLemmas.{reads_check, loop_check, IsRoomLaw, room_check, cells_check, trace_only, trace_some}
@@ -182,7 +186,7 @@ module _ (laws : Laws) where
       same x y e = cc
 
       some : (o : Option Command) → asked words ≡ o → ((x : Command) × Asks words (Ok x)) ⊎ ((o : Outcome) × Asks words (Err o))
-      some None is = inr (refusal status.Words usage_line, (λ command has. none_some (sym is ∙ asked_as words command has)), refl)
+      some None is = inr (refusal status.Words usage_line, ((λ command has. none_some (sym is ∙ asked_as words command has)), refl))
       some (Some command) is = inl (command, (laws.forms words command).0 is)
 
   asked_proper : (words : List (List ℕ)) → IsProper (files_named (asked words)) (After (Asks words) ExpectedOf)
@@ -244,7 +248,12 @@ returns c =
       machines = c.reads_or_faults-3.ensures.reader;
       orders = c.reads_or_faults-4.ensures.reader;
       forms = c.forms_are_asked.ensures;
-      decides = λ order banks net machine timing stimulus valid image other one two made made_too after after_too. cc;
+      decides = λ order banks net machine timing stimulus valid image other one two made made_too after after_too.
+          let linked = subst (λ i. AreLinkedAlike i other) made.image_is (subst (AreLinkedAlike made.compiled.image) made_too.image_is
+          (c.one_linking.ensures net machine timing made.compiled made_too.compiled valid made.is made_too.is)) in
+          done_alike (turn_count timing stimulus) image other one two linked
+          (c.links_decide.ensures image other stimulus banks (turn_count timing stimulus) (steps_of order) after.answers after_too.answers one two
+          (subst IsWellFormed made.image_is made.is.built.fits) linked after.steps after_too.steps).1;
       valid_machines = c.reads_as_valid.ensures;
       default_valid = default_is_valid;
       valid_netlists = c.texts_read_as_valid.ensures;

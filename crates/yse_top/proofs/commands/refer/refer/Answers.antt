@@ -26,8 +26,8 @@ returns-in-Ok-ordered-clause-expected g c =
     let words = c.args.words.now in
     let net = c.in-Ok-netlist_of.net in
     let text = c.in-Ok.text in
-    let trace = rw c.in-Ok-ordered.ensures.same at c.simulate.ensures.expected in
-    follows_file _ _ _ _ _ _ _ _ text _ (of_text words) c.in-Ok.ensures.same_names c.in-Ok.ensures.same_bytes c.in-Ok.ensures.text
+    let trace = rw c.as_bytes-in-Ok-ordered.ensures at (rw c.in-Ok-ordered.ensures.same at c.simulate.ensures.expected) in
+    follows_file _ _ _ _ _ _ _ _ text _ (of_text words) c.in-Ok.ensures.same_names c.in-Ok.ensures.same_bytes (rw c.as_bytes.ensures at c.in-Ok.ensures.text)
     (follows_on _ _ (IsNetlistOf text) (of_netlist words) net _ _ _ e.checked
     (follows_on _ _ (HasNoLoop net words.timing) (λ passed. of_order words net) tt _ _ _ c.in-Ok-ordered.ensures.acyclic trace))
 
@@ -38,6 +38,6 @@ returns-in-Ok-netlist_of-clause-expected g c =
     let words = c.args.words.now in
     let net = c.in-Ok-netlist_of.net in
     let text = c.in-Ok.text in
-    follows_file _ _ _ _ _ _ _ _ text _ (of_text words) c.in-Ok.ensures.same_names c.in-Ok.ensures.same_bytes c.in-Ok.ensures.text
+    follows_file _ _ _ _ _ _ _ _ text _ (of_text words) c.in-Ok.ensures.same_names c.in-Ok.ensures.same_bytes (rw c.as_bytes.ensures at c.in-Ok.ensures.text)
     (follows_on _ _ (IsNetlistOf text) (of_netlist words) net _ _ _ e.checked
     (follows_here _ _ _ _ (of_netlist words net) (inr (refl, c.in-Err-ordered.ensures.looped))))

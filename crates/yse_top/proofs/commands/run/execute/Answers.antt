@@ -25,6 +25,16 @@ returns-in-Ok-few_cells-clause-expected g c =
     let next = EndsBy (option_map (λ file. file.now) c.args.order) c.args.words.now c.args.machine.now net in
     let stimulus = c.in-Ok-stimulus_of.stimulus in
     let text = c.in-Ok.text in
-    follows_file _ _ _ _ _ _ _ _ text _ (of_text net next) c.in-Ok.ensures.same_names c.in-Ok.ensures.same_bytes c.in-Ok.ensures.text
+    follows_file _ _ _ _ _ _ _ _ text _ (of_text net next) c.in-Ok.ensures.same_names c.in-Ok.ensures.same_bytes (rw c.as_bytes.ensures at c.in-Ok.ensures.text)
     (follows_on _ _ (IsStimulusOf text net) (of_stimulus net next) stimulus _ _ _ e.checked
     (follows_on _ _ (HasFewCells net stimulus) (λ few. next stimulus) tt _ _ _ c.in-Ok-few_cells.ensures c.finish.ensures.expected))
+
+pub returns-in-Ok-clause-expected : goal.returns-in-Ok-clause-expected
+unfolding AfterStimulus
+returns-in-Ok-clause-expected g c =
+    let e = rw c.as_slice.ensures at c.in-Err-stimulus_of.ensures in
+    let net = c.args.built.net in
+    let next = EndsBy (option_map (λ file. file.now) c.args.order) c.args.words.now c.args.machine.now net in
+    let text = c.in-Ok.text in
+    follows_file _ _ _ _ _ _ _ _ text _ (of_text net next) c.in-Ok.ensures.same_names c.in-Ok.ensures.same_bytes (rw c.as_bytes.ensures at c.in-Ok.ensures.text)
+    (follows_here _ _ _ _ (of_text net next text) (inr (refl, e.checked)))

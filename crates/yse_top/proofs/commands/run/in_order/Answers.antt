@@ -47,3 +47,15 @@ returns-in-Ok-order_of-clause-expected g c =
     follows_file _ _ _ _ _ _ _ _ text _ (of_text words machine net stimulus) c.in-Ok.ensures.same_names c.in-Ok.ensures.same_bytes c.in-Ok.ensures.text
     (follows_on _ _ (IsOrderOf text machine) (of_order words machine net stimulus) order _ _ _ e.checked
     (follows_here _ _ _ _ (of_order words machine net stimulus order) (refl, inr refl)))
+
+pub returns-in-Ok-clause-expected : goal.returns-in-Ok-clause-expected
+unfolding EndsBy
+returns-in-Ok-clause-expected g c =
+    let e = rw c.as_slice.ensures at c.in-Err-order_of.ensures in
+    let words = c.args.words.now in
+    let machine = c.args.machine.now in
+    let net = c.args.built.net in
+    let stimulus = c.args.stimulus.now in
+    let text = c.in-Ok.text in
+    follows_file _ _ _ _ _ _ _ _ text _ (of_text words machine net stimulus) c.in-Ok.ensures.same_names c.in-Ok.ensures.same_bytes c.in-Ok.ensures.text
+    (follows_here _ _ _ _ (of_text words machine net stimulus text) (inr (refl, e.checked)))

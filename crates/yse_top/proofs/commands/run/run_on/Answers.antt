@@ -34,7 +34,7 @@ returns-in-Ok-compiled-clause-expected g c =
     let net = c.in-Ok-netlist_of.net in
     let text = c.in-Ok.text in
     let run = rw c.in-Ok-compiled.ensures.same at c.execute.ensures.expected in
-    follows_file _ _ _ _ _ _ _ _ text _ (of_text words order machine) c.in-Ok.ensures.same_names c.in-Ok.ensures.same_bytes c.in-Ok.ensures.text
+    follows_file _ _ _ _ _ _ _ _ text _ (of_text words order machine) c.in-Ok.ensures.same_names c.in-Ok.ensures.same_bytes (rw c.as_bytes.ensures at c.in-Ok.ensures.text)
     (follows_on _ _ (IsNetlistOf text) (of_netlist words order machine) net _ _ _ e.checked
     (follows_on _ _ (HasNoLoop net words.timing) (λ passed. of_order words order machine net) tt _ _ _ c.in-Ok-compiled.ensures.acyclic
     (follows_on _ _ (HasRoom net machine words.timing) (λ fits. of_room words order machine net) tt _ _ _ c.in-Ok-compiled.ensures.fits run)))
@@ -48,7 +48,7 @@ returns-in-Ok-netlist_of-clause-expected g c =
     let order = option_map (λ file. file.now) c.args.order in
     let net = c.in-Ok-netlist_of.net in
     let text = c.in-Ok.text in
-    follows_file _ _ _ _ _ _ _ _ text _ (of_text words order machine) c.in-Ok.ensures.same_names c.in-Ok.ensures.same_bytes c.in-Ok.ensures.text
+    follows_file _ _ _ _ _ _ _ _ text _ (of_text words order machine) c.in-Ok.ensures.same_names c.in-Ok.ensures.same_bytes (rw c.as_bytes.ensures at c.in-Ok.ensures.text)
     (follows_on _ _ (IsNetlistOf text) (of_netlist words order machine) net _ _ _ e.checked
     (elim c.in-Err-compiled.ensures.refused [
       | inl looped ↦ follows_here _ _ _ _ (of_netlist words order machine net) (inr (refl, looped))
