@@ -1,4 +1,5 @@
 pub mod CursorLemmas
 pub mod KeptLemmas
 pub mod KindLemmas
+pub mod MoveLemmas
 pub mod StopLemmas
