@@ -1,17 +1,20 @@
 -- From stop to stop: what a port may do there, and what it keeps.
 use Rattle.std.proofs.Common.{◌≡◌, ◌↔◌, inl, inr, ℕ, zero, suc, ◌+◌, ◌<◌, ◌≤◌, Bool, true, false, nat_le, if◌then◌else◌, List, [], ◌∷◌, ◌++◌, length, take, get_or, slice_get, Some, sym, ap, ◌∙◌, subst, refl, arith}
-use Rattle.std.proofs.lemmas.Bool.{cases_lt, le-leb, leb-true}
+use Rattle.std.proofs.lemmas.Bool.{cases_lt, le-leb}
+use Rattle.std.proofs.lemmas.Bool.Decides.{leb_tells}
 use Rattle.std.proofs.lemmas.List.{length-map, take_more}
 use Rattle.std.proofs.lemmas.Option.{slice_get_within, slice_get-get_or, slice_get_cases, get_or_from_slice_get}
 use Rattle.list_laws.proofs.Places.{one_there, past_end}
 use Rattle.logic_four.specs.declared.V4.{V4}
-use Rattle.net_defs.specs.declared.stimulus.Stimulus.{Stimulus}
+use Rattle.net_defs.specs.Time.{turn_count}
+use Rattle.net_defs.specs.Valid.{IsValidStimulus}
 use Rattle.image_defs.specs.declared.image.Image.{Image}
 use Rattle.image_defs.specs.declared.image.LinkIn.{LinkIn}
 use Rattle.image_defs.specs.declared.image.LinkOut.{LinkOut}
 use Rattle.image_defs.specs.declared.image.PortImage.{PortImage}
 use Rattle.image_defs.specs.Places.{IsPort, item_slots, in_slots, out_slots}
 use Rattle.image_defs.specs.WellFormed.{IsWellFormed, IsPortImage}
+use Rattle.image_defs.specs.Steps.{timing_of}
 use Rattle.image_defs.specs.Frames.{image_value}
 use Rattle.image_defs.specs.Ports.{PortView, last_turn, CanReceive, CanEnd}
 use Rattle.image_defs.proofs.PlaceLemmas.{rises}
@@ -228,26 +231,26 @@ module _ (a : Inside) (kept : IsKept a) (stop : Stop) (at : slice_get a.stops a.
 
   -- ---- what the calls did
 
-  pub has_put : (new : PlacedPort) → new ≡ record (view_of a) { puts = take (a.sent + 1) (out_slots a.seat.now.outs) } → HasPut (view_of a) new
-  has_put new is = record {
+  pub has_put : HasPut (view_of a) (record (view_of a) { puts = take (a.sent + 1) (out_slots a.seat.now.outs) })
+  has_put = record {
     each = λ i link sending.
         let here = sending_here i link sending in
         let slot : slice_get (out_slots a.seat.now.outs) a.sent ≡ Some link.slot = to_map (λ (l : LinkOut). l.slot) a.seat.now.outs a.sent link here.is in
         let more : take (a.sent + 1) (out_slots a.seat.now.outs) ≡ puts ++ link.slot ∷ [] =
             take_more (out_slots a.seat.now.outs) a.sent 0 (slice_get_within (out_slots a.seat.now.outs) a.sent link.slot slot)
             ∙ ap (λ s. puts ++ s ∷ []) (get_or_from_slice_get (out_slots a.seat.now.outs) a.sent link.slot 0 slot) in
-        is ∙ ap (λ ps. record (view_of a) { puts = ps }) more;
+        ap (λ ps. record (view_of a) { puts = ps }) more;
   }
 
-  pub has_taken : (new : PlacedPort) → new ≡ record (view_of a) { takes = take (a.took + 1) (in_slots a.seat.now.ins) } → HasTaken (view_of a) new
-  has_taken new is = record {
+  pub has_taken : HasTaken (view_of a) (record (view_of a) { takes = take (a.took + 1) (in_slots a.seat.now.ins) })
+  has_taken = record {
     each = λ j link receiving.
         let here = receiving_here j link receiving in
         let slot : slice_get (in_slots a.seat.now.ins) a.took ≡ Some link.slot = to_map (λ (l : LinkIn). l.slot) a.seat.now.ins a.took link here.is in
         let more : take (a.took + 1) (in_slots a.seat.now.ins) ≡ takes ++ link.slot ∷ [] =
             take_more (in_slots a.seat.now.ins) a.took 0 (slice_get_within (in_slots a.seat.now.ins) a.took link.slot slot)
             ∙ ap (λ s. takes ++ s ∷ []) (get_or_from_slice_get (in_slots a.seat.now.ins) a.took link.slot 0 slot) in
-        is ∙ ap (λ ts. record (view_of a) { takes = ts }) more;
+        ap (λ ts. record (view_of a) { takes = ts }) more;
   }
 
   -- it may receive the value of the stop's slot
@@ -279,3 +282,84 @@ module _ (a : Inside) (kept : IsKept a) (stop : Stop) (at : slice_get a.stops a.
               (λ i s there. let low = (good a kept).item_slots_within i s (ap (λ xs. slice_get xs i) (sym kept.slots) ∙ there) in omega arith));
         received_all = let past = past_end (ins a kept) a.took end.no_receipt in let long = in_length in let took = kept.took in omega arith;
       })
+
+-- ---- at the beginning of a turn
+
+module _ (image : Image) (p : ℕ) (seat : PortImage) (good : IsPortImage image p seat) (is : IsPort image p seat) (slots : List ℕ) (stops : List Stop) (slots_are : slots ≡ item_slots seat.work)
+    (stops_are : AreStops (out_slots seat.outs) (in_slots seat.ins) image.slots slots stops) where
+  pub first_within : 0 < length stops
+  first_within = let count = stops_are.count in omega arith
+
+  first_stop : (first : Stop) → slice_get stops 0 ≡ Some first → IsStop (out_slots seat.outs) (in_slots seat.ins) image.slots slots 0 0 first
+  unfolding counts
+  first_stop first at = stops_are.each 0 first at
+
+  -- it may enter the turn
+  pub can_enter : (view : PortView) (items : List ℕ) (first : Stop) (runs : Bool) → view.image ≡ image → view.port ≡ p → view.begun ≡ false → view.executed ≡ 0 → (runs ≡ true → view.turn ≤ last_turn view) → items ≡ slots → slice_get stops 0 ≡ Some first
+      → CanEnter view items first.items runs
+  can_enter view items first runs image_is port_is fresh none more same at = record {
+    fresh = fresh;
+    none = none;
+    more = more;
+    seat = seat;
+    is = subst (λ (m : Image). IsPort m view.port seat) (sym image_is) (subst (λ n. IsPort image n seat) (sym port_is) is);
+    slots_are = same ∙ slots_are;
+    within = let within = (first_stop first at).front.within in subst (λ xs. first.items ≤ length xs) (sym same) within;
+    received_before = λ k slot i link low at_k at_i less.
+        let stop = first_stop first at in
+        let below = stop.front.before k slot (ap (λ xs. slice_get xs k) (sym same) ∙ at_k) low in
+        let place = stop.slot in
+        let none_before : i < 0 = received_before seat image.slots 0 0 (rises (out_slots seat.outs) good.outs) (rises (in_slots seat.ins) good.ins) i link at_i (omega arith) in
+        absurd (omega arith);
+  }
+
+-- what it keeps where it has entered a turn
+pub record IsFresh (b : Inside) : Type 0 where
+  pub image : IsWellFormed b.image.now
+  pub stimulus : IsValidStimulus b.stim.now
+  pub seat : IsPort b.image.now b.port b.seat.now
+  pub kind : FitsKind b.image.now b.port b.kind
+  pub few : b.until ≤ turn_count (timing_of b.image.now) b.stim.now
+  pub first : 1 ≤ b.turn
+  pub last : b.turn ≤ b.until + 1
+  pub slots : b.slots ≡ item_slots b.seat.now.work
+  pub stops : AreStops (out_slots b.seat.now.outs) (in_slots b.seat.now.ins) b.image.now.slots b.slots b.stops
+  pub at : b.at ≡ 0
+  pub sent : b.sent ≡ 0
+  pub took : b.took ≡ 0
+  pub stop : Stop
+  pub there : slice_get b.stops 0 ≡ Some stop
+  pub entered : view_in b.kind ≡ record (inner b (if nat_le b.turn b.until then stop.items else 0)) { received = 0 }
+  pub value : IsLastValue (view_in b.kind) b.value
+
+pub kept_fresh : (b : Inside) → IsFresh b → IsKept b
+unfolding counts
+kept_fresh b fresh = record {
+  image = fresh.image;
+  stimulus = fresh.stimulus;
+  seat = fresh.seat;
+  kind = fresh.kind;
+  few = fresh.few;
+  first = fresh.first;
+  last = fresh.last;
+  slots = fresh.slots;
+  stops = fresh.stops;
+  come = rw (fresh.at, fresh.sent, fresh.took) refl;
+  at = omega (arith, fresh.at, fresh.sent, fresh.took);
+  sent = omega (arith, fresh.sent);
+  took = omega (arith, fresh.took);
+  inner = fresh.entered ∙ ap (λ n. record (inner b n) { received = 0 }) (sym executed_is) ∙ ap (λ n. record (inner b (view_in b.kind).executed) { received = n }) (sym fresh.took);
+  executed = λ early s at.
+      let same : fresh.stop ≡ s = one_there b.stops 0 b.at fresh.stop s (sym fresh.at) fresh.there at in
+      executed_is ∙ (ap {A = Bool} {B = ℕ} (λ t. if t then fresh.stop.items else 0) (le-leb b.turn b.until early) ∙ ap (λ (x : Stop). x.items) same);
+  rests = λ late. executed_is ∙ ap {A = Bool} {B = ℕ} (λ t. if t then fresh.stop.items else 0) (le_late late);
+  value = fresh.value;
+} where
+  executed_is : (view_in b.kind).executed ≡ (if nat_le b.turn b.until then fresh.stop.items else 0)
+  executed_is = ap (λ (v : PortView). v.executed) fresh.entered
+
+  le_late : b.until < b.turn → nat_le b.turn b.until ≡ false
+  le_late late = elim (leb_tells b.turn b.until) [
+    | inl h ↦ let low = h.1 in absurd (omega arith)
+    | inr h ↦ h.0
+  ]
