@@ -1,4 +1,4 @@
-use Rattle.std.proofs.Common.{◌≡◌, ◌↔◌, ◌∙◌, ◌+◌, ◌≤◌, Bool, true, nat_le, length, get_or, Some, slice_get, ap, subst, sym, refl, arith}
+use Rattle.std.proofs.Common.{◌≡◌, ◌↔◌, ◌∙◌, ◌+◌, ◌≤◌, Bool, true, nat_le, if◌then◌else◌, length, get_or, Some, slice_get, ap, subst, sym, refl, arith}
 use Rattle.std.proofs.lemmas.Bool.{leb-true}
 use Rattle.std.proofs.lemmas.Option.{slice_get-get_or}
 use Rattle.image_defs.specs.Ports.{PortView, after_end, last_turn}
@@ -55,6 +55,7 @@ invariant_of-self c =
       took = refl;
       stop = first;
       there = there;
-      entered = ?;
+      entered = c.enter-self-inside.ensures.entered
+          ∙ ap (λ (view : PortView). record view { begun = nat_le (a.turn + 1) a.until; executed = if nat_le (a.turn + 1) a.until then first.items else 0 }) inside;
       value = c.enter-self-inside.ensures.last;
     })
