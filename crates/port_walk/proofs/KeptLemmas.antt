@@ -1,16 +1,15 @@
 -- What a port with its place keeps from call to call.
-use Rattle.std.proofs.Common.{◌≡◌, inl, inr, ℕ, ◌+◌, ◌-◌, ◌<◌, ◌≤◌, Bool, true, false, nat_le, List, [], ◌∷◌, ◌++◌, length, take, get_or, slice_get, slice_index_or, Some, sym, ap, ◌∙◌, subst, refl, arith}
-use Rattle.std.proofs.lemmas.Bool.{cases_lt, le-leb}
+use Rattle.std.proofs.Common.{◌≡◌, inl, inr, ℕ, ◌+◌, ◌-◌, ◌<◌, ◌≤◌, List, length, take, get_or, slice_get, Some, sym, ap, ◌∙◌, subst, refl, arith}
+use Rattle.std.proofs.lemmas.Bool.{cases_lt}
 use Rattle.std.proofs.lemmas.List.{length-map}
 use Rattle.std.proofs.lemmas.Option.{slice_get_within, slice_get_read, slice_get-get_or, slice_get_cases}
 use Rattle.list_laws.proofs.Places.{one_there}
-use Rattle.logic_four.specs.declared.V4.{V4}
 use Rattle.image_defs.specs.declared.image.Image.{Image}
 use Rattle.image_defs.specs.declared.image.LinkIn.{LinkIn}
 use Rattle.image_defs.specs.declared.image.LinkOut.{LinkOut}
 use Rattle.image_defs.specs.declared.image.PortImage.{PortImage}
-use Rattle.image_defs.specs.Places.{Each, IsPort, IsItemIn, item_slots, in_slots, out_slots}
-use Rattle.image_defs.specs.WellFormed.{IsPortImage, IsLinkOut}
+use Rattle.image_defs.specs.Places.{Each, IsPort, item_slots, in_slots, out_slots}
+use Rattle.image_defs.specs.WellFormed.{IsPortImage}
 use Rattle.image_defs.specs.Frames.{image_value}
 use Rattle.image_defs.specs.Ports.{PortView}
 use Rattle.image_defs.proofs.PlaceLemmas.{Rises, rises, at_map}
@@ -18,17 +17,14 @@ use Rattle.event_defs.specs.declared.place.Action.{Action}
 use Rattle.event_defs.specs.declared.place.Action.TheVariants.{Ask, Put, Take, Tell, Done}
 use Rattle.event_defs.specs.Next.{SendsNext, ReceivesNext, EndsNext, IsNext}
 use Rattle.event_defs.proofs.PaceLemmas.{same_port}
-use Rattle.event_defs.proofs.SlotLemmas.{to_map}
 use Rattle.port_walk.specs.declared.any_port.AnyPort.TheInside.{Inside}
 use Rattle.port_walk.specs.declared.stops.Stop.{Stop}
-use Rattle.port_walk.specs.declared.stops.StopKind.{StopKind}
 use Rattle.port_walk.specs.declared.stops.StopKind.TheVariants.{Send, Receive, End}
 use Rattle.port_walk.specs.Kept.{view_of, inner, IsKept}
 use Rattle.port_walk.specs.Kinds.{view_in}
 use Rattle.port_walk.specs.Placed.{place_of, IsNextOf}
-use Rattle.port_walk.specs.Readers.{NoneLags, IsFirstLagging, IsSendAction}
-use Rattle.port_walk.specs.Stops.{ArePlaces, IsFront, IsStop, kind_at, slot_at}
-use Rattle.port_walk.proofs.StopLemmas.{tells}
+use Rattle.port_walk.specs.Readers.{IsSendAction}
+use Rattle.port_walk.specs.Stops.{ArePlaces, IsFront, IsStop}
 use Rattle.port_walk.proofs.CursorLemmas.{next_send, next_receipt, next_end}
 
 -- what the look past a list's end would give
@@ -150,21 +146,28 @@ module _ (a : Inside) (kept : IsKept a) where
         slot_link = ap (λ (l : LinkOut). l.slot) (sym same_link) ∙ next.2
 
         of_action : (action : Action) → IsSendAction readers known turns stop.slot a.value action → IsNext a.seat.now (place_of (view_of a) known) banks a.until (image_value a.image.now a.stim.now a.turn a.port) action
-        of_action (Ask reader) lagging = (early, record {
-          i = a.sent;
-          link = link;
-          sends = sends_link;
-          reads = (lagging.reads.0, ap (λ xs. slice_get xs lagging.reads.0) (sym same) ∙ lagging.reads.1);
-          lags = let lags = lagging.lags in omega arith;
-          least = λ r stands less. let far = lagging.least r (stands.0, ap (λ xs. slice_get xs stands.0) same ∙ stands.1) less in omega arith;
-        })
-        of_action (Put s v) (none, slot, value) = (early, record {
-          i = a.sent;
-          link = link;
-          slot_is = slot_link ∙ sym slot;
-          sends = sends_link;
-          ready = λ r stands. let far = none.each r (stands.0, ap (λ xs. slice_get xs stands.0) same ∙ stands.1) in omega arith;
-        }, value ∙ holds_value link is slot_link ∙ ap (image_value a.image.now a.stim.now a.turn a.port) (sym slot))
+        of_action (Ask reader) lagging = (
+          early,
+          record {
+            i = a.sent;
+            link = link;
+            sends = sends_link;
+            reads = (lagging.reads.0, ap (λ xs. slice_get xs lagging.reads.0) (sym same) ∙ lagging.reads.1);
+            lags = let lags = lagging.lags in omega arith;
+            least = λ r stands less. let far = lagging.least r (stands.0, ap (λ xs. slice_get xs stands.0) same ∙ stands.1) less in omega arith;
+          },
+        )
+        of_action (Put s v) (none, slot, value) = (
+          early,
+          record {
+            i = a.sent;
+            link = link;
+            slot_is = slot_link ∙ sym slot;
+            sends = sends_link;
+            ready = λ r stands. let far = none.each r (stands.0, ap (λ xs. slice_get xs stands.0) same ∙ stands.1) in omega arith;
+          },
+          value ∙ holds_value link is slot_link ∙ ap (image_value a.image.now a.stim.now a.turn a.port) (sym slot),
+        )
         of_action (Take s) wrong = absurd wrong
         of_action Tell wrong = absurd wrong
         of_action Done wrong = absurd wrong

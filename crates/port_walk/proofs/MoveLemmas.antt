@@ -1,5 +1,5 @@
 -- From stop to stop: what a port may do there, and what it keeps.
-use Rattle.std.proofs.Common.{◌≡◌, ◌↔◌, inl, inr, ℕ, zero, suc, ◌+◌, ◌<◌, ◌≤◌, Bool, true, false, nat_le, if◌then◌else◌, List, [], ◌∷◌, ◌++◌, length, take, get_or, slice_get, Some, sym, ap, ◌∙◌, subst, refl, arith}
+use Rattle.std.proofs.Common.{◌≡◌, ◌↔◌, inl, inr, ℕ, ◌+◌, ◌<◌, ◌≤◌, Bool, true, false, nat_le, if◌then◌else◌, List, [], ◌∷◌, ◌++◌, length, take, get_or, slice_get, Some, sym, ap, ◌∙◌, subst, refl, arith}
 use Rattle.std.proofs.lemmas.Bool.{cases_lt, le-leb}
 use Rattle.std.proofs.lemmas.Bool.Decides.{leb_tells}
 use Rattle.std.proofs.lemmas.List.{length-map, take_more}
@@ -28,11 +28,11 @@ use Rattle.port_walk.specs.declared.stops.StopKind.{StopKind}
 use Rattle.port_walk.specs.declared.stops.StopKind.TheVariants.{Send, Receive, End}
 use Rattle.port_walk.specs.Kept.{view_of, inner, IsKept}
 use Rattle.port_walk.specs.Kinds.{view_in, is_host, FitsKind, CanRun, CanEnter, IsLastValue}
-use Rattle.port_walk.specs.Placed.{PlacedPort, IsSending, IsReceiving, IsEnding, CanTakeValue, HasPut, HasTaken, IsNextSend, IsNextReceipt}
-use Rattle.port_walk.specs.Stops.{ArePlaces, IsFront, IsStop, AreStops, counts, counted, kind_at, slot_at}
+use Rattle.port_walk.specs.Placed.{IsSending, IsReceiving, IsEnding, CanTakeValue, HasPut, HasTaken}
+use Rattle.port_walk.specs.Stops.{IsFront, IsStop, AreStops, counts, kind_at, slot_at}
 use Rattle.port_walk.proofs.StopLemmas.{tells, counts_more, send_grows, receipt_grows}
 use Rattle.port_walk.proofs.CursorLemmas.{received_before}
-use Rattle.port_walk.proofs.KeptLemmas.{no_stop, outs, ins, good, same_seat, out_places, in_places, within_at, is_stop, send_here, receipt_here, end_here}
+use Rattle.port_walk.proofs.KeptLemmas.{no_stop, outs, ins, good, same_seat, out_places, in_places, is_stop, send_here, receipt_here, end_here}
 
 -- no fewer slots are before a bound that is no less
 pub front_grows : (slots : List ℕ) (bound later n m : ℕ) → IsFront slots bound n → IsFront slots later m → bound ≤ later → n ≤ m
@@ -237,8 +237,8 @@ module _ (a : Inside) (kept : IsKept a) (stop : Stop) (at : slice_get a.stops a.
         let here = sending_here i link sending in
         let slot : slice_get (out_slots a.seat.now.outs) a.sent ≡ Some link.slot = to_map (λ (l : LinkOut). l.slot) a.seat.now.outs a.sent link here.is in
         let more : take (a.sent + 1) (out_slots a.seat.now.outs) ≡ puts ++ link.slot ∷ [] =
-            take_more (out_slots a.seat.now.outs) a.sent 0 (slice_get_within (out_slots a.seat.now.outs) a.sent link.slot slot)
-            ∙ ap (λ s. puts ++ s ∷ []) (get_or_from_slice_get (out_slots a.seat.now.outs) a.sent link.slot 0 slot) in
+        take_more (out_slots a.seat.now.outs) a.sent 0 (slice_get_within (out_slots a.seat.now.outs) a.sent link.slot slot)
+        ∙ ap (λ s. puts ++ s ∷ []) (get_or_from_slice_get (out_slots a.seat.now.outs) a.sent link.slot 0 slot) in
         ap (λ ps. record (view_of a) { puts = ps }) more;
   }
 
@@ -248,8 +248,8 @@ module _ (a : Inside) (kept : IsKept a) (stop : Stop) (at : slice_get a.stops a.
         let here = receiving_here j link receiving in
         let slot : slice_get (in_slots a.seat.now.ins) a.took ≡ Some link.slot = to_map (λ (l : LinkIn). l.slot) a.seat.now.ins a.took link here.is in
         let more : take (a.took + 1) (in_slots a.seat.now.ins) ≡ takes ++ link.slot ∷ [] =
-            take_more (in_slots a.seat.now.ins) a.took 0 (slice_get_within (in_slots a.seat.now.ins) a.took link.slot slot)
-            ∙ ap (λ s. takes ++ s ∷ []) (get_or_from_slice_get (in_slots a.seat.now.ins) a.took link.slot 0 slot) in
+        take_more (in_slots a.seat.now.ins) a.took 0 (slice_get_within (in_slots a.seat.now.ins) a.took link.slot slot)
+        ∙ ap (λ s. takes ++ s ∷ []) (get_or_from_slice_get (in_slots a.seat.now.ins) a.took link.slot 0 slot) in
         ap (λ ts. record (view_of a) { takes = ts }) more;
   }
 
@@ -279,7 +279,7 @@ module _ (a : Inside) (kept : IsKept a) (stop : Stop) (at : slice_get a.stops a.
         is = kept.seat;
         executed_all = subst (λ xs. stop.items ≡ length xs) kept.slots
             (front_all a.slots (stop.slot + 1) stop.items (is_stop a kept stop at).front
-              (λ i s there. let low = (good a kept).item_slots_within i s (ap (λ xs. slice_get xs i) (sym kept.slots) ∙ there) in omega arith));
+            (λ i s there. let low = (good a kept).item_slots_within i s (ap (λ xs. slice_get xs i) (sym kept.slots) ∙ there) in omega arith));
         received_all = let past = past_end (ins a kept) a.took end.no_receipt in let long = in_length in let took = kept.took in omega arith;
       })
 

@@ -1,5 +1,5 @@
 -- What a port with its place keeps: it has executed all items up to its next stop, and no others.
-use Rattle.std.specs.Prelude.{◌≡◌, ℕ, ◌+◌, ◌<◌, ◌≤◌, ◌^◌, nat_le, take, length, Some, slice_get}
+use Rattle.std.specs.Prelude.{◌≡◌, ℕ, ◌+◌, ◌<◌, ◌≤◌, nat_le, take, length, Some, slice_get}
 use Rattle.net_defs.specs.Time.{turn_count}
 use Rattle.net_defs.specs.Valid.{IsValidStimulus}
 use Rattle.image_defs.specs.Places.{IsPort, item_slots, in_slots, out_slots}

@@ -41,7 +41,7 @@ pub struct AnyPort<'a> {
 
 impl<'a> Model for AnyPort<'a> {
     ghost use Rattle.port_walk.specs.Readers.{NoneLags, IsFirstLagging, IsSendAction};
-ghost use Rattle.port_walk.specs.Placed.{PlacedPort};
+    ghost use Rattle.port_walk.specs.Placed.{PlacedPort};
 
     ghost Value = { PlacedPort };
 
@@ -181,7 +181,9 @@ impl<'a> AnyPort<'a> {
         let stop = stops[self.at];
         let to = stops[self.at + 1].items;
         self.kind.receive(stop.slot, v);
-        self.value = self.kind.run(self.slots.as_slice(), stop.items, to, self.value);
+        self.value = self
+            .kind
+            .run(self.slots.as_slice(), stop.items, to, self.value);
         self.at += 1;
         self.took += 1;
     }
@@ -197,7 +199,9 @@ impl<'a> AnyPort<'a> {
         self.sent = 0;
         self.took = 0;
         let first = self.stops.as_slice()[0].items;
-        self.value = self.kind.enter(self.slots.as_slice(), first, self.turn <= self.until);
+        self.value = self
+            .kind
+            .enter(self.slots.as_slice(), first, self.turn <= self.until);
     }
 
     /// The turn that it is in, or the last one that it executes plus one when it is done.

@@ -95,13 +95,7 @@ fn slot_of(slots: u32, out: Option<u32>, receipt: Option<u32>) -> u32
     ensures { result ≡ slot_of slots out receipt }
 {
     match (out, receipt) {
-        (Some(out), Some(receipt)) => {
-            if out <= receipt {
-                out
-            } else {
-                receipt
-            }
-        }
+        (Some(out), Some(receipt)) => { if out <= receipt { out } else { receipt } }
         (Some(out), None) => out,
         (None, Some(receipt)) => receipt,
         (None, None) => slots,
@@ -144,13 +138,7 @@ fn count_through(slots: &[u32], from: usize, slot: u32) -> usize
 
 /// The stop at which the port has sent and received so often, where the first `from` items stand
 /// in the slots up to it.
-fn stop_at(
-    slots: u32,
-    items: &[u32],
-    from: usize,
-    out: Option<u32>,
-    receipt: Option<u32>,
-) -> Stop
+fn stop_at(slots: u32, items: &[u32], from: usize, out: Option<u32>, receipt: Option<u32>) -> Stop
     requires rising { IsStrictlyIncreasing items.now }
     requires from { AreAllBefore items.now (slot_of slots out receipt + 1) from }
     ensures kind { result.kind ≡ kind_of out receipt }

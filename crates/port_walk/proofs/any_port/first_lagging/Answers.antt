@@ -1,4 +1,4 @@
-use Rattle.std.proofs.Common.{get_or, inl, inr, ap, ◌∙◌, ◌≡◌, ℕ, ◌≤◌, Some, slice_get, slice_index_or, subst, sym, arith}
+use Rattle.std.proofs.Common.{get_or, inl, inr, ap, ◌∙◌, ◌≡◌, ◌≤◌, Some, slice_get, slice_index_or, subst, sym, arith}
 use Rattle.std.proofs.lemmas.Bool.{cases_lt}
 use Rattle.std.proofs.lemmas.Option.{slice_get-get_or, slice_get_within, get_or_from_slice_get}
 use Rattle.list_laws.proofs.Ranges.{last_or}
@@ -18,7 +18,7 @@ returns-then-known-reader c =
         | inl before ↦ c.readers.invariant stands.0 r before stands.1
         | inr after ↦
             let high = from_next readers i (get_or readers i 0) (rises readers c.requires.rising)
-                (λ s at. let e : Some (get_or readers i 0) ≡ Some s = sym here ∙ at in let same : get_or readers i 0 ≡ s = cc in omega arith) stands.0 r stands.1 after in
+            (λ s at. let e : Some (get_or readers i 0) ≡ Some s = sym here ∙ at in let same : get_or readers i 0 ≡ s = cc in omega arith) stands.0 r stands.1 after in
             absurd (omega arith)
       ];
     }

@@ -1,8 +1,7 @@
-use Rattle.std.proofs.Common.{◌≡◌, ◌↔◌, ◌∙◌, ◌+◌, ◌*◌, ◌≤◌, Bool, true, nat_le, if◌then◌else◌, length, get_or, Some, slice_get, ap, subst, sym, refl, arith}
+use Rattle.std.proofs.Common.{◌≡◌, ◌↔◌, ◌∙◌, ◌+◌, ◌*◌, ◌≤◌, true, nat_le, if◌then◌else◌, length, get_or, Some, slice_get, ap, subst, sym, refl, arith}
 use Rattle.std.proofs.lemmas.Bool.{leb-true}
 use Rattle.std.proofs.lemmas.Option.{slice_get-get_or}
 use Rattle.net_defs.specs.Time.{turn_count}
-use Rattle.image_defs.specs.declared.image.PortImage.{PortImage}
 use Rattle.image_defs.specs.Places.{item_slots, in_slots, out_slots}
 use Rattle.image_defs.specs.Steps.{timing_of}
 use Rattle.image_defs.specs.Ports.{PortView, last_turn}
@@ -39,18 +38,18 @@ enter-value-requires c =
     let stops = c.in_ok-stops.stops in
     let slots_are : slots ≡ item_slots seat.work = c.in_ok-slots.ensures in
     let stops_are : AreStops (out_slots seat.outs) (in_slots seat.ins) image.slots slots stops =
-        subst (λ xs. AreStops (out_slots seat.outs) (in_slots seat.ins) image.slots xs stops) c.as_slice-2.ensures
-          (subst (λ xs. AreStops (out_slots xs) (in_slots seat.ins) image.slots c.as_slice-2.result.now stops) c.as_slice-3.ensures
-            (subst (λ xs. AreStops (out_slots c.as_slice-3.result.now) (in_slots xs) image.slots c.as_slice-2.result.now stops) c.as_slice-4.ensures c.in_ok-stops.ensures)) in
+    subst (λ xs. AreStops (out_slots seat.outs) (in_slots seat.ins) image.slots xs stops) c.as_slice-2.ensures
+    (subst (λ xs. AreStops (out_slots xs) (in_slots seat.ins) image.slots c.as_slice-2.result.now stops) c.as_slice-3.ensures
+    (subst (λ xs. AreStops (out_slots c.as_slice-3.result.now) (in_slots xs) image.slots c.as_slice-2.result.now stops) c.as_slice-4.ensures c.in_ok-stops.ensures)) in
     let first = get_or c.as_slice-6.result.now 0 no_stop in
     let there : slice_get stops 0 ≡ Some first =
-        slice_get-get_or stops 0 no_stop (first_within image c.args.port seat good is slots stops slots_are stops_are) ∙ ap (λ xs. Some (get_or xs 0 no_stop)) (sym c.as_slice-6.ensures) in
+    slice_get-get_or stops 0 no_stop (first_within image c.args.port seat good is slots stops slots_are stops_are) ∙ ap (λ xs. Some (get_or xs 0 no_stop)) (sym c.as_slice-6.ensures) in
     let view : PortView = view_in c.in_ok-kind.kind in
     let begins = c.in_ok-kind.ensures.view in
     can_enter image c.args.port seat good is slots stops slots_are stops_are view c.as_slice-5.result.now first (nat_le 1 (image.units * c.cycles.result))
-      (ap (λ (v : PortView). v.image) begins) (ap (λ (v : PortView). v.port) begins) (ap (λ (v : PortView). v.begun) begins) (ap (λ (v : PortView). v.executed) begins)
-      (λ runs. subst (λ (v : PortView). v.turn ≤ last_turn v) (sym begins) (subst (λ n. 1 ≤ image.units * n) c.cycles.ensures (leb-true 1 (image.units * c.cycles.result) runs)))
-      c.as_slice-5.ensures there
+    (ap (λ (v : PortView). v.image) begins) (ap (λ (v : PortView). v.port) begins) (ap (λ (v : PortView). v.begun) begins) (ap (λ (v : PortView). v.executed) begins)
+    (λ runs. subst (λ (v : PortView). v.turn ≤ last_turn v) (sym begins) (subst (λ n. 1 ≤ image.units * n) c.cycles.ensures (leb-true 1 (image.units * c.cycles.result) runs)))
+    c.as_slice-5.ensures there
 
 pub invariant_of-result : goal.invariant_of-result
 invariant_of-result c =
@@ -62,12 +61,12 @@ invariant_of-result c =
     let stops = c.in_ok-stops.stops in
     let slots_are : slots ≡ item_slots seat.work = c.in_ok-slots.ensures in
     let stops_are : AreStops (out_slots seat.outs) (in_slots seat.ins) image.slots slots stops =
-        subst (λ xs. AreStops (out_slots seat.outs) (in_slots seat.ins) image.slots xs stops) c.as_slice-2.ensures
-          (subst (λ xs. AreStops (out_slots xs) (in_slots seat.ins) image.slots c.as_slice-2.result.now stops) c.as_slice-3.ensures
-            (subst (λ xs. AreStops (out_slots c.as_slice-3.result.now) (in_slots xs) image.slots c.as_slice-2.result.now stops) c.as_slice-4.ensures c.in_ok-stops.ensures)) in
+    subst (λ xs. AreStops (out_slots seat.outs) (in_slots seat.ins) image.slots xs stops) c.as_slice-2.ensures
+    (subst (λ xs. AreStops (out_slots xs) (in_slots seat.ins) image.slots c.as_slice-2.result.now stops) c.as_slice-3.ensures
+    (subst (λ xs. AreStops (out_slots c.as_slice-3.result.now) (in_slots xs) image.slots c.as_slice-2.result.now stops) c.as_slice-4.ensures c.in_ok-stops.ensures)) in
     let first = get_or c.as_slice-6.result.now 0 no_stop in
     let there : slice_get stops 0 ≡ Some first =
-        slice_get-get_or stops 0 no_stop (first_within image c.args.port seat good is slots stops slots_are stops_are) ∙ ap (λ xs. Some (get_or xs 0 no_stop)) (sym c.as_slice-6.ensures) in
+    slice_get-get_or stops 0 no_stop (first_within image c.args.port seat good is slots stops slots_are stops_are) ∙ ap (λ xs. Some (get_or xs 0 no_stop)) (sym c.as_slice-6.ensures) in
     let until = image.units * c.cycles.result in
     let all : until ≡ turn_count (timing_of image) c.args.stim.now = ap (λ n. image.units * n) c.cycles.ensures in
     kept_fresh _ (record {

@@ -1,5 +1,5 @@
-use Rattle.std.proofs.Common.{◌≡◌, sym, subst, refl}
-use Rattle.port_walk.specs.Placed.{IsSending, IsNextSend}
+use Rattle.std.proofs.Common.{subst, refl}
+use Rattle.port_walk.specs.Placed.{IsNextSend}
 use Rattle.port_walk.proofs.KeptLemmas.{found}
 use Rattle.port_walk.proofs.MoveLemmas.{sending_here}
 use Rattle.port_walk.proofs.any_port.AnyPort.next_send.Goals as goal

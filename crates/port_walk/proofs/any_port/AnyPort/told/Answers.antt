@@ -1,4 +1,4 @@
-use Rattle.std.proofs.Common.{◌≡◌, ◌↔◌, ◌∙◌, ◌+◌, ◌≤◌, Bool, true, nat_le, if◌then◌else◌, length, get_or, Some, slice_get, ap, subst, sym, refl, arith}
+use Rattle.std.proofs.Common.{◌≡◌, ◌↔◌, ◌∙◌, ◌+◌, ◌≤◌, true, nat_le, if◌then◌else◌, length, get_or, Some, slice_get, ap, subst, sym, refl, arith}
 use Rattle.std.proofs.lemmas.Bool.{leb-true}
 use Rattle.std.proofs.lemmas.Option.{slice_get-get_or}
 use Rattle.image_defs.specs.Ports.{PortView, after_end, last_turn}
@@ -22,13 +22,13 @@ enter-self-inside-requires c =
     let ending : IsEnding (view_of a) = subst IsEnding (sym c.self.view_is) c.requires in
     let first = get_or c.as_slice.result.now 0 no_stop in
     let there : slice_get a.stops 0 ≡ Some first =
-        slice_get-get_or a.stops 0 no_stop (first_within a.image.now a.port a.seat.now (good a kept) kept.seat a.slots a.stops kept.slots kept.stops) ∙ ap (λ xs. Some (get_or xs 0 no_stop)) (sym c.as_slice.ensures) in
+    slice_get-get_or a.stops 0 no_stop (first_within a.image.now a.port a.seat.now (good a kept) kept.seat a.slots a.stops kept.slots kept.stops) ∙ ap (λ xs. Some (get_or xs 0 no_stop)) (sym c.as_slice.ensures) in
     let inside : view_in c.end_turn.new.self ≡ after_end (inner a (get_or a.stops a.at no_stop).items) =
-        c.end_turn.ensures.view ∙ ap after_end (inner_here a kept (get_or a.stops a.at no_stop) (found a kept a.stops refl) ending.early) in
+    c.end_turn.ensures.view ∙ ap after_end (inner_here a kept (get_or a.stops a.at no_stop) (found a kept a.stops refl) ending.early) in
     can_enter a.image.now a.port a.seat.now (good a kept) kept.seat a.slots a.stops kept.slots kept.stops (view_in c.end_turn.new.self) c.as_slice-2.result.now first (nat_le (a.turn + 1) a.until)
-      (ap (λ (v : PortView). v.image) inside) (ap (λ (v : PortView). v.port) inside) (ap (λ (v : PortView). v.begun) inside) (ap (λ (v : PortView). v.executed) inside)
-      (λ runs. subst (λ (v : PortView). v.turn ≤ last_turn v) (sym inside) (let low = leb-true (a.turn + 1) a.until runs in let few = kept.few in omega arith))
-      c.as_slice-2.ensures there
+    (ap (λ (v : PortView). v.image) inside) (ap (λ (v : PortView). v.port) inside) (ap (λ (v : PortView). v.begun) inside) (ap (λ (v : PortView). v.executed) inside)
+    (λ runs. subst (λ (v : PortView). v.turn ≤ last_turn v) (sym inside) (let low = leb-true (a.turn + 1) a.until runs in let few = kept.few in omega arith))
+    c.as_slice-2.ensures there
 
 pub invariant_of-self : goal.invariant_of-self
 invariant_of-self c =
@@ -37,9 +37,9 @@ invariant_of-self c =
     let ending : IsEnding (view_of a) = subst IsEnding (sym c.self.view_is) c.requires in
     let first = get_or c.as_slice.result.now 0 no_stop in
     let there : slice_get a.stops 0 ≡ Some first =
-        slice_get-get_or a.stops 0 no_stop (first_within a.image.now a.port a.seat.now (good a kept) kept.seat a.slots a.stops kept.slots kept.stops) ∙ ap (λ xs. Some (get_or xs 0 no_stop)) (sym c.as_slice.ensures) in
+    slice_get-get_or a.stops 0 no_stop (first_within a.image.now a.port a.seat.now (good a kept) kept.seat a.slots a.stops kept.slots kept.stops) ∙ ap (λ xs. Some (get_or xs 0 no_stop)) (sym c.as_slice.ensures) in
     let inside : view_in c.end_turn.new.self ≡ after_end (inner a (get_or a.stops a.at no_stop).items) =
-        c.end_turn.ensures.view ∙ ap after_end (inner_here a kept (get_or a.stops a.at no_stop) (found a kept a.stops refl) ending.early) in
+    c.end_turn.ensures.view ∙ ap after_end (inner_here a kept (get_or a.stops a.at no_stop) (found a kept a.stops refl) ending.early) in
     kept_fresh _ (record {
       image = kept.image;
       stimulus = kept.stimulus;

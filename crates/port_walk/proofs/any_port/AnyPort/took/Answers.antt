@@ -38,7 +38,7 @@ run-self-inside-requires-clause-can c =
     let here = receiving_here a kept (get_or stops a.at no_stop) at can.j can.link can.receiving in
     let next = after_receipt a kept (get_or stops a.at no_stop) at stops c.as_slice-stops.ensures here.kind in
     let inside : view_in c.receive.new.self ≡ inner_at a kept (get_or stops a.at no_stop) at (get_or stops a.at no_stop) (a.took + 1) =
-        c.receive.ensures.view ∙ ap after_receive (inner_here a kept (get_or stops a.at no_stop) at can.receiving.early) in
+    c.receive.ensures.view ∙ ap after_receive (inner_here a kept (get_or stops a.at no_stop) at can.receiving.early) in
     can_run a kept (get_or stops a.at no_stop) at (view_in c.receive.new.self) c.as_slice.result.now a.sent (a.took + 1) (get_or stops (a.at + 1) no_stop) can.receiving.early inside c.as_slice.ensures next
 
 pub invariant_of-self : goal.invariant_of-self
@@ -51,14 +51,14 @@ invariant_of-self c =
     let here = receiving_here a kept (get_or stops a.at no_stop) at can.j can.link can.receiving in
     let next = after_receipt a kept (get_or stops a.at no_stop) at stops c.as_slice-stops.ensures here.kind in
     let inside : view_in c.receive.new.self ≡ inner_at a kept (get_or stops a.at no_stop) at (get_or stops a.at no_stop) (a.took + 1) =
-        c.receive.ensures.view ∙ ap after_receive (inner_here a kept (get_or stops a.at no_stop) at can.receiving.early) in
+    c.receive.ensures.view ∙ ap after_receive (inner_here a kept (get_or stops a.at no_stop) at can.receiving.early) in
     kept_after a kept (get_or stops a.at no_stop) at c.run-self-inside.new.self c.run-self-inside.result a.sent (a.took + 1) (get_or stops (a.at + 1) no_stop) can.receiving.early next
-      (c.run-self-inside.ensures.run ∙ ap (λ (view : PortView). record view { executed = (get_or stops (a.at + 1) no_stop).items }) inside)
-      (c.run-self-inside.ensures.kind ∙ c.receive.ensures.kind) c.run-self-inside.ensures.last
+    (c.run-self-inside.ensures.run ∙ ap (λ (view : PortView). record view { executed = (get_or stops (a.at + 1) no_stop).items }) inside)
+    (c.run-self-inside.ensures.kind ∙ c.receive.ensures.kind) c.run-self-inside.ensures.last
 
 pub returns : goal.returns
 returns c =
     let a = c.self.inside in
     let kept = c.self.invariant in
     subst (λ view. HasTaken view (record (view_of a) { takes = take (a.took + 1) (in_slots a.seat.now.ins) })) c.self.view_is
-      (has_taken a kept (get_or a.stops a.at no_stop) (found a kept a.stops refl))
+    (has_taken a kept (get_or a.stops a.at no_stop) (found a kept a.stops refl))
