@@ -88,3 +88,12 @@ invariant_of-result c =
           ∙ ap (λ (view : PortView). record view { begun = nat_le 1 until; executed = if nat_le 1 until then first.items else 0 }) c.in_ok-kind.ensures.view;
       value = c.enter-value.ensures.last;
     })
+
+pub stops_of-requires-clause-items : goal.stops_of-requires-clause-items
+stops_of-requires-clause-items c =
+    let image = c.args.image.now in
+    let seat = c.index-as_slice-port.result in
+    let is = seat_there image c.args.port seat c.as_slice.result.now c.requires.there c.as_slice.ensures c.index-as_slice-port.is in
+    let good = c.requires.image.ports c.args.port seat is in
+    let slots_are : c.as_slice-2.result.now ≡ item_slots seat.work = c.as_slice-2.ensures ∙ c.in_ok-slots.ensures in
+    subst (ArePlaces image.slots) (sym slots_are) (record { rising = good.items; low = good.item_slots_within })
