@@ -2,14 +2,15 @@
 use Rattle.std.proofs.Common.{◌≡◌, inl, inr, ℕ, ◌+◌, ◌-◌, ◌<◌, ◌≤◌, List, length, take, get_or, slice_get, Some, sym, ap, ◌∙◌, subst, refl, arith}
 use Rattle.std.proofs.lemmas.Bool.{cases_lt}
 use Rattle.std.proofs.lemmas.List.{length-map}
-use Rattle.std.proofs.lemmas.Option.{slice_get_within, slice_get_read, slice_get-get_or, slice_get_cases}
+use Rattle.std.proofs.lemmas.Option.{slice_get_within, slice_get-get_or, slice_get_cases}
 use Rattle.list_laws.proofs.Places.{one_there}
+use Rattle.limits.specs.declared.TheConstants.{MAX_SLOTS}
 use Rattle.image_defs.specs.declared.image.Image.{Image}
 use Rattle.image_defs.specs.declared.image.LinkIn.{LinkIn}
 use Rattle.image_defs.specs.declared.image.LinkOut.{LinkOut}
 use Rattle.image_defs.specs.declared.image.PortImage.{PortImage}
 use Rattle.image_defs.specs.Places.{Each, IsPort, item_slots, in_slots, out_slots}
-use Rattle.image_defs.specs.WellFormed.{IsPortImage}
+use Rattle.image_defs.specs.WellFormed.{IsPortImage, IsWellFormed}
 use Rattle.image_defs.specs.Frames.{image_value}
 use Rattle.image_defs.specs.Ports.{PortView}
 use Rattle.image_defs.proofs.PlaceLemmas.{Rises, rises, at_map}
@@ -24,7 +25,9 @@ use Rattle.port_walk.specs.Kept.{view_of, inner, IsKept}
 use Rattle.port_walk.specs.Kinds.{view_in}
 use Rattle.port_walk.specs.Placed.{place_of, IsNextOf}
 use Rattle.port_walk.specs.Readers.{IsSendAction}
+use Rattle.port_walk.specs.Rows.{HasFewReaders, IsRow, start_of}
 use Rattle.port_walk.specs.Stops.{ArePlaces, IsFront, IsStop}
+use Rattle.port_walk.proofs.StopLemmas.{places_few}
 use Rattle.port_walk.proofs.CursorLemmas.{next_send, next_receipt, next_end}
 
 -- what the look past a list's end would give
@@ -47,6 +50,23 @@ module _ (image : Image) (p : ℕ) (seat : PortImage) (good : IsPortImage image 
 
   pub in_places : ArePlaces image.slots (in_slots seat.ins)
   in_places = record { rising = good.ins; low = good.in_slots_within }
+
+-- ---- and of their readers
+
+module _ (image : Image) (good : IsWellFormed image) (p : ℕ) (seat : PortImage) (is : IsPort image p seat) where
+  pub few_sends : length seat.outs ≤ MAX_SLOTS
+  few_sends =
+      let few = places_few image.slots (out_slots seat.outs) (out_places image p seat (good.ports p seat is)) in
+      let slots = good.slots in
+      omega (arith, length-map seat.outs (λ (l : LinkOut). l.slot))
+
+  pub few_readers : Each HasFewReaders seat.outs
+  few_readers i link at =
+      let sends = (good.ports p seat is).sends i link at in
+      let low : Each (λ r. r < length image.ports) link.readers = λ k r there. let reader = sends.received k r there in slice_get_within image.ports r reader.port reader.is in
+      let few = places_few (length image.ports) link.readers (record { rising = sends.rising; low = low }) in
+      let most = good.most_ports in
+      omega arith
 
 -- the number of an item in the last slot up to which the items are counted
 pub last_item : (items : List ℕ) (i n slot : ℕ) → Rises items → IsFront items (slot + 1) n → slice_get items i ≡ Some slot → i + 1 ≡ n
@@ -174,10 +194,16 @@ module _ (a : Inside) (kept : IsKept a) where
 
     -- ---- the link that is sent
 
-    pub send_is : (link : LinkOut) (links : List LinkOut) → stop.kind ≡ Send → links ≡ a.seat.now.outs → link ≡ get_or links a.sent link → slice_get a.seat.now.outs a.sent ≡ Some link
-    send_is link links kind same is =
+    pub record IsLinkHere (link : LinkOut) : Type 0 where
+      pub is : slice_get a.seat.now.outs a.sent ≡ Some link
+      pub within : a.sent < length a.seat.now.outs
+      pub row : IsRow a.readers.all (start_of a.readers a.sent) (start_of a.readers (a.sent + 1)) link.readers
+
+    pub link_here : stop.kind ≡ Send → (link : LinkOut) × IsLinkHere link
+    link_here kind =
         let next = send_here kind in
-        slice_get_read a.seat.now.outs (length a.seat.now.outs) a.sent link refl (slice_get_within a.seat.now.outs a.sent next.0 next.1.is) (is ∙ ap (λ xs. get_or xs a.sent link) same)
+        let within = slice_get_within a.seat.now.outs a.sent next.0 next.1.is in
+        (next.0, record { is = next.1.is; within = within; row = kept.readers.each a.sent next.0 within next.1.is })
 
   pub readers_there : (link : LinkOut) (known : List ℕ) → length known ≡ length a.image.now.ports → slice_get a.seat.now.outs a.sent ≡ Some link → Each (λ r. r < length known) link.readers
   readers_there link known wide is i r at =

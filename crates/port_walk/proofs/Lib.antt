@@ -2,4 +2,5 @@ pub mod CursorLemmas
 pub mod KeptLemmas
 pub mod KindLemmas
 pub mod MoveLemmas
+pub mod RowLemmas
 pub mod StopLemmas

@@ -29,6 +29,7 @@ use Rattle.port_walk.specs.declared.stops.StopKind.TheVariants.{Send, Receive, E
 use Rattle.port_walk.specs.Kept.{view_of, inner, IsKept}
 use Rattle.port_walk.specs.Kinds.{view_in, is_host, FitsKind, CanRun, CanEnter, IsLastValue}
 use Rattle.port_walk.specs.Placed.{IsSending, IsReceiving, IsEnding, CanTakeValue, HasPut, HasTaken}
+use Rattle.port_walk.specs.Rows.{AreReaders}
 use Rattle.port_walk.specs.Stops.{IsFront, IsStop, AreStops, counts, kind_at, slot_at}
 use Rattle.port_walk.proofs.StopLemmas.{tells, counts_more, send_grows, receipt_grows}
 use Rattle.port_walk.proofs.CursorLemmas.{received_before}
@@ -219,6 +220,7 @@ module _ (a : Inside) (kept : IsKept a) (stop : Stop) (at : slice_get a.stops a.
     last = kept.last;
     slots = kept.slots;
     stops = kept.stops;
+    readers = kept.readers;
     come = after.come;
     at = after.count;
     sent = after.sent_within;
@@ -324,6 +326,7 @@ pub record IsFresh (b : Inside) : Type 0 where
   pub last : b.turn ≤ b.until + 1
   pub slots : b.slots ≡ item_slots b.seat.now.work
   pub stops : AreStops (out_slots b.seat.now.outs) (in_slots b.seat.now.ins) b.image.now.slots b.slots b.stops
+  pub readers : AreReaders (length b.seat.now.outs) b.seat.now.outs b.readers
   pub at : b.at ≡ 0
   pub sent : b.sent ≡ 0
   pub took : b.took ≡ 0
@@ -344,6 +347,7 @@ kept_fresh b fresh = record {
   last = fresh.last;
   slots = fresh.slots;
   stops = fresh.stops;
+  readers = fresh.readers;
   come = rw (fresh.at, fresh.sent, fresh.took) refl;
   at = omega (arith, fresh.at, fresh.sent, fresh.took);
   sent = omega (arith, fresh.sent);

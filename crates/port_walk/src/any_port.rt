@@ -9,6 +9,7 @@ ghost use Rattle.port_walk.specs.Readers.{NoneLags, IsFirstLagging, IsSendAction
 ghost use Rattle.port_walk.specs.Placed.{at_start, in_next_turn, IsNextOf, CanPut, CanTake, CanTakeValue, IsEnding, HasPut, HasTaken, IsNextSend, IsNextReceipt, IsHostIn};
 
 use crate::kind::Kind;
+use crate::readers::{Readers, readers_at, readers_of};
 use crate::stops::{Stop, StopKind, slots_of, stops_of};
 use event_defs::Action;
 use image_defs::{Image, PortImage};
@@ -27,6 +28,7 @@ pub struct AnyPort<'a> {
     kind: Kind<'a>,
     slots: List<u32>,
     stops: List<Stop>,
+    readers: Readers,
     at: usize,
     sent: usize,
     took: usize,
@@ -103,6 +105,7 @@ impl<'a> AnyPort<'a> {
             seat.outs.as_slice(),
             seat.ins.as_slice(),
         )?;
+        let readers = readers_of(alloc, seat.outs.as_slice())?;
         let mut kind = Kind::new(alloc, image, stim, port)?;
         let until = image.units as u64 * stim.cycles() as u64;
         let value = kind.enter(slots.as_slice(), stops.as_slice()[0].items, 1 <= until);
@@ -110,6 +113,7 @@ impl<'a> AnyPort<'a> {
             kind,
             slots,
             stops,
+            readers,
             at: 0,
             sent: 0,
             took: 0,
@@ -134,7 +138,7 @@ impl<'a> AnyPort<'a> {
         let stop = self.stops.as_slice()[self.at];
         match stop.kind {
             StopKind::Send => {
-                let readers = self.seat.outs.as_slice()[self.sent].readers.as_slice();
+                let readers = readers_at(&self.readers, self.sent);
                 let turns = self.turn.saturating_sub(banks as u64);
                 send_action(readers, known, turns, stop.slot, self.value)
             }

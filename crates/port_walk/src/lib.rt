@@ -4,6 +4,7 @@
 
 mod any_port;
 mod kind;
+mod readers;
 mod stops;
 
 pub use any_port::AnyPort;

@@ -50,6 +50,7 @@ invariant_of-self c =
       last = let early = ending.early in omega arith;
       slots = kept.slots;
       stops = kept.stops;
+      readers = kept.readers;
       at = refl;
       sent = refl;
       took = refl;
