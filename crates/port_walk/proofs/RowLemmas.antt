@@ -46,14 +46,14 @@ module _ (n : ℕ) (outs : List LinkOut) (all starts : List ℕ) (are : AreReade
     each = λ i other low there. elim (last_or i n low) [
       | inl before ↦
           subst (λ from. IsRow (all ++ link.readers) from (get_or (starts ++ last ∷ []) (i + 1) 0) other.readers) (sym (stays i low))
-            (subst (λ to. IsRow (all ++ link.readers) (get_or starts i 0) to other.readers) (sym (stays (i + 1) (omega arith)))
-              (row_stays all link.readers (get_or starts i 0) (get_or starts (i + 1) 0) other.readers (are.each i other before there)))
+          (subst (λ to. IsRow (all ++ link.readers) (get_or starts i 0) to other.readers) (sym (stays (i + 1) (omega arith)))
+          (row_stays all link.readers (get_or starts i 0) (get_or starts (i + 1) 0) other.readers (are.each i other before there)))
       | inr here ↦
           let same : link ≡ other = one_there outs n i link other (sym here) is there in
           subst (λ (l : LinkOut). IsRow (all ++ link.readers) (get_or (starts ++ last ∷ []) i 0) (get_or (starts ++ last ∷ []) (i + 1) 0) l.readers) same
-            (row_added all link.readers (get_or (starts ++ last ∷ []) i 0) (get_or (starts ++ last ∷ []) (i + 1) 0)
-              (stays i low ∙ (ap (λ k. get_or starts k 0) here ∙ are.end))
-              (ap (λ k. get_or (starts ++ last ∷ []) (k + 1) 0) here ∙ (at_end ∙ ends)))
+          (row_added all link.readers (get_or (starts ++ last ∷ []) i 0) (get_or (starts ++ last ∷ []) (i + 1) 0)
+          (stays i low ∙ (ap (λ k. get_or starts k 0) here ∙ are.end))
+          (ap (λ k. get_or (starts ++ last ∷ []) (k + 1) 0) here ∙ (at_end ∙ ends)))
     ];
   } where
     times_more : (k a b c : ℕ) → c ≡ a + b → a ≤ MAX_PORTS * k → b ≤ MAX_PORTS → c ≤ MAX_PORTS * (k + 1)
@@ -65,5 +65,5 @@ pub readers_grown : (n : ℕ) (outs : List LinkOut) (all starts : List ℕ) → 
 readers_grown n outs all starts are link is few row later places last row_is later_is places_is last_is =
     let all_is : later ≡ all ++ link.readers = later_is ∙ ap (λ xs. all ++ xs) row_is in
     subst (λ xs. AreReaders (n + 1) outs (record { all = xs; starts = places })) (sym all_is)
-      (subst (λ xs. AreReaders (n + 1) outs (record { all = all ++ link.readers; starts = xs })) (sym places_is)
-        (readers_more n outs all starts are link is few last (last_is ∙ ap length all_is)))
+    (subst (λ xs. AreReaders (n + 1) outs (record { all = all ++ link.readers; starts = xs })) (sym places_is)
+    (readers_more n outs all starts are link is few last (last_is ∙ ap length all_is)))

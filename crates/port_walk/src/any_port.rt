@@ -1,6 +1,6 @@
 //! A port of any kind with its place in the turn.
 
-ghost use Rattle.std.specs.Prelude.{◌≡◌, ◌≢◌, ◌<◌, ◌≤◌, length, IfOk, MatchOption};
+ghost use Rattle.std.specs.Prelude.{◌≡◌, ◌≢◌, ◌-◌, ◌<◌, ◌≤◌, length, IfOk, MatchOption};
 ghost use Rattle.net_defs.specs.Valid.{IsValidStimulus};
 ghost use Rattle.std.specs.List.Sorted.{IsStrictlyIncreasing};
 ghost use Rattle.image_defs.specs.Places.{Each, host_of};
@@ -20,9 +20,9 @@ use seen_list::{List, Memory};
 use std::alloc::Global;
 use std::marker::Model;
 
-/// A port of any kind with its place in the turn. After each call it has executed all its items in the
-/// slots up to that of its next event, before which it can't execute more. A contract sees whose image
-/// and stimulus it runs, and its place.
+/// A port of any kind with its place in the turn. After each call it has executed all its items in
+/// the slots up to that of its next event; more it can't execute before that. A contract sees whose
+/// image and stimulus it runs, and its place.
 #[derive(Drop)]
 pub struct AnyPort<'a> {
     kind: Kind<'a>,
@@ -54,11 +54,20 @@ impl<'a> Model for AnyPort<'a> {
     ghost invariant = { IsKept };
 }
 
+/// How many turns a port in this turn wants its readers to have finished, with so many banks.
+fn turns_wanted(turn: u64, banks: u32) -> u64
+    ensures { result ≡ turn - banks }
+{
+    turn.saturating_sub(banks as u64)
+}
+
 /// The first of the readers that isn't known to have finished so many turns.
 fn first_lagging(readers: &[u32], known: &[u64], turns: u64) -> Option<u32>
     requires there { Each (λ r. r < length known.now) readers.now }
     requires rising { IsStrictlyIncreasing readers.now }
-    ensures { MatchOption result (NoneLags readers.now known.now turns) (IsFirstLagging readers.now known.now turns) }
+    ensures { MatchOption result
+        (NoneLags readers.now known.now turns)
+        (IsFirstLagging readers.now known.now turns) }
 {
     'readers: for reader in readers {
         if known[*reader as usize] < turns {
@@ -68,8 +77,8 @@ fn first_lagging(readers: &[u32], known: &[u64], turns: u64) -> Option<u32>
     None
 }
 
-/// What comes next where a Put is missing: an Ask of a reader that isn't known to have finished so many
-/// turns, or the Put.
+/// What comes next where a Put is missing: an Ask of a reader that isn't known to have finished so
+/// many turns, or the Put.
 fn send_action(readers: &[u32], known: &[u64], turns: u64, slot: u32, value: V4) -> Action
     requires there { Each (λ r. r < length known.now) readers.now }
     requires rising { IsStrictlyIncreasing readers.now }
@@ -82,8 +91,8 @@ fn send_action(readers: &[u32], known: &[u64], turns: u64, slot: u32, value: V4)
 }
 
 impl<'a> AnyPort<'a> {
-    /// The port of this number before its first event. It takes memory for what its kind needs, for a
-    /// number for each item, and for what it sends and receives in a turn. No later call takes any.
+    /// The port of this number before its first event. It takes memory for what its kind needs, and
+    /// for its items, sends, readers and receipts. No later call takes any.
     pub fn new(
         alloc: Global,
         image: &'a Image,
@@ -127,7 +136,9 @@ impl<'a> AnyPort<'a> {
         })
     }
 
-    /// The next event, by what is known of how many turns each port has finished, with so many banks.
+    /// The next event, with so many banks, by what is known of how many turns each port has
+    /// finished.
+    #[inline]
     pub fn next(&self, known: &[u64], banks: u32) -> Action
         requires { length known.now ≡ length self.now.image.ports }
         ensures { IsNextOf self.now known.now banks result }
@@ -139,7 +150,7 @@ impl<'a> AnyPort<'a> {
         match stop.kind {
             StopKind::Send => {
                 let readers = readers_at(&self.readers, self.sent);
-                let turns = self.turn.saturating_sub(banks as u64);
+                let turns = turns_wanted(self.turn, banks);
                 send_action(readers, known, turns, stop.slot, self.value)
             }
             StopKind::Receive => Action::Take { slot: stop.slot },
@@ -148,6 +159,7 @@ impl<'a> AnyPort<'a> {
     }
 
     /// The number of the send whose Put is missing next, in slot order.
+    #[inline]
     pub fn next_send(&self) -> usize
         requires { CanPut self.now }
         ensures { IsNextSend self.now result }
@@ -156,6 +168,7 @@ impl<'a> AnyPort<'a> {
     }
 
     /// The number of the receipt whose Take is missing next, in slot order.
+    #[inline]
     pub fn next_receipt(&self) -> usize
         requires { CanTake self.now }
         ensures { IsNextReceipt self.now result }
@@ -164,6 +177,7 @@ impl<'a> AnyPort<'a> {
     }
 
     /// The Put that was next is made.
+    #[inline]
     pub fn put_done(&mut self)
         requires { CanPut self.old }
         ensures { HasPut self.old self.new }
@@ -177,6 +191,7 @@ impl<'a> AnyPort<'a> {
     }
 
     /// The Take that was next is made, and gave this value.
+    #[inline]
     pub fn took(&mut self, v: V4)
         requires { CanTakeValue self.old v }
         ensures { HasTaken self.old self.new }
@@ -209,6 +224,7 @@ impl<'a> AnyPort<'a> {
     }
 
     /// The turn that it is in, or the last one that it executes plus one when it is done.
+    #[inline]
     pub fn turn(&self) -> u64
         ensures { result ≡ self.now.turn }
     {
@@ -224,7 +240,9 @@ impl<'a> AnyPort<'a> {
 
     /// The port as the host. `None` exactly where it is another.
     pub fn host(&self) -> Option<&HostPort<'a>>
-        ensures { MatchOption result (self.now.port ≢ host_of self.now.image) (λ host. IsHostIn self.now host.now) }
+        ensures { MatchOption result
+            (self.now.port ≢ host_of self.now.image)
+            (λ host. IsHostIn self.now host.now) }
     {
         match &self.kind {
             Kind::Host(host) => Some(host),

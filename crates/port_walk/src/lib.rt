@@ -1,5 +1,5 @@
-//! A port of any kind with its place in the turn: it executes its items by itself, as far as it can, and
-//! tells what comes next between it and the other ports.
+//! A port of any kind with its place in the turn: it executes its items by itself, as far as it
+//! can, and tells what comes next between it and the other ports.
 #![tactic(auto)]
 
 mod any_port;

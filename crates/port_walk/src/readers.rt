@@ -39,8 +39,8 @@ pub(crate) fn readers_at(readers: &Readers, send: usize) -> &[u32]
     requires there { send + 1 < length readers.now.starts }
     requires order { start_of readers.now send ≤ start_of readers.now (send + 1) }
     requires within { start_of readers.now (send + 1) ≤ length readers.now.all }
-    ensures { result.now
-        ≡ slice_range readers.now.all (start_of readers.now send) (start_of readers.now (send + 1)) }
+    ensures { result.now ≡ slice_range
+        readers.now.all (start_of readers.now send) (start_of readers.now (send + 1)) }
 {
     let starts = readers.starts.as_slice();
     let from = starts[send] as usize;

@@ -25,7 +25,7 @@ send_action-requires-clause-there c =
     let here = link_here a kept stop at c.in-Send.is in
     let same : c.readers_at-readers.result.now ≡ here.0.readers = c.readers_at-readers.ensures ∙ here.1.row.is in
     subst (Each (λ r. r < length c.args.known.now)) (sym same)
-      (readers_there a kept here.0 c.args.known.now (c.requires ∙ ap (λ view. length view.image.ports) (sym c.self.view_is)) here.1.is)
+    (readers_there a kept here.0 c.args.known.now (c.requires ∙ ap (λ view. length view.image.ports) (sym c.self.view_is)) here.1.is)
 
 pub send_action-requires-clause-rising : goal.send_action-requires-clause-rising
 send_action-requires-clause-rising c =
@@ -46,7 +46,7 @@ returns-in-Send c =
     let here = link_here a kept stop at c.in-Send.is in
     let same : c.readers_at-readers.result.now ≡ here.0.readers = c.readers_at-readers.ensures ∙ here.1.row.is in
     subst (λ view. IsNextOf view c.args.known.now c.args.banks c.send_action.result) c.self.view_is
-      (next_put a kept stop at c.args.known.now c.args.banks c.if-self.false c.readers_at-readers.result.now c.saturating_sub-turns.result here.0 c.send_action.result c.in-Send.is c.saturating_sub-turns.ensures here.1.is same c.send_action.ensures)
+    (next_put a kept stop at c.args.known.now c.args.banks c.if-self.false c.readers_at-readers.result.now c.turns_wanted-turns.result here.0 c.send_action.result c.in-Send.is c.turns_wanted-turns.ensures here.1.is same c.send_action.ensures)
 
 pub returns-in-Receive : goal.returns-in-Receive
 returns-in-Receive c =
