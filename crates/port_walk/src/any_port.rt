@@ -1,6 +1,6 @@
 //! A port of any kind with its place in the turn.
 
-ghost use Rattle.std.specs.Prelude.{◌≡◌, ◌≢◌, ◌-◌, ◌<◌, ◌≤◌, length, IfOk, MatchOption};
+ghost use Rattle.std.specs.Prelude.{◌≡◌, ◌≢◌, ◌↔◌, ◌-◌, ◌<◌, length, slice_index_or, IsTrue, IfOk, MatchOption};
 ghost use Rattle.net_defs.specs.Valid.{IsValidStimulus};
 ghost use Rattle.std.specs.List.Sorted.{IsStrictlyIncreasing};
 ghost use Rattle.image_defs.specs.Places.{Each, host_of};
@@ -61,6 +61,15 @@ fn turns_wanted(turn: u64, banks: u32) -> u64
     turn.saturating_sub(banks as u64)
 }
 
+/// Whether the reader isn't known to have finished so many turns.
+#[inline]
+fn lags(known: &[u64], reader: u32, turns: u64) -> bool
+    requires { reader < length known.now }
+    ensures { IsTrue result ↔ (slice_index_or known.now reader 0 < turns) }
+{
+    known[reader as usize] < turns
+}
+
 /// The first of the readers that isn't known to have finished so many turns.
 fn first_lagging(readers: &[u32], known: &[u64], turns: u64) -> Option<u32>
     requires there { Each (λ r. r < length known.now) readers.now }
@@ -70,7 +79,7 @@ fn first_lagging(readers: &[u32], known: &[u64], turns: u64) -> Option<u32>
         (IsFirstLagging readers.now known.now turns) }
 {
     'readers: for reader in readers {
-        if known[*reader as usize] < turns {
+        if lags(known, *reader, turns) {
             return Some(*reader);
         }
     }
