@@ -88,7 +88,13 @@ fn first_lagging(readers: &[u32], known: &[u64], turns: u64) -> Option<u32>
 
 /// What comes next where a Put is missing: an Ask of a reader that isn't known to have finished so
 /// many turns, or the Put.
-fn send_action(readers: &[u32], known: &[u64], turns: u64, slot: u32, value: V4) -> Action
+pub(crate) fn send_action(
+    readers: &[u32],
+    known: &[u64],
+    turns: u64,
+    slot: u32,
+    value: V4,
+) -> Action
     requires there { Each (λ r. r < length known.now) readers.now }
     requires rising { IsStrictlyIncreasing readers.now }
     ensures { IsSendAction readers.now known.now turns slot value result }

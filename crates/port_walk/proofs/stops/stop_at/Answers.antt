@@ -1,4 +1,4 @@
-use Rattle.std.proofs.Common.{length, arith}
+use Rattle.std.proofs.Common.{arith}
 use Rattle.port_walk.proofs.StopLemmas.{places_few}
 use Rattle.port_walk.proofs.stops.stop_at.Goals as goal
 
