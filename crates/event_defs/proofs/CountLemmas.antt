@@ -2,36 +2,17 @@
 use Rattle.std.proofs.Common.{Bool, Some, [], add-one, ap, arith, false, get_or-set_other, get_or-set_same, if◌then◌else◌, inl, inr, le-leb, length, nat_le, slice_get, subst, suc-mul, sym, true, zero-mul, ℕ, ◌*◌, ◌++◌, ◌+◌, ◌-◌, ◌<◌, ◌∙◌, ◌∷◌, ◌≡◌, ◌≤◌}
 use Rattle.std.proofs.lemmas.Bool.{cases_lt, lt-leb}
 use Rattle.std.proofs.lemmas.List.{length-map}
-use Rattle.image_defs.proofs.Example.{image}
 use Rattle.image_defs.proofs.PlaceLemmas.{Rises, at_map}
 use Rattle.image_defs.specs.Places.{in_slots, out_slots}
-use Rattle.image_defs.specs.declared.image.Image.{Image}
 use Rattle.image_defs.specs.declared.image.LinkIn.{LinkIn}
 use Rattle.image_defs.specs.declared.image.LinkOut.{LinkOut}
 use Rattle.image_defs.specs.declared.image.PortImage.{PortImage}
 use Rattle.event_defs.proofs.SlotLemmas.{to_map}
-use Rattle.event_defs.proofs.SumLemmas.{all_missing, missing, missing_falls, none_missing, sum_falls}
-use Rattle.event_defs.specs.Counts.{is_read_by, of_port, sum_to, work_of}
+use Rattle.event_defs.proofs.SumLemmas.{all_missing, missing_falls, none_missing, sum_falls}
+use Rattle.event_defs.specs.Counts.{asks_left, is_read_by, missing, port_left, work_left, work_of}
 use Rattle.event_defs.specs.Next.{EndsNext}
 use Rattle.event_defs.specs.Places.{after_ask, after_put, after_take, after_tell, is_in, known_of}
 use Rattle.event_defs.specs.declared.place.Place.{Place}
-
--- ---- the events that are left
-
-module _ (ports banks until : ℕ) where
-  -- those of a port but for Asks
-  abbrev pub work_left : PortImage → Place → ℕ
-  work_left port place = if nat_le place.turn until then (until - place.turn) * work_of port + missing place.puts (out_slots port.outs) + missing place.takes (in_slots port.ins) + 1 else 0
-
-  -- its Asks: one at most for each reader and each turn of which it isn't known yet
-  abbrev pub asks_left : PortImage → Place → ℕ
-  asks_left port place = sum_to ports (λ q. if is_read_by port q then until - banks - known_of place q else 0)
-
-  abbrev pub port_left : Place → PortImage → ℕ
-  port_left place port = work_left port place + asks_left port place
-
-abbrev pub left : Image → ℕ → ℕ → (ℕ → Place) → ℕ
-left image banks until place = sum_to (length image.ports) (λ p. of_port (port_left (length image.ports) banks until (place p)) (slice_get image.ports p))
 
 pub from_test : (b : Bool) (x y : ℕ) → b ≡ true → (if b then x else y) ≡ x
 from_test b x y e = ap {A = Bool} {B = ℕ} (λ c. if c then x else y) e

@@ -2,6 +2,7 @@ pub mod CountLemmas
 pub mod KeptLemmas
 pub mod NextLemmas
 pub mod PaceLemmas
+pub mod RowLemmas
 pub mod RunLemmas
 pub mod SlotLemmas
 pub mod StampLemmas

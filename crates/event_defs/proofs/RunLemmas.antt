@@ -1,9 +1,11 @@
 -- The number of events of a run: at most its number, and with one bank exactly so many.
-use Rattle.std.proofs.Common.{Bool, List, None, Option, Some, [], ap, ap₂, arith, eqb-true, false, get_or, get_or-set_other, get_or-set_same, if◌then◌else◌, inl, inr, le-leb, le_of_eq, length, mul-one, mul-zero, nat_le, refl, replicate, set, slice_get, subst, sym, true, zero-mul, ℕ, ◌*◌, ◌+◌, ◌-◌, ◌<◌, ◌==◌, ◌∙◌, ◌∷◌, ◌≡◌, ◌≤◌}
+use Rattle.std.proofs.Common.{Bool, List, None, Option, Some, [], ap, ap₂, arith, eqb-true, false, get_or, get_or-set_other, get_or-set_same, if◌then◌else◌, inl, inr, le-leb, le_of_eq, length, mul-one, mul-zero, nat_le, refl, replicate, set, slice_get, subst, suc, sym, true, zero, zero-add, zero-mul, ℕ, ◌*◌, ◌+◌, ◌-◌, ◌<◌, ◌==◌, ◌∙◌, ◌∷◌, ◌≡◌, ◌≤◌, ◌⊎◌}
 use Rattle.std.proofs.lemmas.Bool.{cases_eq, cases_lt, false≢true, lt-leb}
 use Rattle.std.proofs.lemmas.List.{get_or-replicate, length-map}
 use Rattle.std.proofs.lemmas.List.Folds.{list_any_at}
 use Rattle.std.proofs.lemmas.Option.{get_or_from_slice_get, slice_get_within}
+use Rattle.std.specs.List.{range_with_len}
+use Rattle.list_laws.proofs.Ranges.{range_get}
 use Rattle.net_defs.specs.declared.stimulus.Stimulus.{Stimulus}
 use Rattle.image_defs.proofs.PlaceLemmas.{rises}
 use Rattle.image_defs.specs.Places.{IsPort, Stands, in_slots, out_slots}
@@ -12,15 +14,17 @@ use Rattle.image_defs.specs.declared.image.Image.{Image}
 use Rattle.image_defs.specs.declared.image.LinkIn.{LinkIn}
 use Rattle.image_defs.specs.declared.image.LinkOut.{LinkOut}
 use Rattle.image_defs.specs.declared.image.PortImage.{PortImage}
-use Rattle.event_defs.proofs.CountLemmas.{ask_falls, asks_left, from_other, from_test, left, port_left, product, put_falls, take_falls, tell_falls, work_left}
-use Rattle.event_defs.proofs.KeptLemmas.{starts_sound, step_sound}
+use Rattle.event_defs.proofs.CountLemmas.{ask_falls, from_other, from_test, product, put_falls, take_falls, tell_falls}
+use Rattle.event_defs.proofs.KeptLemmas.{starts_sound, step_sound, steps_sound}
 use Rattle.event_defs.proofs.PaceLemmas.{latest_missing, reader_in, same_port, same_send, stands}
+use Rattle.event_defs.proofs.RowLemmas.{sum_grows}
 use Rattle.event_defs.proofs.SlotLemmas.{any_at, each_updated, in_at, in_other, updated_here, updated_there}
-use Rattle.event_defs.proofs.SumLemmas.{all_missing, missing, sum_add, sum_falls, sum_same, sum_times, sum_zero}
-use Rattle.event_defs.specs.Counts.{events, is_read_by, moved_in, moves, of_port, readers_of, work_of}
+use Rattle.event_defs.proofs.StuckLemmas.{all_done}
+use Rattle.event_defs.proofs.SumLemmas.{all_missing, sum_add, sum_falls, sum_same, sum_times, sum_zero}
+use Rattle.event_defs.specs.Counts.{asks_left, events, events_left, is_read_by, missing, moved_in, moves, of_port, port_left, readers_of, work_left, work_of}
 use Rattle.event_defs.specs.Places.{IsSend, after_ask, after_put, after_take, after_tell, is_in, known_of, start}
 use Rattle.event_defs.specs.Sound.{IsSound}
-use Rattle.event_defs.specs.Steps.{AllDone, AreFirstSteps, AreSteps, Asks, CoreState, IsStep, Moves, Puts, Takes, Tells, first_state, updated}
+use Rattle.event_defs.specs.Steps.{AllDone, AreFirstSteps, AreRounds, AreSteps, Asks, CoreState, IsRound, IsStep, Moves, Puts, Takes, Tells, Waits, first_state, updated}
 use Rattle.event_defs.specs.declared.place.CoreStep.{CoreStep}
 use Rattle.event_defs.specs.declared.place.CoreStep.TheVariants.{Done, Moved, NotYet}
 use Rattle.event_defs.specs.declared.place.Event.{Event}
@@ -51,7 +55,7 @@ module _ (image : Image) (stimulus : Stimulus) (banks until : ℕ) (fits : IsWel
 
   -- where one port has another place, what is left falls as that of the port does
   left_falls : (place : ℕ → Place) (p : ℕ) (port : PortImage) (x : Place) (d : ℕ) → IsPort image p port → port_left count banks until x port + d ≡ port_left count banks until (place p) port
-      → left image banks until (updated place p x) + d ≡ left image banks until place
+      → events_left image banks until (updated place p x) + d ≡ events_left image banks until place
   left_falls place p port x d is falls =
       sum_falls count p d (λ q. of_port (port_left count banks until (place q)) (slice_get image.ports q)) (λ q. of_port (port_left count banks until (updated place p x q)) (slice_get image.ports q))
       (slice_get_within image.ports p port is)
@@ -63,11 +67,11 @@ module _ (image : Image) (stimulus : Stimulus) (banks until : ℕ) (fits : IsWel
     abbrev here : Place
     here = old.place p
 
-    moves_down : (x : Place) (new : CoreState) (d : ℕ) → new.place ≡ updated old.place p x → port_left count banks until x port + d ≡ port_left count banks until here port → left image banks until new.place + d ≡ left image banks until old.place
-    moves_down x new d same falls = subst (λ (f : ℕ → Place). left image banks until f + d ≡ left image banks until old.place) (sym same) (left_falls old.place p port x d is falls)
+    moves_down : (x : Place) (new : CoreState) (d : ℕ) → new.place ≡ updated old.place p x → port_left count banks until x port + d ≡ port_left count banks until here port → events_left image banks until new.place + d ≡ events_left image banks until old.place
+    moves_down x new d same falls = subst (λ (f : ℕ → Place). events_left image banks until f + d ≡ events_left image banks until old.place) (sym same) (left_falls old.place p port x d is falls)
 
     -- by how much an Ask falls
-    asks_down : (r : ℕ) (new : CoreState) → Asks image banks p port old r new → left image banks until new.place + ((until - banks - known_of here r) - (until - banks - old.finished r)) ≡ left image banks until old.place
+    asks_down : (r : ℕ) (new : CoreState) → Asks image banks p port old r new → events_left image banks until new.place + ((until - banks - known_of here r) - (until - banks - old.finished r)) ≡ events_left image banks until old.place
     asks_down r new a =
         let mine : IsSend image p a.next.i a.next.link = record { port = port; is = is; link_is = a.next.sends.is } in
         let r_in = reader_in image fits p a.next.i r a.next.link mine a.next.reads in
@@ -78,26 +82,26 @@ module _ (image : Image) (stimulus : Stimulus) (banks until : ℕ) (fits : IsWel
         (ask_falls count banks until port here early r (old.finished r) r_in (omega arith) (link_reads port a.next.i a.next.link r a.next.sends.is a.next.reads) (omega arith))
 
     -- the other events fall by one
-    puts_down : (slot : ℕ) (new : CoreState) → Puts image banks p port old stimulus slot new → left image banks until new.place + 1 ≡ left image banks until old.place
+    puts_down : (slot : ℕ) (new : CoreState) → Puts image banks p port old stimulus slot new → events_left image banks until new.place + 1 ≡ events_left image banks until old.place
     puts_down slot new t = moves_down (after_put here slot) new 1 (ap (λ (s : CoreState). s.place) t.is)
         (subst (λ s. port_left count banks until (after_put here s) port + 1 ≡ port_left count banks until here port) t.next.slot_is
         (put_falls count banks until port here early (rises (out_slots port.outs) (fits.ports p port is).outs) t.next.i t.next.link t.next.sends.is t.next.sends.missing))
 
-    takes_down : (slot : ℕ) (new : CoreState) → Takes image banks p port old slot new → left image banks until new.place + 1 ≡ left image banks until old.place
+    takes_down : (slot : ℕ) (new : CoreState) → Takes image banks p port old slot new → events_left image banks until new.place + 1 ≡ events_left image banks until old.place
     takes_down slot new t = moves_down (after_take here slot) new 1 (ap (λ (s : CoreState). s.place) t.is)
         (subst (λ s. port_left count banks until (after_take here s) port + 1 ≡ port_left count banks until here port) t.reads.slot_is
         (take_falls count banks until port here early (rises (in_slots port.ins) (fits.ports p port is).ins) t.reads.j t.reads.link t.reads.receives.is t.reads.receives.missing))
 
-    tells_down : (new : CoreState) → Tells image banks p port old new → left image banks until new.place + 1 ≡ left image banks until old.place
+    tells_down : (new : CoreState) → Tells image banks p port old new → events_left image banks until new.place + 1 ≡ events_left image banks until old.place
     tells_down new t = moves_down (after_tell here) new 1 (ap (λ (s : CoreState). s.place) t.is) (tell_falls count banks until port here early t.next)
 
     -- each event that moves leaves at least one fewer
-    pub moves_fall : (e : Event) (new : CoreState) → Moves image banks p port old stimulus e new → left image banks until new.place + 1 ≤ left image banks until old.place
+    pub moves_fall : (e : Event) (new : CoreState) → Moves image banks p port old stimulus e new → events_left image banks until new.place + 1 ≤ events_left image banks until old.place
     moves_fall (Ask r) new a =
         let down = asks_down r new a in
         let lags : known_of here r + banks < here.turn = a.next.lags in
         let moved : here.turn ≤ old.finished r + banks = a.moves in
-        let few : left image banks until new.place + 1 ≤ left image banks until new.place + ((until - banks - known_of here r) - (until - banks - old.finished r)) = omega arith in
+        let few : events_left image banks until new.place + 1 ≤ events_left image banks until new.place + ((until - banks - known_of here r) - (until - banks - old.finished r)) = omega arith in
         omega arith
     moves_fall (Put slot) new t = le_of_eq (puts_down slot new t)
     moves_fall (Take slot) new t = le_of_eq (takes_down slot new t)
@@ -145,7 +149,7 @@ module _ (image : Image) (stimulus : Stimulus) (banks until : ℕ) (fits : IsWel
     })
 
     -- with one bank, each event that moves leaves exactly one fewer
-    pub moves_exactly : banks ≡ 1 → ((q : ℕ) → HasAsked image banks q (old.place q)) → (e : Event) (new : CoreState) → Moves image banks p port old stimulus e new → left image banks until new.place + 1 ≡ left image banks until old.place
+    pub moves_exactly : banks ≡ 1 → ((q : ℕ) → HasAsked image banks q (old.place q)) → (e : Event) (new : CoreState) → Moves image banks p port old stimulus e new → events_left image banks until new.place + 1 ≡ events_left image banks until old.place
     moves_exactly one asked (Ask r) new a =
         let mine : IsSend image p a.next.i a.next.link = record { port = port; is = is; link_is = a.next.sends.is } in
         let down = asks_down r new a in
@@ -157,7 +161,7 @@ module _ (image : Image) (stimulus : Stimulus) (banks until : ℕ) (fits : IsWel
         let latest_is = latest_missing here a.next.link.slot a.next.sends.missing in
         let has = sound.finished r (reader_in image fits p a.next.i r a.next.link mine a.next.reads) in
         let fall : (until - banks - known_of here r) - (until - banks - old.finished r) ≡ 1 = omega arith in
-        ap (λ d. left image banks until new.place + d) (sym fall) ∙ down
+        ap (λ d. events_left image banks until new.place + d) (sym fall) ∙ down
     moves_exactly one asked (Put slot) new t = puts_down slot new t
     moves_exactly one asked (Take slot) new t = takes_down slot new t
     moves_exactly one asked Tell new t = tells_down new t
@@ -210,7 +214,7 @@ module _ (image : Image) (stimulus : Stimulus) (banks until : ℕ) (fits : IsWel
         by_test true = let e : until - banks - 0 ≡ until - banks = omega arith in e ∙ sym (mul-one (until - banks))
         by_test false = sym (mul-zero (until - banks))
 
-  pub starts_left : left image banks until (λ p. start count) ≡ events image banks until
+  pub starts_left : events_left image banks until (λ p. start count) ≡ events image banks until
   starts_left =
       sum_same count (λ p. of_port (port_left count banks until (start count)) (slice_get image.ports p)) (λ p. until * of_port work_of (slice_get image.ports p) + (until - banks) * of_port (readers_of count) (slice_get image.ports p))
       (λ p _. same_of_port (port_left count banks until (start count)) (λ port. until * work_of port + (until - banks) * readers_of count port) (λ port. ap₂ (λ x y. x + y) (start_work port) (start_asks port)) (slice_get image.ports p)
@@ -220,7 +224,7 @@ module _ (image : Image) (stimulus : Stimulus) (banks until : ℕ) (fits : IsWel
       ∙ ap₂ (λ x y. x + y) (sum_times count until (λ p. of_port work_of (slice_get image.ports p))) (sum_times count (until - banks) (λ p. of_port (readers_of count) (slice_get image.ports p))))
 
   -- with one bank nothing is left where all are done
-  pub ends_left : banks ≡ 1 → (state : CoreState) → ((q : ℕ) → HasAsked image banks q (state.place q)) → AllDone image until state → left image banks until state.place ≡ 0
+  pub ends_left : banks ≡ 1 → (state : CoreState) → ((q : ℕ) → HasAsked image banks q (state.place q)) → AllDone image until state → events_left image banks until state.place ≡ 0
   ends_left one state asked done = sum_zero count (λ p. of_port (port_left count banks until (state.place p)) (slice_get image.ports p)) (λ p _. by_port p (slice_get image.ports p) refl) where
     none_to_ask : (p : ℕ) (port : PortImage) → IsPort image p port → (q : ℕ) → (b : Bool) → is_read_by port q ≡ b → (if b then until - banks - known_of (state.place p) q else 0) ≡ 0
     none_to_ask p port is q false reads = refl
@@ -241,11 +245,11 @@ module _ (image : Image) (stimulus : Stimulus) (banks until : ℕ) (fits : IsWel
   -- ---- runs
 
   pub run_falls : (order : List ℕ) (old : CoreState) (answers : List CoreStep) (new : CoreState) → IsSound image stimulus banks until old → AreSteps image stimulus banks until order old answers new
-      → moved_in answers + left image banks until new.place ≤ left image banks until old.place
+      → moved_in answers + events_left image banks until new.place ≤ events_left image banks until old.place
   unfolding AreSteps moved_in
   run_falls [] old answers new sound steps =
       let none : moved_in answers ≡ 0 = ap moved_in steps.0 in
-      let same : left image banks until new.place ≡ left image banks until old.place = ap (λ (s : CoreState). left image banks until s.place) steps.1 in
+      let same : events_left image banks until new.place ≡ events_left image banks until old.place = ap (λ (s : CoreState). events_left image banks until s.place) steps.1 in
       omega arith
   run_falls (p ∷ order) old answers new sound steps =
       let port : PortImage = steps.0 in
@@ -256,10 +260,10 @@ module _ (image : Image) (stimulus : Stimulus) (banks until : ℕ) (fits : IsWel
       let first = by_answer answer steps.6 in
       omega arith
     where
-      by_answer : (answer : CoreStep) → IsStep image stimulus banks until p steps.0 old answer steps.3 → moves answer + left image banks until steps.3.place ≤ left image banks until old.place
+      by_answer : (answer : CoreStep) → IsStep image stimulus banks until p steps.0 old answer steps.3 → moves answer + events_left image banks until steps.3.place ≤ events_left image banks until old.place
       by_answer (Moved e) step = let falls = moves_fall old sound p steps.0 steps.4 step.0 e steps.3 step.1 in omega arith
-      by_answer NotYet step = let same : left image banks until steps.3.place ≡ left image banks until old.place = ap (λ (s : CoreState). left image banks until s.place) step.2 in omega arith
-      by_answer Done step = let same : left image banks until steps.3.place ≡ left image banks until old.place = ap (λ (s : CoreState). left image banks until s.place) step.1 in omega arith
+      by_answer NotYet step = let same : events_left image banks until steps.3.place ≡ events_left image banks until old.place = ap (λ (s : CoreState). events_left image banks until s.place) step.2 in omega arith
+      by_answer Done step = let same : events_left image banks until steps.3.place ≡ events_left image banks until old.place = ap (λ (s : CoreState). events_left image banks until s.place) step.1 in omega arith
 
   pub step_asked : (old : CoreState) → IsSound image stimulus banks until old → (p : ℕ) (port : PortImage) → IsPort image p port → (answer : CoreStep) (new : CoreState) → IsStep image stimulus banks until p port old answer new
       → ((q : ℕ) → HasAsked image banks q (old.place q)) → (q : ℕ) → HasAsked image banks q (new.place q)
@@ -268,18 +272,18 @@ module _ (image : Image) (stimulus : Stimulus) (banks until : ℕ) (fits : IsWel
   step_asked old sound p port is Done new step asked = subst (λ (s : CoreState). (q : ℕ) → HasAsked image banks q (s.place q)) (sym step.1) asked
 
   pub step_exactly : banks ≡ 1 → (old : CoreState) → IsSound image stimulus banks until old → (p : ℕ) (port : PortImage) → IsPort image p port → (answer : CoreStep) (new : CoreState) → IsStep image stimulus banks until p port old answer new
-      → ((q : ℕ) → HasAsked image banks q (old.place q)) → moves answer + left image banks until new.place ≡ left image banks until old.place
+      → ((q : ℕ) → HasAsked image banks q (old.place q)) → moves answer + events_left image banks until new.place ≡ events_left image banks until old.place
   step_exactly one old sound p port is (Moved e) new step asked = let falls = moves_exactly old sound p port is step.0 one asked e new step.1 in omega arith
-  step_exactly one old sound p port is NotYet new step asked = let same : left image banks until new.place ≡ left image banks until old.place = ap (λ (s : CoreState). left image banks until s.place) step.2 in omega arith
-  step_exactly one old sound p port is Done new step asked = let same : left image banks until new.place ≡ left image banks until old.place = ap (λ (s : CoreState). left image banks until s.place) step.1 in omega arith
+  step_exactly one old sound p port is NotYet new step asked = let same : events_left image banks until new.place ≡ events_left image banks until old.place = ap (λ (s : CoreState). events_left image banks until s.place) step.2 in omega arith
+  step_exactly one old sound p port is Done new step asked = let same : events_left image banks until new.place ≡ events_left image banks until old.place = ap (λ (s : CoreState). events_left image banks until s.place) step.1 in omega arith
 
   -- with one bank
   pub run_exactly : banks ≡ 1 → (order : List ℕ) (old : CoreState) (answers : List CoreStep) (new : CoreState) → IsSound image stimulus banks until old → ((q : ℕ) → HasAsked image banks q (old.place q)) → AreSteps image stimulus banks until order old answers new
-      → (moved_in answers + left image banks until new.place ≡ left image banks until old.place) × ((q : ℕ) → HasAsked image banks q (new.place q))
+      → (moved_in answers + events_left image banks until new.place ≡ events_left image banks until old.place) × ((q : ℕ) → HasAsked image banks q (new.place q))
   unfolding AreSteps moved_in
   run_exactly one [] old answers new sound asked steps =
       let none : moved_in answers ≡ 0 = ap moved_in steps.0 in
-      let same : left image banks until new.place ≡ left image banks until old.place = ap (λ (s : CoreState). left image banks until s.place) steps.1 in
+      let same : events_left image banks until new.place ≡ events_left image banks until old.place = ap (λ (s : CoreState). events_left image banks until s.place) steps.1 in
       (omega arith, subst (λ (s : CoreState). (q : ℕ) → HasAsked image banks q (s.place q)) (sym steps.1) asked)
   run_exactly one (p ∷ order) old answers new sound asked steps =
       let port : PortImage = steps.0 in
@@ -305,3 +309,106 @@ module _ (image : Image) (stimulus : Stimulus) (banks until : ℕ) (fits : IsWel
       let none = ends_left one new falls.1 done in
       let all_left = falls.0 in
       omega arith
+
+  -- ---- rounds
+
+  -- a port that doesn't move in a round that moves nothing is idle in the state before, since the state stays
+  none_moves : (answer : CoreStep) (rest : List CoreStep) (answers : List CoreStep) → answers ≡ answer ∷ rest → moved_in answers ≡ 0 → (moves answer ≡ 0) × (moved_in rest ≡ 0)
+  unfolding moved_in
+  none_moves answer rest answers is none = let all : moved_in answers ≡ moves answer + moved_in rest = ap moved_in is in (omega arith, omega arith)
+
+  still : (p : ℕ) (port : PortImage) (old new : CoreState) (answer : CoreStep) → IsStep image stimulus banks until p port old answer new → moves answer ≡ 0 → (new ≡ old) × (((old.place p).turn ≡ until + 1) ⊎ Waits image banks p port old)
+  still p port old new (Moved e) step none = absurd (omega arith)
+  still p port old new NotYet step none = (step.2, inr step.1)
+  still p port old new Done step none = (step.1, inl step.0)
+
+  -- steps that move nothing leave the state, and each port that made one is done or waits
+  pub steps_still : (order : List ℕ) (old : CoreState) (answers : List CoreStep) (new : CoreState) → AreSteps image stimulus banks until order old answers new → moved_in answers ≡ 0
+      → (new ≡ old) × ((k p : ℕ) (port : PortImage) → slice_get order k ≡ Some p → IsPort image p port → ((old.place p).turn ≡ until + 1) ⊎ Waits image banks p port old)
+  unfolding AreSteps
+  steps_still [] old answers new steps none = (steps.1, λ k p port at is. cc)
+  steps_still (q ∷ order) old answers new steps none =
+      let parts = none_moves steps.1 steps.2 answers steps.5 none in
+      let first = still q steps.0 old steps.3 steps.1 steps.6 parts.0 in
+      let rest = steps_still order steps.3 steps.2 new steps.7 parts.1 in
+      (rest.0 ∙ first.0, idle first rest.1)
+    where
+      idle : (steps.3 ≡ old) × (((old.place q).turn ≡ until + 1) ⊎ Waits image banks q steps.0 old)
+          → ((k p : ℕ) (port : PortImage) → slice_get order k ≡ Some p → IsPort image p port → ((steps.3.place p).turn ≡ until + 1) ⊎ Waits image banks p port steps.3)
+          → (k p : ℕ) (port : PortImage) → slice_get (q ∷ order) k ≡ Some p → IsPort image p port → ((old.place p).turn ≡ until + 1) ⊎ Waits image banks p port old
+      idle first rest zero p port at is =
+          let same : q ≡ p = cc in
+          subst (λ (s : PortImage). ((old.place p).turn ≡ until + 1) ⊎ Waits image banks p s old) (same_port image p steps.0 port (subst (λ n. IsPort image n steps.0) same steps.4) is)
+          (subst (λ n. ((old.place n).turn ≡ until + 1) ⊎ Waits image banks n steps.0 old) same first.1)
+      idle first rest (suc k) p port at is = subst (λ (s : CoreState). ((s.place p).turn ≡ until + 1) ⊎ Waits image banks p port s) first.0 (rest k p port at is)
+
+  -- a round in which nothing moves is one of ports that are done
+  pub round_done : (old : CoreState) (answers : List CoreStep) (new : CoreState) → IsSound image stimulus banks until old → IsRound image stimulus banks until old answers new → moved_in answers ≡ 0 → AllDone image until old
+  round_done old answers new sound round none =
+      let parts = steps_still (range_with_len 0 count) old answers new round none in
+      all_done image stimulus banks until fits some old sound (record {
+        each = λ p port is. parts.1 p p port (range_get 0 count p (slice_get_within image.ports p port is) ∙ ap Some (zero-add p)) is;
+      })
+
+  -- ports that are done don't move
+  done_step : (p : ℕ) (port : PortImage) (old new : CoreState) (answer : CoreStep) → (old.place p).turn ≡ until + 1 → IsStep image stimulus banks until p port old answer new → (moves answer ≡ 0) × (new ≡ old)
+  done_step p port old new (Moved e) done step = let early = step.0 in absurd (omega arith)
+  done_step p port old new NotYet done step = let early = step.0 in absurd (omega arith)
+  done_step p port old new Done done step = (refl, step.1)
+
+  pub done_still : (order : List ℕ) (old : CoreState) (answers : List CoreStep) (new : CoreState) → AllDone image until old → AreSteps image stimulus banks until order old answers new → (moved_in answers ≡ 0) × (new ≡ old)
+  unfolding AreSteps moved_in
+  done_still [] old answers new done steps = (ap moved_in steps.0, steps.1)
+  done_still (p ∷ order) old answers new done steps =
+      let first = done_step p steps.0 old steps.3 steps.1 (done.each p steps.0 steps.4) steps.6 in
+      let rest = done_still order steps.3 steps.2 new (subst (AllDone image until) (sym first.1) done) steps.7 in
+      let all : moved_in answers ≡ moves steps.1 + moved_in steps.2 = ap moved_in steps.5 in
+      let one = first.0 in
+      let others = rest.0 in
+      (omega arith, rest.1 ∙ first.1)
+
+  -- so many rounds leave so many events fewer, or all are done
+  pub rounds_fall : (n : ℕ) (old new : CoreState) → IsSound image stimulus banks until old → AreRounds image stimulus banks until n old new
+      → IsSound image stimulus banks until new × (AllDone image until new ⊎ (n + events_left image banks until new.place ≤ events_left image banks until old.place))
+  unfolding AreRounds
+  rounds_fall zero old new sound rounds = (
+    subst (IsSound image stimulus banks until) (sym rounds) sound,
+    inr (let e : events_left image banks until new.place ≡ events_left image banks until old.place = ap (λ (s : CoreState). events_left image banks until s.place) rounds in omega arith),
+  )
+  rounds_fall (suc n) old new sound rounds =
+      let before = rounds_fall n old rounds.1 sound rounds.2 in
+      let falls = run_falls (range_with_len 0 count) rounds.1 rounds.0 new before.0 rounds.3 in
+      let now = steps_sound image stimulus banks until fits some (range_with_len 0 count) rounds.1 rounds.0 new before.0 rounds.3 in (
+        now,
+        elim before.1 [
+          | inl done ↦ inl (subst (AllDone image until) (sym (done_still (range_with_len 0 count) rounds.1 rounds.0 new done rounds.3).1) done)
+          | inr more ↦ elim (cases_eq (moved_in rounds.0) 0) [
+            | inl none ↦ let done = round_done rounds.1 rounds.0 new before.0 rounds.3 none in inl (subst (AllDone image until) (sym (done_still (range_with_len 0 count) rounds.1 rounds.0 new done rounds.3).1) done)
+            | inr one ↦ inr (omega arith)
+          ]
+        ],
+      )
+
+  -- a state in which nothing is left is one in which all are done
+  pub none_left : (state : CoreState) → IsSound image stimulus banks until state → events_left image banks until state.place ≡ 0 → AllDone image until state
+  none_left state sound none = record {
+    each = λ p port is.
+        let inside = slice_get_within image.ports p port is in
+        let grows = sum_grows (λ q. of_port (port_left count banks until (state.place q)) (slice_get image.ports q)) p count inside in
+        let mine : of_port (port_left count banks until (state.place p)) (slice_get image.ports p) ≡ port_left count banks until (state.place p) port = ap (of_port (port_left count banks until (state.place p))) is in
+        let ends = (sound.paced.places p port is).ends in
+        elim (cases_lt until (state.place p).turn) [
+          | inl done ↦ omega arith
+          | inr early ↦
+              let work = from_test (nat_le (state.place p).turn until) ((until - (state.place p).turn) * work_of port + missing (state.place p).puts (out_slots port.outs) + missing (state.place p).takes (in_slots port.ins) + 1) 0 (le-leb (state.place p).turn until early) in
+              absurd (omega arith)
+        ];
+  }
+
+  pub rounds_suffice : (state : CoreState) → AreRounds image stimulus banks until (events image banks until) (first_state count) state → AllDone image until state
+  rounds_suffice state rounds =
+      let falls = rounds_fall (events image banks until) (first_state count) state (starts_sound image stimulus banks until fits some) rounds in
+      elim falls.1 [
+        | inl done ↦ done
+        | inr more ↦ let all = starts_left in none_left state falls.0 (omega arith)
+      ]

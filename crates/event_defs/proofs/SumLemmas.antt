@@ -4,7 +4,7 @@ use Rattle.std.proofs.lemmas.Bool.{cases_eq}
 use Rattle.image_defs.proofs.PlaceLemmas.{Rises}
 use Rattle.image_defs.specs.Places.{Each}
 use Rattle.event_defs.proofs.SlotLemmas.{in_last, in_other}
-use Rattle.event_defs.specs.Counts.{sum_to}
+use Rattle.event_defs.specs.Counts.{missing, sum_to}
 use Rattle.event_defs.specs.Places.{is_in}
 
 pub sum_same : (n : ℕ) (f g : ℕ → ℕ) → ((q : ℕ) → q < n → f q ≡ g q) → sum_to n f ≡ sum_to n g
@@ -41,11 +41,6 @@ pub sum_zero : (n : ℕ) (f : ℕ → ℕ) → ((q : ℕ) → q < n → f q ≡ 
 unfolding sum_to
 sum_zero zero f none = refl
 sum_zero (suc n) f none = let a = sum_zero n f (λ q less. none q (omega arith)) in let b = none n (omega arith) in omega arith
-
--- how many of these slots are not done
-unfoldable pub missing : List ℕ → List ℕ → ℕ
-missing done [] = 0
-missing done (s ∷ slots) = (if is_in s done then 0 else 1) + missing done slots
 
 missing_other : (done slots : List ℕ) (s : ℕ) → ((i x : ℕ) → slice_get slots i ≡ Some x → x ≢ s) → missing (done ++ s ∷ []) slots ≡ missing done slots
 unfolding missing

@@ -1,11 +1,13 @@
 -- How many events a run has.
-use Rattle.std.specs.Prelude.{ℕ, zero, suc, ◌+◌, ◌-◌, ◌*◌, if◌then◌else◌, Bool, List, [], ◌∷◌, length, Option, Some, None, slice_get}
+use Rattle.std.specs.Prelude.{Bool, List, None, Option, Some, [], if◌then◌else◌, length, nat_le, slice_get, suc, zero, ℕ, ◌*◌, ◌+◌, ◌-◌, ◌∷◌}
 use Rattle.std.specs.List.{list_any}
-use Rattle.image_defs.specs.declared.image.PortImage.{PortImage}
+use Rattle.image_defs.specs.Places.{in_slots, out_slots}
 use Rattle.image_defs.specs.declared.image.Image.{Image}
+use Rattle.image_defs.specs.declared.image.PortImage.{PortImage}
+use Rattle.event_defs.specs.Places.{is_in, known_of}
 use Rattle.event_defs.specs.declared.place.CoreStep.{CoreStep}
-use Rattle.event_defs.specs.declared.place.CoreStep.TheVariants.{Moved, NotYet, Done}
-use Rattle.event_defs.specs.Places.{is_in}
+use Rattle.event_defs.specs.declared.place.CoreStep.TheVariants.{Done, Moved, NotYet}
+use Rattle.event_defs.specs.declared.place.Place.{Place}
 
 -- the sum of the first n of these numbers
 unfoldable pub sum_to : ℕ → (ℕ → ℕ) → ℕ
@@ -52,3 +54,26 @@ pairs image = of_ports image (readers_of (length image.ports))
 -- for each pair in each turn after the first few, of which there are as many as banks
 abbrev pub events : Image → ℕ → ℕ → ℕ
 events image banks until = until * of_ports image work_of + (until - banks) * pairs image
+
+-- ---- what is left of a run
+
+-- how many of these slots are not done
+unfoldable pub missing : List ℕ → List ℕ → ℕ
+missing done [] = 0
+missing done (s ∷ slots) = (if is_in s done then 0 else 1) + missing done slots
+
+module _ (ports banks until : ℕ) where
+  -- the events of a port that are left, but for its Asks
+  abbrev pub work_left : PortImage → Place → ℕ
+  work_left port place = if nat_le place.turn until then (until - place.turn) * work_of port + missing place.puts (out_slots port.outs) + missing place.takes (in_slots port.ins) + 1 else 0
+
+  -- its Asks: one at most for each reader and each turn that it isn't known yet to have finished
+  abbrev pub asks_left : PortImage → Place → ℕ
+  asks_left port place = sum_to ports (λ q. if is_read_by port q then until - banks - known_of place q else 0)
+
+  abbrev pub port_left : Place → PortImage → ℕ
+  port_left place port = work_left port place + asks_left port place
+
+-- no more than so many events are left
+abbrev pub events_left : Image → ℕ → ℕ → (ℕ → Place) → ℕ
+events_left image banks until place = sum_to (length image.ports) (λ p. of_port (port_left (length image.ports) banks until (place p)) (slice_get image.ports p))

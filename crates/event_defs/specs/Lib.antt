@@ -2,5 +2,6 @@ pub mod Counts
 pub mod Linked
 pub mod Next
 pub mod Places
+pub mod Row
 pub mod Sound
 pub mod Steps

@@ -1,6 +1,7 @@
 -- The steps of a core: one event of one port at a time, on the places of all ports and the words that they
 -- share.
-use Rattle.std.specs.Prelude.{◌≡◌, ℕ, ◌+◌, ◌*◌, ◌/◌, ◌%◌, ◌==◌, ◌<◌, ◌≤◌, ◌⊎◌, if◌then◌else◌, List, [], ◌∷◌, length}
+use Rattle.std.specs.Prelude.{◌≡◌, ℕ, zero, suc, ◌+◌, ◌*◌, ◌/◌, ◌%◌, ◌==◌, ◌<◌, ◌≤◌, ◌⊎◌, if◌then◌else◌, List, [], ◌∷◌, length}
+use Rattle.std.specs.List.{range_with_len}
 use Rattle.logic_four.specs.Values.{code_of}
 use Rattle.net_defs.specs.declared.stimulus.Stimulus.{Stimulus}
 use Rattle.image_defs.specs.declared.image.LinkIn.{LinkIn}
@@ -127,6 +128,15 @@ module _ (image : Image) (stimulus : Stimulus) (banks until : ℕ) where
   -- what the first steps of these ports make
   abbrev pub AreFirstSteps : List ℕ → List CoreStep → CoreState → Type 0
   AreFirstSteps order answers new = AreSteps order (first_state (length image.ports)) answers new
+
+  -- a round is one step of each port, in ascending order
+  abbrev pub IsRound : CoreState → List CoreStep → CoreState → Type 0
+  IsRound = AreSteps (range_with_len 0 (length image.ports))
+
+  -- so many rounds, one after another
+  unfoldable pub AreRounds : ℕ → CoreState → CoreState → Type 0
+  AreRounds zero old new = new ≡ old
+  AreRounds (suc n) old new = (answers : List CoreStep) × (middle : CoreState) × AreRounds n old middle × IsRound middle answers new
 
 -- ---- ends
 

@@ -1,7 +1,7 @@
 //! Laws of events: functions that do nothing, whose clauses hold of all well-formed images, stimuli, numbers
 //! of banks and orders.
 
-ghost use Rattle.std.specs.Prelude.{◌≡◌, ℕ, ◌+◌, ◌*◌, ◌<◌, ◌≤◌, List};
+ghost use Rattle.std.specs.Prelude.{◌≡◌, ℕ, ◌+◌, ◌*◌, ◌<◌, ◌≤◌, List, length};
 ghost use Rattle.logic_four.specs.declared.V4.{V4};
 ghost use Rattle.logic_four.specs.Values.{code_of};
 ghost use Rattle.net_defs.specs.declared.stimulus.Stimulus.{Stimulus};
@@ -14,7 +14,7 @@ ghost use Rattle.event_defs.specs.declared.place.Action.{Action};
 ghost use Rattle.event_defs.specs.declared.place.CoreStep.{CoreStep};
 ghost use Rattle.event_defs.specs.declared.place.Place.{Place};
 ghost use Rattle.event_defs.specs.Next.{IsNext};
-ghost use Rattle.event_defs.specs.Steps.{CoreState, Puts, Takes, AreFirstSteps, AllIdle, AllDone};
+ghost use Rattle.event_defs.specs.Steps.{CoreState, Puts, Takes, AreFirstSteps, AreRounds, AllIdle, AllDone, first_state};
 ghost use Rattle.event_defs.specs.Sound.{IsSound};
 ghost use Rattle.event_defs.specs.Counts.{moved_in, events};
 
@@ -66,4 +66,12 @@ pub fn events_of_a_run()
         → IsWellFormed image
         → AreFirstSteps image stimulus 1 until order answers state → AllDone image until state
         → moved_in answers ≡ events image 1 until }
+{}
+
+/// A law: after as many rounds as a run has events, all ports are done.
+pub fn rounds_suffice()
+    ensures { (image : Image) (stimulus : Stimulus) (banks until : ℕ) (state : CoreState)
+        → IsWellFormed image → 1 ≤ banks
+        → AreRounds image stimulus banks until (events image banks until) (first_state (length image.ports)) state
+        → AllDone image until state }
 {}

@@ -1,0 +1,3 @@
+mod CoreLemmas
+mod EventLemmas
+mod SeatLemmas

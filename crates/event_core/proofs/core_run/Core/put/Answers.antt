@@ -1,0 +1,69 @@
+use Rattle.std.proofs.Common.{◌≡◌, ◌∙◌, ◌<◌, ◌≤◌, ◌-◌, ◌+◌, ◌%◌, ◌^◌, length, get_or, slice_set, ap, subst, sym, refl, arith}
+use Rattle.event_defs.specs.declared.place.CoreStep.TheVariants.{Moved, NotYet}
+use Rattle.event_defs.specs.declared.place.Action.TheVariants as action
+use Rattle.event_defs.specs.declared.place.Event.TheVariants as event
+use Rattle.port_walk.specs.Placed.{CanPut, CanTake, CanTakeValue, IsEnding}
+use Rattle.event_core.specs.declared.core_run.Core.TheInside.{Inside}
+use Rattle.event_core.specs.declared.seats.Seat.{Seat}
+use Rattle.event_core.specs.Core.{IsUpcoming, Applies, CoreView}
+use Rattle.event_core.specs.Kept.{IsKept, view_of}
+use Rattle.event_core.specs.Seats.{HasPutRoom, HasTakeRoom, HasWritten, seat_asked, seat_put, seat_taken, seat_told}
+use Rattle.event_core.proofs.CoreLemmas.{put_room, take_room, is_seat, reseated, same_seat, seat_in, seat_there}
+use Rattle.event_core.proofs.EventLemmas.{reader_within, known_within, ask_waits, ask_moves, can_put, early_turn, put_moves, can_take, take_waits, can_take_value, take_moves, can_tell, tell_moves}
+use Rattle.event_core.proofs.core_run.Core.put.Goals as goal
+use Rattle.std.specs.List.{refill}
+
+pub write-requires-clause-can : goal.write-requires-clause-can
+write-requires-clause-can c seat at =
+    let a = c.self.inside in
+    let kept = c.self.invariant in
+    let p = c.args.port in
+    let within : c.args.port < length a.image.now.ports = subst (λ (v : CoreView). c.args.port < length v.image.ports) (sym c.self.view_is) c.requires.inside in
+    let upcoming = subst (λ (v : CoreView). IsUpcoming v c.args.port (action.Put c.args.slot c.args.value)) (sym c.self.view_is) c.requires.next in
+    subst (λ (s : Seat). CanPut s.port) (same_seat a kept p within seat c.as_slice.result.now c.as_slice.ensures at) (can_put a kept p within c.args.slot c.args.value upcoming)
+
+pub write-requires-clause-room : goal.write-requires-clause-room
+write-requires-clause-room c seat at =
+    let a = c.self.inside in
+    let kept = c.self.invariant in
+    let p = c.args.port in
+    let within : c.args.port < length a.image.now.ports = subst (λ (v : CoreView). c.args.port < length v.image.ports) (sym c.self.view_is) c.requires.inside in
+    let upcoming = subst (λ (v : CoreView). IsUpcoming v c.args.port (action.Put c.args.slot c.args.value)) (sym c.self.view_is) c.requires.next in
+    subst (λ (s : Seat). HasPutRoom s a.banks (length a.words)) (same_seat a kept p within seat c.as_slice.result.now c.as_slice.ensures at) (put_room a kept p within)
+
+pub write-requires-clause-early : goal.write-requires-clause-early
+write-requires-clause-early c seat at =
+    let a = c.self.inside in
+    let kept = c.self.invariant in
+    let p = c.args.port in
+    let within : c.args.port < length a.image.now.ports = subst (λ (v : CoreView). c.args.port < length v.image.ports) (sym c.self.view_is) c.requires.inside in
+    let upcoming = subst (λ (v : CoreView). IsUpcoming v c.args.port (action.Put c.args.slot c.args.value)) (sym c.self.view_is) c.requires.next in
+    subst (λ (s : Seat). s.port.turn < 2 ^ 60) (same_seat a kept p within seat c.as_slice.result.now c.as_slice.ensures at) (early_turn a kept p within)
+
+pub put-requires-clause-can : goal.put-requires-clause-can
+put-requires-clause-can c seat at =
+    let a = c.self.inside in
+    let kept = c.self.invariant in
+    let p = c.args.port in
+    let within : c.args.port < length a.image.now.ports = subst (λ (v : CoreView). c.args.port < length v.image.ports) (sym c.self.view_is) c.requires.inside in
+    let upcoming = subst (λ (v : CoreView). IsUpcoming v c.args.port (action.Put c.args.slot c.args.value)) (sym c.self.view_is) c.requires.next in
+    subst (λ (s : Seat). CanPut s.port) (same_seat a kept p within seat c.as_mut_slice.result.now c.as_mut_slice.ensures.value at) (can_put a kept p within c.args.slot c.args.value upcoming)
+
+pub invariant_of-self : goal.invariant_of-self
+invariant_of-self c =
+    let a = c.self.inside in
+    let kept = c.self.invariant in
+    let p = c.args.port in
+    let within : c.args.port < length a.image.now.ports = subst (λ (v : CoreView). c.args.port < length v.image.ports) (sym c.self.view_is) c.requires.inside in
+    let upcoming = subst (λ (v : CoreView). IsUpcoming v c.args.port (action.Put c.args.slot c.args.value)) (sym c.self.view_is) c.requires.next in
+    (put_moves a kept p within c.args.slot c.args.value (refill (length a.seats) a.seats c.put.new.seats) c.write.new.words upcoming (c.write.ensures (seat_there a kept p within).0 (seat_in a kept p within c.as_slice.result.now c.as_slice.ensures)) (λ i link sending. reseated a.seats c.as_mut_slice.result.now c.put.new.seats c.args.port (seat_put (seat_there a kept p within).0 link.slot) c.as_mut_slice.ensures.value (c.put.ensures (seat_there a kept p within).0 (seat_in a kept p within c.as_mut_slice.result.now c.as_mut_slice.ensures.value) i link sending))).0
+
+pub returns : goal.returns
+returns c =
+    let a = c.self.inside in
+    let kept = c.self.invariant in
+    let p = c.args.port in
+    let within : c.args.port < length a.image.now.ports = subst (λ (v : CoreView). c.args.port < length v.image.ports) (sym c.self.view_is) c.requires.inside in
+    let upcoming = subst (λ (v : CoreView). IsUpcoming v c.args.port (action.Put c.args.slot c.args.value)) (sym c.self.view_is) c.requires.next in
+    subst (λ (v : CoreView). Applies v c.args.port (Moved (event.Put c.args.slot)) (view_of (record a { seats = (refill (length a.seats) a.seats c.put.new.seats); words = c.write.new.words }))) c.self.view_is
+      (put_moves a kept p within c.args.slot c.args.value (refill (length a.seats) a.seats c.put.new.seats) c.write.new.words upcoming (c.write.ensures (seat_there a kept p within).0 (seat_in a kept p within c.as_slice.result.now c.as_slice.ensures)) (λ i link sending. reseated a.seats c.as_mut_slice.result.now c.put.new.seats c.args.port (seat_put (seat_there a kept p within).0 link.slot) c.as_mut_slice.ensures.value (c.put.ensures (seat_there a kept p within).0 (seat_in a kept p within c.as_mut_slice.result.now c.as_mut_slice.ensures.value) i link sending))).1

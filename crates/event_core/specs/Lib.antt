@@ -1,0 +1,4 @@
+pub mod Core
+pub mod Kept
+pub mod Made
+pub mod Seats
