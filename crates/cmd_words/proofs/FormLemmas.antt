@@ -16,6 +16,7 @@ use Rattle.cmd_words.specs.Settings.{run_options, refer_options, order_options, 
 use Rattle.cmd_words.specs.Uses.{Found, parsed}
 use Rattle.cmd_words.proofs.ArgumentLemmas.{arguments_from, parsed_from}
 use Rattle.cmd_words.proofs.LookLemmas.{is_proper}
+use Rattle.cmd_words.proofs.TestLemmas.{same_some}
 
 -- ---- from the form to what is asked
 
@@ -80,13 +81,10 @@ record IsRunBy (arguments : List Word) (value : Values) (run : RunWords) : Type 
 run_back : (netlist stimulus : Word) (value : Values) (run : RunWords) → run_by netlist stimulus value ≡ Some run → IsRunBy (netlist ∷ stimulus ∷ []) value run
 run_back netlist stimulus value run e = go (timing_by value) (banks_by value) refl refl e
   where
-    some_same : (one other : RunWords) → Some one ≡ Some other → one ≡ other
-    some_same one other e = cc
-
     go : (timing : Option Timing) (banks : Option ℕ) → timing_by value ≡ timing → banks_by value ≡ banks → run_with netlist stimulus value timing banks ≡ Some run
         → IsRunBy (netlist ∷ stimulus ∷ []) value run
     go (Some timing) (Some banks) t b e =
-        let is = some_same (record {
+        let is = same_some (record {
           netlist = netlist;
           stimulus = stimulus;
           machine = value (codes "machine");
@@ -178,7 +176,4 @@ read_by_form words (Err refusal) (inr usage) = inr (usage.0, λ command form. le
 -- ---- laws
 
 pub one_form : (words : List Word) (one other : Command) → HasForm words one → HasForm words other → one ≡ other
-one_form words one other first second = some_same (sym (asked_from words one first) ∙ asked_from words other second)
-  where
-    some_same : Some one ≡ Some other → one ≡ other
-    some_same e = cc
+one_form words one other first second = same_some one other (sym (asked_from words one first) ∙ asked_from words other second)

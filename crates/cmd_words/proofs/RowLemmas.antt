@@ -2,7 +2,7 @@
 use Rattle.std.proofs.Common.{◌≡◌, ◌<◌, ◌==◌, ◌&&◌, ◌||◌, ℕ, Bool, true, false, not, List, [], ◌∷◌, ◌++◌, map, length, Option, Some, None, is_some, option_map, refl, sym, ap, ◌∙◌, cond, rules, codes}
 use Rattle.std.specs.Prelude.{bytes_eq, find, if◌then◌else◌, option_and_then, unwrap_or}
 use Rattle.std.specs.List.{fold, list_any}
-use Rattle.std.proofs.lemmas.Bool.{false_from_ne_true, or_parts}
+use Rattle.std.proofs.lemmas.Bool.{false_from_ne_true, or_parts, or_right}
 use Rattle.std.proofs.lemmas.Slice.Eq.{bytes_eq-Decides}
 use Rattle.clap.specs.Faults.{built_fault, check_fault, defaults_fault, entered_fault, fault_of, settle_fault, walk_fault}
 use Rattle.clap.specs.Kinds.{Kinds, or_else}
@@ -13,6 +13,7 @@ use Rattle.clap.specs.declared.builder.value_parser.Reading.{Reading}
 use Rattle.clap.specs.declared.parser.matches.ValueSource.{ValueSource}
 use Rattle.cmd_words.specs.Arguments.{Word, has_name}
 use Rattle.cmd_words.specs.Parses.{files_id, app_with}
+use Rattle.cmd_words.proofs.TestLemmas.{same_either}
 use Rattle.cmd_words.proofs.AppLemmas.{app_built, files_built, option_built, rules_with, shape_with, same_name}
 use Rattle.cmd_words.proofs.WalkLemmas.{fine, gate, outcome}
 
@@ -20,35 +21,23 @@ use Rattle.cmd_words.proofs.WalkLemmas.{fine, gate, outcome}
 
 defaults_kept : (names : List Word) (rows : List Row) → fold with_default rows (map option_built names) ≡ rows
 defaults_kept [] rows = refl
-defaults_kept (name ∷ names) rows = ap (λ (rows : List Row). fold with_default rows (map option_built names)) (same (has_row name rows)) ∙ defaults_kept names rows
-  where
-    same : (b : Bool) → (if b then rows else rows) ≡ rows
-    same true = refl
-    same false = refl
-
-pub same_or : {X : Type 0} (b : Bool) (x : X) → (if b then x else x) ≡ x
-same_or true x = refl
-same_or false x = refl
+defaults_kept (name ∷ names) rows = ap (λ (rows : List Row). fold with_default rows (map option_built names)) (same_either (has_row name rows) rows) ∙ defaults_kept names rows
 
 finished_is : (names : List Word) (held : Held) → finished (rules_with names) held ≡ (settled (rules_with names) held).rows
 finished_is names held =
-    ap (λ (rows : List Row). fold with_default rows (map option_built names)) (same_or (has_row files_id (settled (rules_with names) held).rows) _)
+    ap (λ (rows : List Row). fold with_default rows (map option_built names)) (same_either (has_row files_id (settled (rules_with names) held).rows) _)
     ∙ defaults_kept names (settled (rules_with names) held).rows
-
-none_missing : (b : Bool) → (b || true) ≡ true
-none_missing true = refl
-none_missing false = refl
 
 options_fault : (names : List Word) (rows : List Row) → defaults_fault rows (map option_built names) ≡ []
 unfolding defaults_fault
 options_fault [] rows = refl
 options_fault (name ∷ names) rows =
-    rw (none_missing (has_row name rows)) (ap (λ (rows : List Row). defaults_fault rows (map option_built names)) (same_or (has_row name rows) rows) ∙ options_fault names rows)
+    rw (or_right (has_row name rows) true refl) (ap (λ (rows : List Row). defaults_fault rows (map option_built names)) (same_either (has_row name rows) rows) ∙ options_fault names rows)
 
 no_defaults : (names : List Word) (rows : List Row) → defaults_fault rows (rules_with names) ≡ []
 unfolding defaults_fault
 no_defaults names rows =
-    rw (none_missing (has_row files_id rows)) (ap (λ (rows : List Row). defaults_fault rows (map option_built names)) (same_or (has_row files_id rows) rows) ∙ options_fault names rows)
+    rw (or_right (has_row files_id rows) true refl) (ap (λ (rows : List Row). defaults_fault rows (map option_built names)) (same_either (has_row files_id rows) rows) ∙ options_fault names rows)
 
 none_required : (names : List Word) (rows : List Row) → list_any (λ rule. rule.required && not (is_given rule.id rows)) (map option_built names) ≡ false
 none_required [] rows = refl
