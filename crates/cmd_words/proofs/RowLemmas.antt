@@ -108,10 +108,10 @@ row_values id m how source values (row ∷ rows) = here (bytes_eq row.id id) ref
         ≡ (if bytes_eq id m then Some (unwrap_or (all_of id rows) [] ++ values) else option_map (λ (row : Row). row.values) (cond same (Some row) (find (λ (row : Row). bytes_eq row.id m) rows)))
     other true here apart rest =
         let no : bytes_eq id m ≡ false = false_from_ne_true (bytes_eq id m) (λ same.
-            let is : id ≡ m = (bytes_eq-Decides id m).0 same in
-            let was : row.id ≡ m = (bytes_eq-Decides row.id m).0 here in
-            let bad : bytes_eq row.id id ≡ true = (bytes_eq-Decides row.id id).1 (was ∙ sym is) in
-            cc) in
+        let is : id ≡ m = (bytes_eq-Decides id m).0 same in
+        let was : row.id ≡ m = (bytes_eq-Decides row.id m).0 here in
+        let bad : bytes_eq row.id id ≡ true = (bytes_eq-Decides row.id id).1 (was ∙ sym is) in
+        cc) in
         rw (no) refl
     other false here apart rest = rest
 

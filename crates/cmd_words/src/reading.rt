@@ -107,11 +107,7 @@ fn simulation<'a>(
 }
 
 /// One file, the netlist's.
-fn netlist<'a>(
-    alloc: Global,
-    words: &'a [String],
-    options: &'a [&'a str],
-) -> Result<Text, WordNo>
+fn netlist<'a>(alloc: Global, words: &'a [String], options: &'a [&'a str]) -> Result<Text, WordNo>
     requires { has_name (texts_in options.now) files_id ≡ false }
     ensures { Answers result (says (texts_in options.entry.now) of_one_file (map string_bytes words.entry.now)) }
 {
