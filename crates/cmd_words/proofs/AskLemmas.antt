@@ -1,8 +1,7 @@
 -- What arguments and values say, said of a parse.
-use Rattle.std.proofs.Common.{◌≡◌, List, [], ◌∷◌, Option, Some, None, refl, sym, ap, ap₂, ◌∙◌}
+use Rattle.std.proofs.Common.{◌≡◌, List, [], ◌∷◌, Option, Some, sym, ap, ap₂, ◌∙◌}
 use Rattle.std.specs.Prelude.{option_and_then}
 use Rattle.clap.specs.declared.parser.matches.ArgMatches.{ArgMatches}
-use Rattle.cmd_words.specs.declared.command.RunWords.{RunWords}
 use Rattle.cmd_words.specs.Arguments.{Word, value_given}
 use Rattle.cmd_words.specs.Asked.{Values, of_two_files, run_by, says}
 use Rattle.cmd_words.specs.Parses.{arguments_found, both_of, value_found, IsParsedAs}

@@ -1,5 +1,5 @@
 -- The command that words ask for is the one whose form they have.
-use Rattle.std.proofs.Common.{◌≡◌, ◌⊎◌, inl, inr, ◌≤◌, ℕ, Bool, true, false, List, [], ◌∷◌, Option, Some, None, option_map, refl, sym, ap, ap₂, ◌∙◌, cond, codes, arith}
+use Rattle.std.proofs.Common.{◌≡◌, inl, inr, ℕ, Bool, true, false, List, [], ◌∷◌, Option, Some, None, option_map, refl, sym, ap, ap₂, ◌∙◌, codes}
 use Rattle.std.specs.Prelude.{bytes_eq, flat_map, if◌then◌else◌, option_and_then, Result, Ok, Err, MatchResult}
 use Rattle.std.specs.List.{AllByRecursion, list_all}
 use Rattle.std.proofs.lemmas.Slice.Eq.{bytes_eq-Decides}
@@ -8,9 +8,8 @@ use Rattle.cmd_words.specs.declared.command.Command.{Command}
 use Rattle.cmd_words.specs.declared.command.Command.TheVariants.{Run, Refer, Order, Show}
 use Rattle.cmd_words.specs.declared.command.RunWords.{RunWords}
 use Rattle.cmd_words.specs.declared.command.WordNo.{WordNo}
-use Rattle.cmd_words.specs.declared.command.WordNo.TheVariants.{Usage, Memory}
 use Rattle.cmd_words.specs.Arguments.{Word, Piece, alone, spaced, joined, options_of, IsPiece, AreArguments, value_given}
-use Rattle.cmd_words.specs.Asked.{Values, asked, asked_by, of_one_file, of_two_files, run_by, run_with, says, Answers}
+use Rattle.cmd_words.specs.Asked.{Values, asked, of_one_file, of_two_files, run_by, run_with, says, Answers}
 use Rattle.cmd_words.specs.Forms.{HasForm, HasNoForm, IsCall, IsRun}
 use Rattle.cmd_words.specs.Settings.{run_options, refer_options, order_options, show_options, timing_by, banks_by}
 use Rattle.cmd_words.specs.Uses.{Found, parsed}

@@ -1,9 +1,7 @@
 -- A parse of `clap` finds what the words give, and fails where they give nothing.
-use Rattle.std.proofs.Common.{◌≡◌, ◌⊎◌, inl, inr, ◌<◌, ◌==◌, ◌&&◌, ◌||◌, ℕ, Bool, true, false, not, List, [], ◌∷◌, ◌++◌, map, length, Option, Some, None, is_some, option_map, refl, sym, ap, ◌∙◌, cond, rules, codes}
-use Rattle.std.specs.Prelude.{bytes_eq, find, if◌then◌else◌, option_and_then, slice_get, unwrap_or}
-use Rattle.std.specs.List.{AllByRecursion, list_any}
-use Rattle.std.specs.Borrow.{Bor}
-use Rattle.std.proofs.Math.Path.{fun_ext}
+use Rattle.std.proofs.Common.{◌≡◌, ◌==◌, ◌&&◌, ◌||◌, ℕ, Bool, true, false, not, List, [], ◌∷◌, ◌++◌, map, Option, Some, None, is_some, option_map, refl, sym, ap, ◌∙◌, cond}
+use Rattle.std.specs.Prelude.{bytes_eq, find, if◌then◌else◌, option_and_then, unwrap_or}
+use Rattle.std.specs.List.{AllByRecursion}
 use Rattle.std.proofs.lemmas.Bool.{false_from_ne_true, or_parts}
 use Rattle.std.proofs.lemmas.List.Folds.{list_any-append}
 use Rattle.std.proofs.lemmas.Slice.Eq.{bytes_eq-Decides}
@@ -17,7 +15,7 @@ use Rattle.cmd_words.specs.Uses.{Use, argument, option, Look, the_end, an_option
 use Rattle.cmd_words.proofs.TestLemmas.{same_either}
 use Rattle.cmd_words.proofs.AppLemmas.{differs, same_name}
 use Rattle.cmd_words.proofs.RowLemmas.{row_values, row_is, without_none}
-use Rattle.cmd_words.proofs.WalkLemmas.{IsKnown, IsLook, after_use, apply, gate, looks, outcome, parse_is, use_fine}
+use Rattle.cmd_words.proofs.WalkLemmas.{IsLook, after_use, apply, gate, looks, outcome, parse_is, use_fine}
 
 -- ---- what is given
 

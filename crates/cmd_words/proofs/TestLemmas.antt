@@ -1,5 +1,5 @@
 -- Tests and values that may be none.
-use Rattle.std.proofs.Common.{◌≡◌, Bool, true, false, Option, Some, refl}
+use Rattle.std.proofs.Common.{◌≡◌, Bool, true, false, Some, refl}
 use Rattle.std.specs.Prelude.{if◌then◌else◌}
 
 pub same_some : {X : Type 0} (x y : X) → Some x ≡ Some y → x ≡ y

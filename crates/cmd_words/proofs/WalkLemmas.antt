@@ -1,13 +1,12 @@
 -- What the parse of `clap` makes of words: the uses that they give, one after another.
-use Rattle.std.proofs.Common.{◌≡◌, ◌<◌, ◌==◌, ◌&&◌, ◌||◌, ℕ, Bool, true, false, not, List, [], ◌∷◌, ◌++◌, map, length, Option, Some, None, option_map, refl, sym, ap, ◌∙◌, rules, codes}
+use Rattle.std.proofs.Common.{◌≡◌, ◌==◌, ◌&&◌, Bool, true, false, not, List, [], ◌∷◌, map, Option, Some, None, option_map, refl, ap, ◌∙◌}
 use Rattle.std.proofs.lemmas.Bool.{and_right}
 use Rattle.std.specs.Prelude.{bytes_eq, if◌then◌else◌, option_and_then}
 use Rattle.std.specs.List.{cons_option, fold}
-use Rattle.std.specs.Option.{option_map_or}
 use Rattle.clap.specs.Faults.{settle_fault, turn_fault, use_fault, walk_fault}
 use Rattle.clap.specs.Kinds.{Kinds, or_else}
 use Rattle.clap.specs.Lexer.{long_of, name_and_value, short_of}
-use Rattle.clap.specs.Walk.{is_pending, nothing_held, walk_from, Held, Row, Rule, Waiting, idle, positional, option as waiting, Walk, has_row, plain_word, settled, walked, with_values, without, value}
+use Rattle.clap.specs.Walk.{is_pending, nothing_held, walk_from, Held, Row, Rule, Waiting, idle, positional, option as waiting, Walk, has_row, settled, walked, with_values, without}
 use Rattle.clap.specs.declared.builder.value_parser.Reading.TheVariants.{AsWritten}
 use Rattle.clap.specs.declared.error.kind.ErrorKind.{ErrorKind}
 use Rattle.clap.specs.declared.parser.matches.ValueSource.TheVariants.{CommandLine}
