@@ -1,15 +1,15 @@
 -- Words read one by one are the pieces of their spelling, both ways.
-use Rattle.std.proofs.Common.{◌≡◌, ◌≢◌, ◌<◌, ◌==◌, ◌&&◌, ◌||◌, ℕ, Bool, true, false, not, List, [], ◌∷◌, ◌++◌, map, length, Option, Some, None, is_some, option_map, refl, sym, ap, ap₂, ◌∙◌, cond, arith, append-nil, append_assoc, rules, codes}
-use Rattle.std.specs.Prelude.{bytes_eq, flat_map, if◌then◌else◌, option_and_then, unwrap_or}
+use Rattle.std.proofs.Common.{◌≡◌, ◌≢◌, ◌&&◌, Bool, true, false, not, List, [], ◌∷◌, ◌++◌, map, length, Option, Some, None, refl, sym, ap, ap₂, ◌∙◌, arith, append-nil, append_assoc}
+use Rattle.std.specs.Prelude.{flat_map, if◌then◌else◌, option_and_then, unwrap_or}
 use Rattle.std.specs.List.{AllByRecursion, list_all}
+use Rattle.std.proofs.Math.Bool.{and_assoc}
 use Rattle.std.proofs.lemmas.Bool.{and_from, and_parts, lt-ltb}
 use Rattle.std.proofs.lemmas.Slice.Eq.{bytes_eq-Decides}
-use Rattle.std.proofs.lemmas.List.{map-append}
-use Rattle.clap.specs.Lexer.{long_of}
-use Rattle.cmd_words.specs.Arguments.{Word, dashes, begins_with_dash, has_name, names_given, Piece, alone, spaced, joined, words_of, arguments_of, options_of, IsPiece, IsPlain, tail_words, are_new, AreArguments}
+use Rattle.cmd_words.specs.Arguments.{Word, dashes, begins_with_dash, has_name, names_given, Piece, alone, spaced, joined, words_of, arguments_of, options_of, IsPiece, tail_words, are_new, AreArguments}
 use Rattle.cmd_words.specs.Uses.{Use, argument, option, Look, the_end, an_option, a_dash, a_word, look, is_filled, fits, with_use, collects, Found, nothing_found, parsed, put_first, read_word, read_value, reads}
 use Rattle.cmd_words.proofs.LookLemmas.{is_proper, proper_name, look_plain, look_end, look_named, look_joined, long_is}
 use Rattle.cmd_words.proofs.ParseLemmas.{names_more}
+use Rattle.cmd_words.proofs.TestLemmas.{same_some}
 use Rattle.cmd_words.proofs.WalkLemmas.{IsLook, looks}
 
 -- ---- what uses give together
@@ -45,10 +45,6 @@ found_first found (option name word) uses = ap (λ (given : List (Word × Word))
 
 fit_first : (found : Found) (first : Use) (uses : List Use) → fit_all found (first ∷ uses) ≡ (fits found first && fit_all (with_use found first) uses)
 fit_first found (argument word) uses = and_assoc (is_filled word) (are_filled uses) _
-  where
-    and_assoc : (a b c : Bool) → ((a && b) && c) ≡ (a && (b && c))
-    and_assoc true b c = refl
-    and_assoc false b c = refl
 fit_first found (option name word) uses =
     rw (names_more found.given name word)
     (and_mixed (is_filled word) (are_filled uses) (not (has_name (names_given found.given) name)) (are_new (names_given found.given ++ name ∷ []) (names_given (flat_map option_in uses))))
@@ -316,10 +312,7 @@ arguments_from names words found e = go (reads names words None) refl e
   where
     fitting : (uses : List Use) → reads names words None ≡ Some uses → (fit : Bool) → fit_all nothing_found uses ≡ fit
         → (if fit then Some (found_with nothing_found uses) else None) ≡ Some found → AreArguments names words found.arguments found.given
-    fitting uses read true fit is = found_from names words uses found ((all_spelled names words).rests uses read) fit (sym (some_same (found_with nothing_found uses) is))
-      where
-        some_same : (other : Found) → Some other ≡ Some found → other ≡ found
-        some_same other e = cc
+    fitting uses read true fit is = found_from names words uses found ((all_spelled names words).rests uses read) fit (sym (same_some (found_with nothing_found uses) found is))
     fitting uses read false fit is = cc
 
     go : (rest : Option (List Use)) → reads names words None ≡ rest → option_and_then (collects nothing_found) rest ≡ Some found → AreArguments names words found.arguments found.given

@@ -1,12 +1,12 @@
 -- What arguments and values say, said of a parse.
-use Rattle.std.proofs.Common.{◌≡◌, List, [], ◌∷◌, Option, Some, None, refl, sym, ap, ap₂, ◌∙◌}
+use Rattle.std.proofs.Common.{◌≡◌, List, [], ◌∷◌, Option, Some, sym, ap, ap₂, ◌∙◌}
 use Rattle.std.specs.Prelude.{option_and_then}
 use Rattle.clap.specs.declared.parser.matches.ArgMatches.{ArgMatches}
-use Rattle.cmd_words.specs.declared.command.RunWords.{RunWords}
 use Rattle.cmd_words.specs.Arguments.{Word, value_given}
 use Rattle.cmd_words.specs.Asked.{Values, of_two_files, run_by, says}
 use Rattle.cmd_words.specs.Parses.{arguments_found, both_of, value_found, IsParsedAs}
 use Rattle.cmd_words.specs.Uses.{Found}
+use Rattle.cmd_words.proofs.TestLemmas.{same_some}
 
 -- what words say is what a parse of them found says
 pub says_found : {T : Type 0} (names words : List Word) (reading : List Word → Values → Option T) (matches : ArgMatches) → IsParsedAs names words matches
@@ -16,10 +16,7 @@ says_found names words reading matches is =
 
 both_are : (arguments : List Word) (value : Values) (netlist stimulus : Word) → both_of arguments ≡ Some (netlist, stimulus) → of_two_files arguments value ≡ run_by netlist stimulus value
 both_are (one ∷ other ∷ []) value netlist stimulus e =
-    ap (λ (files : Word × Word). run_by files.0 files.1 value) (same_files (one, other) (netlist, stimulus) e)
-  where
-    same_files : (files others : Word × Word) → Some files ≡ Some others → files ≡ others
-    same_files files others e = cc
+    ap (λ (files : Word × Word). run_by files.0 files.1 value) (same_some (one, other) (netlist, stimulus) e)
 both_are [] value netlist stimulus e = cc
 both_are (one ∷ []) value netlist stimulus e = cc
 both_are (one ∷ other ∷ third ∷ others) value netlist stimulus e = cc

@@ -1,5 +1,5 @@
 -- The command that words ask for is the one whose form they have.
-use Rattle.std.proofs.Common.{◌≡◌, ◌⊎◌, inl, inr, ◌≤◌, ℕ, Bool, true, false, List, [], ◌∷◌, Option, Some, None, option_map, refl, sym, ap, ap₂, ◌∙◌, cond, codes, arith}
+use Rattle.std.proofs.Common.{◌≡◌, inl, inr, ℕ, Bool, true, false, List, [], ◌∷◌, Option, Some, None, option_map, refl, sym, ap, ap₂, ◌∙◌, codes}
 use Rattle.std.specs.Prelude.{bytes_eq, flat_map, if◌then◌else◌, option_and_then, Result, Ok, Err, MatchResult}
 use Rattle.std.specs.List.{AllByRecursion, list_all}
 use Rattle.std.proofs.lemmas.Slice.Eq.{bytes_eq-Decides}
@@ -8,14 +8,14 @@ use Rattle.cmd_words.specs.declared.command.Command.{Command}
 use Rattle.cmd_words.specs.declared.command.Command.TheVariants.{Run, Refer, Order, Show}
 use Rattle.cmd_words.specs.declared.command.RunWords.{RunWords}
 use Rattle.cmd_words.specs.declared.command.WordNo.{WordNo}
-use Rattle.cmd_words.specs.declared.command.WordNo.TheVariants.{Usage, Memory}
 use Rattle.cmd_words.specs.Arguments.{Word, Piece, alone, spaced, joined, options_of, IsPiece, AreArguments, value_given}
-use Rattle.cmd_words.specs.Asked.{Values, asked, asked_by, of_one_file, of_two_files, run_by, run_with, says, Answers}
+use Rattle.cmd_words.specs.Asked.{Values, asked, of_one_file, of_two_files, run_by, run_with, says, Answers}
 use Rattle.cmd_words.specs.Forms.{HasForm, HasNoForm, IsCall, IsRun}
 use Rattle.cmd_words.specs.Settings.{run_options, refer_options, order_options, show_options, timing_by, banks_by}
 use Rattle.cmd_words.specs.Uses.{Found, parsed}
 use Rattle.cmd_words.proofs.ArgumentLemmas.{arguments_from, parsed_from}
 use Rattle.cmd_words.proofs.LookLemmas.{is_proper}
+use Rattle.cmd_words.proofs.TestLemmas.{same_some}
 
 -- ---- from the form to what is asked
 
@@ -80,13 +80,10 @@ record IsRunBy (arguments : List Word) (value : Values) (run : RunWords) : Type 
 run_back : (netlist stimulus : Word) (value : Values) (run : RunWords) → run_by netlist stimulus value ≡ Some run → IsRunBy (netlist ∷ stimulus ∷ []) value run
 run_back netlist stimulus value run e = go (timing_by value) (banks_by value) refl refl e
   where
-    some_same : (one other : RunWords) → Some one ≡ Some other → one ≡ other
-    some_same one other e = cc
-
     go : (timing : Option Timing) (banks : Option ℕ) → timing_by value ≡ timing → banks_by value ≡ banks → run_with netlist stimulus value timing banks ≡ Some run
         → IsRunBy (netlist ∷ stimulus ∷ []) value run
     go (Some timing) (Some banks) t b e =
-        let is = some_same (record {
+        let is = same_some (record {
           netlist = netlist;
           stimulus = stimulus;
           machine = value (codes "machine");
@@ -178,7 +175,4 @@ read_by_form words (Err refusal) (inr usage) = inr (usage.0, λ command form. le
 -- ---- laws
 
 pub one_form : (words : List Word) (one other : Command) → HasForm words one → HasForm words other → one ≡ other
-one_form words one other first second = some_same (sym (asked_from words one first) ∙ asked_from words other second)
-  where
-    some_same : Some one ≡ Some other → one ≡ other
-    some_same e = cc
+one_form words one other first second = same_some one other (sym (asked_from words one first) ∙ asked_from words other second)

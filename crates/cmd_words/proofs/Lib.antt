@@ -1,4 +1,5 @@
 -- Lemmas on words.
+mod TestLemmas
 mod AppLemmas
 mod WalkLemmas
 mod RowLemmas

@@ -1,7 +1,7 @@
 -- What one word looks like, and how what it looks like is spelled.
-use Rattle.std.proofs.Common.{add-one, ap₂, ◌≡◌, ◌≢◌, ◌+◌, ◌<◌, ◌==◌, ◌&&◌, ◌||◌, ℕ, zero, suc, Bool, true, false, not, List, [], ◌∷◌, ◌++◌, map, length, get_or, take, drop, Option, Some, None, is_some, option_map, refl, sym, ap, ◌∙◌, cond, arith, rules, codes}
+use Rattle.std.proofs.Common.{add-one, ap₂, ◌≡◌, ◌==◌, ◌&&◌, ◌||◌, ℕ, zero, suc, Bool, true, false, not, List, [], ◌∷◌, ◌++◌, Option, Some, None, refl, sym, ap, ◌∙◌, arith}
 use Rattle.std.specs.Prelude.{bytes_eq, if◌then◌else◌, option_and_then}
-use Rattle.std.specs.List.{list_all, list_any, before_first, after_first, position_or_len}
+use Rattle.std.specs.List.{list_all, before_first, after_first, position_or_len}
 use Rattle.std.proofs.Math.Numerals.{one-add}
 use Rattle.std.proofs.lemmas.Bool.{and_parts}
 use Rattle.std.proofs.lemmas.Bool.Decides.{nat_tests}
@@ -9,9 +9,9 @@ use Rattle.std.proofs.lemmas.Slice.Eq.{bytes_eq-Decides}
 use Rattle.clap.proofs.CutLemmas.{Lacks}
 use Rattle.clap.proofs.LexerLemmas.{name_and_value-at, name_and_value-without}
 use Rattle.clap.specs.Lexer.{has_byte, long_of, long_of_rest, name_and_value, strip_byte}
-use Rattle.cmd_words.specs.Arguments.{Word, dashes, begins_with_dash, has_name, IsPlain}
-use Rattle.cmd_words.specs.Uses.{Look, the_end, an_option, a_dash, a_word, look, is_filled}
-use Rattle.cmd_words.proofs.WalkLemmas.{IsLook, looks}
+use Rattle.cmd_words.specs.Arguments.{Word, dashes, has_name, IsPlain}
+use Rattle.cmd_words.specs.Uses.{the_end, an_option, a_word, look, is_filled}
+use Rattle.cmd_words.proofs.TestLemmas.{same_some}
 
 -- ---- names
 
@@ -107,11 +107,8 @@ long_is (first ∷ rest) name value long = go (first == 45) refl rest long
     third : (rest : Word) → long_of_rest rest ≡ Some (name, value) → rest ≡ spelled name value
     third [] long = cc
     third (byte ∷ rest) long =
-        let cut : name_and_value (byte ∷ rest) ≡ (name, value) = some_same long in
+        let cut : name_and_value (byte ∷ rest) ≡ (name, value) = same_some (name_and_value (byte ∷ rest)) (name, value) long in
         sym (cut_back (byte ∷ rest)) ∙ ap (λ (cut : Word × Option Word). spelled cut.0 cut.1) cut
-      where
-        some_same : Some (name_and_value (byte ∷ rest)) ≡ Some (name, value) → name_and_value (byte ∷ rest) ≡ (name, value)
-        some_same e = cc
 
     second : (b : Bool) (byte : ℕ) (rest : Word) → (byte == 45) ≡ b → option_and_then long_of_rest (if b then Some rest else None) ≡ Some (name, value)
         → byte ∷ rest ≡ 45 ∷ spelled name value

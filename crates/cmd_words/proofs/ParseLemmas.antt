@@ -1,10 +1,9 @@
 -- A parse of `clap` finds what the words give, and fails where they give nothing.
-use Rattle.std.proofs.Common.{◌≡◌, ◌⊎◌, inl, inr, ◌<◌, ◌==◌, ◌&&◌, ◌||◌, ℕ, Bool, true, false, not, List, [], ◌∷◌, ◌++◌, map, length, Option, Some, None, is_some, option_map, refl, sym, ap, ◌∙◌, cond, rules, codes}
-use Rattle.std.specs.Prelude.{bytes_eq, find, if◌then◌else◌, option_and_then, slice_get, unwrap_or}
-use Rattle.std.specs.List.{AllByRecursion, list_any}
-use Rattle.std.specs.Borrow.{Bor}
-use Rattle.std.proofs.Math.Path.{fun_ext}
+use Rattle.std.proofs.Common.{◌≡◌, ◌==◌, ◌&&◌, ◌||◌, ℕ, Bool, true, false, not, List, [], ◌∷◌, ◌++◌, map, Option, Some, None, is_some, option_map, refl, sym, ap, ◌∙◌, cond}
+use Rattle.std.specs.Prelude.{bytes_eq, find, if◌then◌else◌, option_and_then, unwrap_or}
+use Rattle.std.specs.List.{AllByRecursion}
 use Rattle.std.proofs.lemmas.Bool.{false_from_ne_true, or_parts}
+use Rattle.std.proofs.lemmas.List.Folds.{list_any-append}
 use Rattle.std.proofs.lemmas.Slice.Eq.{bytes_eq-Decides}
 use Rattle.clap.specs.Lexer.{long_of}
 use Rattle.clap.specs.Walk.{Row, all_of, has_row, nothing_held, walk_from, with_values, without}
@@ -13,9 +12,10 @@ use Rattle.clap.specs.declared.parser.matches.ValueSource.TheVariants.{CommandLi
 use Rattle.cmd_words.specs.Arguments.{Word, dashes, begins_with_dash, has_name, names_given, value_given}
 use Rattle.cmd_words.specs.Parses.{files_id, has_no_short, is_short}
 use Rattle.cmd_words.specs.Uses.{Use, argument, option, Look, the_end, an_option, a_dash, a_word, look, is_filled, Found, nothing_found, fits, with_use, collects, read_word, read_value, reads, put_first, parsed}
+use Rattle.cmd_words.proofs.TestLemmas.{same_either}
 use Rattle.cmd_words.proofs.AppLemmas.{differs, same_name}
-use Rattle.cmd_words.proofs.RowLemmas.{same_or, row_values, row_is, without_none}
-use Rattle.cmd_words.proofs.WalkLemmas.{IsKnown, IsLook, after_use, apply, gate, looks, outcome, parse_is, use_fine}
+use Rattle.cmd_words.proofs.RowLemmas.{row_values, row_is, without_none}
+use Rattle.cmd_words.proofs.WalkLemmas.{IsLook, after_use, apply, gate, looks, outcome, parse_is, use_fine}
 
 -- ---- what is given
 
@@ -38,15 +38,6 @@ given_none given name none = go (value_given given name) (given_is given name �
     go : (found : Option Word) → is_some (one_value found) ≡ false → found ≡ None
     go None none = refl
     go (Some word) none = cc
-
-has_more : (names : List Word) (other name : Word) → has_name (names ++ other ∷ []) name ≡ (has_name names name || (bytes_eq other name || false))
-has_more [] other name = refl
-has_more (first ∷ names) other name = go (bytes_eq first name) (has_more names other name)
-  where
-    go : (same : Bool) → has_name (names ++ other ∷ []) name ≡ (has_name names name || (bytes_eq other name || false))
-        → (same || has_name (names ++ other ∷ []) name) ≡ ((same || has_name names name) || (bytes_eq other name || false))
-    go true rest = refl
-    go false rest = rest
 
 pub names_more : (given : List (Word × Word)) (name word : Word) → names_given (given ++ (name, word) ∷ []) ≡ names_given given ++ name ∷ []
 names_more [] name word = refl
@@ -122,7 +113,7 @@ shows_option rows found name word shows apart fresh =
           ap (λ rows. all_of other (with_values name AsWritten CommandLine (word ∷ []) rows)) kept
           ∙ row_values name other AsWritten CommandLine (word ∷ []) rows
           ∙ at other apart_other none (bytes_eq name other) refl;
-      apart = ap (λ names. has_name names files_id) (names_more found.given name word) ∙ has_more (names_given found.given) name files_id ∙ rw (shows.apart, apart) refl;
+      apart = ap (λ names. has_name names files_id) (names_more found.given name word) ∙ list_any-append (λ other. bytes_eq other files_id) (names_given found.given) (name ∷ []) ∙ rw (shows.apart, apart) refl;
     }
   where
     at : (other : Word) → bytes_eq other files_id ≡ false → has_name (names_given found.given) name ≡ false → (same : Bool) → bytes_eq name other ≡ same
@@ -259,8 +250,8 @@ fails_word : (names : List Word) (word : Word) (words : List Word) (seen : Look)
 fails_word names word words the_end more fails = absurd (more refl)
 fails_word names word words a_dash more fails = refl
 fails_word names word words a_word more fails = rw (fails.rests) refl
-fails_word names word words (an_option name None) more fails = rw (fails.awaits name) (same_or (has_name names name) None)
-fails_word names word words (an_option name (Some given)) more fails = rw (fails.rests) (same_or (has_name names name) None)
+fails_word names word words (an_option name None) more fails = rw (fails.awaits name) (same_either (has_name names name) None)
+fails_word names word words (an_option name (Some given)) more fails = rw (fails.rests) (same_either (has_name names name) None)
 
 fails_value : (names : List Word) (name word : Word) (words : List Word) (seen : Look) → FailsFrom names words → read_value name seen word (reads names words None) ≡ None
 fails_value names name word words a_word fails = rw (fails.rests) refl

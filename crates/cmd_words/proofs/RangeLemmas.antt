@@ -1,6 +1,6 @@
 -- The numbers of a command that words ask for are in their ranges.
 use Rattle.std.proofs.Common.{◌≡◌, refl, sym, subst, ℕ, ◌≤◌, Bool, true, false, ◌&&◌, List, length, Option, None, Some, arith, codes}
-use Rattle.std.specs.Prelude.{nat_le, if◌then◌else◌, IfOk, Result, Ok, Err, MatchResult}
+use Rattle.std.specs.Prelude.{nat_le, if◌then◌else◌, IfOk, Result, Ok, Err}
 use Rattle.std.proofs.lemmas.Bool.{leb-true}
 use Rattle.limits.specs.declared.TheConstants.{MAX_UNITS}
 use Rattle.text_lines.specs.Numbers.{number_of, within}
@@ -16,8 +16,8 @@ use Rattle.cmd_words.specs.declared.command.WordNo.{WordNo}
 use Rattle.cmd_words.specs.declared.options.TheConstants.{MAX_BANKS}
 use Rattle.cmd_words.specs.Arguments.{Word, value_given}
 use Rattle.cmd_words.specs.Asked.{Values, Answers, asked}
-use Rattle.cmd_words.specs.Forms.{HasForm, HasNoForm, IsInRange, IsRun, IsRunInRange}
-use Rattle.cmd_words.specs.Settings.{allows_units, count_of, count_or, mode_of, init_of, timing_by, timing_with, banks_by}
+use Rattle.cmd_words.specs.Forms.{HasForm, IsInRange, IsRun, IsRunInRange}
+use Rattle.cmd_words.specs.Settings.{allows_units, count_or, mode_of, init_of, timing_with}
 use Rattle.cmd_words.proofs.FormLemmas.{form_from}
 
 -- a number within limits

@@ -1,54 +1,43 @@
 -- The end of a parse of `clap`: its faults, the rows that it finds, and what stands in them.
-use Rattle.std.proofs.Common.{◌≡◌, ◌<◌, ◌==◌, ◌&&◌, ◌||◌, ℕ, Bool, true, false, not, List, [], ◌∷◌, ◌++◌, map, length, Option, Some, None, is_some, option_map, refl, sym, ap, ◌∙◌, cond, rules, codes}
-use Rattle.std.specs.Prelude.{bytes_eq, find, if◌then◌else◌, option_and_then, unwrap_or}
+use Rattle.std.proofs.Common.{◌≡◌, ◌&&◌, ◌||◌, Bool, true, false, not, List, [], ◌∷◌, ◌++◌, map, Option, Some, None, is_some, option_map, refl, sym, ap, ◌∙◌, cond}
+use Rattle.std.specs.Prelude.{bytes_eq, find, if◌then◌else◌, unwrap_or}
 use Rattle.std.specs.List.{fold, list_any}
-use Rattle.std.proofs.lemmas.Bool.{false_from_ne_true, or_parts}
+use Rattle.std.proofs.lemmas.Bool.{false_from_ne_true, or_parts, or_right}
 use Rattle.std.proofs.lemmas.Slice.Eq.{bytes_eq-Decides}
 use Rattle.clap.specs.Faults.{built_fault, check_fault, defaults_fault, entered_fault, fault_of, settle_fault, walk_fault}
 use Rattle.clap.specs.Kinds.{Kinds, or_else}
 use Rattle.clap.specs.Simple.{App, entered, matches_of, names_of}
 use Rattle.clap.specs.Takes.{is_given}
-use Rattle.clap.specs.Walk.{Held, Row, Rule, all_of, at_row, finished, has_row, rows_after, nothing_held, settled, stronger, walk, walk_from, with_default, with_values, without}
+use Rattle.clap.specs.Walk.{Held, Row, all_of, finished, has_row, rows_after, nothing_held, settled, stronger, walk, walk_from, with_default, with_values, without}
 use Rattle.clap.specs.declared.builder.value_parser.Reading.{Reading}
 use Rattle.clap.specs.declared.parser.matches.ValueSource.{ValueSource}
-use Rattle.cmd_words.specs.Arguments.{Word, has_name}
+use Rattle.cmd_words.specs.Arguments.{Word}
 use Rattle.cmd_words.specs.Parses.{files_id, app_with}
-use Rattle.cmd_words.proofs.AppLemmas.{app_built, files_built, option_built, rules_with, shape_with, same_name}
+use Rattle.cmd_words.proofs.TestLemmas.{same_either}
+use Rattle.cmd_words.proofs.AppLemmas.{app_built, option_built, rules_with, shape_with}
 use Rattle.cmd_words.proofs.WalkLemmas.{fine, gate, outcome}
 
 -- ---- after the walk
 
 defaults_kept : (names : List Word) (rows : List Row) → fold with_default rows (map option_built names) ≡ rows
 defaults_kept [] rows = refl
-defaults_kept (name ∷ names) rows = ap (λ (rows : List Row). fold with_default rows (map option_built names)) (same (has_row name rows)) ∙ defaults_kept names rows
-  where
-    same : (b : Bool) → (if b then rows else rows) ≡ rows
-    same true = refl
-    same false = refl
-
-pub same_or : {X : Type 0} (b : Bool) (x : X) → (if b then x else x) ≡ x
-same_or true x = refl
-same_or false x = refl
+defaults_kept (name ∷ names) rows = ap (λ (rows : List Row). fold with_default rows (map option_built names)) (same_either (has_row name rows) rows) ∙ defaults_kept names rows
 
 finished_is : (names : List Word) (held : Held) → finished (rules_with names) held ≡ (settled (rules_with names) held).rows
 finished_is names held =
-    ap (λ (rows : List Row). fold with_default rows (map option_built names)) (same_or (has_row files_id (settled (rules_with names) held).rows) _)
+    ap (λ (rows : List Row). fold with_default rows (map option_built names)) (same_either (has_row files_id (settled (rules_with names) held).rows) _)
     ∙ defaults_kept names (settled (rules_with names) held).rows
-
-none_missing : (b : Bool) → (b || true) ≡ true
-none_missing true = refl
-none_missing false = refl
 
 options_fault : (names : List Word) (rows : List Row) → defaults_fault rows (map option_built names) ≡ []
 unfolding defaults_fault
 options_fault [] rows = refl
 options_fault (name ∷ names) rows =
-    rw (none_missing (has_row name rows)) (ap (λ (rows : List Row). defaults_fault rows (map option_built names)) (same_or (has_row name rows) rows) ∙ options_fault names rows)
+    rw (or_right (has_row name rows) true refl) (ap (λ (rows : List Row). defaults_fault rows (map option_built names)) (same_either (has_row name rows) rows) ∙ options_fault names rows)
 
 no_defaults : (names : List Word) (rows : List Row) → defaults_fault rows (rules_with names) ≡ []
 unfolding defaults_fault
 no_defaults names rows =
-    rw (none_missing (has_row files_id rows)) (ap (λ (rows : List Row). defaults_fault rows (map option_built names)) (same_or (has_row files_id rows) rows) ∙ options_fault names rows)
+    rw (or_right (has_row files_id rows) true refl) (ap (λ (rows : List Row). defaults_fault rows (map option_built names)) (same_either (has_row files_id rows) rows) ∙ options_fault names rows)
 
 none_required : (names : List Word) (rows : List Row) → list_any (λ rule. rule.required && not (is_given rule.id rows)) (map option_built names) ≡ false
 none_required [] rows = refl
@@ -119,10 +108,10 @@ row_values id m how source values (row ∷ rows) = here (bytes_eq row.id id) ref
         ≡ (if bytes_eq id m then Some (unwrap_or (all_of id rows) [] ++ values) else option_map (λ (row : Row). row.values) (cond same (Some row) (find (λ (row : Row). bytes_eq row.id m) rows)))
     other true here apart rest =
         let no : bytes_eq id m ≡ false = false_from_ne_true (bytes_eq id m) (λ same.
-            let is : id ≡ m = (bytes_eq-Decides id m).0 same in
-            let was : row.id ≡ m = (bytes_eq-Decides row.id m).0 here in
-            let bad : bytes_eq row.id id ≡ true = (bytes_eq-Decides row.id id).1 (was ∙ sym is) in
-            cc) in
+        let is : id ≡ m = (bytes_eq-Decides id m).0 same in
+        let was : row.id ≡ m = (bytes_eq-Decides row.id m).0 here in
+        let bad : bytes_eq row.id id ≡ true = (bytes_eq-Decides row.id id).1 (was ∙ sym is) in
+        cc) in
         rw (no) refl
     other false here apart rest = rest
 

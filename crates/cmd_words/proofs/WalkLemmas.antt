@@ -1,12 +1,12 @@
 -- What the parse of `clap` makes of words: the uses that they give, one after another.
-use Rattle.std.proofs.Common.{◌≡◌, ◌<◌, ◌==◌, ◌&&◌, ◌||◌, ℕ, Bool, true, false, not, List, [], ◌∷◌, ◌++◌, map, length, Option, Some, None, option_map, refl, sym, ap, ◌∙◌, rules, codes}
+use Rattle.std.proofs.Common.{◌≡◌, ◌==◌, ◌&&◌, Bool, true, false, not, List, [], ◌∷◌, map, Option, Some, None, option_map, refl, ap, ◌∙◌}
+use Rattle.std.proofs.lemmas.Bool.{and_right}
 use Rattle.std.specs.Prelude.{bytes_eq, if◌then◌else◌, option_and_then}
 use Rattle.std.specs.List.{cons_option, fold}
-use Rattle.std.specs.Option.{option_map_or}
 use Rattle.clap.specs.Faults.{settle_fault, turn_fault, use_fault, walk_fault}
 use Rattle.clap.specs.Kinds.{Kinds, or_else}
 use Rattle.clap.specs.Lexer.{long_of, name_and_value, short_of}
-use Rattle.clap.specs.Walk.{is_pending, nothing_held, walk_from, Held, Row, Rule, Waiting, idle, positional, option as waiting, Walk, has_row, plain_word, settled, walked, with_values, without, value}
+use Rattle.clap.specs.Walk.{is_pending, nothing_held, walk_from, Held, Row, Rule, Waiting, idle, positional, option as waiting, Walk, has_row, settled, walked, with_values, without}
 use Rattle.clap.specs.declared.builder.value_parser.Reading.TheVariants.{AsWritten}
 use Rattle.clap.specs.declared.error.kind.ErrorKind.{ErrorKind}
 use Rattle.clap.specs.declared.parser.matches.ValueSource.TheVariants.{CommandLine}
@@ -148,10 +148,6 @@ or_nothing : (kinds : Kinds) → or_else kinds [] ≡ kinds
 or_nothing [] = refl
 or_nothing (kind ∷ kinds) = refl
 
-no_and : (b : Bool) → (b && false) ≡ false
-no_and true = refl
-no_and false = refl
-
 module _ (names : List Word) (lacks : has_name names files_id ≡ false) where
   last_settles : (last : Option Use) → IsKnown names last → (rows : List Row)
       → fine (settle_fault (rules_with names) false (held_at rows (pending_of last))) ≡ last_fine last rows
@@ -174,13 +170,13 @@ module _ (names : List Word) (lacks : has_name names files_id ≡ false) where
 
   trailing_turn : (rows : List Row) (pending : Option (Word × List Word)) (w : Waiting) (word : Word)
       → fine (turn_fault (shape_with names) [] (trailing rows pending w) word) ≡ fine (settle_fault (rules_with names) false (held_at rows pending))
-  trailing_turn rows pending w word = rw (no_and (is_pending files_built pending)) refl
+  trailing_turn rows pending w word = rw (and_right (is_pending files_built pending) false refl) refl
 
   trailing_walked : (rows : List Row) (pending : Option (Word × List Word)) (w : Waiting) (word : Word)
       → walked (rules_with names) [] (trailing rows pending w) word
       ≡ trailing (settled (rules_with names) (held_at rows pending)).rows (Some (files_id, word ∷ [])) positional
   unfolding walked
-  trailing_walked rows pending w word = rw (no_and (is_pending files_built pending)) refl
+  trailing_walked rows pending w word = rw (and_right (is_pending files_built pending) false refl) refl
 
   -- ---- the turns of a word before `--`
 
@@ -201,7 +197,7 @@ module _ (names : List Word) (lacks : has_name names files_id ≡ false) where
       → fine (turn_fault (shape_with names) [] (resting rows last) word) ≡ fine (settle_fault (rules_with names) false (held_at rows (pending_of last)))
   word_turn rows None word e long short = rw (e, long, short) refl
   word_turn rows (Some (argument before)) word e long short = rw (e, long, short) refl
-  word_turn rows (Some (option name before)) word e long short = rw (e, long, short, no_and (bytes_eq name files_id)) refl
+  word_turn rows (Some (option name before)) word e long short = rw (e, long, short, and_right (bytes_eq name files_id) false refl) refl
 
   word_walked : (rows : List Row) (last : Option Use) (word : Word) → bytes_eq word dashes ≡ false → long_of word ≡ None → short_of word ≡ None
       → walked (rules_with names) [] (resting rows last) word
@@ -209,7 +205,7 @@ module _ (names : List Word) (lacks : has_name names files_id ≡ false) where
   unfolding walked
   word_walked rows None word e long short = rw (e, long, short) refl
   word_walked rows (Some (argument before)) word e long short = rw (e, long, short) refl
-  word_walked rows (Some (option name before)) word e long short = rw (e, long, short, no_and (bytes_eq name files_id)) refl
+  word_walked rows (Some (option name before)) word e long short = rw (e, long, short, and_right (bytes_eq name files_id) false refl) refl
 
   -- a name that the command doesn't have
   unknown_turn : (rows : List Row) (last : Option Use) (word name : Word) (given : Option Word) → bytes_eq word dashes ≡ false

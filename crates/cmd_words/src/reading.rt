@@ -1,14 +1,13 @@
 //! The reader of words: the first word picks the command, and the others are parsed by its options.
 
-ghost use Rattle.std.specs.Prelude.{◌≡◌, false, map, option_map, codes, MatchResult, IfOk};
+ghost use Rattle.std.specs.Prelude.{◌≡◌, false, map, option_map, MatchResult, IfOk};
 ghost use Rattle.std.specs.String.{string_bytes};
 ghost use Rattle.cmd_words.specs.declared.command.Command.TheVariants as command;
-ghost use Rattle.cmd_words.specs.declared.command.WordNo.{WordNo as Refusal};
 ghost use Rattle.cmd_words.specs.declared.command.WordNo.TheVariants.{Memory as NoMemory};
 ghost use Rattle.cmd_words.specs.Arguments.{has_name};
 ghost use Rattle.cmd_words.specs.Asked.{Answers, asked, asked_by, says, of_two_files, of_one_file, run_by};
 ghost use Rattle.cmd_words.specs.Forms.{HasForm, HasNoForm, IsInRange};
-ghost use Rattle.cmd_words.specs.Parses.{files_id, texts_in, arguments_found, value_found};
+ghost use Rattle.cmd_words.specs.Parses.{files_id, texts_in, value_found};
 ghost use Rattle.cmd_words.specs.Settings.{run_options, refer_options, order_options, show_options};
 
 use crate::command::{Command, RunWords, WordNo};
@@ -19,7 +18,7 @@ use clap::ArgMatches;
 use seen_list::Text;
 use std::alloc::Global;
 
-/// The command that the words ask for. The refusal for want of memory is free.
+/// The command that the words ask for. When memory runs out is not said.
 #[tactic(auto, using(crate::proofs::FormLemmas::read_by_form, crate::proofs::RangeLemmas::read_in_range))]
 pub fn read_words(alloc: Global, words: &[String]) -> Result<Command, WordNo>
     // A command exactly where the words are of its form, and no command exactly where they are of none.
@@ -107,11 +106,7 @@ fn simulation<'a>(
 }
 
 /// One file, the netlist's.
-fn netlist<'a>(
-    alloc: Global,
-    words: &'a [String],
-    options: &'a [&'a str],
-) -> Result<Text, WordNo>
+fn netlist<'a>(alloc: Global, words: &'a [String], options: &'a [&'a str]) -> Result<Text, WordNo>
     requires { has_name (texts_in options.now) files_id ≡ false }
     ensures { Answers result (says (texts_in options.entry.now) of_one_file (map string_bytes words.entry.now)) }
 {

@@ -1,0 +1,173 @@
+//! A table of words, and what is read of each.
+
+use crate::{Command, RunWords, WordNo, read_words};
+use net_defs::{Init, Mode};
+use seen_list::Text;
+use std::alloc::{AllocError, Global};
+use std::test::Fail;
+
+const CASES: &[(&str, &str)] = &[
+    ("", "usage"),
+    ("run", "usage"),
+    ("run c17.bench", "usage"),
+    ("run a b", "run a b rank 1 x banks 1"),
+    ("run a b c", "usage"),
+    ("Run a b", "usage"),
+    ("'' a b", "usage"),
+    ("--help", "usage"),
+    ("-h", "usage"),
+    ("run --help", "usage"),
+    ("run a b -h", "usage"),
+    // An option before, between and behind the files, as two words and as one.
+    ("run --machine m a b", "run a b rank 1 x banks 1 machine m"),
+    ("run a --machine=m b", "run a b rank 1 x banks 1 machine m"),
+    (
+        "run a b --init 0 --machine m",
+        "run a b rank 1 0 banks 1 machine m",
+    ),
+    (
+        "refer --mode=unit a --units=4096 b --init=x",
+        "refer a b unit 4096 x banks 1",
+    ),
+    (
+        "order a b --banks=8 --order o --machine m",
+        "order a b rank 1 x banks 8 machine m order o",
+    ),
+    ("show a", "show a"),
+    // Options that the command does not have, and names that are shortened or of another case.
+    ("refer a b --machine m", "usage"),
+    ("run a b --order o", "usage"),
+    ("run a b --banks 2", "usage"),
+    ("show a --mode rank", "usage"),
+    ("show a b", "usage"),
+    ("run a b --mac m", "usage"),
+    ("run a b --Machine m", "usage"),
+    ("run a b ---machine m", "usage"),
+    ("run a b -machine m", "usage"),
+    ("run a b --=m", "usage"),
+    // An option twice, without its value, and with an empty one.
+    ("run a b --machine m --machine m", "usage"),
+    ("run a b --machine m --machine=n", "usage"),
+    ("run a b --machine", "usage"),
+    ("run a b --machine --init 0", "usage"),
+    ("run a b --machine=", "usage"),
+    ("run a b --machine ''", "usage"),
+    // A value that begins with `-`, and one with an `=` in it.
+    ("run a b --machine -m", "usage"),
+    ("run a b --machine -", "usage"),
+    (
+        "run a b --machine=-m",
+        "run a b rank 1 x banks 1 machine -m",
+    ),
+    (
+        "run a b --machine=--",
+        "run a b rank 1 x banks 1 machine --",
+    ),
+    (
+        "run a b --machine=m=n",
+        "run a b rank 1 x banks 1 machine m=n",
+    ),
+    // `--`, of which the second is a file.
+    ("run a b --", "run a b rank 1 x banks 1"),
+    ("run -- a b", "run a b rank 1 x banks 1"),
+    ("run a -- --machine", "run a --machine rank 1 x banks 1"),
+    ("run -- -- -", "run -- - rank 1 x banks 1"),
+    ("run a -- b --init", "usage"),
+    ("run a b --machine -- m", "usage"),
+    ("run a b --machine --", "usage"),
+    // Empty files, and a lone `-`.
+    ("run a ''", "usage"),
+    ("run a -- ''", "usage"),
+    ("run a -", "usage"),
+    ("show ''", "usage"),
+    // Values of the other options.
+    ("run a b --units 1", "run a b rank 1 x banks 1"),
+    ("run a b --units 2", "usage"),
+    ("run a b --units 2 --mode rank", "usage"),
+    ("run a b --units 2 --mode unit", "run a b unit 2 x banks 1"),
+    (
+        "run a b --mode unit --units 0000000007",
+        "run a b unit 7 x banks 1",
+    ),
+    ("run a b --mode unit --units 00000000007", "usage"),
+    ("run a b --mode unit --units 0", "usage"),
+    ("run a b --mode unit --units 4097", "usage"),
+    ("run a b --mode unit --units +7", "usage"),
+    ("run a b --mode Unit", "usage"),
+    ("run a b --init 1", "usage"),
+    ("order a b --banks 0", "usage"),
+    ("order a b --banks 9", "usage"),
+    ("order a b --banks", "usage"),
+];
+
+/// The words of a line; `''` is the empty word.
+fn words_of(alloc: Global, line: &str) -> Result<Vec<String>, AllocError> {
+    let mut words = Vec::new(alloc);
+    for word in line.split(' ') {
+        if word == "''" {
+            words.push(String::new(alloc))?;
+        } else if !word.is_empty() {
+            words.push(String::from_str(alloc, word)?)?;
+        }
+    }
+    Ok(words)
+}
+
+/// A simulation, as the table writes it.
+fn told_run(alloc: Global, command: &str, words: &RunWords) -> Result<String, Fail> {
+    let mode = match words.timing.mode {
+        Mode::Rank => "rank",
+        Mode::Unit => "unit",
+    };
+    let init = match words.timing.init {
+        Init::Undef => "x",
+        Init::Zero => "0",
+    };
+    let mut told = format!(in alloc;
+        "{command} {} {}",
+        name_of(&words.netlist),
+        name_of(&words.stimulus)
+    )?;
+    told.push_str(&format!(in alloc;
+        " {mode} {} {init} banks {}",
+        words.timing.units, words.banks
+    )?)?;
+    if let Some(machine) = &words.machine {
+        told.push_str(&format!(in alloc; " machine {}", name_of(machine))?)?;
+    }
+    if let Some(order) = &words.order {
+        told.push_str(&format!(in alloc; " order {}", name_of(order))?)?;
+    }
+    Ok(told)
+}
+
+fn name_of(text: &Text) -> &str {
+    match std::str::from_utf8(text.as_bytes()) {
+        Ok(name) => name,
+        Err(_) => "?",
+    }
+}
+
+/// What was read, as the table writes it.
+fn told(alloc: Global, answer: &Result<Command, WordNo>) -> Result<String, Fail> {
+    match answer {
+        Ok(Command::Run(words)) => told_run(alloc, "run", words),
+        Ok(Command::Refer(words)) => told_run(alloc, "refer", words),
+        Ok(Command::Order(words)) => told_run(alloc, "order", words),
+        Ok(Command::Show { netlist }) => Ok(format!(in alloc; "show {}", name_of(netlist))?),
+        Err(WordNo::Usage) => Ok(String::from_str(alloc, "usage")?),
+        Err(WordNo::Memory) => Ok(String::from_str(alloc, "memory")?),
+    }
+}
+
+/// Each line of the table is read as it says, where there is enough memory.
+#[test]
+fn reads_words(rt: HostRuntime) -> Result<(), Fail> {
+    let alloc = rt.alloc();
+    for (line, want) in CASES {
+        let words = words_of(alloc, line)?;
+        let told = told(alloc, &read_words(alloc, words.as_slice()))?;
+        assert_eq!(rt; told.as_bytes(), want.as_bytes());
+    }
+    Ok(())
+}
