@@ -3,6 +3,7 @@ mod ChainLemmas
 mod CheckLemmas
 mod CommandLemmas
 mod EndLemmas
+mod EndedLemmas
 mod EndingLemmas
 mod OrderLemmas
 mod OutcomeLemmas

@@ -18,8 +18,11 @@ use Rattle.image_defs.specs.WellFormed.{IsWellFormed}
 use Rattle.node_defs.proofs.MemberLemmas.{member_at}
 use Rattle.event_defs.specs.declared.place.CoreStep.{CoreStep}
 use Rattle.event_defs.specs.declared.place.CoreStep.TheVariants.{Moved, NotYet, Done}
-use Rattle.event_defs.specs.Steps.{CoreState, AreSteps, IsStep, AllDone}
-use Rattle.event_core.specs.Core.{CoreView, IsSameCore, IsSoundCore, Applies, AreDone, state_of, turns_of, rows_of}
+use Rattle.event_defs.specs.Sound.{IsSound}
+use Rattle.event_defs.specs.Steps.{CoreState, AreSteps, AreFirstSteps, IsStep, AllDone, first_state, rows_done}
+use Rattle.event_core.specs.Core.{CoreView, IsStart, IsSameCore, IsSoundCore, Applies, AreDone, state_of, turns_of, rows_of}
+use Rattle.net_defs.specs.declared.trace.CellRow.{CellRow}
+use Rattle.yse_top.specs.Images.{AreShown}
 use Rattle.yse_top.specs.Stepped.{HasStepped}
 
 -- ---- steps of states
@@ -153,28 +156,82 @@ stepped_rest a b lines l there first done =
       steps = rests b.image b.stimulus b.banks (turns_of b) (flat_map line_steps (drop l lines)) (state_of b) done left_there;
     }
 
+-- ---- what a core that has stepped is of
+
+-- a port of the core is one after its steps
+pub stepped_there : (a b : CoreView) (order : List ℕ) (p : ℕ) → HasStepped a b order → p < length a.image.ports → p < length b.image.ports
+stepped_there a b order p stepped there = subst (λ (v : CoreView). p < length v.image.ports) (sym stepped.same) there
+
+module _ (image : Image) (stimulus : Stimulus) (banks : ℕ) (first last : CoreView) (start : IsStart image stimulus banks first) (same : IsSameCore first last) where
+  pub same_image : last.image ≡ image
+  same_image = ap (λ (v : CoreView). v.image) same ∙ start.image_is
+
+  pub same_stimulus : last.stimulus ≡ stimulus
+  same_stimulus = ap (λ (v : CoreView). v.stimulus) same ∙ start.stimulus_is
+
+  same_banks : last.banks ≡ banks
+  same_banks = ap (λ (v : CoreView). v.banks) same ∙ start.banks_are
+
+  -- its turns are those of the image and the stimulus
+  pub same_turns : turns_of last ≡ image.units * cycle_count stimulus
+  same_turns = ap (λ (i : Image). i.units * cycle_count last.stimulus) same_image ∙ ap (λ s. image.units * cycle_count s) same_stimulus
+
+  pub same_sound : IsSoundCore last → IsSound image stimulus banks (image.units * cycle_count stimulus) (state_of last)
+  same_sound sound =
+      subst (λ i. IsSound i stimulus banks (image.units * cycle_count stimulus) (state_of last)) same_image
+      (subst (λ s. IsSound last.image s banks (image.units * cycle_count stimulus) (state_of last)) same_stimulus
+      (subst (λ b. IsSound last.image last.stimulus b (image.units * cycle_count stimulus) (state_of last)) same_banks
+      (subst (λ t. IsSound last.image last.stimulus last.banks t (state_of last)) same_turns sound)))
+
+  pub same_done : AreDone last → AllDone image (image.units * cycle_count stimulus) (state_of last)
+  same_done done =
+      subst (λ i. AllDone i (image.units * cycle_count stimulus) (state_of last)) same_image
+      (subst (λ t. AllDone last.image t (state_of last)) same_turns done)
+
+  pub done_same : AllDone image (image.units * cycle_count stimulus) (state_of last) → AreDone last
+  done_same done =
+      subst (λ t. AllDone last.image t (state_of last)) (sym same_turns)
+      (subst (λ i. AllDone i (image.units * cycle_count stimulus) (state_of last)) (sym same_image) done)
+
+  pub same_shown : (rows : List CellRow) → AreShown last.image last.stimulus (rows_of last) rows → AreShown image stimulus (rows_done image (state_of last)) rows
+  same_shown rows are =
+      subst (λ i. AreShown i stimulus (rows_done i (state_of last)) rows) same_image
+      (subst (λ s. AreShown last.image s (rows_done last.image (state_of last)) rows) same_stimulus are)
+
+-- the steps of a core from its start are the first steps of its image
+pub first_steps : (image : Image) (stimulus : Stimulus) (banks : ℕ) (first last : CoreView) (order : List ℕ) → IsStart image stimulus banks first → (stepped : HasStepped first last order) → AreFirstSteps image stimulus banks (image.units * cycle_count stimulus) order stepped.answers (state_of last)
+first_steps image stimulus banks first last order start stepped =
+    subst (λ i. AreSteps i stimulus banks (image.units * cycle_count stimulus) order (first_state (length image.ports)) stepped.answers (state_of last)) start.image_is
+    (subst (λ s. AreSteps first.image s banks (image.units * cycle_count stimulus) order (first_state (length image.ports)) stepped.answers (state_of last)) start.stimulus_is
+    (subst (λ b. AreSteps first.image first.stimulus b (image.units * cycle_count stimulus) order (first_state (length image.ports)) stepped.answers (state_of last)) start.banks_are
+    (subst (λ t. AreSteps first.image first.stimulus first.banks t order (first_state (length image.ports)) stepped.answers (state_of last)) (same_turns image stimulus banks first first start refl)
+    (subst (λ s. AreSteps first.image first.stimulus first.banks (turns_of first) order s stepped.answers (state_of last)) start.state stepped.steps))))
+
 -- ---- rows
 
-module _ (view : CoreView) (fits : IsWellFormed view.image) (sound : IsSoundCore view) where
-  host : (port : PortImage) × (slice_get view.image.ports (host_of view.image) ≡ Some port)
-  host = member_at view.image.ports (host_of view.image) (omega (arith, fits.some_ports))
+module _ (image : Image) (stimulus : Stimulus) (banks : ℕ) (state : CoreState) (fits : IsWellFormed image) (sound : IsSound image stimulus banks (image.units * cycle_count stimulus) state) where
+  host : (port : PortImage) × (slice_get image.ports (host_of image) ≡ Some port)
+  host = member_at image.ports (host_of image) (omega (arith, fits.some_ports))
 
   -- what the host has finished
-  told : ℕ
-  told = (state_of view).finished (host_of view.image)
-
-  told_turn : told + 1 ≡ ((state_of view).place (host_of view.image)).turn
-  told_turn = sound.finished (host_of view.image) (omega (arith, fits.some_ports))
+  told_turn : state.finished (host_of image) + 1 ≡ (state.place (host_of image)).turn
+  told_turn = sound.finished (host_of image) (omega (arith, fits.some_ports))
 
   -- no more rows are done than there are cycles
-  pub few_rows : rows_of view ≤ cycle_count view.stimulus
+  pub few_rows : rows_done image state ≤ cycle_count stimulus
   few_rows =
-      let ends = (sound.paced.places (host_of view.image) host.0 host.1).ends in
-      div-le_of_le-mul view.image.units (omega (arith, told_turn, ends))
+      let ends = (sound.paced.places (host_of image) host.0 host.1).ends in
+      div-le_of_le-mul image.units (least (state.finished (host_of image)) (state.place (host_of image)).turn (image.units * cycle_count stimulus) told_turn ends)
+    where
+      least : (told turn until : ℕ) → told + 1 ≡ turn → turn ≤ until + 1 → told ≤ until
+      least told turn until is low = omega (arith, is, low)
 
   -- once all ports are done all rows are
-  pub all_rows : AreDone view → rows_of view ≡ cycle_count view.stimulus
+  pub all_rows : AllDone image (image.units * cycle_count stimulus) state → rows_done image state ≡ cycle_count stimulus
   all_rows done =
-      let turn = done.each (host_of view.image) host.0 host.1 in
-      let all : told ≡ view.image.units * cycle_count view.stimulus = omega (arith, told_turn, turn) in
-      ap (λ n. n / view.image.units) all ∙ mul-div_cancel_left (cycle_count view.stimulus) (omega (arith, fits.units.0))
+      let turn = done.each (host_of image) host.0 host.1 in
+      let all : state.finished (host_of image) ≡ image.units * cycle_count stimulus = last (state.finished (host_of image)) (state.place (host_of image)).turn (image.units * cycle_count stimulus) told_turn turn in
+      ap (λ n. n / image.units) all ∙ mul-div_cancel_left (cycle_count stimulus) (omega (arith, fits.units.0))
+    where
+      last : (told turn until : ℕ) → told + 1 ≡ turn → turn ≡ until + 1 → told ≡ until
+      last told turn until is at = omega (arith, is, at)

@@ -19,6 +19,7 @@ use crate::checks::Built;
 use crate::output::{Ending, Output, Trace};
 use cmd_words::RunWords;
 use event_core::{Core, CoreStep};
+use event_defs::law::steps_are_sound;
 use machine_text::Machine;
 use net_defs::{CellRow, Rows, Stimulus};
 use seen_list::{List, Memory};
@@ -72,6 +73,7 @@ pub fn by_order(
     let line = TraceLine::new(alloc, &net)?;
     let mut core = Core::new(alloc, &image, stimulus, words.banks)?;
     step_lines(&mut core, order.lines.as_slice());
+    steps_are_sound();
     let rows = rows_of(alloc, &core)?;
     let trace = Trace { net, rows, line };
     if core.all_done() {

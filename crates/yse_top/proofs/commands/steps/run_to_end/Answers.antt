@@ -3,6 +3,6 @@ use Rattle.yse_top.proofs.commands.steps.run_to_end.Goals as goal
 
 pub rounds-preserved : goal.rounds-preserved
 rounds-preserved c = record {
-  same = same_then _ _ _ c.rounds.invariant.same c.run_round.ensures.round.same;
+  same = same_then c.args.core.now c.rounds.core c.run_round.new.self c.rounds.invariant.same c.run_round.ensures.round.same;
   sound = c.run_round.ensures.sound;
 }
