@@ -3,6 +3,7 @@
 ghost use Rattle.net_defs.specs.Valid.{IsValid};
 
 mod machines;
+mod orders;
 
 use crate::checks::{netlist_of, stimulus_of};
 use crate::{Status, yse};
@@ -39,7 +40,7 @@ const REGISTER: &[u8] = b"INPUT(a)\nOUTPUT(q)\nq = DFF(a)\n";
 const USAGE: &[u8] =
     b"usage: yse (run/refer/order) NETLIST STIMULUS [options], yse plan NETLIST [options], yse show NETLIST, yse large GATES CYCLES [options]\n";
 
-const BOTH: &str = "run refer";
+const ALL: &str = "run refer order";
 
 const FILES: &str = "net.bench net.stim";
 
@@ -61,7 +62,7 @@ struct Case {
 const CASES: &[Case] = &[
     // C17, in rank order.
     Case {
-        commands: BOTH,
+        commands: ALL,
         words: FILES,
         netlist: C17,
         stimulus: b"11111\n00000\nxxxxx\n",
@@ -71,7 +72,7 @@ const CASES: &[Case] = &[
         line: b"",
     },
     Case {
-        commands: BOTH,
+        commands: ALL,
         words: FILES,
         netlist: C17,
         stimulus: b"",
@@ -82,7 +83,7 @@ const CASES: &[Case] = &[
     },
     // C17 in three units, with a repeat.
     Case {
-        commands: BOTH,
+        commands: ALL,
         words: "net.bench net.stim --mode unit --units 3",
         netlist: C17,
         stimulus: b"11111 * 2\n",
@@ -92,7 +93,7 @@ const CASES: &[Case] = &[
         line: b"",
     },
     Case {
-        commands: BOTH,
+        commands: ALL,
         words: FILES,
         netlist: C17,
         stimulus: b"1111\n",
@@ -102,7 +103,7 @@ const CASES: &[Case] = &[
         line: b"stimulus: line 1: 4 values, 5 wanted\n",
     },
     Case {
-        commands: BOTH,
+        commands: ALL,
         words: FILES,
         netlist: C17,
         stimulus: b"11112\n",
@@ -112,7 +113,7 @@ const CASES: &[Case] = &[
         line: b"stimulus: line 1: bad character\n",
     },
     Case {
-        commands: BOTH,
+        commands: ALL,
         words: FILES,
         netlist: C17,
         stimulus: b"11111 * 0\n",
@@ -122,7 +123,7 @@ const CASES: &[Case] = &[
         line: b"stimulus: line 1: bad repeat\n",
     },
     Case {
-        commands: BOTH,
+        commands: ALL,
         words: FILES,
         netlist: C17,
         stimulus: b"11111 * 1000000\n00000\n",
@@ -133,7 +134,7 @@ const CASES: &[Case] = &[
     },
     // S27, with the initial values 0 and x.
     Case {
-        commands: BOTH,
+        commands: ALL,
         words: "net.bench net.stim --init 0",
         netlist: S27,
         stimulus: b"0000 * 3\n",
@@ -143,7 +144,7 @@ const CASES: &[Case] = &[
         line: b"",
     },
     Case {
-        commands: BOTH,
+        commands: ALL,
         words: "net.bench net.stim --init 0",
         netlist: S27,
         stimulus: b"0000\n0001\n0000\n1000\n0001\n",
@@ -153,7 +154,7 @@ const CASES: &[Case] = &[
         line: b"",
     },
     Case {
-        commands: BOTH,
+        commands: ALL,
         words: FILES,
         netlist: S27,
         stimulus: b"0000\n0001\n0000\n1000\n0001\n",
@@ -164,7 +165,7 @@ const CASES: &[Case] = &[
     },
     // The latch: a loop in rank order, and none in unit delay.
     Case {
-        commands: BOTH,
+        commands: ALL,
         words: FILES,
         netlist: LATCH,
         stimulus: b"01\n11\n10\n",
@@ -174,7 +175,7 @@ const CASES: &[Case] = &[
         line: b"loop: q p\n",
     },
     Case {
-        commands: BOTH,
+        commands: ALL,
         words: "net.bench net.stim --mode unit --units 4",
         netlist: LATCH,
         stimulus: b"01\n11\n10\n",
@@ -185,7 +186,7 @@ const CASES: &[Case] = &[
     },
     // A gate of 17 operands is one unit.
     Case {
-        commands: BOTH,
+        commands: ALL,
         words: "net.bench net.stim --mode unit --units 2",
         netlist: WIDE,
         stimulus: b"11111111111111111\n11111111111111110\n",
@@ -196,7 +197,7 @@ const CASES: &[Case] = &[
     },
     // A buffer in unit delay.
     Case {
-        commands: BOTH,
+        commands: ALL,
         words: "net.bench net.stim --mode unit",
         netlist: b"INPUT(a)\nOUTPUT(z)\nz = BUFF(a)\n",
         stimulus: b"0\n1\n1\n",
@@ -207,7 +208,7 @@ const CASES: &[Case] = &[
     },
     // A bus of two tri-state drivers.
     Case {
-        commands: BOTH,
+        commands: ALL,
         words: FILES,
         netlist: SHARE,
         stimulus: b"0100\n1100\n1110\n1111\n1z00\n",
@@ -218,7 +219,7 @@ const CASES: &[Case] = &[
     },
     // A memory: the read before the write.
     Case {
-        commands: BOTH,
+        commands: ALL,
         words: FILES,
         netlist: RAM,
         stimulus: b"1101\n0100\n0100\n1100\n0100\n0100\n",
@@ -229,7 +230,7 @@ const CASES: &[Case] = &[
     },
     // An undefined address, and an undefined enable.
     Case {
-        commands: BOTH,
+        commands: ALL,
         words: "net.bench net.stim --init 0",
         netlist: RAM,
         stimulus: b"0000\n1x01\n0000\n0000\n",
@@ -239,7 +240,7 @@ const CASES: &[Case] = &[
         line: b"",
     },
     Case {
-        commands: BOTH,
+        commands: ALL,
         words: "net.bench net.stim --init 0",
         netlist: RAM,
         stimulus: b"0000\n0x01\n0000\n0000\n",
@@ -250,7 +251,7 @@ const CASES: &[Case] = &[
     },
     // A netlist of no bytes.
     Case {
-        commands: BOTH,
+        commands: ALL,
         words: FILES,
         netlist: b"",
         stimulus: b"- * 2\n",
@@ -261,7 +262,7 @@ const CASES: &[Case] = &[
     },
     // An input printed twice.
     Case {
-        commands: BOTH,
+        commands: ALL,
         words: FILES,
         netlist: b"INPUT(a)\nOUTPUT(a)\nOUTPUT(a)\n",
         stimulus: b"1\nz\n",
@@ -272,7 +273,7 @@ const CASES: &[Case] = &[
     },
     // Line ends of two bytes, and any byte in a comment.
     Case {
-        commands: BOTH,
+        commands: ALL,
         words: FILES,
         netlist: CRLF,
         stimulus: b"0\n",
@@ -283,7 +284,7 @@ const CASES: &[Case] = &[
     },
     // A register that breaks a loop.
     Case {
-        commands: BOTH,
+        commands: ALL,
         words: "net.bench net.stim --init 0",
         netlist: b"OUTPUT(q)\nn = NOT(q)\nq = DFF(n)\n",
         stimulus: b"- * 4\n",
@@ -294,7 +295,7 @@ const CASES: &[Case] = &[
     },
     // A register: undefined at first, and after high impedance.
     Case {
-        commands: BOTH,
+        commands: ALL,
         words: FILES,
         netlist: REGISTER,
         stimulus: b"1\n0\nz\n0\n",
@@ -304,7 +305,7 @@ const CASES: &[Case] = &[
         line: b"",
     },
     Case {
-        commands: BOTH,
+        commands: ALL,
         words: "net.bench net.stim --mode unit --units 3 --init 0",
         netlist: REGISTER,
         stimulus: b"1\n0\n",
@@ -417,7 +418,7 @@ const CASES: &[Case] = &[
     },
     // Calls of the sink and of the store that fail, and a file that isn't there.
     Case {
-        commands: BOTH,
+        commands: ALL,
         words: FILES,
         netlist: C17,
         stimulus: b"11111\n00000\nxxxxx\n",
@@ -427,7 +428,7 @@ const CASES: &[Case] = &[
         line: b"write fault\n",
     },
     Case {
-        commands: BOTH,
+        commands: ALL,
         words: FILES,
         netlist: C17,
         stimulus: b"",
@@ -437,7 +438,7 @@ const CASES: &[Case] = &[
         line: b"read fault: net.bench\n",
     },
     Case {
-        commands: BOTH,
+        commands: ALL,
         words: "net.bench other",
         netlist: C17,
         stimulus: b"",
@@ -477,105 +478,16 @@ const CASES: &[Case] = &[
         output: b"",
         line: USAGE,
     },
+    // Options before the files and behind them, and what stands behind `--`.
     Case {
-        commands: "show",
-        words: "''",
-        netlist: b"",
-        stimulus: b"",
+        commands: ALL,
+        words: "--units=3 net.bench --mode unit -- net.stim",
+        netlist: C17,
+        stimulus: b"11111 * 2\n",
         failing: (0, 0),
-        status: 2,
-        output: b"",
-        line: USAGE,
-    },
-    Case {
-        commands: "refer",
-        words: "net.bench -",
-        netlist: b"",
-        stimulus: b"",
-        failing: (0, 0),
-        status: 2,
-        output: b"",
-        line: USAGE,
-    },
-    Case {
-        commands: "run",
-        words: "net.bench net.stim --units 2",
-        netlist: b"",
-        stimulus: b"",
-        failing: (0, 0),
-        status: 2,
-        output: b"",
-        line: USAGE,
-    },
-    Case {
-        commands: "run",
-        words: "net.bench net.stim --mode unit --units 4097",
-        netlist: b"",
-        stimulus: b"",
-        failing: (0, 0),
-        status: 2,
-        output: b"",
-        line: USAGE,
-    },
-    Case {
-        commands: "run",
-        words: "net.bench net.stim --mode unit --units 00000000001",
-        netlist: b"",
-        stimulus: b"",
-        failing: (0, 0),
-        status: 2,
-        output: b"",
-        line: USAGE,
-    },
-    Case {
-        commands: "run",
-        words: "net.bench net.stim --units 1 --mode unit",
-        netlist: b"",
-        stimulus: b"",
-        failing: (0, 0),
-        status: 2,
-        output: b"",
-        line: USAGE,
-    },
-    Case {
-        commands: "run",
-        words: "net.bench net.stim --mode unit --mode unit",
-        netlist: b"",
-        stimulus: b"",
-        failing: (0, 0),
-        status: 2,
-        output: b"",
-        line: USAGE,
-    },
-    Case {
-        commands: "run",
-        words: "net.bench net.stim --init 1",
-        netlist: b"",
-        stimulus: b"",
-        failing: (0, 0),
-        status: 2,
-        output: b"",
-        line: USAGE,
-    },
-    Case {
-        commands: "run",
-        words: "net.bench net.stim --init",
-        netlist: b"",
-        stimulus: b"",
-        failing: (0, 0),
-        status: 2,
-        output: b"",
-        line: USAGE,
-    },
-    Case {
-        commands: "plan",
-        words: "net.bench",
-        netlist: b"",
-        stimulus: b"",
-        failing: (0, 0),
-        status: 2,
-        output: b"",
-        line: USAGE,
+        status: 0,
+        output: b"cycle 22 23\n1 1x\n2 10\n",
+        line: b"",
     },
 ];
 
@@ -583,13 +495,11 @@ fn cases() -> &'static [Case] {
     CASES
 }
 
-/// The words of a line; `''` is the empty word.
+/// The words of a line.
 fn words_of(alloc: Global, command: &str, line: &str) -> Result<Vec<String>, AllocError> {
     let mut words = Vec::new(alloc);
     for word in command.split(' ').chain(line.split(' ')) {
-        if word == "''" {
-            words.push(String::new(alloc))?;
-        } else if !word.is_empty() {
+        if !word.is_empty() {
             words.push(String::from_str(alloc, word)?)?;
         }
     }
