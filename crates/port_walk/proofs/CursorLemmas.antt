@@ -1,8 +1,7 @@
 -- What comes next, by how often a port has sent and received in its turn.
-use Rattle.std.proofs.Common.{◌≡◌, inl, inr, ℕ, zero, suc, ◌+◌, ◌<◌, ◌≤◌, Bool, true, false, List, [], ◌∷◌, length, take, ◌==◌, slice_get, Some, None, sym, ap, ◌∙◌, refl, arith}
+use Rattle.std.proofs.Common.{◌≡◌, inl, inr, ℕ, zero, suc, ◌+◌, ◌<◌, ◌≤◌, Bool, true, false, List, [], ◌∷◌, take, ◌==◌, slice_get, Some, None, sym, ap, ◌∙◌, refl, arith}
 use Rattle.std.proofs.lemmas.Bool.{cases_lt, eqb-true}
 use Rattle.std.proofs.lemmas.Option.{slice_get_within, slice_get_cases}
-use Rattle.list_laws.proofs.Places.{one_there, past_end}
 use Rattle.list_laws.proofs.Ranges.{last_or}
 use Rattle.image_defs.specs.declared.image.LinkIn.{LinkIn}
 use Rattle.image_defs.specs.declared.image.LinkOut.{LinkOut}
@@ -15,7 +14,7 @@ use Rattle.event_defs.proofs.SlotLemmas.{any_at, in_at, same_index, to_map}
 use Rattle.port_walk.specs.declared.stops.StopKind.{StopKind}
 use Rattle.port_walk.specs.declared.stops.StopKind.TheVariants.{Send, Receive, End}
 use Rattle.port_walk.specs.Stops.{kind_at, slot_at}
-use Rattle.port_walk.proofs.StopLemmas.{IsSend, IsReceipt, tells}
+use Rattle.port_walk.proofs.StopLemmas.{tells}
 
 -- ---- the first of a list
 
@@ -93,28 +92,34 @@ module _ (seat : PortImage) (slots sent took : ℕ) (out_up : Rises (out_slots s
   next_send is =
       let next = (tells outs ins slots sent took).send is in
       let found = at_map (λ (l : LinkOut). l.slot) seat.outs sent next.0 next.1.here in
-      let slot : found.0.slot ≡ next.0 = found.2 in
-      (found.0, record {
-        is = found.1;
-        missing = not_in_taken outs sent sent found.0.slot out_up (omega arith) (next.1.here ∙ ap Some (sym slot));
-        below = done_below found.0.slot
-            (λ s at. let e : Some next.0 ≡ Some s = sym next.1.here ∙ at in let same : next.0 ≡ s = cc in omega arith)
-            (λ t at. let first = next.1.first t at in omega arith);
-      }, slot ∙ sym next.1.slot)
+      let slot : found.0.slot ≡ next.0 = found.2 in (
+        found.0,
+        record {
+          is = found.1;
+          missing = not_in_taken outs sent sent found.0.slot out_up (omega arith) (next.1.here ∙ ap Some (sym slot));
+          below = done_below found.0.slot
+              (λ s at. let e : Some next.0 ≡ Some s = sym next.1.here ∙ at in let same : next.0 ≡ s = cc in omega arith)
+              (λ t at. let first = next.1.first t at in omega arith);
+        },
+        slot ∙ sym next.1.slot,
+      )
 
   pub next_receipt : kind_at outs ins sent took ≡ Receive → (link : LinkIn) × ReceivesNext seat puts takes took link × (link.slot ≡ slot_at outs ins slots sent took)
   next_receipt is =
       let next = (tells outs ins slots sent took).receipt is in
       let found = at_map (λ (l : LinkIn). l.slot) seat.ins took next.0 next.1.here in
-      let slot : found.0.slot ≡ next.0 = found.2 in
-      (found.0, record {
-        is = found.1;
-        missing = not_in_taken ins took took found.0.slot in_up (omega arith) (next.1.here ∙ ap Some (sym slot));
-        below = done_below found.0.slot
-            (λ s at. let first = next.1.first s at in omega arith)
-            (λ t at. let e : Some next.0 ≡ Some t = sym next.1.here ∙ at in let same : next.0 ≡ t = cc in omega arith);
-        put_there = λ i link at same. sent_below (next.0 + 1) i link (λ s there. let first = next.1.first s there in omega arith) at (omega arith);
-      }, slot ∙ sym next.1.slot)
+      let slot : found.0.slot ≡ next.0 = found.2 in (
+        found.0,
+        record {
+          is = found.1;
+          missing = not_in_taken ins took took found.0.slot in_up (omega arith) (next.1.here ∙ ap Some (sym slot));
+          below = done_below found.0.slot
+              (λ s at. let first = next.1.first s at in omega arith)
+              (λ t at. let e : Some next.0 ≡ Some t = sym next.1.here ∙ at in let same : next.0 ≡ t = cc in omega arith);
+          put_there = λ i link at same. sent_below (next.0 + 1) i link (λ s there. let first = next.1.first s there in omega arith) at (omega arith);
+        },
+        slot ∙ sym next.1.slot,
+      )
 
   pub next_end : kind_at outs ins sent took ≡ End → EndsNext seat puts takes
   next_end is =

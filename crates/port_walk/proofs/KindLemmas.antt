@@ -1,17 +1,15 @@
 -- The kinds of port before their first turn.
-use Rattle.std.proofs.Common.{◌≡◌, ◌∙◌, ℕ, ◌+◌, ◌-◌, ◌<◌, true, List, length, Some, get_or, slice_get, sym, ap, subst, refl, arith}
-use Rattle.std.proofs.lemmas.Bool.{false≢true}
+use Rattle.std.proofs.Common.{◌≡◌, ◌∙◌, ℕ, ◌+◌, ◌<◌, true, List, length, get_or, ap, refl, arith}
 use Rattle.std.proofs.lemmas.Option.{slice_get_read}
 use Rattle.net_defs.specs.declared.stimulus.Stimulus.{Stimulus}
 use Rattle.image_defs.specs.declared.image.Image.{Image}
 use Rattle.image_defs.specs.declared.image.PortImage.{PortImage}
-use Rattle.image_defs.specs.declared.image.Work.{Work}
 use Rattle.image_defs.specs.Places.{IsPort, host_of}
 use Rattle.image_defs.specs.WellFormed.{IsWellFormed, IsHost}
 use Rattle.image_defs.specs.Ports.{PortView, at_first}
 use Rattle.port_walk.specs.declared.kind.Kind.{Kind}
 use Rattle.port_walk.specs.declared.kind.Kind.TheVariants.{Host}
-use Rattle.port_walk.specs.Kinds.{view_in, is_host, FitsKind, IsFirst}
+use Rattle.port_walk.specs.Kinds.{is_host, FitsKind, IsFirst}
 
 -- a port that was looked up
 pub seat_there : (image : Image) (p : ℕ) (seat : PortImage) (ports : List PortImage) → p < length image.ports → ports ≡ image.ports → seat ≡ get_or ports p seat → IsPort image p seat

@@ -1,3 +1,6 @@
 pub mod CursorLemmas
+pub mod KeptLemmas
 pub mod KindLemmas
+pub mod MoveLemmas
+pub mod RowLemmas
 pub mod StopLemmas

@@ -1,18 +1,33 @@
 -- The stops of a turn.
-use Rattle.std.proofs.Common.{◌≡◌, ◌⊎◌, inl, inr, ℕ, zero, suc, ◌+◌, ◌<◌, ◌≤◌, Bool, if◌then◌else◌, List, [], ◌∷◌, ◌++◌, length, slice_get, Option, Some, None, sym, ap, ◌∙◌, subst, refl, arith, add-one}
+use Rattle.std.proofs.Common.{◌≡◌, inl, inr, ℕ, ◌+◌, ◌-◌, ◌<◌, ◌≤◌, Bool, if◌then◌else◌, List, [], ◌∷◌, ◌++◌, length, slice_get, Option, Some, None, sym, ap, ◌∙◌, subst, refl, arith, add-one}
 use Rattle.std.specs.List.Sorted.{IsStrictlyIncreasing}
+use Rattle.std.proofs.lemmas.Bool.{cases_lt}
 use Rattle.std.proofs.lemmas.Bool.Decides.{leb_tells}
 use Rattle.std.proofs.lemmas.List.{length_push}
-use Rattle.std.proofs.lemmas.Option.{slice_get_within}
+use Rattle.std.proofs.lemmas.Option.{slice_get_cases, slice_get_within}
 use Rattle.list_laws.proofs.Places.{one_there, past_end, at_front, seam_at}
 use Rattle.list_laws.proofs.Ranges.{last_or}
-use Rattle.image_defs.proofs.PlaceLemmas.{Rises, rises}
+use Rattle.image_defs.proofs.PlaceLemmas.{rises}
+use Rattle.port_bank.proofs.BankLemmas.{place_low}
 use Rattle.port_walk.specs.declared.stops.Stop.{Stop}
 use Rattle.port_walk.specs.declared.stops.StopKind.{StopKind}
 use Rattle.port_walk.specs.declared.stops.StopKind.TheVariants.{Send, Receive, End}
 use Rattle.port_walk.specs.Stops.{ArePlaces, AreAllBefore, IsFront, kind_of, slot_of, counted, kind_at, slot_at, counts, IsStop, AreFirstStops, AreStops, IsOnTheWay}
 
 -- ---- ascending slots up to a bound
+
+-- there are no more of them than slots
+pub places_few : (slots : ℕ) (xs : List ℕ) → ArePlaces slots xs → length xs ≤ slots
+places_few slots xs places = elim (cases_lt 0 (length xs)) [
+  | inl some ↦ elim (slice_get_cases xs (length xs - 1)).1 [
+    | inl h ↦
+        let high = place_low xs (length xs - 1) h.0 (rises xs places.rising) h.2 in
+        let low = places.low (length xs - 1) h.0 h.2 in
+        omega arith
+    | inr h ↦ let past = h.0 in absurd (omega arith)
+  ]
+  | inr none ↦ omega arith
+]
 
 -- the next one is not before the bound
 pub front_at : (slots : List ℕ) (bound n s : ℕ) → IsStrictlyIncreasing slots → AreAllBefore slots bound n → slice_get slots n ≡ Some s → bound ≤ s → IsFront slots bound n
@@ -145,18 +160,18 @@ module _ (outs ins : List ℕ) (slots : ℕ) (out_places : ArePlaces slots outs)
       let next = (tells outs ins slots sent took).send is in
       let low = out_places.low sent next.0 next.1.here in
       subst (λ x. x ≤ slot_at outs ins slots (sent + 1) took) (sym next.1.slot)
-        (slot_above outs ins slots (sent + 1) took next.0 (omega arith)
-          (λ s at. let later = rises outs out_places.rising sent (sent + 1) next.0 s (omega arith) next.1.here at in omega arith)
-          next.1.first)
+      (slot_above outs ins slots (sent + 1) took next.0 (omega arith)
+      (λ s at. let later = rises outs out_places.rising sent (sent + 1) next.0 s (omega arith) next.1.here at in omega arith)
+      next.1.first)
 
   pub receipt_grows : kind_at outs ins sent took ≡ Receive → slot_at outs ins slots sent took ≤ slot_at outs ins slots sent (took + 1)
   receipt_grows is =
       let next = (tells outs ins slots sent took).receipt is in
       let low = in_places.low took next.0 next.1.here in
       subst (λ x. x ≤ slot_at outs ins slots sent (took + 1)) (sym next.1.slot)
-        (slot_above outs ins slots sent (took + 1) next.0 (omega arith)
-          (λ s at. let later = next.1.first s at in omega arith)
-          (λ t at. let later = rises ins in_places.rising took (took + 1) next.0 t (omega arith) next.1.here at in omega arith))
+      (slot_above outs ins slots sent (took + 1) next.0 (omega arith)
+      (λ s at. let later = next.1.first s at in omega arith)
+      (λ t at. let later = rises ins in_places.rising took (took + 1) next.0 t (omega arith) next.1.here at in omega arith))
 
 module _ (outs ins : List ℕ) where
   -- the counts after one stop more

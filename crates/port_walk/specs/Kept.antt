@@ -1,5 +1,5 @@
 -- What a port with its place keeps: it has executed all items up to its next stop, and no others.
-use Rattle.std.specs.Prelude.{◌≡◌, ℕ, ◌+◌, ◌<◌, ◌≤◌, ◌^◌, nat_le, take, length, Some, slice_get}
+use Rattle.std.specs.Prelude.{◌≡◌, ℕ, ◌+◌, ◌<◌, ◌≤◌, nat_le, take, length, Some, slice_get}
 use Rattle.net_defs.specs.Time.{turn_count}
 use Rattle.net_defs.specs.Valid.{IsValidStimulus}
 use Rattle.image_defs.specs.Places.{IsPort, item_slots, in_slots, out_slots}
@@ -10,6 +10,7 @@ use Rattle.port_walk.specs.declared.stops.Stop.{Stop}
 use Rattle.port_walk.specs.declared.any_port.AnyPort.TheInside.{Inside}
 use Rattle.port_walk.specs.Kinds.{view_in, FitsKind, IsLastValue}
 use Rattle.port_walk.specs.Placed.{PlacedPort}
+use Rattle.port_walk.specs.Rows.{AreReaders}
 use Rattle.port_walk.specs.Stops.{counts, AreStops}
 
 abbrev pub view_of : Inside → PlacedPort
@@ -38,6 +39,7 @@ pub record IsKept (a : Inside) : Type 0 where
   pub last : a.turn ≤ a.until + 1
   pub slots : a.slots ≡ item_slots a.seat.now.work
   pub stops : AreStops (out_slots a.seat.now.outs) (in_slots a.seat.now.ins) a.image.now.slots a.slots a.stops
+  pub readers : AreReaders (length a.seat.now.outs) a.seat.now.outs a.readers
   pub come : counts (out_slots a.seat.now.outs) (in_slots a.seat.now.ins) a.at ≡ (a.sent, a.took)
   pub at : a.at ≡ a.sent + a.took
   pub sent : a.sent ≤ length a.seat.now.outs

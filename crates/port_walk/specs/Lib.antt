@@ -2,4 +2,5 @@ pub mod Kept
 pub mod Kinds
 pub mod Placed
 pub mod Readers
+pub mod Rows
 pub mod Stops

@@ -1,6 +1,6 @@
 //! A port of any kind with its place in the turn.
 
-ghost use Rattle.std.specs.Prelude.{◌≡◌, ◌≢◌, ◌<◌, ◌≤◌, length, IfOk, MatchOption};
+ghost use Rattle.std.specs.Prelude.{◌≡◌, ◌≢◌, ◌↔◌, ◌-◌, ◌<◌, length, slice_index_or, IsTrue, IfOk, MatchOption};
 ghost use Rattle.net_defs.specs.Valid.{IsValidStimulus};
 ghost use Rattle.std.specs.List.Sorted.{IsStrictlyIncreasing};
 ghost use Rattle.image_defs.specs.Places.{Each, host_of};
@@ -9,6 +9,7 @@ ghost use Rattle.port_walk.specs.Readers.{NoneLags, IsFirstLagging, IsSendAction
 ghost use Rattle.port_walk.specs.Placed.{at_start, in_next_turn, IsNextOf, CanPut, CanTake, CanTakeValue, IsEnding, HasPut, HasTaken, IsNextSend, IsNextReceipt, IsHostIn};
 
 use crate::kind::Kind;
+use crate::readers::{Readers, readers_at, readers_of};
 use crate::stops::{Stop, StopKind, slots_of, stops_of};
 use event_defs::Action;
 use image_defs::{Image, PortImage};
@@ -19,14 +20,15 @@ use seen_list::{List, Memory};
 use std::alloc::Global;
 use std::marker::Model;
 
-/// A port of any kind with its place in the turn. After each call it has executed all its items in the
-/// slots up to that of its next event, before which it can't execute more. A contract sees whose image
-/// and stimulus it runs, and its place.
+/// A port of any kind with its place in the turn. After each call it has executed all its items in
+/// the slots up to that of its next event; more it can't execute before that. A contract sees whose
+/// image and stimulus it runs, and its place.
 #[derive(Drop)]
 pub struct AnyPort<'a> {
     kind: Kind<'a>,
     slots: List<u32>,
     stops: List<Stop>,
+    readers: Readers,
     at: usize,
     sent: usize,
     took: usize,
@@ -41,7 +43,7 @@ pub struct AnyPort<'a> {
 
 impl<'a> Model for AnyPort<'a> {
     ghost use Rattle.port_walk.specs.Readers.{NoneLags, IsFirstLagging, IsSendAction};
-ghost use Rattle.port_walk.specs.Placed.{PlacedPort};
+    ghost use Rattle.port_walk.specs.Placed.{PlacedPort};
 
     ghost Value = { PlacedPort };
 
@@ -52,23 +54,47 @@ ghost use Rattle.port_walk.specs.Placed.{PlacedPort};
     ghost invariant = { IsKept };
 }
 
+/// How many turns a port in this turn wants its readers to have finished, with so many banks.
+fn turns_wanted(turn: u64, banks: u32) -> u64
+    ensures { result ≡ turn - banks }
+{
+    turn.saturating_sub(banks as u64)
+}
+
+/// Whether the reader isn't known to have finished so many turns.
+#[inline]
+fn lags(known: &[u64], reader: u32, turns: u64) -> bool
+    requires { reader < length known.now }
+    ensures { IsTrue result ↔ (slice_index_or known.now reader 0 < turns) }
+{
+    known[reader as usize] < turns
+}
+
 /// The first of the readers that isn't known to have finished so many turns.
 fn first_lagging(readers: &[u32], known: &[u64], turns: u64) -> Option<u32>
     requires there { Each (λ r. r < length known.now) readers.now }
     requires rising { IsStrictlyIncreasing readers.now }
-    ensures { MatchOption result (NoneLags readers.now known.now turns) (IsFirstLagging readers.now known.now turns) }
+    ensures { MatchOption result
+        (NoneLags readers.now known.now turns)
+        (IsFirstLagging readers.now known.now turns) }
 {
     'readers: for reader in readers {
-        if known[*reader as usize] < turns {
+        if lags(known, *reader, turns) {
             return Some(*reader);
         }
     }
     None
 }
 
-/// What comes next where a Put is missing: an Ask of a reader that isn't known to have finished so many
-/// turns, or the Put.
-fn send_action(readers: &[u32], known: &[u64], turns: u64, slot: u32, value: V4) -> Action
+/// What comes next where a Put is missing: an Ask of a reader that isn't known to have finished so
+/// many turns, or the Put.
+pub(crate) fn send_action(
+    readers: &[u32],
+    known: &[u64],
+    turns: u64,
+    slot: u32,
+    value: V4,
+) -> Action
     requires there { Each (λ r. r < length known.now) readers.now }
     requires rising { IsStrictlyIncreasing readers.now }
     ensures { IsSendAction readers.now known.now turns slot value result }
@@ -80,8 +106,8 @@ fn send_action(readers: &[u32], known: &[u64], turns: u64, slot: u32, value: V4)
 }
 
 impl<'a> AnyPort<'a> {
-    /// The port of this number before its first event. It takes memory for what its kind needs, for a
-    /// number for each item, and for what it sends and receives in a turn. No later call takes any.
+    /// The port of this number before its first event. It takes memory for what its kind needs, and
+    /// for its items, sends, readers and receipts. No later call takes any.
     pub fn new(
         alloc: Global,
         image: &'a Image,
@@ -103,6 +129,7 @@ impl<'a> AnyPort<'a> {
             seat.outs.as_slice(),
             seat.ins.as_slice(),
         )?;
+        let readers = readers_of(alloc, seat.outs.as_slice())?;
         let mut kind = Kind::new(alloc, image, stim, port)?;
         let until = image.units as u64 * stim.cycles() as u64;
         let value = kind.enter(slots.as_slice(), stops.as_slice()[0].items, 1 <= until);
@@ -110,6 +137,7 @@ impl<'a> AnyPort<'a> {
             kind,
             slots,
             stops,
+            readers,
             at: 0,
             sent: 0,
             took: 0,
@@ -123,7 +151,9 @@ impl<'a> AnyPort<'a> {
         })
     }
 
-    /// The next event, by what is known of how many turns each port has finished, with so many banks.
+    /// The next event, with so many banks, by what is known of how many turns each port has
+    /// finished.
+    #[inline]
     pub fn next(&self, known: &[u64], banks: u32) -> Action
         requires { length known.now ≡ length self.now.image.ports }
         ensures { IsNextOf self.now known.now banks result }
@@ -134,8 +164,8 @@ impl<'a> AnyPort<'a> {
         let stop = self.stops.as_slice()[self.at];
         match stop.kind {
             StopKind::Send => {
-                let readers = self.seat.outs.as_slice()[self.sent].readers.as_slice();
-                let turns = self.turn.saturating_sub(banks as u64);
+                let readers = readers_at(&self.readers, self.sent);
+                let turns = turns_wanted(self.turn, banks);
                 send_action(readers, known, turns, stop.slot, self.value)
             }
             StopKind::Receive => Action::Take { slot: stop.slot },
@@ -144,6 +174,7 @@ impl<'a> AnyPort<'a> {
     }
 
     /// The number of the send whose Put is missing next, in slot order.
+    #[inline]
     pub fn next_send(&self) -> usize
         requires { CanPut self.now }
         ensures { IsNextSend self.now result }
@@ -152,6 +183,7 @@ impl<'a> AnyPort<'a> {
     }
 
     /// The number of the receipt whose Take is missing next, in slot order.
+    #[inline]
     pub fn next_receipt(&self) -> usize
         requires { CanTake self.now }
         ensures { IsNextReceipt self.now result }
@@ -160,6 +192,7 @@ impl<'a> AnyPort<'a> {
     }
 
     /// The Put that was next is made.
+    #[inline]
     pub fn put_done(&mut self)
         requires { CanPut self.old }
         ensures { HasPut self.old self.new }
@@ -173,6 +206,7 @@ impl<'a> AnyPort<'a> {
     }
 
     /// The Take that was next is made, and gave this value.
+    #[inline]
     pub fn took(&mut self, v: V4)
         requires { CanTakeValue self.old v }
         ensures { HasTaken self.old self.new }
@@ -181,7 +215,9 @@ impl<'a> AnyPort<'a> {
         let stop = stops[self.at];
         let to = stops[self.at + 1].items;
         self.kind.receive(stop.slot, v);
-        self.value = self.kind.run(self.slots.as_slice(), stop.items, to, self.value);
+        self.value = self
+            .kind
+            .run(self.slots.as_slice(), stop.items, to, self.value);
         self.at += 1;
         self.took += 1;
     }
@@ -197,10 +233,13 @@ impl<'a> AnyPort<'a> {
         self.sent = 0;
         self.took = 0;
         let first = self.stops.as_slice()[0].items;
-        self.value = self.kind.enter(self.slots.as_slice(), first, self.turn <= self.until);
+        self.value = self
+            .kind
+            .enter(self.slots.as_slice(), first, self.turn <= self.until);
     }
 
     /// The turn that it is in, or the last one that it executes plus one when it is done.
+    #[inline]
     pub fn turn(&self) -> u64
         ensures { result ≡ self.now.turn }
     {
@@ -216,7 +255,9 @@ impl<'a> AnyPort<'a> {
 
     /// The port as the host. `None` exactly where it is another.
     pub fn host(&self) -> Option<&HostPort<'a>>
-        ensures { MatchOption result (self.now.port ≢ host_of self.now.image) (λ host. IsHostIn self.now host.now) }
+        ensures { MatchOption result
+            (self.now.port ≢ host_of self.now.image)
+            (λ host. IsHostIn self.now host.now) }
     {
         match &self.kind {
             Kind::Host(host) => Some(host),

@@ -99,10 +99,10 @@ impl<'a> Kind<'a> {
         }
     }
 
-    /// Executes the items whose numbers are from `from` on and below `to`, where `slots` has the slots
-    /// of all items, and answers the value of the last one executed this turn; that was `last`.
+    /// Executes the items from number `from` to below number `to`, where `slots` has the slots of
+    /// all items, and answers the value of the last one executed in this turn; that was `last`.
     #[inline]
-    pub(crate) fn run(&mut self, slots: &[u32], from: usize, to: usize, last: V4) -> V4
+    pub(crate) fn run(&mut self, slots: &[u32], from: u32, to: u32, last: V4) -> V4
         requires can { CanRun (view_in self.old) slots.now from to }
         requires last { IsLastValue (view_in self.old) last }
         ensures run { HasRun (view_in self.old) (view_in self.new) to }
@@ -111,14 +111,14 @@ impl<'a> Kind<'a> {
     {
         let mut value = last;
         'items: for i in from..to {
-            value = self.execute(slots[i]);
+            value = self.execute(slots[i as usize]);
         }
         value
     }
 
-    /// Begins the turn and executes its items below number `to`, if it is one that the port `runs`, and
-    /// answers the value of the last of them.
-    pub(crate) fn enter(&mut self, slots: &[u32], to: usize, runs: bool) -> V4
+    /// Begins the turn and executes its items below number `to`, if it is one that the port `runs`,
+    /// and answers the value of the last of them.
+    pub(crate) fn enter(&mut self, slots: &[u32], to: u32, runs: bool) -> V4
         requires { CanEnter (view_in self.old) slots.now to runs }
         ensures entered { HasEntered (view_in self.old) (view_in self.new) to runs }
         ensures last { IsLastValue (view_in self.new) result }

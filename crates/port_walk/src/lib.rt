@@ -1,10 +1,13 @@
-//! A port of any kind with its place in the turn: it executes its items by itself, as far as it can, and
-//! tells what comes next between it and the other ports.
+//! A port of any kind with its place in the turn: it executes its items by itself, as far as it
+//! can, and tells what comes next between it and the other ports.
 #![tactic(auto)]
 
 mod any_port;
 mod kind;
+mod readers;
 mod stops;
+#[cfg(test)]
+mod tests;
 
 pub use any_port::AnyPort;
 pub use event_defs::Action;

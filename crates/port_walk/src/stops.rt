@@ -1,7 +1,8 @@
-//! The stops of a turn: where a port that runs through its slots sends, receives and ends, in order.
+//! The stops of a turn: where a port that runs through its slots sends, receives and ends.
 
 ghost use Rattle.std.specs.Prelude.{◌≡◌, ◌+◌, ◌≤◌, map, length, slice_get, IfOk};
 ghost use Rattle.std.specs.List.Sorted.{IsStrictlyIncreasing};
+ghost use Rattle.limits.specs.declared.TheConstants.{MAX_SLOTS};
 ghost use Rattle.image_defs.specs.Places.{item_slots, task_slot, in_slots, out_slots};
 ghost use Rattle.port_walk.specs.Stops.{kind_at, slot_at, kind_of, slot_of, ArePlaces, AreAllBefore, IsFront, AreStops};
 
@@ -17,13 +18,13 @@ pub(crate) enum StopKind {
     End,
 }
 
-/// A stop: what the port does there, in which slot, and how many of its items stand in the slots up to
-/// that one. The end of a turn has the number of slots for its slot.
+/// A stop: what the port does there, in which slot, and how many of its items stand in the slots up
+/// to that one. The end of a turn has the number of slots for its slot.
 #[derive(Clone, Copy, Debug, PartialEq, Eq)]
 pub(crate) struct Stop {
     pub(crate) kind: StopKind,
     pub(crate) slot: u32,
-    pub(crate) items: usize,
+    pub(crate) items: u32,
 }
 
 /// The slots of tasks, in their order.
@@ -95,13 +96,7 @@ fn slot_of(slots: u32, out: Option<u32>, receipt: Option<u32>) -> u32
     ensures { result ≡ slot_of slots out receipt }
 {
     match (out, receipt) {
-        (Some(out), Some(receipt)) => {
-            if out <= receipt {
-                out
-            } else {
-                receipt
-            }
-        }
+        (Some(out), Some(receipt)) => { if out <= receipt { out } else { receipt } }
         (Some(out), None) => out,
         (None, Some(receipt)) => receipt,
         (None, None) => slots,
@@ -129,12 +124,12 @@ fn in_at(ins: &[LinkIn], took: usize) -> Option<u32>
 }
 
 /// The number of slots up to this one, of which the first `from` are such.
-fn count_through(slots: &[u32], from: usize, slot: u32) -> usize
+fn count_through(slots: &[u32], from: u32, slot: u32) -> usize
     requires rising { IsStrictlyIncreasing slots.now }
     requires from { AreAllBefore slots.now (slot + 1) from }
     ensures { IsFront slots.now (slot + 1) result }
 {
-    'rest: for i in from..slots.len() {
+    'rest: for i in from as usize..slots.len() {
         if slot < slots[i] {
             return i;
         }
@@ -144,14 +139,9 @@ fn count_through(slots: &[u32], from: usize, slot: u32) -> usize
 
 /// The stop at which the port has sent and received so often, where the first `from` items stand
 /// in the slots up to it.
-fn stop_at(
-    slots: u32,
-    items: &[u32],
-    from: usize,
-    out: Option<u32>,
-    receipt: Option<u32>,
-) -> Stop
-    requires rising { IsStrictlyIncreasing items.now }
+fn stop_at(slots: u32, items: &[u32], from: u32, out: Option<u32>, receipt: Option<u32>) -> Stop
+    requires few { slots ≤ MAX_SLOTS }
+    requires items { ArePlaces slots items.now }
     requires from { AreAllBefore items.now (slot_of slots out receipt + 1) from }
     ensures kind { result.kind ≡ kind_of out receipt }
     ensures slot { result.slot ≡ slot_of slots out receipt }
@@ -161,7 +151,7 @@ fn stop_at(
     Stop {
         kind: kind_of(out, receipt),
         slot,
-        items: count_through(items, from, slot),
+        items: count_through(items, from, slot) as u32,
     }
 }
 
@@ -173,7 +163,8 @@ pub(crate) fn stops_of(
     outs: &[LinkOut],
     ins: &[LinkIn],
 ) -> Result<List<Stop>, Memory>
-    requires rising { IsStrictlyIncreasing items.now }
+    requires few { slots ≤ MAX_SLOTS }
+    requires items { ArePlaces slots items.now }
     requires outs { ArePlaces slots (out_slots outs.now) }
     requires ins { ArePlaces slots (in_slots ins.now) }
     ensures { IfOk result (AreStops (out_slots outs.now) (in_slots ins.now) slots items.now) }

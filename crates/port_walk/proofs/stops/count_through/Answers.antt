@@ -1,6 +1,5 @@
-use Rattle.std.proofs.Common.{◌+◌, length, arith, get_or}
+use Rattle.std.proofs.Common.{◌+◌, arith, get_or}
 use Rattle.std.proofs.lemmas.Option.{slice_get-get_or}
-use Rattle.port_walk.specs.Stops.{AreAllBefore}
 use Rattle.port_walk.proofs.StopLemmas.{front_at, front_end}
 use Rattle.port_walk.proofs.stops.count_through.Goals as goal
 

@@ -1,4 +1,4 @@
-use Rattle.std.proofs.Common.{◌≡◌, ◌+◌, ◌<◌, length, subst, sym, arith}
+use Rattle.std.proofs.Common.{◌+◌, ◌<◌, length, subst, sym, arith}
 use Rattle.std.proofs.lemmas.List.{length-map}
 use Rattle.image_defs.specs.declared.image.LinkIn.{LinkIn}
 use Rattle.image_defs.specs.declared.image.LinkOut.{LinkOut}
@@ -17,7 +17,7 @@ stops-smaller-in-Send c =
     let ins = in_slots a.ins.now in
     let stop = c.stop_at-stop.result in
     let is : IsStop outs ins a.slots a.items.now c.stops.sent c.stops.took stop =
-        stop_is outs ins a.slots a.items.now c.stops.sent c.stops.took stop c.out_at.result c.in_at.result c.out_at.ensures c.in_at.ensures c.stop_at-stop.ensures.kind c.stop_at-stop.ensures.slot c.stop_at-stop.ensures.front in
+    stop_is outs ins a.slots a.items.now c.stops.sent c.stops.took stop c.out_at.result c.in_at.result c.out_at.ensures c.in_at.ensures c.stop_at-stop.ensures.kind c.stop_at-stop.ensures.slot c.stop_at-stop.ensures.front in
     let within : c.stops.sent < length outs = send_within outs ins a.slots a.items.now c.stops.stops c.stops.sent c.stops.took c.stops.from c.stops.invariant stop is c.in-Send.is in
     omega (arith, length-map a.outs.now (λ (link : LinkOut). link.slot), length-map a.outs.now (λ (link : LinkOut). link.slot), length-map a.ins.now (λ (link : LinkIn). link.slot), c.stops.invariant.sent_within, c.stops.invariant.took_within)
 
@@ -28,7 +28,7 @@ stops-smaller c =
     let ins = in_slots a.ins.now in
     let stop = c.stop_at-stop.result in
     let is : IsStop outs ins a.slots a.items.now c.stops.sent c.stops.took stop =
-        stop_is outs ins a.slots a.items.now c.stops.sent c.stops.took stop c.out_at.result c.in_at.result c.out_at.ensures c.in_at.ensures c.stop_at-stop.ensures.kind c.stop_at-stop.ensures.slot c.stop_at-stop.ensures.front in
+    stop_is outs ins a.slots a.items.now c.stops.sent c.stops.took stop c.out_at.result c.in_at.result c.out_at.ensures c.in_at.ensures c.stop_at-stop.ensures.kind c.stop_at-stop.ensures.slot c.stop_at-stop.ensures.front in
     let within : c.stops.took < length ins = receipt_within outs ins a.slots a.items.now c.stops.stops c.stops.sent c.stops.took c.stops.from c.stops.invariant stop is c.in-Receive.is in
     omega (arith, length-map a.ins.now (λ (link : LinkIn). link.slot), length-map a.outs.now (λ (link : LinkOut). link.slot), length-map a.ins.now (λ (link : LinkIn). link.slot), c.stops.invariant.sent_within, c.stops.invariant.took_within)
 
@@ -39,9 +39,9 @@ stops-preserved-in-Send c =
     let ins = in_slots a.ins.now in
     let stop = c.stop_at-stop.result in
     let is : IsStop outs ins a.slots a.items.now c.stops.sent c.stops.took stop =
-        stop_is outs ins a.slots a.items.now c.stops.sent c.stops.took stop c.out_at.result c.in_at.result c.out_at.ensures c.in_at.ensures c.stop_at-stop.ensures.kind c.stop_at-stop.ensures.slot c.stop_at-stop.ensures.front in
+    stop_is outs ins a.slots a.items.now c.stops.sent c.stops.took stop c.out_at.result c.in_at.result c.out_at.ensures c.in_at.ensures c.stop_at-stop.ensures.kind c.stop_at-stop.ensures.slot c.stop_at-stop.ensures.front in
     subst (λ stops. IsOnTheWay outs ins a.slots a.items.now stops (c.stops.sent + 1) (c.stops.took) stop.items) (sym c.in_ok-push.ensures.ok)
-      (way_sends outs ins a.slots a.items.now c.stops.stops c.stops.sent c.stops.took c.stops.from c.stops.invariant stop is c.requires.outs c.requires.ins c.in-Send.is)
+    (way_sends outs ins a.slots a.items.now c.stops.stops c.stops.sent c.stops.took c.stops.from c.stops.invariant stop is c.requires.outs c.requires.ins c.in-Send.is)
 
 pub stops-preserved : goal.stops-preserved
 stops-preserved c =
@@ -50,9 +50,9 @@ stops-preserved c =
     let ins = in_slots a.ins.now in
     let stop = c.stop_at-stop.result in
     let is : IsStop outs ins a.slots a.items.now c.stops.sent c.stops.took stop =
-        stop_is outs ins a.slots a.items.now c.stops.sent c.stops.took stop c.out_at.result c.in_at.result c.out_at.ensures c.in_at.ensures c.stop_at-stop.ensures.kind c.stop_at-stop.ensures.slot c.stop_at-stop.ensures.front in
+    stop_is outs ins a.slots a.items.now c.stops.sent c.stops.took stop c.out_at.result c.in_at.result c.out_at.ensures c.in_at.ensures c.stop_at-stop.ensures.kind c.stop_at-stop.ensures.slot c.stop_at-stop.ensures.front in
     subst (λ stops. IsOnTheWay outs ins a.slots a.items.now stops (c.stops.sent) (c.stops.took + 1) stop.items) (sym c.in_ok-push.ensures.ok)
-      (way_receives outs ins a.slots a.items.now c.stops.stops c.stops.sent c.stops.took c.stops.from c.stops.invariant stop is c.requires.outs c.requires.ins c.in-Receive.is)
+    (way_receives outs ins a.slots a.items.now c.stops.stops c.stops.sent c.stops.took c.stops.from c.stops.invariant stop is c.requires.outs c.requires.ins c.in-Receive.is)
 
 pub returns : goal.returns
 returns c =
@@ -61,6 +61,6 @@ returns c =
     let ins = in_slots a.ins.now in
     let stop = c.stop_at-stop.result in
     let is : IsStop outs ins a.slots a.items.now c.stops.sent c.stops.took stop =
-        stop_is outs ins a.slots a.items.now c.stops.sent c.stops.took stop c.out_at.result c.in_at.result c.out_at.ensures c.in_at.ensures c.stop_at-stop.ensures.kind c.stop_at-stop.ensures.slot c.stop_at-stop.ensures.front in
+    stop_is outs ins a.slots a.items.now c.stops.sent c.stops.took stop c.out_at.result c.in_at.result c.out_at.ensures c.in_at.ensures c.stop_at-stop.ensures.kind c.stop_at-stop.ensures.slot c.stop_at-stop.ensures.front in
     subst (AreStops outs ins a.slots a.items.now) (sym c.in_ok-push.ensures.ok)
-      (way_ends outs ins a.slots a.items.now c.stops.stops c.stops.sent c.stops.took c.stops.from c.stops.invariant stop is c.in-End.is)
+    (way_ends outs ins a.slots a.items.now c.stops.stops c.stops.sent c.stops.took c.stops.from c.stops.invariant stop is c.in-End.is)
