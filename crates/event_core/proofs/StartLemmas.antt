@@ -1,8 +1,10 @@
 -- A core before its first event.
-use Rattle.std.proofs.Common.{List, ap, ap₂, arith, inl, inr, length, map, refl, replicate, slice_index_or, subst, sym, ℕ, ◌%◌, ◌*◌, ◌∙◌, ◌≡◌, ◌≤◌}
+use Rattle.std.proofs.Common.{List, Some, [], ap, ap₂, arith, inl, inr, length, length-append, map, refl, replicate, slice_get, slice_index_or, subst, sym, ℕ, ◌%◌, ◌*◌, ◌++◌, ◌+◌, ◌∙◌, ◌∷◌, ◌≡◌, ◌≤◌}
 use Rattle.std.proofs.Math.Path.{fun_ext}
+use Rattle.std.proofs.lemmas.Bool.{cases_lt}
 use Rattle.std.proofs.lemmas.List.{get_or_past, length-map, length-replicate}
-use Rattle.std.proofs.lemmas.Option.{get_or_from_slice_get, slice_get_cases}
+use Rattle.std.proofs.lemmas.Option.{slice_get_within, get_or_from_slice_get, slice_get_cases}
+use Rattle.list_laws.proofs.Places.{at_front, seam_at}
 use Rattle.list_laws.proofs.Ranges.{zeros_read}
 use Rattle.net_defs.specs.Time.{turn_count}
 use Rattle.net_defs.specs.Valid.{IsValidStimulus}
@@ -77,3 +79,25 @@ module _ (a : Inside) (fits : IsWellFormed a.image.now) (valid : IsValidStimulus
 
   pub is_start : IsStart a.image.now a.stim.now a.banks (view_of a)
   is_start = record { image_is = refl; stimulus_is = refl; banks_are = refl; state = start_state }
+
+-- one more seat
+pub seats_more : (image : Image) (stimulus : Stimulus) (banks n : ℕ) (seat : Seat) (seats next : List Seat) → AreFirstSeats image stimulus banks n seats → IsFirstSeat image stimulus banks n seat → next ≡ seats ++ seat ∷ [] → AreFirstSeats image stimulus banks (n + 1) next
+seats_more image stimulus banks n seat seats next are first pushed = record {
+  long = long;
+  each = λ p other at.
+      let size = long in
+      let low = slice_get_within next p other at in
+      let count = are.long in
+      let here : slice_get (seats ++ seat ∷ []) p ≡ Some other = ap (λ xs. slice_get xs p) (sym pushed) ∙ at in
+      elim (cases_lt p n) [
+        | inl before ↦ are.each p other (sym (at_front seats (seat ∷ []) p (omega arith)) ∙ here)
+        | inr last ↦
+            let same : p ≡ n = omega arith in
+            let place : p ≡ length seats = omega arith in
+            let twice : Some seat ≡ Some other = sym (seam_at seats seat []) ∙ (ap (λ k. slice_get (seats ++ seat ∷ []) k) (sym place) ∙ here) in
+            let is : seat ≡ other = cc in
+            subst (λ k. IsFirstSeat image stimulus banks k other) (sym same) (subst (IsFirstSeat image stimulus banks n) is first)
+      ];
+} where
+  long : length next ≡ n + 1
+  long = ap length pushed ∙ (ap (λ k. k) (length-append seats (seat ∷ [])) ∙ (let count = are.long in let one : length (seat ∷ []) ≡ 1 = refl in omega arith))
