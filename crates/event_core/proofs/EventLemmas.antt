@@ -14,10 +14,9 @@ use Rattle.image_defs.specs.declared.image.LinkOut.{LinkOut}
 use Rattle.image_defs.specs.declared.image.PortImage.{PortImage}
 use Rattle.event_defs.proofs.KeptLemmas.{read_older, read_value}
 use Rattle.event_defs.proofs.NextLemmas.{puts_one}
-use Rattle.event_defs.proofs.PaceLemmas.{puts, reader_in, same_port, takes}
+use Rattle.event_defs.proofs.PaceLemmas.{reader_in, same_port}
 use Rattle.event_defs.proofs.RowLemmas.{send_within, set_updated, word_at, word_set}
 use Rattle.event_defs.proofs.WordLemmas.{decoded}
-use Rattle.event_defs.specs.Counts.{moves}
 use Rattle.event_defs.specs.Next.{AsksNext, PutsNext, TakesNext}
 use Rattle.event_defs.specs.Places.{IsSend, after_ask, after_put, after_take, after_tell}
 use Rattle.event_defs.specs.Row.{send_number, word_in, word_place}

@@ -12,7 +12,6 @@ use Rattle.event_defs.proofs.RunLemmas.{done_still, round_done, run_falls}
 use Rattle.event_defs.specs.Counts.{events_left, moved_in, moves}
 use Rattle.event_defs.specs.Sound.{IsSound}
 use Rattle.event_defs.specs.Steps.{AreSteps, CoreState, IsStep, Takes}
-use Rattle.event_defs.specs.declared.place.Action.TheVariants as action
 use Rattle.event_defs.specs.declared.place.Event.TheVariants as event
 use Rattle.event_defs.specs.declared.place.CoreStep.{CoreStep}
 use Rattle.event_defs.specs.declared.place.CoreStep.TheVariants.{Moved}

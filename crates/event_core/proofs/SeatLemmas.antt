@@ -11,8 +11,12 @@ use Rattle.event_core.specs.declared.seats.Seat.{Seat}
 pub seat_read : (seats : List Seat) (p : ℕ) (read seat : Seat) → read ≡ slice_index_or seats p read → slice_get seats p ≡ Some seat → read ≡ seat
 seat_read seats p read seat is at = is ∙ get_or_from_slice_get seats p seat read at
 
+-- a member that was read within the list
+pub entry_there : {X : Type 0} (xs : List X) (i : ℕ) (read : X) → i < length xs → read ≡ slice_index_or xs i read → slice_get xs i ≡ Some read
+entry_there xs i read inside is = slice_get-get_or xs i read inside ∙ ap Some (sym is)
+
 pub read_there : (seats : List Seat) (p : ℕ) (read : Seat) → p < length seats → read ≡ slice_index_or seats p read → slice_get seats p ≡ Some read
-read_there seats p read inside is = slice_get-get_or seats p read inside ∙ ap Some (sym is)
+read_there seats p read inside is = entry_there seats p read inside is
 
 -- a number is below a bound that its multiple is below
 pub below_product : (n k b m : ℕ) → 1 ≤ k → n * k + b < m → n < m

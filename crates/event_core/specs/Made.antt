@@ -1,5 +1,5 @@
 -- What a core is made of: the numbers of sends and of sources.
-use Rattle.std.specs.Prelude.{List, Some, length, replicate, slice_get, ℕ, ◌%◌, ◌<◌, ◌≡◌}
+use Rattle.std.specs.Prelude.{List, Some, length, replicate, slice_get, ℕ, ◌%◌, ◌+◌, ◌<◌, ◌≡◌, ◌≤◌}
 use Rattle.net_defs.specs.declared.stimulus.Stimulus.{Stimulus}
 use Rattle.image_defs.specs.Places.{IsPort}
 use Rattle.image_defs.specs.declared.image.Image.{Image}
@@ -47,3 +47,14 @@ pub record IsFirstSeat (image : Image) (stimulus : Stimulus) (banks p : ℕ) (se
 pub record AreFirstSeats (image : Image) (stimulus : Stimulus) (banks n : ℕ) (seats : List Seat) : Type 0 where
   pub long : length seats ≡ n
   pub each : (p : ℕ) (seat : Seat) → slice_get seats p ≡ Some seat → IsFirstSeat image stimulus banks p seat
+
+-- the links of this slot stand from one number on and before another
+pub record StandsBetween (outs : List LinkOut) (slot low high : ℕ) : Type 0 where
+  pub order : low < high
+  pub within : high ≤ length outs
+  pub each : (i : ℕ) (link : LinkOut) → slice_get outs i ≡ Some link → link.slot ≡ slot → (low ≤ i) × (i < high)
+
+-- so many sends come before the first n ports and before the next one
+pub record CountsSends (image : Image) (n sends : ℕ) (firsts : List ℕ) : Type 0 where
+  pub firsts_are : AreFirsts image (n + 1) firsts
+  pub sends_are : sends ≡ sends_before image n

@@ -6,7 +6,7 @@ ghost use Rattle.image_defs.specs.WellFormed.{IsWellFormed};
 ghost use Rattle.image_defs.specs.declared.image.LinkIn.{LinkIn};
 ghost use Rattle.image_defs.specs.declared.image.LinkOut.{LinkOut};
 ghost use Rattle.port_walk.specs.Placed.{CanPut, CanTake, CanTakeValue, IsEnding, IsReceiving, IsSending};
-ghost use Rattle.event_core.specs.Made.{AreFirstSeats, AreFirsts};
+ghost use Rattle.event_core.specs.Made.{AreFirstSeats, AreFirsts, IsFirstSeat};
 ghost use Rattle.event_core.specs.Seats.{AtSeat, HasPutRoom, HasTakeRoom, HasWritten, IsNextIn, IsWordRead, seat_asked, seat_put, seat_taken, seat_told};
 
 use crate::sources;
@@ -47,6 +47,32 @@ fn first_bank(banks: u32) -> u32
     next_bank(0, banks)
 }
 
+/// The seat of a port before its first event.
+fn first_seat<'a>(
+    alloc: Global,
+    image: &'a Image,
+    stim: &'a Stimulus,
+    firsts: &[u32],
+    banks: u32,
+    p: usize,
+) -> Result<Seat<'a>, Memory>
+    requires image { IsWellFormed image.now }
+    requires stimulus { IsValidStimulus stim.now }
+    requires columns { stim.now.columns ≡ image.now.columns }
+    requires some { 1 ≤ banks }
+    requires firsts { AreFirsts image.now (length image.now.ports + 1) firsts.now }
+    requires there { p < length image.now.ports }
+    ensures { IfOk result (IsFirstSeat image.now stim.now banks p) }
+{
+    Ok(Seat {
+        port: AnyPort::new(alloc, image, stim, p as u32)?,
+        known: List::filled(alloc, 0, image.ports.len())?,
+        sources: sources::sources_of(alloc, image, firsts, p)?,
+        first: firsts[p],
+        bank: first_bank(banks),
+    })
+}
+
 /// The seats of all ports before their first events.
 pub(crate) fn make<'a>(
     alloc: Global,
@@ -62,16 +88,9 @@ pub(crate) fn make<'a>(
     requires firsts { AreFirsts image.now (length image.now.ports + 1) firsts.now }
     ensures { IfOk result (AreFirstSeats image.now stim.now banks (length image.now.ports)) }
 {
-    let ports = image.ports.len();
     let mut seats = List::new(alloc);
-    'ports: for p in 0..ports {
-        seats.push(Seat {
-            port: AnyPort::new(alloc, image, stim, p as u32)?,
-            known: List::filled(alloc, 0, ports)?,
-            sources: sources::sources_of(alloc, image, firsts, p)?,
-            first: firsts[p],
-            bank: first_bank(banks),
-        })?;
+    'ports: for p in 0..image.ports.len() {
+        seats.push(first_seat(alloc, image, stim, firsts, banks, p)?)?;
     }
     Ok(seats)
 }

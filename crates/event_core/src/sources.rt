@@ -3,11 +3,11 @@
 ghost use Rattle.std.specs.Prelude.{IfOk, length, ℕ, ◌+◌, ◌<◌};
 ghost use Rattle.std.specs.List.Sorted.{IsStrictlyIncreasing};
 ghost use Rattle.image_defs.specs.Places.{IsPort, out_slots};
-ghost use Rattle.image_defs.specs.WellFormed.{IsWellFormed};
+ghost use Rattle.image_defs.specs.WellFormed.{IsLinkIn, IsWellFormed};
 ghost use Rattle.image_defs.specs.declared.image.PortImage.{PortImage};
-ghost use Rattle.event_core.specs.Made.{AreFirsts, AreSources, IsLinkAt};
+ghost use Rattle.event_core.specs.Made.{AreFirsts, AreSources, IsLinkAt, IsSource};
 
-use image_defs::{Image, LinkOut};
+use image_defs::{Image, LinkIn, LinkOut};
 use seen_list::{List, Memory};
 use std::alloc::Global;
 
@@ -16,11 +16,12 @@ pub(crate) fn first_sends(alloc: Global, image: &Image) -> Result<List<u32>, Mem
     requires { IsWellFormed image.now }
     ensures { IfOk result (AreFirsts image.now (length image.now.ports + 1)) }
 {
+    let ports = image.ports.as_slice();
     let mut firsts = List::new(alloc);
     let mut sends = 0;
     firsts.push(sends)?;
-    'ports: for port in &image.ports {
-        sends += port.outs.len() as u32;
+    'ports: for p in 0..ports.len() {
+        sends += ports[p].outs.len() as u32;
         firsts.push(sends)?;
     }
     Ok(firsts)
@@ -45,6 +46,18 @@ fn link_at(outs: &[LinkOut], slot: u32) -> usize
     low
 }
 
+/// The number of the send that a receipt comes from.
+fn source_of(image: &Image, firsts: &[u32], link: LinkIn) -> u32
+    requires image { IsWellFormed image.now }
+    requires firsts { AreFirsts image.now (length image.now.ports + 1) firsts.now }
+    requires there { (p : ℕ) × IsLinkIn image.now p link }
+    ensures { IsSource image.now link result }
+{
+    let sender = link.sender as usize;
+    let send = link_at(image.ports.as_slice()[sender].outs.as_slice(), link.slot);
+    firsts[sender] + send as u32
+}
+
 /// For each receipt of a port the number of the send that it comes from.
 pub(crate) fn sources_of(
     alloc: Global,
@@ -58,12 +71,10 @@ pub(crate) fn sources_of(
     ensures { IfOk result (λ sources. (port : PortImage) → IsPort image.now p port
         → AreSources image.now port.ins (length port.ins) sources) }
 {
-    let ports = image.ports.as_slice();
+    let ins = image.ports.as_slice()[p].ins.as_slice();
     let mut sources = List::new(alloc);
-    'ins: for link in &ports[p].ins {
-        let sender = link.sender as usize;
-        let send = link_at(ports[sender].outs.as_slice(), link.slot);
-        sources.push(firsts[sender] + send as u32)?;
+    'ins: for j in 0..ins.len() {
+        sources.push(source_of(image, firsts, ins[j]))?;
     }
     Ok(sources)
 }

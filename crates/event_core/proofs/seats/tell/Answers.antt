@@ -1,4 +1,4 @@
-use Rattle.std.proofs.Common.{set, ap, sym, subst, ◌≡◌, ◌%◌, ◌<◌, arith, mod-lt}
+use Rattle.std.proofs.Common.{set, ap, sym, subst, ◌<◌, mod-lt}
 use Rattle.std.proofs.lemmas.Option.{get_or_from_slice_get, slice_get-get_or}
 use Rattle.event_core.proofs.SeatLemmas.{told_is}
 use Rattle.event_core.proofs.seats.tell.Goals as goal

@@ -1,5 +1,4 @@
-use Rattle.std.proofs.Common.{ℕ, ◌≡◌, ◌∙◌, ◌+◌, ◌*◌, ◌<◌, ◌^◌, length, set, ap, ap₂, sym, subst, arith}
-use Rattle.logic_four.specs.Values.{code_of}
+use Rattle.std.proofs.Common.{◌≡◌, ◌∙◌, ◌+◌, ◌*◌, length, set, ap, ap₂, sym, subst, arith}
 use Rattle.event_defs.proofs.WordLemmas.{code_below}
 use Rattle.event_defs.specs.Row.{word_place}
 use Rattle.port_walk.specs.Placed.{IsNextSend}

@@ -1,4 +1,4 @@
-use Rattle.std.proofs.Common.{◌≡◌, ◌∙◌, ◌≤◌, length, ap, ap₂, subst, sym}
+use Rattle.std.proofs.Common.{◌∙◌, ◌≤◌, length, ap, ap₂, subst, sym}
 use Rattle.net_defs.specs.declared.stimulus.Stimulus.{Stimulus}
 use Rattle.image_defs.specs.declared.image.Image.{Image}
 use Rattle.image_defs.specs.Frames.{shown}

@@ -1,5 +1,5 @@
-use Rattle.std.proofs.Common.{◌≡◌, ◌∙◌, ap, subst}
-use Rattle.event_core.specs.Core.{CoreView, rows_of}
+use Rattle.std.proofs.Common.{◌∙◌, ap}
+use Rattle.event_core.specs.Core.{rows_of}
 use Rattle.event_core.proofs.RoundLemmas.{host_there, is_host, rows_here}
 use Rattle.event_core.proofs.core_run.Core.rows_done.Goals as goal
 
