@@ -1,3 +1,0 @@
-pub mod AnyPort
-pub mod Passes
-pub mod Run
