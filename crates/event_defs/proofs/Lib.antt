@@ -1,6 +1,8 @@
+pub mod AlikeLemmas
 pub mod CountLemmas
 pub mod JoinLemmas
 pub mod KeptLemmas
+pub mod LinkLemmas
 pub mod NextLemmas
 pub mod PaceLemmas
 pub mod RowLemmas
