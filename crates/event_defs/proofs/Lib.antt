@@ -1,5 +1,6 @@
 pub mod AlikeLemmas
 pub mod CountLemmas
+pub mod ExistLemmas
 pub mod JoinLemmas
 pub mod KeptLemmas
 pub mod LinkLemmas
