@@ -1,8 +1,10 @@
 -- The seats: one by its number, and what an event makes of it.
-use Rattle.std.proofs.Common.{List, Some, ap, arith, get_or, le-mul_of_pos_right, length, slice_get, slice_index_or, subst, sym, ℕ, ◌%◌, ◌*◌, ◌+◌, ◌<◌, ◌∙◌, ◌≡◌, ◌≤◌}
+use Rattle.std.proofs.Common.{List, Some, ap, arith, get_or, inl, inr, le-mul_of_pos_right, length, slice_get, slice_index_or, subst, sym, ℕ, ◌%◌, ◌*◌, ◌+◌, ◌<◌, ◌∙◌, ◌≡◌, ◌≤◌}
+use Rattle.std.proofs.lemmas.Bool.{cases_lt}
 use Rattle.std.proofs.lemmas.Option.{get_or_from_slice_get, slice_get-get_or}
 use Rattle.image_defs.specs.declared.image.LinkIn.{LinkIn}
 use Rattle.image_defs.specs.declared.image.LinkOut.{LinkOut}
+use Rattle.event_defs.proofs.AlikeLemmas.{told}
 use Rattle.port_walk.specs.Placed.{CanPut, CanTake, HasPut, HasTaken, IsNextReceipt, IsNextSend, IsReceiving, IsSending, PlacedPort, in_next_turn}
 use Rattle.event_core.specs.Seats.{AtSeat, HasPutRoom, HasTakeRoom, seat_put, seat_taken, seat_told}
 use Rattle.event_core.specs.declared.seats.Seat.{Seat}
@@ -21,6 +23,12 @@ read_there seats p read inside is = entry_there seats p read inside is
 -- a number is below a bound that its multiple is below
 pub below_product : (n k b m : ℕ) → 1 ≤ k → n * k + b < m → n < m
 below_product n k b m some low = let more = le-mul_of_pos_right n some in omega arith
+
+pub not_less : (m n : ℕ) → (m < n → ⊥) → n ≤ m
+not_less m n never = elim (cases_lt m n) [
+  | inl less ↦ absurd (never less)
+  | inr most ↦ most
+]
 
 -- ---- events
 

@@ -16,6 +16,7 @@ ghost use Rattle.event_core.specs.Core.{Applies, AreDone, IsReady, IsRoundOf, Is
 use crate::rows;
 use crate::seats::{self, Seat};
 use crate::sources;
+use crate::words::{is_of, lags};
 use event_defs::{Action, CoreStep, Event};
 use image_defs::Image;
 use logic_four::{V4, decoded};
@@ -158,7 +159,7 @@ impl<'a> Core<'a> {
         let p = port as usize;
         let turn = seats::turn(self.seats.as_slice(), p);
         let finished = self.finished.as_slice()[reader as usize];
-        if finished < turn.saturating_sub(self.banks as u64) {
+        if lags(finished, turn, self.banks) {
             return CoreStep::NotYet;
         }
         seats::ask(self.seats.as_mut_slice(), p, reader, finished);
@@ -184,7 +185,7 @@ impl<'a> Core<'a> {
     {
         let p = port as usize;
         let word = seats::read(self.seats.as_slice(), p, self.banks, &self.words);
-        if word / 4 != seats::turn(self.seats.as_slice(), p) {
+        if !is_of(word, seats::turn(self.seats.as_slice(), p)) {
             return CoreStep::NotYet;
         }
         seats::take(self.seats.as_mut_slice(), p, decoded(word));

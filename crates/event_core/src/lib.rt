@@ -8,6 +8,7 @@ mod core_run;
 mod rows;
 mod seats;
 mod sources;
+mod words;
 
 pub use core_run::Core;
 pub use event_defs::{CoreStep, Event};

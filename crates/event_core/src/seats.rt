@@ -10,9 +10,10 @@ ghost use Rattle.event_core.specs.Made.{AreFirstSeats, AreFirsts, IsFirstSeat};
 ghost use Rattle.event_core.specs.Seats.{AtSeat, HasPutRoom, HasTakeRoom, HasWritten, IsNextIn, IsWordRead, seat_asked, seat_put, seat_taken, seat_told};
 
 use crate::sources;
+use crate::words::{first_bank, next_bank, place_of, word_of};
 use event_defs::Action;
 use image_defs::Image;
-use logic_four::{V4, code};
+use logic_four::V4;
 use net_defs::Stimulus;
 use port_walk::AnyPort;
 use seen_list::{List, Memory};
@@ -28,23 +29,6 @@ pub(crate) struct Seat<'a> {
     pub sources: List<u32>,
     pub first: u32,
     pub bank: u32,
-}
-
-/// The bank after this one.
-fn next_bank(bank: u32, banks: u32) -> u32
-    requires { bank < banks }
-    ensures { (turn : ℕ) → bank ≡ turn % banks → result ≡ (turn + 1) % banks }
-{
-    let next = bank + 1;
-    if next == banks { 0 } else { next }
-}
-
-/// The bank of turn 1.
-fn first_bank(banks: u32) -> u32
-    requires { 1 ≤ banks }
-    ensures { result ≡ 1 % banks }
-{
-    next_bank(0, banks)
 }
 
 /// The seat of a port before its first event.
@@ -134,8 +118,8 @@ pub(crate) fn write(seats: &[Seat], p: usize, banks: u32, words: &mut List<u64>,
     let seat = &seats[p];
     let _room = words.len();
     let send = seat.first as usize + seat.port.next_send();
-    let place = send * banks as usize + seat.bank as usize;
-    words.set(place, 4 * seat.port.turn() + code(value));
+    let place = place_of(send, seat.bank, banks);
+    words.set(place, word_of(seat.port.turn(), value));
 }
 
 /// The Put of a port that was next is made.
@@ -157,7 +141,7 @@ pub(crate) fn read(seats: &[Seat], p: usize, banks: u32, words: &List<u64>) -> u
 {
     let seat = &seats[p];
     let source = seat.sources.as_slice()[seat.port.next_receipt()];
-    words.as_slice()[source as usize * banks as usize + seat.bank as usize]
+    words.as_slice()[place_of(source as usize, seat.bank, banks)]
 }
 
 /// The Take of a port that was next is made, and gave this value.

@@ -1,4 +1,5 @@
 pub mod CountLemmas
+pub mod ExistLemmas
 pub mod JoinLemmas
 pub mod KeptLemmas
 pub mod LinkLemmas

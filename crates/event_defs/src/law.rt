@@ -1,23 +1,24 @@
 //! Laws of events: functions that do nothing, whose clauses hold of all well-formed images, stimuli, numbers
 //! of banks and orders.
 
-ghost use Rattle.std.specs.Prelude.{◌≡◌, ℕ, ◌+◌, ◌*◌, ◌<◌, ◌≤◌, List, length};
-ghost use Rattle.logic_four.specs.declared.V4.{V4};
+ghost use Rattle.std.specs.Prelude.{List, length, ℕ, ◌*◌, ◌+◌, ◌<◌, ◌≡◌, ◌≤◌};
 ghost use Rattle.logic_four.specs.Values.{code_of};
+ghost use Rattle.logic_four.specs.declared.V4.{V4};
 ghost use Rattle.net_defs.specs.declared.stimulus.Stimulus.{Stimulus};
-ghost use Rattle.image_defs.specs.declared.image.PortImage.{PortImage};
-ghost use Rattle.image_defs.specs.declared.image.Image.{Image};
-ghost use Rattle.image_defs.specs.Places.{IsPort, Stands};
-ghost use Rattle.image_defs.specs.WellFormed.{IsWellFormed};
 ghost use Rattle.image_defs.specs.Frames.{image_value};
+ghost use Rattle.image_defs.specs.Places.{Each, IsPort, Stands};
+ghost use Rattle.image_defs.specs.WellFormed.{IsWellFormed};
+ghost use Rattle.image_defs.specs.declared.image.Image.{Image};
+ghost use Rattle.image_defs.specs.declared.image.PortImage.{PortImage};
+ghost use Rattle.event_defs.specs.Counts.{events, events_left, moved_in};
+ghost use Rattle.event_defs.specs.Linked.{AreAlike, AreLinkedAlike};
+ghost use Rattle.event_defs.specs.Next.{IsNext};
+ghost use Rattle.event_defs.specs.Places.{start};
+ghost use Rattle.event_defs.specs.Sound.{IsSound};
+ghost use Rattle.event_defs.specs.Steps.{AllDone, AllIdle, AreFirstSteps, AreRounds, AreSteps, CoreState, Puts, Takes, first_state};
 ghost use Rattle.event_defs.specs.declared.place.Action.{Action};
 ghost use Rattle.event_defs.specs.declared.place.CoreStep.{CoreStep};
 ghost use Rattle.event_defs.specs.declared.place.Place.{Place};
-ghost use Rattle.event_defs.specs.Linked.{AreAlike, AreLinkedAlike};
-ghost use Rattle.event_defs.specs.Next.{IsNext};
-ghost use Rattle.event_defs.specs.Steps.{CoreState, Puts, Takes, AreFirstSteps, AreRounds, AllIdle, AllDone, first_state};
-ghost use Rattle.event_defs.specs.Sound.{IsSound};
-ghost use Rattle.event_defs.specs.Counts.{moved_in, events};
 
 /// A law: what a port does next is one.
 pub fn one_next()
@@ -57,6 +58,16 @@ pub fn some_port_moves()
         → AllIdle image banks until state → AllDone image until state }
 {}
 
+/// A law: before the first event as many events are left as a run has, and steps that move leave fewer.
+pub fn events_are_left()
+    ensures start { (image : Image) (banks until : ℕ) → IsWellFormed image → 1 ≤ banks
+        → events_left image banks until (λ p. start (length image.ports)) ≡ events image banks until }
+    ensures falls { (image : Image) (stimulus : Stimulus) (banks until : ℕ) (order : List ℕ) (old : CoreState) (answers : List CoreStep) (new : CoreState)
+        → IsWellFormed image → 1 ≤ banks → IsSound image stimulus banks until old
+        → AreSteps image stimulus banks until order old answers new
+        → moved_in answers + events_left image banks until new.place ≤ events_left image banks until old.place }
+{}
+
 /// A law: a run moves at most as often as it has events, whatever the order of its steps, and with one bank a
 /// run to its end exactly so often.
 pub fn events_of_a_run()
@@ -77,11 +88,18 @@ pub fn rounds_suffice()
         → AllDone image until state }
 {}
 
-/// A law: on images that are linked alike an order of steps goes through the same places and comes to the
-/// same answers, whatever the images compute.
+/// A law: the links of an image decide what comes of any steps. Images whose ports send and receive alike
+/// come to the same answers, the same places and words of the same turns, whatever they compute.
 pub fn links_decide()
     ensures { (one other : Image) (stimulus : Stimulus) (banks until : ℕ) (order : List ℕ) (answers others : List CoreStep) (state twin : CoreState)
         → IsWellFormed one → AreLinkedAlike one other
         → AreFirstSteps one stimulus banks until order answers state → AreFirstSteps other stimulus banks until order others twin
         → (answers ≡ others) × AreAlike state twin }
+{}
+
+/// A law: there are steps for each order of ports.
+pub fn steps_exist()
+    ensures { (image : Image) (stimulus : Stimulus) (banks until : ℕ) (order : List ℕ)
+        → IsWellFormed image → 1 ≤ banks → Each (λ p. p < length image.ports) order
+        → (answers : List CoreStep) × (state : CoreState) × AreFirstSteps image stimulus banks until order answers state }
 {}

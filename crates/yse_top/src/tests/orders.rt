@@ -160,10 +160,10 @@ fn orders_end_as_stated(rt: HostRuntime) -> Result<(), Fail> {
 /// An order text of so many steps of four ports, drawn by a small generator.
 fn drawn(alloc: Global, seed: u32, steps: u32) -> Result<Text, Memory> {
     let mut order = Text::new(alloc);
-    let mut state = seed % 65_521;
+    let mut state = seed;
     for _ in 0..steps {
-        state = (state * 17_364 + 1) % 65_521;
-        let line: &[u8] = match state / 97 % 4 {
+        state = state.wrapping_mul(1_664_525).wrapping_add(1_013_904_223);
+        let line: &[u8] = match state / 268_435_456 % 4 {
             0 => b"0\n",
             1 => b"1\n",
             2 => b"2\n",
