@@ -1,10 +1,10 @@
 -- The switch of the same items is the same.
-use Rattle.std.proofs.Common.{◌≡◌, ◌∙◌, ℕ, zero, suc, ◌<◌, ◌+◌, List, [], ◌∷◌, length, map, refl, sym, ap, subst, arith}
-use Rattle.std.specs.Prelude.{Some, None, Option, slice_get, get_or, option_map}
+use Rattle.std.proofs.Common.{◌≡◌, ◌∙◌, ℕ, zero, suc, ◌<◌, List, [], ◌∷◌, map, refl, sym, ap, subst, arith}
+use Rattle.std.specs.Prelude.{Some, slice_get, option_map}
 use Rattle.std.specs.List.{Contains}
 use Rattle.std.specs.List.Sorted.{IsStrictlyIncreasing}
 use Rattle.std.proofs.lemmas.Option.{slice_get_within, slice_get-map, get_or_from_slice_get}
-use Rattle.image_defs.proofs.PlaceLemmas.{Rises, rises}
+use Rattle.image_defs.proofs.PlaceLemmas.{rises}
 use Rattle.node_defs.specs.declared.items.NodeNet.{NodeNet}
 use Rattle.node_defs.specs.Same.{AreSameItems}
 use Rattle.node_defs.proofs.MemberLemmas.{member_at}
@@ -13,7 +13,7 @@ use Rattle.plan_defs.specs.declared.switch.Sending.{Sending}
 use Rattle.plan_defs.specs.declared.switch.Receipt.{Receipt}
 use Rattle.plan_defs.specs.Lists.{Lists}
 use Rattle.plan_defs.specs.Readers.{IsReader, IsReaderList}
-use Rattle.plan_defs.specs.Switches.{IsSent, IsSendingOf, AreSends, IsReceiptOf, AreReceipts}
+use Rattle.plan_defs.specs.Switches.{AreSends, AreReceipts}
 use Rattle.yse_compile.proofs.SamePlans.{reader_kept}
 
 -- ---- lists in ascending order with the same members
