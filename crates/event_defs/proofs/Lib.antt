@@ -1,3 +1,4 @@
+pub mod AlikeLemmas
 pub mod CountLemmas
 pub mod ExistLemmas
 pub mod JoinLemmas
