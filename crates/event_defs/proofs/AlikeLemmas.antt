@@ -111,8 +111,8 @@ written_stamp word p i b x q j c = elim (cases_eq q p) [
   | inl same ↦ elim (cases_eq j i) [
     | inl same_i ↦
         subst (λ q. stamp_of (written word p i b x q j c) ≡ written (λ q i b. stamp_of (word q i b)) p i b (stamp_of x) q j c) (sym same)
-          (subst (λ j. stamp_of (written word p i b x p j c) ≡ written (λ q i b. stamp_of (word q i b)) p i b (stamp_of x) p j c) (sym same_i)
-            (ap (λ w. stamp_of (w c)) (written_here word p i b x) ∙ (updated_stamp (word p i) b x c ∙ sym (ap (λ w. w c) (written_here (λ q i b. stamp_of (word q i b)) p i b (stamp_of x))))))
+        (subst (λ j. stamp_of (written word p i b x p j c) ≡ written (λ q i b. stamp_of (word q i b)) p i b (stamp_of x) p j c) (sym same_i)
+        (ap (λ w. stamp_of (w c)) (written_here word p i b x) ∙ (updated_stamp (word p i) b x c ∙ sym (ap (λ w. w c) (written_here (λ q i b. stamp_of (word q i b)) p i b (stamp_of x))))))
     | inr other ↦ ap (λ w. stamp_of (w c)) (written_there word p i b x q j (λ e. other e.1)) ∙ sym (ap (λ w. w c) (written_there (λ q i b. stamp_of (word q i b)) p i b (stamp_of x) q j (λ e. other e.1)))
   ]
   | inr away ↦ ap (λ w. stamp_of (w c)) (written_there word p i b x q j (λ e. away e.0)) ∙ sym (ap (λ w. w c) (written_there (λ q i b. stamp_of (word q i b)) p i b (stamp_of x) q j (λ e. away e.0)))

@@ -46,7 +46,7 @@ find_slot (x ∷ slots) s = elim (cases_eq x s) [
 -- the first of these numbers that lies too low, or none does
 first_low : (readers : List ℕ) (known : ℕ → ℕ) (banks turn : ℕ)
     → ((k r : ℕ) × (slice_get readers k ≡ Some r) × (known r + banks < turn) × ((m s : ℕ) → m < k → slice_get readers m ≡ Some s → turn ≤ known s + banks))
-      ⊎ ((m s : ℕ) → slice_get readers m ≡ Some s → turn ≤ known s + banks)
+    ⊎ ((m s : ℕ) → slice_get readers m ≡ Some s → turn ≤ known s + banks)
 first_low [] known banks turn = inr (λ m s at. cc)
 first_low (x ∷ readers) known banks turn = elim (cases_lt (known x + banks) turn) [
   | inl low ↦ inl (0, x, refl, low, λ m s less at. absurd (omega arith))
@@ -81,11 +81,15 @@ module _ (image : Image) (fits : IsWellFormed image) (p : ℕ) (port : PortImage
         | inr none ↦ inr (λ i link at same. absurd (none i link.slot (to_map (λ (l : LinkOut). l.slot) port.outs i link at) same))
         | inl there ↦
             let link = at_map (λ (l : LinkOut). l.slot) port.outs there.0 n there.1 in
-            inl (there.0, link.0, record {
-              is = link.1;
-              missing = ap (λ s. is_in s puts) link.2 ∙ missing;
-              below = subst (λ s. IsDoneBelow port puts takes s) (sym link.2) done;
-            })
+            inl (
+              there.0,
+              link.0,
+              record {
+                is = link.1;
+                missing = ap (λ s. is_in s puts) link.2 ∙ missing;
+                below = subst (λ s. IsDoneBelow port puts takes s) (sym link.2) done;
+              },
+            )
       ]
     ]
 
@@ -98,12 +102,16 @@ module _ (image : Image) (fits : IsWellFormed image) (p : ℕ) (port : PortImage
         | inr none ↦ inr (λ i link at same. absurd (none i link.slot (to_map (λ (l : LinkIn). l.slot) port.ins i link at) same))
         | inl there ↦
             let link = at_map (λ (l : LinkIn). l.slot) port.ins there.0 n there.1 in
-            inl (there.0, link.0, record {
-              is = link.1;
-              missing = ap (λ s. is_in s takes) link.2 ∙ missing;
-              below = subst (λ s. IsDoneBelow port puts takes s) (sym link.2) done;
-              put_there = λ i out at same. put i out at (same ∙ link.2);
-            })
+            inl (
+              there.0,
+              link.0,
+              record {
+                is = link.1;
+                missing = ap (λ s. is_in s takes) link.2 ∙ missing;
+                below = subst (λ s. IsDoneBelow port puts takes s) (sym link.2) done;
+                put_there = λ i out at same. put i out at (same ∙ link.2);
+              },
+            )
       ]
     ]
 
@@ -152,20 +160,26 @@ module _ (image : Image) (fits : IsWellFormed image) (p : ℕ) (port : PortImage
         | inr receives ↦ (action.Take receives.1.slot, (early, record { j = receives.0; link = receives.1; slot_is = refl; receives = receives.2 }))
         | inl sends ↦ elim (first_low sends.1.readers (known_of place) banks place.turn) [
           | inr near ↦ (action.Put sends.1.slot (value sends.1.slot), (early, record { i = sends.0; link = sends.1; slot_is = refl; sends = sends.2; ready = λ r stands. near stands.0 r stands.1 }, refl))
-          | inl lags ↦ (action.Ask lags.1, (early, record {
-            i = sends.0;
-            link = sends.1;
-            sends = sends.2;
-            reads = (lags.0, lags.2);
-            lags = lags.3;
-            least = λ s stands less. elim (cases_lt stands.0 lags.0) [
-              | inl before ↦ lags.4 stands.0 s before stands.1
-              | inr after ↦
-                  let own = (fits.ports p port is).sends sends.0 sends.1 sends.2.is in
-                  let wrong : lags.1 ≤ s = later sends.1.readers own.rising lags.0 stands.0 lags.1 s after lags.2 stands.1 in
-                  absurd (omega arith)
-            ];
-          }))
+          | inl lags ↦ (
+            action.Ask lags.1,
+            (
+              early,
+              record {
+                i = sends.0;
+                link = sends.1;
+                sends = sends.2;
+                reads = (lags.0, lags.2);
+                lags = lags.3;
+                least = λ s stands less. elim (cases_lt stands.0 lags.0) [
+                  | inl before ↦ lags.4 stands.0 s before stands.1
+                  | inr after ↦
+                      let own = (fits.ports p port is).sends sends.0 sends.1 sends.2.is in
+                      let wrong : lags.1 ≤ s = later sends.1.readers own.rising lags.0 stands.0 lags.1 s after lags.2 stands.1 in
+                      absurd (omega arith)
+                ];
+              },
+            ),
+          )
         ]
       ]
     ]
@@ -184,39 +198,39 @@ module _ (image : Image) (stimulus : Stimulus) (banks until : ℕ) (fits : IsWel
       let next = next_exists image fits p port is (old.place p) banks until (image_value image stimulus (old.place p).turn p) (sound.paced.places p port is).ends in
       by_action next.0 next.1
     where
-    by_action : (act : Action) → IsNext port (old.place p) banks until (image_value image stimulus (old.place p).turn p) act → (answer : CoreStep) × (new : CoreState) × IsStep image stimulus banks until p port old answer new
-    by_action (action.Ask r) next = elim (cases_lt (old.finished r + banks) (old.place p).turn) [
-      | inl less ↦ (NotYet, old, (next.0, inl (r, record { next = next.1; less = less }), refl))
-      | inr enough ↦ (Moved (event.Ask r), record old { place = updated old.place p (after_ask (old.place p) r (old.finished r)) }, (next.0, record { next = next.1; moves = enough; is = refl }))
-    ]
-    by_action (action.Put slot v) next = (
-      Moved (event.Put slot),
-      record old { place = updated old.place p (after_put (old.place p) slot); word = written old.word p next.1.i ((old.place p).turn % banks) (4 * (old.place p).turn + code_of (image_value image stimulus (old.place p).turn p slot)) },
-      (next.0, record { next = next.1; is = refl }),
-    )
-    by_action (action.Take slot) next =
-        let from = source image fits p port next.1.j next.1.link is next.1.receives.is in
-        let reads : Reads image banks p port old slot (old.word next.1.link.sender from.0 ((old.place p).turn % banks)) = record {
-          j = next.1.j;
-          link = next.1.link;
-          slot_is = next.1.slot_is;
-          receives = next.1.receives;
-          i = from.0;
-          sent = from.1;
-          send = from.2;
-          same_slot = from.3 ∙ next.1.slot_is;
-          word = refl;
-        } in
-        elim (read_stamp image stimulus banks until fits some old sound p port is slot (old.word next.1.link.sender from.0 ((old.place p).turn % banks)) reads) [
-          | inl now ↦ (Moved (event.Take slot), record old { place = updated old.place p (after_take (old.place p) slot) }, (next.0, record { x = old.word next.1.link.sender from.0 ((old.place p).turn % banks); reads = reads; moves = now.1; is = refl }))
-          | inr older ↦ (NotYet, old, (next.0, inr (slot, record { x = old.word next.1.link.sender from.0 ((old.place p).turn % banks); reads = reads; less = older.1 }), refl))
-        ]
-    by_action action.Tell next = (
-      Moved event.Tell,
-      record old { place = updated old.place p (after_tell (old.place p)); finished = updated old.finished p (old.place p).turn },
-      (next.0, record { next = next.1; is = refl }),
-    )
-    by_action action.Done next = (Done, old, (next, refl))
+      by_action : (act : Action) → IsNext port (old.place p) banks until (image_value image stimulus (old.place p).turn p) act → (answer : CoreStep) × (new : CoreState) × IsStep image stimulus banks until p port old answer new
+      by_action (action.Ask r) next = elim (cases_lt (old.finished r + banks) (old.place p).turn) [
+        | inl less ↦ (NotYet, old, (next.0, inl (r, record { next = next.1; less = less }), refl))
+        | inr enough ↦ (Moved (event.Ask r), record old { place = updated old.place p (after_ask (old.place p) r (old.finished r)) }, (next.0, record { next = next.1; moves = enough; is = refl }))
+      ]
+      by_action (action.Put slot v) next = (
+        Moved (event.Put slot),
+        record old { place = updated old.place p (after_put (old.place p) slot); word = written old.word p next.1.i ((old.place p).turn % banks) (4 * (old.place p).turn + code_of (image_value image stimulus (old.place p).turn p slot)) },
+        (next.0, record { next = next.1; is = refl }),
+      )
+      by_action (action.Take slot) next =
+          let from = source image fits p port next.1.j next.1.link is next.1.receives.is in
+          let reads : Reads image banks p port old slot (old.word next.1.link.sender from.0 ((old.place p).turn % banks)) = record {
+            j = next.1.j;
+            link = next.1.link;
+            slot_is = next.1.slot_is;
+            receives = next.1.receives;
+            i = from.0;
+            sent = from.1;
+            send = from.2;
+            same_slot = from.3 ∙ next.1.slot_is;
+            word = refl;
+          } in
+          elim (read_stamp image stimulus banks until fits some old sound p port is slot (old.word next.1.link.sender from.0 ((old.place p).turn % banks)) reads) [
+            | inl now ↦ (Moved (event.Take slot), record old { place = updated old.place p (after_take (old.place p) slot) }, (next.0, record { x = old.word next.1.link.sender from.0 ((old.place p).turn % banks); reads = reads; moves = now.1; is = refl }))
+            | inr older ↦ (NotYet, old, (next.0, inr (slot, record { x = old.word next.1.link.sender from.0 ((old.place p).turn % banks); reads = reads; less = older.1 }), refl))
+          ]
+      by_action action.Tell next = (
+        Moved event.Tell,
+        record old { place = updated old.place p (after_tell (old.place p)); finished = updated old.finished p (old.place p).turn },
+        (next.0, record { next = next.1; is = refl }),
+      )
+      by_action action.Done next = (Done, old, (next, refl))
 
   pub steps_exist : (order : List ℕ) → Each (λ p. p < length image.ports) order → (old : CoreState) → IsSound image stimulus banks until old → (answers : List CoreStep) × (new : CoreState) × AreSteps image stimulus banks until order old answers new
   unfolding AreSteps
@@ -227,6 +241,6 @@ module _ (image : Image) (stimulus : Stimulus) (banks until : ℕ) (fits : IsWel
       let rest = steps_exist order (λ i q at. low (suc i) q at) first.1 (step_sound image stimulus banks until fits some old sound p port.0 port.1 first.0 first.1 first.2) in
       (first.0 ∷ rest.0, rest.1, (port.0, first.0, rest.0, first.1, port.1, refl, first.2, rest.2))
     where
-    port_at : (((x : PortImage) × (p < length image.ports) × (slice_get image.ports p ≡ Some x) × (slice_index_or image.ports p x ≡ x)) ⊎ ((length image.ports ≤ p) × (slice_get image.ports p ≡ None))) → p < length image.ports → (port : PortImage) × IsPort image p port
-    port_at (inl there) inside = (there.0, there.2)
-    port_at (inr past) inside = let far = past.0 in absurd (omega arith)
+      port_at : (((x : PortImage) × (p < length image.ports) × (slice_get image.ports p ≡ Some x) × (slice_index_or image.ports p x ≡ x)) ⊎ ((length image.ports ≤ p) × (slice_get image.ports p ≡ None))) → p < length image.ports → (port : PortImage) × IsPort image p port
+      port_at (inl there) inside = (there.0, there.2)
+      port_at (inr past) inside = let far = past.0 in absurd (omega arith)

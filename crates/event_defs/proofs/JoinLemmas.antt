@@ -30,10 +30,17 @@ module _ (image : Image) (stimulus : Stimulus) (banks until : ℕ) where
   unfolding AreSteps
   steps_join [] other old middle new first second before after =
       subst (λ (xs : List CoreStep). AreSteps image stimulus banks until other old (xs ++ second) new) (sym before.0)
-        (subst (λ (s : CoreState). AreSteps image stimulus banks until other s second new) before.1 after)
-  steps_join (p ∷ one) other old middle new first second before after =
-      (before.0, before.1, before.2 ++ second, before.3, before.4, ap (λ xs. xs ++ second) before.5, before.6,
-        steps_join one other before.3 middle new before.2 second before.7 after)
+      (subst (λ (s : CoreState). AreSteps image stimulus banks until other s second new) before.1 after)
+  steps_join (p ∷ one) other old middle new first second before after = (
+    before.0,
+    before.1,
+    before.2 ++ second,
+    before.3,
+    before.4,
+    ap (λ xs. xs ++ second) before.5,
+    before.6,
+    steps_join one other before.3 middle new before.2 second before.7 after,
+  )
 
   pub steps_one : (p : ℕ) (port : PortImage) (old new : CoreState) (answer : CoreStep) → IsPort image p port → IsStep image stimulus banks until p port old answer new
       → AreSteps image stimulus banks until (p ∷ []) old (answer ∷ []) new

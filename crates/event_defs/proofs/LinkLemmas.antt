@@ -140,8 +140,8 @@ module _ (one other : Image) (linked : AreLinkedAlike one other) (fits : IsWellF
         let first = same_answer banks until some s t alike p a.0 b.0 a.4 b.4 one_stimulus other_stimulus fits_other sound sound_other a.1 b.1 a.3 b.3 x y in
         let middle = same_after banks until some s t alike p a.0 b.0 a.4 b.4 one_stimulus other_stimulus fits_other sound sound_other a.1 b.1 a.3 b.3 x y in
         let rest = steps_alike order a.3 b.3 a.2 b.2 new_s new_t middle
-            (step_sound one one_stimulus banks until fits some s sound p a.0 a.4 a.1 a.3 a.6)
-            (step_sound other other_stimulus banks until fits_other some t sound_other p b.0 b.4 b.1 b.3 b.6) a.7 b.7 in
+        (step_sound one one_stimulus banks until fits some s sound p a.0 a.4 a.1 a.3 a.6)
+        (step_sound other other_stimulus banks until fits_other some t sound_other p b.0 b.4 b.1 b.3 b.6) a.7 b.7 in
         (a.5 ∙ (ap₂ (λ answer answers. answer ∷ answers) first rest.0 ∙ sym b.5), rest.1)
 
     pub first_alike : AreAlike (first_state (length one.ports)) (first_state (length other.ports))
@@ -152,5 +152,5 @@ module _ (one other : Image) (linked : AreLinkedAlike one other) (fits : IsWellF
         → (xs ≡ ys) × (s.place ≡ t.place) × (rows_done one s ≡ rows_done other t)
     links_decide order xs ys s t a b =
         let all = steps_alike order (first_state (length one.ports)) (first_state (length other.ports)) xs ys s t first_alike
-            (starts_sound one one_stimulus banks until fits some) (starts_sound other other_stimulus banks until fits_other some) a b in
+        (starts_sound one one_stimulus banks until fits some) (starts_sound other other_stimulus banks until fits_other some) a b in
         (all.0, all.1.place, ap₂ (λ (f : ℕ → ℕ) n. f (n - 1) / one.units) all.1.finished linked.count ∙ ap (λ u. t.finished (length other.ports - 1) / u) linked.units)

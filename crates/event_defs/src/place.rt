@@ -3,8 +3,9 @@
 use logic_four::V4;
 use seen_list::List;
 
-/// Where a port stands: its turn, counted from 1, the slots whose items it has sent in this turn, those in
-/// which it has received, and for each port how many turns it knows that port to have finished.
+/// Where a port stands: its turn, counted from 1, the slots whose items it has sent in this turn,
+/// those in which it has received, and for each port how many turns it knows that port to have
+/// finished.
 #[derive(Drop)]
 pub struct Place {
     pub turn: u64,
