@@ -21,6 +21,7 @@ use Rattle.event_defs.proofs.PaceLemmas.{inside}
 use Rattle.event_defs.proofs.RowLemmas.{number_within, place_within, send_within, set_updated}
 use Rattle.event_defs.proofs.SlotLemmas.{to_map}
 use Rattle.event_defs.specs.Next.{EndsNext, IsNext, ReceivesNext, SendsNext}
+use Rattle.event_defs.specs.Counts.{moves}
 use Rattle.event_defs.specs.Places.{IsSend, start}
 use Rattle.event_defs.specs.Row.{send_count, send_number, word_in, word_place}
 use Rattle.event_defs.specs.Steps.{CoreState, IsStep, updated}
@@ -159,7 +160,7 @@ module _ (a : Inside) (kept : IsKept a) (p : ℕ) (within : p < length a.image.n
     each = λ i link sending.
         let s : IsSending (record seat.port { image = image; stimulus = stimulus; port = p; until = until }) i link = subst (λ (w : PlacedPort). IsSending w i link) is_seat.port sending in
         subst (λ n. word_place a.banks (n + i) seat.bank < length a.words) (sym is_seat.first)
-          (word_low p i seat.bank link (record { port = s.seat; is = s.is; link_is = s.next.is }) bank_low);
+        (word_low p i seat.bank link (record { port = s.seat; is = s.is; link_is = s.next.is }) bank_low);
   }
 
   -- the source of a receipt
@@ -198,15 +199,15 @@ module _ (a : Inside) (kept : IsKept a) (p : ℕ) (within : p < length a.image.n
     state_after =
         let long : p < length (map place_in a.seats) = (let e = length-map a.seats place_in in let s = kept.seats in omega arith) in
         let places : ◌≡◌ {A = ℕ → Place} (λ q. slice_index_or (map place_in (slice_set a.seats p other)) q (start (length image.ports))) (updated state.place p (place_in other)) =
-            ap {A = List Place} {B = ℕ → Place} (λ (xs : List Place). λ q. slice_index_or xs q (start (length image.ports))) (map-set place_in a.seats p other)
-            ∙ set_updated (map place_in a.seats) p (place_in other) (start (length image.ports)) long in
+        ap {A = List Place} {B = ℕ → Place} (λ (xs : List Place). λ q. slice_index_or xs q (start (length image.ports))) (map-set place_in a.seats p other)
+        ∙ set_updated (map place_in a.seats) p (place_in other) (start (length image.ports)) long in
         ap {A = ℕ → Place} {B = CoreState} (λ f. record { place = f; finished = λ q. slice_index_or finished q 0; word = word_in image a.banks words }) places
 
     -- it is kept, and this was a step
-    pub stepped : (answer : CoreStep) → IsSeat image stimulus a.banks p other → length finished ≡ length image.ports → length words ≡ send_count image * a.banks
+    pub stepped : (answer : CoreStep) → (moves answer ≡ 0 → ⊥) → IsSeat image stimulus a.banks p other → length finished ≡ length image.ports → length words ≡ send_count image * a.banks
         → ((port : PortImage) → IsPort image p port → IsStep image stimulus a.banks until p port state answer (state_of (view_of after)))
         → IsKept after × Applies (view_of a) p answer (view_of after)
-    stepped answer seated finished_long words_long step = (
+    stepped answer moved seated finished_long words_long step = (
       record {
         image = kept.image;
         stimulus = kept.stimulus;
@@ -218,5 +219,5 @@ module _ (a : Inside) (kept : IsKept a) (p : ℕ) (within : p < length a.image.n
         each = set_member (IsSeat image stimulus a.banks) a.seats p other seated kept.each;
         sound = step_sound image stimulus a.banks until kept.image kept.some state kept.sound p port_there.0 port_there.1 answer (state_of (view_of after)) (step port_there.0 port_there.1);
       },
-      record { same = refl; step = step },
+      record { same = refl; step = step; still = λ none. absurd (moved none) },
     )

@@ -71,6 +71,7 @@ module _ (a : Inside) (kept : IsKept a) (p : ℕ) (within : p < length a.image.n
   pub ask_waits : (r turn : ℕ) → IsUpcoming (view_of a) p (action.Ask r) → turn ≡ seat.port.turn → slice_index_or a.finished r 0 < turn - a.banks → Applies (view_of a) p NotYet (view_of a)
   ask_waits r turn upcoming is less = record {
     same = refl;
+    still = λ none. refl;
     step = λ port is_port.
         let next = upcoming.each port is_port in
         let e = turn_is turn is in
@@ -79,22 +80,24 @@ module _ (a : Inside) (kept : IsKept a) (p : ℕ) (within : p < length a.image.n
 
   pub ask_moves : (r turn : ℕ) → IsUpcoming (view_of a) p (action.Ask r) → turn ≡ seat.port.turn → turn - a.banks ≤ slice_index_or a.finished r 0
       → IsKept (record a { seats = slice_set a.seats p (seat_asked seat r (slice_index_or a.finished r 0)) })
-        × Applies (view_of a) p (Moved (event.Ask r)) (view_of (record a { seats = slice_set a.seats p (seat_asked seat r (slice_index_or a.finished r 0)) }))
+      × Applies (view_of a) p (Moved (event.Ask r)) (view_of (record a { seats = slice_set a.seats p (seat_asked seat r (slice_index_or a.finished r 0)) }))
   ask_moves r turn upcoming is more =
       let n : ℕ = slice_index_or a.finished r 0 in
       let s = is_seat a kept p within in
-      stepped a kept p within (seat_asked seat r (slice_index_or a.finished r 0)) a.finished a.words (Moved (event.Ask r))
-        (record { port = s.port; bank = s.bank; first = s.first; sources = s.sources })
-        kept.finished kept.words
-        (λ port is_port.
-          let next = upcoming.each port is_port in
-          let e = turn_is turn is in
-          (next.0, record {
-            next = next.1;
-            moves = omega arith;
-            is = state_after a kept p within (seat_asked seat r (slice_index_or a.finished r 0)) a.finished a.words
-                ∙ ap {A = Place} {B = CoreState} (λ (x : Place). record state { place = updated state.place p (after_ask x r (slice_index_or a.finished r 0)) }) (sym (here a kept p within));
-          }))
+      stepped a kept p within (seat_asked seat r (slice_index_or a.finished r 0)) a.finished a.words (Moved (event.Ask r)) (λ none. absurd (omega arith))
+      (record { port = s.port; bank = s.bank; first = s.first; sources = s.sources })
+      kept.finished kept.words
+      (λ port is_port.
+      let next = upcoming.each port is_port in
+      let e = turn_is turn is in (
+        next.0,
+        record {
+          next = next.1;
+          moves = omega arith;
+          is = state_after a kept p within (seat_asked seat r (slice_index_or a.finished r 0)) a.finished a.words
+              ∙ ap {A = Place} {B = CoreState} (λ (x : Place). record state { place = updated state.place p (after_ask x r (slice_index_or a.finished r 0)) }) (sym (here a kept p within));
+        },
+      ))
 
   -- ---- Put
 
@@ -126,19 +129,21 @@ module _ (a : Inside) (kept : IsKept a) (p : ℕ) (within : p < length a.image.n
       let seats_are : seats ≡ slice_set a.seats p (seat_put seat slot) = reseats put.i put.link sending ∙ ap (λ s. slice_set a.seats p (seat_put seat s)) put.slot_is in
       let words_are : words ≡ slice_set a.words (word_place a.banks (send_number image p put.i) ((state.place p).turn % a.banks)) (4 * (state.place p).turn + code_of (image_value image stimulus (state.place p).turn p slot)) = words_put put.i put.link sending slot v words wrote next.2 in
       subst (λ (xs : List Seat). IsKept (record a { seats = xs; words = words }) × Applies (view_of a) p (Moved (event.Put slot)) (view_of (record a { seats = xs; words = words }))) (sym seats_are)
-        (subst (λ (ws : List ℕ). IsKept (record a { seats = slice_set a.seats p (seat_put seat slot); words = ws }) × Applies (view_of a) p (Moved (event.Put slot)) (view_of (record a { seats = slice_set a.seats p (seat_put seat slot); words = ws }))) (sym words_are)
-          (stepped a kept p within (seat_put seat slot) a.finished (slice_set a.words (word_place a.banks (send_number image p put.i) ((state.place p).turn % a.banks)) (4 * (state.place p).turn + code_of (image_value image stimulus (state.place p).turn p slot))) (Moved (event.Put slot))
-            (put_seated slot)
-            kept.finished
-            (length-set a.words (word_place a.banks (send_number image p put.i) ((state.place p).turn % a.banks)) (4 * (state.place p).turn + code_of (image_value image stimulus (state.place p).turn p slot)) ∙ kept.words)
-            (λ q is_q.
-              let next_q = upcoming.each q is_q in
-              let put_q : PutsNext q (state.place p) a.banks slot = next_q.1 in
-              let same_i : put.i ≡ put_q.i = (puts_one image kept.image p q is_q (state.place p) a.banks slot slot (subst (λ (s : PortImage). PutsNext s (state.place p) a.banks slot) (same_port image p port.0 q port.1 is_q) put) put_q).0 in
-              (next_q.0, record {
-                next = put_q;
-                is = put_state put.i put.link (record { port = port.0; is = port.1; link_is = put.sends.is }) slot ∙ ap {A = ℕ} {B = CoreState} (λ i. record state { place = updated state.place p (after_put (state.place p) slot); word = written state.word p i ((state.place p).turn % a.banks) (4 * (state.place p).turn + code_of (image_value image stimulus (state.place p).turn p slot)) }) same_i;
-              }))))
+      (subst (λ (ws : List ℕ). IsKept (record a { seats = slice_set a.seats p (seat_put seat slot); words = ws }) × Applies (view_of a) p (Moved (event.Put slot)) (view_of (record a { seats = slice_set a.seats p (seat_put seat slot); words = ws }))) (sym words_are)
+      (stepped a kept p within (seat_put seat slot) a.finished (slice_set a.words (word_place a.banks (send_number image p put.i) ((state.place p).turn % a.banks)) (4 * (state.place p).turn + code_of (image_value image stimulus (state.place p).turn p slot))) (Moved (event.Put slot)) (λ none. absurd (omega arith))
+      (put_seated slot)
+      kept.finished
+      (length-set a.words (word_place a.banks (send_number image p put.i) ((state.place p).turn % a.banks)) (4 * (state.place p).turn + code_of (image_value image stimulus (state.place p).turn p slot)) ∙ kept.words)
+      (λ q is_q.
+      let next_q = upcoming.each q is_q in
+      let put_q : PutsNext q (state.place p) a.banks slot = next_q.1 in
+      let same_i : put.i ≡ put_q.i = (puts_one image kept.image p q is_q (state.place p) a.banks slot slot (subst (λ (s : PortImage). PutsNext s (state.place p) a.banks slot) (same_port image p port.0 q port.1 is_q) put) put_q).0 in (
+        next_q.0,
+        record {
+          next = put_q;
+          is = put_state put.i put.link (record { port = port.0; is = port.1; link_is = put.sends.is }) slot ∙ ap {A = ℕ} {B = CoreState} (λ i. record state { place = updated state.place p (after_put (state.place p) slot); word = written state.word p i ((state.place p).turn % a.banks) (4 * (state.place p).turn + code_of (image_value image stimulus (state.place p).turn p slot)) }) same_i;
+        },
+      ))))
     where
       put_seated : (slot : ℕ) → IsSeat image stimulus a.banks p (seat_put seat slot)
       put_seated slot = let s = is_seat a kept p within in record { port = ap {A = PlacedPort} {B = PlacedPort} (λ (w : PlacedPort). record w { puts = seat.port.puts ++ slot ∷ [] }) s.port; bank = s.bank; first = s.first; sources = s.sources }
@@ -149,17 +154,17 @@ module _ (a : Inside) (kept : IsKept a) (p : ℕ) (within : p < length a.image.n
           let s = is_seat a kept p within in
           wrote.each i link sending
           ∙ ap₂ (λ n x. slice_set a.words n x)
-              (ap₂ (λ first b. word_place a.banks (first + i) b) s.first (s.bank ∙ ap (λ t. t % a.banks) (sym (here_turn a kept p within))))
-              (ap₂ (λ t code. 4 * t + code) (sym (here_turn a kept p within)) (ap code_of value))
+          (ap₂ (λ first b. word_place a.banks (first + i) b) s.first (s.bank ∙ ap (λ t. t % a.banks) (sym (here_turn a kept p within))))
+          (ap₂ (λ t code. 4 * t + code) (sym (here_turn a kept p within)) (ap code_of value))
 
       put_state : (i : ℕ) (link : LinkOut) → IsSend image p i link → (slot : ℕ)
           → state_of (view_of (record a { seats = slice_set a.seats p (seat_put seat slot); words = slice_set a.words (word_place a.banks (send_number image p i) ((state.place p).turn % a.banks)) (4 * (state.place p).turn + code_of (image_value image stimulus (state.place p).turn p slot)) }))
-            ≡ record state { place = updated state.place p (after_put (state.place p) slot); word = written state.word p i ((state.place p).turn % a.banks) (4 * (state.place p).turn + code_of (image_value image stimulus (state.place p).turn p slot)) }
+          ≡ record state { place = updated state.place p (after_put (state.place p) slot); word = written state.word p i ((state.place p).turn % a.banks) (4 * (state.place p).turn + code_of (image_value image stimulus (state.place p).turn p slot)) }
       put_state i link send slot =
           state_after a kept p within (seat_put seat slot) a.finished (slice_set a.words (word_place a.banks (send_number image p i) ((state.place p).turn % a.banks)) (4 * (state.place p).turn + code_of (image_value image stimulus (state.place p).turn p slot)))
           ∙ (ap {A = Place} {B = CoreState} (λ (x : Place). record state { place = updated state.place p (after_put x slot); word = word_in image a.banks (slice_set a.words (word_place a.banks (send_number image p i) ((state.place p).turn % a.banks)) (4 * (state.place p).turn + code_of (image_value image stimulus (state.place p).turn p slot))) }) (sym (here a kept p within))
           ∙ ap {A = ℕ → ℕ → ℕ → ℕ} {B = CoreState} (λ w. record state { place = updated state.place p (after_put (state.place p) slot); word = w })
-              (word_set image a.banks a.words p i ((state.place p).turn % a.banks) (4 * (state.place p).turn + code_of (image_value image stimulus (state.place p).turn p slot)) within (send_within image p i link send) (mod-lt (state.place p).turn kept.some) kept.words))
+          (word_set image a.banks a.words p i ((state.place p).turn % a.banks) (4 * (state.place p).turn + code_of (image_value image stimulus (state.place p).turn p slot)) within (send_within image p i link send) (mod-lt (state.place p).turn kept.some) kept.words))
 
   -- ---- Take
 
@@ -196,6 +201,7 @@ module _ (a : Inside) (kept : IsKept a) (p : ℕ) (within : p < length a.image.n
   pub take_waits : (slot x turn : ℕ) → IsUpcoming (view_of a) p (action.Take slot) → IsWordRead seat a.banks a.words x → turn ≡ seat.port.turn → (x / 4 ≡ turn → ⊥) → Applies (view_of a) p NotYet (view_of a)
   take_waits slot x turn upcoming read is other = record {
     same = refl;
+    still = λ none. refl;
     step = λ port is_port.
         let next = upcoming.each port is_port in
         let reads = reads_word slot x upcoming read port is_port in
@@ -228,18 +234,20 @@ module _ (a : Inside) (kept : IsKept a) (p : ℕ) (within : p < length a.image.n
       let seats_are : seats ≡ slice_set a.seats p (seat_taken seat slot) = reseats take.j take.link receiving ∙ ap (λ s. slice_set a.seats p (seat_taken seat s)) take.slot_is in
       let s = is_seat a kept p within in
       subst (λ (xs : List Seat). IsKept (record a { seats = xs }) × Applies (view_of a) p (Moved (event.Take slot)) (view_of (record a { seats = xs }))) (sym seats_are)
-        (stepped a kept p within (seat_taken seat slot) a.finished a.words (Moved (event.Take slot))
-          (record { port = ap {A = PlacedPort} {B = PlacedPort} (λ (w : PlacedPort). record w { takes = seat.port.takes ++ slot ∷ [] }) s.port; bank = s.bank; first = s.first; sources = s.sources })
-          kept.finished kept.words
-          (λ q is_q.
-            let next_q = upcoming.each q is_q in
-            (next_q.0, record {
-              x = x;
-              reads = reads_word slot x upcoming read q is_q;
-              moves = stamp ∙ turn_is turn is;
-              is = state_after a kept p within (seat_taken seat slot) a.finished a.words
-                  ∙ ap {A = Place} {B = CoreState} (λ (y : Place). record state { place = updated state.place p (after_take y slot) }) (sym (here a kept p within));
-            })))
+      (stepped a kept p within (seat_taken seat slot) a.finished a.words (Moved (event.Take slot)) (λ none. absurd (omega arith))
+      (record { port = ap {A = PlacedPort} {B = PlacedPort} (λ (w : PlacedPort). record w { takes = seat.port.takes ++ slot ∷ [] }) s.port; bank = s.bank; first = s.first; sources = s.sources })
+      kept.finished kept.words
+      (λ q is_q.
+      let next_q = upcoming.each q is_q in (
+        next_q.0,
+        record {
+          x = x;
+          reads = reads_word slot x upcoming read q is_q;
+          moves = stamp ∙ turn_is turn is;
+          is = state_after a kept p within (seat_taken seat slot) a.finished a.words
+              ∙ ap {A = Place} {B = CoreState} (λ (y : Place). record state { place = updated state.place p (after_take y slot) }) (sym (here a kept p within));
+        },
+      )))
 
   -- ---- Tell
 
@@ -251,18 +259,20 @@ module _ (a : Inside) (kept : IsKept a) (p : ℕ) (within : p < length a.image.n
 
   pub tell_moves : (turn : ℕ) → IsUpcoming (view_of a) p action.Tell → turn ≡ seat.port.turn
       → IsKept (record a { seats = slice_set a.seats p (seat_told seat ((seat.port.turn + 1) % a.banks)); finished = slice_set a.finished p turn })
-        × Applies (view_of a) p (Moved event.Tell) (view_of (record a { seats = slice_set a.seats p (seat_told seat ((seat.port.turn + 1) % a.banks)); finished = slice_set a.finished p turn }))
+      × Applies (view_of a) p (Moved event.Tell) (view_of (record a { seats = slice_set a.seats p (seat_told seat ((seat.port.turn + 1) % a.banks)); finished = slice_set a.finished p turn }))
   tell_moves turn upcoming is =
       let s = is_seat a kept p within in
-      stepped a kept p within (seat_told seat ((seat.port.turn + 1) % a.banks)) (slice_set a.finished p turn) a.words (Moved event.Tell)
-        (record { port = ap in_next_turn s.port; bank = refl; first = s.first; sources = s.sources })
-        (length-set a.finished p turn ∙ kept.finished) kept.words
-        (λ port is_port.
-          let next = upcoming.each port is_port in
-          (next.0, record {
-            next = next.1;
-            is = state_after a kept p within (seat_told seat ((seat.port.turn + 1) % a.banks)) (slice_set a.finished p turn) a.words
-                ∙ (ap {A = ℕ → ℕ} {B = CoreState} (λ f. record state { place = updated state.place p (after_tell (place_in seat)); finished = f }) (set_updated a.finished p turn 0 (let long = kept.finished in omega arith))
-                ∙ (ap {A = Place} {B = CoreState} (λ (x : Place). record state { place = updated state.place p (after_tell x); finished = updated state.finished p turn }) (sym (here a kept p within))
-                ∙ ap {A = ℕ} {B = CoreState} (λ t. record state { place = updated state.place p (after_tell (state.place p)); finished = updated state.finished p t }) (turn_is turn is)));
-          }))
+      stepped a kept p within (seat_told seat ((seat.port.turn + 1) % a.banks)) (slice_set a.finished p turn) a.words (Moved event.Tell) (λ none. absurd (omega arith))
+      (record { port = ap in_next_turn s.port; bank = refl; first = s.first; sources = s.sources })
+      (length-set a.finished p turn ∙ kept.finished) kept.words
+      (λ port is_port.
+      let next = upcoming.each port is_port in (
+        next.0,
+        record {
+          next = next.1;
+          is = state_after a kept p within (seat_told seat ((seat.port.turn + 1) % a.banks)) (slice_set a.finished p turn) a.words
+              ∙ (ap {A = ℕ → ℕ} {B = CoreState} (λ f. record state { place = updated state.place p (after_tell (place_in seat)); finished = f }) (set_updated a.finished p turn 0 (let long = kept.finished in omega arith))
+              ∙ (ap {A = Place} {B = CoreState} (λ (x : Place). record state { place = updated state.place p (after_tell x); finished = updated state.finished p turn }) (sym (here a kept p within))
+              ∙ ap {A = ℕ} {B = CoreState} (λ t. record state { place = updated state.place p (after_tell (state.place p)); finished = updated state.finished p t }) (turn_is turn is)));
+        },
+      ))

@@ -32,14 +32,14 @@ module _ (old new : CoreView) (p : ℕ) (answer : CoreStep) (ready : IsReady old
   pub sound_after : Applies old p answer new → IsSoundCore new
   sound_after applies =
       subst IsSoundCore (sym applies.same)
-        (subst (IsSound old.image old.stimulus old.banks (turns_of old)) (ap state_of applies.same)
-          (step_sound old.image old.stimulus old.banks (turns_of old) ready.image ready.some (state_of old) ready.sound p port_there.0 port_there.1 answer (state_of new) (applies.step port_there.0 port_there.1)))
+      (subst (IsSound old.image old.stimulus old.banks (turns_of old)) (ap state_of applies.same)
+      (step_sound old.image old.stimulus old.banks (turns_of old) ready.image ready.some (state_of old) ready.sound p port_there.0 port_there.1 answer (state_of new) (applies.step port_there.0 port_there.1)))
 
   pub takes_right : Applies old p answer new → TakesThisTurn old p answer
   takes_right applies = record {
     each = λ port slot is taken.
         let step : IsStep old.image old.stimulus old.banks (turns_of old) p port (state_of old) (Moved (event.Take slot)) (state_of new) =
-            subst (λ (x : CoreStep). IsStep old.image old.stimulus old.banks (turns_of old) p port (state_of old) x (state_of new)) taken (applies.step port is) in
+        subst (λ (x : CoreStep). IsStep old.image old.stimulus old.banks (turns_of old) p port (state_of old) x (state_of new)) taken (applies.step port is) in
         let take : Takes old.image old.banks p port (state_of old) slot (state_of new) = step.1 in
         record {
           x = take.x;
@@ -57,7 +57,7 @@ module _ (old new : CoreView) (p : ℕ) (answer : CoreStep) (ready : IsReady old
 
 pub none_stepped : (view : CoreView) → HasStepped view 0 0 view
 unfolding AreSteps moved_in
-none_stepped view = record { same = refl; answers = []; steps = (refl, refl); moved_are = refl; few = omega arith }
+none_stepped view = record { same = refl; answers = []; steps = (refl, refl); moved_are = refl; few = omega arith; still = λ none. refl }
 
 pub one_stepped : (old now new : CoreView) (n moved more : ℕ) (answer : CoreStep) → n < length old.image.ports → HasStepped old n moved now → Applies now n answer new → more ≡ moves answer → HasStepped old (n + 1) (moved + more) new
 one_stepped old now new n moved more answer inside has applies is =
@@ -66,7 +66,7 @@ one_stepped old now new n moved more answer inside has applies is =
     let applies_old : Applies same_now n answer new = subst (λ (v : CoreView). Applies v n answer new) has.same applies in
     let step : IsStep old.image old.stimulus old.banks (turns_of old) n port.0 (state_of same_now) answer (state_of new) = applies_old.step port.0 port.1 in
     let before : AreSteps old.image old.stimulus old.banks (turns_of old) (range_with_len 0 n) (state_of old) has.answers (state_of same_now) =
-        subst (λ (v : CoreView). AreSteps old.image old.stimulus old.banks (turns_of old) (range_with_len 0 n) (state_of old) has.answers (state_of v)) has.same has.steps in
+    subst (λ (v : CoreView). AreSteps old.image old.stimulus old.banks (turns_of old) (range_with_len 0 n) (state_of old) has.answers (state_of v)) has.same has.steps in
     let few = moves_few answer in
     let were = has.few in
     record {
@@ -74,24 +74,25 @@ one_stepped old now new n moved more answer inside has applies is =
       answers = has.answers ++ answer ∷ [];
       steps = subst (λ order. AreSteps old.image old.stimulus old.banks (turns_of old) order (state_of old) (has.answers ++ answer ∷ []) (state_of new)) (sym (range_more n))
           (steps_join old.image old.stimulus old.banks (turns_of old) (range_with_len 0 n) (n ∷ []) (state_of old) (state_of same_now) (state_of new) has.answers (answer ∷ [])
-            before (steps_one old.image old.stimulus old.banks (turns_of old) n port.0 (state_of same_now) (state_of new) answer port.1 step));
+          before (steps_one old.image old.stimulus old.banks (turns_of old) n port.0 (state_of same_now) (state_of new) answer port.1 step));
       moved_are = moved_join has.answers (answer ∷ []) ∙ ap₂ (λ x y. x + y) has.moved_are (moved_one answer ∙ sym is);
       few = omega arith;
+      still = λ none. applies.still (omega arith) ∙ has.still (omega arith);
     } where
-  range_more : (n : ℕ) → range_with_len 0 (n + 1) ≡ range_with_len 0 n ++ n ∷ []
-  range_more n = sym (map-id (range_with_len 0 (n + 1))) ∙ (map-range_with_len_more (λ x. x) 0 n n (zero-add n) ∙ ap (λ xs. xs ++ n ∷ []) (map-id (range_with_len 0 n)))
+      range_more : (n : ℕ) → range_with_len 0 (n + 1) ≡ range_with_len 0 n ++ n ∷ []
+      range_more n = sym (map-id (range_with_len 0 (n + 1))) ∙ (map-range_with_len_more (λ x. x) 0 n n (zero-add n) ∙ ap (λ xs. xs ++ n ∷ []) (map-id (range_with_len 0 n)))
 
 -- ---- a whole round
 
 module _ (old new : CoreView) (moved : ℕ) (ready : IsReady old) (has : HasStepped old (length old.image.ports) moved new) where
   pub round_made : IsRoundOf old moved new
-  round_made = record { same = has.same; answers = has.answers; round = has.steps; moved_are = has.moved_are }
+  round_made = record { same = has.same; answers = has.answers; round = has.steps; moved_are = has.moved_are; still = has.still }
 
   pub round_sound : IsSoundCore new
   round_sound =
       subst IsSoundCore (sym has.same)
-        (subst (IsSound old.image old.stimulus old.banks (turns_of old)) (ap state_of has.same)
-          (steps_sound old.image old.stimulus old.banks (turns_of old) ready.image ready.some (range_with_len 0 (length old.image.ports)) (state_of old) has.answers (state_of new) ready.sound has.steps))
+      (subst (IsSound old.image old.stimulus old.banks (turns_of old)) (ap state_of has.same)
+      (steps_sound old.image old.stimulus old.banks (turns_of old) ready.image ready.some (range_with_len 0 (length old.image.ports)) (state_of old) has.answers (state_of new) ready.sound has.steps))
 
   pub round_none : moved ≡ 0 → AreDone old
   round_none none = round_done old.image old.stimulus old.banks (turns_of old) ready.image ready.some (state_of old) has.answers (state_of new) ready.sound has.steps (has.moved_are ∙ none)

@@ -10,7 +10,7 @@ use Rattle.image_defs.specs.Steps.{timing_of}
 use Rattle.image_defs.specs.WellFormed.{IsWellFormed}
 use Rattle.image_defs.specs.declared.image.Image.{Image}
 use Rattle.image_defs.specs.declared.image.PortImage.{PortImage}
-use Rattle.event_defs.specs.Counts.{events_left, moved_in}
+use Rattle.event_defs.specs.Counts.{events_left, moved_in, moves}
 use Rattle.event_defs.specs.Next.{IsNext, PutsNext}
 use Rattle.event_defs.specs.Places.{start}
 use Rattle.event_defs.specs.Row.{word_in}
@@ -59,10 +59,11 @@ IsSoundCore view = IsSound view.image view.stimulus view.banks (turns_of view) (
 abbrev pub IsSameCore : CoreView → CoreView → Type 0
 IsSameCore old new = new ≡ record old { places = new.places; finished = new.finished; words = new.words }
 
--- one step of port p, with what came of it
+-- one step of port p, with what came of it; where it didn't move nothing changed
 pub record Applies (old : CoreView) (p : ℕ) (answer : CoreStep) (new : CoreView) : Type 0 where
   pub same : IsSameCore old new
   pub step : (port : PortImage) → IsPort old.image p port → IsStep old.image old.stimulus old.banks (turns_of old) p port (state_of old) answer (state_of new)
+  pub still : moves answer ≡ 0 → new ≡ old
 
 -- what port p's next Take reads in this slot is its sender's value of the port's turn
 pub record ReadsThisTurn (view : CoreView) (p : ℕ) (port : PortImage) (slot : ℕ) : Type 0 where
@@ -81,12 +82,13 @@ pub record SparesReaders (old : CoreView) (p : ℕ) (answer : CoreStep) : Type 0
       → (next : PutsNext port ((state_of old).place p) old.banks slot) → Stands next.link.readers r
       → ((state_of old).place p).turn ≤ (state_of old).finished r + old.banks
 
--- one step of each port, in ascending order, of which so many moved
+-- one step of each port, in ascending order, of which so many moved; where none did nothing changed
 pub record IsRoundOf (old : CoreView) (moved : ℕ) (new : CoreView) : Type 0 where
   pub same : IsSameCore old new
   pub answers : List CoreStep
   pub round : IsRound old.image old.stimulus old.banks (turns_of old) (state_of old) answers (state_of new)
   pub moved_are : moved_in answers ≡ moved
+  pub still : moved ≡ 0 → new ≡ old
 
 -- all ports have finished their last turn
 abbrev pub AreDone : CoreView → Type 0
@@ -120,3 +122,4 @@ pub record HasStepped (old : CoreView) (n moved : ℕ) (new : CoreView) : Type 0
   pub steps : AreSteps old.image old.stimulus old.banks (turns_of old) (range_with_len 0 n) (state_of old) answers (state_of new)
   pub moved_are : moved_in answers ≡ moved
   pub few : moved ≤ n
+  pub still : moved ≡ 0 → new ≡ old

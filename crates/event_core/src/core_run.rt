@@ -13,10 +13,9 @@ ghost use Rattle.event_defs.specs.declared.place.Event.TheVariants as event;
 ghost use Rattle.port_host.specs.Rows.{printed_sources};
 ghost use Rattle.event_core.specs.Core.{Applies, AreDone, IsReady, IsRoundOf, IsSoundCore, IsStart, IsUpcoming, SparesReaders, TakesThisTurn, left_of, rows_of};
 
-use crate::rows;
 use crate::seats::{self, Seat};
-use crate::sources;
 use crate::words::{is_of, lags};
+use crate::{rows, sources};
 use event_defs::{Action, CoreStep, Event};
 use image_defs::Image;
 use logic_four::{V4, decoded};
@@ -25,9 +24,9 @@ use seen_list::{List, Memory};
 use std::alloc::Global;
 use std::marker::Model;
 
-/// A machine in its run: what each port is and knows, how many turns each has told to be finished, and
-/// the words of all sends in one row, `banks` for each. A contract sees whose image and stimulus it
-/// runs, the banks, the places of the ports and the words.
+/// A machine in its run: what each port is and knows, how many turns each has told to be finished,
+/// and the words of all sends in one row, `banks` for each. A contract sees whose image and
+/// stimulus it runs, the banks, the places of the ports and the words.
 #[derive(Drop)]
 pub struct Core<'a> {
     image: &'a Image,

@@ -1,7 +1,7 @@
 //! A whole machine in one thread, stepped by single events: any port at any time, in any order. The
-//! crate `event_defs` says what a step is, which states are sound and how many events a run has; here
-//! is the machine that makes the steps. Its contracts see of it its image, its stimulus, the number of
-//! banks, the places of its ports and the words that they share.
+//! crate `event_defs` says what a step is, which states are sound and how many events a run has;
+//! here is the machine that makes the steps. Its contracts see of it its image, its stimulus, the
+//! number of banks, the places of its ports and the words that they share.
 #![tactic(auto)]
 
 mod core_run;

@@ -19,9 +19,9 @@ use port_walk::AnyPort;
 use seen_list::{List, Memory};
 use std::alloc::Global;
 
-/// A port in the core: how many turns it knows each port to have finished, for each of its receipts the
-/// number of the send that it comes from among all sends, the number of its own first send, and the bank
-/// of its turn.
+/// A port in the core: how many turns it knows each port to have finished, for each of its receipts
+/// the number of the send that it comes from among all sends, the number of its own first send, and
+/// the bank of its turn.
 #[derive(Drop)]
 pub(crate) struct Seat<'a> {
     pub port: AnyPort<'a>,
@@ -101,7 +101,8 @@ pub(crate) fn turn(seats: &[Seat], p: usize) -> u64
 pub(crate) fn ask(seats: &mut [Seat], p: usize, reader: u32, finished: u64)
     requires there { p < length seats.old }
     requires reader { AtSeat seats.old p (λ seat. reader < length seat.known) }
-    ensures { AtSeat seats.old p (λ seat. seats.new ≡ slice_set seats.old p (seat_asked seat reader finished)) }
+    ensures { AtSeat seats.old p (λ seat. seats.new
+        ≡ slice_set seats.old p (seat_asked seat reader finished)) }
 {
     seats[p].known.set(reader as usize, finished);
 }

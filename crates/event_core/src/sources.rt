@@ -1,4 +1,5 @@
-//! The numbers of sends: each port's first among all sends, and for each receipt that of its sender's.
+//! The numbers of sends: each port's first among all sends, and for each receipt that of its
+//! sender's.
 
 ghost use Rattle.std.specs.Prelude.{IfOk, length, ℕ, ◌+◌, ◌<◌};
 ghost use Rattle.std.specs.List.Sorted.{IsStrictlyIncreasing};

@@ -1,4 +1,4 @@
-use Rattle.std.proofs.Common.{◌≡◌, ◌∙◌, ◌<◌, replicate, ap, arith}
+use Rattle.std.proofs.Common.{◌∙◌, replicate, ap, arith}
 use Rattle.std.proofs.lemmas.Option.{get_or_from_slice_get}
 use Rattle.event_defs.specs.Row.{sends_before}
 use Rattle.event_core.proofs.seats.first_seat.Goals as goal

@@ -1,4 +1,4 @@
-use Rattle.std.proofs.Common.{◌≡◌, ◌∙◌, ◌+◌, ◌*◌, ◌<◌, length, get_or, ap, ap₂, sym, subst, arith}
+use Rattle.std.proofs.Common.{◌≡◌, ◌∙◌, ◌<◌, length, get_or, ap, ap₂, sym, subst, arith}
 use Rattle.std.proofs.lemmas.Option.{get_or_from_slice_get}
 use Rattle.event_defs.specs.Row.{word_place}
 use Rattle.port_walk.specs.Placed.{IsNextReceipt}
@@ -45,5 +45,5 @@ returns c seat at = record {
       let sources : c.as_slice.result.now ≡ seat.sources = c.as_slice.ensures ∙ ap (λ (s : Seat). s.sources) same in
       let read : get_or c.as_slice.result.now c.next_receipt.result 0 ≡ n = ap (λ xs. get_or xs c.next_receipt.result 0) sources ∙ (ap (λ k. get_or seat.sources k 0) (sym number) ∙ get_or_from_slice_get seat.sources j n 0 is) in
       ap₂ (λ words place. get_or words place 0) c.as_slice-2.ensures
-        (c.place_of.ensures ∙ (ap (λ s. word_place c.args.banks s c.index-seats-p.result.bank) read ∙ ap (λ (s : Seat). word_place c.args.banks n s.bank) same));
+      (c.place_of.ensures ∙ (ap (λ s. word_place c.args.banks s c.index-seats-p.result.bank) read ∙ ap (λ (s : Seat). word_place c.args.banks n s.bank) same));
 }

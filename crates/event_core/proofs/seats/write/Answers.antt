@@ -1,5 +1,4 @@
 use Rattle.std.proofs.Common.{◌<◌, ◌≡◌, ◌∙◌, ◌+◌, ◌*◌, length, set, ap, ap₂, sym, subst, arith}
-use Rattle.event_defs.proofs.WordLemmas.{code_below}
 use Rattle.logic_four.specs.Values.{code_of}
 use Rattle.event_defs.specs.Row.{word_place}
 use Rattle.port_walk.specs.Placed.{IsNextSend}
@@ -36,6 +35,6 @@ returns c seat at = record {
       let same : c.index-seats-p.result ≡ seat = seat_read c.args.seats.now c.args.p c.index-seats-p.result seat c.index-seats-p.is at in
       let number : i ≡ c.next_send.result = (subst (λ (s : Seat). IsNextSend s.port c.next_send.result) same c.next_send.ensures).each i link sending in
       c.set.ensures ∙ ap₂ (λ n x. set c.args.words.now n x)
-        (c.place_of-place.ensures ∙ (ap (λ n. word_place c.args.banks (c.index-seats-p.result.first + n) c.index-seats-p.result.bank) (sym number) ∙ ap (λ (s : Seat). word_place c.args.banks (s.first + i) s.bank) same))
-        (c.word_of.ensures ∙ ap (λ t. 4 * t + code_of c.args.value) (c.turn.ensures ∙ ap (λ (s : Seat). s.port.turn) same));
+      (c.place_of-place.ensures ∙ (ap (λ n. word_place c.args.banks (c.index-seats-p.result.first + n) c.index-seats-p.result.bank) (sym number) ∙ ap (λ (s : Seat). word_place c.args.banks (s.first + i) s.bank) same))
+      (c.word_of.ensures ∙ ap (λ t. 4 * t + code_of c.args.value) (c.turn.ensures ∙ ap (λ (s : Seat). s.port.turn) same));
 }

@@ -30,14 +30,14 @@ halves-preserved-then-outs-middle c =
     let within = c.halves.invariant.within in
     let more = c.halves-test.true in
     between_upper c.args.outs.now c.requires.rising c.args.slot c.halves.low c.halves.high (c.halves.low + (c.halves.high - c.halves.low) / 2) c.index-outs-middle.result
-      (entry_there c.args.outs.now (c.halves.low + (c.halves.high - c.halves.low) / 2) c.index-outs-middle.result (omega arith) c.index-outs-middle.is) (omega arith) (omega arith) c.halves.invariant (subst (λ (l : LinkOut). l.slot ≤ c.args.slot) (sym c.index-outs-middle.is) c.if-outs-middle.true)
+    (entry_there c.args.outs.now (c.halves.low + (c.halves.high - c.halves.low) / 2) c.index-outs-middle.result (omega arith) c.index-outs-middle.is) (omega arith) (omega arith) c.halves.invariant (subst (λ (l : LinkOut). l.slot ≤ c.args.slot) (sym c.index-outs-middle.is) c.if-outs-middle.true)
 
 pub halves-preserved : goal.halves-preserved
 halves-preserved c =
     let within = c.halves.invariant.within in
     let more = c.halves-test.true in
     between_lower c.args.outs.now c.requires.rising c.args.slot c.halves.low c.halves.high (c.halves.low + (c.halves.high - c.halves.low) / 2) c.index-outs-middle.result
-      (entry_there c.args.outs.now (c.halves.low + (c.halves.high - c.halves.low) / 2) c.index-outs-middle.result (omega arith) c.index-outs-middle.is) (omega arith) (omega arith) c.halves.invariant (subst (λ (l : LinkOut). c.args.slot < l.slot) (sym c.index-outs-middle.is) c.if-outs-middle.false)
+    (entry_there c.args.outs.now (c.halves.low + (c.halves.high - c.halves.low) / 2) c.index-outs-middle.result (omega arith) c.index-outs-middle.is) (omega arith) (omega arith) c.halves.invariant (subst (λ (l : LinkOut). c.args.slot < l.slot) (sym c.index-outs-middle.is) c.if-outs-middle.false)
 
 pub returns : goal.returns
 returns c = between_one c.args.outs.now c.requires.rising c.args.slot c.halves.low c.halves.high c.halves-test.false c.halves.invariant c.requires.there.0 c.requires.there.1

@@ -22,5 +22,5 @@ returns c port is =
     let upto = c.ins.auto.j-end in
     let all : c.ins.j ≡ length c.as_slice-ins.result.now = omega arith in
     subst (λ ins. AreSources c.args.image.now ins (length ins) c.ins.sources)
-      (ins_of c.args.image.now c.requires.image c.as_slice.result.now c.as_slice.ensures c.args.p c.requires.there c.index-as_slice-p.result c.index-as_slice-p.is c.as_slice-ins.result.now c.as_slice-ins.ensures port is)
-      (subst (λ n. AreSources c.args.image.now c.as_slice-ins.result.now n c.ins.sources) all c.ins.invariant)
+    (ins_of c.args.image.now c.requires.image c.as_slice.result.now c.as_slice.ensures c.args.p c.requires.there c.index-as_slice-p.result c.index-as_slice-p.is c.as_slice-ins.result.now c.as_slice-ins.ensures port is)
+    (subst (λ n. AreSources c.args.image.now c.as_slice-ins.result.now n c.ins.sources) all c.ins.invariant)

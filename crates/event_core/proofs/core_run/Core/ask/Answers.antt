@@ -1,15 +1,13 @@
-use Rattle.std.proofs.Common.{◌≡◌, ◌∙◌, ◌<◌, ◌≤◌, ◌-◌, ◌+◌, ◌%◌, ◌^◌, length, get_or, slice_set, ap, subst, sym, refl, arith}
+use Rattle.std.proofs.Common.{◌∙◌, ◌<◌, ◌≤◌, ◌-◌, length, get_or, slice_set, ap, subst, sym, refl, arith}
 use Rattle.event_defs.specs.declared.place.CoreStep.TheVariants.{Moved, NotYet}
 use Rattle.event_defs.specs.declared.place.Action.TheVariants as action
 use Rattle.event_defs.specs.declared.place.Event.TheVariants as event
-use Rattle.port_walk.specs.Placed.{CanPut, CanTake, CanTakeValue, IsEnding}
-use Rattle.event_core.specs.declared.core_run.Core.TheInside.{Inside}
 use Rattle.event_core.specs.declared.seats.Seat.{Seat}
 use Rattle.event_core.specs.Core.{IsUpcoming, Applies, CoreView}
-use Rattle.event_core.specs.Kept.{IsKept, view_of}
-use Rattle.event_core.specs.Seats.{HasPutRoom, HasTakeRoom, HasWritten, seat_asked, seat_put, seat_taken, seat_told}
-use Rattle.event_core.proofs.CoreLemmas.{put_room, take_room, is_seat, reseated, same_seat, seat_in, seat_there}
-use Rattle.event_core.proofs.EventLemmas.{reader_within, known_within, ask_waits, ask_moves, can_put, early_turn, put_moves, can_take, take_waits, can_take_value, take_moves, can_tell, tell_moves}
+use Rattle.event_core.specs.Kept.{view_of}
+use Rattle.event_core.specs.Seats.{seat_asked}
+use Rattle.event_core.proofs.CoreLemmas.{reseated, same_seat, seat_in, seat_there}
+use Rattle.event_core.proofs.EventLemmas.{reader_within, known_within, ask_waits, ask_moves}
 use Rattle.std.proofs.lemmas.Bool.{false≢true}
 use Rattle.event_core.proofs.SeatLemmas.{not_less}
 use Rattle.event_core.proofs.core_run.Core.ask.Goals as goal
@@ -34,7 +32,7 @@ returns-then-lags c =
     let within : c.args.port < length a.image.now.ports = subst (λ (v : CoreView). c.args.port < length v.image.ports) (sym c.self.view_is) c.requires.inside in
     let upcoming = subst (λ (v : CoreView). IsUpcoming v c.args.port (action.Ask c.args.reader)) (sym c.self.view_is) c.requires.next in
     subst (λ (v : CoreView). Applies v c.args.port NotYet v) c.self.view_is
-      (ask_waits a kept p within c.args.reader c.turn-turn.result upcoming (c.turn-turn.ensures (seat_there a kept p within).0 (seat_in a kept p within c.as_slice.result.now c.as_slice.ensures)) (subst (λ xs. get_or xs c.args.reader 0 < c.turn-turn.result - a.banks) c.as_slice-2.ensures (c.if-lags.ensures.0 refl)))
+    (ask_waits a kept p within c.args.reader c.turn-turn.result upcoming (c.turn-turn.ensures (seat_there a kept p within).0 (seat_in a kept p within c.as_slice.result.now c.as_slice.ensures)) (subst (λ xs. get_or xs c.args.reader 0 < c.turn-turn.result - a.banks) c.as_slice-2.ensures (c.if-lags.ensures.0 refl)))
 
 pub ask-requires-clause-reader : goal.ask-requires-clause-reader
 ask-requires-clause-reader c seat at =
@@ -62,5 +60,5 @@ returns c =
     let within : c.args.port < length a.image.now.ports = subst (λ (v : CoreView). c.args.port < length v.image.ports) (sym c.self.view_is) c.requires.inside in
     let upcoming = subst (λ (v : CoreView). IsUpcoming v c.args.port (action.Ask c.args.reader)) (sym c.self.view_is) c.requires.next in
     rw (reseated a.seats c.as_mut_slice.result.now c.ask.new.seats c.args.port (seat_asked (seat_there a kept p within).0 c.args.reader (get_or a.finished c.args.reader 0)) c.as_mut_slice.ensures.value (c.ask.ensures (seat_there a kept p within).0 (seat_in a kept p within c.as_mut_slice.result.now c.as_mut_slice.ensures.value) ∙ ap (λ xs. slice_set c.as_mut_slice.result.now c.args.port (seat_asked (seat_there a kept p within).0 c.args.reader (get_or xs c.args.reader 0))) c.as_slice-2.ensures))
-      (subst (λ (v : CoreView). Applies v c.args.port (Moved (event.Ask c.args.reader)) (view_of (record a { seats = slice_set a.seats c.args.port (seat_asked (seat_there a kept p within).0 c.args.reader (get_or a.finished c.args.reader 0)) }))) c.self.view_is
-        (ask_moves a kept p within c.args.reader c.turn-turn.result upcoming (c.turn-turn.ensures (seat_there a kept p within).0 (seat_in a kept p within c.as_slice.result.now c.as_slice.ensures)) (subst (λ xs. c.turn-turn.result - a.banks ≤ get_or xs c.args.reader 0) c.as_slice-2.ensures (not_less (get_or c.as_slice-2.result.now c.args.reader 0) (c.turn-turn.result - a.banks) (λ less. false≢true (c.if-lags.ensures.1 less))))).1)
+    (subst (λ (v : CoreView). Applies v c.args.port (Moved (event.Ask c.args.reader)) (view_of (record a { seats = slice_set a.seats c.args.port (seat_asked (seat_there a kept p within).0 c.args.reader (get_or a.finished c.args.reader 0)) }))) c.self.view_is
+    (ask_moves a kept p within c.args.reader c.turn-turn.result upcoming (c.turn-turn.ensures (seat_there a kept p within).0 (seat_in a kept p within c.as_slice.result.now c.as_slice.ensures)) (subst (λ xs. c.turn-turn.result - a.banks ≤ get_or xs c.args.reader 0) c.as_slice-2.ensures (not_less (get_or c.as_slice-2.result.now c.args.reader 0) (c.turn-turn.result - a.banks) (λ less. false≢true (c.if-lags.ensures.1 less))))).1)

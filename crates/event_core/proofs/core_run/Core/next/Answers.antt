@@ -15,4 +15,4 @@ returns-clause-next c =
     let a = c.self.inside in
     let within : c.args.port < length a.image.now.ports = subst (λ (v : CoreView). c.args.port < length v.image.ports) (sym c.self.view_is) c.requires in
     subst (λ (v : CoreView). IsUpcoming v c.args.port c.next.result) c.self.view_is
-      (next_seen a c.self.invariant c.args.port within c.next.result (c.next.ensures _ (seat_in a c.self.invariant c.args.port within c.as_slice.result.now c.as_slice.ensures)))
+    (next_seen a c.self.invariant c.args.port within c.next.result (c.next.ensures _ (seat_in a c.self.invariant c.args.port within c.as_slice.result.now c.as_slice.ensures)))

@@ -1,17 +1,14 @@
-use Rattle.std.proofs.Common.{◌≡◌, ◌∙◌, ◌<◌, ◌≤◌, ◌-◌, ◌+◌, ◌%◌, ◌^◌, length, get_or, slice_set, ap, subst, sym, refl, arith}
-use Rattle.event_defs.specs.declared.place.CoreStep.TheVariants.{Moved, NotYet}
+use Rattle.std.proofs.Common.{◌<◌, ◌^◌, length, subst, sym}
+use Rattle.event_defs.specs.declared.place.CoreStep.TheVariants.{Moved}
 use Rattle.event_defs.specs.declared.place.Action.TheVariants as action
 use Rattle.event_defs.specs.declared.place.Event.TheVariants as event
-use Rattle.port_walk.specs.Placed.{CanPut, CanTake, CanTakeValue, IsEnding}
-use Rattle.event_core.specs.declared.core_run.Core.TheInside.{Inside}
+use Rattle.port_walk.specs.Placed.{CanPut}
 use Rattle.event_core.specs.declared.seats.Seat.{Seat}
 use Rattle.event_core.specs.Core.{IsUpcoming, Applies, CoreView}
-use Rattle.event_core.specs.Kept.{IsKept, view_of}
-use Rattle.event_core.specs.Seats.{HasPutRoom, HasTakeRoom, HasWritten, seat_asked, seat_put, seat_taken, seat_told}
-use Rattle.event_core.proofs.CoreLemmas.{put_room, take_room, is_seat, reseated, same_seat, seat_in, seat_there}
-use Rattle.event_core.proofs.EventLemmas.{reader_within, known_within, ask_waits, ask_moves, can_put, early_turn, put_moves, can_take, take_waits, can_take_value, take_moves, can_tell, tell_moves}
-use Rattle.std.proofs.lemmas.Bool.{false≢true}
-use Rattle.event_core.proofs.SeatLemmas.{not_less}
+use Rattle.event_core.specs.Kept.{view_of}
+use Rattle.event_core.specs.Seats.{HasPutRoom, seat_put}
+use Rattle.event_core.proofs.CoreLemmas.{put_room, reseated, same_seat, seat_in, seat_there}
+use Rattle.event_core.proofs.EventLemmas.{can_put, early_turn, put_moves}
 use Rattle.event_core.proofs.core_run.Core.put.Goals as goal
 use Rattle.std.specs.List.{refill}
 
@@ -68,4 +65,4 @@ returns c =
     let within : c.args.port < length a.image.now.ports = subst (λ (v : CoreView). c.args.port < length v.image.ports) (sym c.self.view_is) c.requires.inside in
     let upcoming = subst (λ (v : CoreView). IsUpcoming v c.args.port (action.Put c.args.slot c.args.value)) (sym c.self.view_is) c.requires.next in
     subst (λ (v : CoreView). Applies v c.args.port (Moved (event.Put c.args.slot)) (view_of (record a { seats = (refill (length a.seats) a.seats c.put.new.seats); words = c.write.new.words }))) c.self.view_is
-      (put_moves a kept p within c.args.slot c.args.value (refill (length a.seats) a.seats c.put.new.seats) c.write.new.words upcoming (c.write.ensures (seat_there a kept p within).0 (seat_in a kept p within c.as_slice.result.now c.as_slice.ensures)) (λ i link sending. reseated a.seats c.as_mut_slice.result.now c.put.new.seats c.args.port (seat_put (seat_there a kept p within).0 link.slot) c.as_mut_slice.ensures.value (c.put.ensures (seat_there a kept p within).0 (seat_in a kept p within c.as_mut_slice.result.now c.as_mut_slice.ensures.value) i link sending))).1
+    (put_moves a kept p within c.args.slot c.args.value (refill (length a.seats) a.seats c.put.new.seats) c.write.new.words upcoming (c.write.ensures (seat_there a kept p within).0 (seat_in a kept p within c.as_slice.result.now c.as_slice.ensures)) (λ i link sending. reseated a.seats c.as_mut_slice.result.now c.put.new.seats c.args.port (seat_put (seat_there a kept p within).0 link.slot) c.as_mut_slice.ensures.value (c.put.ensures (seat_there a kept p within).0 (seat_in a kept p within c.as_mut_slice.result.now c.as_mut_slice.ensures.value) i link sending))).1

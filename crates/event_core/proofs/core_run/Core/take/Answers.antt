@@ -1,17 +1,15 @@
-use Rattle.std.proofs.Common.{◌≡◌, ◌∙◌, ◌<◌, ◌≤◌, ◌-◌, ◌+◌, ◌%◌, ◌^◌, length, get_or, slice_set, ap, subst, sym, refl, arith}
+use Rattle.std.proofs.Common.{◌<◌, length, subst, sym, refl}
 use Rattle.event_defs.specs.declared.place.CoreStep.TheVariants.{Moved, NotYet}
 use Rattle.event_defs.specs.declared.place.Action.TheVariants as action
 use Rattle.event_defs.specs.declared.place.Event.TheVariants as event
-use Rattle.port_walk.specs.Placed.{CanPut, CanTake, CanTakeValue, IsEnding}
-use Rattle.event_core.specs.declared.core_run.Core.TheInside.{Inside}
+use Rattle.port_walk.specs.Placed.{CanTake, CanTakeValue}
 use Rattle.event_core.specs.declared.seats.Seat.{Seat}
 use Rattle.event_core.specs.Core.{IsUpcoming, Applies, CoreView}
-use Rattle.event_core.specs.Kept.{IsKept, view_of}
-use Rattle.event_core.specs.Seats.{HasPutRoom, HasTakeRoom, HasWritten, seat_asked, seat_put, seat_taken, seat_told}
-use Rattle.event_core.proofs.CoreLemmas.{put_room, take_room, is_seat, reseated, same_seat, seat_in, seat_there}
-use Rattle.event_core.proofs.EventLemmas.{reader_within, known_within, ask_waits, ask_moves, can_put, early_turn, put_moves, can_take, take_waits, can_take_value, take_moves, can_tell, tell_moves}
+use Rattle.event_core.specs.Kept.{view_of}
+use Rattle.event_core.specs.Seats.{HasTakeRoom, seat_taken}
+use Rattle.event_core.proofs.CoreLemmas.{take_room, reseated, same_seat, seat_in, seat_there}
+use Rattle.event_core.proofs.EventLemmas.{can_take, take_waits, can_take_value, take_moves}
 use Rattle.std.proofs.lemmas.Bool.{false≢true}
-use Rattle.event_core.proofs.SeatLemmas.{not_less}
 use Rattle.event_core.proofs.core_run.Core.take.Goals as goal
 use Rattle.std.specs.List.{refill}
 
@@ -40,7 +38,7 @@ returns-then-not-is_of c =
     let within : c.args.port < length a.image.now.ports = subst (λ (v : CoreView). c.args.port < length v.image.ports) (sym c.self.view_is) c.requires.inside in
     let upcoming = subst (λ (v : CoreView). IsUpcoming v c.args.port (action.Take c.args.slot)) (sym c.self.view_is) c.requires.next in
     subst (λ (v : CoreView). Applies v c.args.port NotYet v) c.self.view_is
-      (take_waits a kept p within c.args.slot c.read-word.result c.turn.result upcoming (c.read-word.ensures (seat_there a kept p within).0 (seat_in a kept p within c.as_slice.result.now c.as_slice.ensures)) (c.turn.ensures (seat_there a kept p within).0 (seat_in a kept p within c.as_slice-2.result.now c.as_slice-2.ensures)) (λ same. false≢true (c.if-not-is_of.ensures.1 same)))
+    (take_waits a kept p within c.args.slot c.read-word.result c.turn.result upcoming (c.read-word.ensures (seat_there a kept p within).0 (seat_in a kept p within c.as_slice.result.now c.as_slice.ensures)) (c.turn.ensures (seat_there a kept p within).0 (seat_in a kept p within c.as_slice-2.result.now c.as_slice-2.ensures)) (λ same. false≢true (c.if-not-is_of.ensures.1 same)))
 
 pub take-requires-clause-can : goal.take-requires-clause-can
 take-requires-clause-can c seat at =
@@ -50,7 +48,7 @@ take-requires-clause-can c seat at =
     let within : c.args.port < length a.image.now.ports = subst (λ (v : CoreView). c.args.port < length v.image.ports) (sym c.self.view_is) c.requires.inside in
     let upcoming = subst (λ (v : CoreView). IsUpcoming v c.args.port (action.Take c.args.slot)) (sym c.self.view_is) c.requires.next in
     subst (λ (s : Seat). CanTakeValue s.port c.decoded.result) (same_seat a kept p within seat c.as_mut_slice.result.now c.as_mut_slice.ensures.value at)
-      (can_take_value a kept p within c.args.slot c.read-word.result c.turn.result c.decoded.result upcoming (c.read-word.ensures (seat_there a kept p within).0 (seat_in a kept p within c.as_slice.result.now c.as_slice.ensures)) (c.turn.ensures (seat_there a kept p within).0 (seat_in a kept p within c.as_slice-2.result.now c.as_slice-2.ensures)) (c.if-not-is_of.ensures.0 refl) c.decoded.ensures)
+    (can_take_value a kept p within c.args.slot c.read-word.result c.turn.result c.decoded.result upcoming (c.read-word.ensures (seat_there a kept p within).0 (seat_in a kept p within c.as_slice.result.now c.as_slice.ensures)) (c.turn.ensures (seat_there a kept p within).0 (seat_in a kept p within c.as_slice-2.result.now c.as_slice-2.ensures)) (c.if-not-is_of.ensures.0 refl) c.decoded.ensures)
 
 pub invariant_of-self : goal.invariant_of-self
 invariant_of-self c =
@@ -69,4 +67,4 @@ returns c =
     let within : c.args.port < length a.image.now.ports = subst (λ (v : CoreView). c.args.port < length v.image.ports) (sym c.self.view_is) c.requires.inside in
     let upcoming = subst (λ (v : CoreView). IsUpcoming v c.args.port (action.Take c.args.slot)) (sym c.self.view_is) c.requires.next in
     subst (λ (v : CoreView). Applies v c.args.port (Moved (event.Take c.args.slot)) (view_of (record a { seats = (refill (length a.seats) a.seats c.take.new.seats) }))) c.self.view_is
-      (take_moves a kept p within c.args.slot c.read-word.result c.turn.result (refill (length a.seats) a.seats c.take.new.seats) upcoming (c.read-word.ensures (seat_there a kept p within).0 (seat_in a kept p within c.as_slice.result.now c.as_slice.ensures)) (c.turn.ensures (seat_there a kept p within).0 (seat_in a kept p within c.as_slice-2.result.now c.as_slice-2.ensures)) (c.if-not-is_of.ensures.0 refl) (λ j link receiving. reseated a.seats c.as_mut_slice.result.now c.take.new.seats c.args.port (seat_taken (seat_there a kept p within).0 link.slot) c.as_mut_slice.ensures.value (c.take.ensures (seat_there a kept p within).0 (seat_in a kept p within c.as_mut_slice.result.now c.as_mut_slice.ensures.value) j link receiving))).1
+    (take_moves a kept p within c.args.slot c.read-word.result c.turn.result (refill (length a.seats) a.seats c.take.new.seats) upcoming (c.read-word.ensures (seat_there a kept p within).0 (seat_in a kept p within c.as_slice.result.now c.as_slice.ensures)) (c.turn.ensures (seat_there a kept p within).0 (seat_in a kept p within c.as_slice-2.result.now c.as_slice-2.ensures)) (c.if-not-is_of.ensures.0 refl) (λ j link receiving. reseated a.seats c.as_mut_slice.result.now c.take.new.seats c.args.port (seat_taken (seat_there a kept p within).0 link.slot) c.as_mut_slice.ensures.value (c.take.ensures (seat_there a kept p within).0 (seat_in a kept p within c.as_mut_slice.result.now c.as_mut_slice.ensures.value) j link receiving))).1

@@ -1,17 +1,14 @@
-use Rattle.std.proofs.Common.{◌≡◌, ◌∙◌, ◌<◌, ◌≤◌, ◌-◌, ◌+◌, ◌%◌, ◌^◌, length, get_or, slice_set, ap, subst, sym, refl, arith}
-use Rattle.event_defs.specs.declared.place.CoreStep.TheVariants.{Moved, NotYet}
+use Rattle.std.proofs.Common.{◌≡◌, ◌<◌, ◌+◌, ◌%◌, length, slice_set, subst, sym}
+use Rattle.event_defs.specs.declared.place.CoreStep.TheVariants.{Moved}
 use Rattle.event_defs.specs.declared.place.Action.TheVariants as action
 use Rattle.event_defs.specs.declared.place.Event.TheVariants as event
-use Rattle.port_walk.specs.Placed.{CanPut, CanTake, CanTakeValue, IsEnding}
-use Rattle.event_core.specs.declared.core_run.Core.TheInside.{Inside}
+use Rattle.port_walk.specs.Placed.{IsEnding}
 use Rattle.event_core.specs.declared.seats.Seat.{Seat}
 use Rattle.event_core.specs.Core.{IsUpcoming, Applies, CoreView}
-use Rattle.event_core.specs.Kept.{IsKept, view_of}
-use Rattle.event_core.specs.Seats.{HasPutRoom, HasTakeRoom, HasWritten, seat_asked, seat_put, seat_taken, seat_told}
-use Rattle.event_core.proofs.CoreLemmas.{put_room, take_room, is_seat, reseated, same_seat, seat_in, seat_there}
-use Rattle.event_core.proofs.EventLemmas.{reader_within, known_within, ask_waits, ask_moves, can_put, early_turn, put_moves, can_take, take_waits, can_take_value, take_moves, can_tell, tell_moves}
-use Rattle.std.proofs.lemmas.Bool.{false≢true}
-use Rattle.event_core.proofs.SeatLemmas.{not_less}
+use Rattle.event_core.specs.Kept.{view_of}
+use Rattle.event_core.specs.Seats.{seat_told}
+use Rattle.event_core.proofs.CoreLemmas.{is_seat, reseated, same_seat, seat_in, seat_there}
+use Rattle.event_core.proofs.EventLemmas.{can_tell, tell_moves}
 use Rattle.event_core.proofs.core_run.Core.tell.Goals as goal
 
 pub tell-requires-clause-can : goal.tell-requires-clause-can
@@ -48,5 +45,5 @@ returns c =
     let within : c.args.port < length a.image.now.ports = subst (λ (v : CoreView). c.args.port < length v.image.ports) (sym c.self.view_is) c.requires.inside in
     let upcoming = subst (λ (v : CoreView). IsUpcoming v c.args.port (action.Tell)) (sym c.self.view_is) c.requires.next in
     rw (reseated a.seats c.as_mut_slice.result.now c.tell.new.seats c.args.port (seat_told (seat_there a kept p within).0 (((seat_there a kept p within).0.port.turn + 1) % a.banks)) c.as_mut_slice.ensures.value (c.tell.ensures (seat_there a kept p within).0 (seat_in a kept p within c.as_mut_slice.result.now c.as_mut_slice.ensures.value)), c.set.ensures)
-      (subst (λ (v : CoreView). Applies v c.args.port (Moved event.Tell) (view_of (record a { seats = slice_set a.seats c.args.port (seat_told (seat_there a kept p within).0 (((seat_there a kept p within).0.port.turn + 1) % a.banks)); finished = slice_set a.finished c.args.port c.turn-turn.result }))) c.self.view_is
-        (tell_moves a kept p within c.turn-turn.result upcoming (c.turn-turn.ensures (seat_there a kept p within).0 (seat_in a kept p within c.as_slice.result.now c.as_slice.ensures))).1)
+    (subst (λ (v : CoreView). Applies v c.args.port (Moved event.Tell) (view_of (record a { seats = slice_set a.seats c.args.port (seat_told (seat_there a kept p within).0 (((seat_there a kept p within).0.port.turn + 1) % a.banks)); finished = slice_set a.finished c.args.port c.turn-turn.result }))) c.self.view_is
+    (tell_moves a kept p within c.turn-turn.result upcoming (c.turn-turn.ensures (seat_there a kept p within).0 (seat_in a kept p within c.as_slice.result.now c.as_slice.ensures))).1)
