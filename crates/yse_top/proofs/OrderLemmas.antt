@@ -1,5 +1,5 @@
 -- Where a run in an order ends is one outcome, whichever image the netlist was compiled to.
-use Rattle.std.proofs.Common.{◌≡◌, ◌∙◌, sym, ap, subst, ◌⊎◌, inl, inr, ℕ, ◌-◌, ◌/◌, ◌≤◌, List, length, arith}
+use Rattle.std.proofs.Common.{◌≡◌, ◌∙◌, sym, ap, subst, ◌⊎◌, inl, inr, ℕ, ◌≤◌, List, length, arith}
 use Rattle.std.proofs.lemmas.Option.{slice_get_within}
 use Rattle.machine_text.specs.declared.machine.Machine.{Machine}
 use Rattle.net_defs.specs.declared.netlist.Netlist.{Netlist}
@@ -10,9 +10,8 @@ use Rattle.net_defs.specs.Steps.{State}
 use Rattle.net_defs.specs.Time.{cycle_count, turn_count}
 use Rattle.net_defs.specs.Trace.{trace_to}
 use Rattle.image_defs.specs.declared.image.Image.{Image}
-use Rattle.image_defs.specs.Places.{host_of}
 use Rattle.node_defs.proofs.MemberLemmas.{member_at}
-use Rattle.event_defs.specs.Linked.{AreAlike, AreLinkedAlike}
+use Rattle.event_defs.specs.Linked.{AreLinkedAlike}
 use Rattle.event_defs.specs.declared.place.Place.{Place}
 use Rattle.event_defs.specs.Steps.{CoreState, AllDone, rows_done}
 use Rattle.stim_text.specs.declared.order.Order.{Order}
@@ -26,19 +25,16 @@ pub record AreDoneAlike (until : ℕ) (image other : Image) (one two : CoreState
   pub back : AllDone other until two → AllDone image until one
   pub rows : rows_done image one ≡ rows_done other two
 
--- states at the same places, on images that are linked alike
-pub done_alike : (until : ℕ) (image other : Image) (one two : CoreState) → AreLinkedAlike image other → AreAlike one two → AreDoneAlike until image other one two
-done_alike until image other one two linked alike = record {
+-- states at the same places, with as many rows done, on images that are linked alike
+pub done_alike : (until : ℕ) (image other : Image) (one two : CoreState) → AreLinkedAlike image other → one.place ≡ two.place → rows_done image one ≡ rows_done other two → AreDoneAlike until image other one two
+done_alike until image other one two linked places rows = record {
   there = λ done. record { each = λ p port is.
       let mine = member_at image.ports p (omega (arith, slice_get_within other.ports p port is, linked.count)) in
-      sym (ap (λ (f : ℕ → Place). (f p).turn) alike.place) ∙ done.each p mine.0 mine.1 };
+      sym (ap (λ (f : ℕ → Place). (f p).turn) places) ∙ done.each p mine.0 mine.1 };
   back = λ done. record { each = λ p port is.
       let theirs = member_at other.ports p (omega (arith, slice_get_within image.ports p port is, linked.count)) in
-      ap (λ (f : ℕ → Place). (f p).turn) alike.place ∙ done.each p theirs.0 theirs.1 };
-  rows =
-      ap (λ f. f (host_of image) / image.units) alike.finished
-      ∙ ap (λ n. two.finished (n - 1) / image.units) linked.count
-      ∙ ap (λ n. two.finished (host_of other) / n) linked.units;
+      ap (λ (f : ℕ → Place). (f p).turn) places ∙ done.each p theirs.0 theirs.1 };
+  rows = rows;
 }
 
 -- the state after an order decides, for all images of the netlist, what is done

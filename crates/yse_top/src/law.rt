@@ -7,7 +7,7 @@ use machine_text::law::{
     reads_as_valid as machines_are_valid, reads_or_faults as machines_or_faults,
 };
 use node_map::law::items_exist;
-use cmd_words::law::forms_are_asked;
+use cmd_words::law::{forms_are_asked, forms_are_in_range};
 use event_defs::law::links_decide;
 use rank_find::order_or_loop;
 use ref_sim::one_simulation;
@@ -43,4 +43,5 @@ pub fn calls_are_proper()
     one_linking();
     links_decide();
     forms_are_asked();
+    forms_are_in_range();
 }

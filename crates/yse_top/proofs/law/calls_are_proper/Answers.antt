@@ -34,7 +34,7 @@ use Rattle.cmd_words.specs.declared.command.RunWords.{RunWords}
 use Rattle.cmd_words.specs.Asked.{asked}
 use Rattle.yse_top.specs.declared.status.Status.TheVariants as status
 use Rattle.yse_top.specs.Checks.{After, Ends, Writes, IsMachineOf, IsNetlistOf, HasNoLoop, HasRoom, IsStimulusOf, HasFewCells, IsOrderOf, port_count}
-use Rattle.cmd_words.specs.Forms.{HasForm}
+use Rattle.cmd_words.specs.Forms.{HasForm, IsInRange}
 use Rattle.yse_top.specs.declared.status.Status.{Status}
 use Rattle.yse_top.specs.Expected.{Expected, ExpectedOf, Asks}
 use Rattle.yse_top.specs.Law.{IsProper, HasOutcome}
@@ -63,7 +63,8 @@ record Laws : Type 0 where
   stimuli : (inputs : ℕ) → IsReader (stim.Reads inputs) (stim.first_fault inputs)
   orders : (ports : ℕ) → IsReader (orders.Reads ports) (orders.first_fault ports)
   forms : (words : List (List ℕ)) (command : Command) → (asked words ≡ Some command) ↔ HasForm words command
-  decides : (order : Order) (banks : ℕ) (net : Netlist) (machine : Machine) (timing : Timing) (stimulus : Stimulus) → IsValid net → DecidesOrder order banks net machine timing stimulus
+  in_range : (words : List (List ℕ)) (command : Command) → HasForm words command → IsInRange command
+  decides : (order : Order) (banks : ℕ) (net : Netlist) (machine : Machine) (timing : Timing) (stimulus : Stimulus) → 1 ≤ banks → IsValid net → DecidesOrder order banks net machine timing stimulus
   order_or_loop : (net : Netlist) (timing : Timing) → OrderOrLoop net timing
   never_both : (net : Netlist) (timing : Timing) (order loop : List ℕ) → IsOrder net timing order → IsLoop net timing loop → ⊥
   one_simulation : (net : Netlist) (timing : Timing) (stimulus : Stimulus) → ((loop : List ℕ) → IsLoop net timing loop → ⊥) → HasOneSimulation net timing stimulus
@@ -137,34 +138,34 @@ module _ (laws : Laws) where
         (λ settled. outcome_writes (λ output. output ≡ canonical_text net) (canonical_text net) refl)))
 
   -- by rounds there is an outcome
-  ends_proper : (file : Option (List ℕ)) (words : RunWords) (machine : Machine) (net : Netlist) (stimulus : Stimulus) → IsValid net → IsAcyclic net words.timing → IsCommand (file ≡ None) (option_to_list file) (EndsBy file words machine net stimulus)
+  ends_proper : (file : Option (List ℕ)) (words : RunWords) (machine : Machine) (net : Netlist) (stimulus : Stimulus) → 1 ≤ words.banks → IsValid net → IsAcyclic net words.timing → IsCommand (file ≡ None) (option_to_list file) (EndsBy file words machine net stimulus)
   unfolding EndsBy
-  ends_proper None words machine net stimulus valid acyclic = trace_proper (None ≡ None) net words.timing stimulus acyclic
-  ends_proper (Some file) words machine net stimulus valid acyclic =
+  ends_proper None words machine net stimulus banks valid acyclic = trace_proper (None ≡ None) net words.timing stimulus acyclic
+  ends_proper (Some file) words machine net stimulus banks valid acyclic =
       command_file (Some file ≡ None) file [] (λ text. After (IsOrderOf text machine) (λ order. Ends (EndsInOrder order words.banks net machine words.timing stimulus))) (λ text short.
       command_after (Some file ≡ None) [] (IsOrderOf text machine) (λ order. Ends (EndsInOrder order words.banks net machine words.timing stimulus)) (order_check text machine) (λ order is.
       command_ends (Some file ≡ None) (EndsInOrder order words.banks net machine words.timing stimulus)
-      (order_ending net words.timing stimulus order words.banks machine (laws.one_simulation net words.timing stimulus acyclic) (laws.decides order words.banks net machine words.timing stimulus valid))
+      (order_ending net words.timing stimulus order words.banks machine (laws.one_simulation net words.timing stimulus acyclic) (laws.decides order words.banks net machine words.timing stimulus banks valid))
       (λ none. cc)))
 
-  on_proper : (words : RunWords) (order : Option (List ℕ)) (machine : Machine) → IsValidMachine machine → IsCommand (order ≡ None) (words.netlist ∷ words.stimulus ∷ option_to_list order) (ExpectedOn words order machine)
+  on_proper : (words : RunWords) (order : Option (List ℕ)) → 1 ≤ words.banks → (machine : Machine) → IsValidMachine machine → IsCommand (order ≡ None) (words.netlist ∷ words.stimulus ∷ option_to_list order) (ExpectedOn words order machine)
   unfolding ExpectedOn
-  on_proper words order machine valid =
+  on_proper words order banks machine valid =
       command_file (order ≡ None) words.netlist (words.stimulus ∷ option_to_list order) (λ text. After (IsNetlistOf text) (λ net. After (HasNoLoop net words.timing) (λ passed. After (HasRoom net machine words.timing) (λ fits. AfterStimulus words.stimulus net (EndsBy order words machine net))))) (λ text short.
       command_after (order ≡ None) (words.stimulus ∷ option_to_list order) (IsNetlistOf text) (λ net. After (HasNoLoop net words.timing) (λ passed. After (HasRoom net machine words.timing) (λ fits. AfterStimulus words.stimulus net (EndsBy order words machine net)))) (netlist_check text) (λ net is.
       command_after (order ≡ None) (words.stimulus ∷ option_to_list order) (HasNoLoop net words.timing) (λ passed. After (HasRoom net machine words.timing) (λ fits. AfterStimulus words.stimulus net (EndsBy order words machine net))) (loop_check net words.timing (laws.order_or_loop net words.timing) (laws.never_both net words.timing)) (λ passed acyclic.
       command_after (order ≡ None) (words.stimulus ∷ option_to_list order) (HasRoom net machine words.timing) (λ fits. AfterStimulus words.stimulus net (EndsBy order words machine net)) (room_check net machine words.timing (laws.room net machine words.timing (laws.valid_netlists text net short is) valid acyclic)) (λ fits has.
-      stimulus_proper (order ≡ None) words.stimulus (option_to_list order) net (EndsBy order words machine net) (λ stimulus. ends_proper order words machine net stimulus (laws.valid_netlists text net short is) acyclic)))))
+      stimulus_proper (order ≡ None) words.stimulus (option_to_list order) net (EndsBy order words machine net) (λ stimulus. ends_proper order words machine net stimulus banks (laws.valid_netlists text net short is) acyclic)))))
 
-  run_proper : (words : RunWords) (order : Option (List ℕ)) → IsCommand (order ≡ None) (option_to_list words.machine ++ (words.netlist ∷ words.stimulus ∷ option_to_list order)) (ExpectedRun words order)
+  run_proper : (words : RunWords) (order : Option (List ℕ)) → 1 ≤ words.banks → IsCommand (order ≡ None) (option_to_list words.machine ++ (words.netlist ∷ words.stimulus ∷ option_to_list order)) (ExpectedRun words order)
   unfolding ExpectedRun
-  run_proper words order = machine_proper (order ≡ None) words.machine (words.netlist ∷ words.stimulus ∷ option_to_list order) (ExpectedOn words order) (on_proper words order)
+  run_proper words order banks = machine_proper (order ≡ None) words.machine (words.netlist ∷ words.stimulus ∷ option_to_list order) (ExpectedOn words order) (on_proper words order banks)
 
-  command_proper : (asked : Command) → IsCommand (order_named (Some asked) ≡ None) (files_of asked) (ExpectedOf asked)
-  command_proper (command.Run words) = run_proper words None
-  command_proper (command.Refer words) = refer_proper (None ≡ None) words
-  command_proper (command.Order words) = run_proper words words.order
-  command_proper (command.Show file) = show_proper (None ≡ None) file
+  command_proper : (asked : Command) → IsInRange asked → IsCommand (order_named (Some asked) ≡ None) (files_of asked) (ExpectedOf asked)
+  command_proper (command.Run words) range = run_proper words None range.banks_some
+  command_proper (command.Refer words) range = refer_proper (None ≡ None) words
+  command_proper (command.Order words) range = run_proper words words.order range.banks_some
+  command_proper (command.Show file) range = show_proper (None ≡ None) file
 
   -- ---- words
 
@@ -192,16 +193,16 @@ module _ (laws : Laws) where
   asked_proper : (words : List (List ℕ)) → IsProper (files_named (asked words)) (After (Asks words) ExpectedOf)
   asked_proper words =
       proper_after (files_named (asked words)) (Asks words) ExpectedOf (words_check words)
-      (λ command has. subst (λ a. IsProper (files_named a) (ExpectedOf command)) (sym (asked_as words command has)) (command_proper command).proper)
+      (λ command has. subst (λ a. IsProper (files_named a) (ExpectedOf command)) (sym (asked_as words command has)) (command_proper command (laws.in_range words command has)).proper)
 
   asked_some : (words : List (List ℕ)) → order_named (asked words) ≡ None → HasOutcome (After (Asks words) ExpectedOf)
   asked_some words none =
       outcome_after (Asks words) ExpectedOf (words_check words)
-      (λ command has. (command_proper command).some (subst (λ a. order_named a ≡ None) (asked_as words command has) none))
+      (λ command has. (command_proper command (laws.in_range words command has)).some (subst (λ a. order_named a ≡ None) (asked_as words command has) none))
 
   asked_words : (words : List (List ℕ)) (readings : List Reading) (outcome : Outcome) → After (Asks words) ExpectedOf readings outcome → outcome.status ≢ status.Memory → (outcome.status ≡ status.Words) ↔ (asked words ≡ None)
   asked_words words readings outcome (inl (command, has, next)) other =
-      (λ s. absurd (not_words outcome.status ((command_proper command).statuses readings outcome next) s), λ none. absurd (none_some (sym none ∙ asked_as words command has)))
+      (λ s. absurd (not_words outcome.status ((command_proper command (laws.in_range words command has)).statuses readings outcome next) s), λ none. absurd (none_some (sym none ∙ asked_as words command has)))
   asked_words words readings outcome (inr (none, inl refused)) other = (λ s. no_command (asked words) refl, λ n. words_status outcome refused.1)
     where
       no_command : (o : Option Command) → asked words ≡ o → asked words ≡ None
@@ -248,12 +249,14 @@ returns c =
       machines = c.reads_or_faults-3.ensures.reader;
       orders = c.reads_or_faults-4.ensures.reader;
       forms = c.forms_are_asked.ensures;
-      decides = λ order banks net machine timing stimulus valid image other one two made made_too after after_too.
+      in_range = c.forms_are_in_range.ensures;
+      decides = λ order banks net machine timing stimulus some valid image other one two made made_too after after_too.
           let linked = subst (λ i. AreLinkedAlike i other) made.image_is (subst (AreLinkedAlike made.compiled.image) made_too.image_is
           (c.one_linking.ensures net machine timing made.compiled made_too.compiled valid made.is made_too.is)) in
-          done_alike (turn_count timing stimulus) image other one two linked
-          (c.links_decide.ensures image other stimulus banks (turn_count timing stimulus) (steps_of order) after.answers after_too.answers one two
-          (subst IsWellFormed made.image_is made.is.built.fits) linked after.steps after_too.steps).1;
+          let same =
+              c.links_decide.ensures image other stimulus stimulus banks (turn_count timing stimulus) (steps_of order) after.answers after_too.answers one two
+              (subst IsWellFormed made.image_is made.is.built.fits) (subst IsWellFormed made_too.image_is made_too.is.built.fits) linked some after.steps after_too.steps in
+          done_alike (turn_count timing stimulus) image other one two linked same.1 same.2;
       valid_machines = c.reads_as_valid.ensures;
       default_valid = default_is_valid;
       valid_netlists = c.texts_read_as_valid.ensures;
