@@ -1,7 +1,7 @@
 -- How a call ends, by what its words ask for and what came of the command.
-use Rattle.std.proofs.Common.{◌≡◌, ◌≢◌, ◌∙◌, sym, ap, refl, subst, ◌⊎◌, inl, inr, ℕ, ◌≤◌, Bool, List, [], map, length, take, Option, Some, None, Result, Ok, Err, arith}
+use Rattle.std.proofs.Common.{◌≡◌, ◌≢◌, ◌∙◌, sym, ap, refl, inl, inr, ℕ, ◌≤◌, Bool, List, length, take, Option, Result, Err, arith}
 use Rattle.std.proofs.lemmas.List.{length-map, length-take}
-use Rattle.edge_io.specs.Counts.{raised, Rose}
+use Rattle.edge_io.specs.Counts.{raised}
 use Rattle.edge_io.specs.declared.counts.FileCounts.{FileCounts}
 use Rattle.cmd_words.specs.declared.command.Command.{Command}
 use Rattle.cmd_words.specs.Forms.{HasForm}

@@ -1,8 +1,7 @@
 -- The chain of a command: it is proper, it has the statuses of commands, and where its end is settled by
 -- what was read it has an outcome; one lemma for each of the links.
-use Rattle.std.proofs.Common.{◌≡◌, ◌≢◌, sym, subst, ◌⊎◌, inl, inr, ℕ, ◌≤◌, List, [], ◌∷◌, ◌++◌, length, Option, Some, None, Result, Ok, Err}
+use Rattle.std.proofs.Common.{◌≡◌, ◌≢◌, sym, subst, inl, inr, ℕ, ◌≤◌, List, [], ◌∷◌, length, Option, Some, None, Result, Ok}
 use Rattle.std.specs.Prelude.{⊤}
-use Rattle.std.specs.Option.{option_to_list}
 use Rattle.limits.specs.declared.TheConstants.{MAX_TEXT_BYTES}
 use Rattle.yse_top.specs.declared.status.Status.{Status}
 use Rattle.yse_top.specs.declared.status.Status.TheVariants as status

@@ -1,5 +1,5 @@
 -- What a run of the core comes to: the trace after its last row, and else the rows that are done.
-use Rattle.std.proofs.Common.{◌≡◌, ◌∙◌, sym, ap, subst, inl, inr, ℕ, ◌*◌, ◌≤◌, List, arith}
+use Rattle.std.proofs.Common.{◌≡◌, ◌∙◌, sym, ap, subst, inl, inr, ℕ, ◌*◌, ◌≤◌, arith}
 use Rattle.net_defs.specs.declared.netlist.Netlist.{Netlist}
 use Rattle.net_defs.specs.declared.timing.Timing.{Timing}
 use Rattle.net_defs.specs.declared.stimulus.Stimulus.{Stimulus}
@@ -72,8 +72,8 @@ module _ (net : Netlist) (timing : Timing) (stimulus : Stimulus) (image : Image)
     order_unfinished count total some count_is total_is = ended (unfinished count total (trace_bytes (record { net = net; rows = rows; line = line }))) (inr (
       (λ all. some (done_same image stimulus banks first last start same (subst (λ t. AllDone image t (state_of last)) (sym turns) all))),
       ap (λ n. unfinished n total (trace_bytes (record { net = net; rows = rows; line = line }))) (count_is ∙ rows_same)
-      ∙ ap (λ n. unfinished (rows_done image (state_of last)) n (trace_bytes (record { net = net; rows = rows; line = line }))) total_is
-      ∙ ap (unfinished (rows_done image (state_of last)) (cycle_count stimulus)) (front_shown net timing stimulus image (rows_done image (state_of last)) rows.rows of shown few),
+          ∙ ap (λ n. unfinished (rows_done image (state_of last)) n (trace_bytes (record { net = net; rows = rows; line = line }))) total_is
+          ∙ ap (unfinished (rows_done image (state_of last)) (cycle_count stimulus)) (front_shown net timing stimulus image (rows_done image (state_of last)) rows.rows of shown few),
     )) where
       rows_same : rows_of last ≡ rows_done image (state_of last)
       rows_same = ap (λ i. rows_done i (state_of last)) (same_image image stimulus banks first last start same)

@@ -1,6 +1,5 @@
 -- The outcome that an output is, by where its run ended.
-use Rattle.std.proofs.Common.{◌≡◌, ◌∙◌, sym, refl, inl, inr, subst, ℕ, List, [], Option, Some, None, Result, Ok, Err}
-use Rattle.std.specs.Io.KnownBytes.{append_known}
+use Rattle.std.proofs.Common.{◌≡◌, sym, refl, subst, ℕ, List, [], Option, Some, None, Ok}
 use Rattle.yse_top.specs.declared.output.Ending.{Ending}
 use Rattle.yse_top.specs.declared.output.Output.{Output}
 use Rattle.yse_top.specs.declared.output.Output.TheVariants as output

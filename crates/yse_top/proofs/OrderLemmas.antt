@@ -1,5 +1,5 @@
 -- Where a run in an order ends is one outcome, whichever image the netlist was compiled to.
-use Rattle.std.proofs.Common.{◌≡◌, ◌∙◌, sym, ap, subst, ◌⊎◌, inl, inr, ℕ, ◌≤◌, List, length, arith}
+use Rattle.std.proofs.Common.{◌≡◌, ◌∙◌, sym, ap, subst, inl, inr, ℕ, List, arith}
 use Rattle.std.proofs.lemmas.Option.{slice_get_within}
 use Rattle.machine_text.specs.declared.machine.Machine.{Machine}
 use Rattle.net_defs.specs.declared.netlist.Netlist.{Netlist}
@@ -28,12 +28,16 @@ pub record AreDoneAlike (until : ℕ) (image other : Image) (one two : CoreState
 -- states at the same places, with as many rows done, on images that are linked alike
 pub done_alike : (until : ℕ) (image other : Image) (one two : CoreState) → AreLinkedAlike image other → one.place ≡ two.place → rows_done image one ≡ rows_done other two → AreDoneAlike until image other one two
 done_alike until image other one two linked places rows = record {
-  there = λ done. record { each = λ p port is.
-      let mine = member_at image.ports p (omega (arith, slice_get_within other.ports p port is, linked.count)) in
-      sym (ap (λ (f : ℕ → Place). (f p).turn) places) ∙ done.each p mine.0 mine.1 };
-  back = λ done. record { each = λ p port is.
-      let theirs = member_at other.ports p (omega (arith, slice_get_within image.ports p port is, linked.count)) in
-      ap (λ (f : ℕ → Place). (f p).turn) places ∙ done.each p theirs.0 theirs.1 };
+  there = λ done. record {
+    each = λ p port is.
+        let mine = member_at image.ports p (omega (arith, slice_get_within other.ports p port is, linked.count)) in
+        sym (ap (λ (f : ℕ → Place). (f p).turn) places) ∙ done.each p mine.0 mine.1;
+  };
+  back = λ done. record {
+    each = λ p port is.
+        let theirs = member_at other.ports p (omega (arith, slice_get_within image.ports p port is, linked.count)) in
+        ap (λ (f : ℕ → Place). (f p).turn) places ∙ done.each p theirs.0 theirs.1;
+  };
   rows = rows;
 }
 

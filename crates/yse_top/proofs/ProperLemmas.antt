@@ -7,7 +7,7 @@ use Rattle.yse_top.specs.declared.status.Status.{Status}
 use Rattle.yse_top.specs.declared.status.Status.TheVariants as status
 use Rattle.yse_top.specs.Checks.{After, AfterRead, AfterFile, Ends, Writes, text_of, read_fault}
 use Rattle.yse_top.specs.Law.{AreAlike, AgreeOn, HasCause, IsProper}
-use Rattle.yse_top.specs.Lines.{too_long_line, usage_line}
+use Rattle.yse_top.specs.Lines.{too_long_line}
 use Rattle.yse_top.specs.Outcome.{Outcome, done, refusal, out_of_memory}
 use Rattle.yse_top.specs.Readings.{Reading}
 

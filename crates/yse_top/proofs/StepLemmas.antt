@@ -1,5 +1,5 @@
 -- Steps of a core, one after another, and the rows that are done after them.
-use Rattle.std.proofs.Common.{◌≡◌, ◌∙◌, sym, ap, subst, refl, inl, inr, ℕ, zero, suc, ◌+◌, ◌-◌, ◌*◌, ◌/◌, ◌<◌, ◌≤◌, List, [], ◌∷◌, ◌++◌, length, replicate, take, drop, get_or, Some, slice_get, arith}
+use Rattle.std.proofs.Common.{◌≡◌, ◌∙◌, sym, ap, subst, refl, ℕ, zero, suc, ◌+◌, ◌-◌, ◌*◌, ◌/◌, ◌<◌, ◌≤◌, List, [], ◌∷◌, ◌++◌, length, replicate, take, drop, get_or, Some, slice_get, arith}
 use Rattle.std.specs.List.{flat_map, All}
 use Rattle.std.proofs.Math.Nat.{mul-div_cancel_left, div-le_of_le-mul}
 use Rattle.std.proofs.lemmas.Grind.{flat_map-append}

@@ -19,7 +19,7 @@ use Rattle.machine_text.specs.Machines.{default_machine}
 use Rattle.yse_top.specs.declared.output.Output.{Output}
 use Rattle.yse_top.specs.declared.status.Status.{Status}
 use Rattle.yse_top.specs.declared.status.Status.TheVariants as status
-use Rattle.yse_top.specs.Checks.{After, AfterRead, AfterFile, Ends, Writes, text_of, IsMachineOf, IsNetlistOf, HasNoLoop, HasRoom, IsStimulusOf, HasFewCells, IsOrderOf}
+use Rattle.yse_top.specs.Checks.{After, AfterRead, AfterFile, Ends, text_of, IsMachineOf, IsNetlistOf, HasNoLoop, HasRoom, IsStimulusOf, HasFewCells, IsOrderOf}
 use Rattle.yse_top.specs.Expected.{ExpectedOf}
 use Rattle.yse_top.specs.Outcome.{Outcome, done, refusal}
 use Rattle.yse_top.specs.Lines.{too_long_line}

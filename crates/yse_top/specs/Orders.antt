@@ -33,7 +33,7 @@ abbrev pub EndsIn : Netlist → Timing → Stimulus → List State → Image →
 EndsIn net timing stimulus states image state outcome =
     (AllDone image (turn_count timing stimulus) state × (outcome ≡ done (trace_to net timing states (cycle_count stimulus))))
     ⊎ ((AllDone image (turn_count timing stimulus) state → ⊥)
-        × (outcome ≡ unfinished (rows_done image state) (cycle_count stimulus) (trace_to net timing states (rows_done image state))))
+    × (outcome ≡ unfinished (rows_done image state) (cycle_count stimulus) (trace_to net timing states (rows_done image state))))
 
 -- the machine's ports have made the steps of the order, and what is done by then is written
 pub record EndsInOrder (order : Order) (banks : ℕ) (net : Netlist) (machine : Machine) (timing : Timing) (stimulus : Stimulus) (outcome : Outcome) : Type 0 where

@@ -140,10 +140,7 @@ fn write_cells_line<S: Sink>(sink: &mut S, cells: u64) -> Result<(), WriteNo>
     let (mut first, mut second) = (Buffer::new(), Buffer::new());
     let cells = first.format(cells).as_bytes();
     let most = second.format(MAX_CELLS).as_bytes();
-    write_pieces(
-        sink,
-        &[b"limit: ", cells, b" cells, at most ", most, b"\n"],
-    )
+    write_pieces(sink, &[b"limit: ", cells, b" cells, at most ", most, b"\n"])
 }
 
 #[tactic(auto, unfolding(crate::specs::Lines::write_fault_line))]

@@ -3,12 +3,12 @@
 ghost use Rattle.yse_top.specs.Law.{AreProper, HaveOutcomes, TellsWords};
 
 use bench_read::law::{reads_or_faults as netlists_or_faults, texts_read_as_valid};
+use cmd_words::law::{forms_are_asked, forms_are_in_range};
+use event_defs::law::links_decide;
 use machine_text::law::{
     reads_as_valid as machines_are_valid, reads_or_faults as machines_or_faults,
 };
 use node_map::law::items_exist;
-use cmd_words::law::{forms_are_asked, forms_are_in_range};
-use event_defs::law::links_decide;
 use rank_find::order_or_loop;
 use ref_sim::one_simulation;
 use stim_text::law::reads_or_faults as stimuli_or_faults;

@@ -1,5 +1,5 @@
 -- What was read, and the outcome that is expected of it, say the rest.
-use Rattle.std.proofs.Common.{◌∙◌, sym, subst, map, refl, inl, inr, ◌≡◌, ◌≢◌, ◌↔◌, None}
+use Rattle.std.proofs.Common.{◌∙◌, sym, subst, map, inl, inr, ◌≡◌, ◌≢◌, ◌↔◌, None}
 use Rattle.std.specs.Prelude.{IfSome}
 use Rattle.std.specs.String.{string_bytes}
 use Rattle.cmd_words.specs.declared.command.Command.{Command}
@@ -23,9 +23,12 @@ use Rattle.yse_top.proofs.yse.Goals as goal
 
 pub returns-in-Ok-prepare-clause-trace : goal.returns-in-Ok-prepare-clause-trace
 returns-in-Ok-prepare-clause-trace g c is =
-    let whole = c.end.ensures.whole is in
-    (bytes_of c.in-Ok-prepare.output, whole.1, subst (λ a. IfSome (traced_by a) (IsTraceOfFiles (g.F.Files.bytes c.args.files.now) (bytes_of c.in-Ok-prepare.output))) (sym c.in-Ok.ensures.asked)
-        (traced (g.F.Files.bytes c.args.files.now) _ _ _ c.in-Ok.command c.in-Ok-prepare.output whole.0 c.in-Ok-prepare.ensures.expected))
+    let whole = c.end.ensures.whole is in (
+      bytes_of c.in-Ok-prepare.output,
+      whole.1,
+      subst (λ a. IfSome (traced_by a) (IsTraceOfFiles (g.F.Files.bytes c.args.files.now) (bytes_of c.in-Ok-prepare.output))) (sym c.in-Ok.ensures.asked)
+          (traced (g.F.Files.bytes c.args.files.now) _ _ _ c.in-Ok.command c.in-Ok-prepare.output whole.0 c.in-Ok-prepare.ensures.expected),
+    )
 
 pub returns-in-Ok-prepare-clause-expected : goal.returns-in-Ok-prepare-clause-expected
 returns-in-Ok-prepare-clause-expected g c =
@@ -35,7 +38,7 @@ returns-in-Ok-prepare-clause-expected g c =
 pub returns-in-Ok-prepare-clause-complete : goal.returns-in-Ok-prepare-clause-complete
 returns-in-Ok-prepare-clause-complete g c readings output expected told kept written =
     let follows = follows_words _ _ _ _ (map string_bytes c.args.words.now) c.in-Ok.command _ c.in-Ok.ensures.form c.in-Ok-prepare.ensures.expected in
-    let is : c.end.result ≡ (ended_with c.in-Ok-prepare.output).status = elim c.end.ensures.ends [ | inl as_told ↦ as_told.0 | inr cut ↦ absurd (written cut.2) ] in
+    let is : c.end.result ≡ (ended_with c.in-Ok-prepare.output).status = elim c.end.ensures.ends [ inl as_told ↦ as_told.0 | inr cut ↦ absurd (written cut.2) ] in
     subst IsDoneOrMemory (sym is)
     (completes _ _ _ _ _ _ (c.calls_are_proper.ensures.proper (map string_bytes c.args.words.now)) _ follows readings output expected told kept)
 
@@ -87,7 +90,7 @@ returns-in-Ok-clause-absent g c other =
 
 pub returns-in-Err-Usage-clause-expected : goal.returns-in-Err-Usage-clause-expected
 returns-in-Err-Usage-clause-expected g c =
-    let none : (command : Command) → HasForm (map string_bytes c.args.words.now) command → ⊥ = elim c.in-Err-Usage.ensures.form [ | inl memory ↦ absurd (usage_not_memory (sym c.in-Err-Usage.field-0-is ∙ memory)) | inr (usage, none) ↦ none ] in
+    let none : (command : Command) → HasForm (map string_bytes c.args.words.now) command → ⊥ = elim c.in-Err-Usage.ensures.form [ inl memory ↦ absurd (usage_not_memory (sym c.in-Err-Usage.field-0-is ∙ memory)) | inr (usage, none) ↦ none ] in
     let follows = follows_usage _ _ (g.F.Files.counts c.args.files.now) (g.F.Files.counts c.args.files.now) (map string_bytes c.args.words.now) none in
     (follows.readings, refused_of refusal.Words, follows.are, follows.expected, inl (c.refuse-in-Err-Usage.ensures.status, sym (append_known-nil _), c.refuse-in-Err-Usage.ensures.line))
   where

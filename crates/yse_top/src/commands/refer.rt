@@ -34,7 +34,13 @@ pub fn refer<'a, F: Files>(
         Ok(text) => match netlist_of(alloc, text.as_slice()) {
             Ok(net) => match ordered(alloc, net, &words.timing) {
                 Ok(design) => {
-                    simulate(alloc, files, words.stimulus.as_bytes(), &words.timing, design)
+                    simulate(
+                        alloc,
+                        files,
+                        words.stimulus.as_bytes(),
+                        &words.timing,
+                        design,
+                    )
                 }
                 Err(no) => Err(no),
             },

@@ -1,5 +1,5 @@
 -- The chain of each command, link by link.
-use Rattle.std.proofs.Common.{◌≡◌, ◌∙◌, ◌↔◌, ◌⊎◌, inl, inr, ◌≢◌, ◌≤◌, sym, ap, refl, subst, ℕ, List, [], ◌∷◌, ◌++◌, length, Option, Some, None, Result, Ok, Err, arith}
+use Rattle.std.proofs.Common.{◌≡◌, ◌∙◌, ◌↔◌, ◌⊎◌, inl, inr, ◌≢◌, ◌≤◌, sym, ap, refl, subst, ℕ, List, [], ◌∷◌, ◌++◌, length, Option, Some, None, Ok, Err, arith}
 use Rattle.std.specs.Option.{option_to_list}
 use Rattle.limits.specs.declared.TheConstants.{MAX_TEXT_BYTES}
 use Rattle.machine_text.specs.declared.machine.Machine.{Machine}
@@ -254,8 +254,8 @@ returns c =
           let linked = subst (λ i. AreLinkedAlike i other) made.image_is (subst (AreLinkedAlike made.compiled.image) made_too.image_is
           (c.one_linking.ensures net machine timing made.compiled made_too.compiled valid made.is made_too.is)) in
           let same =
-              c.links_decide.ensures image other stimulus stimulus banks (turn_count timing stimulus) (steps_of order) after.answers after_too.answers one two
-              (subst IsWellFormed made.image_is made.is.built.fits) (subst IsWellFormed made_too.image_is made_too.is.built.fits) linked some after.steps after_too.steps in
+          c.links_decide.ensures image other stimulus stimulus banks (turn_count timing stimulus) (steps_of order) after.answers after_too.answers one two
+          (subst IsWellFormed made.image_is made.is.built.fits) (subst IsWellFormed made_too.image_is made_too.is.built.fits) linked some after.steps after_too.steps in
           done_alike (turn_count timing stimulus) image other one two linked same.1 same.2;
       valid_machines = c.reads_as_valid.ensures;
       default_valid = default_is_valid;

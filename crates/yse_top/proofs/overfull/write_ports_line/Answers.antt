@@ -1,7 +1,6 @@
 -- The pieces are those of the line, its numbers in decimal.
 use Rattle.std.proofs.Common.{◌∙◌, ap, [], ◌∷◌, List, ℕ}
 use Rattle.std.specs.Prelude.{codes, decimal}
-use Rattle.limits.specs.declared.TheConstants.{MAX_PORTS}
 use Rattle.yse_top.specs.Lines.{ports_line}
 use Rattle.yse_top.specs.Writing.{joined}
 use Rattle.yse_top.proofs.WritingLemmas.{writes_same}

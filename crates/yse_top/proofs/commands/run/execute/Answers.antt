@@ -1,5 +1,5 @@
 -- The run is expected after the stimulus and the cells.
-use Rattle.std.proofs.Common.{List, ℕ, Option, refl, inr}
+use Rattle.std.proofs.Common.{List, ℕ, refl, inr}
 use Rattle.std.specs.Option.{option_map}
 use Rattle.net_defs.specs.declared.netlist.Netlist.{Netlist}
 use Rattle.net_defs.specs.declared.stimulus.Stimulus.{Stimulus}

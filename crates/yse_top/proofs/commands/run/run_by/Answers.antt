@@ -2,7 +2,6 @@
 use Rattle.std.proofs.Common.{List, ℕ, Option, refl, inr}
 use Rattle.std.specs.Option.{option_map}
 use Rattle.cmd_words.specs.declared.command.RunWords.{RunWords}
-use Rattle.machine_text.specs.declared.machine.Machine.{Machine}
 use Rattle.yse_top.specs.Checks.{After, IsMachineOf}
 use Rattle.yse_top.specs.Outcome.{Outcome}
 use Rattle.yse_top.specs.Readings.{Reading}

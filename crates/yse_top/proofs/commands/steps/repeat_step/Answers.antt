@@ -7,7 +7,7 @@ steps-init c = stepped_none c.args.core.now
 
 pub returns-in-NotYet : goal.returns-in-NotYet
 returns-in-NotYet c =
-    let idle : IsIdle c.apply.result = elim c.in-NotYet.is [ | inl is ↦ subst IsIdle (sym is) tt | inr is ↦ subst IsIdle (sym is) tt ] in
+    let idle : IsIdle c.apply.result = elim c.in-NotYet.is [ inl is ↦ subst IsIdle (sym is) tt | inr is ↦ subst IsIdle (sym is) tt ] in
     stepped_idle c.args.core.now c.steps.core c.apply.new.self c.steps._step c.args.times c.args.port c.apply.result
     (stepped_there c.args.core.now c.steps.core _ c.args.port c.steps.invariant c.requires) (omega (arith, c.steps-test.true)) idle c.steps.invariant c.apply.ensures.step
 
