@@ -16,7 +16,6 @@ use Rattle.image_defs.specs.declared.image.PortImage.{PortImage}
 use Rattle.event_defs.proofs.SlotLemmas.{updated_here, updated_there}
 use Rattle.event_defs.proofs.StampLemmas.{written_here, written_there}
 use Rattle.event_defs.proofs.WordLemmas.{stamp_in}
-use Rattle.event_defs.specs.Counts.{missing}
 use Rattle.event_defs.specs.Linked.{ArePortsAlike}
 use Rattle.event_defs.specs.Next.{EndsNext, IsDoneBelow, IsNext, ReceivesNext, SendsNext}
 use Rattle.event_defs.specs.Places.{after_ask, after_put, after_take, after_tell, is_in}

@@ -17,7 +17,7 @@ use Rattle.image_defs.specs.declared.image.PortImage.{PortImage}
 use Rattle.event_defs.proofs.KeptLemmas.{read_stamp, step_sound}
 use Rattle.event_defs.proofs.PaceLemmas.{inside, source}
 use Rattle.event_defs.proofs.SlotLemmas.{to_map}
-use Rattle.event_defs.specs.Counts.{missing, moves}
+use Rattle.event_defs.specs.Counts.{missing}
 use Rattle.event_defs.specs.Next.{EndsNext, IsDoneBelow, IsNext, ReceivesNext, SendsNext}
 use Rattle.event_defs.specs.Places.{after_ask, after_put, after_take, after_tell, is_in, known_of}
 use Rattle.event_defs.specs.Sound.{IsSound}

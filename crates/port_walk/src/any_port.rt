@@ -26,19 +26,19 @@ use std::marker::Model;
 #[derive(Drop)]
 pub struct AnyPort<'a> {
     kind: Kind<'a>,
+    seat: &'a PortImage,
+    image: &'a Image,
+    stim: &'a Stimulus,
+    port: u32,
     slots: List<u32>,
-    stops: List<Stop>,
     readers: Readers,
+    stops: List<Stop>,
     at: usize,
     sent: usize,
     took: usize,
     value: V4,
     turn: u64,
     until: u64,
-    port: u32,
-    seat: &'a PortImage,
-    image: &'a Image,
-    stim: &'a Stimulus,
 }
 
 impl<'a> Model for AnyPort<'a> {
@@ -135,19 +135,19 @@ impl<'a> AnyPort<'a> {
         let value = kind.enter(slots.as_slice(), stops.as_slice()[0].items, 1 <= until);
         Ok(AnyPort {
             kind,
+            seat,
+            image,
+            stim,
+            port,
             slots,
-            stops,
             readers,
+            stops,
             at: 0,
             sent: 0,
             took: 0,
             value,
             turn: 1,
             until,
-            port,
-            seat,
-            image,
-            stim,
         })
     }
 
