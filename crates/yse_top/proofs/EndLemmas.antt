@@ -50,7 +50,7 @@ module _ (names : Option (List ℕ → Bool)) (bytes : Option (List ℕ → List
   pub absent_kept : (result : Result Output Refusal) → Follows names bytes old new result Chain → (outcome_of result).status ≢ status.ReadFault → new.absent_starts ≡ old.absent_starts
   absent_kept result follows other =
       follows.are.absent_starts
-      ∙ ap (raised old.absent_starts) (none_among follows.readings (λ place reading at. there_of reading (follows.are.each place reading at) (λ none. other ((proper.cause follows.readings (outcome_of result) follows.expected).unread place reading at none))))
+      ∙ ap (raised old.absent_starts) (none_among follows.readings (λ place reading at. there_of reading (follows.are.each place reading at) (λ none. other (((proper.cause follows.readings (outcome_of result) follows.expected).unread place reading at none).0))))
       ∙ same old.absent_starts
     where
       same : (count : ℕ) → raised count 0 ≡ count

@@ -1,5 +1,5 @@
 -- A chain of checks is proper where each check and each end is: one lemma for each of the three links.
-use Rattle.std.proofs.Common.{◌≡◌, ◌≢◌, ◌∙◌, sym, ap, refl, subst, ◌⊎◌, inl, inr, ℕ, zero, suc, ◌≤◌, List, [], ◌∷◌, length, take, map, Option, Some, None, Result, Ok, Err, Bool, true, false}
+use Rattle.std.proofs.Common.{◌≡◌, ◌≢◌, ◌∙◌, sym, ap, refl, subst, ◌⊎◌, inl, inr, ℕ, zero, suc, ◌+◌, ◌≤◌, List, [], ◌∷◌, length, take, map, Option, Some, None, Result, Ok, Err, Bool, true, false, arith}
 use Rattle.std.specs.Prelude.{⊤, slice_get, nat_le, if◌then◌else◌}
 use Rattle.std.proofs.lemmas.Bool.{leb-true}
 use Rattle.limits.specs.declared.TheConstants.{MAX_TEXT_BYTES}
@@ -115,9 +115,12 @@ cause_after file bytes readings outcome cause = record {
   none_written = cause.none_written;
 }
   where
-    unread : (place : ℕ) (reading : Reading) → slice_get (record { file = file; bytes = Some bytes } ∷ readings) place ≡ Some reading → reading.bytes ≡ None → outcome.status ≡ status.ReadFault
+    one_more : (place count : ℕ) → place + 1 ≡ count → suc place + 1 ≡ suc count
+    one_more place count is = omega (arith, is)
+
+    unread : (place : ℕ) (reading : Reading) → slice_get (record { file = file; bytes = Some bytes } ∷ readings) place ≡ Some reading → reading.bytes ≡ None → (outcome.status ≡ status.ReadFault) × (place + 1 ≡ suc (length readings))
     unread zero reading at none = cc
-    unread (suc place) reading at none = cause.unread place reading at none
+    unread (suc place) reading at none = let last = cause.unread place reading at none in (last.0, one_more place (length readings) last.1)
 
 abbrev alone : List ℕ → Option (List ℕ) → List Reading
 alone f b = record { file = f; bytes = b } ∷ []
@@ -126,12 +129,16 @@ alone f b = record { file = f; bytes = b } ∷ []
 cause_unread : (reading : Reading) (file : List ℕ) (outcome : Outcome) → reading.file ≡ file → reading.bytes ≡ None → outcome ≡ read_fault file → HasCause (reading ∷ []) outcome
 cause_unread reading file outcome file_is none is = record {
   read_fault = λ s. ([], file, last reading.file reading.bytes file_is none, ap (λ (o : Outcome). o.line) is);
-  unread = λ place other at missing. ap (λ (o : Outcome). o.status) is;
+  unread = λ place other at missing. (ap (λ (o : Outcome). o.status) is, only place other at);
   none_written = λ s. fault_is_read (ap (λ (o : Outcome). o.status) is) s;
 }
   where
     last : (f : List ℕ) (b : Option (List ℕ)) → f ≡ file → b ≡ None → alone f b ≡ alone file None
     last f b e n = ap (λ (g : List ℕ). alone g b) e ∙ ap (alone file) n
+
+    only : (place : ℕ) (other : Reading) → slice_get (reading ∷ []) place ≡ Some other → place + 1 ≡ 1
+    only zero other at = refl
+    only (suc place) other at = cc
 
     fault_is_read : {s : Status} → s ≡ status.ReadFault → s ≡ status.WriteFault → ⊥
     fault_is_read a b = cc

@@ -1,5 +1,5 @@
 -- The laws of whole calls: what is expected is one outcome, and there is one, whatever the files hold.
-use Rattle.std.specs.Prelude.{◌≡◌, ◌≢◌, ◌↔◌, ℕ, List, [], ◌∷◌, ◌++◌, length, take, map, Option, Some, None, slice_get}
+use Rattle.std.specs.Prelude.{◌≡◌, ◌≢◌, ◌↔◌, ℕ, List, [], ◌∷◌, ◌++◌, ◌+◌, length, take, map, Option, Some, None, slice_get}
 use Rattle.yse_top.specs.declared.status.Status.TheVariants as ends
 use Rattle.yse_top.specs.Expected.{Expected}
 use Rattle.yse_top.specs.Lines.{read_fault_line}
@@ -26,12 +26,12 @@ AgreeOn readings others =
 abbrev pub AreGiven : (ℕ → List ℕ → Option (List ℕ)) → List Reading → Type 0
 AreGiven give readings = (place : ℕ) (reading : Reading) → slice_get readings place ≡ Some reading → reading.bytes ≡ give place reading.file
 
--- a read fault is that of the last file that was begun, a file that can't be read is a read fault, and no
--- write fault is expected
+-- a read fault is that of the last file that was begun, a file that can't be read is a read fault and the last
+-- one, and no write fault is expected
 pub record HasCause (readings : List Reading) (outcome : Outcome) : Type 0 where
   pub read_fault : outcome.status ≡ ends.ReadFault → (before : List Reading) × (file : List ℕ)
       × (readings ≡ before ++ record { file = file; bytes = None } ∷ []) × (outcome.line ≡ read_fault_line file)
-  pub unread : (place : ℕ) (reading : Reading) → slice_get readings place ≡ Some reading → reading.bytes ≡ None → outcome.status ≡ ends.ReadFault
+  pub unread : (place : ℕ) (reading : Reading) → slice_get readings place ≡ Some reading → reading.bytes ≡ None → (outcome.status ≡ ends.ReadFault) × (place + 1 ≡ length readings)
   pub none_written : outcome.status ≢ ends.WriteFault
 
 -- what holds of a chain of checks that reads these files in their order
@@ -51,7 +51,7 @@ pub record HasOutcome (Chain : List Reading → Outcome → Type 0) : Type 0 whe
 abbrev pub AreProper : Type 0
 AreProper = (words : List (List ℕ)) → IsProper (files_named (asked words)) (Expected words)
 
--- words that name no file of an order come to an outcome; for those that name one the calls say so
+-- words that name no file of an order come to an outcome; for those that name one a call shows it for what it read
 abbrev pub HaveOutcomes : Type 0
 HaveOutcomes = (words : List (List ℕ)) → order_named (asked words) ≡ None → HasOutcome (Expected words)
 

@@ -40,13 +40,16 @@ use refusal::Refusal;
 pub use status::Status;
 use std::alloc::Global;
 
-/// Does what the words say. `run` and `refer` with `NETLIST STIMULUS [--mode rank|unit] [--units K]
-/// [--init x|0]` simulate the netlist of the one file with the stimulus of the other and write the
-/// trace to `out`, one line a piece, the header first; a cycle is K turns, 1 to 4,096, and 1 in rank
-/// order. `show NETLIST` writes the netlist's canonical text as one piece. A file has at most
-/// 67,108,864 bytes, and a simulation at most 268,435,456 cells (this project's profile). A status
-/// other than `Done` writes its line to `err`, and a fault of `err` changes no status. All memory is
-/// taken before the first byte of output.
+/// Does what the words say. `run`, `refer` and `order` with `NETLIST STIMULUS [--mode rank|unit]
+/// [--units K] [--init x|0]` simulate the netlist of the one file with the stimulus of the other and
+/// write the trace to `out`, one line a piece, the header first; a cycle is K turns, 1 to 4,096, and 1
+/// in rank order. `run` and `order` take `--machine FILE`, the machine that the netlist is compiled
+/// for; `order` takes `--order FILE`, the order of its ports' steps, and `--banks B`, how many turns a
+/// port may run ahead of its readers, 1 to 8. An order that ends before every port is done writes the
+/// rows that are done, and ends with `Unfinished`. `show NETLIST` writes the netlist's canonical text
+/// as one piece. A file has at most 67,108,864 bytes, and a simulation at most 268,435,456 cells (this
+/// project's profile). A status other than `Done` writes its line to `err`, and a fault of `err`
+/// changes no status. All memory is taken before the first byte of output.
 pub fn yse<F: Files, O: Sink, E: Sink>(
     alloc: Global,
     words: &[String],
@@ -66,7 +69,8 @@ pub fn yse<F: Files, O: Sink, E: Sink>(
         × EndsAs result outcome (O.taken out.old) (O.taken out.new) (O.faults out.old) (O.faults out.new)
         (TakesLine (E.taken err.old) (E.taken err.new) (E.faults err.old) (E.faults err.new)) }
 
-    // Where an output is expected of what the files tell, it is written, but for a fault or want of memory.
+    // Where an end with status 0 is expected of what the files tell, its output is written, but for a fault
+    // or want of memory.
     ensures complete { (readings : List Reading) (output : List ℕ)
         → Expected (map string_bytes words.now) readings (done output)
         → AreToldBy (F.names files.old) (F.bytes files.old) readings

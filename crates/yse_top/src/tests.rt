@@ -345,6 +345,17 @@ const CASES: &[Case] = &[
         output: b"INPUT(we)\nINPUT(a0)\nINPUT(a1)\nINPUT(d)\nOUTPUT(q)\n[q] = RAM(we; a0, a1; d)\n",
         line: b"",
     },
+    // A text is one piece: there is no second write that could fail.
+    Case {
+        commands: "show",
+        words: "net.bench",
+        netlist: CRLF,
+        stimulus: b"",
+        failing: (0, 2),
+        status: 0,
+        output: b"INPUT(a)\nOUTPUT(z)\nz = NOT(y)\ny = BUFF(a)\n",
+        line: b"",
+    },
     // Refused netlists.
     Case {
         commands: "show",

@@ -194,6 +194,7 @@ fn run_in_drawn_order(
 ) -> Result<Ended, Memory> {
     let order = drawn(alloc, seed, 4000)?;
     let mut words = words_of(alloc, "order", FILES)?;
+    words.push(String::from_str(alloc, "--init=0")?)?;
     words.push(String::from_str(alloc, "--banks")?)?;
     words.push(String::from_str(alloc, banks)?)?;
     let mut files = store(alloc, TWO_LOGIC, design.0, design.1, order.as_bytes())?;
@@ -202,7 +203,7 @@ fn run_in_drawn_order(
 
 /// The output of the reference simulation.
 fn referred(alloc: Global, design: &(&[u8], &[u8])) -> Result<Ended, Memory> {
-    let words = words_of(alloc, "refer", "net.bench net.stim")?;
+    let words = words_of(alloc, "refer", "net.bench net.stim --init 0")?;
     let mut files = store(alloc, TWO_LOGIC, design.0, design.1, b"")?;
     end_of(alloc, words.as_slice(), &mut files, 0)
 }
