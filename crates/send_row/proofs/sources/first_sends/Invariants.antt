@@ -1,0 +1,5 @@
+use Rattle.send_row.specs.Sources.{CountsSends}
+use Rattle.send_row.proofs.sources.first_sends.Given as goal
+
+abbrev pub invariant-ports : goal.invariant-ports
+invariant-ports l = CountsSends l.image l.p l.sends l.firsts

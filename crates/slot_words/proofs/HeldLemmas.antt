@@ -1,0 +1,202 @@
+-- A pass with its crossbar.
+use Rattle.std.proofs.Common.{List, None, Some, ap, ap₂, arith, get_or, inl, inr, length, mod-lt, refl, slice_get, subst, sym, ℕ, ◌%◌, ◌*◌, ◌+◌, ◌/◌, ◌<◌, ◌∙◌, ◌≡◌, ◌≤◌, ◌⊎◌}
+use Rattle.std.proofs.lemmas.Bool.{cases_eq}
+use Rattle.std.proofs.lemmas.Option.{get_or_from_slice_get, slice_get_cases, slice_get_within}
+use Rattle.logic_four.specs.Values.{value_of}
+use Rattle.logic_four.specs.declared.V4.{V4}
+use Rattle.image_defs.specs.Frames.{image_value}
+use Rattle.image_defs.specs.Places.{IsPort}
+use Rattle.image_defs.specs.declared.image.LinkIn.{LinkIn}
+use Rattle.image_defs.specs.declared.image.LinkOut.{LinkOut}
+use Rattle.image_defs.specs.declared.image.PortImage.{PortImage}
+use Rattle.image_defs.specs.declared.image.Image.{Image}
+use Rattle.event_defs.proofs.PaceLemmas.{same_receipt, same_send}
+use Rattle.event_defs.proofs.WordLemmas.{decoded}
+use Rattle.event_defs.specs.Places.{IsSend, after_take}
+use Rattle.event_defs.specs.Row.{send_count, send_number}
+use Rattle.event_defs.specs.Steps.{stamp_of}
+use Rattle.event_defs.specs.declared.place.Place.{Place}
+use mathlib.Core.Option.{none}
+use Rattle.atomic_table.specs.Table.{step}
+use Rattle.atomic_table.specs.Seated.{TableId}
+use Rattle.atomic_table.specs.declared.shared.Seat.{Seat}
+use Rattle.slot_words.proofs.TimeLemmas.{send_room}
+use Rattle.slot_words.specs.declared.crossbar.Crossbar.TheInside as bar
+use Rattle.slot_words.specs.declared.pass.Pass.TheInside.{Inside}
+use Rattle.slot_words.specs.declared.crossbar.Taken.{Taken}
+use Rattle.slot_words.specs.declared.crossbar.Taken.TheVariants.{NotYet, Value}
+use Rattle.slot_words.specs.declared.links.Link.{Link}
+use Rattle.slot_words.specs.declared.rule.View.{View}
+use Rattle.slot_words.specs.Held.{HasWords, IsHeld, crossbar_of, pass_of}
+use Rattle.slot_words.specs.Layout.{send_word, word_count}
+use Rattle.slot_words.specs.Links.{AreReceiptLinksOf, AreSendLinksOf, HasSlot, IsSourceWord}
+use Rattle.slot_words.specs.Passes.{CrossbarView, IsFound, IsOf, IsTakenIn, PassView, one_step}
+use Rattle.slot_words.specs.Plays.{FindsIn, Reads, Seated, after_step}
+use Rattle.slot_words.specs.Rule.{IsRunnable}
+
+-- what is said of the values holds of the fields
+pub own_fields : (b : bar.Inside) (a : Inside) (bar_is : CrossbarView) (pass_is : PassView) → crossbar_of b ≡ bar_is → pass_of a ≡ pass_is → IsOf bar_is pass_is → IsOf (crossbar_of b) (pass_of a)
+own_fields b a bar_is pass_is b_is a_is own = subst (λ x. IsOf x (pass_of a)) (sym b_is) (subst (IsOf bar_is) (sym a_is) own)
+
+module _ (b : bar.Inside) (a : Inside) (has : HasWords b) (own : IsOf (crossbar_of b) (pass_of a)) where
+  -- the words are as many as the pass's image wants
+  pub words_are : b.table.shared.table_id.words ≡ word_count a.seat.me.0.image a.seat.me.0.banks
+  words_are = subst (λ n. b.table.shared.table_id.words ≡ word_count a.seat.me.0.image n) (sym own.banks) (subst (λ i. b.table.shared.table_id.words ≡ word_count i b.table.shared.key.banks) (sym own.image) has.words)
+
+  pub progress_room : (p : ℕ) → p < length a.seat.me.0.image.ports → p < b.table.shared.table_id.words
+  progress_room p inside =
+      let e = words_are in
+      let row : ℕ = send_count a.seat.me.0.image * a.seat.me.0.banks in
+      let e' : b.table.shared.table_id.words ≡ length a.seat.me.0.image.ports + row = e in
+      omega arith
+
+-- a turn's bank stands behind bank 0
+pub bank_word : (image : Image) (banks p i word turn b n : ℕ) → word ≡ send_word image banks p i 0 → n ≡ word + turn % b → (place : Place) → turn ≡ place.turn → b ≡ banks → n ≡ send_word image banks p i (place.turn % banks)
+bank_word image banks p i word turn b n word_is n_is place turn_is b_is =
+    let row : ℕ = send_number image p i * banks in
+    let first : word ≡ length image.ports + (row + 0) = word_is in
+    let bank : turn % b ≡ place.turn % banks = ap₂ (λ x y. x % y) turn_is b_is in
+    omega arith
+
+-- the pass with another seat and other hints
+abbrev pub reseated : Inside → Seat (Unit {0}) View → ℕ → ℕ → Inside
+reseated a seat send receipt = record a { seat = seat; last_send = send; last_receipt = receipt }
+
+module _ (a : Inside) (seat : Seat (Unit {0}) View) (x : Place) (word number send receipt : ℕ) (view_is : seat.me.0 ≡ after_step a.seat.me.0 x word number) where
+  -- one step, as contracts see it
+  pub pass_stepped : seat.table_id ≡ a.seat.table_id → pass_of (reseated a seat send receipt) ≡ one_step (pass_of a) x word number
+  pass_stepped table_is = ap₂ seen table_is view_is where
+    seen : TableId → View → PassView
+    seen t v = record { table = t; port = a.port; image = v.image; stimulus = v.stimulus; banks = v.banks; place = v.place; steps = v.steps; last = v.last }
+
+  -- a step that keeps the turn and what is known keeps what holds of the fields
+  pub held_stepped : IsHeld a → x.turn ≡ a.seat.me.0.place.turn → x.known ≡ a.seat.me.0.place.known → IsHeld (reseated a seat send receipt)
+  held_stepped held turn_is known_is = record {
+    runs = subst (λ (v : View). IsRunnable v.image v.stimulus v.banks) (sym view_is) held.runs;
+    inside = subst (λ (v : View). a.port < length v.image.ports) (sym view_is) held.inside;
+    port = ap (λ (v : View). v.port) view_is ∙ held.port;
+    banks = held.banks ∙ sym (ap (λ (v : View). v.banks) view_is);
+    turn = held.turn ∙ (sym turn_is ∙ sym (ap (λ (v : View). v.place.turn) view_is));
+    known = held.known ∙ (sym known_is ∙ sym (ap (λ (v : View). v.place.known) view_is));
+    wide = subst (λ (v : View). length a.known ≡ length v.image.ports) (sym view_is) held.wide;
+    sends = subst (λ (v : View). AreSendLinksOf v.image v.banks a.port a.sends) (sym view_is) held.sends;
+    receipts = subst (λ (v : View). AreReceiptLinksOf v.image v.banks a.port a.receipts) (sym view_is) held.receipts;
+  }
+
+module _ (a : Inside) (held : IsHeld a) where
+  abbrev image : Image
+  image = a.seat.me.0.image
+
+  abbrev banks : ℕ
+  banks = a.seat.me.0.banks
+
+  some_at : {X : Type 0} (xs : List X) (k : ℕ) → k < length xs → (x : X) × (slice_get xs k ≡ Some x)
+  some_at {X} xs k inside = there (slice_get_cases xs k).1 where
+    there : ((x : X) × (k < length xs) × (slice_get xs k ≡ Some x) × (get_or xs k x ≡ x)) ⊎ ((length xs ≤ k) × (slice_get xs k ≡ None)) → (x : X) × (slice_get xs k ≡ Some x)
+    there (inl t) = (t.0, t.2)
+    there (inr t) = let past = t.0 in absurd (omega arith)
+
+  same_link : (links : List Link) (k slot : ℕ) (d one : Link) → HasSlot links slot k → slice_get links k ≡ Some one → (get_or links k d ≡ one) × (one.slot ≡ slot)
+  same_link links k slot d one has is =
+      let both : Some has.link ≡ Some one = sym has.is ∙ is in
+      let e : has.link ≡ one = cc in
+      (get_or_from_slice_get links k one d is, ap (λ (l : Link). l.slot) (sym e) ∙ has.slot_is)
+
+  -- the word that is found for what the port sends in a slot
+  pub send_found : (k slot : ℕ) (d : Link) → HasSlot a.sends slot k → (i : ℕ) (link : LinkOut) → IsSend image a.port i link → link.slot ≡ slot → (get_or a.sends k d).word ≡ send_word image banks a.port i 0
+  send_found k slot d has i link send slot_is =
+      let links = held.sends send.port send.is in
+      let low = slice_get_within a.sends k has.link has.is in
+      let long = links.long in
+      let out = some_at send.port.outs k (omega arith) in
+      let same = same_link a.sends k slot d (record { slot = out.0.slot; word = send_word image banks a.port k 0 }) has (links.each k out.0 (omega arith) out.1) in
+      let here : IsSend image a.port k out.0 = record { port = send.port; is = send.is; link_is = out.1 } in
+      let index = (same_send image held.runs.image_fits a.port k i out.0 link here send (same.1 ∙ sym slot_is)).0 in
+      ap (λ (l : Link). l.word) same.0 ∙ ap (λ n. send_word image banks a.port n 0) index
+
+  -- the word that is found for what it receives in a slot
+  pub receipt_found : (k slot : ℕ) (d : Link) → HasSlot a.receipts slot k → (port : PortImage) (j i : ℕ) (link : LinkIn) (sent : LinkOut) → IsPort image a.port port → slice_get port.ins j ≡ Some link → link.slot ≡ slot
+      → IsSend image link.sender i sent → sent.slot ≡ slot → (get_or a.receipts k d).word ≡ send_word image banks link.sender i 0
+  receipt_found k slot d has port j i link sent is at slot_is send sent_slot =
+      let links = held.receipts port is in
+      let low = slice_get_within a.receipts k has.link has.is in
+      let long = links.long in
+      let other = some_at port.ins k (omega arith) in
+      let found = links.each k other.0 (omega arith) other.1 in
+      let same = same_link a.receipts k slot d (record { slot = other.0.slot; word = found.0 }) has found.1 in
+      let link_is : other.0 ≡ link = (same_receipt image held.runs.image_fits a.port port k j other.0 link is other.1 at (same.1 ∙ sym slot_is)).1 in
+      let source : IsSourceWord image banks link found.0 = subst (λ (l : LinkIn). IsSourceWord image banks l found.0) link_is found.2 in
+      let index = (same_send image held.runs.image_fits link.sender source.i i source.sent sent source.send send (source.same_slot ∙ (slot_is ∙ sym sent_slot))).0 in
+      ap (λ (l : Link). l.word) same.0 ∙ (source.is ∙ ap (λ n. send_word image banks link.sender n 0) index)
+
+-- the word that a pass reckons, by the link that it found in one of its lists
+module _ (a : Inside) (held : IsHeld a) (searched read : List Link) (k slot n : ℕ) (has : HasSlot searched slot k) (n_is : n ≡ (get_or read k (record { slot = 0; word = 0 })).word + a.turn % a.banks) where
+  pub put_word : searched ≡ a.sends → read ≡ a.sends → (i : ℕ) (link : LinkOut) → IsSend a.seat.me.0.image a.port i link → link.slot ≡ slot
+      → n ≡ send_word a.seat.me.0.image a.seat.me.0.banks a.port i (a.seat.me.0.place.turn % a.seat.me.0.banks)
+  put_word searched_is read_is i link send slot_is =
+      let first = send_found a held k slot (record { slot = 0; word = 0 }) (subst (λ l. HasSlot l slot k) searched_is has) i link send slot_is in
+      let word : ℕ = (get_or read k (record { slot = 0; word = 0 })).word in
+      let at_first : word ≡ send_word a.seat.me.0.image a.seat.me.0.banks a.port i 0 = ap (λ (l : List Link). (get_or {A = Link} l k (record { slot = 0; word = 0 })).word) read_is ∙ first in
+      bank_word a.seat.me.0.image a.seat.me.0.banks a.port i word a.turn a.banks n at_first n_is a.seat.me.0.place held.turn held.banks
+
+  pub take_word : searched ≡ a.receipts → read ≡ a.receipts → (port : PortImage) (j i : ℕ) (link : LinkIn) (sent : LinkOut) → IsPort a.seat.me.0.image a.port port → slice_get port.ins j ≡ Some link → link.slot ≡ slot
+      → IsSend a.seat.me.0.image link.sender i sent → sent.slot ≡ slot
+      → n ≡ send_word a.seat.me.0.image a.seat.me.0.banks link.sender i (a.seat.me.0.place.turn % a.seat.me.0.banks)
+  take_word searched_is read_is port j i link sent is at slot_is send sent_slot =
+      let first = receipt_found a held k slot (record { slot = 0; word = 0 }) (subst (λ l. HasSlot l slot k) searched_is has) port j i link sent is at slot_is send sent_slot in
+      let word : ℕ = (get_or read k (record { slot = 0; word = 0 })).word in
+      let at_first : word ≡ send_word a.seat.me.0.image a.seat.me.0.banks link.sender i 0 = ap (λ (l : List Link). (get_or {A = Link} l k (record { slot = 0; word = 0 })).word) read_is ∙ first in
+      bank_word a.seat.me.0.image a.seat.me.0.banks link.sender i word a.turn a.banks n at_first n_is a.seat.me.0.place held.turn held.banks
+
+-- what a Take found, for whatever link in and send have the slot
+pub take_finds : (a : Inside) (held : IsHeld a) (searched read : List Link) (k slot n slots found : ℕ) (new : Seated) (has : HasSlot searched slot k) (n_is : n ≡ (get_or read k (record { slot = 0; word = 0 })).word + a.turn % a.banks) → searched ≡ a.receipts → read ≡ a.receipts
+    → Reads (step slots n 0 0 none) a.seat.me found new → (port : PortImage) (j i : ℕ) (link : LinkIn) (sent : LinkOut) → IsPort a.seat.me.0.image a.port port → slice_get port.ins j ≡ Some link → link.slot ≡ slot
+    → IsSend a.seat.me.0.image link.sender i sent → sent.slot ≡ slot
+    → (n ≡ send_word a.seat.me.0.image a.seat.me.0.banks link.sender i (a.seat.me.0.place.turn % a.seat.me.0.banks)) × FindsIn a.seat.me.0 link.sender slot n found new.0
+take_finds a held searched read k slot n slots found new has n_is searched_is read_is reads port j i link sent is at slot_is send sent_slot =
+    let word = take_word a held searched read k slot n has n_is searched_is read_is port j i link sent is at slot_is send sent_slot in
+    (word, subst (λ s. FindsIn a.seat.me.0 link.sender s n found new.0) sent_slot (reads.each link.sender i sent (record { send = send; is = word })))
+
+-- a word of a send is one of the crossbar's
+pub word_room : (b : bar.Inside) (a : Inside) → HasWords b → IsOf (crossbar_of b) (pass_of a) → IsHeld a → (q i : ℕ) (link : LinkOut) → IsSend a.seat.me.0.image q i link
+    → (word : ℕ) → word ≡ send_word a.seat.me.0.image a.seat.me.0.banks q i (a.seat.me.0.place.turn % a.seat.me.0.banks) → word < b.table.shared.table_id.words
+word_room b a has own held q i link send word word_is =
+    let bank = mod-lt a.seat.me.0.place.turn held.runs.some in
+    subst (λ n. n < b.table.shared.table_id.words) (sym word_is)
+    (subst (λ n. send_word a.seat.me.0.image a.seat.me.0.banks q i (a.seat.me.0.place.turn % a.seat.me.0.banks) < n) (sym (words_are b a has own)) (send_room a.seat.me.0.image a.seat.me.0.banks q i _ link send bank))
+
+-- ---- what a Take found
+
+module _ (a : Inside) (held : IsHeld a) (seat : Seat (Unit {0}) View) (sender slot word number send receipt : ℕ) (finds : FindsIn a.seat.me.0 sender slot word number seat.me.0) where
+  pub held_found : IsHeld (reseated a seat send receipt)
+  held_found = elim (cases_eq (stamp_of number) a.seat.me.0.place.turn) [
+    | inl now ↦ held_stepped a seat (after_take a.seat.me.0.place slot) word number send receipt (finds.takes now).0 held refl refl
+    | inr older ↦ held_stepped a seat a.seat.me.0.place word number send receipt (finds.waits older).0 held refl refl
+  ]
+
+  -- as contracts see it
+  module _ (at : ℕ) (word_is : word ≡ at) (table_is : seat.table_id ≡ a.seat.table_id) where
+    abbrev Gives : Taken → Type 0
+    Gives taken = IsFound (pass_of a) sender slot at seat.me.0.last.number taken (pass_of (reseated a seat send receipt))
+
+    seen_as : (x : Place) → seat.me.0 ≡ after_step a.seat.me.0 x word number → (seat.me.0.last.number ≡ number) × (pass_of (reseated a seat send receipt) ≡ one_step (pass_of a) x at seat.me.0.last.number)
+    seen_as x view_is =
+        let last : seat.me.0.last.number ≡ number = ap (λ (v : View). v.last.number) view_is in
+        (last, pass_stepped a seat x word number send receipt view_is table_is ∙ ap₂ (λ w n. one_step (pass_of a) x w n) word_is (sym last))
+
+    gives_value : (v : V4) → number / 4 ≡ a.turn → v ≡ value_of (number % 4) → Gives (Value v)
+    gives_value v stamp v_is =
+        let now : stamp_of number ≡ a.seat.me.0.place.turn = stamp ∙ held.turn in
+        let took = finds.takes now in
+        let seen = seen_as (after_take a.seat.me.0.place slot) took.0 in
+        (ap stamp_of seen.0 ∙ now, v_is ∙ decoded number a.seat.me.0.place.turn (image_value a.seat.me.0.image a.seat.me.0.stimulus a.seat.me.0.place.turn sender slot) took.1, seen.1)
+
+    gives_nothing : (number / 4 ≡ a.turn → ⊥) → Gives NotYet
+    gives_nothing other =
+        let waits = finds.waits (λ e. other (e ∙ sym held.turn)) in
+        let seen = seen_as a.seat.me.0.place waits.0 in
+        (subst (λ n. stamp_of n < a.seat.me.0.place.turn) (sym seen.0) waits.1, seen.1)
+
+    pub gives : (taken : Taken) → IsTakenIn number a.turn taken → Gives taken
+    gives (Value v) is = gives_value v is.0 is.1
+    gives NotYet other = gives_nothing other

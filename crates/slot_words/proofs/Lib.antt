@@ -1,0 +1,9 @@
+pub mod HeldLemmas
+pub mod LinkLemmas
+pub mod OwnLemmas
+pub mod SoundLemmas
+pub mod StepLemmas
+pub mod TimeLemmas
+pub mod MadeLemmas
+pub mod OpeningLemmas
+pub mod ExampleLemmas

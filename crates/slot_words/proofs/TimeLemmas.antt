@@ -1,0 +1,127 @@
+-- The turns of places and words: each kind of step keeps them in pace. No value stands here.
+use Rattle.std.proofs.Common.{List, Some, ap, arith, false, get_or-set_other, get_or-set_same, inl, inr, length, mod-lt, refl, set, slice_get, subst, sym, true, ℕ, ◌%◌, ◌*◌, ◌+◌, ◌-◌, ◌<◌, ◌∙◌, ◌≡◌, ◌≢◌, ◌≤◌}
+use Rattle.std.proofs.lemmas.Bool.{cases_eq}
+use Rattle.std.proofs.lemmas.List.{drop-set-add, drop-set-lt, length-drop}
+use Rattle.std.proofs.lemmas.Option.{slice_get_within}
+use Rattle.image_defs.specs.Places.{IsPort, Stands}
+use Rattle.image_defs.specs.WellFormed.{IsWellFormed}
+use Rattle.image_defs.specs.declared.image.Image.{Image}
+use Rattle.image_defs.specs.declared.image.LinkIn.{LinkIn}
+use Rattle.image_defs.specs.declared.image.LinkOut.{LinkOut}
+use Rattle.image_defs.specs.declared.image.PortImage.{PortImage}
+use Rattle.event_defs.proofs.PaceLemmas.{CanStand, asks, latest_put, puts, same_port, stands, takes, tells}
+use Rattle.event_defs.proofs.RowLemmas.{number_within, place_within, send_within, word_set}
+use Rattle.event_defs.proofs.SlotLemmas.{each_updated, updated_here, updated_there}
+use Rattle.event_defs.proofs.StampLemmas.{stamped_put, stamped_still}
+use Rattle.event_defs.specs.Next.{EndsNext}
+use Rattle.event_defs.specs.Places.{IsSend, after_ask, after_put, after_take, after_tell, is_in, known_of, latest, start}
+use Rattle.event_defs.specs.Row.{send_count, send_number, word_in, word_place}
+use Rattle.event_defs.specs.Sound.{AreStamped}
+use Rattle.event_defs.specs.Steps.{stamp_of, updated, written}
+use Rattle.event_defs.specs.declared.place.Place.{Place}
+use Rattle.slot_words.specs.declared.rule.TheConstants.{UNCLAIMED}
+use Rattle.slot_words.specs.Layout.{progress_in, send_word, sent_in, word_count}
+use Rattle.slot_words.specs.Rule.{AreTimed}
+
+module _ (image : Image) (banks : ℕ) (words : List ℕ) where
+  -- a progress word written leaves the words of sends, and a word of a send the progress words
+  pub progress_set : (p x : ℕ) → p < length image.ports → sent_in image banks (set words p x) ≡ sent_in image banks words
+  progress_set p x inside = ap (word_in image banks) (drop-set-lt (length image.ports) words p x inside)
+
+  pub progress_kept : (k x q : ℕ) → q < length image.ports → progress_in (set words (length image.ports + k) x) q ≡ progress_in words q
+  progress_kept k x q inside = get_or-set_other words (length image.ports + k) q x 0 (λ e. absurd (omega arith))
+
+  pub sent_set : (p i b x : ℕ) (link : LinkOut) → IsSend image p i link → b < banks → length words ≡ word_count image banks
+      → sent_in image banks (set words (send_word image banks p i b) x) ≡ written (sent_in image banks words) p i b x
+  sent_set p i b x link send within long =
+      let rest = length-drop (length image.ports) words in
+      let row : ℕ = send_count image * banks in
+      let long' : length words ≡ length image.ports + row = long in
+      ap (word_in image banks) (drop-set-add (length image.ports) words (word_place banks (send_number image p i) b) x)
+      ∙ word_set image banks _ p i b x (slice_get_within image.ports p send.port send.is) (send_within image p i link send) within (rest ∙ omega arith)
+
+module _ (image : Image) (banks : ℕ) where
+  -- a word of a send stands among the words
+  pub send_room : (p i b : ℕ) (link : LinkOut) → IsSend image p i link → b < banks → send_word image banks p i b < word_count image banks
+  send_room p i b link send within =
+      let e = place_within banks (send_number image p i) b (send_count image) (number_within image p i (slice_get_within image.ports p send.port send.is) (send_within image p i link send)) within in
+      let at : ℕ = word_place banks (send_number image p i) b in
+      let row : ℕ = send_count image * banks in
+      let e' : at < row = e in
+      omega arith
+
+module _ (image : Image) (fits : IsWellFormed image) (banks until : ℕ) (words : List ℕ) (place : ℕ → Place) (timed : AreTimed image banks until words place) where
+  module _ (p : ℕ) (port : PortImage) (is : IsPort image p port) where
+    inside : p < length image.ports
+    inside = slice_get_within image.ports p port is
+
+    -- a new place of the same turn, in which nothing else was put
+    still : (x : Place) → x.turn ≡ (place p).turn → ((i : ℕ) (link : LinkOut) → IsSend image p i link → latest x link.slot ≡ latest (place p) link.slot)
+        → CanStand image fits banks until place timed.paced p port is x → AreTimed image banks until words (updated place p x)
+    still x turn_is same can = record {
+      progress = each_updated (λ q (a : Place). q < length image.ports → progress_in words q ≢ UNCLAIMED → progress_in words q + 1 ≡ a.turn) place p x
+          (λ within claimed. timed.progress p within claimed ∙ sym turn_is) (λ q _. timed.progress q);
+      paced = stands image fits banks until place timed.paced p port is x can;
+      stamps = stamped_still image fits banks place (sent_in image banks words) p x timed.stamps same;
+    }
+
+    pub timed_ask : (r n : ℕ) → r < length image.ports → n + 1 ≤ (place r).turn → AreTimed image banks until words (updated place p (after_ask (place p) r n))
+    timed_ask r n r_in fresh = still (after_ask (place p) r n) refl (λ i link s. refl) (asks image fits banks until place timed.paced p port is r n r_in fresh)
+
+    pub timed_take : (j : ℕ) (link : LinkIn) → slice_get port.ins j ≡ Some link → is_in link.slot (place p).takes ≡ false → (place p).turn ≤ until → (place p).turn ≤ latest (place link.sender) link.slot
+        → AreTimed image banks until words (updated place p (after_take (place p) link.slot))
+    timed_take j link at missing early fresh = still (after_take (place p) link.slot) refl (λ i sent s. refl) (takes image fits banks until place timed.paced p port is j link at missing early fresh)
+
+    -- the word of what is put has this turn
+    pub timed_put : (i x : ℕ) (link : LinkOut) → slice_get port.outs i ≡ Some link → 1 ≤ banks → length words ≡ word_count image banks → is_in link.slot (place p).puts ≡ false → (place p).turn ≤ until
+        → ((r : ℕ) → Stands link.readers r → (place p).turn ≤ known_of (place p) r + banks) → stamp_of x ≡ (place p).turn
+        → AreTimed image banks until (set words (send_word image banks p i ((place p).turn % banks)) x) (updated place p (after_put (place p) link.slot))
+    timed_put i x link at some long missing early ready stamp = record {
+      progress = λ q within.
+          let kept = progress_kept image banks words (word_place banks (send_number image p i) ((place p).turn % banks)) x q within in
+          subst (λ n. n ≢ UNCLAIMED → n + 1 ≡ (updated place p (after_put (place p) link.slot) q).turn) (sym kept)
+          (each_updated (λ q (a : Place). q < length image.ports → progress_in words q ≢ UNCLAIMED → progress_in words q + 1 ≡ a.turn) place p (after_put (place p) link.slot) (timed.progress p) (λ q _. timed.progress q) q within);
+      paced = stands image fits banks until place timed.paced p port is (after_put (place p) link.slot) (puts image fits banks until place timed.paced p port is i link at missing early ready);
+      stamps = subst (AreStamped image banks (updated place p (after_put (place p) link.slot)))
+          (sym (sent_set image banks words p i ((place p).turn % banks) x link send (mod-lt (place p).turn some) long))
+          (stamped_put image fits banks place (sent_in image banks words) p i x link timed.stamps send begun missing stamp);
+    } where
+      send : IsSend image p i link
+      send = record { port = port; is = is; link_is = at }
+
+      begun : 1 ≤ (place p).turn
+      begun = (timed.paced.places p port is).begun
+
+    -- the progress word has the turn that is over
+    pub timed_tell : p < length words → progress_in words p ≢ UNCLAIMED → EndsNext port (place p).puts (place p).takes → (place p).turn ≤ until
+        → AreTimed image banks until (set words p (place p).turn) (updated place p (after_tell (place p)))
+    timed_tell room claimed next early = record {
+      progress = λ q within. elim (cases_eq q p) [
+        | inl same ↦ λ _. subst (λ q. progress_in (set words p (place p).turn) q + 1 ≡ (updated place p (after_tell (place p)) q).turn) (sym same)
+            (ap (λ n. n + 1) (get_or-set_same words p (place p).turn 0 room) ∙ sym (ap (λ (a : Place). a.turn) (updated_here place p (after_tell (place p)))))
+        | inr other ↦
+            let kept : progress_in (set words p (place p).turn) q ≡ progress_in words q = get_or-set_other words p q (place p).turn 0 other in
+            subst (λ n. n ≢ UNCLAIMED → n + 1 ≡ (updated place p (after_tell (place p)) q).turn) (sym kept)
+            (subst (λ (a : Place). progress_in words q ≢ UNCLAIMED → progress_in words q + 1 ≡ a.turn) (sym (updated_there place p q (after_tell (place p)) other)) (timed.progress q within))
+      ];
+      paced = stands image fits banks until place timed.paced p port is (after_tell (place p)) (tells image fits banks until place timed.paced p port is next early);
+      stamps = subst (AreStamped image banks (updated place p (after_tell (place p)))) (sym (progress_set image banks words p (place p).turn inside))
+          (stamped_still image fits banks place (sent_in image banks words) p (after_tell (place p)) timed.stamps (λ i link s. minus ∙ sym (latest_put (place p) link.slot (all_put i link s))));
+    } where
+      all_put : (i : ℕ) (link : LinkOut) → IsSend image p i link → is_in link.slot (place p).puts ≡ true
+      all_put i link s = next.all_put i link (subst (λ (q : PortImage). slice_get q.outs i ≡ Some link) (same_port image p s.port port s.is is) s.link_is)
+
+      minus : (place p).turn + 1 - 1 ≡ (place p).turn
+      minus = omega arith
+
+  -- a port is claimed
+  pub timed_claim : (p : ℕ) → p < length image.ports → p < length words → place p ≡ start (length image.ports) → AreTimed image banks until (set words p 0) place
+  timed_claim p inside room fresh = record {
+    progress = λ q within. elim (cases_eq q p) [
+      | inl same ↦ λ _. subst (λ q. progress_in (set words p 0) q + 1 ≡ (place q).turn) (sym same)
+          (ap (λ n. n + 1) (get_or-set_same words p 0 0 room) ∙ sym (ap (λ (a : Place). a.turn) fresh))
+      | inr other ↦ subst (λ n. n ≢ UNCLAIMED → n + 1 ≡ (place q).turn) (sym (get_or-set_other words p q 0 0 other)) (timed.progress q within)
+    ];
+    paced = timed.paced;
+    stamps = subst (AreStamped image banks place) (sym (progress_set image banks words p 0 inside)) timed.stamps;
+  }

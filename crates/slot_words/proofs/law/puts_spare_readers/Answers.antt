@@ -1,0 +1,5 @@
+use Rattle.slot_words.proofs.StepLemmas.{put_spares}
+use Rattle.slot_words.proofs.law.puts_spare_readers.Goals as goal
+
+pub returns : goal.returns
+returns c = put_spares

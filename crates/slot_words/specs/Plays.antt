@@ -1,0 +1,60 @@
+-- What each step tells its pass, by the word and the number that it found or stored there.
+use Rattle.std.specs.Prelude.{◌≡◌, ◌≢◌, ℕ, ◌+◌, ◌*◌, ◌%◌, ◌<◌, ◌≤◌, Some, length}
+use Rattle.logic_four.specs.Values.{code_of}
+use Rattle.image_defs.specs.Frames.{image_value}
+use Rattle.image_defs.specs.declared.image.LinkOut.{LinkOut}
+use Rattle.event_defs.specs.Places.{IsSend, after_ask, after_put, after_take, after_tell, known_of, start}
+use Rattle.event_defs.specs.Steps.{stamp_of}
+use Rattle.event_defs.specs.declared.place.Place.{Place}
+use Rattle.atomic_table.specs.Table.{Me, Step}
+use Rattle.slot_words.specs.declared.rule.TheConstants.{UNCLAIMED}
+use Rattle.slot_words.specs.declared.rule.View.{View}
+use Rattle.slot_words.specs.Layout.{send_word, turns_told}
+
+-- the view after one more step, which saw this number in this word
+abbrev pub after_step : View → Place → ℕ → ℕ → View
+after_step v place word number = record v { place = place; steps = v.steps + 1; last = record { word = word; number = number } }
+
+-- the view of the pass of port p
+abbrev pub claimed_by : View → ℕ → View
+claimed_by v p = record v { port = Some p; place = start (length v.image.ports) }
+
+abbrev pub Seated : Type 0
+Seated = Me (Unit {0}) View
+
+abbrev pub OneStep : Type 0
+OneStep = Step (Unit {0})
+
+-- an unclaimed port is the seat's from now on, and else nothing changes
+pub record Claims (s : OneStep) (me : Seated) (found : ℕ) (new : Seated) : Type 0 where
+  pub wins : found ≡ UNCLAIMED → new.0 ≡ claimed_by me.0 s.word
+  pub loses : found ≢ UNCLAIMED → new.0 ≡ me.0
+
+-- it has learnt how many turns the reader has finished, which are no fewer than it knew
+pub record Learns (s : OneStep) (me : Seated) (found : ℕ) (new : Seated) : Type 0 where
+  pub is : new.0 ≡ after_step me.0 (after_ask me.0.place s.word (turns_told found)) s.word (turns_told found)
+  pub more : known_of me.0.place s.word ≤ turns_told found
+
+-- the word is this turn's of send number i of port p
+pub record IsWordOf (v : View) (word p i : ℕ) (link : LinkOut) : Type 0 where
+  pub send : IsSend v.image p i link
+  pub is : word ≡ send_word v.image v.banks p i (v.place.turn % v.banks)
+
+-- it has put what it sends there
+pub record Writes (s : OneStep) (me : Seated) (stored : ℕ) (new : Seated) : Type 0 where
+  pub each : (p i : ℕ) (link : LinkOut) → me.0.port ≡ Some p → IsWordOf me.0 s.word p i link
+      → new.0 ≡ after_step me.0 (after_put me.0.place link.slot) s.word stored
+
+-- a word of this turn is taken, and has the sender's value of this turn; else the word is of a turn before
+pub record FindsIn (old : View) (sender slot word found : ℕ) (new : View) : Type 0 where
+  pub takes : stamp_of found ≡ old.place.turn
+      → (new ≡ after_step old (after_take old.place slot) word found)
+      × (found ≡ 4 * old.place.turn + code_of (image_value old.image old.stimulus old.place.turn sender slot))
+  pub waits : stamp_of found ≢ old.place.turn → (new ≡ after_step old old.place word found) × (stamp_of found < old.place.turn)
+
+pub record Reads (s : OneStep) (me : Seated) (found : ℕ) (new : Seated) : Type 0 where
+  pub each : (p i : ℕ) (link : LinkOut) → IsWordOf me.0 s.word p i link → FindsIn me.0 p link.slot s.word found new.0
+
+-- the next turn has begun
+pub record Ends (s : OneStep) (me : Seated) (stored : ℕ) (new : Seated) : Type 0 where
+  pub is : new.0 ≡ after_step me.0 (after_tell me.0.place) s.word stored

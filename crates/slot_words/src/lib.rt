@@ -1,0 +1,35 @@
+//! Words that threads share, under one rule. Each port of an image runs by itself and shares with the
+//! others only the words of a crossbar: one progress word for each port, and for each send so many words
+//! as there are banks. A step is one load or one store of one word. The rule holds between any two steps
+//! of all threads, in whatever order they fall: no word is overwritten before its readers took it, and
+//! what is taken is the image's value of this turn. The definitions are in `specs/`: which word is whose,
+//! what the rule says, and what each step does.
+//!
+//! Words are numbered. Word `p` is port `p`'s progress word, which holds the number of turns that the
+//! port has finished. Behind them stand the words of all sends, port after port, send after send, bank
+//! after bank. The word of bank `k % banks` of a send holds `4 * k` and the code of a value for the last
+//! turn `k` of that bank in which the send was put.
+//!
+//! To share words under this rule in another project, say who sends to whom in which slot of a turn, as
+//! the links of an image. `Crossbar::make` gives the words and one `Pass` for each port. Lend the crossbar
+//! to all threads, and move each pass to the thread that is to run its port. In each turn a port puts each
+//! of its sends once, takes each of its receipts once, in any order that suits it, and tells that the turn
+//! is over. Before a put in a turn `k` greater than `banks` it asks each reader of the send until it knows
+//! it to have finished turn `k - banks`; a `take` that finds nothing yet is tried again. All this is asked
+//! by the contracts, so a program that breaks it doesn't check. Of what values are, the rule knows nothing
+//! but that the image has one for each turn, port and slot.
+//!
+//! No contract says that a thread ever moves, which of two threads is first, or how fast either is.
+#![tactic(auto)]
+
+mod crossbar;
+pub mod law;
+mod links;
+mod opening;
+mod pass;
+mod rule;
+#[cfg(test)]
+mod tests;
+
+pub use crossbar::{Crossbar, Taken};
+pub use pass::Pass;

@@ -1,0 +1,67 @@
+//! The pass of a port.
+
+ghost use Rattle.std.specs.Prelude.{IfOk, length, ◌+◌, ◌<◌, ◌≡◌, ◌≤◌};
+
+use crate::links::Link;
+use crate::rule::View;
+use atomic_table::Seat;
+use seen_list::List;
+use std::marker::Model;
+
+/// The right to step as one port of a crossbar. Whoever has it alone changes where the port stands. It
+/// may go from thread to thread. A contract sees its crossbar's words, its port, image and stimulus, the
+/// banks, its place, the number of steps that it has made, and the word and the number of the last.
+#[derive(Drop)]
+pub struct Pass {
+    pub(crate) seat: Seat<(), View>,
+    pub(crate) port: u32,
+    pub(crate) banks: u32,
+    pub(crate) turn: u64,
+    pub(crate) known: List<u64>,
+    pub(crate) sends: List<Link>,
+    pub(crate) receipts: List<Link>,
+    pub(crate) last_send: usize,
+    pub(crate) last_receipt: usize,
+}
+
+impl Model for Pass {
+    ghost use Rattle.slot_words.specs.Passes.{PassView};
+
+    ghost Value = { PassView };
+
+    ghost use Rattle.slot_words.specs.Held.{IsHeld, pass_of};
+
+    ghost view = { pass_of };
+
+    ghost invariant = { IsHeld };
+}
+
+impl Pass {
+    /// The number of its port.
+    pub fn port(&self) -> u32
+        ensures { result ≡ self.now.port }
+    {
+        self.port
+    }
+
+    /// The turn that it is in, or the number of turns and one more when it has ended the last.
+    pub fn turn(&self) -> u64
+        ensures { result ≡ self.now.place.turn }
+    {
+        self.turn
+    }
+
+    /// For each port how many turns it is known to have finished.
+    pub fn known(&self) -> &[u64]
+        ensures { result.now ≡ self.now.place.known }
+    {
+        self.known.as_slice()
+    }
+
+    /// The number of words of each send.
+    pub fn banks(&self) -> u32
+        ensures { result ≡ self.now.banks }
+    {
+        self.banks
+    }
+}

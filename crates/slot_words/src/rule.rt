@@ -1,0 +1,103 @@
+//! What the rule speaks of: what a pass knows, the steps, and the rule itself.
+
+ghost use Rattle.std.specs.Prelude.{ℕ};
+
+use atomic_table::{Play, Split, TableRule};
+use event_defs::Place;
+use image_defs::Image;
+use net_defs::Stimulus;
+use std::snapshot::Snapshot;
+
+/// What a progress word holds while no pass is its port's. Turns never come near it.
+pub(crate) const UNCLAIMED: u64 = u64::MAX;
+
+/// A word of the crossbar, by its place, and the number that a step found or left there.
+pub struct Look {
+    pub word: u64,
+    pub number: u64,
+}
+
+/// What a pass is and knows: its port, where it stands, how many steps it has made and what the last of
+/// them saw. No value of it is made.
+pub struct View {
+    pub port: Option<u32>,
+    pub image: Image,
+    pub stimulus: Stimulus,
+    pub banks: u32,
+    pub place: Place,
+    pub steps: u64,
+    pub last: Look,
+}
+
+/// What is fixed when a crossbar is made.
+#[derive(Drop)]
+pub struct Key {
+    pub image: Snapshot<Image>,
+    pub stimulus: Snapshot<Stimulus>,
+    pub banks: u32,
+}
+
+/// The rule.
+pub struct Law;
+
+impl TableRule<(), View, Key> for Law {
+    ghost use Rattle.slot_words.specs.Rule.{Kept, nobody};
+
+    ghost holds = { Kept };
+
+    ghost first = { nobody };
+}
+
+/// A second seat, which knows as much. It costs a load of word 0.
+pub(crate) struct Copied;
+
+impl Split<View> for Copied {
+    ghost left = { λ v. v };
+
+    ghost right = { λ v. v };
+}
+
+/// A seat claims the port of the word.
+pub(crate) struct Names;
+
+impl Play<(), View> for Names {
+    ghost use Rattle.slot_words.specs.Plays.{Claims};
+
+    ghost then = { Claims };
+}
+
+/// A pass looks how many turns a reader has finished.
+pub(crate) struct Asks;
+
+impl Play<(), View> for Asks {
+    ghost use Rattle.slot_words.specs.Plays.{Learns};
+
+    ghost then = { Learns };
+}
+
+/// A pass writes the word of what it sends.
+pub(crate) struct Puts;
+
+impl Play<(), View> for Puts {
+    ghost use Rattle.slot_words.specs.Plays.{Writes};
+
+    ghost then = { Writes };
+}
+
+/// A pass reads the word of what it receives.
+pub(crate) struct Takes;
+
+impl Play<(), View> for Takes {
+    ghost use Rattle.slot_words.specs.Plays.{Reads};
+
+    ghost then = { Reads };
+}
+
+/// A pass ends its turn.
+pub(crate) struct Tells;
+
+impl Play<(), View> for Tells {
+    ghost use Rattle.slot_words.specs.Plays.{Ends};
+
+    ghost then = { Ends };
+}
