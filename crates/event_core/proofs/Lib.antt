@@ -1,6 +1,6 @@
 mod CoreLemmas
 mod EventLemmas
-mod MadeLemmas
 mod RoundLemmas
 mod SeatLemmas
 mod StartLemmas
+mod SweepLemmas

@@ -5,6 +5,7 @@ use Rattle.std.proofs.lemmas.Option.{get_or_from_slice_get, slice_get-get_or}
 use Rattle.image_defs.specs.declared.image.LinkIn.{LinkIn}
 use Rattle.image_defs.specs.declared.image.LinkOut.{LinkOut}
 use Rattle.event_defs.proofs.AlikeLemmas.{told}
+use Rattle.send_row.proofs.SourceLemmas.{entry_there}
 use Rattle.port_walk.specs.Placed.{CanPut, CanTake, HasPut, HasTaken, IsNextReceipt, IsNextSend, IsReceiving, IsSending, PlacedPort, in_next_turn}
 use Rattle.event_core.specs.Seats.{AtSeat, HasPutRoom, HasTakeRoom, seat_put, seat_taken, seat_told}
 use Rattle.event_core.specs.declared.seats.Seat.{Seat}
@@ -12,13 +13,6 @@ use Rattle.event_core.specs.declared.seats.Seat.{Seat}
 -- the seat that was read
 pub seat_read : (seats : List Seat) (p : ℕ) (read seat : Seat) → read ≡ slice_index_or seats p read → slice_get seats p ≡ Some seat → read ≡ seat
 seat_read seats p read seat is at = is ∙ get_or_from_slice_get seats p seat read at
-
--- a member that was read within the list
-pub entry_there : {X : Type 0} (xs : List X) (i : ℕ) (read : X) → i < length xs → read ≡ slice_index_or xs i read → slice_get xs i ≡ Some read
-entry_there xs i read inside is = slice_get-get_or xs i read inside ∙ ap Some (sym is)
-
-pub read_there : (seats : List Seat) (p : ℕ) (read : Seat) → p < length seats → read ≡ slice_index_or seats p read → slice_get seats p ≡ Some read
-read_there seats p read inside is = entry_there seats p read inside is
 
 -- a number is below a bound that its multiple is below
 pub below_product : (n k b m : ℕ) → 1 ≤ k → n * k + b < m → n < m
@@ -53,20 +47,20 @@ told_is here seat new bank banks same told next =
 module _ (seats : List Seat) (p : ℕ) (read : Seat) (inside : p < length seats) (is : read ≡ slice_index_or seats p read) (banks words : ℕ) where
   pub write_room : (n : ℕ) → AtSeat seats p (λ seat. CanPut seat.port) → AtSeat seats p (λ seat. HasPutRoom seat banks words) → IsNextSend read.port n → (read.first + n) * banks + read.bank < words
   write_room n can room next =
-      let here = read_there seats p read inside is in
+      let here = entry_there seats p read inside is in
       let put = can read here in
       let place = (room read here).each put.i put.link put.sending in
       subst (λ k. (read.first + k) * banks + read.bank < words) (next.each put.i put.link put.sending) place
 
   pub read_low : (n : ℕ) → AtSeat seats p (λ seat. CanTake seat.port) → AtSeat seats p (λ seat. HasTakeRoom seat banks words) → IsNextReceipt read.port n → n < length read.sources
   read_low n can room next =
-      let here = read_there seats p read inside is in
+      let here = entry_there seats p read inside is in
       let take = can read here in
       subst (λ k. k < length read.sources) (next.each take.j take.link take.receiving) ((room read here).there take.j take.link take.receiving)
 
   pub read_room : (n : ℕ) → AtSeat seats p (λ seat. CanTake seat.port) → AtSeat seats p (λ seat. HasTakeRoom seat banks words) → IsNextReceipt read.port n → get_or read.sources n 0 * banks + read.bank < words
   read_room n can room next =
-      let here = read_there seats p read inside is in
+      let here = entry_there seats p read inside is in
       let take = can read here in
       let at = slice_get-get_or read.sources n 0 (read_low n can room next) in
       (room read here).each take.j (get_or read.sources n 0) take.link take.receiving (subst (λ k. slice_get read.sources k ≡ Some (get_or read.sources n 0)) (sym (next.each take.j take.link take.receiving)) at)

@@ -1,6 +1,6 @@
 //! The core.
 
-ghost use Rattle.std.specs.Prelude.{IfOk, IsTrue, length, ℕ, ◌+◌, ◌<◌, ◌↔◌, ◌≡◌, ◌≤◌};
+ghost use Rattle.std.specs.Prelude.{IfOk, IsTrue, List, false, if◌then◌else◌, length, replicate, ℕ, ◌+◌, ◌<◌, ◌↔◌, ◌≡◌, ◌≤◌};
 ghost use Rattle.logic_four.specs.Values.{value_at};
 ghost use Rattle.net_defs.specs.Valid.{IsValidStimulus};
 ghost use Rattle.image_defs.specs.Frames.{shown};
@@ -11,11 +11,11 @@ ghost use Rattle.event_defs.specs.declared.place.CoreStep.TheVariants.{Moved};
 ghost use Rattle.event_defs.specs.declared.place.Action.TheVariants as action;
 ghost use Rattle.event_defs.specs.declared.place.Event.TheVariants as event;
 ghost use Rattle.port_host.specs.Rows.{printed_sources};
-ghost use Rattle.event_core.specs.Core.{Applies, AreDone, IsReady, IsRoundOf, IsSoundCore, IsStart, IsUpcoming, SparesReaders, TakesThisTurn, left_of, rows_of};
+ghost use Rattle.event_core.specs.Core.{Applies, AreDone, HasRun, IsIdle, IsReady, IsRoundOf, IsSoundCore, IsStart, IsUpcoming, SparesReaders, TakesThisTurn, left_of, rows_of};
 
+use crate::rows;
 use crate::seats::{self, Seat};
 use crate::words::{is_of, lags};
-use crate::{rows, sources};
 use event_defs::{Action, CoreStep, Event};
 use image_defs::Image;
 use logic_four::{V4, decoded};
@@ -89,7 +89,7 @@ impl<'a> Core<'a> {
         ensures sound { IfOk result IsSoundCore }
     {
         let ports = image.ports.len();
-        let firsts = sources::first_sends(alloc, image)?;
+        let firsts = send_row::first_sends(alloc, image)?;
         let sends = firsts.as_slice()[ports];
         let seats = seats::make(alloc, image, stim, firsts.as_slice(), banks)?;
         Ok(Core {
@@ -136,6 +136,40 @@ impl<'a> Core<'a> {
         let mut moved = 0;
         'ports: for port in 0..self.image.ports.len() as u32 {
             moved += moves(self.apply(port));
+        }
+        moved
+    }
+
+    /// The events of a port of the image until it does not move. Answers whether it moved at all.
+    pub fn run_port(&mut self, port: u32) -> bool
+        requires { port < length self.old.image.ports }
+        ensures run { (times : ℕ) × HasRun self.old (replicate times port) result self.new }
+        ensures idle { (result ≡ false) ↔ IsIdle self.old port }
+        ensures end { IsIdle self.new port }
+        ensures left { (if result then 1 else 0) + left_of self.new ≤ left_of self.old }
+        ensures sound { IsSoundCore self.new }
+    {
+        let _ = &self.image;
+        let mut moved = false;
+        'steps: loop {
+            match self.apply(port) {
+                CoreStep::Moved(_) => moved = true,
+                CoreStep::NotYet | CoreStep::Done => return moved,
+            }
+        }
+    }
+
+    /// The events of each port until it does not move, in ascending order of the ports. Answers
+    /// whether any port moved.
+    pub fn sweep(&mut self) -> bool
+        ensures run { (order : List ℕ) × HasRun self.old order result self.new }
+        ensures done { (result ≡ false) ↔ AreDone self.old }
+        ensures left { (if result then 1 else 0) + left_of self.new ≤ left_of self.old }
+        ensures sound { IsSoundCore self.new }
+    {
+        let mut moved = false;
+        'runs: for port in 0..self.image.ports.len() as u32 {
+            moved |= self.run_port(port);
         }
         moved
     }

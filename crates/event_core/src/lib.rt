@@ -7,7 +7,6 @@
 mod core_run;
 mod rows;
 mod seats;
-mod sources;
 mod words;
 
 pub use core_run::Core;

@@ -6,10 +6,10 @@ ghost use Rattle.image_defs.specs.WellFormed.{IsWellFormed};
 ghost use Rattle.image_defs.specs.declared.image.LinkIn.{LinkIn};
 ghost use Rattle.image_defs.specs.declared.image.LinkOut.{LinkOut};
 ghost use Rattle.port_walk.specs.Placed.{CanPut, CanTake, CanTakeValue, IsEnding, IsReceiving, IsSending};
-ghost use Rattle.event_core.specs.Made.{AreFirstSeats, AreFirsts, IsFirstSeat};
+ghost use Rattle.send_row.specs.Sources.{AreFirsts};
+ghost use Rattle.event_core.specs.Made.{AreFirstSeats, IsFirstSeat};
 ghost use Rattle.event_core.specs.Seats.{AtSeat, HasPutRoom, HasTakeRoom, HasWritten, IsNextIn, IsWordRead, seat_asked, seat_put, seat_taken, seat_told};
 
-use crate::sources;
 use crate::words::{first_bank, next_bank, place_of, word_of};
 use event_defs::Action;
 use image_defs::Image;
@@ -51,7 +51,7 @@ fn first_seat<'a>(
     Ok(Seat {
         port: AnyPort::new(alloc, image, stim, p as u32)?,
         known: List::filled(alloc, 0, image.ports.len())?,
-        sources: sources::sources_of(alloc, image, firsts, p)?,
+        sources: send_row::sources_of(alloc, image, firsts, p)?,
         first: firsts[p],
         bank: first_bank(banks),
     })

@@ -1,9 +1,10 @@
 use Rattle.std.proofs.Common.{◌<◌, ◌≡◌, ◌∙◌, ◌+◌, ◌*◌, length, set, ap, ap₂, sym, subst, arith}
 use Rattle.logic_four.specs.Values.{code_of}
 use Rattle.event_defs.specs.Row.{word_place}
+use Rattle.send_row.proofs.SourceLemmas.{entry_there}
 use Rattle.port_walk.specs.Placed.{IsNextSend}
 use Rattle.event_core.specs.declared.seats.Seat.{Seat}
-use Rattle.event_core.proofs.SeatLemmas.{read_there, seat_read, below_product, write_room}
+use Rattle.event_core.proofs.SeatLemmas.{seat_read, below_product, write_room}
 use Rattle.event_core.proofs.seats.write.Goals as goal
 
 pub overflow_add-send : goal.overflow_add-send
@@ -22,7 +23,7 @@ place_of-place-requires c =
 
 pub word_of-requires : goal.word_of-requires
 word_of-requires c =
-    let early = c.requires.early c.index-seats-p.result (read_there c.args.seats.now c.args.p c.index-seats-p.result c.requires.there c.index-seats-p.is) in
+    let early = c.requires.early c.index-seats-p.result (entry_there c.args.seats.now c.args.p c.index-seats-p.result c.requires.there c.index-seats-p.is) in
     let turn = c.turn.ensures in
     omega arith
 

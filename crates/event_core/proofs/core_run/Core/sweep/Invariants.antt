@@ -1,0 +1,5 @@
+use Rattle.event_core.specs.Core.{HasSwept}
+use Rattle.event_core.proofs.core_run.Core.sweep.Given as goal
+
+abbrev pub invariant-runs : goal.invariant-runs
+invariant-runs l = HasSwept l.fn.self l.port l.moved l.self
