@@ -76,15 +76,14 @@ module _ (table : Table) where
   pub waited : (old new : PassView) (taken : Taken) → old.image ≡ image table → old.port ≡ 0 → IsTake old 0 taken new → taken ≡ NotYet → (w n : ℕ) × (new ≡ one_step old old.place w n)
   waited old new taken image_is port_is took none =
       let is : IsPort old.image old.port (logic_port table) = subst (λ i. IsPort i old.port (logic_port table)) (sym image_is) (subst (λ p. IsPort (image table) p (logic_port table)) (sym port_is) refl) in
-      let send : IsSend old.image 2 0 (goes 0 (0 ∷ 1 ∷ [])) = subst (λ i. IsSend i 2 0 (goes 0 (0 ∷ 1 ∷ []))) (sym image_is) (record { port = host_port; is = refl; link_is = refl }) in
-      let found = took.each (logic_port table) 0 0 (comes 0 2) (goes 0 (0 ∷ 1 ∷ [])) is refl refl send refl in
-      let word = send_word old.image old.banks 2 0 (old.place.turn % old.banks) in
-      let nothing : IsFound old 2 0 word new.last.number NotYet new = subst (λ t. IsFound old 2 0 word new.last.number t new) none found in
+      let looked = took.each (logic_port table) 0 (comes 0 2) is refl refl in
+      let word = send_word old.image old.banks 2 looked.i (old.place.turn % old.banks) in
+      let nothing : IsFound old 2 0 word new.last.number NotYet new = subst (λ t. IsFound old 2 0 word new.last.number t new) none looked.found in
       (word, new.last.number, nothing.1)
 
--- a pass that made one step at its place is still the crossbar's
-pub still_of : (made : CrossbarView) (old new : PassView) (w n : ℕ) → IsOf made old → new ≡ one_step old old.place w n → IsOf made new
-still_of made old new w n of is = subst (IsOf made) (sym is) (record { table = of.table; image = of.image; stimulus = of.stimulus; banks = of.banks })
+-- a pass that made one step is still the crossbar's
+pub still_of : (made : CrossbarView) (old new : PassView) (x : Place) (w n : ℕ) → IsOf made old → new ≡ one_step old x w n → IsOf made new
+still_of made old new x w n of is = subst (IsOf made) (sym is) (record { table = of.table; image = of.image; stimulus = of.stimulus; banks = of.banks })
 
 -- the last of the passes
 pub last_pass : (made : CrossbarView) (n : ℕ) (passes rest : List PassView) (one : PassView) → AreFirstPasses made (n + 1) passes → passes ≡ rest ++ one ∷ [] → IsFirstPass made n one × AreFirstPasses made n rest

@@ -1,7 +1,7 @@
 -- A pass with its crossbar.
-use Rattle.std.proofs.Common.{List, None, Some, ap, ap₂, arith, get_or, inl, inr, length, mod-lt, refl, slice_get, subst, sym, ℕ, ◌%◌, ◌*◌, ◌+◌, ◌/◌, ◌<◌, ◌∙◌, ◌≡◌, ◌≤◌, ◌⊎◌}
+use Rattle.std.proofs.Common.{List, Some, ap, ap₂, arith, get_or, inl, inr, length, mod-lt, refl, slice_get, subst, sym, ℕ, ◌%◌, ◌*◌, ◌+◌, ◌/◌, ◌<◌, ◌∙◌, ◌≡◌}
 use Rattle.std.proofs.lemmas.Bool.{cases_eq}
-use Rattle.std.proofs.lemmas.Option.{get_or_from_slice_get, slice_get_cases, slice_get_within}
+use Rattle.std.proofs.lemmas.Option.{get_or_from_slice_get, slice_get_within}
 use Rattle.logic_four.specs.Values.{value_of}
 use Rattle.logic_four.specs.declared.V4.{V4}
 use Rattle.image_defs.specs.Frames.{image_value}
@@ -20,6 +20,7 @@ use mathlib.Core.Option.{none}
 use Rattle.atomic_table.specs.Table.{step}
 use Rattle.atomic_table.specs.Seated.{TableId}
 use Rattle.atomic_table.specs.declared.shared.Seat.{Seat}
+use Rattle.slot_words.proofs.LinkLemmas.{member_at}
 use Rattle.slot_words.proofs.TimeLemmas.{send_room}
 use Rattle.slot_words.specs.declared.crossbar.Crossbar.TheInside as bar
 use Rattle.slot_words.specs.declared.pass.Pass.TheInside.{Inside}
@@ -90,12 +91,6 @@ module _ (a : Inside) (held : IsHeld a) where
   abbrev banks : ℕ
   banks = a.seat.me.0.banks
 
-  some_at : {X : Type 0} (xs : List X) (k : ℕ) → k < length xs → (x : X) × (slice_get xs k ≡ Some x)
-  some_at {X} xs k inside = there (slice_get_cases xs k).1 where
-    there : ((x : X) × (k < length xs) × (slice_get xs k ≡ Some x) × (get_or xs k x ≡ x)) ⊎ ((length xs ≤ k) × (slice_get xs k ≡ None)) → (x : X) × (slice_get xs k ≡ Some x)
-    there (inl t) = (t.0, t.2)
-    there (inr t) = let past = t.0 in absurd (omega arith)
-
   same_link : (links : List Link) (k slot : ℕ) (d one : Link) → HasSlot links slot k → slice_get links k ≡ Some one → (get_or links k d ≡ one) × (one.slot ≡ slot)
   same_link links k slot d one has is =
       let both : Some has.link ≡ Some one = sym has.is ∙ is in
@@ -108,7 +103,7 @@ module _ (a : Inside) (held : IsHeld a) where
       let links = held.sends send.port send.is in
       let low = slice_get_within a.sends k has.link has.is in
       let long = links.long in
-      let out = some_at send.port.outs k (omega arith) in
+      let out = member_at send.port.outs k (omega arith) in
       let same = same_link a.sends k slot d (record { slot = out.0.slot; word = send_word image banks a.port k 0 }) has (links.each k out.0 (omega arith) out.1) in
       let here : IsSend image a.port k out.0 = record { port = send.port; is = send.is; link_is = out.1 } in
       let index = (same_send image held.runs.image_fits a.port k i out.0 link here send (same.1 ∙ sym slot_is)).0 in
@@ -121,7 +116,7 @@ module _ (a : Inside) (held : IsHeld a) where
       let links = held.receipts port is in
       let low = slice_get_within a.receipts k has.link has.is in
       let long = links.long in
-      let other = some_at port.ins k (omega arith) in
+      let other = member_at port.ins k (omega arith) in
       let found = links.each k other.0 (omega arith) other.1 in
       let same = same_link a.receipts k slot d (record { slot = other.0.slot; word = found.0 }) has found.1 in
       let link_is : other.0 ≡ link = (same_receipt image held.runs.image_fits a.port port k j other.0 link is other.1 at (same.1 ∙ sym slot_is)).1 in

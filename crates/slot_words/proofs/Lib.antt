@@ -7,3 +7,4 @@ pub mod TimeLemmas
 pub mod MadeLemmas
 pub mod OpeningLemmas
 pub mod ExampleLemmas
+pub mod LoneLemmas

@@ -27,8 +27,10 @@ counts image stimulus banks until words views place owner owned timed r inside =
 
 pub rule_sound : (key : Key) (s : State (Unit {0}) View) → Kept key s → ArePassesSound key s
 rule_sound key s kept = record {
+  same = kept.owned.same;
   place = kept.place;
   places = λ id p v at port_is. let m = kept.owned.mine id p v at port_is in (m.inside, m.place_is);
+  fresh = kept.owned.fresh;
   sound = record {
     finished = λ p inside. counts _ _ _ _ s.words s.views kept.place kept.owner kept.owned kept.timed p inside;
     paced = kept.timed.paced;

@@ -3,7 +3,6 @@ use Rattle.std.proofs.Common.{List, None, Some, [], ap, arith, drop, eq-eqb, eqb
 use Rattle.std.proofs.Math.Path.{fun_ext}
 use Rattle.std.proofs.lemmas.Bool.{cases_eq}
 use Rattle.std.proofs.lemmas.List.{get_or-drop, set-get_or}
-use Rattle.std.proofs.lemmas.Option.{slice_get_cases}
 use mathlib.Core.Option.{none, some}
 use lib.ListN.{get_elem?}
 use prog.Atomic.{either}
@@ -31,6 +30,7 @@ use Rattle.event_defs.specs.Row.{send_number, word_place}
 use Rattle.event_defs.specs.Sound.{AreCoded, IsCoded}
 use Rattle.event_defs.specs.Steps.{stamp_of, updated, written}
 use Rattle.event_defs.specs.declared.place.Place.{Place}
+use Rattle.slot_words.proofs.LinkLemmas.{member_at}
 use Rattle.slot_words.proofs.OwnLemmas.{owned_claimed, owned_split, owned_stepped}
 use Rattle.slot_words.proofs.SoundLemmas.{counts}
 use Rattle.slot_words.proofs.TimeLemmas.{progress_kept, progress_set, sent_set, timed_ask, timed_claim, timed_put, timed_take, timed_tell}
@@ -97,10 +97,7 @@ module _ (words : List ℕ) (views : List View) (id p : ℕ) (v : View) (kept : 
   turn = v.place.turn
 
   port_there : (port : PortImage) × IsPort image p port
-  port_there = there (slice_get_cases image.ports p).1 where
-    there : ((x : PortImage) × (p < length image.ports) × (slice_get image.ports p ≡ Some x) × (get_or image.ports p x ≡ x)) ⊎ ((length image.ports ≤ p) × (slice_get image.ports p ≡ None)) → (port : PortImage) × IsPort image p port
-    there (inl t) = (t.0, t.2)
-    there (inr t) = let past = t.0 in let inside = mine.inside in absurd (omega arith)
+  port_there = member_at image.ports p mine.inside
 
   begun : 1 ≤ turn
   begun = subst (λ (a : Place). 1 ≤ a.turn) (sym mine.place_is) (kept.timed.paced.places p port_there.0 port_there.1).begun
@@ -346,7 +343,7 @@ module _ (key : Key) (slots id : ℕ) (me : Seated) where
               tt,
               kept_there key s.words s.views id v kept at (set s.words at_bank (get_or s.words at_bank 0)) (set s.views id w)
                   (loaded v.image v.stimulus v.banks s.words (set s.views id w) at_bank (take_kept s.words s.views id p v here at port_is port is j link i sent at_link send same_slot missing early now)),
-              tells w (record {
+              tells w refl refl (record {
                 takes = λ _. (ap (λ t. after_step v (after_take v.place t) at_bank (get_or s.words at_bank 0)) (sym same_slot), take_value s.words s.views id p v here at port_is port is j link i sent at_link send same_slot now);
                 waits = λ other. absurd (other now);
               }),
@@ -358,7 +355,7 @@ module _ (key : Key) (slots id : ℕ) (me : Seated) where
               tt,
               kept_there key s.words s.views id v kept at (set s.words at_bank (get_or s.words at_bank 0)) (set s.views id w)
                   (loaded v.image v.stimulus v.banks s.words (set s.views id w) at_bank (wait_kept s.words s.views id p v here at port_is port is j link i sent at_link send same_slot)),
-              tells w (record {
+              tells w refl refl (record {
                 takes = λ now. absurd (older now);
                 waits = λ _. (refl, take_older s.words s.views id p v here at port_is port is j link i sent at_link send same_slot older);
               }),
@@ -377,8 +374,11 @@ module _ (key : Key) (slots id : ℕ) (me : Seated) where
         Allowed k = (w : View) × (a : Act (Unit {0})) × Valid s.homes me.1 a × Kept key (stepped s k (get_or s.words k 0) id me.1 w a) × Reads (step slots k 0 0 none) me (get_or s.words k 0) (w, carried_after me.1 a)
 
         -- no other send has this word
-        tells : (w : View) → FindsIn v link.sender sent.slot at_bank (get_or s.words at_bank 0) w → Reads (step slots at_bank 0 0 none) me (get_or s.words at_bank 0) (w, me.1)
-        tells w finds = record {
+        tells : (w : View) → w.steps ≡ v.steps + 1 → w.last ≡ record { word = at_bank; number = get_or s.words at_bank 0 } → FindsIn v link.sender sent.slot at_bank (get_or s.words at_bank 0) w
+            → Reads (step slots at_bank 0 0 none) me (get_or s.words at_bank 0) (w, me.1)
+        tells w counted seen finds = record {
+          counted = counted;
+          seen = seen;
           each = λ q k other word_of.
               let bank = mod-lt v.place.turn here.runs.some in
               let twin = same_word v.image v.banks link.sender i q k (v.place.turn % v.banks) (v.place.turn % v.banks) sent other send word_of.send bank bank word_of.is in
@@ -412,7 +412,7 @@ module _ (key : Key) (slots id : ℕ) (me : Seated) where
           tt,
           subst (λ b. Kept key (stepped s p (either b 0 (get_or s.words p 0)) id me.1 w keeps)) (sym (eq-eqb (get_or s.words p 0) UNCLAIMED free))
               (kept_there key s.words s.views id v kept at (set s.words p 0) (set s.views id w) (claim_kept s.words s.views id v here at no_port p p_in free)),
-          record { wins = λ _. refl; loses = λ other. absurd (other free) },
+          record { free = no_port; wins = λ _. refl; loses = λ other. absurd (other free) },
         )
     | inr taken ↦ (
       me.0,
@@ -421,7 +421,7 @@ module _ (key : Key) (slots id : ℕ) (me : Seated) where
       subst (λ b. Kept key (stepped s p (either b 0 (get_or s.words p 0)) id me.1 me.0 keeps)) (sym (ne_eqb (get_or s.words p 0) UNCLAIMED taken))
           (subst (λ vs. IsKept key.image.value key.stimulus.value key.banks (set s.words p (get_or s.words p 0)) vs) (sym (set_again s.views id me.0 at))
           (loaded key.image.value key.stimulus.value key.banks s.words s.views p kept)),
-      record { wins = λ free. absurd (taken free); loses = λ _. refl },
+      record { free = no_port; wins = λ free. absurd (taken free); loses = λ _. refl },
     )
   ]
 

@@ -34,6 +34,7 @@ pub record IsHeld (a : Inside) : Type 0 where
 abbrev pub crossbar_of : bar.Inside → CrossbarView
 crossbar_of a = record {
   table = a.table.shared.table_id;
+  key = a.table.shared.key;
   image = a.table.shared.key.image.value;
   stimulus = a.table.shared.key.stimulus.value;
   banks = a.table.shared.key.banks;

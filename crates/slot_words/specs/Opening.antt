@@ -4,7 +4,7 @@ use Rattle.net_defs.specs.declared.stimulus.Stimulus.{Stimulus}
 use Rattle.image_defs.specs.declared.image.Image.{Image}
 use Rattle.atomic_table.specs.declared.shared.Seat.{Seat}
 use Rattle.slot_words.specs.declared.rule.View.{View}
-use Rattle.slot_words.specs.Passes.{CrossbarView}
+use Rattle.slot_words.specs.Passes.{CrossbarView, IsKeyOf}
 use Rattle.slot_words.specs.Rule.{IsRunnable, unseated}
 
 -- a seat of the crossbar that is no port's
@@ -20,6 +20,7 @@ pub record IsWinner (bar : CrossbarView) (p : ℕ) (seat : Seat (Unit {0}) View)
 
 -- a new crossbar with its first seat
 pub record IsOpened (image : Image) (stimulus : Stimulus) (banks : ℕ) (bar : CrossbarView) (seat : Seat (Unit {0}) View) : Type 0 where
+  pub key : IsKeyOf image stimulus banks bar.key
   pub image_is : bar.image ≡ image
   pub stimulus_is : bar.stimulus ≡ stimulus
   pub banks_are : bar.banks ≡ banks

@@ -16,13 +16,15 @@ use Rattle.event_defs.specs.declared.place.Place.{Place}
 use Rattle.atomic_table.specs.Seated.{TableId}
 use Rattle.slot_words.specs.declared.crossbar.Taken.{Taken}
 use Rattle.slot_words.specs.declared.crossbar.Taken.TheVariants.{NotYet, Value}
+use Rattle.slot_words.specs.declared.rule.Key.{Key}
 use Rattle.slot_words.specs.declared.rule.Look.{Look}
 use Rattle.slot_words.specs.Layout.{send_word}
-use Rattle.slot_words.specs.Rule.{turns_of}
+use Rattle.slot_words.specs.Rule.{IsRunnable, turns_of}
 
--- a crossbar: which words, and what they are made for
+-- a crossbar: which words, the key of their rule, and what they are made for
 pub record CrossbarView : Type 0 where
   pub table : TableId
+  pub key : Key
   pub image : Image
   pub stimulus : Stimulus
   pub banks : ℕ
@@ -46,6 +48,12 @@ pub record IsOf (bar : CrossbarView) (pass : PassView) : Type 0 where
   pub stimulus : pass.stimulus ≡ bar.stimulus
   pub banks : pass.banks ≡ bar.banks
 
+-- what holds of each pass: it is of a port of a well-formed image, and knows something of each port
+pub record IsFit (pass : PassView) : Type 0 where
+  pub runs : IsRunnable pass.image pass.stimulus pass.banks
+  pub inside : pass.port < length pass.image.ports
+  pub wide : length pass.place.known ≡ length pass.image.ports
+
 -- its turn is one of the run's
 abbrev pub IsRunning : PassView → Type 0
 IsRunning pass = pass.place.turn ≤ turns_of pass.image pass.stimulus
@@ -68,8 +76,15 @@ pub record AreFirstPasses (bar : CrossbarView) (n : ℕ) (passes : List PassView
   pub long : length passes ≡ n
   pub each : (p : ℕ) (pass : PassView) → slice_get passes p ≡ Some pass → IsFirstPass bar p pass
 
+-- the rule is that of this image, stimulus and number of banks
+pub record IsKeyOf (image : Image) (stimulus : Stimulus) (banks : ℕ) (key : Key) : Type 0 where
+  pub image_is : key.image.value ≡ image
+  pub stimulus_is : key.stimulus.value ≡ stimulus
+  pub banks_are : key.banks ≡ banks
+
 -- a new crossbar, with one pass for each port
 pub record IsMade (image : Image) (stimulus : Stimulus) (banks : ℕ) (bar : CrossbarView) (passes : List PassView) : Type 0 where
+  pub key : IsKeyOf image stimulus banks bar.key
   pub image_is : bar.image ≡ image
   pub stimulus_is : bar.stimulus ≡ stimulus
   pub banks_are : bar.banks ≡ banks
@@ -118,11 +133,18 @@ IsFound old sender slot word number (Value v) new =
     × (new ≡ one_step old (after_take old.place slot) word number)
 IsFound old sender slot word number NotYet new = (stamp_of number < old.place.turn) × (new ≡ one_step old old.place word number)
 
--- it read this turn's word of its sender's send
+-- it read this turn's word of the send that comes by this link
+pub record HasLooked (old : PassView) (link : LinkIn) (taken : Taken) (new : PassView) : Type 0 where
+  pub i : ℕ
+  pub sent : LinkOut
+  pub send : IsSend old.image link.sender i sent
+  pub same_slot : sent.slot ≡ link.slot
+  pub found : IsFound old link.sender link.slot (send_word old.image old.banks link.sender i (old.place.turn % old.banks)) new.last.number taken new
+
+-- it looked at what it receives in this slot
 pub record IsTake (old : PassView) (slot : ℕ) (taken : Taken) (new : PassView) : Type 0 where
-  pub each : (port : PortImage) (j i : ℕ) (link : LinkIn) (sent : LinkOut) → IsPort old.image old.port port → slice_get port.ins j ≡ Some link → link.slot ≡ slot
-      → IsSend old.image link.sender i sent → sent.slot ≡ slot
-      → IsFound old link.sender slot (send_word old.image old.banks link.sender i (old.place.turn % old.banks)) new.last.number taken new
+  pub each : (port : PortImage) (j : ℕ) (link : LinkIn) → IsPort old.image old.port port → slice_get port.ins j ≡ Some link → link.slot ≡ slot
+      → HasLooked old link taken new
 
 -- ---- Tell
 

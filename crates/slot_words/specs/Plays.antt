@@ -1,15 +1,18 @@
 -- What each step tells its pass, by the word and the number that it found or stored there.
-use Rattle.std.specs.Prelude.{◌≡◌, ◌≢◌, ℕ, ◌+◌, ◌*◌, ◌%◌, ◌<◌, ◌≤◌, Some, length}
+use Rattle.std.specs.Prelude.{◌≡◌, ◌≢◌, ℕ, ◌+◌, ◌*◌, ◌%◌, ◌<◌, ◌≤◌, None, Some, length}
+use mathlib.Core.Option.{none}
 use Rattle.logic_four.specs.Values.{code_of}
 use Rattle.image_defs.specs.Frames.{image_value}
 use Rattle.image_defs.specs.declared.image.LinkOut.{LinkOut}
 use Rattle.event_defs.specs.Places.{IsSend, after_ask, after_put, after_take, after_tell, known_of, start}
 use Rattle.event_defs.specs.Steps.{stamp_of}
 use Rattle.event_defs.specs.declared.place.Place.{Place}
-use Rattle.atomic_table.specs.Table.{Me, Step}
+use Rattle.atomic_table.specs.Table.{Allows, Me, Step, step}
+use Rattle.slot_words.specs.declared.rule.Key.{Key}
 use Rattle.slot_words.specs.declared.rule.TheConstants.{UNCLAIMED}
 use Rattle.slot_words.specs.declared.rule.View.{View}
 use Rattle.slot_words.specs.Layout.{send_word, turns_told}
+use Rattle.slot_words.specs.Rule.{Kept}
 
 -- the view after one more step, which saw this number in this word
 abbrev pub after_step : View → Place → ℕ → ℕ → View
@@ -25,8 +28,9 @@ Seated = Me (Unit {0}) View
 abbrev pub OneStep : Type 0
 OneStep = Step (Unit {0})
 
--- an unclaimed port is the seat's from now on, and else nothing changes
+-- of a seat that was no port's: an unclaimed port is the seat's from now on, and else nothing changes
 pub record Claims (s : OneStep) (me : Seated) (found : ℕ) (new : Seated) : Type 0 where
+  pub free : me.0.port ≡ None
   pub wins : found ≡ UNCLAIMED → new.0 ≡ claimed_by me.0 s.word
   pub loses : found ≢ UNCLAIMED → new.0 ≡ me.0
 
@@ -52,9 +56,29 @@ pub record FindsIn (old : View) (sender slot word found : ℕ) (new : View) : Ty
       × (found ≡ 4 * old.place.turn + code_of (image_value old.image old.stimulus old.place.turn sender slot))
   pub waits : stamp_of found ≢ old.place.turn → (new ≡ after_step old old.place word found) × (stamp_of found < old.place.turn)
 
+-- it has read this number in this word
 pub record Reads (s : OneStep) (me : Seated) (found : ℕ) (new : Seated) : Type 0 where
+  pub counted : new.0.steps ≡ me.0.steps + 1
+  pub seen : new.0.last ≡ record { word = s.word; number = found }
   pub each : (p i : ℕ) (link : LinkOut) → IsWordOf me.0 s.word p i link → FindsIn me.0 p link.slot s.word found new.0
 
 -- the next turn has begun
 pub record Ends (s : OneStep) (me : Seated) (stored : ℕ) (new : Seated) : Type 0 where
   pub is : new.0 ≡ after_step me.0 (after_tell me.0.place) s.word stored
+
+-- ---- what the rule allows the seat with this number
+
+module _ (key : Key) (slots id : ℕ) (me : Seated) where
+  -- to load this word for an Ask, or for a Take
+  abbrev pub MayAsk : ℕ → Type 0
+  MayAsk word = Allows (Kept key) slots id me word (λ n. n) (Learns (step slots word 0 0 none) me)
+
+  abbrev pub MayTake : ℕ → Type 0
+  MayTake word = Allows (Kept key) slots id me word (λ n. n) (Reads (step slots word 0 0 none) me)
+
+  -- to store this number in this word for a Put, or for a Tell
+  abbrev pub MayPut : ℕ → ℕ → Type 0
+  MayPut word number = Allows (Kept key) slots id me word (λ _. number) (λ _. Writes (step slots word number 0 none) me number)
+
+  abbrev pub MayTell : ℕ → ℕ → Type 0
+  MayTell word number = Allows (Kept key) slots id me word (λ _. number) (λ _. Ends (step slots word number 0 none) me number)

@@ -93,10 +93,13 @@ Kept key s = IsKept key.image.value key.stimulus.value key.banks s.words s.views
 
 -- ---- what it implies
 
--- the passes stand at places which, with the words, are sound
+-- all seats have the key's image, stimulus and banks; the passes stand at places which, with the words, are
+-- sound; and a port that nobody has claimed stands at its start
 pub record ArePassesSound (key : Key) (s : State (Unit {0}) View) : Type 0 where
+  pub same : (id : ℕ) (v : View) → get_elem? s.views id ≡ some v → (v.image ≡ key.image.value) × (v.stimulus ≡ key.stimulus.value) × (v.banks ≡ key.banks)
   pub place : ℕ → Place
   pub places : (id p : ℕ) (v : View) → get_elem? s.views id ≡ some v → v.port ≡ Some p → (p < length key.image.value.ports) × (v.place ≡ place p)
+  pub fresh : (p : ℕ) → p < length key.image.value.ports → progress_in s.words p ≡ UNCLAIMED → place p ≡ start (length key.image.value.ports)
   pub sound : IsSound key.image.value key.stimulus.value key.banks (turns_of key.image.value key.stimulus.value) (record {
     place = place;
     finished = λ p. turns_told (progress_in s.words p);

@@ -6,16 +6,16 @@ ghost use Rattle.event_defs.specs.Places.{after_ask, after_tell, known_of};
 ghost use Rattle.slot_words.specs.Layout.{progress_word, turns_told};
 ghost use Rattle.slot_words.specs.Passes.{CanPut, CanTake, CanTell, IsOf, IsPut, IsRunning, IsTake, IsTakenIn, one_step};
 
-use crate::links;
 use crate::pass::Pass;
-use crate::rule::{Asks, Key, Law, Puts, Takes, Tells, UNCLAIMED, View};
+use crate::rule::{Key, Law, UNCLAIMED, View};
+use crate::{links, steps};
 use atomic_table::Table;
 use logic_four::{V4, code, decoded};
 use std::alloc::Global;
 use std::marker::Model;
 
 /// The words that the ports of an image share. It may be shared by threads. A contract sees which words
-/// they are, and for which image, stimulus and number of banks.
+/// they are, the key of their rule, and for which image, stimulus and number of banks they are.
 #[derive(Drop)]
 pub struct Crossbar {
     pub(crate) table: Table<(), View, Key, Law, Global>,
@@ -80,7 +80,7 @@ impl Crossbar {
         ensures known { known_of pass.new.place reader ≡ result }
     {
         let shared = &self.table.shared;
-        let finished = told(shared.load::<Asks>(&mut pass.seat, reader as usize));
+        let finished = told(steps::ask(shared, &mut pass.seat, reader as usize));
         pass.known.set(reader as usize, finished);
         finished
     }
@@ -98,7 +98,7 @@ impl Crossbar {
         let word = links::word_in_turn(first, pass.turn, pass.banks);
         let number = stamped(pass.turn, v);
         let shared = &self.table.shared;
-        shared.store::<Puts>(&mut pass.seat, word, number);
+        steps::put(shared, &mut pass.seat, word, number);
     }
 
     /// Reads what is sent in a slot, and takes it if it is of this turn. One load.
@@ -113,7 +113,7 @@ impl Crossbar {
         let first = pass.receipts.as_slice()[k].word;
         let word = links::word_in_turn(first, pass.turn, pass.banks);
         let shared = &self.table.shared;
-        let number = shared.load::<Takes>(&mut pass.seat, word);
+        let number = steps::take(shared, &mut pass.seat, word);
         taken_in(number, pass.turn)
     }
 
@@ -125,7 +125,7 @@ impl Crossbar {
         ensures { pass.new ≡ one_step pass.old (after_tell pass.old.place) (progress_word pass.old.port) pass.old.place.turn }
     {
         let shared = &self.table.shared;
-        shared.store::<Tells>(&mut pass.seat, pass.port as usize, pass.turn);
+        steps::tell(shared, &mut pass.seat, pass.port as usize, pass.turn);
         pass.turn += 1;
     }
 }

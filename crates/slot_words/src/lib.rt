@@ -10,14 +10,15 @@
 //! after bank. The word of bank `k % banks` of a send holds `4 * k` and the code of a value for the last
 //! turn `k` of that bank in which the send was put.
 //!
-//! To share words under this rule in another project, say who sends to whom in which slot of a turn, as
-//! the links of an image. `Crossbar::make` gives the words and one `Pass` for each port. Lend the crossbar
+//! To share words under this rule in another project, say who sends to whom in which slot of a turn, and
+//! what, as the links and the work of an image. `Crossbar::make` gives the words and one `Pass` for each port. Lend the crossbar
 //! to all threads, and move each pass to the thread that is to run its port. In each turn a port puts each
 //! of its sends once, takes each of its receipts once, in any order that suits it, and tells that the turn
 //! is over. Before a put in a turn `k` greater than `banks` it asks each reader of the send until it knows
 //! it to have finished turn `k - banks`; a `take` that finds nothing yet is tried again. All this is asked
 //! by the contracts, so a program that breaks it doesn't check. Of what values are, the rule knows nothing
-//! but that the image has one for each turn, port and slot.
+//! but that the image has one for each turn, port and slot. So what is shared under it are the values that
+//! a well-formed image computes from its stimulus, and no others: a `put` is asked to put that value.
 //!
 //! No contract says that a thread ever moves, which of two threads is first, or how fast either is.
 #![tactic(auto)]
@@ -28,6 +29,7 @@ mod links;
 mod opening;
 mod pass;
 mod rule;
+mod steps;
 #[cfg(test)]
 mod tests;
 

@@ -1,6 +1,7 @@
 //! The pass of a port.
 
-ghost use Rattle.std.specs.Prelude.{IfOk, length, ◌+◌, ◌<◌, ◌≡◌, ◌≤◌};
+ghost use Rattle.std.specs.Prelude.{◌≡◌};
+ghost use Rattle.slot_words.specs.Passes.{IsFit};
 
 use crate::links::Link;
 use crate::rule::View;
@@ -10,7 +11,9 @@ use std::marker::Model;
 
 /// The right to step as one port of a crossbar. Whoever has it alone changes where the port stands. It
 /// may go from thread to thread. A contract sees its crossbar's words, its port, image and stimulus, the
-/// banks, its place, the number of steps that it has made, and the word and the number of the last.
+/// banks, its place, the number of steps that it has made, and the word and the number of the last. The
+/// steps are those of `ask`, `put`, `take` and `tell`. What `make` does to give the pass isn't counted, and
+/// the rule lets no pass do it again.
 #[derive(Drop)]
 pub struct Pass {
     pub(crate) seat: Seat<(), View>,
@@ -53,7 +56,8 @@ impl Pass {
 
     /// For each port how many turns it is known to have finished.
     pub fn known(&self) -> &[u64]
-        ensures { result.now ≡ self.now.place.known }
+        ensures known { result.now ≡ self.now.place.known }
+        ensures fit { IsFit self.now }
     {
         self.known.as_slice()
     }

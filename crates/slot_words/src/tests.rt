@@ -1,11 +1,15 @@
 //! The crossbar of a small image: a logic processor that looks an input up and holds the value, an array
-//! processor with one memory, and the host, which feeds the input to both.
+//! processor with one memory, and the host, which feeds the input to both. And that of an image whose one
+//! port is the host, which sends nothing.
 
-ghost use Rattle.std.specs.Prelude.{IfOk, [], false, ◌∷◌, ◌≡◌, ◌≤◌};
+ghost use Rattle.std.specs.Prelude.{IfOk, [], false, ◌+◌, ◌∷◌, ◌≡◌, ◌≤◌};
 ghost use Rattle.logic_four.specs.declared.V4.TheVariants.{One};
+ghost use Rattle.net_defs.specs.declared.timing.Init.TheVariants as init;
 ghost use Rattle.image_defs.specs.declared.image.Source.TheVariants.{Got};
+ghost use Rattle.image_defs.specs.declared.image.Work.TheVariants.{Host};
 ghost use Rattle.image_defs.proofs.Example.{array_port, host_port, image, logic_port};
-ghost use Rattle.slot_words.specs.Passes.{IsFirstPass};
+ghost use Rattle.slot_words.specs.Passes.{IsFirstPass, IsOf};
+ghost use Rattle.slot_words.specs.Rule.{turns_of};
 
 use crate::crossbar::{Crossbar, Taken, stamped, taken_in};
 use crate::pass::Pass;
@@ -216,5 +220,57 @@ fn taken_after_it_is_put(rt: HostRuntime) -> Result<(), Fail> {
         move || turn_of(bar, second),
     );
     assert_eq!(rt; turns, (1, 1));
+    Ok(())
+}
+
+fn lone(alloc: Global) -> Result<Image, Memory>
+    ensures { IfOk result (λ made. made ≡ record { slots = 1; units = 1; init = init.Zero; columns = 1; ports = record { work = Host [] []; outs = []; ins = [] } ∷ [] }) }
+{
+    let mut ports = List::new(alloc);
+    ports.push(PortImage {
+        work: Work::Host {
+            inputs: List::new(alloc),
+            printed: List::new(alloc),
+        },
+        outs: List::new(alloc),
+        ins: List::new(alloc),
+    })?;
+    Ok(Image {
+        slots: 1,
+        units: 1,
+        init: Init::Zero,
+        columns: 1,
+        ports,
+    })
+}
+
+/// A port that has nothing to do ends its turn, and looks how many it has finished.
+fn next_turn(bar: &Crossbar, pass: &mut Pass) -> u64
+    requires own { IsOf bar.now pass.old }
+    requires image { bar.now.image.ports ≡ record { work = Host [] []; outs = []; ins = [] } ∷ [] }
+    requires early { pass.old.place.turn + 1 ≤ turns_of bar.now.image bar.now.stimulus }
+    ensures own { IsOf bar.now pass.new }
+    ensures turn { pass.new.place.turn ≡ pass.old.place.turn + 1 }
+{
+    bar.tell(pass);
+    bar.ask(pass, 0)
+}
+
+/// What a port has told stands in its progress word, turn after turn.
+#[test]
+fn asked_after_it_is_told(rt: HostRuntime) -> Result<(), Fail> {
+    let alloc = rt.alloc();
+    let image = lone(alloc)?;
+    let stim = ones(alloc, 3)?;
+    let (bar, mut passes) = Crossbar::make(&rt, alloc, &image, &stim, 1)?;
+    let Some(mut pass) = passes.pop() else {
+        assert!(rt; false);
+        return Ok(());
+    };
+    assert_eq!(rt; bar.ask(&mut pass, 0), 0);
+    let first = next_turn(&bar, &mut pass);
+    let second = next_turn(&bar, &mut pass);
+    assert_eq!(rt; (first, second, pass.turn()), (1, 2, 3));
+    assert_eq!(rt; pass.known(), [2].as_slice());
     Ok(())
 }

@@ -20,7 +20,7 @@ pub take-requires-2-clause-own : goal.take-requires-2-clause-own
 take-requires-2-clause-own c =
     let logic = c.requires.logic in
     let is = waited c.args.table.now c.args.logic.now c.take.new.pass c.take.result (logic.of.image ∙ c.requires.image) logic.port_is c.take.ensures c.in-NotYet.is in
-    still_of c.args.bar.now c.args.logic.now c.take.new.pass is.0 is.1 logic.of is.2
+    still_of c.args.bar.now c.args.logic.now c.take.new.pass c.args.logic.now.place is.0 is.1 logic.of is.2
 
 pub take-requires-2-clause-running : goal.take-requires-2-clause-running
 take-requires-2-clause-running c =

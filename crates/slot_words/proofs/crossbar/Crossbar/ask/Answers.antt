@@ -1,16 +1,31 @@
-use Rattle.std.proofs.Common.{length, subst, sym, ◌<◌}
+use Rattle.std.proofs.Common.{length, subst, sym, ℕ, ◌<◌, ◌≡◌}
 use Rattle.image_defs.specs.declared.image.Image.{Image}
 use Rattle.slot_words.proofs.HeldLemmas.{own_fields, progress_room}
 use Rattle.slot_words.proofs.StepLemmas.{ask_allowed}
-use Rattle.slot_words.specs.Held.{crossbar_of}
-use Rattle.slot_words.specs.Passes.{CrossbarView}
+use Rattle.slot_words.specs.declared.crossbar.Crossbar.TheInside as bar
+use Rattle.slot_words.specs.declared.pass.Pass.TheInside.{Inside}
+use Rattle.slot_words.specs.Held.{crossbar_of, pass_of}
+use Rattle.slot_words.specs.Passes.{CrossbarView, IsOf}
 use Rattle.slot_words.proofs.crossbar.Crossbar.ask.Goals as goal
 
-pub load-requires : goal.load-requires
-load-requires c =
+pub ask-requires-clause-own : goal.ask-requires-clause-own
+ask-requires-clause-own c = (own_fields c.self.inside c.pass.inside c.args.self.now c.args.pass.now c.self.view_is c.pass.view_is c.requires.own).table
+
+-- the reader is a port of the pass's image
+reader_in : (b : bar.Inside) (a : Inside) (bar_is : CrossbarView) (r : ℕ) → crossbar_of b ≡ bar_is → IsOf (crossbar_of b) (pass_of a) → r < length bar_is.image.ports → r < length a.seat.me.0.image.ports
+reader_in b a bar_is r view_is own inside =
+    subst (λ (i : Image). r < length i.ports) (sym own.image) (subst (λ (x : CrossbarView). r < length x.image.ports) (sym view_is) inside)
+
+pub ask-requires-clause-inside : goal.ask-requires-clause-inside
+ask-requires-clause-inside c =
     let b = c.self.inside in
     let a = c.pass.inside in
     let own = own_fields b a c.args.self.now c.args.pass.now c.self.view_is c.pass.view_is c.requires.own in
-    let reader_bar : c.args.reader < length (crossbar_of b).image.ports = subst (λ (x : CrossbarView). c.args.reader < length x.image.ports) (sym c.self.view_is) c.requires.reader in
-    let reader : c.args.reader < length a.seat.me.0.image.ports = subst (λ (i : Image). c.args.reader < length i.ports) (sym own.image) reader_bar in
-    (own.table, progress_room b a c.self.invariant own c.args.reader reader, ask_allowed b.table.shared.key b.table.shared.table_id.slots a.seat.id a.seat.me a.port c.args.reader c.pass.invariant.port reader)
+    progress_room b a c.self.invariant own c.args.reader (reader_in b a c.args.self.now c.args.reader c.self.view_is own c.requires.reader)
+
+pub ask-requires-clause-may : goal.ask-requires-clause-may
+ask-requires-clause-may c =
+    let b = c.self.inside in
+    let a = c.pass.inside in
+    let own = own_fields b a c.args.self.now c.args.pass.now c.self.view_is c.pass.view_is c.requires.own in
+    ask_allowed b.table.shared.key b.table.shared.table_id.slots a.seat.id a.seat.me a.port c.args.reader c.pass.invariant.port (reader_in b a c.args.self.now c.args.reader c.self.view_is own c.requires.reader)

@@ -10,48 +10,57 @@ use Rattle.slot_words.specs.Passes.{CanPut, IsPut, IsRunning, PassView, one_step
 use Rattle.slot_words.specs.Plays.{after_step}
 use Rattle.slot_words.proofs.crossbar.Crossbar.put.Goals as goal
 
-pub store-requires : goal.store-requires
-store-requires c =
+pub put-requires-clause-own : goal.put-requires-clause-own
+put-requires-clause-own c = (own_fields c.self.inside c.pass.inside c.args.self.now c.args.pass.now c.self.view_is c.pass.view_is c.requires.own).table
+
+pub put-requires-clause-inside : goal.put-requires-clause-inside
+put-requires-clause-inside c =
+    let b = c.self.inside in
+    let a = c.pass.inside in
+    let held = c.pass.invariant in
+    let own = own_fields b a c.args.self.now c.args.pass.now c.self.view_is c.pass.view_is c.requires.own in
+    let can : CanPut (pass_of a) c.args.slot c.args.v = subst (λ (o : PassView). CanPut o c.args.slot c.args.v) (sym c.pass.view_is) c.requires.can in
+    let word = put_word a held c.as_slice.result.now c.as_slice-2.result.now c.find-k.result c.args.slot c.word_in_turn-word.result c.find-k.ensures c.word_in_turn-word.ensures c.as_slice.ensures c.as_slice-2.ensures can.i can.link can.send can.slot_is in
+    word_room b a c.self.invariant own held a.port can.i can.link can.send _ word
+
+pub put-requires-clause-may : goal.put-requires-clause-may
+put-requires-clause-may c =
     let b = c.self.inside in
     let a = c.pass.inside in
     let v = a.seat.me.0 in
     let held = c.pass.invariant in
-    let own = own_fields b a c.args.self.now c.args.pass.now c.self.view_is c.pass.view_is c.requires.own in
     let can : CanPut (pass_of a) c.args.slot c.args.v = subst (λ (o : PassView). CanPut o c.args.slot c.args.v) (sym c.pass.view_is) c.requires.can in
     let running = subst IsRunning (sym c.pass.view_is) c.requires.running in
     let word = put_word a held c.as_slice.result.now c.as_slice-2.result.now c.find-k.result c.args.slot c.word_in_turn-word.result c.find-k.ensures c.word_in_turn-word.ensures c.as_slice.ensures c.as_slice-2.ensures can.i can.link can.send can.slot_is in
     let number_is : c.stamped-number.result ≡ 4 * v.place.turn + code_of (image_value v.image v.stimulus v.place.turn a.port can.link.slot) =
     c.stamped-number.ensures ∙ ap₂ (λ t x. 4 * t + x) held.turn ((ap code_of can.value ∙ ap (λ s. code_of (image_value v.image v.stimulus v.place.turn a.port s)) (sym can.slot_is))) in
-    let missing : is_in can.link.slot v.place.puts ≡ false = ap (λ s. is_in s v.place.puts) can.slot_is ∙ can.missing in (
-      own.table,
-      word_room b a c.self.invariant own held a.port can.i can.link can.send _ word,
-      put_allowed b.table.shared.key b.table.shared.table_id.slots a.seat.id a.seat.me a.port can.i (c.stamped-number.result) can.link held.port can.send missing running can.ready number_is c.word_in_turn-word.result word,
-    )
+    let missing : is_in can.link.slot v.place.puts ≡ false = ap (λ s. is_in s v.place.puts) can.slot_is ∙ can.missing in
+    put_allowed b.table.shared.key b.table.shared.table_id.slots a.seat.id a.seat.me a.port can.i (c.stamped-number.result) can.link held.port can.send missing running can.ready number_is c.word_in_turn-word.result word
 
 -- the view after the step, for whatever send has the slot
-view_is : (c : goal.After-store) (i : ℕ) (link : LinkOut) → IsSend c.pass.inside.seat.me.0.image c.pass.inside.port i link → link.slot ≡ c.args.slot
-    → c.store.new.seat.me.0 ≡ after_step c.pass.inside.seat.me.0 (after_put c.pass.inside.seat.me.0.place c.args.slot) c.word_in_turn-word.result (c.stamped-number.result)
+view_is : (c : goal.After-put) (i : ℕ) (link : LinkOut) → IsSend c.pass.inside.seat.me.0.image c.pass.inside.port i link → link.slot ≡ c.args.slot
+    → c.put.new.seat.me.0 ≡ after_step c.pass.inside.seat.me.0 (after_put c.pass.inside.seat.me.0.place c.args.slot) c.word_in_turn-word.result (c.stamped-number.result)
 view_is c i link send slot_is =
     let a = c.pass.inside in
     let v = a.seat.me.0 in
     let held = c.pass.invariant in
-    c.store.ensures.2.each a.port i link held.port (record { send = send; is = put_word a held c.as_slice.result.now c.as_slice-2.result.now c.find-k.result c.args.slot c.word_in_turn-word.result c.find-k.ensures c.word_in_turn-word.ensures c.as_slice.ensures c.as_slice-2.ensures i link send slot_is })
+    c.put.ensures.writes.each a.port i link held.port (record { send = send; is = put_word a held c.as_slice.result.now c.as_slice-2.result.now c.find-k.result c.args.slot c.word_in_turn-word.result c.find-k.ensures c.word_in_turn-word.ensures c.as_slice.ensures c.as_slice-2.ensures i link send slot_is })
     ∙ ap (λ s. after_step v (after_put v.place s) c.word_in_turn-word.result (c.stamped-number.result)) slot_is
 
 pub invariant_of-pass : goal.invariant_of-pass
 invariant_of-pass c =
     let a = c.pass.inside in
     let can : CanPut (pass_of a) c.args.slot c.args.v = subst (λ (o : PassView). CanPut o c.args.slot c.args.v) (sym c.pass.view_is) c.requires.can in
-    held_stepped a c.store.new.seat (after_put a.seat.me.0.place c.args.slot) _ _ c.find-k.result a.last_receipt (view_is c can.i can.link can.send can.slot_is) c.pass.invariant refl refl
+    held_stepped a c.put.new.seat (after_put a.seat.me.0.place c.args.slot) _ _ c.find-k.result a.last_receipt (view_is c can.i can.link can.send can.slot_is) c.pass.invariant refl refl
 
 pub returns : goal.returns
 returns c =
     let a = c.pass.inside in
     let v = a.seat.me.0 in
     let held = c.pass.invariant in
-    subst (λ (o : PassView). IsPut o c.args.slot c.args.v (pass_of (reseated a c.store.new.seat c.find-k.result a.last_receipt))) c.pass.view_is (record {
+    subst (λ (o : PassView). IsPut o c.args.slot c.args.v (pass_of (reseated a c.put.new.seat c.find-k.result a.last_receipt))) c.pass.view_is (record {
       each = λ i link send slot_is.
-          pass_stepped a c.store.new.seat (after_put v.place c.args.slot) _ _ c.find-k.result a.last_receipt (view_is c i link send slot_is) c.store.ensures.0
+          pass_stepped a c.put.new.seat (after_put v.place c.args.slot) _ _ c.find-k.result a.last_receipt (view_is c i link send slot_is) c.put.ensures.table
           ∙ ap₂ (λ w x. one_step (pass_of a) (after_put v.place c.args.slot) w x) (put_word a held c.as_slice.result.now c.as_slice-2.result.now c.find-k.result c.args.slot c.word_in_turn-word.result c.find-k.ensures c.word_in_turn-word.ensures c.as_slice.ensures c.as_slice-2.ensures i link send slot_is) (c.stamped-number.ensures ∙ ap (λ t. 4 * t + code_of c.args.v) held.turn);
     })
 
