@@ -1,0 +1,5 @@
+pub mod Places
+pub mod StepLemmas
+pub mod PhaseLemmas
+pub mod CrewLemmas
+pub mod LendLemmas

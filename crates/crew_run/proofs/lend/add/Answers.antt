@@ -1,0 +1,8 @@
+use Rattle.std.proofs.Common.{subst, sym}
+use Rattle.std.proofs.lemmas.Result.{on_ok_weaker}
+use Rattle.crew_run.specs.Crews.{AllCanRun, CanRun}
+use Rattle.crew_run.proofs.Places.{each_push}
+use Rattle.crew_run.proofs.lend.add.Goals as goal
+
+pub returns-clause-can : goal.returns-clause-can
+returns-clause-can g c = λ before one. on_ok_weaker c.push.result (λ e. subst (AllCanRun g.S.Stepper g.G.Gate) (sym e) (each_push (CanRun g.S.Stepper g.G.Gate) c.args.workers.now c.args.worker before one)) c.push.ensures.ok

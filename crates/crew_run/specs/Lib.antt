@@ -1,0 +1,5 @@
+pub mod Crews
+pub mod Lending
+pub mod Phases
+pub mod Steps
+pub mod Visits

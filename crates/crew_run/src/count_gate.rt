@@ -1,0 +1,53 @@
+//! A gate that only counts.
+
+ghost use Rattle.std.specs.Prelude.{replicate, slice_index, ◌<◌, ◌≡◌};
+
+use crate::gate::Gate;
+
+/// A gate that only counts.
+#[derive(Drop)]
+pub struct CountGate {
+    times: [u64; 256],
+    latest: [u64; 256],
+}
+
+impl Gate for CountGate {
+    ghost times = { λ g. g.times };
+
+    ghost latest = { λ g. g.latest };
+
+    fn at(&mut self, port: u32, turn: u64) {
+        let p = port as usize;
+        self.times[p] += 1;
+        self.latest[p] = turn;
+    }
+}
+
+impl CountGate {
+    /// A gate that was told nothing.
+    pub fn new() -> CountGate
+        ensures times { ⟦<CountGate as Gate>⟧.times result ≡ replicate 256 0 }
+        ensures latest { ⟦<CountGate as Gate>⟧.latest result ≡ replicate 256 0 }
+    {
+        CountGate {
+            times: [0; 256],
+            latest: [0; 256],
+        }
+    }
+
+    /// How often a turn of the port was told.
+    pub fn times(&self, port: u32) -> u64
+        requires { port < 256 }
+        ensures { result ≡ slice_index (⟦<CountGate as Gate>⟧.times self.now) port }
+    {
+        self.times[port as usize]
+    }
+
+    /// The turn of the port that was told last, 0 where none was.
+    pub fn latest(&self, port: u32) -> u64
+        requires { port < 256 }
+        ensures { result ≡ slice_index (⟦<CountGate as Gate>⟧.latest self.now) port }
+    {
+        self.latest[port as usize]
+    }
+}

@@ -1,0 +1,42 @@
+//! A crew: workers that step their members until all are done, each worker in a thread of its own where one
+//! can be made.
+//!
+//! A member is a `Stepper`, a port of a machine that goes through its turns by single atomic steps. Of each
+//! step it says whether it took an event, found that what it waits for isn't there yet, or had nothing left
+//! to do. A worker owns its members and a `Gate`, which it tells of each turn of a member before the first
+//! step of that turn. Neither a member nor a gate is ever in two threads at once.
+//!
+//! Work goes in phases. In each phase every worker goes round its members, and leaves the phase when all of
+//! them are done or 1,000 rounds in a row came without a move; phases follow until all members of all
+//! workers are done. Where no second thread can be made, a phase runs one worker after another, and so they
+//! still get on. A round without a move is followed by a short wait, and past the eighth in a row the
+//! processor is offered to other threads.
+//!
+//! To run members of your own, implement `Stepper` for them, give the members of one worker ports of their
+//! own below 256, and call `run_all`, or `run_with` where the gates belong to the caller. Nothing here takes
+//! memory but `add`. What a step does to what members share is no matter of this crate: of a member that has
+//! run the contracts say that it is done, and that it is `same` as the one that stood in its place.
+//!
+//! That a gate is told of a turn just before the first step of that turn, and not earlier, no contract says;
+//! how often it was told of which ports, and of which turn last, they do.
+//!
+//! No contract says that a member ever moves, that two threads ran at once, or how long anything takes: where
+//! members wait for what never comes, `run_all` doesn't return.
+#![tactic(auto)]
+
+mod count_gate;
+mod crew;
+mod gate;
+mod lend;
+mod phase;
+mod stepper;
+#[cfg(test)]
+mod tests;
+mod worker;
+
+pub use count_gate::CountGate;
+pub use crew::run_all;
+pub use gate::Gate;
+pub use lend::{add, run_with};
+pub use stepper::{Step, Stepper};
+pub use worker::Worker;

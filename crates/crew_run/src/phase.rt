@@ -1,0 +1,168 @@
+//! One worker's part of a phase: it tells its gate of the turns that begin, and steps its members.
+
+ghost use Rattle.std.specs.Prelude.{All, Some, length, slice_get, slice_index, ℕ, ◌+◌, ◌<◌, ◌^◌, ◌≡◌, ◌≢◌, ◌≤◌};
+ghost use Rattle.crew_run.specs.Crews.{AreReady, CanRun};
+ghost use Rattle.crew_run.specs.Phases.{AreBegun, AreStepped, CanResume, CanStep, HasBegun, HasRoomFor, IsBegun, IsResumed, IsStepped};
+ghost use Rattle.crew_run.specs.Visits.{IsUntold};
+
+use crate::gate::Gate;
+use crate::stepper::{Step, Stepper};
+use crate::worker::Worker;
+use crossbeam_utils::Backoff;
+use std::sync::Wait;
+use std::thread::yield_now;
+
+/// The rounds in a row without a move after which a worker leaves a phase.
+const IDLE_ROUNDS: u32 = 1000;
+
+/// The rounds in a row without a move after which a worker offers its processor to other threads. It needs
+/// to: where there are fewer processors than workers, the one that can move may be waiting for this one's.
+const SPIN_ROUNDS: u32 = 8;
+
+/// The most steps that a member makes in one round.
+const STEPS_A_ROUND: u32 = 64;
+
+/// What a round came to, or the steps of one member in it.
+#[derive(Clone, Copy, PartialEq, Eq)]
+enum Progress {
+    Moved,
+    Waits,
+    Done,
+}
+
+/// Tells the gate of the turn that the member is in, where it has one left.
+fn tell_turn<S: Stepper, G: Gate>(member: &S, gate: &mut G)
+    requires port { S.port member.now < 256 }
+    requires within { S.turn member.now ≤ S.last_turn member.now + 1 }
+    requires room { slice_index (G.times gate.old) (S.port member.now) ≤ 2 ^ 62 }
+    ensures begun { IsBegun S.Stepper.own G.Gate.own member.now gate.old gate.new }
+    ensures others { (q : ℕ) → q ≢ S.port member.now → IsUntold G.Gate.own q gate.old gate.new }
+{
+    let turn = member.turn();
+    if turn <= member.last_turn() {
+        gate.at(member.port(), turn);
+    }
+}
+
+/// Tells the gate of the turn of each member that has one left.
+fn tell_turns<S: Stepper, G: Gate>(members: &[S], gate: &mut G)
+    requires ready { AreReady S.Stepper.own members.now }
+    requires room { All (λ n. n ≤ 2 ^ 62) (G.times gate.old) }
+    ensures { AreBegun S.Stepper.own G.Gate.own (length members.now) members.now gate.old gate.new }
+{
+    for k in 0..members.len() {
+        tell_turn(&members[k], gate);
+    }
+}
+
+/// Makes one step of a member, and tells the gate where by it a turn begins.
+fn step_once<S: Stepper, G: Gate>(member: &mut S, gate: &mut G) -> Step
+    requires port { S.port member.old < 256 }
+    requires within { S.turn member.old ≤ S.last_turn member.old + 1 }
+    requires small { S.last_turn member.old ≤ 2 ^ 62 }
+    requires room { HasRoomFor S.Stepper.own G.Gate.own member.old gate.old }
+    ensures { IsStepped S.Stepper.own G.Gate.own member.old gate.old member.new gate.new }
+{
+    let before = member.turn();
+    let step = member.step();
+    let turn = member.turn();
+    if turn != before && turn <= member.last_turn() {
+        gate.at(member.port(), turn);
+    }
+    step
+}
+
+/// Steps a member until it waits, is done, or has made its steps of this round.
+fn step_member<S: Stepper, G: Gate>(member: &mut S, gate: &mut G) -> Progress
+    requires port { S.port member.old < 256 }
+    requires within { S.turn member.old ≤ S.last_turn member.old + 1 }
+    requires small { S.last_turn member.old ≤ 2 ^ 62 }
+    requires room { HasRoomFor S.Stepper.own G.Gate.own member.old gate.old }
+    ensures { IsStepped S.Stepper.own G.Gate.own member.old gate.old member.new gate.new }
+{
+    let mut progress = Progress::Waits;
+    'steps: for _ in 0..STEPS_A_ROUND {
+        match step_once(member, gate) {
+            Step::Moved => progress = Progress::Moved,
+            Step::NotYet => return progress,
+            Step::Done if progress == Progress::Moved => return progress,
+            Step::Done => return Progress::Done,
+        }
+    }
+    progress
+}
+
+/// Steps each member.
+fn run_round<S: Stepper, G: Gate>(members: &mut [S], gate: &mut G) -> Progress
+    requires { CanStep S.Stepper.own G.Gate.own members.old gate.old }
+    ensures { AreStepped S.Stepper.own G.Gate.own members.old gate.old members.new gate.new }
+{
+    let mut progress = Progress::Done;
+    'members: for k in 0..members.len() {
+        match step_member(&mut members[k], gate) {
+            Progress::Moved => progress = Progress::Moved,
+            Progress::Waits if progress == Progress::Done => progress = Progress::Waits,
+            Progress::Waits | Progress::Done => (),
+        }
+    }
+    progress
+}
+
+/// Waits for a moment after so many rounds in a row without a move.
+fn pause(backoff: &Backoff, idle: u32) {
+    backoff.spin();
+    if idle > SPIN_ROUNDS {
+        yield_now();
+    }
+}
+
+/// Steps the members round after round until all are done, or none has moved for a while.
+fn run_rounds<R: Wait, S: Stepper, G: Gate>(rt: &R, members: &mut [S], gate: &mut G)
+    requires { CanStep S.Stepper.own G.Gate.own members.old gate.old }
+    ensures { AreStepped S.Stepper.own G.Gate.own members.old gate.old members.new gate.new }
+{
+    let backoff = Backoff::new();
+    let mut idle = 0;
+    'rounds: for _ in rt.forever() {
+        match run_round(members, gate) {
+            Progress::Moved => {
+                idle = 0;
+                backoff.reset();
+            }
+            Progress::Waits => {
+                idle += 1;
+                if idle >= IDLE_ROUNDS {
+                    return;
+                }
+                pause(&backoff, idle);
+            }
+            Progress::Done => return,
+        }
+    }
+    unreachable!()
+}
+
+/// A worker's first phase.
+pub fn begin<R: Wait, S: Stepper, G: Gate>(rt: &R, worker: &mut Worker<S, G>)
+    requires { CanRun S.Stepper.own G.Gate.own worker.old }
+    ensures { HasBegun S.Stepper.own G.Gate.own worker.old worker.new }
+{
+    let Some(mut gate) = worker.gate.take() else {
+        return;
+    };
+    tell_turns(worker.members.as_slice(), &mut gate);
+    run_rounds(rt, worker.members.as_mut_slice(), &mut gate);
+    worker.gate = Some(gate);
+}
+
+/// A later phase of a worker.
+pub fn resume<R: Wait, S: Stepper, G: Gate>(rt: &R, worker: &mut Worker<S, G>)
+    requires { CanResume S.Stepper.own G.Gate.own worker.old }
+    ensures { IsResumed S.Stepper.own G.Gate.own worker.old worker.new }
+{
+    let Some(mut gate) = worker.gate.take() else {
+        return;
+    };
+    run_rounds(rt, worker.members.as_mut_slice(), &mut gate);
+    worker.gate = Some(gate);
+}
