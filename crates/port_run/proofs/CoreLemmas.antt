@@ -1,0 +1,172 @@
+-- Each step of a running port is the core's, by the number that it found.
+use Rattle.std.proofs.Common.{ap, ap₂, arith, eq-eqb, false, inl, inr, length, mod-lt, refl, subst, sym, true, ℕ, ◌%◌, ◌*◌, ◌+◌, ◌<◌, ◌∙◌, ◌≡◌, ◌≤◌}
+use Rattle.logic_four.specs.Values.{code_of}
+use Rattle.image_defs.specs.Frames.{image_value}
+use Rattle.image_defs.specs.Places.{IsPort}
+use Rattle.image_defs.specs.declared.image.PortImage.{PortImage}
+use Rattle.event_defs.proofs.NextLemmas.{one_next}
+use Rattle.event_defs.proofs.PaceLemmas.{same_port}
+use Rattle.event_defs.proofs.SlotLemmas.{updated_here}
+use Rattle.event_defs.specs.Next.{AsksNext, IsNext, PutsNext, ReceivesNext, TellsNext}
+use Rattle.event_defs.specs.Places.{after_ask, after_put, after_take, after_tell}
+use Rattle.event_defs.specs.Steps.{AskWaits as CoreAskWaits, CoreState, Moves, Reads, TakeWaits as CoreTakeWaits, Waits, stamp_of, updated, written}
+use Rattle.event_defs.specs.declared.place.Action.{Action}
+use Rattle.event_defs.specs.declared.place.Action.TheVariants as action
+use Rattle.event_defs.specs.declared.place.Event.{Event}
+use Rattle.event_defs.specs.declared.place.Event.TheVariants.{Ask, Put, Take, Tell}
+use Rattle.event_defs.specs.declared.place.Place.{Place}
+use Rattle.event_defs.specs.declared.place.CoreStep.TheVariants.{Moved, NotYet, Done}
+use Rattle.slot_words.proofs.LinkLemmas.{member_at}
+use Rattle.port_run.proofs.NextLemmas.{asked_again, asked_in}
+use Rattle.slot_words.specs.Layout.{progress_word}
+use Rattle.slot_words.specs.Passes.{IsFit, PassView, one_step}
+use Rattle.slot_words.specs.declared.rule.Look.{Look}
+use Rattle.port_run.specs.Core.{IsCoreEvent, IsCoreStep, Shows, StandsIn, is_look}
+use Rattle.port_run.specs.Pairs.{IsDone, until}
+use Rattle.port_run.specs.Steps.{AskWaits, HasAsked, HasTaken, IsEvent, IsWait, Looks, Makes, Puts, TakeWaits, Tells, value_there, word_now}
+
+module _ (old : PassView) (fit : IsFit old) (state : CoreState) (stands : StandsIn old state) where
+  here : (P : Place → Type 0) → P old.place → P (state.place old.port)
+  here P it = subst P (sym stands) it
+
+  -- where the port stands after an event that makes this place
+  placed : (f : Place → Place) (new : PassView) (after : CoreState) → after.place ≡ updated state.place old.port (f (state.place old.port)) → new.place ≡ f old.place → StandsIn (record old { place = new.place }) after
+  placed f new after after_is new_is = ap (λ g. g old.port) after_is ∙ (updated_here state.place old.port (f (state.place old.port)) ∙ (ap f stands ∙ sym new_is))
+
+  module _ (seat : PortImage) (is : IsPort old.image old.port seat) (early : old.place.turn ≤ until old) (new : PassView) where
+    event_by : (e : Event) (after : CoreState) → Moves old.image old.banks old.port seat state old.stimulus e after → StandsIn new after → IsCoreEvent old e new state
+    event_by e after moves stands_there = record { after = after; step = record { seat = seat; is = is; step = (here (λ a. a.turn ≤ until old) early, moves) }; stands = stands_there }
+
+    same_port_stands : new.port ≡ old.port → (after : CoreState) → StandsIn (record old { place = new.place }) after → StandsIn new after
+    same_port_stands port_is after at = ap after.place port_is ∙ at
+
+    -- what the state has in the word that was looked at
+    finished_is : (reader : ℕ) → AsksNext seat old.place old.banks reader → new.last.word ≡ progress_word reader → Shows old state new.last → state.finished reader ≡ new.last.number
+    finished_is reader next word shows = shows.progress reader (asked_in old fit seat is old.place old.banks reader next) word
+
+    word_is : (slot : ℕ) (place : Place) (looks : Looks seat old new slot place) → Shows old state new.last → state.word looks.next.link.sender looks.i ((state.place old.port).turn % old.banks) ≡ new.last.number
+    word_is slot place looks shows =
+        ap (λ (a : Place). state.word looks.next.link.sender looks.i (a.turn % old.banks)) stands
+        ∙ shows.sent looks.next.link.sender looks.i (old.place.turn % old.banks) looks.source.sent looks.source.send (mod-lt old.place.turn fit.runs.some) (ap (λ (x : PassView). x.last.word) looks.is)
+
+    reads : (slot : ℕ) (place : Place) (looks : Looks seat old new slot place) → Reads old.image old.banks old.port seat state slot (state.word looks.next.link.sender looks.i ((state.place old.port).turn % old.banks))
+    reads slot place looks = record {
+      j = looks.next.j;
+      link = looks.next.link;
+      slot_is = looks.next.slot_is;
+      receives = here (λ a. ReceivesNext seat a.puts a.takes looks.next.j looks.next.link) looks.next.receives;
+      i = looks.i;
+      sent = looks.source.sent;
+      send = looks.source.send;
+      same_slot = looks.source.same_slot ∙ looks.next.slot_is;
+      word = refl;
+    }
+
+    asks_event : (reader : ℕ) → HasAsked seat old new reader → Shows old state new.last → IsCoreEvent old (Ask reader) new state
+    asks_event reader has shows =
+        let found = finished_is reader has.asks.next (ap (λ (x : PassView). x.last.word) has.asks.is) shows in
+        let after : CoreState = record state { place = updated state.place old.port (after_ask (state.place old.port) reader (state.finished reader)) } in
+        event_by (Ask reader) after (record {
+          next = here (λ a. AsksNext seat a old.banks reader) has.asks.next;
+          moves = here (λ a. a.turn ≤ state.finished reader + old.banks) (subst (λ n. old.place.turn ≤ n + old.banks) (sym found) has.enough);
+          is = refl;
+        }) (same_port_stands (ap (λ (x : PassView). x.port) has.asks.is) after
+        (placed (λ a. after_ask a reader (state.finished reader)) new after refl (ap (λ (x : PassView). x.place) has.asks.is ∙ ap (λ n. after_ask old.place reader n) (sym found))))
+
+    puts_event : (slot : ℕ) → Puts seat old new slot → IsCoreEvent old (Put slot) new state
+    puts_event slot puts =
+        let next = here (λ a. PutsNext seat a old.banks slot) puts.next in
+        let after : CoreState = record state {
+          place = updated state.place old.port (after_put (state.place old.port) slot);
+          word = written state.word old.port next.i ((state.place old.port).turn % old.banks) (4 * (state.place old.port).turn + code_of (image_value old.image old.stimulus (state.place old.port).turn old.port slot));
+        } in
+        event_by (Put slot) after (record { next = next; is = refl }) (same_port_stands (ap (λ (x : PassView). x.port) puts.is) after (placed (λ a. after_put a slot) new after refl (ap (λ (x : PassView). x.place) puts.is)))
+
+    takes_event : (slot : ℕ) → HasTaken seat old new slot → Shows old state new.last → IsCoreEvent old (Take slot) new state
+    takes_event slot has shows =
+        let found = word_is slot (after_take old.place slot) has.looks shows in
+        let after : CoreState = record state { place = updated state.place old.port (after_take (state.place old.port) slot) } in
+        event_by (Take slot) after (record {
+          x = state.word has.looks.next.link.sender has.looks.i ((state.place old.port).turn % old.banks);
+          reads = reads slot (after_take old.place slot) has.looks;
+          moves = ap stamp_of found ∙ (has.now ∙ sym (ap (λ (a : Place). a.turn) stands));
+          is = refl;
+        }) (same_port_stands (ap (λ (x : PassView). x.port) has.looks.is) after (placed (λ a. after_take a slot) new after refl (ap (λ (x : PassView). x.place) has.looks.is)))
+
+    tells_event : Tells seat old new → IsCoreEvent old Tell new state
+    tells_event tells =
+        let after : CoreState = record state { place = updated state.place old.port (after_tell (state.place old.port)); finished = updated state.finished old.port (state.place old.port).turn } in
+        event_by Tell after (record { next = here (λ a. TellsNext seat a) tells.next; is = refl }) (same_port_stands (ap (λ (x : PassView). x.port) tells.is) after (placed after_tell new after refl (ap (λ (x : PassView). x.place) tells.is)))
+
+    made_event : (e : Event) → Makes seat old new e → (is_look e ≡ true → Shows old state new.last) → IsCoreEvent old e new state
+    made_event (Ask reader) makes shows = asks_event reader makes (shows refl)
+    made_event (Put slot) makes shows = puts_event slot makes
+    made_event (Take slot) makes shows = takes_event slot makes (shows refl)
+    made_event Tell makes shows = tells_event makes
+
+    ask_waits : AskWaits seat old new → Shows old state new.last → Waits old.image old.banks old.port seat state
+    ask_waits waits shows =
+        let found = finished_is waits.reader waits.asks.next (ap (λ (x : PassView). x.last.word) waits.asks.is) shows in
+        inl (
+          waits.reader,
+          record {
+            next = here (λ a. AsksNext seat a old.banks waits.reader) waits.asks.next;
+            less = here (λ a. state.finished waits.reader + old.banks < a.turn) (subst (λ n. n + old.banks < old.place.turn) (sym found) waits.less);
+          },
+        )
+
+    take_waits : TakeWaits seat old new → Shows old state new.last → Waits old.image old.banks old.port seat state
+    take_waits waits shows =
+        let found = word_is waits.slot old.place waits.looks shows in
+        inr (
+          waits.slot,
+          record {
+            x = state.word waits.looks.next.link.sender waits.looks.i ((state.place old.port).turn % old.banks);
+            reads = reads waits.slot old.place waits.looks;
+            less = here (λ a. stamp_of (state.word waits.looks.next.link.sender waits.looks.i ((state.place old.port).turn % old.banks)) < a.turn) (subst (λ n. stamp_of n < old.place.turn) (sym found) waits.less);
+          },
+        )
+
+pub core_event : (old new : PassView) (e : Event) (state : CoreState) → IsFit old → IsEvent old e new → StandsIn old state → (is_look e ≡ true → Shows old state new.last) → IsCoreEvent old e new state
+core_event old new e state fit made stands shows = made_event old fit state stands made.seat made.is made.early new e made.makes shows
+
+pub core_wait : (old new : PassView) (state : CoreState) → IsFit old → IsWait old new → StandsIn old state → Shows old state new.last → IsCoreStep old state NotYet state
+core_wait old new state fit wait stands shows = record {
+  seat = wait.seat;
+  is = wait.is;
+  step = (
+    here old fit state stands (λ a. a.turn ≤ until old) wait.early,
+    elim wait.waits [
+      | inl ask ↦ ask_waits old fit state stands wait.seat wait.is wait.early new ask shows
+      | inr take ↦ take_waits old fit state stands wait.seat wait.is wait.early new take shows
+    ],
+    refl,
+  );
+}
+
+pub core_done : (pass : PassView) (state : CoreState) → IsFit pass → IsDone pass → StandsIn pass state → IsCoreStep pass state Done state
+core_done pass state fit done stands =
+    let seat = member_at pass.image.ports pass.port fit.inside in
+    record { seat = seat.0; is = seat.1; step = (here pass fit state stands (λ a. a.turn ≡ until pass + 1) done, refl) }
+
+-- ---- the next event after one that has to wait
+
+module _ (old new : PassView) (seat : PortImage) (fit : IsFit old) (is : IsPort old.image old.port seat) (early : old.place.turn ≤ until old) where
+  abbrev Next : PassView → Action → Type 0
+  Next pass a = IsNext seat pass.place pass.banks (until pass) (value_there pass) a
+
+  ask_keeps : (a : Action) → AskWaits seat old new → Next old a → Next new a
+  ask_keeps a waits next =
+      let same : action.Ask waits.reader ≡ a = one_next old.image fit.runs.image_fits old.port seat is old.place old.banks (until old) (value_there old) (action.Ask waits.reader) a (early, waits.asks.next) next in
+      subst (Next new) same (subst (λ x. Next x (action.Ask waits.reader)) (sym waits.asks.is) (early, asked_again old fit seat is waits.reader new.last.number waits.asks.next waits.less))
+
+  take_keeps : (a : Action) → TakeWaits seat old new → Next old a → Next new a
+  take_keeps a waits next =
+      let same : action.Take waits.slot ≡ a = one_next old.image fit.runs.image_fits old.port seat is old.place old.banks (until old) (value_there old) (action.Take waits.slot) a (early, waits.looks.next) next in
+      subst (Next new) same (subst (λ x. Next x (action.Take waits.slot)) (sym waits.looks.is) (early, waits.looks.next))
+
+pub wait_keeps : (old new : PassView) (seat : PortImage) (a : Action) → IsFit old → IsWait old new → IsPort old.image old.port seat → IsNext seat old.place old.banks (until old) (value_there old) a → IsNext seat new.place new.banks (until new) (value_there new) a
+wait_keeps old new seat a fit wait is next = elim wait.waits [
+  | inl ask ↦ ask_keeps old new seat fit is wait.early a (subst (λ s. AskWaits s old new) (same_port old.image old.port wait.seat seat wait.is is) ask) next
+  | inr take ↦ take_keeps old new seat fit is wait.early a (subst (λ s. TakeWaits s old new) (same_port old.image old.port wait.seat seat wait.is is) take) next
+]

@@ -1,0 +1,5 @@
+pub mod CoreLemmas
+pub mod ExampleLemmas
+pub mod NextLemmas
+pub mod RunLemmas
+pub mod StepLemmas

@@ -1,0 +1,43 @@
+-- Steps of a running port as steps of a core.
+use Rattle.std.specs.Prelude.{Bool, false, true, length, ℕ, ◌+◌, ◌<◌, ◌≡◌}
+use Rattle.image_defs.specs.Places.{IsPort}
+use Rattle.image_defs.specs.declared.image.LinkOut.{LinkOut}
+use Rattle.image_defs.specs.declared.image.PortImage.{PortImage}
+use Rattle.event_defs.specs.Places.{IsSend}
+use Rattle.event_defs.specs.Steps.{CoreState, IsStep}
+use Rattle.event_defs.specs.declared.place.CoreStep.{CoreStep}
+use Rattle.event_defs.specs.declared.place.CoreStep.TheVariants.{Moved}
+use Rattle.event_defs.specs.declared.place.Event.{Event}
+use Rattle.event_defs.specs.declared.place.Event.TheVariants.{Ask, Put, Take, Tell}
+use Rattle.slot_words.specs.Layout.{progress_word, send_word}
+use Rattle.slot_words.specs.Passes.{PassView}
+use Rattle.slot_words.specs.declared.rule.Look.{Look}
+use Rattle.port_run.specs.Pairs.{until}
+
+-- in this state of a core the word of the look has the number that the look found
+pub record Shows (pass : PassView) (state : CoreState) (look : Look) : Type 0 where
+  pub progress : (r : ℕ) → r < length pass.image.ports → look.word ≡ progress_word r → state.finished r ≡ look.number
+  pub sent : (p i b : ℕ) (link : LinkOut) → IsSend pass.image p i link → b < pass.banks → look.word ≡ send_word pass.image pass.banks p i b → state.word p i b ≡ look.number
+
+-- the event looks at a word, and writes none
+abbrev pub is_look : Event → Bool
+is_look (Ask reader) = true
+is_look (Put slot) = false
+is_look (Take slot) = true
+is_look Tell = false
+
+-- the port of the pass stands in this state where the pass does
+abbrev pub StandsIn : PassView → CoreState → Type 0
+StandsIn pass state = state.place pass.port ≡ pass.place
+
+-- this is the core's step of the pass's port
+pub record IsCoreStep (pass : PassView) (state : CoreState) (answer : CoreStep) (after : CoreState) : Type 0 where
+  pub seat : PortImage
+  pub is : IsPort pass.image pass.port seat
+  pub step : IsStep pass.image pass.stimulus pass.banks (until pass) pass.port seat state answer after
+
+-- the core makes the same event, and its port stands afterwards where the pass does
+pub record IsCoreEvent (old : PassView) (event : Event) (new : PassView) (state : CoreState) : Type 0 where
+  pub after : CoreState
+  pub step : IsCoreStep old state (Moved event) after
+  pub stands : StandsIn new after

@@ -1,0 +1,5 @@
+pub mod Core
+pub mod Kept
+pub mod Pairs
+pub mod Same
+pub mod Steps

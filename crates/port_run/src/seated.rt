@@ -1,0 +1,58 @@
+//! A running port beside its crossbar.
+
+ghost use Rattle.slot_words.specs.Passes.{IsOf};
+
+use crate::running::Running;
+use crew_run::{Step, Stepper};
+use slot_words::Crossbar;
+
+/// A running port with the crossbar that gave its pass: a member of a crew. Its turns are those of the
+/// image, its steps those of the pass, and its events the core's.
+#[derive(Drop)]
+pub struct Seated<'a> {
+    pub bar: &'a Crossbar,
+    pub run: Running<'a>,
+    ghost own: { IsOf bar.now run },
+}
+
+impl<'a> Stepper for Seated<'a> {
+    ghost use Rattle.std.specs.Prelude.{refl};
+    ghost use Rattle.std.proofs.Common.{◌∙◌};
+    ghost use Rattle.port_run.specs.Pairs.{until};
+    ghost use Rattle.port_run.specs.Same.{IsSame, Takes};
+    ghost use Rattle.port_run.specs.Steps.{IsShort};
+
+    ghost same = { λ a b. IsSame a.bar.now a.run b.bar.now b.run };
+
+    ghost port = { λ a. a.run.port };
+
+    ghost turn = { λ a. a.run.place.turn };
+
+    ghost last_turn = { λ a. until a.run };
+
+    ghost steps = { λ a. a.run.steps };
+
+    ghost short = { λ a. IsShort a.run };
+
+    ghost takes = { λ a tells b. Takes a.run tells b.run };
+
+    fn port(&self) -> u32 {
+        self.run.port()
+    }
+
+    fn turn(&self) -> u64 {
+        self.run.turn()
+    }
+
+    fn last_turn(&self) -> u64 {
+        self.run.until()
+    }
+
+    fn step(&mut self) -> Step {
+        self.run.step(self.bar)
+    }
+
+    ghost reflexive = { λ a. record { bar = refl; port = refl; image = refl; stimulus = refl; last_turn = refl } };
+
+    ghost transitive = { λ a b c x y. record { bar = y.bar ∙ x.bar; port = y.port ∙ x.port; image = y.image ∙ x.image; stimulus = y.stimulus ∙ x.stimulus; last_turn = y.last_turn ∙ x.last_turn } };
+}
