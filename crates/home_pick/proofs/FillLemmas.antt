@@ -20,7 +20,7 @@ use Rattle.home_pick.specs.Rooms.{LacksBits, IsMostLeft, AreFilled}
 
 -- ---- the bits of one memory more
 
-range_more : (a n : ℕ) → range_with_len a (n + 1) ≡ range_with_len a n ++ (a + n) ∷ []
+pub range_more : (a n : ℕ) → range_with_len a (n + 1) ≡ range_with_len a n ++ (a + n) ∷ []
 range_more a zero = ap (λ k. k ∷ []) (let same : a ≡ a + 0 = omega arith in same)
 range_more a (suc n) =
     let long : suc n + 1 ≡ suc (suc n) = omega arith in
@@ -29,10 +29,10 @@ range_more a (suc n) =
     ap (range_with_len a) long ∙ ap (λ xs. a ∷ xs) (ap (range_with_len (a + 1)) short ∙ (range_more (a + 1) n ∙ ap (λ k. range_with_len (a + 1) n ++ k ∷ []) last))
 
 -- the bits of memory k where it is at the port
-abbrev bits_at : NodeNet → List ℕ → ℕ → ℕ → ℕ
+abbrev pub bits_at : NodeNet → List ℕ → ℕ → ℕ → ℕ
 bits_at nodes ports port k = if get_or ports k 0 == port then bits_of nodes k else 0
 
-bits_more : (nodes : NodeNet) (ports : List ℕ) (m port : ℕ) → bits_before nodes ports (m + 1) port ≡ bits_before nodes ports m port + bits_at nodes ports port m
+pub bits_more : (nodes : NodeNet) (ports : List ℕ) (m port : ℕ) → bits_before nodes ports (m + 1) port ≡ bits_before nodes ports m port + bits_at nodes ports port m
 bits_more nodes ports m port =
     let first : 0 + m ≡ m = omega arith in
     let range : range_with_len 0 (m + 1) ≡ range_with_len 0 m ++ m ∷ [] = range_more 0 m ∙ ap (λ k. range_with_len 0 m ++ k ∷ []) first in
@@ -49,10 +49,10 @@ bits_same nodes xs ys (suc m) port same =
     let other = bits_more nodes ys m port in
     subst (λ n. bits_before nodes xs n port ≡ bits_before nodes ys n port) (sym more) (one ∙ (ap (λ n. n + bits_at nodes xs port m) before ∙ (ap (λ n. bits_before nodes ys m port + n) last ∙ sym other)))
 
-at_same : (p q n : ℕ) → p ≡ q → (if p == q then n else 0) ≡ n
+pub at_same : (p q n : ℕ) → p ≡ q → (if p == q then n else 0) ≡ n
 at_same p q n same = ap (λ b. if b then n else 0) (eq-eqb p q same)
 
-at_other : (p q n : ℕ) → (p ≡ q → ⊥) → (if p == q then n else 0) ≡ 0
+pub at_other : (p q n : ℕ) → (p ≡ q → ⊥) → (if p == q then n else 0) ≡ 0
 at_other p q n other = elim (cases_Bool (p == q)) [ inl is ↦ absurd (other (eqb-true p q is)) | inr is ↦ ap (λ b. if b then n else 0) is ]
 
 -- ---- one memory more

@@ -31,8 +31,8 @@ pub(crate) fn empty(alloc: Global, nodes: &NodeNet, machine: &Machine) -> Result
     })
 }
 
-/// The bits of a memory.
-pub(crate) fn block_bits(block: &NodeBlock) -> u32
+/// The bits of a memory: 2^m words of n bits for m address and n data bits.
+pub fn block_bits(block: &NodeBlock) -> u32
     requires address { length block.now.address ≤ 16 }
     requires word { length block.now.word ≤ 64 }
     ensures { result ≡ 2 ^ length block.now.address * length block.now.word }

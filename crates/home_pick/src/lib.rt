@@ -6,4 +6,5 @@ mod blocks;
 pub mod law;
 pub mod pick;
 
+pub use blocks::block_bits;
 pub use pick::{HomeNo, homes};

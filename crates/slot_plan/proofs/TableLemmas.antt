@@ -1,7 +1,8 @@
 -- Tables that are marked one node after another, and counted.
-use Rattle.std.proofs.Common.{◌≡◌, ◌∙◌, ◌⊎◌, ◌↔◌, inl, inr, ℕ, ◌+◌, ◌*◌, ◌<◌, ◌≤◌, Bool, true, false, if◌then◌else◌, IsTrue, [], ◌∷◌, ◌++◌, length, refl, sym, ap, subst, arith, Some, slice_get}
+use Rattle.std.proofs.Common.{◌≡◌, ◌∙◌, ◌⊎◌, ◌↔◌, inl, inr, ℕ, ◌+◌, ◌*◌, ◌<◌, ◌≤◌, Bool, true, false, if◌then◌else◌, IsTrue, List, [], ◌∷◌, ◌++◌, length, get_or, refl, sym, ap, subst, arith, Some, slice_get}
 use Rattle.std.proofs.lemmas.Option.{slice_get_within}
-use Rattle.std.proofs.lemmas.List.{length-append}
+use Rattle.std.proofs.lemmas.List.{length-append, get_or_append_left}
+use Rattle.std.proofs.Math.Seq.{get_or-append_seam}
 use Rattle.bit_rows.specs.declared.BitRows.{BitRows}
 use Rattle.bit_rows.specs.Bits.{HasBit, IsShaped, Adds}
 use Rattle.bit_rows.proofs.AddLemmas.{adds_both, adds_same}
@@ -15,7 +16,7 @@ use Rattle.plan_defs.specs.Homes.{AreHomes, home_of}
 use Rattle.plan_defs.specs.Tables.{UsesTable, UsesTables}
 use Rattle.plan_defs.specs.UserRows.{HasPlace}
 use Rattle.plan_defs.proofs.ListLemmas.{last_or, listed_none, listed_more, listed_not}
-use Rattle.slot_plan.specs.UsedTables.{HasTable, CountsBelow, AreUsed}
+use Rattle.slot_plan.specs.UsedTables.{HasTable, CountsBelow, AreUsed, AreTableCounts}
 use Rattle.slot_plan.proofs.BoardLemmas.{row_room}
 
 abbrev pub UsesTableBelow : NodeNet → Homes → ℕ → ℕ → ℕ → Type 0
@@ -113,3 +114,23 @@ uses_are nodes homes rows port count formed used counts = record {
   };
   are = counts.are;
 }
+
+-- ---- the counts of one port after another
+
+pub counts_none : (nodes : NodeNet) (homes : Homes) → AreTableCounts nodes homes 0 []
+counts_none nodes homes = record { length_is = refl; uses = λ port low. absurd (omega (arith, low)); most = λ port low. absurd (omega (arith, low)) }
+
+pub counts_more : (nodes : NodeNet) (homes : Homes) (n count : ℕ) (counts : List ℕ) → AreTableCounts nodes homes n counts → UsesTables nodes homes n count → count ≤ length nodes.tables → AreTableCounts nodes homes (n + 1) (counts ++ count ∷ [])
+counts_more nodes homes n count counts before uses few = record {
+  length_is = let long = length-append counts (count ∷ []) in let is = before.length_is in omega (arith, long, is);
+  uses = λ port low. elim (last_or port n low) [
+    | inl below ↦ rw (old port below) (before.uses port below)
+    | inr same ↦ rw (new port same) (subst (λ p. UsesTables nodes homes p count) (sym same) uses)
+  ];
+  most = λ port low. elim (last_or port n low) [ inl below ↦ rw (old port below) (before.most port below) | inr same ↦ rw (new port same) few ];
+} where
+  old : (port : ℕ) → port < n → get_or (counts ++ count ∷ []) port 0 ≡ get_or counts port 0
+  old port below = let is = before.length_is in get_or_append_left counts (count ∷ []) 0 port (omega (arith, below, is))
+
+  new : (port : ℕ) → port ≡ n → get_or (counts ++ count ∷ []) port 0 ≡ count
+  new port same = ap (λ k. get_or (counts ++ count ∷ []) k 0) (same ∙ sym before.length_is) ∙ get_or-append_seam counts count [] 0

@@ -1,5 +1,5 @@
 -- The tables that the nodes of each port use, as rows of bits.
-use Rattle.std.specs.Prelude.{◌≡◌, ◌↔◌, ℕ, ◌+◌, ◌*◌, ◌<◌, ◌≤◌, List, length}
+use Rattle.std.specs.Prelude.{◌≡◌, ◌↔◌, ℕ, ◌+◌, ◌*◌, ◌<◌, ◌≤◌, List, length, slice_index}
 use Rattle.bit_rows.specs.declared.BitRows.{BitRows}
 use Rattle.bit_rows.specs.Bits.{HasBit}
 use Rattle.machine_text.specs.declared.machine.Machine.{Machine}
@@ -28,6 +28,13 @@ pub record CountsBelow (P : ℕ → Type 0) (end count : ℕ) : Type 0 where
 pub record AreUsed (nodes : NodeNet) (homes : Homes) (rows : BitRows) : Type 0 where
   pub room : (port : ℕ) → port < homes.logic → port * rows.stride + rows.stride ≤ length rows.words
   pub exact : (port table : ℕ) → HasBit rows port table ↔ UsesTable nodes homes port table
+
+-- the numbers of different tables that the nodes of the first so many ports use
+pub record AreTableCounts (nodes : NodeNet) (homes : Homes) (ports : ℕ) (counts : List ℕ) : Type 0 where
+  pub length_is : length counts ≡ ports
+  pub uses : (port : ℕ) → port < ports → UsesTables nodes homes port (slice_index counts port)
+  -- there are no more tables than that
+  pub most : (port : ℕ) → port < ports → slice_index counts port ≤ length nodes.tables
 
 -- the first port that uses more tables than it may
 pub record IsFirstCrowded (nodes : NodeNet) (homes : Homes) (machine : Machine) (found : Crowded) : Type 0 where

@@ -10,7 +10,7 @@ ghost use Rattle.slot_plan.specs.Refusals.{IsRight};
 ghost use Rattle.slot_plan.specs.declared.fit.PlanNo.TheVariants as no;
 
 use crate::planning::slots;
-use crate::tables::{first_crowded, table_limit, used};
+use crate::tables::{first_crowded, table_counts, table_limit};
 use machine_text::Machine;
 use node_defs::NodeNet;
 use plan_defs::{Homes, Plan};
@@ -72,8 +72,8 @@ pub fn first_fit(
             limit,
         });
     }
-    let rows = used(alloc, nodes, homes)?;
-    match first_crowded(&rows, nodes, homes, machine) {
+    let counts = table_counts(alloc, nodes, homes)?;
+    match first_crowded(counts.as_slice(), nodes, homes, machine) {
         None => Ok(plan),
         Some(crowded) => Err(PlanNo::Functions {
             port: crowded.port,

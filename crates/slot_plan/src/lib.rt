@@ -6,7 +6,7 @@ mod board;
 mod early;
 pub mod fit;
 mod planning;
-mod tables;
+pub mod tables;
 #[cfg(test)]
 mod tests;
 

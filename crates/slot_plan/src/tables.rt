@@ -7,13 +7,13 @@ ghost use Rattle.plan_defs.specs.Homes.{AreHomes};
 ghost use Rattle.plan_defs.specs.Tables.{UsesTable, FitsTables};
 ghost use Rattle.plan_defs.specs.Tables.{table_limit as limit_of};
 ghost use Rattle.plan_defs.specs.UserRows.{HasPlace};
-ghost use Rattle.slot_plan.specs.UsedTables.{HasTable, AreUsed, CountsBelow, IsFirstCrowded};
+ghost use Rattle.slot_plan.specs.UsedTables.{HasTable, AreUsed, AreTableCounts, CountsBelow, IsFirstCrowded};
 
 use bit_rows::BitRows;
 use machine_text::Machine;
 use node_defs::{Item, NodeNet};
 use plan_defs::Homes;
-use seen_list::Memory;
+use seen_list::{List, Memory};
 use std::alloc::Global;
 
 /// A port and the number of different tables that its nodes use.
@@ -23,8 +23,23 @@ pub(crate) struct Crowded {
     pub(crate) needed: u32,
 }
 
+/// How many different tables the nodes of each logic port use, in port order. It is one pass over the
+/// items, and a bit for each table at each logic port.
+pub fn table_counts(alloc: Global, nodes: &NodeNet, homes: &Homes) -> Result<List<u32>, Memory>
+    requires nodes { IsWellFormed nodes.now }
+    requires homes { AreHomes nodes.now homes.now }
+    ensures { IfOk result (AreTableCounts nodes.now homes.now homes.now.logic) }
+{
+    let rows = used(alloc, nodes, homes)?;
+    let mut counts = List::new(alloc);
+    'ports: for port in 0..homes.logic {
+        counts.push(count(&rows, port as usize, nodes.tables.len()))?;
+    }
+    Ok(counts)
+}
+
 /// A row for each logic port: the tables that its nodes use.
-pub(crate) fn used(alloc: Global, nodes: &NodeNet, homes: &Homes) -> Result<BitRows, Memory>
+fn used(alloc: Global, nodes: &NodeNet, homes: &Homes) -> Result<BitRows, Memory>
     requires nodes { IsWellFormed nodes.now }
     requires homes { AreHomes nodes.now homes.now }
     ensures { IfOk result (AreUsed nodes.now homes.now) }
@@ -89,21 +104,19 @@ pub(crate) fn table_limit(machine: &Machine, _port: u32) -> u32
     machine.functions
 }
 
-/// The first port whose nodes use more tables than it may.
+/// The first port whose nodes use more tables than it may, by the number of tables of each port.
 pub(crate) fn first_crowded(
-    rows: &BitRows,
+    counts: &[u32],
     nodes: &NodeNet,
     homes: &Homes,
     machine: &Machine,
 ) -> Option<Crowded>
-    requires nodes { IsWellFormed nodes.now }
-    requires used { AreUsed nodes.now homes.now rows.now }
+    requires { AreTableCounts nodes.now homes.now homes.now.logic counts.now }
     ensures none { IsNone result → (port : ℕ) → port < homes.now.logic → FitsTables nodes.now homes.now machine.now port }
     ensures some { IfSome result (IsFirstCrowded nodes.now homes.now machine.now) }
 {
-    let tables = nodes.tables.len();
     'ports: for port in 0..homes.logic {
-        let needed = count(rows, port as usize, tables);
+        let needed = counts[port as usize];
         if needed > table_limit(machine, port) {
             return Some(Crowded { port, needed });
         }

@@ -88,7 +88,7 @@ module _ {T : Type 0} (slot : T → ℕ) where
 
 -- ---- numbers with a property
 
-one_lists : (P : ℕ → Type 0) (xs ys : List ℕ) → Lists P xs → Lists P ys → xs ≡ ys
+pub one_lists : (P : ℕ → Type 0) (xs ys : List ℕ) → Lists P xs → Lists P ys → xs ≡ ys
 one_lists P xs ys one other = same_members (λ n. n) xs ys (AllPairs-from_increasing xs one.rising) (AllPairs-from_increasing ys other.rising)
     (λ n h. (other.exact n).1 ((one.exact n).0 h)) (λ n h. (one.exact n).1 ((other.exact n).0 h))
 

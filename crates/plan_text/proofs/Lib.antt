@@ -1,0 +1,2 @@
+pub mod FigureLemmas
+pub mod OneLemmas

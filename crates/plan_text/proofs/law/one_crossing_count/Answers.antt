@@ -1,0 +1,5 @@
+use Rattle.plan_text.proofs.OneLemmas.{crossings_agree}
+use Rattle.plan_text.proofs.law.one_crossing_count.Goals as goal
+
+pub returns : goal.returns
+returns c = crossings_agree
