@@ -3,8 +3,8 @@ use Rattle.std.proofs.Common.{◌≡◌, List, [], ◌∷◌, Option, Some, sym,
 use Rattle.std.specs.Prelude.{option_and_then}
 use Rattle.clap.specs.declared.parser.matches.ArgMatches.{ArgMatches}
 use Rattle.cmd_words.specs.Arguments.{Word, value_given}
-use Rattle.cmd_words.specs.Asked.{Values, of_two_files, run_by, says}
-use Rattle.cmd_words.specs.Parses.{arguments_found, both_of, value_found, IsParsedAs}
+use Rattle.cmd_words.specs.Asked.{Values, of_plan, of_two_files, run_by, says}
+use Rattle.cmd_words.specs.Parses.{arguments_found, both_of, one_of, value_found, IsParsedAs}
 use Rattle.cmd_words.specs.Uses.{Found}
 use Rattle.cmd_words.proofs.TestLemmas.{same_some}
 
@@ -25,3 +25,14 @@ pub says_two : (names words : List Word) (matches : ArgMatches) (netlist stimulu
     → Some (netlist, stimulus) ≡ both_of (arguments_found matches) → says names of_two_files words ≡ run_by netlist stimulus (value_found matches)
 says_two names words matches netlist stimulus is both =
     says_found names words of_two_files matches is ∙ both_are (arguments_found matches) (value_found matches) netlist stimulus (sym both)
+
+-- one word is the file of a plan
+one_is : (arguments : List Word) (value : Values) (netlist : Word) → one_of arguments ≡ Some netlist → of_plan arguments value ≡ run_by netlist [] value
+one_is (one ∷ []) value netlist e = ap (λ (file : Word). run_by file [] value) (same_some one netlist e)
+one_is [] value netlist e = cc
+one_is (one ∷ other ∷ others) value netlist e = cc
+
+pub says_plan : (names words : List Word) (matches : ArgMatches) (netlist : Word) → IsParsedAs names words matches
+    → Some netlist ≡ one_of (arguments_found matches) → says names of_plan words ≡ run_by netlist [] (value_found matches)
+says_plan names words matches netlist is one =
+    says_found names words of_plan matches is ∙ one_is (arguments_found matches) (value_found matches) netlist (sym one)

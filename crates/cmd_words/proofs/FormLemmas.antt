@@ -5,13 +5,13 @@ use Rattle.std.specs.List.{AllByRecursion, list_all}
 use Rattle.std.proofs.lemmas.Slice.Eq.{bytes_eq-Decides}
 use Rattle.net_defs.specs.declared.timing.Timing.{Timing}
 use Rattle.cmd_words.specs.declared.command.Command.{Command}
-use Rattle.cmd_words.specs.declared.command.Command.TheVariants.{Run, Refer, Order, Show}
+use Rattle.cmd_words.specs.declared.command.Command.TheVariants.{Run, Refer, Order, Plan, Show}
 use Rattle.cmd_words.specs.declared.command.RunWords.{RunWords}
 use Rattle.cmd_words.specs.declared.command.WordNo.{WordNo}
 use Rattle.cmd_words.specs.Arguments.{Word, Piece, alone, spaced, joined, options_of, IsPiece, AreArguments, value_given}
-use Rattle.cmd_words.specs.Asked.{Values, asked, of_one_file, of_two_files, run_by, run_with, says, Answers}
+use Rattle.cmd_words.specs.Asked.{Values, asked, of_one_file, of_plan, of_two_files, run_by, run_with, says, Answers}
 use Rattle.cmd_words.specs.Forms.{HasForm, HasNoForm, IsCall, IsRun}
-use Rattle.cmd_words.specs.Settings.{run_options, refer_options, order_options, show_options, timing_by, banks_by}
+use Rattle.cmd_words.specs.Settings.{run_options, refer_options, order_options, plan_options, show_options, timing_by, banks_by}
 use Rattle.cmd_words.specs.Uses.{Found, parsed}
 use Rattle.cmd_words.proofs.ArgumentLemmas.{arguments_from, parsed_from}
 use Rattle.cmd_words.proofs.LookLemmas.{is_proper}
@@ -38,11 +38,19 @@ run_says names proper name words run form =
     call_says names proper of_two_files name words (run.netlist ∷ run.stimulus ∷ []) form.given form.call
     ∙ run_is run (value_given form.given) form.machine form.order form.timing form.banks
 
+plan_says : (words : List Word) (run : RunWords) → (form : IsRun (codes "plan") plan_options words (run.netlist ∷ []) run) → run.stimulus ≡ []
+    → says plan_options of_plan form.call.others ≡ Some run
+plan_says words run form none =
+    call_says plan_options refl of_plan (codes "plan") words (run.netlist ∷ []) form.given form.call
+    ∙ ap (λ stimulus. run_by run.netlist stimulus (value_given form.given)) (sym none)
+    ∙ run_is run (value_given form.given) form.machine form.order form.timing form.banks
+
 pub asked_from : (words : List Word) (command : Command) → HasForm words command → asked words ≡ Some command
 unfolding asked
 asked_from words (Run run) form = rw (form.call.words_are) (ap (option_map Run) (run_says run_options refl (codes "run") words run form))
 asked_from words (Refer run) form = rw (form.call.words_are) (ap (option_map Refer) (run_says refer_options refl (codes "refer") words run form))
 asked_from words (Order run) form = rw (form.call.words_are) (ap (option_map Order) (run_says order_options refl (codes "order") words run form))
+asked_from words (Plan run) form = rw (form.0.call.words_are) (ap (option_map Plan) (plan_says words run form.0 form.1))
 asked_from words (Show netlist) form = rw (form.words_are) (ap (option_map Show) (call_says show_options refl of_one_file (codes "show") words (netlist ∷ []) [] form))
 
 -- ---- from what is asked to the form
@@ -121,6 +129,44 @@ run_form names name words run e =
       banks = is.banks;
     }
 
+-- two lists of two words
+both_same : (a b c d : Word) → a ∷ b ∷ [] ≡ c ∷ d ∷ [] → (a ≡ c) × (b ≡ d)
+both_same a b c d same = (cc, cc)
+
+-- the one file of a plan, which has no stimulus
+record IsPlanBy (arguments : List Word) (value : Values) (run : RunWords) : Type 0 where
+  pub arguments_are : arguments ≡ run.netlist ∷ []
+  pub none : run.stimulus ≡ []
+  pub is : IsRunBy (run.netlist ∷ run.stimulus ∷ []) value run
+
+plan_back : (arguments : List Word) (value : Values) (run : RunWords) → of_plan arguments value ≡ Some run → IsPlanBy arguments value run
+plan_back (netlist ∷ []) value run e =
+    let is = run_back netlist [] value run e in
+    let same = both_same netlist [] run.netlist run.stimulus is.arguments_are in
+    record {
+      arguments_are = ap (λ (word : Word). word ∷ []) same.0;
+      none = sym same.1;
+      is = record { arguments_are = refl; machine = is.machine; order = is.order; timing = is.timing; banks = is.banks };
+    }
+plan_back [] value run e = cc
+plan_back (one ∷ other ∷ others) value run e = cc
+
+plan_form : (words : List Word) (run : RunWords) → says plan_options of_plan words ≡ Some run
+    → IsRun (codes "plan") plan_options (codes "plan" ∷ words) (run.netlist ∷ []) run × (run.stimulus ≡ [])
+plan_form words run e =
+    let so = says_back plan_options of_plan words run e in
+    let by = plan_back so.found.arguments (value_given so.found.given) run so.answers in (
+      record {
+        given = so.found.given;
+        call = record { others = words; words_are = refl; arguments_are = rw (by.arguments_are) at so.arguments };
+        machine = by.is.machine;
+        order = by.is.order;
+        timing = by.is.timing;
+        banks = by.is.banks;
+      },
+      by.none,
+    )
+
 one_back : (arguments : List Word) (value : Values) (netlist : Word) → of_one_file arguments value ≡ Some netlist → arguments ≡ netlist ∷ []
 one_back (one ∷ []) value netlist e = let same : one ≡ netlist = cc in ap (λ word. word ∷ []) same
 one_back [] value netlist e = cc
@@ -163,7 +209,8 @@ form_from (name ∷ words) command e =
     picked name (codes "run") words Run (says run_options of_two_files words) _ command e (run_form run_options (codes "run") words) (λ e.
     picked name (codes "refer") words Refer (says refer_options of_two_files words) _ command e (run_form refer_options (codes "refer") words) (λ e.
     picked name (codes "order") words Order (says order_options of_two_files words) _ command e (run_form order_options (codes "order") words) (λ e.
-    picked name (codes "show") words Show (says show_options of_one_file words) _ command e (show_form words) (λ e. cc))))
+    picked name (codes "plan") words Plan (says plan_options of_plan words) _ command e (plan_form words) (λ e.
+    picked name (codes "show") words Show (says show_options of_one_file words) _ command e (show_form words) (λ e. cc)))))
 
 -- ---- the contract
 

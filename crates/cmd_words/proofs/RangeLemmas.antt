@@ -10,7 +10,7 @@ use Rattle.net_defs.specs.declared.timing.Mode.TheVariants.{Rank, Unit}
 use Rattle.net_defs.specs.declared.timing.Init.{Init}
 use Rattle.net_defs.specs.Valid.{IsValidTiming}
 use Rattle.cmd_words.specs.declared.command.Command.{Command}
-use Rattle.cmd_words.specs.declared.command.Command.TheVariants.{Run, Refer, Order, Show}
+use Rattle.cmd_words.specs.declared.command.Command.TheVariants.{Run, Refer, Order, Plan, Show}
 use Rattle.cmd_words.specs.declared.command.RunWords.{RunWords}
 use Rattle.cmd_words.specs.declared.command.WordNo.{WordNo}
 use Rattle.cmd_words.specs.declared.options.TheConstants.{MAX_BANKS}
@@ -75,6 +75,7 @@ pub in_range : (words : List Word) (command : Command) → HasForm words command
 in_range words (Run run) form = run_in_range _ _ words _ run form
 in_range words (Refer run) form = run_in_range _ _ words _ run form
 in_range words (Order run) form = run_in_range _ _ words _ run form
+in_range words (Plan run) form = run_in_range _ _ words _ run form.0
 in_range words (Show netlist) form = tt
 
 pub read_in_range : (words : List Word) (result : Result Command WordNo) → Answers result (asked words) → IfOk result IsInRange

@@ -1,14 +1,13 @@
 -- The command that words ask for, as a function.
-use Rattle.std.specs.Prelude.{◌≡◌, ◌⊎◌, List, [], ◌∷◌, if◌then◌else◌, Option, Some, None, option_map, option_and_then, Result, MatchResult, codes, bytes_eq}
+use Rattle.std.specs.Prelude.{◌≡◌, ◌⊎◌, ℕ, List, [], ◌∷◌, if◌then◌else◌, Option, Some, None, option_map, option_and_then, Result, MatchResult, codes, bytes_eq}
 use Rattle.net_defs.specs.declared.timing.Timing.{Timing}
-use Rattle.std.specs.Prelude.{ℕ}
 use Rattle.cmd_words.specs.declared.command.Command.{Command}
-use Rattle.cmd_words.specs.declared.command.Command.TheVariants.{Run, Refer, Order, Show}
+use Rattle.cmd_words.specs.declared.command.Command.TheVariants.{Run, Refer, Order, Plan, Show}
 use Rattle.cmd_words.specs.declared.command.RunWords.{RunWords}
 use Rattle.cmd_words.specs.declared.command.WordNo.{WordNo}
 use Rattle.cmd_words.specs.declared.command.WordNo.TheVariants.{Usage, Memory}
 use Rattle.cmd_words.specs.Arguments.{Word, value_given}
-use Rattle.cmd_words.specs.Settings.{run_options, refer_options, order_options, show_options, timing_by, banks_by}
+use Rattle.cmd_words.specs.Settings.{run_options, refer_options, order_options, plan_options, show_options, timing_by, banks_by}
 use Rattle.cmd_words.specs.Uses.{parsed}
 
 -- the value of each option that is given
@@ -35,6 +34,11 @@ abbrev pub of_two_files : List Word → Values → Option RunWords
 of_two_files (netlist ∷ stimulus ∷ []) value = run_by netlist stimulus value
 of_two_files _ value = None
 
+-- a plan, by its positional argument
+abbrev pub of_plan : List Word → Values → Option RunWords
+of_plan (netlist ∷ []) value = run_by netlist [] value
+of_plan _ value = None
+
 abbrev pub of_one_file : List Word → Values → Option Word
 of_one_file (netlist ∷ []) value = Some netlist
 of_one_file _ value = None
@@ -48,6 +52,7 @@ asked_by name words =
     if bytes_eq name (codes "run") then option_map Run (says run_options of_two_files words)
     else if bytes_eq name (codes "refer") then option_map Refer (says refer_options of_two_files words)
     else if bytes_eq name (codes "order") then option_map Order (says order_options of_two_files words)
+    else if bytes_eq name (codes "plan") then option_map Plan (says plan_options of_plan words)
     else if bytes_eq name (codes "show") then option_map Show (says show_options of_one_file words)
     else None
 

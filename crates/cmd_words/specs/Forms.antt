@@ -2,14 +2,14 @@
 use Rattle.std.specs.Prelude.{◌≡◌, ◌↔◌, ◌⊎◌, ◌≤◌, ⊤, List, [], ◌∷◌, Some, codes}
 use Rattle.net_defs.specs.Valid.{IsValidTiming}
 use Rattle.cmd_words.specs.declared.command.Command.{Command}
-use Rattle.cmd_words.specs.declared.command.Command.TheVariants.{Run, Refer, Order, Show}
+use Rattle.cmd_words.specs.declared.command.Command.TheVariants.{Run, Refer, Order, Plan, Show}
 use Rattle.cmd_words.specs.declared.command.RunWords.{RunWords}
 use Rattle.cmd_words.specs.declared.command.WordNo.{WordNo}
 use Rattle.cmd_words.specs.declared.command.WordNo.TheVariants.{Usage, Memory}
 use Rattle.cmd_words.specs.declared.options.TheConstants.{MAX_BANKS}
 use Rattle.cmd_words.specs.Arguments.{Word, AreArguments, value_given}
 use Rattle.cmd_words.specs.Asked.{asked}
-use Rattle.cmd_words.specs.Settings.{run_options, refer_options, order_options, show_options, timing_by, banks_by}
+use Rattle.cmd_words.specs.Settings.{run_options, refer_options, order_options, plan_options, show_options, timing_by, banks_by}
 
 -- the name of a command, and behind it these positional arguments and options
 pub record IsCall (name : Word) (options words arguments : List Word) (given : List (Word × Word)) : Type 0 where
@@ -31,6 +31,7 @@ abbrev pub HasForm : List Word → Command → Type 0
 HasForm words (Run run) = IsRun (codes "run") run_options words (run.netlist ∷ run.stimulus ∷ []) run
 HasForm words (Refer run) = IsRun (codes "refer") refer_options words (run.netlist ∷ run.stimulus ∷ []) run
 HasForm words (Order run) = IsRun (codes "order") order_options words (run.netlist ∷ run.stimulus ∷ []) run
+HasForm words (Plan run) = IsRun (codes "plan") plan_options words (run.netlist ∷ []) run × (run.stimulus ≡ [])
 HasForm words (Show netlist) = IsCall (codes "show") show_options words (netlist ∷ []) []
 
 -- why words are refused: memory ran out, or they are of the form of no command
@@ -49,6 +50,7 @@ abbrev pub IsInRange : Command → Type 0
 IsInRange (Run run) = IsRunInRange run
 IsInRange (Refer run) = IsRunInRange run
 IsInRange (Order run) = IsRunInRange run
+IsInRange (Plan run) = IsRunInRange run
 IsInRange (Show netlist) = ⊤
 
 -- ---- laws

@@ -21,6 +21,9 @@ refer_options = codes "mode" ∷ codes "units" ∷ codes "init" ∷ []
 abbrev pub order_options : List Word
 order_options = codes "machine" ∷ codes "mode" ∷ codes "units" ∷ codes "init" ∷ codes "order" ∷ codes "banks" ∷ []
 
+abbrev pub plan_options : List Word
+plan_options = codes "machine" ∷ codes "mode" ∷ []
+
 abbrev pub show_options : List Word
 show_options = []
 

@@ -9,7 +9,7 @@ use seen_list::{Memory, Text};
 pub struct RunWords {
     /// The file of the netlist.
     pub netlist: Text,
-    /// The file of the stimulus.
+    /// The file of the stimulus; empty for a plan.
     pub stimulus: Text,
     /// The file of the machine. `None` stands for the default machine.
     pub machine: Option<Text>,
@@ -30,6 +30,8 @@ pub enum Command {
     Refer(RunWords),
     /// The same trace, by the compiled machine under an order of its ports.
     Order(RunWords),
+    /// How a netlist is laid out on the machine. There is no file of a stimulus.
+    Plan(RunWords),
     /// The canonical text of a netlist.
     Show {
         /// The file of the netlist.

@@ -12,5 +12,8 @@ pub static REFER: [&str; 3] = ["mode", "units", "init"];
 /// The options of `order`.
 pub static ORDER: [&str; 6] = ["machine", "mode", "units", "init", "order", "banks"];
 
+/// The options of `plan`.
+pub static PLAN: [&str; 2] = ["machine", "mode"];
+
 /// The options of `show`: none.
 pub static SHOW: [&str; 0] = [];

@@ -5,13 +5,13 @@ ghost use Rattle.std.specs.String.{string_bytes};
 ghost use Rattle.cmd_words.specs.declared.command.Command.TheVariants as command;
 ghost use Rattle.cmd_words.specs.declared.command.WordNo.TheVariants.{Memory as NoMemory};
 ghost use Rattle.cmd_words.specs.Arguments.{has_name};
-ghost use Rattle.cmd_words.specs.Asked.{Answers, asked, asked_by, says, of_two_files, of_one_file, run_by};
+ghost use Rattle.cmd_words.specs.Asked.{Answers, asked, asked_by, says, of_two_files, of_plan, of_one_file, run_by};
 ghost use Rattle.cmd_words.specs.Forms.{HasForm, HasNoForm, IsInRange};
 ghost use Rattle.cmd_words.specs.Parses.{files_id, texts_in, value_found};
-ghost use Rattle.cmd_words.specs.Settings.{run_options, refer_options, order_options, show_options};
+ghost use Rattle.cmd_words.specs.Settings.{run_options, refer_options, order_options, plan_options, show_options};
 
 use crate::command::{Command, RunWords, WordNo};
-use crate::options::{ORDER, REFER, RUN, SHOW};
+use crate::options::{ORDER, PLAN, REFER, RUN, SHOW};
 use crate::parsing::{one_file, parse, two_files, value};
 use crate::settings::{banks, timing};
 use clap::ArgMatches;
@@ -50,6 +50,8 @@ fn read_command(alloc: Global, name: &[u8], words: &[String]) -> Result<Command,
         refer(alloc, words)
     } else if name == b"order".as_slice() {
         order(alloc, words)
+    } else if name == b"plan".as_slice() {
+        plan(alloc, words)
     } else if name == b"show".as_slice() {
         show(alloc, words)
     } else {
@@ -80,6 +82,13 @@ fn order(alloc: Global, words: &[String]) -> Result<Command, WordNo>
     Ok(Command::Order(words))
 }
 
+fn plan(alloc: Global, words: &[String]) -> Result<Command, WordNo>
+    ensures { Answers result (option_map command.Plan (says plan_options of_plan (map string_bytes words.now))) }
+{
+    let words = layout(alloc, words, PLAN.as_slice())?;
+    Ok(Command::Plan(words))
+}
+
 fn show(alloc: Global, words: &[String]) -> Result<Command, WordNo>
     ensures { Answers result (option_map command.Show (says show_options of_one_file (map string_bytes words.now))) }
 {
@@ -101,6 +110,22 @@ fn simulation<'a>(
     let matches = parse(alloc, words, options)?;
     match two_files(&matches) {
         Some((netlist, stimulus)) => run_words(alloc, netlist, stimulus, &matches),
+        None => Err(WordNo::Usage),
+    }
+}
+
+/// One file, the netlist's, and the options of a plan.
+fn layout<'a>(
+    alloc: Global,
+    words: &'a [String],
+    options: &'a [&'a str],
+) -> Result<RunWords, WordNo>
+    requires { has_name (texts_in options.now) files_id ≡ false }
+    ensures { Answers result (says (texts_in options.entry.now) of_plan (map string_bytes words.entry.now)) }
+{
+    let matches = parse(alloc, words, options)?;
+    match one_file(&matches) {
+        Some(netlist) => run_words(alloc, netlist, "", &matches),
         None => Err(WordNo::Usage),
     }
 }

@@ -18,7 +18,7 @@ use Rattle.yse_compile.proofs.KnownLemmas.{least_or_all, listed_to}
 use Rattle.yse_compile.proofs.KnownUses.{blocked_known, table_known}
 
 -- the slots of the first n items are below some number
-slots_end : (slots : List ℕ) (n : ℕ) → (end : ℕ) × ((k : ℕ) → k < n → slot_of slots k < end)
+pub slots_end : (slots : List ℕ) (n : ℕ) → (end : ℕ) × ((k : ℕ) → k < n → slot_of slots k < end)
 slots_end slots zero = (0, λ k low. absurd (omega (arith, low)))
 slots_end slots (suc n) = next (slots_end slots n).0 (slots_end slots n).1 where
   next : (end : ℕ) → ((k : ℕ) → k < n → slot_of slots k < end) → (past : ℕ) × ((k : ℕ) → k < suc n → slot_of slots k < past)

@@ -33,7 +33,7 @@ module _ (one other : NodeNet) (same : one.blocks ≡ other.blocks) where
     by_block None is = rw is (rw (sym there ∙ is) refl)
     by_block (Some block) is = rw is (rw (sym there ∙ is) refl)
 
-  before_kept : (ports : List ℕ) (m port : ℕ) → bits_before one ports m port ≡ bits_before other ports m port
+  pub before_kept : (ports : List ℕ) (m port : ℕ) → bits_before one ports m port ≡ bits_before other ports m port
   before_kept ports m port =
       sum_same (λ k. if get_or ports k 0 == port then bits_of one k else 0) (λ k. if get_or ports k 0 == port then bits_of other k else 0) (range_with_len 0 m)
       (λ k. ap (λ bits. if get_or ports k 0 == port then bits else 0) (bits_kept k))

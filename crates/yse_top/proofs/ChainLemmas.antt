@@ -7,10 +7,14 @@ use Rattle.edge_io.specs.Names.{is_absent}
 use Rattle.edge_io.specs.declared.counts.FileCounts.{FileCounts}
 use Rattle.yse_top.specs.declared.output.Output.{Output}
 use Rattle.yse_top.specs.declared.refusal.Refusal.{Refusal}
-use Rattle.yse_top.specs.Checks.{After, AfterFile}
+use Rattle.machine_text.specs.declared.machine.Machine.{Machine}
+use Rattle.net_defs.specs.declared.netlist.Netlist.{Netlist}
+use Rattle.net_defs.specs.declared.timing.Timing.{Timing}
+use Rattle.yse_top.specs.Checks.{After, AfterFile, RefusesDesign}
 use Rattle.yse_top.specs.Outcome.{Outcome}
 use Rattle.yse_top.specs.Readings.{Reading, IsReading, AreReadings}
 use Rattle.yse_top.specs.Refusals.{AnswersText, GivesText, Follows, outcome_of}
+use Rattle.yse_top.specs.commands.Run.{AfterFit}
 use Rattle.yse_top.proofs.WritingLemmas.{rose_since, rose_until}
 
 -- a count raised twice
@@ -23,6 +27,11 @@ raised_none count = omega arith
 raised_cond : (b : Bool) (count : ℕ) → raised_if b count ≡ raised count (0 + cond b 1 0)
 raised_cond true count = refl
 raised_cond false count = raised_none count
+
+-- a design that is refused ends the chain
+pub refused_design : (net : Netlist) (machine : Machine) (timing : Timing) (Next : List Reading → Outcome → Type 0) (outcome : Outcome) → RefusesDesign net machine timing outcome → AfterFit net machine timing Next [] outcome
+refused_design net machine timing Next outcome (inl looped) = inr (refl, looped)
+refused_design net machine timing Next outcome (inr (acyclic, crowded)) = inl (tt, acyclic, inr (refl, crowded))
 
 module _ (names : Option (List ℕ → Bool)) (bytes : Option (List ℕ → List ℕ)) where
   -- 1 for a reading of an absent name

@@ -8,6 +8,7 @@ mod EndingLemmas
 mod OrderLemmas
 mod OutcomeLemmas
 mod ProperLemmas
+mod ReportLemmas
 mod ShownLemmas
 mod StepLemmas
 mod TextLemmas

@@ -30,7 +30,7 @@ use Rattle.yse_top.specs.Traced.{IsTraceOfFiles}
 use Rattle.yse_top.specs.Orders.{EndsIn, EndsInOrder}
 use Rattle.yse_top.specs.Endings.{ending_in, status_after}
 use Rattle.yse_top.specs.Words.{traced_by}
-use Rattle.yse_top.specs.commands.Run.{AfterMachine, AfterStimulus, WritesTrace, EndsBy, ExpectedRun, ExpectedOn, ExpectedRefer}
+use Rattle.yse_top.specs.commands.Run.{AfterDesign, AfterFit, AfterMachine, AfterStimulus, WritesTrace, EndsBy, ExpectedRun, ExpectedOn, ExpectedRefer}
 use Rattle.yse_top.proofs.EndingLemmas.{whole_output}
 use Rattle.yse_top.proofs.ProperLemmas.{passes, refuses, refused_once, never_both}
 use Rattle.std.specs.Prelude.{nat_le, length, if◌then◌else◌}
@@ -159,12 +159,13 @@ module _ (bytes : Option (List ℕ → List ℕ)) where
       (stimulus_traced words netlist.0 (WritesTrace netlist.0 words.timing) output (λ stimulus others told next. written netlist.0 words stimulus others output next) first.others first.are order.2)
 
   on_traced : (words : RunWords) (by : Option (List ℕ)) (machine : Machine) (readings : List Reading) (output : List ℕ) → AreTold readings → ExpectedOn words by machine readings (done output) → IsTraceOfFiles bytes output words
-  unfolding ExpectedOn
+  unfolding ExpectedOn AfterDesign
   on_traced words by machine readings output are expected =
-      let first = gave words.netlist (λ text. After (IsNetlistOf text) (λ net. After (HasNoLoop net words.timing) (λ passed. After (HasRoom net machine words.timing) (λ fits. AfterStimulus words.stimulus net (EndsBy by words machine net))))) readings output are expected in
-      let netlist = passed (IsNetlistOf first.text) (λ net. After (HasNoLoop net words.timing) (λ passed. After (HasRoom net machine words.timing) (λ fits. AfterStimulus words.stimulus net (EndsBy by words machine net)))) first.others output (λ e. not_done _ status.Netlist output e.2 refl (λ e. cc)) first.next in
-      let order = passed (HasNoLoop netlist.0 words.timing) (λ passed. After (HasRoom netlist.0 machine words.timing) (λ fits. AfterStimulus words.stimulus netlist.0 (EndsBy by words machine netlist.0))) first.others output (λ e. not_done _ status.Loop output e.2 refl (λ e. cc)) netlist.2 in
-      let room = passed (HasRoom netlist.0 machine words.timing) (λ fits. AfterStimulus words.stimulus netlist.0 (EndsBy by words machine netlist.0)) first.others output (λ e. not_done _ status.Overfull output e.3 refl (λ e. cc)) order.2 in
+      let Next : Netlist → List Reading → Outcome → Type 0 = λ net. AfterStimulus words.stimulus net (EndsBy by words machine net) in
+      let first = gave words.netlist (λ text. After (IsNetlistOf text) (λ net. AfterFit net machine words.timing (Next net))) readings output are expected in
+      let netlist = passed (IsNetlistOf first.text) (λ net. AfterFit net machine words.timing (Next net)) first.others output (λ e. not_done _ status.Netlist output e.2 refl (λ e. cc)) first.next in
+      let order = passed (HasNoLoop netlist.0 words.timing) (λ passed. After (HasRoom netlist.0 machine words.timing) (λ fits. Next netlist.0)) first.others output (λ e. not_done _ status.Loop output e.2 refl (λ e. cc)) netlist.2 in
+      let room = passed (HasRoom netlist.0 machine words.timing) (λ fits. Next netlist.0) first.others output (λ e. not_done _ status.Overfull output e.3 refl (λ e. cc)) order.2 in
       traced_files words first.text first.told netlist.0 netlist.1 output
       (stimulus_traced words netlist.0 (EndsBy by words machine netlist.0) output (λ stimulus others told next. ends_traced by words machine netlist.0 stimulus others output told next) first.others first.are room.2)
 
@@ -186,6 +187,7 @@ module _ (bytes : Option (List ℕ → List ℕ)) where
   command_traced (command.Run words) readings output are expected = run_traced words None readings output are expected
   command_traced (command.Refer words) readings output are expected = refer_traced words readings output are expected
   command_traced (command.Order words) readings output are expected = run_traced words words.order readings output are expected
+  command_traced (command.Plan words) readings output are expected = tt
   command_traced (command.Show file) readings output are expected = tt
 
   pub traced : (names : Option (List ℕ → Bool)) (old new : FileCounts) (command : Command) (output : Output) → status_after (ending_in output) ≡ status.Done → Follows names bytes old new (Ok output) (ExpectedOf command) → IfSome (traced_by (Some command)) (IsTraceOfFiles bytes (bytes_of output))

@@ -8,6 +8,7 @@ use Rattle.yse_top.specs.Checks.{After}
 use Rattle.yse_top.specs.Lines.{usage_line}
 use Rattle.yse_top.specs.Outcome.{Outcome, refusal}
 use Rattle.yse_top.specs.Readings.{Reading}
+use Rattle.yse_top.specs.commands.Plan.{ExpectedPlan}
 use Rattle.yse_top.specs.commands.Run.{ExpectedRun, ExpectedRefer}
 use Rattle.yse_top.specs.commands.Show.{ExpectedShow}
 
@@ -15,6 +16,7 @@ abbrev pub ExpectedOf : Command → List Reading → Outcome → Type 0
 ExpectedOf (command.Run words) readings outcome = ExpectedRun words None readings outcome
 ExpectedOf (command.Refer words) readings outcome = ExpectedRefer words readings outcome
 ExpectedOf (command.Order words) readings outcome = ExpectedRun words words.order readings outcome
+ExpectedOf (command.Plan words) readings outcome = ExpectedPlan words readings outcome
 ExpectedOf (command.Show netlist) readings outcome = ExpectedShow netlist readings outcome
 
 -- the command of whose form the words are; words of no form are refused

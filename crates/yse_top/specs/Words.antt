@@ -10,6 +10,7 @@ abbrev pub files_of : Command → List (List ℕ)
 files_of (command.Run words) = option_to_list words.machine ++ (words.netlist ∷ words.stimulus ∷ [])
 files_of (command.Refer words) = words.netlist ∷ words.stimulus ∷ []
 files_of (command.Order words) = option_to_list words.machine ++ (words.netlist ∷ words.stimulus ∷ option_to_list words.order)
+files_of (command.Plan words) = option_to_list words.machine ++ (words.netlist ∷ [])
 files_of (command.Show netlist) = netlist ∷ []
 
 abbrev pub files_named : Option Command → List (List ℕ)
@@ -22,6 +23,7 @@ traced_by None = None
 traced_by (Some (command.Run words)) = Some words
 traced_by (Some (command.Refer words)) = Some words
 traced_by (Some (command.Order words)) = Some words
+traced_by (Some (command.Plan words)) = None
 traced_by (Some (command.Show netlist)) = None
 
 -- the file of the order in which a command steps the ports
@@ -30,4 +32,5 @@ order_named None = None
 order_named (Some (command.Run words)) = None
 order_named (Some (command.Refer words)) = None
 order_named (Some (command.Order words)) = words.order
+order_named (Some (command.Plan words)) = None
 order_named (Some (command.Show netlist)) = None

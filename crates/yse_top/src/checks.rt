@@ -4,7 +4,9 @@ ghost use Rattle.std.specs.Prelude.{◌≡◌, ◌≤◌, Ok, Err, length, IfOk,
 ghost use Rattle.limits.specs.declared.TheConstants.{MAX_TEXT_BYTES};
 ghost use Rattle.net_defs.specs.Loops.{IsOrder};
 ghost use Rattle.machine_text.specs.Machines.{IsValid as IsValidMachine};
+ghost use Rattle.net_defs.specs.declared.stimulus.Stimulus.{Stimulus};
 ghost use Rattle.net_defs.specs.Valid.{IsValid, IsValidStimulus, IsValidTiming};
+ghost use Rattle.yse_compile.specs.Compiled.{IsCompiled, ShowsReference};
 ghost use Rattle.yse_top.specs.Checks.{Refuses, RefusesDesign, IsMachineOf, IsNetlistOf, IsOrderOf, IsStimulusOf, HasNoLoop, HasRoom, HasFewCells, cell_count, port_count};
 ghost use Rattle.stim_text.specs.Orders.{IsValidOrder};
 ghost use Rattle.yse_top.specs.Images.{IsImageOf};
@@ -23,13 +25,20 @@ use seen_list::List;
 use std::alloc::Global;
 use stim_text::{Order, read_order, read_stim};
 use yse_compile::inputs::same_inputs;
-use yse_compile::{CompNo, compile};
+use yse_compile::{CompNo, Compiled, compile};
 
 /// A netlist, and an order of its gates.
 #[derive(Drop)]
 pub struct Design {
     pub net: Netlist,
     pub order: List<u32>,
+}
+
+/// A netlist, and its design as it is compiled for a machine.
+#[derive(Drop)]
+pub struct Planned {
+    pub net: Netlist,
+    pub compiled: Compiled,
 }
 
 /// A netlist, and the image of it that a machine runs.
@@ -94,6 +103,32 @@ pub fn ordered<'a>(alloc: Global, net: Netlist, timing: &Timing) -> Result<Desig
     }
 }
 
+/// The netlist with its design for the machine, and else a loop, or why it does not fit.
+pub fn designed<'a>(
+    alloc: Global,
+    net: Netlist,
+    machine: &Machine,
+    timing: &Timing,
+) -> Result<Planned, Refusal<'a>>
+    requires net { IsValid net }
+    requires machine { IsValidMachine machine.now }
+    requires timing { IsValidTiming timing.now }
+    ensures same { IfOk result (λ planned. planned.net ≡ net) }
+    ensures acyclic { OnOk result (HasNoLoop net timing.now (Ok tt)) }
+    ensures fits { OnOk result (HasRoom net machine.now timing.now (Ok tt)) }
+    ensures compiled { IfOk result (λ planned. IsCompiled net machine.now timing.now planned.compiled) }
+    ensures shown { IfOk result (λ planned. (stimulus : Stimulus)
+        → ShowsReference net timing.now stimulus planned.compiled.image) }
+    ensures refused { IfErr result (λ no. RefusesDesign net machine.now timing.now (refused_of no)) }
+{
+    match compile(alloc, &net, machine, timing) {
+        Ok(compiled) => Ok(Planned { net, compiled }),
+        Err(CompNo::Loop(members)) => Err(Refusal::Loop(net, members)),
+        Err(CompNo::Memory) => Err(Refusal::Memory),
+        Err(no) => Err(Refusal::Overfull(net, no)),
+    }
+}
+
 /// The netlist with its image for the machine, and else a loop, or why it does not fit.
 pub fn compiled<'a>(
     alloc: Global,
@@ -112,14 +147,12 @@ pub fn compiled<'a>(
     ensures refused { IfErr result (λ no. RefusesDesign net machine.now timing.now (refused_of no)) }
 {
     same_inputs();
-    match compile(alloc, &net, machine, timing) {
-        Ok(compiled) => Ok(Built {
-            net,
-            image: compiled.image,
+    match designed(alloc, net, machine, timing) {
+        Ok(planned) => Ok(Built {
+            net: planned.net,
+            image: planned.compiled.image,
         }),
-        Err(CompNo::Loop(members)) => Err(Refusal::Loop(net, members)),
-        Err(CompNo::Memory) => Err(Refusal::Memory),
-        Err(no) => Err(Refusal::Overfull(net, no)),
+        Err(no) => Err(no),
     }
 }
 

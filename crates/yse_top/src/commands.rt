@@ -6,11 +6,13 @@ ghost use Rattle.yse_top.specs.Expected.{ExpectedOf};
 ghost use Rattle.yse_top.specs.Outputs.{CanWrite};
 ghost use Rattle.yse_top.specs.Refusals.{Follows};
 
+mod plan;
 mod refer;
 mod run;
 mod show;
 mod steps;
 
+use crate::commands::steps::Pace;
 use crate::output::Output;
 use crate::refusal::Refusal;
 use cmd_words::Command;
@@ -29,15 +31,16 @@ pub fn prepare<'a, F: Files>(
     ensures writable { IfOk result CanWrite }
 {
     match command {
-        Command::Run(words) => run::run(alloc, files, words, None),
+        Command::Run(words) => run::run(alloc, files, words, Pace::Sweeps, None),
         Command::Refer(words) => refer::refer(alloc, files, words),
         Command::Order(words) => {
             let order = match &words.order {
                 Some(file) => Some(file.as_bytes()),
                 None => None,
             };
-            run::run(alloc, files, words, order)
+            run::run(alloc, files, words, Pace::Rounds, order)
         }
+        Command::Plan(words) => plan::plan(alloc, files, words),
         Command::Show { netlist } => show::show(alloc, files, netlist.as_bytes()),
     }
 }

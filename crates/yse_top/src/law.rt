@@ -8,13 +8,15 @@ use event_defs::law::links_decide;
 use machine_text::law::{
     reads_as_valid as machines_are_valid, reads_or_faults as machines_or_faults,
 };
+use node_defs::law::one_list;
 use node_map::law::items_exist;
+use plan_defs::law::items_are_well_formed;
 use rank_find::order_or_loop;
 use ref_sim::one_simulation;
 use stim_text::law::reads_or_faults as stimuli_or_faults;
 use stim_text::order_law::reads_or_faults as orders_or_faults;
 use yse_compile::law::{
-    fits_bits, fits_functions, fits_or_refused, fits_slots, one_linking, one_refusal,
+    fits_bits, fits_functions, fits_or_refused, fits_slots, one_homes, one_linking, one_refusal,
 };
 
 /// Words come to one outcome over what is read, but that any loop may be named where there are several,
@@ -41,6 +43,9 @@ pub fn calls_are_proper()
     fits_functions();
     one_refusal();
     one_linking();
+    one_list();
+    one_homes();
+    items_are_well_formed();
     links_decide();
     forms_are_asked();
     forms_are_in_range();

@@ -46,7 +46,8 @@ use std::alloc::Global;
 /// in rank order. `run` and `order` take `--machine FILE`, the machine that the netlist is compiled
 /// for; `order` takes `--order FILE`, the order of its ports' steps, and `--banks B`, how many turns a
 /// port may run ahead of its readers, 1 to 8. An order that ends before every port is done writes the
-/// rows that are done, and ends with `Unfinished`. `show NETLIST` writes the netlist's canonical text
+/// rows that are done, and ends with `Unfinished`. `plan NETLIST [--machine FILE] [--mode rank|unit]` writes
+/// the report of the netlist's plan on the machine as one piece. `show NETLIST` writes the netlist's canonical text
 /// as one piece. A file has at most 67,108,864 bytes, and a simulation at most 268,435,456 cells (this
 /// project's profile). A status other than `Done` writes its line to `err`, and a fault of `err`
 /// changes no status. All memory is taken before the first byte of output.

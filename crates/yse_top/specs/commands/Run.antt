@@ -25,12 +25,24 @@ AfterStimulus file net Next =
     After (IsStimulusOf text net) (λ stimulus.
     After (HasFewCells net stimulus) (λ few. Next stimulus)))
 
+-- the loop, and whether the design fits the machine
+abbrev pub AfterFit : Netlist → Machine → Timing → (List Reading → Outcome → Type 0) → List Reading → Outcome → Type 0
+AfterFit net machine timing Next =
+    After (HasNoLoop net timing) (λ passed.
+    After (HasRoom net machine timing) (λ fits. Next))
+
+-- the netlist file, its text, and the design on the machine
+unfoldable pub AfterDesign : List ℕ → Machine → Timing → (Netlist → List Reading → Outcome → Type 0) → List Reading → Outcome → Type 0
+AfterDesign file machine timing Next =
+    AfterFile file (λ text.
+    After (IsNetlistOf text) (λ net. AfterFit net machine timing (Next net)))
+
 -- the trace is written
 abbrev pub WritesTrace : Netlist → Timing → Stimulus → List Reading → Outcome → Type 0
 WritesTrace net timing stimulus = Ends (Writes (IsTrace net timing stimulus))
 
--- by rounds the trace is written; in the order of the named file, once its text is read, what is done by
--- its end
+-- without an order file the trace is written; in the order of the named file, once its text is read, what
+-- is done by its end
 unfoldable pub EndsBy : Option (List ℕ) → RunWords → Machine → Netlist → Stimulus → List Reading → Outcome → Type 0
 EndsBy None words machine net stimulus = WritesTrace net words.timing stimulus
 EndsBy (Some file) words machine net stimulus =
@@ -38,16 +50,12 @@ EndsBy (Some file) words machine net stimulus =
     After (IsOrderOf text machine) (λ order.
     Ends (EndsInOrder order words.banks net machine words.timing stimulus)))
 
--- the netlist file, its text, the loop, whether the design fits, the stimulus, and then the run
+-- the design, the stimulus, and then the run
 unfoldable pub ExpectedOn : RunWords → Option (List ℕ) → Machine → List Reading → Outcome → Type 0
 ExpectedOn words order machine =
-    AfterFile words.netlist (λ text.
-    After (IsNetlistOf text) (λ net.
-    After (HasNoLoop net words.timing) (λ passed.
-    After (HasRoom net machine words.timing) (λ fits.
-    AfterStimulus words.stimulus net (EndsBy order words machine net)))))
+    AfterDesign words.netlist machine words.timing (λ net. AfterStimulus words.stimulus net (EndsBy order words machine net))
 
--- the machine, and then a run on it, by rounds or in the order of the named file
+-- the machine, and then a run on it, to its end or in the order of the named file
 unfoldable pub ExpectedRun : RunWords → Option (List ℕ) → List Reading → Outcome → Type 0
 ExpectedRun words order = AfterMachine words.machine (ExpectedOn words order)
 

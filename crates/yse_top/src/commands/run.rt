@@ -12,7 +12,7 @@ ghost use Rattle.yse_top.specs.Refusals.{Follows};
 ghost use Rattle.yse_top.specs.commands.Run.{AfterMachine, AfterStimulus, EndsBy, ExpectedOn, ExpectedRun};
 
 use crate::checks::{Built, compiled, few_cells, machine_of, netlist_of, order_of, stimulus_of};
-use crate::commands::steps::{by_order, by_rounds};
+use crate::commands::steps::{Pace, by_order, to_end};
 use crate::output::Output;
 use crate::reading::read_text;
 use crate::refusal::Refusal;
@@ -23,13 +23,14 @@ use net_defs::Stimulus;
 use seen_list::Memory;
 use std::alloc::Global;
 
-/// The trace of a run on the machine of the named file, or on the default machine; by rounds, or in the
-/// order of the named file.
+/// The trace of a run on the machine of the named file, or on the default machine; at this pace, or in
+/// the order of the named file.
 #[tactic(auto, unfolding(crate::specs::commands::Run::ExpectedRun, crate::specs::commands::Run::AfterMachine))]
 pub fn run<'a, F: Files>(
     alloc: Global,
     files: &mut F,
     words: &'a RunWords,
+    pace: Pace,
     order: Option<&'a [u8]>,
 ) -> Result<Output, Refusal<'a>>
     requires { IsRunInRange words.now }
@@ -38,8 +39,8 @@ pub fn run<'a, F: Files>(
     ensures writable { IfOk result CanWrite }
 {
     match &words.machine {
-        None => run_on(alloc, files, words, order, Machine::default_size()),
-        Some(file) => run_by(alloc, files, words, order, file.as_bytes()),
+        None => run_on(alloc, files, words, pace, order, Machine::default_size()),
+        Some(file) => run_by(alloc, files, words, pace, order, file.as_bytes()),
     }
 }
 
@@ -49,6 +50,7 @@ fn run_by<'a, F: Files>(
     alloc: Global,
     files: &mut F,
     words: &'a RunWords,
+    pace: Pace,
     order: Option<&'a [u8]>,
     file: &'a [u8],
 ) -> Result<Output, Refusal<'a>>
@@ -59,7 +61,7 @@ fn run_by<'a, F: Files>(
 {
     match read_text(alloc, files, file) {
         Ok(text) => match machine_of(alloc, text.as_slice()) {
-            Ok(machine) => run_on(alloc, files, words, order, machine),
+            Ok(machine) => run_on(alloc, files, words, pace, order, machine),
             Err(no) => Err(no),
         },
         Err(no) => Err(no),
@@ -67,11 +69,12 @@ fn run_by<'a, F: Files>(
 }
 
 /// The trace of a run on a machine.
-#[tactic(auto, using(crate::proofs::ChainLemmas::follows_refused), unfolding(crate::specs::commands::Run::ExpectedOn))]
+#[tactic(auto, using(crate::proofs::ChainLemmas::follows_refused), unfolding(crate::specs::commands::Run::ExpectedOn, crate::specs::commands::Run::AfterDesign))]
 fn run_on<'a, F: Files>(
     alloc: Global,
     files: &mut F,
     words: &'a RunWords,
+    pace: Pace,
     order: Option<&'a [u8]>,
     machine: Machine,
 ) -> Result<Output, Refusal<'a>>
@@ -84,7 +87,7 @@ fn run_on<'a, F: Files>(
     match read_text(alloc, files, words.netlist.as_bytes()) {
         Ok(text) => match netlist_of(alloc, text.as_slice()) {
             Ok(net) => match compiled(alloc, net, &machine, &words.timing) {
-                Ok(built) => execute(alloc, files, words, order, &machine, built),
+                Ok(built) => execute(alloc, files, words, pace, order, &machine, built),
                 Err(no) => Err(no),
             },
             Err(no) => Err(no),
@@ -99,6 +102,7 @@ fn execute<'a, F: Files>(
     alloc: Global,
     files: &mut F,
     words: &'a RunWords,
+    pace: Pace,
     order: Option<&'a [u8]>,
     machine: &Machine,
     built: Built,
@@ -115,7 +119,7 @@ fn execute<'a, F: Files>(
     match read_text(alloc, files, words.stimulus.as_bytes()) {
         Ok(text) => match stimulus_of(alloc, text.as_slice(), &built.net) {
             Ok(stimulus) => match few_cells(&built.net, &stimulus) {
-                Ok(()) => finish(alloc, files, words, order, machine, built, &stimulus),
+                Ok(()) => finish(alloc, files, words, pace, order, machine, built, &stimulus),
                 Err(no) => Err(no),
             },
             Err(no) => Err(no),
@@ -130,6 +134,7 @@ fn finish<'a, F: Files>(
     alloc: Global,
     files: &mut F,
     words: &'a RunWords,
+    pace: Pace,
     order: Option<&'a [u8]>,
     machine: &Machine,
     built: Built,
@@ -147,7 +152,7 @@ fn finish<'a, F: Files>(
     ensures writable { IfOk result CanWrite }
 {
     match order {
-        None => match by_rounds(alloc, words, built, stimulus) {
+        None => match to_end(alloc, words, pace, built, stimulus) {
             Ok(trace) => Ok(Output::Trace(trace)),
             Err(Memory) => Err(Refusal::Memory),
         },

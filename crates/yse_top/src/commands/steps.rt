@@ -1,4 +1,4 @@
-//! Runs of the machine: by rounds, and in a given order.
+//! Runs of the machine: by rounds or sweeps, and in a given order.
 
 ghost use Rattle.std.specs.Prelude.{◌≡◌, ◌<◌, ℕ, Some, IfOk, length, replicate, slice_get};
 ghost use Rattle.std.specs.List.{flat_map};
@@ -6,7 +6,7 @@ ghost use Rattle.net_defs.specs.Trace.{IsTrace};
 ghost use Rattle.net_defs.specs.Valid.{IsValid, IsValidStimulus, input_count};
 ghost use Rattle.stim_text.specs.declared.order.OrderLine.{OrderLine};
 ghost use Rattle.stim_text.specs.Orders.{IsValidOrder};
-ghost use Rattle.event_core.specs.Core.{AreDone, IsSameCore, IsSoundCore, rows_of};
+ghost use Rattle.event_core.specs.Core.{AreDone, IsSameCore, IsSoundCore, left_of, rows_of};
 ghost use Rattle.cmd_words.specs.Forms.{IsRunInRange};
 ghost use Rattle.yse_top.specs.Checks.{port_count};
 ghost use Rattle.yse_top.specs.Images.{IsImageOf, AreShown};
@@ -27,10 +27,20 @@ use std::alloc::Global;
 use stim_text::{Order, OrderLine};
 use trace_text::TraceLine;
 
-/// The trace of an image under a stimulus: all ports step by rounds until they are done.
-pub fn by_rounds(
+/// How all ports step where no order is given.
+#[derive(Clone, Copy)]
+pub enum Pace {
+    /// One event of each port, round after round.
+    Rounds,
+    /// The events of each port until it does not move, sweep after sweep.
+    Sweeps,
+}
+
+/// The trace of an image under a stimulus: all ports step until they are done.
+pub fn to_end(
     alloc: Global,
     words: &RunWords,
+    pace: Pace,
     built: Built,
     stimulus: &Stimulus,
 ) -> Result<Trace, Memory>
@@ -45,7 +55,7 @@ pub fn by_rounds(
     let Built { net, image } = built;
     let line = TraceLine::new(alloc, &net)?;
     let mut core = Core::new(alloc, &image, stimulus, words.banks)?;
-    run_to_end(&mut core);
+    run_to_end(&mut core, pace);
     let rows = rows_of(alloc, &core)?;
     Ok(Trace { net, rows, line })
 }
@@ -86,15 +96,31 @@ pub fn by_order(
     Ok(Output::Unfinished(trace, ending))
 }
 
-/// Steps all ports, round after round, until they are done.
-fn run_to_end(core: &mut Core<'_>)
+/// Steps all ports until they are done.
+fn run_to_end(core: &mut Core<'_>, pace: Pace)
     requires { IsSoundCore core.old }
     ensures same { IsSameCore core.old core.new }
     ensures sound { IsSoundCore core.new }
     ensures done { AreDone core.new }
 {
-    'rounds: while !core.all_done() {
-        core.run_round();
+    'paces: while !core.all_done() {
+        run_pace(core, pace);
+    }
+}
+
+/// Steps all ports once at this pace.
+fn run_pace(core: &mut Core<'_>, pace: Pace)
+    ensures same { IsSameCore core.old core.new }
+    ensures sound { IsSoundCore core.new }
+    ensures left { (AreDone core.old → ⊥) → left_of core.new < left_of core.old }
+{
+    match pace {
+        Pace::Rounds => {
+            core.run_round();
+        }
+        Pace::Sweeps => {
+            core.sweep();
+        }
     }
 }
 

@@ -43,12 +43,14 @@ use Rattle.yse_top.specs.Outcome.{Outcome, refusal}
 use Rattle.yse_top.specs.Readings.{Reading}
 use Rattle.yse_top.specs.Orders.{EndsInOrder}
 use Rattle.yse_top.specs.Words.{files_of, files_named, order_named}
-use Rattle.yse_top.specs.commands.Run.{AfterMachine, AfterStimulus, WritesTrace, EndsBy, ExpectedRun, ExpectedOn, ExpectedRefer}
+use Rattle.yse_top.specs.commands.Plan.{ExpectedPlan, ExpectedPlanOn, IsReportOf}
+use Rattle.yse_top.specs.commands.Run.{AfterDesign, AfterFit, AfterMachine, AfterStimulus, WritesTrace, EndsBy, ExpectedRun, ExpectedOn, ExpectedRefer}
 use Rattle.yse_top.specs.commands.Show.{ExpectedShow}
 use Rattle.yse_top.proofs.CommandLemmas.{IsCommand, command_after, command_file, command_ends, not_words}
 use Rattle.yse_top.proofs.OrderLemmas.{DecidesOrder, done_alike, order_ending}
 use Rattle.yse_top.proofs.OutcomeLemmas.{outcome_after, outcome_writes}
 use Rattle.yse_top.proofs.ProperLemmas.{IsCheck, IsAnswered, alike, memory_status, proper_after, writes_ending}
+use Rattle.yse_top.proofs.ReportLemmas.{AreOnce, one_report, some_report}
 use Rattle.yse_top.proofs.CheckLemmas.{reads_check, loop_check, IsRoomLaw, room_check, cells_check, trace_only, trace_some}
 use Rattle.yse_top.proofs.law.calls_are_proper.Goals as goal
 
@@ -65,6 +67,7 @@ record Laws : Type 0 where
   forms : (words : List (List ℕ)) (command : Command) → (asked words ≡ Some command) ↔ HasForm words command
   in_range : (words : List (List ℕ)) (command : Command) → HasForm words command → IsInRange command
   decides : (order : Order) (banks : ℕ) (net : Netlist) (machine : Machine) (timing : Timing) (stimulus : Stimulus) → 1 ≤ banks → IsValid net → DecidesOrder order banks net machine timing stimulus
+  once : (net : Netlist) (machine : Machine) (timing : Timing) → IsValid net → AreOnce net machine timing
   order_or_loop : (net : Netlist) (timing : Timing) → OrderOrLoop net timing
   never_both : (net : Netlist) (timing : Timing) (order loop : List ℕ) → IsOrder net timing order → IsLoop net timing loop → ⊥
   one_simulation : (net : Netlist) (timing : Timing) (stimulus : Stimulus) → ((loop : List ℕ) → IsLoop net timing loop → ⊥) → HasOneSimulation net timing stimulus
@@ -129,6 +132,26 @@ module _ (laws : Laws) where
         command_after Settled (words.stimulus ∷ []) (HasNoLoop net words.timing) (λ passed. AfterStimulus words.stimulus net (WritesTrace net words.timing)) (loop_check net words.timing (laws.order_or_loop net words.timing) (laws.never_both net words.timing)) (λ passed acyclic.
         stimulus_proper words.stimulus [] net (WritesTrace net words.timing) (λ stimulus. trace_proper net words.timing stimulus acyclic))))
 
+    design_proper : (file : List ℕ) (files : List (List ℕ)) (machine : Machine) → IsValidMachine machine → (timing : Timing) (Next : Netlist → List Reading → Outcome → Type 0)
+        → ((net : Netlist) → IsValid net → IsAcyclic net timing → DesignFits net machine timing → IsCommand Settled files (Next net)) → IsCommand Settled (file ∷ files) (AfterDesign file machine timing Next)
+    unfolding AfterDesign
+    design_proper file files machine machine_valid timing Next on =
+        command_file Settled file files (λ text. After (IsNetlistOf text) (λ net. AfterFit net machine timing (Next net))) (λ text short.
+        command_after Settled files (IsNetlistOf text) (λ net. AfterFit net machine timing (Next net)) (netlist_check text) (λ net is.
+        let valid = laws.valid_netlists text net short is in
+        command_after Settled files (HasNoLoop net timing) (λ passed. After (HasRoom net machine timing) (λ fits. Next net)) (loop_check net timing (laws.order_or_loop net timing) (laws.never_both net timing)) (λ passed acyclic.
+        command_after Settled files (HasRoom net machine timing) (λ fits. Next net) (room_check net machine timing (laws.room net machine timing valid machine_valid acyclic)) (λ fits has. on net valid acyclic has))))
+
+    plan_proper : (words : RunWords) → IsCommand Settled (option_to_list words.machine ++ (words.netlist ∷ [])) (ExpectedPlan words)
+    unfolding ExpectedPlan ExpectedPlanOn
+    plan_proper words =
+        machine_proper words.machine (words.netlist ∷ []) (ExpectedPlanOn words) (λ machine machine_valid.
+        design_proper words.netlist [] machine machine_valid words.timing (λ net. Ends (Writes (IsReportOf net machine words.timing))) (λ net valid acyclic fits.
+        let once = laws.once net machine words.timing valid in
+        let report = some_report net machine words.timing once machine_valid fits in
+        command_ends Settled (Writes (IsReportOf net machine words.timing)) (writes_ending (IsReportOf net machine words.timing) (one_report net machine words.timing once))
+        (λ settled. outcome_writes (IsReportOf net machine words.timing) report.0 report.1)))
+
     show_proper : (file : List ℕ) → IsCommand Settled (file ∷ []) (ExpectedShow file)
     unfolding ExpectedShow
     show_proper file =
@@ -137,7 +160,7 @@ module _ (laws : Laws) where
         command_ends Settled (Writes (λ output. output ≡ canonical_text net)) (writes_ending (λ output. output ≡ canonical_text net) (λ s t e f. e ∙ sym f))
         (λ settled. outcome_writes (λ output. output ≡ canonical_text net) (canonical_text net) refl)))
 
-  -- by rounds there is an outcome
+  -- without an order file there is an outcome
   ends_proper : (file : Option (List ℕ)) (words : RunWords) (machine : Machine) (net : Netlist) (stimulus : Stimulus) → 1 ≤ words.banks → IsValid net → IsAcyclic net words.timing → IsCommand (file ≡ None) (option_to_list file) (EndsBy file words machine net stimulus)
   unfolding EndsBy
   ends_proper None words machine net stimulus banks valid acyclic = trace_proper (None ≡ None) net words.timing stimulus acyclic
@@ -150,12 +173,9 @@ module _ (laws : Laws) where
 
   on_proper : (words : RunWords) (order : Option (List ℕ)) → 1 ≤ words.banks → (machine : Machine) → IsValidMachine machine → IsCommand (order ≡ None) (words.netlist ∷ words.stimulus ∷ option_to_list order) (ExpectedOn words order machine)
   unfolding ExpectedOn
-  on_proper words order banks machine valid =
-      command_file (order ≡ None) words.netlist (words.stimulus ∷ option_to_list order) (λ text. After (IsNetlistOf text) (λ net. After (HasNoLoop net words.timing) (λ passed. After (HasRoom net machine words.timing) (λ fits. AfterStimulus words.stimulus net (EndsBy order words machine net))))) (λ text short.
-      command_after (order ≡ None) (words.stimulus ∷ option_to_list order) (IsNetlistOf text) (λ net. After (HasNoLoop net words.timing) (λ passed. After (HasRoom net machine words.timing) (λ fits. AfterStimulus words.stimulus net (EndsBy order words machine net)))) (netlist_check text) (λ net is.
-      command_after (order ≡ None) (words.stimulus ∷ option_to_list order) (HasNoLoop net words.timing) (λ passed. After (HasRoom net machine words.timing) (λ fits. AfterStimulus words.stimulus net (EndsBy order words machine net))) (loop_check net words.timing (laws.order_or_loop net words.timing) (laws.never_both net words.timing)) (λ passed acyclic.
-      command_after (order ≡ None) (words.stimulus ∷ option_to_list order) (HasRoom net machine words.timing) (λ fits. AfterStimulus words.stimulus net (EndsBy order words machine net)) (room_check net machine words.timing (laws.room net machine words.timing (laws.valid_netlists text net short is) valid acyclic)) (λ fits has.
-      stimulus_proper (order ≡ None) words.stimulus (option_to_list order) net (EndsBy order words machine net) (λ stimulus. ends_proper order words machine net stimulus banks (laws.valid_netlists text net short is) acyclic)))))
+  on_proper words order banks machine machine_valid =
+      design_proper (order ≡ None) words.netlist (words.stimulus ∷ option_to_list order) machine machine_valid words.timing (λ net. AfterStimulus words.stimulus net (EndsBy order words machine net)) (λ net valid acyclic fits.
+      stimulus_proper (order ≡ None) words.stimulus (option_to_list order) net (EndsBy order words machine net) (λ stimulus. ends_proper order words machine net stimulus banks valid acyclic))
 
   run_proper : (words : RunWords) (order : Option (List ℕ)) → 1 ≤ words.banks → IsCommand (order ≡ None) (option_to_list words.machine ++ (words.netlist ∷ words.stimulus ∷ option_to_list order)) (ExpectedRun words order)
   unfolding ExpectedRun
@@ -165,6 +185,7 @@ module _ (laws : Laws) where
   command_proper (command.Run words) range = run_proper words None range.banks_some
   command_proper (command.Refer words) range = refer_proper (None ≡ None) words
   command_proper (command.Order words) range = run_proper words words.order range.banks_some
+  command_proper (command.Plan words) range = plan_proper (None ≡ None) words
   command_proper (command.Show file) range = show_proper (None ≡ None) file
 
   -- ---- words
@@ -270,6 +291,11 @@ returns c =
             (λ needed limit lacks. c.fits_slots.ensures net machine timing valid fits needed limit lacks)
             (λ port needed limit lacks. c.fits_functions.ensures net machine timing fits port needed limit lacks);
         one = λ why other is is_too right right_too. c.one_refusal.ensures net machine timing valid why other right right_too is is_too;
+      };
+      once = λ net machine timing valid. record {
+        formed = λ nodes items. c.items_are_well_formed.ensures net timing nodes valid items;
+        items = c.one_list.ensures net timing;
+        homes = c.one_homes.ensures net machine timing;
       };
       order_or_loop = c.order_or_loop.ensures.one;
       never_both = c.order_or_loop.ensures.never_both;

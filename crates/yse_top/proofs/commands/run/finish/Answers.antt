@@ -1,4 +1,4 @@
--- By rounds the trace is written.
+-- Without an order file the trace is written.
 use Rattle.std.proofs.Common.{refl, inl, inr}
 use Rattle.yse_top.specs.commands.Run.{EndsBy, WritesTrace}
 use Rattle.yse_top.proofs.ChainLemmas.{follows_here}

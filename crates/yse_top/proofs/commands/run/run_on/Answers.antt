@@ -1,5 +1,5 @@
--- The run is expected after the netlist, its order and its fit.
-use Rattle.std.proofs.Common.{List, ℕ, Option, refl, inl, inr}
+-- The run is expected after the design.
+use Rattle.std.proofs.Common.{List, ℕ, Option, refl}
 use Rattle.std.specs.Option.{option_map}
 use Rattle.cmd_words.specs.declared.command.RunWords.{RunWords}
 use Rattle.machine_text.specs.declared.machine.Machine.{Machine}
@@ -7,25 +7,22 @@ use Rattle.net_defs.specs.declared.netlist.Netlist.{Netlist}
 use Rattle.yse_top.specs.Checks.{After, IsNetlistOf, HasNoLoop, HasRoom}
 use Rattle.yse_top.specs.Outcome.{Outcome}
 use Rattle.yse_top.specs.Readings.{Reading}
-use Rattle.yse_top.specs.commands.Run.{AfterStimulus, EndsBy, ExpectedOn}
-use Rattle.yse_top.proofs.ChainLemmas.{follows_file, follows_on, follows_here}
+use Rattle.yse_top.specs.commands.Run.{AfterDesign, AfterFit, AfterStimulus, EndsBy, ExpectedOn}
+use Rattle.yse_top.proofs.ChainLemmas.{follows_file, follows_on, follows_here, refused_design}
 use Rattle.yse_top.proofs.commands.run.run_on.Goals as goal
 
 module _ (words : RunWords) (order : Option (List ℕ)) (machine : Machine) where
-  abbrev of_room : Netlist → List Reading → Outcome → Type 0
-  of_room net = AfterStimulus words.stimulus net (EndsBy order words machine net)
-
-  abbrev of_order : Netlist → List Reading → Outcome → Type 0
-  of_order net = After (HasRoom net machine words.timing) (λ fits. of_room net)
+  abbrev of_design : Netlist → List Reading → Outcome → Type 0
+  of_design net = AfterStimulus words.stimulus net (EndsBy order words machine net)
 
   abbrev of_netlist : Netlist → List Reading → Outcome → Type 0
-  of_netlist net = After (HasNoLoop net words.timing) (λ passed. of_order net)
+  of_netlist net = AfterFit net machine words.timing (of_design net)
 
   abbrev of_text : List ℕ → List Reading → Outcome → Type 0
   of_text text = After (IsNetlistOf text) of_netlist
 
 pub returns-in-Ok-compiled-clause-expected : goal.returns-in-Ok-compiled-clause-expected
-unfolding ExpectedOn
+unfolding ExpectedOn AfterDesign
 returns-in-Ok-compiled-clause-expected g c =
     let e = rw c.as_slice.ensures at c.in-Ok-netlist_of.ensures in
     let machine = c.args.machine in
@@ -36,11 +33,11 @@ returns-in-Ok-compiled-clause-expected g c =
     let run = rw c.in-Ok-compiled.ensures.same at c.execute.ensures.expected in
     follows_file _ _ _ _ _ _ _ _ text _ (of_text words order machine) c.in-Ok.ensures.same_names c.in-Ok.ensures.same_bytes (rw c.as_bytes.ensures at c.in-Ok.ensures.text)
     (follows_on _ _ (IsNetlistOf text) (of_netlist words order machine) net _ _ _ e.checked
-    (follows_on _ _ (HasNoLoop net words.timing) (λ passed. of_order words order machine net) tt _ _ _ c.in-Ok-compiled.ensures.acyclic
-    (follows_on _ _ (HasRoom net machine words.timing) (λ fits. of_room words order machine net) tt _ _ _ c.in-Ok-compiled.ensures.fits run)))
+    (follows_on _ _ (HasNoLoop net words.timing) (λ passed. After (HasRoom net machine words.timing) (λ fits. of_design words order machine net)) tt _ _ _ c.in-Ok-compiled.ensures.acyclic
+    (follows_on _ _ (HasRoom net machine words.timing) (λ fits. of_design words order machine net) tt _ _ _ c.in-Ok-compiled.ensures.fits run)))
 
 pub returns-in-Ok-netlist_of-clause-expected : goal.returns-in-Ok-netlist_of-clause-expected
-unfolding ExpectedOn
+unfolding ExpectedOn AfterDesign
 returns-in-Ok-netlist_of-clause-expected g c =
     let e = rw c.as_slice.ensures at c.in-Ok-netlist_of.ensures in
     let machine = c.args.machine in
@@ -50,8 +47,4 @@ returns-in-Ok-netlist_of-clause-expected g c =
     let text = c.in-Ok.text in
     follows_file _ _ _ _ _ _ _ _ text _ (of_text words order machine) c.in-Ok.ensures.same_names c.in-Ok.ensures.same_bytes (rw c.as_bytes.ensures at c.in-Ok.ensures.text)
     (follows_on _ _ (IsNetlistOf text) (of_netlist words order machine) net _ _ _ e.checked
-    (elim c.in-Err-compiled.ensures.refused [
-      | inl looped ↦ follows_here _ _ _ _ (of_netlist words order machine net) (inr (refl, looped))
-      | inr (acyclic, crowded) ↦ follows_on _ _ (HasNoLoop net words.timing) (λ passed. of_order words order machine net) tt _ _ _ acyclic
-          (follows_here _ _ _ _ (of_order words order machine net) (inr (refl, crowded)))
-    ]))
+    (follows_here _ _ _ _ (of_netlist words order machine net) (refused_design net machine words.timing (of_design words order machine net) _ c.in-Err-compiled.ensures.refused)))

@@ -1,6 +1,6 @@
 use Rattle.yse_top.proofs.EndedLemmas.{run_prints, run_traces}
 use Rattle.yse_top.proofs.StepLemmas.{same_sound}
-use Rattle.yse_top.proofs.commands.steps.by_rounds.Goals as goal
+use Rattle.yse_top.proofs.commands.steps.to_end.Goals as goal
 
 pub returns-clause-printed : goal.returns-clause-printed
 returns-clause-printed c =

@@ -1,0 +1,31 @@
+-- The report is expected after the design.
+use Rattle.std.proofs.Common.{List, ℕ, refl}
+use Rattle.machine_text.specs.declared.machine.Machine.{Machine}
+use Rattle.net_defs.specs.declared.netlist.Netlist.{Netlist}
+use Rattle.net_defs.specs.declared.timing.Timing.{Timing}
+use Rattle.yse_top.specs.Checks.{After, Ends, Writes, IsNetlistOf}
+use Rattle.yse_top.specs.Outcome.{Outcome}
+use Rattle.yse_top.specs.Readings.{Reading}
+use Rattle.yse_top.specs.commands.Plan.{ExpectedPlanOn, IsReportOf}
+use Rattle.yse_top.specs.commands.Run.{AfterDesign, AfterFit}
+use Rattle.yse_top.proofs.ChainLemmas.{follows_file, follows_on, follows_here}
+use Rattle.yse_top.proofs.commands.plan.plan_on.Goals as goal
+
+module _ (machine : Machine) (timing : Timing) where
+  abbrev of_netlist : Netlist → List Reading → Outcome → Type 0
+  of_netlist net = AfterFit net machine timing (Ends (Writes (IsReportOf net machine timing)))
+
+  abbrev of_text : List ℕ → List Reading → Outcome → Type 0
+  of_text text = After (IsNetlistOf text) of_netlist
+
+pub returns-in-Ok-netlist_of-clause-expected : goal.returns-in-Ok-netlist_of-clause-expected
+unfolding ExpectedPlanOn AfterDesign
+returns-in-Ok-netlist_of-clause-expected g c =
+    let e = rw c.as_slice.ensures at c.in-Ok-netlist_of.ensures in
+    let machine = c.args.machine in
+    let timing = c.args.words.now.timing in
+    let net = c.in-Ok-netlist_of.net in
+    let text = c.in-Ok.text in
+    follows_file _ _ _ _ _ _ _ _ text _ (of_text machine timing) c.in-Ok.ensures.same_names c.in-Ok.ensures.same_bytes (rw c.as_bytes.ensures at c.in-Ok.ensures.text)
+    (follows_on _ _ (IsNetlistOf text) (of_netlist machine timing) net _ _ _ e.checked
+    (follows_here _ _ _ _ (of_netlist machine timing net) c.lay_out.ensures.expected))
