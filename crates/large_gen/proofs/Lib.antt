@@ -1,0 +1,3 @@
+pub mod DrawLemmas
+pub mod SummaryLemmas
+pub mod ValidLemmas
