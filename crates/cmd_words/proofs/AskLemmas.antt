@@ -1,9 +1,10 @@
 -- What arguments and values say, said of a parse.
-use Rattle.std.proofs.Common.{◌≡◌, List, [], ◌∷◌, Option, Some, sym, ap, ap₂, ◌∙◌}
+use Rattle.std.proofs.Common.{◌≡◌, inl, inr, List, [], ◌∷◌, Option, Some, option_map, sym, ap, ap₂, ◌∙◌}
 use Rattle.std.specs.Prelude.{option_and_then}
 use Rattle.clap.specs.declared.parser.matches.ArgMatches.{ArgMatches}
+use Rattle.cmd_words.specs.declared.command.WordNo.{WordNo}
 use Rattle.cmd_words.specs.Arguments.{Word, value_given}
-use Rattle.cmd_words.specs.Asked.{Values, of_plan, of_two_files, run_by, says}
+use Rattle.cmd_words.specs.Asked.{IsRefusal, Values, of_large, of_plan, of_two_files, large_by, run_by, says}
 use Rattle.cmd_words.specs.Parses.{arguments_found, both_of, one_of, value_found, IsParsedAs}
 use Rattle.cmd_words.specs.Uses.{Found}
 use Rattle.cmd_words.proofs.TestLemmas.{same_some}
@@ -14,17 +15,24 @@ pub says_found : {T : Type 0} (names words : List Word) (reading : List Word →
 says_found names words reading matches is =
     ap (option_and_then (λ (found : Found). reading found.arguments (value_given found.given))) is.parsed_as ∙ sym (ap₂ reading is.arguments is.values)
 
-both_are : (arguments : List Word) (value : Values) (netlist stimulus : Word) → both_of arguments ≡ Some (netlist, stimulus) → of_two_files arguments value ≡ run_by netlist stimulus value
-both_are (one ∷ other ∷ []) value netlist stimulus e =
-    ap (λ (files : Word × Word). run_by files.0 files.1 value) (same_some (one, other) (netlist, stimulus) e)
-both_are [] value netlist stimulus e = cc
-both_are (one ∷ []) value netlist stimulus e = cc
-both_are (one ∷ other ∷ third ∷ others) value netlist stimulus e = cc
+-- the two words
+both_are : (arguments : List Word) (one other : Word) → both_of arguments ≡ Some (one, other) → arguments ≡ one ∷ other ∷ []
+both_are (first ∷ second ∷ []) one other e = ap (λ (both : Word × Word). both.0 ∷ both.1 ∷ []) (same_some (first, second) (one, other) e)
+both_are [] one other e = cc
+both_are (first ∷ []) one other e = cc
+both_are (first ∷ second ∷ third ∷ others) one other e = cc
 
 pub says_two : (names words : List Word) (matches : ArgMatches) (netlist stimulus : Word) → IsParsedAs names words matches
     → Some (netlist, stimulus) ≡ both_of (arguments_found matches) → says names of_two_files words ≡ run_by netlist stimulus (value_found matches)
 says_two names words matches netlist stimulus is both =
-    says_found names words of_two_files matches is ∙ both_are (arguments_found matches) (value_found matches) netlist stimulus (sym both)
+    says_found names words of_two_files matches is
+    ∙ ap (λ arguments. of_two_files arguments (value_found matches)) (both_are (arguments_found matches) netlist stimulus (sym both))
+
+pub says_large : (names words : List Word) (matches : ArgMatches) (gates cycles : Word) → IsParsedAs names words matches
+    → Some (gates, cycles) ≡ both_of (arguments_found matches) → says names of_large words ≡ large_by gates cycles (value_found matches)
+says_large names words matches gates cycles is both =
+    says_found names words of_large matches is
+    ∙ ap (λ arguments. of_large arguments (value_found matches)) (both_are (arguments_found matches) gates cycles (sym both))
 
 -- one word is the file of a plan
 one_is : (arguments : List Word) (value : Values) (netlist : Word) → one_of arguments ≡ Some netlist → of_plan arguments value ≡ run_by netlist [] value
@@ -36,3 +44,8 @@ pub says_plan : (names words : List Word) (matches : ArgMatches) (netlist : Word
     → Some netlist ≡ one_of (arguments_found matches) → says names of_plan words ≡ run_by netlist [] (value_found matches)
 says_plan names words matches netlist is one =
     says_found names words of_plan matches is ∙ one_is (arguments_found matches) (value_found matches) netlist (sym one)
+
+-- what is refused asks for no command
+pub made_refused : {T U : Type 0} (make : T → U) (answer : Option T) (refusal : WordNo) → IsRefusal answer refusal → IsRefusal (option_map make answer) refusal
+made_refused make answer refusal (inl full) = inl full
+made_refused make answer refusal (inr usage) = inr (usage.0, ap (option_map make) usage.1)

@@ -5,13 +5,13 @@ use Rattle.std.specs.List.{AllByRecursion, list_all}
 use Rattle.std.proofs.lemmas.Slice.Eq.{bytes_eq-Decides}
 use Rattle.net_defs.specs.declared.timing.Timing.{Timing}
 use Rattle.cmd_words.specs.declared.command.Command.{Command}
-use Rattle.cmd_words.specs.declared.command.Command.TheVariants.{Run, Refer, Order, Plan, Show}
+use Rattle.cmd_words.specs.declared.command.Command.TheVariants.{Run, Refer, Order, Plan, Show, Large}
 use Rattle.cmd_words.specs.declared.command.RunWords.{RunWords}
 use Rattle.cmd_words.specs.declared.command.WordNo.{WordNo}
 use Rattle.cmd_words.specs.Arguments.{Word, Piece, alone, spaced, joined, options_of, IsPiece, AreArguments, value_given}
-use Rattle.cmd_words.specs.Asked.{Values, asked, of_one_file, of_plan, of_two_files, run_by, run_with, says, Answers}
-use Rattle.cmd_words.specs.Forms.{HasForm, HasNoForm, IsCall, IsRun}
-use Rattle.cmd_words.specs.Settings.{run_options, refer_options, order_options, plan_options, show_options, timing_by, banks_by}
+use Rattle.cmd_words.specs.Asked.{Values, asked, of_large, of_one_file, of_plan, of_two_files, large_with, run_by, run_with, says, Answers}
+use Rattle.cmd_words.specs.Forms.{HasForm, HasNoForm, IsCall, IsLarge, IsRun}
+use Rattle.cmd_words.specs.Settings.{run_options, refer_options, order_options, plan_options, show_options, large_options, timing_by, banks_by, workers_by, gates_of, cycles_of}
 use Rattle.cmd_words.specs.Uses.{Found, parsed}
 use Rattle.cmd_words.proofs.ArgumentLemmas.{arguments_from, parsed_from}
 use Rattle.cmd_words.proofs.LookLemmas.{is_proper}
@@ -27,23 +27,31 @@ call_says names proper reading name words arguments given call =
 
 -- the simulation of values
 run_is : (run : RunWords) (value : Values) → run.machine ≡ value (codes "machine") → run.order ≡ value (codes "order")
-    → timing_by value ≡ Some run.timing → banks_by value ≡ Some run.banks → run_by run.netlist run.stimulus value ≡ Some run
-run_is run value machine order timing banks =
-    ap₂ (run_with run.netlist run.stimulus value) timing banks
+    → timing_by value ≡ Some run.timing → banks_by value ≡ Some run.banks → workers_by value ≡ Some run.workers → run_by run.netlist run.stimulus value ≡ Some run
+run_is run value machine order timing banks workers =
+    ap₂ (λ timing banks. run_with run.netlist run.stimulus value timing banks (workers_by value)) timing banks
+    ∙ ap (run_with run.netlist run.stimulus value (Some run.timing) (Some run.banks)) workers
     ∙ ap₂ (λ machine order. Some (record run { machine = machine; order = order })) (sym machine) (sym order)
 
 run_says : (names : List Word) → list_all is_proper names ≡ true → (name : Word) (words : List Word) (run : RunWords) → (form : IsRun name names words (run.netlist ∷ run.stimulus ∷ []) run)
     → says names of_two_files form.call.others ≡ Some run
 run_says names proper name words run form =
     call_says names proper of_two_files name words (run.netlist ∷ run.stimulus ∷ []) form.given form.call
-    ∙ run_is run (value_given form.given) form.machine form.order form.timing form.banks
+    ∙ run_is run (value_given form.given) form.machine form.order form.timing form.banks form.workers
 
 plan_says : (words : List Word) (run : RunWords) → (form : IsRun (codes "plan") plan_options words (run.netlist ∷ []) run) → run.stimulus ≡ []
     → says plan_options of_plan form.call.others ≡ Some run
 plan_says words run form none =
     call_says plan_options refl of_plan (codes "plan") words (run.netlist ∷ []) form.given form.call
     ∙ ap (λ stimulus. run_by run.netlist stimulus (value_given form.given)) (sym none)
-    ∙ run_is run (value_given form.given) form.machine form.order form.timing form.banks
+    ∙ run_is run (value_given form.given) form.machine form.order form.timing form.banks form.workers
+
+large_says : (words : List Word) (gates cycles workers : ℕ) → (form : IsLarge words gates cycles workers)
+    → says large_options of_large form.call.others ≡ Some (Large gates cycles workers)
+large_says words gates cycles workers form =
+    call_says large_options refl of_large (codes "large") words (form.gates_word ∷ form.cycles_word ∷ []) form.given form.call
+    ∙ ap₂ (λ gates cycles. large_with gates cycles (workers_by (value_given form.given))) form.gates_are form.cycles_are
+    ∙ ap (large_with (Some gates) (Some cycles)) form.workers_are
 
 pub asked_from : (words : List Word) (command : Command) → HasForm words command → asked words ≡ Some command
 unfolding asked
@@ -52,6 +60,7 @@ asked_from words (Refer run) form = rw (form.call.words_are) (ap (option_map Ref
 asked_from words (Order run) form = rw (form.call.words_are) (ap (option_map Order) (run_says order_options refl (codes "order") words run form))
 asked_from words (Plan run) form = rw (form.0.call.words_are) (ap (option_map Plan) (plan_says words run form.0 form.1))
 asked_from words (Show netlist) form = rw (form.words_are) (ap (option_map Show) (call_says show_options refl of_one_file (codes "show") words (netlist ∷ []) [] form))
+asked_from words (Large gates cycles workers) form = rw (form.call.words_are) (large_says words gates cycles workers form)
 
 -- ---- from what is asked to the form
 
@@ -84,13 +93,14 @@ record IsRunBy (arguments : List Word) (value : Values) (run : RunWords) : Type 
   pub order : run.order ≡ value (codes "order")
   pub timing : timing_by value ≡ Some run.timing
   pub banks : banks_by value ≡ Some run.banks
+  pub workers : workers_by value ≡ Some run.workers
 
 run_back : (netlist stimulus : Word) (value : Values) (run : RunWords) → run_by netlist stimulus value ≡ Some run → IsRunBy (netlist ∷ stimulus ∷ []) value run
-run_back netlist stimulus value run e = go (timing_by value) (banks_by value) refl refl e
+run_back netlist stimulus value run e = go (timing_by value) (banks_by value) (workers_by value) refl refl refl e
   where
-    go : (timing : Option Timing) (banks : Option ℕ) → timing_by value ≡ timing → banks_by value ≡ banks → run_with netlist stimulus value timing banks ≡ Some run
-        → IsRunBy (netlist ∷ stimulus ∷ []) value run
-    go (Some timing) (Some banks) t b e =
+    go : (timing : Option Timing) (banks workers : Option ℕ) → timing_by value ≡ timing → banks_by value ≡ banks → workers_by value ≡ workers
+        → run_with netlist stimulus value timing banks workers ≡ Some run → IsRunBy (netlist ∷ stimulus ∷ []) value run
+    go (Some timing) (Some banks) (Some workers) t b w e =
         let is = same_some (record {
           netlist = netlist;
           stimulus = stimulus;
@@ -98,6 +108,7 @@ run_back netlist stimulus value run e = go (timing_by value) (banks_by value) re
           order = value (codes "order");
           timing = timing;
           banks = banks;
+          workers = workers;
         }) run e in
         record {
           arguments_are = ap (λ (run : RunWords). run.netlist ∷ run.stimulus ∷ []) is;
@@ -105,9 +116,11 @@ run_back netlist stimulus value run e = go (timing_by value) (banks_by value) re
           order = sym (ap (λ (run : RunWords). run.order) is);
           timing = t ∙ ap (λ (run : RunWords). Some run.timing) is;
           banks = b ∙ ap (λ (run : RunWords). Some run.banks) is;
+          workers = w ∙ ap (λ (run : RunWords). Some run.workers) is;
         }
-    go (Some timing) None t b e = cc
-    go None banks t b e = cc
+    go (Some timing) (Some banks) None t b w e = cc
+    go (Some timing) None workers t b w e = cc
+    go None banks workers t b w e = cc
 
 two_back : (arguments : List Word) (value : Values) (run : RunWords) → of_two_files arguments value ≡ Some run → IsRunBy arguments value run
 two_back (netlist ∷ stimulus ∷ []) value run e = run_back netlist stimulus value run e
@@ -127,6 +140,7 @@ run_form names name words run e =
       order = is.order;
       timing = is.timing;
       banks = is.banks;
+      workers = is.workers;
     }
 
 -- two lists of two words
@@ -146,7 +160,7 @@ plan_back (netlist ∷ []) value run e =
     record {
       arguments_are = ap (λ (word : Word). word ∷ []) same.0;
       none = sym same.1;
-      is = record { arguments_are = refl; machine = is.machine; order = is.order; timing = is.timing; banks = is.banks };
+      is = record { arguments_are = refl; machine = is.machine; order = is.order; timing = is.timing; banks = is.banks; workers = is.workers };
     }
 plan_back [] value run e = cc
 plan_back (one ∷ other ∷ others) value run e = cc
@@ -163,6 +177,7 @@ plan_form words run e =
         order = by.is.order;
         timing = by.is.timing;
         banks = by.is.banks;
+        workers = by.is.workers;
       },
       by.none,
     )
@@ -189,28 +204,85 @@ show_form words netlist e =
       arguments_are = rw (one_back so.found.arguments (value_given so.found.given) netlist so.answers, none) at so.arguments;
     }
 
--- a command is the one that is named, or one of the others
-picked : {T : Type 0} (name text : Word) (words : List Word) (make : T → Command) (given : Option T) (rest : Option Command) (command : Command)
-    → (if bytes_eq name text then option_map make given else rest) ≡ Some command
-    → ((answer : T) → given ≡ Some answer → HasForm (text ∷ words) (make answer))
-    → (rest ≡ Some command → HasForm (name ∷ words) command) → HasForm (name ∷ words) command
-picked name text words make given rest command e this others = go (bytes_eq name text) refl e
+-- the numbers of a generated design
+record IsLargeBy (arguments : List Word) (value : Values) (gates cycles workers : ℕ) : Type 0 where
+  pub gates_word : Word
+  pub cycles_word : Word
+  pub arguments_are : arguments ≡ gates_word ∷ cycles_word ∷ []
+  pub gates_are : gates_of gates_word ≡ Some gates
+  pub cycles_are : cycles_of cycles_word ≡ Some cycles
+  pub workers_are : workers_by value ≡ Some workers
+
+-- a command of a generated design
+record IsLargeMade (arguments : List Word) (value : Values) (command : Command) : Type 0 where
+  pub gates : ℕ
+  pub cycles : ℕ
+  pub workers : ℕ
+  pub command_is : command ≡ Large gates cycles workers
+  pub by : IsLargeBy arguments value gates cycles workers
+
+large_back : (arguments : List Word) (value : Values) (command : Command) → of_large arguments value ≡ Some command → IsLargeMade arguments value command
+large_back (gates ∷ cycles ∷ []) value command e = go (gates_of gates) (cycles_of cycles) (workers_by value) refl refl refl e
   where
-    go : (same : Bool) → bytes_eq name text ≡ same → (if same then option_map make given else rest) ≡ Some command → HasForm (name ∷ words) command
-    go true is e =
-        let made = made_back make given command e in
-        rw (made.command_is, (bytes_eq-Decides name text).0 is) (this made.answer made.given_is)
+    go : (g c w : Option ℕ) → gates_of gates ≡ g → cycles_of cycles ≡ c → workers_by value ≡ w
+        → large_with g c w ≡ Some command → IsLargeMade (gates ∷ cycles ∷ []) value command
+    go (Some g) (Some c) (Some w) gs cs ws e =
+        record {
+          gates = g;
+          cycles = c;
+          workers = w;
+          command_is = sym (same_some (Large g c w) command e);
+          by = record { gates_word = gates; cycles_word = cycles; arguments_are = refl; gates_are = gs; cycles_are = cs; workers_are = ws };
+        }
+    go (Some g) (Some c) None gs cs ws e = cc
+    go (Some g) None w gs cs ws e = cc
+    go None c w gs cs ws e = cc
+large_back [] value command e = cc
+large_back (one ∷ []) value command e = cc
+large_back (one ∷ other ∷ third ∷ others) value command e = cc
+
+large_form : (words : List Word) (command : Command) → says large_options of_large words ≡ Some command → HasForm (codes "large" ∷ words) command
+large_form words command e =
+    let so = says_back large_options of_large words command e in
+    let made = large_back so.found.arguments (value_given so.found.given) command so.answers in
+    rw (made.command_is) (record {
+      gates_word = made.by.gates_word;
+      cycles_word = made.by.cycles_word;
+      given = so.found.given;
+      call = record { others = words; words_are = refl; arguments_are = rw (made.by.arguments_are) at so.arguments };
+      gates_are = made.by.gates_are;
+      cycles_are = made.by.cycles_are;
+      workers_are = made.by.workers_are;
+    })
+
+-- a command is the one that is named, or one of the others
+picked : (name text : Word) (words : List Word) (given rest : Option Command) (command : Command)
+    → (if bytes_eq name text then given else rest) ≡ Some command
+    → (given ≡ Some command → HasForm (text ∷ words) command)
+    → (rest ≡ Some command → HasForm (name ∷ words) command) → HasForm (name ∷ words) command
+picked name text words given rest command e this others = go (bytes_eq name text) refl e
+  where
+    go : (same : Bool) → bytes_eq name text ≡ same → (if same then given else rest) ≡ Some command → HasForm (name ∷ words) command
+    go true is e = rw ((bytes_eq-Decides name text).0 is) (this e)
     go false is e = others e
+
+-- the command has the form if what it is made of gives it
+made : {T : Type 0} (words : List Word) (make : T → Command) (given : Option T) (command : Command)
+    → ((answer : T) → given ≡ Some answer → HasForm words (make answer)) → option_map make given ≡ Some command → HasForm words command
+made words make given command this e =
+    let is = made_back make given command e in
+    rw (is.command_is) (this is.answer is.given_is)
 
 pub form_from : (words : List Word) (command : Command) → asked words ≡ Some command → HasForm words command
 unfolding asked
 form_from [] command e = cc
 form_from (name ∷ words) command e =
-    picked name (codes "run") words Run (says run_options of_two_files words) _ command e (run_form run_options (codes "run") words) (λ e.
-    picked name (codes "refer") words Refer (says refer_options of_two_files words) _ command e (run_form refer_options (codes "refer") words) (λ e.
-    picked name (codes "order") words Order (says order_options of_two_files words) _ command e (run_form order_options (codes "order") words) (λ e.
-    picked name (codes "plan") words Plan (says plan_options of_plan words) _ command e (plan_form words) (λ e.
-    picked name (codes "show") words Show (says show_options of_one_file words) _ command e (show_form words) (λ e. cc)))))
+    picked name (codes "run") words _ _ command e (made (codes "run" ∷ words) Run (says run_options of_two_files words) command (run_form run_options (codes "run") words)) (λ e.
+    picked name (codes "refer") words _ _ command e (made (codes "refer" ∷ words) Refer (says refer_options of_two_files words) command (run_form refer_options (codes "refer") words)) (λ e.
+    picked name (codes "order") words _ _ command e (made (codes "order" ∷ words) Order (says order_options of_two_files words) command (run_form order_options (codes "order") words)) (λ e.
+    picked name (codes "plan") words _ _ command e (made (codes "plan" ∷ words) Plan (says plan_options of_plan words) command (plan_form words)) (λ e.
+    picked name (codes "show") words _ _ command e (made (codes "show" ∷ words) Show (says show_options of_one_file words) command (show_form words)) (λ e.
+    picked name (codes "large") words _ _ command e (large_form words command) (λ e. cc))))))
 
 -- ---- the contract
 

@@ -10,14 +10,14 @@ use Rattle.net_defs.specs.declared.timing.Mode.TheVariants.{Rank, Unit}
 use Rattle.net_defs.specs.declared.timing.Init.{Init}
 use Rattle.net_defs.specs.Valid.{IsValidTiming}
 use Rattle.cmd_words.specs.declared.command.Command.{Command}
-use Rattle.cmd_words.specs.declared.command.Command.TheVariants.{Run, Refer, Order, Plan, Show}
+use Rattle.cmd_words.specs.declared.command.Command.TheVariants.{Run, Refer, Order, Plan, Show, Large}
 use Rattle.cmd_words.specs.declared.command.RunWords.{RunWords}
 use Rattle.cmd_words.specs.declared.command.WordNo.{WordNo}
-use Rattle.cmd_words.specs.declared.options.TheConstants.{MAX_BANKS}
+use Rattle.cmd_words.specs.declared.options.TheConstants.{MAX_BANKS, MAX_GATES, MAX_LARGE_CYCLES, MAX_WORKERS}
 use Rattle.cmd_words.specs.Arguments.{Word, value_given}
 use Rattle.cmd_words.specs.Asked.{Values, Answers, asked}
-use Rattle.cmd_words.specs.Forms.{HasForm, IsInRange, IsRun, IsRunInRange}
-use Rattle.cmd_words.specs.Settings.{allows_units, count_or, mode_of, init_of, timing_with}
+use Rattle.cmd_words.specs.Forms.{HasForm, IsInRange, IsLarge, IsLargeInRange, IsRun, IsRunInRange}
+use Rattle.cmd_words.specs.Settings.{allows_units, count_of, count_or, mode_of, init_of, timing_with}
 use Rattle.cmd_words.proofs.FormLemmas.{form_from}
 
 -- a number within limits
@@ -30,14 +30,18 @@ ranged least most (Some m) n is = by (nat_le least m) (nat_le m most) refl refl 
     by true false p q e = cc
     by false b p q e = cc
 
--- a count, or one where none is given
-counted : (most : ℕ) (value : Option Word) (n : ℕ) → 1 ≤ most → count_or most 1 value ≡ Some n → (1 ≤ n) × (n ≤ most)
-counted most None n some is = let same : 1 ≡ n = cc in rw (sym same) (omega arith, some)
-counted most (Some digits) n some is = by (nat_le (length digits) 10) is
+-- a count
+counted : (most : ℕ) (digits : Word) (n : ℕ) → count_of most digits ≡ Some n → (1 ≤ n) × (n ≤ most)
+counted most digits n is = by (nat_le (length digits) 10) is
   where
     by : (b : Bool) → (if b then within 1 most (number_of digits) else None) ≡ Some n → (1 ≤ n) × (n ≤ most)
     by true e = ranged 1 most (number_of digits) n e
     by false e = cc
+
+-- a count, or a number in range where none is given
+counted_or : (most missing : ℕ) (value : Option Word) (n : ℕ) → 1 ≤ missing → missing ≤ most → count_or most missing value ≡ Some n → (1 ≤ n) × (n ≤ most)
+counted_or most missing None n some few is = let same : missing ≡ n = cc in rw (sym same) (some, few)
+counted_or most missing (Some digits) n some few is = counted most digits n is
 
 -- in rank order a cycle is one turn
 one_turn : (mode : Mode) (units : ℕ) → allows_units mode units ≡ true → mode ≡ Rank → units ≡ 1
@@ -57,18 +61,35 @@ timed value (Some mode) (Some units) (Some init) timing are is = by (allows_unit
     by : (b : Bool) → allows_units mode units ≡ b → (if b then Some (record { mode = mode; units = units; init = init }) else None) ≡ Some timing → IsValidTiming timing
     by true allows e =
         let same : record { mode = mode; units = units; init = init } ≡ timing = cc in
-        let range = counted MAX_UNITS value units (omega arith) are in
+        let range = counted_or MAX_UNITS 1 value units (omega arith) (omega arith) are in
         subst IsValidTiming same (record { some = range.0; few = range.1; rank = one_turn mode units allows })
     by false allows e = cc
 
 run_in_range : (name : Word) (options words arguments : List Word) (run : RunWords) → IsRun name options words arguments run → IsRunInRange run
 run_in_range name options words arguments run form =
     let value : Values = value_given form.given in
-    let banks = counted MAX_BANKS (value (codes "banks")) run.banks (omega arith) form.banks in
+    let banks = counted_or MAX_BANKS 1 (value (codes "banks")) run.banks (omega arith) (omega arith) form.banks in
+    let workers = counted_or MAX_WORKERS 4 (value (codes "workers")) run.workers (omega arith) (omega arith) form.workers in
     record {
       timing = timed (value (codes "units")) (mode_of (value (codes "mode"))) (count_or MAX_UNITS 1 (value (codes "units"))) (init_of (value (codes "init"))) run.timing refl form.timing;
       banks_some = banks.0;
       banks_few = banks.1;
+      workers_some = workers.0;
+      workers_few = workers.1;
+    }
+
+large_in_range : (words : List Word) (gates cycles workers : ℕ) → IsLarge words gates cycles workers → IsLargeInRange gates cycles workers
+large_in_range words gates cycles workers form =
+    let gates_in = counted MAX_GATES form.gates_word gates form.gates_are in
+    let cycles_in = counted MAX_LARGE_CYCLES form.cycles_word cycles form.cycles_are in
+    let workers_in = counted_or MAX_WORKERS 4 (value_given form.given (codes "workers")) workers (omega arith) (omega arith) form.workers_are in
+    record {
+      gates_some = gates_in.0;
+      gates_few = gates_in.1;
+      cycles_some = cycles_in.0;
+      cycles_few = cycles_in.1;
+      workers_some = workers_in.0;
+      workers_few = workers_in.1;
     }
 
 pub in_range : (words : List Word) (command : Command) → HasForm words command → IsInRange command
@@ -77,6 +98,7 @@ in_range words (Refer run) form = run_in_range _ _ words _ run form
 in_range words (Order run) form = run_in_range _ _ words _ run form
 in_range words (Plan run) form = run_in_range _ _ words _ run form.0
 in_range words (Show netlist) form = tt
+in_range words (Large gates cycles workers) form = large_in_range words gates cycles workers form
 
 pub read_in_range : (words : List Word) (result : Result Command WordNo) → Answers result (asked words) → IfOk result IsInRange
 read_in_range words (Ok command) answers = in_range words command (form_from words command answers)

@@ -2,32 +2,33 @@
 use Rattle.std.specs.Prelude.{◌≡◌, ◌⊎◌, ℕ, List, [], ◌∷◌, if◌then◌else◌, Option, Some, None, option_map, option_and_then, Result, MatchResult, codes, bytes_eq}
 use Rattle.net_defs.specs.declared.timing.Timing.{Timing}
 use Rattle.cmd_words.specs.declared.command.Command.{Command}
-use Rattle.cmd_words.specs.declared.command.Command.TheVariants.{Run, Refer, Order, Plan, Show}
+use Rattle.cmd_words.specs.declared.command.Command.TheVariants.{Run, Refer, Order, Plan, Show, Large}
 use Rattle.cmd_words.specs.declared.command.RunWords.{RunWords}
 use Rattle.cmd_words.specs.declared.command.WordNo.{WordNo}
 use Rattle.cmd_words.specs.declared.command.WordNo.TheVariants.{Usage, Memory}
 use Rattle.cmd_words.specs.Arguments.{Word, value_given}
-use Rattle.cmd_words.specs.Settings.{run_options, refer_options, order_options, plan_options, show_options, timing_by, banks_by}
+use Rattle.cmd_words.specs.Settings.{run_options, refer_options, order_options, plan_options, show_options, large_options, timing_by, banks_by, workers_by, gates_of, cycles_of}
 use Rattle.cmd_words.specs.Uses.{parsed}
 
 -- the value of each option that is given
 abbrev pub Values : Type 0
 Values = Word → Option Word
 
-abbrev pub run_with : Word → Word → Values → Option Timing → Option ℕ → Option RunWords
-run_with netlist stimulus value (Some timing) (Some banks) = Some (record {
+abbrev pub run_with : Word → Word → Values → Option Timing → Option ℕ → Option ℕ → Option RunWords
+run_with netlist stimulus value (Some timing) (Some banks) (Some workers) = Some (record {
   netlist = netlist;
   stimulus = stimulus;
   machine = value (codes "machine");
   order = value (codes "order");
   timing = timing;
   banks = banks;
+  workers = workers;
 })
-run_with netlist stimulus value _ _ = None
+run_with netlist stimulus value _ _ _ = None
 
 -- a simulation, by its files and the values of its options
 abbrev pub run_by : Word → Word → Values → Option RunWords
-run_by netlist stimulus value = run_with netlist stimulus value (timing_by value) (banks_by value)
+run_by netlist stimulus value = run_with netlist stimulus value (timing_by value) (banks_by value) (workers_by value)
 
 -- a simulation, by its positional arguments
 abbrev pub of_two_files : List Word → Values → Option RunWords
@@ -43,6 +44,19 @@ abbrev pub of_one_file : List Word → Values → Option Word
 of_one_file (netlist ∷ []) value = Some netlist
 of_one_file _ value = None
 
+abbrev pub large_with : Option ℕ → Option ℕ → Option ℕ → Option Command
+large_with (Some gates) (Some cycles) (Some workers) = Some (Large gates cycles workers)
+large_with _ _ _ = None
+
+-- a generated design, by its two numbers and the values of its options
+abbrev pub large_by : Word → Word → Values → Option Command
+large_by gates cycles value = large_with (gates_of gates) (cycles_of cycles) (workers_by value)
+
+-- a generated design, by its positional arguments
+abbrev pub of_large : List Word → Values → Option Command
+of_large (gates ∷ cycles ∷ []) value = large_by gates cycles value
+of_large _ value = None
+
 -- what the words behind the name of a command say, by what their arguments and values say
 abbrev pub says : {T : Type 0} → List Word → (List Word → Values → Option T) → List Word → Option T
 says names reading words = option_and_then (λ found. reading found.arguments (value_given found.given)) (parsed names words)
@@ -54,6 +68,7 @@ asked_by name words =
     else if bytes_eq name (codes "order") then option_map Order (says order_options of_two_files words)
     else if bytes_eq name (codes "plan") then option_map Plan (says plan_options of_plan words)
     else if bytes_eq name (codes "show") then option_map Show (says show_options of_one_file words)
+    else if bytes_eq name (codes "large") then says large_options of_large words
     else None
 
 -- the command of the words, and none where they are of no form

@@ -1,15 +1,15 @@
 -- The form of the words of each command.
-use Rattle.std.specs.Prelude.{◌≡◌, ◌↔◌, ◌⊎◌, ◌≤◌, ⊤, List, [], ◌∷◌, Some, codes}
+use Rattle.std.specs.Prelude.{◌≡◌, ◌↔◌, ◌⊎◌, ◌≤◌, ⊤, ℕ, List, [], ◌∷◌, Some, codes}
 use Rattle.net_defs.specs.Valid.{IsValidTiming}
 use Rattle.cmd_words.specs.declared.command.Command.{Command}
-use Rattle.cmd_words.specs.declared.command.Command.TheVariants.{Run, Refer, Order, Plan, Show}
+use Rattle.cmd_words.specs.declared.command.Command.TheVariants.{Run, Refer, Order, Plan, Show, Large}
 use Rattle.cmd_words.specs.declared.command.RunWords.{RunWords}
 use Rattle.cmd_words.specs.declared.command.WordNo.{WordNo}
 use Rattle.cmd_words.specs.declared.command.WordNo.TheVariants.{Usage, Memory}
-use Rattle.cmd_words.specs.declared.options.TheConstants.{MAX_BANKS}
+use Rattle.cmd_words.specs.declared.options.TheConstants.{MAX_BANKS, MAX_GATES, MAX_LARGE_CYCLES, MAX_WORKERS}
 use Rattle.cmd_words.specs.Arguments.{Word, AreArguments, value_given}
 use Rattle.cmd_words.specs.Asked.{asked}
-use Rattle.cmd_words.specs.Settings.{run_options, refer_options, order_options, plan_options, show_options, timing_by, banks_by}
+use Rattle.cmd_words.specs.Settings.{run_options, refer_options, order_options, plan_options, show_options, large_options, timing_by, banks_by, workers_by, gates_of, cycles_of}
 
 -- the name of a command, and behind it these positional arguments and options
 pub record IsCall (name : Word) (options words arguments : List Word) (given : List (Word × Word)) : Type 0 where
@@ -25,6 +25,17 @@ pub record IsRun (name : Word) (options words arguments : List Word) (run : RunW
   pub order : run.order ≡ value_given given (codes "order")
   pub timing : timing_by (value_given given) ≡ Some run.timing
   pub banks : banks_by (value_given given) ≡ Some run.banks
+  pub workers : workers_by (value_given given) ≡ Some run.workers
+
+-- the call of a generated design: two words that are numbers, and the workers
+pub record IsLarge (words : List Word) (gates cycles workers : ℕ) : Type 0 where
+  pub gates_word : Word
+  pub cycles_word : Word
+  pub given : List (Word × Word)
+  pub call : IsCall (codes "large") large_options words (gates_word ∷ cycles_word ∷ []) given
+  pub gates_are : gates_of gates_word ≡ Some gates
+  pub cycles_are : cycles_of cycles_word ≡ Some cycles
+  pub workers_are : workers_by (value_given given) ≡ Some workers
 
 -- the words are of the form of the command
 abbrev pub HasForm : List Word → Command → Type 0
@@ -33,6 +44,7 @@ HasForm words (Refer run) = IsRun (codes "refer") refer_options words (run.netli
 HasForm words (Order run) = IsRun (codes "order") order_options words (run.netlist ∷ run.stimulus ∷ []) run
 HasForm words (Plan run) = IsRun (codes "plan") plan_options words (run.netlist ∷ []) run × (run.stimulus ≡ [])
 HasForm words (Show netlist) = IsCall (codes "show") show_options words (netlist ∷ []) []
+HasForm words (Large gates cycles workers) = IsLarge words gates cycles workers
 
 -- why words are refused: memory ran out, or they are of the form of no command
 abbrev pub HasNoForm : List Word → WordNo → Type 0
@@ -44,6 +56,16 @@ pub record IsRunInRange (run : RunWords) : Type 0 where
   pub timing : IsValidTiming run.timing
   pub banks_some : 1 ≤ run.banks
   pub banks_few : run.banks ≤ MAX_BANKS
+  pub workers_some : 1 ≤ run.workers
+  pub workers_few : run.workers ≤ MAX_WORKERS
+
+pub record IsLargeInRange (gates cycles workers : ℕ) : Type 0 where
+  pub gates_some : 1 ≤ gates
+  pub gates_few : gates ≤ MAX_GATES
+  pub cycles_some : 1 ≤ cycles
+  pub cycles_few : cycles ≤ MAX_LARGE_CYCLES
+  pub workers_some : 1 ≤ workers
+  pub workers_few : workers ≤ MAX_WORKERS
 
 -- the numbers of the command are in their ranges
 abbrev pub IsInRange : Command → Type 0
@@ -52,6 +74,7 @@ IsInRange (Refer run) = IsRunInRange run
 IsInRange (Order run) = IsRunInRange run
 IsInRange (Plan run) = IsRunInRange run
 IsInRange (Show netlist) = ⊤
+IsInRange (Large gates cycles workers) = IsLargeInRange gates cycles workers
 
 -- ---- laws
 

@@ -7,13 +7,13 @@ use Rattle.net_defs.specs.declared.timing.Mode.{Mode}
 use Rattle.net_defs.specs.declared.timing.Mode.TheVariants.{Rank, Unit}
 use Rattle.net_defs.specs.declared.timing.Init.{Init}
 use Rattle.net_defs.specs.declared.timing.Init.TheVariants.{Undef, Zero}
-use Rattle.cmd_words.specs.declared.options.TheConstants.{MAX_BANKS}
+use Rattle.cmd_words.specs.declared.options.TheConstants.{MAX_BANKS, MAX_GATES, MAX_LARGE_CYCLES, MAX_WORKERS}
 use Rattle.cmd_words.specs.Arguments.{Word}
 
 -- ---- the options of each command
 
 abbrev pub run_options : List Word
-run_options = codes "machine" ∷ codes "mode" ∷ codes "units" ∷ codes "init" ∷ []
+run_options = codes "machine" ∷ codes "mode" ∷ codes "units" ∷ codes "init" ∷ codes "workers" ∷ codes "banks" ∷ []
 
 abbrev pub refer_options : List Word
 refer_options = codes "mode" ∷ codes "units" ∷ codes "init" ∷ []
@@ -27,6 +27,9 @@ plan_options = codes "machine" ∷ codes "mode" ∷ []
 abbrev pub show_options : List Word
 show_options = []
 
+abbrev pub large_options : List Word
+large_options = codes "workers" ∷ []
+
 -- ---- what one value says
 
 -- a number of at most ten digits, from 1 to `most`
@@ -37,6 +40,14 @@ count_of most digits = if nat_le (length digits) 10 then within 1 most (number_o
 abbrev pub count_or : ℕ → ℕ → Option Word → Option ℕ
 count_or most missing None = Some missing
 count_or most missing (Some digits) = count_of most digits
+
+-- the gates of a generated design: 1 to 30,000
+abbrev pub gates_of : Word → Option ℕ
+gates_of = count_of MAX_GATES
+
+-- the cycles that it is run for: 1 to 10,000
+abbrev pub cycles_of : Word → Option ℕ
+cycles_of = count_of MAX_LARGE_CYCLES
 
 -- the mode, and rank order where none is given
 abbrev pub mode_of : Option Word → Option Mode
@@ -74,3 +85,7 @@ timing_by value =
 -- the words of each send: 1 to 8, and 1 where none are given
 abbrev pub banks_by : (Word → Option Word) → Option ℕ
 banks_by value = count_or MAX_BANKS 1 (value (codes "banks"))
+
+-- the workers: 1 to 64, and 4 where none are given
+abbrev pub workers_by : (Word → Option Word) → Option ℕ
+workers_by value = count_or MAX_WORKERS 4 (value (codes "workers"))

@@ -19,6 +19,8 @@ pub struct RunWords {
     pub timing: Timing,
     /// The words that the crossbar has for each send, 1 to 8.
     pub banks: u32,
+    /// The workers that step the machine's ports, 1 to 64.
+    pub workers: u32,
 }
 
 /// What words ask for.
@@ -36,6 +38,15 @@ pub enum Command {
     Show {
         /// The file of the netlist.
         netlist: Text,
+    },
+    /// The summary of a run of a generated design. There are no files.
+    Large {
+        /// The gates of the design, 1 to 30,000.
+        gates: u32,
+        /// The cycles of the run, 1 to 10,000.
+        cycles: u32,
+        /// The workers that step the machine's ports, 1 to 64.
+        workers: u32,
     },
 }
 

@@ -3,8 +3,17 @@
 /// The most words that the crossbar has for a send.
 pub const MAX_BANKS: u32 = 8;
 
+/// The most workers that step the ports of a machine.
+pub const MAX_WORKERS: u32 = 64;
+
+/// The most gates of a generated design.
+pub const MAX_GATES: u32 = 30_000;
+
+/// The most cycles that a generated design is run for.
+pub const MAX_LARGE_CYCLES: u32 = 10_000;
+
 /// The options of `run`.
-pub static RUN: [&str; 4] = ["machine", "mode", "units", "init"];
+pub static RUN: [&str; 6] = ["machine", "mode", "units", "init", "workers", "banks"];
 
 /// The options of `refer`.
 pub static REFER: [&str; 3] = ["mode", "units", "init"];
@@ -17,3 +26,6 @@ pub static PLAN: [&str; 2] = ["machine", "mode"];
 
 /// The options of `show`: none.
 pub static SHOW: [&str; 0] = [];
+
+/// The options of `large`.
+pub static LARGE: [&str; 1] = ["workers"];

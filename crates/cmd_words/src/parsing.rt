@@ -49,21 +49,21 @@ pub fn value<'a>(matches: &ArgMatches<'a>, name: &str) -> Option<&'a str>
 }
 
 /// The two positional arguments, where there are so many.
-pub fn two_files<'b, 'a>(matches: &'b ArgMatches<'a>) -> Option<(&'a str, &'a str)>
-    ensures { option_map (λ files. (files.0.now, files.1.now)) result ≡ both_of (arguments_found matches.now) }
+pub fn two_arguments<'b, 'a>(matches: &'b ArgMatches<'a>) -> Option<(&'a str, &'a str)>
+    ensures { option_map (λ both. (both.0.now, both.1.now)) result ≡ both_of (arguments_found matches.now) }
 {
     match matches.get_strs(FILES) {
-        Some([netlist, stimulus]) => Some((*netlist, *stimulus)),
+        Some([first, second]) => Some((*first, *second)),
         _ => None,
     }
 }
 
 /// The one positional argument, where there is one.
-pub fn one_file<'b, 'a>(matches: &'b ArgMatches<'a>) -> Option<&'a str>
-    ensures { option_map (λ file. file.now) result ≡ one_of (arguments_found matches.now) }
+pub fn one_argument<'b, 'a>(matches: &'b ArgMatches<'a>) -> Option<&'a str>
+    ensures { option_map (λ one. one.now) result ≡ one_of (arguments_found matches.now) }
 {
     match matches.get_strs(FILES) {
-        Some([file]) => Some(*file),
+        Some([one]) => Some(*one),
         _ => None,
     }
 }

@@ -5,15 +5,15 @@ ghost use Rattle.std.specs.String.{string_bytes};
 ghost use Rattle.cmd_words.specs.declared.command.Command.TheVariants as command;
 ghost use Rattle.cmd_words.specs.declared.command.WordNo.TheVariants.{Memory as NoMemory};
 ghost use Rattle.cmd_words.specs.Arguments.{has_name};
-ghost use Rattle.cmd_words.specs.Asked.{Answers, asked, asked_by, says, of_two_files, of_plan, of_one_file, run_by};
+ghost use Rattle.cmd_words.specs.Asked.{Answers, asked, asked_by, says, of_two_files, of_plan, of_one_file, of_large, run_by, large_by};
 ghost use Rattle.cmd_words.specs.Forms.{HasForm, HasNoForm, IsInRange};
 ghost use Rattle.cmd_words.specs.Parses.{files_id, texts_in, value_found};
-ghost use Rattle.cmd_words.specs.Settings.{run_options, refer_options, order_options, plan_options, show_options};
+ghost use Rattle.cmd_words.specs.Settings.{run_options, refer_options, order_options, plan_options, show_options, large_options};
 
 use crate::command::{Command, RunWords, WordNo};
-use crate::options::{ORDER, PLAN, REFER, RUN, SHOW};
-use crate::parsing::{one_file, parse, two_files, value};
-use crate::settings::{banks, timing};
+use crate::options::{LARGE, ORDER, PLAN, REFER, RUN, SHOW};
+use crate::parsing::{one_argument, parse, two_arguments, value};
+use crate::settings::{banks, cycles_of, gates_of, timing, workers};
 use clap::ArgMatches;
 use seen_list::Text;
 use std::alloc::Global;
@@ -54,6 +54,8 @@ fn read_command(alloc: Global, name: &[u8], words: &[String]) -> Result<Command,
         plan(alloc, words)
     } else if name == b"show".as_slice() {
         show(alloc, words)
+    } else if name == b"large".as_slice() {
+        large(alloc, words)
     } else {
         Err(WordNo::Usage)
     }
@@ -64,36 +66,52 @@ fn read_command(alloc: Global, name: &[u8], words: &[String]) -> Result<Command,
 fn run(alloc: Global, words: &[String]) -> Result<Command, WordNo>
     ensures { Answers result (option_map command.Run (says run_options of_two_files (map string_bytes words.now))) }
 {
-    let words = simulation(alloc, words, RUN.as_slice())?;
-    Ok(Command::Run(words))
+    match simulation(alloc, words, RUN.as_slice()) {
+        Ok(words) => Ok(Command::Run(words)),
+        Err(no) => Err(no),
+    }
 }
 
 fn refer(alloc: Global, words: &[String]) -> Result<Command, WordNo>
     ensures { Answers result (option_map command.Refer (says refer_options of_two_files (map string_bytes words.now))) }
 {
-    let words = simulation(alloc, words, REFER.as_slice())?;
-    Ok(Command::Refer(words))
+    match simulation(alloc, words, REFER.as_slice()) {
+        Ok(words) => Ok(Command::Refer(words)),
+        Err(no) => Err(no),
+    }
 }
 
 fn order(alloc: Global, words: &[String]) -> Result<Command, WordNo>
     ensures { Answers result (option_map command.Order (says order_options of_two_files (map string_bytes words.now))) }
 {
-    let words = simulation(alloc, words, ORDER.as_slice())?;
-    Ok(Command::Order(words))
+    match simulation(alloc, words, ORDER.as_slice()) {
+        Ok(words) => Ok(Command::Order(words)),
+        Err(no) => Err(no),
+    }
 }
 
 fn plan(alloc: Global, words: &[String]) -> Result<Command, WordNo>
     ensures { Answers result (option_map command.Plan (says plan_options of_plan (map string_bytes words.now))) }
 {
-    let words = layout(alloc, words, PLAN.as_slice())?;
-    Ok(Command::Plan(words))
+    match layout(alloc, words, PLAN.as_slice()) {
+        Ok(words) => Ok(Command::Plan(words)),
+        Err(no) => Err(no),
+    }
 }
 
 fn show(alloc: Global, words: &[String]) -> Result<Command, WordNo>
     ensures { Answers result (option_map command.Show (says show_options of_one_file (map string_bytes words.now))) }
 {
-    let netlist = netlist(alloc, words, SHOW.as_slice())?;
-    Ok(Command::Show { netlist })
+    match netlist(alloc, words, SHOW.as_slice()) {
+        Ok(netlist) => Ok(Command::Show { netlist }),
+        Err(no) => Err(no),
+    }
+}
+
+fn large(alloc: Global, words: &[String]) -> Result<Command, WordNo>
+    ensures { Answers result (says large_options of_large (map string_bytes words.now)) }
+{
+    generated(alloc, words, LARGE.as_slice())
 }
 
 // ---- what commands have in common
@@ -108,7 +126,7 @@ fn simulation<'a>(
     ensures { Answers result (says (texts_in options.entry.now) of_two_files (map string_bytes words.entry.now)) }
 {
     let matches = parse(alloc, words, options)?;
-    match two_files(&matches) {
+    match two_arguments(&matches) {
         Some((netlist, stimulus)) => run_words(alloc, netlist, stimulus, &matches),
         None => Err(WordNo::Usage),
     }
@@ -124,7 +142,7 @@ fn layout<'a>(
     ensures { Answers result (says (texts_in options.entry.now) of_plan (map string_bytes words.entry.now)) }
 {
     let matches = parse(alloc, words, options)?;
-    match one_file(&matches) {
+    match one_argument(&matches) {
         Some(netlist) => run_words(alloc, netlist, "", &matches),
         None => Err(WordNo::Usage),
     }
@@ -136,8 +154,24 @@ fn netlist<'a>(alloc: Global, words: &'a [String], options: &'a [&'a str]) -> Re
     ensures { Answers result (says (texts_in options.entry.now) of_one_file (map string_bytes words.entry.now)) }
 {
     let matches = parse(alloc, words, options)?;
-    match one_file(&matches) {
+    match one_argument(&matches) {
         Some(netlist) => Ok(Text::from_bytes(alloc, netlist.as_bytes())?),
+        None => Err(WordNo::Usage),
+    }
+}
+
+/// Two numbers and the options of a generated design.
+fn generated<'a>(
+    alloc: Global,
+    words: &'a [String],
+    options: &'a [&'a str],
+) -> Result<Command, WordNo>
+    requires { has_name (texts_in options.now) files_id ≡ false }
+    ensures { Answers result (says (texts_in options.entry.now) of_large (map string_bytes words.entry.now)) }
+{
+    let matches = parse(alloc, words, options)?;
+    match two_arguments(&matches) {
+        Some((gates, cycles)) => large_words(gates, cycles, &matches),
         None => Err(WordNo::Usage),
     }
 }
@@ -151,7 +185,11 @@ fn run_words(
 ) -> Result<RunWords, WordNo>
     ensures { Answers result (run_by netlist.now stimulus.now (value_found matches.now)) }
 {
-    let (Some(timing), Some(banks)) = (timing(matches), banks(matches)) else {
+    let (Some(timing), Some(banks), Some(workers)) = (
+        timing(matches),
+        banks(matches),
+        workers(matches),
+    ) else {
         return Err(WordNo::Usage);
     };
     Ok(RunWords {
@@ -161,6 +199,25 @@ fn run_words(
         order: text(alloc, value(matches, "order"))?,
         timing,
         banks,
+        workers,
+    })
+}
+
+/// What two numbers and the values of options ask for.
+fn large_words(gates: &str, cycles: &str, matches: &ArgMatches<'_>) -> Result<Command, WordNo>
+    ensures { Answers result (large_by gates.now cycles.now (value_found matches.now)) }
+{
+    let (Some(gates), Some(cycles), Some(workers)) = (
+        gates_of(gates.as_bytes()),
+        cycles_of(cycles.as_bytes()),
+        workers(matches),
+    ) else {
+        return Err(WordNo::Usage);
+    };
+    Ok(Command::Large {
+        gates,
+        cycles,
+        workers,
     })
 }
 

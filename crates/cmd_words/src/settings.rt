@@ -2,9 +2,9 @@
 
 ghost use Rattle.std.specs.Prelude.{◌≡◌, option_map};
 ghost use Rattle.cmd_words.specs.Parses.{value_found};
-ghost use Rattle.cmd_words.specs.Settings.{count_of, count_or, mode_of, init_of, allows_units, timing_with, timing_by, banks_by};
+ghost use Rattle.cmd_words.specs.Settings.{count_of, count_or, mode_of, init_of, allows_units, timing_with, timing_by, banks_by, workers_by, gates_of, cycles_of};
 
-use crate::options::MAX_BANKS;
+use crate::options::{MAX_BANKS, MAX_GATES, MAX_LARGE_CYCLES, MAX_WORKERS};
 use crate::parsing::value;
 use clap::ArgMatches;
 use limits::MAX_UNITS;
@@ -29,6 +29,27 @@ pub fn banks(matches: &ArgMatches<'_>) -> Option<u32>
     ensures { result ≡ banks_by (value_found matches.now) }
 {
     count_or(value(matches, "banks"), MAX_BANKS, 1)
+}
+
+/// The workers that are to step the machine's ports.
+pub fn workers(matches: &ArgMatches<'_>) -> Option<u32>
+    ensures { result ≡ workers_by (value_found matches.now) }
+{
+    count_or(value(matches, "workers"), MAX_WORKERS, 4)
+}
+
+/// The gates of a generated design.
+pub fn gates_of(digits: &[u8]) -> Option<u32>
+    ensures { result ≡ gates_of digits.now }
+{
+    count_of(digits, MAX_GATES)
+}
+
+/// The cycles that a generated design is to run for.
+pub fn cycles_of(digits: &[u8]) -> Option<u32>
+    ensures { result ≡ cycles_of digits.now }
+{
+    count_of(digits, MAX_LARGE_CYCLES)
 }
 
 fn timing_with(mode: Option<Mode>, units: Option<u32>, init: Option<Init>) -> Option<Timing>

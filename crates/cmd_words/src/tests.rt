@@ -10,7 +10,7 @@ const CASES: &[(&str, &str)] = &[
     ("", "usage"),
     ("run", "usage"),
     ("run c17.bench", "usage"),
-    ("run a b", "run a b rank 1 x banks 1"),
+    ("run a b", "run a b rank 1 x banks 1 workers 4"),
     ("run a b c", "usage"),
     ("Run a b", "usage"),
     ("'' a b", "usage"),
@@ -19,30 +19,49 @@ const CASES: &[(&str, &str)] = &[
     ("run --help", "usage"),
     ("run a b -h", "usage"),
     // An option before, between and behind the files, as two words and as one.
-    ("run --machine m a b", "run a b rank 1 x banks 1 machine m"),
-    ("run a --machine=m b", "run a b rank 1 x banks 1 machine m"),
+    (
+        "run --machine m a b",
+        "run a b rank 1 x banks 1 workers 4 machine m",
+    ),
+    (
+        "run a --machine=m b",
+        "run a b rank 1 x banks 1 workers 4 machine m",
+    ),
     (
         "run a b --init 0 --machine m",
-        "run a b rank 1 0 banks 1 machine m",
+        "run a b rank 1 0 banks 1 workers 4 machine m",
     ),
     (
         "refer --mode=unit a --units=4096 b --init=x",
-        "refer a b unit 4096 x banks 1",
+        "refer a b unit 4096 x banks 1 workers 4",
     ),
     (
         "order a b --banks=8 --order o --machine m",
-        "order a b rank 1 x banks 8 machine m order o",
+        "order a b rank 1 x banks 8 workers 4 machine m order o",
     ),
-    ("plan a", "plan a  rank 1 x banks 1"),
+    ("plan a", "plan a  rank 1 x banks 1 workers 4"),
     (
         "plan --mode unit a --machine=m",
-        "plan a  unit 1 x banks 1 machine m",
+        "plan a  unit 1 x banks 1 workers 4 machine m",
     ),
     ("show a", "show a"),
+    (
+        "run a b --workers 64 --banks 8",
+        "run a b rank 1 x banks 8 workers 64",
+    ),
+    ("large 2 2", "large 2 2 workers 4"),
+    (
+        "large 30000 10000 --workers 64",
+        "large 30000 10000 workers 64",
+    ),
+    ("large --workers 1 2 2", "large 2 2 workers 1"),
+    ("large -- 2 2", "large 2 2 workers 4"),
     // Options that the command does not have, and names that are shortened or of another case.
     ("refer a b --machine m", "usage"),
     ("run a b --order o", "usage"),
-    ("run a b --banks 2", "usage"),
+    ("refer a b --banks 1", "usage"),
+    ("order a b --workers 2", "usage"),
+    ("large 2 2 --banks 1", "usage"),
     ("plan a b", "usage"),
     ("plan a --units 1", "usage"),
     ("plan a --mode", "usage"),
@@ -55,6 +74,7 @@ const CASES: &[(&str, &str)] = &[
     ("run a b -machine m", "usage"),
     ("run a b --=m", "usage"),
     // An option twice, without its value, and with an empty one.
+    ("run a b --workers 1 --workers 1", "usage"),
     ("run a b --machine m --machine m", "usage"),
     ("run a b --machine m --machine=n", "usage"),
     ("run a b --machine", "usage"),
@@ -66,21 +86,24 @@ const CASES: &[(&str, &str)] = &[
     ("run a b --machine -", "usage"),
     (
         "run a b --machine=-m",
-        "run a b rank 1 x banks 1 machine -m",
+        "run a b rank 1 x banks 1 workers 4 machine -m",
     ),
     (
         "run a b --machine=--",
-        "run a b rank 1 x banks 1 machine --",
+        "run a b rank 1 x banks 1 workers 4 machine --",
     ),
     (
         "run a b --machine=m=n",
-        "run a b rank 1 x banks 1 machine m=n",
+        "run a b rank 1 x banks 1 workers 4 machine m=n",
     ),
     // `--`, of which the second is a file.
-    ("run a b --", "run a b rank 1 x banks 1"),
-    ("run -- a b", "run a b rank 1 x banks 1"),
-    ("run a -- --machine", "run a --machine rank 1 x banks 1"),
-    ("run -- -- -", "run -- - rank 1 x banks 1"),
+    ("run a b --", "run a b rank 1 x banks 1 workers 4"),
+    ("run -- a b", "run a b rank 1 x banks 1 workers 4"),
+    (
+        "run a -- --machine",
+        "run a --machine rank 1 x banks 1 workers 4",
+    ),
+    ("run -- -- -", "run -- - rank 1 x banks 1 workers 4"),
     ("run a -- b --init", "usage"),
     ("run a b --machine -- m", "usage"),
     ("run a b --machine --", "usage"),
@@ -90,13 +113,16 @@ const CASES: &[(&str, &str)] = &[
     ("run a -", "usage"),
     ("show ''", "usage"),
     // Values of the other options.
-    ("run a b --units 1", "run a b rank 1 x banks 1"),
+    ("run a b --units 1", "run a b rank 1 x banks 1 workers 4"),
     ("run a b --units 2", "usage"),
     ("run a b --units 2 --mode rank", "usage"),
-    ("run a b --units 2 --mode unit", "run a b unit 2 x banks 1"),
+    (
+        "run a b --units 2 --mode unit",
+        "run a b unit 2 x banks 1 workers 4",
+    ),
     (
         "run a b --mode unit --units 0000000007",
-        "run a b unit 7 x banks 1",
+        "run a b unit 7 x banks 1 workers 4",
     ),
     ("run a b --mode unit --units 00000000007", "usage"),
     ("run a b --mode unit --units 0", "usage"),
@@ -107,6 +133,14 @@ const CASES: &[(&str, &str)] = &[
     ("order a b --banks 0", "usage"),
     ("order a b --banks 9", "usage"),
     ("order a b --banks", "usage"),
+    ("run a b --workers 0", "usage"),
+    ("run a b --workers=65", "usage"),
+    // The numbers of a generated design.
+    ("large 2", "usage"),
+    ("large 2 2 2", "usage"),
+    ("large 0 1", "usage"),
+    ("large 30001 1", "usage"),
+    ("large 1 10001", "usage"),
 ];
 
 /// The words of a line; `''` is the empty word.
@@ -138,8 +172,8 @@ fn told_run(alloc: Global, command: &str, words: &RunWords) -> Result<String, Fa
         name_of(&words.stimulus)
     )?;
     told.push_str(&format!(in alloc;
-        " {mode} {} {init} banks {}",
-        words.timing.units, words.banks
+        " {mode} {} {init} banks {} workers {}",
+        words.timing.units, words.banks, words.workers
     )?)?;
     if let Some(machine) = &words.machine {
         told.push_str(&format!(in alloc; " machine {}", name_of(machine))?)?;
@@ -165,6 +199,13 @@ fn told(alloc: Global, answer: &Result<Command, WordNo>) -> Result<String, Fail>
         Ok(Command::Order(words)) => told_run(alloc, "order", words),
         Ok(Command::Plan(words)) => told_run(alloc, "plan", words),
         Ok(Command::Show { netlist }) => Ok(format!(in alloc; "show {}", name_of(netlist))?),
+        Ok(
+            Command::Large {
+                gates,
+                cycles,
+                workers,
+            },
+        ) => Ok(format!(in alloc; "large {gates} {cycles} workers {workers}")?),
         Err(WordNo::Usage) => Ok(String::from_str(alloc, "usage")?),
         Err(WordNo::Memory) => Ok(String::from_str(alloc, "memory")?),
     }
