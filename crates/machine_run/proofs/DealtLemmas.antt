@@ -1,0 +1,136 @@
+-- Ports are dealt to workers one by one, the last one first.
+use Rattle.std.proofs.Common.{List, Some, [], ap, arith, inl, inr, length, refl, set, slice_get, subst, sym, ℕ, ◌%◌, ◌++◌, ◌+◌, ◌<◌, ◌⊎◌, ◌∙◌, ◌∷◌, ◌≡◌, ◌≢◌, ◌≤◌}
+use Rattle.std.proofs.lemmas.Bool.{cases_eq, cases_lt}
+use Rattle.std.proofs.lemmas.List.{length-set, length_push}
+use Rattle.std.proofs.lemmas.Option.{slice_get_within}
+use Rattle.list_laws.proofs.Places.{at_front, one_there, seam_at}
+use Rattle.crew_run.proofs.Places.{each_push, member_at, one_some, set_other, set_same}
+use Rattle.crew_run.specs.declared.worker.Worker.{Worker}
+use Rattle.image_defs.specs.Places.{host_of}
+use Rattle.port_run.specs.declared.seated.Seated.{Seated}
+use Rattle.slot_words.specs.Passes.{AreFirstPasses, CrossbarView, IsFirstPass, PassView}
+use Rattle.machine_run.specs.Dealt.{AreDealt, AreIdle, HasGained, HasPort, IsDealtTo, IsMember, IsSeatOf}
+
+module _ {S G : Type 0} where
+  pub idle_more : (n : ℕ) (ws : List (Worker S G)) (worker : Worker S G) → AreIdle n ws → worker.members ≡ [] → AreIdle (n + 1) (ws ++ worker ∷ [])
+  idle_more n ws worker so_far idle = record {
+    count = length_push ws worker ∙ ap (λ k. k + 1) so_far.count;
+    idle = each_push (λ (w : Worker S G). w.members ≡ []) ws worker so_far.idle idle;
+  }
+
+-- the last of some first passes is that of the next port
+pub passes_less : (bar : CrossbarView) (n : ℕ) (passes front : List PassView) (pass : PassView) → AreFirstPasses bar n passes → passes ≡ front ++ pass ∷ []
+    → (n ≡ length front + 1) × AreFirstPasses bar (length front) front × IsFirstPass bar (length front) pass
+passes_less bar n passes front pass are is = (
+  sym are.long ∙ (ap length is ∙ length_push front pass),
+  record { long = refl; each = λ p one at. are.each p one (ap (λ xs. slice_get xs p) is ∙ (at_front front (pass ∷ []) p (slice_get_within front p one at) ∙ at)) },
+  are.each (length front) pass (ap (λ xs. slice_get xs (length front)) is ∙ seam_at front pass []),
+)
+
+-- ---- a worker gets one member more
+
+module _ {S G : Type 0} (ws : List (Worker S G)) (w : ℕ) (worker worker' : Worker S G) (new : S) (at : slice_get ws w ≡ Some worker) (given : worker'.members ≡ worker.members ++ new ∷ []) where
+  low : w < length ws
+  low = slice_get_within ws w worker at
+
+  -- it is the last one
+  pub member_new : IsMember (set ws w worker') w (length worker.members) new
+  member_new = record { worker = worker'; worker_is = set_same ws w worker' low; member_is = ap (λ xs. slice_get xs (length worker.members)) given ∙ seam_at worker.members new [] }
+
+  -- and the others stay
+  pub member_kept : (v k : ℕ) (member : S) → IsMember ws v k member → IsMember (set ws w worker') v k member
+  member_kept v k member is = elim (cases_eq v w) [
+    | inl same ↦
+        let one : worker ≡ is.worker = one_there ws w v worker is.worker (sym same) at is.worker_is in
+        let there : slice_get worker.members k ≡ Some member = ap (λ (x : Worker S G). slice_get x.members k) one ∙ is.member_is in
+        record {
+          worker = worker';
+          worker_is = ap (slice_get (set ws w worker')) same ∙ set_same ws w worker' low;
+          member_is = ap (λ xs. slice_get xs k) given ∙ (at_front worker.members (new ∷ []) k (slice_get_within worker.members k member there) ∙ there);
+        }
+    | inr away ↦ record { worker = is.worker; worker_is = set_other ws w v worker' away ∙ is.worker_is; member_is = is.member_is }
+  ]
+
+  -- there are no more
+  pub member_after : (v k : ℕ) (member : S) → IsMember (set ws w worker') v k member → IsMember ws v k member ⊎ ((v ≡ w) × (k ≡ length worker.members) × (new ≡ member))
+  member_after v k member is = elim (cases_eq v w) [
+    | inl same ↦
+        let one : worker' ≡ is.worker = one_there (set ws w worker') w v worker' is.worker (sym same) (set_same ws w worker' low) is.worker_is in
+        let there : slice_get (worker.members ++ new ∷ []) k ≡ Some member = ap (λ xs. slice_get xs k) (sym given) ∙ (ap (λ (x : Worker S G). slice_get x.members k) one ∙ is.member_is) in
+        let within : k < length worker.members + 1 = (let inside = slice_get_within (worker.members ++ new ∷ []) k member there in omega (arith, inside, length_push worker.members new)) in
+        elim (cases_lt k (length worker.members)) [
+          | inl before ↦ inl (record { worker = worker; worker_is = ap (slice_get ws) same ∙ at; member_is = sym (at_front worker.members (new ∷ []) k before) ∙ there })
+          | inr past ↦
+              let last : k ≡ length worker.members = omega (arith, past, within) in
+              inr (same, last, one_some new member (sym (ap (slice_get (worker.members ++ new ∷ [])) last ∙ seam_at worker.members new []) ∙ there))
+        ]
+    | inr away ↦ inl (record { worker = is.worker; worker_is = sym (set_other ws w v worker' away) ∙ is.worker_is; member_is = is.member_is })
+  ]
+
+-- ---- dealing
+
+module _ {G : Type 0} (bar : CrossbarView) (n : ℕ) where
+  module _ (p w : ℕ) (ws : List (Worker Seated G)) (worker worker' : Worker Seated G) (seat : Seated) where
+    with_more : AreDealt bar n (p + 1) ws → IsSeatOf bar p seat → p < length bar.image.ports → w ≡ p % n → slice_get ws w ≡ Some worker → worker'.members ≡ worker.members ++ seat ∷ []
+        → AreDealt bar n p (set ws w worker')
+    with_more so_far seat_is inside w_is at given = record {
+      count = length-set ws w worker' ∙ so_far.count;
+      each = λ v k one is. elim (after v k one is) [
+        | inl old ↦ (let was = so_far.each v k one old in record { seat_is = was.seat_is; from_is = omega (arith, was.from_is); inside = was.inside; whose = was.whose })
+        | inr last ↦ subst (IsDealtTo bar n p v) last.2 (subst (λ x. IsDealtTo bar n p x seat) (sym last.0) newest)
+      ];
+      apart = λ v j k a b is is' away. elim (after v j a is) [
+        | inl old ↦ elim (after v k b is') [
+          | inl other ↦ so_far.apart v j k a b old other away
+          | inr last ↦ later a b (so_far.each v j a old).from_is last.2
+        ]
+        | inr last ↦ elim (after v k b is') [
+          | inl other ↦ (λ same. later b a (so_far.each v k b other).from_is last.2 (sym same))
+          | inr other ↦ absurd (away (last.1 ∙ sym other.1))
+        ]
+      ];
+      all = λ q from low. elim (cases_lt p q) [
+        | inl past ↦ (let old = so_far.all q (omega (arith, past)) low in (old.0, kept q old.0 old.1))
+        | inr here ↦ (length worker.members, subst (λ x. HasPort n (set ws w worker') x (length worker.members)) (omega (arith, from, here)) last_port)
+      ];
+      host = λ from. elim (cases_lt p (host_of bar.image)) [
+        | inl past ↦ kept (host_of bar.image) 0 (so_far.host (omega (arith, past)))
+        | inr here ↦ subst (λ x. HasPort n (set ws w worker') x 0) (omega (arith, from, here)) (subst (HasPort n (set ws w worker') p) (alone (omega (arith, from, here, inside))) last_port)
+      ];
+    } where
+      after : (v k : ℕ) (one : Seated) → IsMember (set ws w worker') v k one → IsMember ws v k one ⊎ ((v ≡ w) × (k ≡ length worker.members) × (seat ≡ one))
+      after = member_after ws w worker worker' seat at given
+
+      kept : (q k : ℕ) → HasPort n ws q k → HasPort n (set ws w worker') q k
+      kept q k has = record { seat = has.seat; member = member_kept ws w worker worker' seat at given (q % n) k has.seat has.member; port_is = has.port_is }
+
+      port_is : seat.run.port ≡ p
+      port_is = seat_is.first.port_is
+
+      newest : IsDealtTo bar n p w seat
+      newest = record {
+        seat_is = subst (λ q. IsSeatOf bar q seat) (sym port_is) seat_is;
+        from_is = omega (arith, port_is);
+        inside = subst (λ q. q < length bar.image.ports) (sym port_is) inside;
+        whose = ap (λ q. q % n) port_is ∙ sym w_is;
+      }
+
+      later : (a b : Seated) → p + 1 ≤ a.run.port → seat ≡ b → a.run.port ≢ b.run.port
+      later a b above is same = let b_is : b.run.port ≡ p = ap (λ (x : Seated). x.run.port) (sym is) ∙ port_is in absurd (omega (arith, above, same, b_is))
+
+      last_port : HasPort n (set ws w worker') p (length worker.members)
+      last_port = record { seat = seat; member = subst (λ v. IsMember (set ws w worker') v (length worker.members) seat) w_is (member_new ws w worker worker' seat at given); port_is = port_is }
+
+      -- the last port of all is the first that is dealt
+      alone : p + 1 ≡ length bar.image.ports → length worker.members ≡ 0
+      alone last = elim (cases_lt 0 (length worker.members)) [
+        | inl some ↦
+            let one = member_at worker.members 0 some in
+            let was = so_far.each w 0 one.0 (record { worker = worker; worker_is = at; member_is = one.1 }) in
+            absurd (omega (arith, was.from_is, was.inside, last))
+        | inr none ↦ omega (arith, none)
+      ]
+
+  -- one port more is dealt
+  pub dealt_more : (p w : ℕ) (ws ws' : List (Worker Seated G)) (seat : Seated) → AreDealt bar n (p + 1) ws → IsSeatOf bar p seat → p < length bar.image.ports → w ≡ p % n → HasGained ws w seat ws' → AreDealt bar n p ws'
+  dealt_more p w ws ws' seat so_far seat_is inside w_is gain = subst (AreDealt bar n p) (sym gain.is) (with_more p w ws gain.worker gain.worker' seat so_far seat_is inside w_is gain.at gain.gained)

@@ -1,0 +1,7 @@
+use Rattle.std.specs.Prelude.{length}
+use Rattle.port_host.specs.Rows.{printed_sources, rows_done}
+use Rattle.machine_run.specs.Shown.{AreFilled, AreWide}
+use Rattle.machine_run.proofs.rows.fill_rows.Given as goal
+
+abbrev pub invariant-cycles : goal.invariant-cycles
+invariant-cycles l = AreWide (rows_done l.host) (length (printed_sources l.host.image)) l.rows × AreFilled l.host.image l.host.stimulus l.c l.rows

@@ -1,0 +1,4 @@
+pub mod Dealt
+pub mod Gates
+pub mod Shown
+pub mod Visits

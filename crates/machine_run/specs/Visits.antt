@@ -1,0 +1,28 @@
+-- What the gates of a run were told.
+use Rattle.std.specs.Prelude.{List, Option, Some, length, slice_get, slice_index, ℕ, ◌%◌, ◌+◌, ◌<◌, ◌≡◌, ◌≤◌}
+use Rattle.crew_run.specs.Visits.{IsUntold}
+use Rattle.crew_run.specs.declared.gate.Gate as gate
+
+-- of so many ports, which n workers step, worker w steps port q
+abbrev pub IsPortOfWorker : ℕ → ℕ → ℕ → ℕ → Type 0
+IsPortOfWorker ports n w q = (q < ports) × (q % n ≡ w)
+
+module _ {G : Type 0} (p : gate.Ghosts G) (ports turns n : ℕ) where
+  -- the gate of worker w was told of all turns of each port of the worker, of the last one last, and of no other
+  -- port
+  pub record HasVisits (w : ℕ) (g g' : G) : Type 0 where
+    pub times : (q : ℕ) → IsPortOfWorker ports n w q → slice_index (p.times g') q ≡ slice_index (p.times g) q + turns
+    pub latest : (q : ℕ) → IsPortOfWorker ports n w q → 1 ≤ turns → slice_index (p.latest g') q ≡ turns
+    pub none : (q : ℕ) → IsPortOfWorker ports n w q → turns ≡ 0 → slice_index (p.latest g') q ≡ slice_index (p.latest g) q
+    pub elsewhere : (q : ℕ) → ¬ IsPortOfWorker ports n w q → IsUntold p q g g'
+
+  -- the visits of a run of so many ports and turns with n workers: each of the first n gates has those of its
+  -- worker, and the others are as before
+  pub record AreVisitsOf (gates gates' : List (Option G)) : Type 0 where
+    pub told : (w : ℕ) (g : G) → w < n → slice_get gates w ≡ Some (Some g) → (g' : G) × (slice_get gates' w ≡ Some (Some g')) × HasVisits w g g'
+    pub others : (i : ℕ) → n ≤ i → slice_get gates' i ≡ slice_get gates i
+
+-- there are as many places as before, and a gate stands where one stood
+pub record AreInPlace {G : Type 0} (gates gates' : List (Option G)) : Type 0 where
+  pub count : length gates' ≡ length gates
+  pub some : (i : ℕ) (g : G) → slice_get gates i ≡ Some (Some g) → (g' : G) × (slice_get gates' i ≡ Some (Some g'))

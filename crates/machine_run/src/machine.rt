@@ -1,0 +1,81 @@
+//! The run of a whole machine.
+
+ghost use Rattle.std.specs.Prelude.{IfOk, OnErr, OnOk, Option, Some, length, slice_get, ℕ, ◌<◌, ◌≡◌, ◌≤◌};
+ghost use Rattle.crew_run.specs.Crews.{CanTell};
+ghost use Rattle.image_defs.specs.WellFormed.{IsWellFormed};
+ghost use Rattle.machine_run.specs.Dealt.{HasHost};
+ghost use Rattle.machine_run.specs.Shown.{AreShown, AreWide};
+ghost use Rattle.machine_run.specs.Visits.{AreInPlace, AreVisitsOf};
+ghost use Rattle.net_defs.specs.Time.{cycle_count};
+ghost use Rattle.net_defs.specs.Valid.{IsValidStimulus};
+ghost use Rattle.port_host.specs.Rows.{printed_sources};
+ghost use Rattle.slot_words.specs.Rule.{turns_of};
+
+use crate::rows::{blank_rows, fill_rows};
+use crate::seats::{crew_of, worker_of};
+use crew_run::{Gate, Worker, run_with};
+use image_defs::Image;
+use net_defs::{CellRow, Rows, Stimulus};
+use port_run::Seated;
+use seen_list::Memory;
+use slot_words::Crossbar;
+use std::alloc::Global;
+use std::marker::{Send, Sync};
+use std::sync::Wait;
+use std::thread::Threads;
+
+/// Copies the rows of the host, which is the first member of its worker.
+fn print_rows<'a, G: Gate>(
+    rows: &mut [CellRow],
+    crew: &[Worker<Seated<'a>, G>],
+    image: &Image,
+    stim: &Stimulus,
+)
+    requires host { HasHost image.now stim.now crew.now }
+    requires room { AreWide (cycle_count stim.now) (length (printed_sources image.now)) rows.old }
+    ensures { AreShown image.now stim.now (cycle_count stim.now) rows.new }
+{
+    let host = image.ports.len() - 1;
+    let worker = &crew[worker_of(host, crew.len())];
+    match worker.members.as_slice()[0].run.host() {
+        Some(host) => fill_rows(rows, host),
+        None => unreachable!(),
+    }
+}
+
+/// Runs the image under the stimulus with so many workers, to the end of all turns, and answers one row
+/// for each cycle, of as many cells as the host prints. Worker `w` steps the ports `p` of which
+/// `p % workers` is `w`, and tells the gate `w` of their turns; the gates past the workers are not used.
+/// A refusal comes before any gate is told. It may wait, so what it promises holds if it returns.
+///
+/// Workers run in threads of their own where they can be made, and once all memory is had; no contract
+/// says either.
+pub fn run_machine<R: Threads + Wait + Sync, G: Gate + Send>(
+    rt: &R,
+    alloc: Global,
+    image: &Image,
+    stim: &Stimulus,
+    banks: u32,
+    workers: u32,
+    gates: &mut [Option<G>],
+) -> Result<Rows, Memory>
+    requires image { IsWellFormed image.now }
+    requires stimulus { IsValidStimulus stim.now }
+    requires columns { stim.now.columns ≡ image.now.columns }
+    requires some_banks { 1 ≤ banks }
+    requires few_banks { banks ≤ 8 }
+    requires some_workers { 1 ≤ workers }
+    requires enough { workers ≤ length gates.old }
+    requires tell { (i : ℕ) (gate : Option G) → i < workers → slice_get gates.old i ≡ Some gate → CanTell G.Gate.own gate }
+    ensures rows { IfOk result (λ rows. AreShown image.now stim.now (cycle_count stim.now) rows.rows) }
+    ensures visits { OnOk result (AreVisitsOf G.Gate.own (length image.now.ports) (turns_of image.now stim.now) workers gates.old gates.new) }
+    ensures refused { OnErr result (gates.new ≡ gates.old) }
+    ensures kept { AreInPlace gates.old gates.new }
+{
+    let (bar, passes) = Crossbar::make(rt, alloc, image, stim, banks)?;
+    let mut rows = blank_rows(alloc, image, stim.cycles())?;
+    let mut crew = crew_of(alloc, &bar, image, stim, passes, workers)?;
+    run_with(rt, crew.as_mut_slice(), gates);
+    print_rows(rows.rows.as_mut_slice(), crew.as_slice(), image, stim);
+    Ok(rows)
+}

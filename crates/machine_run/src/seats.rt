@@ -1,0 +1,138 @@
+//! Ports that are dealt to workers.
+
+ghost use Rattle.std.specs.Prelude.{IfOk, OnErr, OnOk, [], length, ◌%◌, ◌++◌, ◌<◌, ◌∷◌, ◌≡◌, ◌≤◌};
+ghost use Rattle.net_defs.specs.Valid.{IsValidStimulus};
+ghost use Rattle.image_defs.specs.WellFormed.{IsWellFormed};
+ghost use Rattle.slot_words.specs.Passes.{AreFirstPasses, IsFirstPass};
+ghost use Rattle.machine_run.specs.Dealt.{AreDealt, AreIdle, HasGained, IsSeatOf};
+
+use crew_run::{Gate, Stepper, Worker};
+use image_defs::Image;
+use net_defs::Stimulus;
+use port_run::{Running, Seated};
+use port_walk::AnyPort;
+use seen_list::{List, Memory};
+use slot_words::{Crossbar, Pass};
+use std::alloc::Global;
+
+/// A worker without members, that has no gate of its own.
+fn idle<S: Stepper, G: Gate>(alloc: Global) -> Worker<S, G>
+    ensures { result.members ≡ [] }
+{
+    Worker {
+        members: List::new(alloc),
+        gate: None,
+    }
+}
+
+/// So many workers without members.
+fn idle_crew<S: Stepper, G: Gate>(alloc: Global, workers: u32) -> Result<List<Worker<S, G>>, Memory>
+    ensures { IfOk result (AreIdle workers) }
+{
+    let mut crew = List::new(alloc);
+    'workers: for _ in 0..workers {
+        crew.push(idle(alloc))?;
+    }
+    Ok(crew)
+}
+
+/// Gives the worker one member more.
+fn give<S: Stepper, G: Gate>(worker: &mut Worker<S, G>, member: S) -> Result<(), Memory>
+    ensures { OnOk result (worker.new.members ≡ worker.old.members ++ member ∷ []) }
+{
+    worker.members.push(member)
+}
+
+/// Gives the worker at a place one member more.
+fn give_to<S: Stepper, G: Gate>(
+    crew: &mut [Worker<S, G>],
+    place: usize,
+    member: S,
+) -> Result<(), Memory>
+    requires { place < length crew.old }
+    ensures { OnOk result (HasGained crew.old place member crew.new) }
+{
+    give(&mut crew[place], member)
+}
+
+/// The port of a pass beside its crossbar, before its first event.
+fn seat<'a>(
+    alloc: Global,
+    bar: &'a Crossbar,
+    image: &'a Image,
+    stim: &'a Stimulus,
+    pass: Pass,
+) -> Result<Seated<'a>, Memory>
+    requires fits { IsWellFormed image.now }
+    requires valid { IsValidStimulus stim.now }
+    requires columns { stim.now.columns ≡ image.now.columns }
+    requires image { bar.now.image ≡ image.now }
+    requires stimulus { bar.now.stimulus ≡ stim.now }
+    requires first { IsFirstPass bar.now pass.port pass }
+    requires there { pass.port < length image.now.ports }
+    ensures { IfOk result (IsSeatOf bar.now pass.port) }
+{
+    let port = AnyPort::new(alloc, image, stim, pass.port())?;
+    let run = Running::new(pass, port);
+    Ok(Seated { bar, run })
+}
+
+/// Which of so many workers a port is dealt to.
+pub(crate) fn worker_of(port: usize, workers: usize) -> usize
+    requires { 1 ≤ workers }
+    ensures is { result ≡ port % workers }
+    ensures within { result < workers }
+{
+    port % workers
+}
+
+/// Deals the ports of all passes to the workers, the last port first.
+fn deal<'a, G: Gate>(
+    alloc: Global,
+    bar: &'a Crossbar,
+    image: &'a Image,
+    stim: &'a Stimulus,
+    passes: List<Pass>,
+    crew: &mut [Worker<Seated<'a>, G>],
+) -> Result<(), Memory>
+    requires fits { IsWellFormed image.now }
+    requires valid { IsValidStimulus stim.now }
+    requires columns { stim.now.columns ≡ image.now.columns }
+    requires image { bar.now.image ≡ image.now }
+    requires stimulus { bar.now.stimulus ≡ stim.now }
+    requires passes { AreFirstPasses bar.now (length image.now.ports) passes }
+    requires some { 1 ≤ length crew.old }
+    requires idle { AreIdle (length crew.old) crew.old }
+    ensures { OnOk result (AreDealt bar.now (length crew.old) 0 crew.new) }
+{
+    let mut passes = passes;
+    'passes: while let Some(pass) = passes.pop() {
+        let worker = worker_of(pass.port() as usize, crew.len());
+        let member = seat(alloc, bar, image, stim, pass)?;
+        give_to(crew, worker, member)?;
+    }
+    Ok(())
+}
+
+/// So many workers, to which the ports of all passes are dealt.
+pub(crate) fn crew_of<'a, G: Gate>(
+    alloc: Global,
+    bar: &'a Crossbar,
+    image: &'a Image,
+    stim: &'a Stimulus,
+    passes: List<Pass>,
+    workers: u32,
+) -> Result<List<Worker<Seated<'a>, G>>, Memory>
+    requires fits { IsWellFormed image.now }
+    requires valid { IsValidStimulus stim.now }
+    requires columns { stim.now.columns ≡ image.now.columns }
+    requires image { bar.now.image ≡ image.now }
+    requires stimulus { bar.now.stimulus ≡ stim.now }
+    requires passes { AreFirstPasses bar.now (length image.now.ports) passes }
+    requires some { 1 ≤ workers }
+    ensures { IfOk result (AreDealt bar.now workers 0) }
+{
+    let mut crew = idle_crew(alloc, workers)?;
+    deal(alloc, bar, image, stim, passes, crew.as_mut_slice())?;
+    Ok(crew)
+}
