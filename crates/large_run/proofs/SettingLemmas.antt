@@ -1,0 +1,22 @@
+-- The machine of large netlists is a machine, and their timing a timing.
+use Rattle.std.proofs.Common.{refl, arith}
+use Rattle.machine_text.specs.Machines.{IsValid}
+use Rattle.net_defs.specs.Valid.{IsValidTiming}
+use Rattle.large_run.specs.Setting.{large_machine, large_timing}
+
+pub machine_valid : IsValid large_machine
+machine_valid = record {
+  logic_least = omega arith;
+  logic_most = omega arith;
+  array_most = omega arith;
+  slots_least = omega arith;
+  slots_most = omega arith;
+  functions_least = omega arith;
+  functions_most = omega arith;
+  bits_least = omega arith;
+  bits_most = omega arith;
+  ports = omega arith;
+}
+
+pub timing_valid : IsValidTiming large_timing
+timing_valid = record { some = omega arith; few = omega arith; rank = λ is. refl }

@@ -1,0 +1,223 @@
+-- The nodes of a netlist use no more tables than there are of one to four operands.
+use Rattle.std.proofs.Common.{◌≡◌, ◌≢◌, ◌∙◌, ◌⊎◌, inl, inr, ℕ, zero, suc, ◌+◌, ◌-◌, ◌/◌, ◌%◌, ◌<◌, ◌≤◌, Bool, List, [], ◌∷◌, length, get_or, refl, sym, ap, subst, arith}
+use Rattle.std.specs.Prelude.{Option, Some, None, slice_get}
+use Rattle.std.proofs.lemmas.Bool.{cases_lt, le-ltb, lt-ltb, eqb-true}
+use Rattle.std.proofs.lemmas.List.Elements.{Contains-get_or}
+use Rattle.std.proofs.lemmas.List.Kept.{AllPairs-from_increasing}
+use Rattle.std.proofs.lemmas.Option.{slice_get_within, get_or_from_slice_get}
+use Rattle.logic_four.specs.declared.Kind.{Kind}
+use Rattle.logic_four.specs.declared.Kind.TheVariants.{And, Nand, Or, Nor, Xor, Xnor, Not, Buf, Tri, Bus}
+use Rattle.logic_four.specs.Folds.{base_kind}
+use Rattle.logic_four.specs.Kinds.{AllowsOperands}
+use Rattle.logic_four.specs.Values.{code_of, value_of}
+use Rattle.logic_four.proofs.KindLemmas.{some_operands}
+use Rattle.func_table.specs.declared.table.Table.{Table}
+use Rattle.func_table.specs.Entries.{AreAlike, IsTableOf, entry_of, entry_for, place_of}
+use Rattle.net_defs.specs.declared.netlist.Driver.{Driver}
+use Rattle.net_defs.specs.declared.netlist.Driver.TheVariants as driver
+use Rattle.net_defs.specs.declared.netlist.Netlist.{Netlist}
+use Rattle.net_defs.specs.declared.netlist.Signal.{Signal}
+use Rattle.net_defs.specs.declared.timing.Timing.{Timing}
+use Rattle.net_defs.specs.Steps.{is_late}
+use Rattle.net_defs.specs.Valid.{IsDrivable, IsValid}
+use Rattle.node_defs.specs.declared.groups.Group.{Group}
+use Rattle.node_defs.specs.declared.items.Feeds.{Feeds}
+use Rattle.node_defs.specs.declared.items.Item.TheVariants.{Input, BlockBit, Node, Latch}
+use Rattle.node_defs.specs.declared.items.ItemName.{ItemName}
+use Rattle.node_defs.specs.declared.items.NodeNet.{NodeNet}
+use Rattle.node_defs.specs.Groups.{groups, group_at, helper_count}
+use Rattle.node_defs.specs.Items.{IsItem, IsItemOf, IsNode}
+use Rattle.node_defs.specs.Order.{AreItems}
+use Rattle.node_defs.proofs.EarlierLemmas.{table_there}
+use Rattle.node_defs.proofs.MemberLemmas.{member_at, some_only}
+use Rattle.node_map.specs.Nodes.{node_kind}
+use Rattle.node_map.proofs.MadeNodeLemmas.{kind_allowed}
+use Rattle.node_map.proofs.ShapeLemmas.{group_few, some_groups}
+use Rattle.plan_defs.specs.declared.plan.Homes.{Homes}
+use Rattle.plan_defs.specs.Tables.{UsesTable, UsesTables}
+use Rattle.plan_defs.proofs.CountLemmas.{few_below, few_partners}
+
+-- ---- the kinds of tables
+
+-- each kind with each number of operands, up to four, that it may have
+abbrev shapes : List (Kind × ℕ)
+shapes =
+    (And, 1) ∷ (And, 2) ∷ (And, 3) ∷ (And, 4) ∷ (Nand, 1) ∷ (Nand, 2) ∷ (Nand, 3) ∷ (Nand, 4) ∷ (Or, 1) ∷ (Or, 2) ∷ (Or, 3) ∷ (Or, 4)
+    ∷ (Nor, 1) ∷ (Nor, 2) ∷ (Nor, 3) ∷ (Nor, 4) ∷ (Xor, 1) ∷ (Xor, 2) ∷ (Xor, 3) ∷ (Xor, 4) ∷ (Xnor, 1) ∷ (Xnor, 2) ∷ (Xnor, 3) ∷ (Xnor, 4)
+    ∷ (Bus, 1) ∷ (Bus, 2) ∷ (Bus, 3) ∷ (Bus, 4) ∷ (Not, 1) ∷ (Buf, 1) ∷ (Tri, 2) ∷ []
+
+-- where a kind with so many operands stands among them
+abbrev shape_place : Kind → ℕ → ℕ
+shape_place And n = n - 1
+shape_place Nand n = n + 3
+shape_place Or n = n + 7
+shape_place Nor n = n + 11
+shape_place Xor n = n + 15
+shape_place Xnor n = n + 19
+shape_place Bus n = n + 23
+shape_place Not n = n + 27
+shape_place Buf n = n + 28
+shape_place Tri n = n + 28
+
+one_of_four : (P : ℕ → Type 0) → P 1 → P 2 → P 3 → P 4 → (n : ℕ) → 1 ≤ n → n ≤ 4 → P n
+one_of_four P a b c d zero some few = absurd (omega (arith, some))
+one_of_four P a b c d (suc zero) some few = a
+one_of_four P a b c d (suc (suc zero)) some few = b
+one_of_four P a b c d (suc (suc (suc zero))) some few = c
+one_of_four P a b c d (suc (suc (suc (suc zero)))) some few = d
+one_of_four P a b c d (suc (suc (suc (suc (suc n))))) some few = absurd (omega (arith, few))
+
+abbrev StandsAt : Kind → ℕ → Type 0
+StandsAt kind n = slice_get shapes (shape_place kind n) ≡ Some (kind, n)
+
+stands_at : (kind : Kind) (n : ℕ) → AllowsOperands kind n → n ≤ 4 → StandsAt kind n
+stands_at And n allowed few = one_of_four (StandsAt And) refl refl refl refl n (some_operands And n allowed) few
+stands_at Nand n allowed few = one_of_four (StandsAt Nand) refl refl refl refl n (some_operands Nand n allowed) few
+stands_at Or n allowed few = one_of_four (StandsAt Or) refl refl refl refl n (some_operands Or n allowed) few
+stands_at Nor n allowed few = one_of_four (StandsAt Nor) refl refl refl refl n (some_operands Nor n allowed) few
+stands_at Xor n allowed few = one_of_four (StandsAt Xor) refl refl refl refl n (some_operands Xor n allowed) few
+stands_at Xnor n allowed few = one_of_four (StandsAt Xnor) refl refl refl refl n (some_operands Xnor n allowed) few
+stands_at Bus n allowed few = one_of_four (StandsAt Bus) refl refl refl refl n (some_operands Bus n allowed) few
+stands_at Not n allowed few = subst (StandsAt Not) (sym (eqb-true n 1 allowed)) refl
+stands_at Buf n allowed few = subst (StandsAt Buf) (sym (eqb-true n 1 allowed)) refl
+stands_at Tri n allowed few = subst (StandsAt Tri) (sym (eqb-true n 2 allowed)) refl
+
+one_shape : (a b : Kind × ℕ) → Some a ≡ Some b → (a.0 ≡ b.0) × (a.1 ≡ b.1)
+one_shape a b same = let is : a ≡ b = some_only a b same in (ap (λ (p : Kind × ℕ). p.0) is, ap (λ (p : Kind × ℕ). p.1) is)
+
+code_of_value : (code : ℕ) → code < 4 → code_of (value_of code) ≡ code
+code_of_value zero low = refl
+code_of_value (suc zero) low = refl
+code_of_value (suc (suc zero)) low = refl
+code_of_value (suc (suc (suc zero))) low = refl
+code_of_value (suc (suc (suc (suc code)))) low = absurd (omega (arith, low))
+
+-- tables of one kind and one number of operands are alike
+alike : (kind : Kind) (n : ℕ) (s t : Table) → IsTableOf kind n s → IsTableOf kind n t → AreAlike s t
+unfolding entry_for
+alike kind n s t one other e low =
+    let a = value_of (e % 4) in
+    let b = value_of (e / 4 % 4) in
+    let c = value_of (e / 16 % 4) in
+    let d = value_of (e / 64 % 4) in
+    let place : place_of a b c d ≡ e =
+    rw (code_of_value (e % 4) (omega arith)) (rw (code_of_value (e / 4 % 4) (omega arith)) (rw (code_of_value (e / 16 % 4) (omega arith)) (rw (code_of_value (e / 64 % 4) (omega arith)) (omega (arith, low))))) in
+    ap (entry_of s) (sym place) ∙ (one a b c d ∙ (sym (other a b c d) ∙ ap (entry_of t) place))
+
+-- ---- the table of a node
+
+-- what is told of table t: it is that of a kind with as many operands as the kind may have
+record Told (tables : List Table) (t : ℕ) : Type 0 where
+  kind : Kind
+  size : ℕ
+  allowed : AllowsOperands kind size
+  few : size ≤ 4
+  table : Table
+  is : slice_get tables t ≡ Some table
+  answers : IsTableOf kind size table
+
+told_by_node : (names : List ItemName) (tables : List Table) (late : Bool) (s : ℕ) (ops : List ℕ) (kind : Kind) (group : Group) (t : ℕ) (feeds : Feeds)
+    → IsNode names tables late s ops kind group (Node t feeds) → AllowsOperands kind group.size → group.size ≤ 4 → Told tables t
+told_by_node names tables late s ops kind group t feeds node allowed few = record {
+  kind = kind;
+  size = group.size;
+  allowed = allowed;
+  few = few;
+  table = node.answers.0;
+  is = ap (slice_get tables) (one_table node.table node.feeds node.is) ∙ node.answers.1;
+  answers = node.answers.2;
+} where
+  one_table : (u : ℕ) (f : Feeds) → Node t feeds ≡ Node u f → t ≡ u
+  one_table u f same = cc
+
+own_kind : (kind : Kind) (n : ℕ) → node_kind kind n (helper_count n) ≡ kind
+own_kind kind n = rw (le-ltb (helper_count n) (helper_count n) (omega arith)) refl
+
+helper_kind : (kind : Kind) (n h : ℕ) → h < helper_count n → node_kind kind n h ≡ base_kind kind
+helper_kind kind n h low = rw (lt-ltb h (helper_count n) low) refl
+
+told_by_driver : (net : Netlist) (names : List ItemName) (tables : List Table) (late : Bool) (s : ℕ) (d : Driver) (helper : Option ℕ) (t : ℕ) (feeds : Feeds)
+    → IsDrivable net s d → IsItemOf names tables late s d helper (Node t feeds) → Told tables t
+told_by_driver net names tables late s driver.Input helper t feeds drivable item = absurd (clash item.1) where
+  clash : Node t feeds ≡ Input s → ⊥
+  clash same = cc
+told_by_driver net names tables late s (driver.Dff op) helper t feeds drivable item = absurd (clash item.1 item.3) where
+  clash : (x : ℕ) → Node t feeds ≡ Latch x → ⊥
+  clash x same = cc
+told_by_driver net names tables late s (driver.BlockBit block bit) helper t feeds drivable item = absurd (clash item.1) where
+  clash : Node t feeds ≡ BlockBit block bit → ⊥
+  clash same = cc
+told_by_driver net names tables late s (driver.Gate kind ops) None t feeds drivable item =
+    let n = length ops in
+    let last : helper_count n < length (groups n) = omega (arith, some_groups n) in
+    told_by_node names tables late s ops kind (group_at n (helper_count n)) t feeds item
+    (subst (λ k. AllowsOperands k (group_at n (helper_count n)).size) (own_kind kind n) (kind_allowed kind n (helper_count n) drivable.0 (omega arith)))
+    (group_few n (helper_count n) last)
+told_by_driver net names tables late s (driver.Gate kind ops) (Some h) t feeds drivable item =
+    let n = length ops in
+    let low : h < helper_count n = item.0 in
+    told_by_node names tables late s ops (base_kind kind) (group_at n h) t feeds item.1
+    (subst (λ k. AllowsOperands k (group_at n h).size) (helper_kind kind n h low) (kind_allowed kind n h drivable.0 (omega (arith, low))))
+    (group_few n h (omega (arith, low)))
+
+-- ---- how many there are
+
+module _ (net : Netlist) (timing : Timing) (nodes : NodeNet) (valid : IsValid net) (are : AreItems net timing nodes) where
+  told_at : (x t : ℕ) (feeds : Feeds) → slice_get nodes.items x ≡ Some (Node t feeds) → Told nodes.tables t
+  told_at x t feeds at = by_signal (slice_get net.signals name.0.signal) refl where
+    name : (n : ItemName) × (slice_get nodes.names x ≡ Some n)
+    name = member_at nodes.names x (omega (arith, are.named, slice_get_within nodes.items x (Node t feeds) at))
+
+    right : IsItem net timing nodes.names nodes.tables name.0 (Node t feeds)
+    right = are.right x name.0 (Node t feeds) name.1 at
+
+    by_signal : (found : Option Signal) → slice_get net.signals name.0.signal ≡ found → Told nodes.tables t
+    by_signal None is = absurd (rw is at right)
+    by_signal (Some signal) is =
+        told_by_driver net nodes.names nodes.tables (is_late net timing name.0.signal) name.0.signal signal.driver name.0.helper t feeds
+        (valid.drivers name.0.signal signal is) (rw is at right)
+
+  told : (t : ℕ) → t < length nodes.tables → Told nodes.tables t
+  told t within = let used : _ = are.tables_used t within in told_at used.0 t used.1 used.2
+
+  -- where the kind and the operands of table t stand
+  number : (t : ℕ) → (t < length nodes.tables) ⊎ (length nodes.tables ≤ t) → ℕ
+  number t (inl within) = shape_place (told t within).kind (told t within).size
+  number t (inr past) = 0
+
+  shape_at : (t : ℕ) (within : t < length nodes.tables) → slice_get shapes (number t (inl within)) ≡ Some ((told t within).kind, (told t within).size)
+  unfolding number
+  shape_at t within = stands_at (told t within).kind (told t within).size (told t within).allowed (told t within).few
+
+  number_low : (t : ℕ) (by : (t < length nodes.tables) ⊎ (length nodes.tables ≤ t)) → t < length nodes.tables → number t by < 31
+  number_low t (inl within) inside = slice_get_within shapes (number t (inl within)) ((told t within).kind, (told t within).size) (shape_at t within)
+  number_low t (inr past) inside = absurd (omega (arith, past, inside))
+
+  apart : (t u : ℕ) (by : (t < length nodes.tables) ⊎ (length nodes.tables ≤ t)) (to : (u < length nodes.tables) ⊎ (length nodes.tables ≤ u))
+      → t < u → u < length nodes.tables → number t by ≢ number u to
+  apart t u (inr past) to before within same = absurd (omega (arith, past, before, within))
+  apart t u (inl first) (inr past) before within same = absurd (omega (arith, past, within))
+  apart t u (inl first) (inl second) before within same =
+      let one : Told nodes.tables t = told t first in
+      let other : Told nodes.tables u = told u second in
+      let shape : (one.kind ≡ other.kind) × (one.size ≡ other.size) =
+      one_shape (one.kind, one.size) (other.kind, other.size) (sym (shape_at t first) ∙ (ap (slice_get shapes) same ∙ shape_at u second)) in
+      let again : IsTableOf one.kind one.size other.table =
+      subst (λ k. IsTableOf k one.size other.table) (sym shape.0) (subst (λ n. IsTableOf other.kind n other.table) (sym shape.1) other.answers) in
+      let here : get_or nodes.tables t one.table ≡ one.table = get_or_from_slice_get nodes.tables t one.table one.table one.is in
+      let there : get_or nodes.tables u one.table ≡ other.table = get_or_from_slice_get nodes.tables u other.table one.table other.is in
+      are.tables t u one.table before within (rw here (rw there (alike one.kind one.size one.table other.table one.answers again)))
+
+  pub all_tables : length nodes.tables ≤ 31
+  all_tables = few_partners (length nodes.tables) 31 (λ t. number t (cases_lt t (length nodes.tables)))
+      (λ t u before within. apart t u (cases_lt t (length nodes.tables)) (cases_lt u (length nodes.tables)) before within)
+      (λ t within. number_low t (cases_lt t (length nodes.tables)) within)
+
+  pub used_tables : (homes : Homes) (port count : ℕ) → UsesTables nodes homes port count → count ≤ 31
+  used_tables homes port count uses = omega (arith, uses.are, few, all_tables) where
+    few : length uses.numbers ≤ length nodes.tables
+    few = few_below uses.numbers (length nodes.tables)
+        (λ i j before within same. (let rising : get_or uses.numbers i 0 < get_or uses.numbers j 0 = AllPairs-from_increasing uses.numbers uses.lists.rising i j 0 before within in omega (arith, rising, same)))
+        (λ i within.
+        let used : UsesTable nodes homes port (get_or uses.numbers i 0) = (uses.lists.exact (get_or uses.numbers i 0)).0 (Contains-get_or uses.numbers i 0 within) in
+        table_there net timing nodes are used.node (get_or uses.numbers i 0) used.feeds used.is)

@@ -1,0 +1,55 @@
+use Rattle.std.proofs.Common.{◌≡◌, ◌∙◌, ◌-◌, length, refl, sym, ap, subst, arith}
+use Rattle.home_pick.proofs.HomeLemmas.{homes_are}
+use Rattle.large_gen.specs.Large.{gate_state, large_netlist, large_stimulus}
+use Rattle.large_gen.specs.Summaries.{summary_text}
+use Rattle.large_gen.proofs.ValidLemmas.{no_loop_large, valid_large}
+use Rattle.net_defs.specs.Reference.{HasOneSimulation}
+use Rattle.net_defs.specs.Steps.{State}
+use Rattle.std.specs.Prelude.{List}
+use Rattle.plan_text.specs.Counted.{AreCrossings}
+use Rattle.large_run.specs.Runs.{cells_to, summary_of}
+use Rattle.large_run.specs.Setting.{large_machine, large_timing}
+use Rattle.large_run.proofs.OneLemmas.{crossings_kept, crossings_there}
+use Rattle.large_run.proofs.OneLemmas.{one_summary as same_summary}
+use Rattle.large_run.proofs.SettingLemmas.{machine_valid}
+use Rattle.large_run.proofs.law.one_summary.Goals as goal
+
+pub returns-clause-some : goal.returns-clause-some
+returns-clause-some c gates cycles few =
+    let fits = c.large_fits.ensures gates few in
+    let formed = c.items_are_well_formed.ensures (large_netlist gates) large_timing fits.nodes (valid_large gates few) fits.items in
+    let crossed = crossings_there fits.nodes fits.homes formed (homes_are fits.nodes large_machine fits.homes machine_valid fits.picked) in
+    let simulated : HasOneSimulation (large_netlist gates) large_timing (large_stimulus (gate_state gates) cycles) =
+    c.one_simulation.ensures.rank_order (large_netlist gates) large_timing (large_stimulus (gate_state gates) cycles) (no_loop_large gates large_timing) in (
+      summary_text (summary_of gates fits.nodes fits.plan crossed.0 (cells_to (large_netlist gates) large_timing simulated.states cycles)),
+      record {
+        nodes = fits.nodes;
+        items = fits.items;
+        homes = fits.homes;
+        picked = fits.picked;
+        plan = fits.plan;
+        first_fit = fits.first_fit;
+        crossings = crossed.0;
+        crossed = crossed.1;
+        states = simulated.states;
+        simulation = simulated.exists;
+        summary = refl;
+      },
+    )
+
+pub returns-clause-one : goal.returns-clause-one
+returns-clause-one c gates cycles one other few a b =
+    let there = c.one_list.ensures (large_netlist gates) large_timing a.nodes b.nodes a.items b.items in
+    let back = c.one_list.ensures (large_netlist gates) large_timing b.nodes a.nodes b.items a.items in
+    let homes = c.one_homes.ensures (large_netlist gates) large_machine large_timing a.nodes b.nodes a.items b.items a.homes b.homes a.picked b.picked in
+    let need = c.one_need.ensures (large_netlist gates) large_machine large_timing a.nodes b.nodes (valid_large gates few) a.items b.items a.homes b.homes a.picked b.picked a.plan b.plan a.first_fit b.first_fit in
+    let crossed = crossings_kept a.nodes b.nodes b.homes a.crossings there back (subst (λ h. AreCrossings a.nodes h a.crossings) homes a.crossed) in
+    let crossings = c.one_crossing_count.ensures b.nodes b.homes a.crossings b.crossings crossed b.crossed in
+    let simulated : HasOneSimulation (large_netlist gates) large_timing (large_stimulus (gate_state gates) cycles) =
+    c.one_simulation.ensures.rank_order (large_netlist gates) large_timing (large_stimulus (gate_state gates) cycles) (no_loop_large gates large_timing) in
+    let states : a.states ≡ b.states = simulated.only a.states a.simulation ∙ sym (simulated.only b.states b.simulation) in
+    a.summary
+    ∙ (ap summary_text (same_summary gates (length a.nodes.items - a.nodes.first_node) a.plan.needed a.crossings (length b.nodes.items - b.nodes.first_node) b.plan.needed b.crossings
+    (cells_to (large_netlist gates) large_timing a.states cycles) (cells_to (large_netlist gates) large_timing b.states cycles)
+    (omega (arith, there.count, there.first_node)) need crossings (ap (λ (states : List State). cells_to (large_netlist gates) large_timing states cycles) states))
+    ∙ sym b.summary)

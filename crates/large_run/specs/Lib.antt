@@ -1,0 +1,4 @@
+pub mod Designs
+pub mod Rows
+pub mod Runs
+pub mod Setting

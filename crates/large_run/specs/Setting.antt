@@ -1,0 +1,13 @@
+-- The machine on which large netlists run, and their timing.
+use Rattle.machine_text.specs.declared.machine.Machine.{Machine}
+use Rattle.net_defs.specs.declared.timing.Timing.{Timing}
+use Rattle.net_defs.specs.declared.timing.Init.TheVariants as init
+use Rattle.net_defs.specs.declared.timing.Mode.TheVariants as mode
+
+-- sixteen logic processors and no array processor
+abbrev pub large_machine : Machine
+large_machine = record { logic = 16; array = 0; slots = 65536; functions = 256; bits = 1 }
+
+-- rank order, where registers hold 0 at first
+abbrev pub large_timing : Timing
+large_timing = record { mode = mode.Rank; units = 1; init = init.Zero }

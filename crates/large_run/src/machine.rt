@@ -1,0 +1,35 @@
+//! The machine on which large netlists run, and their timing.
+
+ghost use Rattle.std.specs.Prelude.{◌≡◌};
+ghost use Rattle.machine_text.specs.Machines.{IsValid};
+ghost use Rattle.net_defs.specs.Valid.{IsValidTiming};
+ghost use Rattle.large_run.specs.Setting.{large_machine as machine_is, large_timing as timing_is};
+
+use machine_text::Machine;
+use net_defs::{Init, Mode, Timing};
+
+/// Sixteen logic processors.
+pub(crate) fn large_machine() -> Machine
+    ensures is { result ≡ machine_is }
+    ensures valid { IsValid result }
+{
+    Machine {
+        logic: 16,
+        array: 0,
+        slots: 65_536,
+        functions: 256,
+        bits: 1,
+    }
+}
+
+/// Rank order, where registers hold 0 at first.
+pub(crate) fn large_timing() -> Timing
+    ensures is { result ≡ timing_is }
+    ensures valid { IsValidTiming result }
+{
+    Timing {
+        mode: Mode::Rank,
+        units: 1,
+        init: Init::Zero,
+    }
+}

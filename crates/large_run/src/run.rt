@@ -1,0 +1,57 @@
+//! The run of a large design.
+
+ghost use Rattle.std.specs.Prelude.{◌≡◌, ◌⊎◌, ◌<◌, ◌≤◌, ℕ, IfOk, OnErr, OnOk, Option, Some, length, slice_get};
+ghost use Rattle.crew_run.specs.Crews.{CanTell};
+ghost use Rattle.machine_run.specs.Visits.{AreInPlace, AreVisitsOf};
+ghost use Rattle.large_run.specs.Runs.{IsSummaryOf};
+
+use crate::counts::summed_up;
+use crate::design::large_design;
+use crew_run::Gate;
+use machine_run::run_machine;
+use seen_list::{Memory, Text};
+use std::alloc::Global;
+use std::marker::{Send, Sync};
+use std::sync::Wait;
+use std::thread::Threads;
+use yse_compile::inputs::same_inputs;
+
+/// One word for each item that is sent.
+const BANKS: u32 = 1;
+
+/// The summary of a run over so many cycles, up to 10,000, of a netlist of so many gates, up to 30,000,
+/// with so many workers, each of which tells its gate of the turns that its ports make. Only want of
+/// memory is an error. It may wait, so what it promises holds if it returns.
+pub fn large<R: Threads + Wait + Sync, G: Gate + Send>(
+    rt: &R,
+    alloc: Global,
+    gates_count: u32,
+    cycles: u32,
+    workers: u32,
+    gates: &mut [Option<G>],
+) -> Result<Text, Memory>
+    requires few_gates { gates_count ≤ 30000 }
+    requires few_cycles { cycles ≤ 10000 }
+    requires some_workers { 1 ≤ workers }
+    requires enough { workers ≤ length gates.old }
+    requires tell { (i : ℕ) (gate : Option G) → i < workers → slice_get gates.old i ≡ Some gate → CanTell G.Gate.own gate }
+    ensures summary { IfOk result (IsSummaryOf gates_count cycles) }
+    // Sixteen logic processors and the host are 17 ports, and a cycle is one turn.
+    ensures visits { OnOk result (AreVisitsOf G.Gate.own 17 cycles workers gates.old gates.new) }
+    // Memory is refused before the run, or after the whole of it.
+    ensures refused { OnErr result ((gates.new ≡ gates.old) ⊎ AreVisitsOf G.Gate.own 17 cycles workers gates.old gates.new) }
+    ensures kept { AreInPlace gates.old gates.new }
+{
+    same_inputs();
+    let design = large_design(alloc, gates_count, cycles)?;
+    let rows = run_machine(
+        rt,
+        alloc,
+        &design.compiled.image,
+        &design.rows,
+        BANKS,
+        workers,
+        gates,
+    )?;
+    summed_up(alloc, &design.figures, rows.rows.as_slice())
+}
