@@ -1,4 +1,4 @@
-//! The program: real files and streams around the top call, whose status is the exit status.
+//! The program: real files, streams and gates around the top call, whose status is the exit status.
 #![tactic(auto)]
 
 ghost use Rattle.std.specs.Prelude.{◌≡◌};
@@ -6,20 +6,39 @@ ghost use Rattle.std.specs.Process.{exit_status};
 ghost use Rattle.yse_top.specs.Statuses.{status_number};
 
 use edge_io::{HostFiles, HostSink};
+use machine_run::count_gates;
+use seen_list::Memory;
 use std::io::ErrorKind;
 use std::process::ExitCode;
 use std::{env, io};
 use yse_top::{Status, out_of_memory, yse};
 
+/// The gates of a call.
+const GATES: usize = 64;
+
 fn main(rt: HostRuntime) -> ExitCode {
     let mut files = HostFiles::new(&rt);
     let mut out = HostSink::new(rt.stdout());
     let mut err = HostSink::new(rt.stderr());
-    let status = match words(&rt) {
-        Ok(words) => yse(rt.alloc(), words.as_slice(), &mut files, &mut out, &mut err),
-        Err(error) if error.kind() == ErrorKind::OutOfMemory => out_of_memory(&mut err),
-        // A word that isn't UTF-8 is refused as no words at all are.
-        Err(_) => yse(rt.alloc(), &[], &mut files, &mut out, &mut err),
+    let status = match count_gates(rt.alloc(), GATES) {
+        Ok(mut gates) => {
+            let gates = gates.as_mut_slice();
+            match words(&rt) {
+                Ok(words) => yse(
+                    &rt,
+                    rt.alloc(),
+                    words.as_slice(),
+                    &mut files,
+                    &mut out,
+                    &mut err,
+                    gates,
+                ),
+                Err(error) if error.kind() == ErrorKind::OutOfMemory => out_of_memory(&mut err),
+                // A word that isn't UTF-8 is refused as no words at all are.
+                Err(_) => yse(&rt, rt.alloc(), &[], &mut files, &mut out, &mut err, gates),
+            }
+        }
+        Err(Memory) => out_of_memory(&mut err),
     };
     exit_code(status)
 }

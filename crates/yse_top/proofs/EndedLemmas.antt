@@ -16,7 +16,8 @@ use Rattle.seen_list.specs.Filling.{Filling}
 use Rattle.stim_text.specs.declared.order.Order.{Order}
 use Rattle.stim_text.specs.Orders.{steps_of}
 use Rattle.trace_text.specs.Line.{HasRoom}
-use Rattle.yse_top.specs.Images.{IsImageOf, AreShown}
+use Rattle.machine_run.specs.Shown.{AreShown}
+use Rattle.yse_top.specs.Images.{IsImageOf}
 use Rattle.yse_top.specs.Orders.{IsMachineImage, IsAfterOrder, EndsIn, EndsInOrder}
 use Rattle.yse_top.specs.Outcome.{Outcome, done, unfinished}
 use Rattle.yse_top.specs.Outputs.{CanPrint, trace_bytes}

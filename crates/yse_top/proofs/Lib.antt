@@ -5,6 +5,7 @@ mod CommandLemmas
 mod EndLemmas
 mod EndedLemmas
 mod EndingLemmas
+mod GateLemmas
 mod OrderLemmas
 mod OutcomeLemmas
 mod ProperLemmas
@@ -14,4 +15,5 @@ mod StepLemmas
 mod TextLemmas
 mod TraceLemmas
 mod TracedLemmas
+mod VisitedLemmas
 mod WritingLemmas

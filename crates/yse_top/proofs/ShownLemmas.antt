@@ -24,7 +24,8 @@ use Rattle.image_defs.specs.Places.{host_of}
 use Rattle.port_host.specs.Rows.{printed_sources}
 use Rattle.yse_compile.specs.declared.compiler.Compiled.{Compiled}
 use Rattle.yse_compile.specs.Compiled.{IsCompiled, ShowsReference}
-use Rattle.yse_top.specs.Images.{IsImageOf, AreShown}
+use Rattle.machine_run.specs.Shown.{AreShown}
+use Rattle.yse_top.specs.Images.{IsImageOf}
 use Rattle.net_defs.specs.Valid.{IsValidStimulus}
 use Rattle.seen_list.specs.Filling.{Filling}
 use Rattle.trace_text.specs.Line.{HasRoom}

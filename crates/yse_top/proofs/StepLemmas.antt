@@ -22,7 +22,7 @@ use Rattle.event_defs.specs.Sound.{IsSound}
 use Rattle.event_defs.specs.Steps.{CoreState, AreSteps, AreFirstSteps, IsStep, AllDone, first_state, rows_done}
 use Rattle.event_core.specs.Core.{CoreView, IsStart, IsSameCore, IsSoundCore, Applies, AreDone, state_of, turns_of, rows_of}
 use Rattle.net_defs.specs.declared.trace.CellRow.{CellRow}
-use Rattle.yse_top.specs.Images.{AreShown}
+use Rattle.machine_run.specs.Shown.{AreShown}
 use Rattle.yse_top.specs.Stepped.{HasStepped}
 
 -- ---- steps of states

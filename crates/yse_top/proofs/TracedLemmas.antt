@@ -26,9 +26,10 @@ use Rattle.yse_top.specs.Lines.{too_long_line}
 use Rattle.yse_top.specs.Outputs.{bytes_of}
 use Rattle.yse_top.specs.Readings.{Reading}
 use Rattle.yse_top.specs.Refusals.{Follows}
-use Rattle.yse_top.specs.Traced.{IsTraceOfFiles}
+use Rattle.yse_top.specs.Traced.{AreOfFiles, IsTraceOfFiles}
 use Rattle.yse_top.specs.Orders.{EndsIn, EndsInOrder}
 use Rattle.yse_top.specs.Endings.{ending_in, status_after}
+use Rattle.yse_top.specs.Visited.{IsMachineOfFile}
 use Rattle.yse_top.specs.Words.{traced_by}
 use Rattle.yse_top.specs.commands.Run.{AfterDesign, AfterFit, AfterMachine, AfterStimulus, WritesTrace, EndsBy, ExpectedRun, ExpectedOn, ExpectedRefer}
 use Rattle.yse_top.proofs.EndingLemmas.{whole_output}
@@ -89,15 +90,87 @@ module _ (bytes : Option (List ℕ → List ℕ)) where
               by_test true f = never_both read (done output) f
               by_test false f = not_done (refusal status.Limit (too_long_line file)) status.Limit output (sym (refused_once (refusal status.Limit (too_long_line file)) (done output) f)) refl (λ e. cc)
 
-  -- ---- the trace, once the netlist and the stimulus are read
+  -- ---- the end of a run, once its files are read
 
-  -- a netlist and a stimulus whose trace is the output
-  record Traces (words : RunWords) (net : Netlist) (output : List ℕ) : Type 0 where
-    stimulus_text : List ℕ
-    stimulus_told : OfTold bytes words.stimulus (λ told. stimulus_text ≡ told)
+  -- a run came to its end over the machine, the netlist and the stimulus of its files
+  pub record Reached (words : RunWords) (End : Machine → Netlist → Stimulus → List Reading → Outcome → Type 0) (output : List ℕ) : Type 0 where
+    pub machine : Machine
+    pub machine_is : IsMachineOfFile bytes words.machine machine
+    pub net : Netlist
+    pub stimulus : Stimulus
+    pub are : AreOfFiles bytes words net stimulus
+    pub others : List Reading
+    pub told : AreTold others
+    pub ends : End machine net stimulus others (done output)
+
+  -- the stimulus of a netlist
+  record ReachedStimulus (words : RunWords) (net : Netlist) (End : Stimulus → List Reading → Outcome → Type 0) (output : List ℕ) : Type 0 where
+    text : List ℕ
+    text_told : OfTold bytes words.stimulus (λ told. text ≡ told)
     stimulus : Stimulus
-    stimulus_reads : stim.Reads (input_count net) stimulus_text stimulus
-    trace : IsTrace net words.timing stimulus output
+    reads : stim.Reads (input_count net) text stimulus
+    others : List Reading
+    told : AreTold others
+    ends : End stimulus others (done output)
+
+  reached_stimulus : (words : RunWords) (net : Netlist) (End : Stimulus → List Reading → Outcome → Type 0) (readings : List Reading) (output : List ℕ) → AreTold readings → AfterStimulus words.stimulus net End readings (done output) → ReachedStimulus words net End output
+  unfolding AfterStimulus
+  reached_stimulus words net End readings output are expected =
+      let second = gave words.stimulus (λ text. After (IsStimulusOf text net) (λ stimulus. After (HasFewCells net stimulus) (λ few. End stimulus))) readings output are expected in
+      let stimulus = passed (IsStimulusOf second.text net) (λ stimulus. After (HasFewCells net stimulus) (λ few. End stimulus)) second.others output (λ e. not_done _ status.Stimulus output e.2 refl (λ e. cc)) second.next in
+      let cells = passed (HasFewCells net stimulus.0) (λ few. End stimulus.0) second.others output (λ e. not_done _ status.Limit output e.1 refl (λ e. cc)) stimulus.2 in
+      record {
+        text = second.text;
+        text_told = second.told;
+        stimulus = stimulus.0;
+        reads = stimulus.1;
+        others = second.others;
+        told = second.are;
+        ends = cells.2;
+      }
+
+  of_files : (words : RunWords) (text : List ℕ) → OfTold bytes words.netlist (λ told. text ≡ told) → (net : Netlist) → bench.Reads text net → (End : Stimulus → List Reading → Outcome → Type 0) (output : List ℕ) → (end : ReachedStimulus words net End output) → AreOfFiles bytes words net end.stimulus
+  of_files words text told net reads End output end = record {
+    netlist_text = text;
+    netlist_told = told;
+    netlist_reads = reads;
+    stimulus_text = end.text;
+    stimulus_told = end.text_told;
+    stimulus_reads = end.reads;
+  }
+
+  reached_on : (words : RunWords) (End : Machine → Netlist → Stimulus → List Reading → Outcome → Type 0) (machine : Machine) → IsMachineOfFile bytes words.machine machine → (readings : List Reading) (output : List ℕ) → AreTold readings → ExpectedOn words End machine readings (done output) → Reached words End output
+  unfolding ExpectedOn AfterDesign
+  reached_on words End machine is readings output are expected =
+      let Next : Netlist → List Reading → Outcome → Type 0 = λ net. AfterStimulus words.stimulus net (End machine net) in
+      let first = gave words.netlist (λ text. After (IsNetlistOf text) (λ net. AfterFit net machine words.timing (Next net))) readings output are expected in
+      let netlist = passed (IsNetlistOf first.text) (λ net. AfterFit net machine words.timing (Next net)) first.others output (λ e. not_done _ status.Netlist output e.2 refl (λ e. cc)) first.next in
+      let order = passed (HasNoLoop netlist.0 words.timing) (λ passed. After (HasRoom netlist.0 machine words.timing) (λ fits. Next netlist.0)) first.others output (λ e. not_done _ status.Loop output e.2 refl (λ e. cc)) netlist.2 in
+      let room = passed (HasRoom netlist.0 machine words.timing) (λ fits. Next netlist.0) first.others output (λ e. not_done _ status.Overfull output e.3 refl (λ e. cc)) order.2 in
+      let end = reached_stimulus words netlist.0 (End machine netlist.0) first.others output first.are room.2 in
+      record {
+        machine = machine;
+        machine_is = is;
+        net = netlist.0;
+        stimulus = end.stimulus;
+        are = of_files words first.text first.told netlist.0 netlist.1 (End machine netlist.0) output end;
+        others = end.others;
+        told = end.told;
+        ends = end.ends;
+      }
+
+  pub reached : (words : RunWords) (End : Machine → Netlist → Stimulus → List Reading → Outcome → Type 0) (readings : List Reading) (output : List ℕ) → AreTold readings → AfterMachine words.machine (ExpectedOn words End) readings (done output) → Reached words End output
+  unfolding AfterMachine
+  reached words End readings output are expected = by words.machine refl readings are expected
+    where
+      by : (file : Option (List ℕ)) → words.machine ≡ file → (readings : List Reading) → AreTold readings → AfterMachine file (ExpectedOn words End) readings (done output) → Reached words End output
+      by None is readings are expected = reached_on words End default_machine (subst (λ f. IsMachineOfFile bytes f default_machine) (sym is) refl) readings output are expected
+      by (Some file) is readings are expected =
+          let first = gave file (λ text. After (IsMachineOf text) (ExpectedOn words End)) readings output are expected in
+          let machine = passed (IsMachineOf first.text) (ExpectedOn words End) first.others output (λ e. not_done _ status.Machine output e.2 refl (λ e. cc)) first.next in
+          reached_on words End machine.0 (subst (λ f. IsMachineOfFile bytes f machine.0) (sym is) (first.text, first.told, machine.1)) first.others output first.are machine.2
+
+  -- ---- the trace
 
   written : (net : Netlist) (words : RunWords) (stimulus : Stimulus) (readings : List Reading) (output : List ℕ) → WritesTrace net words.timing stimulus readings (done output) → IsTrace net words.timing stimulus output
   written net words stimulus readings output (none, inl (text, is, same)) = subst (IsTrace net words.timing stimulus) (sym (ap (λ (o : Outcome). o.output) same)) is
@@ -119,35 +192,7 @@ module _ (bytes : Option (List ℕ → List ℕ)) where
       let order = passed (IsOrderOf first.text machine) (λ order. Ends (EndsInOrder order words.banks net machine words.timing stimulus)) first.others output (λ e. not_done _ status.OrderText output e.2 refl (λ e. cc)) first.next in
       ordered net words machine stimulus order.0 first.others output order.2
 
-  stimulus_traced : (words : RunWords) (net : Netlist) (Next : Stimulus → List Reading → Outcome → Type 0) (output : List ℕ) → ((stimulus : Stimulus) (others : List Reading) → AreTold others → Next stimulus others (done output) → IsTrace net words.timing stimulus output)
-      → (readings : List Reading) → AreTold readings → AfterStimulus words.stimulus net Next readings (done output) → Traces words net output
-  unfolding AfterStimulus
-  stimulus_traced words net Next output on readings are expected =
-      let second = gave words.stimulus (λ text. After (IsStimulusOf text net) (λ stimulus. After (HasFewCells net stimulus) (λ few. Next stimulus))) readings output are expected in
-      let stimulus = passed (IsStimulusOf second.text net) (λ stimulus. After (HasFewCells net stimulus) (λ few. Next stimulus)) second.others output (λ e. not_done _ status.Stimulus output e.2 refl (λ e. cc)) second.next in
-      let cells = passed (HasFewCells net stimulus.0) (λ few. Next stimulus.0) second.others output (λ e. not_done _ status.Limit output e.1 refl (λ e. cc)) stimulus.2 in
-      record {
-        stimulus_text = second.text;
-        stimulus_told = second.told;
-        stimulus = stimulus.0;
-        stimulus_reads = stimulus.1;
-        trace = on stimulus.0 second.others second.are cells.2;
-      }
-
   -- ---- commands
-
-  traced_files : (words : RunWords) (text : List ℕ) → OfTold bytes words.netlist (λ told. text ≡ told) → (net : Netlist) → bench.Reads text net → (output : List ℕ) → Traces words net output → IsTraceOfFiles bytes output words
-  traced_files words text told net reads output traces = record {
-    netlist_text = text;
-    netlist_told = told;
-    net = net;
-    netlist_reads = reads;
-    stimulus_text = traces.stimulus_text;
-    stimulus_told = traces.stimulus_told;
-    stimulus = traces.stimulus;
-    stimulus_reads = traces.stimulus_reads;
-    trace = traces.trace;
-  }
 
   refer_traced : (words : RunWords) (readings : List Reading) (output : List ℕ) → AreTold readings → ExpectedRefer words readings (done output) → IsTraceOfFiles bytes output words
   unfolding ExpectedRefer
@@ -155,33 +200,24 @@ module _ (bytes : Option (List ℕ → List ℕ)) where
       let first = gave words.netlist (λ text. After (IsNetlistOf text) (λ net. After (HasNoLoop net words.timing) (λ passed. AfterStimulus words.stimulus net (WritesTrace net words.timing)))) readings output are expected in
       let netlist = passed (IsNetlistOf first.text) (λ net. After (HasNoLoop net words.timing) (λ passed. AfterStimulus words.stimulus net (WritesTrace net words.timing))) first.others output (λ e. not_done _ status.Netlist output e.2 refl (λ e. cc)) first.next in
       let order = passed (HasNoLoop netlist.0 words.timing) (λ passed. AfterStimulus words.stimulus netlist.0 (WritesTrace netlist.0 words.timing)) first.others output (λ e. not_done _ status.Loop output e.2 refl (λ e. cc)) netlist.2 in
-      traced_files words first.text first.told netlist.0 netlist.1 output
-      (stimulus_traced words netlist.0 (WritesTrace netlist.0 words.timing) output (λ stimulus others told next. written netlist.0 words stimulus others output next) first.others first.are order.2)
-
-  on_traced : (words : RunWords) (by : Option (List ℕ)) (machine : Machine) (readings : List Reading) (output : List ℕ) → AreTold readings → ExpectedOn words by machine readings (done output) → IsTraceOfFiles bytes output words
-  unfolding ExpectedOn AfterDesign
-  on_traced words by machine readings output are expected =
-      let Next : Netlist → List Reading → Outcome → Type 0 = λ net. AfterStimulus words.stimulus net (EndsBy by words machine net) in
-      let first = gave words.netlist (λ text. After (IsNetlistOf text) (λ net. AfterFit net machine words.timing (Next net))) readings output are expected in
-      let netlist = passed (IsNetlistOf first.text) (λ net. AfterFit net machine words.timing (Next net)) first.others output (λ e. not_done _ status.Netlist output e.2 refl (λ e. cc)) first.next in
-      let order = passed (HasNoLoop netlist.0 words.timing) (λ passed. After (HasRoom netlist.0 machine words.timing) (λ fits. Next netlist.0)) first.others output (λ e. not_done _ status.Loop output e.2 refl (λ e. cc)) netlist.2 in
-      let room = passed (HasRoom netlist.0 machine words.timing) (λ fits. Next netlist.0) first.others output (λ e. not_done _ status.Overfull output e.3 refl (λ e. cc)) order.2 in
-      traced_files words first.text first.told netlist.0 netlist.1 output
-      (stimulus_traced words netlist.0 (EndsBy by words machine netlist.0) output (λ stimulus others told next. ends_traced by words machine netlist.0 stimulus others output told next) first.others first.are room.2)
-
-  machine_traced : (words : RunWords) (file : Option (List ℕ)) (Next : Machine → List Reading → Outcome → Type 0) (output : List ℕ) → ((machine : Machine) (others : List Reading) → AreTold others → Next machine others (done output) → IsTraceOfFiles bytes output words)
-      → (readings : List Reading) → AreTold readings → AfterMachine file Next readings (done output) → IsTraceOfFiles bytes output words
-  unfolding AfterMachine
-  machine_traced words None Next output on readings are expected = on default_machine readings are expected
-  machine_traced words (Some file) Next output on readings are expected =
-      let first = gave file (λ text. After (IsMachineOf text) Next) readings output are expected in
-      let machine = passed (IsMachineOf first.text) Next first.others output (λ e. not_done _ status.Machine output e.2 refl (λ e. cc)) first.next in
-      on machine.0 first.others first.are machine.2
+      let end = reached_stimulus words netlist.0 (WritesTrace netlist.0 words.timing) first.others output first.are order.2 in
+      record {
+        net = netlist.0;
+        stimulus = end.stimulus;
+        are = of_files words first.text first.told netlist.0 netlist.1 (WritesTrace netlist.0 words.timing) output end;
+        trace = written netlist.0 words end.stimulus end.others output end.ends;
+      }
 
   run_traced : (words : RunWords) (by : Option (List ℕ)) (readings : List Reading) (output : List ℕ) → AreTold readings → ExpectedRun words by readings (done output) → IsTraceOfFiles bytes output words
   unfolding ExpectedRun
   run_traced words by readings output are expected =
-      machine_traced words words.machine (ExpectedOn words by) output (λ machine others told next. on_traced words by machine others output told next) readings are expected
+      let end = reached words (EndsBy by words) readings output are expected in
+      record {
+        net = end.net;
+        stimulus = end.stimulus;
+        are = end.are;
+        trace = ends_traced by words end.machine end.net end.stimulus end.others output end.told end.ends;
+      }
 
   command_traced : (command : Command) (readings : List Reading) (output : List ℕ) → AreTold readings → ExpectedOf command readings (done output) → IfSome (traced_by (Some command)) (IsTraceOfFiles bytes output)
   command_traced (command.Run words) readings output are expected = run_traced words None readings output are expected
@@ -189,6 +225,7 @@ module _ (bytes : Option (List ℕ → List ℕ)) where
   command_traced (command.Order words) readings output are expected = run_traced words words.order readings output are expected
   command_traced (command.Plan words) readings output are expected = tt
   command_traced (command.Show file) readings output are expected = tt
+  command_traced (command.Large gates cycles workers) readings output are expected = tt
 
   pub traced : (names : Option (List ℕ → Bool)) (old new : FileCounts) (command : Command) (output : Output) → status_after (ending_in output) ≡ status.Done → Follows names bytes old new (Ok output) (ExpectedOf command) → IfSome (traced_by (Some command)) (IsTraceOfFiles bytes (bytes_of output))
   traced names old new command output whole follows =

@@ -8,6 +8,7 @@ use Rattle.yse_top.specs.Checks.{After}
 use Rattle.yse_top.specs.Lines.{usage_line}
 use Rattle.yse_top.specs.Outcome.{Outcome, refusal}
 use Rattle.yse_top.specs.Readings.{Reading}
+use Rattle.yse_top.specs.commands.Large.{ExpectedLarge}
 use Rattle.yse_top.specs.commands.Plan.{ExpectedPlan}
 use Rattle.yse_top.specs.commands.Run.{ExpectedRun, ExpectedRefer}
 use Rattle.yse_top.specs.commands.Show.{ExpectedShow}
@@ -18,6 +19,7 @@ ExpectedOf (command.Refer words) readings outcome = ExpectedRefer words readings
 ExpectedOf (command.Order words) readings outcome = ExpectedRun words words.order readings outcome
 ExpectedOf (command.Plan words) readings outcome = ExpectedPlan words readings outcome
 ExpectedOf (command.Show netlist) readings outcome = ExpectedShow netlist readings outcome
+ExpectedOf (command.Large gates cycles workers) readings outcome = ExpectedLarge gates cycles readings outcome
 
 -- the command of whose form the words are; words of no form are refused
 abbrev pub Asks : List (List ℕ) → Result Command Outcome → Type 0

@@ -14,5 +14,6 @@ pub mod Refusals
 pub mod Statuses
 pub mod Stepped
 pub mod Traced
+pub mod Visited
 pub mod Words
 pub mod Writing

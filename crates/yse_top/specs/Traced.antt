@@ -1,5 +1,5 @@
 -- What the output of a simulation is, by what its files told.
-use Rattle.std.specs.Prelude.{◌≡◌, ℕ, List, Option}
+use Rattle.std.specs.Prelude.{ℕ, List, Option, ◌≡◌}
 use Rattle.edge_io.specs.Names.{OfTold}
 use Rattle.net_defs.specs.declared.netlist.Netlist.{Netlist}
 use Rattle.net_defs.specs.declared.stimulus.Stimulus.{Stimulus}
@@ -9,16 +9,20 @@ use Rattle.bench_read.specs.Reads as bench
 use Rattle.stim_text.specs.Stimuli as stim
 use Rattle.cmd_words.specs.declared.command.RunWords.{RunWords}
 
--- The text of the netlist file, the netlist that it reads as, the text of the stimulus file, the stimulus
--- that it reads as, and the output is their trace. Where the store tells the bytes of its files, the texts
+-- The text of the netlist file, and the netlist that it reads as; the text of the stimulus file, and the
+-- stimulus that it reads as for the netlist's inputs. Where the store tells the bytes of its files, the texts
 -- are those bytes.
-pub record IsTraceOfFiles (bytes : Option (List ℕ → List ℕ)) (output : List ℕ) (words : RunWords) : Type 0 where
+pub record AreOfFiles (bytes : Option (List ℕ → List ℕ)) (words : RunWords) (net : Netlist) (stimulus : Stimulus) : Type 0 where
   pub netlist_text : List ℕ
   pub netlist_told : OfTold bytes words.netlist (λ told. netlist_text ≡ told)
-  pub net : Netlist
   pub netlist_reads : bench.Reads netlist_text net
   pub stimulus_text : List ℕ
   pub stimulus_told : OfTold bytes words.stimulus (λ told. stimulus_text ≡ told)
-  pub stimulus : Stimulus
   pub stimulus_reads : stim.Reads (input_count net) stimulus_text stimulus
+
+-- the output is the trace of the netlist and the stimulus of the files
+pub record IsTraceOfFiles (bytes : Option (List ℕ → List ℕ)) (output : List ℕ) (words : RunWords) : Type 0 where
+  pub net : Netlist
+  pub stimulus : Stimulus
+  pub are : AreOfFiles bytes words net stimulus
   pub trace : IsTrace net words.timing stimulus output

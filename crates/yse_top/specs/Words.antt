@@ -12,6 +12,7 @@ files_of (command.Refer words) = words.netlist ∷ words.stimulus ∷ []
 files_of (command.Order words) = option_to_list words.machine ++ (words.netlist ∷ words.stimulus ∷ option_to_list words.order)
 files_of (command.Plan words) = option_to_list words.machine ++ (words.netlist ∷ [])
 files_of (command.Show netlist) = netlist ∷ []
+files_of (command.Large gates cycles workers) = []
 
 abbrev pub files_named : Option Command → List (List ℕ)
 files_named None = []
@@ -25,6 +26,7 @@ traced_by (Some (command.Refer words)) = Some words
 traced_by (Some (command.Order words)) = Some words
 traced_by (Some (command.Plan words)) = None
 traced_by (Some (command.Show netlist)) = None
+traced_by (Some (command.Large gates cycles workers)) = None
 
 -- the file of the order in which a command steps the ports
 abbrev pub order_named : Option Command → Option (List ℕ)
@@ -34,3 +36,4 @@ order_named (Some (command.Refer words)) = None
 order_named (Some (command.Order words)) = words.order
 order_named (Some (command.Plan words)) = None
 order_named (Some (command.Show netlist)) = None
+order_named (Some (command.Large gates cycles workers)) = None

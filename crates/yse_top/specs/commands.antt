@@ -1,3 +1,4 @@
+pub mod Large
 pub mod Plan
 pub mod Run
 pub mod Show

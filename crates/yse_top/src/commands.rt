@@ -1,11 +1,16 @@
 //! What a command comes to before anything is written: one module for each command.
 
-ghost use Rattle.std.specs.Prelude.{◌≡◌, IfOk};
+ghost use Rattle.std.specs.Prelude.{◌≡◌, ◌<◌, ◌≤◌, ℕ, Option, Some, IfOk, length, slice_get};
+ghost use Rattle.crew_run.specs.Crews.{CanTell};
 ghost use Rattle.cmd_words.specs.Forms.{IsInRange};
+ghost use Rattle.cmd_words.specs.declared.options.TheConstants.{MAX_WORKERS};
+ghost use Rattle.machine_run.specs.Visits.{AreInPlace};
 ghost use Rattle.yse_top.specs.Expected.{ExpectedOf};
 ghost use Rattle.yse_top.specs.Outputs.{CanWrite};
-ghost use Rattle.yse_top.specs.Refusals.{Follows};
+ghost use Rattle.yse_top.specs.Refusals.{Follows, outcome_of};
+ghost use Rattle.yse_top.specs.Visited.{HasWorkers, TellsGates, order_in};
 
+mod large;
 mod plan;
 mod refer;
 mod run;
@@ -15,32 +20,53 @@ mod steps;
 use crate::commands::steps::Pace;
 use crate::output::Output;
 use crate::refusal::Refusal;
-use cmd_words::Command;
+use cmd_words::{Command, RunWords};
+use crew_run::Gate;
 use edge_io::Files;
 use std::alloc::Global;
+use std::marker::{Send, Sync};
+use std::sync::Wait;
+use std::thread::Threads;
 
 /// The output of a command, and else the refusal.
-pub fn prepare<'a, F: Files>(
+#[tactic(auto, using(crate::proofs::GateLemmas::stay_in_place))]
+pub fn prepare<'a, R: Threads + Wait + Sync, F: Files, G: Gate + Send>(
+    rt: &R,
     alloc: Global,
     command: &'a Command,
     files: &mut F,
+    gates: &mut [Option<G>],
 ) -> Result<Output, Refusal<'a>>
-    requires { IsInRange command.now }
+    requires range { IsInRange command.now }
+    requires gates { MAX_WORKERS ≤ length gates.old }
+    requires tell { (i : ℕ) (gate : Option G) → i < MAX_WORKERS → slice_get gates.old i ≡ Some gate → CanTell G.Gate.own gate }
     ensures expected { Follows (F.names files.old) (F.bytes files.old) (F.counts files.old) (F.counts files.new)
         result (ExpectedOf command.now) }
     ensures writable { IfOk result CanWrite }
+    ensures visits { TellsGates G.Gate.own (F.bytes files.old) gates.old gates.new (outcome_of result).status (Some command.now) }
+    ensures in_place { AreInPlace gates.old gates.new }
 {
     match command {
-        Command::Run(words) => run::run(alloc, files, words, Pace::Sweeps, None),
+        Command::Run(words) => run::run(rt, alloc, files, words, Pace::Workers, gates),
         Command::Refer(words) => refer::refer(alloc, files, words),
-        Command::Order(words) => {
-            let order = match &words.order {
-                Some(file) => Some(file.as_bytes()),
-                None => None,
-            };
-            run::run(alloc, files, words, Pace::Rounds, order)
-        }
+        Command::Order(words) => run::run(rt, alloc, files, words, pace_of(words), gates),
         Command::Plan(words) => plan::plan(alloc, files, words),
         Command::Show { netlist } => show::show(alloc, files, netlist.as_bytes()),
+        Command::Large {
+            gates: count,
+            cycles,
+            workers,
+        } => large::large(rt, alloc, *count, *cycles, *workers, gates),
+    }
+}
+
+/// The order of the named file, and else rounds.
+fn pace_of(words: &RunWords) -> Pace<'_>
+    ensures order { order_in result ≡ words.now.order }
+    ensures alone { HasWorkers result → ⊥ }
+{
+    match &words.order {
+        Some(file) => Pace::Order(file.as_bytes()),
+        None => Pace::Rounds,
     }
 }

@@ -5,6 +5,7 @@ ghost use Rattle.yse_top.specs.Law.{AreProper, HaveOutcomes, TellsWords};
 use bench_read::law::{reads_or_faults as netlists_or_faults, texts_read_as_valid};
 use cmd_words::law::{forms_are_asked, forms_are_in_range};
 use event_defs::law::links_decide;
+use large_run::law::one_summary;
 use machine_text::law::{
     reads_as_valid as machines_are_valid, reads_or_faults as machines_or_faults,
 };
@@ -47,6 +48,7 @@ pub fn calls_are_proper()
     one_homes();
     items_are_well_formed();
     links_decide();
+    one_summary();
     forms_are_asked();
     forms_are_in_range();
 }

@@ -1,17 +1,21 @@
 //! The whole program over any store of files and any sinks.
 #![tactic(auto)]
 
-ghost use Rattle.std.specs.Prelude.{◌≡◌, ◌≢◌, ◌≤◌, ◌↔◌, ℕ, List, None, IfSome, map, length};
+ghost use Rattle.std.specs.Prelude.{◌≡◌, ◌≢◌, ◌<◌, ◌≤◌, ◌↔◌, ℕ, List, Option, Some, None, IfSome, map, length, slice_get};
 ghost use Rattle.std.specs.Io.KnownBytes.{append_known};
 ghost use Rattle.std.specs.String.{string_bytes};
 ghost use Rattle.edge_io.specs.Counts.{raised, Rose};
 ghost use Rattle.cmd_words.specs.Asked.{asked};
+ghost use Rattle.cmd_words.specs.declared.options.TheConstants.{MAX_WORKERS};
+ghost use Rattle.crew_run.specs.Crews.{CanTell};
+ghost use Rattle.machine_run.specs.Visits.{AreInPlace};
 ghost use Rattle.yse_top.specs.Ends.{EndsAs, IsDoneOrMemory, MayWrite, AreToldBy};
 ghost use Rattle.yse_top.specs.Expected.{Expected};
 ghost use Rattle.yse_top.specs.Lines.{memory_line};
 ghost use Rattle.yse_top.specs.Outcome.{Outcome, done};
 ghost use Rattle.yse_top.specs.Readings.{Reading, AreReadings};
 ghost use Rattle.yse_top.specs.Traced.{IsTraceOfFiles};
+ghost use Rattle.yse_top.specs.Visited.{TellsGates};
 ghost use Rattle.yse_top.specs.Words.{files_named, traced_by};
 ghost use Rattle.yse_top.specs.Writing.{TakesLine};
 
@@ -32,6 +36,7 @@ mod tests;
 use cmd_words::law::forms_are_asked;
 use cmd_words::{WordNo, read_words};
 use commands::prepare;
+use crew_run::Gate;
 use diagnostics::refuse;
 use edge_io::{Files, Sink};
 use ending::end;
@@ -39,25 +44,39 @@ use law::calls_are_proper;
 use refusal::Refusal;
 pub use status::Status;
 use std::alloc::Global;
+use std::marker::{Send, Sync};
+use std::sync::Wait;
+use std::thread::Threads;
 
 /// Does what the words say. `run`, `refer` and `order` with `NETLIST STIMULUS [--mode rank|unit]
 /// [--units K] [--init x|0]` simulate the netlist of the one file with the stimulus of the other and
 /// write the trace to `out`, one line a piece, the header first; a cycle is K turns, 1 to 4,096, and 1
 /// in rank order. `run` and `order` take `--machine FILE`, the machine that the netlist is compiled
-/// for; `order` takes `--order FILE`, the order of its ports' steps, and `--banks B`, how many turns a
-/// port may run ahead of its readers, 1 to 8. An order that ends before every port is done writes the
-/// rows that are done, and ends with `Unfinished`. `plan NETLIST [--machine FILE] [--mode rank|unit]` writes
-/// the report of the netlist's plan on the machine as one piece. `show NETLIST` writes the netlist's canonical text
-/// as one piece. A file has at most 67,108,864 bytes, and a simulation at most 268,435,456 cells (this
-/// project's profile). A status other than `Done` writes its line to `err`, and a fault of `err`
-/// changes no status. All memory is taken before the first byte of output.
-pub fn yse<F: Files, O: Sink, E: Sink>(
+/// for, and `--banks B`, how many turns a port may run ahead of its readers, 1 to 8; `run` takes
+/// `--workers N`, the workers that step the machine's ports, 1 to 64, each in a thread of its own where
+/// one can be made; `order` takes `--order FILE`, the order of the ports' steps. An order that ends before
+/// every port is done writes the rows that are done, and ends with `Unfinished`.
+///
+/// `plan NETLIST [--machine FILE] [--mode rank|unit]` writes the report of the netlist's plan on the machine
+/// as one piece, `show NETLIST` the netlist's canonical text, and `large GATES CYCLES [--workers N]` the
+/// summary of a run of a generated design. A file has at most 67,108,864 bytes, and a simulation at most
+/// 268,435,456 cells (this project's profile). A status other than `Done` writes its line to `err`, and a
+/// fault of `err` changes no status. All memory is taken before the first byte of output.
+///
+/// Worker `w` tells the gate `w` of each turn that begins of the ports that it steps, which are the ports
+/// `p` with `p % N` equal to `w`. Workers wait for one another, so what is promised holds if the call returns.
+pub fn yse<R: Threads + Wait + Sync, F: Files, O: Sink, E: Sink, G: Gate + Send>(
+    rt: &R,
     alloc: Global,
     words: &[String],
     files: &mut F,
     out: &mut O,
     err: &mut E,
+    gates: &mut [Option<G>],
 ) -> Status
+    requires gates { MAX_WORKERS ≤ length gates.old }
+    requires tell { (i : ℕ) (gate : Option G) → i < MAX_WORKERS → slice_get gates.old i ≡ Some gate → CanTell G.Gate.own gate }
+
     // After a simulation the output is the trace of the netlist and the stimulus that its files read as.
     ensures trace { result ≡ Status.Done → (output : List ℕ)
         × (O.taken out.new ≡ append_known (O.taken out.old) output)
@@ -79,12 +98,19 @@ pub fn yse<F: Files, O: Sink, E: Sink>(
         → (Rose (O.faults out.old) (O.faults out.new) → ⊥)
         → IsDoneOrMemory result }
 
+    // After a run the gate of each worker was told of all turns of each of its ports, and before a refusal of
+    // nothing; the other commands tell no gate anything.
+    ensures visits { TellsGates G.Gate.own (F.bytes files.old) gates.old gates.new result (asked (map string_bytes words.now)) }
+
     // Words are refused exactly where they are of no form, unless memory ran out.
     ensures words { result ≢ Status.Memory → (result ≡ Status.Words) ↔ (asked (map string_bytes words.now) ≡ None) }
 
     // No call of a sink at all.
     ensures no_output { (MayWrite result → ⊥) → out.new ≡ out.old }
     ensures no_line { result ≡ Status.Done → err.new ≡ err.old }
+
+    // A gate stands in each place where one stood.
+    ensures in_place { AreInPlace gates.old gates.new }
 
     // What the counts show of the status. These follow from `expected`.
     ensures read_fault { result ≡ Status.ReadFault → Rose (F.counts files.old).faults (F.counts files.new).faults }
@@ -95,7 +121,7 @@ pub fn yse<F: Files, O: Sink, E: Sink>(
 {
     calls_are_proper();
     match read_words(alloc, words) {
-        Ok(command) => match prepare(alloc, &command, files) {
+        Ok(command) => match prepare(rt, alloc, &command, files, gates) {
             Ok(output) => end(out, err, output),
             Err(refusal) => refuse(err, refusal),
         },

@@ -4,17 +4,22 @@ ghost use Rattle.net_defs.specs.Valid.{IsValid};
 
 mod machines;
 mod orders;
+mod threads;
 
 use crate::checks::{netlist_of, stimulus_of};
 use crate::{Status, yse};
 use bench_read::read_bench;
 use edge_io::{Files, MemFiles, MemSink, NamedBytes, NullSink, PlainFiles, PlainSink};
 use logic_four::V4;
+use machine_run::count_gates;
 use net_defs::{Init, Mode, Netlist, Stimulus, Timing, show};
 use ref_sim::refer;
 use seen_list::{List, Memory, Text};
 use std::alloc::{AllocError, Global};
+use std::marker::Sync;
+use std::sync::Wait;
 use std::test::Fail;
+use std::thread::Threads;
 
 const C17: &[u8] =
     b"INPUT(1)\nINPUT(2)\nINPUT(3)\nINPUT(6)\nINPUT(7)\nOUTPUT(22)\nOUTPUT(23)\n10 = NAND(1, 3)\n11 = NAND(3, 6)\n16 = NAND(2, 11)\n19 = NAND(11, 7)\n22 = NAND(10, 16)\n23 = NAND(16, 19)\n";
@@ -39,6 +44,9 @@ const REGISTER: &[u8] = b"INPUT(a)\nOUTPUT(q)\nq = DFF(a)\n";
 
 const USAGE: &[u8] =
     b"usage: yse (run/refer/order) NETLIST STIMULUS [options], yse plan NETLIST [options], yse show NETLIST, yse large GATES CYCLES [options]\n";
+
+/// The gates of a call.
+const GATES: usize = 64;
 
 const ALL: &str = "run refer order";
 
@@ -546,7 +554,8 @@ struct Ended {
 }
 
 /// Calls `yse` with a sink whose call of this number fails (0: none).
-fn end_of<F: Files>(
+fn end_of<R: Threads + Wait + Sync, F: Files>(
+    rt: &R,
     alloc: Global,
     words: &[String],
     files: &mut F,
@@ -554,8 +563,21 @@ fn end_of<F: Files>(
 ) -> Result<Ended, Memory> {
     let mut out = sink(alloc, failing)?;
     let mut err = sink(alloc, 0)?;
-    let status = yse(alloc, words, files, &mut out, &mut err).number();
-    Ok(Ended { status, out, err })
+    let mut gates = count_gates(alloc, GATES)?;
+    let status = yse(
+        rt,
+        alloc,
+        words,
+        files,
+        &mut out,
+        &mut err,
+        gates.as_mut_slice(),
+    );
+    Ok(Ended {
+        status: status.number(),
+        out,
+        err,
+    })
 }
 
 #[test]
@@ -564,7 +586,13 @@ fn calls_end_as_stated(rt: HostRuntime) -> Result<(), Fail> {
         for command in case.commands.split(' ') {
             let words = words_of(rt.alloc(), command, case.words)?;
             let mut files = store(rt.alloc(), case.netlist, case.stimulus, case.failing.0)?;
-            let ended = end_of(rt.alloc(), words.as_slice(), &mut files, case.failing.1)?;
+            let ended = end_of(
+                &rt,
+                rt.alloc(),
+                words.as_slice(),
+                &mut files,
+                case.failing.1,
+            )?;
             assert_eq!(rt; ended.out.taken(), case.output);
             assert_eq!(rt; ended.err.taken(), case.line);
             assert_eq!(rt; ended.status, case.status);
@@ -585,12 +613,12 @@ fn comment(alloc: Global, bytes: usize) -> Result<PlainFiles, Memory> {
 fn long_files_are_refused(rt: HostRuntime) -> Result<(), Fail> {
     let words = words_of(rt.alloc(), "refer", FILES)?;
     let mut files = comment(rt.alloc(), 67_108_864)?;
-    let longest = end_of(rt.alloc(), words.as_slice(), &mut files, 0)?;
+    let longest = end_of(&rt, rt.alloc(), words.as_slice(), &mut files, 0)?;
     assert_eq!(rt; longest.status, 0);
     assert_eq!(rt; longest.out.taken(), b"cycle\n".as_slice());
 
     let mut files = comment(rt.alloc(), 67_108_865)?;
-    let longer = end_of(rt.alloc(), words.as_slice(), &mut files, 0)?;
+    let longer = end_of(&rt, rt.alloc(), words.as_slice(), &mut files, 0)?;
     assert_eq!(rt; longer.status, 10);
     assert_eq!(rt;
         longer.err.taken(),
@@ -599,14 +627,23 @@ fn long_files_are_refused(rt: HostRuntime) -> Result<(), Fail> {
     Ok(())
 }
 
-/// A million cycles are accepted.
+/// A million cycles are run by one worker.
 #[test]
 fn million_cycles_are_run(rt: HostRuntime) -> Result<(), Fail> {
-    let words = words_of(rt.alloc(), "refer", FILES)?;
+    let words = words_of(rt.alloc(), "run", "net.bench net.stim --workers 1")?;
     let mut files = store(rt.alloc(), C17, b"11111 * 1000000\n", 0)?;
     let mut out = NullSink::new();
     let mut err = NullSink::new();
-    let status = yse(rt.alloc(), words.as_slice(), &mut files, &mut out, &mut err);
+    let mut gates = count_gates(rt.alloc(), GATES)?;
+    let status = yse(
+        &rt,
+        rt.alloc(),
+        words.as_slice(),
+        &mut files,
+        &mut out,
+        &mut err,
+        gates.as_mut_slice(),
+    );
     assert_eq!(rt; status.number(), 0);
     Ok(())
 }
@@ -620,7 +657,7 @@ fn cells_are_limited(rt: HostRuntime) -> Result<(), Fail> {
         netlist.extend_from_slice(b"OUTPUT(a)\n")?;
     }
     let mut files = store(rt.alloc(), netlist.as_slice(), b"1 * 1000000\n", 0)?;
-    let ended = end_of(rt.alloc(), words.as_slice(), &mut files, 0)?;
+    let ended = end_of(&rt, rt.alloc(), words.as_slice(), &mut files, 0)?;
     assert_eq!(rt; ended.status, 10);
     assert_eq!(rt;
         ended.err.taken(),

@@ -1,5 +1,5 @@
 -- What was read, and the outcome that is expected of it, say the rest.
-use Rattle.std.proofs.Common.{◌∙◌, sym, subst, map, inl, inr, ◌≡◌, ◌≢◌, ◌↔◌, None}
+use Rattle.std.proofs.Common.{◌∙◌, sym, subst, map, inl, inr, ◌≡◌, ◌≢◌, ◌↔◌, None, Some}
 use Rattle.std.specs.Prelude.{IfSome}
 use Rattle.std.specs.String.{string_bytes}
 use Rattle.cmd_words.specs.declared.command.Command.{Command}
@@ -12,10 +12,12 @@ use Rattle.yse_top.specs.Ends.{IsDoneOrMemory}
 use Rattle.yse_top.specs.Outputs.{bytes_of}
 use Rattle.yse_top.specs.Refusals.{ended_with, refused_of}
 use Rattle.yse_top.specs.Traced.{IsTraceOfFiles}
+use Rattle.yse_top.specs.Visited.{TellsGates}
 use Rattle.yse_top.specs.Words.{traced_by}
 use Rattle.yse_top.proofs.CallLemmas.{follows_words, follows_usage, follows_no_memory, few_begun, ended_not_read}
 use Rattle.yse_top.proofs.EndLemmas.{absent_kept, fault_rose, completes}
 use Rattle.yse_top.proofs.TracedLemmas.{traced}
+use Rattle.yse_top.proofs.VisitedLemmas.{output_writes, tells_alike}
 use Rattle.yse_top.proofs.WritingLemmas.{append_known-nil}
 use Rattle.yse_top.proofs.yse.Goals as goal
 
@@ -52,7 +54,17 @@ returns-in-Ok-prepare-clause-absent g c other =
     absent_kept _ _ _ _ _ _ (c.calls_are_proper.ensures.proper (map string_bytes c.args.words.now)) _
     (follows_words _ _ _ _ (map string_bytes c.args.words.now) c.in-Ok.command _ c.in-Ok.ensures.form c.in-Ok-prepare.ensures.expected) (ended_not_read c.in-Ok-prepare.output)
 
+pub returns-in-Ok-prepare-clause-visits : goal.returns-in-Ok-prepare-clause-visits
+returns-in-Ok-prepare-clause-visits g c =
+    subst (TellsGates g.G.Gate (g.F.Files.bytes c.args.files.now) c.args.gates.now c.prepare.new.gates c.end.result) (sym c.in-Ok.ensures.asked)
+    (tells_alike g.G.Gate (g.F.Files.bytes c.args.files.now) c.args.gates.now c.prepare.new.gates _ _ c.in-Ok.command (output_writes c.in-Ok-prepare.output) c.end.ensures.may_write c.in-Ok-prepare.ensures.visits)
+
 -- ---- a refusal
+
+pub returns-in-Ok-clause-visits : goal.returns-in-Ok-clause-visits
+returns-in-Ok-clause-visits g c =
+    subst (TellsGates g.G.Gate (g.F.Files.bytes c.args.files.now) c.args.gates.now c.prepare.new.gates c.refuse.result) (sym c.in-Ok.ensures.asked)
+    (subst (λ s. TellsGates g.G.Gate (g.F.Files.bytes c.args.files.now) c.args.gates.now c.prepare.new.gates s (Some c.in-Ok.command)) (sym c.refuse.ensures.status) c.in-Err.ensures.visits)
 
 pub returns-in-Ok-clause-expected : goal.returns-in-Ok-clause-expected
 returns-in-Ok-clause-expected g c =

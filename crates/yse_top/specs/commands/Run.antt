@@ -50,14 +50,14 @@ EndsBy (Some file) words machine net stimulus =
     After (IsOrderOf text machine) (λ order.
     Ends (EndsInOrder order words.banks net machine words.timing stimulus)))
 
--- the design, the stimulus, and then the run
-unfoldable pub ExpectedOn : RunWords → Option (List ℕ) → Machine → List Reading → Outcome → Type 0
-ExpectedOn words order machine =
-    AfterDesign words.netlist machine words.timing (λ net. AfterStimulus words.stimulus net (EndsBy order words machine net))
+-- the design, the stimulus, and then this end of the run
+unfoldable pub ExpectedOn : RunWords → (Machine → Netlist → Stimulus → List Reading → Outcome → Type 0) → Machine → List Reading → Outcome → Type 0
+ExpectedOn words End machine =
+    AfterDesign words.netlist machine words.timing (λ net. AfterStimulus words.stimulus net (End machine net))
 
 -- the machine, and then a run on it, to its end or in the order of the named file
 unfoldable pub ExpectedRun : RunWords → Option (List ℕ) → List Reading → Outcome → Type 0
-ExpectedRun words order = AfterMachine words.machine (ExpectedOn words order)
+ExpectedRun words order = AfterMachine words.machine (ExpectedOn words (EndsBy order words))
 
 -- the netlist file, its text, the loop, the stimulus, and then the trace
 unfoldable pub ExpectedRefer : RunWords → List Reading → Outcome → Type 0

@@ -1,67 +1,109 @@
 //! `run` and `order`: the trace of the reference simulation, by the compiled machine.
 
-ghost use Rattle.std.specs.Prelude.{◌≡◌, Some, IfOk};
-ghost use Rattle.std.specs.Option.{option_map};
+ghost use Rattle.std.specs.Prelude.{◌≡◌, ◌<◌, ◌≤◌, ℕ, Option, Some, IfOk, length, slice_get};
+ghost use Rattle.crew_run.specs.Crews.{CanTell};
 ghost use Rattle.machine_text.specs.Machines.{IsValid as IsValidMachine};
 ghost use Rattle.net_defs.specs.Valid.{IsValid, IsValidStimulus, input_count};
 ghost use Rattle.cmd_words.specs.Forms.{IsRunInRange};
+ghost use Rattle.cmd_words.specs.declared.options.TheConstants.{MAX_WORKERS};
 ghost use Rattle.yse_top.specs.Images.{IsImageOf};
 ghost use Rattle.yse_top.specs.Orders.{IsMachineImage};
 ghost use Rattle.yse_top.specs.Outputs.{CanWrite};
 ghost use Rattle.yse_top.specs.Refusals.{Follows};
+ghost use Rattle.yse_top.specs.Visited.{EndsTelling, KeepsGates, TellsOfRun, order_in};
 ghost use Rattle.yse_top.specs.commands.Run.{AfterMachine, AfterStimulus, EndsBy, ExpectedOn, ExpectedRun};
 
 use crate::checks::{Built, compiled, few_cells, machine_of, netlist_of, order_of, stimulus_of};
-use crate::commands::steps::{Pace, by_order, to_end};
+use crate::commands::steps::{Pace, by_order, by_rounds, by_workers};
 use crate::output::Output;
 use crate::reading::read_text;
 use crate::refusal::Refusal;
 use cmd_words::RunWords;
+use crew_run::Gate;
 use edge_io::Files;
 use machine_text::Machine;
 use net_defs::Stimulus;
 use seen_list::Memory;
 use std::alloc::Global;
+use std::marker::{Send, Sync};
+use std::sync::Wait;
+use std::thread::Threads;
 
-/// The trace of a run on the machine of the named file, or on the default machine; at this pace, or in
-/// the order of the named file.
-#[tactic(auto, unfolding(crate::specs::commands::Run::ExpectedRun, crate::specs::commands::Run::AfterMachine))]
-pub fn run<'a, F: Files>(
+/// The trace of a run at this pace on the machine of the named file, or on the default machine.
+pub fn run<'a, R: Threads + Wait + Sync, F: Files, G: Gate + Send>(
+    rt: &R,
     alloc: Global,
     files: &mut F,
     words: &'a RunWords,
-    pace: Pace,
-    order: Option<&'a [u8]>,
+    pace: Pace<'a>,
+    gates: &mut [Option<G>],
 ) -> Result<Output, Refusal<'a>>
-    requires { IsRunInRange words.now }
+    requires range { IsRunInRange words.now }
+    requires gates { MAX_WORKERS ≤ length gates.old }
+    requires tell { (i : ℕ) (gate : Option G) → i < MAX_WORKERS → slice_get gates.old i ≡ Some gate → CanTell G.Gate.own gate }
     ensures expected { Follows (F.names files.old) (F.bytes files.old) (F.counts files.old) (F.counts files.new)
-        result (ExpectedRun words.now (option_map (λ file. file.now) order.entry)) }
+        result (ExpectedRun words.now (order_in pace.entry)) }
     ensures writable { IfOk result CanWrite }
+    ensures visits { TellsOfRun G.Gate.own (F.bytes files.old) gates.old gates.new pace.entry words.now result }
+    ensures kept { KeepsGates pace.entry gates.old gates.new result }
+{
+    run_telling(rt, alloc, files, words, pace, gates)
+}
+
+/// The same, with what the gates are told.
+#[tactic(auto, unfolding(crate::specs::commands::Run::AfterMachine))]
+fn run_telling<'a, R: Threads + Wait + Sync, F: Files, G: Gate + Send>(
+    rt: &R,
+    alloc: Global,
+    files: &mut F,
+    words: &'a RunWords,
+    pace: Pace<'a>,
+    gates: &mut [Option<G>],
+) -> Result<Output, Refusal<'a>>
+    requires range { IsRunInRange words.now }
+    requires gates { MAX_WORKERS ≤ length gates.old }
+    requires tell { (i : ℕ) (gate : Option G) → i < MAX_WORKERS → slice_get gates.old i ≡ Some gate → CanTell G.Gate.own gate }
+    ensures expected { Follows (F.names files.old) (F.bytes files.old) (F.counts files.old) (F.counts files.new)
+        result (AfterMachine words.now.machine (ExpectedOn words.now (EndsTelling G.Gate.own gates.old gates.new pace.entry words.now))) }
+    ensures writable { IfOk result CanWrite }
+    ensures kept { KeepsGates pace.entry gates.old gates.new result }
 {
     match &words.machine {
-        None => run_on(alloc, files, words, pace, order, Machine::default_size()),
-        Some(file) => run_by(alloc, files, words, pace, order, file.as_bytes()),
+        None => run_on(
+            rt,
+            alloc,
+            files,
+            words,
+            pace,
+            Machine::default_size(),
+            gates,
+        ),
+        Some(file) => run_by(rt, alloc, files, words, pace, file.as_bytes(), gates),
     }
 }
 
 /// The trace of a run on the machine of the named file.
-#[tactic(auto, using(crate::proofs::ChainLemmas::follows_refused), unfolding(crate::specs::commands::Run::AfterMachine))]
-fn run_by<'a, F: Files>(
+#[tactic(auto, using(crate::proofs::ChainLemmas::follows_refused, crate::proofs::GateLemmas::gates_kept), unfolding(crate::specs::commands::Run::AfterMachine))]
+fn run_by<'a, R: Threads + Wait + Sync, F: Files, G: Gate + Send>(
+    rt: &R,
     alloc: Global,
     files: &mut F,
     words: &'a RunWords,
-    pace: Pace,
-    order: Option<&'a [u8]>,
+    pace: Pace<'a>,
     file: &'a [u8],
+    gates: &mut [Option<G>],
 ) -> Result<Output, Refusal<'a>>
-    requires { IsRunInRange words.now }
+    requires range { IsRunInRange words.now }
+    requires gates { MAX_WORKERS ≤ length gates.old }
+    requires tell { (i : ℕ) (gate : Option G) → i < MAX_WORKERS → slice_get gates.old i ≡ Some gate → CanTell G.Gate.own gate }
     ensures expected { Follows (F.names files.old) (F.bytes files.old) (F.counts files.old) (F.counts files.new)
-        result (AfterMachine (Some file.now) (ExpectedOn words.now (option_map (λ file. file.now) order.entry))) }
+        result (AfterMachine (Some file.now) (ExpectedOn words.now (EndsTelling G.Gate.own gates.old gates.new pace.entry words.now))) }
     ensures writable { IfOk result CanWrite }
+    ensures kept { KeepsGates pace.entry gates.old gates.new result }
 {
     match read_text(alloc, files, file) {
         Ok(text) => match machine_of(alloc, text.as_slice()) {
-            Ok(machine) => run_on(alloc, files, words, pace, order, machine),
+            Ok(machine) => run_on(rt, alloc, files, words, pace, machine, gates),
             Err(no) => Err(no),
         },
         Err(no) => Err(no),
@@ -69,25 +111,29 @@ fn run_by<'a, F: Files>(
 }
 
 /// The trace of a run on a machine.
-#[tactic(auto, using(crate::proofs::ChainLemmas::follows_refused), unfolding(crate::specs::commands::Run::ExpectedOn, crate::specs::commands::Run::AfterDesign))]
-fn run_on<'a, F: Files>(
+#[tactic(auto, using(crate::proofs::ChainLemmas::follows_refused, crate::proofs::GateLemmas::gates_kept), unfolding(crate::specs::commands::Run::ExpectedOn, crate::specs::commands::Run::AfterDesign))]
+fn run_on<'a, R: Threads + Wait + Sync, F: Files, G: Gate + Send>(
+    rt: &R,
     alloc: Global,
     files: &mut F,
     words: &'a RunWords,
-    pace: Pace,
-    order: Option<&'a [u8]>,
+    pace: Pace<'a>,
     machine: Machine,
+    gates: &mut [Option<G>],
 ) -> Result<Output, Refusal<'a>>
     requires range { IsRunInRange words.now }
     requires machine { IsValidMachine machine }
+    requires gates { MAX_WORKERS ≤ length gates.old }
+    requires tell { (i : ℕ) (gate : Option G) → i < MAX_WORKERS → slice_get gates.old i ≡ Some gate → CanTell G.Gate.own gate }
     ensures expected { Follows (F.names files.old) (F.bytes files.old) (F.counts files.old) (F.counts files.new)
-        result (ExpectedOn words.now (option_map (λ file. file.now) order.entry) machine) }
+        result (ExpectedOn words.now (EndsTelling G.Gate.own gates.old gates.new pace.entry words.now) machine) }
     ensures writable { IfOk result CanWrite }
+    ensures kept { KeepsGates pace.entry gates.old gates.new result }
 {
     match read_text(alloc, files, words.netlist.as_bytes()) {
         Ok(text) => match netlist_of(alloc, text.as_slice()) {
             Ok(net) => match compiled(alloc, net, &machine, &words.timing) {
-                Ok(built) => execute(alloc, files, words, pace, order, &machine, built),
+                Ok(built) => execute(rt, alloc, files, words, pace, &machine, built, gates),
                 Err(no) => Err(no),
             },
             Err(no) => Err(no),
@@ -97,29 +143,35 @@ fn run_on<'a, F: Files>(
 }
 
 /// The trace of an image under the stimulus of the named file.
-#[tactic(auto, using(crate::proofs::ChainLemmas::follows_refused), unfolding(crate::specs::commands::Run::AfterStimulus))]
-fn execute<'a, F: Files>(
+#[tactic(auto, using(crate::proofs::ChainLemmas::follows_refused, crate::proofs::GateLemmas::gates_kept), unfolding(crate::specs::commands::Run::AfterStimulus))]
+fn execute<'a, R: Threads + Wait + Sync, F: Files, G: Gate + Send>(
+    rt: &R,
     alloc: Global,
     files: &mut F,
     words: &'a RunWords,
-    pace: Pace,
-    order: Option<&'a [u8]>,
+    pace: Pace<'a>,
     machine: &Machine,
     built: Built,
+    gates: &mut [Option<G>],
 ) -> Result<Output, Refusal<'a>>
     requires range { IsRunInRange words.now }
     requires machine { IsValidMachine machine.now }
     requires valid { IsValid built.net }
     requires image { IsImageOf built.net words.now.timing built.image }
     requires made { IsMachineImage built.net machine.now words.now.timing built.image }
+    requires gates { MAX_WORKERS ≤ length gates.old }
+    requires tell { (i : ℕ) (gate : Option G) → i < MAX_WORKERS → slice_get gates.old i ≡ Some gate → CanTell G.Gate.own gate }
     ensures expected { Follows (F.names files.old) (F.bytes files.old) (F.counts files.old) (F.counts files.new)
-        result (AfterStimulus words.now.stimulus built.net (EndsBy (option_map (λ file. file.now) order.entry) words.now machine.now built.net)) }
+        result (AfterStimulus words.now.stimulus built.net (EndsTelling G.Gate.own gates.old gates.new pace.entry words.now machine.now built.net)) }
     ensures writable { IfOk result CanWrite }
+    ensures kept { KeepsGates pace.entry gates.old gates.new result }
 {
     match read_text(alloc, files, words.stimulus.as_bytes()) {
         Ok(text) => match stimulus_of(alloc, text.as_slice(), &built.net) {
             Ok(stimulus) => match few_cells(&built.net, &stimulus) {
-                Ok(()) => finish(alloc, files, words, pace, order, machine, built, &stimulus),
+                Ok(()) => finish(
+                    rt, alloc, files, words, pace, machine, built, &stimulus, gates,
+                ),
                 Err(no) => Err(no),
             },
             Err(no) => Err(no),
@@ -129,16 +181,17 @@ fn execute<'a, F: Files>(
 }
 
 /// The trace of an image under a stimulus.
-#[tactic(auto, unfolding(crate::specs::commands::Run::EndsBy))]
-fn finish<'a, F: Files>(
+#[tactic(auto, using(crate::proofs::GateLemmas::gates_kept), unfolding(crate::specs::commands::Run::EndsBy))]
+fn finish<'a, R: Threads + Wait + Sync, F: Files, G: Gate + Send>(
+    rt: &R,
     alloc: Global,
     files: &mut F,
     words: &'a RunWords,
-    pace: Pace,
-    order: Option<&'a [u8]>,
+    pace: Pace<'a>,
     machine: &Machine,
     built: Built,
     stimulus: &Stimulus,
+    gates: &mut [Option<G>],
 ) -> Result<Output, Refusal<'a>>
     requires range { IsRunInRange words.now }
     requires machine { IsValidMachine machine.now }
@@ -147,16 +200,25 @@ fn finish<'a, F: Files>(
     requires made { IsMachineImage built.net machine.now words.now.timing built.image }
     requires stimulus { IsValidStimulus stimulus.now }
     requires columns { stimulus.now.columns ≡ input_count built.net }
+    requires gates { MAX_WORKERS ≤ length gates.old }
+    requires tell { (i : ℕ) (gate : Option G) → i < MAX_WORKERS → slice_get gates.old i ≡ Some gate → CanTell G.Gate.own gate }
     ensures expected { Follows (F.names files.old) (F.bytes files.old) (F.counts files.old) (F.counts files.new)
-        result (EndsBy (option_map (λ file. file.now) order.entry) words.now machine.now built.net stimulus.now) }
+        result (EndsTelling G.Gate.own gates.old gates.new pace.entry words.now machine.now built.net stimulus.now) }
     ensures writable { IfOk result CanWrite }
+    ensures kept { KeepsGates pace.entry gates.old gates.new result }
 {
-    match order {
-        None => match to_end(alloc, words, pace, built, stimulus) {
+    match pace {
+        Pace::Workers => {
+            match by_workers(rt, alloc, words, machine, built, stimulus, gates) {
+                Ok(trace) => Ok(Output::Trace(trace)),
+                Err(Memory) => Err(Refusal::Memory),
+            }
+        }
+        Pace::Rounds => match by_rounds(alloc, words, built, stimulus) {
             Ok(trace) => Ok(Output::Trace(trace)),
             Err(Memory) => Err(Refusal::Memory),
         },
-        Some(file) => in_order(alloc, files, words, file, machine, built, stimulus),
+        Pace::Order(file) => in_order(alloc, files, words, file, machine, built, stimulus),
     }
 }
 

@@ -1,15 +1,20 @@
-//! Runs of the machine: by rounds or sweeps, and in a given order.
+//! Runs of the machine: by workers, by rounds, and in a given order.
 
-ghost use Rattle.std.specs.Prelude.{◌≡◌, ◌<◌, ℕ, Some, IfOk, length, replicate, slice_get};
+ghost use Rattle.std.specs.Prelude.{◌≡◌, ◌<◌, ◌≤◌, ℕ, Option, Some, IfOk, OnErr, OnOk, length, replicate, slice_get};
 ghost use Rattle.std.specs.List.{flat_map};
+ghost use Rattle.crew_run.specs.Crews.{CanTell};
+ghost use Rattle.machine_run.specs.Shown.{AreShown};
+ghost use Rattle.machine_run.specs.Visits.{AreInPlace, AreVisitsOf};
+ghost use Rattle.net_defs.specs.Time.{turn_count};
 ghost use Rattle.net_defs.specs.Trace.{IsTrace};
 ghost use Rattle.net_defs.specs.Valid.{IsValid, IsValidStimulus, input_count};
 ghost use Rattle.stim_text.specs.declared.order.OrderLine.{OrderLine};
 ghost use Rattle.stim_text.specs.Orders.{IsValidOrder};
-ghost use Rattle.event_core.specs.Core.{AreDone, IsSameCore, IsSoundCore, left_of, rows_of};
+ghost use Rattle.event_core.specs.Core.{AreDone, IsSameCore, IsSoundCore, rows_of};
 ghost use Rattle.cmd_words.specs.Forms.{IsRunInRange};
+ghost use Rattle.cmd_words.specs.declared.options.TheConstants.{MAX_WORKERS};
 ghost use Rattle.yse_top.specs.Checks.{port_count};
-ghost use Rattle.yse_top.specs.Images.{IsImageOf, AreShown};
+ghost use Rattle.yse_top.specs.Images.{IsImageOf};
 ghost use Rattle.yse_top.specs.Orders.{EndsInOrder, IsMachineImage};
 ghost use Rattle.yse_top.specs.Stepped.{HasStepped};
 ghost use Rattle.yse_top.specs.Outputs.{trace_bytes, CanPrint, CanWrite};
@@ -18,29 +23,73 @@ ghost use Rattle.yse_top.specs.Refusals.{ended_with};
 use crate::checks::Built;
 use crate::output::{Ending, Output, Trace};
 use cmd_words::RunWords;
+use crew_run::Gate;
 use event_core::{Core, CoreStep};
 use event_defs::law::steps_are_sound;
+use machine_run::run_machine;
 use machine_text::Machine;
 use net_defs::{CellRow, Rows, Stimulus};
 use seen_list::{List, Memory};
 use std::alloc::Global;
+use std::marker::{Send, Sync};
+use std::sync::Wait;
+use std::thread::Threads;
 use stim_text::{Order, OrderLine};
 use trace_text::TraceLine;
 
-/// How all ports step where no order is given.
+/// How the ports of a machine step.
 #[derive(Clone, Copy)]
-pub enum Pace {
+pub enum Pace<'a> {
+    /// By workers, as they get to it.
+    Workers,
     /// One event of each port, round after round.
     Rounds,
-    /// The events of each port until it does not move, sweep after sweep.
-    Sweeps,
+    /// In the order of this file.
+    Order(&'a [u8]),
 }
 
-/// The trace of an image under a stimulus: all ports step until they are done.
-pub fn to_end(
+/// The trace of an image under a stimulus: workers step the ports until they are done, and tell the gates.
+pub fn by_workers<R: Threads + Wait + Sync, G: Gate + Send>(
+    rt: &R,
     alloc: Global,
     words: &RunWords,
-    pace: Pace,
+    _machine: &Machine,
+    built: Built,
+    stimulus: &Stimulus,
+    gates: &mut [Option<G>],
+) -> Result<Trace, Memory>
+    requires range { IsRunInRange words.now }
+    requires valid { IsValid built.net }
+    requires image { IsImageOf built.net words.now.timing built.image }
+    requires made { IsMachineImage built.net _machine.now words.now.timing built.image }
+    requires stimulus { IsValidStimulus stimulus.now }
+    requires columns { stimulus.now.columns ≡ input_count built.net }
+    requires gates { MAX_WORKERS ≤ length gates.old }
+    requires tell { (i : ℕ) (gate : Option G) → i < MAX_WORKERS → slice_get gates.old i ≡ Some gate → CanTell G.Gate.own gate }
+    ensures printed { IfOk result (λ trace. IsTrace built.net words.now.timing stimulus.now (trace_bytes trace)) }
+    ensures writable { IfOk result CanPrint }
+    ensures visits { OnOk result (AreVisitsOf G.Gate.own (port_count _machine.now) (turn_count words.now.timing stimulus.now) words.now.workers gates.old gates.new) }
+    ensures refused { OnErr result (gates.new ≡ gates.old) }
+    ensures in_place { AreInPlace gates.old gates.new }
+{
+    let Built { net, image } = built;
+    let line = TraceLine::new(alloc, &net)?;
+    let rows = run_machine(
+        rt,
+        alloc,
+        &image,
+        stimulus,
+        words.banks,
+        words.workers,
+        gates,
+    )?;
+    Ok(Trace { net, rows, line })
+}
+
+/// The trace of an image under a stimulus: all ports step, round after round, until they are done.
+pub fn by_rounds(
+    alloc: Global,
+    words: &RunWords,
     built: Built,
     stimulus: &Stimulus,
 ) -> Result<Trace, Memory>
@@ -55,7 +104,7 @@ pub fn to_end(
     let Built { net, image } = built;
     let line = TraceLine::new(alloc, &net)?;
     let mut core = Core::new(alloc, &image, stimulus, words.banks)?;
-    run_to_end(&mut core, pace);
+    run_rounds(&mut core);
     let rows = rows_of(alloc, &core)?;
     Ok(Trace { net, rows, line })
 }
@@ -97,30 +146,14 @@ pub fn by_order(
 }
 
 /// Steps all ports until they are done.
-fn run_to_end(core: &mut Core<'_>, pace: Pace)
+fn run_rounds(core: &mut Core<'_>)
     requires { IsSoundCore core.old }
     ensures same { IsSameCore core.old core.new }
     ensures sound { IsSoundCore core.new }
     ensures done { AreDone core.new }
 {
-    'paces: while !core.all_done() {
-        run_pace(core, pace);
-    }
-}
-
-/// Steps all ports once at this pace.
-fn run_pace(core: &mut Core<'_>, pace: Pace)
-    ensures same { IsSameCore core.old core.new }
-    ensures sound { IsSoundCore core.new }
-    ensures left { (AreDone core.old → ⊥) → left_of core.new < left_of core.old }
-{
-    match pace {
-        Pace::Rounds => {
-            core.run_round();
-        }
-        Pace::Sweeps => {
-            core.sweep();
-        }
+    'rounds: while !core.all_done() {
+        core.run_round();
     }
 }
 

@@ -5,7 +5,10 @@ use super::{C17, Ended, LATCH, end_of, named, words_of};
 use edge_io::MemFiles;
 use seen_list::{List, Memory};
 use std::alloc::Global;
+use std::marker::Sync;
+use std::sync::Wait;
 use std::test::Fail;
+use std::thread::Threads;
 
 const RUN: &str = "net.bench net.stim --machine net.machine";
 
@@ -42,6 +45,14 @@ const CASES: &[Case] = &[
     },
     Case {
         machine: b"logic 2\n",
+        netlist: C17,
+        stimulus: ROWS,
+        status: 0,
+        output: TRACE,
+        line: b"",
+    },
+    Case {
+        machine: b"logic 4\n",
         netlist: C17,
         stimulus: ROWS,
         status: 0,
@@ -200,23 +211,27 @@ fn store(
 }
 
 /// The run of a case.
-fn run_of(alloc: Global, case: &Case) -> Result<Ended, Memory> {
+fn run_of<R: Threads + Wait + Sync>(rt: &R, alloc: Global, case: &Case) -> Result<Ended, Memory> {
     let words = words_of(alloc, "run", RUN)?;
     let mut files = store(alloc, case.machine, case.netlist, case.stimulus)?;
-    end_of(alloc, words.as_slice(), &mut files, 0)
+    end_of(rt, alloc, words.as_slice(), &mut files, 0)
 }
 
 /// The plan of a layout.
-fn plan_of(alloc: Global, layout: &Layout) -> Result<Ended, Memory> {
+fn plan_of<R: Threads + Wait + Sync>(
+    rt: &R,
+    alloc: Global,
+    layout: &Layout,
+) -> Result<Ended, Memory> {
     let words = words_of(alloc, "plan", layout.words)?;
     let mut files = store(alloc, layout.machine, layout.netlist, b"")?;
-    end_of(alloc, words.as_slice(), &mut files, 0)
+    end_of(rt, alloc, words.as_slice(), &mut files, 0)
 }
 
 #[test]
 fn runs_on_machines_end_as_stated(rt: HostRuntime) -> Result<(), Fail> {
     for case in cases() {
-        let ended = run_of(rt.alloc(), case)?;
+        let ended = run_of(&rt, rt.alloc(), case)?;
         assert_eq!(rt; ended.out.taken(), case.output);
         assert_eq!(rt; ended.err.taken(), case.line);
         assert_eq!(rt; ended.status, case.status);
@@ -227,7 +242,7 @@ fn runs_on_machines_end_as_stated(rt: HostRuntime) -> Result<(), Fail> {
 #[test]
 fn plans_are_reported_as_stated(rt: HostRuntime) -> Result<(), Fail> {
     for layout in layouts() {
-        let ended = plan_of(rt.alloc(), layout)?;
+        let ended = plan_of(&rt, rt.alloc(), layout)?;
         assert_eq!(rt; ended.out.taken(), layout.report);
         assert_eq!(rt; ended.status, 0u8);
     }

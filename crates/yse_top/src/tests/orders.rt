@@ -5,7 +5,10 @@ use super::{C17, Ended, RAM, S27, end_of, named, words_of};
 use edge_io::MemFiles;
 use seen_list::{List, Memory, Text};
 use std::alloc::Global;
+use std::marker::Sync;
+use std::sync::Wait;
 use std::test::Fail;
+use std::thread::Threads;
 
 const FILES: &str = "net.bench net.stim --machine net.machine --order net.order";
 
@@ -138,18 +141,18 @@ fn store(
 }
 
 /// The run of a case.
-fn run_of(alloc: Global, case: &Case) -> Result<Ended, Memory> {
+fn run_of<R: Threads + Wait + Sync>(rt: &R, alloc: Global, case: &Case) -> Result<Ended, Memory> {
     let mut words = words_of(alloc, "order", FILES)?;
     words.push(String::from_str(alloc, "--banks")?)?;
     words.push(String::from_str(alloc, case.banks)?)?;
     let mut files = store(alloc, case.machine, case.netlist, case.stimulus, case.order)?;
-    end_of(alloc, words.as_slice(), &mut files, 0)
+    end_of(rt, alloc, words.as_slice(), &mut files, 0)
 }
 
 #[test]
 fn orders_end_as_stated(rt: HostRuntime) -> Result<(), Fail> {
     for case in cases() {
-        let ended = run_of(rt.alloc(), case)?;
+        let ended = run_of(&rt, rt.alloc(), case)?;
         assert_eq!(rt; ended.out.taken(), case.output);
         assert_eq!(rt; ended.err.taken(), case.line);
         assert_eq!(rt; ended.status, case.status);
@@ -186,7 +189,8 @@ fn designs() -> &'static [(&'static [u8], &'static [u8])] {
 }
 
 /// The output of a run in a drawn order with so many banks.
-fn run_in_drawn_order(
+fn run_in_drawn_order<R: Threads + Wait + Sync>(
+    rt: &R,
     alloc: Global,
     design: &(&[u8], &[u8]),
     banks: &str,
@@ -198,22 +202,26 @@ fn run_in_drawn_order(
     words.push(String::from_str(alloc, "--banks")?)?;
     words.push(String::from_str(alloc, banks)?)?;
     let mut files = store(alloc, TWO_LOGIC, design.0, design.1, order.as_bytes())?;
-    end_of(alloc, words.as_slice(), &mut files, 0)
+    end_of(rt, alloc, words.as_slice(), &mut files, 0)
 }
 
 /// The output of the reference simulation.
-fn referred(alloc: Global, design: &(&[u8], &[u8])) -> Result<Ended, Memory> {
+fn referred<R: Threads + Wait + Sync>(
+    rt: &R,
+    alloc: Global,
+    design: &(&[u8], &[u8]),
+) -> Result<Ended, Memory> {
     let words = words_of(alloc, "refer", "net.bench net.stim --init 0")?;
     let mut files = store(alloc, TWO_LOGIC, design.0, design.1, b"")?;
-    end_of(alloc, words.as_slice(), &mut files, 0)
+    end_of(rt, alloc, words.as_slice(), &mut files, 0)
 }
 
 #[test]
 fn drawn_orders_print_the_reference(rt: HostRuntime) -> Result<(), Fail> {
     for design in designs() {
-        let reference = referred(rt.alloc(), design)?;
+        let reference = referred(&rt, rt.alloc(), design)?;
         for banks in ["1", "2", "8"] {
-            let ended = run_in_drawn_order(rt.alloc(), design, banks, 11)?;
+            let ended = run_in_drawn_order(&rt, rt.alloc(), design, banks, 11)?;
             assert_eq!(rt; ended.status, reference.status);
             assert_eq!(rt; ended.out.taken(), reference.out.taken());
         }

@@ -31,7 +31,9 @@ use Rattle.stim_text.specs.Stimuli as stim
 use Rattle.cmd_words.specs.declared.command.Command.{Command}
 use Rattle.cmd_words.specs.declared.command.Command.TheVariants as command
 use Rattle.cmd_words.specs.declared.command.RunWords.{RunWords}
+use Rattle.cmd_words.specs.declared.options.TheConstants.{MAX_GATES}
 use Rattle.cmd_words.specs.Asked.{asked}
+use Rattle.large_run.specs.Runs.{IsSummaryOf}
 use Rattle.yse_top.specs.declared.status.Status.TheVariants as status
 use Rattle.yse_top.specs.Checks.{After, Ends, Writes, IsMachineOf, IsNetlistOf, HasNoLoop, HasRoom, IsStimulusOf, HasFewCells, IsOrderOf, port_count}
 use Rattle.cmd_words.specs.Forms.{HasForm, IsInRange}
@@ -43,6 +45,7 @@ use Rattle.yse_top.specs.Outcome.{Outcome, refusal}
 use Rattle.yse_top.specs.Readings.{Reading}
 use Rattle.yse_top.specs.Orders.{EndsInOrder}
 use Rattle.yse_top.specs.Words.{files_of, files_named, order_named}
+use Rattle.yse_top.specs.commands.Large.{ExpectedLarge}
 use Rattle.yse_top.specs.commands.Plan.{ExpectedPlan, ExpectedPlanOn, IsReportOf}
 use Rattle.yse_top.specs.commands.Run.{AfterDesign, AfterFit, AfterMachine, AfterStimulus, WritesTrace, EndsBy, ExpectedRun, ExpectedOn, ExpectedRefer}
 use Rattle.yse_top.specs.commands.Show.{ExpectedShow}
@@ -67,6 +70,8 @@ record Laws : Type 0 where
   forms : (words : List (List ℕ)) (command : Command) → (asked words ≡ Some command) ↔ HasForm words command
   in_range : (words : List (List ℕ)) (command : Command) → HasForm words command → IsInRange command
   decides : (order : Order) (banks : ℕ) (net : Netlist) (machine : Machine) (timing : Timing) (stimulus : Stimulus) → 1 ≤ banks → IsValid net → DecidesOrder order banks net machine timing stimulus
+  summaries : (gates cycles : ℕ) → gates ≤ 30000 → (output : List ℕ) × IsSummaryOf gates cycles output
+  one_summary : (gates cycles : ℕ) (one other : List ℕ) → gates ≤ 30000 → IsSummaryOf gates cycles one → IsSummaryOf gates cycles other → one ≡ other
   once : (net : Netlist) (machine : Machine) (timing : Timing) → IsValid net → AreOnce net machine timing
   order_or_loop : (net : Netlist) (timing : Timing) → OrderOrLoop net timing
   never_both : (net : Netlist) (timing : Timing) (order loop : List ℕ) → IsOrder net timing order → IsLoop net timing loop → ⊥
@@ -152,6 +157,12 @@ module _ (laws : Laws) where
         command_ends Settled (Writes (IsReportOf net machine words.timing)) (writes_ending (IsReportOf net machine words.timing) (one_report net machine words.timing once))
         (λ settled. outcome_writes (IsReportOf net machine words.timing) report.0 report.1)))
 
+    large_proper : (gates cycles : ℕ) → gates ≤ MAX_GATES → IsCommand Settled [] (ExpectedLarge gates cycles)
+    large_proper gates cycles few =
+        let summary = laws.summaries gates cycles few in
+        command_ends Settled (Writes (IsSummaryOf gates cycles)) (writes_ending (IsSummaryOf gates cycles) (λ s t is is_too. laws.one_summary gates cycles s t few is is_too))
+        (λ settled. outcome_writes (IsSummaryOf gates cycles) summary.0 summary.1)
+
     show_proper : (file : List ℕ) → IsCommand Settled (file ∷ []) (ExpectedShow file)
     unfolding ExpectedShow
     show_proper file =
@@ -171,7 +182,7 @@ module _ (laws : Laws) where
       (order_ending net words.timing stimulus order words.banks machine (laws.one_simulation net words.timing stimulus acyclic) (laws.decides order words.banks net machine words.timing stimulus banks valid))
       (λ none. cc)))
 
-  on_proper : (words : RunWords) (order : Option (List ℕ)) → 1 ≤ words.banks → (machine : Machine) → IsValidMachine machine → IsCommand (order ≡ None) (words.netlist ∷ words.stimulus ∷ option_to_list order) (ExpectedOn words order machine)
+  on_proper : (words : RunWords) (order : Option (List ℕ)) → 1 ≤ words.banks → (machine : Machine) → IsValidMachine machine → IsCommand (order ≡ None) (words.netlist ∷ words.stimulus ∷ option_to_list order) (ExpectedOn words (EndsBy order words) machine)
   unfolding ExpectedOn
   on_proper words order banks machine machine_valid =
       design_proper (order ≡ None) words.netlist (words.stimulus ∷ option_to_list order) machine machine_valid words.timing (λ net. AfterStimulus words.stimulus net (EndsBy order words machine net)) (λ net valid acyclic fits.
@@ -179,7 +190,7 @@ module _ (laws : Laws) where
 
   run_proper : (words : RunWords) (order : Option (List ℕ)) → 1 ≤ words.banks → IsCommand (order ≡ None) (option_to_list words.machine ++ (words.netlist ∷ words.stimulus ∷ option_to_list order)) (ExpectedRun words order)
   unfolding ExpectedRun
-  run_proper words order banks = machine_proper (order ≡ None) words.machine (words.netlist ∷ words.stimulus ∷ option_to_list order) (ExpectedOn words order) (on_proper words order banks)
+  run_proper words order banks = machine_proper (order ≡ None) words.machine (words.netlist ∷ words.stimulus ∷ option_to_list order) (ExpectedOn words (EndsBy order words)) (on_proper words order banks)
 
   command_proper : (asked : Command) → IsInRange asked → IsCommand (order_named (Some asked) ≡ None) (files_of asked) (ExpectedOf asked)
   command_proper (command.Run words) range = run_proper words None range.banks_some
@@ -187,6 +198,7 @@ module _ (laws : Laws) where
   command_proper (command.Order words) range = run_proper words words.order range.banks_some
   command_proper (command.Plan words) range = plan_proper (None ≡ None) words
   command_proper (command.Show file) range = show_proper (None ≡ None) file
+  command_proper (command.Large gates cycles workers) range = large_proper (None ≡ None) gates cycles range.gates_few
 
   -- ---- words
 
@@ -292,6 +304,8 @@ returns c =
             (λ port needed limit lacks. c.fits_functions.ensures net machine timing fits port needed limit lacks);
         one = λ why other is is_too right right_too. c.one_refusal.ensures net machine timing valid why other right right_too is is_too;
       };
+      summaries = c.one_summary.ensures.some;
+      one_summary = c.one_summary.ensures.one;
       once = λ net machine timing valid. record {
         formed = λ nodes items. c.items_are_well_formed.ensures net timing nodes valid items;
         items = c.one_list.ensures net timing;

@@ -1,12 +1,12 @@
 -- The run is expected after the stimulus and the cells.
 use Rattle.std.proofs.Common.{List, ℕ, refl, inr}
-use Rattle.std.specs.Option.{option_map}
 use Rattle.net_defs.specs.declared.netlist.Netlist.{Netlist}
 use Rattle.net_defs.specs.declared.stimulus.Stimulus.{Stimulus}
 use Rattle.yse_top.specs.Checks.{After, IsStimulusOf, HasFewCells}
 use Rattle.yse_top.specs.Outcome.{Outcome}
 use Rattle.yse_top.specs.Readings.{Reading}
-use Rattle.yse_top.specs.commands.Run.{AfterStimulus, EndsBy}
+use Rattle.yse_top.specs.Visited.{EndsTelling}
+use Rattle.yse_top.specs.commands.Run.{AfterStimulus}
 use Rattle.yse_top.proofs.ChainLemmas.{follows_file, follows_on, follows_here}
 use Rattle.yse_top.proofs.commands.run.execute.Goals as goal
 
@@ -22,7 +22,7 @@ unfolding AfterStimulus
 returns-in-Ok-few_cells-clause-expected g c =
     let e = rw c.as_slice.ensures at c.in-Ok-stimulus_of.ensures in
     let net = c.args.built.net in
-    let next = EndsBy (option_map (λ file. file.now) c.args.order) c.args.words.now c.args.machine.now net in
+    let next = EndsTelling g.G.Gate c.args.gates.now c.finish.new.gates c.args.pace c.args.words.now c.args.machine.now net in
     let stimulus = c.in-Ok-stimulus_of.stimulus in
     let text = c.in-Ok.text in
     follows_file _ _ _ _ _ _ _ _ text _ (of_text net next) c.in-Ok.ensures.same_names c.in-Ok.ensures.same_bytes (rw c.as_bytes.ensures at c.in-Ok.ensures.text)
@@ -34,7 +34,7 @@ unfolding AfterStimulus
 returns-in-Ok-clause-expected g c =
     let e = rw c.as_slice.ensures at c.in-Err-stimulus_of.ensures in
     let net = c.args.built.net in
-    let next = EndsBy (option_map (λ file. file.now) c.args.order) c.args.words.now c.args.machine.now net in
+    let next = EndsTelling g.G.Gate c.args.gates.now c.args.gates.now c.args.pace c.args.words.now c.args.machine.now net in
     let text = c.in-Ok.text in
     follows_file _ _ _ _ _ _ _ _ text _ (of_text net next) c.in-Ok.ensures.same_names c.in-Ok.ensures.same_bytes (rw c.as_bytes.ensures at c.in-Ok.ensures.text)
     (follows_here _ _ _ _ (of_text net next text) (inr (refl, e.checked)))

@@ -1,15 +1,30 @@
--- Without an order file the trace is written.
+-- Without an order file the trace is written, and workers tell the gates.
 use Rattle.std.proofs.Common.{refl, inl, inr}
-use Rattle.yse_top.specs.commands.Run.{EndsBy, WritesTrace}
+use Rattle.yse_top.specs.Visited.{EndsTelling}
+use Rattle.yse_top.specs.commands.Run.{EndsBy}
 use Rattle.yse_top.proofs.ChainLemmas.{follows_here}
 use Rattle.yse_top.proofs.commands.run.finish.Goals as goal
 
 pub returns-in-Ok-clause-expected : goal.returns-in-Ok-clause-expected
 unfolding EndsBy
 returns-in-Ok-clause-expected g c =
-    rw c.in-None.is (follows_here _ _ _ _ (WritesTrace c.args.built.net c.args.words.now.timing c.args.stimulus.now) (refl, inl (_, c.in-Ok.ensures.printed, refl)))
+    rw c.in-Workers.is (follows_here _ _ _ _ (EndsTelling g.G.Gate c.args.gates.now c.by_workers.new.gates _ c.args.words.now c.args.machine.now c.args.built.net c.args.stimulus.now)
+    (record { ends = (refl, inl (_, c.in-Ok.ensures.printed, refl)); visits = λ has is. c.in-Ok.ensures.visits }))
 
 pub returns-in-Err-clause-expected : goal.returns-in-Err-clause-expected
 unfolding EndsBy
 returns-in-Err-clause-expected g c =
-    rw c.in-None.is (follows_here _ _ _ _ (WritesTrace c.args.built.net c.args.words.now.timing c.args.stimulus.now) (refl, inr refl))
+    rw c.in-Workers.is (follows_here _ _ _ _ (EndsTelling g.G.Gate c.args.gates.now c.by_workers.new.gates _ c.args.words.now c.args.machine.now c.args.built.net c.args.stimulus.now)
+    (record { ends = (refl, inr refl); visits = λ has is. cc }))
+
+pub returns-in-Ok-by_rounds-clause-expected : goal.returns-in-Ok-by_rounds-clause-expected
+unfolding EndsBy
+returns-in-Ok-by_rounds-clause-expected g c =
+    rw c.in-Rounds.is (follows_here _ _ _ _ (EndsTelling g.G.Gate c.args.gates.now c.args.gates.now _ c.args.words.now c.args.machine.now c.args.built.net c.args.stimulus.now)
+    (record { ends = (refl, inl (_, c.in-Ok-by_rounds.ensures.printed, refl)); visits = λ has is. absurd has }))
+
+pub returns-in-Err-by_rounds-clause-expected : goal.returns-in-Err-by_rounds-clause-expected
+unfolding EndsBy
+returns-in-Err-by_rounds-clause-expected g c =
+    rw c.in-Rounds.is (follows_here _ _ _ _ (EndsTelling g.G.Gate c.args.gates.now c.args.gates.now _ c.args.words.now c.args.machine.now c.args.built.net c.args.stimulus.now)
+    (record { ends = (refl, inr refl); visits = λ has is. absurd has }))

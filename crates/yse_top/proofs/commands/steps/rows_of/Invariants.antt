@@ -1,4 +1,4 @@
-use Rattle.yse_top.specs.Images.{AreShown}
+use Rattle.machine_run.specs.Shown.{AreShown}
 use Rattle.yse_top.proofs.commands.steps.rows_of.Given as goal
 
 abbrev pub invariant-cycles : goal.invariant-cycles

@@ -1,0 +1,91 @@
+-- What the gates were told by a whole call.
+use Rattle.std.specs.Prelude.{◌≡◌, ◌⊎◌, ⊤, ℕ, List, Option, Some, None, Result, IfOk, OnErr}
+use Rattle.crew_run.specs.declared.gate.Gate as gate
+use Rattle.edge_io.specs.Names.{OfTold}
+use Rattle.large_run.specs.Setting.{large_machine}
+use Rattle.machine_run.specs.Visits.{AreInPlace, AreVisitsOf}
+use Rattle.machine_text.specs.declared.machine.Machine.{Machine}
+use Rattle.machine_text.specs.Machines as machine_text
+use Rattle.machine_text.specs.Machines.{default_machine}
+use Rattle.net_defs.specs.declared.netlist.Netlist.{Netlist}
+use Rattle.net_defs.specs.declared.stimulus.Stimulus.{Stimulus}
+use Rattle.net_defs.specs.Time.{turn_count}
+use Rattle.cmd_words.specs.declared.command.Command.{Command}
+use Rattle.cmd_words.specs.declared.command.Command.TheVariants as command
+use Rattle.cmd_words.specs.declared.command.RunWords.{RunWords}
+use Rattle.yse_top.specs.declared.commands.steps.Pace.{Pace}
+use Rattle.yse_top.specs.declared.commands.steps.Pace.TheVariants as pace
+use Rattle.yse_top.specs.declared.output.Output.{Output}
+use Rattle.yse_top.specs.declared.refusal.Refusal.{Refusal}
+use Rattle.yse_top.specs.declared.status.Status.{Status}
+use Rattle.yse_top.specs.declared.status.Status.TheVariants as status
+use Rattle.yse_top.specs.Checks.{port_count}
+use Rattle.yse_top.specs.Endings.{ending_in}
+use Rattle.yse_top.specs.Ends.{MayWrite}
+use Rattle.yse_top.specs.Outcome.{Outcome}
+use Rattle.yse_top.specs.Readings.{Reading}
+use Rattle.yse_top.specs.Refusals.{outcome_of}
+use Rattle.yse_top.specs.Traced.{AreOfFiles}
+use Rattle.yse_top.specs.commands.Run.{EndsBy}
+
+-- the machine that the text of the named file reads as, and else the default machine
+abbrev pub IsMachineOfFile : Option (List ℕ → List ℕ) → Option (List ℕ) → Machine → Type 0
+IsMachineOfFile bytes None machine = machine ≡ default_machine
+IsMachineOfFile bytes (Some file) machine = (text : List ℕ) × OfTold bytes file (λ told. text ≡ told) × machine_text.Reads text machine
+
+-- the visits of a call where output may have been written, and else what is left
+pub record AreTold (result : Status) (Visits Left : Type 0) : Type 0 where
+  pub written : MayWrite result → Visits
+  pub refused : (MayWrite result → ⊥) → Left
+
+module _ {G : Type 0} (p : gate.Ghosts G) (bytes : Option (List ℕ → List ℕ)) (gates gates' : List (Option G)) where
+  -- the visits of so many cycles on the machine of `large`, by so many workers
+  abbrev pub AreLargeVisits : ℕ → ℕ → Type 0
+  AreLargeVisits cycles workers = AreVisitsOf p (port_count large_machine) cycles workers gates gates'
+
+  -- the visits of all turns of all ports of the machine of the files, by the workers of the words
+  pub record AreVisitsOfFiles (words : RunWords) : Type 0 where
+    pub machine : Machine
+    pub machine_is : IsMachineOfFile bytes words.machine machine
+    pub net : Netlist
+    pub stimulus : Stimulus
+    pub are : AreOfFiles bytes words net stimulus
+    pub visits : AreVisitsOf p (port_count machine) (turn_count words.timing stimulus) words.workers gates gates'
+
+  -- after a run its visits are made, where its output may have been written, and a run that is refused tells the
+  -- gates nothing, but that `large` may want memory after its visits; other commands tell no gate anything
+  abbrev pub TellsGates : Status → Option Command → Type 0
+  TellsGates result (Some (command.Run words)) = AreTold result (AreVisitsOfFiles words) (gates' ≡ gates)
+  TellsGates result (Some (command.Large count cycles workers)) =
+      AreTold result (AreLargeVisits cycles workers) ((gates' ≡ gates) ⊎ AreLargeVisits cycles workers)
+  TellsGates result _ = gates' ≡ gates
+
+-- ---- runs at a pace
+
+-- the order that the ports step in, where it is that of a file
+abbrev pub order_in : Pace → Option (List ℕ)
+order_in pace.Workers = None
+order_in pace.Rounds = None
+order_in (pace.Order file) = Some file.now
+
+abbrev pub HasWorkers : Pace → Type 0
+HasWorkers pace.Workers = ⊤
+HasWorkers _ = ⊥
+
+module _ {G : Type 0} (p : gate.Ghosts G) (gates gates' : List (Option G)) where
+  -- the end of a run; where workers stepped the ports to the end, they told the gates
+  pub record EndsTelling (pace : Pace) (words : RunWords) (machine : Machine) (net : Netlist) (stimulus : Stimulus) (readings : List Reading) (outcome : Outcome) : Type 0 where
+    pub ends : EndsBy (order_in pace) words machine net stimulus readings outcome
+    pub visits : HasWorkers pace → outcome.status ≡ status.Done → AreVisitsOf p (port_count machine) (turn_count words.timing stimulus) words.workers gates gates'
+
+-- where workers stepped the ports, the gates are told as by a run
+abbrev pub TellsOfRun : {G : Type 0} → gate.Ghosts G → Option (List ℕ → List ℕ) → List (Option G) → List (Option G) → Pace → RunWords → Result Output Refusal → Type 0
+TellsOfRun p bytes gates gates' pace words result = HasWorkers pace → AreTold (outcome_of result).status (AreVisitsOfFiles p bytes gates gates' words) (gates' ≡ gates)
+
+-- the gates are in their places, and were told nothing before a refusal, nor where no workers stepped the ports;
+-- where workers did, the run is whole
+pub record KeepsGates {G : Type 0} (pace : Pace) (gates gates' : List (Option G)) (result : Result Output Refusal) : Type 0 where
+  pub in_place : AreInPlace gates gates'
+  pub refused : OnErr result (gates' ≡ gates)
+  pub alone : (HasWorkers pace → ⊥) → gates' ≡ gates
+  pub whole : HasWorkers pace → IfOk result (λ output. ending_in output ≡ None)

@@ -1,0 +1,10 @@
+-- `large`: the summary of a run of a generated design. It always fits its machine, so nothing is refused.
+use Rattle.std.specs.Prelude.{List, ℕ}
+use Rattle.large_run.specs.Runs.{IsSummaryOf}
+use Rattle.yse_top.specs.Checks.{Ends, Writes}
+use Rattle.yse_top.specs.Outcome.{Outcome}
+use Rattle.yse_top.specs.Readings.{Reading}
+
+-- the summary, without a file
+abbrev pub ExpectedLarge : ℕ → ℕ → List Reading → Outcome → Type 0
+ExpectedLarge gates cycles = Ends (Writes (IsSummaryOf gates cycles))

@@ -1,0 +1,49 @@
+//! `large`: the summary of a run of a generated design.
+
+ghost use Rattle.std.specs.Prelude.{[], ◌≡◌, ◌⊎◌, ◌<◌, ◌≤◌, ℕ, Option, Some, IfOk, length, slice_get};
+ghost use Rattle.crew_run.specs.Crews.{CanTell};
+ghost use Rattle.cmd_words.specs.declared.options.TheConstants.{MAX_GATES, MAX_LARGE_CYCLES, MAX_WORKERS};
+ghost use Rattle.large_run.specs.Setting.{large_machine};
+ghost use Rattle.machine_run.specs.Visits.{AreInPlace, AreVisitsOf};
+ghost use Rattle.yse_top.specs.Checks.{port_count};
+ghost use Rattle.yse_top.specs.Outputs.{CanWrite};
+ghost use Rattle.yse_top.specs.Refusals.{outcome_of};
+ghost use Rattle.yse_top.specs.Visited.{AreTold};
+ghost use Rattle.yse_top.specs.commands.Large.{ExpectedLarge};
+
+use crate::output::Output;
+use crate::refusal::Refusal;
+use crew_run::Gate;
+use large_run::large as run_large;
+use seen_list::Memory;
+use std::alloc::Global;
+use std::marker::{Send, Sync};
+use std::sync::Wait;
+use std::thread::Threads;
+
+/// The summary of a run of the design of so many gates for so many cycles, by so many workers.
+pub fn large<'a, R: Threads + Wait + Sync, G: Gate + Send>(
+    rt: &R,
+    alloc: Global,
+    count: u32,
+    cycles: u32,
+    workers: u32,
+    gates: &mut [Option<G>],
+) -> Result<Output, Refusal<'a>>
+    requires few { count ≤ MAX_GATES }
+    requires few_cycles { cycles ≤ MAX_LARGE_CYCLES }
+    requires some_workers { 1 ≤ workers }
+    requires few_workers { workers ≤ MAX_WORKERS }
+    requires gates { MAX_WORKERS ≤ length gates.old }
+    requires tell { (i : ℕ) (gate : Option G) → i < MAX_WORKERS → slice_get gates.old i ≡ Some gate → CanTell G.Gate.own gate }
+    ensures expected { ExpectedLarge count cycles [] (outcome_of result) }
+    ensures writable { IfOk result CanWrite }
+    ensures visits { AreTold (outcome_of result).status (AreVisitsOf G.Gate.own (port_count large_machine) cycles workers gates.old gates.new)
+        ((gates.new ≡ gates.old) ⊎ AreVisitsOf G.Gate.own (port_count large_machine) cycles workers gates.old gates.new) }
+    ensures in_place { AreInPlace gates.old gates.new }
+{
+    match run_large(rt, alloc, count, cycles, workers, gates) {
+        Ok(text) => Ok(Output::Text(text)),
+        Err(Memory) => Err(Refusal::Memory),
+    }
+}

@@ -1,0 +1,324 @@
+//! Runs on threads: so many workers and banks, workers that meet, and a worker that waits for the crossbar.
+
+ghost use Rattle.crew_run.specs.Crews.{CanTell};
+ghost use Rattle.std.specs.Prelude.{All, IfOk, Option, Some, length, slice_get, true, ℕ, ◌+◌, ◌<◌, ◌^◌, ◌≡◌, ◌≤◌};
+
+use super::{C17, GATES, S27, end_of, named, sink, store, words_of};
+use crate::yse;
+use crew_run::{CountGate, Gate};
+use edge_io::{MemFiles, MemSink};
+use machine_run::count_gates;
+use seen_list::{List, Memory, Text};
+use std::alloc::Global;
+use std::hint;
+use std::marker::Sync;
+use std::sync::Wait;
+use std::sync::atomic::{AtomicBool, Ordering};
+use std::test::Fail;
+use std::thread::Threads;
+
+/// How often a hold tries at most.
+const TRIES: u32 = 50_000_000;
+
+const S27_ROWS: &[u8] = b"0000\n0001\n0000\n1000\n0001\n";
+
+const S27_TRACE: &[u8] = b"cycle G17\n1 1\n2 0\n3 0\n4 1\n5 1\n";
+
+/// S27 with these words behind its files.
+fn s27<R: Threads + Wait + Sync>(
+    rt: &R,
+    alloc: Global,
+    command: &str,
+    options: &[&str],
+) -> Result<Text, Memory> {
+    let mut words = words_of(alloc, command, "net.bench net.stim --init 0")?;
+    for option in options {
+        words.push(String::from_str(alloc, option)?)?;
+    }
+    let mut files = store(alloc, S27, S27_ROWS, 0)?;
+    let ended = end_of(rt, alloc, words.as_slice(), &mut files, 0)?;
+    Text::from_bytes(alloc, ended.out.taken())
+}
+
+/// The same bytes with so many workers and banks, by an order of the ports, and by the reference.
+#[test]
+fn workers_print_the_reference(rt: HostRuntime) -> Result<(), Fail> {
+    for workers in ["1", "2", "7", "64"] {
+        for banks in ["1", "2", "8"] {
+            let options = ["--workers", workers, "--banks", banks];
+            let output = s27(&rt, rt.alloc(), "run", &options)?;
+            assert_eq!(rt; output.as_bytes(), S27_TRACE);
+        }
+    }
+    for command in ["order", "refer"] {
+        let output = s27(&rt, rt.alloc(), command, &[])?;
+        assert_eq!(rt; output.as_bytes(), S27_TRACE);
+    }
+    Ok(())
+}
+
+/// The trace of C17 for 10,000 cycles.
+fn long_trace<R: Threads + Wait + Sync>(
+    rt: &R,
+    alloc: Global,
+    command: &str,
+    options: &str,
+) -> Result<MemSink, Memory> {
+    let words = words_of(alloc, command, options)?;
+    let rows: &[u8] = b"10101 * 3000\n0x1z0 * 2000\n11111\n00110 * 4999\n";
+    let mut files = store(alloc, C17, rows, 0)?;
+    let mut out = MemSink::new(alloc, 131_072, 4096, List::new(alloc))?;
+    let mut err = sink(alloc, 0)?;
+    let mut gates = count_gates(alloc, GATES)?;
+    let _ = yse(
+        rt,
+        alloc,
+        words.as_slice(),
+        &mut files,
+        &mut out,
+        &mut err,
+        gates.as_mut_slice(),
+    );
+    Ok(out)
+}
+
+/// Each row of a run by two workers is that of the reference.
+#[test]
+fn ten_thousand_turns_are_those_of_the_reference(rt: HostRuntime) -> Result<(), Fail> {
+    let run = long_trace(&rt, rt.alloc(), "run", "net.bench net.stim --workers 2")?;
+    let reference = long_trace(&rt, rt.alloc(), "refer", "net.bench net.stim")?;
+    assert_eq!(rt; run.taken(), reference.taken());
+    assert_eq!(rt; run.taken().len(), 78_906);
+    Ok(())
+}
+
+/// What a gate does beside counting.
+#[derive(Clone, Copy)]
+enum Watch {
+    /// It holds its first call until the other worker was told of a turn.
+    Pair,
+    /// The first worker's holds the host's turn 3, until the second worker was told of a later turn.
+    Hold,
+}
+
+/// Counts, and holds its worker in one call. It says whether a try of the hold found what it looked for.
+#[derive(Drop)]
+struct WatchGate<'a> {
+    counts: CountGate,
+    watch: Watch,
+    first: bool,
+    mine: &'a AtomicBool,
+    other: &'a AtomicBool,
+    held: bool,
+    found: bool,
+}
+
+/// Whether the flag was found set before the tries ran out.
+fn is_met(flag: &AtomicBool) -> bool {
+    for _ in 0..TRIES {
+        if flag.load(Ordering::SeqCst) {
+            return true;
+        }
+        hint::spin_loop();
+    }
+    false
+}
+
+impl<'a> WatchGate<'a> {
+    /// Whether the flag of the worker is to be set.
+    fn is_marked(&self, turn: u64) -> bool {
+        match self.watch {
+            Watch::Pair => true,
+            Watch::Hold => turn > 3,
+        }
+    }
+
+    /// Whether the call is to be held. The host is port 2.
+    fn is_held(&self, port: u32, turn: u64) -> bool {
+        match self.watch {
+            Watch::Pair => !self.held,
+            Watch::Hold => self.first && port == 2 && turn == 3,
+        }
+    }
+}
+
+impl<'a> Gate for WatchGate<'a> {
+    ghost times = { λ g. ⟦<CountGate as Gate>⟧.times g.counts };
+
+    ghost latest = { λ g. ⟦<CountGate as Gate>⟧.latest g.counts };
+
+    fn at(&mut self, port: u32, turn: u64) {
+        self.counts.at(port, turn);
+        if self.is_marked(turn) {
+            self.mine.store(true, Ordering::SeqCst);
+        }
+        if self.is_held(port, turn) {
+            self.held = true;
+            self.found = is_met(self.other);
+        }
+    }
+}
+
+/// A gate that was told nothing, with the flag of its worker and that of the other.
+fn watch_gate<'a>(
+    watch: Watch,
+    first: bool,
+    one: &'a AtomicBool,
+    two: &'a AtomicBool,
+) -> WatchGate<'a>
+    ensures { All (λ n. n ≤ 2 ^ 62) (⟦<WatchGate<'a> as Gate>⟧.times result) }
+{
+    let (mine, other) = if first { (one, two) } else { (two, one) };
+    WatchGate {
+        counts: CountGate::new(),
+        watch,
+        first,
+        mine,
+        other,
+        held: false,
+        found: false,
+    }
+}
+
+/// The gates of a call: the first worker's, and those of the others.
+fn watch_gates<'a>(
+    alloc: Global,
+    watch: Watch,
+    one: &'a AtomicBool,
+    two: &'a AtomicBool,
+) -> Result<List<Option<WatchGate<'a>>>, Memory>
+    ensures count { IfOk result (λ gates. length gates ≡ 64) }
+    ensures tell { IfOk result (λ gates. (i : ℕ) (gate : Option WatchGate) → slice_get gates i ≡ Some gate → CanTell ⟦<WatchGate<'a> as Gate>⟧ gate) }
+{
+    let mut gates = List::new(alloc);
+    'gates: for w in 0..GATES {
+        gates.push(Some(watch_gate(watch, w == 0, one, two)))?;
+    }
+    Ok(gates)
+}
+
+/// The files of a netlist and a stimulus, and a machine of two logic processors and no array processor, where
+/// the second of two workers has the second of them alone.
+fn two_ports(alloc: Global, netlist: &[u8], stimulus: &[u8]) -> Result<MemFiles, Memory> {
+    let machine = List::from_slice(alloc, b"logic 2\narray 0\n")?;
+    let mut files = List::new(alloc);
+    files.push(named(alloc, b"net.bench", List::from_slice(alloc, netlist)?)?)?;
+    files.push(named(alloc, b"net.stim", List::from_slice(alloc, stimulus)?)?)?;
+    files.push(named(alloc, b"net.machine", machine)?)?;
+    Ok(MemFiles::new(files, List::new(alloc)))
+}
+
+/// The status and the output of a run by two workers, and whether the two were held, and found something.
+#[derive(Drop)]
+struct Watched {
+    status: u8,
+    output: Text,
+    first: (bool, bool),
+    second: (bool, bool),
+}
+
+fn run_watched<R: Threads + Wait + Sync>(
+    rt: &R,
+    alloc: Global,
+    watch: Watch,
+    line: &str,
+    netlist: &[u8],
+    stimulus: &[u8],
+) -> Result<Watched, Memory> {
+    let one = AtomicBool::new(false);
+    let two = AtomicBool::new(false);
+    let words = words_of(alloc, "run", line)?;
+    let mut files = two_ports(alloc, netlist, stimulus)?;
+    let mut out = sink(alloc, 0)?;
+    let mut err = sink(alloc, 0)?;
+    let mut gates = watch_gates(alloc, watch, &one, &two)?;
+    let status = yse(
+        rt,
+        alloc,
+        words.as_slice(),
+        &mut files,
+        &mut out,
+        &mut err,
+        gates.as_mut_slice(),
+    );
+    let output = Text::from_bytes(alloc, out.taken())?;
+    let gates = gates.as_slice();
+    Ok(Watched {
+        status: status.number(),
+        output,
+        first: held(gates.first()),
+        second: held(gates.get(1)),
+    })
+}
+
+/// Whether the gate held its worker, and found something.
+fn held(gate: Option<&Option<WatchGate<'_>>>) -> (bool, bool) {
+    match gate {
+        Some(Some(gate)) => (gate.held, gate.found),
+        _ => (false, false),
+    }
+}
+
+/// Each of two workers is held at its first call until the other was called too: the two run beside one
+/// another.
+#[test]
+fn two_workers_meet(rt: HostRuntime) -> Result<(), Fail> {
+    let line = "net.bench net.stim --init 0 --workers 2";
+    let ended = run_watched(&rt, rt.alloc(), Watch::Pair, line, S27, S27_ROWS)?;
+    assert_eq!(rt; ended.output.as_bytes(), S27_TRACE);
+    assert_eq!(rt; ended.first, (true, true));
+    assert_eq!(rt; ended.second, (true, true));
+    Ok(())
+}
+
+/// While the host is held at its third turn, the port that takes values from it does not get past that turn.
+#[test]
+fn a_worker_waits_for_the_host(rt: HostRuntime) -> Result<(), Fail> {
+    let line = "net.bench net.stim --machine net.machine --workers 2";
+    let ended = run_watched(&rt, rt.alloc(), Watch::Hold, line, C17, b"11111 * 10\n")?;
+    let rows: &[u8] = b"cycle 22 23\n1 10\n2 10\n3 10\n4 10\n5 10\n6 10\n7 10\n8 10\n9 10\n10 10\n";
+    assert_eq!(rt; ended.status, 0u8);
+    assert_eq!(rt; ended.output.as_bytes(), rows);
+    assert_eq!(rt; ended.first, (true, false));
+    Ok(())
+}
+
+/// The summary of a generated design.
+fn summary<R: Threads + Wait + Sync>(rt: &R, alloc: Global, words: &str) -> Result<Text, Memory> {
+    let words = words_of(alloc, "large", words)?;
+    let mut files = store(alloc, b"", b"", 0)?;
+    let ended = end_of(rt, alloc, words.as_slice(), &mut files, 0)?;
+    Text::from_bytes(alloc, ended.out.taken())
+}
+
+/// Generated designs: the words behind the command, and the summary.
+const SUMMARIES: &[(&str, &[u8])] = &[
+    ("2 2", TWO_GATES),
+    ("2000 20 --workers 1", THOUSANDS),
+    ("2000 20 --workers 4", THOUSANDS),
+    ("2000 20 --workers 64", THOUSANDS),
+    ("20000 200 --workers 1", TENS_OF_THOUSANDS),
+    ("20000 200 --workers 1", TENS_OF_THOUSANDS),
+];
+
+const TWO_GATES: &[u8] = b"gates 2 nodes 2 slots 9 crossings 5\nzeros 2 ones 2 xs 0 zs 0\n";
+
+const THOUSANDS: &[u8] =
+    b"gates 2000 nodes 2000 slots 292 crossings 3775\nzeros 87 ones 73 xs 0 zs 0\n";
+
+const TENS_OF_THOUSANDS: &[u8] =
+    b"gates 20000 nodes 20000 slots 2464 crossings 36674\nzeros 1231 ones 369 xs 0 zs 0\n";
+
+fn summaries() -> &'static [(&'static str, &'static [u8])] {
+    SUMMARIES
+}
+
+/// Generated designs print the same summary at each run and with each number of workers.
+#[test]
+fn generated_designs_are_summed_up(rt: HostRuntime) -> Result<(), Fail> {
+    for (words, lines) in summaries() {
+        let output = summary(&rt, rt.alloc(), words)?;
+        assert_eq!(rt; output.as_bytes(), *lines);
+    }
+    Ok(())
+}
