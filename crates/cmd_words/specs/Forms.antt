@@ -6,7 +6,8 @@ use Rattle.cmd_words.specs.declared.command.Command.TheVariants.{Run, Refer, Ord
 use Rattle.cmd_words.specs.declared.command.RunWords.{RunWords}
 use Rattle.cmd_words.specs.declared.command.WordNo.{WordNo}
 use Rattle.cmd_words.specs.declared.command.WordNo.TheVariants.{Usage, Memory}
-use Rattle.cmd_words.specs.declared.options.TheConstants.{MAX_BANKS, MAX_GATES, MAX_LARGE_CYCLES, MAX_WORKERS}
+use Rattle.limits.specs.declared.TheConstants.{MAX_LARGE_CYCLES, MAX_LARGE_GATES}
+use Rattle.cmd_words.specs.declared.options.TheConstants.{MAX_BANKS, MAX_WORKERS}
 use Rattle.cmd_words.specs.Arguments.{Word, AreArguments, value_given}
 use Rattle.cmd_words.specs.Asked.{asked}
 use Rattle.cmd_words.specs.Settings.{run_options, refer_options, order_options, plan_options, show_options, large_options, timing_by, banks_by, workers_by, gates_of, cycles_of}
@@ -61,7 +62,7 @@ pub record IsRunInRange (run : RunWords) : Type 0 where
 
 pub record IsLargeInRange (gates cycles workers : ℕ) : Type 0 where
   pub gates_some : 1 ≤ gates
-  pub gates_few : gates ≤ MAX_GATES
+  pub gates_few : gates ≤ MAX_LARGE_GATES
   pub cycles_some : 1 ≤ cycles
   pub cycles_few : cycles ≤ MAX_LARGE_CYCLES
   pub workers_some : 1 ≤ workers

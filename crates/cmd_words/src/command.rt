@@ -13,7 +13,7 @@ pub struct RunWords {
     pub stimulus: Text,
     /// The file of the machine. `None` stands for the default machine.
     pub machine: Option<Text>,
-    /// The file of the order of the ports. `None` stands for rounds.
+    /// The file of the order of the ports, of `order` alone, where `None` stands for rounds.
     pub order: Option<Text>,
     /// How the netlist is run in time. It is valid: `IsInRange`.
     pub timing: Timing,

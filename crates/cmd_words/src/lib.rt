@@ -11,5 +11,5 @@ mod settings;
 mod tests;
 
 pub use command::{Command, RunWords, WordNo};
-pub use options::{MAX_BANKS, MAX_GATES, MAX_LARGE_CYCLES, MAX_WORKERS};
+pub use options::{MAX_BANKS, MAX_WORKERS};
 pub use reading::read_words;

@@ -6,12 +6,6 @@ pub const MAX_BANKS: u32 = 8;
 /// The most workers that step the ports of a machine.
 pub const MAX_WORKERS: u32 = 64;
 
-/// The most gates of a generated design.
-pub const MAX_GATES: u32 = 30_000;
-
-/// The most cycles that a generated design is run for.
-pub const MAX_LARGE_CYCLES: u32 = 10_000;
-
 /// The options of `run`.
 pub static RUN: [&str; 6] = ["machine", "mode", "units", "init", "workers", "banks"];
 

@@ -8,6 +8,6 @@
 #![tactic(auto)]
 
 pub mod law;
-pub mod place;
+mod place;
 
 pub use place::{Action, CoreStep, Event, Place};

@@ -4,7 +4,7 @@
 
 mod blocks;
 pub mod law;
-pub mod pick;
+mod pick;
 
 pub use blocks::block_bits;
 pub use pick::{HomeNo, homes};

@@ -36,7 +36,8 @@ comes slot sender = record { slot = slot; sender = sender }
 abbrev pub goes : ℕ → List ℕ → LinkOut
 goes slot readers = record { slot = slot; readers = readers }
 
-one_rises : (s : ℕ) → IsStrictlyIncreasing (s ∷ [])
+-- one number rises
+pub one_rises : (s : ℕ) → IsStrictlyIncreasing (s ∷ [])
 one_rises s k within = absurd (omega (arith, within))
 
 two_rise : (s t : ℕ) → s < t → IsStrictlyIncreasing (s ∷ t ∷ [])

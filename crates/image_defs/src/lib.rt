@@ -3,7 +3,7 @@
 //! each turn, port and slot, and how far a port has come in a turn.
 #![tactic(auto)]
 
-pub mod image;
+mod image;
 pub mod law;
 
 pub use image::{

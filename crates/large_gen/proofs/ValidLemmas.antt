@@ -1,5 +1,6 @@
 -- The large netlist is valid and has no loop, and its stimulus is valid.
 use Rattle.std.proofs.Common.{◌≡◌, ◌∙◌, ◌⊎◌, inl, inr, ℕ, zero, suc, ◌+◌, ◌-◌, ◌*◌, ◌%◌, ◌^◌, ◌<◌, ◌≤◌, nat_le, Bool, true, false, ◌&&◌, List, [], ◌∷◌, ◌++◌, length, map, min, get_or, decimal, replicate, refl, sym, ap, subst, arith, Option, Some, None, slice_get, IsTrue, mod-lt}
+use Rattle.limits.specs.declared.TheConstants.{MAX_LARGE_CYCLES, MAX_LARGE_GATES}
 use Rattle.std.specs.List.{All, Contains, list_all, flat_map, sum_by, range_with_len}
 use Rattle.std.proofs.lemmas.Bool.{cases_Bool, cases_lt}
 use Rattle.std.proofs.lemmas.Fmt.{decimal_by_steps, decimal_injective, length-decimal-le}
@@ -51,7 +52,7 @@ decimal_bytes : (n : ℕ) → n < 2 ^ 64 → list_all is_name_byte (decimal n) �
 decimal_bytes n low = decimal_by_steps (λ n ds. list_all is_name_byte ds ≡ true) (λ d small. and_true _ true (digit_byte d small) refl)
     (λ m ds big before. list_all-append is_name_byte ds ((48 + m % 10) ∷ []) ∙ and_true _ _ before (and_true _ true (digit_byte (m % 10) (omega arith)) refl)) n low
 
-named : (letter n : ℕ) → is_name_byte letter ≡ true → n ≤ 30000 → IsName (letter ∷ decimal n)
+named : (letter n : ℕ) → is_name_byte letter ≡ true → n ≤ MAX_LARGE_GATES → IsName (letter ∷ decimal n)
 named letter n is low =
     let few = length-decimal-le 5 n (omega arith) (omega (arith, low)) (omega (arith, low)) in
     record { some = omega arith; short = omega (arith, few); bytes = and_true _ _ is (decimal_bytes n (omega (arith, low))) }
@@ -64,7 +65,7 @@ letter_g : is_name_byte 103 ≡ true
 unfolding is_name_byte is_mark is_visible
 letter_g = refl
 
-same_name : (letter m n : ℕ) → m ≤ 30000 → n ≤ 30000 → (letter ∷ decimal m) ≡ (letter ∷ decimal n) → m ≡ n
+same_name : (letter m n : ℕ) → m ≤ MAX_LARGE_GATES → n ≤ MAX_LARGE_GATES → (letter ∷ decimal m) ≡ (letter ∷ decimal n) → m ≡ n
 same_name letter m n one other same = decimal_injective m n (omega (arith, one)) (omega (arith, other)) (rest_same _ _ same) where
   rest_same : (xs ys : List ℕ) → (letter ∷ xs) ≡ (letter ∷ ys) → xs ≡ ys
   rest_same xs ys same = cc
@@ -201,7 +202,7 @@ sum_few f (x ∷ xs) all =
     let here : f x ≤ 4 = all 0 x (omega arith) in
     rw (sum_by-cons f x xs) (omega (arith, rest, here))
 
-module _ (gates : ℕ) (few : gates ≤ 30000) where
+module _ (gates : ℕ) (few : gates ≤ MAX_LARGE_GATES) where
   large_named : (s : ℕ) (signal : Signal) → slice_get (large_signals gates) s ≡ Some signal → IsName signal.name
   large_named s signal is = elim (signal_at gates s signal is) [
     | inl here ↦ (let low = here.0 in rw (input_name s signal here.1) (named 105 s letter_i (omega (arith, low))))
@@ -335,7 +336,7 @@ rows_are s n c rows is end = ap stimulus_of (is ∙ ap (λ k. map (λ r. drawn_r
 pub cycles_large : (s n : ℕ) → cycle_count (large_stimulus s n) ≡ n
 cycles_large s n = cycles_from s 0 n
 
-pub valid_rows : (s n : ℕ) → n ≤ 10000 → IsValidStimulus (large_stimulus s n)
+pub valid_rows : (s n : ℕ) → n ≤ MAX_LARGE_CYCLES → IsValidStimulus (large_stimulus s n)
 valid_rows s n few = record {
   columns = λ r row is. ap (λ (one : StimRow). length one.values) (row_at s n r row is) ∙ length-values (draw s (8 * r)) 8;
   times = λ r row is. (let once = ap (λ (one : StimRow). one.times) (row_at s n r row is) in (omega (arith, once), omega (arith, once)));

@@ -1,6 +1,7 @@
 //! A gate that is drawn.
 
 ghost use Rattle.std.specs.Prelude.{◌≡◌, ◌+◌, ◌%◌, ◌<◌, ◌≤◌, nat_le, if◌then◌else◌, IfOk, OnOk, length};
+ghost use Rattle.limits.specs.declared.TheConstants.{MAX_LARGE_GATES};
 ghost use Rattle.large_gen.specs.Draws.{draw as draw_of};
 ghost use Rattle.large_gen.specs.Large.{kind_at, gate_draws, driver_by, operands as operands_of, gate_driver as driver_of};
 
@@ -13,7 +14,7 @@ use std::alloc::Global;
 /// What drives gate number `j`.
 pub(crate) fn gate_driver(alloc: Global, draws: &mut Draws, j: u32) -> Result<Driver, Memory>
     requires below { draws.old.state < 30269 }
-    requires few { j < 30000 }
+    requires few { j < MAX_LARGE_GATES }
     ensures driver { IfOk result (λ driver. driver ≡ driver_of draws.old.state j) }
     ensures state { OnOk result (draws.new.state ≡ draw_of draws.old.state (gate_draws draws.old.state)) }
     ensures below { OnOk result (draws.new.state < 30269) }
@@ -39,7 +40,7 @@ fn count_drawn(draws: &mut Draws, number: u32) -> u32
 /// So many operands of gate number `j`: numbers of signals, of inputs and the gates before.
 fn operands(alloc: Global, draws: &mut Draws, j: u32, count: u32) -> Result<List<u32>, Memory>
     requires below { draws.old.state < 30269 }
-    requires few { j < 30000 }
+    requires few { j < MAX_LARGE_GATES }
     ensures operands { IfOk result (λ ops. ops ≡ operands_of draws.old.state j count) }
     ensures state { OnOk result (draws.new.state ≡ draw_of draws.old.state count) }
     ensures below { OnOk result (draws.new.state < 30269) }
@@ -55,7 +56,7 @@ fn operands(alloc: Global, draws: &mut Draws, j: u32, count: u32) -> Result<List
 #[tactic(auto, unfolding(crate::specs::Draws::draw))]
 fn operand(draws: &mut Draws, j: u32) -> u32
     requires below { draws.old.state < 30269 }
-    requires few { j < 30000 }
+    requires few { j < MAX_LARGE_GATES }
     ensures operand { result ≡ draw_of draws.old.state 1 % (8 + j) }
     ensures state { draws.new.state ≡ draw_of draws.old.state 1 }
     ensures below { draws.new.state < 30269 }

@@ -4,9 +4,9 @@
 
 mod draws;
 mod gate;
-pub mod netlist;
-pub mod stimulus;
-pub mod summary;
+mod netlist;
+mod stimulus;
+mod summary;
 #[cfg(test)]
 mod tests;
 

@@ -1,6 +1,7 @@
 //! The large netlist.
 
 ghost use Rattle.std.specs.Prelude.{◌≡◌, ◌≤◌, ◌++◌, ℕ, List as Items, All, IfOk, OnOk, decimal, map};
+ghost use Rattle.limits.specs.declared.TheConstants.{MAX_LARGE_GATES};
 ghost use Rattle.std.specs.List.{range_with_len};
 ghost use Rattle.net_defs.specs.declared.timing.Timing.{Timing};
 ghost use Rattle.net_defs.specs.Loops.{IsLoop};
@@ -32,7 +33,7 @@ pub struct Generated {
 /// The large netlist of so many gates, 1 to 30,000: 8 inputs, and gates and registers that take inputs
 /// and what stands before them, so that no gate waits for itself. The last 8 gates are printed.
 pub fn large_net(alloc: Global, gates: u32) -> Result<Generated, Memory>
-    requires { gates ≤ 30000 }
+    requires { gates ≤ MAX_LARGE_GATES }
     ensures net { IfOk result (λ made. made.net ≡ large_netlist gates) }
     ensures state { IfOk result (λ made. made.state ≡ gate_state gates) }
     ensures valid { IfOk result (λ made. IsValid made.net) }
@@ -75,7 +76,7 @@ fn push_gates(
     draws: &mut Draws,
     gates: u32,
 ) -> Result<(), Memory>
-    requires few { gates ≤ 30000 }
+    requires few { gates ≤ MAX_LARGE_GATES }
     requires first { draws.old.state ≡ 1 }
     ensures signals { OnOk result (signals.new ≡ signals.old ++ map gate_signal (range_with_len 0 gates)) }
     ensures state { OnOk result (draws.new.state ≡ gate_state gates) }
@@ -90,7 +91,7 @@ fn push_gates(
 
 /// The signals of the last gates.
 fn printed(alloc: Global, gates: u32) -> Result<List<u32>, Memory>
-    requires { gates ≤ 30000 }
+    requires { gates ≤ MAX_LARGE_GATES }
     ensures { IfOk result (λ list. list ≡ large_printed gates) }
 {
     let first = gates.saturating_sub(PRINTED);

@@ -1,6 +1,7 @@
 //! The stimulus of a large netlist.
 
 ghost use Rattle.std.specs.Prelude.{◌≡◌, ◌<◌, ◌≤◌, IfOk, OnOk};
+ghost use Rattle.limits.specs.declared.TheConstants.{MAX_LARGE_CYCLES};
 ghost use Rattle.net_defs.specs.Valid.{IsValidStimulus};
 ghost use Rattle.net_defs.specs.Time.{cycle_count};
 ghost use Rattle.large_gen.specs.Draws.{IsState};
@@ -17,7 +18,7 @@ use std::alloc::Global;
 /// from a state of the generator on: that after the netlist.
 pub fn large_rows(alloc: Global, state: u32, cycles: u32) -> Result<Stimulus, Memory>
     requires state { IsState state }
-    requires cycles { cycles ≤ 10000 }
+    requires cycles { cycles ≤ MAX_LARGE_CYCLES }
     ensures stimulus { IfOk result (λ stimulus. stimulus ≡ large_stimulus state cycles) }
     ensures valid { IfOk result IsValidStimulus }
     ensures cycles { IfOk result (λ stimulus. cycle_count stimulus ≡ cycles) }

@@ -1,5 +1,6 @@
 -- What the run of a large design rests on.
 use Rattle.std.proofs.Common.{◌≡◌, ◌∙◌, ℕ, ◌+◌, ◌-◌, ◌^◌, ◌<◌, ◌≤◌, false, List, length, map, min, cond, refl, sym, ap, subst, arith}
+use Rattle.limits.specs.declared.TheConstants.{MAX_LARGE_CYCLES}
 use Rattle.std.specs.Prelude.{Option, Some, None, slice_get}
 use Rattle.std.specs.List.{range_with_len}
 use Rattle.std.proofs.lemmas.List.FromFn.{length-map-range_with_len}
@@ -85,7 +86,7 @@ module _ (gates cycles : ℕ) (design : Design) (is : IsDesign gates cycles desi
   columns_large inputs = ap (λ (s : Stimulus). s.columns) is.rows ∙ sym (is.compiled.built.matches.columns ∙ (inputs ∙ inputs_large gates))
 
   -- a run of so many cycles has few cells
-  pub run_few : (rows : List CellRow) → AreShown design.compiled.image design.rows (cycle_count design.rows) rows → cycles ≤ 10000 → length (cells_in rows) < 2 ^ 64
+  pub run_few : (rows : List CellRow) → AreShown design.compiled.image design.rows (cycle_count design.rows) rows → cycles ≤ MAX_LARGE_CYCLES → length (cells_in rows) < 2 ^ 64
   run_few rows are few =
       let cells = cells_few rows (λ c row at. (let wide = are.width c row at in omega (arith, wide, printed_large (large_netlist gates) design.compiled is.compiled, printed_few gates))) in
       omega (arith, cells, are.cycles_are, is.rows_long, few)

@@ -1,5 +1,6 @@
 -- A large netlist has no more items than signals.
 use Rattle.std.proofs.Common.{◌≡◌, ◌≢◌, ◌∙◌, ℕ, ◌+◌, ◌<◌, ◌≤◌, Bool, List, length, map, get_or, refl, sym, ap, subst, arith}
+use Rattle.limits.specs.declared.TheConstants.{MAX_LARGE_GATES}
 use Rattle.std.specs.Prelude.{Option, Some, None, slice_get}
 use Rattle.std.specs.List.{range_with_len}
 use Rattle.std.proofs.lemmas.List.{length-append}
@@ -83,7 +84,7 @@ signals_large gates =
     length-append (map input_signal (range_with_len 0 8)) (map gate_signal (range_with_len 0 gates))
     ∙ ap (λ n. 8 + n) (length-map-range_with_len gate_signal 0 gates)
 
-pub few_items : (gates : ℕ) (timing : Timing) (nodes : NodeNet) → gates ≤ 30000 → AreItems (large_netlist gates) timing nodes → length nodes.items ≤ 8 + gates
+pub few_items : (gates : ℕ) (timing : Timing) (nodes : NodeNet) → gates ≤ MAX_LARGE_GATES → AreItems (large_netlist gates) timing nodes → length nodes.items ≤ 8 + gates
 few_items gates timing nodes few are = omega (arith, items_few (large_netlist gates) timing nodes are narrow, signals_large gates) where
   narrow : (s : ℕ) (signal : Signal) → slice_get (large_signals gates) s ≡ Some signal → operand_count signal.driver ≤ 4
   narrow s signal at =

@@ -1,6 +1,7 @@
 //! What is made before the run of a large design.
 
 ghost use Rattle.std.specs.Prelude.{◌≡◌, ◌≤◌, IfOk};
+ghost use Rattle.limits.specs.declared.TheConstants.{MAX_LARGE_CYCLES, MAX_LARGE_GATES};
 ghost use Rattle.large_gen.specs.Large.{large_netlist};
 ghost use Rattle.net_defs.specs.declared.stimulus.Stimulus.{Stimulus as Rows};
 ghost use Rattle.net_defs.specs.Valid.{IsValid};
@@ -30,8 +31,8 @@ pub(crate) struct Design {
 
 /// Draws a netlist of so many gates and the rows of so many cycles, and compiles the netlist.
 pub(crate) fn large_design(alloc: Global, gates: u32, cycles: u32) -> Result<Design, Memory>
-    requires few_gates { gates ≤ 30000 }
-    requires few_cycles { cycles ≤ 10000 }
+    requires few_gates { gates ≤ MAX_LARGE_GATES }
+    requires few_cycles { cycles ≤ MAX_LARGE_CYCLES }
     ensures { IfOk result (IsDesign gates cycles) }
 {
     large_fits();
@@ -74,7 +75,7 @@ fn lack(refusal: &CompNo) -> Memory
 
 /// What a summary tells of the plan of so many gates.
 fn figures(alloc: Global, gates: u32, compiled: &Compiled) -> Result<Summary, Memory>
-    requires few { gates ≤ 30000 }
+    requires few { gates ≤ MAX_LARGE_GATES }
     requires compiled { IsCompiled (large_netlist gates) machine_is timing_is compiled.now }
     ensures { IfOk result (AreFigures gates compiled.now) }
 {

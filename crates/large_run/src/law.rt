@@ -1,6 +1,7 @@
 //! Laws of large netlists and their runs: functions that do nothing, whose clauses hold of all of them.
 
 ghost use Rattle.std.specs.Prelude.{◌≡◌, ◌+◌, ◌≤◌, ℕ, List, length};
+ghost use Rattle.limits.specs.declared.TheConstants.{MAX_LARGE_GATES};
 ghost use Rattle.large_gen.specs.Large.{large_netlist};
 ghost use Rattle.machine_text.specs.declared.machine.Machine.{Machine};
 ghost use Rattle.net_defs.specs.declared.netlist.Netlist.{Netlist};
@@ -36,13 +37,13 @@ pub fn few_tables()
 
 /// A law: a large netlist has no more items than inputs and gates. It does nothing.
 pub fn few_items()
-    ensures { (gates : ℕ) (timing : Timing) (nodes : NodeNet) → gates ≤ 30000
+    ensures { (gates : ℕ) (timing : Timing) (nodes : NodeNet) → gates ≤ MAX_LARGE_GATES
         → AreItems (large_netlist gates) timing nodes → length nodes.items ≤ 8 + gates }
 {}
 
 /// A law: a large netlist fits its machine. It does nothing.
 pub fn large_fits()
-    ensures { (gates : ℕ) → gates ≤ 30000 → DesignFits (large_netlist gates) large_machine large_timing }
+    ensures { (gates : ℕ) → gates ≤ MAX_LARGE_GATES → DesignFits (large_netlist gates) large_machine large_timing }
 {
     order_or_loop();
     items_exist();
@@ -55,8 +56,8 @@ pub fn large_fits()
 
 /// A law: the run of a large netlist has one summary. It does nothing.
 pub fn one_summary()
-    ensures some { (gates cycles : ℕ) → gates ≤ 30000 → (output : List ℕ) × IsSummaryOf gates cycles output }
-    ensures one { (gates cycles : ℕ) (one other : List ℕ) → gates ≤ 30000
+    ensures some { (gates cycles : ℕ) → gates ≤ MAX_LARGE_GATES → (output : List ℕ) × IsSummaryOf gates cycles output }
+    ensures one { (gates cycles : ℕ) (one other : List ℕ) → gates ≤ MAX_LARGE_GATES
         → IsSummaryOf gates cycles one → IsSummaryOf gates cycles other → one ≡ other }
 {
     large_fits();

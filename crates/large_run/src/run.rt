@@ -1,6 +1,7 @@
 //! The run of a large design.
 
 ghost use Rattle.std.specs.Prelude.{◌≡◌, ◌⊎◌, ◌<◌, ◌≤◌, ℕ, IfOk, OnErr, OnOk, Option, Some, length, slice_get};
+ghost use Rattle.limits.specs.declared.TheConstants.{MAX_LARGE_CYCLES, MAX_LARGE_GATES};
 ghost use Rattle.crew_run.specs.Crews.{CanTell};
 ghost use Rattle.machine_run.specs.Visits.{AreInPlace, AreVisitsOf};
 ghost use Rattle.large_run.specs.Runs.{IsSummaryOf};
@@ -30,8 +31,8 @@ pub fn large<R: Threads + Wait + Sync, G: Gate + Send>(
     workers: u32,
     gates: &mut [Option<G>],
 ) -> Result<Text, Memory>
-    requires few_gates { gates_count ≤ 30000 }
-    requires few_cycles { cycles ≤ 10000 }
+    requires few_gates { gates_count ≤ MAX_LARGE_GATES }
+    requires few_cycles { cycles ≤ MAX_LARGE_CYCLES }
     requires some_workers { 1 ≤ workers }
     requires enough { workers ≤ length gates.old }
     requires tell { (i : ℕ) (gate : Option G) → i < workers → slice_get gates.old i ≡ Some gate → CanTell G.Gate.own gate }

@@ -52,6 +52,12 @@ pub const MAX_FUNCTIONS: u32 = 4096;
 /// The most bits of an array processor.
 pub const MAX_ARRAY_BITS: u32 = 16_777_216;
 
+/// The most gates of a generated design.
+pub const MAX_LARGE_GATES: u32 = 30_000;
+
+/// The most cycles that a generated design is run for.
+pub const MAX_LARGE_CYCLES: u32 = 10_000;
+
 /// Whether a text of so many bytes may be read.
 pub fn fits_text(bytes: usize) -> bool
     ensures { IsTrue result ↔ (bytes ≤ MAX_TEXT_BYTES) }

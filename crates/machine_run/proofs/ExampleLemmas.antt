@@ -7,6 +7,7 @@ use Rattle.net_defs.specs.Valid.{IsValidStimulus}
 use Rattle.net_defs.specs.declared.stimulus.StimRow.{StimRow}
 use Rattle.net_defs.specs.declared.timing.Init.TheVariants as init
 use Rattle.logic_four.specs.declared.V4.{V4}
+use Rattle.image_defs.proofs.Example.{one_rises}
 use Rattle.image_defs.proofs.Example.{comes, each_by, feeds, goes}
 use Rattle.image_defs.specs.Places.{IsPort}
 use Rattle.image_defs.specs.WellFormed.{IsHost, IsLinkIn, IsLinkOut, IsOfLast, IsPortImage, IsPresent, IsTask, IsThere, IsWellFormed, ReceivesFrom}
@@ -16,9 +17,6 @@ use Rattle.image_defs.specs.declared.image.Source.{Source}
 use Rattle.image_defs.specs.declared.image.Source.TheVariants.{Got, Own}
 use Rattle.image_defs.specs.declared.image.Task.TheVariants.{Hold}
 use Rattle.image_defs.specs.declared.image.Work.TheVariants.{Host, Logic}
-
-one_rises : (s : ℕ) → IsStrictlyIncreasing (s ∷ [])
-one_rises s k within = absurd (omega (arith, within))
 
 one_two_rise : IsStrictlyIncreasing (1 ∷ 2 ∷ [])
 one_two_rise zero within = omega arith

@@ -3,8 +3,8 @@
 //! definitions, which items are those of a netlist and which values they have, are in `specs/`.
 #![tactic(auto)]
 
-pub mod groups;
-pub mod items;
+mod groups;
+mod items;
 pub mod law;
 
 pub use groups::{Group, group_at, helper_count};

@@ -5,7 +5,7 @@
 mod items;
 mod keys;
 pub mod law;
-pub mod map;
+mod map;
 mod nodes;
 mod numbering;
 mod palette;

@@ -4,9 +4,9 @@
 #![tactic(auto)]
 
 pub mod law;
-pub mod plan;
-pub mod readers;
-pub mod switch;
+mod plan;
+mod readers;
+mod switch;
 mod users;
 
 pub use plan::{Homes, Plan};

@@ -2,11 +2,11 @@
 //! computed, in which slot, and which ports read it. And the number of crossings of a plan.
 #![tactic(auto)]
 
-pub mod crossing;
+mod crossing;
 pub mod figures;
 pub mod law;
 mod lines;
-pub mod plan_report;
+mod plan_report;
 #[cfg(test)]
 mod tests;
 

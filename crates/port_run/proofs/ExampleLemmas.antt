@@ -9,6 +9,7 @@ use Rattle.net_defs.specs.declared.stimulus.StimRow.{StimRow}
 use Rattle.net_defs.specs.declared.stimulus.Stimulus.{Stimulus}
 use Rattle.net_defs.specs.declared.timing.Init.TheVariants as init
 use Rattle.func_table.specs.declared.table.Table.{Table}
+use Rattle.image_defs.proofs.Example.{one_rises}
 use Rattle.image_defs.proofs.Example.{comes, each_by, goes, holds, looks, feeds}
 use Rattle.image_defs.specs.Places.{IsPort}
 use Rattle.image_defs.specs.WellFormed.{IsHost, IsLinkIn, IsLinkOut, IsOfLast, IsOperand, IsPast, IsPortImage, IsPresent, IsTask, IsThere, IsWellFormed, ReceivesFrom}
@@ -21,9 +22,6 @@ use Rattle.event_defs.specs.Places.{start}
 use Rattle.port_walk.specs.Placed.{PlacedPort, at_start}
 use Rattle.slot_words.specs.Passes.{CrossbarView, IsFirstPass, PassView}
 use Rattle.port_run.specs.Pairs.{AreBegun}
-
-one_rises : (s : ℕ) → IsStrictlyIncreasing (s ∷ [])
-one_rises s k within = absurd (omega (arith, within))
 
 one_two_rise : IsStrictlyIncreasing (1 ∷ 2 ∷ [])
 one_two_rise zero within = omega arith

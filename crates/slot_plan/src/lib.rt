@@ -4,7 +4,7 @@
 
 mod board;
 mod early;
-pub mod fit;
+mod fit;
 mod planning;
 pub mod tables;
 #[cfg(test)]

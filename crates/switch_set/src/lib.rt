@@ -5,7 +5,7 @@
 pub mod law;
 mod links;
 pub mod order;
-pub mod route;
+mod route;
 #[cfg(test)]
 mod tests;
 

@@ -3,7 +3,7 @@
 //! `specs/`.
 #![tactic(auto)]
 
-pub mod compiler;
+mod compiler;
 pub mod inputs;
 pub mod law;
 mod steps;

@@ -80,14 +80,10 @@ abbrev pub IsStimulusOf : List ℕ → Netlist → Result Stimulus Outcome → T
 IsStimulusOf text net =
     ReadsAs (stim.Reads (input_count net) text) (stim.first_fault (input_count net) text) (λ why. refusal status.Stimulus (stimulus_line why))
 
--- the number of a machine's ports: its processors and the host
-abbrev pub port_count : Machine → ℕ
-port_count machine = machine.logic + machine.array + 1
-
 -- the order of a text for the ports of a machine
 abbrev pub IsOrderOf : List ℕ → Machine → Result Order Outcome → Type 0
 IsOrderOf text machine =
-    ReadsAs (orders.Reads (port_count machine) text) (orders.first_fault (port_count machine) text) (λ why. refusal status.OrderText (order_line why))
+    ReadsAs (orders.Reads (machine_text.ports_of machine) text) (orders.first_fault (machine_text.ports_of machine) text) (λ why. refusal status.OrderText (order_line why))
 
 -- no gates wait for one another
 abbrev pub HasNoLoop : Netlist → Timing → Result (Unit {0}) Outcome → Type 0

@@ -6,7 +6,7 @@ use Rattle.large_run.specs.Setting.{large_machine}
 use Rattle.machine_run.specs.Visits.{AreInPlace, AreVisitsOf}
 use Rattle.machine_text.specs.declared.machine.Machine.{Machine}
 use Rattle.machine_text.specs.Machines as machine_text
-use Rattle.machine_text.specs.Machines.{default_machine}
+use Rattle.machine_text.specs.Machines.{default_machine, ports_of}
 use Rattle.net_defs.specs.declared.netlist.Netlist.{Netlist}
 use Rattle.net_defs.specs.declared.stimulus.Stimulus.{Stimulus}
 use Rattle.net_defs.specs.Time.{turn_count}
@@ -19,7 +19,6 @@ use Rattle.yse_top.specs.declared.output.Output.{Output}
 use Rattle.yse_top.specs.declared.refusal.Refusal.{Refusal}
 use Rattle.yse_top.specs.declared.status.Status.{Status}
 use Rattle.yse_top.specs.declared.status.Status.TheVariants as status
-use Rattle.yse_top.specs.Checks.{port_count}
 use Rattle.yse_top.specs.Endings.{ending_in}
 use Rattle.yse_top.specs.Ends.{MayWrite}
 use Rattle.yse_top.specs.Outcome.{Outcome}
@@ -41,7 +40,7 @@ pub record AreTold (result : Status) (Visits Left : Type 0) : Type 0 where
 module _ {G : Type 0} (p : gate.Ghosts G) (bytes : Option (List ℕ → List ℕ)) (gates gates' : List (Option G)) where
   -- the visits of so many cycles on the machine of `large`, by so many workers
   abbrev pub AreLargeVisits : ℕ → ℕ → Type 0
-  AreLargeVisits cycles workers = AreVisitsOf p (port_count large_machine) cycles workers gates gates'
+  AreLargeVisits cycles workers = AreVisitsOf p (ports_of large_machine) cycles workers gates gates'
 
   -- the visits of all turns of all ports of the machine of the files, by the workers of the words
   pub record AreVisitsOfFiles (words : RunWords) : Type 0 where
@@ -50,7 +49,7 @@ module _ {G : Type 0} (p : gate.Ghosts G) (bytes : Option (List ℕ → List ℕ
     pub net : Netlist
     pub stimulus : Stimulus
     pub are : AreOfFiles bytes words net stimulus
-    pub visits : AreVisitsOf p (port_count machine) (turn_count words.timing stimulus) words.workers gates gates'
+    pub visits : AreVisitsOf p (ports_of machine) (turn_count words.timing stimulus) words.workers gates gates'
 
   -- after a run its visits are made, where its output may have been written, and a run that is refused tells the
   -- gates nothing, but that `large` may want memory after its visits; other commands tell no gate anything
@@ -76,7 +75,7 @@ module _ {G : Type 0} (p : gate.Ghosts G) (gates gates' : List (Option G)) where
   -- the end of a run; where workers stepped the ports to the end, they told the gates
   pub record EndsTelling (pace : Pace) (words : RunWords) (machine : Machine) (net : Netlist) (stimulus : Stimulus) (readings : List Reading) (outcome : Outcome) : Type 0 where
     pub ends : EndsBy (order_in pace) words machine net stimulus readings outcome
-    pub visits : HasWorkers pace → outcome.status ≡ status.Done → AreVisitsOf p (port_count machine) (turn_count words.timing stimulus) words.workers gates gates'
+    pub visits : HasWorkers pace → outcome.status ≡ status.Done → AreVisitsOf p (ports_of machine) (turn_count words.timing stimulus) words.workers gates gates'
 
 -- where workers stepped the ports, the gates are told as by a run
 abbrev pub TellsOfRun : {G : Type 0} → gate.Ghosts G → Option (List ℕ → List ℕ) → List (Option G) → List (Option G) → Pace → RunWords → Result Output Refusal → Type 0

@@ -3,11 +3,11 @@
 ghost use Rattle.std.specs.Prelude.{◌≡◌, ◌≤◌, Ok, Err, length, IfOk, IfErr, OnOk};
 ghost use Rattle.limits.specs.declared.TheConstants.{MAX_TEXT_BYTES};
 ghost use Rattle.net_defs.specs.Loops.{IsOrder};
-ghost use Rattle.machine_text.specs.Machines.{IsValid as IsValidMachine};
+ghost use Rattle.machine_text.specs.Machines.{IsValid as IsValidMachine, ports_of};
 ghost use Rattle.net_defs.specs.declared.stimulus.Stimulus.{Stimulus};
 ghost use Rattle.net_defs.specs.Valid.{IsValid, IsValidStimulus, IsValidTiming};
 ghost use Rattle.yse_compile.specs.Compiled.{IsCompiled, ShowsReference};
-ghost use Rattle.yse_top.specs.Checks.{Refuses, RefusesDesign, IsMachineOf, IsNetlistOf, IsOrderOf, IsStimulusOf, HasNoLoop, HasRoom, HasFewCells, cell_count, port_count};
+ghost use Rattle.yse_top.specs.Checks.{Refuses, RefusesDesign, IsMachineOf, IsNetlistOf, IsOrderOf, IsStimulusOf, HasNoLoop, HasRoom, HasFewCells, cell_count};
 ghost use Rattle.stim_text.specs.Orders.{IsValidOrder};
 ghost use Rattle.yse_top.specs.Images.{IsImageOf};
 ghost use Rattle.yse_top.specs.Orders.{IsMachineImage};
@@ -185,7 +185,7 @@ pub fn order_of<'a>(alloc: Global, text: &[u8], machine: &Machine) -> Result<Ord
     requires machine { IsValidMachine machine.now }
     requires short { length text.now ≤ MAX_TEXT_BYTES }
     ensures checked { Satisfies result (IsOrderOf text.now machine.now) }
-    ensures valid { IfOk result (IsValidOrder (port_count machine.now)) }
+    ensures valid { IfOk result (IsValidOrder (ports_of machine.now)) }
 {
     match read_order(alloc, text, machine.logic + machine.array + 1) {
         Ok(order) => Ok(order),

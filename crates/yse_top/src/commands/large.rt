@@ -1,11 +1,12 @@
 //! `large`: the summary of a run of a generated design.
 
+ghost use Rattle.machine_text.specs.Machines.{ports_of};
 ghost use Rattle.std.specs.Prelude.{[], ◌≡◌, ◌⊎◌, ◌<◌, ◌≤◌, ℕ, Option, Some, IfOk, length, slice_get};
 ghost use Rattle.crew_run.specs.Crews.{CanTell};
-ghost use Rattle.cmd_words.specs.declared.options.TheConstants.{MAX_GATES, MAX_LARGE_CYCLES, MAX_WORKERS};
+ghost use Rattle.limits.specs.declared.TheConstants.{MAX_LARGE_CYCLES, MAX_LARGE_GATES};
+ghost use Rattle.cmd_words.specs.declared.options.TheConstants.{MAX_WORKERS};
 ghost use Rattle.large_run.specs.Setting.{large_machine};
 ghost use Rattle.machine_run.specs.Visits.{AreInPlace, AreVisitsOf};
-ghost use Rattle.yse_top.specs.Checks.{port_count};
 ghost use Rattle.yse_top.specs.Outputs.{CanWrite};
 ghost use Rattle.yse_top.specs.Refusals.{outcome_of};
 ghost use Rattle.yse_top.specs.Visited.{AreTold};
@@ -30,7 +31,7 @@ pub fn large<'a, R: Threads + Wait + Sync, G: Gate + Send>(
     workers: u32,
     gates: &mut [Option<G>],
 ) -> Result<Output, Refusal<'a>>
-    requires few { count ≤ MAX_GATES }
+    requires few { count ≤ MAX_LARGE_GATES }
     requires few_cycles { cycles ≤ MAX_LARGE_CYCLES }
     requires some_workers { 1 ≤ workers }
     requires few_workers { workers ≤ MAX_WORKERS }
@@ -38,8 +39,8 @@ pub fn large<'a, R: Threads + Wait + Sync, G: Gate + Send>(
     requires tell { (i : ℕ) (gate : Option G) → i < MAX_WORKERS → slice_get gates.old i ≡ Some gate → CanTell G.Gate.own gate }
     ensures expected { ExpectedLarge count cycles [] (outcome_of result) }
     ensures writable { IfOk result CanWrite }
-    ensures visits { AreTold (outcome_of result).status (AreVisitsOf G.Gate.own (port_count large_machine) cycles workers gates.old gates.new)
-        ((gates.new ≡ gates.old) ⊎ AreVisitsOf G.Gate.own (port_count large_machine) cycles workers gates.old gates.new) }
+    ensures visits { AreTold (outcome_of result).status (AreVisitsOf G.Gate.own (ports_of large_machine) cycles workers gates.old gates.new)
+        ((gates.new ≡ gates.old) ⊎ AreVisitsOf G.Gate.own (ports_of large_machine) cycles workers gates.old gates.new) }
     ensures in_place { AreInPlace gates.old gates.new }
 {
     match run_large(rt, alloc, count, cycles, workers, gates) {

@@ -1,5 +1,6 @@
 //! Runs of the machine: by workers, by rounds, and in a given order.
 
+ghost use Rattle.machine_text.specs.Machines.{ports_of};
 ghost use Rattle.std.specs.Prelude.{◌≡◌, ◌<◌, ◌≤◌, ℕ, Option, Some, IfOk, OnErr, OnOk, length, replicate, slice_get};
 ghost use Rattle.std.specs.List.{flat_map};
 ghost use Rattle.crew_run.specs.Crews.{CanTell};
@@ -13,7 +14,6 @@ ghost use Rattle.stim_text.specs.Orders.{IsValidOrder};
 ghost use Rattle.event_core.specs.Core.{AreDone, IsSameCore, IsSoundCore, rows_of};
 ghost use Rattle.cmd_words.specs.Forms.{IsRunInRange};
 ghost use Rattle.cmd_words.specs.declared.options.TheConstants.{MAX_WORKERS};
-ghost use Rattle.yse_top.specs.Checks.{port_count};
 ghost use Rattle.yse_top.specs.Images.{IsImageOf};
 ghost use Rattle.yse_top.specs.Orders.{EndsInOrder, IsMachineImage};
 ghost use Rattle.yse_top.specs.Stepped.{HasStepped};
@@ -68,7 +68,7 @@ pub fn by_workers<R: Threads + Wait + Sync, G: Gate + Send>(
     requires tell { (i : ℕ) (gate : Option G) → i < MAX_WORKERS → slice_get gates.old i ≡ Some gate → CanTell G.Gate.own gate }
     ensures printed { IfOk result (λ trace. IsTrace built.net words.now.timing stimulus.now (trace_bytes trace)) }
     ensures writable { IfOk result CanPrint }
-    ensures visits { OnOk result (AreVisitsOf G.Gate.own (port_count _machine.now) (turn_count words.now.timing stimulus.now) words.now.workers gates.old gates.new) }
+    ensures visits { OnOk result (AreVisitsOf G.Gate.own (ports_of _machine.now) (turn_count words.now.timing stimulus.now) words.now.workers gates.old gates.new) }
     ensures refused { OnErr result (gates.new ≡ gates.old) }
     ensures in_place { AreInPlace gates.old gates.new }
 {
@@ -124,7 +124,7 @@ pub fn by_order(
     requires made { IsMachineImage built.net _machine.now words.now.timing built.image }
     requires stimulus { IsValidStimulus stimulus.now }
     requires columns { stimulus.now.columns ≡ input_count built.net }
-    requires order { IsValidOrder (port_count _machine.now) order.now }
+    requires order { IsValidOrder (ports_of _machine.now) order.now }
     ensures ended { IfOk result (λ output. EndsInOrder order.now words.now.banks built.net _machine.now words.now.timing stimulus.now (ended_with output)) }
     ensures writable { IfOk result CanWrite }
 {

@@ -1,10 +1,10 @@
 -- The chain of each command, link by link.
 use Rattle.std.proofs.Common.{◌≡◌, ◌∙◌, ◌↔◌, ◌⊎◌, inl, inr, ◌≢◌, ◌≤◌, sym, ap, refl, subst, ℕ, List, [], ◌∷◌, ◌++◌, length, Option, Some, None, Ok, Err, arith}
 use Rattle.std.specs.Option.{option_to_list}
-use Rattle.limits.specs.declared.TheConstants.{MAX_TEXT_BYTES}
+use Rattle.limits.specs.declared.TheConstants.{MAX_LARGE_GATES, MAX_TEXT_BYTES}
 use Rattle.machine_text.specs.declared.machine.Machine.{Machine}
 use Rattle.machine_text.specs.Machines as machine_text
-use Rattle.machine_text.specs.Machines.{default_machine, IsValid as IsValidMachine}
+use Rattle.machine_text.specs.Machines.{IsValid as IsValidMachine, default_machine, ports_of}
 use Rattle.net_defs.specs.Valid.{IsValid}
 use Rattle.yse_compile.specs.declared.compiler.CompNo.{CompNo}
 use Rattle.yse_compile.specs.declared.compiler.CompNo.TheVariants as comp_no
@@ -31,11 +31,10 @@ use Rattle.stim_text.specs.Stimuli as stim
 use Rattle.cmd_words.specs.declared.command.Command.{Command}
 use Rattle.cmd_words.specs.declared.command.Command.TheVariants as command
 use Rattle.cmd_words.specs.declared.command.RunWords.{RunWords}
-use Rattle.cmd_words.specs.declared.options.TheConstants.{MAX_GATES}
 use Rattle.cmd_words.specs.Asked.{asked}
 use Rattle.large_run.specs.Runs.{IsSummaryOf}
 use Rattle.yse_top.specs.declared.status.Status.TheVariants as status
-use Rattle.yse_top.specs.Checks.{After, Ends, Writes, IsMachineOf, IsNetlistOf, HasNoLoop, HasRoom, IsStimulusOf, HasFewCells, IsOrderOf, port_count}
+use Rattle.yse_top.specs.Checks.{After, Ends, Writes, IsMachineOf, IsNetlistOf, HasNoLoop, HasRoom, IsStimulusOf, HasFewCells, IsOrderOf}
 use Rattle.cmd_words.specs.Forms.{HasForm, IsInRange}
 use Rattle.yse_top.specs.declared.status.Status.{Status}
 use Rattle.yse_top.specs.Expected.{Expected, ExpectedOf, Asks}
@@ -70,8 +69,8 @@ record Laws : Type 0 where
   forms : (words : List (List ℕ)) (command : Command) → (asked words ≡ Some command) ↔ HasForm words command
   in_range : (words : List (List ℕ)) (command : Command) → HasForm words command → IsInRange command
   decides : (order : Order) (banks : ℕ) (net : Netlist) (machine : Machine) (timing : Timing) (stimulus : Stimulus) → 1 ≤ banks → IsValid net → DecidesOrder order banks net machine timing stimulus
-  summaries : (gates cycles : ℕ) → gates ≤ 30000 → (output : List ℕ) × IsSummaryOf gates cycles output
-  one_summary : (gates cycles : ℕ) (one other : List ℕ) → gates ≤ 30000 → IsSummaryOf gates cycles one → IsSummaryOf gates cycles other → one ≡ other
+  summaries : (gates cycles : ℕ) → gates ≤ MAX_LARGE_GATES → (output : List ℕ) × IsSummaryOf gates cycles output
+  one_summary : (gates cycles : ℕ) (one other : List ℕ) → gates ≤ MAX_LARGE_GATES → IsSummaryOf gates cycles one → IsSummaryOf gates cycles other → one ≡ other
   once : (net : Netlist) (machine : Machine) (timing : Timing) → IsValid net → AreOnce net machine timing
   order_or_loop : (net : Netlist) (timing : Timing) → OrderOrLoop net timing
   never_both : (net : Netlist) (timing : Timing) (order loop : List ℕ) → IsOrder net timing order → IsLoop net timing loop → ⊥
@@ -105,7 +104,7 @@ module _ (laws : Laws) where
 
   order_check : (text : List ℕ) (machine : Machine) → IsCheck (IsOrderOf text machine)
   order_check text machine =
-      reads_check (orders.Reads (port_count machine)) (orders.first_fault (port_count machine)) (laws.orders (port_count machine)) text status.OrderText order_line tt
+      reads_check (orders.Reads (ports_of machine)) (orders.first_fault (ports_of machine)) (laws.orders (ports_of machine)) text status.OrderText order_line tt
 
   module _ (Settled : Type 0) where
     trace_proper : (net : Netlist) (timing : Timing) (stimulus : Stimulus) → IsAcyclic net timing → IsCommand Settled [] (WritesTrace net timing stimulus)
@@ -157,7 +156,7 @@ module _ (laws : Laws) where
         command_ends Settled (Writes (IsReportOf net machine words.timing)) (writes_ending (IsReportOf net machine words.timing) (one_report net machine words.timing once))
         (λ settled. outcome_writes (IsReportOf net machine words.timing) report.0 report.1)))
 
-    large_proper : (gates cycles : ℕ) → gates ≤ MAX_GATES → IsCommand Settled [] (ExpectedLarge gates cycles)
+    large_proper : (gates cycles : ℕ) → gates ≤ MAX_LARGE_GATES → IsCommand Settled [] (ExpectedLarge gates cycles)
     large_proper gates cycles few =
         let summary = laws.summaries gates cycles few in
         command_ends Settled (Writes (IsSummaryOf gates cycles)) (writes_ending (IsSummaryOf gates cycles) (λ s t is is_too. laws.one_summary gates cycles s t few is is_too))
