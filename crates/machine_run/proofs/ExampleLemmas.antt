@@ -7,6 +7,7 @@ use Rattle.net_defs.specs.Valid.{IsValidStimulus}
 use Rattle.net_defs.specs.declared.stimulus.StimRow.{StimRow}
 use Rattle.net_defs.specs.declared.timing.Init.TheVariants as init
 use Rattle.logic_four.specs.declared.V4.{V4}
+use Rattle.port_run.proofs.ExampleLemmas.{one_two_rise}
 use Rattle.image_defs.proofs.Example.{one_rises}
 use Rattle.image_defs.proofs.Example.{comes, each_by, feeds, goes}
 use Rattle.image_defs.specs.Places.{IsPort}
@@ -17,10 +18,6 @@ use Rattle.image_defs.specs.declared.image.Source.{Source}
 use Rattle.image_defs.specs.declared.image.Source.TheVariants.{Got, Own}
 use Rattle.image_defs.specs.declared.image.Task.TheVariants.{Hold}
 use Rattle.image_defs.specs.declared.image.Work.TheVariants.{Host, Logic}
-
-one_two_rise : IsStrictlyIncreasing (1 ∷ 2 ∷ [])
-one_two_rise zero within = omega arith
-one_two_rise (suc k) within = absurd (omega (arith, within))
 
 -- a port that holds for a turn in a slot what it receives in the slot before
 abbrev pub stage : ℕ → ℕ → List ℕ → PortImage

@@ -23,7 +23,7 @@ use Rattle.port_walk.specs.Placed.{PlacedPort, at_start}
 use Rattle.slot_words.specs.Passes.{CrossbarView, IsFirstPass, PassView}
 use Rattle.port_run.specs.Pairs.{AreBegun}
 
-one_two_rise : IsStrictlyIncreasing (1 ∷ 2 ∷ [])
+pub one_two_rise : IsStrictlyIncreasing (1 ∷ 2 ∷ [])
 one_two_rise zero within = omega arith
 one_two_rise (suc k) within = absurd (omega (arith, within))
 
