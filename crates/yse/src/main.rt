@@ -5,6 +5,9 @@ ghost use Rattle.std.specs.Prelude.{◌≡◌};
 ghost use Rattle.std.specs.Process.{exit_status};
 ghost use Rattle.yse_top.specs.Statuses.{status_number};
 
+#[cfg(test)]
+mod tests;
+
 use edge_io::{HostFiles, HostSink};
 use machine_run::count_gates;
 use seen_list::Memory;

@@ -30,8 +30,6 @@ mod overfull;
 mod reading;
 mod refusal;
 mod status;
-#[cfg(test)]
-mod tests;
 
 use cmd_words::law::forms_are_asked;
 use cmd_words::{WordNo, read_words};

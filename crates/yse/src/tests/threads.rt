@@ -4,7 +4,6 @@ ghost use Rattle.crew_run.specs.Crews.{CanTell};
 ghost use Rattle.std.specs.Prelude.{All, IfOk, Option, Some, length, slice_get, true, ℕ, ◌+◌, ◌<◌, ◌^◌, ◌≡◌, ◌≤◌};
 
 use super::{C17, GATES, S27, end_of, named, sink, store, words_of};
-use crate::yse;
 use crew_run::{CountGate, Gate};
 use edge_io::{MemFiles, MemSink};
 use machine_run::count_gates;
@@ -16,6 +15,7 @@ use std::sync::Wait;
 use std::sync::atomic::{AtomicBool, Ordering};
 use std::test::Fail;
 use std::thread::Threads;
+use yse_top::yse;
 
 /// How often a hold tries at most.
 const TRIES: u32 = 50_000_000;

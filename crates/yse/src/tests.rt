@@ -1,13 +1,14 @@
 //! Whole calls over files and sinks in memory, with statuses, lines and output from outside.
 
+ghost use Rattle.std.specs.Prelude.{length, ◌≤◌};
+ghost use Rattle.limits.specs.declared.TheConstants.{MAX_TEXT_BYTES};
 ghost use Rattle.net_defs.specs.Valid.{IsValid};
 
 mod machines;
 mod orders;
 mod threads;
 
-use crate::checks::{netlist_of, stimulus_of};
-use crate::{Status, yse};
+use bench_read::law::reads_as_valid;
 use bench_read::read_bench;
 use edge_io::{Files, MemFiles, MemSink, NamedBytes, NullSink, PlainFiles, PlainSink};
 use logic_four::V4;
@@ -20,6 +21,8 @@ use std::marker::Sync;
 use std::sync::Wait;
 use std::test::Fail;
 use std::thread::Threads;
+use stim_text::read_stim;
+use yse_top::{Status, yse};
 
 const C17: &[u8] =
     b"INPUT(1)\nINPUT(2)\nINPUT(3)\nINPUT(6)\nINPUT(7)\nOUTPUT(22)\nOUTPUT(23)\n10 = NAND(1, 3)\n11 = NAND(3, 6)\n16 = NAND(2, 11)\n19 = NAND(11, 7)\n22 = NAND(10, 16)\n23 = NAND(16, 19)\n";
@@ -707,15 +710,23 @@ fn printed(alloc: Global, net: &Netlist, stimulus: &Stimulus) -> Option<(V4, V4)
     }
 }
 
+/// The same of a netlist and a stimulus by their texts.
+fn referred(alloc: Global, netlist: &[u8], stimulus: &[u8]) -> Option<(V4, V4)>
+    requires netlist { length netlist.now ≤ MAX_TEXT_BYTES }
+    requires stimulus { length stimulus.now ≤ MAX_TEXT_BYTES }
+{
+    let Ok(net) = read_bench(alloc, netlist) else {
+        return None;
+    };
+    reads_as_valid(netlist, &net);
+    match read_stim(alloc, stimulus, net.inputs()) {
+        Ok(stimulus) => printed(alloc, &net, &stimulus),
+        Err(_) => None,
+    }
+}
+
 /// The reference simulation by itself, with ample memory.
 #[test]
 fn c17_is_referred(rt: HostRuntime) {
-    let values = match netlist_of(rt.alloc(), C17) {
-        Ok(net) => match stimulus_of(rt.alloc(), b"11111\n", &net) {
-            Ok(stimulus) => printed(rt.alloc(), &net, &stimulus),
-            Err(_) => None,
-        },
-        Err(_) => None,
-    };
-    assert_eq!(rt; values, Some((V4::One, V4::Zero)));
+    assert_eq!(rt; referred(rt.alloc(), C17, b"11111\n"), Some((V4::One, V4::Zero)));
 }

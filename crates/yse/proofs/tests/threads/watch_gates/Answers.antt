@@ -2,8 +2,8 @@ use Rattle.std.proofs.Common.{Some, ◌+◌, ◌∙◌, ap, refl}
 use Rattle.std.proofs.lemmas.List.{length_push}
 use Rattle.crew_run.specs.Crews.{CanTell}
 use Rattle.crew_run.proofs.Places.{each_push}
-use Rattle.yse_top.specs.contracts.tests.threads.WatchGateGate.TheImpl as watch_gate
-use Rattle.yse_top.proofs.tests.threads.watch_gates.Goals as goal
+use Rattle.yse.specs.contracts.tests.threads.WatchGateGate.TheImpl as watch_gate
+use Rattle.yse.proofs.tests.threads.watch_gates.Goals as goal
 
 pub gates-preserved : goal.gates-preserved
 gates-preserved c =
