@@ -3,7 +3,5 @@
 
 mod cells;
 mod places;
-#[cfg(test)]
-mod tests;
 
 pub use cells::Cells;

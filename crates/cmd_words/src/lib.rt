@@ -7,8 +7,6 @@ mod options;
 mod parsing;
 mod reading;
 mod settings;
-#[cfg(test)]
-mod tests;
 
 pub use command::{Command, RunWords, WordNo};
 pub use options::{MAX_BANKS, MAX_WORKERS};

@@ -7,7 +7,5 @@ mod design;
 pub mod law;
 mod machine;
 mod run;
-#[cfg(test)]
-mod tests;
 
 pub use run::large;

@@ -8,8 +8,6 @@ mod loops;
 mod netlist;
 mod ranks;
 mod stimulus;
-#[cfg(test)]
-mod tests;
 mod timing;
 mod trace;
 

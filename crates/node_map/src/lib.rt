@@ -10,8 +10,6 @@ mod nodes;
 mod numbering;
 mod palette;
 mod ranks;
-#[cfg(test)]
-mod tests;
 mod wires;
 
 pub use map::map_nodes;

@@ -7,8 +7,6 @@ pub mod figures;
 pub mod law;
 mod lines;
 mod plan_report;
-#[cfg(test)]
-mod tests;
 
 pub use crossing::crossings;
 pub use plan_report::report;

@@ -12,8 +12,6 @@ ghost use Rattle.rank_find.specs.Found.{IsFound};
 
 mod circle;
 mod numbers;
-#[cfg(test)]
-mod tests;
 mod walk;
 
 use net_defs::{Netlist, Ranks, Timing};

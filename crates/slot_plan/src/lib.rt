@@ -7,7 +7,5 @@ mod early;
 mod fit;
 mod planning;
 pub mod tables;
-#[cfg(test)]
-mod tests;
 
 pub use fit::{PlanNo, first_fit};

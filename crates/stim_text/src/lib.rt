@@ -23,8 +23,6 @@ mod reading;
 mod refusal;
 mod repeat;
 mod row;
-#[cfg(test)]
-mod tests;
 
 pub use order::{MAX_STEPS, Order, OrderLine};
 pub use order_reading::read_order;

@@ -6,7 +6,5 @@ pub mod law;
 mod links;
 pub mod order;
 mod route;
-#[cfg(test)]
-mod tests;
 
 pub use route::settings;

@@ -3,7 +3,5 @@
 #![tactic(auto)]
 
 mod line;
-#[cfg(test)]
-mod tests;
 
 pub use line::TraceLine;

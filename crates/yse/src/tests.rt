@@ -728,5 +728,8 @@ fn referred(alloc: Global, netlist: &[u8], stimulus: &[u8]) -> Option<(V4, V4)>
 /// The reference simulation by itself, with ample memory.
 #[test]
 fn c17_is_referred(rt: HostRuntime) {
-    assert_eq!(rt; referred(rt.alloc(), C17, b"11111\n"), Some((V4::One, V4::Zero)));
+    assert_eq!(rt;
+        referred(rt.alloc(), C17, b"11111\n"),
+        Some((V4::One, V4::Zero))
+    );
 }

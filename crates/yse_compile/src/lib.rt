@@ -9,6 +9,3 @@ pub mod law;
 mod steps;
 
 pub use compiler::{CompNo, Compiled, compile};
-
-#[cfg(test)]
-mod tests;

@@ -2,7 +2,7 @@
 
 ghost use Rattle.std.specs.Prelude.{◌≤◌};
 
-use crate::large;
+use large_run::large;
 use machine_run::count_gates;
 use seen_list::{Memory, Text};
 use std::alloc::Global;

@@ -3,7 +3,6 @@
 ghost use Rattle.std.specs.Prelude.{IfSome};
 ghost use Rattle.node_defs.specs.WellFormed.{IsWellFormed};
 
-use crate::{PlanNo, first_fit};
 use bench_read::law::reads_as_valid;
 use bench_read::read_bench;
 use home_pick::{HomeNo, homes};
@@ -13,6 +12,7 @@ use node_defs::NodeNet;
 use node_map::map_nodes;
 use plan_defs::law::items_are_well_formed;
 use rank_find::rank;
+use slot_plan::{PlanNo, first_fit};
 use std::alloc::Global;
 
 const RANK: Timing = Timing {

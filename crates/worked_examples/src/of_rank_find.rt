@@ -1,8 +1,8 @@
 //! `rank` with ample memory, against orders, ranks and loops worked out by hand.
 
-use crate::{RankNo, rank};
 use logic_four::Kind;
 use net_defs::{Driver, Init, Mode, Netlist, Signal, Timing};
+use rank_find::{RankNo, rank};
 use seen_list::{List, Memory, Text};
 use std::alloc::Global;
 use std::test::Fail;

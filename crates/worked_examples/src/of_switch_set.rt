@@ -3,7 +3,6 @@
 ghost use Rattle.std.specs.Prelude.{IfSome};
 ghost use Rattle.node_defs.specs.WellFormed.{IsWellFormed};
 
-use crate::settings;
 use bench_read::law::reads_as_valid;
 use bench_read::read_bench;
 use home_pick::homes;
@@ -17,6 +16,7 @@ use rank_find::rank;
 use slot_plan::first_fit;
 use std::alloc::Global;
 use std::test::Fail;
+use switch_set::settings;
 
 const RANK: Timing = Timing {
     mode: Mode::Rank,

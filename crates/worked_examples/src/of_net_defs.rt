@@ -1,7 +1,7 @@
 //! `show` and `cycles` with ample memory, against texts and numbers from outside.
 
-use crate::*;
 use logic_four::Kind;
+use net_defs::*;
 use seen_list::{List, Memory, Text};
 use std::alloc::Global;
 use std::test::Fail;

@@ -1,11 +1,11 @@
 //! `read_stim` and `read_order` with ample memory, against values and refusals from outside.
 
-use crate::*;
 use logic_four::to_char;
 use net_defs::Stimulus;
 use seen_list::{Memory, Text};
 use std::alloc::Global;
 use std::test::Fail;
+use stim_text::*;
 
 /// The rows as a text: the values, `*`, the repeat, and a line end.
 fn shown_rows(alloc: Global, stimulus: &Stimulus) -> Result<Text, Memory> {

@@ -2,7 +2,6 @@
 
 ghost use Rattle.net_defs.specs.Valid.{IsValidTiming};
 
-use crate::{CompNo, Compiled, compile};
 use bench_read::law::reads_as_valid;
 use bench_read::read_bench;
 use image_defs::{InColumn, LinkIn, LinkOut, PortImage, Source, Task, Work};
@@ -11,6 +10,7 @@ use machine_text::read_machine;
 use net_defs::{Init, Mode, Timing};
 use std::alloc::Global;
 use std::test::Fail;
+use yse_compile::{CompNo, Compiled, compile};
 
 const C17: &str =
     "INPUT(1)\nINPUT(2)\nINPUT(3)\nINPUT(6)\nINPUT(7)\nOUTPUT(22)\nOUTPUT(23)\n10 = NAND(1, 3)\n11 = NAND(3, 6)\n16 = NAND(2, 11)\n19 = NAND(11, 7)\n22 = NAND(10, 16)\n23 = NAND(16, 19)\n";

@@ -1,11 +1,11 @@
 //! `TraceLine` with ample memory, against lines from outside.
 
-use crate::*;
 use logic_four::V4::{HighZ, One, Undef, Zero};
 use net_defs::{Driver, Netlist, Signal};
 use seen_list::{List, Memory, Text};
 use std::alloc::Global;
 use std::test::Fail;
+use trace_text::*;
 
 /// Inputs of these names, each of them printed.
 fn printing(alloc: Global, names: &[&[u8]]) -> Result<Netlist, Memory> {

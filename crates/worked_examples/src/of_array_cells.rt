@@ -2,7 +2,7 @@
 
 ghost use Rattle.logic_four.specs.Memory.{HasShape};
 
-use crate::Cells;
+use array_cells::Cells;
 use logic_four::V4::{self, HighZ, One, Undef, Zero};
 use std::test::Fail;
 

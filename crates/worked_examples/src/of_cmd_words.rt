@@ -1,6 +1,6 @@
 //! A table of words, and what is read of each.
 
-use crate::{Command, RunWords, WordNo, read_words};
+use cmd_words::{Command, RunWords, WordNo, read_words};
 use net_defs::{Init, Mode};
 use seen_list::Text;
 use std::alloc::{AllocError, Global};

@@ -1,11 +1,11 @@
 //! `map_nodes` with ample memory, against items written out by hand.
 
-use crate::map_nodes;
 use bench_read::law::reads_as_valid;
 use bench_read::read_bench;
 use logic_four::V4;
 use net_defs::{Init, Mode, Timing};
 use node_defs::{Feed, Feeds, Item, ItemName, NodeNet, Tag};
+use node_map::map_nodes;
 use rank_find::rank;
 use seen_list::Memory;
 use std::alloc::Global;

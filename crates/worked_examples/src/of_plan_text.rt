@@ -4,7 +4,6 @@ ghost use Rattle.std.specs.Prelude.{IfSome};
 ghost use Rattle.net_defs.specs.Valid.{IsValid};
 ghost use Rattle.node_defs.specs.WellFormed.{IsWellFormed};
 
-use crate::{crossings, report};
 use bench_read::law::reads_as_valid;
 use bench_read::read_bench;
 use home_pick::homes;
@@ -13,6 +12,7 @@ use net_defs::{Init, Mode, Netlist, Timing};
 use node_defs::NodeNet;
 use node_map::map_nodes;
 use plan_defs::law::items_are_well_formed;
+use plan_text::{crossings, report};
 use rank_find::rank;
 use seen_list::Text;
 use slot_plan::first_fit;

@@ -1,0 +1,50 @@
+//! Calls of `machine_text`.
+
+use machine_text::*;
+
+const SMALLEST: Machine = Machine {
+    logic: 1,
+    array: 0,
+    slots: 1,
+    functions: 1,
+    bits: 1,
+};
+
+const DEFAULTS: Machine = Machine {
+    logic: 4,
+    array: 1,
+    slots: 65_536,
+    functions: 256,
+    bits: 65_536,
+};
+
+/// The texts that are refused, with their lines, and texts at the ends of the ranges.
+#[test]
+fn reads_texts(rt: HostRuntime) {
+    let texts: [(&[u8], Result<Machine, MachNo>); 11] = [
+        (b"", Ok(DEFAULTS)),
+        (b"logic 0\n", Err(MachNo::Range { line: 1 })),
+        (b"logic 254\narray 2\n", Err(MachNo::Ports { sum: 257 })),
+        (b"slots 5\nslots 5\n", Err(MachNo::Twice { line: 2 })),
+        (b"slots 5\nslots 0\n", Err(MachNo::Twice { line: 2 })),
+        (b"wheels 4\n", Err(MachNo::Syntax { line: 1 })),
+        (b"\n\nslots 5 6", Err(MachNo::Syntax { line: 3 })),
+        (
+            b"logic 99999999999999999999\n",
+            Err(MachNo::Range { line: 1 }),
+        ),
+        (b"slots 65537\nwheels 4\n", Err(MachNo::Range { line: 1 })),
+        (
+            b"LOGIC 1 # \xff\r\n\tArray\t000\r\nslots 1\nfunctions 01\nbits 1\r",
+            Ok(SMALLEST),
+        ),
+        (
+            b"bits 65536\nfunctions 256\nslots 65536\nARRAY 1\nlogic 00000000000000000000004",
+            Ok(DEFAULTS),
+        ),
+    ];
+    for (text, want) in texts {
+        assert_eq!(rt; read_machine(rt.alloc(), text), want);
+    }
+    assert_eq!(rt; Machine::default_size(), DEFAULTS);
+}
