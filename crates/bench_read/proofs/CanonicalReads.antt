@@ -1,93 +1,165 @@
--- A text whose rows are seen as the lines of a valid netlist reads as that netlist.
-use Rattle.std.proofs.Common.{◌≡◌, ℕ, true, List, length, map, None, sym, ap, ◌∙◌, subst, arith}
-use Rattle.std.specs.List.{All, flat_map, sum_by}
+-- The lines of a valid netlist are allowed and sound, so that its canonical text reads as it.
+use Rattle.std.proofs.Common.{◌≡◌, slice_get, ℕ, suc, true, cond, List, [], ◌∷◌, length, Some, refl, sym, ap, ◌∙◌, subst, inl, inr, arith, bytes_eq, ◌==◌, Bool, false, ◌++◌, map, get_or, Option, None}
+use Rattle.std.specs.List.{All, count_by, list_any, sum_by, flat_map}
+use Rattle.std.proofs.lemmas.Bool.{cases_Bool, false_from_ne_true, true_from_ne_false, both_ways, cond-true, cond-false}
 use Rattle.std.proofs.lemmas.List.{length-map}
-use Rattle.list_laws.proofs.Members.{all_of_map}
-use Rattle.bench_text.specs.declared.token.Token.{Token}
-use Rattle.bench_text.specs.Tokens.{tokens_of, first_fault as byte_fault}
+use Rattle.std.proofs.lemmas.List.Elements.{All-weaker, All-nil, All-cons, All-append, All-map}
+use Rattle.std.proofs.lemmas.List.Folds.{Any-from_list_any}
+use Rattle.std.proofs.lemmas.List.Sums.{sum_by-cons}
+use Rattle.std.proofs.lemmas.Option.{slice_get-get_or, slice_get_within}
+use Rattle.std.proofs.lemmas.List.FromFn.{length-range_with_len}
+use Rattle.list_laws.proofs.Members.{all_flat_of}
+use Rattle.list_laws.proofs.Tests.{any_within, count_none, none_counted, list_any-map}
+use Rattle.logic_four.specs.Kinds.{allows_operands}
+use Rattle.text_lines.specs.Names.{IsName}
+use Rattle.bench_text.specs.Tokens.{first_fault as byte_fault}
 use Rattle.net_defs.specs.declared.netlist.Netlist.{Netlist}
 use Rattle.net_defs.specs.declared.netlist.Signal.{Signal}
-use Rattle.net_defs.specs.Valid.{IsValid}
-use Rattle.bench_read.specs.declared.statement.Statement.{Statement}
-use Rattle.bench_read.specs.Grammar.{rows_of, text_of}
-use Rattle.bench_read.specs.Faults.{drivers_of, uses_of, operand_count, texts_of, is_among}
-use Rattle.bench_read.specs.Netlists.{names_of, netlist_of}
-use Rattle.bench_read.specs.Reads.{AreOnce, AreAmong, AreSound, Reads}
-use Rattle.bench_read.proofs.SeenLines.{seen, seen_lines}
-use Rattle.bench_read.proofs.SeenNetlist.{netlist_says}
-use Rattle.bench_read.proofs.CanonicalLines.{Line, shown, lines_of, Say}
-use Rattle.bench_read.proofs.LineLemmas.{line_operands, names_in_order, netlist_in, drivers_shown, uses_shown, operands_shown, names_shown, netlist_shown, all_ok, are_said}
-use Rattle.bench_read.proofs.LeadingLemmas.{IsLed, led}
-use Rattle.bench_read.proofs.CanonicalNet.{names_from, names_once, in_order, driven_are, netlist_back, operands_back, uses_among}
+use Rattle.net_defs.specs.declared.netlist.Driver.TheVariants as driver
+use Rattle.net_defs.specs.Canonical.{name_of, canonical_text}
+use Rattle.net_defs.specs.Valid.{IsSignal, NamesDiffer, IsValid, memory_operand_count, IsDrivable}
+use Rattle.net_defs.specs.declared.netlist.Block.{Block}
+use Rattle.net_defs.specs.declared.netlist.Driver.{Driver}
+use Rattle.bench_line.specs.Rows.{rows_of}
+use Rattle.bench_read.specs.Lines.{Line, used, all_driven, all_used, Output}
+use Rattle.bench_read.specs.Saying.{Say}
+use Rattle.bench_read.specs.Netlists.{number}
+use Rattle.bench_read.specs.Reads.{AreOnce, AreAmong, Reads}
+use Rattle.bench_read.specs.Written.{lines_of, names_at, input_line, memory_line, driver_line}
+use Rattle.bench_read.proofs.CanonicalNet.{number_is, names_are, netlist_is}
+use Rattle.bench_read.proofs.CanonicalRows.{whole_bytes, whole_rows, IsWhole}
+use Rattle.bench_read.proofs.NameLemmas.{same_name}
+use Rattle.bench_read.proofs.MadeLemmas.{names_from, made_operands, signal_operands}
+use Rattle.bench_read.proofs.NumberLemmas.{either_order, names_length}
+use Rattle.bench_read.proofs.ShapeLemmas.{canonical_is_written}
+use Rattle.bench_read.proofs.CutLemmas.{name_is, outs_are}
 
--- The statements of rows make the netlist.
-pub record Make (text : List ℕ) (rows : List (List Token)) (net : Netlist) : Type 0 where
-  pub statements : List Statement
-  pub sound : AreSound text rows statements
-  pub driven : AreAmong text (texts_of text (drivers_of statements)) (uses_of statements)
-  pub netlist : net ≡ netlist_of text statements
+-- ---- the lines
 
-module _ (net : Netlist) (valid : IsValid net) (text : List ℕ) (rows : List (List Token)) (say : Say text rows (lines_of net)) where
-  -- the inputs and the others
-  leads : IsLed net.signals
-  leads = led net.signals valid.inputs_first
+module _ (net : Netlist) (valid : IsValid net) (P : List ℕ → Type 0) (holds : (s : ℕ) (signal : Signal) → slice_get net.signals s ≡ Some signal → P signal.name) where
+  name_holds : (s : ℕ) → IsSignal net s → P (name_of net s)
+  name_holds s within =
+      let at = slice_get-get_or net.signals s (record { name = []; driver = driver.Input }) within in subst P (sym (name_is net s _ at)) (holds s _ at)
 
-  -- the names that the statements drive are those of the signals
-  drivers : texts_of text (drivers_of say.statements) ≡ names_from net.signals
-  drivers = drivers_shown text say.statements ∙ ap (flat_map (λ (l : Line). l.driven)) say.shown ∙ driven_are net valid leads
+  names_hold : (ops : List ℕ) → All (IsSignal net) ops → All P (names_at net ops)
+  names_hold ops all = All-map P (name_of net) ops (λ i d within. name_holds (get_or ops i d) (all i d within))
 
-  -- they drive as many names as there are signals
-  driver_count : length (drivers_of say.statements) ≡ length net.signals
-  driver_count = sym (length-map (drivers_of say.statements) (text_of text)) ∙ ap length drivers ∙ length-map net.signals (λ (s : Signal). s.name)
+  one : (name : List ℕ) → P name → All P (name ∷ [])
+  one name is = All-cons P name [] is (All-nil P)
 
-  -- their operands are those of the lines
-  operands : operand_count say.statements ≡ sum_by line_operands (lines_of net)
-  operands = operands_shown text say.statements ∙ ap (sum_by line_operands) say.shown
+  alone : (line : Line) → IsWhole P line → All (IsWhole P) (line ∷ [])
+  alone line is = All-cons (IsWhole P) line [] is (All-nil (IsWhole P))
 
-  -- the names in signal order
-  names : names_of text say.statements ≡ names_from net.signals
-  names = names_shown text say.statements ∙ ap names_in_order say.shown ∙ in_order net valid leads
+  memory_whole : (m : ℕ) (o : Option Block) → slice_get net.blocks m ≡ o → All (IsWhole P) (memory_line net o)
+  memory_whole m None e = All-nil (IsWhole P)
+  memory_whole m (Some memory) e =
+      let is = valid.memories m memory e in
+      alone _ (record {
+        allowed = grind (
+          arith,
+          is.address_bits,
+          is.word_bits,
+          length-map memory.address (name_of net),
+          length-map memory.word (name_of net),
+          length-map memory.outs (name_of net),
+          ap length is.outs ∙ length-range_with_len _ (length memory.word),
+        );
+        driven = names_hold memory.outs (outs_are net m memory is);
+        used =
+            All-cons P (name_of net memory.we) _ (name_holds memory.we is.enable)
+            (All-append P (names_at net memory.address) (names_at net memory.word) (names_hold memory.address is.address) (names_hold memory.word is.word));
+      })
 
-  -- they make the netlist
-  netlist : netlist_of text say.statements ≡ net
-  netlist =
-      netlist_shown text say.statements
-      ∙ ap (λ ns. netlist_in ns (map (shown text) say.statements)) names
-      ∙ ap (netlist_in (names_from net.signals)) say.shown
-      ∙ netlist_back net valid leads
+  driver_whole : (s : ℕ) (name : List ℕ) (drive : Driver) → P name → IsDrivable net s drive → All (IsWhole P) (driver_line net (record { name = name; driver = drive }))
+  driver_whole s name driver.Input named is = All-nil (IsWhole P)
+  driver_whole s name (driver.Gate kind ops) named is =
+      alone _ (record { allowed = ap (allows_operands kind) (length-map ops (name_of net)) ∙ is.0; driven = one name named; used = names_hold ops is.1 })
+  driver_whole s name (driver.Dff op) named is = alone _ (record { allowed = refl; driven = one name named; used = one (name_of net op) (name_holds op is) })
+  driver_whole s name (driver.BlockBit m bit) named is = by_test (bit == 0) where
+    by_test : (b : Bool) → All (IsWhole P) (cond b (memory_line net (slice_get net.blocks m)) [])
+    by_test true = memory_whole m (slice_get net.blocks m) refl
+    by_test false = All-nil (IsWhole P)
 
-  -- each name that they use is driven
-  uses : All (λ token. is_among (names_from net.signals) (text_of text token) ≡ true) (uses_of say.statements)
-  uses =
-      all_of_map (λ name. is_among (names_from net.signals) name ≡ true) (text_of text) (uses_of say.statements)
-      (subst (All (λ name. is_among (names_from net.signals) name ≡ true)) (sym (uses_shown text say.statements ∙ ap (flat_map (λ (l : Line). l.uses)) say.shown)) (uses_among net valid leads))
+  input_whole : (name : List ℕ) (drive : Driver) → P name → All (IsWhole P) (input_line (record { name = name; driver = drive }))
+  input_whole name driver.Input named = alone _ (record { allowed = refl; driven = one name named; used = All-nil P })
+  input_whole name (driver.Gate kind ops) named = All-nil (IsWhole P)
+  input_whole name (driver.Dff op) named = All-nil (IsWhole P)
+  input_whole name (driver.BlockBit m bit) named = All-nil (IsWhole P)
 
-  -- so they are sound and make the netlist
-  made_of : Make text rows net
-  made_of = record {
-    statements = say.statements;
+  -- what each signal has
+  each_whole : (each : Signal → List Line) → ((s : ℕ) (signal : Signal) → slice_get net.signals s ≡ Some signal → All (IsWhole P) (each signal)) → All (IsWhole P) (flat_map each net.signals)
+  each_whole each whole = all_flat_of (IsWhole P) each net.signals (λ s d within. whole s (get_or net.signals s d) (slice_get-get_or net.signals s d within))
+
+  -- all lines are whole
+  pub lines_whole : All (IsWhole P) (lines_of net)
+  unfolding lines_of
+  lines_whole =
+      let inputs = flat_map input_line net.signals in
+      let outputs = map (λ s. Output (name_of net s)) net.printed in
+      All-append (IsWhole P) (inputs ++ outputs) (flat_map (driver_line net) net.signals)
+      (All-append (IsWhole P) inputs outputs (each_whole input_line (λ s signal at. input_whole signal.name signal.driver (holds s signal at)))
+      (All-map (IsWhole P) (λ s. Output (name_of net s)) net.printed
+      (λ i d within. record { allowed = refl; driven = All-nil P; used = one _ (name_holds (get_or net.printed i d) (valid.printed i d within)) })))
+      (each_whole (driver_line net) (λ s signal at. driver_whole s signal.name signal.driver (holds s signal at) (valid.drivers s signal at)))
+
+-- ---- names
+
+-- names of different signals stand once
+names_once : (signals : List Signal) → NamesDiffer signals → AreOnce (names_from signals)
+names_once [] differ name = omega arith
+names_once (x ∷ signals) differ name =
+    let rest = names_once signals (λ s t one other e f same. omega (arith, differ (suc s) (suc t) one other e f same)) name in
+    let all = sum_by-cons (λ (n : List ℕ). cond (bytes_eq name n) 1 0) x.name (names_from signals) in
+    elim (cases_Bool (bytes_eq name x.name)) [
+      | inl same ↦
+          let none = false_from_ne_true (list_any (bytes_eq name) (names_from signals))
+          (λ some.
+          let found = Any-from_list_any (λ (y : Signal). bytes_eq name y.name) signals (sym (list_any-map (bytes_eq name) (λ (y : Signal). y.name) signals) ∙ some) in
+          let there = slice_get-get_or signals found.0 found.1 found.2 ∙ ap Some found.3 in
+          absurd (omega (arith, differ 0 (suc found.0) x found.1 refl there (sym (same_name name x.name same) ∙ same_name name found.1.name found.4)))) in
+          omega (arith, all, cond-true {A = ℕ} _ 1 0 same, count_none (bytes_eq name) (names_from signals) none)
+      | inr other ↦ omega (arith, all, cond-false {A = ℕ} _ 1 0 other, rest)
+    ]
+
+module _ (net : Netlist) (valid : IsValid net) where
+  abbrev lines : List Line
+  lines = lines_of net
+
+  -- as many of the driven names are this one as of the names of signals
+  count_is : (name : List ℕ) → count_by (bytes_eq name) (all_driven lines) ≡ count_by (bytes_eq name) (names_from net.signals)
+  count_is name = sym (either_order (λ n. cond (bytes_eq name n) 1 0) lines) ∙ ap (count_by (bytes_eq name)) (names_are net valid)
+
+  -- the name of a signal is driven
+  is_driven : (s : ℕ) (signal : Signal) → slice_get net.signals s ≡ Some signal → list_any (bytes_eq signal.name) (all_driven lines) ≡ true
+  is_driven s signal at =
+      let within = slice_get_within net.signals s signal at in
+      let number : number (names_from net.signals) signal.name ≡ s = ap (number (names_from net.signals)) (sym (name_is net s signal at)) ∙ number_is net valid s within in
+      let some = any_within (bytes_eq signal.name) (names_from net.signals) (omega (arith, number, within, length-map net.signals (λ (x : Signal). x.name))) in
+      true_from_ne_false _
+      (λ none. both_ways _ (none_counted (bytes_eq signal.name) (names_from net.signals) (sym (count_is signal.name) ∙ count_none (bytes_eq signal.name) (all_driven lines) none)) some)
+
+  all_among : AreAmong (all_driven lines) (all_used lines)
+  unfolding all_used
+  all_among =
+      let Among : List ℕ → Type 0 = λ name. list_any (bytes_eq name) (all_driven lines) ≡ true in
+      all_flat_of Among used lines (All-weaker (IsWhole Among) (λ line. All Among (used line)) (λ line is. is.used) lines (lines_whole net valid Among is_driven))
+
+  pub reads : Reads (canonical_text net) net
+  reads = record {
+    lines = lines;
+    bytes = ap byte_fault (canonical_is_written net) ∙ whole_bytes lines (lines_whole net valid IsName valid.names);
+    said = subst (λ text. Say (rows_of text) lines) (sym (canonical_is_written net)) (whole_rows lines (lines_whole net valid IsName valid.names));
     sound = record {
-      lines = all_ok text rows say.statements say.said;
-      said = are_said text rows say.statements say.said;
-      once = subst AreOnce (sym drivers) (names_once net valid);
-      few_signals = omega (arith, driver_count, valid.few_signals);
-      few_operands = omega (arith, operands, operands_back net valid leads, valid.few_operands);
+      once = λ name. omega (arith, count_is name, names_once net.signals valid.distinct name);
+      few_signals = omega (arith, names_length lines, ap length (names_are net valid), length-map net.signals (λ (x : Signal). x.name), valid.few_signals);
+      few_operands = omega (
+        arith,
+        made_operands lines,
+        ap (λ (n : Netlist). sum_by signal_operands n.signals) (netlist_is net valid),
+        ap (λ (n : Netlist). sum_by memory_operand_count n.blocks) (netlist_is net valid),
+        valid.few_operands,
+      );
+      driven = all_among;
     };
-    driven = subst (λ ns. AreAmong text ns (uses_of say.statements)) (sym drivers) uses;
-    netlist = sym netlist;
+    netlist = sym (netlist_is net valid);
   }
-
--- Rows that are seen as the lines of a valid netlist make that netlist.
-pub canonical_rows : (net : Netlist) (text : List ℕ) (rows : List (List Token)) → IsValid net → map (map (seen text)) rows ≡ seen_lines net → Make text rows net
-canonical_rows net text rows valid are = made_of net valid text rows (netlist_says text net valid rows are)
-
--- A text with no bad byte and no long name, whose rows are seen as the lines of a valid netlist, reads as that netlist.
-pub canonical_reads : (net : Netlist) (text : List ℕ) → IsValid net → byte_fault text ≡ None → map (map (seen text)) (rows_of (tokens_of text)) ≡ seen_lines net → Reads text net
-canonical_reads net text valid none are =
-    let make = canonical_rows net text (rows_of (tokens_of text)) valid are in
-    record {
-      statements = make.statements;
-      lines = record { bytes = none; sound = make.sound };
-      driven = make.driven;
-      netlist = make.netlist;
-    }

@@ -1,182 +1,152 @@
--- The canonical text of a valid netlist has no fault of its bytes, and its rows are its lines.
-use Rattle.std.proofs.Common.{◌≡◌, ℕ, suc, ◌<◌, ◌≤◌, ◌⊎◌, Bool, true, false, cond, eqb, leb, List, [], ◌∷◌, ◌++◌, length, map, get_or, slice_get, Option, Some, None, sym, subst, refl, inl, inr, arith}
-use Rattle.std.specs.Prelude.{codes}
-use Rattle.std.specs.List.{All, flat_map, list_all}
-use Rattle.std.proofs.lemmas.Bool.{leb-true}
-use Rattle.std.proofs.lemmas.List.Elements.{All-nil, All-cons, All-head, All-tail}
-use Rattle.std.proofs.lemmas.Option.{slice_get_cases, slice_get-get_or, slice_get_within}
-use Rattle.limits.specs.declared.TheConstants.{MAX_NAME_BYTES}
+-- The rows of lines that are written with names say those lines, and their text has no fault of its bytes.
+use Rattle.std.proofs.Common.{◌≡◌, Bool, length, ℕ, ◌+◌, true, false, cond, List, [], ◌∷◌, ◌++◌, map, None, Ok, sym, ap, ◌∙◌, subst, refl, arith, append-nil, append_assoc}
+use Rattle.std.specs.Prelude.{codes, filter}
+use Rattle.std.specs.List.{All, flat_map, enumerate_from}
+use Rattle.std.proofs.lemmas.Bool.{cond-true, cond-false, false_from_ne_true}
+use Rattle.std.proofs.lemmas.List.Elements.{All-head, All-tail, All-weaker}
+use Rattle.list_laws.proofs.Members.{all_front, all_back}
 use Rattle.logic_four.specs.declared.Kind.{Kind}
 use Rattle.logic_four.specs.declared.Kind.TheVariants.{And, Nand, Or, Nor, Xor, Xnor, Not, Buf, Tri, Bus}
+use Rattle.logic_four.specs.Kinds.{kind_of, kind_word, allows_operands}
+use Rattle.logic_four.proofs.KindLemmas.{canonical, any_case, some_operands}
 use Rattle.text_lines.specs.Bytes.{is_visible}
-use Rattle.text_lines.specs.Names.{is_mark, is_name_byte, IsName}
-use Rattle.bench_text.specs.Bytes.{sign_of}
-use Rattle.bench_text.specs.Tokens.{tokens_of, first_fault as byte_fault}
-use Rattle.net_defs.specs.declared.netlist.Netlist.{Netlist}
-use Rattle.net_defs.specs.declared.netlist.Signal.{Signal}
-use Rattle.net_defs.specs.declared.netlist.Block.{Block}
-use Rattle.net_defs.specs.declared.netlist.Driver.{Driver}
-use Rattle.net_defs.specs.declared.netlist.Driver.TheVariants.{Input, Gate, Dff, BlockBit}
-use Rattle.net_defs.specs.Valid.{IsSignal, IsDrivable, IsMemory, IsValid}
-use Rattle.net_defs.specs.Canonical.{name_of, kind_word, canonical_text}
-use Rattle.bench_read.specs.Grammar.{rows_of}
-use Rattle.bench_read.proofs.SeenLines.{Seen, seen, word, open_sign, close_sign, comma_sign, equals_sign, semi_sign, seen_names, seen_port, seen_gate, seen_memory, input_lines, memory_lines, driver_lines, seen_lines}
-use Rattle.bench_read.proofs.LineSteps.{IsWord, IsLine, AreLines}
-use Rattle.bench_read.proofs.LineRows.{lines_rows}
-use Rattle.bench_read.proofs.CanonicalShape.{text_is}
+use Rattle.text_lines.specs.Names.{IsName, is_mark, is_name_byte}
+use Rattle.text_lines.specs.Lines.{lines_of, part_of, parts_of}
+use Rattle.bench_text.specs.Tokens.{first_fault as byte_fault}
+use Rattle.bench_text.specs.declared.token.Mark.TheVariants.{Close, Semi}
+use Rattle.bench_line.specs.Forms.{Form}
+use Rattle.bench_line.specs.Forms as forms
+use Rattle.bench_line.specs.Spelling.{Piece, Sign, commas, listed, spelled}
+use Rattle.bench_line.specs.Rows.{Row, is_some, row_of, rows_of}
+use Rattle.bench_read.specs.Lines.{driven, used, Line, Input, Output, Gate, Register, Memory}
+use Rattle.bench_read.specs.Saying.{is_word, said_by_gate, said_by_form, Says, Say, allows_memory}
+use Rattle.bench_read.specs.Written.{some_of, form_by, written_piece, written, text_of_lines}
+use Rattle.bench_read.proofs.PieceLemmas.{AreClean, AreApart, text_onto, text_onto_is, written_read, written_plain, written_clean}
+use Rattle.bench_read.proofs.TextLemmas.{line_cut, part_plain, no_fault}
+
+-- the numbers of its names are allowed
+abbrev pub is_allowed : Line → Bool
+is_allowed (Input name) = true
+is_allowed (Output name) = true
+is_allowed (Gate name kind uses) = allows_operands kind (length uses)
+is_allowed (Register name use_) = true
+is_allowed (Memory outs enable address words) = allows_memory (length address) (length words) (length outs)
+
+-- the numbers are allowed, and this holds of each name
+pub record IsWhole (P : List ℕ → Type 0) (line : Line) : Type 0 where
+  pub allowed : is_allowed line ≡ true
+  pub driven : All P (driven line)
+  pub used : All P (used line)
 
 -- ---- words
 
--- a word that tests find to be one
-word_from : (bytes : List ℕ) → leb 1 (length bytes) ≡ true → leb (length bytes) MAX_NAME_BYTES ≡ true → list_all is_name_byte bytes ≡ true → IsWord bytes
-word_from bytes some short named = record { some = leb-true 1 (length bytes) some; short = leb-true (length bytes) MAX_NAME_BYTES short; named = named }
+-- the words of lines are names
+kind_is : (kind : Kind) → IsName (kind_word kind)
+unfolding is_name_byte is_visible is_mark
+kind_is And = record { some = omega arith; short = omega arith; bytes = refl }
+kind_is Nand = record { some = omega arith; short = omega arith; bytes = refl }
+kind_is Or = record { some = omega arith; short = omega arith; bytes = refl }
+kind_is Nor = record { some = omega arith; short = omega arith; bytes = refl }
+kind_is Xor = record { some = omega arith; short = omega arith; bytes = refl }
+kind_is Xnor = record { some = omega arith; short = omega arith; bytes = refl }
+kind_is Not = record { some = omega arith; short = omega arith; bytes = refl }
+kind_is Buf = record { some = omega arith; short = omega arith; bytes = refl }
+kind_is Tri = record { some = omega arith; short = omega arith; bytes = refl }
+kind_is Bus = record { some = omega arith; short = omega arith; bytes = refl }
 
--- the words of kinds are words
-kind_is : (kind : Kind) → IsWord (kind_word kind)
-unfolding is_name_byte is_visible sign_of is_mark
-kind_is And = word_from (codes "AND") refl refl refl
-kind_is Nand = word_from (codes "NAND") refl refl refl
-kind_is Or = word_from (codes "OR") refl refl refl
-kind_is Nor = word_from (codes "NOR") refl refl refl
-kind_is Xor = word_from (codes "XOR") refl refl refl
-kind_is Xnor = word_from (codes "XNOR") refl refl refl
-kind_is Not = word_from (codes "NOT") refl refl refl
-kind_is Buf = word_from (codes "BUFF") refl refl refl
-kind_is Tri = word_from (codes "TRI") refl refl refl
-kind_is Bus = word_from (codes "BUS") refl refl refl
-
--- the other words of lines are words
-input_is : IsWord (codes "INPUT")
-unfolding is_name_byte is_visible sign_of is_mark
-input_is = word_from (codes "INPUT") refl refl refl
-
-output_is : IsWord (codes "OUTPUT")
-unfolding is_name_byte is_visible sign_of is_mark
-output_is = word_from (codes "OUTPUT") refl refl refl
-
-register_is : IsWord (codes "DFF")
-unfolding is_name_byte is_visible sign_of is_mark
-register_is = word_from (codes "DFF") refl refl refl
-
-memory_is : IsWord (codes "RAM")
-unfolding is_name_byte is_visible sign_of is_mark
-memory_is = word_from (codes "RAM") refl refl refl
-
--- a netlist's name is a word
-word_of_name : (name : List ℕ) → IsName name → IsWord name
-word_of_name name is = record { some = is.some; short = is.short; named = is.bytes }
+-- no kind has the word of registers
+no_register : (kind : Kind) → is_word (codes "DFF") (kind_word kind) ≡ false
+unfolding kind_of
+no_register kind = false_from_ne_true _ (λ same. cc (canonical kind, any_case (kind_word kind) (codes "DFF") same))
 
 -- ---- lines
 
--- lines before lines
-lines_append : (one other : List (List Seen)) → AreLines one → AreLines other → AreLines (one ++ other)
-lines_append [] other a b = b
-lines_append (line ∷ one) other a b = (a.0, a.1, lines_append one other a.2 b)
+commas_apart : (names : List (List ℕ)) (rest : List Piece) → All IsName names → AreApart true rest → AreApart true (commas names ++ rest)
+commas_apart [] rest all apart = apart
+commas_apart (name ∷ names) rest all apart = (refl, (All-head IsName name names all, commas_apart names rest (All-tail IsName name names all) apart))
 
--- the lines that each signal has
-lines_flat : (lines : Signal → List (List Seen)) (signals : List Signal) → ((s : ℕ) (signal : Signal) → slice_get signals s ≡ Some signal → AreLines (lines signal)) → AreLines (flat_map lines signals)
-lines_flat lines [] right = tt
-lines_flat lines (signal ∷ signals) right =
-    lines_append (lines signal) (flat_map lines signals) (right 0 signal refl) (lines_flat lines signals (λ s other e. right (suc s) other e))
+listed_apart : (name : List ℕ) (names : List (List ℕ)) (rest : List Piece) → All IsName (name ∷ names) → AreApart true rest → AreApart false (listed (some_of (name ∷ names)) ++ rest)
+listed_apart name names rest all apart = (All-head IsName name names all, commas_apart names rest (All-tail IsName name names all) apart)
 
--- the line of an input or an output
-port_line : (command name : List ℕ) → IsWord command → IsWord name → IsLine false (seen_port command name)
-port_line command name a b = (a, refl, (refl, refl, (b, refl, (refl, refl, tt))))
+-- the form of the line: names stand apart in its spelling, and it says the line
+record IsSaid (line : Line) : Type 0 where
+  pub apart : AreApart false (spelled (form_by line))
+  pub word : (at : ℕ) → said_by_form at (form_by line) ≡ Ok line
 
-module _ (net : Netlist) (right : IsValid net) where
-  -- the name of a signal's number is the signal's
-  name_is : (s : ℕ) (signal : Signal) → slice_get net.signals s ≡ Some signal → name_of net s ≡ signal.name
-  name_is s signal e = rw e refl
+line_said : (line : Line) → IsWhole IsName line → IsSaid line
+unfolding is_name_byte is_visible is_mark
+line_said (Input name) is = record { apart = (record { some = omega arith; short = omega arith; bytes = refl }, (refl, (All-head IsName name [] is.driven, (refl, tt)))); word = λ at. refl }
+line_said (Output name) is = record { apart = (record { some = omega arith; short = omega arith; bytes = refl }, (refl, (All-head IsName name [] is.used, (refl, tt)))); word = λ at. refl }
+line_said (Gate name kind []) is = absurd (omega (arith, some_operands kind 0 is.allowed))
+line_said (Gate name kind (first ∷ others)) is = record {
+  apart = (All-head IsName name [] is.driven, (refl, (kind_is kind, (refl, listed_apart first others (Sign Close ∷ []) is.used (refl, tt)))));
+  word = λ at. cond-false _ _ _ (no_register kind) ∙ ap (said_by_gate at name (some_of (first ∷ others))) (canonical kind) ∙ cond-true _ _ _ is.allowed;
+}
+line_said (Register name use_) is = record { apart = (All-head IsName name [] is.driven, (refl, (record { some = omega arith; short = omega arith; bytes = refl }, (refl, listed_apart use_ [] (Sign Close ∷ []) is.used (refl, tt))))); word = λ at. refl }
+line_said (Memory outs enable [] words) is = cc is.allowed
+line_said (Memory outs enable (a ∷ address) []) is = absurd (grind (arith, is.allowed))
+line_said (Memory [] enable (a ∷ address) (w ∷ words)) is = absurd (grind (arith, is.allowed))
+line_said (Memory (o ∷ outs) enable (a ∷ address) (w ∷ words)) is =
+    let uses = All-tail IsName enable (a ∷ address ++ w ∷ words) is.used in
+    let word = listed_apart w words (Sign Close ∷ []) (all_back IsName (a ∷ address) (w ∷ words) uses) (refl, tt) in
+    let both = listed_apart a address (Sign Semi ∷ (listed (some_of (w ∷ words)) ++ Sign Close ∷ [])) (all_front IsName (a ∷ address) (w ∷ words) uses) (refl, word) in
+    let enabled = All-head IsName enable (a ∷ address ++ w ∷ words) is.used in
+    record {
+      apart = (refl, listed_apart o outs _ is.driven (refl, (refl, (record { some = omega arith; short = omega arith; bytes = refl }, (refl, (enabled, (refl, both)))))));
+      word = λ at. cond-true _ _ _ is.allowed;
+    }
 
-  -- the name of a signal's number is a word
-  word_at : (s : ℕ) → IsSignal net s → IsWord (name_of net s)
-  word_at s within = by_cases (slice_get_cases net.signals s).1 where
-    by_cases : ((signal : Signal) × (s < length net.signals) × (slice_get net.signals s ≡ Some signal) × (get_or net.signals s signal ≡ signal)) ⊎ ((length net.signals ≤ s) × (slice_get net.signals s ≡ None)) → IsWord (name_of net s)
-    by_cases (inl found) = subst IsWord (sym (name_is s found.0 found.2)) (word_of_name found.0.name (right.names s found.0 found.2))
-    by_cases (inr past) = absurd (omega (arith, past.0, within))
+-- ---- texts
 
-  -- names with a comma before each, before what may follow a name
-  commas_line : (signals : List ℕ) (rest : List Seen) → All (IsSignal net) signals → IsLine true rest → IsLine true (flat_map (λ t. comma_sign ∷ word (name_of net t) ∷ []) signals ++ rest)
-  commas_line [] rest all after = after
-  commas_line (t ∷ signals) rest all after =
-      (refl, refl, (word_at t (All-head (IsSignal net) t signals all), refl, commas_line signals rest (All-tail (IsSignal net) t signals all) after))
+-- what is written of a line, but for the line end
+abbrev part_by : Line → List ℕ
+part_by line = text_onto (spelled (form_by line)) []
 
-  -- names before what may follow both a name and a sign
-  names_line : (signals : List ℕ) (rest : List Seen) → All (IsSignal net) signals → IsLine true rest → IsLine false rest → IsLine false (seen_names net signals ++ rest)
-  names_line [] rest all after none = none
-  names_line (s ∷ signals) rest all after none =
-      (word_at s (All-head (IsSignal net) s signals all), refl, commas_line signals rest (All-tail (IsSignal net) s signals all) after)
+clean : (lines : List Line) → All IsSaid lines → AreClean (text_of_lines lines)
+unfolding text_of_lines written is_name_byte is_visible
+clean [] all = tt
+clean (line ∷ lines) all =
+    let pieces = spelled (form_by line) in
+    subst AreClean
+    (sym (append_assoc (flat_map written_piece pieces) (10 ∷ []) (text_of_lines lines) ∙ text_onto_is pieces (10 ∷ text_of_lines lines)))
+    (written_clean false pieces (10 ∷ text_of_lines lines) (All-head IsSaid line lines all).apart refl
+    (refl, omega arith, clean lines (All-tail IsSaid line lines all)))
 
-  -- the line of a gate or a register
-  gate_is : (name kind : List ℕ) (ops : List ℕ) → IsWord name → IsWord kind → All (IsSignal net) ops → IsLine false (seen_gate net name kind ops)
-  gate_is name kind ops a b all =
-      (a, refl, (refl, refl, (b, refl, (refl, refl, names_line ops _ all (refl, refl, tt) (refl, refl, tt)))))
+-- they are the parts of the text
+parts_are : (lines : List Line) → All IsSaid lines → parts_of (text_of_lines lines) ≡ map part_by lines
+unfolding parts_of text_of_lines written
+parts_are [] all = refl
+parts_are (line ∷ lines) all =
+    let pieces = spelled (form_by line) in
+    let bytes = flat_map written_piece pieces in
+    let plain = written_plain false pieces (All-head IsSaid line lines all).apart in
+    ap (λ text. map part_of (lines_of text)) (append_assoc bytes (10 ∷ []) (text_of_lines lines) ∙ ap (λ part. part ++ 10 ∷ text_of_lines lines) (sym (append-nil bytes) ∙ text_onto_is pieces []))
+    ∙ ap (map part_of) (line_cut (part_by line) (text_of_lines lines) plain)
+    ∙ (λ k. part_plain (part_by line) plain k ∷ parts_are lines (All-tail IsSaid line lines all) k)
 
-  -- what a memory drives are signals
-  outs_are : (m : ℕ) (memory : Block) → IsMemory net m memory → All (IsSignal net) memory.outs
-  outs_are m memory is k d within =
-      let found = is.driven k (get_or memory.outs k d) (slice_get-get_or memory.outs k d within) in
-      slice_get_within net.signals (get_or memory.outs k d) found.0 found.1
+-- a row before rows, where it says a line
+one_more : (n : ℕ) (form : Form) (line : Line) (rows : List Row) (lines : List Line) → Says (record { at = n; pieces = spelled form }) line → Say rows lines
+    → Say (cond (is_some (record { at = n; pieces = spelled form })) (record { at = n; pieces = spelled form } ∷ rows) rows) (line ∷ lines)
+one_more n (forms.Port word name) line rows lines says rest = (says, rest)
+one_more n (forms.Gate name word uses) line rows lines says rest = (says, rest)
+one_more n (forms.Memory outs word enable address words) line rows lines says rest = (says, rest)
 
-  -- a memory's line behind its right bracket
-  memory_rest_is : (m : ℕ) (memory : Block) → IsMemory net m memory → IsLine false (equals_sign ∷ word (codes "RAM") ∷ open_sign ∷ word (name_of net memory.we) ∷ semi_sign ∷ (seen_names net memory.address ++ semi_sign ∷ (seen_names net memory.word ++ close_sign ∷ [])))
-  memory_rest_is m memory is =
-      let words = names_line memory.word (close_sign ∷ []) is.word (refl, refl, tt) (refl, refl, tt) in
-      let address = names_line memory.address (semi_sign ∷ (seen_names net memory.word ++ close_sign ∷ [])) is.address (refl, refl, words) (refl, refl, words) in
-      (refl, refl, (memory_is, refl, (refl, refl, (word_at memory.we is.enable, refl, (refl, refl, address)))))
+rows_say : (n : ℕ) (lines : List Line) → All IsSaid lines → Say (filter is_some (map row_of (enumerate_from n (map part_by lines)))) lines
+rows_say n [] all = tt
+rows_say n (line ∷ lines) all =
+    let is = All-head IsSaid line lines all in
+    let rows = filter is_some (map row_of (enumerate_from (n + 1) (map part_by lines))) in
+    subst (λ pieces. Say (cond (is_some (record { at = n; pieces = pieces })) (record { at = n; pieces = pieces } ∷ rows) rows) (line ∷ lines))
+    (sym (written_read false (spelled (form_by line)) is.apart))
+    (one_more n (form_by line) line rows lines (record { form = form_by line; spelling = refl; word = is.word n }) (rows_say (n + 1) lines (All-tail IsSaid line lines all)))
 
-  -- the line of a memory
-  memory_line_is : (m : ℕ) (memory : Block) → IsMemory net m memory → IsLine false (seen_memory net memory)
-  memory_line_is m memory is =
-      let rest = memory_rest_is m memory is in
-      (refl, refl, names_line memory.outs _ (outs_are m memory is) (refl, refl, rest) (refl, refl, rest))
+-- the bytes have no fault
+pub whole_bytes : (lines : List Line) → All (IsWhole IsName) lines → byte_fault (text_of_lines lines) ≡ None
+whole_bytes lines all = no_fault (text_of_lines lines) (clean lines (All-weaker (IsWhole IsName) IsSaid line_said lines all))
 
-  -- the line of a memory given by its number
-  memory_lines_are : (m : ℕ) (o : Option Block) → slice_get net.blocks m ≡ o → AreLines (memory_lines net o)
-  memory_lines_are m None e = tt
-  memory_lines_are m (Some memory) e = (memory_line_is m memory (right.memories m memory e), omega arith, tt)
-
-  -- lines that are written only where b is true
-  cond_are : (b : Bool) (lines : List (List Seen)) → AreLines lines → AreLines (cond b lines [])
-  cond_are true lines are = are
-  cond_are false lines are = tt
-
-  -- the line of an input
-  input_are : (name : List ℕ) (driver : Driver) → IsWord name → AreLines (input_lines (record { name = name; driver = driver }))
-  input_are name Input is = (port_line (codes "INPUT") name input_is is, omega arith, tt)
-  input_are name (Gate kind ops) is = tt
-  input_are name (Dff op) is = tt
-  input_are name (BlockBit m bit) is = tt
-
-  -- the line that drives a signal
-  driver_are : (s : ℕ) (name : List ℕ) (driver : Driver) → IsWord name → IsDrivable net s driver → AreLines (driver_lines net (record { name = name; driver = driver }))
-  driver_are s name Input is from = tt
-  driver_are s name (Gate kind ops) is from = (gate_is name (kind_word kind) ops is (kind_is kind) from.1, omega arith, tt)
-  driver_are s name (Dff op) is from =
-      (gate_is name (codes "DFF") (op ∷ []) is register_is (All-cons (IsSignal net) op [] from (All-nil (IsSignal net))), omega arith, tt)
-  driver_are s name (BlockBit m bit) is from =
-      cond_are (eqb bit 0) (memory_lines net (slice_get net.blocks m)) (memory_lines_are m (slice_get net.blocks m) refl)
-
-  -- the lines of the outputs
-  outputs_are : (printed : List ℕ) → All (IsSignal net) printed → AreLines (map (λ s. seen_port (codes "OUTPUT") (name_of net s)) printed)
-  outputs_are [] all = tt
-  outputs_are (s ∷ printed) all = (
-    port_line (codes "OUTPUT") (name_of net s) output_is (word_at s (All-head (IsSignal net) s printed all)),
-    omega arith,
-    outputs_are printed (All-tail (IsSignal net) s printed all),
-  )
-
-  -- the lines of a valid netlist
-  lines_are : AreLines (seen_lines net)
-  lines_are =
-      lines_append (flat_map input_lines net.signals ++ map (λ s. seen_port (codes "OUTPUT") (name_of net s)) net.printed) (flat_map (driver_lines net) net.signals)
-      (lines_append (flat_map input_lines net.signals) (map (λ s. seen_port (codes "OUTPUT") (name_of net s)) net.printed)
-      (lines_flat input_lines net.signals (λ s signal e. input_are signal.name signal.driver (word_of_name signal.name (right.names s signal e))))
-      (outputs_are net.printed right.printed))
-      (lines_flat (driver_lines net) net.signals (λ s signal e. driver_are s signal.name signal.driver (word_of_name signal.name (right.names s signal e)) (right.drivers s signal e)))
-
--- the bytes of the canonical text have no fault, and its rows are the netlist's lines
-pub canonical_rows : (net : Netlist) → IsValid net → (byte_fault (canonical_text net) ≡ None) × (map (map (seen (canonical_text net))) (rows_of (tokens_of (canonical_text net))) ≡ seen_lines net)
-canonical_rows net right =
-    subst (λ text. (byte_fault text ≡ None) × (map (map (seen text)) (rows_of (tokens_of text)) ≡ seen_lines net)) (sym (text_is net))
-    (lines_rows (seen_lines net) (lines_are net right))
+-- the rows say the lines
+pub whole_rows : (lines : List Line) → All (IsWhole IsName) lines → Say (rows_of (text_of_lines lines)) lines
+unfolding rows_of
+whole_rows lines all =
+    let said = All-weaker (IsWhole IsName) IsSaid line_said lines all in
+    subst (λ parts. Say (filter is_some (map row_of (enumerate_from 1 parts))) lines) (sym (parts_are lines said)) (rows_say 1 lines said)

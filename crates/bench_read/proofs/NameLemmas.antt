@@ -1,13 +1,10 @@
 -- Names that stand once.
-use Rattle.std.proofs.Common.{◌≡◌, ℕ, true, false, ◌||◌, cond, List, [], ◌∷◌, ◌++◌, sym, ap, subst, refl, inl, inr, arith, bytes_eq}
+use Rattle.std.proofs.Common.{◌≡◌, ℕ, true, false, cond, List, [], ◌∷◌, ◌++◌, sym, subst, inl, inr, arith, bytes_eq}
 use Rattle.std.specs.List.{count_by, list_any}
 use Rattle.std.proofs.lemmas.Bool.{cases_Bool, cond-true, cond-false}
 use Rattle.std.proofs.lemmas.Slice.Eq.{bytes_eq-Decides}
 use Rattle.std.proofs.lemmas.List.Sums.{sum_by-cons, sum_by-append, sum_by_push}
 use Rattle.list_laws.proofs.Tests.{count_none, none_counted}
-use Rattle.bench_text.specs.declared.token.Token.{Token}
-use Rattle.bench_read.specs.Grammar.{text_of}
-use Rattle.bench_read.specs.Faults.{texts_of, is_same, is_among}
 use Rattle.bench_read.specs.Reads.{AreOnce}
 
 pub same_name : (a b : List ℕ) → bytes_eq a b ≡ true → a ≡ b
@@ -35,8 +32,6 @@ new_from_once names name rest once =
     none_counted (bytes_eq name) names
     (omega (arith, once name, sum_by-append f names (name ∷ rest), sum_by-cons f name rest, cond-true {A = ℕ} (bytes_eq name name) 1 0 (same_bytes name)))
 
--- a test of names is one of tokens
-pub any_text : (text : List ℕ) (token : Token) (drivers : List Token) → is_among (texts_of text drivers) (text_of text token) ≡ list_any (is_same text token) drivers
-unfolding is_same
-any_text text token [] = refl
-any_text text token (driver ∷ drivers) = ap (λ b. is_same text token driver || b) (any_text text token drivers)
+-- names that stand once stand once without those behind
+pub once_front : (names rest : List (List ℕ)) → AreOnce (names ++ rest) → AreOnce names
+once_front names rest once name = omega (arith, once name, sum_by-append (λ n. cond (bytes_eq name n) 1 0) names rest)

@@ -1,198 +1,153 @@
 -- The numbers of names, and names in signal order.
-use Rattle.std.proofs.Common.{◌≡◌, ℕ, ◌+◌, ◌<◌, ◌≤◌, Bool, true, false, not, cond, List, [], ◌∷◌, ◌++◌, append_assoc, length, take, drop, get_or, Option, Some, None, sym, ap, ◌∙◌, subst, refl, ⊎_elim, inl, inr, arith, bytes_eq}
-use Rattle.std.specs.Prelude.{unwrap_or}
-use Rattle.std.specs.List.{count_by, list_any, flat_map, position, position_or_len}
-use Rattle.std.specs.Option.{option_map}
-use Rattle.std.proofs.lemmas.Bool.{cond-true, cond-false, cases_lt, lt-ltb, le-ltb}
-use Rattle.std.proofs.lemmas.List.{take_more, take_all, map-append, map_push}
-use Rattle.std.proofs.lemmas.List.Sums.{sum_by-append, prefix_len-le-length}
-use Rattle.list_laws.proofs.Tests.{find_none, find_first, any_within, none_past}
-use Rattle.list_laws.proofs.Places.{split_at}
-use Rattle.list_laws.proofs.Maps.{flat_map_at, flat_map_grown}
-use Rattle.bench_text.specs.declared.token.Token.{Token}
-use Rattle.bench_read.specs.declared.refusal.BenchNo.{BenchNo}
-use Rattle.bench_read.specs.declared.refusal.BenchNo.TheVariants.{Undriven}
-use Rattle.bench_read.specs.declared.statement.Act.{Act}
-use Rattle.bench_read.specs.declared.statement.Act.TheVariants as act
-use Rattle.bench_read.specs.declared.statement.Statement.{Statement}
-use Rattle.bench_read.specs.Grammar.{text_of}
-use Rattle.bench_read.specs.Faults.{texts_of, is_among, is_undriven, use_fault, drivers_of}
-use Rattle.bench_read.specs.Netlists.{inputs_by, others_by, inputs_of, others_of, names_of, place_of, numbers_of}
+use Rattle.std.proofs.Common.{◌≡◌, ℕ, zero, suc, ◌+◌, ◌<◌, true, false, cond, List, [], ◌∷◌, ◌++◌, append_assoc, append-nil, length, get_or, Bool, Option, Some, None, sym, ap, ◌∙◌, subst, refl, inl, inr, arith, bytes_eq, length-append}
+use Rattle.std.specs.List.{sum_by, list_any, flat_map, position, position_or_len, range_with_len}
+use Rattle.std.proofs.lemmas.Bool.{both_ways, cases_lt, cond-true, lt-ltb}
+use Rattle.std.proofs.lemmas.List.{map-append, get_or-map}
+use Rattle.std.proofs.lemmas.List.Folds.{list_any_at}
+use Rattle.std.proofs.lemmas.List.Quantifiers.{position-Some}
+use Rattle.std.proofs.lemmas.List.Sums.{sum_by-append, sum_by-cons}
+use Rattle.list_laws.proofs.Tests.{first_after, count_none, none_counted, none_past}
+use Rattle.bench_read.specs.Lines.{Line, Input, Output, Gate, Register, Memory, driven, all_driven}
+use Rattle.bench_read.specs.Netlists.{input_names, other_names, names_of, number, numbers}
+use Rattle.bench_read.specs.Making.{order_by}
 use Rattle.bench_read.specs.Reads.{AreOnce}
-use Rattle.bench_read.proofs.NameLemmas.{new_from_once}
+use Rattle.bench_read.proofs.NameLemmas.{same_name, same_bytes, new_from_once}
 
--- ---- places
+-- ---- signal order
 
--- what a look-up tells
-pub record IsFound {X : Type 0} (p : X → Bool) (xs : List X) (i : ℕ) : Type 0 where
-  pub place : i ≡ position_or_len p xs
-  pub within : i < length xs
-  pub some : list_any p xs ≡ true
+-- a line drives inputs or others
+pub line_orders : (line : Line) → driven line ≡ input_names line ++ other_names line
+line_orders (Input name) = refl
+line_orders (Output name) = refl
+line_orders (Gate name kind uses) = refl
+line_orders (Register name use_) = refl
+line_orders (Memory outs enable address words) = refl
 
-pub record IsLost {X : Type 0} (p : X → Bool) (xs : List X) : Type 0 where
-  pub place : length xs ≡ position_or_len p xs
-  pub none : list_any p xs ≡ false
-
-pub found : {X : Type 0} (p : X → Bool) (xs : List X) (i : ℕ) → Some i ≡ position p xs → IsFound p xs i
-found p xs i e =
-    ⊎_elim
-    (λ below.
-    let is : i ≡ position_or_len p xs = cc (e ∙ cond-true {A = Option ℕ} _ (Some (position_or_len p xs)) None (lt-ltb _ _ below)) in
-    record { place = is; within = omega arith; some = any_within p xs below })
-    (λ past. absurd (not_some i (e ∙ cond-false {A = Option ℕ} _ (Some (position_or_len p xs)) None (le-ltb _ _ past))))
-    (cases_lt (position_or_len p xs) (length xs))
-  where
-    not_some : (i : ℕ) → Some i ≡ None → ⊥
-    not_some i e = cc
-
-pub lost : {X : Type 0} (p : X → Bool) (xs : List X) → None ≡ position p xs → IsLost p xs
-lost {X} p xs e =
-    ⊎_elim
-    (λ below. absurd (not_none _ (e ∙ cond-true {A = Option ℕ} _ (Some (position_or_len p xs)) None (lt-ltb _ _ below))))
-    (λ past. record { place = omega (arith, prefix_len-le-length (λ (x : X). not (p x)) xs); none = none_past p xs past })
-    (cases_lt (position_or_len p xs) (length xs))
-  where
-    not_none : (i : ℕ) → None ≡ Some i → ⊥
-    not_none i e = cc
-
--- the place of the first that passes, and the length where none does
-pub place_or_len : {X : Type 0} (p : X → Bool) (xs : List X) → unwrap_or (position p xs) (length xs) ≡ position_or_len p xs
-place_or_len {X} p xs =
-    elim (cases_lt (position_or_len p xs) (length xs)) [
-      | inl below ↦ ap (λ o. unwrap_or o (length xs)) (cond-true {A = Option ℕ} _ (Some (position_or_len p xs)) None (lt-ltb _ _ below))
-      | inr past ↦ ap (λ o. unwrap_or o (length xs)) (cond-false {A = Option ℕ} _ (Some (position_or_len p xs)) None (le-ltb _ _ past)) ∙ omega (arith, prefix_len-le-length (λ (x : X). not (p x)) xs)
-    ]
-
--- ---- resolving
-
-pub undriven_fault : (text : List ℕ) (names : List (List ℕ)) (tokens : List Token) (i : ℕ) (d : Token) (name : List ℕ) (e : BenchNo) → i < length tokens → list_any (is_undriven text names) (take i tokens) ≡ false → name ≡ text_of text (get_or tokens i d) → list_any (bytes_eq name) names ≡ false → e ≡ Undriven (text_of text (get_or tokens i d)) (get_or tokens i d).line → use_fault text names tokens ≡ Some e
-unfolding use_fault
-undriven_fault text names tokens i d name e within driven is none refused =
-    ap (option_map (λ token. Undriven (text_of text token) token.line))
-    (find_first (is_undriven text names) tokens i d within driven (ap not (subst (λ n. is_among names n ≡ false) is none)))
-    ∙ ap Some (sym refused)
-
-pub all_driven : (text : List ℕ) (names : List (List ℕ)) (tokens : List Token) (i : ℕ) → length tokens ≤ i → list_any (is_undriven text names) (take i tokens) ≡ false → use_fault text names tokens ≡ None
-unfolding use_fault
-all_driven text names tokens i past driven =
-    ap (option_map (λ token. Undriven (text_of text token) token.line))
-    (find_none (is_undriven text names) tokens (ap (list_any (is_undriven text names)) (sym (take_all i tokens past)) ∙ driven))
-
-pub numbers_more : (text : List ℕ) (names : List (List ℕ)) (tokens : List Token) (i : ℕ) (d : Token) (number : ℕ) → i < length tokens → number ≡ place_of names (text_of text (get_or tokens i d)) → numbers_of text names (take i tokens) ++ number ∷ [] ≡ numbers_of text names (take (i + 1) tokens)
-numbers_more text names tokens i d number within is =
-    ap (λ n. numbers_of text names (take i tokens) ++ n ∷ []) is
-    ∙ sym (map_push (λ token. place_of names (text_of text token)) (take i tokens) (get_or tokens i d))
-    ∙ ap (numbers_of text names) (sym (take_more tokens i d within))
-
--- ---- names in order
-
-pub front_once : (names others : List (List ℕ)) → AreOnce (names ++ others) → AreOnce names
-front_once names others once name = omega (arith, once name, sum_by-append (λ n. cond (bytes_eq name n) 1 0) names others)
-
--- the names of a list of tokens that were added as far as place i
-pub add_more : (text : List ℕ) (old : List (List ℕ)) (tokens : List Token) (i : ℕ) (d : Token) (names new : List (List ℕ)) (name : List ℕ) (is_new : Bool)
-    → AreOnce (old ++ texts_of text tokens) → i < length tokens → names ≡ old ++ texts_of text (take i tokens) → name ≡ text_of text (get_or tokens i d)
-    → is_new ≡ not (list_any (bytes_eq name) names) → new ≡ cond is_new (names ++ name ∷ []) names
-    → new ≡ old ++ texts_of text (take (i + 1) tokens)
-add_more text old tokens i d names new name is_new once within so_far is added grown =
-    let here = get_or tokens i d in
-    let whole : old ++ texts_of text tokens ≡ names ++ name ∷ texts_of text (drop (i + 1) tokens) =
-    ap (λ ts. old ++ texts_of text ts) (split_at tokens i d within)
-    ∙ ap (λ ns. old ++ ns) (map-append (text_of text) (take i tokens) (here ∷ drop (i + 1) tokens))
-    ∙ sym (append_assoc old (texts_of text (take i tokens)) (text_of text here ∷ texts_of text (drop (i + 1) tokens)))
-    ∙ ap (λ ns. ns ++ text_of text here ∷ texts_of text (drop (i + 1) tokens)) (sym so_far)
-    ∙ ap (λ n. names ++ n ∷ texts_of text (drop (i + 1) tokens)) (sym is) in
-    let none : list_any (bytes_eq name) names ≡ false = new_from_once names name (texts_of text (drop (i + 1) tokens)) (subst AreOnce whole once) in
-    grown
-    ∙ cond-true is_new _ _ (added ∙ ap not none)
-    ∙ ap (λ ns. ns ++ name ∷ []) so_far
-    ∙ append_assoc old (texts_of text (take i tokens)) (name ∷ [])
-    ∙ ap (λ n. old ++ (texts_of text (take i tokens) ++ n ∷ [])) is
-    ∙ ap (λ ns. old ++ ns) (sym (map_push (text_of text) (take i tokens) here))
-    ∙ ap (λ ts. old ++ texts_of text ts) (sym (take_more tokens i d within))
-
--- ---- the two orders
-
-count_parts : (name : List ℕ) (text : List ℕ) (one : Act) (driven : List Token) → count_by (bytes_eq name) (texts_of text driven) ≡ count_by (bytes_eq name) (texts_of text (inputs_by one driven)) + count_by (bytes_eq name) (texts_of text (others_by one driven))
-count_parts name text act.Input driven = omega arith
-count_parts name text act.Output driven = omega arith
-count_parts name text (act.Gate kind) driven = omega arith
-count_parts name text act.Dff driven = omega arith
-count_parts name text (act.Ram address) driven = omega arith
-
-count_texts : (name text : List ℕ) (xs ys : List Token) → count_by (bytes_eq name) (texts_of text (xs ++ ys)) ≡ count_by (bytes_eq name) (texts_of text xs) + count_by (bytes_eq name) (texts_of text ys)
-count_texts name text xs ys =
-    ap (count_by (bytes_eq name)) (map-append (text_of text) xs ys)
-    ∙ sum_by-append (λ n. cond (bytes_eq name n) 1 0) (texts_of text xs) (texts_of text ys)
-
-count_orders : (name text : List ℕ) (statements : List Statement) → count_by (bytes_eq name) (texts_of text (drivers_of statements)) ≡ count_by (bytes_eq name) (texts_of text (inputs_of statements)) + count_by (bytes_eq name) (texts_of text (others_of statements))
-unfolding drivers_of inputs_of others_of
-count_orders name text [] = refl
-count_orders name text (statement ∷ statements) =
+-- a sum over the driven names is the same in either order
+sum_orders : (f : List ℕ → ℕ) (lines : List Line) → sum_by f (all_driven lines) ≡ sum_by f (flat_map input_names lines) + sum_by f (flat_map other_names lines)
+unfolding all_driven
+sum_orders f [] = refl
+sum_orders f (line ∷ lines) =
     omega (
       arith,
-      count_orders name text statements,
-      count_parts name text statement.act statement.driven,
-      count_texts name text statement.driven (drivers_of statements),
-      count_texts name text (inputs_by statement.act statement.driven) (inputs_of statements),
-      count_texts name text (others_by statement.act statement.driven) (others_of statements),
+      sum_orders f lines,
+      ap (sum_by f) (line_orders line),
+      sum_by-append f (input_names line) (other_names line),
+      sum_by-append f (driven line) (all_driven lines),
+      sum_by-append f (input_names line) (flat_map input_names lines),
+      sum_by-append f (other_names line) (flat_map other_names lines),
     )
 
--- names that differ in file order differ in signal order
-pub once_in_order : (text : List ℕ) (statements : List Statement) → AreOnce (texts_of text (drivers_of statements)) → AreOnce (texts_of text (inputs_of statements) ++ texts_of text (others_of statements))
-once_in_order text statements once name =
-    omega (arith, once name, count_orders name text statements, sum_by-append (λ n. cond (bytes_eq name n) 1 0) (texts_of text (inputs_of statements)) (texts_of text (others_of statements)))
-
-pub names_are : (text : List ℕ) (statements : List Statement) → names_of text statements ≡ texts_of text (inputs_of statements) ++ texts_of text (others_of statements)
+pub either_order : (f : List ℕ → ℕ) (lines : List Line) → sum_by f (names_of lines) ≡ sum_by f (all_driven lines)
 unfolding names_of
-names_are text statements = map-append (text_of text) (inputs_of statements) (others_of statements)
+either_order f lines = sum_by-append f (flat_map input_names lines) (flat_map other_names lines) ∙ sym (sum_orders f lines)
 
--- the names of inputs as far as a line, and of this line
-pub inputs_once : (text : List ℕ) (statements : List Statement) (i : ℕ) (here : Statement) → here ≡ get_or statements i here → AreOnce (texts_of text (drivers_of statements)) → i < length statements → AreOnce (texts_of text (inputs_of (take i statements)) ++ texts_of text (inputs_by here.act here.driven))
-unfolding inputs_of
-inputs_once text statements i here is once within =
-    let f : Statement → List Token = λ statement. inputs_by statement.act statement.driven in
-    let rest = flat_map f (drop (i + 1) statements) in
-    let whole : texts_of text (inputs_of statements) ≡ (texts_of text (flat_map f (take i statements)) ++ texts_of text (f here)) ++ texts_of text rest =
-    ap (texts_of text) (flat_map_at f statements i here is within)
-    ∙ map-append (text_of text) (flat_map f (take i statements)) (f here ++ rest)
-    ∙ ap (λ ns. texts_of text (flat_map f (take i statements)) ++ ns) (map-append (text_of text) (f here) rest)
-    ∙ sym (append_assoc (texts_of text (flat_map f (take i statements))) (texts_of text (f here)) (texts_of text rest)) in
-    front_once (texts_of text (flat_map f (take i statements)) ++ texts_of text (f here)) (texts_of text rest) (subst AreOnce whole (front_once (texts_of text (inputs_of statements)) (texts_of text (others_of statements)) (once_in_order text statements once)))
+pub names_once : (lines : List Line) → AreOnce (all_driven lines) → AreOnce (names_of lines)
+names_once lines once name = omega (arith, once name, either_order (λ n. cond (bytes_eq name n) 1 0) lines)
 
-pub others_once : (text : List ℕ) (statements : List Statement) (i : ℕ) (here : Statement) → here ≡ get_or statements i here → AreOnce (texts_of text (drivers_of statements)) → i < length statements → AreOnce ((texts_of text (inputs_of statements) ++ texts_of text (others_of (take i statements))) ++ texts_of text (others_by here.act here.driven))
-unfolding others_of
-others_once text statements i here is once within =
-    let f : Statement → List Token = λ statement. others_by statement.act statement.driven in
-    let rest = flat_map f (drop (i + 1) statements) in
-    let inputs = texts_of text (inputs_of statements) in
-    let front = texts_of text (flat_map f (take i statements)) in
-    let whole : inputs ++ texts_of text (others_of statements) ≡ ((inputs ++ front) ++ texts_of text (f here)) ++ texts_of text rest =
-    ap (λ ts. inputs ++ texts_of text ts) (flat_map_at f statements i here is within)
-    ∙ ap (λ ns. inputs ++ ns) (map-append (text_of text) (flat_map f (take i statements)) (f here ++ rest))
-    ∙ ap (λ ns. inputs ++ (front ++ ns)) (map-append (text_of text) (f here) rest)
-    ∙ sym (append_assoc inputs front (texts_of text (f here) ++ texts_of text rest))
-    ∙ sym (append_assoc (inputs ++ front) (texts_of text (f here)) (texts_of text rest)) in
-    front_once ((inputs ++ front) ++ texts_of text (f here)) (texts_of text rest) (subst AreOnce whole (once_in_order text statements once))
+ones : (names : List (List ℕ)) → sum_by (λ name. 1) names ≡ length names
+ones [] = refl
+ones (name ∷ names) = omega (arith, ones names, sum_by-cons (λ (n : List ℕ). 1) name names)
 
-pub inputs_more : (text : List ℕ) (statements : List Statement) (i : ℕ) (here : Statement) → here ≡ get_or statements i here → i < length statements → texts_of text (inputs_of (take i statements)) ++ texts_of text (inputs_by here.act here.driven) ≡ texts_of text (inputs_of (take (i + 1) statements))
-unfolding inputs_of
-inputs_more text statements i here is within =
-    let f : Statement → List Token = λ statement. inputs_by statement.act statement.driven in
-    sym (map-append (text_of text) (flat_map f (take i statements)) (f here))
-    ∙ ap (texts_of text) (sym (flat_map_grown f statements i here is within))
+pub names_length : (lines : List Line) → length (names_of lines) ≡ length (all_driven lines)
+names_length lines = sym (ones (names_of lines)) ∙ either_order (λ name. 1) lines ∙ ones (all_driven lines)
 
-pub others_more : (text : List ℕ) (statements : List Statement) (i : ℕ) (here : Statement) → here ≡ get_or statements i here → i < length statements → texts_of text (others_of (take i statements)) ++ texts_of text (others_by here.act here.driven) ≡ texts_of text (others_of (take (i + 1) statements))
-unfolding others_of
-others_more text statements i here is within =
-    let f : Statement → List Token = λ statement. others_by statement.act statement.driven in
-    sym (map-append (text_of text) (flat_map f (take i statements)) (f here))
-    ∙ ap (texts_of text) (sym (flat_map_grown f statements i here is within))
+-- a driven name has a number
+pub numbered : (lines : List Line) (name : List ℕ) → list_any (bytes_eq name) (all_driven lines) ≡ true → number (names_of lines) name < length (names_of lines)
+numbered lines name some =
+    elim (cases_lt (number (names_of lines) name) (length (names_of lines))) [
+      | inl below ↦ below
+      | inr past ↦
+          let none = count_none (bytes_eq name) (names_of lines) (none_past (bytes_eq name) (names_of lines) past) in
+          absurd (both_ways _ (none_counted (bytes_eq name) (all_driven lines) (sym (either_order (λ n. cond (bytes_eq name n) 1 0) lines) ∙ none)) some)
+    ]
 
-pub no_inputs : (text : List ℕ) → texts_of text (inputs_of []) ≡ []
-unfolding inputs_of
-no_inputs text = refl
+-- ---- numbers in a row
 
-pub no_others : (text : List ℕ) → texts_of text (others_of []) ≡ []
-unfolding others_of
-no_others text = refl
+pub number_at : (names before : List (List ℕ)) (name : List ℕ) (after : List (List ℕ)) → AreOnce names → names ≡ before ++ name ∷ after → number names name ≡ length before
+number_at names before name after once is =
+    ap (λ ns. number ns name) is
+    ∙ first_after (bytes_eq name) before name after (new_from_once before name after (subst AreOnce is once)) (same_bytes name)
+
+-- names that stand side by side
+pub numbers_range : (names before some after : List (List ℕ)) → AreOnce names → names ≡ before ++ (some ++ after) → numbers names some ≡ range_with_len (length before) (length some)
+numbers_range names before [] after once is = refl
+numbers_range names before (name ∷ some) after once is =
+    let rest = numbers_range names (before ++ name ∷ []) some after once (is ∙ sym (append_assoc before (name ∷ []) (some ++ after))) in
+    (λ k. number_at names before name (some ++ after) once is k ∷ rest k)
+    ∙ ap (λ n. length before ∷ range_with_len n (length some)) (length-append before (name ∷ []))
+
+-- counting from the inputs and from the others numbers the driven names
+order_numbers : (names inputs others : List (List ℕ)) (lines : List Line) → AreOnce names → names ≡ inputs ++ (flat_map input_names lines ++ (others ++ flat_map other_names lines))
+    → order_by (length inputs) (length inputs + length (flat_map input_names lines) + length others) lines ≡ numbers names (all_driven lines)
+unfolding order_by all_driven
+order_numbers names inputs others [] once is = refl
+order_numbers names inputs others (line ∷ lines) once is =
+    let i = input_names line in
+    let o = other_names line in
+    let I = flat_map input_names lines in
+    let O = flat_map other_names lines in
+    let before : List (List ℕ) = inputs ++ ((i ++ I) ++ others) in
+    let first = numbers_range names inputs i (I ++ (others ++ (o ++ O))) once (is ∙ simp append_assoc refl) in
+    let second = numbers_range names before o O once (is ∙ simp append_assoc refl) in
+    let rest = order_numbers names (inputs ++ i) (others ++ o) lines once (is ∙ simp append_assoc refl) in
+    let next : length before ≡ length inputs + length (i ++ I) + length others = omega (arith, length-append inputs ((i ++ I) ++ others), length-append (i ++ I) others) in
+    let later : length (inputs ++ i) + length I + length (others ++ o) ≡ length inputs + length (i ++ I) + length others + length o =
+    omega (arith, length-append inputs i, length-append i I, length-append others o) in
+    sym (ap (λ ns. numbers names (ns ++ all_driven lines)) (line_orders line)
+    ∙ map-append (number names) (i ++ o) (all_driven lines)
+    ∙ ap (λ ns. ns ++ numbers names (all_driven lines)) (map-append (number names) i o)
+    ∙ append_assoc (numbers names i) (numbers names o) (numbers names (all_driven lines))
+    ∙ (λ k. first k ++ (second k ++ sym rest k))
+    ∙ (λ k. range_with_len (length inputs) (length i) ++ (range_with_len (next k) (length o) ++ order_by (length-append inputs i k) (later k) lines)))
+
+-- the numbers of all driven names, where so many inputs stand first
+pub order_is : (lines : List Line) (inputs : ℕ) → AreOnce (all_driven lines) → inputs ≡ length (flat_map input_names lines) → order_by 0 inputs lines ≡ numbers (names_of lines) (all_driven lines)
+unfolding names_of
+order_is lines inputs once is =
+    let e : inputs ≡ length {A = List ℕ} [] + length (flat_map input_names lines) + length {A = List ℕ} [] = omega (arith, is) in
+    ap (λ n. order_by 0 n lines) e ∙ order_numbers (names_of lines) [] [] lines (names_once lines once) refl
+
+-- inputs and others together are the driven names
+pub parts_length : (lines : List Line) → length (flat_map input_names lines) + length (flat_map other_names lines) ≡ length (all_driven lines)
+unfolding names_of
+parts_length lines = sym (length-append (flat_map input_names lines) (flat_map other_names lines)) ∙ names_length lines
+
+-- one number more
+pub range_more : (a n : ℕ) → range_with_len a (n + 1) ≡ range_with_len a n ++ (a + n) ∷ []
+range_more a zero = let e : a ≡ a + 0 = omega arith in ap (λ n. n ∷ []) e
+range_more a (suc n) =
+    let one : suc n + 1 ≡ suc (n + 1) = omega arith in
+    let last : a + 1 + n ≡ a + suc n = omega arith in
+    ap (range_with_len a) one ∙ ap (λ ns. a ∷ ns) (range_more (a + 1) n) ∙ ap (λ m. a ∷ (range_with_len (a + 1) n ++ m ∷ [])) last
+
+-- the numbers of a line's names, before those of the lines after it
+pub order_more : (order : List ℕ) (input other : ℕ) (line : Line) (lines : List Line) →
+    ((order ++ range_with_len input (length (input_names line))) ++ range_with_len other (length (other_names line))) ++ order_by (input + length (input_names line)) (other + length (other_names line)) lines
+    ≡ order ++ order_by input other (line ∷ lines)
+unfolding order_by
+order_more order input other line lines = simp append_assoc refl
+
+pub order_done : (order : List ℕ) (input other : ℕ) → order ++ order_by input other [] ≡ order
+unfolding order_by
+order_done order input other = append-nil order
+
+-- ---- names that are found
+
+-- a name that is found has its number in the same place of the order
+pub found : (names all : List (List ℕ)) (name : List ℕ) (i : ℕ) → position (bytes_eq name) names ≡ Some i → (list_any (bytes_eq name) names ≡ true) × (get_or (numbers all names) i 0 ≡ number all name)
+found names all name i is =
+    let first = position-Some (bytes_eq name) names i [] is in (
+      list_any_at (bytes_eq name) names i [] first.0 first.1,
+      get_or-map (number all) names i [] 0 first.0 ∙ ap (number all) (sym (same_name name (get_or names i []) first.1)),
+    )
+
+pub lost : {X : Type 0} (p : X → Bool) (xs : List X) → position p xs ≡ None → list_any p xs ≡ false
+lost p xs none =
+    elim (cases_lt (position_or_len p xs) (length xs)) [
+      | inl below ↦ absurd (some_none (sym (cond-true {A = Option ℕ} _ (Some (position_or_len p xs)) None (lt-ltb _ _ below)) ∙ none))
+      | inr past ↦ none_past p xs past
+    ]
+  where
+    some_none : {i : ℕ} → Some i ≡ None → ⊥
+    some_none e = cc

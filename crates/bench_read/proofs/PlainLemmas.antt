@@ -1,98 +1,112 @@
 -- No fault of a text is want of memory.
-use Rattle.std.proofs.Common.{◌≡◌, ℕ, Bool, true, false, cond, List, [], ◌∷◌, ◌++◌, length, take, get_or, slice_get, Option, Some, None, Result, Ok, Err, ap, ◌∙◌, ⊎_elim, ltb}
-use Rattle.std.specs.Prelude.{IfErr}
+use Rattle.std.proofs.Common.{◌≡◌, ℕ, Bool, true, false, cond, List, [], ◌∷◌, ◌++◌, length, take, slice_get, Option, Some, None, Result, Ok, Err, ap, ◌∙◌, ⊎_elim}
+use Rattle.std.specs.Prelude.{IfErr, codes}
 use Rattle.std.specs.List.{find}
 use Rattle.std.specs.Option.{option_map, option_or}
-use Rattle.limits.specs.declared.TheConstants.{MAX_OPERANDS, MAX_SIGNALS}
 use Rattle.text_lines.specs.Answers.{first, Answers}
 use Rattle.text_lines.proofs.AnswerLemmas.{place_of_first}
-use Rattle.bench_text.specs.declared.token.Token.{Token}
+use Rattle.logic_four.specs.declared.Kind.{Kind}
+use Rattle.logic_four.specs.Kinds.{kind_of}
 use Rattle.bench_text.specs.declared.token.TextNo.{TextNo}
 use Rattle.bench_text.specs.declared.token.TextNo.TheVariants as text_no
-use Rattle.bench_text.specs.Tokens.{tokens_of, first_fault as byte_fault}
+use Rattle.bench_text.specs.Tokens.{first_fault as byte_fault}
+use Rattle.bench_line.specs.Forms.{Form, Port, Gate, Memory}
+use Rattle.bench_line.specs.Rows.{Row, rows_of}
+use Rattle.bench_line.specs.Decoding.{form_of}
 use Rattle.bench_read.specs.declared.refusal.BenchNo.{BenchNo}
-use Rattle.bench_read.specs.declared.refusal.BenchNo.TheVariants.{Text, Arity, DrivenTwice, Undriven, TooMany, Memory}
+use Rattle.bench_read.specs.declared.refusal.BenchNo.TheVariants as bench_no
 use Rattle.bench_read.specs.declared.refusal.Many.TheVariants.{Signals, Operands}
-use Rattle.bench_read.specs.declared.statement.Form.{Form}
-use Rattle.bench_read.specs.declared.statement.Act.{Act}
-use Rattle.bench_read.specs.declared.statement.Statement.{Statement}
-use Rattle.bench_read.specs.Grammar.{rows_of, row_line, form_of, act_of, statement_by, said_by_act, said_by_form, text_of, said as said_of}
-use Rattle.bench_read.specs.Faults.{statements_of, is_same, is_undriven, option_repeat_fault, repeat_fault, twice_fault, limit_fault, many_fault, statement_fault, said_fault, row_fault, rows_fault, use_fault, uses_fault, of_text, lines_fault, first_fault, drivers_of, uses_of, texts_of, operand_count}
+use Rattle.bench_read.specs.Lines.{Line, Input, Output}
+use Rattle.bench_read.specs.Saying.{is_word, said_by_gate, said_by, said}
+use Rattle.bench_read.specs.Placed.{Placed, Named, lines_at, placed_by, placed_of, driven_in, drivers_of, uses_of}
+use Rattle.bench_read.specs.Faults.{is_same, is_undriven, repeat_fault, option_repeat_fault, twice_fault, many_fault, line_fault, said_fault, row_fault, rows_fault, uses_fault, of_text, first_fault}
 
--- a fault that is not the memory's, as of a text's bytes
+-- faults other than the memory's, as of a text's bytes
 abbrev IsPlain : Option BenchNo → Type 0
-IsPlain fault = fault ≡ Some (Text text_no.Memory) → ⊥
+IsPlain fault = fault ≡ Some (bench_no.Text text_no.Memory) → ⊥
+
+abbrev IsPlainErr : Result Line BenchNo → Type 0
+IsPlainErr r = r ≡ Err (bench_no.Text text_no.Memory) → ⊥
 
 either_plain : (a b : Option BenchNo) → IsPlain a → IsPlain b → IsPlain (option_or a b)
 either_plain None b p q e = q e
 either_plain (Some x) b p q e = p e
 
+mapped_plain : {X : Type 0} (f : X → BenchNo) → ((x : X) → f x ≡ bench_no.Text text_no.Memory → ⊥) → (o : Option X) → IsPlain (option_map f o)
+mapped_plain f plain None e = cc
+mapped_plain f plain (Some x) e = plain x cc
+
 first_plain : (fault : ℕ → Option BenchNo) (n : ℕ) → ((i : ℕ) → IsPlain (fault i)) → IsPlain (first fault n)
-first_plain fault n plain e = let found = place_of_first fault n (Text text_no.Memory) e in plain found.0 found.3
+first_plain fault n plain e = let found = place_of_first fault n (bench_no.Text text_no.Memory) e in plain found.0 found.3
 
-bytes_plain : (o : Option TextNo) → IsPlain (option_map of_text o)
-bytes_plain None e = cc
-bytes_plain (Some text_no.Memory) e = cc
-bytes_plain (Some (text_no.BadByte line column)) e = cc
-bytes_plain (Some (text_no.LongName line)) e = cc
+limit_plain : (at : ℕ) (b c : Bool) → IsPlain (cond b (Some (bench_no.TooMany at Signals)) (cond c (Some (bench_no.TooMany at Operands)) None))
+limit_plain at true c e = cc
+limit_plain at false true e = cc
+limit_plain at false false e = cc
 
-repeat_plain : (text : List ℕ) (drivers : List Token) (o : Option Token) → IsPlain (option_repeat_fault text drivers o)
+repeat_plain : (drivers : List Named) (o : Option Named) → IsPlain (option_repeat_fault drivers o)
 unfolding repeat_fault
-repeat_plain text drivers None e = cc
-repeat_plain text drivers (Some token) e = by_driver (find (is_same text token) drivers) e where
-  by_driver : (o : Option Token) → option_map (λ driver. DrivenTwice (text_of text token) driver.line token.line) o ≡ Some (Text text_no.Memory) → ⊥
-  by_driver None f = cc
-  by_driver (Some driver) f = cc
+repeat_plain drivers None = λ e. cc
+repeat_plain drivers (Some named) = mapped_plain (λ driver. bench_no.DrivenTwice named.name driver.at named.at) (λ x e. cc) (find (is_same named) drivers)
 
-limit_plain : (line signals operands : ℕ) → IsPlain (limit_fault line signals operands)
-limit_plain line signals operands e = by_tests (ltb MAX_SIGNALS signals) (ltb MAX_OPERANDS operands) e where
-  by_tests : (a b : Bool) → cond a (Some (TooMany line Signals)) (cond b (Some (TooMany line Operands)) None) ≡ Some (Text text_no.Memory) → ⊥
-  by_tests true b f = cc
-  by_tests false true f = cc
-  by_tests false false f = cc
+line_plain : (earlier : List Placed) (placed : Placed) → IsPlain (line_fault earlier placed)
+unfolding line_fault twice_fault many_fault
+line_plain earlier placed =
+    either_plain (twice_fault (drivers_of earlier) (driven_in placed)) (many_fault placed.at (lines_at (earlier ++ placed ∷ [])))
+    (first_plain _ (length (driven_in placed)) (λ i. repeat_plain (drivers_of earlier ++ take i (driven_in placed)) (slice_get (driven_in placed) i)))
+    (limit_plain placed.at _ _)
 
-statement_plain : (text : List ℕ) (line : ℕ) (earlier : List Statement) (statement : Statement) → IsPlain (statement_fault text line earlier statement)
-unfolding statement_fault twice_fault many_fault
-statement_plain text line earlier statement =
-    either_plain (twice_fault text (drivers_of earlier) statement.driven) (many_fault line (earlier ++ statement ∷ []))
-    (first_plain _ (length statement.driven) (λ i. repeat_plain text (drivers_of earlier ++ take i statement.driven) (slice_get statement.driven i)))
-    (limit_plain line (length (drivers_of (earlier ++ statement ∷ []))) (operand_count (earlier ++ statement ∷ [])))
+-- the fault of a form comes from its word or its numbers
+syntax_plain : (at : ℕ) → IsPlainErr (Err (bench_no.Syntax at))
+syntax_plain at e = cc
 
-said_plain : (text : List ℕ) (row : List Token) (earlier : List Statement) → IsPlain (said_fault text (row_line row) earlier (said_of text row))
-unfolding said_of
-said_plain text row earlier e = by_form (form_of text row) e where
-  by_check : (b : Bool) (statement : Statement) → said_fault text (row_line row) earlier (cond b (Ok statement) (Err (Arity (row_line row)))) ≡ Some (Text text_no.Memory) → ⊥
-  by_check true statement f = statement_plain text (row_line row) earlier statement f
-  by_check false statement f = cc
+kind_plain : (at : ℕ) → IsPlainErr (Err (bench_no.UnknownKind at))
+kind_plain at e = cc
 
-  by_act : (which : Form) (o : Option Act) → said_fault text (row_line row) earlier (said_by_act row which o) ≡ Some (Text text_no.Memory) → ⊥
-  by_act which None f = cc
-  by_act which (Some one) f = by_check _ (statement_by row which one) f
+numbers_plain : (at : ℕ) (b : Bool) (line : Line) → IsPlainErr (cond b (Ok line) (Err (bench_no.Arity at)))
+numbers_plain at true line e = cc
+numbers_plain at false line e = cc
 
-  by_form : (o : Option Form) → said_fault text (row_line row) earlier (said_by_form text row o) ≡ Some (Text text_no.Memory) → ⊥
-  by_form None f = cc
-  by_form (Some which) f = by_act which (act_of text row which) f
+ok_plain : (line : Line) → IsPlainErr (Ok line)
+ok_plain line e = cc
 
-uses_plain : (text : List ℕ) (statements : List Statement) → IsPlain (uses_fault text statements)
-unfolding uses_fault use_fault
-uses_plain text statements e = by_use (find (is_undriven text (texts_of text (drivers_of statements))) (uses_of statements)) e where
-  by_use : (o : Option Token) → option_map (λ token. Undriven (text_of text token) token.line) o ≡ Some (Text text_no.Memory) → ⊥
-  by_use None f = cc
-  by_use (Some token) f = cc
+word_plain : (b : Bool) (x y : Result Line BenchNo) → IsPlainErr x → IsPlainErr y → IsPlainErr (cond b x y)
+word_plain true x y p q = p
+word_plain false x y p q = q
+
+form_plain : (at : ℕ) (o : Option Form) → IsPlainErr (said_by at o)
+form_plain at None = syntax_plain at
+form_plain at (Some (Port word name)) =
+    word_plain (is_word (codes "INPUT") word) _ _ (ok_plain (Input name)) (word_plain (is_word (codes "OUTPUT") word) _ _ (ok_plain (Output name)) (syntax_plain at))
+form_plain at (Some (Gate name word uses)) = word_plain _ _ _ (numbers_plain at _ _) (by_kind (kind_of word)) where
+  by_kind : (o : Option Kind) → IsPlainErr (said_by_gate at name uses o)
+  by_kind None = kind_plain at
+  by_kind (Some kind) = numbers_plain at _ _
+form_plain at (Some (Memory outs word enable address words)) = word_plain _ _ _ (numbers_plain at _ _) (kind_plain at)
+
+row_plain : (earlier : List Placed) (o : Option Row) → IsPlain (row_fault earlier o)
+unfolding said
+row_plain earlier None = λ e. cc
+row_plain earlier (Some row) = by_said (said row) (form_plain row.at (form_of row.pieces)) where
+  by_said : (r : Result Line BenchNo) → IsPlainErr r → IsPlain (said_fault earlier (placed_by row.at r))
+  by_said (Ok line) plain = line_plain earlier (record { at = row.at; line = line })
+  by_said (Err fault) plain = λ e. plain cc
+
+bytes_plain : (no : TextNo) → of_text no ≡ bench_no.Text text_no.Memory → ⊥
+bytes_plain text_no.Memory e = cc
+bytes_plain (text_no.BadByte line column) e = cc
+bytes_plain (text_no.LongName line) e = cc
 
 fault_plain : (text : List ℕ) → IsPlain (first_fault text)
-unfolding first_fault lines_fault rows_fault row_fault
+unfolding first_fault rows_fault uses_fault
 fault_plain text =
-    either_plain (lines_fault text) (uses_fault text (statements_of text (rows_of (tokens_of text))))
-    (either_plain (option_map of_text (byte_fault text)) (rows_fault text (rows_of (tokens_of text))) (bytes_plain (byte_fault text))
-    (first_plain (row_fault text (rows_of (tokens_of text))) (length (rows_of (tokens_of text)))
-    (λ i. said_plain text (get_or (rows_of (tokens_of text)) i []) (statements_of text (take i (rows_of (tokens_of text)))))))
-    (uses_plain text (statements_of text (rows_of (tokens_of text))))
+    let rows = rows_of text in
+    either_plain (option_map of_text (byte_fault text)) (option_or (rows_fault rows) (uses_fault (placed_of rows)))
+    (mapped_plain of_text bytes_plain (byte_fault text))
+    (either_plain (rows_fault rows) (uses_fault (placed_of rows))
+    (first_plain _ (length rows) (λ i. row_plain (placed_of (take i rows)) (slice_get rows i)))
+    (mapped_plain (λ named. bench_no.Undriven named.name named.at) (λ x e. cc) (find (is_undriven (drivers_of (placed_of rows))) (uses_of (placed_of rows)))))
 
-pub plain_from : {T : Type 0} (text : List ℕ) (r : Result T BenchNo) (P : T → Type 0) → Answers Memory r (first_fault text) P → IfErr r (λ refused. refused ≡ Text text_no.Memory → ⊥)
+pub plain_from : {T : Type 0} (text : List ℕ) (r : Result T BenchNo) (P : T → Type 0) → Answers bench_no.Memory r (first_fault text) P → IfErr r (λ refused. refused ≡ bench_no.Text text_no.Memory → ⊥)
 plain_from text (Ok x) P a = tt
-plain_from text (Err refused) P a =
-    λ is. ⊎_elim (λ memory. other memory is) (λ fault. fault_plain text (fault ∙ ap Some is)) a
-  where
-    other : refused ≡ Memory → refused ≡ Text text_no.Memory → ⊥
-    other a b = cc
+plain_from text (Err refused) P a = λ is. ⊎_elim (λ memory. cc (memory, is)) (λ fault. fault_plain text (fault ∙ ap Some is)) a

@@ -1,64 +1,174 @@
--- The first row of tokens.
-use Rattle.std.proofs.Common.{◌≡◌, ℕ, suc, ◌+◌, ◌-◌, ◌<◌, true, eqb, List, [], ◌∷◌, length, take, drop, get_or, sym, ap, ◌∙◌, refl, inl, inr, arith}
-use Rattle.std.specs.List.{prefix_len}
-use Rattle.std.proofs.lemmas.Bool.{cases_Bool, cond-true, cond-false, eqb-true}
-use Rattle.std.proofs.lemmas.List.{take_rest}
-use Rattle.bench_text.specs.declared.token.Token.{Token}
-use Rattle.bench_read.specs.Grammar.{join_row, rows_of, is_in}
+-- Lines after one another, and the rows that say them.
+use Rattle.std.proofs.Common.{◌≡◌, ℕ, ◌≤◌, Bool, true, false, cond, ltb, List, [], ◌∷◌, ◌++◌, append-nil, length, length-append, Some, None, Result, Ok, Err, sym, ap, ◌∙◌, subst, refl, arith}
+use Rattle.std.specs.Prelude.{◌↔◌, All, IsOk}
+use Rattle.std.specs.List.{flat_map, filter_map}
+use Rattle.std.specs.Option.{option_or}
+use Rattle.std.specs.Result.{result_ok}
+use Rattle.std.proofs.lemmas.Bool.{cond-false, le-ltb, ltb-false}
+use Rattle.std.proofs.lemmas.List.{map-append}
+use Rattle.std.proofs.lemmas.List.Concat.{flat_map-append}
+use Rattle.std.proofs.lemmas.List.Elements.{All-nil, All-push, All-head, filter_map-append}
+use Rattle.std.proofs.lemmas.List.Sums.{sum_by-append}
+use Rattle.limits.specs.declared.TheConstants.{MAX_OPERANDS, MAX_SIGNALS}
+use Rattle.list_laws.proofs.Members.{all_front, all_back}
+use Rattle.text_lines.proofs.AnswerLemmas.{first-zero, or_none}
+use Rattle.bench_line.specs.Rows.{Row}
+use Rattle.bench_read.specs.declared.refusal.BenchNo.{BenchNo}
+use Rattle.bench_read.specs.declared.refusal.BenchNo.TheVariants.{TooMany}
+use Rattle.bench_read.specs.declared.refusal.Many.TheVariants.{Signals, Operands}
+use Rattle.bench_read.specs.Lines.{Line, driven, used, operands, all_driven, all_used, operand_count}
+use Rattle.bench_read.specs.Saying.{said}
+use Rattle.bench_read.specs.Placed.{Placed, Named, lines_at, placed_by, said_at, placed_of, each_named, driven_in, drivers_of, uses_of}
+use Rattle.bench_read.specs.Faults.{twice_fault, limit_fault, many_fault, line_fault, said_fault, row_fault, rows_fault}
+use Rattle.bench_read.specs.Reads.{AreOnce}
+use Rattle.bench_read.proofs.FirstLemmas.{by_push, first_push}
+use Rattle.bench_read.proofs.NameLemmas.{once_front}
+use Rattle.bench_read.proofs.TwiceLemmas.{names_in, twice_none}
 
-take_one_more : (n : ℕ) (x : Token) (xs : List Token) → take (1 + n) (x ∷ xs) ≡ x ∷ take n xs
-take_one_more n x xs = let e : 1 + n ≡ suc n = omega arith in rw e refl
+-- ---- lines
 
-drop_one_more : (n : ℕ) (x : Token) (xs : List Token) → drop (1 + n) (x ∷ xs) ≡ drop n xs
-drop_one_more n x xs = let e : 1 + n ≡ suc n = omega arith in rw e refl
+names_each : (at : ℕ) (names : List (List ℕ)) → names_in (each_named at names) ≡ names
+names_each at [] = refl
+names_each at (name ∷ names) = ap (λ ns. name ∷ ns) (names_each at names)
 
--- the row of a token has the tokens after it that are in its line
-row_from : Token → List Token → ℕ → List (List Token)
-row_from token tokens n = (token ∷ take n tokens) ∷ rows_of (drop n tokens)
+names_flat : (f : Line → List (List ℕ)) (placed : List Placed) → names_in (flat_map (λ p. each_named p.at (f p.line)) placed) ≡ flat_map f (lines_at placed)
+names_flat f [] = refl
+names_flat f (p ∷ placed) =
+    map-append (λ (named : Named). named.name) (each_named p.at (f p.line)) (flat_map (λ p. each_named p.at (f p.line)) placed)
+    ∙ ap (λ ns. ns ++ names_in (flat_map (λ p. each_named p.at (f p.line)) placed)) (names_each p.at (f p.line))
+    ∙ ap (λ ns. f p.line ++ ns) (names_flat f placed)
 
-first_row : (token : Token) (tokens : List Token) → rows_of (token ∷ tokens) ≡ row_from token tokens (prefix_len (is_in token.line) tokens)
-unfolding rows_of row_from
-first_row token [] = refl
-first_row token (next ∷ tokens) =
-    elim (cases_Bool (eqb next.line token.line)) [
-      | inl same ↦
-          let line = eqb-true next.line token.line same in
-          let n = prefix_len (is_in token.line) tokens in
-          ap (join_row token) (first_row next tokens)
-          ∙ cond-true _ _ _ same
-          ∙ ap (λ l. (token ∷ next ∷ take (prefix_len (is_in l) tokens) tokens) ∷ rows_of (drop (prefix_len (is_in l) tokens) tokens)) line
-          ∙ ap (λ row. (token ∷ row) ∷ rows_of (drop n tokens)) (sym (take_one_more n next tokens))
-          ∙ ap (λ rest. (token ∷ take (1 + n) (next ∷ tokens)) ∷ rows_of rest) (sym (drop_one_more n next tokens))
-          ∙ ap (row_from token (next ∷ tokens)) (sym (cond-true _ _ _ same))
-      | inr other ↦
-          ap (join_row token) (first_row next tokens)
-          ∙ cond-false _ _ _ other
-          ∙ ap (λ rows. (token ∷ []) ∷ rows) (sym (first_row next tokens))
-          ∙ ap (row_from token (next ∷ tokens)) (sym (cond-false _ _ _ other))
-    ]
+-- the names of drivers and of uses
+pub names_driven : (placed : List Placed) → names_in (drivers_of placed) ≡ all_driven (lines_at placed)
+unfolding drivers_of all_driven
+names_driven placed = names_flat driven placed
 
--- the tokens cut after their first row
-pub cut_row : (tokens : List Token) (d : Token) (n : ℕ) → 0 < length tokens → n ≡ prefix_len (is_in (get_or tokens 0 d).line) tokens → rows_of tokens ≡ take n tokens ∷ rows_of (take (length tokens - n) (drop n tokens))
-unfolding row_from
-cut_row [] d n some is = absurd (omega arith)
-cut_row (token ∷ tokens) d n some is =
-    let m = prefix_len (is_in token.line) tokens in
-    let more : n ≡ 1 + m = is ∙ cond-true _ _ _ (eqb-same token.line) in
-    first_row token tokens
-    ∙ ap (λ row. row ∷ rows_of (drop m tokens)) (sym (take_one_more m token tokens))
-    ∙ ap (λ rest. take (1 + m) (token ∷ tokens) ∷ rows_of rest) (sym (drop_one_more m token tokens))
-    ∙ ap (λ k. take k (token ∷ tokens) ∷ rows_of (drop k (token ∷ tokens))) (sym more)
-    ∙ ap (λ rest. take n (token ∷ tokens) ∷ rows_of rest) (sym (take_rest (token ∷ tokens) n))
-  where
-    eqb-same : (n : ℕ) → eqb n n ≡ true
-    eqb-same n = grind arith
+pub names_used : (placed : List Placed) → names_in (uses_of placed) ≡ all_used (lines_at placed)
+unfolding uses_of all_used
+names_used placed = names_flat used placed
 
--- the first row has a token
-pub some_in_row : (tokens : List Token) (d : Token) (n : ℕ) → 0 < length tokens → n ≡ prefix_len (is_in (get_or tokens 0 d).line) tokens → 0 < n
-some_in_row [] d n some is = absurd (omega arith)
-some_in_row (token ∷ tokens) d n some is =
-    let more : n ≡ 1 + prefix_len (is_in token.line) tokens = is ∙ cond-true _ _ _ (eqb-same token.line) in
-    omega arith
-  where
-    eqb-same : (n : ℕ) → eqb n n ≡ true
-    eqb-same n = grind arith
+-- the drivers with one more line
+pub drivers_push : (earlier : List Placed) (placed : Placed) → drivers_of (earlier ++ placed ∷ []) ≡ drivers_of earlier ++ driven_in placed
+unfolding drivers_of
+drivers_push earlier placed = flat_map-append driven_in earlier (placed ∷ []) ∙ ap (λ ds. flat_map driven_in earlier ++ ds) (append-nil (driven_in placed))
+
+-- lines that drive no name twice, with not too many signals or operands
+pub record AreFine (lines : List Line) : Type 0 where
+  pub once : AreOnce (all_driven lines)
+  pub few_signals : length (all_driven lines) ≤ MAX_SIGNALS
+  pub few_operands : operand_count lines ≤ MAX_OPERANDS
+
+fine_none : AreFine []
+unfolding all_driven operand_count
+fine_none = record { once = λ name. omega arith; few_signals = omega arith; few_operands = omega arith }
+
+fine_front : (lines rest : List Line) → AreFine (lines ++ rest) → AreFine lines
+unfolding all_driven operand_count
+fine_front lines rest fine =
+    let both = flat_map-append driven lines rest in
+    record {
+      once = once_front (all_driven lines) (all_driven rest) (subst AreOnce both fine.once);
+      few_signals = omega (arith, fine.few_signals, ap length both, length-append (all_driven lines) (all_driven rest));
+      few_operands = omega (arith, fine.few_operands, sum_by-append (λ (line : Line). length (operands line)) lines rest);
+    }
+
+-- within the limits
+limit_none : (at signals count : ℕ) → limit_fault at signals count ≡ None ↔ ((signals ≤ MAX_SIGNALS) × (count ≤ MAX_OPERANDS))
+limit_none at signals count = (
+  λ none. by_tests (ltb MAX_SIGNALS signals) (ltb MAX_OPERANDS count) refl refl none,
+  λ few. cond-false _ _ _ (le-ltb MAX_SIGNALS signals few.0) ∙ cond-false _ _ _ (le-ltb MAX_OPERANDS count few.1),
+) where
+  by_tests : (b c : Bool) → ltb MAX_SIGNALS signals ≡ b → ltb MAX_OPERANDS count ≡ c → cond b (Some (TooMany at Signals)) (cond c (Some (TooMany at Operands)) None) ≡ None → (signals ≤ MAX_SIGNALS) × (count ≤ MAX_OPERANDS)
+  by_tests true c e f none = cc
+  by_tests false true e f none = cc
+  by_tests false false e f none = (ltb-false MAX_SIGNALS signals e, ltb-false MAX_OPERANDS count f)
+
+-- a line after fine lines has no fault where they are fine with it
+pub fine_push : (earlier : List Placed) (placed : Placed) → AreFine (lines_at earlier) → line_fault earlier placed ≡ None ↔ AreFine (lines_at (earlier ++ placed ∷ []))
+unfolding line_fault many_fault
+fine_push earlier placed fine =
+    let lines = lines_at (earlier ++ placed ∷ []) in
+    let twice = twice_none (drivers_of earlier) (driven_in placed) (subst AreOnce (sym (names_driven earlier)) fine.once) in
+    let names : names_in (drivers_of earlier ++ driven_in placed) ≡ all_driven lines =
+    ap names_in (sym (drivers_push earlier placed)) ∙ names_driven (earlier ++ placed ∷ []) in
+    let limits = limit_none placed.at (length (all_driven lines)) (operand_count lines) in (
+      λ none.
+          let both = or_none (twice_fault (drivers_of earlier) (driven_in placed)) (many_fault placed.at lines) none in
+          record { once = subst AreOnce names (twice.0 both.0); few_signals = (limits.0 both.1).0; few_operands = (limits.0 both.1).1 },
+      λ all.
+          ap (λ o. option_or o (many_fault placed.at lines)) (twice.1 (subst AreOnce (sym names) all.once))
+          ∙ limits.1 (all.few_signals, all.few_operands),
+    )
+
+-- ---- rows
+
+-- the lines with one more row that says one
+pub placed_push : (rows : List Row) (row : Row) (placed : Placed) → said_at row ≡ Ok placed → placed_of (rows ++ row ∷ []) ≡ placed_of rows ++ placed ∷ []
+unfolding placed_of
+placed_push rows row placed says =
+    filter_map-append (λ r. result_ok (said_at r)) rows (row ∷ [])
+    ∙ ap (λ o. placed_of rows ++ filter_map (λ (x : Result Placed BenchNo). result_ok x) (o ∷ [])) says
+
+pub rows_push : (rows : List Row) (row : Row) → rows_fault (rows ++ row ∷ []) ≡ option_or (rows_fault rows) (said_fault (placed_of rows) (said_at row))
+unfolding rows_fault
+rows_push rows row = first_push (λ front. row_fault (placed_of front)) rows row
+
+-- a row says a line that is fine after these
+record IsSaid (earlier : List Placed) (row : Row) : Type 0 where
+  pub placed : Placed
+  pub says : said_at row ≡ Ok placed
+  pub no_fault : line_fault earlier placed ≡ None
+
+is_said : (earlier : List Placed) (row : Row) → said_fault earlier (said_at row) ≡ None → IsSaid earlier row
+is_said earlier row none = by_said (said_at row) refl none where
+  by_said : (r : Result Placed BenchNo) → said_at row ≡ r → said_fault earlier r ≡ None → IsSaid earlier row
+  by_said (Ok placed) says none = record { placed = placed; says = says; no_fault = none }
+  by_said (Err fault) says none = cc
+
+ok_placed : (row : Row) → IsOk (said row) → (placed : Placed) × (said_at row ≡ Ok placed)
+ok_placed row ok = by_said (said row) refl ok where
+  by_said : (r : Result Line BenchNo) → said row ≡ r → IsOk r → (placed : Placed) × (said_at row ≡ Ok placed)
+  by_said (Ok line) says ok = (record { at = row.at; line = line }, ap (placed_by row.at) says)
+  by_said (Err fault) says ok = cc
+
+placed_ok : (row : Row) (placed : Placed) → said_at row ≡ Ok placed → IsOk (said row)
+placed_ok row placed says = by_said (said row) says where
+  by_said : (r : Result Line BenchNo) → placed_by row.at r ≡ Ok placed → IsOk r
+  by_said (Ok line) says = refl
+  by_said (Err fault) says = cc
+
+-- all rows say lines, and the lines are fine
+pub record AreSaid (rows : List Row) : Type 0 where
+  pub lines : All (λ row. IsOk (said row)) rows
+  pub fine : AreFine (lines_at (placed_of rows))
+
+said_nothing : AreSaid []
+unfolding placed_of
+said_nothing = record { lines = All-nil _; fine = fine_none }
+
+rows_nothing : rows_fault [] ≡ None
+unfolding rows_fault
+rows_nothing = first-zero _
+
+-- rows have no fault where they say fine lines
+pub rows_none : (rows : List Row) → rows_fault rows ≡ None ↔ AreSaid rows
+rows_none rows = by_push (λ rs. rows_fault rs ≡ None ↔ AreSaid rs) more [] rows (λ _. said_nothing, λ _. rows_nothing) where
+  more : (rs : List Row) (row : Row) → rows_fault rs ≡ None ↔ AreSaid rs → rows_fault (rs ++ row ∷ []) ≡ None ↔ AreSaid (rs ++ row ∷ [])
+  more rs row before = (
+    λ none.
+        let both = or_none _ _ (sym (rows_push rs row) ∙ none) in
+        let old = before.0 both.0 in
+        let here = is_said (placed_of rs) row both.1 in
+        record {
+          lines = All-push (λ r. IsOk (said r)) rs row old.lines (placed_ok row here.placed here.says);
+          fine = subst (λ ps. AreFine (lines_at ps)) (sym (placed_push rs row here.placed here.says)) ((fine_push (placed_of rs) here.placed old.fine).0 here.no_fault);
+        },
+    λ all.
+        let here = ok_placed row (All-head (λ r. IsOk (said r)) row [] (all_back (λ r. IsOk (said r)) rs (row ∷ []) all.lines)) in
+        let fine = subst (λ ps. AreFine (lines_at ps)) (placed_push rs row here.0 here.1) all.fine in
+        let old = fine_front (lines_at (placed_of rs)) (here.0.line ∷ []) (subst AreFine (map-append (λ (p : Placed). p.line) (placed_of rs) (here.0 ∷ [])) fine) in
+        rows_push rs row
+        ∙ ap (λ o. option_or o (said_fault (placed_of rs) (said_at row))) (before.1 (record { lines = all_front (λ r. IsOk (said r)) rs (row ∷ []) all.lines; fine = old }))
+        ∙ ap (said_fault (placed_of rs)) here.1
+        ∙ (fine_push (placed_of rs) here.0 old).1 fine,
+  )

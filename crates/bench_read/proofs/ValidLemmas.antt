@@ -1,361 +1,395 @@
 -- What a text reads as is a valid netlist.
-use Rattle.std.proofs.Common.{◌≡◌, ℕ, ◌+◌, ◌-◌, ◌<◌, ◌≤◌, true, false, List, [], ◌∷◌, ◌++◌, append_assoc, length, take, drop, get_or, slice_get, Some, sym, ap, ◌∙◌, subst, refl, ⊎_elim, arith, length-append, bytes_eq}
-use Rattle.std.specs.List.{All, list_any, flat_map, sum_by, range_with_len}
+use Rattle.std.proofs.Common.{◌≡◌, ℕ, zero, suc, ◌+◌, ◌-◌, ◌<◌, ◌≤◌, true, false, List, [], ◌∷◌, ◌++◌, append-nil, length, map, take, drop, get_or, slice_get, Some, ◌⊎◌, inl, inr, ⊎_elim, sym, ap, ◌∙◌, subst, refl, arith, length-append, bytes_eq}
+use Rattle.std.specs.List.{All, AllByRecursion, list_any, flat_map, sum_by, enumerate_from, range_with_len}
 use Rattle.std.specs.Option.{option_map}
-use Rattle.std.proofs.lemmas.Bool.{both_ways, eqb-true, cases_lt}
-use Rattle.std.proofs.lemmas.List.{map-append, length-map, length-drop, length-take-le}
-use Rattle.std.proofs.lemmas.List.Elements.{All-nil, All-cons, All-head, All-tail, All-append, All-take, All-drop}
-use Rattle.std.proofs.lemmas.List.Concat.{flat_map-append}
-use Rattle.std.proofs.lemmas.Option.{slice_get-map, slice_get-get_or}
+use Rattle.std.proofs.lemmas.Bool.{both_ways, cases_lt, and_parts, leb-true, eqb-true}
+use Rattle.std.proofs.lemmas.List.{length-map, length-take-le}
+use Rattle.std.proofs.lemmas.List.Elements.{All-nil, All-cons, All-append, All-weaker, All-head, All-tail, All-map, recursion_from_All, All-from_recursion}
 use Rattle.std.proofs.lemmas.List.Sums.{sum_by-append}
-use Rattle.limits.specs.declared.TheConstants.{MAX_TEXT_BYTES}
-use Rattle.list_laws.proofs.Tests.{none_past}
-use Rattle.list_laws.proofs.Ranges.{range_at, first_of_range}
-use Rattle.list_laws.proofs.Places.{seam_at, inside_at}
-use Rattle.list_laws.proofs.Members.{each, all_front, all_back}
+use Rattle.std.proofs.lemmas.Option.{slice_get-map, slice_get_within, get_or_from_slice_get}
+use Rattle.limits.specs.declared.TheConstants.{MAX_TEXT_BYTES, MAX_ADDRESS_BITS, MAX_WORD_BITS}
+use Rattle.list_laws.proofs.Ranges.{range_get, range_at, first_of_range}
+use Rattle.list_laws.proofs.Places.{seam_at, at_front, slice_past, inside_at, split_at, one_there}
+use Rattle.list_laws.proofs.Members.{each, all_front, all_back, all_flat_of}
 use Rattle.list_laws.proofs.Maps.{sum_none}
 use Rattle.logic_four.specs.Kinds.{AllowsOperands}
-use Rattle.bench_text.specs.declared.token.Token.{Token}
 use Rattle.net_defs.specs.declared.netlist.Netlist.{Netlist}
 use Rattle.net_defs.specs.declared.netlist.Signal.{Signal}
 use Rattle.net_defs.specs.declared.netlist.Block.{Block}
 use Rattle.net_defs.specs.declared.netlist.Driver.TheVariants as driver
-use Rattle.net_defs.specs.Valid.{IsName, IsSignal, IsDrivable, IsMemory, is_input, operand_count as driver_operands, memory_operand_count, AreNamed, NamesDiffer, InputsLead, IsValid}
-use Rattle.bench_read.specs.declared.statement.Act.{Act}
-use Rattle.bench_read.specs.declared.statement.Act.TheVariants as act
-use Rattle.bench_read.specs.declared.statement.Statement.{Statement}
-use Rattle.bench_read.specs.Words.{allows}
-use Rattle.bench_read.specs.Grammar.{text_of}
-use Rattle.bench_read.specs.Faults.{drivers_of, uses_of, operand_count, texts_of, is_among}
-use Rattle.bench_read.specs.Netlists.{others_by, inputs_of, others_of, names_of, place_of, numbers_of, driver_by, signals_by, input_signals, other_signals, memories_by, printed_by, printed_of, block_by, blocks_of, netlist_of}
-use Rattle.bench_read.specs.Reads.{AreOnce, AreAmong, Reads}
-use Rattle.bench_read.proofs.NumberLemmas.{once_in_order, names_are}
-use Rattle.bench_read.proofs.DraftLemmas.{names_length, any_name}
-use Rattle.bench_read.proofs.DesignLemmas.{memory_bits}
-use Rattle.bench_read.proofs.ReadLemmas.{short_statements}
-use Rattle.bench_read.proofs.FormLemmas.{IsStatement, IsShaped}
-use Rattle.bench_read.proofs.MadeLemmas.{all_statements, signal_names, names-append, input_names, other_names, names_in_order, name_at, place_self, inputs_each, others_each, block_at, blocks_each, numbers_range, signal_by_at, no_token, others-append, named_texts, named_orders, lead_of, earlier_line, all_flat, few_printed_of, signal_operands, lines_operands}
+use Rattle.net_defs.specs.Valid.{IsName, IsSignal, IsDrivable, IsMemory, is_input, memory_operand_count, AreNamed, NamesDiffer, InputsLead, IsValid}
+use Rattle.bench_line.specs.Rows.{rows_of}
+use Rattle.bench_read.specs.Lines.{Line, Input, Output, Gate, Register, Memory, driven, used, all_driven, all_used, operand_count}
+use Rattle.bench_read.specs.Saying.{allows_memory}
+use Rattle.bench_read.specs.Netlists.{input_names, other_names, names_of, number, numbers, input_signal, bit_signals, signals_by, memory_count, other_signals, printed_names, memories_by, netlist_of}
+use Rattle.bench_read.specs.Reads.{AreOnce, AreSound, Reads}
+use Rattle.std.proofs.lemmas.List.FromFn.{length-range_with_len}
+use Rattle.bench_read.proofs.NumberLemmas.{line_orders, names_once, names_length, number_at, numbered}
+use Rattle.bench_read.proofs.MakingLemmas.{signal_names, names_by, memories_counted, IsMaking, IsBelow, making_none, making_next, neighbours, grown}
+use Rattle.bench_read.proofs.FairLemmas.{IsSized, IsFair, text_fair, signal_operands, lines_operands, printed-le, said_length, rows_length}
 
--- ---- one netlist
+-- ---- what is right of a line
 
-module _ (text : List ℕ) (statements : List Statement) (all : All (IsStatement text) statements) (once : AreOnce (texts_of text (drivers_of statements))) (driven : AreAmong text (texts_of text (drivers_of statements)) (uses_of statements)) where
-  names_once : AreOnce (names_of text statements)
-  names_once = subst AreOnce (sym (names_are text statements)) (once_in_order text statements once)
+-- it drives names, what it uses has numbers below n, and it is sized
+pub record IsRight (names : List (List ℕ)) (n : ℕ) (line : Line) : Type 0 where
+  pub named : All IsName (driven line)
+  pub uses : All (λ name. number names name < n) (used line)
+  pub sized : IsSized line
 
-  name_here : (s : ℕ) (signal : Signal) → slice_get (netlist_of text statements).signals s ≡ Some signal → slice_get (names_of text statements) s ≡ Some signal.name
-  name_here s signal e = ap (λ ns. slice_get ns s) (sym (names_in_order text statements)) ∙ name_at (netlist_of text statements).signals s signal e
+-- what a memory's numbers are
+memory_bits : (address words outputs : ℕ) → allows_memory address words outputs ≡ true → (1 ≤ address) × (address ≤ MAX_ADDRESS_BITS) × (1 ≤ words) × (words ≤ MAX_WORD_BITS) × (words ≡ outputs)
+memory_bits address words outputs e =
+    let a = and_parts _ _ e in
+    let b = and_parts _ _ a.0 in
+    let c = and_parts _ _ b.0 in
+    let d = and_parts _ _ c.0 in
+    (leb-true 1 address d.0, leb-true address MAX_ADDRESS_BITS d.1, leb-true 1 words c.1, leb-true words MAX_WORD_BITS b.1, eqb-true words outputs a.1)
 
-  pub signals_length : length (netlist_of text statements).signals ≡ length (drivers_of statements)
-  unfolding signal_names
-  signals_length =
-      sym (length-map (netlist_of text statements).signals (λ (s : Signal). s.name)) ∙ ap length (names_in_order text statements) ∙ names_length text statements
+-- ---- places in lists
 
-  pub number_of_name : (s : ℕ) (signal : Signal) → slice_get (netlist_of text statements).signals s ≡ Some signal → place_of (names_of text statements) signal.name ≡ s
-  number_of_name s signal e = place_self (names_of text statements) s signal.name names_once (name_here s signal e)
+-- a place in two lists
+place_in : {X : Type 0} (xs ys : List X) (j : ℕ) (x : X) → slice_get (xs ++ ys) j ≡ Some x → (slice_get xs j ≡ Some x) ⊎ ((k : ℕ) × (j ≡ length xs + k) × (slice_get ys k ≡ Some x))
+place_in xs ys j x e =
+    elim (cases_lt j (length xs)) [
+      | inl here ↦ inl (sym (at_front xs ys j here) ∙ e)
+      | inr past ↦
+          let split : j ≡ length xs + (j - length xs) = omega (arith, past) in
+          inr (j - length xs, split, sym (slice_past xs ys (j - length xs)) ∙ ap (slice_get (xs ++ ys)) (sym split) ∙ e)
+    ]
 
-  pub distinct : NamesDiffer (netlist_of text statements).signals
-  distinct s t one other e f same = sym (number_of_name s one e) ∙ ap (place_of (names_of text statements)) same ∙ number_of_name t other f
+-- the bits of a memory
+abbrev bit : ℕ → (ℕ × List ℕ) → Signal
+bit m p = record { name = p.1; driver = driver.BlockBit m p.0 }
 
-  -- a driven name has the number of a signal
-  is_signal : (name : List ℕ) → list_any (bytes_eq name) (texts_of text (drivers_of statements)) ≡ true → IsSignal (netlist_of text statements) (place_of (names_of text statements) name)
-  is_signal name some = omega (arith, signals_length, names_length text statements, found (any_name (bytes_eq name) text statements ∙ some)) where
-    found : list_any (bytes_eq name) (names_of text statements) ≡ true → place_of (names_of text statements) name < length (names_of text statements)
-    found e = ⊎_elim (λ below. below) (λ past. absurd (both_ways _ (none_past (bytes_eq name) (names_of text statements) past) e)) (cases_lt (place_of (names_of text statements) name) (length (names_of text statements)))
+bit_at : (m n : ℕ) (outs : List (List ℕ)) (j : ℕ) → j < length outs → slice_get (map (bit m) (enumerate_from n outs)) j ≡ Some (bit m (n + j, get_or outs j []))
+bit_at m n [] j within = absurd (omega arith)
+bit_at m n (name ∷ outs) zero within = let e : n ≡ n + 0 = omega arith in ap (λ k. Some (bit m (k, name))) e
+bit_at m n (name ∷ outs) (suc j) within =
+    let e : n + 1 + j ≡ n + suc j = omega arith in
+    bit_at m (n + 1) outs j (omega arith) ∙ ap (λ k. Some (bit m (k, get_or outs j []))) e
 
-  uses_are : (front : List Statement) (statement : Statement) (back : List Statement) → statements ≡ front ++ statement ∷ back → All (λ token. is_among (texts_of text (drivers_of statements)) (text_of text token) ≡ true) statement.uses
-  unfolding uses_of
-  uses_are front statement back split =
-      all_front (λ token. is_among (texts_of text (drivers_of statements)) (text_of text token) ≡ true) statement.uses (uses_of back)
-      (all_back (λ token. is_among (texts_of text (drivers_of statements)) (text_of text token) ≡ true) (uses_of front) (statement.uses ++ uses_of back)
-      (subst (All (λ token. is_among (texts_of text (drivers_of statements)) (text_of text token) ≡ true)) (ap uses_of split ∙ flat_map-append (λ (s : Statement). s.uses) front (statement ∷ back)) driven))
+-- ---- the netlist of right lines
 
-  numbers_are : (tokens : List Token) → All (λ token. is_among (texts_of text (drivers_of statements)) (text_of text token) ≡ true) tokens → All (IsSignal (netlist_of text statements)) (numbers_of text (names_of text statements) tokens)
-  numbers_are [] a = All-nil (IsSignal (netlist_of text statements))
-  numbers_are (token ∷ tokens) a =
-      All-cons (IsSignal (netlist_of text statements)) (place_of (names_of text statements) (text_of text token)) (numbers_of text (names_of text statements) tokens)
-      (is_signal (text_of text token) (All-head (λ t. is_among (texts_of text (drivers_of statements)) (text_of text t) ≡ true) token tokens a))
-      (numbers_are tokens (All-tail (λ t. is_among (texts_of text (drivers_of statements)) (text_of text t) ≡ true) token tokens a))
+module _ (lines : List Line) (once : AreOnce (all_driven lines)) where
+  abbrev whole : Netlist
+  whole = netlist_of lines
 
-  statement_at : (front : List Statement) (statement : Statement) (back : List Statement) → statements ≡ front ++ statement ∷ back → IsStatement text statement
-  statement_at front statement back split =
-      each (IsStatement text) statements (length front) statement all (ap (λ ss. slice_get ss (length front)) split ∙ seam_at front statement back)
+  abbrev names : List (List ℕ)
+  names = names_of lines
 
-  blocks_here : (front : List Statement) (statement : Statement) (back : List Statement) (address : ℕ) → statements ≡ front ++ statement ∷ back → statement.act ≡ act.Ram address → slice_get (netlist_of text statements).blocks (length (blocks_of text (names_of text statements) front)) ≡ Some (block_by address (numbers_of text (names_of text statements) statement.uses) (numbers_of text (names_of text statements) statement.driven))
-  unfolding netlist_of
-  blocks_here front statement back address split is = block_at text (names_of text statements) statements front statement back address split is
+  abbrev Right : Line → Type 0
+  Right line = IsRight names (length whole.signals) line
 
-  -- what drives a name of a line is there
-  drivable_by : (front : List Statement) (statement : Statement) (back : List Statement) → statements ≡ front ++ statement ∷ back → (k : ℕ) (token : Token) → slice_get (others_by statement.act statement.driven) k ≡ Some token → (one : Act) → statement.act ≡ one
-      → IsDrivable (netlist_of text statements) (place_of (names_of text statements) (text_of text token)) (driver_by one (numbers_of text (names_of text statements) statement.uses) (length (blocks_of text (names_of text statements) front)) k)
-  drivable_by front statement back split k token e act.Input is = tt
-  drivable_by front statement back split k token e act.Output is = tt
-  drivable_by front statement back split k token e (act.Gate kind) is =
-      let allowed = subst (λ a. allows a (length statement.driven) (length statement.uses) ≡ true) is (statement_at front statement back split).allowed in (
-        subst (AllowsOperands kind) (sym (length-map statement.uses (λ t. place_of (names_of text statements) (text_of text t)))) allowed,
-        numbers_are statement.uses (uses_are front statement back split),
+  -- what holds of the signals of each line holds of all signals beside inputs
+  each_signal : (Q : ℕ → Signal → Type 0)
+      → ((line : Line) (left : List Line) (uses : List ℕ) (net : Netlist) → IsMaking lines (line ∷ left) uses net → Right line → (j : ℕ) (signal : Signal) → slice_get (signals_by names (length net.blocks) line) j ≡ Some signal → Q (length net.signals + j) signal)
+      → (left : List Line) (uses : List ℕ) (net : Netlist) → IsMaking lines left uses net → AllByRecursion Right left → (j : ℕ) (signal : Signal) → slice_get (other_signals names (length net.blocks) left) j ≡ Some signal → Q (length net.signals + j) signal
+  unfolding other_signals
+  each_signal Q holds [] uses net made right j signal e = cc
+  each_signal Q holds (line ∷ left) uses net made right j signal e =
+      let m = length net.blocks in
+      let mine = signals_by names m line in
+      let next = grown lines left line uses net made in
+      let count : m + memory_count line ≡ length next.blocks = sym (length-append net.blocks (memories_by names line) ∙ ap (λ n. m + n) (memories_counted names line)) in
+      ⊎_elim (holds line left uses net made right.0 j signal)
+      (λ past.
+      let place : length next.signals + past.0 ≡ length net.signals + j = omega (arith, length-append net.signals mine, past.1) in
+      subst (λ s. Q s signal) place
+      (each_signal Q holds left (drop (length (used line)) uses) next (making_next lines left line uses net made once) right.1 past.0 signal
+      (subst (λ n. slice_get (other_signals names n left) past.0 ≡ Some signal) count past.2)))
+      (place_in mine (other_signals names (m + memory_count line) left) j signal e)
+
+  -- what holds of each line's memory holds of all memories
+  each_memory : (Q : ℕ → Block → Type 0)
+      → ((line : Line) (left : List Line) (uses : List ℕ) (net : Netlist) → IsMaking lines (line ∷ left) uses net → Right line → (j : ℕ) (memory : Block) → slice_get (memories_by names line) j ≡ Some memory → Q (length net.blocks + j) memory)
+      → (left : List Line) (uses : List ℕ) (net : Netlist) → IsMaking lines left uses net → AllByRecursion Right left → (j : ℕ) (memory : Block) → slice_get (flat_map (memories_by names) left) j ≡ Some memory → Q (length net.blocks + j) memory
+  each_memory Q holds [] uses net made right j memory e = cc
+  each_memory Q holds (line ∷ left) uses net made right j memory e =
+      let next = grown lines left line uses net made in
+      ⊎_elim (holds line left uses net made right.0 j memory)
+      (λ past.
+      let place : length next.blocks + past.0 ≡ length net.blocks + j = omega (arith, length-append net.blocks (memories_by names line), past.1) in
+      subst (λ m. Q m memory) place
+      (each_memory Q holds left (drop (length (used line)) uses) next (making_next lines left line uses net made once) right.1 past.0 memory past.2))
+      (place_in (memories_by names line) (flat_map (memories_by names) left) j memory e)
+
+  -- ---- names
+
+  in_order : (left : List Line) (uses : List ℕ) (net : Netlist) → IsMaking lines left uses net → signal_names whole.signals ≡ names
+  unfolding other_signals
+  in_order [] uses net made = ap signal_names (sym made.signals ∙ append-nil net.signals) ∙ sym (append-nil (signal_names net.signals)) ∙ made.named
+  in_order (line ∷ left) uses net made = in_order left (drop (length (used line)) uses) (grown lines left line uses net made) (making_next lines left line uses net made once)
+
+  abbrev inputs : Netlist
+  inputs = record { signals = map input_signal (flat_map input_names lines); printed = []; blocks = [] }
+
+  start : IsMaking lines lines (numbers names (all_used lines)) inputs
+  start = making_none lines (numbers names (all_used lines)) inputs refl refl refl refl
+
+  pub signals_length : length whole.signals ≡ length names
+  signals_length = sym (length-map whole.signals (λ (s : Signal). s.name)) ∙ ap length (in_order lines (numbers names (all_used lines)) inputs start)
+
+  name_here : (s : ℕ) (signal : Signal) → slice_get whole.signals s ≡ Some signal → slice_get names s ≡ Some signal.name
+  name_here s signal e =
+      ap (λ ns. slice_get ns s) (sym (in_order lines (numbers names (all_used lines)) inputs start))
+      ∙ slice_get-map (λ (t : Signal). t.name) whole.signals s
+      ∙ ap (option_map (λ (t : Signal). t.name)) e
+
+  number_here : (s : ℕ) (signal : Signal) → slice_get whole.signals s ≡ Some signal → number names signal.name ≡ s
+  number_here s signal e =
+      let at = name_here s signal e in
+      let within = slice_get_within names s signal.name at in
+      let split : names ≡ take s names ++ signal.name ∷ drop (s + 1) names =
+      split_at names s [] within ∙ ap (λ n. take s names ++ n ∷ drop (s + 1) names) (get_or_from_slice_get names s signal.name [] at) in
+      number_at names (take s names) signal.name (drop (s + 1) names) (names_once lines once) split
+      ∙ length-take-le s names (omega (arith, within))
+
+  pub distinct : NamesDiffer whole.signals
+  distinct s t one other e f same = sym (number_here s one e) ∙ ap (number names) same ∙ number_here t other f
+
+  -- ---- the signals of a memory line
+
+  module _ (o : List (List ℕ)) (enable : List ℕ) (address words : List (List ℕ)) (left : List Line) (uses : List ℕ) (net : Netlist) (made : IsMaking lines (Memory o enable address words ∷ left) uses net) where
+    abbrev memory : Block
+    memory = record { we = number names enable; address = numbers names address; word = numbers names words; outs = numbers names o }
+
+    memory_here : slice_get whole.blocks (length net.blocks) ≡ Some memory
+    memory_here = ap (λ bs. slice_get bs (length net.blocks)) (sym made.blocks) ∙ seam_at net.blocks memory (flat_map (memories_by names) left)
+
+    outs_are : memory.outs ≡ range_with_len (length net.signals) (length o)
+    outs_are = neighbours lines left (Memory o enable address words) uses net made once
+
+    out_here : (j : ℕ) → j < length o → slice_get memory.outs j ≡ Some (length net.signals + j)
+    out_here j within = ap (λ ns. slice_get ns j) outs_are ∙ range_get (length net.signals) (length o) j within
+
+    bits_length : length (bit_signals (length net.blocks) o) ≡ length o
+    bits_length =
+        sym (length-map (bit_signals (length net.blocks) o) (λ (s : Signal). s.name))
+        ∙ ap length (names_by names (length net.blocks) (Memory o enable address words))
+
+    bit_here : (j : ℕ) → j < length o → slice_get (bit_signals (length net.blocks) o) j ≡ Some (bit (length net.blocks) (j, get_or o j []))
+    bit_here j within = let e : 0 + j ≡ j = omega arith in bit_at (length net.blocks) 0 o j within ∙ ap (λ k. Some (bit (length net.blocks) (k, get_or o j []))) e
+
+    signal_here : (j : ℕ) → j < length o → slice_get whole.signals (length net.signals + j) ≡ Some (bit (length net.blocks) (j, get_or o j []))
+    unfolding other_signals
+    signal_here j within =
+        ap (λ ss. slice_get ss (length net.signals + j)) (sym made.signals)
+        ∙ inside_at net.signals (bit_signals (length net.blocks) o) (other_signals names (length net.blocks + 1) left) j _ (bit_here j within)
+
+    is_memory : Right (Memory o enable address words) → IsMemory whole (length net.blocks) memory
+    is_memory right =
+        let bits = memory_bits (length address) (length words) (length o) right.sized in
+        let below : ℕ → Type 0 = λ s. s < length whole.signals in
+        let rest = All-tail (λ name. below (number names name)) enable (address ++ words) right.uses in
+        let address_length = length-map address (number names) in
+        let word_length = length-map words (number names) in
+        record {
+          enable = All-head (λ name. below (number names name)) enable (address ++ words) right.uses;
+          address = All-map below (number names) address (all_front (λ name. below (number names name)) address words rest);
+          address_bits = (omega (arith, address_length, bits.0), omega (arith, address_length, bits.1));
+          word = All-map below (number names) words (all_back (λ name. below (number names name)) address words rest);
+          word_bits = (omega (arith, word_length, bits.2), omega (arith, word_length, bits.3));
+          outs = outs_are ∙ (λ k. range_with_len (first_of_range (length net.signals) (length o) memory.outs outs_are (omega (arith, bits.2, bits.4)) k) (same_length bits.4 word_length k));
+          driven = λ j s e.
+              let found = range_at (length net.signals) (length o) j s (sym (ap (λ ns. slice_get ns j) outs_are) ∙ e) in
+              (bit (length net.blocks) (j, get_or o j []), ap (slice_get whole.signals) found.0 ∙ signal_here j found.1, refl);
+        }
+      where
+        same_length : length words ≡ length o → length (numbers names words) ≡ length words → length o ≡ length (numbers names words)
+        same_length is e = omega (arith, is, e)
+
+  -- ---- each signal and memory
+
+  -- what drives a signal of a line is there
+  drivable_by : (line : Line) (left : List Line) (uses : List ℕ) (net : Netlist) → IsMaking lines (line ∷ left) uses net → Right line → (j : ℕ) (signal : Signal) → slice_get (signals_by names (length net.blocks) line) j ≡ Some signal → IsDrivable whole (length net.signals + j) signal.driver
+  drivable_by (Input name) left uses net made right j signal e = cc
+  drivable_by (Output name) left uses net made right j signal e = cc
+  drivable_by (Gate name kind ns) left uses net made right (suc j) signal e = cc
+  drivable_by (Gate name kind ns) left uses net made right zero signal e =
+      let is : record { name = name; driver = driver.Gate kind (numbers names ns) } ≡ signal = cc in
+      subst (λ (s : Signal). IsDrivable whole (length net.signals + 0) s.driver) is (
+        subst (AllowsOperands kind) (sym (length-map ns (number names))) right.sized,
+        All-map (λ s. s < length whole.signals) (number names) ns right.uses,
       )
-  drivable_by front statement back split k token e act.Dff is =
-      let allowed = subst (λ a. allows a (length statement.driven) (length statement.uses) ≡ true) is (statement_at front statement back split).allowed in
-      numbers_are statement.uses (uses_are front statement back split) 0 0
-      (omega (arith, length-map statement.uses (λ t. place_of (names_of text statements) (text_of text t)), eqb-true (length statement.uses) 1 allowed))
-  drivable_by front statement back split k token e (act.Ram address) is = (
-    block_by address (numbers_of text (names_of text statements) statement.uses) (numbers_of text (names_of text statements) statement.driven),
-    blocks_here front statement back address split is,
-    slice_get-map (λ t. place_of (names_of text statements) (text_of text t)) statement.driven k
-        ∙ ap (option_map (λ t. place_of (names_of text statements) (text_of text t))) (subst (λ a. slice_get (others_by a statement.driven) k ≡ Some token) is e),
+  drivable_by (Register name use_) left uses net made right (suc j) signal e = cc
+  drivable_by (Register name use_) left uses net made right zero signal e =
+      let is : record { name = name; driver = driver.Dff (number names use_) } ≡ signal = cc in
+      subst (λ (s : Signal). IsDrivable whole (length net.signals + 0) s.driver) is (All-head (λ name. number names name < length whole.signals) use_ [] right.uses)
+  drivable_by (Memory o enable address words) left uses net made right j signal e =
+      let within : j < length o = omega (arith, slice_get_within (bit_signals (length net.blocks) o) j signal e, bits_length o enable address words left uses net made) in
+      let is : bit (length net.blocks) (j, get_or o j []) ≡ signal = one_there (bit_signals (length net.blocks) o) j j _ _ refl (bit_here o enable address words left uses net made j within) e in
+      subst (λ (s : Signal). IsDrivable whole (length net.signals + j) s.driver) is (
+        memory o enable address words left uses net made,
+        memory_here o enable address words left uses net made,
+        out_here o enable address words left uses net made j within,
+      )
+
+  no_inputs : (m : ℕ) (line : Line) → All (λ (signal : Signal). is_input signal.driver ≡ false) (signals_by names m line)
+  no_inputs m (Input name) = All-nil (λ (signal : Signal). is_input signal.driver ≡ false)
+  no_inputs m (Output name) = All-nil (λ (signal : Signal). is_input signal.driver ≡ false)
+  no_inputs m (Gate name kind ns) = All-cons (λ (signal : Signal). is_input signal.driver ≡ false) _ [] refl (All-nil _)
+  no_inputs m (Register name use_) = All-cons (λ (signal : Signal). is_input signal.driver ≡ false) _ [] refl (All-nil _)
+  no_inputs m (Memory o enable address words) = All-map (λ (signal : Signal). is_input signal.driver ≡ false) (bit m) (enumerate_from 0 o) (λ k d within. refl)
+
+  -- ---- what holds where each line is right
+
+  module _ (right : All Right lines) where
+    each_right : AllByRecursion Right lines
+    each_right = recursion_from_All Right lines right
+
+    all_named : All IsName names
+    unfolding names_of
+    all_named =
+        let named : (line : Line) → Right line → All IsName (input_names line ++ other_names line) = λ line r. subst (All IsName) (line_orders line) r.named in
+        All-append IsName (flat_map input_names lines) (flat_map other_names lines)
+        (all_flat_of IsName input_names lines (All-weaker Right (λ line. All IsName (input_names line)) (λ line r. all_front IsName (input_names line) (other_names line) (named line r)) lines right))
+        (all_flat_of IsName other_names lines (All-weaker Right (λ line. All IsName (other_names line)) (λ line r. all_back IsName (input_names line) (other_names line) (named line r)) lines right))
+
+    pub are_named : AreNamed whole.signals
+    are_named s signal e = each IsName names s signal.name all_named (name_here s signal e)
+
+    -- a signal is an input, or one of a line
+    signal_cases : (s : ℕ) (signal : Signal) → slice_get whole.signals s ≡ Some signal
+        → (slice_get inputs.signals s ≡ Some signal) ⊎ ((k : ℕ) × (s ≡ length inputs.signals + k) × (slice_get (other_signals names 0 lines) k ≡ Some signal))
+    unfolding netlist_of
+    signal_cases s signal e = place_in inputs.signals (other_signals names 0 lines) s signal e
+
+    input_here : (s : ℕ) (signal : Signal) → slice_get inputs.signals s ≡ Some signal → signal.driver ≡ driver.Input
+    input_here s signal e = each (λ (t : Signal). t.driver ≡ driver.Input) inputs.signals s signal (All-map (λ (t : Signal). t.driver ≡ driver.Input) input_signal (flat_map input_names lines) (λ k d within. refl)) e
+
+    pub inputs_first : InputsLead whole.signals
+    inputs_first s t one other e f before input =
+        ⊎_elim
+        (λ here. ⊎_elim
+        (λ first. ap is_input (input_here s one first))
+        (λ past. absurd (omega (arith, slice_get_within inputs.signals t other here, past.1)))
+        (signal_cases s one e))
+        (λ past. absurd (both_ways _
+        (each_signal (λ s signal. is_input signal.driver ≡ false)
+        (λ line left uses net made r j signal. each (λ (x : Signal). is_input x.driver ≡ false) (signals_by names (length net.blocks) line) j signal (no_inputs (length net.blocks) line))
+        lines (numbers names (all_used lines)) inputs start each_right past.0 other past.2) input))
+        (signal_cases t other f)
+
+    pub drivers : (s : ℕ) (signal : Signal) → slice_get whole.signals s ≡ Some signal → IsDrivable whole s signal.driver
+    drivers s signal e =
+        ⊎_elim
+        (λ here. subst (IsDrivable whole s) (sym (input_here s signal here)) tt)
+        (λ past. subst (λ n. IsDrivable whole n signal.driver) (sym past.1)
+        (each_signal (λ s signal. IsDrivable whole s signal.driver) drivable_by lines (numbers names (all_used lines)) inputs start each_right past.0 signal past.2))
+        (signal_cases s signal e)
+
+    memory_cases : (Q : ℕ → Block → Type 0)
+        → ((o : List (List ℕ)) (enable : List ℕ) (address words : List (List ℕ)) (left : List Line) (uses : List ℕ) (net : Netlist) (made : IsMaking lines (Memory o enable address words ∷ left) uses net) → Right (Memory o enable address words)
+        → Q (length net.blocks) (memory o enable address words left uses net made))
+        → (m : ℕ) (block : Block) → slice_get whole.blocks m ≡ Some block → Q m block
+    unfolding netlist_of
+    memory_cases Q holds m block e =
+        let none : 0 + m ≡ m = omega arith in
+        subst (λ n. Q n block) none (each_memory Q by_line lines (numbers names (all_used lines)) inputs start each_right m block e)
+      where
+        by_line : (line : Line) (left : List Line) (uses : List ℕ) (net : Netlist) → IsMaking lines (line ∷ left) uses net → Right line → (j : ℕ) (other : Block) → slice_get (memories_by names line) j ≡ Some other → Q (length net.blocks + j) other
+        by_line (Input name) left uses net made r j other f = cc
+        by_line (Output name) left uses net made r j other f = cc
+        by_line (Gate name kind ns) left uses net made r j other f = cc
+        by_line (Register name use_) left uses net made r j other f = cc
+        by_line (Memory o enable address words) left uses net made r (suc j) other f = cc
+        by_line (Memory o enable address words) left uses net made r zero other f =
+            let is : memory o enable address words left uses net made ≡ other = cc in
+            let at : length net.blocks ≡ length net.blocks + 0 = omega arith in
+            subst (λ n. Q n other) at (subst (Q (length net.blocks)) is (holds o enable address words left uses net made r))
+
+    pub memories : (m : ℕ) (block : Block) → slice_get whole.blocks m ≡ Some block → IsMemory whole m block
+    memories = memory_cases (IsMemory whole) is_memory
+
+    pub memories_in_order : (m n : ℕ) (one other : Block) → slice_get whole.blocks m ≡ Some one → slice_get whole.blocks n ≡ Some other → m < n → get_or one.outs 0 0 < get_or other.outs 0 0
+    memories_in_order m n one other e f before =
+        let is = memories m one e in
+        let some : 1 ≤ length one.outs = omega (arith, ap length is.outs, length-range_with_len (get_or one.outs 0 0) (length one.word), is.word_bits.0) in
+        memory_cases (λ n other. m < n → get_or one.outs 0 0 < get_or other.outs 0 0) (later some) n other f before
+      where
+        later : 1 ≤ length one.outs → (o : List (List ℕ)) (enable : List ℕ) (address words : List (List ℕ)) (left : List Line) (uses : List ℕ) (net : Netlist) (made : IsMaking lines (Memory o enable address words ∷ left) uses net) → Right (Memory o enable address words)
+            → m < length net.blocks → get_or one.outs 0 0 < get_or (memory o enable address words left uses net made).outs 0 0
+        later some o enable address words left uses net made r below =
+            let bits = memory_bits (length address) (length words) (length o) r.sized in
+            let here = sym (at_front net.blocks (memories_by names (Memory o enable address words) ++ flat_map (memories_by names) left) m below) ∙ ap (λ bs. slice_get bs m) made.blocks ∙ e in
+            omega (
+              arith,
+              some,
+              each (IsBelow (length net.signals)) net.blocks m one made.below here,
+              first_of_range (length net.signals) (length o) (numbers names o) (outs_are o enable address words left uses net made) (omega (arith, bits.2, bits.4)),
+            )
+
+    pub printed : All (IsSignal whole) whole.printed
+    unfolding netlist_of
+    printed =
+        All-map (IsSignal whole) (number names) (flat_map printed_names lines)
+        (all_flat_of (λ name. number names name < length whole.signals) printed_names lines
+        (All-weaker Right (λ line. All (λ name. number names name < length whole.signals) (printed_names line)) by_line lines right))
+      where
+        by_line : (line : Line) → Right line → All (λ name. number names name < length whole.signals) (printed_names line)
+        by_line (Input name) r = All-nil (λ name. number names name < length whole.signals)
+        by_line (Output name) r = r.uses
+        by_line (Gate name kind ns) r = All-nil (λ name. number names name < length whole.signals)
+        by_line (Register name use_) r = All-nil (λ name. number names name < length whole.signals)
+        by_line (Memory o enable address words) r = All-nil (λ name. number names name < length whole.signals)
+
+-- ---- the limits
+
+few_printed : (lines : List Line) → length (netlist_of lines).printed ≤ length lines
+unfolding netlist_of
+few_printed lines = omega (arith, length-map (flat_map printed_names lines) (number (names_of lines)), printed-le lines)
+
+operands-are : (lines : List Line) → sum_by signal_operands (netlist_of lines).signals + sum_by memory_operand_count (netlist_of lines).blocks ≡ operand_count lines
+unfolding netlist_of
+operands-are lines =
+    let inputs = flat_map input_names lines in
+    omega (
+      arith,
+      lines_operands (names_of lines) 0 lines,
+      sum_by-append signal_operands (map input_signal inputs) (other_signals (names_of lines) 0 lines),
+      sum_none signal_operands (map input_signal inputs) (All-map (λ (s : Signal). signal_operands s ≡ 0) input_signal inputs (λ k d within. refl)),
+    )
+
+-- ---- sound lines
+
+-- the lines of a text are right
+all_right : (lines : List Line) → AreSound lines → AllByRecursion IsFair lines → All (IsRight (names_of lines) (length (netlist_of lines).signals)) lines
+unfolding all_used
+all_right lines sound fair = All-from_recursion Right lines (each_of lines fair sound.driven) where
+  IsAmong : List ℕ → Type 0
+  IsAmong name = list_any (bytes_eq name) (all_driven lines) ≡ true
+
+  Right : Line → Type 0
+  Right = IsRight (names_of lines) (length (netlist_of lines).signals)
+
+  each_of : (some : List Line) → AllByRecursion IsFair some → All IsAmong (flat_map used some) → AllByRecursion Right some
+  each_of [] fair among = tt
+  each_of (line ∷ some) fair among = (
+    record {
+      named = fair.0.named;
+      uses = All-weaker IsAmong (λ name. number (names_of lines) name < length (netlist_of lines).signals)
+          (λ name is. omega (arith, numbered lines name is, signals_length lines sound.once)) (used line)
+          (all_front IsAmong (used line) (flat_map used some) among);
+      sized = fair.0.sized;
+    },
+    each_of some fair.1 (all_back IsAmong (used line) (flat_map used some) among),
   )
-
-  -- what holds of inputs, and of the signals of each line, holds of all signals
-  all_signals : (Q : Signal → Type 0) → ((token : Token) → Q (record { name = text_of text token; driver = driver.Input }))
-      → ((front : List Statement) (statement : Statement) (back : List Statement) → statements ≡ front ++ statement ∷ back → (k : ℕ) (token : Token) → slice_get (others_by statement.act statement.driven) k ≡ Some token
-      → Q (record { name = text_of text token; driver = driver_by statement.act (numbers_of text (names_of text statements) statement.uses) (length (blocks_of text (names_of text statements) front)) k }))
-      → All Q (netlist_of text statements).signals
-  unfolding netlist_of
-  all_signals Q of_inputs of_lines =
-      All-append Q (input_signals text statements) (other_signals text (names_of text statements) 0 statements) (inputs_each Q text statements of_inputs)
-      (others_each Q text (names_of text statements) 0 statements
-      (λ front statement back split k token e. subst (λ m. Q (record { name = text_of text token; driver = driver_by statement.act (numbers_of text (names_of text statements) statement.uses) m k }))
-      (zero_more (length (blocks_of text (names_of text statements) front))) (of_lines front statement back split k token e)))
-    where
-      zero_more : (n : ℕ) → n ≡ 0 + n
-      zero_more n = omega arith
-
-  pub drivers : (s : ℕ) (signal : Signal) → slice_get (netlist_of text statements).signals s ≡ Some signal → IsDrivable (netlist_of text statements) s signal.driver
-  drivers s signal e = subst (λ t. IsDrivable (netlist_of text statements) t signal.driver) (number_of_name s signal e) (each Q (netlist_of text statements).signals s signal every e) where
-    Q : Signal → Type 0
-    Q signal = IsDrivable (netlist_of text statements) (place_of (names_of text statements) signal.name) signal.driver
-
-    every : All Q (netlist_of text statements).signals
-    every = all_signals Q (λ token. tt) (λ front statement back split k token f. drivable_by front statement back split k token f statement.act refl)
-
-  -- ---- where a line's signals stand
-
-  before : List Statement → List (List ℕ)
-  before front = texts_of text (inputs_of statements) ++ texts_of text (others_of front)
-
-  names_split : (front : List Statement) (statement : Statement) (back : List Statement) (address : ℕ) → statements ≡ front ++ statement ∷ back → statement.act ≡ act.Ram address → names_of text statements ≡ before front ++ (texts_of text statement.driven ++ texts_of text (others_of back))
-  unfolding before others_of
-  names_split front statement back address split is =
-      let f : Statement → List Token = λ s. others_by s.act s.driven in
-      names_are text statements
-      ∙ ap (λ ss. texts_of text (inputs_of statements) ++ texts_of text (others_of ss)) split
-      ∙ ap (λ ts. texts_of text (inputs_of statements) ++ texts_of text ts) (flat_map-append f front (statement ∷ back))
-      ∙ ap (λ a. texts_of text (inputs_of statements) ++ texts_of text (others_of front ++ (others_by a statement.driven ++ others_of back))) is
-      ∙ ap (λ ns. texts_of text (inputs_of statements) ++ ns) (map-append (text_of text) (others_of front) (statement.driven ++ others_of back))
-      ∙ ap (λ ns. texts_of text (inputs_of statements) ++ (texts_of text (others_of front) ++ ns)) (map-append (text_of text) statement.driven (others_of back))
-      ∙ sym (append_assoc (texts_of text (inputs_of statements)) (texts_of text (others_of front)) (texts_of text statement.driven ++ texts_of text (others_of back)))
-
-  outs_range : (front : List Statement) (statement : Statement) (back : List Statement) (address : ℕ) → statements ≡ front ++ statement ∷ back → statement.act ≡ act.Ram address → numbers_of text (names_of text statements) statement.driven ≡ range_with_len (length (before front)) (length statement.driven)
-  outs_range front statement back address split is =
-      let same = names_split front statement back address split is in
-      ap (λ ns. numbers_of text ns statement.driven) same
-      ∙ numbers_range text (before front) statement.driven (texts_of text (others_of back)) (subst AreOnce same names_once)
-
-  front_signals : List Statement → List Signal
-  front_signals front = input_signals text statements ++ other_signals text (names_of text statements) 0 front
-
-  front_length : (front : List Statement) → length (front_signals front) ≡ length (before front)
-  unfolding front_signals before signal_names
-  front_length front =
-      sym (length-map (front_signals front) (λ (s : Signal). s.name))
-      ∙ ap length (names-append (input_signals text statements) (other_signals text (names_of text statements) 0 front)
-      ∙ ap (λ ns. ns ++ signal_names (other_signals text (names_of text statements) 0 front)) (input_names text statements)
-      ∙ ap (λ ns. texts_of text (inputs_of statements) ++ ns) (other_names text (names_of text statements) 0 front))
-
-  signals_split : (front : List Statement) (statement : Statement) (back : List Statement) (address : ℕ) → statements ≡ front ++ statement ∷ back → statement.act ≡ act.Ram address
-      → (rest : List Signal) × ((netlist_of text statements).signals ≡ front_signals front ++ (signals_by text (act.Ram address) (numbers_of text (names_of text statements) statement.uses) (length (blocks_of text (names_of text statements) front)) statement.driven ++ rest))
-  unfolding netlist_of front_signals other_signals
-  signals_split front statement back address split is =
-      let ns = names_of text statements in
-      let m = length (blocks_of text ns front) in
-      let rest = other_signals text ns (m + memories_by statement.act) back in
-      let zero_more : 0 + m ≡ m = omega arith in (
-        rest,
-        ap (λ ss. input_signals text statements ++ ss)
-            (ap (other_signals text ns 0) split ∙ others-append text ns 0 front (statement ∷ back)
-            ∙ ap (λ k. other_signals text ns 0 front ++ other_signals text ns k (statement ∷ back)) zero_more
-            ∙ ap (λ a. other_signals text ns 0 front ++ (signals_by text a (numbers_of text ns statement.uses) m (others_by a statement.driven) ++ rest)) is)
-            ∙ sym (append_assoc (input_signals text statements) (other_signals text ns 0 front) (signals_by text (act.Ram address) (numbers_of text ns statement.uses) m statement.driven ++ rest)),
-      )
-
-  is_memory : (front : List Statement) (statement : Statement) (back : List Statement) (address : ℕ) → statements ≡ front ++ statement ∷ back → statement.act ≡ act.Ram address
-      → IsMemory (netlist_of text statements) (length (blocks_of text (names_of text statements) front)) (block_by address (numbers_of text (names_of text statements) statement.uses) (numbers_of text (names_of text statements) statement.driven))
-  is_memory front statement back address split is =
-      let ns = names_of text statements in
-      let uses = numbers_of text ns statement.uses in
-      let outs = numbers_of text ns statement.driven in
-      let len : length uses ≡ length statement.uses = length-map statement.uses (λ t. place_of ns (text_of text t)) in
-      let allowed = subst (λ a. allows a (length statement.driven) (length statement.uses) ≡ true) is (statement_at front statement back split).allowed in
-      let bits = memory_bits address (length statement.uses - (1 + address)) (length statement.driven) allowed in
-      let signals : All (IsSignal (netlist_of text statements)) uses = numbers_are statement.uses (uses_are front statement back split) in
-      let one : length (drop 1 uses) ≡ length uses - 1 = length-drop 1 uses in
-      let taken : length (take address (drop 1 uses)) ≡ address = length-take-le address (drop 1 uses) (omega (arith, one, len, bits.some_words)) in
-      let left : length (drop address (drop 1 uses)) ≡ length (drop 1 uses) - address = length-drop address (drop 1 uses) in
-      let range = outs_range front statement back address split is in
-      record {
-        enable = signals 0 0 (omega (arith, len, bits.some_words));
-        address = All-take (IsSignal (netlist_of text statements)) address (drop 1 uses) (All-drop (IsSignal (netlist_of text statements)) 1 uses signals);
-        address_bits = (omega (arith, taken, bits.some_address), omega (arith, taken, bits.few_address));
-        word = All-drop (IsSignal (netlist_of text statements)) address (drop 1 uses) (All-drop (IsSignal (netlist_of text statements)) 1 uses signals);
-        word_bits = (omega (arith, left, one, len, bits.some_words), omega (arith, left, one, len, bits.few_words));
-        outs = range ∙ ap (λ n. range_with_len n (length statement.driven)) (first_of_range (length (before front)) (length statement.driven) outs range (omega (arith, bits.some_words, bits.outputs_are)))
-            ∙ ap (range_with_len (get_or outs 0 0)) (omega (arith, left, one, len, bits.outputs_are));
-        driven = λ bit s e.
-            let found = range_at (length (before front)) (length statement.driven) bit s (subst (λ ns. slice_get ns bit ≡ Some s) range e) in
-            let token = get_or statement.driven bit no_token in
-            let here = slice_get-get_or statement.driven bit no_token found.1 in
-            let parts = signals_split front statement back address split is in
-            let mine = signals_by text (act.Ram address) uses (length (blocks_of text ns front)) statement.driven in
-            let at : s ≡ length (front_signals front) + bit = omega (arith, found.0, front_length front) in (
-              record { name = text_of text token; driver = driver.BlockBit (length (blocks_of text ns front)) bit },
-              ap (slice_get (netlist_of text statements).signals) at
-                  ∙ ap (λ ss. slice_get ss (length (front_signals front) + bit)) parts.1
-                  ∙ inside_at (front_signals front) mine parts.0 bit _ (signal_by_at text (act.Ram address) uses (length (blocks_of text ns front)) statement.driven bit token here),
-              refl,
-            );
-      }
-
-  blocks_are : (m : ℕ) (memory : Block) → slice_get (netlist_of text statements).blocks m ≡ Some memory → slice_get (blocks_of text (names_of text statements) statements) m ≡ Some memory
-  unfolding netlist_of
-  blocks_are m memory e = e
-
-  pub memories : (m : ℕ) (memory : Block) → slice_get (netlist_of text statements).blocks m ≡ Some memory → IsMemory (netlist_of text statements) m memory
-  memories m memory e =
-      let none : 0 + m ≡ m = omega arith in
-      subst (λ n. IsMemory (netlist_of text statements) n memory) none
-      (blocks_each (IsMemory (netlist_of text statements)) text (names_of text statements) 0 statements
-      (λ front statement back address split is. subst (λ n. IsMemory (netlist_of text statements) n (block_by address (numbers_of text (names_of text statements) statement.uses) (numbers_of text (names_of text statements) statement.driven)))
-      (zero_more (length (blocks_of text (names_of text statements) front))) (is_memory front statement back address split is))
-      m memory (blocks_are m memory e))
-    where
-      zero_more : (n : ℕ) → n ≡ 0 + n
-      zero_more n = omega arith
-
-  all_names : All IsName (names_of text statements)
-  all_names =
-      let both = named_orders text statements all in
-      subst (All IsName) (sym (names_are text statements))
-      (All-append IsName (texts_of text (inputs_of statements)) (texts_of text (others_of statements)) (named_texts text (inputs_of statements) both.0) (named_texts text (others_of statements) both.1))
-
-  pub named : AreNamed (netlist_of text statements).signals
-  named s signal e = each IsName (names_of text statements) s signal.name all_names (name_here s signal e)
-
-  not_inputs : (front : List Statement) (statement : Statement) (back : List Statement) → statements ≡ front ++ statement ∷ back → (k : ℕ) (token : Token) → slice_get (others_by statement.act statement.driven) k ≡ Some token → (uses : List ℕ) (memory : ℕ) → (one : Act) → statement.act ≡ one → is_input (driver_by one uses memory k) ≡ false
-  not_inputs front statement back split k token e uses memory act.Input is = cc (subst (λ a. slice_get (others_by a statement.driven) k ≡ Some token) is e)
-  not_inputs front statement back split k token e uses memory act.Output is =
-      let shaped = subst (λ a. IsShaped a statement.driven statement.uses) is (statement_at front statement back split).shaped in
-      cc (subst (λ ts. slice_get ts k ≡ Some token) shaped.0 (subst (λ a. slice_get (others_by a statement.driven) k ≡ Some token) is e))
-  not_inputs front statement back split k token e uses memory (act.Gate kind) is = refl
-  not_inputs front statement back split k token e uses memory act.Dff is = refl
-  not_inputs front statement back split k token e uses memory (act.Ram address) is = refl
-
-  pub inputs_first : InputsLead (netlist_of text statements).signals
-  unfolding netlist_of
-  inputs_first =
-      lead_of (input_signals text statements) (other_signals text (names_of text statements) 0 statements)
-      (inputs_each (λ signal. is_input signal.driver ≡ true) text statements (λ token. refl))
-      (others_each (λ signal. is_input signal.driver ≡ false) text (names_of text statements) 0 statements
-      (λ front statement back split k token e. not_inputs front statement back split k token e (numbers_of text (names_of text statements) statement.uses) (0 + length (blocks_of text (names_of text statements) front)) statement.act refl))
-
-  -- ---- memories in order
-
-  record IsBlockOf (m : ℕ) (memory : Block) : Type 0 where
-    front : List Statement
-    statement : Statement
-    back : List Statement
-    address : ℕ
-    split : statements ≡ front ++ statement ∷ back
-    is : statement.act ≡ act.Ram address
-    place : m ≡ length (blocks_of text (names_of text statements) front)
-    same : memory ≡ block_by address (numbers_of text (names_of text statements) statement.uses) (numbers_of text (names_of text statements) statement.driven)
-
-  block_of : (m : ℕ) (memory : Block) → slice_get (netlist_of text statements).blocks m ≡ Some memory → IsBlockOf m memory
-  block_of m memory e =
-      let none : 0 + m ≡ m = omega arith in
-      subst (λ n. IsBlockOf n memory) none
-      (blocks_each IsBlockOf text (names_of text statements) 0 statements
-      (λ front statement back address split is. record { front = front; statement = statement; back = back; address = address; split = split; is = is; place = omega arith; same = refl })
-      m memory (blocks_are m memory e))
-
-  first_out : (m : ℕ) (memory : Block) (of : IsBlockOf m memory) → (get_or memory.outs 0 0 ≡ length (before of.front)) × (1 ≤ length of.statement.driven)
-  first_out m memory of =
-      let allowed = subst (λ a. allows a (length of.statement.driven) (length of.statement.uses) ≡ true) of.is (statement_at of.front of.statement of.back of.split).allowed in
-      let bits = memory_bits of.address (length of.statement.uses - (1 + of.address)) (length of.statement.driven) allowed in
-      let some : 1 ≤ length of.statement.driven = omega (arith, bits.some_words, bits.outputs_are) in (
-        ap (λ (b : Block). get_or b.outs 0 0) of.same
-            ∙ sym (first_of_range (length (before of.front)) (length of.statement.driven) (numbers_of text (names_of text statements) of.statement.driven) (outs_range of.front of.statement of.back of.address of.split of.is) some),
-        some,
-      )
-
-  before_length : (front : List Statement) (statement : Statement) (between : List Statement) (address : ℕ) → statement.act ≡ act.Ram address → length (before front) + length statement.driven ≤ length (before (front ++ statement ∷ between))
-  unfolding before others_of
-  before_length front statement between address is =
-      let f : Statement → List Token = λ s. others_by s.act s.driven in
-      omega (
-        arith,
-        length-append (texts_of text (inputs_of statements)) (texts_of text (flat_map f front)),
-        length-append (texts_of text (inputs_of statements)) (texts_of text (flat_map f (front ++ statement ∷ between))),
-        length-map (flat_map f front) (text_of text),
-        length-map (flat_map f (front ++ statement ∷ between)) (text_of text),
-        ap length (flat_map-append f front (statement ∷ between)),
-        length-append (flat_map f front) (f statement ++ flat_map f between),
-        length-append (f statement) (flat_map f between),
-        ap (λ a. length (others_by a statement.driven)) is,
-      )
-
-  pub memories_in_order : (m n : ℕ) (one other : Block) → slice_get (netlist_of text statements).blocks m ≡ Some one → slice_get (netlist_of text statements).blocks n ≡ Some other → m < n → get_or one.outs 0 0 < get_or other.outs 0 0
-  memories_in_order m n one other e f earlier =
-      let a = block_of m one e in
-      let b = block_of n other f in
-      let found = earlier_line text (names_of text statements) a.front a.statement a.back b.front b.statement b.back (sym a.split ∙ b.split) (omega (arith, a.place, b.place)) in
-      let x = first_out m one a in
-      let y = first_out n other b in
-      omega (arith, x.0, x.1, y.0, ap (λ ss. length (before ss)) found.1, before_length a.front a.statement found.0 a.address a.is)
-
-  -- ---- printed signals, and the limits
-
-  pub printed : All (IsSignal (netlist_of text statements)) (netlist_of text statements).printed
-  unfolding netlist_of printed_of
-  printed =
-      all_flat (IsSignal (netlist_of text statements)) (λ statement. printed_by statement.act (numbers_of text (names_of text statements) statement.uses)) statements
-      (λ front statement back split. by_act statement.act (numbers_of text (names_of text statements) statement.uses) (numbers_are statement.uses (uses_are front statement back split)))
-    where
-      by_act : (one : Act) (numbers : List ℕ) → All (IsSignal (netlist_of text statements)) numbers → All (IsSignal (netlist_of text statements)) (printed_by one numbers)
-      by_act act.Input numbers a = All-nil (IsSignal (netlist_of text statements))
-      by_act act.Output numbers a = a
-      by_act (act.Gate kind) numbers a = All-nil (IsSignal (netlist_of text statements))
-      by_act act.Dff numbers a = All-nil (IsSignal (netlist_of text statements))
-      by_act (act.Ram address) numbers a = All-nil (IsSignal (netlist_of text statements))
-
-  pub few_printed : length (netlist_of text statements).printed ≤ length statements
-  unfolding netlist_of
-  few_printed = few_printed_of text (names_of text statements) statements all
-
-  pub few_operands : sum_by (λ (signal : Signal). driver_operands signal.driver) (netlist_of text statements).signals + sum_by memory_operand_count (netlist_of text statements).blocks ≤ operand_count statements
-  unfolding netlist_of
-  few_operands =
-      omega (
-        arith,
-        lines_operands text (names_of text statements) 0 statements all,
-        sum_by-append signal_operands (input_signals text statements) (other_signals text (names_of text statements) 0 statements),
-        sum_none signal_operands (input_signals text statements) (inputs_each (λ signal. signal_operands signal ≡ 0) text statements (λ token. refl)),
-      )
 
 -- what a text reads as is a valid netlist
 pub valid_from_reads : (text : List ℕ) (net : Netlist) → length text ≤ MAX_TEXT_BYTES → Reads text net → IsValid net
 valid_from_reads text net short reads =
-    let ss = reads.statements in
-    let sound = reads.lines.sound in
-    let all = all_statements text ss reads.lines in
+    let lines = reads.lines in
+    let once = reads.sound.once in
+    let right = all_right lines reads.sound (text_fair text lines reads.bytes reads.said) in
     subst IsValid (sym reads.netlist) (record {
-      names = named text ss all sound.once reads.driven;
-      distinct = distinct text ss all sound.once reads.driven;
-      inputs_first = inputs_first text ss all sound.once reads.driven;
-      drivers = drivers text ss all sound.once reads.driven;
-      memories = memories text ss all sound.once reads.driven;
-      memories_in_order = memories_in_order text ss all sound.once reads.driven;
-      printed = printed text ss all sound.once reads.driven;
-      few_signals = omega (arith, signals_length text ss all sound.once reads.driven, sound.few_signals);
-      few_operands = omega (arith, few_operands text ss all sound.once reads.driven, sound.few_operands);
-      few_printed = omega (arith, few_printed text ss all sound.once reads.driven, short_statements text ss reads.lines, short);
+      names = are_named lines once right;
+      distinct = distinct lines once;
+      inputs_first = inputs_first lines once right;
+      drivers = drivers lines once right;
+      memories = memories lines once right;
+      memories_in_order = memories_in_order lines once right;
+      printed = printed lines once right;
+      few_signals = omega (arith, signals_length lines once, names_length lines, reads.sound.few_signals);
+      few_operands = omega (arith, operands-are lines, reads.sound.few_operands);
+      few_printed = omega (arith, few_printed lines, said_length (rows_of text) lines reads.said, rows_length text, short);
     })

@@ -1,5 +1,11 @@
+pub mod Drafting
+pub mod Drafts
 pub mod Faults
-pub mod Grammar
+pub mod Lines
+pub mod Making
 pub mod Netlists
+pub mod Placed
 pub mod Reads
-pub mod Words
+pub mod Saying
+pub mod Storing
+pub mod Written

@@ -1,126 +1,125 @@
 //! The numbers of names: their places in signal order.
 
-ghost use Rattle.std.specs.Prelude.{◌≡◌, ◌⊎◌, ◌++◌, ◌<◌, ◌≤◌, ◌^◌, length, IfOk, OnOk};
+ghost use Rattle.std.specs.Prelude.{◌≡◌, ◌⊎◌, ◌++◌, ◌+◌, ◌≤◌, ◌<◌, ◌^◌, length, get_or, IfOk, OnOk, slice_get};
+ghost use Rattle.std.specs.List.{flat_map, range_with_len};
+ghost use Rattle.limits.specs.declared.TheConstants.{MAX_SIGNALS};
 ghost use Rattle.text_lines.specs.Answers.{Answers};
 ghost use Rattle.bench_read.specs.declared.refusal.BenchNo.TheVariants.{Memory as NoMemory, Undriven};
-ghost use Rattle.bench_read.specs.Faults.{drivers_of, use_fault, texts_of};
-ghost use Rattle.bench_read.specs.Netlists.{names_of, inputs_by, others_by, place_of, numbers_of};
-ghost use Rattle.bench_read.specs.Grammar as specs;
-ghost use Rattle.bench_read.specs.Reads.{AreOnce};
+ghost use Rattle.bench_read.specs.Drafting.{IsWhole, driven_names, used_names, placed_in, lines_in};
+ghost use Rattle.bench_read.specs.Faults.{uses_fault};
+ghost use Rattle.bench_read.specs.Lines.{used};
+ghost use Rattle.bench_read.specs.Making.{seen, order_by, line_of_use};
+ghost use Rattle.bench_read.specs.Netlists.{input_names, other_names, names_of, numbers};
 
-use crate::form::text_of;
-use crate::names::Names;
+use crate::draft::Draft;
+use crate::lines::{DraftLine, DraftLines};
 use crate::refusal::BenchNo;
-use crate::statement::{Act, Statement};
-use bench_text::Token;
 use seen_list::{List, Memory, Text};
 use std::alloc::Global;
 
-/// The names in signal order: the inputs, and then the others.
-pub fn name_signals<'a>(
-    alloc: Global,
-    text: &'a [u8],
-    statements: &[Statement],
-) -> Result<Names<'a>, Memory>
-    requires { AreOnce (texts_of text.now (drivers_of statements.now)) }
-    ensures { IfOk result (λ names. names ≡ names_of text.now statements.now) }
+/// The numbers of the driven names in file order: the inputs stand first.
+pub fn signal_numbers(alloc: Global, draft: &Draft, inputs: usize) -> Result<List<u32>, Memory>
+    requires inputs { length (flat_map input_names (lines_in draft.now)) ≤ inputs }
+    requires few { inputs + length (flat_map other_names (lines_in draft.now)) < 2 ^ 32 }
+    ensures { IfOk result (λ order. order ≡ order_by 0 inputs (lines_in draft.now)) }
 {
-    let mut names = Names::new(alloc);
-    'inputs: for statement in statements {
-        add_all(text, &mut names, inputs(statement))?;
+    let mut order = List::new(alloc);
+    let mut input = 0;
+    let mut other = inputs;
+    'lines: for (_at, line) in DraftLines::new(draft) {
+        push_range(&mut order, input, input_count(line))?;
+        push_range(&mut order, other, other_count(line))?;
+        input += input_count(line);
+        other += other_count(line);
     }
-    'others: for statement in statements {
-        add_all(text, &mut names, others(statement))?;
-    }
-    Ok(names)
+    Ok(order)
 }
 
-/// The names of inputs that the line drives.
-pub fn inputs(statement: &Statement) -> &[Token]
-    ensures { result.now ≡ inputs_by statement.now.act statement.now.driven }
+/// How many inputs the line drives.
+fn input_count(line: DraftLine) -> usize
+    ensures { result ≡ length (input_names (seen line.entry)) }
 {
-    match statement.act {
-        Act::Input => statement.driven.as_slice(),
-        _ => &[],
-    }
-}
-
-/// The names of other signals that the line drives.
-pub fn others(statement: &Statement) -> &[Token]
-    ensures { result.now ≡ others_by statement.now.act statement.now.driven }
-{
-    match statement.act {
-        Act::Input => &[],
-        _ => statement.driven.as_slice(),
+    match line {
+        DraftLine::Input { .. } => 1,
+        _ => 0,
     }
 }
 
-/// Adds the names of the tokens, which are new.
-fn add_all<'a>(text: &'a [u8], names: &mut Names<'a>, tokens: &[Token]) -> Result<(), Memory>
-    requires { AreOnce (names.old ++ texts_of text.now tokens.now) }
-    ensures { OnOk result (names.new ≡ names.old ++ texts_of text.now tokens.now) }
+/// How many other signals the line drives.
+fn other_count(line: DraftLine) -> usize
+    ensures { result ≡ length (other_names (seen line.entry)) }
 {
-    for token in tokens {
-        names.add(text_of(text, *token))?;
+    match line {
+        DraftLine::Input { .. } | DraftLine::Output { .. } => 0,
+        DraftLine::Gate { .. } | DraftLine::Register { .. } => 1,
+        DraftLine::Memory { outs, .. } => outs.len(),
+    }
+}
+
+/// Adds so many numbers from the first on.
+pub fn push_range(numbers: &mut List<u32>, first: usize, count: usize) -> Result<(), Memory>
+    requires { first + count < 2 ^ 32 }
+    ensures { OnOk result (numbers.new ≡ numbers.old ++ range_with_len first count) }
+{
+    for k in 0..count {
+        numbers.push((first + k) as u32)?;
     }
     Ok(())
 }
 
-/// The numbers of the tokens' names, or the refusal of the first that is none of the names.
-pub fn resolve(
-    alloc: Global,
-    text: &[u8],
-    names: &Names,
-    tokens: &[Token],
-) -> Result<List<u32>, BenchNo>
-    requires { length names.now < 2 ^ 32 }
-    ensures { Answers NoMemory result (use_fault text.now names.now tokens.now) (λ numbers. numbers ≡ numbers_of text.now names.now tokens.now) }
+/// The numbers of the names that the lines use, or the refusal of the first that no line drives.
+pub fn number_uses(alloc: Global, draft: &Draft, order: &[u32]) -> Result<List<u32>, BenchNo>
+    requires whole { IsWhole draft.now }
+    requires order { order.now ≡ numbers (names_of (lines_in draft.now)) (driven_names draft.now) }
+    ensures { Answers NoMemory result (uses_fault (placed_in draft.now))
+        (λ found. found ≡ numbers (names_of (lines_in draft.now)) (used_names draft.now)) }
 {
     let mut numbers = List::new(alloc);
-    for token in tokens {
-        match names.find(text_of(text, *token)) {
-            Some(number) => numbers.push(number as u32)?,
-            None => return Err(undriven(alloc, text, *token)),
+    'uses: for name in draft.uses.as_slice() {
+        match draft.names.find(*name) {
+            Some(driver) => numbers.push(order[driver])?,
+            None => return Err(undriven(alloc, draft, *name, numbers.len())),
         }
     }
     Ok(numbers)
 }
 
-/// The refusal of a use that no line drives.
-fn undriven(alloc: Global, text: &[u8], token: Token) -> BenchNo
-    ensures { (result ≡ NoMemory) ⊎ (result ≡ Undriven (specs.text_of text.now token) token.line) }
+/// The refusal of a name, the use in this place, that no line drives.
+fn undriven(alloc: Global, draft: &Draft, name: &[u8], place: usize) -> BenchNo
+    ensures { (result ≡ NoMemory) ⊎ (result ≡ Undriven name.now (line_of_use (placed_in draft.now) place)) }
 {
-    match Text::from_bytes(alloc, text_of(text, token)) {
+    match Text::from_bytes(alloc, name) {
         Ok(name) => BenchNo::Undriven {
             name,
-            line: token.line,
+            line: line_of_use(draft, place),
         },
         Err(_) => BenchNo::Memory,
     }
 }
 
-/// The numbers of the tokens' names; one that is none of the names has the number after them.
-pub fn numbers(
-    alloc: Global,
-    text: &[u8],
-    names: &Names,
-    tokens: &[Token],
-) -> Result<List<u32>, Memory>
-    requires { length names.now < 2 ^ 32 }
-    ensures { IfOk result (λ numbers. numbers ≡ numbers_of text.now names.now tokens.now) }
+/// The number of the line that the use in this place stands in.
+#[tactic(auto, unfolding(crate::specs::Making::line_of_use))]
+fn line_of_use(draft: &Draft, place: usize) -> u32
+    ensures { result ≡ line_of_use (placed_in draft.now) place }
 {
-    let mut numbers = List::new(alloc);
-    for token in tokens {
-        numbers.push(place_of(names, text_of(text, *token)) as u32)?;
+    let mut left = place;
+    'lines: for (at, line) in DraftLines::new(draft) {
+        if left < used_count(line) {
+            return at;
+        }
+        left -= used_count(line);
     }
-    Ok(numbers)
+    0
 }
 
-/// The place of a name among the names, and their number where it is none of them.
-#[tactic(auto, using(crate::proofs::NumberLemmas::place_or_len))]
-fn place_of(names: &Names, name: &[u8]) -> usize
-    ensures value { result ≡ place_of names.now name.now }
-    ensures within { result ≤ length names.now }
+/// How many names the line uses.
+pub fn used_count(line: DraftLine) -> usize
+    ensures { result ≡ length (used (seen line.entry)) }
 {
-    names.find(name).unwrap_or(names.len())
+    match line {
+        DraftLine::Input { .. } => 0,
+        DraftLine::Output { .. } | DraftLine::Register { .. } => 1,
+        DraftLine::Gate { uses, .. } => uses.len(),
+        DraftLine::Memory { address, words, .. } => 1 + (address.len() + words.len()),
+    }
 }

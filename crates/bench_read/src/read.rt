@@ -1,24 +1,24 @@
 //! The reader of netlist texts.
 
-ghost use Rattle.std.specs.Prelude.{◌≡◌, ◌≢◌, ◌≤◌, None, MatchResult, IfErr, length};
+ghost use Rattle.std.specs.Prelude.{◌≡◌, ◌≢◌, ◌≤◌, None, Some, MatchResult, IfErr, length};
 ghost use Rattle.limits.specs.declared.TheConstants.{MAX_TEXT_BYTES};
 ghost use Rattle.std.specs.Option.{option_map};
 ghost use Rattle.text_lines.specs.Answers.{Answers};
 ghost use Rattle.net_defs.specs.declared.netlist.Netlist.{Netlist};
 ghost use Rattle.bench_text.specs.declared.token.TextNo.TheVariants as text_no;
-ghost use Rattle.bench_text.specs.Tokens.{tokens_of, first_fault as byte_fault};
+ghost use Rattle.bench_text.specs.Tokens.{first_fault as byte_fault};
 ghost use Rattle.bench_read.specs.declared.refusal.BenchNo.TheVariants.{Memory as NoMemory, Text};
-ghost use Rattle.bench_read.specs.Faults.{of_text, lines_fault, first_fault};
-ghost use Rattle.bench_read.specs.Reads.{IsRead, Reads};
+ghost use Rattle.bench_read.specs.Faults.{of_text, first_fault};
+ghost use Rattle.bench_line.specs.Rows.{rows_of};
+ghost use Rattle.bench_read.specs.Placed.{lines_at, placed_of};
+ghost use Rattle.bench_read.specs.Netlists.{netlist_of};
+ghost use Rattle.bench_read.specs.Reads.{Reads};
 
-use crate::design::read_statements;
-use crate::draft::make_netlist;
+use crate::netlist::make_netlist;
 use crate::refusal::{BenchNo, of_text};
-use crate::statement::Statement;
-use bench_text::Tokens;
-use bench_text::scan::tokens;
+use crate::rows::read_rows;
+use bench_text::scan::check;
 use net_defs::Netlist;
-use seen_list::List;
 use std::alloc::Global;
 
 /// The netlist that the text describes, or the text's first fault: first a byte that no text has or
@@ -38,26 +38,26 @@ pub fn read_bench(alloc: Global, bytes: &[u8]) -> Result<Netlist, BenchNo>
     // Want of memory is never told as a fault of the text.
     ensures plain { IfErr result (λ no. no ≢ Text text_no.Memory) }
 {
-    let statements = read_lines(alloc, bytes)?;
-    make_netlist(alloc, bytes, statements.as_slice())
+    read_text(alloc, bytes)
 }
 
-/// What the lines of the text say, or the first fault of its bytes, or else of its lines.
-fn read_lines(alloc: Global, bytes: &[u8]) -> Result<List<Statement>, BenchNo>
+/// The netlist of the text's lines, or the first fault.
+fn read_text(alloc: Global, bytes: &[u8]) -> Result<Netlist, BenchNo>
     requires { length bytes.now ≤ MAX_TEXT_BYTES }
-    ensures { Answers NoMemory result (lines_fault bytes.now) (IsRead bytes.now) }
+    ensures { Answers NoMemory result (first_fault bytes.now) (λ net. net ≡ netlist_of (lines_at (placed_of (rows_of bytes.now)))) }
 {
-    let read = read_tokens(alloc, bytes)?;
-    read_statements(alloc, bytes, read.list.as_slice())
+    check_bytes(bytes)?;
+    let draft = read_rows(alloc, bytes)?;
+    make_netlist(alloc, &draft)
 }
 
-/// The tokens of the text, or the first fault of its bytes.
-fn read_tokens(alloc: Global, bytes: &[u8]) -> Result<Tokens, BenchNo>
+/// Refuses the first fault of the bytes.
+fn check_bytes(bytes: &[u8]) -> Result<(), BenchNo>
     requires { length bytes.now ≤ MAX_TEXT_BYTES }
-    ensures { Answers NoMemory result (option_map of_text (byte_fault bytes.now)) (λ read. (byte_fault bytes.now ≡ None) × (read.list ≡ tokens_of bytes.now)) }
+    ensures { MatchResult result (λ _. byte_fault bytes.now ≡ None) (λ no. option_map of_text (byte_fault bytes.now) ≡ Some no) }
 {
-    match tokens(alloc, bytes) {
-        Ok(read) => Ok(read),
+    match check(bytes) {
+        Ok(()) => Ok(()),
         Err(no) => Err(of_text(no)),
     }
 }

@@ -15,8 +15,9 @@ pub enum Many {
     Operands,
 }
 
-/// Why a text is no netlist. Lines are counted from 1. The limits on signals, operands and memories,
-/// and the forms of memory lines, are this project's profile; the others are those of ISCAS'89.
+/// Why a text is no netlist. Lines are counted from 1. Names, `INPUT`, `OUTPUT`, comments and the kinds AND,
+/// NAND, OR, NOR, NOT and DFF are those of ISCAS'89; all limits, the other kinds and memory lines are this
+/// project's profile.
 #[derive(Drop)]
 pub enum BenchNo {
     /// A byte that no text has, or a name that is too long. It is never `TextNo::Memory`.
@@ -49,7 +50,7 @@ impl From<Memory> for BenchNo {
     }
 }
 
-/// The refusal of a text that has no tokens.
+/// The refusal of a text whose bytes have a fault, or for want of memory.
 pub fn of_text(no: TextNo) -> BenchNo
     ensures { result ≡ of_text no }
 {

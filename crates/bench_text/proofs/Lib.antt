@@ -1,3 +1,3 @@
+pub mod ByteLemmas
 pub mod PlaceLemmas
-pub mod ScanLemmas
 pub mod SpanLemmas

@@ -1,151 +1,171 @@
--- What a scan finds at a place, by what the byte there is.
-use Rattle.std.proofs.Common.{◌≡◌, ℕ, zero, suc, ◌+◌, ◌<◌, ◌≤◌, Bool, true, false, not, ◌&&◌, ◌||◌, cond, List, length, take, drop, ◌-◌, get_or, ◌⊎◌, ⊎_elim, Some, None, Ok, Err, sym, ap, ◌∙◌, refl, leb, eqb, subst}
-use Rattle.std.specs.Prelude.{is_some}
-use Rattle.std.specs.List.{prefix_len}
-use Rattle.std.proofs.lemmas.List.{take_rest}
-use Rattle.std.proofs.lemmas.Bool.{cond-true, cond-false, lt-ltb, le-ltb, and_left, and_right, and_from, or_parts, not_from_false, not_from_true, ne_eqb, both_ways}
-use Rattle.limits.specs.declared.TheConstants.{MAX_NAME_BYTES}
-use Rattle.text_lines.specs.Bytes.{is_visible, is_hash, is_blank}
-use Rattle.text_lines.specs.Answers.{fault_or}
+-- What a scan finds at a place is the token of the place, or its fault.
+use Rattle.std.proofs.Common.{◌≡◌, ℕ, zero, suc, ◌+◌, ◌-◌, ◌<◌, ◌≤◌, true, false, List, length, drop, get_or, None, Some, sym, ap, ◌∙◌, subst, refl, arith, inl, inr}
+use Rattle.std.proofs.lemmas.Bool.{cases_lt, both_ways}
+use Rattle.std.proofs.lemmas.List.{length-drop, get_or-drop}
+use Rattle.std.proofs.lemmas.List.Sums.{prefix_len-le-length, prefix_len_passes, prefix_len_stops}
+use Rattle.text_lines.specs.Names.{is_name_byte}
 use Rattle.text_lines.specs.Places.{stays_in_comment, is_comment, line_at, column_at, is_line_end}
-use Rattle.bench_text.specs.declared.token.Mark.{Mark}
-use Rattle.bench_text.specs.declared.token.Mark.TheVariants.{Open, Close, Comma, Equals, Semi, Left, Right, Name}
-use Rattle.bench_text.specs.declared.token.TextNo.TheVariants.{BadByte, LongName}
+use Rattle.text_lines.proofs.AnswerLemmas.{first_none, first_some}
 use Rattle.bench_text.specs.declared.scan.Scan.{Scan}
-use Rattle.text_lines.specs.Names.{is_mark, is_name_byte}
-use Rattle.text_lines.proofs.NameLemmas.{name_byte_from, name_byte-not_visible, name_byte-mark}
-use Rattle.bench_text.specs.Bytes.{sign_of}
-use Rattle.bench_text.specs.Tokens.{follows_name, begins_name, name_length, token_at, token_of_sign, is_bad, fault_at}
-use Rattle.bench_text.specs.Scans.{follows_comment, scan_at, answer_at}
-
--- ---- bytes
-
--- the marks are the bytes that are tokens by themselves
-pub mark_is : (byte : ℕ) → is_mark byte ≡ is_some (sign_of byte)
-unfolding is_mark sign_of
-mark_is byte = by_bytes (eqb byte 40) (eqb byte 41) (eqb byte 44) (eqb byte 61) (eqb byte 59) (eqb byte 91) (eqb byte 93) where
-  by_bytes : (a b c d e f g : Bool) → (a || b || c || d || e || f || g) ≡ is_some (cond a (Some Open) (cond b (Some Close) (cond c (Some Comma) (cond d (Some Equals) (cond e (Some Semi) (cond f (Some Left) (cond g (Some Right) None)))))))
-  by_bytes true b c d e f g = refl
-  by_bytes false true c d e f g = refl
-  by_bytes false false true d e f g = refl
-  by_bytes false false false true e f g = refl
-  by_bytes false false false false true f g = refl
-  by_bytes false false false false false true g = refl
-  by_bytes false false false false false false true = refl
-  by_bytes false false false false false false false = refl
-
-pub name_byte_unsigned : (byte : ℕ) → is_visible byte ≡ true → sign_of byte ≡ None → is_hash byte ≡ false → is_name_byte byte ≡ true
-name_byte_unsigned byte visible sign hash = name_byte_from byte visible (mark_is byte ∙ ap is_some sign) hash
-
-pub name_byte-sign : (byte : ℕ) (mark : Mark) → sign_of byte ≡ Some mark → is_name_byte byte ≡ false
-name_byte-sign byte mark sign = name_byte-mark byte (mark_is byte ∙ ap is_some sign)
-
--- a byte that is a token by itself is visible
-pub no_sign : (byte : ℕ) → is_visible byte ≡ false → sign_of byte ≡ None
-unfolding is_visible sign_of
-no_sign byte hidden =
-    cond-false _ _ _ (other 40 refl) ∙ cond-false _ _ _ (other 41 refl) ∙ cond-false _ _ _ (other 44 refl)
-    ∙ cond-false _ _ _ (other 61 refl) ∙ cond-false _ _ _ (other 59 refl) ∙ cond-false _ _ _ (other 91 refl)
-    ∙ cond-false _ _ _ (other 93 refl)
-  where
-    other : (sign : ℕ) → (leb 33 sign && leb sign 126) ≡ true → eqb byte sign ≡ false
-    other sign visible = ne_eqb byte sign (λ same. both_ways _ hidden (subst (λ b. (leb 33 b && leb b 126) ≡ true) (sym same) visible))
-
--- ---- comments
+use Rattle.bench_text.specs.declared.token.TextNo.{TextNo}
+use Rattle.bench_text.specs.declared.class.Class.{Class}
+use Rattle.bench_text.specs.declared.class.Class.TheVariants.{Name}
+use Rattle.bench_text.specs.Bytes.{class_of}
+use Rattle.bench_text.specs.Tokens.{begins_name, name_length, token_at, is_bad, fault_at, first_fault}
+use Rattle.bench_text.specs.Scans.{HasPassed, follows_comment, scan_at, scan_after, fault_of_name, fault_by, token_by}
+use Rattle.bench_text.proofs.ByteLemmas.{IsOfClass, tests_in, class_is, named_byte}
 
 pub is_comment_step : (text : List ℕ) (i : ℕ) → is_comment text i ≡ stays_in_comment (follows_comment text i) (get_or text i 0)
 unfolding is_comment
 is_comment_step text zero = refl
 is_comment_step text (suc i) = refl
 
-pub no_hash : (text : List ℕ) (i : ℕ) → is_comment text i ≡ false → is_hash (get_or text i 0) ≡ false
-unfolding stays_in_comment
-no_hash text i outside = (or_parts _ _ (sym (is_comment_step text i) ∙ outside)).0
+-- what a scan finds is the fault of the place
+pub fault_is : (text : List ℕ) (i : ℕ) (scan : Scan) → scan ≡ scan_at text i → fault_by text i scan (class_of (get_or text i 0)) ≡ fault_at text i
+unfolding fault_at is_bad begins_name is_line_end stays_in_comment
+fault_is text i scan at = rw at (by_class (class_of (get_or text i 0)) (class_is (get_or text i 0))) where
+  by_class : (class : Class) → IsOfClass (get_or text i 0) class → fault_by text i (scan_at text i) class ≡ fault_at text i
+  by_class Name is = grind (arith, is, is_comment_step text i)
+  by_class class is = grind (arith, is, is_comment_step text i)
 
--- ---- the faults and tokens of a place
+pub name_fault_is : (text : List ℕ) (i n : ℕ) (scan : Scan) → scan ≡ scan_at text i → class_of (get_or text i 0) ≡ Name → n ≡ name_length text i
+    → fault_of_name scan n ≡ fault_at text i
+name_fault_is text i n scan at named is = rw is (ap (fault_by text i scan) (sym named) ∙ fault_is text i scan at)
+
+-- and its token
+pub token_is : (text : List ℕ) (i : ℕ) (scan : Scan) → scan ≡ scan_at text i → token_by text i scan (class_of (get_or text i 0)) ≡ token_at text i
+unfolding token_at begins_name stays_in_comment
+token_is text i scan at = rw at (by_class (class_of (get_or text i 0)) (class_is (get_or text i 0))) where
+  by_class : (class : Class) → IsOfClass (get_or text i 0) class → token_by text i (scan_at text i) class ≡ token_at text i
+  by_class Name is = grind (arith, is, is_comment_step text i)
+  by_class class is = grind (arith, is, is_comment_step text i)
+
+-- ---- a scan, one place on
+
+pub after_is : (text : List ℕ) (i : ℕ) (scan : Scan) → scan ≡ scan_at text i → scan_after scan (get_or text i 0) ≡ scan_at text (i + 1)
+unfolding line_at column_at
+after_is text i scan at = let next : i + 1 ≡ suc i = omega arith in rw (at, next, sym (is_comment_step text i)) refl
+
+-- lines and columns are no more than places
+pub line_at-le : (text : List ℕ) (i : ℕ) → line_at text i ≤ i + 1
+unfolding line_at
+line_at-le text zero = omega arith
+line_at-le text (suc i) = grind (arith, line_at-le text i)
+
+pub column_at-le : (text : List ℕ) (i : ℕ) → column_at text i ≤ i + 1
+unfolding column_at
+column_at-le text zero = omega arith
+column_at-le text (suc i) = grind (arith, column_at-le text i)
+
+-- ---- runs of name bytes
 
 module _ (text : List ℕ) (i : ℕ) where
-  name_here : is_comment text i ≡ false → is_visible (get_or text i 0) ≡ true → sign_of (get_or text i 0) ≡ None → is_name_byte (get_or text i 0) ≡ true
-  name_here outside visible sign = name_byte_unsigned (get_or text i 0) visible sign (no_hash text i outside)
+  pub run_passes : (k : ℕ) → i ≤ k → k < i + name_length text i → is_name_byte (get_or text k 0) ≡ true
+  unfolding name_length
+  run_passes k from below =
+      let place : i + (k - i) ≡ k = omega arith in
+      subst (λ j. is_name_byte (get_or text j 0) ≡ true) place (rw get_or-drop at (prefix_len_passes is_name_byte (drop i text) (k - i) 0 (omega arith)))
 
-  no_fault : is_bad text i ≡ false → begins_name text i ≡ false → fault_at text i ≡ None
-  unfolding fault_at
-  no_fault good none = cond-false _ _ _ good ∙ cond-false _ _ _ (and_left _ _ none)
+  pub run_within : i ≤ length text → i + name_length text i ≤ length text
+  unfolding name_length
+  run_within within = omega (arith, prefix_len-le-length is_name_byte (drop i text), length-drop i text)
 
-  no_token : is_comment text i ≡ false → sign_of (get_or text i 0) ≡ None → begins_name text i ≡ false → token_at text i ≡ None
-  unfolding token_at
-  no_token outside sign none = cond-false _ _ _ outside ∙ ap (token_of_sign text i) sign ∙ cond-false _ _ _ none
+  pub run_stops : i + name_length text i < length text → is_name_byte (get_or text (i + name_length text i) 0) ≡ false
+  unfolding name_length
+  run_stops within = rw get_or-drop at (prefix_len_stops is_name_byte (drop i text) 0 (omega (arith, length-drop i text)))
 
-  pub answer_comment : is_comment text i ≡ true → answer_at text i ≡ Ok None
-  unfolding answer_at is_bad begins_name token_at
-  answer_comment inside =
-      let hidden = and_left (not (is_comment text i)) (is_name_byte (get_or text i 0)) (not_from_true _ inside) in
-      let good = and_left _ (not (is_visible (get_or text i 0))) (and_left _ (not (is_line_end text i)) (and_left _ (not (is_blank (get_or text i 0))) (not_from_true _ inside))) in
-      ap (λ fault. fault_or fault (token_at text i)) (no_fault good (and_left _ _ hidden))
-      ∙ ap Ok (cond-true _ _ _ inside)
+  pub run_begins : i < length text → is_name_byte (get_or text i 0) ≡ true → 0 < name_length text i
+  run_begins within named = grind (arith, run_stops, named)
 
-  pub answer_between : is_comment text i ≡ false → is_visible (get_or text i 0) ≡ false → (is_blank (get_or text i 0) ≡ true) ⊎ (is_line_end text i ≡ true) → answer_at text i ≡ Ok None
-  unfolding answer_at is_bad begins_name
-  answer_between outside hidden between =
-      let none = and_left _ (not (follows_name text i)) (and_right (not (is_comment text i)) _ (name_byte-not_visible (get_or text i 0) hidden)) in
-      let good = ⊎_elim
-      (λ blank. and_left _ (not (is_visible (get_or text i 0))) (and_left _ (not (is_line_end text i)) (and_right (not (is_comment text i)) _ (not_from_true _ blank))))
-      (λ ends. and_left _ (not (is_visible (get_or text i 0))) (and_right (not (is_comment text i) && not (is_blank (get_or text i 0))) _ (not_from_true _ ends)))
-      between in
-      ap (λ fault. fault_or fault (token_at text i)) (no_fault good none) ∙ ap Ok (no_token outside (no_sign (get_or text i 0) hidden) none)
+  pub run_goes_on : (k : ℕ) → k < i + name_length text i → suc k < length text → is_name_byte (get_or text (suc k) 0) ≡ true → suc k < i + name_length text i
+  run_goes_on k below within named = elim (cases_lt (suc k) (i + name_length text i)) [
+    | inl inside ↦ inside
+    | inr past ↦
+        let end : i + name_length text i ≡ suc k = omega arith in
+        absurd (both_ways (is_name_byte (get_or text (suc k) 0)) (rw end at (run_stops (omega arith))) named)
+  ]
 
-  pub answer_bad : is_comment text i ≡ false → is_visible (get_or text i 0) ≡ false → is_blank (get_or text i 0) ≡ false → is_line_end text i ≡ false → answer_at text i ≡ Err (BadByte (line_at text i) (column_at text i))
-  unfolding answer_at is_bad fault_at
-  answer_bad outside hidden blank ends =
-      let bad = and_from _ _ (and_from _ _ (and_from _ _ (not_from_false _ outside) (not_from_false _ blank)) (not_from_false _ ends)) (not_from_false _ hidden) in
-      ap (λ fault. fault_or fault (token_at text i)) (cond-true _ _ _ bad)
+-- a place inside a name has no fault and begins no token
+pub inside : (text : List ℕ) (i k : ℕ) → i < k → k < i + name_length text i → (fault_at text k ≡ None) × (token_at text k ≡ None)
+unfolding fault_at token_at is_bad begins_name
+inside text i zero after before = absurd (omega arith)
+inside text i (suc k) after before =
+    let here = named_byte (get_or text (suc k) 0) (run_passes text i (suc k) (omega arith) before) in
+    let follows = run_passes text i k (omega arith) (omega arith) in
+    (grind (arith, here.visible, follows), grind (arith, here.no_sign, follows))
 
-  good_visible : is_visible (get_or text i 0) ≡ true → is_bad text i ≡ false
-  unfolding is_bad
-  good_visible visible = and_right _ _ (not_from_true _ visible)
+-- a scan, one byte of a name on
+after_named : (scan : Scan) (byte : ℕ) → is_name_byte byte ≡ true
+    → scan_after scan byte ≡ record { line = scan.line; column = scan.column + 1; in_comment = scan.in_comment; in_name = true }
+unfolding stays_in_comment
+after_named scan byte named =
+    let here = named_byte byte named in
+    grind (arith, named, here.no_feed, here.no_hash)
 
-  pub answer_sign : (mark : Mark) → is_comment text i ≡ false → is_visible (get_or text i 0) ≡ true → sign_of (get_or text i 0) ≡ Some mark → answer_at text i ≡ Ok (Some (record { mark = mark; from = i; upto = i + 1; line = line_at text i }))
-  unfolding answer_at begins_name token_at
-  answer_sign mark outside visible sign =
-      let none = and_left _ (not (follows_name text i)) (and_right (not (is_comment text i)) _ (name_byte-sign (get_or text i 0) mark sign)) in
-      ap (λ fault. fault_or fault (token_at text i)) (no_fault (good_visible visible) none)
-      ∙ ap Ok (cond-false _ _ _ outside ∙ ap (token_of_sign text i) sign)
+-- where a scan stands inside a name, or behind it
+scan_behind : (text : List ℕ) (i n : ℕ) → 0 < n → n ≤ name_length text i
+    → scan_at text (i + n) ≡ record { line = line_at text i; column = column_at text i + n; in_comment = follows_comment text i; in_name = true }
+scan_behind text i zero some most = absurd (omega arith)
+scan_behind text i (suc zero) some most =
+    sym (after_is text i (scan_at text i) refl) ∙ after_named (scan_at text i) (get_or text i 0) (run_passes text i i (omega arith) (omega arith))
+scan_behind text i (suc (suc k)) some most =
+    let place : i + suc (suc k) ≡ i + suc k + 1 = omega arith in
+    let column : column_at text i + suc (suc k) ≡ column_at text i + suc k + 1 = omega arith in
+    rw (place, column)
+    (sym (after_is text (i + suc k) (scan_at text (i + suc k)) refl)
+    ∙ after_named (scan_at text (i + suc k)) (get_or text (i + suc k) 0) (run_passes text i (i + suc k) (omega arith) (omega arith))
+    ∙ ap (λ s. record { line = s.line; column = s.column + 1; in_comment = s.in_comment; in_name = true }) (scan_behind text i (suc k) (omega arith) (omega arith)))
 
-  pub answer_inside : is_comment text i ≡ false → is_visible (get_or text i 0) ≡ true → sign_of (get_or text i 0) ≡ None → follows_name text i ≡ true → answer_at text i ≡ Ok None
-  unfolding answer_at begins_name
-  answer_inside outside visible sign follows =
-      let none = and_right (not (is_comment text i) && is_name_byte (get_or text i 0)) _ (not_from_true _ follows) in
-      ap (λ fault. fault_or fault (token_at text i)) (no_fault (good_visible visible) none) ∙ ap Ok (no_token outside sign none)
+-- ---- a scan
 
-  begins : is_comment text i ≡ false → is_visible (get_or text i 0) ≡ true → sign_of (get_or text i 0) ≡ None → follows_name text i ≡ false → begins_name text i ≡ true
-  unfolding begins_name
-  begins outside visible sign follows = and_from _ _ (and_from _ _ (not_from_false _ outside) (name_here outside visible sign)) (not_from_false _ follows)
+-- one byte
+pub passed_one : (text : List ℕ) (i : ℕ) (scan next : Scan) → scan ≡ scan_at text i → i < length text → fault_at text i ≡ None
+    → next ≡ scan_after scan (get_or text i 0) → HasPassed text i 1 next
+passed_one text i scan next at within none after = record {
+  some = omega arith;
+  within = omega arith;
+  no_fault = λ k least most. let here : i ≡ k = omega arith in subst (λ j. fault_at text j ≡ None) here none;
+  next_is = after ∙ after_is text i scan at;
+}
 
-  pub answer_long : is_comment text i ≡ false → is_visible (get_or text i 0) ≡ true → sign_of (get_or text i 0) ≡ None → follows_name text i ≡ false → MAX_NAME_BYTES < name_length text i → answer_at text i ≡ Err (LongName (line_at text i))
-  unfolding answer_at fault_at
-  answer_long outside visible sign follows long =
-      ap (λ fault. fault_or fault (token_at text i)) (cond-false _ _ _ (good_visible visible) ∙ cond-true _ _ _ (and_from _ _ (begins outside visible sign follows) (lt-ltb MAX_NAME_BYTES (name_length text i) long)))
+-- a name
+pub passed_name : (text : List ℕ) (i n : ℕ) (scan : Scan) → scan ≡ scan_at text i → i < length text → class_of (get_or text i 0) ≡ Name
+    → n ≡ name_length text i → fault_at text i ≡ None
+    → HasPassed text i n (record { line = scan.line; column = scan.column + n; in_comment = scan.in_comment; in_name = true })
+passed_name text i n scan at within class is none = record {
+  some = omega (arith, is, run_begins text i within named);
+  within = omega (arith, is, run_within text i (omega arith));
+  no_fault = λ k least most. elim (cases_lt i k) [
+    | inl inner ↦ (inside text i k inner (omega (arith, is))).0
+    | inr first ↦ let here : i ≡ k = omega arith in subst (λ j. fault_at text j ≡ None) here none
+  ];
+  next_is = rw (at, scan_behind text i n (omega (arith, is, run_begins text i within named)) (omega (arith, is))) refl;
+} where
+  named : is_name_byte (get_or text i 0) ≡ true
+  named = (class_is (get_or text i 0)).name ∙ ap (λ (c : Class). (tests_in c).1) class
 
-  short_name : name_length text i ≤ MAX_NAME_BYTES → is_bad text i ≡ false → fault_at text i ≡ None
-  unfolding fault_at
-  short_name short good = cond-false _ _ _ good ∙ cond-false _ _ _ (and_right _ _ (le-ltb MAX_NAME_BYTES (name_length text i) short))
+-- the scan stands before place i, and no place before has a fault
+pub record HasScanned (text : List ℕ) (i : ℕ) (scan : Scan) : Type 0 where
+  pub at : scan ≡ scan_at text i
+  pub no_fault : (k : ℕ) → k < i → fault_at text k ≡ None
 
-  pub name_token : is_comment text i ≡ false → sign_of (get_or text i 0) ≡ None → begins_name text i ≡ true → token_at text i ≡ Some (record { mark = Name; from = i; upto = i + name_length text i; line = line_at text i })
-  unfolding token_at
-  name_token outside sign begins = cond-false _ _ _ outside ∙ ap (token_of_sign text i) sign ∙ cond-true _ _ _ begins
+pub scanned_none : (text : List ℕ) → HasScanned text 0 (record { line = 1; column = 1; in_comment = false; in_name = false })
+unfolding line_at column_at
+scanned_none text = record { at = refl; no_fault = λ k below. absurd (omega arith) }
 
-  pub answer_name : is_comment text i ≡ false → is_visible (get_or text i 0) ≡ true → sign_of (get_or text i 0) ≡ None → follows_name text i ≡ false → name_length text i ≤ MAX_NAME_BYTES → answer_at text i ≡ Ok (Some (record { mark = Name; from = i; upto = i + name_length text i; line = line_at text i }))
-  unfolding answer_at
-  answer_name outside visible sign follows short =
-      ap (λ fault. fault_or fault (token_at text i)) (short_name short (good_visible visible))
-      ∙ ap Ok (name_token outside sign (begins outside visible sign follows))
+pub scanned_more : (text : List ℕ) (i n : ℕ) (scan next : Scan) → HasScanned text i scan → HasPassed text i n next → HasScanned text (i + n) next
+scanned_more text i n scan next before passed = record {
+  at = passed.next_is;
+  no_fault = λ k below. elim (cases_lt k i) [
+    | inl earlier ↦ before.no_fault k earlier
+    | inr least ↦ passed.no_fault k least below
+  ];
+}
 
--- ---- from what the code's tests answer
+-- the fault of the place where the scan stands
+pub scanned_fault : (text : List ℕ) (i : ℕ) (scan : Scan) (fault : TextNo) → HasScanned text i scan → i < length text → fault_at text i ≡ Some fault → first_fault text ≡ Some fault
+scanned_fault text i scan fault before within here = first_some (fault_at text) i (length text) fault within (first_none (fault_at text) i before.no_fault) here
 
-pub comment_is : (text : List ℕ) (i : ℕ) (scan : Scan) (answer b : Bool) → scan ≡ scan_at text i → answer ≡ stays_in_comment scan.in_comment (get_or text i 0) → answer ≡ b → is_comment text i ≡ b
-comment_is text i scan answer b at tested is =
-    is_comment_step text i ∙ ap (λ s. stays_in_comment s.in_comment (get_or text i 0)) (sym at) ∙ sym tested ∙ is
-
-pub length_is : (text : List ℕ) (i n : ℕ) → n ≡ prefix_len is_name_byte (take (length text - i) (drop i text)) → n ≡ name_length text i
-unfolding name_length
-length_is text i n counted = counted ∙ ap (prefix_len is_name_byte) (take_rest text i)
+-- all places have passed
+pub scanned_all : (text : List ℕ) (i : ℕ) (scan : Scan) → HasScanned text i scan → length text ≤ i → first_fault text ≡ None
+scanned_all text i scan before past = first_none (fault_at text) (length text) (λ k below. before.no_fault k (omega arith))

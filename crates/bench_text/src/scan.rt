@@ -1,23 +1,23 @@
 //! The scanner: one pass over the bytes of a text, with the tokens in a list.
 
-ghost use Rattle.std.specs.Prelude.{◌≡◌, ◌≤◌, ◌<◌, ◌+◌, ◌^◌, ◌↔◌, ℕ, nat_lt, length, All, AllPairs, IfOk};
+ghost use Rattle.std.specs.Prelude.{◌≡◌, ◌≤◌, ◌<◌, ◌+◌, ◌^◌, ◌↔◌, ℕ, None, Some, slice_index, length, All, AllPairs, IfOk, OnOk, MatchResult, ◌++◌};
 ghost use Rattle.limits.specs.declared.TheConstants.{MAX_TEXT_BYTES};
+ghost use Rattle.std.specs.Option.{option_to_list};
 ghost use Rattle.std.specs.List.{prefix_len};
 ghost use Rattle.text_lines.specs.Answers.{Answers};
-ghost use Rattle.text_lines.specs.Places.{stays_in_comment, is_line_end as ends_line};
 ghost use Rattle.text_lines.specs.Names.{is_name_byte as is_name};
+ghost use Rattle.bench_text.specs.declared.class.Class.TheVariants.{Name as NameByte};
 ghost use Rattle.bench_text.specs.Bytes as byte_specs;
-ghost use Rattle.bench_text.specs.Tokens.{tokens_of, first_fault, fault_at, token_at};
+ghost use Rattle.bench_text.specs.Tokens.{tokens_of, first_fault, fault_at, name_length};
 ghost use Rattle.bench_text.specs.Spans.{StandsIn, IsBefore, IsCovered, IsRead};
-ghost use Rattle.bench_text.specs.Scans.{scan_at, scan_after, answer_at};
+ghost use Rattle.bench_text.specs.Scans.{HasPassed, scan_at, scan_after, fault_of_name, fault_by, token_by, ends_line_after};
 ghost use Rattle.bench_text.specs.declared.token.TextNo.TheVariants.{Memory as NoMemory};
 
+use crate::class::{Class, class_of, is_name_byte};
 use crate::token::{Mark, TextNo, Token, Tokens};
 use limits::MAX_NAME_BYTES;
-use seen_list::List;
+use seen_list::{List, Memory};
 use std::alloc::Global;
-use text_lines::bytes::{is_blank, is_visible};
-use text_lines::names::is_name_byte;
 
 /// The tokens of the text, or its first fault: the bad byte, or the name of more than 255 bytes,
 /// whose first byte stands first.
@@ -34,13 +34,46 @@ pub fn tokens(alloc: Global, bytes: &[u8]) -> Result<Tokens, TextNo>
 {
     let mut list = List::new(alloc);
     let mut scan = Scan::START;
-    for (i, byte) in bytes.iter().enumerate() {
-        if let Some(token) = read_place(bytes, i, scan)? {
-            list.push(token)?;
+    for i in 0..bytes.len() {
+        match step(bytes, i, scan) {
+            Ok(next) => {
+                add_token(&mut list, token_at_place(bytes, i, scan))?;
+                scan = next;
+            }
+            Err(no) => return Err(no),
         }
-        scan = scan.after(*byte);
     }
     Ok(Tokens { list })
+}
+
+/// Adds the token to the list, if there is one.
+#[inline(always)]
+fn add_token(list: &mut List<Token>, token: Option<Token>) -> Result<(), Memory>
+    ensures { OnOk result (list.new ≡ list.old ++ option_to_list token) }
+{
+    if let Some(token) = token {
+        list.push(token)?;
+    }
+    Ok(())
+}
+
+/// Whether the text has no fault; or its first one. It makes no list.
+pub fn check(bytes: &[u8]) -> Result<(), TextNo>
+    requires { length bytes.now ≤ MAX_TEXT_BYTES }
+    ensures { MatchResult result (λ _. first_fault bytes.now ≡ None) (λ no. first_fault bytes.now ≡ Some no) }
+{
+    let mut scan = Scan::START;
+    let mut i = 0;
+    'places: while i < bytes.len() {
+        match pass(bytes, i, scan) {
+            Ok((len, next)) => {
+                i += len;
+                scan = next;
+            }
+            Err(no) => return Err(no),
+        }
+    }
+    Ok(())
 }
 
 /// Where a scan stands, just before a byte.
@@ -63,6 +96,8 @@ impl Scan {
     };
 
     /// Where it stands after the byte.
+    #[tactic(auto, unfolding(text_lines::specs::Places::stays_in_comment))]
+    #[inline(always)]
     fn after(self, byte: u8) -> Scan
         requires line { self.line + 1 < 2 ^ 32 }
         requires column { self.column + 1 < 2 ^ 32 }
@@ -72,59 +107,116 @@ impl Scan {
         Scan {
             line: if ends { self.line + 1 } else { self.line },
             column: if ends { 1 } else { self.column + 1 },
-            in_comment: self.is_comment(byte),
+            in_comment: byte == b'#' || (self.in_comment && !ends),
             in_name: is_name_byte(byte),
         }
     }
-
-    /// Whether the byte is inside a comment.
-    #[tactic(auto, unfolding(text_lines::specs::Places::stays_in_comment))]
-    fn is_comment(self, byte: u8) -> bool
-        ensures { result ≡ stays_in_comment self.in_comment byte }
-    {
-        byte == b'#' || (self.in_comment && byte != b'\n')
-    }
 }
 
-/// The token whose first byte is at a place, if one begins there, or the fault of the place.
-#[tactic(auto, unfolding(crate::specs::Scans::answer_at, crate::specs::Tokens::token_at, crate::specs::Tokens::fault_at, crate::specs::Tokens::begins_name, crate::specs::Tokens::is_bad, crate::specs::Tokens::name_length))]
-fn read_place(bytes: &[u8], i: usize, scan: Scan) -> Result<Option<Token>, TextNo>
+/// How many bytes of a name stand at a place, or 1 where none does, and where a scan stands behind them; or the
+/// fault of the place.
+#[inline(always)]
+fn pass(bytes: &[u8], i: usize, scan: Scan) -> Result<(usize, Scan), TextNo>
     requires within { i < length bytes.now }
     requires short { length bytes.now ≤ MAX_TEXT_BYTES }
     requires scan { scan ≡ scan_at bytes.now i }
-    ensures { result ≡ answer_at bytes.now i }
+    ensures { MatchResult result (λ passed. HasPassed bytes.now i passed.0 passed.1) (λ no. fault_at bytes.now i ≡ Some no) }
 {
-    let byte = bytes[i];
-    if scan.is_comment(byte) {
-        return Ok(None);
+    if let Class::Name = class_of(bytes[i]) {
+        return pass_name(bytes, i, scan);
     }
-    if !is_visible(byte) {
-        if is_blank(byte) || is_line_end(bytes, i) {
-            return Ok(None);
-        }
-        return Err(TextNo::BadByte {
-            line: scan.line,
-            column: scan.column,
-        });
-    }
-    match sign_of(byte) {
-        Some(mark) => Ok(Some(token(mark, i, 1, scan.line))),
-        None if scan.in_name => Ok(None),
-        None => {
-            let len = name_len(&bytes[i..]);
-            if is_too_long(len) {
-                return Err(TextNo::LongName { line: scan.line });
-            }
-            Ok(Some(token(Mark::Name, i, len, scan.line)))
-        }
+    match step(bytes, i, scan) {
+        Ok(next) => Ok((1, next)),
+        Err(no) => Err(no),
     }
 }
 
-/// Whether a name of so many bytes is too long.
-fn is_too_long(len: usize) -> bool
-    ensures { result ≡ nat_lt MAX_NAME_BYTES len }
+/// The same where a byte of a name stands.
+#[inline(always)]
+fn pass_name(bytes: &[u8], i: usize, scan: Scan) -> Result<(usize, Scan), TextNo>
+    requires within { i < length bytes.now }
+    requires short { length bytes.now ≤ MAX_TEXT_BYTES }
+    requires scan { scan ≡ scan_at bytes.now i }
+    requires named { byte_specs.class_of (slice_index bytes.now i) ≡ NameByte }
+    ensures { MatchResult result (λ passed. HasPassed bytes.now i passed.0 passed.1) (λ no. fault_at bytes.now i ≡ Some no) }
 {
-    len > MAX_NAME_BYTES
+    let len = name_len(bytes, i);
+    match name_fault(scan, len) {
+        Some(no) => Err(no),
+        None => Ok((
+            len,
+            Scan {
+                column: scan.column + len as u32,
+                in_name: true,
+                ..scan
+            },
+        )),
+    }
+}
+
+/// The fault where a scan stands before so many bytes of a name, if there is one.
+#[inline(always)]
+fn name_fault(scan: Scan, len: usize) -> Option<TextNo>
+    ensures { result ≡ fault_of_name scan len }
+{
+    if scan.in_name || scan.in_comment {
+        None
+    } else if len > MAX_NAME_BYTES {
+        Some(TextNo::LongName { line: scan.line })
+    } else {
+        None
+    }
+}
+
+/// Where a scan stands behind a place; or the fault of the place.
+#[inline(always)]
+fn step(bytes: &[u8], i: usize, scan: Scan) -> Result<Scan, TextNo>
+    requires within { i < length bytes.now }
+    requires short { length bytes.now ≤ MAX_TEXT_BYTES }
+    requires scan { scan ≡ scan_at bytes.now i }
+    ensures { MatchResult result (HasPassed bytes.now i 1) (λ no. fault_at bytes.now i ≡ Some no) }
+{
+    match fault_at_place(bytes, i, scan) {
+        None => Ok(scan.after(bytes[i])),
+        Some(no) => Err(no),
+    }
+}
+
+/// The fault of a place, if it has one.
+#[inline(always)]
+fn fault_at_place(bytes: &[u8], i: usize, scan: Scan) -> Option<TextNo>
+    requires within { i < length bytes.now }
+    ensures { result ≡ fault_by bytes.now i scan (byte_specs.class_of (slice_index bytes.now i)) }
+{
+    match class_of(bytes[i]) {
+        Class::Name if scan.in_name => None,
+        Class::Name => name_fault(scan, name_len(bytes, i)),
+        Class::Return if scan.in_comment => None,
+        Class::Return if ends_after(bytes, i) => None,
+        Class::Bad if scan.in_comment => None,
+        Class::Return | Class::Bad => Some(TextNo::BadByte {
+            line: scan.line,
+            column: scan.column,
+        }),
+        Class::Sign(_) | Class::Blank | Class::Feed | Class::Hash => None,
+    }
+}
+
+/// The token that begins at a place, if one does.
+fn token_at_place(bytes: &[u8], i: usize, scan: Scan) -> Option<Token>
+    requires within { i < length bytes.now }
+    requires short { length bytes.now ≤ MAX_TEXT_BYTES }
+    ensures { result ≡ token_by bytes.now i scan (byte_specs.class_of (slice_index bytes.now i)) }
+{
+    if scan.in_comment {
+        return None;
+    }
+    match class_of(bytes[i]) {
+        Class::Name if scan.in_name => None,
+        Class::Name => Some(token(Mark::Name, i, name_len(bytes, i), scan.line)),
+        Class::Sign(mark) => Some(token(mark, i, 1, scan.line)),
+        _ => None,
+    }
 }
 
 /// A token of `len` bytes from place `from` on.
@@ -140,39 +232,29 @@ fn token(mark: Mark, from: usize, len: usize, line: u32) -> Token
     }
 }
 
-/// The number of name bytes at the front.
-fn name_len(rest: &[u8]) -> usize
-    ensures { result ≡ prefix_len is_name rest.now }
+/// How many name bytes stand in a row from a place on.
+#[tactic(auto, unfolding(crate::specs::Tokens::name_length))]
+fn name_len(bytes: &[u8], i: usize) -> usize
+    requires { i < length bytes.now }
+    ensures value { result ≡ name_length bytes.now i }
+    ensures within { i + result ≤ length bytes.now }
+{
+    front_len(&bytes[i..])
+}
+
+/// How many name bytes stand in a row at the front.
+fn front_len(rest: &[u8]) -> usize
+    ensures value { result ≡ prefix_len is_name rest.now }
+    ensures within { result ≤ length rest.now }
 {
     rest.iter().take_while(|byte| is_name_byte(**byte)).count()
 }
 
-/// Whether the byte at a place ends its line: LF, or CR just before LF or the end of the text.
-#[tactic(auto, unfolding(text_lines::specs::Places::is_line_end))]
-fn is_line_end(bytes: &[u8], i: usize) -> bool
+/// Whether LF or the end of the text comes just after a place.
+#[inline(always)]
+fn ends_after(bytes: &[u8], i: usize) -> bool
     requires { i < length bytes.now }
-    ensures { result ≡ ends_line bytes.now i }
+    ensures { result ≡ ends_line_after bytes.now i }
 {
-    match bytes[i] {
-        b'\n' => true,
-        b'\r' => i + 1 == bytes.len() || bytes[i + 1] == b'\n',
-        _ => false,
-    }
-}
-
-/// The mark of a byte that is a token by itself.
-#[tactic(auto, unfolding(crate::specs::Bytes::sign_of))]
-fn sign_of(byte: u8) -> Option<Mark>
-    ensures { result ≡ byte_specs.sign_of byte }
-{
-    match byte {
-        b'(' => Some(Mark::Open),
-        b')' => Some(Mark::Close),
-        b',' => Some(Mark::Comma),
-        b'=' => Some(Mark::Equals),
-        b';' => Some(Mark::Semi),
-        b'[' => Some(Mark::Left),
-        b']' => Some(Mark::Right),
-        _ => None,
-    }
+    i + 1 == bytes.len() || bytes[i + 1] == b'\n'
 }

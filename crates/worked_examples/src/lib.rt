@@ -6,6 +6,12 @@
 #[cfg(test)]
 mod of_array_cells;
 #[cfg(test)]
+mod of_bench_line;
+#[cfg(test)]
+mod of_bench_read;
+#[cfg(test)]
+mod of_bench_text;
+#[cfg(test)]
 mod of_bit_rows;
 #[cfg(test)]
 mod of_cmd_words;
@@ -29,6 +35,8 @@ mod of_rank_find;
 mod of_seen_list;
 #[cfg(test)]
 mod of_slot_plan;
+#[cfg(test)]
+mod of_slot_words;
 #[cfg(test)]
 mod of_stim_text;
 #[cfg(test)]

@@ -1,5 +1,7 @@
-use Rattle.bench_read.proofs.DriveLemmas.{HasDriven}
+use Rattle.std.proofs.Common.{map}
+use Rattle.bench_read.specs.Storing.{named_by}
+use Rattle.bench_read.proofs.TwiceLemmas.{HasDriven}
 use Rattle.bench_read.proofs.drivers.drive.Given as goal
 
-abbrev pub invariant-loop-token : goal.invariant-loop-token
-invariant-loop-token l = HasDriven l.text l.fn.drivers l.tokens l.token-index l.names l.drivers
+abbrev pub invariant-loop-name : goal.invariant-loop-name
+invariant-loop-name l = HasDriven (map named_by l.fn.drivers) (λ name. record { at = l.at; name = name.now }) l.driven l.name-index l.names l.drivers

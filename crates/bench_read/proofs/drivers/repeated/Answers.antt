@@ -1,14 +1,24 @@
-use Rattle.std.proofs.Common.{sym, ◌∙◌, inl, inr, ⊎_elim}
-use Rattle.list_laws.proofs.Tests.{found_some}
-use Rattle.bench_read.specs.Faults.{is_same}
-use Rattle.bench_read.proofs.DriveLemmas.{repeat_is}
+use Rattle.std.proofs.Common.{rules, tests, Some, sym, ap, ◌∙◌, inl, inr, ⊎_elim, bytes_eq}
+use Rattle.std.specs.Option.{option_map}
+use Rattle.std.proofs.lemmas.Iterator.{YieldsList-from_slice}
+use Rattle.std.proofs.lemmas.Iterator.Search.{find_from_yields_List}
+use Rattle.list_laws.proofs.Tests.{list_any-map, found_some}
+use Rattle.bench_read.specs.declared.draft.DrivenName.{DrivenName}
+use Rattle.bench_read.proofs.TwiceLemmas.{repeat_some}
 use Rattle.bench_read.proofs.drivers.repeated.Goals as goal
 
 pub unreachable-requires : goal.unreachable-requires
-unreachable-requires c = found_some (is_same c.args.text.now c.args.token) c.args.drivers.now c.requires (sym c.first_driver.ensures ∙ c.in-None.is)
+unreachable-requires c =
+    let same : DrivenName → _ = λ d. bytes_eq c.args.name.now d.name.now in
+    let found = find_from_yields_List same _ _ c.find.result c.find.ensures.ran (YieldsList-from_slice c.args.drivers.now cc) (λ x b q k. search (rules, tests)) in
+    found_some same c.args.drivers.now
+    (sym (list_any-map (bytes_eq c.args.name.now) (λ (d : DrivenName). d.name.now) c.args.drivers.now) ∙ c.requires)
+    (sym found ∙ ap (option_map (λ x. x.now)) c.in-None.is)
 
 pub returns : goal.returns
 returns c =
+    let same : DrivenName → _ = λ d. bytes_eq c.args.name.now d.name.now in
+    let found = find_from_yields_List same _ _ c.find.result c.find.ensures.ran (YieldsList-from_slice c.args.drivers.now cc) (λ x b q k. search (rules, tests)) in
     ⊎_elim inl
-    (λ is. inr (repeat_is c.args.text.now c.args.drivers.now c.args.token c.in-Some.driver c.twice.result (sym c.first_driver.ensures ∙ c.in-Some.is) is))
+    (λ is. inr (repeat_some c.args.drivers.now (record { at = c.args.at; name = c.args.name.now }) c.in-Some.first.now (sym found ∙ ap (option_map (λ x. x.now)) c.in-Some.is) ∙ ap Some (sym is)))
     c.twice.ensures

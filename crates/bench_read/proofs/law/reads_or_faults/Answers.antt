@@ -1,5 +1,4 @@
-use Rattle.bench_read.proofs.ReadLemmas.{one_netlist, no_fault_from_reads}
-use Rattle.bench_read.proofs.TotalLemmas.{reads_or_fault}
+use Rattle.bench_read.proofs.ReadLemmas.{one_netlist, no_fault_from_reads, reads_or_fault}
 use Rattle.bench_read.proofs.law.reads_or_faults.Goals as goal
 
 pub returns : goal.returns

@@ -1,0 +1,9 @@
+use Rattle.std.proofs.Common.{◌≡◌, ◌++◌, map}
+use Rattle.std.specs.List.{flat_map}
+use Rattle.bench_read.specs.Drafting.{lines_in}
+use Rattle.bench_read.specs.Placed.{lines_at}
+use Rattle.bench_read.specs.Netlists.{input_names, input_signal}
+use Rattle.bench_read.proofs.netlist.input_signals.Given as goal
+
+abbrev pub invariant-lines : goal.invariant-lines
+invariant-lines l = l.signals ++ map input_signal (flat_map input_names (lines_at l._at-iterator)) ≡ map input_signal (flat_map input_names (lines_in l.draft))

@@ -1,0 +1,359 @@
+//! The crossbar of c17: loops over its calls, beside what comes next at each port.
+
+ghost use Rattle.std.specs.Prelude.{◌≡◌, ◌<◌, ℕ, IfSome, length};
+ghost use Rattle.net_defs.specs.Valid.{IsValidStimulus, IsValidTiming};
+ghost use Rattle.image_defs.specs.WellFormed.{IsWellFormed};
+ghost use Rattle.event_defs.specs.declared.place.Action.TheVariants as action;
+ghost use Rattle.slot_words.specs.Passes.{AreFirstPasses, IsFirstPass, IsOf};
+ghost use Rattle.port_run.specs.Pairs.{placed};
+ghost use Rattle.port_run.specs.Steps.{IsUpcoming};
+
+use bench_read::law::reads_as_valid;
+use bench_read::read_bench;
+use event_defs::Action;
+use image_defs::Image;
+use logic_four::V4;
+use machine_text::read_machine;
+use net_defs::{Init, Mode, Stimulus, Timing};
+use port_walk::AnyPort;
+use seen_list::{List, Memory};
+use slot_words::{Crossbar, Pass, Taken};
+use std::alloc::Global;
+use std::sync::Wait;
+use std::test::Fail;
+use std::thread::{self, Threads, yield_now};
+use stim_text::read_stim;
+use yse_compile::compile;
+
+const C17: &[u8] =
+    b"INPUT(1)\nINPUT(2)\nINPUT(3)\nINPUT(6)\nINPUT(7)\nOUTPUT(22)\nOUTPUT(23)\n10 = NAND(1, 3)\n11 = NAND(3, 6)\n16 = NAND(2, 11)\n19 = NAND(11, 7)\n22 = NAND(10, 16)\n23 = NAND(16, 19)\n";
+
+/// 10,000 cycles.
+const ROWS: &[u8] = b"10101 * 3000\n0x1z0 * 2000\n11111\n00110 * 4999\n";
+
+/// How often a port is stepped at most.
+const TRIES: u32 = 1_000_000_000;
+
+/// What a step did.
+#[derive(Clone, Copy, Debug, PartialEq, Eq)]
+enum Did {
+    Asked,
+    Put { slot: u32 },
+    Took { slot: u32, value: V4 },
+    Waited { slot: u32 },
+    Told,
+    Nothing,
+}
+
+/// A pass of a crossbar, and beside it what comes next at its port.
+#[derive(Drop)]
+struct Hand<'a> {
+    bar: &'a Crossbar,
+    pass: Pass,
+    port: AnyPort<'a>,
+    ghost own: { IsOf bar.now pass },
+    ghost there: { port ≡ placed pass },
+}
+
+impl<'a> Hand<'a> {
+    /// Makes the next event, if there is one and it need not wait.
+    fn step(&mut self) -> Did {
+        match self.port.next(self.pass.known(), self.pass.banks()) {
+            Action::Done => Did::Nothing,
+            Action::Ask { reader } => self.ask(reader),
+            Action::Put { slot, value } => self.put(slot, value),
+            Action::Take { slot } => self.take(slot),
+            Action::Tell => self.tell(),
+        }
+    }
+
+    fn ask(&mut self, reader: u32) -> Did
+        requires { IsUpcoming self.old.pass (action.Ask reader) }
+    {
+        self.bar.ask(&mut self.pass, reader);
+        Did::Asked
+    }
+
+    fn put(&mut self, slot: u32, value: V4) -> Did
+        requires { IsUpcoming self.old.pass (action.Put slot value) }
+    {
+        self.bar.put(&mut self.pass, slot, value);
+        self.port.put_done();
+        Did::Put { slot }
+    }
+
+    fn take(&mut self, slot: u32) -> Did
+        requires { IsUpcoming self.old.pass (action.Take slot) }
+    {
+        match self.bar.take(&mut self.pass, slot) {
+            Taken::Value(value) => {
+                self.port.took(value);
+                Did::Took { slot, value }
+            }
+            Taken::NotYet => Did::Waited { slot },
+        }
+    }
+
+    fn tell(&mut self) -> Did
+        requires { IsUpcoming self.old.pass action.Tell }
+    {
+        self.bar.tell(&mut self.pass);
+        self.port.told();
+        Did::Told
+    }
+}
+
+/// The pass of a port and what comes next there, before its first event.
+fn hand_of<'a>(
+    alloc: Global,
+    bar: &'a Crossbar,
+    image: &'a Image,
+    stim: &'a Stimulus,
+    pass: Pass,
+) -> Result<Hand<'a>, Memory>
+    requires fits { IsWellFormed image.now }
+    requires valid { IsValidStimulus stim.now }
+    requires columns { stim.now.columns ≡ image.now.columns }
+    requires image { bar.now.image ≡ image.now }
+    requires stimulus { bar.now.stimulus ≡ stim.now }
+    requires first { IsFirstPass bar.now pass.port pass }
+    requires there { pass.port < length image.now.ports }
+{
+    let port = AnyPort::new(alloc, image, stim, pass.port())?;
+    Ok(Hand { bar, pass, port })
+}
+
+/// The hands of all ports, the last one first.
+fn all_hands<'a>(
+    alloc: Global,
+    bar: &'a Crossbar,
+    image: &'a Image,
+    stim: &'a Stimulus,
+    passes: List<Pass>,
+) -> Result<List<Hand<'a>>, Memory>
+    requires fits { IsWellFormed image.now }
+    requires valid { IsValidStimulus stim.now }
+    requires columns { stim.now.columns ≡ image.now.columns }
+    requires image { bar.now.image ≡ image.now }
+    requires stimulus { bar.now.stimulus ≡ stim.now }
+    requires passes { AreFirstPasses bar.now (length image.now.ports) passes }
+{
+    let mut passes = passes;
+    let mut hands = List::new(alloc);
+    'passes: while let Some(pass) = passes.pop() {
+        hands.push(hand_of(alloc, bar, image, stim, pass)?)?;
+    }
+    Ok(hands)
+}
+
+/// Of two values both must be 1 for a 0.
+fn nand(a: V4, b: V4) -> V4 {
+    match (a, b) {
+        (V4::Zero, _) | (_, V4::Zero) => V4::One,
+        (V4::One, V4::One) => V4::Zero,
+        _ => V4::Undef,
+    }
+}
+
+/// The inputs in a cycle, as `ROWS` has them.
+fn inputs_in(cycle: u64) -> [V4; 5] {
+    let (low, high, x, z) = (V4::Zero, V4::One, V4::Undef, V4::HighZ);
+    if cycle <= 3000 {
+        [high, low, high, low, high]
+    } else if cycle <= 5000 {
+        [low, x, high, z, low]
+    } else if cycle == 5001 {
+        [high, high, high, high, high]
+    } else {
+        [low, low, high, high, low]
+    }
+}
+
+/// What a port receives in a slot in a cycle, by the papers' plan of c17 on two logic processors.
+fn received(port: u32, slot: u32, cycle: u64) -> Option<V4> {
+    let [n1, n2, n3, n6, n7] = inputs_in(cycle);
+    let n11 = nand(n3, n6);
+    let n16 = nand(n2, n11);
+    match (port, slot) {
+        (0, 0) => Some(n1),
+        (0, 1) => Some(n2),
+        (0, 2) | (1, 2) => Some(n3),
+        (0, 4) => Some(n11),
+        (1, 3) => Some(n6),
+        (1, 4) => Some(n7),
+        (1, 5) => Some(n16),
+        (2, 6) => Some(nand(nand(n1, n3), n16)),
+        (2, 7) => Some(nand(n16, nand(n11, n7))),
+        _ => None,
+    }
+}
+
+/// What the hands of a thread did.
+#[derive(Clone, Copy, Debug, PartialEq, Eq)]
+struct Tally {
+    /// The values that they took.
+    taken: u32,
+    /// Those of them that were none of their slot and turn.
+    wrong: u32,
+    /// The hands that are done.
+    done: u32,
+}
+
+/// Steps one hand.
+fn step<'a>(hand: &mut Hand<'a>, tally: &mut Tally) {
+    let turn = hand.pass.turn();
+    match hand.step() {
+        Did::Took { slot, value } => {
+            tally.taken = tally.taken.saturating_add(1);
+            if received(hand.pass.port(), slot, turn) != Some(value) {
+                tally.wrong = tally.wrong.saturating_add(1);
+            }
+        }
+        Did::Waited { slot: _ } => yield_now(),
+        Did::Nothing => tally.done = tally.done.saturating_add(1),
+        _ => {}
+    }
+}
+
+/// Steps each hand once.
+fn step_all<'a>(hands: &mut [Hand<'a>], tally: &mut Tally) {
+    tally.done = 0;
+    for hand in hands {
+        step(hand, tally);
+    }
+}
+
+/// Steps the hands until all are done.
+fn drive<'a>(hands: List<Hand<'a>>) -> Tally {
+    let mut hands = hands;
+    let mut tally = Tally {
+        taken: 0,
+        wrong: 0,
+        done: 0,
+    };
+    for _ in 0..TRIES {
+        if tally.done as usize == hands.len() {
+            return tally;
+        }
+        step_all(hands.as_mut_slice(), &mut tally);
+    }
+    tally
+}
+
+/// The image of c17 on two logic processors, with one turn a cycle.
+fn c17(alloc: Global) -> Option<Image>
+    ensures { IfSome result IsWellFormed }
+{
+    let Ok(machine) = read_machine(alloc, b"logic 2\narray 0\n") else {
+        return None;
+    };
+    let Ok(net) = read_bench(alloc, C17) else {
+        return None;
+    };
+    reads_as_valid(C17, &net);
+    let timing = Timing {
+        mode: Mode::Rank,
+        units: 1,
+        init: Init::Undef,
+    };
+    match compile(alloc, &net, &machine, &timing) {
+        Ok(compiled) => Some(compiled.image),
+        Err(_) => None,
+    }
+}
+
+/// Two hands of one thread.
+fn pair<'a>(alloc: Global, one: Hand<'a>, other: Hand<'a>) -> Result<List<Hand<'a>>, Memory> {
+    let mut hands = List::new(alloc);
+    hands.push(one)?;
+    hands.push(other)?;
+    Ok(hands)
+}
+
+/// A hand of one thread.
+fn alone<'a>(alloc: Global, one: Hand<'a>) -> Result<List<Hand<'a>>, Memory> {
+    let mut hands = List::new(alloc);
+    hands.push(one)?;
+    Ok(hands)
+}
+
+/// The hands of port 0, of port 1 and of the host.
+fn three_hands<'a>(hands: List<Hand<'a>>) -> Option<(Hand<'a>, Hand<'a>, Hand<'a>)> {
+    let mut hands = hands;
+    let first = hands.pop()?;
+    let second = hands.pop()?;
+    let host = hands.pop()?;
+    Some((first, second, host))
+}
+
+/// What port 0, the host and port 0 again do first.
+fn first_steps<'a>(first: &mut Hand<'a>, host: &mut Hand<'a>) -> (Did, Did, Did) {
+    let waits = first.step();
+    let puts = host.step();
+    (waits, puts, first.step())
+}
+
+/// The host and port 0 in one thread, and port 1 in another.
+fn drive_all<'a, R: Threads>(rt: &R, one: List<Hand<'a>>, other: List<Hand<'a>>) -> (Tally, Tally) {
+    thread::join(rt, move || drive(one), move || drive(other))
+}
+
+/// What the first steps and then two threads do.
+fn run_by_hand<R: Threads + Wait>(
+    rt: &R,
+    alloc: Global,
+    image: &Image,
+    stim: &Stimulus,
+) -> Result<Option<((Did, Did, Did), Tally, Tally)>, Memory>
+    requires fits { IsWellFormed image.now }
+    requires valid { IsValidStimulus stim.now }
+    requires columns { stim.now.columns ≡ image.now.columns }
+{
+    let (bar, passes) = Crossbar::make(rt, alloc, image, stim, 2)?;
+    let hands = all_hands(alloc, &bar, image, stim, passes)?;
+    let Some((mut first, second, mut host)) = three_hands(hands) else {
+        return Ok(None);
+    };
+    let steps = first_steps(&mut first, &mut host);
+    let one = pair(alloc, host, first)?;
+    let other = alone(alloc, second)?;
+    let (one, other) = drive_all(rt, one, other);
+    Ok(Some((steps, one, other)))
+}
+
+/// The same of c17, over these rows.
+fn run_c17<R: Threads + Wait>(
+    rt: &R,
+    alloc: Global,
+) -> Result<Option<((Did, Did, Did), Tally, Tally)>, Memory> {
+    let Some(image) = c17(alloc) else {
+        return Ok(None);
+    };
+    match read_stim(alloc, ROWS, image.columns) {
+        Ok(stim) => run_by_hand(rt, alloc, &image, &stim),
+        Err(_) => Ok(None),
+    }
+}
+
+/// In turn 1 port 0 takes nothing in slot 0 before the host's Put, and its value after it. Then two
+/// threads make all other events of 10,000 turns, and each value taken is that of its slot and turn.
+#[test]
+fn crossbar_of_c17(rt: HostRuntime) -> Result<(), Fail> {
+    let Some((steps, one, other)) = run_c17(&rt, rt.alloc())? else {
+        return Err(Fail::new("c17 is an image"));
+    };
+    assert_eq!(rt;
+        steps,
+        (
+            Did::Waited { slot: 0 },
+            Did::Put { slot: 0 },
+            Did::Took {
+                slot: 0,
+                value: V4::One
+            }
+        )
+    );
+    assert_eq!(rt; (one.taken, one.wrong), (59_999, 0));
+    assert_eq!(rt; (other.taken, other.wrong), (40_000, 0));
+    Ok(())
+}
