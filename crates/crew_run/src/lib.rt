@@ -30,8 +30,6 @@ mod gate;
 mod lend;
 mod phase;
 mod stepper;
-#[cfg(test)]
-mod tests;
 mod worker;
 
 pub use count_gate::CountGate;

@@ -30,5 +30,3 @@ pub use writing::{WriteNo, write_whole};
 #[derive(Clone, Copy, Debug, PartialEq, Eq)]
 pub struct Failed;
 
-#[cfg(test)]
-mod tests;

@@ -1,3 +1,4 @@
 pub mod DrawLemmas
+pub mod Example
 pub mod SummaryLemmas
 pub mod ValidLemmas

@@ -7,8 +7,6 @@ mod gate;
 mod netlist;
 mod stimulus;
 mod summary;
-#[cfg(test)]
-mod tests;
 
 pub use netlist::{Generated, large_net};
 pub use stimulus::large_rows;

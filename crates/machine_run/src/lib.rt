@@ -6,8 +6,6 @@ mod gates;
 mod machine;
 mod rows;
 mod seats;
-#[cfg(test)]
-mod tests;
 
 pub use gates::count_gates;
 pub use machine::run_machine;

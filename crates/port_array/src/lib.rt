@@ -3,7 +3,5 @@
 
 mod memory;
 mod port;
-#[cfg(test)]
-mod tests;
 
 pub use port::ArrayPort;

@@ -5,7 +5,5 @@
 
 mod bank;
 pub mod steps;
-#[cfg(test)]
-mod tests;
 
 pub use bank::Bank;

@@ -6,7 +6,5 @@ mod cells;
 mod cursor;
 pub mod law;
 mod port;
-#[cfg(test)]
-mod tests;
 
 pub use port::HostPort;

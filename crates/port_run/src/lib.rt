@@ -10,8 +10,6 @@
 pub mod law;
 mod running;
 mod seated;
-#[cfg(test)]
-mod tests;
 
 pub use crew_run::Step;
 pub use running::Running;

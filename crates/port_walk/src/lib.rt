@@ -6,8 +6,6 @@ mod any_port;
 mod kind;
 mod readers;
 mod stops;
-#[cfg(test)]
-mod tests;
 
 pub use any_port::AnyPort;
 pub use event_defs::Action;

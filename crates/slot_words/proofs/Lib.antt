@@ -1,3 +1,4 @@
+pub mod Example
 pub mod HeldLemmas
 pub mod LinkLemmas
 pub mod OwnLemmas
@@ -6,5 +7,3 @@ pub mod StepLemmas
 pub mod TimeLemmas
 pub mod MadeLemmas
 pub mod OpeningLemmas
-pub mod ExampleLemmas
-pub mod LoneLemmas

@@ -30,8 +30,6 @@ mod opening;
 mod pass;
 mod rule;
 mod steps;
-#[cfg(test)]
-mod tests;
 
 pub use crossbar::{Crossbar, Taken};
 pub use pass::Pass;

@@ -18,8 +18,6 @@ mod of_cmd_words;
 #[cfg(test)]
 mod of_func_table;
 #[cfg(test)]
-mod of_large_run;
-#[cfg(test)]
 mod of_logic_four;
 #[cfg(test)]
 mod of_machine_text;
@@ -35,8 +33,6 @@ mod of_rank_find;
 mod of_seen_list;
 #[cfg(test)]
 mod of_slot_plan;
-#[cfg(test)]
-mod of_slot_words;
 #[cfg(test)]
 mod of_stim_text;
 #[cfg(test)]

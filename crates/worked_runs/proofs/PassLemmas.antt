@@ -1,0 +1,18 @@
+-- The passes of a crossbar, taken from the last one on.
+use Rattle.std.proofs.Common.{List, ap, arith, length, slice_get, ℕ, ◌++◌, ◌+◌, ◌∙◌, ◌∷◌, [], ◌≡◌}
+use Rattle.std.proofs.lemmas.List.{length_push}
+use Rattle.std.proofs.lemmas.Option.{slice_get_within}
+use Rattle.list_laws.proofs.Places.{at_front, seam_at}
+use Rattle.slot_words.specs.Passes.{AreFirstPasses, CrossbarView, IsFirstPass, PassView}
+
+-- the last of the passes
+pub last_pass : (made : CrossbarView) (n : ℕ) (passes rest : List PassView) (one : PassView) → AreFirstPasses made (n + 1) passes → passes ≡ rest ++ one ∷ [] → IsFirstPass made n one × AreFirstPasses made n rest
+last_pass made n passes rest one are popped = (
+  are.each n one (ap (λ xs. slice_get xs n) popped ∙ (ap (λ k. slice_get (rest ++ one ∷ []) k) (sym long) ∙ seam_at rest one [])),
+  record {
+    long = long;
+    each = λ p pass at. are.each p pass (ap (λ xs. slice_get xs p) popped ∙ (at_front rest (one ∷ []) p (slice_get_within rest p pass at) ∙ at));
+  },
+) where
+  long : length rest ≡ n
+  long = let all = are.long in let grown = ap length popped ∙ length_push rest one in omega arith

@@ -1,0 +1,71 @@
+//! Large designs with ample memory, against draws, texts and summaries from outside.
+
+use large_gen::{CellCounts, Summary, large_net, large_rows, summary_text};
+use logic_four::V4::One;
+use logic_four::to_char;
+use net_defs::{Stimulus, show};
+use seen_list::{Memory, Text};
+use std::alloc::Global;
+use std::test::Fail;
+
+const TWO: &str =
+    "INPUT(i0)\nINPUT(i1)\nINPUT(i2)\nINPUT(i3)\nINPUT(i4)\nINPUT(i5)\nINPUT(i6)\nINPUT(i7)\nOUTPUT(g0)\nOUTPUT(g1)\ng0 = NOR(i2, i6)\ng1 = BUFF(g0)\n";
+
+const TEN: &str =
+    "INPUT(i0)\nINPUT(i1)\nINPUT(i2)\nINPUT(i3)\nINPUT(i4)\nINPUT(i5)\nINPUT(i6)\nINPUT(i7)\nOUTPUT(g2)\nOUTPUT(g3)\nOUTPUT(g4)\nOUTPUT(g5)\nOUTPUT(g6)\nOUTPUT(g7)\nOUTPUT(g8)\nOUTPUT(g9)\ng0 = NOR(i2, i6)\ng1 = BUFF(g0)\ng2 = NAND(i6, i0)\ng3 = NOT(i0)\ng4 = OR(i1, g0, i3)\ng5 = NOT(g4)\ng6 = NOT(i3)\ng7 = DFF(g4)\ng8 = NOR(g6, g3, i6, i4)\ng9 = NOR(i1, i3, g8)\n";
+
+const TEN_STATE: u32 = 11134;
+
+/// The rows of a stimulus, a line each.
+fn rows_text(alloc: Global, stimulus: &Stimulus) -> Result<Text, Memory> {
+    let mut text = Text::new(alloc);
+    for row in stimulus.rows.as_slice() {
+        for value in row.values.as_slice() {
+            text.push_bytes(&[to_char(*value)])?;
+        }
+        text.push_bytes(b"\n")?;
+    }
+    Ok(text)
+}
+
+#[test]
+fn designs_are_known(rt: HostRuntime) -> Result<(), Fail> {
+    let two = large_net(rt.alloc(), 2)?;
+    let text = show(rt.alloc(), &two.net)?;
+    assert_eq!(rt; text.as_bytes(), TWO.as_bytes());
+    let rows = large_rows(rt.alloc(), two.state, 2)?;
+    assert_eq!(rt;
+        rows_text(rt.alloc(), &rows)?.as_bytes(),
+        b"11001000\n10110111\n".as_slice()
+    );
+    let ten = large_net(rt.alloc(), 10)?;
+    let text = show(rt.alloc(), &ten.net)?;
+    assert_eq!(rt; text.as_bytes(), TEN.as_bytes());
+    assert_eq!(rt; ten.state, TEN_STATE);
+    Ok(())
+}
+
+#[test]
+fn summaries_are_known(rt: HostRuntime) -> Result<(), Fail> {
+    let mut cells = CellCounts::none();
+    cells.add(&[One, One]);
+    assert_eq!(rt; (cells.zeros, cells.ones, cells.xs, cells.zs), (0, 2, 0, 0));
+    let summary = Summary {
+        gates: 2,
+        nodes: 2,
+        slots: 9,
+        crossings: 5,
+        cells: CellCounts {
+            zeros: 2,
+            ones: 2,
+            xs: 0,
+            zs: 0,
+        },
+    };
+    let text = summary_text(rt.alloc(), &summary)?;
+    assert_eq!(rt;
+        text.as_bytes(),
+        b"gates 2 nodes 2 slots 9 crossings 5\nzeros 2 ones 2 xs 0 zs 0\n".as_slice()
+    );
+    Ok(())
+}
