@@ -29,4 +29,3 @@ pub use writing::{WriteNo, write_whole};
 /// A fault of starting a file, of reading or of writing.
 #[derive(Clone, Copy, Debug, PartialEq, Eq)]
 pub struct Failed;
-

@@ -1,5 +1,8 @@
 //! Values from outside: whole reads and whole writes over memory and over the host.
-use edge_io::{Failed, HostFiles, HostSink, MemFiles, MemSink, NamedBytes, NullSink, PlainFiles, PlainSink, ReadNo, WriteNo, read_file, write_whole};
+use edge_io::{
+    Failed, HostFiles, HostSink, MemFiles, MemSink, NamedBytes, NullSink, PlainFiles, PlainSink,
+    ReadNo, WriteNo, read_file, write_whole,
+};
 use seen_list::{List, Memory, Text};
 use std::alloc::Global;
 use std::io::{ErrorKind, Write};
