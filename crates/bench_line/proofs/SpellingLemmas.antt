@@ -1,8 +1,7 @@
 -- Forms and their spellings.
-use Rattle.std.proofs.Common.{◌≡◌, ℕ, Bor, ◌+◌, ◌<◌, ◌≤◌, length, arith, append-nil, append_assoc, ⊎_elim, true, List, [], ◌∷◌, ◌++◌, Option, Some, None, Result, Ok, sym, ap, ◌∙◌, refl}
+use Rattle.std.proofs.Common.{◌≡◌, ℕ, Bor, ◌+◌, ◌<◌, ◌≤◌, length, arith, append-nil, append_assoc, true, List, [], ◌∷◌, ◌++◌, Option, Some, None, Result, Ok, sym, ap, ◌∙◌, refl}
 use Rattle.std.specs.Option.{option_map, option_and_then}
 use Rattle.std.proofs.lemmas.Option.{option_and_then_some}
-use Rattle.std.proofs.lemmas.Bool.{cond-true, cond-false, cases_Bool}
 use Rattle.bench_text.specs.declared.token.Mark.{Mark}
 use Rattle.bench_text.specs.declared.token.Mark.TheVariants as mark
 use Rattle.bench_text.specs.declared.token.Mark.TheVariants.{Open, Close, Comma, Equals, Semi, Left, Right}
@@ -40,30 +39,25 @@ from_some : {X : Type 0} (x y : X) → Some x ≡ Some y → x ≡ y
 from_some x y e = cc
 
 sign_is : (m : Mark) (pieces rest : List Piece) → take_sign m pieces ≡ Some rest → pieces ≡ Sign m ∷ rest
-sign_is m [] rest e = cc
-sign_is mark.Open (Sign mark.Open ∷ more) rest e = ap (λ ps. Sign Open ∷ ps) (from_some more rest e)
-sign_is mark.Close (Sign mark.Close ∷ more) rest e = ap (λ ps. Sign Close ∷ ps) (from_some more rest e)
-sign_is mark.Comma (Sign mark.Comma ∷ more) rest e = ap (λ ps. Sign Comma ∷ ps) (from_some more rest e)
-sign_is mark.Equals (Sign mark.Equals ∷ more) rest e = ap (λ ps. Sign Equals ∷ ps) (from_some more rest e)
-sign_is mark.Semi (Sign mark.Semi ∷ more) rest e = ap (λ ps. Sign Semi ∷ ps) (from_some more rest e)
-sign_is mark.Left (Sign mark.Left ∷ more) rest e = ap (λ ps. Sign Left ∷ ps) (from_some more rest e)
-sign_is mark.Right (Sign mark.Right ∷ more) rest e = ap (λ ps. Sign Right ∷ ps) (from_some more rest e)
-sign_is mark.Name (Sign mark.Name ∷ more) rest e = ap (λ ps. Sign mark.Name ∷ ps) (from_some more rest e)
-sign_is m (Sign other ∷ more) rest e = cc
-sign_is m (Word name ∷ more) rest e = cc
+sign_is mark.Open (Sign mark.Open ∷ more) rest e = cc
+sign_is mark.Close (Sign mark.Close ∷ more) rest e = cc
+sign_is mark.Comma (Sign mark.Comma ∷ more) rest e = cc
+sign_is mark.Equals (Sign mark.Equals ∷ more) rest e = cc
+sign_is mark.Semi (Sign mark.Semi ∷ more) rest e = cc
+sign_is mark.Left (Sign mark.Left ∷ more) rest e = cc
+sign_is mark.Right (Sign mark.Right ∷ more) rest e = cc
+sign_is mark.Name (Sign mark.Name ∷ more) rest e = cc
+sign_is m pieces rest e = cc
 
 word_is : (pieces : List Piece) (x : List ℕ × List Piece) → take_word pieces ≡ Some x → pieces ≡ Word x.0 ∷ x.1
-word_is [] x e = cc
-word_is (Sign m ∷ rest) x e = cc
 word_is (Word name ∷ rest) x e = ap (λ (y : List ℕ × List Piece). Word y.0 ∷ y.1) (from_some (name, rest) x e)
+word_is pieces x e = cc
 
 more_is : (pieces : List Piece) (x : List (List ℕ) × List Piece) → take_more pieces ≡ Some x → pieces ≡ commas x.0 ++ x.1
 more_is (Sign mark.Comma ∷ Word name ∷ rest) x e = by_rest (take_more rest) (more_is rest) e where
   by_rest : (o : Option (List (List ℕ) × List Piece)) → ((y : List (List ℕ) × List Piece) → o ≡ Some y → rest ≡ commas y.0 ++ y.1) → option_map (with_name name) o ≡ Some x → Sign Comma ∷ Word name ∷ rest ≡ commas x.0 ++ x.1
   by_rest None is g = cc
-  by_rest (Some y) is g =
-      ap (λ ps. Sign Comma ∷ Word name ∷ ps) (is y refl)
-      ∙ ap (λ (z : List (List ℕ) × List Piece). commas z.0 ++ z.1) (from_some (with_name name y) x g)
+  by_rest (Some y) is g = rw (is y refl) (ap (λ (z : List (List ℕ) × List Piece). commas z.0 ++ z.1) (from_some (with_name name y) x g))
 more_is (Sign mark.Comma ∷ rest) x e = cc
 more_is pieces x e = ap (λ (z : List (List ℕ) × List Piece). commas z.0 ++ z.1) (from_some ([], pieces) x e)
 
@@ -71,28 +65,19 @@ names_are : (pieces : List Piece) (x : Names × List Piece) → take_names piece
 names_are pieces x e =
     option_and_then_some _ (take_word pieces) x e (λ first f g.
     option_and_then_some _ (take_more first.1) x g (λ more h k.
-    word_is pieces first f
-    ∙ ap (λ ps. Word first.0 ∷ ps) (more_is first.1 more h)
-    ∙ ap (λ (y : Names × List Piece). listed y.0 ++ y.1) (from_some (record { first = first.0; others = more.0 }, more.1) x k)))
+    rw (word_is pieces first f, more_is first.1 more h) (ap (λ (y : Names × List Piece). listed y.0 ++ y.1) (from_some (record { first = first.0; others = more.0 }, more.1) x k))))
 
 -- a last bracket
-last_is : (pieces : List Piece) → is_closed pieces ≡ true → pieces ≡ Sign Close ∷ []
-last_is (Sign mark.Close ∷ []) e = refl
-last_is pieces e = cc
-
 closed_is : (one form : Form) (pieces : List Piece) → closed one pieces ≡ Some form → (pieces ≡ Sign Close ∷ []) × (one ≡ form)
-closed_is one form pieces e = ⊎_elim
-    (λ is. (last_is pieces is, from_some one form (sym (cond-true _ _ _ is) ∙ e)))
-    (λ other. let none : ◌≡◌ {A = Option Form} None (Some form) = sym (cond-false (is_closed pieces) (Some one) None other) ∙ e in cc)
-    (cases_Bool (is_closed pieces))
+closed_is one form (Sign mark.Close ∷ []) e = (refl, from_some one form e)
+closed_is one form pieces e = cc
 
 -- behind `WORD (`
 port_is : (word : List ℕ) (pieces : List Piece) (form : Form) → port_behind word pieces ≡ Some form → Word word ∷ Sign Open ∷ pieces ≡ spelled form
 port_is word pieces form e =
     option_and_then_some _ (take_word pieces) form e (λ name f g.
     let end = closed_is (Port word name.0) form name.1 g in
-    ap (λ ps. Word word ∷ Sign Open ∷ ps) (word_is pieces name f ∙ ap (λ ps. Word name.0 ∷ ps) end.0)
-    ∙ ap spelled end.1)
+    rw (word_is pieces name f, end.0, sym end.1) refl)
 
 -- behind `name =`
 gate_is : (name : List ℕ) (pieces : List Piece) (form : Form) → gate_behind name pieces ≡ Some form → Word name ∷ Sign Equals ∷ pieces ≡ spelled form
@@ -101,12 +86,7 @@ gate_is name pieces form e =
     option_and_then_some _ (take_sign Open word.1) form g (λ opened h k.
     option_and_then_some _ (take_names opened) form k (λ uses l m.
     let end = closed_is (Gate name word.0 uses.0) form uses.1 m in
-    ap (λ ps. Word name ∷ Sign Equals ∷ ps)
-    (word_is pieces word f
-    ∙ ap (λ ps. Word word.0 ∷ ps) (sign_is Open word.1 opened h)
-    ∙ ap (λ ps. Word word.0 ∷ Sign Open ∷ ps) (names_are opened uses l)
-    ∙ ap (λ ps. Word word.0 ∷ Sign Open ∷ (listed uses.0 ++ ps)) end.0)
-    ∙ ap spelled end.1)))
+    rw (word_is pieces word f, sign_is Open word.1 opened h, names_are opened uses l, end.0, sym end.1) refl)))
 
 -- `] = WORD ( name ;`
 head_is : (pieces : List Piece) (x : (List ℕ × List ℕ) × List Piece) → take_head pieces ≡ Some x
@@ -118,13 +98,8 @@ head_is pieces x e =
     option_and_then_some _ (take_sign Open word.1) x e3 (λ opened f4 e4.
     option_and_then_some _ (take_word opened) x e4 (λ enable f5 e5.
     option_and_then_some _ (take_sign Semi enable.1) x e5 (λ semi f6 e6.
-    sign_is Right pieces right f1
-    ∙ ap (λ ps. Sign Right ∷ ps) (sign_is Equals right equals f2)
-    ∙ ap (λ ps. Sign Right ∷ Sign Equals ∷ ps) (word_is equals word f3)
-    ∙ ap (λ ps. Sign Right ∷ Sign Equals ∷ Word word.0 ∷ ps) (sign_is Open word.1 opened f4)
-    ∙ ap (λ ps. Sign Right ∷ Sign Equals ∷ Word word.0 ∷ Sign Open ∷ ps) (word_is opened enable f5)
-    ∙ ap (λ ps. Sign Right ∷ Sign Equals ∷ Word word.0 ∷ Sign Open ∷ Word enable.0 ∷ ps) (sign_is Semi enable.1 semi f6)
-    ∙ ap (λ (y : (List ℕ × List ℕ) × List Piece). Sign Right ∷ Sign Equals ∷ Word y.0.0 ∷ Sign Open ∷ Word y.0.1 ∷ Sign Semi ∷ y.1) (from_some ((word.0, enable.0), semi) x e6)))))))
+    rw (sign_is Right pieces right f1, sign_is Equals right equals f2, word_is equals word f3, sign_is Open word.1 opened f4, word_is opened enable f5, sign_is Semi enable.1 semi f6)
+    (ap (λ (y : (List ℕ × List ℕ) × List Piece). Sign Right ∷ Sign Equals ∷ Word y.0.0 ∷ Sign Open ∷ Word y.0.1 ∷ Sign Semi ∷ y.1) (from_some ((word.0, enable.0), semi) x e6))))))))
 
 -- behind `[`
 memory_is : (pieces : List Piece) (form : Form) → memory_behind pieces ≡ Some form → Sign Left ∷ pieces ≡ spelled form
@@ -135,14 +110,7 @@ memory_is pieces form e =
     option_and_then_some _ (take_sign Semi address.1) form e3 (λ semi f4 e4.
     option_and_then_some _ (take_names semi) form e4 (λ words f5 e5.
     let end = closed_is (Memory outs.0 head.0.0 head.0.1 address.0 words.0) form words.1 e5 in
-    let middle : List Piece → List Piece = λ ps. Sign Left ∷ (listed outs.0 ++ Sign Right ∷ Sign Equals ∷ Word head.0.0 ∷ Sign Open ∷ Word head.0.1 ∷ Sign Semi ∷ ps) in
-    ap (λ ps. Sign Left ∷ ps) (names_are pieces outs f1)
-    ∙ ap (λ ps. Sign Left ∷ (listed outs.0 ++ ps)) (head_is outs.1 head f2)
-    ∙ ap middle (names_are head.1 address f3)
-    ∙ ap (λ ps. middle (listed address.0 ++ ps)) (sign_is Semi address.1 semi f4)
-    ∙ ap (λ ps. middle (listed address.0 ++ Sign Semi ∷ ps)) (names_are semi words f5)
-    ∙ ap (λ ps. middle (listed address.0 ++ Sign Semi ∷ (listed words.0 ++ ps))) end.0
-    ∙ ap spelled end.1)))))
+    rw (names_are pieces outs f1, head_is outs.1 head f2, names_are head.1 address f3, sign_is Semi address.1 semi f4, names_are semi words f5, end.0, sym end.1) refl)))))
 
 -- behind a name
 named_is : (name : List ℕ) (pieces : List Piece) (form : Form) → named_behind name pieces ≡ Some form → Word name ∷ pieces ≡ spelled form
