@@ -22,7 +22,7 @@ use Rattle.bench_text.proofs.ByteLemmas.{IsOfClass, class_is}
 use Rattle.bench_text.proofs.PlaceLemmas.{is_comment_step, token_is}
 use Rattle.bench_line.specs.Spelling.{Piece, Sign, Word}
 use Rattle.bench_line.specs.Rows.{goes_on, pieces_of, is_some, rows_in, rows_of, placed_pieces, piece_of}
-use Rattle.bench_line.proofs.PartLemmas.{name_read}
+use Rattle.bench_line.proofs.PartLemmas.{name_read, no_name}
 
 -- the name at the front
 abbrev name_at : List ℕ → List ℕ
@@ -44,19 +44,11 @@ begins within after byte rest =
 abbrev behind : Bool → List ℕ → List Piece
 behind after bytes = if after && goes_on bytes then drop 1 (pieces_of bytes) else pieces_of bytes
 
-word_first : (bytes : List ℕ) → goes_on bytes ≡ true → pieces_of bytes ≡ Word (name_at bytes) ∷ drop 1 (pieces_of bytes)
-word_first [] is = cc
-word_first (byte ∷ rest) is = rw (name_read byte rest is) refl
-
-no_name_at : (bytes : List ℕ) → goes_on bytes ≡ false → name_at bytes ≡ []
-no_name_at [] none = refl
-no_name_at (byte ∷ rest) none = grind (arith, take_while-cons is_name_byte byte rest, none)
-
 behind_step : (after : Bool) (byte : ℕ) (rest : List ℕ) → behind after (byte ∷ rest) ≡ begun (sign_of byte) (is_name_byte byte) after (byte ∷ name_at rest) ++ behind (is_name_byte byte) rest
 behind_step after byte rest = by_class (class_of byte) (class_is byte) (cases_Bool (goes_on rest)) where
   by_class : (class : Class) → IsOfClass byte class → (goes_on rest ≡ true) ⊎ (goes_on rest ≡ false) → behind after (byte ∷ rest) ≡ begun (sign_of byte) (is_name_byte byte) after (byte ∷ name_at rest) ++ behind (is_name_byte byte) rest
-  by_class class.Name is (inl more) = grind (arith, is.sign, is.name, more, word_first rest more)
-  by_class class.Name is (inr none) = grind (arith, is.sign, is.name, none, no_name_at rest none)
+  by_class class.Name is (inl more) = grind (arith, is.sign, is.name, more, name_read rest more)
+  by_class class.Name is (inr none) = grind (arith, is.sign, is.name, none, no_name rest none)
   by_class class is more = grind (arith, is.sign, is.name)
 
 -- ---- what is read of a line
