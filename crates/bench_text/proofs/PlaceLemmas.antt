@@ -60,30 +60,25 @@ column_at-le text (suc i) = grind (arith, column_at-le text i)
 -- ---- runs of name bytes
 
 module _ (text : List ℕ) (i : ℕ) where
-  pub run_passes : (k : ℕ) → i ≤ k → k < i + name_length text i → is_name_byte (get_or text k 0) ≡ true
+  pub run_front : (k d : ℕ) → k < name_length text i → is_name_byte (get_or (drop i text) k d) ≡ true
   unfolding name_length
+  run_front k d below = prefix_len_passes is_name_byte (drop i text) k d below
+
+  pub run_passes : (k : ℕ) → i ≤ k → k < i + name_length text i → is_name_byte (get_or text k 0) ≡ true
   run_passes k from below =
       let place : i + (k - i) ≡ k = omega arith in
-      subst (λ j. is_name_byte (get_or text j 0) ≡ true) place (rw get_or-drop at (prefix_len_passes is_name_byte (drop i text) (k - i) 0 (omega arith)))
+      rw (get_or-drop, place) at (run_front (k - i) 0 (omega arith))
 
   pub run_within : i ≤ length text → i + name_length text i ≤ length text
   unfolding name_length
   run_within within = omega (arith, prefix_len-le-length is_name_byte (drop i text), length-drop i text)
 
-  pub run_stops : i + name_length text i < length text → is_name_byte (get_or text (i + name_length text i) 0) ≡ false
+  pub run_stops : (k : ℕ) → k ≡ i + name_length text i → k < length text → is_name_byte (get_or text k 0) ≡ false
   unfolding name_length
-  run_stops within = rw get_or-drop at (prefix_len_stops is_name_byte (drop i text) 0 (omega (arith, length-drop i text)))
+  run_stops k is within = rw is (rw get_or-drop at (prefix_len_stops is_name_byte (drop i text) 0 (omega (arith, length-drop i text))))
 
   pub run_begins : i < length text → is_name_byte (get_or text i 0) ≡ true → 0 < name_length text i
-  run_begins within named = grind (arith, run_stops, named)
-
-  pub run_goes_on : (k : ℕ) → k < i + name_length text i → suc k < length text → is_name_byte (get_or text (suc k) 0) ≡ true → suc k < i + name_length text i
-  run_goes_on k below within named = elim (cases_lt (suc k) (i + name_length text i)) [
-    | inl inside ↦ inside
-    | inr past ↦
-        let end : i + name_length text i ≡ suc k = omega arith in
-        absurd (both_ways (is_name_byte (get_or text (suc k) 0)) (rw end at (run_stops (omega arith))) named)
-  ]
+  run_begins within named = elim (cases_lt 0 (name_length text i)) [ inl some ↦ some | inr none ↦ absurd (both_ways _ (run_stops i (omega arith) within) named) ]
 
 -- a place inside a name has no fault and begins no token
 pub inside : (text : List ℕ) (i k : ℕ) → i < k → k < i + name_length text i → (fault_at text k ≡ None) × (token_at text k ≡ None)
