@@ -1,5 +1,5 @@
 -- What a scan finds at a place is the token of the place, or its fault.
-use Rattle.std.proofs.Common.{◌≡◌, ℕ, zero, suc, ◌+◌, ◌-◌, ◌<◌, ◌≤◌, true, false, List, length, drop, get_or, None, Some, sym, ap, ◌∙◌, subst, refl, arith, inl, inr}
+use Rattle.std.proofs.Common.{◌≡◌, ℕ, zero, suc, ◌+◌, ◌-◌, ◌<◌, ◌≤◌, true, false, List, length, drop, get_or, None, Some, sym, ◌∙◌, refl, arith, inl, inr, add-zero}
 use Rattle.std.proofs.lemmas.Bool.{cases_lt, both_ways}
 use Rattle.std.proofs.lemmas.List.{length-drop, get_or-drop}
 use Rattle.std.proofs.lemmas.List.Sums.{prefix_len-le-length, prefix_len_passes, prefix_len_stops}
@@ -11,34 +11,23 @@ use Rattle.bench_text.specs.declared.token.TextNo.{TextNo}
 use Rattle.bench_text.specs.declared.class.Class.{Class}
 use Rattle.bench_text.specs.declared.class.Class.TheVariants.{Name}
 use Rattle.bench_text.specs.Bytes.{class_of}
-use Rattle.bench_text.specs.Tokens.{begins_name, name_length, token_at, is_bad, fault_at, first_fault}
-use Rattle.bench_text.specs.Scans.{HasPassed, follows_comment, scan_at, scan_after, fault_of_name, fault_by, token_by}
-use Rattle.bench_text.proofs.ByteLemmas.{IsOfClass, tests_in, class_is, named_byte}
+use Rattle.bench_text.specs.Tokens.{follows_name, begins_name, name_length, token_at, is_bad, fault_at, first_fault}
+use Rattle.bench_text.specs.Scans.{HasPassed, follows_comment, scan_at, scan_after, fault_by, token_by}
+use Rattle.bench_text.proofs.ByteLemmas.{IsOfClass, class_is, named_byte}
 
 pub is_comment_step : (text : List ℕ) (i : ℕ) → is_comment text i ≡ stays_in_comment (follows_comment text i) (get_or text i 0)
 unfolding is_comment
 is_comment_step text zero = refl
 is_comment_step text (suc i) = refl
 
--- what a scan finds is the fault of the place
-pub fault_is : (text : List ℕ) (i : ℕ) (scan : Scan) → scan ≡ scan_at text i → fault_by text i scan (class_of (get_or text i 0)) ≡ fault_at text i
-unfolding fault_at is_bad begins_name is_line_end stays_in_comment
-fault_is text i scan at = rw at (by_class (class_of (get_or text i 0)) (class_is (get_or text i 0))) where
-  by_class : (class : Class) → IsOfClass (get_or text i 0) class → fault_by text i (scan_at text i) class ≡ fault_at text i
-  by_class Name is = grind (arith, is, is_comment_step text i)
-  by_class class is = grind (arith, is, is_comment_step text i)
-
-pub name_fault_is : (text : List ℕ) (i n : ℕ) (scan : Scan) → scan ≡ scan_at text i → class_of (get_or text i 0) ≡ Name → n ≡ name_length text i
-    → fault_of_name scan n ≡ fault_at text i
-name_fault_is text i n scan at named is = rw is (ap (fault_by text i scan) (sym named) ∙ fault_is text i scan at)
-
--- and its token
-pub token_is : (text : List ℕ) (i : ℕ) (scan : Scan) → scan ≡ scan_at text i → token_by text i scan (class_of (get_or text i 0)) ≡ token_at text i
-unfolding token_at begins_name stays_in_comment
-token_is text i scan at = rw at (by_class (class_of (get_or text i 0)) (class_is (get_or text i 0))) where
-  by_class : (class : Class) → IsOfClass (get_or text i 0) class → token_by text i (scan_at text i) class ≡ token_at text i
-  by_class Name is = grind (arith, is, is_comment_step text i)
-  by_class class is = grind (arith, is, is_comment_step text i)
+-- what a scan finds is the fault of the place, and its token
+pub place_is : (text : List ℕ) (i : ℕ) (scan : Scan) → scan ≡ scan_at text i
+    → (fault_by text i scan (class_of (get_or text i 0)) ≡ fault_at text i) × (token_by text i scan (class_of (get_or text i 0)) ≡ token_at text i)
+unfolding fault_at is_bad begins_name is_line_end stays_in_comment token_at
+place_is text i scan at = rw at (by_class (class_of (get_or text i 0)) (class_is (get_or text i 0))) where
+  by_class : (class : Class) → IsOfClass (get_or text i 0) class → (fault_by text i (scan_at text i) class ≡ fault_at text i) × (token_by text i (scan_at text i) class ≡ token_at text i)
+  by_class Name is = (grind (arith, is, is_comment_step text i), grind (arith, is, is_comment_step text i))
+  by_class class is = (grind (arith, is, is_comment_step text i), grind (arith, is, is_comment_step text i))
 
 -- ---- a scan, one place on
 
@@ -89,27 +78,17 @@ inside text i (suc k) after before =
     let follows = run_passes text i k (omega arith) (omega arith) in
     (grind (arith, here.visible, follows), grind (arith, here.no_sign, follows))
 
--- a scan, one byte of a name on
-after_named : (scan : Scan) (byte : ℕ) → is_name_byte byte ≡ true
-    → scan_after scan byte ≡ record { line = scan.line; column = scan.column + 1; in_comment = scan.in_comment; in_name = true }
-unfolding stays_in_comment
-after_named scan byte named =
-    let here = named_byte byte named in
-    grind (arith, named, here.no_feed, here.no_hash)
-
 -- where a scan stands inside a name, or behind it
-scan_behind : (text : List ℕ) (i n : ℕ) → 0 < n → n ≤ name_length text i
-    → scan_at text (i + n) ≡ record { line = line_at text i; column = column_at text i + n; in_comment = follows_comment text i; in_name = true }
-scan_behind text i zero some most = absurd (omega arith)
-scan_behind text i (suc zero) some most =
-    sym (after_is text i (scan_at text i) refl) ∙ after_named (scan_at text i) (get_or text i 0) (run_passes text i i (omega arith) (omega arith))
-scan_behind text i (suc (suc k)) some most =
-    let place : i + suc (suc k) ≡ i + suc k + 1 = omega arith in
-    let column : column_at text i + suc (suc k) ≡ column_at text i + suc k + 1 = omega arith in
-    rw (place, column)
-    (sym (after_is text (i + suc k) (scan_at text (i + suc k)) refl)
-    ∙ after_named (scan_at text (i + suc k)) (get_or text (i + suc k) 0) (run_passes text i (i + suc k) (omega arith) (omega arith))
-    ∙ ap (λ s. record { line = s.line; column = s.column + 1; in_comment = s.in_comment; in_name = true }) (scan_behind text i (suc k) (omega arith) (omega arith)))
+scan_behind : (text : List ℕ) (i k : ℕ) → k ≤ name_length text i
+    → scan_at text (i + k) ≡ record { line = line_at text i; column = column_at text i + k; in_comment = follows_comment text i; in_name = follows_name text (i + k) }
+unfolding line_at column_at stays_in_comment
+scan_behind text i zero most = simp add-zero
+scan_behind text i (suc k) most =
+    let next : i + suc k ≡ suc (i + k) = omega arith in
+    let column : column_at text i + suc k ≡ column_at text i + k + 1 = omega arith in
+    let named = run_passes text i (i + k) (omega arith) (omega arith) in
+    let byte = named_byte (get_or text (i + k) 0) named in
+    rw (next, column) (grind (arith, is_comment_step text (i + k), scan_behind text i k (omega arith), byte))
 
 -- ---- a scan
 
@@ -119,7 +98,7 @@ pub passed_one : (text : List ℕ) (i : ℕ) (scan next : Scan) → scan ≡ sca
 passed_one text i scan next at within none after = record {
   some = omega arith;
   within = omega arith;
-  no_fault = λ k least most. let here : i ≡ k = omega arith in subst (λ j. fault_at text j ≡ None) here none;
+  no_fault = λ k least most. let here : k ≡ i = omega arith in rw here none;
   next_is = after ∙ after_is text i scan at;
 }
 
@@ -127,17 +106,19 @@ passed_one text i scan next at within none after = record {
 pub passed_name : (text : List ℕ) (i n : ℕ) (scan : Scan) → scan ≡ scan_at text i → i < length text → class_of (get_or text i 0) ≡ Name
     → n ≡ name_length text i → fault_at text i ≡ None
     → HasPassed text i n (record { line = scan.line; column = scan.column + n; in_comment = scan.in_comment; in_name = true })
-passed_name text i n scan at within class is none = record {
-  some = omega (arith, is, run_begins text i within named);
-  within = omega (arith, is, run_within text i (omega arith));
-  no_fault = λ k least most. elim (cases_lt i k) [
-    | inl inner ↦ (inside text i k inner (omega (arith, is))).0
-    | inr first ↦ let here : i ≡ k = omega arith in subst (λ j. fault_at text j ≡ None) here none
-  ];
-  next_is = rw (at, scan_behind text i n (omega (arith, is, run_begins text i within named)) (omega (arith, is))) refl;
-} where
-  named : is_name_byte (get_or text i 0) ≡ true
-  named = (class_is (get_or text i 0)).name ∙ ap (λ (c : Class). (tests_in c).1) class
+passed_name text i n scan at within class is none =
+    let some : 0 < n = omega (arith, run_begins text i within (rw class at (class_is (get_or text i 0)).name)) in
+    let last : i + n ≡ suc (i + n - 1) = omega arith in
+    let follows : follows_name text (i + n) ≡ true = rw last (run_passes text i (i + n - 1) (omega arith) (omega arith)) in
+    record {
+      some = some;
+      within = omega (arith, run_within text i (omega arith));
+      no_fault = λ k least most. elim (cases_lt i k) [
+        | inl inner ↦ (inside text i k inner (omega arith)).0
+        | inr first ↦ let here : k ≡ i = omega arith in rw here none
+      ];
+      next_is = rw (at, scan_behind text i n (omega arith), follows) refl;
+    }
 
 -- the scan stands before place i, and no place before has a fault
 pub record HasScanned (text : List ℕ) (i : ℕ) (scan : Scan) : Type 0 where

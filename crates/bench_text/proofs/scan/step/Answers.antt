@@ -1,5 +1,5 @@
 use Rattle.std.proofs.Common.{sym, ap, ◌∙◌, arith}
-use Rattle.bench_text.proofs.PlaceLemmas.{line_at-le, column_at-le, fault_is, passed_one}
+use Rattle.bench_text.proofs.PlaceLemmas.{line_at-le, column_at-le, place_is, passed_one}
 use Rattle.bench_text.proofs.scan.step.Goals as goal
 
 pub after-requires-clause-line : goal.after-requires-clause-line
@@ -11,7 +11,7 @@ after-requires-clause-column c = omega (arith, ap (λ scan. scan.column) c.requi
 pub returns-in-None : goal.returns-in-None
 returns-in-None c =
     passed_one c.args.bytes.now c.args.i c.args.scan c.after.result c.requires.scan c.requires.within
-    (sym (fault_is c.args.bytes.now c.args.i c.args.scan c.requires.scan) ∙ sym c.in-None.ensures) c.after.ensures
+    (sym (place_is c.args.bytes.now c.args.i c.args.scan c.requires.scan).0 ∙ sym c.in-None.ensures) c.after.ensures
 
 pub returns-in-Some : goal.returns-in-Some
-returns-in-Some c = sym (fault_is c.args.bytes.now c.args.i c.args.scan c.requires.scan) ∙ sym c.in-Some.ensures
+returns-in-Some c = sym (place_is c.args.bytes.now c.args.i c.args.scan c.requires.scan).0 ∙ sym c.in-Some.ensures
