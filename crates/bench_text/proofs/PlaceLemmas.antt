@@ -36,15 +36,10 @@ unfolding line_at column_at
 after_is text i scan at = let next : i + 1 ≡ suc i = omega arith in rw (at, next, sym (is_comment_step text i)) refl
 
 -- lines and columns are no more than places
-pub line_at-le : (text : List ℕ) (i : ℕ) → line_at text i ≤ i + 1
-unfolding line_at
-line_at-le text zero = omega arith
-line_at-le text (suc i) = grind (arith, line_at-le text i)
-
-pub column_at-le : (text : List ℕ) (i : ℕ) → column_at text i ≤ i + 1
-unfolding column_at
-column_at-le text zero = omega arith
-column_at-le text (suc i) = grind (arith, column_at-le text i)
+pub place_below : (text : List ℕ) (i : ℕ) → (line_at text i ≤ i + 1) × (column_at text i ≤ i + 1)
+unfolding line_at column_at
+place_below text zero = (omega arith, omega arith)
+place_below text (suc i) = let before = place_below text i in (grind (arith, before.0), grind (arith, before.1))
 
 -- ---- runs of name bytes
 

@@ -1,5 +1,5 @@
 -- What the tokens of a text cover.
-use Rattle.std.proofs.Common.{◌≡◌, ℕ, zero, suc, ◌+◌, ◌-◌, ◌<◌, ◌≤◌, ◌↔◌, Bool, true, false, cond, List, [], ◌∷◌, ◌++◌, length, take, drop, get_or, Option, Some, None, sym, ap, ◌∙◌, subst, refl, inl, inr, arith, append-nil}
+use Rattle.std.proofs.Common.{◌≡◌, ℕ, zero, suc, ◌+◌, ◌-◌, ◌<◌, ◌≤◌, ◌↔◌, Bool, true, false, cond, List, ◌++◌, length, drop, get_or, Option, Some, None, sym, ap, ◌∙◌, subst, refl, inl, inr, arith, append-nil}
 use Rattle.std.specs.Option.{option_to_list}
 use Rattle.std.specs.List.{All, AllPairs, Contains}
 use Rattle.std.proofs.lemmas.Bool.{cases_lt, cases_Bool, both_ways}
@@ -45,13 +45,10 @@ record BeginsAt (text : List ℕ) (i : ℕ) (token : Token) : Type 0 where
   pub read : (k : ℕ) → i ≤ k → k < token.upto → IsRead text k
   pub alone : (k : ℕ) → i < k → k < token.upto → token_at text k ≡ None
 
-one_byte : (text : List ℕ) (i byte : ℕ) → i < length text → get_or text i 0 ≡ byte → take (i + 1 - i) (drop i text) ≡ byte ∷ []
-one_byte text i byte within is = let one : i + 1 - i ≡ 1 = omega arith in rw (one, drop_more text i 0 within, is) refl
-
 sign_bytes : (text : List ℕ) (i : ℕ) (mark : Mark) → i < length text → sign_of (get_or text i 0) ≡ Some mark → AreBytesOf mark text i (i + 1)
 unfolding sign_of
 sign_bytes text i Name within sign = absurd (grind (arith, sign))
-sign_bytes text i mark within sign = one_byte text i _ within (grind (arith, sign))
+sign_bytes text i mark within sign = let one : i + 1 - i ≡ 1 = omega arith in rw (one, drop_more text i 0 within) (grind (arith, sign))
 
 -- a mark
 sign_begins : (text : List ℕ) (i : ℕ) (mark : Mark) → i < length text → is_comment text i ≡ false → sign_of (get_or text i 0) ≡ Some mark
@@ -171,11 +168,6 @@ module _ (text : List ℕ) (none : (i : ℕ) → i < length text → fault_at te
         let found = found_before n (get_or (tokens_before text n) k d) (omega arith) (Contains-get_or (tokens_before text n) k d below) in
         in_order found.0 n _ token found.2 (token_begins text n token (omega arith) (none n (omega arith)) is) found.1 is)
 
-  to_read : (i : ℕ) → IsCovered (tokens_of text) i → IsRead text i
-  to_read i (k, token, below, is, inside) =
-      let found = found_before (length text) token (omega arith) (k, below, is) in
-      found.2.read i (omega (arith, found.2.from, inside.0)) inside.1
-
   -- a byte that is read is in the token of a place
   token_of_byte : (i : ℕ) → i < length text → IsRead text i → (k : ℕ) × (token : Token) × (k ≤ i) × (token_at text k ≡ Some token) × (token.from ≤ i) × (i < token.upto)
   unfolding token_at stays_in_comment fault_at is_bad is_line_end
@@ -201,7 +193,9 @@ list_read text i list passed so_far all = rw (so_far, all) (record {
   spans = λ k d below. (found_before text none (length text) (get_or (tokens_of text) k d) (omega arith) (Contains-get_or (tokens_of text) k d below)).2.stands;
   order = ordered text none (length text) (omega arith);
   covers = λ i within. (
-    to_read text none i,
+    λ covered.
+        let found = found_before text none (length text) covered.1 (omega arith) (covered.0, covered.2, covered.3) in
+        found.2.read i (omega (arith, found.2.from, covered.4)) covered.4.1,
     λ read.
         let found = token_of_byte text none i within read in
         let has = contained text (length text) found.0 found.1 (omega (arith, found.2)) found.3 in

@@ -1,5 +1,5 @@
 use Rattle.std.proofs.Common.{sym, ap, ◌∙◌, arith}
-use Rattle.bench_text.proofs.PlaceLemmas.{column_at-le, place_is, passed_name}
+use Rattle.bench_text.proofs.PlaceLemmas.{place_below, place_is, passed_name}
 use Rattle.bench_text.proofs.scan.pass_name.Goals as goal
 
 pub returns-in-Some : goal.returns-in-Some
@@ -8,7 +8,7 @@ returns-in-Some c =
 
 pub overflow_add-result : goal.overflow_add-result
 overflow_add-result c =
-    omega (arith, ap (λ scan. scan.column) c.requires.scan, column_at-le c.args.bytes.now c.args.i, c.name_len-len.ensures.within, c.requires.short)
+    omega (arith, ap (λ scan. scan.column) c.requires.scan, (place_below c.args.bytes.now c.args.i).1, c.name_len-len.ensures.within, c.requires.short)
 
 pub returns-in-None : goal.returns-in-None
 returns-in-None c =

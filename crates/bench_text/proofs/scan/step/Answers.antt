@@ -1,12 +1,12 @@
 use Rattle.std.proofs.Common.{sym, ap, ◌∙◌, arith}
-use Rattle.bench_text.proofs.PlaceLemmas.{line_at-le, column_at-le, place_is, passed_one}
+use Rattle.bench_text.proofs.PlaceLemmas.{place_below, place_is, passed_one}
 use Rattle.bench_text.proofs.scan.step.Goals as goal
 
 pub after-requires-clause-line : goal.after-requires-clause-line
-after-requires-clause-line c = omega (arith, ap (λ scan. scan.line) c.requires.scan, line_at-le c.args.bytes.now c.args.i)
+after-requires-clause-line c = omega (arith, ap (λ scan. scan.line) c.requires.scan, (place_below c.args.bytes.now c.args.i).0)
 
 pub after-requires-clause-column : goal.after-requires-clause-column
-after-requires-clause-column c = omega (arith, ap (λ scan. scan.column) c.requires.scan, column_at-le c.args.bytes.now c.args.i)
+after-requires-clause-column c = omega (arith, ap (λ scan. scan.column) c.requires.scan, (place_below c.args.bytes.now c.args.i).1)
 
 pub returns-in-None : goal.returns-in-None
 returns-in-None c =
