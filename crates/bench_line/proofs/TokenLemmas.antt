@@ -1,12 +1,12 @@
 -- The marks and names of the rows of a text are its tokens.
-use Rattle.std.proofs.Common.{◌||◌, ◌≡◌, ℕ, zero, suc, ◌+◌, ◌-◌, ◌<◌, ◌≤◌, Bool, true, false, cond, ◌&&◌, not, List, [], ◌∷◌, ◌++◌, length, map, take, drop, get_or, Option, Some, None, sym, ap, ◌∙◌, refl, inl, inr, ◌⊎◌, arith, append-nil, append_assoc, if◌then◌else◌}
+use Rattle.std.proofs.Common.{◌||◌, ◌≡◌, ℕ, zero, suc, ◌+◌, ◌-◌, ◌<◌, ◌≤◌, Bool, true, false, cond, ◌&&◌, not, List, [], ◌∷◌, ◌++◌, length, map, take, drop, get_or, Option, Some, None, sym, ◌∙◌, refl, inl, inr, ◌⊎◌, arith, append-nil, append_assoc, if◌then◌else◌}
 use Rattle.std.specs.Option.{option_to_list}
 use Rattle.std.specs.List.{take_while, flat_map, enumerate_from, onto_first}
 use Rattle.std.specs.Str.Lines.{strip_carriage_return}
 use Rattle.std.proofs.lemmas.Bool.{cases_Bool, cond-true}
 use Rattle.std.proofs.lemmas.List.{map-append, drop_more, drop_all}
 use Rattle.std.proofs.lemmas.List.Sums.{take_while-cons}
-use Rattle.text_lines.specs.Bytes.{is_line_feed, is_hash, is_return}
+use Rattle.text_lines.specs.Bytes.{is_line_feed, is_hash}
 use Rattle.text_lines.specs.Names.{is_name_byte}
 use Rattle.text_lines.specs.Lines.{lines_of, part_of, parts_of}
 use Rattle.text_lines.specs.Places.{stays_in_comment, line_at}
@@ -16,7 +16,7 @@ use Rattle.bench_text.specs.declared.token.Mark.{Mark}
 use Rattle.bench_text.specs.declared.token.Mark.TheVariants as mark
 use Rattle.bench_text.specs.Bytes.{sign_of, class_of}
 use Rattle.bench_text.specs.Scans.{follows_comment, scan_at, token_by}
-use Rattle.bench_text.specs.Tokens.{follows_name, name_length, token_at, tokens_before, tokens_of}
+use Rattle.bench_text.specs.Tokens.{follows_name, name_length, tokens_before, tokens_of}
 use Rattle.bench_text.proofs.ByteLemmas.{IsOfClass, class_is, named_byte}
 use Rattle.bench_text.proofs.PlaceLemmas.{is_comment_step, place_is}
 use Rattle.bench_line.specs.Spelling.{Piece, Sign, Word}
@@ -39,39 +39,32 @@ line_pieces (byte ∷ rest) = if is_hash byte || is_line_feed byte then [] else 
 abbrev first_line : List ℕ → List ℕ
 first_line text = get_or (lines_of text) 0 []
 
-first_line_step : (byte : ℕ) (lines : List (List ℕ)) → get_or (onto_first byte lines) 0 [] ≡ byte ∷ get_or lines 0 []
-first_line_step byte [] = refl
-first_line_step byte (line ∷ lines) = refl
+onto_is : (byte : ℕ) (lines : List (List ℕ)) → onto_first byte lines ≡ (byte ∷ get_or lines 0 []) ∷ drop 1 lines
+onto_is byte [] = refl
+onto_is byte (line ∷ lines) = refl
 
 strip_step : (byte next : ℕ) (line : List ℕ) → strip_carriage_return (byte ∷ next ∷ line) ≡ byte ∷ strip_carriage_return (next ∷ line)
 strip_step byte next line =
     let last : length (byte ∷ next ∷ line) - 1 ≡ suc (length (next ∷ line) - 1) = omega arith in
     rw last (grind arith)
 
--- what is read of a line ends with a CR that is the last byte, and else goes by the first byte
-abbrev PartStep : ℕ → List ℕ → Type 0
-PartStep byte line = (part_of (byte ∷ line) ≡ cond (not (is_hash byte)) (byte ∷ part_of line) []) ⊎ ((is_return byte ≡ true) × (line ≡ []) × (part_of (byte ∷ line) ≡ []))
-
-part_step : (byte : ℕ) (line : List ℕ) → PartStep byte line
+-- a CR that is the last byte is not read, and nothing stands there
+part_reads : (byte : ℕ) (line : List ℕ) (class : Class) → IsOfClass byte class
+    → (goes_on (part_of (byte ∷ line)) ≡ is_name_byte byte) × (pieces_of (part_of (byte ∷ line)) ≡ cond (is_hash byte) [] (onto_pieces byte (sign_of byte) (goes_on (part_of line)) (pieces_of (part_of line))))
 unfolding part_of
-part_step byte [] = elim (cases_Bool (is_return byte)) [
-  | inl return ↦ inr (return, refl, rw return refl)
-  | inr more ↦ inl (rw more (take_while-cons (λ b. not (is_hash b)) byte []))
-]
-part_step byte (next ∷ line) = inl (rw (strip_step byte next line) (take_while-cons (λ b. not (is_hash b)) byte (strip_carriage_return (next ∷ line))))
+part_reads byte [] class is = (grind (arith, is), grind (arith, is))
+part_reads byte (next ∷ line) class is = rw (strip_step byte next line, take_while-cons (λ b. not (is_hash b)) byte (strip_carriage_return (next ∷ line))) (grind (arith, is), grind (arith, is))
 
-abbrev ReadsAs : List ℕ → List ℕ → Type 0
-ReadsAs line text = (goes_on (part_of line) ≡ goes_on text) × (pieces_of (part_of line) ≡ line_pieces text)
-
-first_reads : (text : List ℕ) → ReadsAs (first_line text) text
+first_reads : (text : List ℕ) → (goes_on (part_of (first_line text)) ≡ goes_on text) × (pieces_of (part_of (first_line text)) ≡ line_pieces text)
 unfolding part_of
 first_reads [] = (refl, refl)
-first_reads (byte ∷ text) = by_class (class_of byte) (class_is byte) (part_step byte (first_line text)) (first_reads text) where
-  by_class : (class : Class) → IsOfClass byte class → PartStep byte (first_line text) → ReadsAs (first_line text) text → ReadsAs (first_line (byte ∷ text)) (byte ∷ text)
-  by_class class.Feed is step rest = rw (is.feed, is.hash) (sym is.name, refl)
-  by_class class.Hash is (inl step) rest = rw (is.feed, first_line_step byte (lines_of text), step, is.hash) (sym is.name, refl)
-  by_class class is (inl step) rest = rw (is.feed, first_line_step byte (lines_of text), step, is.hash, rest.0, rest.1) (refl, refl)
-  by_class class is (inr last) rest = rw (is.feed, first_line_step byte (lines_of text), last.2) (grind (arith, is, last.0), grind (arith, is, last.0, rw last.1 at rest.1))
+first_reads (byte ∷ text) = elim (cases_Bool (is_line_feed byte)) [
+  | inl feed ↦ rw feed (grind (arith, class_is byte), grind (arith, class_is byte))
+  | inr goes ↦
+      let read = part_reads byte (first_line text) (class_of byte) (class_is byte) in
+      let rest = first_reads text in
+      rw (goes, onto_is byte (lines_of text), read.0, read.1, rest.0, rest.1) (refl, grind arith)
+]
 
 -- ---- one byte on
 
@@ -95,16 +88,13 @@ name_first (byte ∷ rest) is = let here = named_byte byte is in elim (cases_Boo
   | inr ends ↦ grind (arith, is, here, ends, no_name rest ends, take_while-cons is_name_byte byte rest)
 ]
 
-behind_step : (within after : Bool) (byte : ℕ) (text : List ℕ) → is_line_feed byte ≡ false
+behind_step : (within after : Bool) (byte : ℕ) (text : List ℕ) (class : Class) → IsOfClass byte class → is_line_feed byte ≡ false → (goes_on text ≡ true) ⊎ (goes_on text ≡ false)
     → behind within after (byte ∷ text) ≡ begins within after byte text ++ behind (stays_in_comment within byte) (is_name_byte byte) text
 unfolding stays_in_comment
-behind_step within after byte text goes = by_class within (class_of byte) (class_is byte) (cases_Bool (goes_on text)) where
-  by_class : (within : Bool) (class : Class) → IsOfClass byte class → (goes_on text ≡ true) ⊎ (goes_on text ≡ false)
-      → behind within after (byte ∷ text) ≡ begins within after byte text ++ behind (stays_in_comment within byte) (is_name_byte byte) text
-  by_class true class is more = grind (arith, is, goes)
-  by_class false class.Name is (inl more) = grind (arith, is, more, name_first text more)
-  by_class false class.Name is (inr none) = grind (arith, is, none, no_name text none)
-  by_class false class is more = grind (arith, is, goes)
+behind_step true after byte text class is goes more = grind (arith, is, goes)
+behind_step false after byte text class.Name is goes (inl more) = grind (arith, is, more, name_first text more)
+behind_step false after byte text class.Name is goes (inr none) = grind (arith, is, none, no_name text none)
+behind_step false after byte text class is goes more = grind (arith, is, goes)
 
 -- ---- rows
 
@@ -126,18 +116,11 @@ rows_from k text = by_lines (lines_of text) (first_reads text).1 where
   by_lines [] is = rw (sym is) refl
   by_lines (line ∷ lines) is = rw (sym is) (by_pieces (pieces_of (part_of line)) lines)
 
-step_on : (within after : Bool) (k byte : ℕ) (text : List ℕ) → from_here within after k (byte ∷ text)
+step_on : (within after : Bool) (k byte : ℕ) (text : List ℕ) (class : Class) → IsOfClass byte class → from_here within after k (byte ∷ text)
     ≡ at k (begins within after byte text) ++ from_here (stays_in_comment within byte) (is_name_byte byte) (if is_line_feed byte then k + 1 else k) text
 unfolding stays_in_comment
-step_on within after k byte text = by_class (class_of byte) (class_is byte) where
-  drop_onto : (lines : List (List ℕ)) → drop 1 (onto_first byte lines) ≡ drop 1 lines
-  drop_onto [] = refl
-  drop_onto (line ∷ lines) = refl
-
-  by_class : (class : Class) → IsOfClass byte class → from_here within after k (byte ∷ text)
-      ≡ at k (begins within after byte text) ++ from_here (stays_in_comment within byte) (is_name_byte byte) (if is_line_feed byte then k + 1 else k) text
-  by_class class.Feed is = grind (arith, is, rows_from (k + 1) text)
-  by_class class is = rw (behind_step within after byte text is.feed, is.feed, drop_onto (lines_of text), map-append, append_assoc) refl
+step_on within after k byte text class.Feed is = grind (arith, is, rows_from (k + 1) text)
+step_on within after k byte text class is = rw (onto_is byte (lines_of text), behind_step within after byte text class is is.feed (cases_Bool (goes_on text)), is.feed, map-append, append_assoc) refl
 
 -- ---- tokens
 
@@ -150,20 +133,15 @@ name_here : (text : List ℕ) (i : ℕ) → i < length text → is_name_byte (ge
 unfolding name_length
 name_here text i within named =
     let size : i + name_length text i - i ≡ name_length text i = omega arith in
-    rw size (ap name_at (drop_more text i 0 within) ∙ take_while-cons is_name_byte (get_or text i 0) (drop (i + 1) text) ∙ cond-true _ _ _ named)
+    rw (size, drop_more text i 0 within) (take_while-cons is_name_byte (get_or text i 0) (drop (i + 1) text) ∙ cond-true _ _ _ named)
 
 -- the token of a place is the piece that begins there
-token_piece : (text : List ℕ) (i : ℕ) → i < length text
-    → map (piece_of text) (option_to_list (token_at text i)) ≡ at (line_at text i) (begins (follows_comment text i) (follows_name text i) (get_or text i 0) (drop (i + 1) text))
+token_piece : (text : List ℕ) (i : ℕ) (class : Class) → i < length text → IsOfClass (get_or text i 0) class
+    → map (piece_of text) (option_to_list (token_by text i (scan_at text i) class)) ≡ at (line_at text i) (begins (follows_comment text i) (follows_name text i) (get_or text i 0) (drop (i + 1) text))
 unfolding stays_in_comment name_length
-token_piece text i within =
-    rw (sym (place_is text i (scan_at text i) refl).1) (by_class (class_of (get_or text i 0)) (class_is (get_or text i 0)))
-  where
-    by_class : (class : Class) → IsOfClass (get_or text i 0) class
-        → map (piece_of text) (option_to_list (token_by text i (scan_at text i) class)) ≡ at (line_at text i) (begins (follows_comment text i) (follows_name text i) (get_or text i 0) (drop (i + 1) text))
-    by_class class.Name is = grind (arith, is, name_here text i within is.name)
-    by_class (class.Sign mark.Name) is = absurd (no_name_sign (get_or text i 0) is.sign)
-    by_class class is = grind (arith, is)
+token_piece text i class.Name within is = grind (arith, is, name_here text i within is.name)
+token_piece text i (class.Sign mark.Name) within is = absurd (no_name_sign (get_or text i 0) is.sign)
+token_piece text i class within is = grind (arith, is)
 
 -- the tokens before a place, and the pieces of the lines from there on
 passed : (text : List ℕ) (i : ℕ) → i ≤ length text
@@ -172,17 +150,14 @@ unfolding tokens_before line_at
 passed text zero within = sym (rows_from 1 text)
 passed text (suc i) within =
     let next : suc i ≡ i + 1 = omega arith in
+    let byte = get_or text i 0 in
     let rest = drop_more text i 0 (omega arith) in
-    rw (map-append, append_assoc, token_piece text i (omega arith), next, is_comment_step text i)
-    (rw (rest, step_on (follows_comment text i) (follows_name text i) (line_at text i) (get_or text i 0) (drop (i + 1) text)) at (passed text i (omega arith)))
-
-nothing : (within after : Bool) → behind within after [] ≡ []
-nothing true after = refl
-nothing false true = refl
-nothing false false = refl
+    rw (map-append, append_assoc, sym (place_is text i (scan_at text i) refl).1, token_piece text i (class_of byte) (omega arith) (class_is byte), next, is_comment_step text i)
+    (rw (rest, step_on (follows_comment text i) (follows_name text i) (line_at text i) byte (drop (i + 1) text) (class_of byte) (class_is byte)) at (passed text i (omega arith)))
 
 pub rows_are_tokens : (text : List ℕ) → flat_map placed_pieces (rows_of text) ≡ map (piece_of text) (tokens_of text)
 unfolding rows_of parts_of
 rows_are_tokens text =
     let all = passed text (length text) (omega arith) in
+    let nothing : behind (follows_comment text (length text)) (follows_name text (length text)) [] ≡ [] = grind arith in
     sym (rw (drop_all (length text) text (omega arith), nothing, append-nil (map (piece_of text) (tokens_of text))) at all)
