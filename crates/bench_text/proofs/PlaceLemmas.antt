@@ -74,7 +74,7 @@ inside text i (suc k) after before =
     (grind (arith, here.visible, follows), grind (arith, here.no_sign, follows))
 
 -- where a scan stands inside a name, or behind it
-scan_behind : (text : List ℕ) (i k : ℕ) → k ≤ name_length text i
+pub scan_behind : (text : List ℕ) (i k : ℕ) → k ≤ name_length text i
     → scan_at text (i + k) ≡ record { line = line_at text i; column = column_at text i + k; in_comment = follows_comment text i; in_name = follows_name text (i + k) }
 unfolding line_at column_at stays_in_comment
 scan_behind text i zero most = simp add-zero

@@ -1,5 +1,5 @@
 -- What the tokens of a text cover.
-use Rattle.std.proofs.Common.{◌≡◌, ℕ, zero, suc, ◌+◌, ◌-◌, ◌<◌, ◌≤◌, ◌↔◌, Bool, true, false, cond, List, ◌++◌, length, drop, get_or, Option, Some, None, sym, ap, ◌∙◌, subst, refl, inl, inr, arith, append-nil}
+use Rattle.std.proofs.Common.{add-zero, ◌≡◌, ℕ, zero, suc, ◌+◌, ◌-◌, ◌<◌, ◌≤◌, ◌↔◌, Bool, true, false, cond, List, ◌++◌, length, drop, get_or, Option, Some, None, sym, ap, ◌∙◌, subst, refl, inl, inr, arith, append-nil}
 use Rattle.std.specs.Option.{option_to_list}
 use Rattle.std.specs.List.{All, AllPairs, Contains}
 use Rattle.std.proofs.lemmas.Bool.{cases_lt, cases_Bool, both_ways}
@@ -7,7 +7,7 @@ use Rattle.std.proofs.lemmas.List.{length-take, get_or-take, drop_more}
 use Rattle.std.proofs.lemmas.List.Elements.{Contains-get_or, Contains-append_left, Contains-append_right, Contains-append_cases}
 use Rattle.std.proofs.lemmas.List.Quantifiers.{all_pairs_push}
 use Rattle.text_lines.specs.Bytes.{is_visible, is_blank}
-use Rattle.bench_text.proofs.PlaceLemmas.{is_comment_step, run_front, run_passes, run_within, run_stops, run_begins, inside}
+use Rattle.bench_text.proofs.PlaceLemmas.{scan_behind, is_comment_step, run_front, run_passes, run_within, run_stops, run_begins, inside}
 use Rattle.text_lines.specs.Places.{stays_in_comment, is_comment, line_at, is_line_end}
 use Rattle.text_lines.specs.Answers.{first}
 use Rattle.std.proofs.lemmas.Option.{same_Some, none-some, cond_some}
@@ -31,12 +31,12 @@ visible_read text i outside visible = (outside, grind (arith, visible), grind (a
 
 -- a run that begins in no comment is in none
 run_outside : (text : List ℕ) (i k : ℕ) → is_comment text i ≡ false → i ≤ k → k < i + name_length text i → is_comment text k ≡ false
-unfolding is_comment stays_in_comment
-run_outside text i zero outside from below = grind (arith, outside)
-run_outside text i (suc k) outside from below = elim (cases_lt k i) [
-  | inl past ↦ let here : i ≡ suc k = omega arith in rw here at outside
-  | inr before ↦ grind (arith, run_outside text i k outside before (omega arith), (named_byte (get_or text (suc k) 0) (run_passes text i (suc k) from below)).no_hash)
-]
+unfolding stays_in_comment
+run_outside text i k outside from below =
+    let place : i + (k - i) ≡ k = omega arith in
+    let same = rw place at (ap (λ scan. scan.in_comment) (scan_behind text i (k - i) (omega arith))) in
+    let begins = named_byte (get_or text i 0) (run_passes text i i (omega arith) (omega arith)) in
+    grind (arith, same, outside, is_comment_step text i, is_comment_step text k, begins, named_byte (get_or text k 0) (run_passes text i k from below))
 
 -- what holds of a token that begins at a place
 record BeginsAt (text : List ℕ) (i : ℕ) (token : Token) : Type 0 where
@@ -60,10 +60,6 @@ sign_begins text i mark within outside sign = record {
   alone = λ k least most. absurd (omega arith);
 }
 
-no_name_before : (text : List ℕ) (i : ℕ) → follows_name text i ≡ false → 0 < i → is_name_byte (get_or text (i - 1) 0) ≡ false
-no_name_before text zero fresh some = absurd (omega arith)
-no_name_before text (suc i) fresh some = let before : suc i - 1 ≡ i = omega arith in rw before fresh
-
 -- a name
 name_begins : (text : List ℕ) (i : ℕ) → i < length text → fault_at text i ≡ None → begins_name text i ≡ true
     → BeginsAt text i (record { mark = Name; from = i; upto = i + name_length text i; line = line_at text i })
@@ -79,7 +75,10 @@ name_begins text i within none begins = record {
           let inner : k < i + name_length text i - i = omega (arith, length-take (i + name_length text i - i) (drop i text)) in
           rw (get_or-take (i + name_length text i - i) (drop i text) k d inner) (run_front text i k d (omega arith));
       short = grind (arith, none, begins);
-      before = no_name_before text i (grind (arith, begins));
+      before = λ some.
+          let place : i ≡ suc (i - 1) = omega arith in
+          let fresh : follows_name text i ≡ false = grind (arith, begins) in
+          rw place at fresh;
       after = run_stops text i (i + name_length text i) refl;
     };
   };
@@ -99,13 +98,10 @@ token_begins text i token within none is = by_tests (is_comment text i) refl (si
 
 -- ---- all tokens
 
-line_at-mono : (text : List ℕ) (i j : ℕ) → i ≤ j → line_at text i ≤ line_at text j
+line_at-mono : (text : List ℕ) (i k : ℕ) → line_at text i ≤ line_at text (i + k)
 unfolding line_at
-line_at-mono text i zero below = let same : i ≡ 0 = omega arith in rw same (omega arith)
-line_at-mono text i (suc j) below = elim (cases_lt j i) [
-  | inl past ↦ let same : i ≡ suc j = omega arith in rw same (omega arith)
-  | inr before ↦ grind (arith, line_at-mono text i j before)
-]
+line_at-mono text i zero = simp add-zero (omega arith)
+line_at-mono text i (suc k) = let next : i + suc k ≡ suc (i + k) = omega arith in rw next (grind (arith, line_at-mono text i k))
 
 -- the name that a name byte stands in
 name_of_byte : (text : List ℕ) (i : ℕ) → i < length text → is_comment text i ≡ false → is_name_byte (get_or text i 0) ≡ true
@@ -150,12 +146,12 @@ module _ (text : List ℕ) (none : (i : ℕ) → i < length text → fault_at te
     last (Some other) (suc k, below, is) = absurd (omega arith)
 
   in_order : (i j : ℕ) (a b : Token) → BeginsAt text i a → BeginsAt text j b → i < j → token_at text j ≡ Some b → IsBefore a b
-  in_order i j a b first second before is = (
+  in_order i j a b first second before is = let place : i + (j - i) ≡ j = omega arith in (
     elim (cases_lt j a.upto) [
       | inl inside ↦ absurd (none-some b (sym (first.alone j before inside) ∙ is))
       | inr past ↦ omega (arith, second.from)
     ],
-    omega (arith, rw first.from at first.stands.line, rw second.from at second.stands.line, line_at-mono text i j (omega arith)),
+    omega (arith, rw first.from at first.stands.line, rw second.from at second.stands.line, rw place at (line_at-mono text i (j - i))),
   )
 
   ordered : (n : ℕ) → n ≤ length text → AllPairs IsBefore (tokens_before text n)
