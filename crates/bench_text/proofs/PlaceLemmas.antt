@@ -124,15 +124,6 @@ pub scanned_none : (text : List ℕ) → HasScanned text 0 (record { line = 1; c
 unfolding line_at column_at
 scanned_none text = record { at = refl; no_fault = λ k below. absurd (omega arith) }
 
-pub scanned_more : (text : List ℕ) (i n : ℕ) (scan next : Scan) → HasScanned text i scan → HasPassed text i n next → HasScanned text (i + n) next
-scanned_more text i n scan next before passed = record {
-  at = passed.next_is;
-  no_fault = λ k below. elim (cases_lt k i) [
-    | inl earlier ↦ before.no_fault k earlier
-    | inr least ↦ passed.no_fault k least below
-  ];
-}
-
 -- the fault of the place where the scan stands
 pub scanned_fault : (text : List ℕ) (i : ℕ) (scan : Scan) (fault : TextNo) → HasScanned text i scan → i < length text → fault_at text i ≡ Some fault → first_fault text ≡ Some fault
 scanned_fault text i scan fault before within here = first_some (fault_at text) i (length text) fault within (first_none (fault_at text) i before.no_fault) here

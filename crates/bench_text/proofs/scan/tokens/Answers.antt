@@ -1,6 +1,6 @@
 use Rattle.std.proofs.Common.{◌≡◌, refl, ap, inr, ◌∙◌, length, arith, add-one}
 use Rattle.bench_text.specs.Tokens.{tokens_before}
-use Rattle.bench_text.proofs.PlaceLemmas.{place_is, scanned_none, scanned_more, scanned_fault, scanned_all}
+use Rattle.bench_text.proofs.PlaceLemmas.{place_is, scanned_none, scanned_fault, scanned_all}
 use Rattle.bench_text.proofs.SpanLemmas.{list_read}
 use Rattle.bench_text.proofs.scan.tokens.Goals as goal
 
@@ -11,7 +11,7 @@ loop-i-init c = record { scanned = scanned_none c.args.bytes.now; so_far = c.new
 pub loop-i-preserved : goal.loop-i-preserved
 unfolding tokens_before
 loop-i-preserved c = record {
-  scanned = scanned_more c.args.bytes.now c.loop-i.i 1 c.loop-i.scan c.in-Ok.next c.loop-i.invariant.scanned c.in-Ok.ensures;
+  scanned = record { at = c.in-Ok.ensures.next_is; no_fault = λ k below. grind (arith, c.in-Ok.ensures.no_fault k, c.loop-i.invariant.scanned.no_fault k) };
   so_far =
       c.in_ok-add_token-in-Ok.ensures
       ∙ rw (c.loop-i.invariant.so_far, c.token_at_place.ensures, (place_is c.args.bytes.now c.loop-i.i c.loop-i.scan c.loop-i.invariant.scanned.at).1, add-one) refl;
