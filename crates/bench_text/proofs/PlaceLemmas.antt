@@ -1,6 +1,6 @@
 -- What a scan finds at a place is the token of the place, or its fault.
 use Rattle.std.proofs.Common.{◌≡◌, ℕ, zero, suc, ◌+◌, ◌-◌, ◌<◌, ◌≤◌, true, false, List, length, drop, get_or, None, Some, sym, ◌∙◌, refl, arith, inl, inr, add-zero}
-use Rattle.std.proofs.lemmas.Bool.{cases_lt, both_ways}
+use Rattle.std.proofs.lemmas.Bool.{cases_lt}
 use Rattle.std.proofs.lemmas.List.{length-drop, get_or-drop}
 use Rattle.std.proofs.lemmas.List.Sums.{prefix_len-le-length, prefix_len_passes, prefix_len_stops}
 use Rattle.text_lines.specs.Names.{is_name_byte}
@@ -62,7 +62,7 @@ module _ (text : List ℕ) (i : ℕ) where
   run_stops k is within = rw is (rw get_or-drop at (prefix_len_stops is_name_byte (drop i text) 0 (omega (arith, length-drop i text))))
 
   pub run_begins : i < length text → is_name_byte (get_or text i 0) ≡ true → 0 < name_length text i
-  run_begins within named = elim (cases_lt 0 (name_length text i)) [ inl some ↦ some | inr none ↦ absurd (both_ways _ (run_stops i (omega arith) within) named) ]
+  run_begins within named = grind (arith, run_stops i, within, named)
 
 -- a place inside a name has no fault and begins no token
 pub inside : (text : List ℕ) (i k : ℕ) → i < k → k < i + name_length text i → (fault_at text k ≡ None) × (token_at text k ≡ None)

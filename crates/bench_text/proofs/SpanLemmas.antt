@@ -1,8 +1,8 @@
 -- What the tokens of a text cover.
-use Rattle.std.proofs.Common.{add-zero, ◌≡◌, ℕ, zero, suc, ◌+◌, ◌-◌, ◌<◌, ◌≤◌, ◌↔◌, Bool, true, false, cond, List, ◌++◌, length, drop, get_or, Option, Some, None, sym, ap, ◌∙◌, subst, refl, inl, inr, arith, append-nil}
+use Rattle.std.proofs.Common.{add-zero, ◌≡◌, ℕ, zero, suc, ◌+◌, ◌-◌, ◌<◌, ◌≤◌, ◌↔◌, Bool, true, false, cond, List, ◌++◌, length, drop, get_or, Option, Some, None, ap, subst, refl, inl, inr, arith, append-nil}
 use Rattle.std.specs.Option.{option_to_list}
 use Rattle.std.specs.List.{All, AllPairs, Contains}
-use Rattle.std.proofs.lemmas.Bool.{cases_lt, cases_Bool, both_ways}
+use Rattle.std.proofs.lemmas.Bool.{cases_lt, cases_Bool}
 use Rattle.std.proofs.lemmas.List.{length-take, get_or-take, drop_more}
 use Rattle.std.proofs.lemmas.List.Elements.{Contains-get_or, Contains-append_left, Contains-append_right, Contains-append_cases}
 use Rattle.std.proofs.lemmas.List.Quantifiers.{all_pairs_push}
@@ -10,7 +10,7 @@ use Rattle.text_lines.specs.Bytes.{is_visible, is_blank}
 use Rattle.bench_text.proofs.PlaceLemmas.{scan_behind, is_comment_step, run_front, run_passes, run_within, run_stops, run_begins, inside}
 use Rattle.text_lines.specs.Places.{stays_in_comment, is_comment, line_at, is_line_end}
 use Rattle.text_lines.specs.Answers.{first}
-use Rattle.std.proofs.lemmas.Option.{same_Some, none-some, cond_some}
+use Rattle.std.proofs.lemmas.Option.{same_Some, cond_some}
 use Rattle.bench_text.specs.declared.class.Class.{Class}
 use Rattle.bench_text.specs.declared.class.Class.TheVariants as class
 use Rattle.text_lines.specs.Names.{is_name_byte}
@@ -115,10 +115,7 @@ name_of_byte text (suc i) within outside named = elim (cases_Bool (is_name_byte 
         before.0,
         omega (arith, before.1),
         before.2,
-        elim (cases_lt (suc i) (before.0 + name_length text before.0)) [
-          | inl inner ↦ inner
-          | inr past ↦ absurd (both_ways _ (run_stops text before.0 (suc i) (omega (arith, before.3)) within) named)
-        ],
+        grind (arith, run_stops text before.0 (suc i), within, named, before.3),
       )
 ]
 
@@ -147,10 +144,7 @@ module _ (text : List ℕ) (none : (i : ℕ) → i < length text → fault_at te
 
   in_order : (i j : ℕ) (a b : Token) → BeginsAt text i a → BeginsAt text j b → i < j → token_at text j ≡ Some b → IsBefore a b
   in_order i j a b first second before is = let place : i + (j - i) ≡ j = omega arith in (
-    elim (cases_lt j a.upto) [
-      | inl inside ↦ absurd (none-some b (sym (first.alone j before inside) ∙ is))
-      | inr past ↦ omega (arith, second.from)
-    ],
+    grind (arith, first.alone j before, is, second.from),
     omega (arith, rw first.from at first.stands.line, rw second.from at second.stands.line, rw place at (line_at-mono text i (j - i))),
   )
 
