@@ -1,6 +1,5 @@
 -- What a scan finds at a place is the token of the place, or its fault.
-use Rattle.std.proofs.Common.{◌≡◌, ℕ, zero, suc, ◌+◌, ◌-◌, ◌<◌, ◌≤◌, true, false, List, length, drop, get_or, None, Some, sym, ◌∙◌, refl, arith, inl, inr, add-zero}
-use Rattle.std.proofs.lemmas.Bool.{cases_lt}
+use Rattle.std.proofs.Common.{◌≡◌, ℕ, zero, suc, ◌+◌, ◌-◌, ◌<◌, ◌≤◌, true, false, List, length, drop, get_or, None, Some, sym, ◌∙◌, refl, arith, add-zero}
 use Rattle.std.proofs.lemmas.List.{length-drop, get_or-drop}
 use Rattle.std.proofs.lemmas.List.Sums.{prefix_len-le-length, prefix_len_passes, prefix_len_stops}
 use Rattle.text_lines.specs.Names.{is_name_byte}
@@ -108,10 +107,7 @@ passed_name text i n scan at within class is none =
     record {
       some = some;
       within = omega (arith, run_within text i (omega arith));
-      no_fault = λ k least most. elim (cases_lt i k) [
-        | inl inner ↦ (inside text i k inner (omega arith)).0
-        | inr first ↦ let here : k ≡ i = omega arith in rw here none
-      ];
+      no_fault = λ k least most. grind (arith, none, inside text i k);
       next_is = rw (at, scan_behind text i n (omega arith), follows) refl;
     }
 

@@ -20,7 +20,7 @@ use Rattle.bench_text.specs.declared.token.Token.{Token}
 use Rattle.bench_text.specs.Bytes.{sign_of, class_of}
 use Rattle.bench_text.specs.Tokens.{follows_name, begins_name, name_length, token_at, token_of_sign, tokens_before, tokens_of, is_bad, fault_at}
 use Rattle.bench_text.specs.Spans.{AreBytesOf, StandsIn, IsBefore, IsCovered, IsRead}
-use Rattle.bench_text.proofs.ByteLemmas.{IsOfClass, class_is, named_byte, sign_visible}
+use Rattle.bench_text.proofs.ByteLemmas.{IsOfClass, class_is, named_byte}
 
 -- ---- the token of a place
 
@@ -53,10 +53,11 @@ sign_bytes text i mark within sign = let one : i + 1 - i ≡ 1 = omega arith in 
 -- a mark
 sign_begins : (text : List ℕ) (i : ℕ) (mark : Mark) → i < length text → is_comment text i ≡ false → sign_of (get_or text i 0) ≡ Some mark
     → BeginsAt text i (record { mark = mark; from = i; upto = i + 1; line = line_at text i })
+unfolding sign_of is_visible
 sign_begins text i mark within outside sign = record {
   from = refl;
   stands = record { some = omega arith; within = omega arith; line = refl; bytes = sign_bytes text i mark within sign };
-  read = λ k least most. let here : k ≡ i = omega arith in rw here (visible_read text i outside (sign_visible (get_or text i 0) mark sign));
+  read = λ k least most. let here : k ≡ i = omega arith in rw here (visible_read text i outside (grind (arith, sign)));
   alone = λ k least most. absurd (omega arith);
 }
 
