@@ -21,8 +21,7 @@ more_again (name ∷ names) rest stops = ap (option_map (with_name name)) (more_
 -- the spelling of a form is read back as that form
 pub form_again : (form : Form) → form_of (spelled form) ≡ Some form
 form_again (Port word name) = refl
-form_again (Gate name word uses) = simp more_again
-form_again (Memory outs word enable address words) = simp more_again
+form_again form = simp more_again
 
 -- ---- from marks and names to the form that they spell
 
