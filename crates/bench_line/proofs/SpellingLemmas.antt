@@ -98,17 +98,17 @@ comma_is (Sign mark.Comma ∷ more) rest e = cc
 comma_is pieces rest e = cc
 
 -- the first name
-pub taken_first : (part rest : List Piece) (name : List ℕ) (old : List (List ℕ)) → Some (name, rest) ≡ take_word part
+pub taken_first : {part rest : List Piece} {name : List ℕ} {old : List (List ℕ)} → Some (name, rest) ≡ take_word part
     → HasTaken part rest old (old ++ name ∷ []) 1
-taken_first part rest name old word =
+taken_first {part} {rest} {name} word =
     let is = word_is part (name, rest) (sym word) in
     record { names = record { first = name; others = [] }; added = record { counted = refl; added = λ few. refl }; left = rw is refl; fits = omega (arith, ap length is) }
 
 -- one more name
-pub taken_one : (part rest comma after : List Piece) (name : List ℕ) (old now new : List (List ℕ)) (count : ℕ) → HasTaken part rest old now count
+pub taken_one : {part rest comma after : List Piece} {name : List ℕ} {old now new : List (List ℕ)} {count : ℕ} → HasTaken part rest old now count
     → Some comma ≡ take_sign Comma rest → Some (name, after) ≡ take_word comma → (count < MAX_GATE_OPERANDS → new ≡ now ++ name ∷ [])
     → HasTaken part after old new (count + 1)
-taken_one part rest comma after name old now new count has sign word grown =
+taken_one {rest = rest} {comma = comma} {after = after} {name = name} {old = old} has sign word grown =
     let is = comma_is rest comma (sym sign) ∙ ap (λ ps. Sign Comma ∷ ps) (word_is comma (name, after) (sym word)) in
     record {
       names = record { first = has.names.first; others = has.names.others ++ name ∷ [] };

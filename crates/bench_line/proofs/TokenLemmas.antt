@@ -1,9 +1,9 @@
 -- The marks and names of the rows of a text are its tokens.
-use Rattle.std.proofs.Common.{◌||◌, ◌≡◌, ℕ, zero, suc, ◌+◌, ◌-◌, ◌<◌, ◌≤◌, Bool, true, false, cond, ◌&&◌, not, List, [], ◌∷◌, ◌++◌, length, map, take, drop, get_or, Option, Some, None, sym, ◌∙◌, refl, inl, inr, ◌⊎◌, arith, append-nil, append_assoc, if◌then◌else◌}
+use Rattle.std.proofs.Common.{◌||◌, ◌≡◌, ℕ, zero, suc, ◌+◌, ◌-◌, ◌<◌, ◌≤◌, Bool, true, false, cond, ◌&&◌, not, List, [], ◌∷◌, ◌++◌, length, map, take, drop, get_or, Option, Some, None, sym, refl, inl, inr, ◌⊎◌, arith, append-nil, append_assoc, if◌then◌else◌}
 use Rattle.std.specs.Option.{option_to_list}
 use Rattle.std.specs.List.{take_while, flat_map, enumerate_from, onto_first}
 use Rattle.std.specs.Str.Lines.{strip_carriage_return}
-use Rattle.std.proofs.lemmas.Bool.{cases_Bool, cond-true}
+use Rattle.std.proofs.lemmas.Bool.{cases_Bool}
 use Rattle.std.proofs.lemmas.List.{map-append, drop_more, drop_all}
 use Rattle.std.proofs.lemmas.List.Sums.{take_while-cons}
 use Rattle.text_lines.specs.Bytes.{is_line_feed, is_hash}
@@ -91,10 +91,9 @@ name_first (byte ∷ rest) is = let here = named_byte byte is in elim (cases_Boo
 behind_step : (within after : Bool) (byte : ℕ) (text : List ℕ) (class : Class) → IsOfClass byte class → is_line_feed byte ≡ false → (goes_on text ≡ true) ⊎ (goes_on text ≡ false)
     → behind within after (byte ∷ text) ≡ begins within after byte text ++ behind (stays_in_comment within byte) (is_name_byte byte) text
 unfolding stays_in_comment
-behind_step true after byte text class is goes more = grind (arith, is, goes)
 behind_step false after byte text class.Name is goes (inl more) = grind (arith, is, more, name_first text more)
 behind_step false after byte text class.Name is goes (inr none) = grind (arith, is, none, no_name text none)
-behind_step false after byte text class is goes more = grind (arith, is, goes)
+behind_step within after byte text class is goes more = grind (arith, is, goes)
 
 -- ---- rows
 
@@ -108,13 +107,12 @@ from_here within after k text = at k (behind within after text) ++ in_rows (k + 
 rows_from : (k : ℕ) (text : List ℕ) → in_rows k (lines_of text) ≡ from_here false false k text
 unfolding part_of
 rows_from k text = by_lines (lines_of text) (first_reads text).1 where
-  by_pieces : (pieces : List Piece) (lines : List (List ℕ)) → flat_map placed_pieces (cond (is_some (record { at = k; pieces = pieces })) (record { at = k; pieces = pieces } ∷ rows_in (enumerate_from (k + 1) (map part_of lines))) (rows_in (enumerate_from (k + 1) (map part_of lines)))) ≡ at k pieces ++ in_rows (k + 1) lines
-  by_pieces [] lines = refl
-  by_pieces (piece ∷ pieces) lines = refl
-
   by_lines : (lines : List (List ℕ)) → pieces_of (part_of (get_or lines 0 [])) ≡ line_pieces text → in_rows k lines ≡ at k (line_pieces text) ++ in_rows (k + 1) (drop 1 lines)
   by_lines [] is = rw (sym is) refl
-  by_lines (line ∷ lines) is = rw (sym is) (by_pieces (pieces_of (part_of line)) lines)
+  by_lines (line ∷ lines) is = rw is (by_pieces (line_pieces text)) where
+    by_pieces : (pieces : List Piece) → flat_map placed_pieces (cond (is_some (record { at = k; pieces = pieces })) (record { at = k; pieces = pieces } ∷ rows_in (enumerate_from (k + 1) (map part_of lines))) (rows_in (enumerate_from (k + 1) (map part_of lines)))) ≡ at k pieces ++ in_rows (k + 1) lines
+    by_pieces [] = refl
+    by_pieces (piece ∷ pieces) = refl
 
 step_on : (within after : Bool) (k byte : ℕ) (text : List ℕ) (class : Class) → IsOfClass byte class → from_here within after k (byte ∷ text)
     ≡ at k (begins within after byte text) ++ from_here (stays_in_comment within byte) (is_name_byte byte) (if is_line_feed byte then k + 1 else k) text
@@ -133,7 +131,7 @@ name_here : (text : List ℕ) (i : ℕ) → i < length text → is_name_byte (ge
 unfolding name_length
 name_here text i within named =
     let size : i + name_length text i - i ≡ name_length text i = omega arith in
-    rw (size, drop_more text i 0 within) (take_while-cons is_name_byte (get_or text i 0) (drop (i + 1) text) ∙ cond-true _ _ _ named)
+    rw (size, drop_more text i 0 within) (grind (arith, named, take_while-cons is_name_byte (get_or text i 0) (drop (i + 1) text)))
 
 -- the token of a place is the piece that begins there
 token_piece : (text : List ℕ) (i : ℕ) (class : Class) → i < length text → IsOfClass (get_or text i 0) class

@@ -87,9 +87,9 @@ scan_behind text i (suc k) most =
 -- ---- a scan
 
 -- one byte
-pub passed_one : (text : List ℕ) (i : ℕ) (scan next : Scan) → scan ≡ scan_at text i → i < length text → fault_at text i ≡ None
+pub passed_one : {text : List ℕ} {i : ℕ} {scan next : Scan} → scan ≡ scan_at text i → i < length text → fault_at text i ≡ None
     → next ≡ scan_after scan (get_or text i 0) → HasPassed text i 1 next
-passed_one text i scan next at within none after = record {
+passed_one {text} {i} {scan} at within none after = record {
   some = omega arith;
   within = omega arith;
   no_fault = λ k least most. let here : k ≡ i = omega arith in rw here none;
@@ -97,10 +97,10 @@ passed_one text i scan next at within none after = record {
 }
 
 -- a name
-pub passed_name : (text : List ℕ) (i n : ℕ) (scan : Scan) → scan ≡ scan_at text i → i < length text → class_of (get_or text i 0) ≡ Name
+pub passed_name : {text : List ℕ} {i n : ℕ} {scan : Scan} → scan ≡ scan_at text i → i < length text → class_of (get_or text i 0) ≡ Name
     → n ≡ name_length text i → fault_at text i ≡ None
     → HasPassed text i n (record { line = scan.line; column = scan.column + n; in_comment = scan.in_comment; in_name = true })
-passed_name text i n scan at within class is none =
+passed_name {text} {i} {n} at within class is none =
     let some : 0 < n = omega (arith, run_begins text i within (rw class at (class_is (get_or text i 0)).name)) in
     let last : i + n ≡ suc (i + n - 1) = omega arith in
     let follows : follows_name text (i + n) ≡ true = rw last (run_passes text i (i + n - 1) (omega arith) (omega arith)) in
@@ -121,9 +121,9 @@ unfolding line_at column_at
 scanned_none text = record { at = refl; no_fault = λ k below. absurd (omega arith) }
 
 -- the fault of the place where the scan stands
-pub scanned_fault : (text : List ℕ) (i : ℕ) (scan : Scan) (fault : TextNo) → HasScanned text i scan → i < length text → fault_at text i ≡ Some fault → first_fault text ≡ Some fault
-scanned_fault text i scan fault before within here = first_some (fault_at text) i (length text) fault within (first_none (fault_at text) i before.no_fault) here
+pub scanned_fault : {text : List ℕ} {i : ℕ} {scan : Scan} {fault : TextNo} → HasScanned text i scan → i < length text → fault_at text i ≡ Some fault → first_fault text ≡ Some fault
+scanned_fault {text} {i} {fault = fault} before within here = first_some (fault_at text) i (length text) fault within (first_none (fault_at text) i before.no_fault) here
 
 -- all places have passed
-pub scanned_all : (text : List ℕ) (i : ℕ) (scan : Scan) → HasScanned text i scan → length text ≤ i → first_fault text ≡ None
-scanned_all text i scan before past = first_none (fault_at text) (length text) (λ k below. before.no_fault k (omega arith))
+pub scanned_all : {text : List ℕ} {i : ℕ} {scan : Scan} → HasScanned text i scan → length text ≤ i → first_fault text ≡ None
+scanned_all {text} before past = first_none (fault_at text) (length text) (λ k below. before.no_fault k (omega arith))

@@ -5,7 +5,7 @@ pub places-init : goal.places-init
 places-init c = scanned_none c.args.bytes.now
 
 pub returns-in-Err : goal.returns-in-Err
-returns-in-Err c = scanned_fault c.args.bytes.now c.places.i c.places.scan c.in-Err.no c.places.invariant c.places-test.true c.in-Err.ensures
+returns-in-Err c = scanned_fault c.places.invariant c.places-test.true c.in-Err.ensures
 
 pub returns : goal.returns
-returns c = scanned_all c.args.bytes.now c.places.i c.places.scan c.places.invariant c.places-test.false
+returns c = scanned_all c.places.invariant c.places-test.false

@@ -12,5 +12,5 @@ overflow_add-result c =
 
 pub returns-in-None : goal.returns-in-None
 returns-in-None c =
-    passed_name c.args.bytes.now c.args.i c.name_len-len.result c.args.scan c.requires.scan c.requires.within c.requires.named c.name_len-len.ensures.value
+    passed_name c.requires.scan c.requires.within c.requires.named c.name_len-len.ensures.value
     (sym (rw (c.requires.named, sym c.name_len-len.ensures.value) at (place_is c.args.bytes.now c.args.i c.args.scan c.requires.scan).0) ∙ sym c.in-None.ensures)

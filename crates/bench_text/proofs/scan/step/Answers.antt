@@ -10,8 +10,7 @@ after-requires-clause-column c = omega (arith, ap (λ scan. scan.column) c.requi
 
 pub returns-in-None : goal.returns-in-None
 returns-in-None c =
-    passed_one c.args.bytes.now c.args.i c.args.scan c.after.result c.requires.scan c.requires.within
-    (sym (place_is c.args.bytes.now c.args.i c.args.scan c.requires.scan).0 ∙ sym c.in-None.ensures) c.after.ensures
+    passed_one c.requires.scan c.requires.within (sym (place_is c.args.bytes.now c.args.i c.args.scan c.requires.scan).0 ∙ sym c.in-None.ensures) c.after.ensures
 
 pub returns-in-Some : goal.returns-in-Some
 returns-in-Some c = sym (place_is c.args.bytes.now c.args.i c.args.scan c.requires.scan).0 ∙ sym c.in-Some.ensures

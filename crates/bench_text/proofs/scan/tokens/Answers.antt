@@ -18,14 +18,13 @@ loop-i-preserved c = record {
 }
 
 pub returns-in-Err-clause-answers : goal.returns-in-Err-clause-answers
-returns-in-Err-clause-answers c =
-    inr (scanned_fault c.args.bytes.now c.loop-i.i c.loop-i.scan c.in-Err.no c.loop-i.invariant.scanned c.loop-i-test.true c.in-Err.ensures)
+returns-in-Err-clause-answers c = inr (scanned_fault c.loop-i.invariant.scanned c.loop-i-test.true c.in-Err.ensures)
 
 pub returns : goal.returns
 returns c =
     let all : c.loop-i.i ≡ length c.args.bytes.now = omega arith in
     let list = list_read c.args.bytes.now c.loop-i.i c.loop-i.list c.loop-i.invariant.scanned.no_fault c.loop-i.invariant.so_far all in record {
-      answers = (scanned_all c.args.bytes.now c.loop-i.i c.loop-i.scan c.loop-i.invariant.scanned c.loop-i-test.false, c.loop-i.invariant.so_far ∙ ap (tokens_before c.args.bytes.now) all);
+      answers = (scanned_all c.loop-i.invariant.scanned c.loop-i-test.false, c.loop-i.invariant.so_far ∙ ap (tokens_before c.args.bytes.now) all);
       spans = list.spans;
       order = list.order;
       covers = list.covers;
