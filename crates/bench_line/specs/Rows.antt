@@ -1,9 +1,11 @@
 -- The rows of a netlist text: the marks and names of each of its lines that has any.
-use Rattle.std.specs.Prelude.{ℕ, Bool, true, false, List, [], ◌∷◌, map, filter, Option, Some, None, if◌then◌else◌}
+use Rattle.std.specs.Prelude.{ℕ, Bool, true, false, List, [], ◌∷◌, map, filter, slice_range, Option, Some, None, if◌then◌else◌}
 use Rattle.std.specs.List.{enumerate_from}
 use Rattle.text_lines.specs.Lines.{parts_of}
 use Rattle.text_lines.specs.Names.{is_name_byte}
 use Rattle.bench_text.specs.declared.token.Mark.{Mark}
+use Rattle.bench_text.specs.declared.token.Mark.TheVariants.{Name}
+use Rattle.bench_text.specs.declared.token.Token.{Token}
 use Rattle.bench_text.specs.Bytes.{sign_of}
 use Rattle.bench_line.specs.Spelling.{Piece, Sign, Word}
 
@@ -51,3 +53,16 @@ rows_in lines = filter is_some (map row_of lines)
 -- the rows of a text: lines are numbered from 1, and what is read of one ends before its comment
 unfoldable pub rows_of : List ℕ → List Row
 rows_of text = rows_in (enumerate_from 1 (parts_of text))
+
+-- ---- rows and tokens
+
+-- what stands in a row, each mark and name with the line's number
+abbrev pub placed_pieces : Row → List (ℕ × Piece)
+placed_pieces row = map (λ piece. (row.at, piece)) row.pieces
+
+-- the mark of a token, or its bytes where it is a name, with the line's number
+abbrev pub piece_of : List ℕ → Token → ℕ × Piece
+piece_of text token = (token.line, by_mark token.mark) where
+  by_mark : Mark → Piece
+  by_mark Name = Word (slice_range text token.from token.upto)
+  by_mark mark = Sign mark

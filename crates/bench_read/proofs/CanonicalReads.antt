@@ -82,9 +82,7 @@ module _ (net : Netlist) (valid : IsValid net) (P : List ℕ → Type 0) (holds 
 
   input_whole : (name : List ℕ) (drive : Driver) → P name → All (IsWhole P) (input_line (record { name = name; driver = drive }))
   input_whole name driver.Input named = alone _ (record { allowed = refl; driven = one name named; used = All-nil P })
-  input_whole name (driver.Gate kind ops) named = All-nil (IsWhole P)
-  input_whole name (driver.Dff op) named = All-nil (IsWhole P)
-  input_whole name (driver.BlockBit m bit) named = All-nil (IsWhole P)
+  input_whole name drive named = All-nil (IsWhole P)
 
   -- what each signal has
   each_whole : (each : Signal → List Line) → ((s : ℕ) (signal : Signal) → slice_get net.signals s ≡ Some signal → All (IsWhole P) (each signal)) → All (IsWhole P) (flat_map each net.signals)

@@ -6,12 +6,12 @@ use Rattle.std.proofs.lemmas.Bool.{cond-true, cond-false, false_from_ne_true}
 use Rattle.std.proofs.lemmas.List.Elements.{All-head, All-tail, All-weaker}
 use Rattle.list_laws.proofs.Members.{all_front, all_back}
 use Rattle.logic_four.specs.declared.Kind.{Kind}
-use Rattle.logic_four.specs.declared.Kind.TheVariants.{And, Nand, Or, Nor, Xor, Xnor, Not, Buf, Tri, Bus}
+use Rattle.logic_four.specs.declared.Kind.TheVariants.{And}
 use Rattle.logic_four.specs.Kinds.{kind_of, kind_word, allows_operands}
 use Rattle.logic_four.proofs.KindLemmas.{canonical, any_case, some_operands}
 use Rattle.text_lines.specs.Bytes.{is_visible}
 use Rattle.text_lines.specs.Names.{IsName, is_mark, is_name_byte}
-use Rattle.text_lines.specs.Lines.{lines_of, part_of, parts_of}
+use Rattle.text_lines.specs.Lines.{parts_of}
 use Rattle.bench_text.specs.Tokens.{first_fault as byte_fault}
 use Rattle.bench_text.specs.declared.token.Mark.TheVariants.{Close, Semi}
 use Rattle.bench_line.specs.Forms.{Form}
@@ -44,15 +44,7 @@ pub record IsWhole (P : List ℕ → Type 0) (line : Line) : Type 0 where
 kind_is : (kind : Kind) → IsName (kind_word kind)
 unfolding is_name_byte is_visible is_mark
 kind_is And = record { some = omega arith; short = omega arith; bytes = refl }
-kind_is Nand = record { some = omega arith; short = omega arith; bytes = refl }
-kind_is Or = record { some = omega arith; short = omega arith; bytes = refl }
-kind_is Nor = record { some = omega arith; short = omega arith; bytes = refl }
-kind_is Xor = record { some = omega arith; short = omega arith; bytes = refl }
-kind_is Xnor = record { some = omega arith; short = omega arith; bytes = refl }
-kind_is Not = record { some = omega arith; short = omega arith; bytes = refl }
-kind_is Buf = record { some = omega arith; short = omega arith; bytes = refl }
-kind_is Tri = record { some = omega arith; short = omega arith; bytes = refl }
-kind_is Bus = record { some = omega arith; short = omega arith; bytes = refl }
+kind_is kind = record { some = omega arith; short = omega arith; bytes = refl }
 
 -- no kind has the word of registers
 no_register : (kind : Kind) → is_word (codes "DFF") (kind_word kind) ≡ false
@@ -120,16 +112,13 @@ parts_are (line ∷ lines) all =
     let pieces = spelled (form_by line) in
     let bytes = flat_map written_piece pieces in
     let plain = written_plain false pieces (All-head IsSaid line lines all).apart in
-    ap (λ text. map part_of (lines_of text)) (append_assoc bytes (10 ∷ []) (text_of_lines lines) ∙ ap (λ part. part ++ 10 ∷ text_of_lines lines) (sym (append-nil bytes) ∙ text_onto_is pieces []))
-    ∙ ap (map part_of) (line_cut (part_by line) (text_of_lines lines) plain)
-    ∙ (λ k. part_plain (part_by line) plain k ∷ parts_are lines (All-tail IsSaid line lines all) k)
+    rw (append_assoc bytes (10 ∷ []) (text_of_lines lines), sym (append-nil bytes) ∙ text_onto_is pieces [], line_cut (part_by line) (text_of_lines lines) plain, part_plain (part_by line) plain, parts_are lines (All-tail IsSaid line lines all)) refl
 
 -- a row before rows, where it says a line
 one_more : (n : ℕ) (form : Form) (line : Line) (rows : List Row) (lines : List Line) → Says (record { at = n; pieces = spelled form }) line → Say rows lines
     → Say (cond (is_some (record { at = n; pieces = spelled form })) (record { at = n; pieces = spelled form } ∷ rows) rows) (line ∷ lines)
 one_more n (forms.Port word name) line rows lines says rest = (says, rest)
-one_more n (forms.Gate name word uses) line rows lines says rest = (says, rest)
-one_more n (forms.Memory outs word enable address words) line rows lines says rest = (says, rest)
+one_more n form line rows lines says rest = (says, rest)
 
 rows_say : (n : ℕ) (lines : List Line) → All IsSaid lines → Say (filter is_some (map row_of (enumerate_from n (map part_by lines)))) lines
 rows_say n [] all = tt

@@ -1,16 +1,17 @@
--- The memories of a valid netlist: which signals they drive, and which of them begin before a signal.
+-- The memories of a valid netlist: which signals they drive, and which of them stand before a signal.
 use Rattle.std.proofs.Common.{◌≡◌, ℕ, zero, suc, ◌+◌, ◌-◌, ◌<◌, ◌≤◌, [], length, drop, get_or, slice_get, Option, Some, None, sym, ap, ◌∙◌, subst, inl, inr, refl, arith, ⊎_elim}
 use Rattle.std.specs.List.{All}
 use Rattle.std.specs.Option.{option_map}
 use Rattle.std.proofs.lemmas.List.{drop_all}
 use Rattle.std.proofs.lemmas.Option.{slice_get_within, slice_get-get_or}
 use Rattle.std.proofs.lemmas.Bool.{cases_lt}
+use Rattle.list_laws.proofs.Places.{one_there}
 use Rattle.list_laws.proofs.Ranges.{range_get, range_at}
 use Rattle.net_defs.specs.declared.netlist.Netlist.{Netlist}
 use Rattle.net_defs.specs.declared.netlist.Signal.{Signal}
 use Rattle.net_defs.specs.declared.netlist.Block.{Block}
 use Rattle.net_defs.specs.declared.netlist.Driver.{Driver}
-use Rattle.net_defs.specs.declared.netlist.Driver.TheVariants.{Input, Gate, Dff, BlockBit}
+use Rattle.net_defs.specs.declared.netlist.Driver.TheVariants.{BlockBit}
 use Rattle.net_defs.specs.Canonical.{name_of}
 use Rattle.net_defs.specs.Valid.{IsSignal, IsMemory, IsDrivable, IsValid}
 
@@ -67,111 +68,67 @@ module _ (net : Netlist) (valid : IsValid net) where
       let found = range_at (first_of d.0) (length d.0.word) k s (ap (λ xs. slice_get xs k) (sym (valid.memories m d.0 d.1).outs) ∙ d.2) in
       record { memory = d.0; at = d.1; place = found.0; within = found.1 }
 
-  -- ---- the outputs left of a memory
+  -- ---- the memories before a signal
 
-  -- how many outputs a memory has after this driver, if it is one of them
-  abbrev pub left_after : Option Driver → ℕ
-  left_after (Some (BlockBit m k)) = width (slice_get net.blocks m) - suc k where
-    width : Option Block → ℕ
-    width None = 0
-    width (Some memory) = length memory.word
-  left_after _ = 0
-
-  -- and so before this signal
-  abbrev pub left_at : ℕ → ℕ
-  left_at zero = 0
-  left_at (suc s) = left_after (driver_at net s)
-
-  -- as many as the memory says
-  pub left_is : (m k s : ℕ) (memory : Block) → IsBit net m k s → slice_get net.blocks m ≡ Some memory → left_after (driver_at net s) + suc k ≡ length memory.word
-  left_is m k s memory bit at =
-      let b = bit_of m k s bit in
-      let same : Some memory ≡ Some b.memory = sym at ∙ b.at in
-      let is : memory ≡ b.memory = cc in
-      omega (arith, b.within, ap left_after bit, width_at b.memory b.at, ap (λ (x : Block). length x.word) is)
-    where
-      width_at : (other : Block) → slice_get net.blocks m ≡ Some other → left_after (Some (BlockBit m k)) ≡ length other.word - suc k
-      width_at other e = rw e refl
-
-  -- at an output that is not the first, one more is left than after it
-  pub left_more : (m k s : ℕ) → IsBit net m (suc k) s → left_at s ≡ suc (left_at (suc s))
-  left_more m k zero bit = let b = bit_of m (suc k) zero bit in absurd (omega (arith, b.place))
-  left_more m k (suc s) bit =
-      let b = bit_of m (suc k) (suc s) bit in
-      let before = bit_at m b.memory k s b.at (omega (arith, b.within)) (omega (arith, b.place)) in
-      omega (arith, left_is m k s b.memory before b.at, left_is m (suc k) (suc s) b.memory bit b.at)
-
-  -- at another signal none is left
-  pub left_none : (s : ℕ) → ((m k : ℕ) → IsBit net m (suc k) s → ⊥) → left_at s ≡ 0
-  left_none zero plain = refl
-  left_none (suc s) plain = by_driver (driver_at net s) refl where
-    by_driver : (o : Option Driver) → driver_at net s ≡ o → left_after o ≡ 0
-    by_driver None e = refl
-    by_driver (Some Input) e = refl
-    by_driver (Some (Gate kind ops)) e = refl
-    by_driver (Some (Dff op)) e = refl
-    by_driver (Some (BlockBit m k)) e =
-        let b = bit_of m k s e in
-        ⊎_elim
-        (λ more. absurd (plain m k (bit_at m b.memory (suc k) (suc s) b.at more (omega (arith, b.place)))))
-        (λ past. omega (arith, left_is m k s b.memory e b.at, ap left_after e))
-        (cases_lt (suc k) (length b.memory.word))
-
-  -- ---- the memories begun
-
-  -- the first m memories begin before signal s, and no others
-  pub record AreBegun (s m : ℕ) : Type 0 where
-    pub before : (n : ℕ) (memory : Block) → slice_get net.blocks n ≡ Some memory → n < m → first_of memory < s
+  -- the first m memories stand before signal s, and the others from there on
+  pub record IsCut (s m : ℕ) : Type 0 where
+    pub before : (n : ℕ) (memory : Block) → slice_get net.blocks n ≡ Some memory → n < m → first_of memory + length memory.word ≤ s
     pub after : (n : ℕ) (memory : Block) → slice_get net.blocks n ≡ Some memory → m ≤ n → s ≤ first_of memory
 
-  pub none_begun : AreBegun 0 0
-  none_begun = record { before = λ n memory at less. absurd (omega arith); after = λ n memory at past. omega arith }
+  pub none_cut : IsCut 0 0
+  none_cut = record { before = λ n memory at less. absurd (omega arith); after = λ n memory at past. omega arith }
 
-  -- with a signal that is no first output no memory begins
-  pub begun_same : (s m : ℕ) → AreBegun s m → ((n : ℕ) → IsBit net n 0 s → ⊥) → AreBegun (suc s) m
-  begun_same s m begun plain = record {
-    before = λ n memory at less. omega (arith, begun.before n memory at less);
+  first_bit : (n : ℕ) (memory : Block) → slice_get net.blocks n ≡ Some memory → IsBit net n 0 (first_of memory)
+  first_bit n memory at = bit_at n memory 0 (first_of memory) at (omega (arith, (valid.memories n memory at).word_bits.0)) (omega arith)
+
+  -- a signal that no memory drives stands in none
+  pub cut_same : (s m : ℕ) → IsCut s m → ((n : ℕ) → IsBit net n 0 s → ⊥) → IsCut (suc s) m
+  cut_same s m cut plain = record {
+    before = λ n memory at less. omega (arith, cut.before n memory at less);
     after = λ n memory at past.
         ⊎_elim (λ more. omega arith)
-        (λ no_more. absurd (plain n (bit_at n memory 0 s at (omega (arith, (valid.memories n memory at).word_bits.0)) (omega (arith, begun.after n memory at past)))))
+        (λ no_more. let here : first_of memory ≡ s = omega (arith, cut.after n memory at past) in absurd (plain n (subst (IsBit net n 0) here (first_bit n memory at))))
         (cases_lt s (first_of memory));
   }
 
-  -- a first output is that of the next memory
-  pub next_memory : (s m n : ℕ) → AreBegun s m → IsBit net n 0 s → n ≡ m
-  next_memory s m n begun bit =
-      let b = bit_of n 0 s bit in
-      ⊎_elim (λ less. absurd (omega (arith, begun.before n b.memory b.at less, b.place)))
-      (λ past. ⊎_elim
+  -- a bit there is the first of the next memory
+  pub next_memory : (s m n k : ℕ) → IsCut s m → IsBit net n k s → (n ≡ m) × (k ≡ 0)
+  next_memory s m n k cut bit =
+      let b = bit_of n k s bit in
+      ⊎_elim (λ less. absurd (omega (arith, cut.before n b.memory b.at less, b.place, b.within)))
+      (λ past. (⊎_elim
       (λ more.
       let one = get_or net.blocks m b.memory in
       let at : slice_get net.blocks m ≡ Some one = slice_get-get_or net.blocks m b.memory (omega (arith, slice_get_within net.blocks n b.memory b.at)) in
-      absurd (omega (arith, begun.after m one at (omega arith), valid.memories_in_order m n one b.memory at b.at more, b.place)))
-      (λ no_more. omega arith) (cases_lt m n))
+      absurd (omega (arith, cut.after m one at (omega arith), valid.memories_in_order m n one b.memory at b.at more, cut.after n b.memory b.at past, b.place)))
+      (λ no_more. omega arith) (cases_lt m n), omega (arith, cut.after n b.memory b.at past, b.place)))
       (cases_lt n m)
 
-  -- with it that memory begins
-  pub begun_more : (s m : ℕ) → AreBegun s m → IsBit net m 0 s → AreBegun (suc s) (suc m)
-  begun_more s m begun bit = let b = bit_of m 0 s bit in record {
-    before = λ n memory at less.
-        ⊎_elim (λ earlier. omega (arith, begun.before n memory at earlier))
-        (λ no_earlier.
-        let same : n ≡ m = omega arith in
-        let first : Some memory ≡ Some b.memory = sym at ∙ ap (slice_get net.blocks) same ∙ b.at in
-        let is : memory ≡ b.memory = cc in
-        omega (arith, ap first_of is, b.place))
+  -- with it that memory stands before
+  pub cut_more : (s m : ℕ) (memory : Block) → IsCut s m → slice_get net.blocks m ≡ Some memory → first_of memory ≡ s → IsCut (s + length memory.word) (suc m)
+  cut_more s m memory cut at first = record {
+    before = λ n other there less.
+        ⊎_elim (λ earlier. omega (arith, cut.before n other there earlier))
+        (λ no_earlier. let is : other ≡ memory = one_there net.blocks n m other memory (omega arith) there at in omega (arith, ap first_of is, ap (λ (x : Block). length x.word) is, first))
         (cases_lt n m);
-    after = λ n memory at past. omega (arith, valid.memories_in_order m n b.memory memory b.at at (omega arith), b.place);
+    after = λ n other there past.
+        ⊎_elim
+        (λ inside.
+        let order = valid.memories_in_order m n memory other at there (omega arith) in
+        let one = bit_at m memory (first_of other - s) (first_of other) at (omega (arith, order, first)) (omega (arith, order, first)) in
+        let same : Some (BlockBit m (first_of other - s)) ≡ Some (BlockBit n 0) = sym one ∙ first_bit n other there in
+        let is : m ≡ n = cc in
+        absurd (omega (arith, is)))
+        (λ outside. outside) (cases_lt (first_of other) (s + length memory.word));
   }
 
-  -- before the end all memories begin
-  pub all_begun : (s m : ℕ) → AreBegun s m → length net.signals ≤ s → drop m net.blocks ≡ []
-  all_begun s m begun ends = elim (cases_lt m (length net.blocks)) [
+  -- before the end all memories stand
+  pub all_cut : (s m : ℕ) → IsCut s m → length net.signals ≤ s → drop m net.blocks ≡ []
+  all_cut s m cut ends = elim (cases_lt m (length net.blocks)) [
     | inl more ↦
         let one = get_or net.blocks m (record { we = 0; address = []; word = []; outs = [] }) in
         let at : slice_get net.blocks m ≡ Some one = slice_get-get_or net.blocks m (record { we = 0; address = []; word = []; outs = [] }) more in
-        let bit = bit_at m one 0 (first_of one) at (omega (arith, (valid.memories m one at).word_bits.0)) (omega arith) in
-        let signal = signal_at net (first_of one) (BlockBit m 0) bit in
-        absurd (omega (arith, begun.after m one at (omega arith), slice_get_within net.signals (first_of one) signal.0 signal.1, ends))
+        let signal = signal_at net (first_of one) (BlockBit m 0) (first_bit m one at) in
+        absurd (omega (arith, cut.after m one at (omega arith), slice_get_within net.signals (first_of one) signal.0 signal.1, ends))
     | inr past ↦ drop_all m net.blocks past
   ]

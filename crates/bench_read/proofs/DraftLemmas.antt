@@ -8,7 +8,7 @@ use Rattle.text_lines.specs.Lines.{parts_of}
 use Rattle.bench_line.specs.Rows.{Row, row_of, is_some, rows_of, rows_in}
 use Rattle.bench_read.specs.declared.refusal.BenchNo.{BenchNo}
 use Rattle.bench_read.specs.declared.draft.Draft.{Draft}
-use Rattle.bench_read.specs.Lines.{Line, Input, Output, Gate, Register, Memory, driven, used, all_driven, all_used, operand_count}
+use Rattle.bench_read.specs.Lines.{Line, Gate, Memory, driven, used, all_driven, all_used, operand_count}
 use Rattle.bench_read.specs.Placed.{Placed, lines_at, placed_of}
 use Rattle.bench_read.specs.Faults.{row_fault, rows_fault}
 use Rattle.bench_read.specs.Drafts.{driven_count, used_count, line_by, lines_by}
@@ -29,11 +29,8 @@ record IsBack (line : Line) (driven_names used_names : List (List ℕ)) : Type 0
   pub used_left : drop (used_count (act_of line)) (used line ++ used_names) ≡ used_names
 
 is_back : (line : Line) (ds us : List (List ℕ)) → IsBack line ds us
-is_back (Input name) ds us = record { same = refl; driven_left = refl; used_left = refl }
-is_back (Output name) ds us = record { same = refl; driven_left = refl; used_left = refl }
 is_back (Gate name kind uses) ds us =
     record { same = ap (Gate name kind) (take_at uses us (length uses) refl); driven_left = refl; used_left = drop_at uses us (length uses) refl }
-is_back (Register name use_) ds us = record { same = refl; driven_left = refl; used_left = refl }
 is_back (Memory outs enable address words) ds us =
     record {
       same = rw (
@@ -46,6 +43,7 @@ is_back (Memory outs enable address words) ds us =
       driven_left = drop_at outs ds (length outs) refl;
       used_left = drop_at (enable ∷ (address ++ words)) us (1 + (length address + length words)) (omega (arith, length-append address words));
     }
+is_back line ds us = record { same = refl; driven_left = refl; used_left = refl }
 
 lines_back : (lines : List Placed) → lines_by (map statement_of lines) (all_driven (lines_at lines)) (all_used (lines_at lines)) ≡ lines
 unfolding all_driven all_used lines_by
@@ -76,7 +74,6 @@ draft_of rows draft stores said =
         few_signals = subst (λ names. length names ≤ MAX_SIGNALS) (sym driven) said.fine.few_signals;
         few_operands = subst (λ ps. operand_count (lines_at ps) ≤ MAX_OPERANDS) (sym placed) said.fine.few_operands;
       };
-      lines = said.lines;
       said = placed;
     }
 
@@ -98,11 +95,7 @@ few_operands read = subst (λ n. n ≤ MAX_OPERANDS) (sym read.stores.operands) 
 
 module _ (text : List ℕ) (now left : List (ℕ × List ℕ)) (draft : Draft) (line : ℕ × List ℕ) (read : HasRead text now draft) (next : now ≡ line ∷ left) where
   seam : rows_of text ≡ (read.done ++ rows_in (line ∷ [])) ++ rows_in left
-  seam =
-      read.rows
-      ∙ ap (λ ls. read.done ++ rows_in ls) next
-      ∙ ap (λ rs. read.done ++ rs) (filter-append is_some (row_of line ∷ []) (map row_of left))
-      ∙ sym (append_assoc read.done (rows_in (line ∷ [])) (rows_in left))
+  seam = rw (read.rows, next, append_assoc, sym (filter-append is_some (row_of line ∷ []) (map row_of left))) refl
 
   pub read_more : (new : Draft) → rows_fault (read.done ++ rows_in (line ∷ [])) ≡ None → Stores new (placed_of (read.done ++ rows_in (line ∷ []))) → HasRead text left new
   read_more new none stores = record { done = read.done ++ rows_in (line ∷ []); rows = seam; no_fault = none; stores = stores }

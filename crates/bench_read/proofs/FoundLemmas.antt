@@ -1,7 +1,7 @@
 -- The line that a row says, by its head and the word and numbers in it.
 use Rattle.std.proofs.Common.{◌≡◌, ℕ, ◌≤◌, Bool, true, false, cond, eqb, List, [], ◌∷◌, ◌++◌, append-nil, length, Option, Some, None, Result, Ok, Err, sym, ap, ◌∙◌, subst, refl, arith}
 use Rattle.std.specs.Prelude.{MatchResult, codes}
-use Rattle.std.proofs.lemmas.Bool.{and_parts, leb-true, eqb-true}
+use Rattle.std.proofs.lemmas.Bool.{eqb-true}
 use Rattle.std.proofs.lemmas.List.{nil_from_length}
 use Rattle.limits.specs.declared.TheConstants.{MAX_ADDRESS_BITS, MAX_GATE_OPERANDS, MAX_WORD_BITS}
 use Rattle.logic_four.specs.declared.Kind.{Kind}
@@ -26,16 +26,8 @@ use Rattle.bench_read.specs.Storing.{act_by_kind, act_by_gate, act_by_head, name
 
 -- no kind allows more than the widest gate has
 few_allowed : (kind : Kind) (n : ℕ) → allows_operands kind n ≡ true → n ≤ MAX_GATE_OPERANDS
-few_allowed kind.And n e = leb-true n MAX_GATE_OPERANDS (and_parts _ _ e).1
-few_allowed kind.Nand n e = leb-true n MAX_GATE_OPERANDS (and_parts _ _ e).1
-few_allowed kind.Or n e = leb-true n MAX_GATE_OPERANDS (and_parts _ _ e).1
-few_allowed kind.Nor n e = leb-true n MAX_GATE_OPERANDS (and_parts _ _ e).1
-few_allowed kind.Xor n e = leb-true n MAX_GATE_OPERANDS (and_parts _ _ e).1
-few_allowed kind.Xnor n e = leb-true n MAX_GATE_OPERANDS (and_parts _ _ e).1
-few_allowed kind.Not n e = omega (arith, eqb-true n 1 e)
-few_allowed kind.Buf n e = omega (arith, eqb-true n 1 e)
-few_allowed kind.Tri n e = omega (arith, eqb-true n 2 e)
-few_allowed kind.Bus n e = leb-true n MAX_GATE_OPERANDS (and_parts _ _ e).1
+few_allowed kind.And n e = grind (arith, e)
+few_allowed kind n e = grind (arith, e)
 
 -- what a memory's numbers are
 pub record AreMemoryBits (address words outputs : ℕ) : Type 0 where
@@ -47,17 +39,7 @@ pub record AreMemoryBits (address words outputs : ℕ) : Type 0 where
 
 pub memory_bits : (address words outputs : ℕ) → allows_memory address words outputs ≡ true → AreMemoryBits address words outputs
 memory_bits address words outputs e =
-    let a = and_parts _ _ e in
-    let b = and_parts _ _ a.0 in
-    let c = and_parts _ _ b.0 in
-    let d = and_parts _ _ c.0 in
-    record {
-      some_address = leb-true 1 address d.0;
-      few_address = leb-true address MAX_ADDRESS_BITS d.1;
-      some_words = leb-true 1 words c.1;
-      few_words = leb-true words MAX_WORD_BITS b.1;
-      outputs_are = eqb-true words outputs a.1;
-    }
+    record { some_address = grind (arith, e); few_address = grind (arith, e); some_words = grind (arith, e); few_words = grind (arith, e); outputs_are = grind (arith, e) }
 
 -- ---- the line
 

@@ -1,5 +1,5 @@
 -- The names and operands of what lines make.
-use Rattle.std.proofs.Common.{◌≡◌, ℕ, ◌+◌, List, [], ◌∷◌, ◌++◌, length, map, ap, ◌∙◌, refl, arith}
+use Rattle.std.proofs.Common.{◌≡◌, ℕ, ◌+◌, List, [], ◌∷◌, ◌++◌, length, map, ap, refl, arith}
 use Rattle.std.specs.List.{sum_by, flat_map, enumerate_from}
 use Rattle.std.proofs.lemmas.List.{map-append, length-map, length-append}
 use Rattle.std.proofs.lemmas.List.Sums.{sum_by-append, sum_by-cons}
@@ -7,7 +7,7 @@ use Rattle.list_laws.proofs.Maps.{sum_none_of}
 use Rattle.net_defs.specs.declared.netlist.Signal.{Signal}
 use Rattle.net_defs.specs.declared.netlist.Driver.TheVariants as driver
 use Rattle.net_defs.specs.Valid.{operand_count as driver_operands, memory_operand_count}
-use Rattle.bench_read.specs.Lines.{Line, Input, Output, Gate, Register, Memory, operands, operand_count}
+use Rattle.bench_read.specs.Lines.{Line, Gate, Memory, operands, operand_count}
 use Rattle.bench_read.specs.Netlists.{input_names, other_names, names_of, number, netlist_of, input_signal, signals_by, memory_count, other_signals, memories_by}
 
 -- ---- names
@@ -20,21 +20,18 @@ bit_names : (m n : ℕ) (outs : List (List ℕ)) → names_from (map (λ p. reco
 bit_names m n [] = refl
 bit_names m n (name ∷ outs) = ap (λ ns. name ∷ ns) (bit_names m (n + 1) outs)
 
-line_names : (names : List (List ℕ)) (m : ℕ) (line : Line) → names_from (signals_by names m line) ≡ other_names line
-line_names names m (Input name) = refl
-line_names names m (Output name) = refl
-line_names names m (Gate name kind uses) = refl
-line_names names m (Register name use_) = refl
+-- the signals of a line have the names that it drives beside inputs
+pub line_names : (names : List (List ℕ)) (m : ℕ) (line : Line) → names_from (signals_by names m line) ≡ other_names line
 line_names names m (Memory outs enable address words) = bit_names m 0 outs
+line_names names m line = refl
 
 others_names : (names : List (List ℕ)) (m : ℕ) (lines : List Line) → names_from (other_signals names m lines) ≡ flat_map other_names lines
 unfolding other_signals
 others_names names m [] = refl
 others_names names m (line ∷ lines) =
-    map-append (λ (s : Signal). s.name) (signals_by names m line) (other_signals names (m + memory_count line) lines)
-    ∙ (λ k. line_names names m line k ++ others_names names (m + memory_count line) lines k)
+    simp (map-append, line_names, others_names names (m + memory_count line) lines) refl
 
-inputs_names : (inputs : List (List ℕ)) → names_from (map input_signal inputs) ≡ inputs
+pub inputs_names : (inputs : List (List ℕ)) → names_from (map input_signal inputs) ≡ inputs
 inputs_names [] = refl
 inputs_names (name ∷ inputs) = ap (λ ns. name ∷ ns) (inputs_names inputs)
 
@@ -42,8 +39,7 @@ inputs_names (name ∷ inputs) = ap (λ ns. name ∷ ns) (inputs_names inputs)
 pub made_names : (names : List (List ℕ)) (m : ℕ) (lines : List Line) → names_from (map input_signal (flat_map input_names lines) ++ other_signals names m lines) ≡ names_of lines
 unfolding names_of
 made_names names m lines =
-    map-append (λ (s : Signal). s.name) (map input_signal (flat_map input_names lines)) (other_signals names m lines)
-    ∙ (λ k. inputs_names (flat_map input_names lines) k ++ others_names names m lines k)
+    simp (map-append, inputs_names, others_names) refl
 
 -- ---- operands
 
@@ -51,10 +47,7 @@ abbrev pub signal_operands : Signal → ℕ
 signal_operands signal = driver_operands signal.driver
 
 line_operands : (names : List (List ℕ)) (m : ℕ) (line : Line) → length (operands line) ≡ sum_by signal_operands (signals_by names m line) + sum_by memory_operand_count (memories_by names line)
-line_operands names m (Input name) = refl
-line_operands names m (Output name) = refl
 line_operands names m (Gate name kind uses) = omega (arith, length-map uses (λ n. number names n))
-line_operands names m (Register name use_) = refl
 line_operands names m (Memory outs enable address words) = omega (
   arith,
   sum_none_of signal_operands (λ p. record { name = p.1; driver = driver.BlockBit m p.0 }) (enumerate_from 0 outs) (λ p. refl),
@@ -62,6 +55,7 @@ line_operands names m (Memory outs enable address words) = omega (
   length-map address (λ n. number names n),
   length-map words (λ n. number names n),
 )
+line_operands names m line = refl
 
 lines_operands : (names : List (List ℕ)) (m : ℕ) (lines : List Line)
     → operand_count lines ≡ sum_by signal_operands (other_signals names m lines) + sum_by memory_operand_count (flat_map (memories_by names) lines)

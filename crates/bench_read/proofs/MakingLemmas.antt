@@ -11,34 +11,14 @@ use Rattle.net_defs.specs.declared.netlist.Netlist.{Netlist}
 use Rattle.net_defs.specs.declared.netlist.Signal.{Signal}
 use Rattle.net_defs.specs.declared.netlist.Block.{Block}
 use Rattle.net_defs.specs.declared.netlist.Driver.TheVariants as driver
-use Rattle.bench_read.specs.Lines.{Line, Input, Output, Gate, Register, Memory, used, operands, all_driven, all_used, operand_count}
+use Rattle.bench_read.specs.Lines.{Line, Memory, used, operands, all_driven, all_used, operand_count}
 use Rattle.bench_read.specs.Netlists.{input_names, other_names, names_of, number, numbers, input_signal, bit_signals, signals_by, memory_count, other_signals, printed_names, memories_by, netlist_of}
 use Rattle.bench_read.specs.declared.draft.DrivenName.{DrivenName}
 use Rattle.bench_read.specs.Making.{with_line}
 use Rattle.bench_read.specs.Placed.{lines_at, Placed}
 use Rattle.bench_read.specs.Reads.{AreOnce}
+use Rattle.bench_read.proofs.MadeLemmas.{names_from, line_names, inputs_names}
 use Rattle.bench_read.proofs.NumberLemmas.{names_once, numbers_range}
-
--- ---- names of signals
-
-abbrev pub signal_names : List Signal → List (List ℕ)
-signal_names signals = map (λ (s : Signal). s.name) signals
-
-pub names_of_inputs : (names : List (List ℕ)) → signal_names (map input_signal names) ≡ names
-names_of_inputs [] = refl
-names_of_inputs (name ∷ names) = ap (λ ns. name ∷ ns) (names_of_inputs names)
-
-names_of_bits : (m n : ℕ) (outs : List (List ℕ)) → signal_names (map (λ p. record { name = p.1; driver = driver.BlockBit m p.0 }) (enumerate_from n outs)) ≡ outs
-names_of_bits m n [] = refl
-names_of_bits m n (name ∷ outs) = ap (λ ns. name ∷ ns) (names_of_bits m (n + 1) outs)
-
--- the signals of a line have the names that it drives beside inputs
-pub names_by : (names : List (List ℕ)) (m : ℕ) (line : Line) → signal_names (signals_by names m line) ≡ other_names line
-names_by names m (Input name) = refl
-names_by names m (Output name) = refl
-names_by names m (Gate name kind uses) = refl
-names_by names m (Register name use_) = refl
-names_by names m (Memory outs enable address words) = names_of_bits m 0 outs
 
 -- ---- one line
 
@@ -49,10 +29,6 @@ line_made : (names : List (List ℕ)) (net : Netlist) (line : Line) → numbers 
       printed = net.printed ++ numbers names (printed_names line);
       blocks = net.blocks ++ memories_by names line;
     }
-line_made names net (Input name) outs = λ k. record { signals = sym (append-nil net.signals) k; printed = sym (append-nil net.printed) k; blocks = sym (append-nil net.blocks) k }
-line_made names net (Output name) outs = λ k. record { signals = sym (append-nil net.signals) k; printed = net.printed ++ numbers names (name ∷ []); blocks = sym (append-nil net.blocks) k }
-line_made names net (Gate name kind uses) outs = λ k. record { signals = net.signals ++ signals_by names 0 (Gate name kind uses); printed = sym (append-nil net.printed) k; blocks = sym (append-nil net.blocks) k }
-line_made names net (Register name use_) outs = λ k. record { signals = net.signals ++ signals_by names 0 (Register name use_); printed = sym (append-nil net.printed) k; blocks = sym (append-nil net.blocks) k }
 line_made names net (Memory o enable address words) outs =
     let split = map-append (number names) address words in
     let same = length-map address (number names) in
@@ -65,21 +41,16 @@ line_made names net (Memory o enable address words) outs =
       printed = sym (append-nil net.printed) k;
       blocks = net.blocks ++ record { we = number names enable; address = front k; word = back k; outs = sym outs k } ∷ [];
     }
+line_made names net line outs = simp append-nil refl
 
 pub memories_counted : (names : List (List ℕ)) (line : Line) → length (memories_by names line) ≡ memory_count line
-memories_counted names (Input name) = refl
-memories_counted names (Output name) = refl
-memories_counted names (Gate name kind uses) = refl
-memories_counted names (Register name use_) = refl
 memories_counted names (Memory outs enable address words) = refl
+memories_counted names line = refl
 
 -- a line makes a memory only where it has operands
 memories-le : (line : Line) → memory_count line ≤ length (operands line)
-memories-le (Input name) = omega arith
-memories-le (Output name) = omega arith
-memories-le (Gate name kind uses) = omega arith
-memories-le (Register name use_) = omega arith
 memories-le (Memory outs enable address words) = omega arith
+memories-le line = omega arith
 
 range_below : (a n : ℕ) → get_or (range_with_len a n) 0 0 + length (range_with_len a n) ≤ a + n
 range_below a zero = omega arith
@@ -91,13 +62,10 @@ IsBelow n memory = get_or memory.outs 0 0 + length memory.outs ≤ n
 
 -- those of a line's memory are below the number of the next signal
 below_by : (names : List (List ℕ)) (n : ℕ) (line : Line) → numbers names (other_names line) ≡ range_with_len n (length (other_names line)) → All (IsBelow (n + length (other_names line))) (memories_by names line)
-below_by names n (Input name) outs = All-nil (IsBelow (n + 0))
-below_by names n (Output name) outs = All-nil (IsBelow (n + 0))
-below_by names n (Gate name kind uses) outs = All-nil (IsBelow (n + 1))
-below_by names n (Register name use_) outs = All-nil (IsBelow (n + 1))
 below_by names n (Memory o enable address words) outs =
     All-cons (IsBelow (n + length o)) (record { we = number names enable; address = numbers names address; word = numbers names words; outs = numbers names o }) []
     (subst (λ ns. get_or ns 0 0 + length ns ≤ n + length o) (sym outs) (range_below n (length o))) (All-nil (IsBelow (n + length o)))
+below_by names n line outs = All-nil _
 
 -- ---- all lines
 
@@ -106,7 +74,7 @@ pub record IsMaking (lines left : List Line) (uses : List ℕ) (net : Netlist) :
   pub signals : net.signals ++ other_signals (names_of lines) (length net.blocks) left ≡ (netlist_of lines).signals
   pub printed : net.printed ++ numbers (names_of lines) (flat_map printed_names left) ≡ (netlist_of lines).printed
   pub blocks : net.blocks ++ flat_map (memories_by (names_of lines)) left ≡ (netlist_of lines).blocks
-  pub named : signal_names net.signals ++ flat_map other_names left ≡ names_of lines
+  pub named : names_from net.signals ++ flat_map other_names left ≡ names_of lines
   pub numbered : uses ≡ numbers (names_of lines) (all_used left)
   pub few : length net.blocks + operand_count left ≤ operand_count lines
   pub below : All (IsBelow (length net.signals)) net.blocks
@@ -117,7 +85,7 @@ making_none lines uses net signals printed blocks are = record {
   signals = λ k. signals k ++ other_signals (names_of lines) (length (blocks k)) lines;
   printed = λ k. printed k ++ numbers (names_of lines) (flat_map printed_names lines);
   blocks = λ k. blocks k ++ flat_map (memories_by (names_of lines)) lines;
-  named = ap (λ ns. ns ++ flat_map other_names lines) (ap signal_names signals ∙ names_of_inputs (flat_map input_names lines));
+  named = ap (λ ns. ns ++ flat_map other_names lines) (ap names_from signals ∙ inputs_names (flat_map input_names lines));
   numbered = are;
   few = omega (arith, ap length blocks);
   below = subst (All (IsBelow (length net.signals))) (sym blocks) (All-nil (IsBelow (length net.signals)));
@@ -137,20 +105,16 @@ module _ (lines left : List Line) (line : Line) (uses : List ℕ) (net : Netlist
 
   mine : take (length (used line)) uses ≡ numbers names (used line)
   unfolding all_used
-  mine =
-      (λ k. take (sym (length-map (used line) (number names)) k) ((made.numbered ∙ map-append (number names) (used line) (all_used left)) k))
-      ∙ take-append_seam (numbers names (used line)) (numbers names (all_used left))
+  mine = rw (made.numbered, map-append (number names) (used line) (all_used left), sym (length-map (used line) (number names))) (take-append_seam (numbers names (used line)) (numbers names (all_used left)))
 
   others : drop (length (used line)) uses ≡ numbers names (all_used left)
   unfolding all_used
-  others =
-      (λ k. drop (sym (length-map (used line) (number names)) k) ((made.numbered ∙ map-append (number names) (used line) (all_used left)) k))
-      ∙ drop-append_seam (numbers names (used line)) (numbers names (all_used left))
+  others = rw (made.numbered, map-append (number names) (used line) (all_used left), sym (length-map (used line) (number names))) (drop-append_seam (numbers names (used line)) (numbers names (all_used left)))
 
   -- the names that it drives beside inputs are numbered side by side
   pub neighbours : AreOnce (all_driven lines) → numbers names (other_names line) ≡ range_with_len (length net.signals) (length (other_names line))
   neighbours once =
-      numbers_range names (signal_names net.signals) (other_names line) (flat_map other_names left) (names_once lines once) (sym made.named)
+      numbers_range names (names_from net.signals) (other_names line) (flat_map other_names left) (names_once lines once) (sym made.named)
       ∙ ap (λ n. range_with_len n (length (other_names line))) (length-map net.signals (λ (s : Signal). s.name))
 
   pub uses_left : length (used line) ≤ length uses
@@ -162,7 +126,7 @@ module _ (lines left : List Line) (line : Line) (uses : List ℕ) (net : Netlist
       omega (
         arith,
         ap length made.named,
-        length-append (signal_names net.signals) (other_names line ++ flat_map other_names left),
+        length-append (names_from net.signals) (other_names line ++ flat_map other_names left),
         length-append (other_names line) (flat_map other_names left),
         length-map net.signals (λ (s : Signal). s.name),
       )
@@ -184,22 +148,12 @@ module _ (lines left : List Line) (line : Line) (uses : List ℕ) (net : Netlist
       length-append net.blocks (memories_by names line) ∙ ap (λ n. m + n) (memories_counted names line) in
       let signals : length (net.signals ++ mine) ≡ length net.signals + length (other_names line) =
       length-append net.signals mine
-      ∙ ap (λ n. length net.signals + n) (sym (length-map mine (λ (s : Signal). s.name)) ∙ ap length (names_by names m line)) in
+      ∙ ap (λ n. length net.signals + n) (sym (length-map mine (λ (s : Signal). s.name)) ∙ ap length (line_names names m line)) in
       record {
-        signals =
-            append_assoc net.signals mine (other_signals names (length (net.blocks ++ memories_by names line)) left)
-            ∙ ap (λ n. net.signals ++ (mine ++ other_signals names n left)) count
-            ∙ made.signals;
-        printed =
-            append_assoc net.printed (numbers names (printed_names line)) (numbers names (flat_map printed_names left))
-            ∙ ap (λ ns. net.printed ++ ns) (sym (map-append (number names) (printed_names line) (flat_map printed_names left)))
-            ∙ made.printed;
+        signals = rw (append_assoc net.signals mine (other_signals names (length (net.blocks ++ memories_by names line)) left), count) made.signals;
+        printed = rw (append_assoc net.printed (numbers names (printed_names line)) (numbers names (flat_map printed_names left)), sym (map-append (number names) (printed_names line) (flat_map printed_names left))) made.printed;
         blocks = append_assoc net.blocks (memories_by names line) (flat_map (memories_by names) left) ∙ made.blocks;
-        named =
-            ap (λ ns. ns ++ flat_map other_names left) (map-append (λ (s : Signal). s.name) net.signals mine)
-            ∙ append_assoc (signal_names net.signals) (signal_names mine) (flat_map other_names left)
-            ∙ ap (λ ns. signal_names net.signals ++ (ns ++ flat_map other_names left)) (names_by names m line)
-            ∙ made.named;
+        named = rw (map-append (λ (s : Signal). s.name) net.signals mine, append_assoc (names_from net.signals) (names_from mine) (flat_map other_names left), line_names names m line) made.named;
         numbered = others;
         few = omega (arith, count, made.few, memories-le line, sum_by-cons (λ (l : Line). length (operands l)) line left);
         below =
@@ -224,8 +178,5 @@ bits_more old now new m i outs d within so_far pushed =
     let names = map (λ o. o.name.now) (take i outs) in
     let name = (get_or outs i d).name.now in
     let at : 0 + length names ≡ i = omega (arith, length-map (take i outs) (λ o. o.name.now), length-take-le i outs (omega arith)) in
-    pushed
-    ∙ ap (λ ss. ss ++ f (i, name) ∷ []) so_far
-    ∙ append_assoc old (bit_signals m names) (f (i, name) ∷ [])
-    ∙ ap (λ ss. old ++ ss) (sym (ap (map f) (enumerate_push 0 names name) ∙ map_push f (enumerate_from 0 names) (0 + length names, name) ∙ ap (λ k. bit_signals m names ++ f (k, name) ∷ []) at))
-    ∙ ap (λ ns. old ++ bit_signals m ns) (sym (map_push (λ o. o.name.now) (take i outs) (get_or outs i d)) ∙ ap (map (λ o. o.name.now)) (sym (take_more outs i d within)))
+    rw (pushed, so_far, take_more outs i d within, map_push (λ o. o.name.now) (take i outs) (get_or outs i d), enumerate_push 0 names name, map_push f (enumerate_from 0 names) (0 + length names, name), at)
+    (append_assoc old (bit_signals m names) (f (i, name) ∷ []))

@@ -7,7 +7,7 @@ use Rattle.std.proofs.lemmas.List.Folds.{list_any_at}
 use Rattle.std.proofs.lemmas.List.Quantifiers.{position-Some}
 use Rattle.std.proofs.lemmas.List.Sums.{sum_by-append, sum_by-cons}
 use Rattle.list_laws.proofs.Tests.{first_after, count_none, none_counted, none_past}
-use Rattle.bench_read.specs.Lines.{Line, Input, Output, Gate, Register, Memory, driven, all_driven}
+use Rattle.bench_read.specs.Lines.{Line, Input, driven, all_driven}
 use Rattle.bench_read.specs.Netlists.{input_names, other_names, names_of, number, numbers}
 use Rattle.bench_read.specs.Making.{order_by}
 use Rattle.bench_read.specs.Reads.{AreOnce}
@@ -18,10 +18,7 @@ use Rattle.bench_read.proofs.NameLemmas.{same_name, same_bytes, new_from_once}
 -- a line drives inputs or others
 pub line_orders : (line : Line) → driven line ≡ input_names line ++ other_names line
 line_orders (Input name) = refl
-line_orders (Output name) = refl
-line_orders (Gate name kind uses) = refl
-line_orders (Register name use_) = refl
-line_orders (Memory outs enable address words) = refl
+line_orders line = refl
 
 -- a sum over the driven names is the same in either order
 sum_orders : (f : List ℕ → ℕ) (lines : List Line) → sum_by f (all_driven lines) ≡ sum_by f (flat_map input_names lines) + sum_by f (flat_map other_names lines)
@@ -94,12 +91,7 @@ order_numbers names inputs others (line ∷ lines) once is =
     let next : length before ≡ length inputs + length (i ++ I) + length others = omega (arith, length-append inputs ((i ++ I) ++ others), length-append (i ++ I) others) in
     let later : length (inputs ++ i) + length I + length (others ++ o) ≡ length inputs + length (i ++ I) + length others + length o =
     omega (arith, length-append inputs i, length-append i I, length-append others o) in
-    sym (ap (λ ns. numbers names (ns ++ all_driven lines)) (line_orders line)
-    ∙ map-append (number names) (i ++ o) (all_driven lines)
-    ∙ ap (λ ns. ns ++ numbers names (all_driven lines)) (map-append (number names) i o)
-    ∙ append_assoc (numbers names i) (numbers names o) (numbers names (all_driven lines))
-    ∙ (λ k. first k ++ (second k ++ sym rest k))
-    ∙ (λ k. range_with_len (length inputs) (length i) ++ (range_with_len (next k) (length o) ++ order_by (length-append inputs i k) (later k) lines)))
+    rw (line_orders line, map-append (number names) (i ++ o) (all_driven lines), map-append (number names) i o, append_assoc, first, second, sym rest, later, length-append inputs i, next) refl
 
 -- the numbers of all driven names, where so many inputs stand first
 pub order_is : (lines : List Line) (inputs : ℕ) → AreOnce (all_driven lines) → inputs ≡ length (flat_map input_names lines) → order_by 0 inputs lines ≡ numbers (names_of lines) (all_driven lines)

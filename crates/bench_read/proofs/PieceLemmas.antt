@@ -14,7 +14,7 @@ use Rattle.bench_text.specs.declared.token.Mark.{Mark}
 use Rattle.bench_text.specs.declared.token.Mark.TheVariants.{Open, Close, Comma, Equals, Semi, Left, Right, Name}
 use Rattle.bench_text.proofs.ByteLemmas.{named_byte}
 use Rattle.bench_line.specs.Spelling.{Piece, Sign, Word, same_mark}
-use Rattle.bench_line.specs.Rows.{goes_on, onto_word, onto_pieces, pieces_of}
+use Rattle.bench_line.specs.Rows.{goes_on, pieces_of}
 use Rattle.bench_read.specs.Written.{written_mark, written_piece}
 
 -- ---- bytes
@@ -67,14 +67,11 @@ sign_is Name e = cc
 word_read : (byte : ℕ) (name rest : List ℕ) → list_all is_name_byte (byte ∷ name) ≡ true → goes_on rest ≡ false → pieces_of (byte ∷ (name ++ rest)) ≡ Word (byte ∷ name) ∷ pieces_of rest
 word_read byte [] rest all ends =
     let is = (and_parts (is_name_byte byte) true all).0 in
-    ap (λ s. onto_pieces byte s (goes_on rest) (pieces_of rest)) (named_byte byte is).no_sign ∙ cond-true _ _ _ is ∙ cond-false _ _ _ ends
+    grind (arith, is, (named_byte byte is).no_sign, ends)
 word_read byte (next ∷ name) rest all ends =
     let here = and_parts (is_name_byte byte) (list_all is_name_byte (next ∷ name)) all in
     let there = and_parts (is_name_byte next) (list_all is_name_byte name) here.1 in
-    ap (λ s. onto_pieces byte s (is_name_byte next) (pieces_of (next ∷ (name ++ rest)))) (named_byte byte here.0).no_sign
-    ∙ cond-true _ _ _ here.0
-    ∙ cond-true _ _ _ there.0
-    ∙ ap (onto_word byte) (word_read next name rest here.1 ends)
+    grind (arith, here.0, (named_byte byte here.0).no_sign, there.0, word_read next name rest here.1 ends)
 
 plain_byte : (byte : ℕ) → is_name_byte byte ≡ true → is_plain byte ≡ true
 unfolding is_name_byte

@@ -1,5 +1,5 @@
 -- No fault of a text is want of memory.
-use Rattle.std.proofs.Common.{◌≡◌, ℕ, Bool, true, false, cond, List, [], ◌∷◌, ◌++◌, length, take, slice_get, Option, Some, None, Result, Ok, Err, ap, ◌∙◌, ⊎_elim}
+use Rattle.std.proofs.Common.{◌≡◌, ℕ, Bool, cond, List, [], ◌∷◌, ◌++◌, length, take, slice_get, Option, Some, None, Result, Ok, Err, ap, ◌∙◌, ⊎_elim, arith}
 use Rattle.std.specs.Prelude.{IfErr, codes}
 use Rattle.std.specs.List.{find}
 use Rattle.std.specs.Option.{option_map, option_or}
@@ -16,8 +16,8 @@ use Rattle.bench_line.specs.Decoding.{form_of}
 use Rattle.bench_read.specs.declared.refusal.BenchNo.{BenchNo}
 use Rattle.bench_read.specs.declared.refusal.BenchNo.TheVariants as bench_no
 use Rattle.bench_read.specs.declared.refusal.Many.TheVariants.{Signals, Operands}
-use Rattle.bench_read.specs.Lines.{Line, Input, Output}
-use Rattle.bench_read.specs.Saying.{is_word, said_by_gate, said_by, said}
+use Rattle.bench_read.specs.Lines.{Line}
+use Rattle.bench_read.specs.Saying.{is_word, said_by_register, said_by_gate, said_by, said}
 use Rattle.bench_read.specs.Placed.{Placed, Named, lines_at, placed_by, placed_of, driven_in, drivers_of, uses_of}
 use Rattle.bench_read.specs.Faults.{is_same, is_undriven, repeat_fault, option_repeat_fault, twice_fault, many_fault, line_fault, said_fault, row_fault, rows_fault, uses_fault, of_text, first_fault}
 
@@ -40,9 +40,7 @@ first_plain : (fault : ℕ → Option BenchNo) (n : ℕ) → ((i : ℕ) → IsPl
 first_plain fault n plain e = let found = place_of_first fault n (bench_no.Text text_no.Memory) e in plain found.0 found.3
 
 limit_plain : (at : ℕ) (b c : Bool) → IsPlain (cond b (Some (bench_no.TooMany at Signals)) (cond c (Some (bench_no.TooMany at Operands)) None))
-limit_plain at true c e = cc
-limit_plain at false true e = cc
-limit_plain at false false e = cc
+limit_plain at b c e = grind (arith, e)
 
 repeat_plain : (drivers : List Named) (o : Option Named) → IsPlain (option_repeat_fault drivers o)
 unfolding repeat_fault
@@ -57,32 +55,14 @@ line_plain earlier placed =
     (limit_plain placed.at _ _)
 
 -- the fault of a form comes from its word or its numbers
-syntax_plain : (at : ℕ) → IsPlainErr (Err (bench_no.Syntax at))
-syntax_plain at e = cc
-
-kind_plain : (at : ℕ) → IsPlainErr (Err (bench_no.UnknownKind at))
-kind_plain at e = cc
-
-numbers_plain : (at : ℕ) (b : Bool) (line : Line) → IsPlainErr (cond b (Ok line) (Err (bench_no.Arity at)))
-numbers_plain at true line e = cc
-numbers_plain at false line e = cc
-
-ok_plain : (line : Line) → IsPlainErr (Ok line)
-ok_plain line e = cc
-
-word_plain : (b : Bool) (x y : Result Line BenchNo) → IsPlainErr x → IsPlainErr y → IsPlainErr (cond b x y)
-word_plain true x y p q = p
-word_plain false x y p q = q
-
 form_plain : (at : ℕ) (o : Option Form) → IsPlainErr (said_by at o)
-form_plain at None = syntax_plain at
-form_plain at (Some (Port word name)) =
-    word_plain (is_word (codes "INPUT") word) _ _ (ok_plain (Input name)) (word_plain (is_word (codes "OUTPUT") word) _ _ (ok_plain (Output name)) (syntax_plain at))
-form_plain at (Some (Gate name word uses)) = word_plain _ _ _ (numbers_plain at _ _) (by_kind (kind_of word)) where
-  by_kind : (o : Option Kind) → IsPlainErr (said_by_gate at name uses o)
-  by_kind None = kind_plain at
-  by_kind (Some kind) = numbers_plain at _ _
-form_plain at (Some (Memory outs word enable address words)) = word_plain _ _ _ (numbers_plain at _ _) (kind_plain at)
+form_plain at None e = cc
+form_plain at (Some (Port word name)) e = grind (arith, e)
+form_plain at (Some (Gate name word uses)) e = by_kind (kind_of word) e where
+  by_kind : (o : Option Kind) → IsPlainErr (cond (is_word (codes "DFF") word) (said_by_register at name uses) (said_by_gate at name uses o))
+  by_kind None e = grind (arith, e)
+  by_kind (Some kind) e = grind (arith, e)
+form_plain at (Some (Memory outs word enable address words)) e = grind (arith, e)
 
 row_plain : (earlier : List Placed) (o : Option Row) → IsPlain (row_fault earlier o)
 unfolding said
@@ -94,8 +74,7 @@ row_plain earlier (Some row) = by_said (said row) (form_plain row.at (form_of ro
 
 bytes_plain : (no : TextNo) → of_text no ≡ bench_no.Text text_no.Memory → ⊥
 bytes_plain text_no.Memory e = cc
-bytes_plain (text_no.BadByte line column) e = cc
-bytes_plain (text_no.LongName line) e = cc
+bytes_plain fault e = cc
 
 fault_plain : (text : List ℕ) → IsPlain (first_fault text)
 unfolding first_fault rows_fault uses_fault

@@ -1,9 +1,8 @@
 -- What a text reads as: the netlist of its lines, where it has no fault.
 use Rattle.std.proofs.Common.{◌≡◌, ◌⊎◌, ℕ, true, false, not, List, [], ◌∷◌, Option, Some, None, Result, Ok, Err, sym, ap, ◌∙◌, subst, refl, inl, inr, ⊎_elim, bytes_eq}
 use Rattle.std.specs.Prelude.{◌↔◌, All, IsOk, MatchResult}
-use Rattle.std.specs.List.{list_any, find, filter_map, cons_option}
+use Rattle.std.specs.List.{list_any, find}
 use Rattle.std.specs.Option.{option_map, option_or}
-use Rattle.std.specs.Result.{result_ok}
 use Rattle.std.proofs.lemmas.Bool.{not-false, or_parts, or_from}
 use Rattle.std.proofs.lemmas.List.Elements.{All-nil, All-cons, All-head, All-tail}
 use Rattle.list_laws.proofs.Tests.{list_any-map, find_none, any_not_none}
@@ -29,20 +28,19 @@ use Rattle.bench_read.proofs.RowLemmas.{names_driven, names_used, rows_none}
 
 placed_cons : (row : Row) (rows : List Row) (line : Line) → said row ≡ Ok line → lines_at (placed_of (row ∷ rows)) ≡ line ∷ lines_at (placed_of rows)
 unfolding placed_of
-placed_cons row rows line says =
-    ap (λ r. lines_at (cons_option (result_ok (placed_by row.at r)) (filter_map (λ x. result_ok (said_at x)) rows))) says
+placed_cons row rows line says = rw says refl
 
 -- rows that all say lines say these
-say_placed : (rows : List Row) → All (λ row. IsOk (said row)) rows → Say rows (lines_at (placed_of rows))
+say_placed : (rows : List Row) → All (λ row. IsOk (said_at row)) rows → Say rows (lines_at (placed_of rows))
 unfolding placed_of
 say_placed [] all = tt
-say_placed (row ∷ rows) all = by_said (said row) refl (All-head (λ r. IsOk (said r)) row rows all) (say_placed rows (All-tail (λ r. IsOk (said r)) row rows all)) where
-  by_said : (r : Result Line BenchNo) → said row ≡ r → IsOk r → Say rows (lines_at (placed_of rows)) → Say (row ∷ rows) (lines_at (placed_of (row ∷ rows)))
+say_placed (row ∷ rows) all = by_said (said row) refl (All-head (λ r. IsOk (said_at r)) row rows all) (say_placed rows (All-tail (λ r. IsOk (said_at r)) row rows all)) where
+  by_said : (r : Result Line BenchNo) → said row ≡ r → IsOk (placed_by row.at r) → Say rows (lines_at (placed_of rows)) → Say (row ∷ rows) (lines_at (placed_of (row ∷ rows)))
   by_said (Ok line) says ok rest = subst (Say (row ∷ rows)) (sym (placed_cons row rows line says)) (says_from_said row line says, rest)
   by_said (Err fault) says ok rest = cc
 
 -- the lines that rows say, and that all of them say one
-said_lines : (rows : List Row) (lines : List Line) → Say rows lines → (lines ≡ lines_at (placed_of rows)) × All (λ row. IsOk (said row)) rows
+said_lines : (rows : List Row) (lines : List Line) → Say rows lines → (lines ≡ lines_at (placed_of rows)) × All (λ row. IsOk (said_at row)) rows
 unfolding placed_of
 said_lines [] [] say = (refl, All-nil _)
 said_lines [] (line ∷ lines) say = absurd say
@@ -51,7 +49,7 @@ said_lines (row ∷ rows) (line ∷ lines) say =
     let says = said_from_says row line say.0 in
     let rest = said_lines rows lines say.1 in (
       ap (λ ls. line ∷ ls) rest.0 ∙ sym (placed_cons row rows line says),
-      All-cons (λ r. IsOk (said r)) row rows (subst (λ r. IsOk r) (sym says) refl) rest.1,
+      All-cons (λ r. IsOk (said_at r)) row rows (subst (λ r. IsOk (placed_by row.at r)) (sym says) refl) rest.1,
     )
 
 -- ---- uses
@@ -94,9 +92,7 @@ reads_where text net =
       λ reads.
           let say = said_lines rows reads.lines reads.said in
           let sound = subst AreSound say.0 reads.sound in (
-            ap (λ o. option_or (option_map of_text o) after) reads.bytes
-                ∙ ap (λ o. option_or o (uses_fault (placed_of rows))) ((rows_none rows).1 (record { lines = say.1; fine = record { once = sound.once; few_signals = sound.few_signals; few_operands = sound.few_operands } }))
-                ∙ (uses_none (placed_of rows)).1 sound.driven,
+            rw (reads.bytes, (rows_none rows).1 (record { lines = say.1; fine = record { once = sound.once; few_signals = sound.few_signals; few_operands = sound.few_operands } })) ((uses_none (placed_of rows)).1 sound.driven),
             reads.netlist ∙ ap netlist_of say.0,
           ),
       λ both.
@@ -135,14 +131,12 @@ reads_or_fault text = by_fault (first_fault text) refl where
 
 pub bytes_refused : (text : List ℕ) (e : BenchNo) → option_map of_text (byte_fault text) ≡ Some e → first_fault text ≡ Some e
 unfolding first_fault
-bytes_refused text e fault = ap (λ o. option_or o (option_or (rows_fault (rows_of text)) (uses_fault (placed_of (rows_of text))))) fault
+bytes_refused text e fault = rw fault refl
 
 -- behind the bytes
 pub after_bytes : (text : List ℕ) (rows : Option BenchNo) → byte_fault text ≡ None → rows_fault (rows_of text) ≡ rows → first_fault text ≡ option_or rows (uses_fault (placed_of (rows_of text)))
 unfolding first_fault
-after_bytes text rows none is =
-    ap (λ o. option_or (option_map of_text o) (option_or (rows_fault (rows_of text)) (uses_fault (placed_of (rows_of text))))) none
-    ∙ ap (λ o. option_or o (uses_fault (placed_of (rows_of text)))) is
+after_bytes text rows none is = rw (none, is) refl
 
 -- the netlist of the lines, where there is no fault, is what the text reads as
 pub reads_from : (text : List ℕ) (r : Result Netlist BenchNo) → Answers Memory r (first_fault text) (λ net. net ≡ netlist_of (lines_at (placed_of (rows_of text)))) → Answers Memory r (first_fault text) (Reads text)

@@ -17,8 +17,7 @@ use Rattle.bench_read.specs.declared.refusal.BenchNo.{BenchNo}
 use Rattle.bench_read.specs.declared.refusal.BenchNo.TheVariants.{TooMany}
 use Rattle.bench_read.specs.declared.refusal.Many.TheVariants.{Signals, Operands}
 use Rattle.bench_read.specs.Lines.{Line, driven, used, operands, all_driven, all_used, operand_count}
-use Rattle.bench_read.specs.Saying.{said}
-use Rattle.bench_read.specs.Placed.{Placed, Named, lines_at, placed_by, said_at, placed_of, each_named, driven_in, drivers_of, uses_of}
+use Rattle.bench_read.specs.Placed.{Placed, lines_at, said_at, placed_of, each_named, driven_in, drivers_of, uses_of}
 use Rattle.bench_read.specs.Faults.{twice_fault, limit_fault, many_fault, line_fault, said_fault, row_fault, rows_fault}
 use Rattle.bench_read.specs.Reads.{AreOnce}
 use Rattle.bench_read.proofs.FirstLemmas.{by_push, first_push}
@@ -34,9 +33,7 @@ names_each at (name ∷ names) = ap (λ ns. name ∷ ns) (names_each at names)
 names_flat : (f : Line → List (List ℕ)) (placed : List Placed) → names_in (flat_map (λ p. each_named p.at (f p.line)) placed) ≡ flat_map f (lines_at placed)
 names_flat f [] = refl
 names_flat f (p ∷ placed) =
-    map-append (λ (named : Named). named.name) (each_named p.at (f p.line)) (flat_map (λ p. each_named p.at (f p.line)) placed)
-    ∙ ap (λ ns. ns ++ names_in (flat_map (λ p. each_named p.at (f p.line)) placed)) (names_each p.at (f p.line))
-    ∙ ap (λ ns. f p.line ++ ns) (names_flat f placed)
+    simp (map-append, names_each, names_flat f placed) refl
 
 -- the names of drivers and of uses
 pub names_driven : (placed : List Placed) → names_in (drivers_of placed) ≡ all_driven (lines_at placed)
@@ -96,8 +93,7 @@ fine_push earlier placed fine =
           let both = or_none (twice_fault (drivers_of earlier) (driven_in placed)) (many_fault placed.at lines) none in
           record { once = subst AreOnce names (twice.0 both.0); few_signals = (limits.0 both.1).0; few_operands = (limits.0 both.1).1 },
       λ all.
-          ap (λ o. option_or o (many_fault placed.at lines)) (twice.1 (subst AreOnce (sym names) all.once))
-          ∙ limits.1 (all.few_signals, all.few_operands),
+          rw (twice.1 (subst AreOnce (sym names) all.once)) (limits.1 (all.few_signals, all.few_operands)),
     )
 
 -- ---- rows
@@ -109,37 +105,25 @@ placed_push rows row placed says =
     filter_map-append (λ r. result_ok (said_at r)) rows (row ∷ [])
     ∙ ap (λ o. placed_of rows ++ filter_map (λ (x : Result Placed BenchNo). result_ok x) (o ∷ [])) says
 
+placed_append : (rows more : List Row) → lines_at (placed_of (rows ++ more)) ≡ lines_at (placed_of rows) ++ lines_at (placed_of more)
+unfolding placed_of
+placed_append rows more = simp (filter_map-append, map-append) refl
+
 pub rows_push : (rows : List Row) (row : Row) → rows_fault (rows ++ row ∷ []) ≡ option_or (rows_fault rows) (said_fault (placed_of rows) (said_at row))
 unfolding rows_fault
 rows_push rows row = first_push (λ front. row_fault (placed_of front)) rows row
 
--- a row says a line that is fine after these
-record IsSaid (earlier : List Placed) (row : Row) : Type 0 where
-  pub placed : Placed
-  pub says : said_at row ≡ Ok placed
-  pub no_fault : line_fault earlier placed ≡ None
-
-is_said : (earlier : List Placed) (row : Row) → said_fault earlier (said_at row) ≡ None → IsSaid earlier row
-is_said earlier row none = by_said (said_at row) refl none where
-  by_said : (r : Result Placed BenchNo) → said_at row ≡ r → said_fault earlier r ≡ None → IsSaid earlier row
-  by_said (Ok placed) says none = record { placed = placed; says = says; no_fault = none }
-  by_said (Err fault) says none = cc
-
-ok_placed : (row : Row) → IsOk (said row) → (placed : Placed) × (said_at row ≡ Ok placed)
-ok_placed row ok = by_said (said row) refl ok where
-  by_said : (r : Result Line BenchNo) → said row ≡ r → IsOk r → (placed : Placed) × (said_at row ≡ Ok placed)
-  by_said (Ok line) says ok = (record { at = row.at; line = line }, ap (placed_by row.at) says)
-  by_said (Err fault) says ok = cc
-
-placed_ok : (row : Row) (placed : Placed) → said_at row ≡ Ok placed → IsOk (said row)
-placed_ok row placed says = by_said (said row) says where
-  by_said : (r : Result Line BenchNo) → placed_by row.at r ≡ Ok placed → IsOk r
-  by_said (Ok line) says = refl
-  by_said (Err fault) says = cc
+-- a row after rows of fine lines has no fault where it says a line and they are fine with it
+said_none : (rows : List Row) (row : Row) → AreFine (lines_at (placed_of rows))
+    → said_fault (placed_of rows) (said_at row) ≡ None ↔ (IsOk (said_at row) × AreFine (lines_at (placed_of (rows ++ row ∷ []))))
+said_none rows row fine = by_said (said_at row) refl where
+  by_said : (r : Result Placed BenchNo) → said_at row ≡ r → said_fault (placed_of rows) r ≡ None ↔ (IsOk r × AreFine (lines_at (placed_of (rows ++ row ∷ []))))
+  by_said (Ok placed) says = let push = fine_push (placed_of rows) placed fine in rw (placed_push rows row placed says) (λ none. (refl, push.0 none), λ both. push.1 both.1)
+  by_said (Err fault) says = (λ none. cc, λ both. cc both.0)
 
 -- all rows say lines, and the lines are fine
 pub record AreSaid (rows : List Row) : Type 0 where
-  pub lines : All (λ row. IsOk (said row)) rows
+  pub lines : All (λ row. IsOk (said_at row)) rows
   pub fine : AreFine (lines_at (placed_of rows))
 
 said_nothing : AreSaid []
@@ -158,17 +142,10 @@ rows_none rows = by_push (λ rs. rows_fault rs ≡ None ↔ AreSaid rs) more [] 
     λ none.
         let both = or_none _ _ (sym (rows_push rs row) ∙ none) in
         let old = before.0 both.0 in
-        let here = is_said (placed_of rs) row both.1 in
-        record {
-          lines = All-push (λ r. IsOk (said r)) rs row old.lines (placed_ok row here.placed here.says);
-          fine = subst (λ ps. AreFine (lines_at ps)) (sym (placed_push rs row here.placed here.says)) ((fine_push (placed_of rs) here.placed old.fine).0 here.no_fault);
-        },
+        let here = (said_none rs row old.fine).0 both.1 in
+        record { lines = All-push (λ r. IsOk (said_at r)) rs row old.lines here.0; fine = here.1 },
     λ all.
-        let here = ok_placed row (All-head (λ r. IsOk (said r)) row [] (all_back (λ r. IsOk (said r)) rs (row ∷ []) all.lines)) in
-        let fine = subst (λ ps. AreFine (lines_at ps)) (placed_push rs row here.0 here.1) all.fine in
-        let old = fine_front (lines_at (placed_of rs)) (here.0.line ∷ []) (subst AreFine (map-append (λ (p : Placed). p.line) (placed_of rs) (here.0 ∷ [])) fine) in
-        rows_push rs row
-        ∙ ap (λ o. option_or o (said_fault (placed_of rs) (said_at row))) (before.1 (record { lines = all_front (λ r. IsOk (said r)) rs (row ∷ []) all.lines; fine = old }))
-        ∙ ap (said_fault (placed_of rs)) here.1
-        ∙ (fine_push (placed_of rs) here.0 old).1 fine,
+        let ok = All-head (λ r. IsOk (said_at r)) row [] (all_back (λ r. IsOk (said_at r)) rs (row ∷ []) all.lines) in
+        let old = fine_front (lines_at (placed_of rs)) (lines_at (placed_of (row ∷ []))) (subst AreFine (placed_append rs (row ∷ [])) all.fine) in
+        rw (rows_push rs row, before.1 (record { lines = all_front (λ r. IsOk (said_at r)) rs (row ∷ []) all.lines; fine = old })) ((said_none rs row old).1 (ok, all.fine)),
   )

@@ -53,9 +53,7 @@ memory_text net memory = simp (names_onto, append_assoc) refl
 input_text : (name : List ℕ) (driver : Driver) → lines_text (input_lines (record { name = name; driver = driver })) ≡ input_line (record { name = name; driver = driver })
 unfolding input_line
 input_text name Input = simp (append_assoc, append-nil) refl
-input_text name (Gate kind ops) = refl
-input_text name (Dff op) = refl
-input_text name (BlockBit m bit) = refl
+input_text name driver = refl
 
 -- the line of a memory given by its number
 memory_text_at : (net : Netlist) (m : ℕ) (o : Option Block) → slice_get net.blocks m ≡ o → lines_text (memory_lines net (slice_get net.blocks m)) ≡ memory_line_at net m

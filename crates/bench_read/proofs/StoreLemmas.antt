@@ -1,7 +1,5 @@
 -- Drafts that store lines, and store one more.
 use Rattle.std.proofs.Common.{◌≡◌, ℕ, ◌+◌, List, [], ◌∷◌, ◌++◌, append-nil, length, length-append, map, Some, None, Result, Ok, Err, sym, ap, ◌∙◌, refl, arith}
-use Rattle.std.specs.List.{flat_map}
-use Rattle.std.specs.Option.{option_or}
 use Rattle.std.proofs.lemmas.List.{length-map, map_push}
 use Rattle.std.proofs.lemmas.List.Concat.{flat_map-append}
 use Rattle.std.proofs.lemmas.List.Sums.{sum_by_push}
@@ -10,7 +8,7 @@ use Rattle.bench_read.specs.declared.refusal.BenchNo.{BenchNo}
 use Rattle.bench_read.specs.declared.draft.Act.{Act}
 use Rattle.bench_read.specs.declared.draft.DrivenName.{DrivenName}
 use Rattle.bench_read.specs.declared.draft.Draft.{Draft}
-use Rattle.bench_read.specs.Lines.{Line, Input, Output, Gate, Register, Memory, driven, used, operands, all_driven, all_used, operand_count}
+use Rattle.bench_read.specs.Lines.{Line, Memory, used, operands, all_driven, all_used, operand_count}
 use Rattle.bench_read.specs.Saying.{said}
 use Rattle.bench_read.specs.Placed.{Placed, lines_at, placed_by, said_at, placed_of, each_named, drivers_of}
 use Rattle.bench_read.specs.Drafting.{used_names}
@@ -30,11 +28,8 @@ stores_none draft statements drivers uses names none = record {
 }
 
 operands_same : (line : Line) → operands_by (act_of line) ≡ length (operands line)
-operands_same (Input name) = refl
-operands_same (Output name) = refl
-operands_same (Gate name kind uses) = refl
-operands_same (Register name use_) = refl
 operands_same (Memory outs enable address words) = omega (arith, length-append address words)
+operands_same line = refl
 
 -- as many drivers as driven names
 signals_same : (drivers : List DrivenName) (lines : List Placed) → map named_by drivers ≡ drivers_of lines → length drivers ≡ length (all_driven (lines_at lines))
@@ -47,10 +42,7 @@ module _ (lines : List Placed) (placed : Placed) where
 
   used_push : all_used (lines_at (lines ++ placed ∷ [])) ≡ all_used (lines_at lines) ++ used placed.line
   unfolding all_used
-  used_push =
-      ap (flat_map used) lines_push
-      ∙ flat_map-append used (lines_at lines) (placed.line ∷ [])
-      ∙ ap (λ us. flat_map used (lines_at lines) ++ us) (append-nil (used placed.line))
+  used_push = rw lines_push (simp (flat_map-append, append-nil) refl)
 
   operands_push : operand_count (lines_at (lines ++ placed ∷ [])) ≡ operand_count (lines_at lines) + length (operands placed.line)
   unfolding operand_count
@@ -60,8 +52,7 @@ module _ (lines : List Placed) (placed : Placed) where
 
 module _ (rows : List Row) (row : Row) (none : rows_fault rows ≡ None) where
   fault_here : (r : Result Placed BenchNo) → said_at row ≡ r → rows_fault (rows ++ row ∷ []) ≡ said_fault (placed_of rows) r
-  fault_here r says =
-      rows_push rows row ∙ ap (λ o. option_or o (said_fault (placed_of rows) (said_at row))) none ∙ ap (said_fault (placed_of rows)) says
+  fault_here r says = rw (rows_push rows row, none, says) refl
 
   -- the row says nothing
   pub row_refused : (e : BenchNo) → said row ≡ Err e → rows_fault (rows ++ row ∷ []) ≡ Some e
@@ -79,52 +70,30 @@ module _ (rows : List Row) (row : Row) (none : rows_fault rows ≡ None) where
     pub twice_here : (e : BenchNo) → twice_fault (map named_by old.drivers) (each_named row.at driven_names) ≡ Some e → rows_fault (rows ++ row ∷ []) ≡ Some e
     unfolding placed line_fault
     twice_here e twice =
-        fault_here (Ok placed) says
-        ∙ ap (λ o. option_or o (many_fault row.at (lines_at (placed_of rows ++ placed ∷ []))))
-        (ap (λ ds. twice_fault ds (each_named row.at (driven found.line))) (sym stores.drivers)
-        ∙ ap (λ ns. twice_fault (map named_by old.drivers) (each_named row.at ns)) (sym found.drives)
-        ∙ twice)
+        fault_here (Ok placed) says ∙ rw (sym stores.drivers, sym found.drives, twice) refl
 
     module _ (new : Draft) (once : twice_fault (map named_by old.drivers) (each_named row.at driven_names) ≡ None) (grown : map named_by new.drivers ≡ map named_by old.drivers ++ each_named row.at driven_names) (counted : new.operands ≡ old.operands + operands_by which) where
       drivers_now : map named_by new.drivers ≡ drivers_of (placed_of rows ++ placed ∷ [])
       unfolding placed
-      drivers_now =
-          grown
-          ∙ ap (λ ds. ds ++ each_named row.at driven_names) stores.drivers
-          ∙ ap (λ ns. drivers_of (placed_of rows) ++ each_named row.at ns) found.drives
-          ∙ sym (drivers_push (placed_of rows) placed)
+      drivers_now = rw (grown, stores.drivers, found.drives, drivers_push (placed_of rows) placed) refl
 
       operands_now : new.operands ≡ operand_count (lines_at (placed_of rows ++ placed ∷ []))
       unfolding placed
-      operands_now =
-          counted
-          ∙ ap (λ n. n + operands_by which) stores.operands
-          ∙ ap (λ a. operand_count (lines_at (placed_of rows)) + operands_by a) found.does
-          ∙ ap (λ n. operand_count (lines_at (placed_of rows)) + n) (operands_same found.line)
-          ∙ sym (operands_push (placed_of rows) placed)
+      operands_now = rw (counted, stores.operands, found.does, operands_same found.line, operands_push (placed_of rows) placed) refl
 
       -- there may be too many
       pub limits_here : rows_fault (rows ++ row ∷ []) ≡ limit_fault row.at (length new.drivers) new.operands
       unfolding placed line_fault many_fault
       limits_here =
           fault_here (Ok placed) says
-          ∙ ap (λ o. option_or o (many_fault row.at (lines_at (placed_of rows ++ placed ∷ []))))
-          (ap (λ ds. twice_fault ds (each_named row.at (driven found.line))) (sym stores.drivers)
-          ∙ ap (λ ns. twice_fault (map named_by old.drivers) (each_named row.at ns)) (sym found.drives)
-          ∙ once)
-          ∙ ap (λ n. limit_fault row.at n (operand_count (lines_at (placed_of rows ++ placed ∷ [])))) (sym (signals_same new.drivers _ drivers_now))
-          ∙ ap (limit_fault row.at (length new.drivers)) (sym operands_now)
+          ∙ rw (sym stores.drivers, sym found.drives, once, sym (signals_same new.drivers _ drivers_now), sym operands_now) refl
 
       pub stores_more : new.statements ≡ old.statements ++ record { act = which; at = row.at } ∷ [] → used_names new ≡ new_uses → new.names ≡ names_by new.drivers → Stores new (placed_of (rows ++ row ∷ []))
       unfolding placed
       stores_more pushed uses names = rw (placed_push rows row placed says) (record {
-        statements =
-            pushed
-            ∙ ap (λ ss. ss ++ record { act = which; at = row.at } ∷ []) stores.statements
-            ∙ ap (λ a. map statement_of (placed_of rows) ++ record { act = a; at = row.at } ∷ []) found.does
-            ∙ sym (map_push statement_of (placed_of rows) placed);
+        statements = rw (pushed, stores.statements, found.does, map_push statement_of (placed_of rows) placed) refl;
         drivers = drivers_now;
-        uses = uses ∙ found.uses ∙ ap (λ us. us ++ used found.line) stores.uses ∙ sym (used_push (placed_of rows) placed);
+        uses = rw (uses, found.uses, stores.uses, used_push (placed_of rows) placed) refl;
         names = names;
         operands = operands_now;
       })

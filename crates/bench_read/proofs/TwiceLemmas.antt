@@ -96,16 +96,12 @@ module _ {X : Type 0} (before : List Named) (named : X → Named) (xs : List X) 
   grown = ap (map named) (take_more xs i d within) ∙ map_push named (take i xs) (get_or xs i d)
 
   fault_here : twice_fault before (map named (take (i + 1) xs)) ≡ repeat_fault (map named_by drivers) here
-  fault_here =
-      ap (twice_fault before) grown
-      ∙ twice_push before (map named (take i xs)) here
-      ∙ ap (λ o. option_or o (repeat_fault (before ++ map named (take i xs)) here)) so.no_fault
-      ∙ ap (λ ds. repeat_fault ds here) (sym so.so_far)
+  fault_here = rw (grown, twice_push before (map named (take i xs)) here, so.no_fault, so.so_far) refl
 
   pub drive_more : (new_names : List (List ℕ)) (new_drivers : List DrivenName) → repeat_fault (map named_by drivers) here ≡ None → new_names ≡ names_by new_drivers → map named_by new_drivers ≡ map named_by drivers ++ here ∷ [] → HasDriven before named xs (i + 1) new_names new_drivers
   drive_more new_names new_drivers none same pushed = record {
     same = same;
-    so_far = pushed ∙ ap (λ ds. ds ++ here ∷ []) so.so_far ∙ append_assoc before (map named (take i xs)) (here ∷ []) ∙ ap (λ ns. before ++ ns) (sym grown);
+    so_far = rw (pushed, so.so_far, grown) (append_assoc before (map named (take i xs)) (here ∷ []));
     no_fault = fault_here ∙ none;
   }
 

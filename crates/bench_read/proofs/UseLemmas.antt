@@ -1,9 +1,8 @@
 -- The names that the lines of a draft drive and use.
 use Rattle.std.proofs.Common.{◌≡◌, ℕ, ◌+◌, ◌-◌, ◌<◌, ◌≤◌, true, false, not, List, [], ◌∷◌, length, take, get_or, Some, None, sym, ap, ◌∙◌, refl, inl, inr, arith, bytes_eq, length-append}
-use Rattle.std.specs.Prelude.{nat_lt}
 use Rattle.std.specs.List.{list_any}
 use Rattle.std.specs.Option.{option_map}
-use Rattle.std.proofs.lemmas.Bool.{cond-true, cond-false, cases_lt, lt-ltb, le-ltb}
+use Rattle.std.proofs.lemmas.Bool.{cases_lt, lt-ltb, le-ltb}
 use Rattle.std.proofs.lemmas.List.{take_all, length-map, get_or-map, get_or_append_left, get_or-append_right}
 use Rattle.list_laws.proofs.Tests.{find_first, find_none, none_more, list_any-map}
 use Rattle.bench_read.specs.declared.refusal.BenchNo.{BenchNo}
@@ -28,13 +27,9 @@ use_at (placed ∷ lines) i d within =
     let same = length-map (used placed.line) (λ name. named placed.at name) in
     elim (cases_lt i n) [
       | inl below ↦
-          get_or_append_left (used_in placed) (uses_of lines) d i (omega arith)
-          ∙ get_or-map (named placed.at) (used placed.line) i [] d below
-          ∙ (λ k. named (sym (cond-true {A = ℕ} (nat_lt i n) placed.at (line_of_use lines (i - n)) (lt-ltb i n below)) k) (sym (get_or_append_left (used placed.line) (all_used (lines_at lines)) [] i below) k))
+          rw (get_or_append_left (used_in placed) (uses_of lines) d i (omega arith), get_or-map (named placed.at) (used placed.line) i [] d below, lt-ltb i n below, get_or_append_left (used placed.line) (all_used (lines_at lines)) [] i below) refl
       | inr past ↦
-          get_or-append_right (used_in placed) (uses_of lines) n i d same past
-          ∙ use_at lines (i - n) d (omega (arith, length-append (used_in placed) (uses_of lines), same))
-          ∙ (λ k. named (sym (cond-false {A = ℕ} (nat_lt i n) placed.at (line_of_use lines (i - n)) (le-ltb i n past)) k) (sym (get_or-append_right (used placed.line) (all_used (lines_at lines)) n i [] refl past) k))
+          rw (get_or-append_right (used_in placed) (uses_of lines) n i d same past, use_at lines (i - n) d (omega (arith, length-append (used_in placed) (uses_of lines), same)), le-ltb i n past, get_or-append_right (used placed.line) (all_used (lines_at lines)) n i [] refl past) refl
     ]
   where
     named : ℕ → List ℕ → Named
@@ -52,23 +47,15 @@ module _ (lines : List Placed) (names uses : List (List ℕ)) (drives : all_driv
     nothing = record { at = 0; name = [] }
 
     here : get_or (uses_of lines) i nothing ≡ record { at = line_of_use lines i; name = name }
-    here =
-        use_at lines i nothing (omega (arith, within, amount))
-        ∙ ap (λ n. record { at = line_of_use lines i; name = n }) (ap (λ us. get_or us i []) used_are ∙ is)
+    here = rw (use_at lines i nothing (omega (arith, within, amount)), used_are, is) refl
 
     undriven_here : is_undriven (drivers_of lines) (get_or (uses_of lines) i nothing) ≡ not (list_any (bytes_eq name) names)
-    undriven_here =
-        ap (is_undriven (drivers_of lines)) here
-        ∙ ap not (sym (list_any-map (bytes_eq name) (λ (n : Named). n.name) (drivers_of lines)) ∙ ap (list_any (bytes_eq name)) (names_driven lines ∙ drives))
+    undriven_here = rw (here, sym (list_any-map (bytes_eq name) (λ (n : Named). n.name) (drivers_of lines)), names_driven lines, drives) refl
 
     pub first_undriven : {place : ℕ} {e : BenchNo} → list_any (bytes_eq name) names ≡ false → place ≡ i → e ≡ Undriven name (line_of_use lines place) → uses_fault lines ≡ Some e
     unfolding uses_fault
     first_undriven none at refused =
-        ap (option_map (λ (n : Named). Undriven n.name n.at))
-        (find_first (is_undriven (drivers_of lines)) (uses_of lines) i nothing (omega (arith, within, amount)) before (undriven_here ∙ ap not none)
-        ∙ ap Some here)
-        ∙ ap (λ n. Some (Undriven name (line_of_use lines n))) (sym at)
-        ∙ ap Some (sym refused)
+        rw (find_first (is_undriven (drivers_of lines)) (uses_of lines) i nothing (omega (arith, within, amount)) before (undriven_here ∙ ap not none), here, refused, at) refl
 
     pub driven_more : list_any (bytes_eq name) names ≡ true → list_any (is_undriven (drivers_of lines)) (take (i + 1) (uses_of lines)) ≡ false
     driven_more some = none_more (is_undriven (drivers_of lines)) (uses_of lines) i nothing (omega (arith, within, amount)) before (undriven_here ∙ ap not some)

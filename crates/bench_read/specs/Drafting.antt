@@ -1,12 +1,11 @@
 -- What the draft of a text is, and what stands in it.
-use Rattle.std.specs.Prelude.{◌≡◌, ℕ, ◌≤◌, List, map, length, All, IsOk}
+use Rattle.std.specs.Prelude.{◌≡◌, ℕ, ◌≤◌, List, map, length}
 use Rattle.limits.specs.declared.TheConstants.{MAX_OPERANDS, MAX_SIGNALS}
 use Rattle.bench_line.specs.Rows.{Row}
 use Rattle.bench_read.specs.declared.draft.Draft.{Draft}
 use Rattle.bench_read.specs.Drafts.{lines_by}
 use Rattle.bench_read.specs.Lines.{Line, all_driven, all_used, operand_count}
 use Rattle.bench_read.specs.Placed.{Placed, lines_at, placed_of}
-use Rattle.bench_read.specs.Saying.{said}
 use Rattle.bench_read.specs.Reads.{AreOnce}
 
 -- the names that the lines of a draft drive, and those that they use
@@ -33,8 +32,7 @@ pub record IsWhole (draft : Draft) : Type 0 where
   pub few_signals : length (driven_names draft) ≤ MAX_SIGNALS
   pub few_operands : operand_count (lines_in draft) ≤ MAX_OPERANDS
 
--- the draft has what these rows say, one line each
+-- the draft has the lines that these rows say
 pub record IsDraftOf (rows : List Row) (draft : Draft) : Type 0 where
   pub whole : IsWhole draft
-  pub lines : All (λ row. IsOk (said row)) rows
   pub said : placed_in draft ≡ placed_of rows

@@ -1,8 +1,8 @@
 -- How a draft stores lines.
-use Rattle.std.specs.Prelude.{◌≡◌, ℕ, ◌+◌, List, [], ◌∷◌, ◌++◌, map, filter, length, ◌==◌, codes, Option, Some, None, Result, Ok, Err, if◌then◌else◌}
+use Rattle.std.specs.Prelude.{◌≡◌, ℕ, ◌+◌, List, [], ◌∷◌, ◌++◌, map, length, ◌==◌, codes, Option, Some, None, Result, Ok, Err, if◌then◌else◌}
 use Rattle.logic_four.specs.declared.Kind.{Kind}
 use Rattle.logic_four.specs.Kinds.{kind_of, allows_operands}
-use Rattle.bench_line.specs.Rows.{Row, row_of, is_some}
+use Rattle.bench_line.specs.Rows.{Row}
 use Rattle.bench_line.specs.declared.form.Head.{Head}
 use Rattle.bench_line.specs.declared.form.Head.TheVariants as head
 use Rattle.bench_read.specs.declared.refusal.BenchNo.{BenchNo}

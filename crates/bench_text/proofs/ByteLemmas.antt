@@ -40,12 +40,3 @@ pub record NameByte (byte : ℕ) : Type 0 where
 pub named_byte : (byte : ℕ) → is_name_byte byte ≡ true → NameByte byte
 unfolding is_name_byte is_mark sign_of is_visible
 named_byte byte named = record { visible = grind (arith, named); no_sign = grind (arith, named); no_hash = grind (arith, named); no_feed = grind (arith, named) }
-
--- a visible byte that is neither a mark nor `#` is of a name
-pub name_byte_unsigned : (byte : ℕ) → is_visible byte ≡ true → sign_of byte ≡ None → is_hash byte ≡ false → is_name_byte byte ≡ true
-unfolding is_name_byte is_mark sign_of
-name_byte_unsigned byte visible sign hash = grind (arith, visible, sign, hash)
-
-pub sign_visible : (byte : ℕ) (mark : Mark) → sign_of byte ≡ Some mark → is_visible byte ≡ true
-unfolding sign_of is_visible
-sign_visible byte mark sign = grind (arith, sign)

@@ -1,6 +1,5 @@
 -- What a scan finds at a place is the token of the place, or its fault.
-use Rattle.std.proofs.Common.{◌≡◌, ℕ, zero, suc, ◌+◌, ◌-◌, ◌<◌, ◌≤◌, true, false, List, length, drop, get_or, None, Some, sym, ap, ◌∙◌, subst, refl, arith, inl, inr}
-use Rattle.std.proofs.lemmas.Bool.{cases_lt, both_ways}
+use Rattle.std.proofs.Common.{◌≡◌, ℕ, zero, suc, ◌+◌, ◌-◌, ◌<◌, ◌≤◌, true, false, List, length, drop, get_or, None, Some, sym, ◌∙◌, refl, arith, add-zero}
 use Rattle.std.proofs.lemmas.List.{length-drop, get_or-drop}
 use Rattle.std.proofs.lemmas.List.Sums.{prefix_len-le-length, prefix_len_passes, prefix_len_stops}
 use Rattle.text_lines.specs.Names.{is_name_byte}
@@ -11,34 +10,23 @@ use Rattle.bench_text.specs.declared.token.TextNo.{TextNo}
 use Rattle.bench_text.specs.declared.class.Class.{Class}
 use Rattle.bench_text.specs.declared.class.Class.TheVariants.{Name}
 use Rattle.bench_text.specs.Bytes.{class_of}
-use Rattle.bench_text.specs.Tokens.{begins_name, name_length, token_at, is_bad, fault_at, first_fault}
-use Rattle.bench_text.specs.Scans.{HasPassed, follows_comment, scan_at, scan_after, fault_of_name, fault_by, token_by}
-use Rattle.bench_text.proofs.ByteLemmas.{IsOfClass, tests_in, class_is, named_byte}
+use Rattle.bench_text.specs.Tokens.{follows_name, begins_name, name_length, token_at, is_bad, fault_at, first_fault}
+use Rattle.bench_text.specs.Scans.{HasPassed, follows_comment, scan_at, scan_after, fault_by, token_by}
+use Rattle.bench_text.proofs.ByteLemmas.{IsOfClass, class_is, named_byte}
 
 pub is_comment_step : (text : List ℕ) (i : ℕ) → is_comment text i ≡ stays_in_comment (follows_comment text i) (get_or text i 0)
 unfolding is_comment
 is_comment_step text zero = refl
 is_comment_step text (suc i) = refl
 
--- what a scan finds is the fault of the place
-pub fault_is : (text : List ℕ) (i : ℕ) (scan : Scan) → scan ≡ scan_at text i → fault_by text i scan (class_of (get_or text i 0)) ≡ fault_at text i
-unfolding fault_at is_bad begins_name is_line_end stays_in_comment
-fault_is text i scan at = rw at (by_class (class_of (get_or text i 0)) (class_is (get_or text i 0))) where
-  by_class : (class : Class) → IsOfClass (get_or text i 0) class → fault_by text i (scan_at text i) class ≡ fault_at text i
-  by_class Name is = grind (arith, is, is_comment_step text i)
-  by_class class is = grind (arith, is, is_comment_step text i)
-
-pub name_fault_is : (text : List ℕ) (i n : ℕ) (scan : Scan) → scan ≡ scan_at text i → class_of (get_or text i 0) ≡ Name → n ≡ name_length text i
-    → fault_of_name scan n ≡ fault_at text i
-name_fault_is text i n scan at named is = rw is (ap (fault_by text i scan) (sym named) ∙ fault_is text i scan at)
-
--- and its token
-pub token_is : (text : List ℕ) (i : ℕ) (scan : Scan) → scan ≡ scan_at text i → token_by text i scan (class_of (get_or text i 0)) ≡ token_at text i
-unfolding token_at begins_name stays_in_comment
-token_is text i scan at = rw at (by_class (class_of (get_or text i 0)) (class_is (get_or text i 0))) where
-  by_class : (class : Class) → IsOfClass (get_or text i 0) class → token_by text i (scan_at text i) class ≡ token_at text i
-  by_class Name is = grind (arith, is, is_comment_step text i)
-  by_class class is = grind (arith, is, is_comment_step text i)
+-- what a scan finds is the fault of the place, and its token
+pub place_is : (text : List ℕ) (i : ℕ) (scan : Scan) → scan ≡ scan_at text i
+    → (fault_by text i scan (class_of (get_or text i 0)) ≡ fault_at text i) × (token_by text i scan (class_of (get_or text i 0)) ≡ token_at text i)
+unfolding fault_at is_bad begins_name is_line_end stays_in_comment token_at
+place_is text i scan at = rw at (by_class (class_of (get_or text i 0)) (class_is (get_or text i 0))) where
+  by_class : (class : Class) → IsOfClass (get_or text i 0) class → (fault_by text i (scan_at text i) class ≡ fault_at text i) × (token_by text i (scan_at text i) class ≡ token_at text i)
+  by_class Name is = (grind (arith, is, is_comment_step text i), grind (arith, is, is_comment_step text i))
+  by_class class is = (grind (arith, is, is_comment_step text i), grind (arith, is, is_comment_step text i))
 
 -- ---- a scan, one place on
 
@@ -47,43 +35,33 @@ unfolding line_at column_at
 after_is text i scan at = let next : i + 1 ≡ suc i = omega arith in rw (at, next, sym (is_comment_step text i)) refl
 
 -- lines and columns are no more than places
-pub line_at-le : (text : List ℕ) (i : ℕ) → line_at text i ≤ i + 1
-unfolding line_at
-line_at-le text zero = omega arith
-line_at-le text (suc i) = grind (arith, line_at-le text i)
-
-pub column_at-le : (text : List ℕ) (i : ℕ) → column_at text i ≤ i + 1
-unfolding column_at
-column_at-le text zero = omega arith
-column_at-le text (suc i) = grind (arith, column_at-le text i)
+pub place_below : (text : List ℕ) (i : ℕ) → (line_at text i ≤ i + 1) × (column_at text i ≤ i + 1)
+unfolding line_at column_at
+place_below text zero = (omega arith, omega arith)
+place_below text (suc i) = let before = place_below text i in (grind (arith, before.0), grind (arith, before.1))
 
 -- ---- runs of name bytes
 
 module _ (text : List ℕ) (i : ℕ) where
-  pub run_passes : (k : ℕ) → i ≤ k → k < i + name_length text i → is_name_byte (get_or text k 0) ≡ true
+  pub run_front : (k d : ℕ) → k < name_length text i → is_name_byte (get_or (drop i text) k d) ≡ true
   unfolding name_length
+  run_front k d below = prefix_len_passes is_name_byte (drop i text) k d below
+
+  pub run_passes : (k : ℕ) → i ≤ k → k < i + name_length text i → is_name_byte (get_or text k 0) ≡ true
   run_passes k from below =
       let place : i + (k - i) ≡ k = omega arith in
-      subst (λ j. is_name_byte (get_or text j 0) ≡ true) place (rw get_or-drop at (prefix_len_passes is_name_byte (drop i text) (k - i) 0 (omega arith)))
+      rw (get_or-drop, place) at (run_front (k - i) 0 (omega arith))
 
   pub run_within : i ≤ length text → i + name_length text i ≤ length text
   unfolding name_length
   run_within within = omega (arith, prefix_len-le-length is_name_byte (drop i text), length-drop i text)
 
-  pub run_stops : i + name_length text i < length text → is_name_byte (get_or text (i + name_length text i) 0) ≡ false
+  pub run_stops : (k : ℕ) → k ≡ i + name_length text i → k < length text → is_name_byte (get_or text k 0) ≡ false
   unfolding name_length
-  run_stops within = rw get_or-drop at (prefix_len_stops is_name_byte (drop i text) 0 (omega (arith, length-drop i text)))
+  run_stops k is within = rw is (rw get_or-drop at (prefix_len_stops is_name_byte (drop i text) 0 (omega (arith, length-drop i text))))
 
   pub run_begins : i < length text → is_name_byte (get_or text i 0) ≡ true → 0 < name_length text i
-  run_begins within named = grind (arith, run_stops, named)
-
-  pub run_goes_on : (k : ℕ) → k < i + name_length text i → suc k < length text → is_name_byte (get_or text (suc k) 0) ≡ true → suc k < i + name_length text i
-  run_goes_on k below within named = elim (cases_lt (suc k) (i + name_length text i)) [
-    | inl inside ↦ inside
-    | inr past ↦
-        let end : i + name_length text i ≡ suc k = omega arith in
-        absurd (both_ways (is_name_byte (get_or text (suc k) 0)) (rw end at (run_stops (omega arith))) named)
-  ]
+  run_begins within named = grind (arith, run_stops i, within, named)
 
 -- a place inside a name has no fault and begins no token
 pub inside : (text : List ℕ) (i k : ℕ) → i < k → k < i + name_length text i → (fault_at text k ≡ None) × (token_at text k ≡ None)
@@ -94,55 +72,44 @@ inside text i (suc k) after before =
     let follows = run_passes text i k (omega arith) (omega arith) in
     (grind (arith, here.visible, follows), grind (arith, here.no_sign, follows))
 
--- a scan, one byte of a name on
-after_named : (scan : Scan) (byte : ℕ) → is_name_byte byte ≡ true
-    → scan_after scan byte ≡ record { line = scan.line; column = scan.column + 1; in_comment = scan.in_comment; in_name = true }
-unfolding stays_in_comment
-after_named scan byte named =
-    let here = named_byte byte named in
-    grind (arith, named, here.no_feed, here.no_hash)
-
 -- where a scan stands inside a name, or behind it
-scan_behind : (text : List ℕ) (i n : ℕ) → 0 < n → n ≤ name_length text i
-    → scan_at text (i + n) ≡ record { line = line_at text i; column = column_at text i + n; in_comment = follows_comment text i; in_name = true }
-scan_behind text i zero some most = absurd (omega arith)
-scan_behind text i (suc zero) some most =
-    sym (after_is text i (scan_at text i) refl) ∙ after_named (scan_at text i) (get_or text i 0) (run_passes text i i (omega arith) (omega arith))
-scan_behind text i (suc (suc k)) some most =
-    let place : i + suc (suc k) ≡ i + suc k + 1 = omega arith in
-    let column : column_at text i + suc (suc k) ≡ column_at text i + suc k + 1 = omega arith in
-    rw (place, column)
-    (sym (after_is text (i + suc k) (scan_at text (i + suc k)) refl)
-    ∙ after_named (scan_at text (i + suc k)) (get_or text (i + suc k) 0) (run_passes text i (i + suc k) (omega arith) (omega arith))
-    ∙ ap (λ s. record { line = s.line; column = s.column + 1; in_comment = s.in_comment; in_name = true }) (scan_behind text i (suc k) (omega arith) (omega arith)))
+pub scan_behind : (text : List ℕ) (i k : ℕ) → k ≤ name_length text i
+    → scan_at text (i + k) ≡ record { line = line_at text i; column = column_at text i + k; in_comment = follows_comment text i; in_name = follows_name text (i + k) }
+unfolding line_at column_at stays_in_comment
+scan_behind text i zero most = simp add-zero
+scan_behind text i (suc k) most =
+    let next : i + suc k ≡ suc (i + k) = omega arith in
+    let column : column_at text i + suc k ≡ column_at text i + k + 1 = omega arith in
+    let named = run_passes text i (i + k) (omega arith) (omega arith) in
+    let byte = named_byte (get_or text (i + k) 0) named in
+    rw (next, column) (grind (arith, is_comment_step text (i + k), scan_behind text i k (omega arith), byte))
 
 -- ---- a scan
 
 -- one byte
-pub passed_one : (text : List ℕ) (i : ℕ) (scan next : Scan) → scan ≡ scan_at text i → i < length text → fault_at text i ≡ None
+pub passed_one : {text : List ℕ} {i : ℕ} {scan next : Scan} → scan ≡ scan_at text i → i < length text → fault_at text i ≡ None
     → next ≡ scan_after scan (get_or text i 0) → HasPassed text i 1 next
-passed_one text i scan next at within none after = record {
+passed_one {text} {i} {scan} at within none after = record {
   some = omega arith;
   within = omega arith;
-  no_fault = λ k least most. let here : i ≡ k = omega arith in subst (λ j. fault_at text j ≡ None) here none;
+  no_fault = λ k least most. let here : k ≡ i = omega arith in rw here none;
   next_is = after ∙ after_is text i scan at;
 }
 
 -- a name
-pub passed_name : (text : List ℕ) (i n : ℕ) (scan : Scan) → scan ≡ scan_at text i → i < length text → class_of (get_or text i 0) ≡ Name
+pub passed_name : {text : List ℕ} {i n : ℕ} {scan : Scan} → scan ≡ scan_at text i → i < length text → class_of (get_or text i 0) ≡ Name
     → n ≡ name_length text i → fault_at text i ≡ None
     → HasPassed text i n (record { line = scan.line; column = scan.column + n; in_comment = scan.in_comment; in_name = true })
-passed_name text i n scan at within class is none = record {
-  some = omega (arith, is, run_begins text i within named);
-  within = omega (arith, is, run_within text i (omega arith));
-  no_fault = λ k least most. elim (cases_lt i k) [
-    | inl inner ↦ (inside text i k inner (omega (arith, is))).0
-    | inr first ↦ let here : i ≡ k = omega arith in subst (λ j. fault_at text j ≡ None) here none
-  ];
-  next_is = rw (at, scan_behind text i n (omega (arith, is, run_begins text i within named)) (omega (arith, is))) refl;
-} where
-  named : is_name_byte (get_or text i 0) ≡ true
-  named = (class_is (get_or text i 0)).name ∙ ap (λ (c : Class). (tests_in c).1) class
+passed_name {text} {i} {n} at within class is none =
+    let some : 0 < n = omega (arith, run_begins text i within (rw class at (class_is (get_or text i 0)).name)) in
+    let last : i + n ≡ suc (i + n - 1) = omega arith in
+    let follows : follows_name text (i + n) ≡ true = rw last (run_passes text i (i + n - 1) (omega arith) (omega arith)) in
+    record {
+      some = some;
+      within = omega (arith, run_within text i (omega arith));
+      no_fault = λ k least most. grind (arith, none, inside text i k);
+      next_is = rw (at, scan_behind text i n (omega arith), follows) refl;
+    }
 
 -- the scan stands before place i, and no place before has a fault
 pub record HasScanned (text : List ℕ) (i : ℕ) (scan : Scan) : Type 0 where
@@ -153,19 +120,10 @@ pub scanned_none : (text : List ℕ) → HasScanned text 0 (record { line = 1; c
 unfolding line_at column_at
 scanned_none text = record { at = refl; no_fault = λ k below. absurd (omega arith) }
 
-pub scanned_more : (text : List ℕ) (i n : ℕ) (scan next : Scan) → HasScanned text i scan → HasPassed text i n next → HasScanned text (i + n) next
-scanned_more text i n scan next before passed = record {
-  at = passed.next_is;
-  no_fault = λ k below. elim (cases_lt k i) [
-    | inl earlier ↦ before.no_fault k earlier
-    | inr least ↦ passed.no_fault k least below
-  ];
-}
-
 -- the fault of the place where the scan stands
-pub scanned_fault : (text : List ℕ) (i : ℕ) (scan : Scan) (fault : TextNo) → HasScanned text i scan → i < length text → fault_at text i ≡ Some fault → first_fault text ≡ Some fault
-scanned_fault text i scan fault before within here = first_some (fault_at text) i (length text) fault within (first_none (fault_at text) i before.no_fault) here
+pub scanned_fault : {text : List ℕ} {i : ℕ} {scan : Scan} {fault : TextNo} → HasScanned text i scan → i < length text → fault_at text i ≡ Some fault → first_fault text ≡ Some fault
+scanned_fault {text} {i} {fault = fault} before within here = first_some (fault_at text) i (length text) fault within (first_none (fault_at text) i before.no_fault) here
 
 -- all places have passed
-pub scanned_all : (text : List ℕ) (i : ℕ) (scan : Scan) → HasScanned text i scan → length text ≤ i → first_fault text ≡ None
-scanned_all text i scan before past = first_none (fault_at text) (length text) (λ k below. before.no_fault k (omega arith))
+pub scanned_all : {text : List ℕ} {i : ℕ} {scan : Scan} → HasScanned text i scan → length text ≤ i → first_fault text ≡ None
+scanned_all {text} before past = first_none (fault_at text) (length text) (λ k below. before.no_fault k (omega arith))

@@ -1,6 +1,5 @@
 use Rattle.std.proofs.Common.{map, ap, ◌∙◌, ◌∷◌, [], arith}
 use Rattle.std.proofs.lemmas.List.{map-append}
-use Rattle.bench_line.specs.Rows.{pieces_of}
 use Rattle.bench_line.proofs.PartLemmas.{pieces_fit}
 use Rattle.bench_line.proofs.SpellingLemmas.{taken_first, taken_one}
 use Rattle.bench_line.proofs.taking.take_names.Goals as goal
@@ -8,13 +7,10 @@ use Rattle.bench_line.proofs.taking.take_names.Goals as goal
 pub commas-init : goal.commas-init
 commas-init c =
     let grown = ap (map (λ name. name.now)) c.in_ok-push.ensures.ok ∙ map-append (λ name. name.now) c.args.names.now (c.in-Some.first ∷ []) in
-    rw grown (taken_first (pieces_of c.args.part.now) (pieces_of c.in-Some.behind_first.now) c.in-Some.first.now (map (λ name. name.now) c.args.names.now) c.in-Some.ensures)
+    rw grown (taken_first c.in-Some.ensures)
 
 pub overflow_add-count : goal.overflow_add-count
 overflow_add-count c = omega (arith, c.commas.invariant.fits, pieces_fit c.args.part.now)
 
 pub commas-preserved : goal.commas-preserved
-commas-preserved c =
-    taken_one (pieces_of c.args.part.now) (pieces_of c.commas.rest.now) (pieces_of c.in-Some-take_sign.behind.now) (pieces_of c.in-Some-take_word.after.now) c.in-Some-take_word.name.now
-    (map (λ name. name.now) c.args.names.now) (map (λ name. name.now) c.commas.names) (map (λ name. name.now) c.add_name.new.names) c.commas.count
-    c.commas.invariant c.in-Some-take_sign.ensures c.in-Some-take_word.ensures c.in_ok-add_name.ensures
+commas-preserved c = taken_one c.commas.invariant c.in-Some-take_sign.ensures c.in-Some-take_word.ensures c.in_ok-add_name.ensures

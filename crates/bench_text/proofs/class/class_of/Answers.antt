@@ -1,4 +1,4 @@
-use Rattle.std.proofs.Common.{◌≡◌, ℕ, ◌<◌, map, get_or, refl, ap, ◌∙◌, arith}
+use Rattle.std.proofs.Common.{◌≡◌, map, get_or, refl, ap, ◌∙◌, arith}
 use Rattle.std.proofs.lemmas.List.FromFn.{get_or-map-range_with_len}
 use Rattle.std.specs.List.{range_with_len}
 use Rattle.text_lines.specs.Bytes.{is_visible, is_blank}
@@ -13,8 +13,6 @@ table_is : CLASSES ≡ map class_of (range_with_len 0 256)
 unfolding class_of sign_of is_name_byte is_visible is_blank is_mark
 table_is = refl
 
-read : (byte : ℕ) → byte < 256 → get_or CLASSES byte Name ≡ class_of byte
-read byte below = ap (λ classes. get_or classes byte Name) table_is ∙ get_or-map-range_with_len class_of 0 256 byte byte Name below (omega arith)
-
 pub returns : goal.returns
-returns c = rw c.from.ensures (read c.args.byte (omega arith))
+returns c =
+    rw c.from.ensures (ap (λ classes. get_or classes c.args.byte Name) table_is ∙ get_or-map-range_with_len class_of 0 256 c.args.byte c.args.byte Name (omega arith) (omega arith))

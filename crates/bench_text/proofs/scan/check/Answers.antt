@@ -1,14 +1,11 @@
-use Rattle.bench_text.proofs.PlaceLemmas.{scanned_none, scanned_more, scanned_fault, scanned_all}
+use Rattle.bench_text.proofs.PlaceLemmas.{scanned_none, scanned_fault, scanned_all}
 use Rattle.bench_text.proofs.scan.check.Goals as goal
 
 pub places-init : goal.places-init
 places-init c = scanned_none c.args.bytes.now
 
-pub places-preserved : goal.places-preserved
-places-preserved c = scanned_more c.args.bytes.now c.places.i c.in-Ok.len c.places.scan c.in-Ok.next c.places.invariant c.in-Ok.ensures
-
 pub returns-in-Err : goal.returns-in-Err
-returns-in-Err c = scanned_fault c.args.bytes.now c.places.i c.places.scan c.in-Err.no c.places.invariant c.places-test.true c.in-Err.ensures
+returns-in-Err c = scanned_fault c.places.invariant c.places-test.true c.in-Err.ensures
 
 pub returns : goal.returns
-returns c = scanned_all c.args.bytes.now c.places.i c.places.scan c.places.invariant c.places-test.false
+returns c = scanned_all c.places.invariant c.places-test.false

@@ -1,6 +1,6 @@
 use Rattle.std.proofs.Common.{◌≡◌, refl, ap, inr, ◌∙◌, length, arith, add-one}
 use Rattle.bench_text.specs.Tokens.{tokens_before}
-use Rattle.bench_text.proofs.PlaceLemmas.{token_is, scanned_none, scanned_more, scanned_fault, scanned_all}
+use Rattle.bench_text.proofs.PlaceLemmas.{place_is, scanned_none, scanned_fault, scanned_all}
 use Rattle.bench_text.proofs.SpanLemmas.{list_read}
 use Rattle.bench_text.proofs.scan.tokens.Goals as goal
 
@@ -11,26 +11,21 @@ loop-i-init c = record { scanned = scanned_none c.args.bytes.now; so_far = c.new
 pub loop-i-preserved : goal.loop-i-preserved
 unfolding tokens_before
 loop-i-preserved c = record {
-  scanned = scanned_more c.args.bytes.now c.loop-i.i 1 c.loop-i.scan c.in-Ok.next c.loop-i.invariant.scanned c.in-Ok.ensures;
+  scanned = record { at = c.in-Ok.ensures.next_is; no_fault = λ k below. grind (arith, c.in-Ok.ensures.no_fault k, c.loop-i.invariant.scanned.no_fault k) };
   so_far =
       c.in_ok-add_token-in-Ok.ensures
-      ∙ rw (c.loop-i.invariant.so_far, c.token_at_place.ensures, token_is c.args.bytes.now c.loop-i.i c.loop-i.scan c.loop-i.invariant.scanned.at, add-one) refl;
+      ∙ rw (c.loop-i.invariant.so_far, c.token_at_place.ensures, (place_is c.args.bytes.now c.loop-i.i c.loop-i.scan c.loop-i.invariant.scanned.at).1, add-one) refl;
 }
 
 pub returns-in-Err-clause-answers : goal.returns-in-Err-clause-answers
-returns-in-Err-clause-answers c =
-    inr (scanned_fault c.args.bytes.now c.loop-i.i c.loop-i.scan c.in-Err.no c.loop-i.invariant.scanned c.loop-i-test.true c.in-Err.ensures)
+returns-in-Err-clause-answers c = inr (scanned_fault c.loop-i.invariant.scanned c.loop-i-test.true c.in-Err.ensures)
 
-pub returns-clause-answers : goal.returns-clause-answers
-returns-clause-answers c =
+pub returns : goal.returns
+returns c =
     let all : c.loop-i.i ≡ length c.args.bytes.now = omega arith in
-    (scanned_all c.args.bytes.now c.loop-i.i c.loop-i.scan c.loop-i.invariant.scanned c.loop-i-test.false, c.loop-i.invariant.so_far ∙ ap (tokens_before c.args.bytes.now) all)
-
-pub returns-clause-spans : goal.returns-clause-spans
-returns-clause-spans c = (list_read c.args.bytes.now c.loop-i.i c.loop-i.list c.loop-i.invariant.scanned.no_fault c.loop-i.invariant.so_far (omega arith)).spans
-
-pub returns-clause-order : goal.returns-clause-order
-returns-clause-order c = (list_read c.args.bytes.now c.loop-i.i c.loop-i.list c.loop-i.invariant.scanned.no_fault c.loop-i.invariant.so_far (omega arith)).order
-
-pub returns-clause-covers : goal.returns-clause-covers
-returns-clause-covers c = (list_read c.args.bytes.now c.loop-i.i c.loop-i.list c.loop-i.invariant.scanned.no_fault c.loop-i.invariant.so_far (omega arith)).covers
+    let list = list_read c.args.bytes.now c.loop-i.i c.loop-i.list c.loop-i.invariant.scanned.no_fault c.loop-i.invariant.so_far all in record {
+      answers = (scanned_all c.loop-i.invariant.scanned c.loop-i-test.false, c.loop-i.invariant.so_far ∙ ap (tokens_before c.args.bytes.now) all);
+      spans = list.spans;
+      order = list.order;
+      covers = list.covers;
+    }
