@@ -27,7 +27,7 @@ use Rattle.bench_read.specs.Netlists.{number}
 use Rattle.bench_read.specs.Reads.{AreOnce, AreAmong, Reads}
 use Rattle.bench_read.specs.Written.{lines_of, names_at, input_line, memory_line, driver_line}
 use Rattle.bench_read.proofs.CanonicalNet.{number_is, names_are, netlist_is}
-use Rattle.bench_read.proofs.CanonicalRows.{whole_bytes, whole_rows, IsWhole}
+use Rattle.bench_read.proofs.CanonicalRows.{whole_read, IsWhole}
 use Rattle.bench_read.proofs.NameLemmas.{same_name}
 use Rattle.bench_read.proofs.MadeLemmas.{names_from, made_operands, signal_operands}
 use Rattle.bench_read.proofs.NumberLemmas.{either_order, names_length}
@@ -145,8 +145,8 @@ module _ (net : Netlist) (valid : IsValid net) where
   pub reads : Reads (canonical_text net) net
   reads = record {
     lines = lines;
-    bytes = ap byte_fault (canonical_is_written net) ∙ whole_bytes lines (lines_whole net valid IsName valid.names);
-    said = subst (λ text. Say (rows_of text) lines) (sym (canonical_is_written net)) (whole_rows lines (lines_whole net valid IsName valid.names));
+    bytes = read.0;
+    said = read.1;
     sound = record {
       once = λ name. omega (arith, count_is name, names_once net.signals valid.distinct name);
       few_signals = omega (arith, names_length lines, ap length (names_are net valid), length-map net.signals (λ (x : Signal). x.name), valid.few_signals);
@@ -160,4 +160,6 @@ module _ (net : Netlist) (valid : IsValid net) where
       driven = all_among;
     };
     netlist = sym (netlist_is net valid);
-  }
+  } where
+    read : (byte_fault (canonical_text net) ≡ None) × Say (rows_of (canonical_text net)) lines
+    read = subst (λ text. (byte_fault text ≡ None) × Say (rows_of text) lines) (sym (canonical_is_written net)) (whole_read lines (lines_whole net valid IsName valid.names))

@@ -1,5 +1,5 @@
 -- The memories of a valid netlist: which signals they drive, and which of them stand before a signal.
-use Rattle.std.proofs.Common.{◌≡◌, ℕ, zero, suc, ◌+◌, ◌-◌, ◌<◌, ◌≤◌, [], length, drop, get_or, slice_get, Option, Some, None, sym, ap, ◌∙◌, subst, inl, inr, refl, arith, ⊎_elim}
+use Rattle.std.proofs.Common.{◌≡◌, ℕ, suc, ◌+◌, ◌-◌, ◌<◌, ◌≤◌, [], length, drop, get_or, slice_get, Option, Some, None, sym, ap, ◌∙◌, subst, inl, inr, refl, arith, ⊎_elim}
 use Rattle.std.specs.List.{All}
 use Rattle.std.specs.Option.{option_map}
 use Rattle.std.proofs.lemmas.List.{drop_all}
@@ -96,12 +96,15 @@ module _ (net : Netlist) (valid : IsValid net) where
   next_memory s m n k cut bit =
       let b = bit_of n k s bit in
       ⊎_elim (λ less. absurd (omega (arith, cut.before n b.memory b.at less, b.place, b.within)))
-      (λ past. (⊎_elim
-      (λ more.
-      let one = get_or net.blocks m b.memory in
-      let at : slice_get net.blocks m ≡ Some one = slice_get-get_or net.blocks m b.memory (omega (arith, slice_get_within net.blocks n b.memory b.at)) in
-      absurd (omega (arith, cut.after m one at (omega arith), valid.memories_in_order m n one b.memory at b.at more, cut.after n b.memory b.at past, b.place)))
-      (λ no_more. omega arith) (cases_lt m n), omega (arith, cut.after n b.memory b.at past, b.place)))
+      (λ past. (
+        ⊎_elim
+            (λ more.
+            let one = get_or net.blocks m b.memory in
+            let at : slice_get net.blocks m ≡ Some one = slice_get-get_or net.blocks m b.memory (omega (arith, slice_get_within net.blocks n b.memory b.at)) in
+            absurd (omega (arith, cut.after m one at (omega arith), valid.memories_in_order m n one b.memory at b.at more, cut.after n b.memory b.at past, b.place)))
+            (λ no_more. omega arith) (cases_lt m n),
+        omega (arith, cut.after n b.memory b.at past, b.place),
+      ))
       (cases_lt n m)
 
   -- with it that memory stands before
