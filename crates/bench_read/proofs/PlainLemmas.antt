@@ -1,5 +1,5 @@
 -- No fault of a text is want of memory.
-use Rattle.std.proofs.Common.{◌≡◌, ℕ, Bool, cond, List, [], ◌∷◌, ◌++◌, length, take, slice_get, Option, Some, None, Result, Ok, Err, ap, ◌∙◌, ⊎_elim, arith}
+use Rattle.std.proofs.Common.{◌≡◌, ℕ, cond, List, [], ◌∷◌, ◌++◌, length, take, slice_get, Option, Some, None, Result, Ok, Err, ap, ◌∙◌, ⊎_elim, arith}
 use Rattle.std.specs.Prelude.{IfErr, codes}
 use Rattle.std.specs.List.{find}
 use Rattle.std.specs.Option.{option_map, option_or}
@@ -15,7 +15,6 @@ use Rattle.bench_line.specs.Rows.{Row, rows_of}
 use Rattle.bench_line.specs.Decoding.{form_of}
 use Rattle.bench_read.specs.declared.refusal.BenchNo.{BenchNo}
 use Rattle.bench_read.specs.declared.refusal.BenchNo.TheVariants as bench_no
-use Rattle.bench_read.specs.declared.refusal.Many.TheVariants.{Signals, Operands}
 use Rattle.bench_read.specs.Lines.{Line}
 use Rattle.bench_read.specs.Saying.{is_word, said_by_register, said_by_gate, said_by, said}
 use Rattle.bench_read.specs.Placed.{Placed, Named, lines_at, placed_by, placed_of, driven_in, drivers_of, uses_of}
@@ -39,9 +38,6 @@ mapped_plain f plain (Some x) e = plain x cc
 first_plain : (fault : ℕ → Option BenchNo) (n : ℕ) → ((i : ℕ) → IsPlain (fault i)) → IsPlain (first fault n)
 first_plain fault n plain e = let found = place_of_first fault n (bench_no.Text text_no.Memory) e in plain found.0 found.3
 
-limit_plain : (at : ℕ) (b c : Bool) → IsPlain (cond b (Some (bench_no.TooMany at Signals)) (cond c (Some (bench_no.TooMany at Operands)) None))
-limit_plain at b c e = grind (arith, e)
-
 repeat_plain : (drivers : List Named) (o : Option Named) → IsPlain (option_repeat_fault drivers o)
 unfolding repeat_fault
 repeat_plain drivers None = λ e. cc
@@ -52,7 +48,7 @@ unfolding line_fault twice_fault many_fault
 line_plain earlier placed =
     either_plain (twice_fault (drivers_of earlier) (driven_in placed)) (many_fault placed.at (lines_at (earlier ++ placed ∷ [])))
     (first_plain _ (length (driven_in placed)) (λ i. repeat_plain (drivers_of earlier ++ take i (driven_in placed)) (slice_get (driven_in placed) i)))
-    (limit_plain placed.at _ _)
+    (λ e. grind (arith, e))
 
 -- the fault of a form comes from its word or its numbers
 form_plain : (at : ℕ) (o : Option Form) → IsPlainErr (said_by at o)
