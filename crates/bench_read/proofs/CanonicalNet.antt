@@ -1,8 +1,8 @@
 -- The lines of a valid netlist make that netlist.
-use Rattle.std.proofs.Common.{◌≡◌, ℕ, zero, suc, ◌+◌, false, List, [], ◌∷◌, ◌++◌, append_assoc, drop, length, map, get_or, slice_get, Some, sym, ap, ◌∙◌, subst, refl, arith, add-one, bytes_eq, ◌-◌, ◌≤◌, not}
+use Rattle.std.proofs.Common.{◌≡◌, inl, inr, ℕ, zero, suc, ◌+◌, ◌<◌, false, List, [], ◌∷◌, ◌++◌, append_assoc, drop, length, map, get_or, slice_get, Some, sym, ap, ◌∙◌, refl, arith, bytes_eq, ◌-◌, ◌≤◌, not}
 use Rattle.std.specs.List.{All, filter, flat_map, enumerate_from, range_with_len}
-use Rattle.std.proofs.lemmas.Bool.{false_from_ne_true, ne_eqb}
-use Rattle.std.proofs.lemmas.List.{length-map, length-drop, drop_all, get_or-map}
+use Rattle.std.proofs.lemmas.Bool.{cases_lt, false_from_ne_true, ne_eqb}
+use Rattle.std.proofs.lemmas.List.{length-map, drop_all, get_or-map}
 use Rattle.std.proofs.lemmas.List.Sums.{position_or_len_is}
 use Rattle.std.proofs.lemmas.List.Elements.{All-head, All-tail}
 use Rattle.std.proofs.lemmas.Option.{slice_get-get_or}
@@ -22,13 +22,6 @@ use Rattle.bench_read.proofs.NameLemmas.{same_name, same_bytes}
 use Rattle.bench_read.proofs.MadeLemmas.{names_from, made_names}
 
 -- ---- numbers
-
--- what is left of a list, and its first member
-front_of : {X : Type 0} (xs : List X) (s : ℕ) (y : X) (ys : List X) → drop s xs ≡ y ∷ ys → (slice_get xs s ≡ Some y) × (drop (suc s) xs ≡ ys)
-front_of [] zero y ys e = cc
-front_of [] (suc s) y ys e = cc
-front_of (x ∷ xs) zero y ys e = (cc, cc)
-front_of (x ∷ xs) (suc s) y ys e = front_of xs s y ys e
 
 -- the signals that are no inputs
 abbrev others_of : List Signal → List Signal
@@ -64,7 +57,7 @@ module _ (net : Netlist) (valid : IsValid net) where
   numbers_are [] all = refl
   numbers_are (s ∷ ops) all = λ k. number_is s (All-head (IsSignal net) s ops all) k ∷ numbers_are ops (All-tail (IsSignal net) s ops all) k
 
-  -- ---- the lines of the signals from one on
+  -- ---- the lines of signals
 
   abbrev drivers_on : List Signal → List Line
   drivers_on signals = flat_map (driver_line net) signals
@@ -77,31 +70,30 @@ module _ (net : Netlist) (valid : IsValid net) where
     pub blocks : flat_map (memories_by names) lines ≡ drop m net.blocks
 
   -- the signals of the outputs of a memory behind the first, which have no lines
-  bits : (m : ℕ) (memory : Block) → slice_get net.blocks m ≡ Some memory → (n k s : ℕ) (xs : List Signal) → 1 ≤ k → k + n ≡ length memory.word → s ≡ first_of memory + k → drop s net.signals ≡ xs
-      → (map (λ p. record { name = p.1; driver = driver.BlockBit m p.0 }) (enumerate_from k (names_at net (range_with_len s n))) ++ others_of (drop n xs) ≡ others_of xs) × (drivers_on (drop n xs) ≡ drivers_on xs)
-  bits m memory at zero k s xs some count place rest = (refl, refl)
-  bits m memory at (suc n) k s xs some count place rest =
+  bits : (m : ℕ) (memory : Block) → slice_get net.blocks m ≡ Some memory → (n k s t : ℕ) → 1 ≤ k → k + n ≡ length memory.word → s ≡ first_of memory + k → t ≡ s + n
+      → (map (λ p. record { name = p.1; driver = driver.BlockBit m p.0 }) (enumerate_from k (names_at net (range_with_len s n))) ++ others_of (drop t net.signals) ≡ others_of (drop s net.signals)) × (drivers_on (drop t net.signals) ≡ drivers_on (drop s net.signals))
+  bits m memory at zero k s t some count place end = let same : t ≡ s = omega arith in rw same (refl, refl)
+  bits m memory at (suc n) k s t some count place end =
       let found = bit_signal net valid m k s (bit_at net valid m memory k s at (omega (arith, count)) place) in
-      let here : xs ≡ found.0 ∷ drop (s + 1) net.signals = sym rest ∙ drop_here net.signals s found.0 found.1 in
-      let later = bits m memory at n (k + 1) (s + 1) (drop (s + 1) net.signals) (omega arith) (omega (arith, count)) (omega (arith, place)) refl in
-      rw (here, found.2, ne_eqb k 0 (λ e. omega (arith, some, e))) (λ i. record { name = name_is net s found.0 found.1 i; driver = sym found.2 i } ∷ later.0 i, later.1)
+      let later = bits m memory at n (k + 1) (s + 1) t (omega arith) (omega (arith, count)) (omega (arith, place)) (omega (arith, end)) in
+      rw (drop_here net.signals s found.0 found.1, found.2, ne_eqb k 0 (λ e. omega (arith, some, e))) (λ i. record { name = name_is net s found.0 found.1 i; driver = sym found.2 i } ∷ later.0 i, later.1)
 
   -- a signal before others
-  step : (s m : ℕ) (name : List ℕ) (drive : Driver) (xs : List Signal) → slice_get net.signals s ≡ Some (record { name = name; driver = drive }) → drop (suc s) net.signals ≡ xs → IsCut net s m
-      → ((n k r : ℕ) → r ≡ suc s + k → IsCut net r n → AreMade n (drivers_on (drop k xs)) (others_of (drop k xs)))
-      → AreMade m (drivers_on (record { name = name; driver = drive } ∷ xs)) (others_of (record { name = name; driver = drive } ∷ xs))
+  step : (s m : ℕ) (name : List ℕ) (drive : Driver) → slice_get net.signals s ≡ Some (record { name = name; driver = drive }) → IsCut net s m
+      → ((j t : ℕ) → s < t → IsCut net t j → AreMade j (drivers_on (drop t net.signals)) (others_of (drop t net.signals)))
+      → AreMade m (drivers_on (record { name = name; driver = drive } ∷ drop (s + 1) net.signals)) (others_of (record { name = name; driver = drive } ∷ drop (s + 1) net.signals))
   unfolding other_signals
-  step s m name driver.Input xs at rest cut next = next m 0 (suc s) (omega arith) (cut_same net valid s m _ at (λ n k e. cc) cut)
-  step s m name (driver.Gate kind ops) xs at rest cut next =
-      let made = next m 0 (suc s) (omega arith) (cut_same net valid s m _ at (λ n k e. cc) cut) in
+  step s m name driver.Input at cut next = next m (s + 1) (omega arith) (cut_same net valid s m _ at (λ n k e. cc) cut)
+  step s m name (driver.Gate kind ops) at cut next =
+      let made = next m (s + 1) (omega arith) (cut_same net valid s m _ at (λ n k e. cc) cut) in
       let none : m + 0 ≡ m = omega arith in
       record { inputs = made.inputs; others = rw none (λ k. record { name = name; driver = driver.Gate kind (numbers_are ops (valid.drivers s _ at).1 k) } ∷ made.others k); printed = made.printed; blocks = made.blocks }
-  step s m name (driver.Dff op) xs at rest cut next =
-      let made = next m 0 (suc s) (omega arith) (cut_same net valid s m _ at (λ n k e. cc) cut) in
+  step s m name (driver.Dff op) at cut next =
+      let made = next m (s + 1) (omega arith) (cut_same net valid s m _ at (λ n k e. cc) cut) in
       let none : m + 0 ≡ m = omega arith in
       record { inputs = made.inputs; others = rw none (λ k. record { name = name; driver = driver.Dff (number_is op (valid.drivers s _ at) k) } ∷ made.others k); printed = made.printed; blocks = made.blocks }
-  step s m name (driver.BlockBit n (suc bit)) xs at rest cut next = absurd (omega (arith, (next_memory net valid s m n (suc bit) cut (valid.drivers s _ at)).1))
-  step s m name (driver.BlockBit n zero) xs at rest cut next =
+  step s m name (driver.BlockBit n (suc bit)) at cut next = absurd (omega (arith, (next_memory net valid s m n (suc bit) cut (valid.drivers s _ at)).1))
+  step s m name (driver.BlockBit n zero) at cut next =
       let b = valid.drivers s (record { name = name; driver = driver.BlockBit n zero }) at in
       let place = bit_place net valid n 0 s b in
       let same = sym (next_memory net valid s m n 0 cut b).0 in
@@ -110,13 +102,12 @@ module _ (net : Netlist) (valid : IsValid net) where
       let w = length b.0.word - 1 in
       let first : first_of b.0 ≡ s = omega (arith, place.0) in
       let count : length b.0.word ≡ suc w = omega (arith, place.1) in
-      let made = next (m + 1) w (s + length b.0.word) (omega (arith, count)) (cut_more net valid s m b.0 cut at_m first) in
-      let tail = bits m b.0 at_m w 1 (s + 1) xs (omega arith) (omega (arith, count)) (omega (arith, first)) (ap (λ j. drop j net.signals) (add-one s) ∙ rest) in
+      let made = next (m + 1) (s + length b.0.word) (omega (arith, count)) (cut_more net valid s m b.0 cut at_m first) in
+      let tail = bits m b.0 at_m w 1 (s + 1) (s + length b.0.word) (omega arith) (omega (arith, count)) (omega (arith, first)) (omega (arith, count)) in
       rw (b.1, sym tail.1) (record {
         inputs = made.inputs;
-        others = ap (λ os. bit_signals m (names_at net os) ++ other_signals names (m + 1) (drivers_on (drop w xs))) (is.outs ∙ (λ k. range_with_len (first k) (count k)))
-            ∙ ap (λ later. bit_signals m (names_at net (range_with_len s (suc w))) ++ later) made.others
-            ∙ (λ k. record { name = name_is net s _ at k; driver = driver.BlockBit (same k) 0 } ∷ tail.0 k);
+        others = ap (λ os. bit_signals m (names_at net os) ++ other_signals names (m + 1) (drivers_on (drop (s + length b.0.word) net.signals))) (is.outs ∙ (λ k. range_with_len (first k) (count k)))
+            ∙ (λ k. record { name = name_is net s _ at k; driver = driver.BlockBit (same k) 0 } ∷ (ap (λ later. map (λ p. record { name = p.1; driver = driver.BlockBit m p.0 }) (enumerate_from 1 (names_at net (range_with_len (s + 1) w))) ++ later) made.others ∙ tail.0) k);
         printed = made.printed;
         blocks = (λ k. record {
           we = number_is b.0.we is.enable k;
@@ -126,16 +117,21 @@ module _ (net : Netlist) (valid : IsValid net) where
         } ∷ made.blocks k) ∙ sym (drop_here net.blocks m b.0 at_m);
       })
 
-  -- the signals behind so many
-  made_from : (s m k r : ℕ) (xs : List Signal) → drop s net.signals ≡ xs → r ≡ s + k → IsCut net r m → AreMade m (drivers_on (drop k xs)) (others_of (drop k xs))
+  -- behind all signals
+  ended : (s m : ℕ) → IsCut net s m → length net.signals ≤ s → AreMade m (drivers_on (drop s net.signals)) (others_of (drop s net.signals))
   unfolding other_signals
-  made_from s m k r [] rest place cut =
-      rw (drop_all {X = Signal} k [] (omega arith)) (record { inputs = refl; others = refl; printed = refl; blocks = sym (all_cut net valid r m cut (omega (arith, place, length-drop s net.signals, ap length rest))) })
-  made_from s m (suc k) r (x ∷ xs) rest place cut = made_from (suc s) m k r xs (front_of net.signals s x xs rest).1 (omega (arith, place)) cut
-  made_from s m zero r (x ∷ xs) rest place cut =
-      let front = front_of net.signals s x xs rest in
-      let here : r ≡ s = omega (arith, place) in
-      step s m x.name x.driver xs front.0 front.1 (subst (λ t. IsCut net t m) here cut) (λ n k t is next. made_from (suc s) n k t xs front.1 is next)
+  ended s m cut past = rw (drop_all s net.signals past) (record { inputs = refl; others = refl; printed = refl; blocks = sym (all_cut net valid s m cut past) })
+
+  -- the signals from one on, of which there are n at most
+  made_from : (n s m : ℕ) → length net.signals ≤ s + n → IsCut net s m → AreMade m (drivers_on (drop s net.signals)) (others_of (drop s net.signals))
+  made_from zero s m few cut = ended s m cut (omega (arith, few))
+  made_from (suc n) s m few cut = elim (cases_lt s (length net.signals)) [
+    | inl inside ↦
+        let x = get_or net.signals s (record { name = []; driver = driver.Input }) in
+        let at = slice_get-get_or net.signals s (record { name = []; driver = driver.Input }) inside in
+        rw (drop_here net.signals s x at) (step s m x.name x.driver at cut (λ j t later. made_from n t j (omega (arith, few, later))))
+    | inr past ↦ ended s m cut past
+  ]
 
   -- ---- all lines
 
@@ -173,7 +169,7 @@ module _ (net : Netlist) (valid : IsValid net) where
   back : netlist_in (lines_of net) ≡ net
   unfolding lines_of
   back =
-      let made = made_from 0 0 0 0 net.signals refl refl (none_cut net valid) in
+      let made = made_from (length net.signals) 0 0 (omega arith) (none_cut net valid) in
       let drivers = drivers_on net.signals in
       let outputs = map (λ s. Output (name_of net s)) net.printed in
       ap netlist_in (append_assoc (inputs_on net.signals) outputs drivers)

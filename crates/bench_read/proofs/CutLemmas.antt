@@ -1,5 +1,5 @@
 -- The memories of a valid netlist: which signals they drive, and which of them stand before a signal.
-use Rattle.std.proofs.Common.{◌≡◌, ℕ, suc, ◌+◌, ◌-◌, ◌<◌, ◌≤◌, [], length, drop, get_or, slice_get, Some, sym, ap, ◌∙◌, inl, inr, refl, arith, ⊎_elim}
+use Rattle.std.proofs.Common.{◌≡◌, ℕ, ◌+◌, ◌-◌, ◌<◌, ◌≤◌, [], length, drop, get_or, slice_get, Some, sym, ap, ◌∙◌, inl, inr, refl, arith}
 use Rattle.std.specs.List.{All}
 use Rattle.std.proofs.lemmas.List.{drop_all}
 use Rattle.std.proofs.lemmas.Option.{slice_get_within, slice_get-get_or}
@@ -63,7 +63,7 @@ module _ (net : Netlist) (valid : IsValid net) where
   none_cut n k t bit = (λ less. absurd (omega arith), λ past. omega arith)
 
   -- a signal that no memory drives stands in none
-  pub cut_same : (s m : ℕ) (signal : Signal) → slice_get net.signals s ≡ Some signal → ((n k : ℕ) → signal.driver ≡ BlockBit n k → ⊥) → IsCut net s m → IsCut net (suc s) m
+  pub cut_same : (s m : ℕ) (signal : Signal) → slice_get net.signals s ≡ Some signal → ((n k : ℕ) → signal.driver ≡ BlockBit n k → ⊥) → IsCut net s m → IsCut net (s + 1) m
   cut_same s m signal at plain cut n k t bit =
       let other : s ≡ t → ⊥ = λ same. plain n k (bit_driver n k t s signal bit same at) in
       let sides = cut n k t bit in (λ less. omega (arith, sides.0), λ past. omega (arith, sides.1, other))
@@ -83,17 +83,13 @@ module _ (net : Netlist) (valid : IsValid net) where
   pub cut_more : (s m : ℕ) (memory : Block) → IsCut net s m → slice_get net.blocks m ≡ Some memory → first_of memory ≡ s → IsCut net (s + length memory.word) (m + 1)
   cut_more s m memory cut at first n k t bit =
       let sides = cut n k t bit in
-      let place = bit_place n k t bit in
-      let same = λ (e : n ≡ m). one_there net.blocks n m bit.0 memory e bit.1 at in (
-        λ less. ⊎_elim (λ earlier. omega (arith, sides.0))
-            (λ here. let is = same (omega arith) in omega (arith, place, ap first_of is, ap (λ (x : Block). length x.word) is, first)) (cases_lt n m),
-        λ past. ⊎_elim
-            (λ inside.
-            let own = bit_signal m (t - s) t (bit_at m memory (t - s) t at (omega (arith, sides.1)) (omega (arith, sides.1, first))) in
-            let both : BlockBit m (t - s) ≡ BlockBit n k = sym own.2 ∙ bit_driver n k t t own.0 bit refl own.1 in
-            let is : m ≡ n = cc in absurd (omega (arith, is)))
-            (λ outside. outside) (cases_lt t (s + length memory.word)),
-      )
+      let same = λ (e : n ≡ m). one_there net.blocks n m bit.0 memory e bit.1 at in
+      let own = λ (past : s ≤ t) (inside : t < s + length memory.word).
+      let other = bit_signal m (t - s) t (bit_at m memory (t - s) t at (omega arith) (omega (arith, first))) in
+      let both : BlockBit m (t - s) ≡ BlockBit n k = sym other.2 ∙ bit_driver n k t t other.0 bit refl other.1 in
+      let is : m ≡ n = cc in is
+      in
+      (λ less. grind (arith, sides.0, bit_place n k t bit, same, first), λ past. grind (arith, sides.1, own))
 
   -- before the end all memories stand
   pub all_cut : (s m : ℕ) → IsCut net s m → length net.signals ≤ s → drop m net.blocks ≡ []
