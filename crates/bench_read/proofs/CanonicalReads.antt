@@ -1,5 +1,5 @@
 -- The lines of a valid netlist are allowed and sound, so that its canonical text reads as it.
-use Rattle.std.proofs.Common.{◌≡◌, slice_get, ℕ, zero, suc, true, cond, List, [], ◌∷◌, length, Some, refl, sym, ap, ◌∙◌, subst, inl, inr, arith, bytes_eq, false, ◌++◌, map, get_or, Option, None}
+use Rattle.std.proofs.Common.{◌≡◌, slice_get, ℕ, zero, suc, true, cond, List, [], ◌∷◌, length, Some, refl, sym, ap, ◌∙◌, subst, inl, inr, arith, bytes_eq, false, ◌++◌, map, get_or, None}
 use Rattle.std.specs.List.{All, AllByRecursion, count_by, list_any, flat_map}
 use Rattle.std.proofs.lemmas.Bool.{cases_Bool, false_from_ne_true, true_from_ne_false, both_ways, ne_eqb, cond-true, cond-false}
 use Rattle.std.proofs.lemmas.List.{length-map, get_or-map}
@@ -21,10 +21,10 @@ use Rattle.net_defs.specs.Valid.{IsSignal, NamesDiffer, IsValid, IsDrivable}
 use Rattle.net_defs.specs.declared.netlist.Block.{Block}
 use Rattle.net_defs.specs.declared.netlist.Driver.{Driver}
 use Rattle.bench_line.specs.Rows.{rows_of}
-use Rattle.bench_read.specs.Lines.{Line, used, all_driven, all_used, Output}
+use Rattle.bench_read.specs.Lines.{Line, used, all_driven, all_used, Output, Memory}
 use Rattle.bench_read.specs.Saying.{Say}
 use Rattle.bench_read.specs.Reads.{AreOnce, AreAmong, Reads}
-use Rattle.bench_read.specs.Written.{lines_of, names_at, input_line, memory_line, driver_line}
+use Rattle.bench_read.specs.Written.{lines_of, names_at, input_line, driver_line}
 use Rattle.bench_read.proofs.CanonicalNet.{names_are, netlist_is}
 use Rattle.bench_read.proofs.CanonicalRows.{whole_read, IsWhole}
 use Rattle.bench_read.proofs.NameLemmas.{same_name, same_bytes}
@@ -46,19 +46,15 @@ module _ (net : Netlist) (valid : IsValid net) (P : List ℕ → Type 0) (holds 
   one : (name : List ℕ) → P name → All P (name ∷ [])
   one name is = All-cons P name [] is (All-nil P)
 
-  memory_whole : (m : ℕ) (o : Option Block) → slice_get net.blocks m ≡ o → AllByRecursion (IsWhole P) (memory_line net o)
-  memory_whole m None e = tt
-  memory_whole m (Some memory) e =
-      let is = valid.memories m memory e in (
-        record {
-          allowed = simp length-map (grind (arith, is.address_bits, is.word_bits, ap length is.outs ∙ length-range_with_len _ (length memory.word)));
-          driven = names_hold memory.outs (outs_are net m memory is);
-          used =
-              All-cons P (name_of net memory.we) _ (name_holds memory.we is.enable)
-              (All-append P (names_at net memory.address) (names_at net memory.word) (names_hold memory.address is.address) (names_hold memory.word is.word));
-        },
-        tt,
-      )
+  memory_whole : (m : ℕ) (memory : Block) → slice_get net.blocks m ≡ Some memory → IsWhole P (Memory (names_at net memory.outs) (name_of net memory.we) (names_at net memory.address) (names_at net memory.word))
+  memory_whole m memory at =
+      let is = valid.memories m memory at in
+      record {
+        allowed = simp length-map (grind (arith, is.address_bits, is.word_bits, ap length is.outs ∙ length-range_with_len _ (length memory.word)));
+        driven = names_hold memory.outs (outs_are net m memory is);
+        used = All-cons P (name_of net memory.we) _ (name_holds memory.we is.enable)
+            (All-append P (names_at net memory.address) (names_at net memory.word) (names_hold memory.address is.address) (names_hold memory.word is.word));
+      }
 
   -- the line of an input, and that of another signal
   signal_whole : (s : ℕ) (name : List ℕ) (drive : Driver) → P name → IsDrivable net s drive
@@ -67,7 +63,7 @@ module _ (net : Netlist) (valid : IsValid net) (P : List ℕ → Type 0) (holds 
   signal_whole s name (driver.Gate kind ops) named is =
       (tt, (record { allowed = ap (allows_operands kind) (length-map ops (name_of net)) ∙ is.0; driven = one name named; used = names_hold ops is.1 }, tt))
   signal_whole s name (driver.Dff op) named is = (tt, (record { allowed = refl; driven = one name named; used = one (name_of net op) (name_holds op is) }, tt))
-  signal_whole s name (driver.BlockBit m zero) named is = (tt, memory_whole m (slice_get net.blocks m) refl)
+  signal_whole s name (driver.BlockBit m zero) named is = rw is.1 (tt, (memory_whole m is.0 is.1, tt))
   signal_whole s name (driver.BlockBit m (suc bit)) named is = rw (ne_eqb (suc bit) 0 (λ e. omega (arith, e))) (tt, tt)
 
   -- what each signal has

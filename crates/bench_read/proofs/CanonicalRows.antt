@@ -14,13 +14,14 @@ use Rattle.text_lines.specs.Names.{IsName, is_mark, is_name_byte}
 use Rattle.text_lines.specs.Lines.{parts_of}
 use Rattle.bench_text.specs.Tokens.{first_fault as byte_fault}
 use Rattle.bench_text.specs.declared.token.Mark.TheVariants.{Open, Close, Semi, Equals, Left, Right}
+use Rattle.bench_line.specs.Forms.{Form}
+use Rattle.bench_line.specs.Forms as forms
 use Rattle.bench_line.specs.Spelling.{spelled}
 use Rattle.bench_line.specs.Rows.{is_some, rows_in, rows_of}
 use Rattle.bench_read.specs.Lines.{driven, used, Line, Input, Output, Gate, Register, Memory}
 use Rattle.bench_read.specs.Saying.{is_word, said_by_gate, said_by_form, Say, allows_memory}
 use Rattle.bench_read.specs.Written.{some_of, form_by, written_piece, written, text_of_lines}
-use Rattle.bench_read.proofs.PieceLemmas.{AreClean, AreRead, none_read, sign_read, word_read, listed_read}
-use Rattle.bench_read.proofs.TextLemmas.{line_cut, part_plain, no_fault}
+use Rattle.bench_read.proofs.PieceLemmas.{line_cut, part_plain, no_fault, AreClean, AreRead, none_read, sign_read, word_read, listed_read}
 
 -- the numbers of its names are allowed
 abbrev pub is_allowed : Line → Bool
@@ -51,36 +52,28 @@ no_register kind = false_from_ne_true _ (λ same. cc (canonical kind, any_case (
 
 -- ---- lines
 
+port_read : (word name : List ℕ) → IsName word → All IsName (name ∷ []) → AreRead (spelled (forms.Port word name))
+port_read word name is named = word_read word Open is refl (listed_read name [] Close named refl none_read)
+
+gate_read : (name word first : List ℕ) (others : List (List ℕ)) → IsName word → All IsName (name ∷ []) → All IsName (first ∷ others) → AreRead (spelled (forms.Gate name word (some_of (first ∷ others))))
+gate_read name word first others is named uses = listed_read name [] Equals named refl (word_read word Open is refl (listed_read first others Close uses refl none_read))
+
 -- the form of the line is read, and says it
 record IsSaid (line : Line) : Type 0 where
   pub read : AreRead (spelled (form_by line))
-  pub some : (at : ℕ) → is_some (record { at = at; pieces = spelled (form_by line) }) ≡ true
   pub word : (at : ℕ) → said_by_form at (form_by line) ≡ Ok line
 
 line_said : (line : Line) → IsWhole IsName line → IsSaid line
 unfolding is_name_byte is_visible is_mark
-line_said (Input name) is = record {
-  read = word_read (codes "INPUT") Open (record { some = omega arith; short = omega arith; bytes = refl }) refl (listed_read name [] Close is.driven refl none_read);
-  some = λ at. refl;
-  word = λ at. refl;
-}
-line_said (Output name) is = record {
-  read = word_read (codes "OUTPUT") Open (record { some = omega arith; short = omega arith; bytes = refl }) refl (listed_read name [] Close is.used refl none_read);
-  some = λ at. refl;
-  word = λ at. refl;
-}
+line_said (Input name) is = record { read = port_read _ name (record { some = omega arith; short = omega arith; bytes = refl }) is.driven; word = λ at. refl }
+line_said (Output name) is = record { read = port_read _ name (record { some = omega arith; short = omega arith; bytes = refl }) is.used; word = λ at. refl }
 line_said (Gate name kind []) is = absurd (omega (arith, some_operands kind 0 is.allowed))
 line_said (Gate name kind (first ∷ others)) is = record {
-  read = listed_read name [] Equals is.driven refl (word_read (kind_word kind) Open (kind_is kind) refl (listed_read first others Close is.used refl none_read));
-  some = λ at. refl;
+  read = gate_read name (kind_word kind) first others (kind_is kind) is.driven is.used;
   word = λ at. cond-false _ _ _ (no_register kind) ∙ ap (said_by_gate at name (some_of (first ∷ others))) (canonical kind) ∙ cond-true _ _ _ is.allowed;
 }
-line_said (Register name use_) is = record {
-  read = listed_read name [] Equals is.driven refl
-      (word_read (codes "DFF") Open (record { some = omega arith; short = omega arith; bytes = refl }) refl (listed_read use_ [] Close is.used refl none_read));
-  some = λ at. refl;
-  word = λ at. refl;
-}
+line_said (Register name use_) is =
+    record { read = gate_read name _ use_ [] (record { some = omega arith; short = omega arith; bytes = refl }) is.driven is.used; word = λ at. refl }
 line_said (Memory outs enable [] words) is = cc is.allowed
 line_said (Memory outs enable (a ∷ address) []) is = absurd (grind (arith, is.allowed))
 line_said (Memory [] enable (a ∷ address) (w ∷ words)) is = absurd (grind (arith, is.allowed))
@@ -90,9 +83,13 @@ line_said (Memory (o ∷ outs) enable (a ∷ address) (w ∷ words)) is =
     let both = listed_read a address Semi (all_front IsName (a ∷ address) (w ∷ words) uses) refl word in
     let enabled = word_read enable Semi (All-head IsName enable (a ∷ address ++ w ∷ words) is.used) refl both in
     let ram = word_read (codes "RAM") Open (record { some = omega arith; short = omega arith; bytes = refl }) refl enabled in
-    record { read = sign_read Left refl (listed_read o outs Right is.driven refl (sign_read Equals refl ram)); some = λ at. refl; word = λ at. cond-true _ _ _ is.allowed }
+    record { read = sign_read Left refl (listed_read o outs Right is.driven refl (sign_read Equals refl ram)); word = λ at. cond-true _ _ _ is.allowed }
 
 -- ---- texts
+
+form_some : (at : ℕ) (form : Form) → is_some (record { at = at; pieces = spelled form }) ≡ true
+form_some at (forms.Port word name) = refl
+form_some at form = refl
 
 -- their text is clean, and its rows say them
 lines_read : (lines : List Line) → AllByRecursion IsSaid lines → AreClean (text_of_lines lines) × ((n : ℕ) → Say (rows_in (enumerate_from n (parts_of (text_of_lines lines)))) lines)
@@ -104,7 +101,7 @@ lines_read (line ∷ lines) all =
     let is = all.0.read in
     let rest = lines_read lines all.1 in (
       rw (append_assoc bytes (10 ∷ []) text) (is.clean (10 ∷ text) (refl, omega arith, rest.0)),
-      λ n. rw (append_assoc bytes (10 ∷ []) text, line_cut bytes text is.plain, part_plain bytes is.plain, is.read, all.0.some n)
+      λ n. rw (append_assoc bytes (10 ∷ []) text, line_cut bytes text is.plain, part_plain bytes is.plain, is.read, form_some n (form_by line))
           (record { form = form_by line; spelling = refl; word = all.0.word n }, rest.1 (n + 1)),
     )
 

@@ -1,11 +1,11 @@
--- What is written of a spelling is read as the same marks and names, and its bytes have no fault.
-use Rattle.std.proofs.Common.{◌≡◌, ℕ, suc, ◌≤◌, Bool, true, false, not, ◌&&◌, ◌||◌, List, [], ◌∷◌, ◌++◌, length, ap, sym, subst, ◌∙◌, refl, arith, append_assoc}
+-- What is written of a spelling is read as the same marks and names, and a clean text has no fault of its bytes.
+use Rattle.std.proofs.Common.{◌≡◌, ℕ, suc, ◌≤◌, Bool, true, false, not, ◌&&◌, ◌||◌, List, [], ◌∷◌, ◌++◌, length, ap, sym, subst, ◌∙◌, refl, arith, append_assoc, zero, ◌-◌, ◌<◌, take, drop, get_or, take_all, None}
 use Rattle.std.specs.Prelude.{◌==◌}
-use Rattle.std.specs.List.{All, flat_map, list_all, prefix_len}
-use Rattle.std.proofs.lemmas.Bool.{and_parts, or_right}
+use Rattle.std.specs.List.{All, flat_map, list_all, prefix_len, before_first}
+use Rattle.std.proofs.lemmas.Bool.{and_parts, or_right, cond-false}
 use Rattle.std.proofs.lemmas.List.Elements.{All-head, All-tail}
 use Rattle.limits.specs.declared.TheConstants.{MAX_NAME_BYTES}
-use Rattle.text_lines.specs.Bytes.{is_visible, is_hash}
+use Rattle.text_lines.specs.Bytes.{is_visible, is_hash, is_line_feed, is_return, is_blank}
 use Rattle.text_lines.specs.Names.{IsName, is_mark, is_name_byte}
 use Rattle.bench_text.specs.Bytes.{sign_of}
 use Rattle.bench_text.specs.declared.token.Mark.{Mark}
@@ -14,6 +14,11 @@ use Rattle.bench_text.proofs.ByteLemmas.{named_byte}
 use Rattle.bench_line.specs.Spelling.{Piece, Sign, Word, same_mark, listed}
 use Rattle.bench_line.specs.Rows.{goes_on, pieces_of}
 use Rattle.bench_read.specs.Written.{written_mark, written_piece, some_of}
+use Rattle.std.proofs.lemmas.List.Sums.{AllPass-from_list_all, position_or_len_is}
+use Rattle.text_lines.specs.Lines.{lines_of, part_of}
+use Rattle.text_lines.specs.Places.{is_line_end}
+use Rattle.text_lines.proofs.AnswerLemmas.{first_none}
+use Rattle.bench_text.specs.Tokens.{name_length, is_bad, fault_at, first_fault}
 
 -- ---- bytes
 
@@ -51,14 +56,11 @@ sign_read m e is = record { read = ap (λ ps. Sign m ∷ ps) is.read; plain = is
 
 -- ---- names
 
--- no name goes on with these bytes
-abbrev EndName : List ℕ → Type 0
-EndName bytes = (goes_on bytes ≡ false) × (prefix_len is_name_byte bytes ≡ 0)
-
-sign_ends : (m : Mark) (bytes rest : List ℕ) → same_mark m Name ≡ false → EndName (written_mark m ++ bytes) × EndName ((written_mark m ++ bytes) ++ rest)
+-- no name goes on with a mark
+sign_ends : (m : Mark) (bytes rest : List ℕ) → same_mark m Name ≡ false → (goes_on (written_mark m ++ bytes) ≡ false) × (goes_on ((written_mark m ++ bytes) ++ rest) ≡ false)
 unfolding is_name_byte is_visible is_mark
 sign_ends Name bytes rest e = cc
-sign_ends m bytes rest e = ((refl, refl), (refl, refl))
+sign_ends m bytes rest e = (refl, refl)
 
 plain_byte : (byte : ℕ) → is_name_byte byte ≡ true → is_plain byte ≡ true
 unfolding is_name_byte
@@ -71,8 +73,10 @@ record AreNamed (name rest : List ℕ) : Type 0 where
   pub count : prefix_len is_name_byte (name ++ rest) ≡ length name
   pub clean : length name ≤ MAX_NAME_BYTES → AreClean rest → AreClean (name ++ rest)
 
-named : (name rest : List ℕ) → list_all is_name_byte name ≡ true → EndName rest → AreNamed name rest
-named [] rest all ends = record { read = λ byte is. grind (arith, is, (named_byte byte is).no_sign, ends.0); plain = refl; count = ends.1; clean = λ short c. c }
+named : (name rest : List ℕ) → list_all is_name_byte name ≡ true → goes_on rest ≡ false → AreNamed name rest
+named [] [] all ends = record { read = λ byte is. grind (arith, is, (named_byte byte is).no_sign); plain = refl; count = refl; clean = λ short c. c }
+named [] (next ∷ rest) all ends =
+    record { read = λ byte is. grind (arith, is, (named_byte byte is).no_sign, ends); plain = refl; count = cond-false _ _ _ ends; clean = λ short c. c }
 named (byte ∷ name) rest all ends =
     let here = and_parts (is_name_byte byte) (list_all is_name_byte name) all in
     let later = named name rest here.1 ends in
@@ -104,3 +108,39 @@ pub listed_read : {pieces : List Piece} (name : List ℕ) (names : List (List �
 listed_read name [] m all e after = word_read name m (All-head IsName name [] all) e after
 listed_read name (next ∷ names) m all e after =
     word_read name Comma (All-head IsName name (next ∷ names) all) refl (listed_read next names m (All-tail IsName name (next ∷ names) all) e after)
+
+-- ---- texts
+
+-- a plain byte ends no line and begins no comment
+quiet : (byte : ℕ) → is_plain byte ≡ true → (is_line_feed byte ≡ false) × (is_return byte ≡ false) × (is_hash byte ≡ false)
+unfolding is_visible
+quiet byte is = (grind (arith, is), grind (arith, is), grind (arith, is))
+
+-- a line before a text
+pub line_cut : (bytes rest : List ℕ) → list_all is_plain bytes ≡ true → lines_of (bytes ++ 10 ∷ rest) ≡ bytes ∷ lines_of rest
+line_cut [] rest all = refl
+line_cut (byte ∷ bytes) rest all =
+    let here = and_parts (is_plain byte) (list_all is_plain bytes) all in rw ((quiet byte here.0).0, line_cut bytes rest here.1) refl
+
+-- all of such a line is read
+pub part_plain : (bytes : List ℕ) → list_all is_plain bytes ≡ true → part_of bytes ≡ bytes
+unfolding part_of
+part_plain [] all = refl
+part_plain (byte ∷ bytes) all =
+    let line : List ℕ = byte ∷ bytes in
+    let calm = λ (k : ℕ) (within : k < length line). quiet _ (AllPass-from_list_all is_plain line all k 0 within) in
+    let whole = position_or_len_is is_hash line (length line) 0 (omega arith) (λ k within. (calm k within).2) (λ past. absurd (omega arith)) in
+    ap (before_first is_hash) (cond-false _ _ _ (calm (length line - 1) (omega arith)).1) ∙ ap (λ n. take n line) whole ∙ take_all (length line) line (omega arith)
+
+-- ---- faults
+
+-- a place of a clean text
+clean_at : (text : List ℕ) (i : ℕ) → i < length text → AreClean text → ((get_or text i 0 == 10 || is_plain (get_or text i 0)) ≡ true) × (prefix_len is_name_byte (drop i text) ≤ MAX_NAME_BYTES)
+clean_at [] i within clean = absurd (omega arith)
+clean_at (byte ∷ text) zero within clean = (clean.0, clean.1)
+clean_at (byte ∷ text) (suc i) within clean = clean_at text i (omega arith) clean.2
+
+-- a clean text has no fault
+pub no_fault : (text : List ℕ) → AreClean text → first_fault text ≡ None
+unfolding fault_at name_length is_bad is_blank is_line_end
+no_fault text clean = first_none (fault_at text) (length text) (λ i within. let at = clean_at text i within clean in grind (arith, at.0, at.1))
