@@ -17,7 +17,7 @@ use Rattle.net_defs.specs.Valid.{IsSignal, IsValid, InputsLead, is_input}
 use Rattle.bench_read.specs.Lines.{Line, Output}
 use Rattle.bench_read.specs.Netlists.{input_names, names_of, number, numbers, input_signal, bit_signals, other_signals, printed_names, memories_by, netlist_of}
 use Rattle.bench_read.specs.Written.{names_at, input_line, driver_line, lines_of}
-use Rattle.bench_read.proofs.CutLemmas.{name_is, outs_are, first_of, bit_at, bit_place, bit_signal, IsCut, none_cut, cut_same, next_memory, cut_more, all_cut}
+use Rattle.bench_read.proofs.CutLemmas.{name_is, outs_are, first_of, bit_at, bit_place, IsCut, none_cut, cut_same, next_memory, cut_more, all_cut}
 use Rattle.bench_read.proofs.NameLemmas.{same_name, same_bytes}
 use Rattle.bench_read.proofs.MadeLemmas.{names_from, made_names}
 
@@ -74,9 +74,9 @@ module _ (net : Netlist) (valid : IsValid net) where
       → (map (λ p. record { name = p.1; driver = driver.BlockBit m p.0 }) (enumerate_from k (names_at net (range_with_len s n))) ++ others_of (drop t net.signals) ≡ others_of (drop s net.signals)) × (drivers_on (drop t net.signals) ≡ drivers_on (drop s net.signals))
   bits m memory at zero k s t some count place end = let same : t ≡ s = omega arith in rw same (refl, refl)
   bits m memory at (suc n) k s t some count place end =
-      let found = bit_signal net valid m k s (bit_at net valid m memory k s at (omega (arith, count)) place) in
+      let found = (valid.memories m memory at).driven k s (bit_at net valid m memory k s at (omega (arith, count)) place) in
       let later = bits m memory at n (k + 1) (s + 1) t (omega arith) (omega (arith, count)) (omega (arith, place)) (omega (arith, end)) in
-      rw (drop_here net.signals s found.0 found.1, found.2, ne_eqb k 0 (λ e. omega (arith, some, e))) (λ i. record { name = name_is net s found.0 found.1 i; driver = sym found.2 i } ∷ later.0 i, later.1)
+      rw (drop_here net.signals s found.0 found.1, found.2, ne_eqb k 0 (λ e. omega (arith, some, e))) (λ i. record { name = name_is net s found.0 found.1 i; driver = driver.BlockBit m k } ∷ later.0 i, later.1)
 
   -- a signal before others
   step : (s m : ℕ) (name : List ℕ) (drive : Driver) → slice_get net.signals s ≡ Some (record { name = name; driver = drive }) → IsCut net s m

@@ -1,9 +1,8 @@
 -- The memories of a valid netlist: which signals they drive, and which of them stand before a signal.
-use Rattle.std.proofs.Common.{◌≡◌, ℕ, ◌+◌, ◌-◌, ◌<◌, ◌≤◌, [], length, drop, get_or, slice_get, Some, sym, ap, ◌∙◌, inl, inr, refl, arith}
+use Rattle.std.proofs.Common.{◌≡◌, ℕ, ◌+◌, ◌-◌, ◌<◌, ◌≤◌, [], length, drop, get_or, slice_get, Some, sym, ap, ◌∙◌, refl, arith}
 use Rattle.std.specs.List.{All}
 use Rattle.std.proofs.lemmas.List.{drop_all}
 use Rattle.std.proofs.lemmas.Option.{slice_get_within, slice_get-get_or}
-use Rattle.std.proofs.lemmas.Bool.{cases_lt}
 use Rattle.list_laws.proofs.Places.{one_there}
 use Rattle.list_laws.proofs.Ranges.{range_get, range_at}
 use Rattle.net_defs.specs.declared.netlist.Netlist.{Netlist}
@@ -38,24 +37,20 @@ IsCut net s m = (n k t : ℕ) → IsBit net n k t → (n < m → t < s) × (m �
 module _ (net : Netlist) (valid : IsValid net) where
   -- ---- memories and their signals
 
-  -- the bits of a memory drive its outputs, side by side
-  pub bit_at : (m : ℕ) (memory : Block) (k s : ℕ) → slice_get net.blocks m ≡ Some memory → k < length memory.word → s ≡ first_of memory + k → IsBit net m k s
-  bit_at m memory k s at within place =
-      (memory, at, ap (λ xs. slice_get xs k) (valid.memories m memory at).outs ∙ range_get (first_of memory) (length memory.word) k within ∙ ap Some (sym place))
+  -- the outputs of a memory stand side by side
+  pub bit_at : (m : ℕ) (memory : Block) (k s : ℕ) → slice_get net.blocks m ≡ Some memory → k < length memory.word → s ≡ first_of memory + k → slice_get memory.outs k ≡ Some s
+  bit_at m memory k s at within place = ap (λ xs. slice_get xs k) (valid.memories m memory at).outs ∙ range_get (first_of memory) (length memory.word) k within ∙ ap Some (sym place)
 
   first_bit : (m : ℕ) (memory : Block) → slice_get net.blocks m ≡ Some memory → IsBit net m 0 (first_of memory)
-  first_bit m memory at = bit_at m memory 0 (first_of memory) at (omega (arith, (valid.memories m memory at).word_bits.0)) (omega arith)
+  first_bit m memory at = (memory, at, bit_at m memory 0 (first_of memory) at (omega (arith, (valid.memories m memory at).word_bits.0)) (omega arith))
 
   pub bit_place : (m k s : ℕ) (bit : IsBit net m k s) → (s ≡ first_of bit.0 + k) × (k < length bit.0.word)
   bit_place m k s bit = range_at (first_of bit.0) (length bit.0.word) k s (ap (λ xs. slice_get xs k) (sym (valid.memories m bit.0 bit.1).outs) ∙ bit.2)
 
-  pub bit_signal : (m k s : ℕ) → IsBit net m k s → (signal : Signal) × (slice_get net.signals s ≡ Some signal) × (signal.driver ≡ BlockBit m k)
-  bit_signal m k s bit = (valid.memories m bit.0 bit.1).driven k s bit.2
-
   -- what drives a signal that is a bit
   bit_driver : (m k s t : ℕ) (signal : Signal) → IsBit net m k s → t ≡ s → slice_get net.signals t ≡ Some signal → signal.driver ≡ BlockBit m k
   bit_driver m k s t signal bit same at =
-      let found = bit_signal m k s bit in ap (λ (x : Signal). x.driver) (one_there net.signals t s signal found.0 same at found.1) ∙ found.2
+      let found = (valid.memories m bit.0 bit.1).driven k s bit.2 in ap (λ (x : Signal). x.driver) (one_there net.signals t s signal found.0 same at found.1) ∙ found.2
 
   -- ---- the memories before a signal
 
@@ -85,7 +80,7 @@ module _ (net : Netlist) (valid : IsValid net) where
       let sides = cut n k t bit in
       let same = λ (e : n ≡ m). one_there net.blocks n m bit.0 memory e bit.1 at in
       let own = λ (past : s ≤ t) (inside : t < s + length memory.word).
-      let other = bit_signal m (t - s) t (bit_at m memory (t - s) t at (omega arith) (omega (arith, first))) in
+      let other = (valid.memories m memory at).driven (t - s) t (bit_at m memory (t - s) t at (omega arith) (omega (arith, first))) in
       let both : BlockBit m (t - s) ≡ BlockBit n k = sym other.2 ∙ bit_driver n k t t other.0 bit refl other.1 in
       let is : m ≡ n = cc in is
       in
@@ -93,11 +88,10 @@ module _ (net : Netlist) (valid : IsValid net) where
 
   -- before the end all memories stand
   pub all_cut : (s m : ℕ) → IsCut net s m → length net.signals ≤ s → drop m net.blocks ≡ []
-  all_cut s m cut ends = elim (cases_lt m (length net.blocks)) [
-    | inl more ↦
-        let none : Block = record { we = 0; address = []; word = []; outs = [] } in
-        let bit = first_bit m (get_or net.blocks m none) (slice_get-get_or net.blocks m none more) in
-        let signal = bit_signal m 0 _ bit in
-        absurd (omega (arith, (cut m 0 _ bit).1, slice_get_within net.signals _ signal.0 signal.1, ends))
-    | inr past ↦ drop_all m net.blocks past
-  ]
+  all_cut s m cut ends =
+      let last = λ (more : m < length net.blocks).
+      let at = slice_get-get_or net.blocks m (record { we = 0; address = []; word = []; outs = [] }) more in
+      let bit = first_bit m _ at in
+      let signal = (valid.memories m bit.0 bit.1).driven 0 _ bit.2 in
+      let none : ⊥ = omega (arith, (cut m 0 _ bit).1, slice_get_within net.signals _ signal.0 signal.1, ends) in none
+      in drop_all m net.blocks (omega (arith, last))

@@ -42,17 +42,14 @@ pub record AreRead (pieces : List Piece) : Type 0 where
 pub none_read : AreRead []
 none_read = record { read = refl; plain = refl; clean = λ rest c. c }
 
-few : 0 ≤ MAX_NAME_BYTES
-few = omega arith
-
 -- a mark before them
 pub sign_read : {pieces : List Piece} (m : Mark) → same_mark m Name ≡ false → AreRead pieces → AreRead (Sign m ∷ pieces)
 unfolding sign_of is_name_byte is_visible is_mark
-sign_read Comma e is = record { read = ap (λ ps. Sign Comma ∷ ps) is.read; plain = is.plain; clean = λ rest c. (refl, few, (refl, few, is.clean rest c)) }
-sign_read Semi e is = record { read = ap (λ ps. Sign Semi ∷ ps) is.read; plain = is.plain; clean = λ rest c. (refl, few, (refl, few, is.clean rest c)) }
-sign_read Equals e is = record { read = ap (λ ps. Sign Equals ∷ ps) is.read; plain = is.plain; clean = λ rest c. (refl, few, (refl, few, (refl, few, is.clean rest c))) }
+sign_read Comma e is = record { read = ap (λ ps. Sign Comma ∷ ps) is.read; plain = is.plain; clean = λ rest c. (refl, omega arith, (refl, omega arith, is.clean rest c)) }
+sign_read Semi e is = record { read = ap (λ ps. Sign Semi ∷ ps) is.read; plain = is.plain; clean = λ rest c. (refl, omega arith, (refl, omega arith, is.clean rest c)) }
+sign_read Equals e is = record { read = ap (λ ps. Sign Equals ∷ ps) is.read; plain = is.plain; clean = λ rest c. (refl, omega arith, (refl, omega arith, (refl, omega arith, is.clean rest c))) }
 sign_read Name e is = cc
-sign_read m e is = record { read = ap (λ ps. Sign m ∷ ps) is.read; plain = is.plain; clean = λ rest c. (refl, few, is.clean rest c) }
+sign_read m e is = record { read = ap (λ ps. Sign m ∷ ps) is.read; plain = is.plain; clean = λ rest c. (refl, omega arith, is.clean rest c) }
 
 -- ---- names
 

@@ -5,9 +5,7 @@ use Rattle.std.specs.List.{find}
 use Rattle.std.specs.Option.{option_map, option_or}
 use Rattle.text_lines.specs.Answers.{first, Answers}
 use Rattle.text_lines.proofs.AnswerLemmas.{place_of_first}
-use Rattle.logic_four.specs.declared.Kind.{Kind}
 use Rattle.logic_four.specs.Kinds.{kind_of}
-use Rattle.bench_text.specs.declared.token.TextNo.{TextNo}
 use Rattle.bench_text.specs.declared.token.TextNo.TheVariants as text_no
 use Rattle.bench_text.specs.Tokens.{first_fault as byte_fault}
 use Rattle.bench_line.specs.Forms.{Form, Port, Gate, Memory}
@@ -54,10 +52,8 @@ line_plain earlier placed =
 form_plain : (at : ℕ) (o : Option Form) → IsPlainErr (said_by at o)
 form_plain at None e = cc
 form_plain at (Some (Port word name)) e = grind (arith, e)
-form_plain at (Some (Gate name word uses)) e = by_kind (kind_of word) e where
-  by_kind : (o : Option Kind) → IsPlainErr (cond (is_word (codes "DFF") word) (said_by_register at name uses) (said_by_gate at name uses o))
-  by_kind None e = grind (arith, e)
-  by_kind (Some kind) e = grind (arith, e)
+form_plain at (Some (Gate name word uses)) e =
+    elim (kind_of word) as (λ o. IsPlainErr (cond (is_word (codes "DFF") word) (said_by_register at name uses) (said_by_gate at name uses o))) [ None ↦ λ f. grind (arith, f) | Some kind ↦ λ f. grind (arith, f) ] e
 form_plain at (Some (Memory outs word enable address words)) e = grind (arith, e)
 
 row_plain : (earlier : List Placed) (o : Option Row) → IsPlain (row_fault earlier o)
@@ -68,17 +64,13 @@ row_plain earlier (Some row) = by_said (said row) (form_plain row.at (form_of ro
   by_said (Ok line) plain = line_plain earlier (record { at = row.at; line = line })
   by_said (Err fault) plain = λ e. plain cc
 
-bytes_plain : (no : TextNo) → of_text no ≡ bench_no.Text text_no.Memory → ⊥
-bytes_plain text_no.Memory e = cc
-bytes_plain fault e = cc
-
 fault_plain : (text : List ℕ) → IsPlain (first_fault text)
 unfolding first_fault rows_fault uses_fault
 fault_plain text =
     let rows = rows_of text in
-    either_plain (option_map of_text (byte_fault text)) (option_or (rows_fault rows) (uses_fault (placed_of rows)))
-    (mapped_plain of_text bytes_plain (byte_fault text))
-    (either_plain (rows_fault rows) (uses_fault (placed_of rows))
+    either_plain _ _
+    (mapped_plain of_text (elim [ text_no.Memory ↦ λ e. cc | text_no.BadByte line column ↦ λ e. cc | text_no.LongName line ↦ λ e. cc ]) (byte_fault text))
+    (either_plain _ _
     (first_plain _ (length rows) (λ i. row_plain (placed_of (take i rows)) (slice_get rows i)))
     (mapped_plain (λ named. bench_no.Undriven named.name named.at) (λ x e. cc) (find (is_undriven (drivers_of (placed_of rows))) (uses_of (placed_of rows)))))
 
