@@ -2,11 +2,12 @@
 use Rattle.std.proofs.Common.{◌≡◌, inl, inr, ℕ, zero, suc, ◌+◌, ◌<◌, false, List, [], ◌∷◌, ◌++◌, append_assoc, drop, length, map, get_or, slice_get, Some, sym, ap, ◌∙◌, refl, arith, bytes_eq, ◌-◌, ◌≤◌, not}
 use Rattle.std.specs.List.{All, filter, flat_map, enumerate_from, range_with_len}
 use Rattle.std.proofs.lemmas.Bool.{cases_lt, false_from_ne_true, ne_eqb}
-use Rattle.std.proofs.lemmas.List.{length-map, drop_all, get_or-map}
+use Rattle.std.proofs.lemmas.List.{drop_all}
 use Rattle.std.proofs.lemmas.List.Sums.{position_or_len_is}
 use Rattle.std.proofs.lemmas.List.Elements.{All-head, All-tail}
 use Rattle.std.proofs.lemmas.Option.{slice_get-get_or}
 use Rattle.list_laws.proofs.Places.{drop_here}
+use Rattle.list_laws.proofs.Tests.{prefix_len-map}
 use Rattle.net_defs.specs.declared.netlist.Netlist.{Netlist}
 use Rattle.net_defs.specs.declared.netlist.Signal.{Signal}
 use Rattle.net_defs.specs.declared.netlist.Block.{Block}
@@ -21,9 +22,9 @@ use Rattle.bench_read.proofs.CutLemmas.{name_is, outs_are, first_of, bit_at, bit
 use Rattle.bench_read.proofs.NameLemmas.{same_name, same_bytes}
 use Rattle.bench_read.proofs.MadeLemmas.{names_from, made_names}
 
--- ---- numbers
+-- ---- signals
 
--- the signals that are no inputs
+-- those that are no inputs
 abbrev others_of : List Signal → List Signal
 others_of xs = filter (λ x. not (is_input x.driver)) xs
 
@@ -47,11 +48,10 @@ module _ (net : Netlist) (valid : IsValid net) where
   number_is s within =
       let none : Signal = record { name = []; driver = driver.Input } in
       let at = λ (k : ℕ) (inside : IsSignal net k). slice_get-get_or net.signals k none inside in
-      let name = λ (k : ℕ) (inside : IsSignal net k). get_or-map (λ (x : Signal). x.name) net.signals k none [] inside in
-      rw (at s within) (position_or_len_is (bytes_eq (get_or net.signals s none).name) names s [] (omega (arith, within, length-map net.signals (λ (x : Signal). x.name)))
-      (λ k less. rw (name k (omega (arith, less, within))) (false_from_ne_true _
-      (λ same. omega (arith, less, valid.distinct s k _ _ (at s within) (at k (omega (arith, less, within))) (same_name _ _ same)))))
-      (λ h. rw (name s within) (same_bytes (get_or net.signals s none).name)))
+      let name = (get_or net.signals s none).name in
+      rw (at s within) (prefix_len-map (λ n. not (bytes_eq name n)) (λ (x : Signal). x.name) net.signals ∙ position_or_len_is (λ (x : Signal). bytes_eq name x.name) net.signals s none (omega (arith, within))
+      (λ k less. false_from_ne_true _ (λ same. omega (arith, less, valid.distinct s k _ _ (at s within) (at k (omega (arith, less, within))) (same_name _ _ same))))
+      (λ h. same_bytes name))
 
   numbers_are : (ops : List ℕ) → All (IsSignal net) ops → numbers names (names_at net ops) ≡ ops
   numbers_are [] all = refl
@@ -117,69 +117,63 @@ module _ (net : Netlist) (valid : IsValid net) where
         } ∷ made.blocks k) ∙ sym (drop_here net.blocks m b.0 at_m);
       })
 
-  -- behind all signals
-  ended : (s m : ℕ) → IsCut net s m → length net.signals ≤ s → AreMade m (drivers_on (drop s net.signals)) (others_of (drop s net.signals))
-  unfolding other_signals
-  ended s m cut past = rw (drop_all s net.signals past) (record { inputs = refl; others = refl; printed = refl; blocks = sym (all_cut net valid s m cut past) })
-
   -- the signals from one on, of which there are n at most
   made_from : (n s m : ℕ) → length net.signals ≤ s + n → IsCut net s m → AreMade m (drivers_on (drop s net.signals)) (others_of (drop s net.signals))
-  made_from zero s m few cut = ended s m cut (omega (arith, few))
+  unfolding other_signals
+  made_from zero s m few cut =
+      rw (drop_all s net.signals (omega (arith, few))) (record { inputs = refl; others = refl; printed = refl; blocks = sym (all_cut net valid s m cut (omega (arith, few))) })
   made_from (suc n) s m few cut = elim (cases_lt s (length net.signals)) [
     | inl inside ↦
         let x = get_or net.signals s (record { name = []; driver = driver.Input }) in
         let at = slice_get-get_or net.signals s (record { name = []; driver = driver.Input }) inside in
         rw (drop_here net.signals s x at) (step s m x.name x.driver at cut (λ j t later. made_from n t j (omega (arith, few, later))))
-    | inr past ↦ ended s m cut past
+    | inr past ↦ made_from n s m (omega (arith, past)) cut
   ]
 
   -- ---- all lines
 
-  -- the netlist that lines make, where signals have these names
-  abbrev netlist_in : List Line → Netlist
-  netlist_in lines = record {
+  -- lines make these signals, printed names and all memories, where signals have these names
+  abbrev Make : List Line → List Signal → List ℕ → Type 0
+  Make lines signals printed = ◌≡◌ {A = Netlist} (record {
     signals = map input_signal (flat_map input_names lines) ++ other_signals names 0 lines;
     printed = numbers names (flat_map printed_names lines);
     blocks = flat_map (memories_by names) lines;
-  }
+  }) (record { signals = signals; printed = printed; blocks = net.blocks })
 
   -- lines of inputs before the lines of the other signals
-  after_inputs : (lines : List Line) (xs : List Signal) → InputsLead xs → netlist_in lines ≡ record { signals = others_of xs; printed = net.printed; blocks = net.blocks }
-      → netlist_in (inputs_on xs ++ lines) ≡ record { signals = xs; printed = net.printed; blocks = net.blocks }
+  after_inputs : (lines : List Line) (xs : List Signal) → InputsLead xs → Make lines (others_of xs) net.printed → Make (inputs_on xs ++ lines) xs net.printed
   unfolding other_signals
   after_inputs lines [] lead is = is
   after_inputs lines (x ∷ xs) lead is = by_driver x.name x.driver lead is (after_inputs lines xs (λ s t one other e f less. lead (suc s) (suc t) one other e f (omega arith))) where
-    by_driver : (name : List ℕ) (drive : Driver) → InputsLead (record { name = name; driver = drive } ∷ xs) → netlist_in lines ≡ record { signals = others_of (record { name = name; driver = drive } ∷ xs); printed = net.printed; blocks = net.blocks }
-        → (netlist_in lines ≡ record { signals = others_of xs; printed = net.printed; blocks = net.blocks } → netlist_in (inputs_on xs ++ lines) ≡ record { signals = xs; printed = net.printed; blocks = net.blocks })
-        → netlist_in (inputs_on (record { name = name; driver = drive } ∷ xs) ++ lines) ≡ record { signals = record { name = name; driver = drive } ∷ xs; printed = net.printed; blocks = net.blocks }
+    by_driver : (name : List ℕ) (drive : Driver) → InputsLead (record { name = name; driver = drive } ∷ xs) → Make lines (others_of (record { name = name; driver = drive } ∷ xs)) net.printed
+        → (Make lines (others_of xs) net.printed → Make (inputs_on xs ++ lines) xs net.printed)
+        → Make (inputs_on (record { name = name; driver = drive } ∷ xs) ++ lines) (record { name = name; driver = drive } ∷ xs) net.printed
     by_driver name driver.Input lead is rest = λ k. let made = rest is k in record { signals = input_signal name ∷ made.signals; printed = made.printed; blocks = made.blocks }
     by_driver name drive lead is rest =
         let none = no_inputs xs (λ t x at. false_from_ne_true _ (λ input. cc (lead 0 (suc t) _ x refl at (omega arith) input))) in rw none.0 (rw none.1 at is)
 
   -- lines of outputs before lines of signals
-  after_outputs : (lines : List Line) (signals : List Signal) (ops : List ℕ) → All (IsSignal net) ops → netlist_in lines ≡ record { signals = signals; printed = []; blocks = net.blocks }
-      → netlist_in (map (λ s. Output (name_of net s)) ops ++ lines) ≡ record { signals = signals; printed = ops; blocks = net.blocks }
+  after_outputs : (lines : List Line) (xs : List Signal) (ops : List ℕ) → All (IsSignal net) ops → Make lines xs [] → Make (map (λ s. Output (name_of net s)) ops ++ lines) xs ops
   unfolding other_signals
-  after_outputs lines signals [] all is = is
-  after_outputs lines signals (s ∷ ops) all is = λ k.
-      let made = after_outputs lines signals ops (All-tail (IsSignal net) s ops all) is k in
+  after_outputs lines xs [] all is = is
+  after_outputs lines xs (s ∷ ops) all is = λ k.
+      let made = after_outputs lines xs ops (All-tail (IsSignal net) s ops all) is k in
       record { signals = made.signals; printed = number_is s (All-head (IsSignal net) s ops all) k ∷ made.printed; blocks = made.blocks }
 
   -- all lines make the netlist
-  back : netlist_in (lines_of net) ≡ net
+  all_make : Make (lines_of net) net.signals net.printed
   unfolding lines_of
-  back =
+  all_make =
       let made = made_from (length net.signals) 0 0 (omega arith) (none_cut net valid) in
       let drivers = drivers_on net.signals in
       let outputs = map (λ s. Output (name_of net s)) net.printed in
-      ap netlist_in (append_assoc (inputs_on net.signals) outputs drivers)
-      ∙ after_inputs (outputs ++ drivers) net.signals valid.inputs_first (after_outputs drivers (others_of net.signals) net.printed valid.printed
-      (λ k. record { signals = map input_signal (made.inputs k) ++ made.others k; printed = numbers names (made.printed k); blocks = made.blocks k }))
+      rw (append_assoc (inputs_on net.signals) outputs drivers) (after_inputs (outputs ++ drivers) net.signals valid.inputs_first (after_outputs drivers (others_of net.signals) net.printed valid.printed
+      (λ k. record { signals = map input_signal (made.inputs k) ++ made.others k; printed = numbers names (made.printed k); blocks = made.blocks k })))
 
   -- the names of signals are those that the lines drive, in signal order
   pub names_are : names_of (lines_of net) ≡ names
-  names_are = sym (made_names names 0 (lines_of net)) ∙ ap (λ (made : Netlist). names_from made.signals) back
+  names_are = sym (made_names names 0 (lines_of net)) ∙ ap (λ (made : Netlist). names_from made.signals) all_make
 
   pub netlist_is : netlist_of (lines_of net) ≡ net
   unfolding netlist_of
-  netlist_is = rw names_are back
+  netlist_is = rw names_are all_make

@@ -66,23 +66,19 @@ module _ (net : Netlist) (valid : IsValid net) (P : List ℕ → Type 0) (holds 
   signal_whole s name (driver.BlockBit m zero) named is = rw is.1 (tt, (memory_whole m is.0 is.1, tt))
   signal_whole s name (driver.BlockBit m (suc bit)) named is = rw (ne_eqb (suc bit) 0 (λ e. omega (arith, e))) (tt, tt)
 
-  -- what each signal has
-  each_whole : (each : Signal → List Line) → ((s : ℕ) (signal : Signal) → slice_get net.signals s ≡ Some signal → AllByRecursion (IsWhole P) (each signal)) → All (IsWhole P) (flat_map each net.signals)
-  each_whole each whole =
-      all_flat_of (IsWhole P) each net.signals (λ s d within. All-from_recursion (IsWhole P) _ (whole s (get_or net.signals s d) (slice_get-get_or net.signals s d within)))
-
   -- all lines are whole
   pub lines_whole : All (IsWhole P) (lines_of net)
   unfolding lines_of
   lines_whole =
-      let inputs = flat_map input_line net.signals in
-      let outputs = map (λ s. Output (name_of net s)) net.printed in
-      let whole = λ (s : ℕ) (signal : Signal) (at : slice_get net.signals s ≡ Some signal). signal_whole s signal.name signal.driver (holds s signal at) (valid.drivers s signal at) in
-      All-append (IsWhole P) (inputs ++ outputs) (flat_map (driver_line net) net.signals)
-      (All-append (IsWhole P) inputs outputs (each_whole input_line (λ s signal at. (whole s signal at).0))
+      let whole = λ (s : ℕ) (d : Signal) (within : IsSignal net s).
+      let at = slice_get-get_or net.signals s d within in signal_whole s (get_or net.signals s d).name (get_or net.signals s d).driver (holds s _ at) (valid.drivers s _ at)
+      in
+      All-append (IsWhole P) (flat_map input_line net.signals ++ map (λ s. Output (name_of net s)) net.printed) (flat_map (driver_line net) net.signals)
+      (All-append (IsWhole P) (flat_map input_line net.signals) (map (λ s. Output (name_of net s)) net.printed)
+      (all_flat_of (IsWhole P) input_line net.signals (λ s d within. All-from_recursion (IsWhole P) _ (whole s d within).0))
       (All-map (IsWhole P) (λ s. Output (name_of net s)) net.printed
       (λ i d within. record { allowed = refl; driven = All-nil P; used = one _ (name_holds (get_or net.printed i d) (valid.printed i d within)) })))
-      (each_whole (driver_line net) (λ s signal at. (whole s signal at).1))
+      (all_flat_of (IsWhole P) (driver_line net) net.signals (λ s d within. All-from_recursion (IsWhole P) _ (whole s d within).1))
 
 -- ---- names
 

@@ -25,14 +25,11 @@ IsNamed (Word name) = IsName name
 token_named : (text : List ℕ) (token : Token) → StandsIn text token → IsNamed (piece_of text token).1
 token_named text token stands = by_mark token.mark stands.bytes where
   by_mark : (mark : Mark) → AreBytesOf mark text token.from token.upto → IsNamed (piece_of text (record { mark = mark; from = token.from; upto = token.upto; line = token.line })).1
-  by_mark mark.Name is =
-      let size = length-take (token.upto - token.from) (drop token.from text) in
-      let left = length-drop token.from text in
-      record {
-        some = omega (arith, size, left, stands.some, stands.within);
-        short = omega (arith, size, is.short);
-        bytes = list_all-from_AllPass is_name_byte (take (token.upto - token.from) (drop token.from text)) is.bytes;
-      }
+  by_mark mark.Name is = record {
+    some = simp (length-take, length-drop) (omega (arith, stands.some, stands.within));
+    short = simp (length-take, length-drop) (omega (arith, is.short));
+    bytes = list_all-from_AllPass is_name_byte (take (token.upto - token.from) (drop token.from text)) is.bytes;
+  }
   by_mark mark is = tt
 
 rows_from_pieces : (rows : List Row) → All (λ p. IsNamed p.1) (flat_map placed_pieces rows) → AllByRecursion (λ row. AllByRecursion IsNamed row.pieces) rows
