@@ -21,7 +21,7 @@ use Rattle.net_defs.specs.Valid.{IsSignal, NamesDiffer, IsValid, IsDrivable}
 use Rattle.net_defs.specs.declared.netlist.Block.{Block}
 use Rattle.net_defs.specs.declared.netlist.Driver.{Driver}
 use Rattle.bench_line.specs.Rows.{rows_of}
-use Rattle.bench_read.specs.Lines.{Line, used, all_driven, all_used, Output, Memory}
+use Rattle.bench_read.specs.Lines.{used, all_driven, all_used, Output, Memory}
 use Rattle.bench_read.specs.Saying.{Say}
 use Rattle.bench_read.specs.Reads.{AreOnce, AreAmong, Reads}
 use Rattle.bench_read.specs.Written.{lines_of, names_at, input_line, driver_line}
@@ -94,39 +94,36 @@ names_once (x ∷ signals) differ name =
     in grind (arith, all, none, rest)
 
 module _ (net : Netlist) (valid : IsValid net) where
-  abbrev lines : List Line
-  lines = lines_of net
-
   -- as many of the driven names are this one as of the names of signals
-  count_is : (name : List ℕ) → count_by (bytes_eq name) (all_driven lines) ≡ count_by (bytes_eq name) (names_from net.signals)
-  count_is name = sym (either_order (λ n. cond (bytes_eq name n) 1 0) lines) ∙ ap (count_by (bytes_eq name)) (names_are net valid)
+  count_is : (name : List ℕ) → count_by (bytes_eq name) (all_driven (lines_of net)) ≡ count_by (bytes_eq name) (names_from net.signals)
+  count_is name = sym (either_order (λ n. cond (bytes_eq name n) 1 0) (lines_of net)) ∙ ap (count_by (bytes_eq name)) (names_are net valid)
 
   -- the name of a signal is driven
-  is_driven : (s : ℕ) (signal : Signal) → slice_get net.signals s ≡ Some signal → list_any (bytes_eq signal.name) (all_driven lines) ≡ true
+  is_driven : (s : ℕ) (signal : Signal) → slice_get net.signals s ≡ Some signal → list_any (bytes_eq signal.name) (all_driven (lines_of net)) ≡ true
   is_driven s signal at =
       let within = slice_get_within net.signals s signal at in
       let here = get_or-map (λ (x : Signal). x.name) net.signals s signal [] within ∙ ap (λ (x : Signal). x.name) (get_or_from_slice_get net.signals s signal signal at) in
       let some = list_any_at (bytes_eq signal.name) (names_from net.signals) s [] (omega (arith, within, length-map net.signals (λ (x : Signal). x.name))) (rw here (same_bytes signal.name)) in
       true_from_ne_false _
-      (λ none. both_ways _ (none_counted (bytes_eq signal.name) (names_from net.signals) (sym (count_is signal.name) ∙ count_none (bytes_eq signal.name) (all_driven lines) none)) some)
+      (λ none. both_ways _ (none_counted (bytes_eq signal.name) (names_from net.signals) (sym (count_is signal.name) ∙ count_none (bytes_eq signal.name) (all_driven (lines_of net)) none)) some)
 
-  all_among : AreAmong (all_driven lines) (all_used lines)
+  all_among : AreAmong (all_driven (lines_of net)) (all_used (lines_of net))
   unfolding all_used
   all_among =
-      let Among : List ℕ → Type 0 = λ name. list_any (bytes_eq name) (all_driven lines) ≡ true in
-      all_flat_of Among used lines (All-weaker (IsWhole Among) (λ line. All Among (used line)) (λ line is. is.used) lines (lines_whole net valid Among is_driven))
+      let Among : List ℕ → Type 0 = λ name. list_any (bytes_eq name) (all_driven (lines_of net)) ≡ true in
+      all_flat_of Among used (lines_of net) (All-weaker (IsWhole Among) (λ line. All Among (used line)) (λ line is. is.used) (lines_of net) (lines_whole net valid Among is_driven))
 
   pub reads : Reads (canonical_text net) net
   reads =
-      let read = subst (λ text. (byte_fault text ≡ None) × Say (rows_of text) lines) (sym (canonical_is_written net)) (whole_read lines (lines_whole net valid IsName valid.names)) in
+      let read = subst (λ text. (byte_fault text ≡ None) × Say (rows_of text) (lines_of net)) (sym (canonical_is_written net)) (whole_read (lines_of net) (lines_whole net valid IsName valid.names)) in
       record {
-        lines = lines;
+        lines = lines_of net;
         bytes = read.0;
         said = read.1;
         sound = record {
           once = λ name. omega (arith, count_is name, names_once net.signals valid.distinct name);
-          few_signals = omega (arith, names_length lines, ap length (names_are net valid), length-map net.signals (λ (x : Signal). x.name), valid.few_signals);
-          few_operands = omega (arith, rw (netlist_is net valid) at (made_operands lines), valid.few_operands);
+          few_signals = omega (arith, names_length (lines_of net), ap length (names_are net valid), length-map net.signals (λ (x : Signal). x.name), valid.few_signals);
+          few_operands = omega (arith, rw (netlist_is net valid) at (made_operands (lines_of net)), valid.few_operands);
           driven = all_among;
         };
         netlist = sym (netlist_is net valid);

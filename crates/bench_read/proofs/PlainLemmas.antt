@@ -1,5 +1,5 @@
 -- No fault of a text is want of memory.
-use Rattle.std.proofs.Common.{◌≡◌, ℕ, cond, List, [], ◌∷◌, ◌++◌, length, take, slice_get, Option, Some, None, Result, Ok, Err, ap, ◌∙◌, ⊎_elim, arith}
+use Rattle.std.proofs.Common.{◌≡◌, ℕ, cond, List, ◌++◌, length, take, slice_get, Option, Some, None, Result, Ok, Err, ap, ◌∙◌, ⊎_elim, arith}
 use Rattle.std.specs.Prelude.{IfErr, codes}
 use Rattle.std.specs.List.{find}
 use Rattle.std.specs.Option.{option_map, option_or}
@@ -15,8 +15,8 @@ use Rattle.bench_read.specs.declared.refusal.BenchNo.{BenchNo}
 use Rattle.bench_read.specs.declared.refusal.BenchNo.TheVariants as bench_no
 use Rattle.bench_read.specs.Lines.{Line}
 use Rattle.bench_read.specs.Saying.{is_word, said_by_register, said_by_gate, said_by, said}
-use Rattle.bench_read.specs.Placed.{Placed, Named, lines_at, placed_by, placed_of, driven_in, drivers_of, uses_of}
-use Rattle.bench_read.specs.Faults.{is_same, is_undriven, repeat_fault, option_repeat_fault, twice_fault, many_fault, line_fault, said_fault, row_fault, rows_fault, uses_fault, of_text, first_fault}
+use Rattle.bench_read.specs.Placed.{Placed, placed_by, placed_of, driven_in, drivers_of, uses_of}
+use Rattle.bench_read.specs.Faults.{is_undriven, repeat_fault, option_repeat_fault, twice_fault, many_fault, line_fault, said_fault, row_fault, rows_fault, uses_fault, of_text, first_fault}
 
 -- faults other than the memory's, as of a text's bytes
 abbrev IsPlain : Option BenchNo → Type 0
@@ -36,16 +36,14 @@ mapped_plain f plain (Some x) e = plain x cc
 first_plain : (fault : ℕ → Option BenchNo) (n : ℕ) → ((i : ℕ) → IsPlain (fault i)) → IsPlain (first fault n)
 first_plain fault n plain e = let found = place_of_first fault n (bench_no.Text text_no.Memory) e in plain found.0 found.3
 
-repeat_plain : (drivers : List Named) (o : Option Named) → IsPlain (option_repeat_fault drivers o)
-unfolding repeat_fault
-repeat_plain drivers None = λ e. cc
-repeat_plain drivers (Some named) = mapped_plain (λ driver. bench_no.DrivenTwice named.name driver.at named.at) (λ x e. cc) (find (is_same named) drivers)
-
 line_plain : (earlier : List Placed) (placed : Placed) → IsPlain (line_fault earlier placed)
-unfolding line_fault twice_fault many_fault
+unfolding line_fault twice_fault many_fault repeat_fault
 line_plain earlier placed =
-    either_plain (twice_fault (drivers_of earlier) (driven_in placed)) (many_fault placed.at (lines_at (earlier ++ placed ∷ [])))
-    (first_plain _ (length (driven_in placed)) (λ i. repeat_plain (drivers_of earlier ++ take i (driven_in placed)) (slice_get (driven_in placed) i)))
+    either_plain _ _
+    (first_plain _ (length (driven_in placed)) (λ i. elim (slice_get (driven_in placed) i) as (λ o. IsPlain (option_repeat_fault (drivers_of earlier ++ take i (driven_in placed)) o)) [
+      | None ↦ λ e. cc
+      | Some named ↦ mapped_plain (λ driver. bench_no.DrivenTwice named.name driver.at named.at) (λ x e. cc) _
+    ]))
     (λ e. grind (arith, e))
 
 -- the fault of a form comes from its word or its numbers
