@@ -144,13 +144,15 @@ module _ (net : Netlist) (valid : IsValid net) where
   after_inputs : (lines : List Line) (xs : List Signal) → InputsLead xs → Make lines (others_of xs) net.printed → Make (inputs_on xs ++ lines) xs net.printed
   unfolding other_signals
   after_inputs lines [] lead is = is
-  after_inputs lines (x ∷ xs) lead is = by_driver x.name x.driver lead is (after_inputs lines xs (λ s t one other e f less. lead (suc s) (suc t) one other e f (omega arith))) where
-    by_driver : (name : List ℕ) (drive : Driver) → InputsLead (record { name = name; driver = drive } ∷ xs) → Make lines (others_of (record { name = name; driver = drive } ∷ xs)) net.printed
-        → (Make lines (others_of xs) net.printed → Make (inputs_on xs ++ lines) xs net.printed)
-        → Make (inputs_on (record { name = name; driver = drive } ∷ xs) ++ lines) (record { name = name; driver = drive } ∷ xs) net.printed
-    by_driver name driver.Input lead is rest = λ k. let made = rest is k in record { signals = input_signal name ∷ made.signals; printed = made.printed; blocks = made.blocks }
-    by_driver name drive lead is rest =
-        let none = no_inputs xs (λ t x at. false_from_ne_true _ (λ input. cc (lead 0 (suc t) _ x refl at (omega arith) input))) in rw none.0 (rw none.1 at is)
+  after_inputs lines (x ∷ xs) lead is =
+      let by = λ (drive : Driver). let signal : Signal = record { name = x.name; driver = drive } in signal in
+      (elim x.driver as (λ d. InputsLead (by d ∷ xs) → Make lines (others_of (by d ∷ xs)) net.printed → Make (inputs_on (by d ∷ xs) ++ lines) (by d ∷ xs) net.printed) [
+        | driver.Input ↦ λ first same k.
+            let made = after_inputs lines xs (λ s t one other e f less. first (suc s) (suc t) one other e f (omega arith)) same k in
+            record { signals = input_signal x.name ∷ made.signals; printed = made.printed; blocks = made.blocks }
+        | drive ↦ λ first same.
+            let none = no_inputs xs (λ t y at. false_from_ne_true _ (λ input. cc (first 0 (suc t) _ y refl at (omega arith) input))) in rw none.0 (rw none.1 at same)
+      ]) lead is
 
   -- lines of outputs before lines of signals
   after_outputs : (lines : List Line) (xs : List Signal) (ops : List ℕ) → All (IsSignal net) ops → Make lines xs [] → Make (map (λ s. Output (name_of net s)) ops ++ lines) xs ops

@@ -74,9 +74,6 @@ line_said (Gate name kind (first ∷ others)) is = record {
 }
 line_said (Register name use_) is =
     record { read = gate_read name _ use_ [] (record { some = omega arith; short = omega arith; bytes = refl }) is.driven is.used; word = λ at. refl }
-line_said (Memory outs enable [] words) is = cc is.allowed
-line_said (Memory outs enable (a ∷ address) []) is = absurd (grind (arith, is.allowed))
-line_said (Memory [] enable (a ∷ address) (w ∷ words)) is = absurd (grind (arith, is.allowed))
 line_said (Memory (o ∷ outs) enable (a ∷ address) (w ∷ words)) is =
     let uses = All-tail IsName enable (a ∷ address ++ w ∷ words) is.used in
     let word = listed_read w words Close (all_back IsName (a ∷ address) (w ∷ words) uses) refl none_read in
@@ -84,6 +81,7 @@ line_said (Memory (o ∷ outs) enable (a ∷ address) (w ∷ words)) is =
     let enabled = word_read enable Semi (All-head IsName enable (a ∷ address ++ w ∷ words) is.used) refl both in
     let ram = word_read (codes "RAM") Open (record { some = omega arith; short = omega arith; bytes = refl }) refl enabled in
     record { read = sign_read Left refl (listed_read o outs Right is.driven refl (sign_read Equals refl ram)); word = λ at. cond-true _ _ _ is.allowed }
+line_said (Memory outs enable address words) is = absurd (grind (arith, is.allowed))
 
 -- ---- texts
 

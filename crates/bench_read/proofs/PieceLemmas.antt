@@ -1,5 +1,5 @@
 -- What is written of a spelling is read as the same marks and names, and a clean text has no fault of its bytes.
-use Rattle.std.proofs.Common.{◌≡◌, ℕ, suc, ◌≤◌, Bool, true, false, not, ◌&&◌, ◌||◌, List, [], ◌∷◌, ◌++◌, length, ap, sym, subst, ◌∙◌, refl, arith, append_assoc, zero, ◌-◌, ◌<◌, take, drop, get_or, take_all, None}
+use Rattle.std.proofs.Common.{◌≡◌, ℕ, suc, ◌≤◌, Bool, true, false, not, ◌&&◌, ◌||◌, List, [], ◌∷◌, ◌++◌, length, ap, sym, subst, ◌∙◌, refl, arith, rules, append_assoc, zero, ◌-◌, ◌<◌, take, drop, get_or, take_all, None}
 use Rattle.std.specs.Prelude.{◌==◌}
 use Rattle.std.specs.List.{All, flat_map, list_all, prefix_len, before_first}
 use Rattle.std.proofs.lemmas.Bool.{and_parts, or_right, cond-false}
@@ -9,7 +9,7 @@ use Rattle.text_lines.specs.Bytes.{is_visible, is_hash, is_line_feed, is_return,
 use Rattle.text_lines.specs.Names.{IsName, is_mark, is_name_byte}
 use Rattle.bench_text.specs.Bytes.{sign_of}
 use Rattle.bench_text.specs.declared.token.Mark.{Mark}
-use Rattle.bench_text.specs.declared.token.Mark.TheVariants.{Comma, Equals, Semi, Name}
+use Rattle.bench_text.specs.declared.token.Mark.TheVariants.{Comma, Name}
 use Rattle.bench_text.proofs.ByteLemmas.{named_byte}
 use Rattle.bench_line.specs.Spelling.{Piece, Sign, Word, same_mark, listed}
 use Rattle.bench_line.specs.Rows.{goes_on, pieces_of}
@@ -45,11 +45,8 @@ none_read = record { read = refl; plain = refl; clean = λ rest c. c }
 -- a mark before them
 pub sign_read : {pieces : List Piece} (m : Mark) → same_mark m Name ≡ false → AreRead pieces → AreRead (Sign m ∷ pieces)
 unfolding sign_of is_name_byte is_visible is_mark
-sign_read Comma e is = record { read = ap (λ ps. Sign Comma ∷ ps) is.read; plain = is.plain; clean = λ rest c. (refl, omega arith, (refl, omega arith, is.clean rest c)) }
-sign_read Semi e is = record { read = ap (λ ps. Sign Semi ∷ ps) is.read; plain = is.plain; clean = λ rest c. (refl, omega arith, (refl, omega arith, is.clean rest c)) }
-sign_read Equals e is = record { read = ap (λ ps. Sign Equals ∷ ps) is.read; plain = is.plain; clean = λ rest c. (refl, omega arith, (refl, omega arith, (refl, omega arith, is.clean rest c))) }
 sign_read Name e is = cc
-sign_read m e is = record { read = ap (λ ps. Sign m ∷ ps) is.read; plain = is.plain; clean = λ rest c. (refl, omega arith, is.clean rest c) }
+sign_read m e is = record { read = ap (λ ps. Sign m ∷ ps) is.read; plain = is.plain; clean = λ rest c. search (rules, is.clean rest c) }
 
 -- ---- names
 
