@@ -95,13 +95,12 @@ module _ (net : Netlist) (valid : IsValid net) where
   step s m name (driver.BlockBit n (suc bit)) at cut next = absurd (omega (arith, (next_memory net valid s m n (suc bit) cut (valid.drivers s _ at)).1))
   step s m name (driver.BlockBit n zero) at cut next =
       let b = valid.drivers s (record { name = name; driver = driver.BlockBit n zero }) at in
-      let place = bit_place net valid n 0 s b in
       let same = sym (next_memory net valid s m n 0 cut b).0 in
       let at_m : slice_get net.blocks m ≡ Some b.0 = ap (slice_get net.blocks) same ∙ b.1 in
       let is = valid.memories m b.0 at_m in
       let w = length b.0.word - 1 in
-      let first : first_of b.0 ≡ s = omega (arith, place.0) in
-      let count : length b.0.word ≡ suc w = omega (arith, place.1) in
+      let first : first_of b.0 ≡ s = omega (arith, (bit_place net valid n 0 s b).0) in
+      let count : length b.0.word ≡ suc w = omega (arith, (bit_place net valid n 0 s b).1) in
       let made = next (m + 1) (s + length b.0.word) (omega (arith, count)) (cut_more net valid s m b.0 cut at_m first) in
       let tail = bits m b.0 at_m w 1 (s + 1) (s + length b.0.word) (omega arith) (omega (arith, count)) (omega (arith, first)) (omega (arith, count)) in
       rw (b.1, sym tail.1) (record {

@@ -13,7 +13,7 @@ use Rattle.bench_text.specs.declared.token.Mark.TheVariants.{Comma, Name}
 use Rattle.bench_text.proofs.ByteLemmas.{named_byte}
 use Rattle.bench_line.specs.Spelling.{Piece, Sign, Word, same_mark, listed}
 use Rattle.bench_line.specs.Rows.{goes_on, pieces_of}
-use Rattle.bench_read.specs.Written.{written_mark, written_piece, some_of}
+use Rattle.bench_read.specs.Written.{written_piece, some_of}
 use Rattle.std.proofs.lemmas.List.Sums.{AllPass-from_list_all, position_or_len_is}
 use Rattle.text_lines.specs.Lines.{lines_of, part_of}
 use Rattle.text_lines.specs.Places.{is_line_end}
@@ -50,12 +50,6 @@ sign_read m e is = record { read = ap (λ ps. Sign m ∷ ps) is.read; plain = is
 
 -- ---- names
 
--- no name goes on with a mark
-sign_ends : (m : Mark) (bytes rest : List ℕ) → same_mark m Name ≡ false → (goes_on (written_mark m ++ bytes) ≡ false) × (goes_on ((written_mark m ++ bytes) ++ rest) ≡ false)
-unfolding is_name_byte is_visible is_mark
-sign_ends Name bytes rest e = cc
-sign_ends m bytes rest e = (refl, refl)
-
 plain_byte : (byte : ℕ) → is_name_byte byte ≡ true → is_plain byte ≡ true
 unfolding is_name_byte
 plain_byte byte is = grind (arith, is)
@@ -84,16 +78,17 @@ named (byte ∷ name) rest all ends =
 
 -- a name and a mark before them
 pub word_read : {pieces : List Piece} (name : List ℕ) (m : Mark) → IsName name → same_mark m Name ≡ false → AreRead pieces → AreRead (Word name ∷ Sign m ∷ pieces)
+unfolding is_name_byte is_visible is_mark
 word_read [] m is e after = absurd (omega (arith, is.some))
+word_read (byte ∷ name) Name is e after = cc
 word_read {pieces = pieces} (byte ∷ name) m is e after =
     let sign = sign_read m e after in
-    let ends = λ (rest : List ℕ). sign_ends m (flat_map written_piece pieces) rest e in
     let bytes = flat_map written_piece (Sign m ∷ pieces) in
     let parts = and_parts (is_name_byte byte) (list_all is_name_byte name) is.bytes in
     record {
-      read = (named name bytes parts.1 (ends []).0).read byte parts.0 ∙ ap (λ ps. Word (byte ∷ name) ∷ ps) sign.read;
-      plain = (named (byte ∷ name) bytes is.bytes (ends []).0).plain ∙ sign.plain;
-      clean = λ rest c. subst AreClean (sym (append_assoc (byte ∷ name) bytes rest)) ((named (byte ∷ name) (bytes ++ rest) is.bytes (ends rest).1).clean is.short (sign.clean rest c));
+      read = (named name bytes parts.1 refl).read byte parts.0 ∙ ap (λ ps. Word (byte ∷ name) ∷ ps) sign.read;
+      plain = (named (byte ∷ name) bytes is.bytes refl).plain ∙ sign.plain;
+      clean = λ rest c. subst AreClean (sym (append_assoc (byte ∷ name) bytes rest)) ((named (byte ∷ name) (bytes ++ rest) is.bytes refl).clean is.short (sign.clean rest c));
     }
 
 -- names with commas between, and a mark, before them
