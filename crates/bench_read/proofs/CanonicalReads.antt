@@ -1,5 +1,5 @@
 -- The lines of a valid netlist are allowed and sound, so that its canonical text reads as it.
-use Rattle.std.proofs.Common.{◌≡◌, slice_get, ℕ, zero, suc, true, cond, List, [], ◌∷◌, length, Some, refl, sym, ap, ◌∙◌, subst, arith, bytes_eq, false, ◌++◌, map, get_or, None}
+use Rattle.std.proofs.Common.{◌≡◌, ◌<◌, slice_get, ℕ, zero, suc, true, cond, List, [], ◌∷◌, length, Some, refl, sym, ap, ◌∙◌, subst, arith, bytes_eq, false, ◌++◌, map, get_or, None}
 use Rattle.std.specs.List.{All, AllByRecursion, count_by, list_any, flat_map}
 use Rattle.std.proofs.lemmas.Bool.{false_from_ne_true, true_from_ne_false, both_ways, ne_eqb}
 use Rattle.std.proofs.lemmas.List.{length-map, get_or-map}
@@ -89,8 +89,11 @@ names_once (x ∷ signals) differ name =
     let rest = names_once signals (λ s t one other e f same. omega (arith, differ (suc s) (suc t) one other e f same)) name in
     let all = sum_by-cons (λ (n : List ℕ). cond (bytes_eq name n) 1 0) x.name (names_from signals) in
     let none : bytes_eq name x.name ≡ true → count_by (bytes_eq name) (names_from signals) ≡ 0 = λ same.
-    count_none (bytes_eq name) (names_from signals) (list_any_none (bytes_eq name) (names_from signals) (All-map (λ n. bytes_eq name n ≡ false) (λ (y : Signal). y.name) signals (λ t d within. false_from_ne_true _
-    (λ other. omega (arith, differ 0 (suc t) x _ refl (slice_get-get_or signals t d within) (sym (same_name name x.name same) ∙ same_name name _ other))))))
+        let differs = λ (t : ℕ) (d : Signal) (within : t < length signals) (other : bytes_eq name (get_or signals t d).name ≡ true).
+            differ 0 (suc t) x _ refl (slice_get-get_or signals t d within) (sym (same_name name x.name same) ∙ same_name name _ other)
+        in
+        let others = All-map (λ n. bytes_eq name n ≡ false) (λ (y : Signal). y.name) signals (λ t d within. false_from_ne_true _ (λ other. omega (arith, differs t d within other))) in
+        count_none (bytes_eq name) (names_from signals) (list_any_none (bytes_eq name) (names_from signals) others)
     in grind (arith, all, none, rest)
 
 module _ (net : Netlist) (valid : IsValid net) where

@@ -51,16 +51,20 @@ form_plain : (at : ℕ) (o : Option Form) → IsPlainErr (said_by at o)
 form_plain at None e = cc
 form_plain at (Some (Port word name)) e = grind (arith, e)
 form_plain at (Some (Gate name word uses)) e =
-    elim (kind_of word) as (λ o. IsPlainErr (cond (is_word (codes "DFF") word) (said_by_register at name uses) (said_by_gate at name uses o))) [ None ↦ λ f. grind (arith, f) | Some kind ↦ λ f. grind (arith, f) ] e
+    elim (kind_of word) as (λ o. IsPlainErr (cond (is_word (codes "DFF") word) (said_by_register at name uses) (said_by_gate at name uses o))) [
+      | None ↦ λ f. grind (arith, f)
+      | Some kind ↦ λ f. grind (arith, f)
+    ] e
 form_plain at (Some (Memory outs word enable address words)) e = grind (arith, e)
 
 row_plain : (earlier : List Placed) (o : Option Row) → IsPlain (row_fault earlier o)
 unfolding said
 row_plain earlier None = λ e. cc
-row_plain earlier (Some row) = by_said (said row) (form_plain row.at (form_of row.pieces)) where
-  by_said : (r : Result Line BenchNo) → IsPlainErr r → IsPlain (said_fault earlier (placed_by row.at r))
-  by_said (Ok line) plain = line_plain earlier (record { at = row.at; line = line })
-  by_said (Err fault) plain = λ e. plain cc
+row_plain earlier (Some row) =
+    elim (said row) as (λ r. IsPlainErr r → IsPlain (said_fault earlier (placed_by row.at r))) [
+      | Ok line ↦ λ plain. line_plain earlier (record { at = row.at; line = line })
+      | Err fault ↦ λ plain e. plain cc
+    ] (form_plain row.at (form_of row.pieces))
 
 fault_plain : (text : List ℕ) → IsPlain (first_fault text)
 unfolding first_fault rows_fault uses_fault
