@@ -1,9 +1,9 @@
 -- The rows of lines that are written with names say those lines, and their text has no fault of its bytes.
 use Rattle.std.proofs.Common.{◌≡◌, Bool, length, ℕ, ◌+◌, true, false, List, [], ◌∷◌, ◌++◌, None, Ok, ap, ◌∙◌, refl, arith, append_assoc}
 use Rattle.std.specs.Prelude.{codes}
-use Rattle.std.specs.List.{All, AllByRecursion, flat_map, enumerate_from}
+use Rattle.std.specs.List.{All, flat_map, enumerate_from}
 use Rattle.std.proofs.lemmas.Bool.{cond-true, cond-false, false_from_ne_true}
-use Rattle.std.proofs.lemmas.List.Elements.{All-head, All-tail, All-weaker, recursion_from_All}
+use Rattle.std.proofs.lemmas.List.Elements.{All-head, All-tail}
 use Rattle.list_laws.proofs.Members.{all_front, all_back}
 use Rattle.logic_four.specs.declared.Kind.{Kind}
 use Rattle.logic_four.specs.declared.Kind.TheVariants.{And}
@@ -90,22 +90,21 @@ form_some at (forms.Port word name) = refl
 form_some at form = refl
 
 -- their text is clean, and its rows say them
-lines_read : (lines : List Line) → AllByRecursion IsSaid lines → AreClean (text_of_lines lines) × ((n : ℕ) → Say (rows_in (enumerate_from n (parts_of (text_of_lines lines)))) lines)
+lines_read : (lines : List Line) → All (IsWhole IsName) lines → AreClean (text_of_lines lines) × ((n : ℕ) → Say (rows_in (enumerate_from n (parts_of (text_of_lines lines)))) lines)
 unfolding parts_of text_of_lines written is_name_byte is_visible
 lines_read [] all = (tt, λ n. tt)
 lines_read (line ∷ lines) all =
     let bytes = flat_map written_piece (spelled (form_by line)) in
     let text = text_of_lines lines in
-    let is = all.0.read in
-    let rest = lines_read lines all.1 in (
+    let said = line_said line (All-head (IsWhole IsName) line lines all) in
+    let is = said.read in
+    let rest = lines_read lines (All-tail (IsWhole IsName) line lines all) in (
       rw (append_assoc bytes (10 ∷ []) text) (is.clean (10 ∷ text) (refl, omega arith, rest.0)),
       λ n. rw (append_assoc bytes (10 ∷ []) text, line_cut bytes text is.plain, part_plain bytes is.plain, is.read, form_some n (form_by line))
-          (record { form = form_by line; spelling = refl; word = all.0.word n }, rest.1 (n + 1)),
+          (record { form = form_by line; spelling = refl; word = said.word n }, rest.1 (n + 1)),
     )
 
 -- the bytes have no fault, and the rows say the lines
 pub whole_read : (lines : List Line) → All (IsWhole IsName) lines → (byte_fault (text_of_lines lines) ≡ None) × Say (rows_of (text_of_lines lines)) lines
 unfolding rows_of
-whole_read lines all =
-    let is = lines_read lines (recursion_from_All IsSaid lines (All-weaker (IsWhole IsName) IsSaid line_said lines all)) in
-    (no_fault (text_of_lines lines) is.0, is.1 1)
+whole_read lines all = let is = lines_read lines all in (no_fault (text_of_lines lines) is.0, is.1 1)
