@@ -25,11 +25,9 @@ use Rattle.bench_read.proofs.PieceLemmas.{line_cut, part_plain, no_fault, AreCle
 
 -- the numbers of its names are allowed
 abbrev pub is_allowed : Line → Bool
-is_allowed (Input name) = true
-is_allowed (Output name) = true
 is_allowed (Gate name kind uses) = allows_operands kind (length uses)
-is_allowed (Register name use_) = true
 is_allowed (Memory outs enable address words) = allows_memory (length address) (length words) (length outs)
+is_allowed line = true
 
 -- the numbers are allowed, and this holds of each name
 pub record IsWhole (P : List ℕ → Type 0) (line : Line) : Type 0 where

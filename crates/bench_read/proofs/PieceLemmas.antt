@@ -50,10 +50,6 @@ sign_read m e is = record { read = ap (λ ps. Sign m ∷ ps) is.read; plain = is
 
 -- ---- names
 
-plain_byte : (byte : ℕ) → is_name_byte byte ≡ true → is_plain byte ≡ true
-unfolding is_name_byte
-plain_byte byte is = grind (arith, is)
-
 -- name bytes before what ends a name: behind one more they are read as a name, they are plain, so many stand at the front, and they are clean
 record AreNamed (name rest : List ℕ) : Type 0 where
   pub read : (byte : ℕ) → is_name_byte byte ≡ true → pieces_of (byte ∷ (name ++ rest)) ≡ Word (byte ∷ name) ∷ pieces_of rest
@@ -62,18 +58,20 @@ record AreNamed (name rest : List ℕ) : Type 0 where
   pub clean : length name ≤ MAX_NAME_BYTES → AreClean rest → AreClean (name ++ rest)
 
 named : (name rest : List ℕ) → list_all is_name_byte name ≡ true → goes_on rest ≡ false → AreNamed name rest
+unfolding is_name_byte
 named [] [] all ends = record { read = λ byte is. grind (arith, is, (named_byte byte is).no_sign); plain = refl; count = refl; clean = λ short c. c }
 named [] (next ∷ rest) all ends =
     record { read = λ byte is. grind (arith, is, (named_byte byte is).no_sign, ends); plain = refl; count = cond-false _ _ _ ends; clean = λ short c. c }
 named (byte ∷ name) rest all ends =
     let here = and_parts (is_name_byte byte) (list_all is_name_byte name) all in
+    let plain : is_plain byte ≡ true = grind (arith, here.0) in
     let later = named name rest here.1 ends in
     let count : prefix_len is_name_byte (byte ∷ (name ++ rest)) ≡ suc (length name) = rw (here.0, later.count) (omega arith) in
     record {
       read = λ first is. grind (arith, is, (named_byte first is).no_sign, here.0, later.read byte here.0);
-      plain = rw (plain_byte byte here.0) later.plain;
+      plain = rw plain later.plain;
       count = count;
-      clean = λ short c. (or_right (byte == 10) (is_plain byte) (plain_byte byte here.0), omega (arith, count, short), later.clean (omega (arith, short)) c);
+      clean = λ short c. (or_right (byte == 10) (is_plain byte) plain, omega (arith, count, short), later.clean (omega (arith, short)) c);
     }
 
 -- a name and a mark before them
