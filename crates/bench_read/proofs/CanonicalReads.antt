@@ -1,15 +1,15 @@
 -- The lines of a valid netlist are allowed and sound, so that its canonical text reads as it.
-use Rattle.std.proofs.Common.{◌≡◌, slice_get, ℕ, suc, true, cond, List, [], ◌∷◌, length, Some, refl, sym, ap, ◌∙◌, subst, inl, inr, arith, bytes_eq, ◌==◌, Bool, false, ◌++◌, map, get_or, Option, None}
-use Rattle.std.specs.List.{All, count_by, list_any, sum_by, flat_map}
-use Rattle.std.proofs.lemmas.Bool.{cases_Bool, false_from_ne_true, true_from_ne_false, both_ways, cond-true, cond-false}
-use Rattle.std.proofs.lemmas.List.{length-map}
-use Rattle.std.proofs.lemmas.List.Elements.{All-weaker, All-nil, All-cons, All-append, All-map}
-use Rattle.std.proofs.lemmas.List.Folds.{Any-from_list_any}
+use Rattle.std.proofs.Common.{◌≡◌, ◌<◌, slice_get, ℕ, zero, suc, true, cond, List, [], ◌∷◌, length, Some, refl, sym, ap, ◌∙◌, subst, arith, bytes_eq, false, ◌++◌, map, get_or, None}
+use Rattle.std.specs.List.{All, AllByRecursion, count_by, list_any, flat_map}
+use Rattle.std.proofs.lemmas.Bool.{false_from_ne_true, true_from_ne_false, both_ways, ne_eqb}
+use Rattle.std.proofs.lemmas.List.{length-map, get_or-map}
+use Rattle.std.proofs.lemmas.List.Elements.{All-from_recursion, All-weaker, All-nil, All-cons, All-append, All-map}
+use Rattle.std.proofs.lemmas.List.Folds.{list_any_none, list_any_at}
 use Rattle.std.proofs.lemmas.List.Sums.{sum_by-cons}
-use Rattle.std.proofs.lemmas.Option.{slice_get-get_or, slice_get_within}
+use Rattle.std.proofs.lemmas.Option.{slice_get-get_or, slice_get_within, get_or_from_slice_get}
 use Rattle.std.proofs.lemmas.List.FromFn.{length-range_with_len}
 use Rattle.list_laws.proofs.Members.{all_flat_of}
-use Rattle.list_laws.proofs.Tests.{any_within, count_none, none_counted, list_any-map}
+use Rattle.list_laws.proofs.Tests.{count_none, none_counted}
 use Rattle.logic_four.specs.Kinds.{allows_operands}
 use Rattle.text_lines.specs.Names.{IsName}
 use Rattle.bench_text.specs.Tokens.{first_fault as byte_fault}
@@ -17,19 +17,18 @@ use Rattle.net_defs.specs.declared.netlist.Netlist.{Netlist}
 use Rattle.net_defs.specs.declared.netlist.Signal.{Signal}
 use Rattle.net_defs.specs.declared.netlist.Driver.TheVariants as driver
 use Rattle.net_defs.specs.Canonical.{name_of, canonical_text}
-use Rattle.net_defs.specs.Valid.{IsSignal, NamesDiffer, IsValid, memory_operand_count, IsDrivable}
+use Rattle.net_defs.specs.Valid.{IsSignal, NamesDiffer, IsValid, IsDrivable}
 use Rattle.net_defs.specs.declared.netlist.Block.{Block}
 use Rattle.net_defs.specs.declared.netlist.Driver.{Driver}
 use Rattle.bench_line.specs.Rows.{rows_of}
-use Rattle.bench_read.specs.Lines.{Line, used, all_driven, all_used, Output}
+use Rattle.bench_read.specs.Lines.{used, all_driven, all_used, Output, Memory}
 use Rattle.bench_read.specs.Saying.{Say}
-use Rattle.bench_read.specs.Netlists.{number}
 use Rattle.bench_read.specs.Reads.{AreOnce, AreAmong, Reads}
-use Rattle.bench_read.specs.Written.{lines_of, names_at, input_line, memory_line, driver_line}
-use Rattle.bench_read.proofs.CanonicalNet.{number_is, names_are, netlist_is}
-use Rattle.bench_read.proofs.CanonicalRows.{whole_bytes, whole_rows, IsWhole}
-use Rattle.bench_read.proofs.NameLemmas.{same_name}
-use Rattle.bench_read.proofs.MadeLemmas.{names_from, made_operands, signal_operands}
+use Rattle.bench_read.specs.Written.{lines_of, names_at, input_line, driver_line}
+use Rattle.bench_read.proofs.CanonicalNet.{names_are, netlist_is}
+use Rattle.bench_read.proofs.CanonicalRows.{whole_read, IsWhole}
+use Rattle.bench_read.proofs.NameLemmas.{same_name, same_bytes}
+use Rattle.bench_read.proofs.MadeLemmas.{names_from, made_operands}
 use Rattle.bench_read.proofs.NumberLemmas.{either_order, names_length}
 use Rattle.bench_read.proofs.ShapeLemmas.{canonical_is_written}
 use Rattle.bench_read.proofs.CutLemmas.{name_is, outs_are}
@@ -47,58 +46,39 @@ module _ (net : Netlist) (valid : IsValid net) (P : List ℕ → Type 0) (holds 
   one : (name : List ℕ) → P name → All P (name ∷ [])
   one name is = All-cons P name [] is (All-nil P)
 
-  alone : (line : Line) → IsWhole P line → All (IsWhole P) (line ∷ [])
-  alone line is = All-cons (IsWhole P) line [] is (All-nil (IsWhole P))
-
-  memory_whole : (m : ℕ) (o : Option Block) → slice_get net.blocks m ≡ o → All (IsWhole P) (memory_line net o)
-  memory_whole m None e = All-nil (IsWhole P)
-  memory_whole m (Some memory) e =
-      let is = valid.memories m memory e in
-      alone _ (record {
-        allowed = grind (
-          arith,
-          is.address_bits,
-          is.word_bits,
-          length-map memory.address (name_of net),
-          length-map memory.word (name_of net),
-          length-map memory.outs (name_of net),
-          ap length is.outs ∙ length-range_with_len _ (length memory.word),
-        );
+  memory_whole : (m : ℕ) (memory : Block) → slice_get net.blocks m ≡ Some memory → IsWhole P (Memory (names_at net memory.outs) (name_of net memory.we) (names_at net memory.address) (names_at net memory.word))
+  memory_whole m memory at =
+      let is = valid.memories m memory at in
+      record {
+        allowed = simp length-map (grind (arith, is.address_bits, is.word_bits, ap length is.outs ∙ length-range_with_len _ (length memory.word)));
         driven = names_hold memory.outs (outs_are net m memory is);
-        used =
-            All-cons P (name_of net memory.we) _ (name_holds memory.we is.enable)
+        used = All-cons P (name_of net memory.we) _ (name_holds memory.we is.enable)
             (All-append P (names_at net memory.address) (names_at net memory.word) (names_hold memory.address is.address) (names_hold memory.word is.word));
-      })
+      }
 
-  driver_whole : (s : ℕ) (name : List ℕ) (drive : Driver) → P name → IsDrivable net s drive → All (IsWhole P) (driver_line net (record { name = name; driver = drive }))
-  driver_whole s name driver.Input named is = All-nil (IsWhole P)
-  driver_whole s name (driver.Gate kind ops) named is =
-      alone _ (record { allowed = ap (allows_operands kind) (length-map ops (name_of net)) ∙ is.0; driven = one name named; used = names_hold ops is.1 })
-  driver_whole s name (driver.Dff op) named is = alone _ (record { allowed = refl; driven = one name named; used = one (name_of net op) (name_holds op is) })
-  driver_whole s name (driver.BlockBit m bit) named is = by_test (bit == 0) where
-    by_test : (b : Bool) → All (IsWhole P) (cond b (memory_line net (slice_get net.blocks m)) [])
-    by_test true = memory_whole m (slice_get net.blocks m) refl
-    by_test false = All-nil (IsWhole P)
-
-  input_whole : (name : List ℕ) (drive : Driver) → P name → All (IsWhole P) (input_line (record { name = name; driver = drive }))
-  input_whole name driver.Input named = alone _ (record { allowed = refl; driven = one name named; used = All-nil P })
-  input_whole name drive named = All-nil (IsWhole P)
-
-  -- what each signal has
-  each_whole : (each : Signal → List Line) → ((s : ℕ) (signal : Signal) → slice_get net.signals s ≡ Some signal → All (IsWhole P) (each signal)) → All (IsWhole P) (flat_map each net.signals)
-  each_whole each whole = all_flat_of (IsWhole P) each net.signals (λ s d within. whole s (get_or net.signals s d) (slice_get-get_or net.signals s d within))
+  -- the line of an input, and that of another signal
+  signal_whole : (s : ℕ) (name : List ℕ) (drive : Driver) → P name → IsDrivable net s drive
+      → AllByRecursion (IsWhole P) (input_line (record { name = name; driver = drive })) × AllByRecursion (IsWhole P) (driver_line net (record { name = name; driver = drive }))
+  signal_whole s name driver.Input named is = ((record { allowed = refl; driven = one name named; used = All-nil P }, tt), tt)
+  signal_whole s name (driver.Gate kind ops) named is =
+      (tt, (record { allowed = ap (allows_operands kind) (length-map ops (name_of net)) ∙ is.0; driven = one name named; used = names_hold ops is.1 }, tt))
+  signal_whole s name (driver.Dff op) named is = (tt, (record { allowed = refl; driven = one name named; used = one (name_of net op) (name_holds op is) }, tt))
+  signal_whole s name (driver.BlockBit m zero) named is = rw is.1 (tt, (memory_whole m is.0 is.1, tt))
+  signal_whole s name (driver.BlockBit m (suc bit)) named is = rw (ne_eqb (suc bit) 0 (λ e. omega (arith, e))) (tt, tt)
 
   -- all lines are whole
   pub lines_whole : All (IsWhole P) (lines_of net)
   unfolding lines_of
   lines_whole =
-      let inputs = flat_map input_line net.signals in
-      let outputs = map (λ s. Output (name_of net s)) net.printed in
-      All-append (IsWhole P) (inputs ++ outputs) (flat_map (driver_line net) net.signals)
-      (All-append (IsWhole P) inputs outputs (each_whole input_line (λ s signal at. input_whole signal.name signal.driver (holds s signal at)))
+      let whole = λ (s : ℕ) (d : Signal) (within : IsSignal net s).
+      let at = slice_get-get_or net.signals s d within in signal_whole s (get_or net.signals s d).name (get_or net.signals s d).driver (holds s _ at) (valid.drivers s _ at)
+      in
+      All-append (IsWhole P) (flat_map input_line net.signals ++ map (λ s. Output (name_of net s)) net.printed) (flat_map (driver_line net) net.signals)
+      (All-append (IsWhole P) (flat_map input_line net.signals) (map (λ s. Output (name_of net s)) net.printed)
+      (all_flat_of (IsWhole P) input_line net.signals (λ s d within. All-from_recursion (IsWhole P) _ (whole s d within).0))
       (All-map (IsWhole P) (λ s. Output (name_of net s)) net.printed
       (λ i d within. record { allowed = refl; driven = All-nil P; used = one _ (name_holds (get_or net.printed i d) (valid.printed i d within)) })))
-      (each_whole (driver_line net) (λ s signal at. driver_whole s signal.name signal.driver (holds s signal at) (valid.drivers s signal at)))
+      (all_flat_of (IsWhole P) (driver_line net) net.signals (λ s d within. All-from_recursion (IsWhole P) _ (whole s d within).1))
 
 -- ---- names
 
@@ -108,56 +88,46 @@ names_once [] differ name = omega arith
 names_once (x ∷ signals) differ name =
     let rest = names_once signals (λ s t one other e f same. omega (arith, differ (suc s) (suc t) one other e f same)) name in
     let all = sum_by-cons (λ (n : List ℕ). cond (bytes_eq name n) 1 0) x.name (names_from signals) in
-    elim (cases_Bool (bytes_eq name x.name)) [
-      | inl same ↦
-          let none = false_from_ne_true (list_any (bytes_eq name) (names_from signals))
-          (λ some.
-          let found = Any-from_list_any (λ (y : Signal). bytes_eq name y.name) signals (sym (list_any-map (bytes_eq name) (λ (y : Signal). y.name) signals) ∙ some) in
-          let there = slice_get-get_or signals found.0 found.1 found.2 ∙ ap Some found.3 in
-          absurd (omega (arith, differ 0 (suc found.0) x found.1 refl there (sym (same_name name x.name same) ∙ same_name name found.1.name found.4)))) in
-          omega (arith, all, cond-true {A = ℕ} _ 1 0 same, count_none (bytes_eq name) (names_from signals) none)
-      | inr other ↦ omega (arith, all, cond-false {A = ℕ} _ 1 0 other, rest)
-    ]
+    let none : bytes_eq name x.name ≡ true → count_by (bytes_eq name) (names_from signals) ≡ 0 = λ same.
+        let differs = λ (t : ℕ) (d : Signal) (within : t < length signals) (other : bytes_eq name (get_or signals t d).name ≡ true).
+            differ 0 (suc t) x _ refl (slice_get-get_or signals t d within) (sym (same_name name x.name same) ∙ same_name name _ other)
+        in
+        let others = All-map (λ n. bytes_eq name n ≡ false) (λ (y : Signal). y.name) signals (λ t d within. false_from_ne_true _ (λ other. omega (arith, differs t d within other))) in
+        count_none (bytes_eq name) (names_from signals) (list_any_none (bytes_eq name) (names_from signals) others)
+    in grind (arith, all, none, rest)
 
 module _ (net : Netlist) (valid : IsValid net) where
-  abbrev lines : List Line
-  lines = lines_of net
-
   -- as many of the driven names are this one as of the names of signals
-  count_is : (name : List ℕ) → count_by (bytes_eq name) (all_driven lines) ≡ count_by (bytes_eq name) (names_from net.signals)
-  count_is name = sym (either_order (λ n. cond (bytes_eq name n) 1 0) lines) ∙ ap (count_by (bytes_eq name)) (names_are net valid)
+  count_is : (name : List ℕ) → count_by (bytes_eq name) (all_driven (lines_of net)) ≡ count_by (bytes_eq name) (names_from net.signals)
+  count_is name = sym (either_order (λ n. cond (bytes_eq name n) 1 0) (lines_of net)) ∙ ap (count_by (bytes_eq name)) (names_are net valid)
 
   -- the name of a signal is driven
-  is_driven : (s : ℕ) (signal : Signal) → slice_get net.signals s ≡ Some signal → list_any (bytes_eq signal.name) (all_driven lines) ≡ true
+  is_driven : (s : ℕ) (signal : Signal) → slice_get net.signals s ≡ Some signal → list_any (bytes_eq signal.name) (all_driven (lines_of net)) ≡ true
   is_driven s signal at =
       let within = slice_get_within net.signals s signal at in
-      let number : number (names_from net.signals) signal.name ≡ s = ap (number (names_from net.signals)) (sym (name_is net s signal at)) ∙ number_is net valid s within in
-      let some = any_within (bytes_eq signal.name) (names_from net.signals) (omega (arith, number, within, length-map net.signals (λ (x : Signal). x.name))) in
+      let here = get_or-map (λ (x : Signal). x.name) net.signals s signal [] within ∙ ap (λ (x : Signal). x.name) (get_or_from_slice_get net.signals s signal signal at) in
+      let some = list_any_at (bytes_eq signal.name) (names_from net.signals) s [] (omega (arith, within, length-map net.signals (λ (x : Signal). x.name))) (rw here (same_bytes signal.name)) in
       true_from_ne_false _
-      (λ none. both_ways _ (none_counted (bytes_eq signal.name) (names_from net.signals) (sym (count_is signal.name) ∙ count_none (bytes_eq signal.name) (all_driven lines) none)) some)
+      (λ none. both_ways _ (none_counted (bytes_eq signal.name) (names_from net.signals) (sym (count_is signal.name) ∙ count_none (bytes_eq signal.name) (all_driven (lines_of net)) none)) some)
 
-  all_among : AreAmong (all_driven lines) (all_used lines)
+  all_among : AreAmong (all_driven (lines_of net)) (all_used (lines_of net))
   unfolding all_used
   all_among =
-      let Among : List ℕ → Type 0 = λ name. list_any (bytes_eq name) (all_driven lines) ≡ true in
-      all_flat_of Among used lines (All-weaker (IsWhole Among) (λ line. All Among (used line)) (λ line is. is.used) lines (lines_whole net valid Among is_driven))
+      let Among : List ℕ → Type 0 = λ name. list_any (bytes_eq name) (all_driven (lines_of net)) ≡ true in
+      all_flat_of Among used (lines_of net) (All-weaker (IsWhole Among) (λ line. All Among (used line)) (λ line is. is.used) (lines_of net) (lines_whole net valid Among is_driven))
 
   pub reads : Reads (canonical_text net) net
-  reads = record {
-    lines = lines;
-    bytes = ap byte_fault (canonical_is_written net) ∙ whole_bytes lines (lines_whole net valid IsName valid.names);
-    said = subst (λ text. Say (rows_of text) lines) (sym (canonical_is_written net)) (whole_rows lines (lines_whole net valid IsName valid.names));
-    sound = record {
-      once = λ name. omega (arith, count_is name, names_once net.signals valid.distinct name);
-      few_signals = omega (arith, names_length lines, ap length (names_are net valid), length-map net.signals (λ (x : Signal). x.name), valid.few_signals);
-      few_operands = omega (
-        arith,
-        made_operands lines,
-        ap (λ (n : Netlist). sum_by signal_operands n.signals) (netlist_is net valid),
-        ap (λ (n : Netlist). sum_by memory_operand_count n.blocks) (netlist_is net valid),
-        valid.few_operands,
-      );
-      driven = all_among;
-    };
-    netlist = sym (netlist_is net valid);
-  }
+  reads =
+      let read = subst (λ text. (byte_fault text ≡ None) × Say (rows_of text) (lines_of net)) (sym (canonical_is_written net)) (whole_read (lines_of net) (lines_whole net valid IsName valid.names)) in
+      record {
+        lines = lines_of net;
+        bytes = read.0;
+        said = read.1;
+        sound = record {
+          once = λ name. omega (arith, count_is name, names_once net.signals valid.distinct name);
+          few_signals = omega (arith, names_length (lines_of net), ap length (names_are net valid), length-map net.signals (λ (x : Signal). x.name), valid.few_signals);
+          few_operands = omega (arith, rw (netlist_is net valid) at (made_operands (lines_of net)), valid.few_operands);
+          driven = all_among;
+        };
+        netlist = sym (netlist_is net valid);
+      }

@@ -1,9 +1,9 @@
 -- The rows of lines that are written with names say those lines, and their text has no fault of its bytes.
-use Rattle.std.proofs.Common.{◌≡◌, Bool, length, ℕ, ◌+◌, true, false, cond, List, [], ◌∷◌, ◌++◌, map, None, Ok, sym, ap, ◌∙◌, subst, refl, arith, append-nil, append_assoc}
-use Rattle.std.specs.Prelude.{codes, filter}
+use Rattle.std.proofs.Common.{◌≡◌, Bool, length, ℕ, ◌+◌, true, false, List, [], ◌∷◌, ◌++◌, None, Ok, ap, ◌∙◌, refl, arith, append_assoc}
+use Rattle.std.specs.Prelude.{codes}
 use Rattle.std.specs.List.{All, flat_map, enumerate_from}
 use Rattle.std.proofs.lemmas.Bool.{cond-true, cond-false, false_from_ne_true}
-use Rattle.std.proofs.lemmas.List.Elements.{All-head, All-tail, All-weaker}
+use Rattle.std.proofs.lemmas.List.Elements.{All-head, All-tail}
 use Rattle.list_laws.proofs.Members.{all_front, all_back}
 use Rattle.logic_four.specs.declared.Kind.{Kind}
 use Rattle.logic_four.specs.declared.Kind.TheVariants.{And}
@@ -13,24 +13,21 @@ use Rattle.text_lines.specs.Bytes.{is_visible}
 use Rattle.text_lines.specs.Names.{IsName, is_mark, is_name_byte}
 use Rattle.text_lines.specs.Lines.{parts_of}
 use Rattle.bench_text.specs.Tokens.{first_fault as byte_fault}
-use Rattle.bench_text.specs.declared.token.Mark.TheVariants.{Close, Semi}
+use Rattle.bench_text.specs.declared.token.Mark.TheVariants.{Open, Close, Semi, Equals, Left, Right}
 use Rattle.bench_line.specs.Forms.{Form}
 use Rattle.bench_line.specs.Forms as forms
-use Rattle.bench_line.specs.Spelling.{Piece, Sign, commas, listed, spelled}
-use Rattle.bench_line.specs.Rows.{Row, is_some, row_of, rows_of}
+use Rattle.bench_line.specs.Spelling.{spelled}
+use Rattle.bench_line.specs.Rows.{is_some, rows_in, rows_of}
 use Rattle.bench_read.specs.Lines.{driven, used, Line, Input, Output, Gate, Register, Memory}
-use Rattle.bench_read.specs.Saying.{is_word, said_by_gate, said_by_form, Says, Say, allows_memory}
+use Rattle.bench_read.specs.Saying.{is_word, said_by_gate, said_by_form, Say, allows_memory}
 use Rattle.bench_read.specs.Written.{some_of, form_by, written_piece, written, text_of_lines}
-use Rattle.bench_read.proofs.PieceLemmas.{AreClean, AreApart, text_onto, text_onto_is, written_read, written_plain, written_clean}
-use Rattle.bench_read.proofs.TextLemmas.{line_cut, part_plain, no_fault}
+use Rattle.bench_read.proofs.PieceLemmas.{line_cut, part_plain, no_fault, AreClean, AreRead, none_read, sign_read, word_read, listed_read}
 
 -- the numbers of its names are allowed
 abbrev pub is_allowed : Line → Bool
-is_allowed (Input name) = true
-is_allowed (Output name) = true
 is_allowed (Gate name kind uses) = allows_operands kind (length uses)
-is_allowed (Register name use_) = true
 is_allowed (Memory outs enable address words) = allows_memory (length address) (length words) (length outs)
+is_allowed line = true
 
 -- the numbers are allowed, and this holds of each name
 pub record IsWhole (P : List ℕ → Type 0) (line : Line) : Type 0 where
@@ -53,89 +50,59 @@ no_register kind = false_from_ne_true _ (λ same. cc (canonical kind, any_case (
 
 -- ---- lines
 
-commas_apart : (names : List (List ℕ)) (rest : List Piece) → All IsName names → AreApart true rest → AreApart true (commas names ++ rest)
-commas_apart [] rest all apart = apart
-commas_apart (name ∷ names) rest all apart = (refl, (All-head IsName name names all, commas_apart names rest (All-tail IsName name names all) apart))
+port_read : (word name : List ℕ) → IsName word → All IsName (name ∷ []) → AreRead (spelled (forms.Port word name))
+port_read word name is named = word_read word Open is refl (listed_read name [] Close named refl none_read)
 
-listed_apart : (name : List ℕ) (names : List (List ℕ)) (rest : List Piece) → All IsName (name ∷ names) → AreApart true rest → AreApart false (listed (some_of (name ∷ names)) ++ rest)
-listed_apart name names rest all apart = (All-head IsName name names all, commas_apart names rest (All-tail IsName name names all) apart)
+gate_read : (name word first : List ℕ) (others : List (List ℕ)) → IsName word → All IsName (name ∷ []) → All IsName (first ∷ others) → AreRead (spelled (forms.Gate name word (some_of (first ∷ others))))
+gate_read name word first others is named uses = listed_read name [] Equals named refl (word_read word Open is refl (listed_read first others Close uses refl none_read))
 
--- the form of the line: names stand apart in its spelling, and it says the line
+-- the form of the line is read, and says it
 record IsSaid (line : Line) : Type 0 where
-  pub apart : AreApart false (spelled (form_by line))
+  pub read : AreRead (spelled (form_by line))
   pub word : (at : ℕ) → said_by_form at (form_by line) ≡ Ok line
 
 line_said : (line : Line) → IsWhole IsName line → IsSaid line
 unfolding is_name_byte is_visible is_mark
-line_said (Input name) is = record { apart = (record { some = omega arith; short = omega arith; bytes = refl }, (refl, (All-head IsName name [] is.driven, (refl, tt)))); word = λ at. refl }
-line_said (Output name) is = record { apart = (record { some = omega arith; short = omega arith; bytes = refl }, (refl, (All-head IsName name [] is.used, (refl, tt)))); word = λ at. refl }
+line_said (Input name) is = record { read = port_read _ name (record { some = omega arith; short = omega arith; bytes = refl }) is.driven; word = λ at. refl }
+line_said (Output name) is = record { read = port_read _ name (record { some = omega arith; short = omega arith; bytes = refl }) is.used; word = λ at. refl }
 line_said (Gate name kind []) is = absurd (omega (arith, some_operands kind 0 is.allowed))
 line_said (Gate name kind (first ∷ others)) is = record {
-  apart = (All-head IsName name [] is.driven, (refl, (kind_is kind, (refl, listed_apart first others (Sign Close ∷ []) is.used (refl, tt)))));
+  read = gate_read name (kind_word kind) first others (kind_is kind) is.driven is.used;
   word = λ at. cond-false _ _ _ (no_register kind) ∙ ap (said_by_gate at name (some_of (first ∷ others))) (canonical kind) ∙ cond-true _ _ _ is.allowed;
 }
-line_said (Register name use_) is = record { apart = (All-head IsName name [] is.driven, (refl, (record { some = omega arith; short = omega arith; bytes = refl }, (refl, listed_apart use_ [] (Sign Close ∷ []) is.used (refl, tt))))); word = λ at. refl }
-line_said (Memory outs enable [] words) is = cc is.allowed
-line_said (Memory outs enable (a ∷ address) []) is = absurd (grind (arith, is.allowed))
-line_said (Memory [] enable (a ∷ address) (w ∷ words)) is = absurd (grind (arith, is.allowed))
+line_said (Register name use_) is =
+    record { read = gate_read name _ use_ [] (record { some = omega arith; short = omega arith; bytes = refl }) is.driven is.used; word = λ at. refl }
 line_said (Memory (o ∷ outs) enable (a ∷ address) (w ∷ words)) is =
     let uses = All-tail IsName enable (a ∷ address ++ w ∷ words) is.used in
-    let word = listed_apart w words (Sign Close ∷ []) (all_back IsName (a ∷ address) (w ∷ words) uses) (refl, tt) in
-    let both = listed_apart a address (Sign Semi ∷ (listed (some_of (w ∷ words)) ++ Sign Close ∷ [])) (all_front IsName (a ∷ address) (w ∷ words) uses) (refl, word) in
-    let enabled = All-head IsName enable (a ∷ address ++ w ∷ words) is.used in
-    record {
-      apart = (refl, listed_apart o outs _ is.driven (refl, (refl, (record { some = omega arith; short = omega arith; bytes = refl }, (refl, (enabled, (refl, both)))))));
-      word = λ at. cond-true _ _ _ is.allowed;
-    }
+    let word = listed_read w words Close (all_back IsName (a ∷ address) (w ∷ words) uses) refl none_read in
+    let both = listed_read a address Semi (all_front IsName (a ∷ address) (w ∷ words) uses) refl word in
+    let enabled = word_read enable Semi (All-head IsName enable (a ∷ address ++ w ∷ words) is.used) refl both in
+    let ram = word_read (codes "RAM") Open (record { some = omega arith; short = omega arith; bytes = refl }) refl enabled in
+    record { read = sign_read Left refl (listed_read o outs Right is.driven refl (sign_read Equals refl ram)); word = λ at. cond-true _ _ _ is.allowed }
+line_said (Memory outs enable address words) is = absurd (grind (arith, is.allowed))
 
 -- ---- texts
 
--- what is written of a line, but for the line end
-abbrev part_by : Line → List ℕ
-part_by line = text_onto (spelled (form_by line)) []
+form_some : (at : ℕ) (form : Form) → is_some (record { at = at; pieces = spelled form }) ≡ true
+form_some at (forms.Port word name) = refl
+form_some at form = refl
 
-clean : (lines : List Line) → All IsSaid lines → AreClean (text_of_lines lines)
-unfolding text_of_lines written is_name_byte is_visible
-clean [] all = tt
-clean (line ∷ lines) all =
-    let pieces = spelled (form_by line) in
-    subst AreClean
-    (sym (append_assoc (flat_map written_piece pieces) (10 ∷ []) (text_of_lines lines) ∙ text_onto_is pieces (10 ∷ text_of_lines lines)))
-    (written_clean false pieces (10 ∷ text_of_lines lines) (All-head IsSaid line lines all).apart refl
-    (refl, omega arith, clean lines (All-tail IsSaid line lines all)))
+-- their text is clean, and its rows say them
+lines_read : (lines : List Line) → All (IsWhole IsName) lines → AreClean (text_of_lines lines) × ((n : ℕ) → Say (rows_in (enumerate_from n (parts_of (text_of_lines lines)))) lines)
+unfolding parts_of text_of_lines written is_name_byte is_visible
+lines_read [] all = (tt, λ n. tt)
+lines_read (line ∷ lines) all =
+    let bytes = flat_map written_piece (spelled (form_by line)) in
+    let text = text_of_lines lines in
+    let said = line_said line (All-head (IsWhole IsName) line lines all) in
+    let is = said.read in
+    let rest = lines_read lines (All-tail (IsWhole IsName) line lines all) in (
+      rw (append_assoc bytes (10 ∷ []) text) (is.clean (10 ∷ text) (refl, omega arith, rest.0)),
+      λ n. rw (append_assoc bytes (10 ∷ []) text, line_cut bytes text is.plain, part_plain bytes is.plain, is.read, form_some n (form_by line))
+          (record { form = form_by line; spelling = refl; word = said.word n }, rest.1 (n + 1)),
+    )
 
--- they are the parts of the text
-parts_are : (lines : List Line) → All IsSaid lines → parts_of (text_of_lines lines) ≡ map part_by lines
-unfolding parts_of text_of_lines written
-parts_are [] all = refl
-parts_are (line ∷ lines) all =
-    let pieces = spelled (form_by line) in
-    let bytes = flat_map written_piece pieces in
-    let plain = written_plain false pieces (All-head IsSaid line lines all).apart in
-    rw (append_assoc bytes (10 ∷ []) (text_of_lines lines), sym (append-nil bytes) ∙ text_onto_is pieces [], line_cut (part_by line) (text_of_lines lines) plain, part_plain (part_by line) plain, parts_are lines (All-tail IsSaid line lines all)) refl
-
--- a row before rows, where it says a line
-one_more : (n : ℕ) (form : Form) (line : Line) (rows : List Row) (lines : List Line) → Says (record { at = n; pieces = spelled form }) line → Say rows lines
-    → Say (cond (is_some (record { at = n; pieces = spelled form })) (record { at = n; pieces = spelled form } ∷ rows) rows) (line ∷ lines)
-one_more n (forms.Port word name) line rows lines says rest = (says, rest)
-one_more n form line rows lines says rest = (says, rest)
-
-rows_say : (n : ℕ) (lines : List Line) → All IsSaid lines → Say (filter is_some (map row_of (enumerate_from n (map part_by lines)))) lines
-rows_say n [] all = tt
-rows_say n (line ∷ lines) all =
-    let is = All-head IsSaid line lines all in
-    let rows = filter is_some (map row_of (enumerate_from (n + 1) (map part_by lines))) in
-    subst (λ pieces. Say (cond (is_some (record { at = n; pieces = pieces })) (record { at = n; pieces = pieces } ∷ rows) rows) (line ∷ lines))
-    (sym (written_read false (spelled (form_by line)) is.apart))
-    (one_more n (form_by line) line rows lines (record { form = form_by line; spelling = refl; word = is.word n }) (rows_say (n + 1) lines (All-tail IsSaid line lines all)))
-
--- the bytes have no fault
-pub whole_bytes : (lines : List Line) → All (IsWhole IsName) lines → byte_fault (text_of_lines lines) ≡ None
-whole_bytes lines all = no_fault (text_of_lines lines) (clean lines (All-weaker (IsWhole IsName) IsSaid line_said lines all))
-
--- the rows say the lines
-pub whole_rows : (lines : List Line) → All (IsWhole IsName) lines → Say (rows_of (text_of_lines lines)) lines
+-- the bytes have no fault, and the rows say the lines
+pub whole_read : (lines : List Line) → All (IsWhole IsName) lines → (byte_fault (text_of_lines lines) ≡ None) × Say (rows_of (text_of_lines lines)) lines
 unfolding rows_of
-whole_rows lines all =
-    let said = All-weaker (IsWhole IsName) IsSaid line_said lines all in
-    subst (λ parts. Say (filter is_some (map row_of (enumerate_from 1 parts))) lines) (sym (parts_are lines said)) (rows_say 1 lines said)
+whole_read lines all = let is = lines_read lines all in (no_fault (text_of_lines lines) is.0, is.1 1)

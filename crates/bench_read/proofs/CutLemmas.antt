@@ -1,16 +1,13 @@
 -- The memories of a valid netlist: which signals they drive, and which of them stand before a signal.
-use Rattle.std.proofs.Common.{◌≡◌, ℕ, zero, suc, ◌+◌, ◌-◌, ◌<◌, ◌≤◌, [], length, drop, get_or, slice_get, Option, Some, None, sym, ap, ◌∙◌, subst, inl, inr, refl, arith, ⊎_elim}
+use Rattle.std.proofs.Common.{◌≡◌, ℕ, ◌+◌, ◌-◌, ◌<◌, ◌≤◌, [], length, drop, get_or, slice_get, Some, sym, ap, ◌∙◌, refl, arith}
 use Rattle.std.specs.List.{All}
-use Rattle.std.specs.Option.{option_map}
 use Rattle.std.proofs.lemmas.List.{drop_all}
 use Rattle.std.proofs.lemmas.Option.{slice_get_within, slice_get-get_or}
-use Rattle.std.proofs.lemmas.Bool.{cases_lt}
 use Rattle.list_laws.proofs.Places.{one_there}
 use Rattle.list_laws.proofs.Ranges.{range_get, range_at}
 use Rattle.net_defs.specs.declared.netlist.Netlist.{Netlist}
 use Rattle.net_defs.specs.declared.netlist.Signal.{Signal}
 use Rattle.net_defs.specs.declared.netlist.Block.{Block}
-use Rattle.net_defs.specs.declared.netlist.Driver.{Driver}
 use Rattle.net_defs.specs.declared.netlist.Driver.TheVariants.{BlockBit}
 use Rattle.net_defs.specs.Canonical.{name_of}
 use Rattle.net_defs.specs.Valid.{IsSignal, IsMemory, IsDrivable, IsValid}
@@ -29,106 +26,72 @@ outs_are net m memory is k d within =
 abbrev pub first_of : Block → ℕ
 first_of memory = get_or memory.outs 0 0
 
--- what drives the signal of this number, if there is one
-abbrev pub driver_at : Netlist → ℕ → Option Driver
-driver_at net s = option_map (λ (x : Signal). x.driver) (slice_get net.signals s)
-
 -- bit k of memory m drives signal s
 abbrev pub IsBit : Netlist → ℕ → ℕ → ℕ → Type 0
-IsBit net m k s = driver_at net s ≡ Some (BlockBit m k)
+IsBit net m k s = IsDrivable net s (BlockBit m k)
 
--- the signal that something drives
-pub signal_at : (net : Netlist) (s : ℕ) (driver : Driver) → driver_at net s ≡ Some driver → (signal : Signal) × (slice_get net.signals s ≡ Some signal) × (signal.driver ≡ driver)
-signal_at net s driver e = by_signal (slice_get net.signals s) refl e where
-  by_signal : (o : Option Signal) → slice_get net.signals s ≡ o → option_map (λ (x : Signal). x.driver) o ≡ Some driver → (signal : Signal) × (slice_get net.signals s ≡ Some signal) × (signal.driver ≡ driver)
-  by_signal None e f = cc
-  by_signal (Some signal) e f = (signal, e, cc)
+-- the signals of the first m memories stand before signal s, and those of the others from there on
+abbrev pub IsCut : Netlist → ℕ → ℕ → Type 0
+IsCut net s m = (n k t : ℕ) → IsBit net n k t → (n < m → t < s) × (m ≤ n → s ≤ t)
 
 module _ (net : Netlist) (valid : IsValid net) where
   -- ---- memories and their signals
 
-  -- the bits of a memory drive its outputs, side by side
-  pub bit_at : (m : ℕ) (memory : Block) (k s : ℕ) → slice_get net.blocks m ≡ Some memory → k < length memory.word → s ≡ first_of memory + k → IsBit net m k s
-  bit_at m memory k s at within place =
-      let is = valid.memories m memory at in
-      let driven = is.driven k s (ap (λ xs. slice_get xs k) is.outs ∙ range_get (first_of memory) (length memory.word) k within ∙ ap Some (sym place)) in
-      ap (option_map (λ (x : Signal). x.driver)) driven.1 ∙ ap Some driven.2
+  -- the outputs of a memory stand side by side
+  pub bit_at : (m : ℕ) (memory : Block) (k s : ℕ) → slice_get net.blocks m ≡ Some memory → k < length memory.word → s ≡ first_of memory + k → slice_get memory.outs k ≡ Some s
+  bit_at m memory k s at within place = ap (λ xs. slice_get xs k) (valid.memories m memory at).outs ∙ range_get (first_of memory) (length memory.word) k within ∙ ap Some (sym place)
 
-  -- the memory of a signal that one drives
-  pub record IsBitOf (m k s : ℕ) : Type 0 where
-    pub memory : Block
-    pub at : slice_get net.blocks m ≡ Some memory
-    pub place : s ≡ first_of memory + k
-    pub within : k < length memory.word
+  first_bit : (m : ℕ) (memory : Block) → slice_get net.blocks m ≡ Some memory → IsBit net m 0 (first_of memory)
+  first_bit m memory at = (memory, at, bit_at m memory 0 (first_of memory) at (omega (arith, (valid.memories m memory at).word_bits.0)) (omega arith))
 
-  pub bit_of : (m k s : ℕ) → IsBit net m k s → IsBitOf m k s
-  bit_of m k s bit =
-      let signal = signal_at net s (BlockBit m k) bit in
-      let d = subst (IsDrivable net s) signal.2 (valid.drivers s signal.0 signal.1) in
-      let found = range_at (first_of d.0) (length d.0.word) k s (ap (λ xs. slice_get xs k) (sym (valid.memories m d.0 d.1).outs) ∙ d.2) in
-      record { memory = d.0; at = d.1; place = found.0; within = found.1 }
+  pub bit_place : (m k s : ℕ) (bit : IsBit net m k s) → (s ≡ first_of bit.0 + k) × (k < length bit.0.word)
+  bit_place m k s bit = range_at (first_of bit.0) (length bit.0.word) k s (ap (λ xs. slice_get xs k) (sym (valid.memories m bit.0 bit.1).outs) ∙ bit.2)
+
+  -- what drives a signal that is a bit
+  bit_driver : (m k s t : ℕ) (signal : Signal) → IsBit net m k s → t ≡ s → slice_get net.signals t ≡ Some signal → signal.driver ≡ BlockBit m k
+  bit_driver m k s t signal bit same at =
+      let found = (valid.memories m bit.0 bit.1).driven k s bit.2 in ap (λ (x : Signal). x.driver) (one_there net.signals t s signal found.0 same at found.1) ∙ found.2
 
   -- ---- the memories before a signal
 
-  -- the first m memories stand before signal s, and the others from there on
-  pub record IsCut (s m : ℕ) : Type 0 where
-    pub before : (n : ℕ) (memory : Block) → slice_get net.blocks n ≡ Some memory → n < m → first_of memory + length memory.word ≤ s
-    pub after : (n : ℕ) (memory : Block) → slice_get net.blocks n ≡ Some memory → m ≤ n → s ≤ first_of memory
-
-  pub none_cut : IsCut 0 0
-  none_cut = record { before = λ n memory at less. absurd (omega arith); after = λ n memory at past. omega arith }
-
-  first_bit : (n : ℕ) (memory : Block) → slice_get net.blocks n ≡ Some memory → IsBit net n 0 (first_of memory)
-  first_bit n memory at = bit_at n memory 0 (first_of memory) at (omega (arith, (valid.memories n memory at).word_bits.0)) (omega arith)
+  pub none_cut : IsCut net 0 0
+  none_cut n k t bit = (λ less. absurd (omega arith), λ past. omega arith)
 
   -- a signal that no memory drives stands in none
-  pub cut_same : (s m : ℕ) → IsCut s m → ((n : ℕ) → IsBit net n 0 s → ⊥) → IsCut (suc s) m
-  cut_same s m cut plain = record {
-    before = λ n memory at less. omega (arith, cut.before n memory at less);
-    after = λ n memory at past.
-        ⊎_elim (λ more. omega arith)
-        (λ no_more. let here : first_of memory ≡ s = omega (arith, cut.after n memory at past) in absurd (plain n (subst (IsBit net n 0) here (first_bit n memory at))))
-        (cases_lt s (first_of memory));
-  }
+  pub cut_same : (s m : ℕ) (signal : Signal) → slice_get net.signals s ≡ Some signal → ((n k : ℕ) → signal.driver ≡ BlockBit n k → ⊥) → IsCut net s m → IsCut net (s + 1) m
+  cut_same s m signal at plain cut n k t bit =
+      let other : s ≡ t → ⊥ = λ same. plain n k (bit_driver n k t s signal bit same at) in
+      let sides = cut n k t bit in (λ less. omega (arith, sides.0), λ past. omega (arith, sides.1, other))
 
   -- a bit there is the first of the next memory
-  pub next_memory : (s m n k : ℕ) → IsCut s m → IsBit net n k s → (n ≡ m) × (k ≡ 0)
+  pub next_memory : (s m n k : ℕ) → IsCut net s m → IsBit net n k s → (n ≡ m) × (k ≡ 0)
   next_memory s m n k cut bit =
-      let b = bit_of n k s bit in
-      ⊎_elim (λ less. absurd (omega (arith, cut.before n b.memory b.at less, b.place, b.within)))
-      (λ past. (⊎_elim
-      (λ more.
-      let one = get_or net.blocks m b.memory in
-      let at : slice_get net.blocks m ≡ Some one = slice_get-get_or net.blocks m b.memory (omega (arith, slice_get_within net.blocks n b.memory b.at)) in
-      absurd (omega (arith, cut.after m one at (omega arith), valid.memories_in_order m n one b.memory at b.at more, cut.after n b.memory b.at past, b.place)))
-      (λ no_more. omega arith) (cases_lt m n), omega (arith, cut.after n b.memory b.at past, b.place)))
-      (cases_lt n m)
+      let here = cut n k s bit in
+      let place = bit_place n k s bit in
+      let own = cut n 0 (first_of bit.0) (first_bit n bit.0 bit.1) in
+      let one = get_or net.blocks m bit.0 in
+      let at : slice_get net.blocks m ≡ Some one = slice_get-get_or net.blocks m bit.0 (grind (arith, here.0, slice_get_within net.blocks n bit.0 bit.1)) in
+      let next = cut m 0 (first_of one) (first_bit m one at) in
+      (grind (arith, here.0, place.0, next.1, valid.memories_in_order m n one bit.0 at bit.1), grind (arith, here.0, place.0, own.1))
 
   -- with it that memory stands before
-  pub cut_more : (s m : ℕ) (memory : Block) → IsCut s m → slice_get net.blocks m ≡ Some memory → first_of memory ≡ s → IsCut (s + length memory.word) (suc m)
-  cut_more s m memory cut at first = record {
-    before = λ n other there less.
-        ⊎_elim (λ earlier. omega (arith, cut.before n other there earlier))
-        (λ no_earlier. let is : other ≡ memory = one_there net.blocks n m other memory (omega arith) there at in omega (arith, ap first_of is, ap (λ (x : Block). length x.word) is, first))
-        (cases_lt n m);
-    after = λ n other there past.
-        ⊎_elim
-        (λ inside.
-        let order = valid.memories_in_order m n memory other at there (omega arith) in
-        let one = bit_at m memory (first_of other - s) (first_of other) at (omega (arith, order, first)) (omega (arith, order, first)) in
-        let same : Some (BlockBit m (first_of other - s)) ≡ Some (BlockBit n 0) = sym one ∙ first_bit n other there in
-        let is : m ≡ n = cc in
-        absurd (omega (arith, is)))
-        (λ outside. outside) (cases_lt (first_of other) (s + length memory.word));
-  }
+  pub cut_more : (s m : ℕ) (memory : Block) → IsCut net s m → slice_get net.blocks m ≡ Some memory → first_of memory ≡ s → IsCut net (s + length memory.word) (m + 1)
+  cut_more s m memory cut at first n k t bit =
+      let sides = cut n k t bit in
+      let same = λ (e : n ≡ m). one_there net.blocks n m bit.0 memory e bit.1 at in
+      let own = λ (past : s ≤ t) (inside : t < s + length memory.word).
+      let other = (valid.memories m memory at).driven (t - s) t (bit_at m memory (t - s) t at (omega arith) (omega (arith, first))) in
+      let both : BlockBit m (t - s) ≡ BlockBit n k = sym other.2 ∙ bit_driver n k t t other.0 bit refl other.1 in
+      let is : m ≡ n = cc in is
+      in
+      (λ less. grind (arith, sides.0, bit_place n k t bit, same, first), λ past. grind (arith, sides.1, own))
 
   -- before the end all memories stand
-  pub all_cut : (s m : ℕ) → IsCut s m → length net.signals ≤ s → drop m net.blocks ≡ []
-  all_cut s m cut ends = elim (cases_lt m (length net.blocks)) [
-    | inl more ↦
-        let one = get_or net.blocks m (record { we = 0; address = []; word = []; outs = [] }) in
-        let at : slice_get net.blocks m ≡ Some one = slice_get-get_or net.blocks m (record { we = 0; address = []; word = []; outs = [] }) more in
-        let signal = signal_at net (first_of one) (BlockBit m 0) (first_bit m one at) in
-        absurd (omega (arith, cut.after m one at (omega arith), slice_get_within net.signals (first_of one) signal.0 signal.1, ends))
-    | inr past ↦ drop_all m net.blocks past
-  ]
+  pub all_cut : (s m : ℕ) → IsCut net s m → length net.signals ≤ s → drop m net.blocks ≡ []
+  all_cut s m cut ends =
+      let last = λ (more : m < length net.blocks).
+      let at = slice_get-get_or net.blocks m (record { we = 0; address = []; word = []; outs = [] }) more in
+      let bit = first_bit m _ at in
+      let signal = (valid.memories m bit.0 bit.1).driven 0 _ bit.2 in
+      let none : ⊥ = omega (arith, (cut m 0 _ bit).1, slice_get_within net.signals _ signal.0 signal.1, ends) in none
+      in drop_all m net.blocks (omega (arith, last))

@@ -17,7 +17,6 @@ mod RowLemmas
 mod SaidLemmas
 mod ShapeLemmas
 mod StoreLemmas
-mod TextLemmas
 mod TwiceLemmas
 mod UseLemmas
 mod ValidLemmas

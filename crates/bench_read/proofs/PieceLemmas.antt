@@ -1,21 +1,24 @@
--- What is written of a spelling is read as the same marks and names, and its bytes have no fault.
-use Rattle.std.proofs.Common.{◌≡◌, ℕ, ◌+◌, ◌≤◌, Bool, true, false, not, ◌&&◌, ◌||◌, List, [], ◌∷◌, ◌++◌, length, ap, ◌∙◌, refl, arith, append_assoc}
+-- What is written of a spelling is read as the same marks and names, and a clean text has no fault of its bytes.
+use Rattle.std.proofs.Common.{◌≡◌, ℕ, suc, ◌≤◌, Bool, true, false, not, ◌&&◌, ◌||◌, List, [], ◌∷◌, ◌++◌, length, ap, sym, subst, ◌∙◌, refl, arith, rules, append_assoc, zero, ◌-◌, ◌<◌, take, drop, get_or, take_all, None}
 use Rattle.std.specs.Prelude.{◌==◌}
-use Rattle.std.specs.List.{flat_map, list_all, prefix_len}
-use Rattle.std.proofs.lemmas.Bool.{cond-true, cond-false, and_parts, and_from, or_right}
-use Rattle.std.proofs.lemmas.List.Elements.{All-weaker}
-use Rattle.std.proofs.lemmas.List.Folds.{list_all-append}
-use Rattle.std.proofs.lemmas.List.Sums.{AllPass-from_list_all, list_all-from_AllPass}
+use Rattle.std.specs.List.{All, flat_map, list_all, prefix_len, before_first}
+use Rattle.std.proofs.lemmas.Bool.{and_parts, or_right, cond-false}
+use Rattle.std.proofs.lemmas.List.Elements.{All-head, All-tail}
 use Rattle.limits.specs.declared.TheConstants.{MAX_NAME_BYTES}
-use Rattle.text_lines.specs.Bytes.{is_visible, is_hash}
+use Rattle.text_lines.specs.Bytes.{is_visible, is_hash, is_line_feed, is_return, is_blank}
 use Rattle.text_lines.specs.Names.{IsName, is_mark, is_name_byte}
 use Rattle.bench_text.specs.Bytes.{sign_of}
 use Rattle.bench_text.specs.declared.token.Mark.{Mark}
-use Rattle.bench_text.specs.declared.token.Mark.TheVariants.{Open, Close, Comma, Equals, Semi, Left, Right, Name}
+use Rattle.bench_text.specs.declared.token.Mark.TheVariants.{Comma, Name}
 use Rattle.bench_text.proofs.ByteLemmas.{named_byte}
-use Rattle.bench_line.specs.Spelling.{Piece, Sign, Word, same_mark}
+use Rattle.bench_line.specs.Spelling.{Piece, Sign, Word, same_mark, listed}
 use Rattle.bench_line.specs.Rows.{goes_on, pieces_of}
-use Rattle.bench_read.specs.Written.{written_mark, written_piece}
+use Rattle.bench_read.specs.Written.{written_piece, some_of}
+use Rattle.std.proofs.lemmas.List.Sums.{AllPass-from_list_all, position_or_len_is}
+use Rattle.text_lines.specs.Lines.{lines_of, part_of}
+use Rattle.text_lines.specs.Places.{is_line_end}
+use Rattle.text_lines.proofs.AnswerLemmas.{first_none}
+use Rattle.bench_text.specs.Tokens.{name_length, is_bad, fault_at, first_fault}
 
 -- ---- bytes
 
@@ -28,105 +31,103 @@ abbrev pub AreClean : List ℕ → Type 0
 AreClean [] = Unit {0}
 AreClean (byte ∷ rest) = ((byte == 10 || is_plain byte) ≡ true) × (prefix_len is_name_byte (byte ∷ rest) ≤ MAX_NAME_BYTES) × AreClean rest
 
--- ---- marks
+-- ---- pieces
 
--- pieces, written before bytes
-abbrev pub text_onto : List Piece → List ℕ → List ℕ
-text_onto [] rest = rest
-text_onto (piece ∷ pieces) rest = written_piece piece ++ text_onto pieces rest
+-- what is written of them is read as them, is plain, and is clean before what is clean
+pub record AreRead (pieces : List Piece) : Type 0 where
+  pub read : pieces_of (flat_map written_piece pieces) ≡ pieces
+  pub plain : list_all is_plain (flat_map written_piece pieces) ≡ true
+  pub clean : (rest : List ℕ) → AreClean rest → AreClean (flat_map written_piece pieces ++ rest)
 
-pub text_onto_is : (pieces : List Piece) (rest : List ℕ) → flat_map written_piece pieces ++ rest ≡ text_onto pieces rest
-text_onto_is [] rest = refl
-text_onto_is (piece ∷ pieces) rest =
-    append_assoc (written_piece piece) (flat_map written_piece pieces) rest ∙ ap (λ later. written_piece piece ++ later) (text_onto_is pieces rest)
+pub none_read : AreRead []
+none_read = record { read = refl; plain = refl; clean = λ rest c. c }
 
--- a written mark is plain, is read as itself, ends names, and is clean
-record IsSign (m : Mark) : Type 0 where
-  pub plain : list_all is_plain (written_mark m) ≡ true
-  pub read : (rest : List ℕ) → pieces_of (written_mark m ++ rest) ≡ Sign m ∷ pieces_of rest
-  pub ends : (rest : List ℕ) → goes_on (written_mark m ++ rest) ≡ false
-  pub clean : (rest : List ℕ) → AreClean rest → AreClean (written_mark m ++ rest)
-
-none : 0 ≤ MAX_NAME_BYTES
-none = omega arith
-
-sign_is : (m : Mark) → same_mark m Name ≡ false → IsSign m
+-- a mark before them
+pub sign_read : {pieces : List Piece} (m : Mark) → same_mark m Name ≡ false → AreRead pieces → AreRead (Sign m ∷ pieces)
 unfolding sign_of is_name_byte is_visible is_mark
-sign_is Open e = record { plain = refl; read = λ rest. refl; ends = λ rest. refl; clean = λ rest c. (refl, none, c) }
-sign_is Close e = record { plain = refl; read = λ rest. refl; ends = λ rest. refl; clean = λ rest c. (refl, none, c) }
-sign_is Comma e = record { plain = refl; read = λ rest. refl; ends = λ rest. refl; clean = λ rest c. (refl, none, (refl, none, c)) }
-sign_is Equals e = record { plain = refl; read = λ rest. refl; ends = λ rest. refl; clean = λ rest c. (refl, none, (refl, none, (refl, none, c))) }
-sign_is Semi e = record { plain = refl; read = λ rest. refl; ends = λ rest. refl; clean = λ rest c. (refl, none, (refl, none, c)) }
-sign_is Left e = record { plain = refl; read = λ rest. refl; ends = λ rest. refl; clean = λ rest c. (refl, none, c) }
-sign_is Right e = record { plain = refl; read = λ rest. refl; ends = λ rest. refl; clean = λ rest c. (refl, none, c) }
-sign_is Name e = cc
+sign_read Name e is = cc
+sign_read m e is = record { read = ap (λ ps. Sign m ∷ ps) is.read; plain = is.plain; clean = λ rest c. search (rules, is.clean rest c) }
 
 -- ---- names
 
--- a name before what is none of it
-word_read : (byte : ℕ) (name rest : List ℕ) → list_all is_name_byte (byte ∷ name) ≡ true → goes_on rest ≡ false → pieces_of (byte ∷ (name ++ rest)) ≡ Word (byte ∷ name) ∷ pieces_of rest
-word_read byte [] rest all ends =
-    let is = (and_parts (is_name_byte byte) true all).0 in
-    grind (arith, is, (named_byte byte is).no_sign, ends)
-word_read byte (next ∷ name) rest all ends =
-    let here = and_parts (is_name_byte byte) (list_all is_name_byte (next ∷ name)) all in
-    let there = and_parts (is_name_byte next) (list_all is_name_byte name) here.1 in
-    grind (arith, here.0, (named_byte byte here.0).no_sign, there.0, word_read next name rest here.1 ends)
+-- name bytes before what ends a name: behind one more they are read as a name, they are plain, so many stand at the front, and they are clean
+record AreNamed (name rest : List ℕ) : Type 0 where
+  pub read : (byte : ℕ) → is_name_byte byte ≡ true → pieces_of (byte ∷ (name ++ rest)) ≡ Word (byte ∷ name) ∷ pieces_of rest
+  pub plain : list_all is_plain (name ++ rest) ≡ list_all is_plain rest
+  pub count : prefix_len is_name_byte (name ++ rest) ≡ length name
+  pub clean : length name ≤ MAX_NAME_BYTES → AreClean rest → AreClean (name ++ rest)
 
-plain_byte : (byte : ℕ) → is_name_byte byte ≡ true → is_plain byte ≡ true
+named : (name rest : List ℕ) → list_all is_name_byte name ≡ true → goes_on rest ≡ false → AreNamed name rest
 unfolding is_name_byte
-plain_byte byte is = grind (arith, is)
-
-plain_word : (name : List ℕ) → list_all is_name_byte name ≡ true → list_all is_plain name ≡ true
-plain_word name all = list_all-from_AllPass is_plain name (All-weaker _ _ plain_byte name (AllPass-from_list_all is_name_byte name all))
-
--- a name before what is none of it is clean; so many name bytes stand at the front
-clean_word : (name rest : List ℕ) → list_all is_name_byte name ≡ true → length name ≤ MAX_NAME_BYTES → goes_on rest ≡ false → AreClean rest → (prefix_len is_name_byte (name ++ rest) ≡ length name) × AreClean (name ++ rest)
-clean_word [] [] all short ends clean = (refl, clean)
-clean_word [] (byte ∷ rest) all short ends clean = (cond-false _ _ _ ends, clean)
-clean_word (byte ∷ name) rest all short ends clean =
+named [] [] all ends = record { read = λ byte is. grind (arith, is, (named_byte byte is).no_sign); plain = refl; count = refl; clean = λ short c. c }
+named [] (next ∷ rest) all ends =
+    record { read = λ byte is. grind (arith, is, (named_byte byte is).no_sign, ends); plain = refl; count = cond-false _ _ _ ends; clean = λ short c. c }
+named (byte ∷ name) rest all ends =
     let here = and_parts (is_name_byte byte) (list_all is_name_byte name) all in
-    let later = clean_word name rest here.1 (omega (arith, short)) ends clean in
-    let count : prefix_len is_name_byte (byte ∷ (name ++ rest)) ≡ length (byte ∷ name) = omega (arith, cond-true {A = ℕ} _ (1 + prefix_len is_name_byte (name ++ rest)) 0 here.0, later.0) in
-    (count, (or_right (byte == 10) (is_plain byte) (plain_byte byte here.0), omega (arith, count, short), later.1))
+    let plain : is_plain byte ≡ true = grind (arith, here.0) in
+    let later = named name rest here.1 ends in
+    let count : prefix_len is_name_byte (byte ∷ (name ++ rest)) ≡ suc (length name) = rw (here.0, later.count) (omega arith) in
+    record {
+      read = λ first is. grind (arith, is, (named_byte first is).no_sign, here.0, later.read byte here.0);
+      plain = rw plain later.plain;
+      count = count;
+      clean = λ short c. (or_right (byte == 10) (is_plain byte) plain, omega (arith, count, short), later.clean (omega (arith, short)) c);
+    }
 
--- ---- pieces
+-- a name and a mark before them
+pub word_read : {pieces : List Piece} (name : List ℕ) (m : Mark) → IsName name → same_mark m Name ≡ false → AreRead pieces → AreRead (Word name ∷ Sign m ∷ pieces)
+unfolding is_name_byte is_visible is_mark
+word_read [] m is e after = absurd (omega (arith, is.some))
+word_read (byte ∷ name) Name is e after = cc
+word_read {pieces = pieces} (byte ∷ name) m is e after =
+    let sign = sign_read m e after in
+    let bytes = flat_map written_piece (Sign m ∷ pieces) in
+    let parts = and_parts (is_name_byte byte) (list_all is_name_byte name) is.bytes in
+    record {
+      read = (named name bytes parts.1 refl).read byte parts.0 ∙ ap (λ ps. Word (byte ∷ name) ∷ ps) sign.read;
+      plain = (named (byte ∷ name) bytes is.bytes refl).plain ∙ sign.plain;
+      clean = λ rest c. subst AreClean (sym (append_assoc (byte ∷ name) bytes rest)) ((named (byte ∷ name) (bytes ++ rest) is.bytes refl).clean is.short (sign.clean rest c));
+    }
 
--- pieces with a mark between each two names; after says whether a name stands before
-abbrev pub AreApart : Bool → List Piece → Type 0
-AreApart after [] = Unit {0}
-AreApart after (Sign m ∷ pieces) = (same_mark m Name ≡ false) × AreApart false pieces
-AreApart true (Word name ∷ pieces) = ⊥
-AreApart false (Word name ∷ pieces) = IsName name × AreApart true pieces
+-- names with commas between, and a mark, before them
+pub listed_read : {pieces : List Piece} (name : List ℕ) (names : List (List ℕ)) (m : Mark) → All IsName (name ∷ names) → same_mark m Name ≡ false → AreRead pieces
+    → AreRead (listed (some_of (name ∷ names)) ++ Sign m ∷ pieces)
+listed_read name [] m all e after = word_read name m (All-head IsName name [] all) e after
+listed_read name (next ∷ names) m all e after =
+    word_read name Comma (All-head IsName name (next ∷ names) all) refl (listed_read next names m (All-tail IsName name (next ∷ names) all) e after)
 
--- no name goes on behind a name
-ends_word : (pieces : List Piece) (rest : List ℕ) → AreApart true pieces → goes_on rest ≡ false → goes_on (text_onto pieces rest) ≡ false
-ends_word [] rest apart ends = ends
-ends_word (Sign m ∷ pieces) rest apart ends = (sign_is m apart.0).ends (text_onto pieces rest)
-ends_word (Word name ∷ pieces) rest apart ends = absurd apart
+-- ---- texts
 
--- what is written is read
-pub written_read : (after : Bool) (pieces : List Piece) → AreApart after pieces → pieces_of (text_onto pieces []) ≡ pieces
-written_read after [] apart = refl
-written_read after (Sign m ∷ pieces) apart = (sign_is m apart.0).read (text_onto pieces []) ∙ ap (λ ps. Sign m ∷ ps) (written_read false pieces apart.1)
-written_read true (Word name ∷ pieces) apart = absurd apart
-written_read false (Word [] ∷ pieces) apart = absurd (omega (arith, apart.0.some))
-written_read false (Word (byte ∷ name) ∷ pieces) apart =
-    word_read byte name (text_onto pieces []) apart.0.bytes (ends_word pieces [] apart.1 refl)
-    ∙ ap (λ ps. Word (byte ∷ name) ∷ ps) (written_read true pieces apart.1)
+-- a plain byte ends no line and begins no comment
+quiet : (byte : ℕ) → is_plain byte ≡ true → (is_line_feed byte ≡ false) × (is_return byte ≡ false) × (is_hash byte ≡ false)
+unfolding is_visible
+quiet byte is = (grind (arith, is), grind (arith, is), grind (arith, is))
 
--- its bytes are plain
-pub written_plain : (after : Bool) (pieces : List Piece) → AreApart after pieces → list_all is_plain (text_onto pieces []) ≡ true
-written_plain after [] apart = refl
-written_plain after (Sign m ∷ pieces) apart = list_all-append is_plain (written_mark m) (text_onto pieces []) ∙ and_from _ _ (sign_is m apart.0).plain (written_plain false pieces apart.1)
-written_plain true (Word name ∷ pieces) apart = absurd apart
-written_plain false (Word name ∷ pieces) apart =
-    list_all-append is_plain name (text_onto pieces []) ∙ and_from _ _ (plain_word name apart.0.bytes) (written_plain true pieces apart.1)
+-- a line before a text
+pub line_cut : (bytes rest : List ℕ) → list_all is_plain bytes ≡ true → lines_of (bytes ++ 10 ∷ rest) ≡ bytes ∷ lines_of rest
+line_cut [] rest all = refl
+line_cut (byte ∷ bytes) rest all =
+    let here = and_parts (is_plain byte) (list_all is_plain bytes) all in rw ((quiet byte here.0).0, line_cut bytes rest here.1) refl
 
--- it is clean before what is clean and no name goes on with
-pub written_clean : (after : Bool) (pieces : List Piece) (rest : List ℕ) → AreApart after pieces → goes_on rest ≡ false → AreClean rest → AreClean (text_onto pieces rest)
-written_clean after [] rest apart ends clean = clean
-written_clean after (Sign m ∷ pieces) rest apart ends clean = (sign_is m apart.0).clean (text_onto pieces rest) (written_clean false pieces rest apart.1 ends clean)
-written_clean true (Word name ∷ pieces) rest apart ends clean = absurd apart
-written_clean false (Word name ∷ pieces) rest apart ends clean =
-    (clean_word name (text_onto pieces rest) apart.0.bytes apart.0.short (ends_word pieces rest apart.1 ends) (written_clean true pieces rest apart.1 ends clean)).1
+-- all of such a line is read
+pub part_plain : (bytes : List ℕ) → list_all is_plain bytes ≡ true → part_of bytes ≡ bytes
+unfolding part_of
+part_plain [] all = refl
+part_plain (byte ∷ bytes) all =
+    let line : List ℕ = byte ∷ bytes in
+    let calm = λ (k : ℕ) (within : k < length line). quiet _ (AllPass-from_list_all is_plain line all k 0 within) in
+    let whole = position_or_len_is is_hash line (length line) 0 (omega arith) (λ k within. (calm k within).2) (λ past. absurd (omega arith)) in
+    ap (before_first is_hash) (cond-false _ _ _ (calm (length line - 1) (omega arith)).1) ∙ ap (λ n. take n line) whole ∙ take_all (length line) line (omega arith)
+
+-- ---- faults
+
+-- a place of a clean text
+clean_at : (text : List ℕ) (i : ℕ) → i < length text → AreClean text → ((get_or text i 0 == 10 || is_plain (get_or text i 0)) ≡ true) × (prefix_len is_name_byte (drop i text) ≤ MAX_NAME_BYTES)
+clean_at [] i within clean = absurd (omega arith)
+clean_at (byte ∷ text) zero within clean = (clean.0, clean.1)
+clean_at (byte ∷ text) (suc i) within clean = clean_at text i (omega arith) clean.2
+
+-- a clean text has no fault
+pub no_fault : (text : List ℕ) → AreClean text → first_fault text ≡ None
+unfolding fault_at name_length is_bad is_blank is_line_end
+no_fault text clean = first_none (fault_at text) (length text) (λ i within. let at = clean_at text i within clean in grind (arith, at.0, at.1))

@@ -1,13 +1,11 @@
 -- No fault of a text is want of memory.
-use Rattle.std.proofs.Common.{◌≡◌, ℕ, Bool, cond, List, [], ◌∷◌, ◌++◌, length, take, slice_get, Option, Some, None, Result, Ok, Err, ap, ◌∙◌, ⊎_elim, arith}
+use Rattle.std.proofs.Common.{◌≡◌, ℕ, cond, List, ◌++◌, length, take, slice_get, Option, Some, None, Result, Ok, Err, ap, ◌∙◌, ⊎_elim, arith}
 use Rattle.std.specs.Prelude.{IfErr, codes}
 use Rattle.std.specs.List.{find}
 use Rattle.std.specs.Option.{option_map, option_or}
 use Rattle.text_lines.specs.Answers.{first, Answers}
 use Rattle.text_lines.proofs.AnswerLemmas.{place_of_first}
-use Rattle.logic_four.specs.declared.Kind.{Kind}
 use Rattle.logic_four.specs.Kinds.{kind_of}
-use Rattle.bench_text.specs.declared.token.TextNo.{TextNo}
 use Rattle.bench_text.specs.declared.token.TextNo.TheVariants as text_no
 use Rattle.bench_text.specs.Tokens.{first_fault as byte_fault}
 use Rattle.bench_line.specs.Forms.{Form, Port, Gate, Memory}
@@ -15,11 +13,10 @@ use Rattle.bench_line.specs.Rows.{Row, rows_of}
 use Rattle.bench_line.specs.Decoding.{form_of}
 use Rattle.bench_read.specs.declared.refusal.BenchNo.{BenchNo}
 use Rattle.bench_read.specs.declared.refusal.BenchNo.TheVariants as bench_no
-use Rattle.bench_read.specs.declared.refusal.Many.TheVariants.{Signals, Operands}
 use Rattle.bench_read.specs.Lines.{Line}
 use Rattle.bench_read.specs.Saying.{is_word, said_by_register, said_by_gate, said_by, said}
-use Rattle.bench_read.specs.Placed.{Placed, Named, lines_at, placed_by, placed_of, driven_in, drivers_of, uses_of}
-use Rattle.bench_read.specs.Faults.{is_same, is_undriven, repeat_fault, option_repeat_fault, twice_fault, many_fault, line_fault, said_fault, row_fault, rows_fault, uses_fault, of_text, first_fault}
+use Rattle.bench_read.specs.Placed.{Placed, placed_by, placed_of, driven_in, drivers_of, uses_of}
+use Rattle.bench_read.specs.Faults.{is_undriven, repeat_fault, option_repeat_fault, twice_fault, many_fault, line_fault, said_fault, row_fault, rows_fault, uses_fault, of_text, first_fault}
 
 -- faults other than the memory's, as of a text's bytes
 abbrev IsPlain : Option BenchNo → Type 0
@@ -39,50 +36,43 @@ mapped_plain f plain (Some x) e = plain x cc
 first_plain : (fault : ℕ → Option BenchNo) (n : ℕ) → ((i : ℕ) → IsPlain (fault i)) → IsPlain (first fault n)
 first_plain fault n plain e = let found = place_of_first fault n (bench_no.Text text_no.Memory) e in plain found.0 found.3
 
-limit_plain : (at : ℕ) (b c : Bool) → IsPlain (cond b (Some (bench_no.TooMany at Signals)) (cond c (Some (bench_no.TooMany at Operands)) None))
-limit_plain at b c e = grind (arith, e)
-
-repeat_plain : (drivers : List Named) (o : Option Named) → IsPlain (option_repeat_fault drivers o)
-unfolding repeat_fault
-repeat_plain drivers None = λ e. cc
-repeat_plain drivers (Some named) = mapped_plain (λ driver. bench_no.DrivenTwice named.name driver.at named.at) (λ x e. cc) (find (is_same named) drivers)
-
 line_plain : (earlier : List Placed) (placed : Placed) → IsPlain (line_fault earlier placed)
-unfolding line_fault twice_fault many_fault
+unfolding line_fault twice_fault many_fault repeat_fault
 line_plain earlier placed =
-    either_plain (twice_fault (drivers_of earlier) (driven_in placed)) (many_fault placed.at (lines_at (earlier ++ placed ∷ [])))
-    (first_plain _ (length (driven_in placed)) (λ i. repeat_plain (drivers_of earlier ++ take i (driven_in placed)) (slice_get (driven_in placed) i)))
-    (limit_plain placed.at _ _)
+    either_plain _ _
+    (first_plain _ (length (driven_in placed)) (λ i. elim (slice_get (driven_in placed) i) as (λ o. IsPlain (option_repeat_fault (drivers_of earlier ++ take i (driven_in placed)) o)) [
+      | None ↦ λ e. cc
+      | Some named ↦ mapped_plain (λ driver. bench_no.DrivenTwice named.name driver.at named.at) (λ x e. cc) _
+    ]))
+    (λ e. grind (arith, e))
 
 -- the fault of a form comes from its word or its numbers
 form_plain : (at : ℕ) (o : Option Form) → IsPlainErr (said_by at o)
 form_plain at None e = cc
 form_plain at (Some (Port word name)) e = grind (arith, e)
-form_plain at (Some (Gate name word uses)) e = by_kind (kind_of word) e where
-  by_kind : (o : Option Kind) → IsPlainErr (cond (is_word (codes "DFF") word) (said_by_register at name uses) (said_by_gate at name uses o))
-  by_kind None e = grind (arith, e)
-  by_kind (Some kind) e = grind (arith, e)
+form_plain at (Some (Gate name word uses)) e =
+    elim (kind_of word) as (λ o. IsPlainErr (cond (is_word (codes "DFF") word) (said_by_register at name uses) (said_by_gate at name uses o))) [
+      | None ↦ λ f. grind (arith, f)
+      | Some kind ↦ λ f. grind (arith, f)
+    ] e
 form_plain at (Some (Memory outs word enable address words)) e = grind (arith, e)
 
 row_plain : (earlier : List Placed) (o : Option Row) → IsPlain (row_fault earlier o)
 unfolding said
 row_plain earlier None = λ e. cc
-row_plain earlier (Some row) = by_said (said row) (form_plain row.at (form_of row.pieces)) where
-  by_said : (r : Result Line BenchNo) → IsPlainErr r → IsPlain (said_fault earlier (placed_by row.at r))
-  by_said (Ok line) plain = line_plain earlier (record { at = row.at; line = line })
-  by_said (Err fault) plain = λ e. plain cc
-
-bytes_plain : (no : TextNo) → of_text no ≡ bench_no.Text text_no.Memory → ⊥
-bytes_plain text_no.Memory e = cc
-bytes_plain fault e = cc
+row_plain earlier (Some row) =
+    elim (said row) as (λ r. IsPlainErr r → IsPlain (said_fault earlier (placed_by row.at r))) [
+      | Ok line ↦ λ plain. line_plain earlier (record { at = row.at; line = line })
+      | Err fault ↦ λ plain e. plain cc
+    ] (form_plain row.at (form_of row.pieces))
 
 fault_plain : (text : List ℕ) → IsPlain (first_fault text)
 unfolding first_fault rows_fault uses_fault
 fault_plain text =
     let rows = rows_of text in
-    either_plain (option_map of_text (byte_fault text)) (option_or (rows_fault rows) (uses_fault (placed_of rows)))
-    (mapped_plain of_text bytes_plain (byte_fault text))
-    (either_plain (rows_fault rows) (uses_fault (placed_of rows))
+    either_plain _ _
+    (mapped_plain of_text (elim [ text_no.Memory ↦ λ e. cc | text_no.BadByte line column ↦ λ e. cc | text_no.LongName line ↦ λ e. cc ]) (byte_fault text))
+    (either_plain _ _
     (first_plain _ (length rows) (λ i. row_plain (placed_of (take i rows)) (slice_get rows i)))
     (mapped_plain (λ named. bench_no.Undriven named.name named.at) (λ x e. cc) (find (is_undriven (drivers_of (placed_of rows))) (uses_of (placed_of rows)))))
 
