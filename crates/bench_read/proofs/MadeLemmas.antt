@@ -1,10 +1,11 @@
 -- The names and operands of what lines make.
-use Rattle.std.proofs.Common.{◌≡◌, ℕ, ◌+◌, List, [], ◌∷◌, ◌++◌, length, map, ap, refl, arith}
+use Rattle.std.proofs.Common.{◌≡◌, ℕ, ◌+◌, ◌≤◌, List, [], ◌∷◌, ◌++◌, length, map, ap, refl, arith}
 use Rattle.std.specs.List.{sum_by, flat_map, enumerate_from}
 use Rattle.std.proofs.lemmas.List.{map-append, length-map, length-append}
 use Rattle.std.proofs.lemmas.List.Sums.{sum_by-append, sum_by-cons}
 use Rattle.list_laws.proofs.Maps.{sum_none_of}
 use Rattle.net_defs.specs.declared.netlist.Signal.{Signal}
+use Rattle.net_defs.specs.declared.netlist.Block.{Block}
 use Rattle.net_defs.specs.declared.netlist.Driver.TheVariants as driver
 use Rattle.net_defs.specs.Valid.{operand_count as driver_operands, memory_operand_count}
 use Rattle.bench_read.specs.Lines.{Line, Gate, Memory, operands, operand_count}
@@ -25,7 +26,7 @@ pub line_names : (names : List (List ℕ)) (m : ℕ) (line : Line) → names_fro
 line_names names m (Memory outs enable address words) = bit_names m 0 outs
 line_names names m line = refl
 
-others_names : (names : List (List ℕ)) (m : ℕ) (lines : List Line) → names_from (other_signals names m lines) ≡ flat_map other_names lines
+pub others_names : (names : List (List ℕ)) (m : ℕ) (lines : List Line) → names_from (other_signals names m lines) ≡ flat_map other_names lines
 unfolding other_signals
 others_names names m [] = refl
 others_names names m (line ∷ lines) =
@@ -82,3 +83,8 @@ made_operands lines =
       sum_by-append signal_operands (map input_signal (flat_map input_names lines)) (other_signals names 0 lines),
       sum_none_of signal_operands input_signal (flat_map input_names lines) (λ name. refl),
     )
+
+-- each memory has operands
+pub memories-le : (memories : List Block) → length memories ≤ sum_by memory_operand_count memories
+memories-le [] = omega arith
+memories-le (memory ∷ memories) = omega (arith, memories-le memories, sum_by-cons memory_operand_count memory memories)
