@@ -69,9 +69,9 @@ module _ (lines : List Line) (once : AreOnce (all_driven lines)) where
     pub fair : IsFair line
     pub uses : All (IsSignal whole) (numbers names (used line))
 
-  -- what drives the signal is there
+  -- the signal has a name, and what drives it is there
   abbrev IsThere : Signal → Type 0
-  IsThere signal = IsDrivable whole (number names signal.name) signal.driver
+  IsThere signal = IsName signal.name × IsDrivable whole (number names signal.name) signal.driver
 
   -- and is no input
   abbrev IsDriven : Signal → Type 0
@@ -90,10 +90,10 @@ module _ (lines : List Line) (once : AreOnce (all_driven lines)) where
     place : (k : ℕ) (d : ℕ × List ℕ) → k < length o → get_or (enumerate_from 0 o) k d ≡ (k, get_or o k d.1)
     place k d within = let from : 0 + k ≡ k = omega arith in get_or-enumerate_from 0 o k d within ∙ ap (λ j. (j, get_or o k d.1)) from
 
-    bits_driven : All IsDriven (bit_signals (length net.blocks) o)
-    bits_driven = All-map IsDriven bit (enumerate_from 0 o) (λ k d within.
+    bits_driven : AllByRecursion IsName o → All IsDriven (bit_signals (length net.blocks) o)
+    bits_driven named = All-map IsDriven bit (enumerate_from 0 o) (λ k d within.
         let inside : k < length o = omega (arith, within, length-enumerate_from 0 o) in
-        rw (place k d inside) ((memory, memory_there, rw (slice_get-map (number names) o k, slice_get-get_or o k d.1 inside) refl), refl))
+        rw (place k d inside) ((All-from_recursion IsName o named k d.1 inside, (memory, memory_there, rw (slice_get-map (number names) o k, slice_get-get_or o k d.1 inside) refl)), refl))
 
     bit_there : (j : ℕ) → j < length o → slice_get whole.signals (length net.signals + j) ≡ Some (bit (j, get_or o j []))
     unfolding other_signals
@@ -128,9 +128,9 @@ module _ (lines : List Line) (once : AreOnce (all_driven lines)) where
         }
 
   line_driven : (line : Line) {left : List Line} {net : Netlist} → IsMaking lines (line ∷ left) net → IsRight line → All IsDriven (signals_by names (length net.blocks) line)
-  line_driven (Gate name kind ns) made right = All-cons IsDriven _ [] ((subst (AllowsOperands kind) (sym (length-map ns (number names))) right.fair.sized, right.uses), refl) (All-nil IsDriven)
-  line_driven (Register name use_) made right = All-cons IsDriven _ [] (All-head (IsSignal whole) (number names use_) [] right.uses, refl) (All-nil IsDriven)
-  line_driven (Memory o enable address words) made right = bits_driven made
+  line_driven (Gate name kind ns) made right = All-cons IsDriven _ [] ((right.fair.named.0, (subst (AllowsOperands kind) (sym (length-map ns (number names))) right.fair.sized, right.uses)), refl) (All-nil IsDriven)
+  line_driven (Register name use_) made right = All-cons IsDriven _ [] ((right.fair.named.0, All-head (IsSignal whole) (number names use_) [] right.uses), refl) (All-nil IsDriven)
+  line_driven (Memory o enable address words) made right = bits_driven made right.fair.named
   line_driven line made right = All-nil IsDriven
 
   lines_driven : (left : List Line) {net : Netlist} → IsMaking lines left net → AllByRecursion IsRight left → All IsDriven (other_signals names (length net.blocks) left)
@@ -177,68 +177,39 @@ module _ (lines : List Line) (once : AreOnce (all_driven lines)) where
         all_right some fair.1 (all_back (IsSignal whole) (numbers names (used line)) (numbers names (flat_map used some)) split),
       )
 
-  module _ (sound : AreSound lines) (fair : AllByRecursion IsFair lines) where
-    right : AllByRecursion IsRight lines
-    right = all_right lines fair (All-map (IsSignal whole) (number names) (all_used lines)
-        (All-weaker (λ name. list_any (bytes_eq name) (all_driven lines) ≡ true) (λ name. IsSignal whole (number names name)) (λ name is. omega (arith, numbered lines name is, signals_length)) (all_used lines) sound.driven))
+  inputs_there : (some : List Line) → AllByRecursion IsRight some → All IsThere (map input_signal (flat_map input_names some))
+  inputs_there [] right = All-nil IsThere
+  inputs_there (Input name ∷ some) right = All-cons IsThere (input_signal name) _ (right.0.fair.named.0, tt) (inputs_there some right.1)
+  inputs_there (line ∷ some) right = inputs_there some right.1
 
-    abbrev inputs : Netlist
-    inputs = record { signals = map input_signal (flat_map input_names lines); printed = []; blocks = [] }
+  printed_there : (some : List Line) → AllByRecursion IsRight some → All (IsSignal whole) (numbers names (flat_map printed_names some))
+  printed_there [] right = All-nil (IsSignal whole)
+  printed_there (Output name ∷ some) right = All-cons (IsSignal whole) (number names name) _ (All-head (IsSignal whole) (number names name) [] right.0.uses) (printed_there some right.1)
+  printed_there (line ∷ some) right = printed_there some right.1
 
-    making : IsMaking lines lines inputs
-    unfolding netlist_of
-    making = record { whole = refl }
-
-    others_driven : All IsDriven (other_signals names 0 lines)
-    others_driven = lines_driven lines making right
-
-    all_of : (P : List ℕ → Type 0) (f : Line → List (List ℕ)) → ((line : Line) → IsRight line → All P (f line)) → All P (flat_map f lines)
-    all_of P f by_line = all_flat_of P f lines (All-weaker IsRight (λ line. All P (f line)) by_line lines (All-from_recursion IsRight lines right))
-
-    all_named : All IsName names
-    unfolding names_of
-    all_named = All-append IsName (flat_map input_names lines) (flat_map other_names lines) (all_of IsName input_names inputs_named) (all_of IsName other_names others_named) where
-      inputs_named : (line : Line) → IsRight line → All IsName (input_names line)
-      inputs_named (Input name) r = All-from_recursion IsName (name ∷ []) r.fair.named
-      inputs_named line r = All-nil IsName
-
-      others_named : (line : Line) → IsRight line → All IsName (other_names line)
-      others_named (Input name) r = All-nil IsName
-      others_named line r = All-from_recursion IsName (driven line) r.fair.named
-
-    drivable : All IsThere whole.signals
-    unfolding netlist_of
-    drivable = All-append IsThere inputs.signals (other_signals names 0 lines) (All-map IsThere input_signal (flat_map input_names lines) (λ k d within. tt)) (All-weaker IsDriven IsThere (λ signal is. is.0) (other_signals names 0 lines) others_driven)
-
-    all_printed : All (IsSignal whole) whole.printed
-    unfolding netlist_of
-    all_printed = All-map (IsSignal whole) (number names) (flat_map printed_names lines) (all_of (λ name. IsSignal whole (number names name)) printed_names by_line) where
-      by_line : (line : Line) → IsRight line → All (λ name. IsSignal whole (number names name)) (printed_names line)
-      by_line (Output name) r = all_of_map (IsSignal whole) (number names) (name ∷ []) r.uses
-      by_line line r = All-nil _
-
-    few_printed : length whole.printed ≤ length lines
-    unfolding netlist_of
-    few_printed = omega (arith, length-map (flat_map printed_names lines) (number names), printed-le lines)
-
-    memory_is : (m : ℕ) (block : Block) → slice_get whole.blocks m ≡ Some block → IsMemory whole m block
-    unfolding netlist_of
-    memory_is m block e = (memory_at lines making right m m 0 block e (omega arith) (omega arith)).0
-
-    pub valid : length lines < 2 ^ 32 → IsValid whole
-    unfolding netlist_of
-    valid few = record {
-      names = λ s signal e. each IsName names s signal.name all_named (name_here s signal e);
-      distinct = distinct;
-      inputs_first = inputs_lead (flat_map input_names lines) (other_signals names 0 lines) (All-weaker IsDriven (λ signal. is_input signal.driver ≡ false) (λ signal is. is.1) (other_signals names 0 lines) others_driven);
-      drivers = λ s signal e. subst (λ k. IsDrivable whole k signal.driver) (number_here s signal e) (each IsThere whole.signals s signal drivable e);
-      memories = memory_is;
-      memories_in_order = rising lines making right;
-      printed = all_printed;
-      few_signals = omega (arith, signals_length, names_length lines, sound.few_signals);
-      few_operands = omega (arith, made_operands lines, sound.few_operands);
-      few_printed = omega (arith, few_printed, few);
-    }
+  pub valid : AreSound lines → AllByRecursion IsFair lines → length lines < 2 ^ 32 → IsValid whole
+  unfolding netlist_of
+  valid sound fair few =
+      let among = All-weaker (λ name. list_any (bytes_eq name) (all_driven lines) ≡ true) (λ name. IsSignal whole (number names name))
+          (λ name is. omega (arith, numbered lines name is, signals_length)) (all_used lines) sound.driven in
+      let right = all_right lines fair (All-map (IsSignal whole) (number names) (all_used lines) among) in
+      let inputs : List Signal = map input_signal (flat_map input_names lines) in
+      let others = other_signals names 0 lines in
+      let making : IsMaking lines lines (record { signals = inputs; printed = []; blocks = [] }) = record { whole = refl } in
+      let driven = lines_driven lines making right in
+      let there = All-append IsThere inputs others (inputs_there lines right) (All-weaker IsDriven IsThere (λ signal is. is.0) others driven) in
+      record {
+        names = λ s signal e. (each IsThere whole.signals s signal there e).0;
+        distinct = distinct;
+        inputs_first = inputs_lead (flat_map input_names lines) others (All-weaker IsDriven (λ signal. is_input signal.driver ≡ false) (λ signal is. is.1) others driven);
+        drivers = λ s signal e. subst (λ k. IsDrivable whole k signal.driver) (number_here s signal e) (each IsThere whole.signals s signal there e).1;
+        memories = λ m block e. (memory_at lines making right m m 0 block e (omega arith) (omega arith)).0;
+        memories_in_order = rising lines making right;
+        printed = printed_there lines right;
+        few_signals = omega (arith, signals_length, names_length lines, sound.few_signals);
+        few_operands = omega (arith, made_operands lines, sound.few_operands);
+        few_printed = omega (arith, few, printed-le lines, length-map (flat_map printed_names lines) (number names));
+      }
 
 -- what a text reads as is a valid netlist
 pub valid_from_reads : (text : List ℕ) (net : Netlist) → length text ≤ MAX_TEXT_BYTES → Reads text net → IsValid net
