@@ -40,8 +40,6 @@ module _ (lines : List Line) (once : AreOnce (all_driven lines)) where
   abbrev names : List (List ℕ)
   names = names_of lines
 
-  -- ---- names
-
   in_order : names_from whole.signals ≡ names
   unfolding netlist_of
   in_order = made_names names 0 lines
@@ -49,18 +47,12 @@ module _ (lines : List Line) (once : AreOnce (all_driven lines)) where
   pub signals_length : length whole.signals ≡ length names
   signals_length = sym (length-map whole.signals (λ (s : Signal). s.name)) ∙ ap length in_order
 
-  name_here : (s : ℕ) (signal : Signal) → slice_get whole.signals s ≡ Some signal → slice_get names s ≡ Some signal.name
-  name_here s signal e = rw (sym in_order, slice_get-map (λ (t : Signal). t.name) whole.signals s, e) refl
-
   -- a signal stands at the number of its name
   number_here : (s : ℕ) (signal : Signal) → slice_get whole.signals s ≡ Some signal → number names signal.name ≡ s
   number_here s signal e =
-      let at = name_here s signal e in
+      let at : slice_get names s ≡ Some signal.name = rw (sym in_order, slice_get-map (λ (t : Signal). t.name) whole.signals s, e) refl in
       let split = sym (take-append-drop s names) ∙ ap (λ rest. take s names ++ rest) (drop_here names s signal.name at) in
       number_at names (take s names) signal.name (drop (s + 1) names) (names_once lines once) split ∙ length-take-le s names (omega (arith, slice_get_within names s signal.name at))
-
-  pub distinct : NamesDiffer whole.signals
-  distinct s t one other e f same = sym (number_here s one e) ∙ ap (number names) same ∙ number_here t other f
 
   -- ---- each signal and memory
 
@@ -200,7 +192,7 @@ module _ (lines : List Line) (once : AreOnce (all_driven lines)) where
       let there = All-append IsThere inputs others (inputs_there lines right) (All-weaker IsDriven IsThere (λ signal is. is.0) others driven) in
       record {
         names = λ s signal e. (each IsThere whole.signals s signal there e).0;
-        distinct = distinct;
+        distinct = λ s t one other e f same. sym (number_here s one e) ∙ ap (number names) same ∙ number_here t other f;
         inputs_first = inputs_lead (flat_map input_names lines) others (All-weaker IsDriven (λ signal. is_input signal.driver ≡ false) (λ signal is. is.1) others driven);
         drivers = λ s signal e. subst (λ k. IsDrivable whole k signal.driver) (number_here s signal e) (each IsThere whole.signals s signal there e).1;
         memories = λ m block e. (memory_at lines making right m m 0 block e (omega arith) (omega arith)).0;
