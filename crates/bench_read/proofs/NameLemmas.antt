@@ -16,14 +16,8 @@ same_bytes a = grind (arith, bytes_eq-Decides)
 -- one more name, which none of them is
 pub once_more : (names : List (List ℕ)) (name : List ℕ) → AreOnce names → list_any (bytes_eq name) names ≡ false → AreOnce (names ++ name ∷ [])
 once_more names name once none other =
-    elim (cases_Bool (bytes_eq other name)) [
-      | inl same ↦
-          let is : name ≡ other = sym (same_name other name same) in
-          let zero_before : count_by (bytes_eq other) names ≡ 0 = subst (λ n. count_by (bytes_eq n) names ≡ 0) is (count_none (bytes_eq name) names none) in
-          omega (arith, sum_by_push (λ n. cond (bytes_eq other n) 1 0) names name, cond-true {A = ℕ} (bytes_eq other name) 1 0 same)
-      | inr differs ↦
-          omega (arith, sum_by_push (λ n. cond (bytes_eq other n) 1 0) names name, cond-false {A = ℕ} (bytes_eq other name) 1 0 differs, once other)
-    ]
+    let none_of : bytes_eq other name ≡ true → count_by (bytes_eq other) names ≡ 0 = λ same. rw (same_name other name same) (count_none (bytes_eq name) names none) in
+    grind (arith, none_of, once other, sum_by_push (λ n. cond (bytes_eq other n) 1 0) names name)
 
 -- a name that stands once stands nowhere before
 pub new_from_once : (names : List (List ℕ)) (name : List ℕ) (rest : List (List ℕ)) → AreOnce (names ++ name ∷ rest) → list_any (bytes_eq name) names ≡ false
