@@ -1,6 +1,7 @@
 use Rattle.std.proofs.Common.{◌≡◌, ◌<◌, ◌≤◌, List, ℕ, Bor, map, length, get_or, sym, ap, ◌∙◌, inl, inr, ⊎_elim, arith}
 use Rattle.std.proofs.lemmas.Result.{err_from_is_err_and}
 use Rattle.std.proofs.lemmas.List.{take_all, get_or-map, length-map}
+use Rattle.std.proofs.lemmas.Simd.{map-map}
 use Rattle.bench_read.specs.Placed.{Named, each_named}
 use Rattle.bench_read.proofs.TwiceLemmas.{drive_none, drive_more, drive_fault}
 use Rattle.bench_read.proofs.drivers.drive.Goals as goal
@@ -10,11 +11,14 @@ module _ (at : ℕ) (names : List (Bor (List ℕ))) where
   abbrev line : List Named
   line = each_named at (map (λ name. name.now) names)
 
+  line_is : line ≡ map (λ name. record { at = at; name = name.now }) names
+  line_is = map-map (λ name. record { at = at; name = name }) (λ (name : Bor (List ℕ)). name.now) names
+
   line_length : length line ≡ length names
-  line_length = length-map (map (λ name. name.now) names) _ ∙ length-map names (λ name. name.now)
+  line_length = rw line_is (length-map names _)
 
   here : (i : ℕ) (d : Bor (List ℕ)) (n : Named) → i < length names → get_or line i n ≡ record { at = at; name = (get_or names i d).now }
-  here i d n within = get_or-map _ (map (λ name. name.now) names) i n.name n (omega (arith, within, length-map names (λ name. name.now))) ∙ ap (λ name. record { at = at; name = name }) (get_or-map (λ name. name.now) names i d n.name within)
+  here i d n within = rw line_is (get_or-map _ names i d n within)
 
 pub loop-name-init : goal.loop-name-init
 loop-name-init c = drive_none (line c.args.at c.args.driven.now) c.args.names.now c.args.drivers.now c.requires
