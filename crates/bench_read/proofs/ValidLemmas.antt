@@ -24,7 +24,8 @@ use Rattle.bench_read.proofs.NumberLemmas.{names_once, names_length, number_at, 
 use Rattle.bench_read.proofs.MakingLemmas.{counted, IsMaking, making_next, neighbours}
 use Rattle.bench_read.proofs.MadeLemmas.{names_from, made_names, made_operands}
 use Rattle.bench_read.proofs.FoundLemmas.{memory_bits}
-use Rattle.bench_read.proofs.FairLemmas.{IsFair, text_fair, printed-le, said_length, rows_length}
+use Rattle.bench_read.proofs.WordLemmas.{rows_named}
+use Rattle.bench_read.proofs.FairLemmas.{IsFair, lines_fair, printed-le, said_length, rows_length}
 
 -- inputs stand before signals that are none
 inputs_lead : (names : List (List ℕ)) (others : List Signal) → All (λ s. is_input s.driver ≡ false) others → InputsLead (map input_signal names ++ others)
@@ -206,5 +207,5 @@ module _ (lines : List Line) (once : AreOnce (all_driven lines)) where
 -- what a text reads as is a valid netlist
 pub valid_from_reads : (text : List ℕ) (net : Netlist) → length text ≤ MAX_TEXT_BYTES → Reads text net → IsValid net
 valid_from_reads text net short reads =
-    subst IsValid (sym reads.netlist) (valid reads.lines reads.sound.once reads.sound (text_fair text reads.lines reads.bytes reads.said)
+    subst IsValid (sym reads.netlist) (valid reads.lines reads.sound.once reads.sound (lines_fair (rows_of text) reads.lines (rows_named text reads.bytes) reads.said)
     (omega (arith, said_length (rows_of text) reads.lines reads.said, rows_length text, short)))
