@@ -1,14 +1,11 @@
 -- The netlist of lines, made one line after another.
-use Rattle.std.proofs.Common.{◌≡◌, ℕ, ◌+◌, ◌<◌, ◌≤◌, List, [], ◌∷◌, ◌++◌, append_assoc, append-nil, length, map, take, drop, get_or, take_at, sym, ap, ◌∙◌, subst, refl, arith, length-append}
-use Rattle.std.specs.List.{flat_map, enumerate_from, range_with_len}
-use Rattle.std.proofs.lemmas.List.{map-append, map_push, length-map, length-take-le, take_more, drop_at}
-use Rattle.list_laws.proofs.Maps.{enumerate_push}
+use Rattle.std.proofs.Common.{◌≡◌, ℕ, ◌+◌, ◌≤◌, List, [], ◌∷◌, ◌++◌, append_assoc, append-nil, length, take, drop, take_at, sym, ap, ◌∙◌, subst, refl, arith, length-append}
+use Rattle.std.specs.List.{flat_map, range_with_len}
+use Rattle.std.proofs.lemmas.List.{map-append, length-map, drop_at}
 use Rattle.net_defs.specs.declared.netlist.Netlist.{Netlist}
 use Rattle.net_defs.specs.declared.netlist.Signal.{Signal}
-use Rattle.net_defs.specs.declared.netlist.Driver.TheVariants as driver
 use Rattle.bench_read.specs.Lines.{Line, Memory, used, all_driven, all_used, operand_count}
-use Rattle.bench_read.specs.Netlists.{other_names, names_of, number, numbers, bit_signals, signals_by, memory_count, other_signals, printed_names, memories_by, netlist_of}
-use Rattle.bench_read.specs.declared.draft.DrivenName.{DrivenName}
+use Rattle.bench_read.specs.Netlists.{other_names, names_of, number, numbers, signals_by, memory_count, other_signals, printed_names, memories_by, netlist_of}
 use Rattle.bench_read.specs.Making.{with_line}
 use Rattle.bench_read.specs.Reads.{AreOnce}
 use Rattle.bench_read.proofs.MadeLemmas.{names_from, others_names, made_names, made_operands, memories-le}
@@ -103,15 +100,3 @@ module _ {lines left : List Line} {line : Line} {net : Netlist} (made : IsMaking
 
   pub making_more : (uses : List ℕ) → AreOnce (all_driven lines) → uses ≡ numbers names (used line) → IsMaking lines left (with_line net line uses)
   making_more uses once are = subst (IsMaking lines left) (sym (ap (with_line net line) are ∙ line_made names net line (neighbours once))) making_next
-
--- one bit more of a memory
-pub bits_more : (old now new : List Signal) (m i : ℕ) (outs : List DrivenName) (d : DrivenName) → i < length outs
-    → now ≡ old ++ bit_signals m (map (λ o. o.name.now) (take i outs)) → new ≡ now ++ record { name = (get_or outs i d).name.now; driver = driver.BlockBit m i } ∷ []
-    → new ≡ old ++ bit_signals m (map (λ o. o.name.now) (take (i + 1) outs))
-bits_more old now new m i outs d within so_far pushed =
-    let f : (ℕ × List ℕ) → Signal = λ p. record { name = p.1; driver = driver.BlockBit m p.0 } in
-    let names = map (λ o. o.name.now) (take i outs) in
-    let name = (get_or outs i d).name.now in
-    let at : 0 + length names ≡ i = omega (arith, length-map (take i outs) (λ o. o.name.now), length-take-le i outs (omega arith)) in
-    rw (pushed, so_far, take_more outs i d within, map_push (λ o. o.name.now) (take i outs) (get_or outs i d), enumerate_push 0 names name, map_push f (enumerate_from 0 names) (0 + length names, name), at)
-    (append_assoc old (bit_signals m names) (f (i, name) ∷ []))

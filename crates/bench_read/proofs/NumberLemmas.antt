@@ -1,11 +1,10 @@
 -- The numbers of names, and names in signal order.
-use Rattle.std.proofs.Common.{◌≡◌, ℕ, zero, suc, ◌+◌, ◌<◌, ◌≤◌, true, false, cond, List, [], ◌∷◌, ◌++◌, append_assoc, append-nil, length, get_or, Bool, Option, Some, None, sym, ap, ◌∙◌, subst, refl, inl, inr, arith, bytes_eq, length-append}
-use Rattle.std.specs.List.{sum_by, list_any, flat_map, position, position_or_len, range_with_len}
-use Rattle.std.proofs.lemmas.Bool.{both_ways, cases_lt, cond-true, lt-ltb}
+use Rattle.std.proofs.Common.{◌≡◌, ℕ, zero, suc, ◌+◌, ◌<◌, ◌≤◌, true, false, cond, List, [], ◌∷◌, ◌++◌, append_assoc, append-nil, length, get_or, Bool, Some, None, sym, ap, ◌∙◌, subst, refl, arith, bytes_eq, length-append}
+use Rattle.std.specs.List.{sum_by, list_any, flat_map, position, range_with_len}
 use Rattle.std.proofs.lemmas.List.{map-append, get_or-map}
 use Rattle.std.proofs.lemmas.List.Folds.{list_any_at}
 use Rattle.std.proofs.lemmas.List.Quantifiers.{position-Some}
-use Rattle.std.proofs.lemmas.List.Sums.{sum_by-append, sum_by-cons}
+use Rattle.std.proofs.lemmas.List.Sums.{sum_by-append}
 use Rattle.std.proofs.lemmas.Grind.{common_steps}
 use Rattle.list_laws.proofs.Tests.{first_after, count_none, none_counted, none_past}
 use Rattle.bench_read.specs.Lines.{Line, Input, driven, all_driven}

@@ -8,16 +8,16 @@ use Rattle.std.proofs.lemmas.Option.{slice_get-map, slice_get_within, slice_get-
 use Rattle.limits.specs.declared.TheConstants.{MAX_TEXT_BYTES}
 use Rattle.list_laws.proofs.Ranges.{range_at, first_of_range}
 use Rattle.list_laws.proofs.Places.{seam_at, drop_here, inside_at}
-use Rattle.list_laws.proofs.Members.{each, all_front, all_back, all_flat_of, all_of_map}
+use Rattle.list_laws.proofs.Members.{each, all_front, all_back}
 use Rattle.logic_four.specs.Kinds.{AllowsOperands}
 use Rattle.net_defs.specs.declared.netlist.Netlist.{Netlist}
 use Rattle.net_defs.specs.declared.netlist.Signal.{Signal}
 use Rattle.net_defs.specs.declared.netlist.Block.{Block}
 use Rattle.net_defs.specs.declared.netlist.Driver.TheVariants as driver
-use Rattle.net_defs.specs.Valid.{IsName, IsSignal, IsDrivable, IsMemory, is_input, NamesDiffer, InputsLead, IsValid}
+use Rattle.net_defs.specs.Valid.{IsName, IsSignal, IsDrivable, IsMemory, is_input, InputsLead, IsValid}
 use Rattle.bench_line.specs.Rows.{rows_of}
-use Rattle.bench_read.specs.Lines.{Line, Input, Output, Gate, Register, Memory, driven, used, all_driven, all_used}
-use Rattle.bench_read.specs.Netlists.{input_names, other_names, names_of, number, numbers, input_signal, bit_signals, signals_by, other_signals, printed_names, memories_by, netlist_of}
+use Rattle.bench_read.specs.Lines.{Line, Input, Output, Gate, Register, Memory, used, all_driven, all_used}
+use Rattle.bench_read.specs.Netlists.{input_names, names_of, number, numbers, input_signal, bit_signals, signals_by, other_signals, printed_names, memories_by, netlist_of}
 use Rattle.bench_read.specs.Reads.{AreOnce, AreSound, Reads}
 use Rattle.std.proofs.lemmas.List.FromFn.{length-enumerate_from, get_or-enumerate_from}
 use Rattle.bench_read.proofs.NumberLemmas.{names_once, names_length, number_at, numbered}
