@@ -73,26 +73,14 @@ module _ {lines left : List Line} {line : Line} {net : Netlist} (made : IsMaking
 
   named : names_from net.signals ++ (other_names line ++ flat_map other_names left) ≡ names
   unfolding netlist_of
-  named =
-      sym (map-append (λ (s : Signal). s.name) net.signals _ ∙ ap (λ ns. names_from net.signals ++ ns) (others_names names (length net.blocks) (line ∷ left)))
-      ∙ ap (λ (n : Netlist). names_from n.signals) made.whole
-      ∙ made_names names 0 lines
+  named = simp (map-append, others_names) at (ap (λ (n : Netlist). names_from n.signals) made.whole ∙ made_names names 0 lines)
 
   -- the names that it drives beside inputs are numbered side by side
   pub neighbours : AreOnce (all_driven lines) → numbers names (other_names line) ≡ range_with_len (length net.signals) (length (other_names line))
-  neighbours once =
-      numbers_range names (names_from net.signals) (other_names line) (flat_map other_names left) (names_once lines once) (sym named)
-      ∙ ap (λ n. range_with_len n (length (other_names line))) (length-map net.signals (λ (s : Signal). s.name))
+  neighbours once = simp length-map at (numbers_range names (names_from net.signals) (other_names line) (flat_map other_names left) (names_once lines once) (sym named))
 
   pub room : length net.signals + length (other_names line) ≤ length names
-  room =
-      omega (
-        arith,
-        ap length named,
-        length-append (names_from net.signals) (other_names line ++ flat_map other_names left),
-        length-append (other_names line) (flat_map other_names left),
-        length-map net.signals (λ (s : Signal). s.name),
-      )
+  room = omega (arith, simp (length-append, length-map) at (ap length named))
 
   pub making_next : IsMaking lines left (grown names net line)
   unfolding other_signals
