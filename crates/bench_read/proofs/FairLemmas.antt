@@ -19,6 +19,7 @@ use Rattle.bench_read.specs.declared.refusal.BenchNo.TheVariants.{Syntax, Unknow
 use Rattle.bench_read.specs.Lines.{Line, Input, Output, Gate, Register, Memory, driven}
 use Rattle.bench_read.specs.Saying.{allows_memory, is_word, said_by_register, said_by_gate, said_by_memory, said_by_form, Say}
 use Rattle.bench_read.specs.Netlists.{printed_names}
+use Rattle.bench_read.proofs.FoundLemmas.{AreMemoryBits, memory_bits}
 use Rattle.bench_read.proofs.SaidLemmas.{from_ok}
 use Rattle.bench_read.proofs.WordLemmas.{IsNamed}
 
@@ -30,7 +31,7 @@ IsSized (Input name) = Unit {0}
 IsSized (Output name) = Unit {0}
 IsSized (Gate name kind uses) = AllowsOperands kind (length uses)
 IsSized (Register name use_) = Unit {0}
-IsSized (Memory outs enable address words) = allows_memory (length address) (length words) (length outs) ≡ true
+IsSized (Memory outs enable address words) = AreMemoryBits (length address) (length words) (length outs)
 
 -- the line drives names and is sized
 pub record IsFair (line : Line) : Type 0 where
@@ -61,7 +62,7 @@ fair_form at (forms.Gate name word uses) line named e = by_word (is_word (codes 
 fair_form at (forms.Memory outs word enable address ws) line named e = by_word (is_word (codes "RAM") word) e where
   by_word : (b : Bool) → cond b (said_by_memory at outs enable address ws) (Err (UnknownKind at)) ≡ Ok line → IsFair line
   by_word true e =
-      fair_when _ (Memory (all_of outs) enable (all_of address) (all_of ws)) line (Arity at) (λ ok. record { named = listed_named outs.first outs.others _ named.1; sized = ok }) e
+      fair_when _ (Memory (all_of outs) enable (all_of address) (all_of ws)) line (Arity at) (λ ok. record { named = listed_named outs.first outs.others _ named.1; sized = memory_bits _ _ _ ok }) e
   by_word false e = cc
 
 -- the lines that rows of names say are fair

@@ -97,23 +97,19 @@ module _ (lines : List Line) (once : AreOnce (all_driven lines)) where
 
     -- its outputs begin behind the signals before it
     first_out : IsRight (Memory o enable address words) → length net.signals ≡ get_or memory.outs 0 0
-    first_out right =
-        let bits = memory_bits (length address) (length words) (length o) right.fair.sized in
-        first_of_range (length net.signals) (length o) memory.outs (neighbours made once) (omega (arith, bits.some_words, bits.outputs_are))
+    first_out right = let bits = right.fair.sized in first_of_range (length net.signals) (length o) memory.outs (neighbours made once) (omega (arith, bits.some_words, bits.outputs_are))
 
     memory_valid : IsRight (Memory o enable address words) → IsMemory whole (length net.blocks) memory
     memory_valid right =
-        let bits = memory_bits (length address) (length words) (length o) right.fair.sized in
+        let bits = right.fair.sized in
         let rest = rw (map-append (number names) address words) at (All-tail (IsSignal whole) memory.we (numbers names (address ++ words)) right.uses) in
-        let address_length = length-map address (number names) in
-        let word_length = length-map words (number names) in
-        let count : length o ≡ length memory.word = omega (arith, bits.outputs_are, word_length) in
+        let count : length o ≡ length memory.word = omega (arith, bits.outputs_are, length-map words (number names)) in
         record {
           enable = All-head (IsSignal whole) memory.we (numbers names (address ++ words)) right.uses;
           address = all_front (IsSignal whole) memory.address memory.word rest;
-          address_bits = (omega (arith, address_length, bits.some_address), omega (arith, address_length, bits.few_address));
+          address_bits = simp length-map (bits.some_address, bits.few_address);
           word = all_back (IsSignal whole) memory.address memory.word rest;
-          word_bits = (omega (arith, word_length, bits.some_words), omega (arith, word_length, bits.few_words));
+          word_bits = simp length-map (bits.some_words, bits.few_words);
           outs = neighbours made once ∙ (λ k. range_with_len (first_out right k) (count k));
           driven = λ j s e.
               let found = range_at (length net.signals) (length o) j s (sym (ap (λ ns. slice_get ns j) (neighbours made once)) ∙ e) in
@@ -151,9 +147,8 @@ module _ (lines : List Line) (once : AreOnce (all_driven lines)) where
   rising [] made right m n one other e f before = cc
   rising (Memory o enable address words ∷ left) {net} made right zero (suc n) one other e f before =
       let here : memory made ≡ one = cc in
-      let bits = memory_bits (length address) (length words) (length o) right.0.fair.sized in
-      let later = memory_at left (making_next made) right.1 n _ (length net.signals + length o) other f refl
-          (omega (arith, length-append net.signals (bit_signals (length net.blocks) o), length-map (enumerate_from 0 o) (bit made), length-enumerate_from 0 o)) in
+      let bits = right.0.fair.sized in
+      let later = memory_at left (making_next made) right.1 n _ (length net.signals + length o) other f refl (simp (length-append, length-map, length-enumerate_from) (omega arith)) in
       omega (arith, bits.some_words, bits.outputs_are, first_out made right.0, ap (λ (b : Block). get_or b.outs 0 0) here, later.1)
   rising (Memory o enable address words ∷ left) made right (suc m) (suc n) one other e f before = rising left (making_next made) right.1 m n one other e f (omega arith)
   rising (Memory o enable address words ∷ left) made right m zero one other e f before = absurd (omega arith)
