@@ -11,24 +11,24 @@ use Rattle.bench_read.specs.Reads.{AreOnce}
 use Rattle.bench_read.proofs.MadeLemmas.{names_from, others_names, made_names, made_operands, memories-le}
 use Rattle.bench_read.proofs.NumberLemmas.{names_once, numbers_range}
 
--- ---- one line
-
--- the netlist with all that a line makes
-abbrev pub grown : List (List ℕ) → Netlist → Line → Netlist
-grown names net line = record {
-  signals = net.signals ++ signals_by names (length net.blocks) line;
-  printed = net.printed ++ numbers names (printed_names line);
-  blocks = net.blocks ++ memories_by names line;
+-- the netlist with all that lines make beside inputs
+abbrev pub with_lines : List (List ℕ) → Netlist → List Line → Netlist
+with_lines names net lines = record {
+  signals = net.signals ++ other_signals names (length net.blocks) lines;
+  printed = net.printed ++ numbers names (flat_map printed_names lines);
+  blocks = net.blocks ++ flat_map (memories_by names) lines;
 }
 
+-- with one line
 line_made : (names : List (List ℕ)) (net : Netlist) (line : Line) → numbers names (other_names line) ≡ range_with_len (length net.signals) (length (other_names line))
-    → with_line net line (numbers names (used line)) ≡ grown names net line
+    → with_line net line (numbers names (used line)) ≡ with_lines names net (line ∷ [])
+unfolding other_signals
 line_made names net (Memory o enable address words) outs =
     let same = length-map address (number names) in
-    rw (map-append (number names) address words, take_at (numbers names address) (numbers names words) (length address) same, drop_at (numbers names address) (numbers names words) (length address) same, sym outs, append-nil) refl
+    simp (map-append, take_at (numbers names address) (numbers names words) (length address) same, drop_at (numbers names address) (numbers names words) (length address) same, sym outs, append-nil) refl
 line_made names net line outs = simp append-nil refl
 
-pub counted : (names : List (List ℕ)) (net : Netlist) (line : Line) → length (net.blocks ++ memories_by names line) ≡ length net.blocks + memory_count line
+pub counted : (names : List (List ℕ)) (net : Netlist) (line : Line) → length (with_lines names net (line ∷ [])).blocks ≡ length net.blocks + memory_count line
 counted names net (Memory outs enable address words) = length-append net.blocks _
 counted names net line = length-append net.blocks []
 
@@ -44,16 +44,6 @@ uses_split names line left uses n is are =
       drop_at (numbers names (used line)) (numbers names (all_used left)) n count,
       omega (arith, count, length-append (numbers names (used line)) (numbers names (all_used left))),
     )
-
--- ---- all lines
-
--- the netlist with all that lines make beside inputs
-abbrev pub with_lines : List (List ℕ) → Netlist → List Line → Netlist
-with_lines names net lines = record {
-  signals = net.signals ++ other_signals names (length net.blocks) lines;
-  printed = net.printed ++ numbers names (flat_map printed_names lines);
-  blocks = net.blocks ++ flat_map (memories_by names) lines;
-}
 
 -- with what the lines that are left make, the netlist is that of all lines
 pub record IsMaking (lines left : List Line) (net : Netlist) : Type 0 where
@@ -82,9 +72,9 @@ module _ {lines left : List Line} {line : Line} {net : Netlist} (made : IsMaking
   pub room : length net.signals + length (other_names line) ≤ length names
   room = omega (arith, simp (length-append, length-map) at (ap length named))
 
-  pub making_next : IsMaking lines left (grown names net line)
+  pub making_next : IsMaking lines left (with_lines names net (line ∷ []))
   unfolding other_signals
-  making_next = record { whole = simp (append_assoc, counted) (simp map-append at made.whole) }
+  making_next = record { whole = simp (append_assoc, map-append, counted) (simp map-append at made.whole) }
 
   pub making_more : (uses : List ℕ) → AreOnce (all_driven lines) → uses ≡ numbers names (used line) → IsMaking lines left (with_line net line uses)
   making_more uses once are = subst (IsMaking lines left) (sym (ap (with_line net line) are ∙ line_made names net line (neighbours once))) making_next

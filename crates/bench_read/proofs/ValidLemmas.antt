@@ -137,13 +137,14 @@ module _ (lines : List Line) (once : AreOnce (all_driven lines)) where
       let at : length net.blocks ≡ k = omega (arith, is) in
       rw (sym here, sym at) (memory_valid made right.0, omega (arith, low, first_out made right.0))
   memory_at (Memory o enable address words ∷ left) {net} made right (suc m) k n block e is low =
-      memory_at left (making_next made) right.1 m k n block e (omega (arith, is, counted names net (Memory o enable address words))) (omega (arith, low, length-append net.signals (bit_signals (length net.blocks) o)))
+      memory_at left (making_next made) right.1 m k n block e (omega (arith, is, counted names net (Memory o enable address words))) (simp length-append (omega arith))
   memory_at (line ∷ left) {net} made right m k n block e is low =
-      memory_at left (making_next made) right.1 m k n block e (omega (arith, is, counted names net line)) (omega (arith, low, length-append net.signals (signals_by names (length net.blocks) line)))
+      memory_at left (making_next made) right.1 m k n block e (omega (arith, is, counted names net line)) (simp length-append (omega arith))
 
   -- the outputs of memories stand in file order
   rising : (left : List Line) {net : Netlist} → IsMaking lines left net → AllByRecursion IsRight left → (m n : ℕ) (one other : Block)
       → slice_get (flat_map (memories_by names) left) m ≡ Some one → slice_get (flat_map (memories_by names) left) n ≡ Some other → m < n → get_or one.outs 0 0 < get_or other.outs 0 0
+  unfolding other_signals
   rising [] made right m n one other e f before = cc
   rising (Memory o enable address words ∷ left) {net} made right zero (suc n) one other e f before =
       let here : memory made ≡ one = cc in
