@@ -27,11 +27,9 @@ use Rattle.bench_read.proofs.WordLemmas.{IsNamed}
 
 -- a kind that allows its operands, and a memory of allowed numbers
 abbrev pub IsSized : Line → Type 0
-IsSized (Input name) = Unit {0}
-IsSized (Output name) = Unit {0}
 IsSized (Gate name kind uses) = AllowsOperands kind (length uses)
-IsSized (Register name use_) = Unit {0}
 IsSized (Memory outs enable address words) = AreMemoryBits (length address) (length words) (length outs)
+IsSized _ = Unit {0}
 
 -- the line drives names and is sized
 pub record IsFair (line : Line) : Type 0 where

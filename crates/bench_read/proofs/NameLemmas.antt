@@ -21,10 +21,7 @@ once_more names name once none other =
 
 -- a name that stands once stands nowhere before
 pub new_from_once : (names : List (List ℕ)) (name : List ℕ) (rest : List (List ℕ)) → AreOnce (names ++ name ∷ rest) → list_any (bytes_eq name) names ≡ false
-new_from_once names name rest once =
-    let f : List ℕ → ℕ = λ n. cond (bytes_eq name n) 1 0 in
-    none_counted (bytes_eq name) names
-    (omega (arith, once name, sum_by-append f names (name ∷ rest), sum_by-cons f name rest, cond-true {A = ℕ} (bytes_eq name name) 1 0 (same_bytes name)))
+new_from_once names name rest once = none_counted (bytes_eq name) names (omega (arith, simp same_bytes at (simp (sum_by-append, sum_by-cons) at (once name))))
 
 -- names that stand once stand once without those behind
 pub once_front : (names rest : List (List ℕ)) → AreOnce (names ++ rest) → AreOnce names

@@ -47,7 +47,7 @@ pub twice_push : (drivers names : List Named) (named : Named) → twice_fault dr
 unfolding twice_fault
 twice_push drivers names named = first_push (λ front. option_repeat_fault (drivers ++ front)) names named
 
-twice_nil : (drivers : List Named) → twice_fault drivers [] ≡ None
+pub twice_nil : (drivers : List Named) → twice_fault drivers [] ≡ None
 unfolding twice_fault
 twice_nil drivers = first-zero _
 
@@ -69,9 +69,6 @@ pub record HasDriven (before line : List Named) (i : ℕ) (names : List (List �
   pub same : names ≡ names_by drivers
   pub so_far : map named_by drivers ≡ before ++ take i line
   pub no_fault : twice_fault before (take i line) ≡ None
-
-pub drive_none : (line : List Named) (names : List (List ℕ)) (drivers : List DrivenName) → names ≡ names_by drivers → HasDriven (map named_by drivers) line 0 names drivers
-drive_none line names drivers same = record { same = same; so_far = sym (append-nil (map named_by drivers)); no_fault = twice_nil (map named_by drivers) }
 
 module _ {before line : List Named} {i : ℕ} {names : List (List ℕ)} {drivers : List DrivenName} (so : HasDriven before line i names drivers) (here : Named) (is : get_or line i here ≡ here) (within : i < length line) where
   more : take (i + 1) line ≡ take i line ++ here ∷ []

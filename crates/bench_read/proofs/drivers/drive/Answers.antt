@@ -1,9 +1,9 @@
-use Rattle.std.proofs.Common.{◌≡◌, ◌<◌, List, ℕ, Bor, map, length, get_or, inl, inr, ⊎_elim, arith}
+use Rattle.std.proofs.Common.{◌≡◌, ◌<◌, append-nil, sym, List, ℕ, Bor, map, length, get_or, inl, inr, ⊎_elim, arith}
 use Rattle.std.proofs.lemmas.Result.{err_from_is_err_and}
 use Rattle.std.proofs.lemmas.List.{take_all, get_or-map, length-map}
 use Rattle.std.proofs.lemmas.Simd.{map-map}
 use Rattle.bench_read.specs.Placed.{Named, each_named}
-use Rattle.bench_read.proofs.TwiceLemmas.{drive_none, drive_more, drive_fault}
+use Rattle.bench_read.proofs.TwiceLemmas.{twice_nil, drive_more, drive_fault}
 use Rattle.bench_read.proofs.drivers.drive.Goals as goal
 
 -- the names of a line
@@ -21,7 +21,7 @@ module _ (at : ℕ) (names : List (Bor (List ℕ))) where
   here i d n within = rw line_is (get_or-map _ names i d n within)
 
 pub loop-name-init : goal.loop-name-init
-loop-name-init c = drive_none (line c.args.at c.args.driven.now) c.args.names.now c.args.drivers.now c.requires
+loop-name-init c = record { same = c.requires; so_far = sym (append-nil _); no_fault = twice_nil _ }
 
 pub loop-name-preserved : goal.loop-name-preserved
 loop-name-preserved c =
