@@ -64,24 +64,21 @@ twice_none drivers names once = by_push (λ ns. twice_fault drivers ns ≡ None 
 
 -- ---- the names of a line, one after another
 
--- the first i of them were added to the drivers, and none of them is a fault
-pub record HasDriven (before line : List Named) (i : ℕ) (names : List (List ℕ)) (drivers : List DrivenName) : Type 0 where
+-- some of them were added to the drivers, and none of them is a fault
+pub record HasDriven (before line : List Named) (names : List (List ℕ)) (drivers : List DrivenName) : Type 0 where
   pub same : names ≡ names_by drivers
-  pub so_far : map named_by drivers ≡ before ++ take i line
-  pub no_fault : twice_fault before (take i line) ≡ None
+  pub so_far : map named_by drivers ≡ before ++ line
+  pub no_fault : twice_fault before line ≡ None
 
-module _ {before line : List Named} {i : ℕ} {names : List (List ℕ)} {drivers : List DrivenName} (so : HasDriven before line i names drivers) (here : Named) (is : get_or line i here ≡ here) (within : i < length line) where
-  more : take (i + 1) line ≡ take i line ++ here ∷ []
-  more = take_more line i here within ∙ ap (λ n. take i line ++ n ∷ []) is
+-- with one more
+module _ {before line : List Named} {names : List (List ℕ)} {drivers : List DrivenName} (so : HasDriven before line names drivers) (here : Named) where
+  fault_here : twice_fault before (line ++ here ∷ []) ≡ repeat_fault (map named_by drivers) here
+  fault_here = rw (twice_push before line here, so.no_fault, so.so_far) refl
 
-  fault_here : twice_fault before (take (i + 1) line) ≡ repeat_fault (map named_by drivers) here
-  fault_here = rw (more, twice_push before (take i line) here, so.no_fault, so.so_far) refl
+  pub drive_more : {new_names : List (List ℕ)} {new_drivers : List DrivenName} → repeat_fault (map named_by drivers) here ≡ None
+      → new_names ≡ names_by new_drivers → map named_by new_drivers ≡ map named_by drivers ++ here ∷ [] → HasDriven before (line ++ here ∷ []) new_names new_drivers
+  drive_more none same pushed = record { same = same; so_far = rw (pushed, so.so_far) (append_assoc before line (here ∷ [])); no_fault = fault_here ∙ none }
 
-  pub drive_more : (new_names : List (List ℕ)) (new_drivers : List DrivenName) → repeat_fault (map named_by drivers) here ≡ None → new_names ≡ names_by new_drivers → map named_by new_drivers ≡ map named_by drivers ++ here ∷ [] → HasDriven before line (i + 1) new_names new_drivers
-  drive_more new_names new_drivers none same pushed = record { same = same; so_far = rw (pushed, so.so_far, more) (append_assoc before (take i line) (here ∷ [])); no_fault = fault_here ∙ none }
-
-  pub drive_fault : (e : BenchNo) → repeat_fault (map named_by drivers) here ≡ Some e → twice_fault before line ≡ Some e
+  pub drive_fault : (e : BenchNo) (later : List Named) → repeat_fault (map named_by drivers) here ≡ Some e → twice_fault before ((line ++ here ∷ []) ++ later) ≡ Some e
   unfolding twice_fault
-  drive_fault e fault =
-      ap (twice_fault before) (sym (take-append-drop (i + 1) line))
-      ∙ first_stays (λ front. option_repeat_fault (before ++ front)) e (take (i + 1) line) (drop (i + 1) line) (fault_here ∙ fault)
+  drive_fault e later fault = first_stays (λ front. option_repeat_fault (before ++ front)) e (line ++ here ∷ []) later (fault_here ∙ fault)
