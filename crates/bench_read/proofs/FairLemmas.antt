@@ -74,10 +74,11 @@ lines_fair rows lines named say = absurd say
 
 -- ---- how much the lines make
 
-pub printed-le : (lines : List Line) → length (flat_map printed_names lines) ≤ length lines
-printed-le [] = omega arith
-printed-le (Output name ∷ lines) = omega (arith, printed-le lines)
-printed-le (line ∷ lines) = omega (arith, printed-le lines)
+pub few_printed : (rows : List Row) (lines : List Line) → Say rows lines → length (flat_map printed_names lines) ≤ length rows
+few_printed [] [] say = omega arith
+few_printed (row ∷ rows) (Output name ∷ lines) say = omega (arith, few_printed rows lines say.1)
+few_printed (row ∷ rows) (line ∷ lines) say = omega (arith, few_printed rows lines say.1)
+few_printed rows lines say = absurd say
 
 -- a text has no more lines than bytes
 lines_length : (text : List ℕ) → length (lines_of text) ≤ length text
@@ -86,11 +87,6 @@ lines_length (byte ∷ text) = by_lines (lines_of text) (lines_length text) wher
   by_lines : (ls : List (List ℕ)) → length ls ≤ length text → length (cond (is_line_feed byte) ([] ∷ ls) (onto_first byte ls)) ≤ suc (length text)
   by_lines [] low = grind (arith, low)
   by_lines (line ∷ ls) low = grind (arith, low)
-
-pub said_length : (rows : List Row) (lines : List Line) → Say rows lines → length lines ≡ length rows
-said_length [] [] say = refl
-said_length (row ∷ rows) (line ∷ lines) say = ap suc (said_length rows lines say.1)
-said_length rows lines say = absurd say
 
 pub rows_length : (text : List ℕ) → length (rows_of text) ≤ length text
 unfolding rows_of parts_of

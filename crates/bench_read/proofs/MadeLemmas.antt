@@ -38,6 +38,10 @@ pub made_names : (names : List (List ℕ)) (m : ℕ) (lines : List Line) → nam
 unfolding names_of
 made_names names m lines = simp (map-append, map-map, map-id, others_names) refl
 
+pub signal_names : (lines : List Line) → names_from (netlist_of lines).signals ≡ names_of lines
+unfolding netlist_of
+signal_names lines = made_names (names_of lines) 0 lines
+
 -- ---- operands
 
 abbrev pub signal_operands : Signal → ℕ

@@ -8,7 +8,7 @@ use Rattle.bench_read.specs.Lines.{Line, Memory, used, all_driven, all_used, ope
 use Rattle.bench_read.specs.Netlists.{other_names, names_of, number, numbers, signals_by, memory_count, other_signals, printed_names, memories_by, netlist_of}
 use Rattle.bench_read.specs.Making.{with_line}
 use Rattle.bench_read.specs.Reads.{AreOnce}
-use Rattle.bench_read.proofs.MadeLemmas.{names_from, others_names, made_names, made_operands, memories-le}
+use Rattle.bench_read.proofs.MadeLemmas.{names_from, others_names, signal_names, made_operands, memories-le}
 use Rattle.bench_read.proofs.NumberLemmas.{names_once, numbers_range}
 
 -- the netlist with all that lines make beside inputs
@@ -62,8 +62,7 @@ module _ {lines left : List Line} {line : Line} {net : Netlist} (made : IsMaking
   names = names_of lines
 
   named : names_from net.signals ++ (other_names line ++ flat_map other_names left) ≡ names
-  unfolding netlist_of
-  named = simp (map-append, others_names) at (ap (λ (n : Netlist). names_from n.signals) made.whole ∙ made_names names 0 lines)
+  named = simp (map-append, others_names) at (ap (λ (n : Netlist). names_from n.signals) made.whole ∙ signal_names lines)
 
   -- the names that it drives beside inputs are numbered side by side
   pub neighbours : AreOnce (all_driven lines) → numbers names (other_names line) ≡ range_with_len (length net.signals) (length (other_names line))

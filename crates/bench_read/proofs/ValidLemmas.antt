@@ -22,10 +22,10 @@ use Rattle.bench_read.specs.Reads.{AreOnce, AreSound, Reads}
 use Rattle.std.proofs.lemmas.List.FromFn.{length-enumerate_from, get_or-enumerate_from}
 use Rattle.bench_read.proofs.NumberLemmas.{names_once, names_length, number_at, numbered}
 use Rattle.bench_read.proofs.MakingLemmas.{counted, IsMaking, making_next, neighbours}
-use Rattle.bench_read.proofs.MadeLemmas.{names_from, made_names, made_operands}
+use Rattle.bench_read.proofs.MadeLemmas.{signal_names, made_operands}
 use Rattle.bench_read.proofs.FoundLemmas.{memory_bits}
 use Rattle.bench_read.proofs.WordLemmas.{rows_named}
-use Rattle.bench_read.proofs.FairLemmas.{IsFair, lines_fair, printed-le, said_length, rows_length}
+use Rattle.bench_read.proofs.FairLemmas.{IsFair, lines_fair, few_printed, rows_length}
 
 -- inputs stand before signals that are none
 inputs_lead : (names : List (List ℕ)) (others : List Signal) → All (λ s. is_input s.driver ≡ false) others → InputsLead (map input_signal names ++ others)
@@ -41,17 +41,13 @@ module _ (lines : List Line) (once : AreOnce (all_driven lines)) where
   abbrev names : List (List ℕ)
   names = names_of lines
 
-  in_order : names_from whole.signals ≡ names
-  unfolding netlist_of
-  in_order = made_names names 0 lines
-
   pub signals_length : length whole.signals ≡ length names
-  signals_length = sym (length-map whole.signals (λ (s : Signal). s.name)) ∙ ap length in_order
+  signals_length = sym (length-map whole.signals (λ (s : Signal). s.name)) ∙ ap length (signal_names lines)
 
   -- a signal stands at the number of its name
   number_here : (s : ℕ) (signal : Signal) → slice_get whole.signals s ≡ Some signal → number names signal.name ≡ s
   number_here s signal e =
-      let at : slice_get names s ≡ Some signal.name = rw (sym in_order, slice_get-map (λ (t : Signal). t.name) whole.signals s, e) refl in
+      let at : slice_get names s ≡ Some signal.name = rw (sym (signal_names lines), slice_get-map (λ (t : Signal). t.name) whole.signals s, e) refl in
       let split = sym (take-append-drop s names) ∙ ap (λ rest. take s names ++ rest) (drop_here names s signal.name at) in
       number_at names (take s names) signal.name (drop (s + 1) names) (names_once lines once) split ∙ length-take-le s names (omega (arith, slice_get_within names s signal.name at))
 
@@ -74,9 +70,6 @@ module _ (lines : List Line) (once : AreOnce (all_driven lines)) where
     abbrev memory : Block
     memory = record { we = number names enable; address = numbers names address; word = numbers names words; outs = numbers names o }
 
-    memory_there : slice_get whole.blocks (length net.blocks) ≡ Some memory
-    memory_there = ap (λ (n : Netlist). slice_get n.blocks (length net.blocks)) (sym made.whole) ∙ seam_at net.blocks memory (flat_map (memories_by names) left)
-
     abbrev bit : (ℕ × List ℕ) → Signal
     bit p = record { name = p.1; driver = driver.BlockBit (length net.blocks) p.0 }
 
@@ -85,8 +78,9 @@ module _ (lines : List Line) (once : AreOnce (all_driven lines)) where
 
     bits_driven : AllByRecursion IsName o → All IsDriven (bit_signals (length net.blocks) o)
     bits_driven named = All-map IsDriven bit (enumerate_from 0 o) (λ k d within.
+        let there = ap (λ (n : Netlist). slice_get n.blocks (length net.blocks)) (sym made.whole) ∙ seam_at net.blocks memory (flat_map (memories_by names) left) in
         let inside : k < length o = omega (arith, within, length-enumerate_from 0 o) in
-        rw (place k d inside) ((All-from_recursion IsName o named k d.1 inside, (memory, memory_there, rw (slice_get-map (number names) o k, slice_get-get_or o k d.1 inside) refl)), refl))
+        rw (place k d inside) ((All-from_recursion IsName o named k d.1 inside, (memory, there, rw (slice_get-map (number names) o k, slice_get-get_or o k d.1 inside) refl)), refl))
 
     bit_there : (j : ℕ) → j < length o → slice_get whole.signals (length net.signals + j) ≡ Some (bit (j, get_or o j []))
     unfolding other_signals
@@ -176,7 +170,7 @@ module _ (lines : List Line) (once : AreOnce (all_driven lines)) where
   printed_there (Output name ∷ some) right = All-cons (IsSignal whole) (number names name) _ (All-head (IsSignal whole) (number names name) [] right.0.uses) (printed_there some right.1)
   printed_there (line ∷ some) right = printed_there some right.1
 
-  pub valid : AreSound lines → AllByRecursion IsFair lines → length lines < 2 ^ 32 → IsValid whole
+  pub valid : AreSound lines → AllByRecursion IsFair lines → length (flat_map printed_names lines) < 2 ^ 32 → IsValid whole
   unfolding netlist_of
   valid sound fair few =
       let among = All-weaker (λ name. list_any (bytes_eq name) (all_driven lines) ≡ true) (λ name. IsSignal whole (number names name))
@@ -197,11 +191,11 @@ module _ (lines : List Line) (once : AreOnce (all_driven lines)) where
         printed = printed_there lines right;
         few_signals = omega (arith, signals_length, names_length lines, sound.few_signals);
         few_operands = omega (arith, made_operands lines, sound.few_operands);
-        few_printed = omega (arith, few, printed-le lines, length-map (flat_map printed_names lines) (number names));
+        few_printed = simp length-map few;
       }
 
 -- what a text reads as is a valid netlist
 pub valid_from_reads : (text : List ℕ) (net : Netlist) → length text ≤ MAX_TEXT_BYTES → Reads text net → IsValid net
 valid_from_reads text net short reads =
     subst IsValid (sym reads.netlist) (valid reads.lines reads.sound.once reads.sound (lines_fair (rows_of text) reads.lines (rows_named text reads.bytes) reads.said)
-    (omega (arith, said_length (rows_of text) reads.lines reads.said, rows_length text, short)))
+    (omega (arith, few_printed (rows_of text) reads.lines reads.said, rows_length text, short)))
