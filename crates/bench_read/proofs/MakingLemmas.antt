@@ -2,6 +2,7 @@
 use Rattle.std.proofs.Common.{◌≡◌, ℕ, ◌+◌, ◌≤◌, List, [], ◌∷◌, ◌++◌, append_assoc, append-nil, length, take, drop, take_at, sym, ap, ◌∙◌, subst, refl, arith, length-append}
 use Rattle.std.specs.List.{flat_map, range_with_len}
 use Rattle.std.proofs.lemmas.List.{map-append, length-map, drop_at}
+use Rattle.std.proofs.Math.Seq.{take-append_seam, drop-append_seam}
 use Rattle.net_defs.specs.declared.netlist.Netlist.{Netlist}
 use Rattle.net_defs.specs.declared.netlist.Signal.{Signal}
 use Rattle.bench_read.specs.Lines.{Line, Memory, used, all_driven, all_used, operand_count}
@@ -37,13 +38,8 @@ pub uses_split : (names : List (List ℕ)) (line : Line) (left : List Line) (use
     → (take n uses ≡ numbers names (used line)) × (drop n uses ≡ numbers names (all_used left)) × (n ≤ length uses)
 unfolding all_used
 uses_split names line left uses n is are =
-    let split = are ∙ map-append (number names) (used line) (all_used left) in
-    let count : length (numbers names (used line)) ≡ n = length-map (used line) (number names) ∙ sym is in
-    rw split (
-      take_at (numbers names (used line)) (numbers names (all_used left)) n count,
-      drop_at (numbers names (used line)) (numbers names (all_used left)) n count,
-      omega (arith, count, length-append (numbers names (used line)) (numbers names (all_used left))),
-    )
+    let count : n ≡ length (numbers names (used line)) = is ∙ sym (length-map (used line) (number names)) in
+    rw (are, count) (simp (map-append, take-append_seam, drop-append_seam, length-append) (refl, refl, omega arith))
 
 -- with what the lines that are left make, the netlist is that of all lines
 pub record IsMaking (lines left : List Line) (net : Netlist) : Type 0 where
