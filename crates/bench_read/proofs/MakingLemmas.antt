@@ -45,27 +45,20 @@ uses_split names line left uses n is are =
 pub record IsMaking (lines left : List Line) (net : Netlist) : Type 0 where
   pub whole : with_lines (names_of lines) net left ≡ netlist_of lines
 
-pub making_all : (lines : List Line) (net : Netlist) → IsMaking lines [] net → net ≡ netlist_of lines
-unfolding other_signals
-making_all lines net made = simp append-nil at made.whole
-
 pub few_memories : {lines left : List Line} {net : Netlist} → IsMaking lines left net → length net.blocks ≤ operand_count lines
 few_memories {lines} {left} {net} made =
-    omega (arith, ap (λ (n : Netlist). length n.blocks) made.whole, length-append net.blocks, memories-le (netlist_of lines).blocks, made_operands lines)
+    omega (arith, simp length-append at (ap (λ (n : Netlist). length n.blocks) made.whole), memories-le (netlist_of lines).blocks, made_operands lines)
 
 module _ {lines left : List Line} {line : Line} {net : Netlist} (made : IsMaking lines (line ∷ left) net) where
   abbrev names : List (List ℕ)
   names = names_of lines
 
-  named : names_from net.signals ++ (other_names line ++ flat_map other_names left) ≡ names
+  pub named : names_from net.signals ++ (other_names line ++ flat_map other_names left) ≡ names
   named = simp (map-append, others_names) at (ap (λ (n : Netlist). names_from n.signals) made.whole ∙ signal_names lines)
 
   -- the names that it drives beside inputs are numbered side by side
   pub neighbours : AreOnce (all_driven lines) → numbers names (other_names line) ≡ range_with_len (length net.signals) (length (other_names line))
   neighbours once = simp length-map at (numbers_range names (names_from net.signals) (other_names line) (flat_map other_names left) (names_once lines once) (sym named))
-
-  pub room : length net.signals + length (other_names line) ≤ length names
-  room = omega (arith, simp (length-append, length-map) at (ap length named))
 
   pub making_next : IsMaking lines left (with_lines names net (line ∷ []))
   unfolding other_signals

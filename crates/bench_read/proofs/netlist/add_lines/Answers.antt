@@ -1,11 +1,12 @@
-use Rattle.std.proofs.Common.{length, sym, ap, ◌∙◌, subst, refl, arith}
+use Rattle.std.proofs.Common.{append-nil, length, sym, ap, ◌∙◌, subst, refl, arith, length-append}
 use Rattle.bench_read.specs.Drafting.{lines_in}
 use Rattle.bench_read.specs.Making.{seen}
 use Rattle.bench_read.specs.Placed.{lines_at}
-use Rattle.bench_read.specs.Netlists.{names_of, numbers, netlist_of}
+use Rattle.bench_read.specs.Netlists.{names_of, numbers, netlist_of, other_signals}
 use Rattle.bench_read.specs.Reads.{AreOnce}
 use Rattle.bench_read.proofs.NumberLemmas.{names_length}
-use Rattle.bench_read.proofs.MakingLemmas.{making_all, making_more, uses_split, room, few_memories}
+use Rattle.bench_read.proofs.MakingLemmas.{few_memories, making_more, uses_split, named}
+use Rattle.std.proofs.lemmas.List.{length-map}
 use Rattle.bench_read.proofs.netlist.add_lines.Goals as goal
 
 pub lines-init : goal.lines-init
@@ -22,7 +23,7 @@ split_at-requires c =
 pub add_line-requires-clause-signals : goal.add_line-requires-clause-signals
 add_line-requires-clause-signals c =
     let so = rw c.in-Some.ensures.steps at c.lines.invariant in
-    omega (arith, room so.made, names_length (lines_in c.args.draft.now), ap length c.requires.whole.drives, c.requires.whole.few_signals)
+    omega (arith, simp (length-append, length-map) at (ap length (named so.made)), names_length (lines_in c.args.draft.now), ap length c.requires.whole.drives, c.requires.whole.few_signals)
 
 pub add_line-requires-clause-blocks : goal.add_line-requires-clause-blocks
 add_line-requires-clause-blocks c = omega (arith, few_memories c.lines.invariant.made, c.requires.whole.few_operands)
@@ -37,4 +38,5 @@ lines-preserved c =
     })
 
 pub returns : goal.returns
-returns c = making_all (lines_in c.args.draft.now) c.lines.net (rw c.in-None.ensures.steps.0 at c.lines.invariant.made)
+unfolding other_signals
+returns c = let so = rw c.in-None.ensures.steps.0 at c.lines.invariant.made in simp append-nil at so.whole
