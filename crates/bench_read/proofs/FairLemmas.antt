@@ -1,5 +1,5 @@
 -- The lines of a text, and how much they make.
-use Rattle.std.proofs.Common.{◌≡◌, ℕ, suc, ◌≤◌, Bool, true, false, cond, List, [], ◌∷◌, ◌++◌, length, map, Option, Some, None, Ok, Err, ap, subst, refl, arith}
+use Rattle.std.proofs.Common.{◌≡◌, ℕ, suc, ◌≤◌, Bool, true, false, cond, List, [], ◌∷◌, ◌++◌, length, map, Option, Some, None, Ok, Err, subst, refl, arith}
 use Rattle.std.specs.Prelude.{codes}
 use Rattle.std.specs.List.{AllByRecursion, flat_map, enumerate_from, onto_first}
 use Rattle.std.proofs.lemmas.List.{length-map}
@@ -17,7 +17,7 @@ use Rattle.bench_line.specs.Rows.{Row, row_of, is_some, rows_of}
 use Rattle.bench_read.specs.declared.refusal.BenchNo.{BenchNo}
 use Rattle.bench_read.specs.declared.refusal.BenchNo.TheVariants.{Syntax, UnknownKind, Arity}
 use Rattle.bench_read.specs.Lines.{Line, Input, Output, Gate, Register, Memory, driven}
-use Rattle.bench_read.specs.Saying.{allows_memory, is_word, said_by_register, said_by_gate, said_by_memory, said_by_form, Say}
+use Rattle.bench_read.specs.Saying.{is_word, said_by_register, said_by_gate, said_by_memory, said_by_form, Say}
 use Rattle.bench_read.specs.Netlists.{printed_names}
 use Rattle.bench_read.proofs.FoundLemmas.{AreMemoryBits, memory_bits}
 use Rattle.bench_read.proofs.SaidLemmas.{from_ok}

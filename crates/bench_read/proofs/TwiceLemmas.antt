@@ -1,9 +1,9 @@
 -- Names that lines drive, and those that one drives again.
-use Rattle.std.proofs.Common.{◌≡◌, ℕ, ◌+◌, ◌<◌, length, take, drop, get_or, not, Some, refl, false, List, [], ◌∷◌, ◌++◌, append_assoc, append-nil, map, None, sym, ap, ◌∙◌, bytes_eq}
+use Rattle.std.proofs.Common.{◌≡◌, ℕ, not, Some, refl, false, List, [], ◌∷◌, ◌++◌, append_assoc, append-nil, map, None, sym, ap, ◌∙◌, bytes_eq}
 use Rattle.std.specs.Prelude.{◌↔◌}
 use Rattle.std.specs.List.{list_any, find}
 use Rattle.std.specs.Option.{option_map, option_or}
-use Rattle.std.proofs.lemmas.List.{map_push, take_more, take-append-drop}
+use Rattle.std.proofs.lemmas.List.{map_push}
 use Rattle.std.proofs.lemmas.List.Folds.{find_at}
 use Rattle.std.proofs.lemmas.Option.{slice_get-map}
 use Rattle.std.proofs.lemmas.Simd.{map-map}

@@ -23,7 +23,6 @@ use Rattle.std.proofs.lemmas.List.FromFn.{length-enumerate_from, get_or-enumerat
 use Rattle.bench_read.proofs.NumberLemmas.{names_once, names_length, number_at, numbered}
 use Rattle.bench_read.proofs.MakingLemmas.{counted, IsMaking, making_next, neighbours}
 use Rattle.bench_read.proofs.MadeLemmas.{signal_names, made_operands}
-use Rattle.bench_read.proofs.FoundLemmas.{memory_bits}
 use Rattle.bench_read.proofs.WordLemmas.{rows_named}
 use Rattle.bench_read.proofs.FairLemmas.{IsFair, lines_fair, few_printed, rows_length}
 
