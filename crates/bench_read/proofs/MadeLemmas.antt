@@ -30,8 +30,7 @@ line_names names m line = refl
 pub others_names : (names : List (List ℕ)) (m : ℕ) (lines : List Line) → names_from (other_signals names m lines) ≡ flat_map other_names lines
 unfolding other_signals
 others_names names m [] = refl
-others_names names m (line ∷ lines) =
-    simp (map-append, line_names, others_names names (m + memory_count line) lines) refl
+others_names names m (line ∷ lines) = simp (map-append, line_names, others_names names (m + memory_count line) lines) refl
 
 -- the names of the signals that lines make are the driven names in signal order
 pub made_names : (names : List (List ℕ)) (m : ℕ) (lines : List Line) → names_from (map input_signal (flat_map input_names lines) ++ other_signals names m lines) ≡ names_of lines
@@ -48,11 +47,10 @@ abbrev pub signal_operands : Signal → ℕ
 signal_operands signal = driver_operands signal.driver
 
 line_operands : (names : List (List ℕ)) (m : ℕ) (line : Line) → length (operands line) ≡ sum_by signal_operands (signals_by names m line) + sum_by memory_operand_count (memories_by names line)
-line_operands names m (Gate name kind uses) = simp length-map (omega arith)
 line_operands names m (Memory outs enable address words) =
     let none = sum_none_of signal_operands (λ p. record { name = p.1; driver = driver.BlockBit m p.0 }) (enumerate_from 0 outs) (λ p. refl) in
     simp (length-map, length-append) (omega (arith, none))
-line_operands names m line = refl
+line_operands names m line = omega (arith, length-map {A = List ℕ} {B = ℕ})
 
 lines_operands : (names : List (List ℕ)) (m : ℕ) (lines : List Line)
     → operand_count lines ≡ sum_by signal_operands (other_signals names m lines) + sum_by memory_operand_count (flat_map (memories_by names) lines)

@@ -53,9 +53,8 @@ number_at names before name after once is =
 pub numbers_range : (names before some after : List (List ℕ)) → AreOnce names → names ≡ before ++ (some ++ after) → numbers names some ≡ range_with_len (length before) (length some)
 numbers_range names before [] after once is = refl
 numbers_range names before (name ∷ some) after once is =
-    let rest = numbers_range names (before ++ name ∷ []) some after once (is ∙ sym (append_assoc before (name ∷ []) (some ++ after))) in
-    (λ k. number_at names before name (some ++ after) once is k ∷ rest k)
-    ∙ ap (λ n. length before ∷ range_with_len n (length some)) (length-append before (name ∷ []))
+    let rest = numbers_range names (before ++ name ∷ []) some after once (is ∙ simp append_assoc refl) in
+    rw (number_at names before name (some ++ after) once is, rest, length-append before (name ∷ [])) refl
 
 -- counting from the inputs and from the others numbers the driven names
 order_numbers : (names inputs others : List (List ℕ)) (input other : ℕ) (lines : List Line) → AreOnce names → names ≡ inputs ++ (flat_map input_names lines ++ (others ++ flat_map other_names lines))
@@ -68,7 +67,7 @@ order_numbers names inputs others input other (line ∷ lines) once is first sec
     let mine = numbers_range names inputs i (flat_map input_names lines ++ (others ++ (o ++ flat_map other_names lines))) once (is ∙ simp append_assoc refl) in
     let next = numbers_range names (inputs ++ ((i ++ flat_map input_names lines) ++ others)) o (flat_map other_names lines) once (is ∙ simp append_assoc refl) in
     let rest = order_numbers names (inputs ++ i) (others ++ o) (input + length i) (other + length o) lines once (is ∙ simp append_assoc refl)
-        (simp length-append (omega (arith, first))) (simp length-append (omega (arith, simp length-append at second))) in
+    (simp length-append (omega (arith, first))) (simp length-append (omega (arith, simp length-append at second))) in
     simp (line_orders, map-append, append_assoc) (cc)
 
 -- the numbers of all driven names, where so many inputs stand first

@@ -154,10 +154,8 @@ module _ (lines : List Line) (once : AreOnce (all_driven lines)) where
   unfolding all_used
   all_right [] fair uses = tt
   all_right (line ∷ some) fair uses =
-      let split = rw (map-append (number names) (used line) (flat_map used some)) at uses in (
-        record { fair = fair.0; uses = all_front (IsSignal whole) (numbers names (used line)) (numbers names (flat_map used some)) split },
-        all_right some fair.1 (all_back (IsSignal whole) (numbers names (used line)) (numbers names (flat_map used some)) split),
-      )
+      let split = rw (map-append (number names) (used line) (flat_map used some)) at uses in
+      (record { fair = fair.0; uses = all_front (IsSignal whole) (numbers names (used line)) _ split }, all_right some fair.1 (all_back (IsSignal whole) (numbers names (used line)) _ split))
 
   inputs_there : (some : List Line) → AllByRecursion IsRight some → All IsThere (map input_signal (flat_map input_names some))
   inputs_there [] right = All-nil IsThere
@@ -173,7 +171,7 @@ module _ (lines : List Line) (once : AreOnce (all_driven lines)) where
   unfolding netlist_of
   valid sound fair few =
       let among = All-weaker (λ name. list_any (bytes_eq name) (all_driven lines) ≡ true) (λ name. IsSignal whole (number names name))
-          (λ name is. omega (arith, numbered lines name is, signals_length)) (all_used lines) sound.driven in
+      (λ name is. omega (arith, numbered lines name is, signals_length)) (all_used lines) sound.driven in
       let right = all_right lines fair (All-map (IsSignal whole) (number names) (all_used lines) among) in
       let inputs : List Signal = map input_signal (flat_map input_names lines) in
       let others = other_signals names 0 lines in
