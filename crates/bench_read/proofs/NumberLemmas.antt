@@ -1,7 +1,8 @@
 -- The numbers of names, and names in signal order.
 use Rattle.std.proofs.Common.{◌≡◌, ℕ, zero, suc, ◌+◌, ◌<◌, ◌≤◌, true, false, cond, List, [], ◌∷◌, ◌++◌, append_assoc, append-nil, length, get_or, Bool, Some, None, sym, ap, ◌∙◌, subst, refl, arith, bytes_eq, length-append}
 use Rattle.std.specs.List.{sum_by, list_any, flat_map, position, range_with_len}
-use Rattle.std.proofs.lemmas.List.{map-append, get_or-map}
+use Rattle.std.proofs.lemmas.List.{map-append, map-id, get_or-map}
+use Rattle.std.proofs.lemmas.List.FromFn.{map-range_with_len_more}
 use Rattle.std.proofs.lemmas.List.Folds.{list_any_at}
 use Rattle.std.proofs.lemmas.List.Quantifiers.{position-Some}
 use Rattle.std.proofs.lemmas.List.Sums.{sum_by-append}
@@ -38,8 +39,8 @@ names_length (line ∷ lines) = simp (line_orders, length-append) (omega (arith,
 -- a driven name has a number
 pub numbered : (lines : List Line) (name : List ℕ) → list_any (bytes_eq name) (all_driven lines) ≡ true → number (names_of lines) name < length (names_of lines)
 numbered lines name some =
-    let past : length (names_of lines) ≤ number (names_of lines) name → list_any (bytes_eq name) (all_driven lines) ≡ false =
-    λ p. none_counted (bytes_eq name) _ (sym (either_order (λ n. cond (bytes_eq name n) 1 0) lines) ∙ count_none (bytes_eq name) _ (none_past (bytes_eq name) _ p)) in
+    let past = λ (p : length (names_of lines) ≤ number (names_of lines) name).
+        none_counted (bytes_eq name) (all_driven lines) (sym (either_order (λ n. cond (bytes_eq name n) 1 0) lines) ∙ count_none (bytes_eq name) (names_of lines) (none_past (bytes_eq name) (names_of lines) p)) in
     grind (arith, past)
 
 -- ---- numbers in a row
@@ -77,11 +78,7 @@ order_is lines inputs once is = order_numbers (names_of lines) [] [] 0 inputs li
 
 -- one number more
 pub range_more : (a n : ℕ) → range_with_len a (n + 1) ≡ range_with_len a n ++ (a + n) ∷ []
-range_more a zero = let at : a ≡ a + 0 = omega arith in ap (λ n. n ∷ []) at
-range_more a (suc n) =
-    let more : suc n + 1 ≡ suc (n + 1) = omega arith in
-    let last : a + suc n ≡ a + 1 + n = omega arith in
-    rw (more, last) (ap (λ ns. a ∷ ns) (range_more (a + 1) n))
+range_more a n = simp map-id at (map-range_with_len_more (λ (k : ℕ). k) a n (a + n) refl)
 
 -- ---- names that are found
 
