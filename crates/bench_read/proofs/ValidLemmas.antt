@@ -77,16 +77,15 @@ module _ (lines : List Line) (once : AreOnce (all_driven lines)) where
 
     bits_driven : AllByRecursion IsName o → All IsDriven (bit_signals (length net.blocks) o)
     bits_driven named = All-map IsDriven bit (enumerate_from 0 o) (λ k d within.
-        let there = ap (λ (n : Netlist). slice_get n.blocks (length net.blocks)) (sym made.whole) ∙ seam_at net.blocks memory (flat_map (memories_by names) left) in
+        let there : slice_get whole.blocks (length net.blocks) ≡ Some memory = rw (sym made.whole) (seam_at net.blocks memory (flat_map (memories_by names) left)) in
         let inside : k < length o = omega (arith, within, length-enumerate_from 0 o) in
         rw (place k d inside) ((All-from_recursion IsName o named k d.1 inside, (memory, there, rw (slice_get-map (number names) o k, slice_get-get_or o k d.1 inside) refl)), refl))
 
     bit_there : (j : ℕ) → j < length o → slice_get whole.signals (length net.signals + j) ≡ Some (bit (j, get_or o j []))
     unfolding other_signals
     bit_there j within =
-        ap (λ (n : Netlist). slice_get n.signals (length net.signals + j)) (sym made.whole)
-        ∙ inside_at net.signals (bit_signals (length net.blocks) o) (other_signals names (length net.blocks + 1) left) j _
-        (rw (slice_get-map bit (enumerate_from 0 o) j, slice_get-get_or (enumerate_from 0 o) j (0, []) (omega (arith, within, length-enumerate_from 0 o)), place j (0, []) within) refl)
+        rw (sym made.whole) (inside_at net.signals (bit_signals (length net.blocks) o) _ j _
+        (rw (slice_get-map bit (enumerate_from 0 o) j, slice_get-get_or (enumerate_from 0 o) j (0, []) (omega (arith, within, length-enumerate_from 0 o)), place j (0, []) within) refl))
 
     -- its outputs begin behind the signals before it
     first_out : IsRight (Memory o enable address words) → length net.signals ≡ get_or memory.outs 0 0
@@ -105,7 +104,7 @@ module _ (lines : List Line) (once : AreOnce (all_driven lines)) where
           word_bits = simp length-map (bits.some_words, bits.few_words);
           outs = neighbours made once ∙ (λ k. range_with_len (first_out right k) (count k));
           driven = λ j s e.
-              let found = range_at (length net.signals) (length o) j s (sym (ap (λ ns. slice_get ns j) (neighbours made once)) ∙ e) in
+              let found = range_at (length net.signals) (length o) j s (rw (neighbours made once) at e) in
               (_, ap (slice_get whole.signals) found.0 ∙ bit_there j found.1, refl);
         }
 
