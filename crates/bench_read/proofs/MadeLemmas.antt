@@ -9,7 +9,7 @@ use Rattle.net_defs.specs.declared.netlist.Signal.{Signal}
 use Rattle.net_defs.specs.declared.netlist.Block.{Block}
 use Rattle.net_defs.specs.declared.netlist.Driver.TheVariants as driver
 use Rattle.net_defs.specs.Valid.{operand_count as driver_operands, memory_operand_count}
-use Rattle.bench_read.specs.Lines.{Line, Gate, Memory, operands, operand_count}
+use Rattle.bench_read.specs.Lines.{Line, Memory, operands, operand_count}
 use Rattle.bench_read.specs.Netlists.{input_names, other_names, names_of, netlist_of, input_signal, signals_by, memory_count, other_signals, memories_by}
 
 -- ---- names

@@ -1,5 +1,5 @@
 -- The numbers of names, and names in signal order.
-use Rattle.std.proofs.Common.{◌≡◌, ℕ, zero, suc, ◌+◌, ◌<◌, ◌≤◌, true, false, cond, List, [], ◌∷◌, ◌++◌, append_assoc, append-nil, length, get_or, Bool, Some, None, sym, ap, ◌∙◌, subst, refl, arith, bytes_eq, length-append}
+use Rattle.std.proofs.Common.{◌≡◌, ℕ, ◌+◌, ◌<◌, ◌≤◌, true, false, cond, List, [], ◌∷◌, ◌++◌, append_assoc, append-nil, length, get_or, Bool, Some, None, sym, ap, ◌∙◌, subst, refl, arith, bytes_eq, length-append}
 use Rattle.std.specs.List.{sum_by, list_any, flat_map, position, range_with_len}
 use Rattle.std.proofs.lemmas.List.{map-append, map-id, get_or-map}
 use Rattle.std.proofs.lemmas.List.FromFn.{map-range_with_len_more}
