@@ -1,14 +1,16 @@
 -- The names and operands of what lines make.
-use Rattle.std.proofs.Common.{◌≡◌, ℕ, ◌+◌, List, [], ◌∷◌, ◌++◌, length, map, ap, refl, arith}
+use Rattle.std.proofs.Common.{◌≡◌, ℕ, ◌+◌, ◌≤◌, List, [], ◌∷◌, ◌++◌, length, map, ap, refl, arith}
 use Rattle.std.specs.List.{sum_by, flat_map, enumerate_from}
-use Rattle.std.proofs.lemmas.List.{map-append, length-map, length-append}
+use Rattle.std.proofs.lemmas.List.{map-append, map-id, length-map, length-append}
+use Rattle.std.proofs.lemmas.Simd.{map-map}
 use Rattle.std.proofs.lemmas.List.Sums.{sum_by-append, sum_by-cons}
 use Rattle.list_laws.proofs.Maps.{sum_none_of}
 use Rattle.net_defs.specs.declared.netlist.Signal.{Signal}
+use Rattle.net_defs.specs.declared.netlist.Block.{Block}
 use Rattle.net_defs.specs.declared.netlist.Driver.TheVariants as driver
 use Rattle.net_defs.specs.Valid.{operand_count as driver_operands, memory_operand_count}
-use Rattle.bench_read.specs.Lines.{Line, Gate, Memory, operands, operand_count}
-use Rattle.bench_read.specs.Netlists.{input_names, other_names, names_of, number, netlist_of, input_signal, signals_by, memory_count, other_signals, memories_by}
+use Rattle.bench_read.specs.Lines.{Line, Memory, operands, operand_count}
+use Rattle.bench_read.specs.Netlists.{input_names, other_names, names_of, netlist_of, input_signal, signals_by, memory_count, other_signals, memories_by}
 
 -- ---- names
 
@@ -25,21 +27,19 @@ pub line_names : (names : List (List ℕ)) (m : ℕ) (line : Line) → names_fro
 line_names names m (Memory outs enable address words) = bit_names m 0 outs
 line_names names m line = refl
 
-others_names : (names : List (List ℕ)) (m : ℕ) (lines : List Line) → names_from (other_signals names m lines) ≡ flat_map other_names lines
+pub others_names : (names : List (List ℕ)) (m : ℕ) (lines : List Line) → names_from (other_signals names m lines) ≡ flat_map other_names lines
 unfolding other_signals
 others_names names m [] = refl
-others_names names m (line ∷ lines) =
-    simp (map-append, line_names, others_names names (m + memory_count line) lines) refl
-
-pub inputs_names : (inputs : List (List ℕ)) → names_from (map input_signal inputs) ≡ inputs
-inputs_names [] = refl
-inputs_names (name ∷ inputs) = ap (λ ns. name ∷ ns) (inputs_names inputs)
+others_names names m (line ∷ lines) = simp (map-append, line_names, others_names names (m + memory_count line) lines) refl
 
 -- the names of the signals that lines make are the driven names in signal order
 pub made_names : (names : List (List ℕ)) (m : ℕ) (lines : List Line) → names_from (map input_signal (flat_map input_names lines) ++ other_signals names m lines) ≡ names_of lines
 unfolding names_of
-made_names names m lines =
-    simp (map-append, inputs_names, others_names) refl
+made_names names m lines = simp (map-append, map-map, map-id, others_names) refl
+
+pub signal_names : (lines : List Line) → names_from (netlist_of lines).signals ≡ names_of lines
+unfolding netlist_of
+signal_names lines = made_names (names_of lines) 0 lines
 
 -- ---- operands
 
@@ -47,38 +47,25 @@ abbrev pub signal_operands : Signal → ℕ
 signal_operands signal = driver_operands signal.driver
 
 line_operands : (names : List (List ℕ)) (m : ℕ) (line : Line) → length (operands line) ≡ sum_by signal_operands (signals_by names m line) + sum_by memory_operand_count (memories_by names line)
-line_operands names m (Gate name kind uses) = omega (arith, length-map uses (λ n. number names n))
-line_operands names m (Memory outs enable address words) = omega (
-  arith,
-  sum_none_of signal_operands (λ p. record { name = p.1; driver = driver.BlockBit m p.0 }) (enumerate_from 0 outs) (λ p. refl),
-  length-append address words,
-  length-map address (λ n. number names n),
-  length-map words (λ n. number names n),
-)
-line_operands names m line = refl
+line_operands names m (Memory outs enable address words) =
+    let none = sum_none_of signal_operands (λ p. record { name = p.1; driver = driver.BlockBit m p.0 }) (enumerate_from 0 outs) (λ p. refl) in
+    simp (length-map, length-append) (omega (arith, none))
+line_operands names m line = omega (arith, length-map {A = List ℕ} {B = ℕ})
 
 lines_operands : (names : List (List ℕ)) (m : ℕ) (lines : List Line)
     → operand_count lines ≡ sum_by signal_operands (other_signals names m lines) + sum_by memory_operand_count (flat_map (memories_by names) lines)
 unfolding operand_count other_signals
 lines_operands names m [] = refl
 lines_operands names m (line ∷ lines) =
-    omega (
-      arith,
-      lines_operands names (m + memory_count line) lines,
-      line_operands names m line,
-      sum_by-cons (λ l. length (operands l)) line lines,
-      sum_by-append signal_operands (signals_by names m line) (other_signals names (m + memory_count line) lines),
-      sum_by-append memory_operand_count (memories_by names line) (flat_map (memories_by names) lines),
-    )
+    simp sum_by-append (omega (arith, lines_operands names (m + memory_count line) lines, line_operands names m line, sum_by-cons (λ l. length (operands l)) line lines))
 
 -- the operands of lines are those of the netlist that they make
 pub made_operands : (lines : List Line) → operand_count lines ≡ sum_by signal_operands (netlist_of lines).signals + sum_by memory_operand_count (netlist_of lines).blocks
 unfolding netlist_of
 made_operands lines =
-    let names = names_of lines in
-    omega (
-      arith,
-      lines_operands names 0 lines,
-      sum_by-append signal_operands (map input_signal (flat_map input_names lines)) (other_signals names 0 lines),
-      sum_none_of signal_operands input_signal (flat_map input_names lines) (λ name. refl),
-    )
+    simp sum_by-append (omega (arith, lines_operands (names_of lines) 0 lines, sum_none_of signal_operands input_signal (flat_map input_names lines) (λ name. refl)))
+
+-- each memory has operands
+pub memories-le : (memories : List Block) → length memories ≤ sum_by memory_operand_count memories
+memories-le [] = omega arith
+memories-le (memory ∷ memories) = omega (arith, memories-le memories, sum_by-cons memory_operand_count memory memories)

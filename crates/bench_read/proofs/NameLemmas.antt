@@ -1,7 +1,6 @@
 -- Names that stand once.
-use Rattle.std.proofs.Common.{◌≡◌, ℕ, true, false, cond, List, [], ◌∷◌, ◌++◌, sym, subst, inl, inr, arith, bytes_eq}
+use Rattle.std.proofs.Common.{◌≡◌, ℕ, true, false, cond, List, [], ◌∷◌, ◌++◌, arith, bytes_eq}
 use Rattle.std.specs.List.{count_by, list_any}
-use Rattle.std.proofs.lemmas.Bool.{cases_Bool, cond-true, cond-false}
 use Rattle.std.proofs.lemmas.Slice.Eq.{bytes_eq-Decides}
 use Rattle.std.proofs.lemmas.List.Sums.{sum_by-cons, sum_by-append, sum_by_push}
 use Rattle.list_laws.proofs.Tests.{count_none, none_counted}
@@ -16,21 +15,12 @@ same_bytes a = grind (arith, bytes_eq-Decides)
 -- one more name, which none of them is
 pub once_more : (names : List (List ℕ)) (name : List ℕ) → AreOnce names → list_any (bytes_eq name) names ≡ false → AreOnce (names ++ name ∷ [])
 once_more names name once none other =
-    elim (cases_Bool (bytes_eq other name)) [
-      | inl same ↦
-          let is : name ≡ other = sym (same_name other name same) in
-          let zero_before : count_by (bytes_eq other) names ≡ 0 = subst (λ n. count_by (bytes_eq n) names ≡ 0) is (count_none (bytes_eq name) names none) in
-          omega (arith, sum_by_push (λ n. cond (bytes_eq other n) 1 0) names name, cond-true {A = ℕ} (bytes_eq other name) 1 0 same)
-      | inr differs ↦
-          omega (arith, sum_by_push (λ n. cond (bytes_eq other n) 1 0) names name, cond-false {A = ℕ} (bytes_eq other name) 1 0 differs, once other)
-    ]
+    let none_of : bytes_eq other name ≡ true → count_by (bytes_eq other) names ≡ 0 = λ same. rw (same_name other name same) (count_none (bytes_eq name) names none) in
+    grind (arith, none_of, once other, sum_by_push (λ n. cond (bytes_eq other n) 1 0) names name)
 
 -- a name that stands once stands nowhere before
 pub new_from_once : (names : List (List ℕ)) (name : List ℕ) (rest : List (List ℕ)) → AreOnce (names ++ name ∷ rest) → list_any (bytes_eq name) names ≡ false
-new_from_once names name rest once =
-    let f : List ℕ → ℕ = λ n. cond (bytes_eq name n) 1 0 in
-    none_counted (bytes_eq name) names
-    (omega (arith, once name, sum_by-append f names (name ∷ rest), sum_by-cons f name rest, cond-true {A = ℕ} (bytes_eq name name) 1 0 (same_bytes name)))
+new_from_once names name rest once = none_counted (bytes_eq name) names (omega (arith, simp same_bytes at (simp (sum_by-append, sum_by-cons) at (once name))))
 
 -- names that stand once stand once without those behind
 pub once_front : (names rest : List (List ℕ)) → AreOnce (names ++ rest) → AreOnce names

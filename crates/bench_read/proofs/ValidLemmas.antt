@@ -1,55 +1,37 @@
 -- What a text reads as is a valid netlist.
-use Rattle.std.proofs.Common.{◌≡◌, ℕ, zero, suc, ◌+◌, ◌-◌, ◌<◌, ◌≤◌, true, false, List, [], ◌∷◌, ◌++◌, length, map, take, drop, get_or, slice_get, Some, ◌⊎◌, inl, inr, ⊎_elim, sym, ap, ◌∙◌, subst, refl, arith, length-append, bytes_eq}
+use Rattle.std.proofs.Common.{◌≡◌, ℕ, zero, suc, ◌+◌, ◌<◌, ◌≤◌, ◌^◌, true, false, List, [], ◌∷◌, ◌++◌, length, map, take, drop, get_or, slice_get, Some, sym, ap, ◌∙◌, subst, refl, arith, length-append, bytes_eq}
 use Rattle.std.specs.List.{All, AllByRecursion, list_any, flat_map, enumerate_from, range_with_len}
-use Rattle.std.proofs.lemmas.Bool.{both_ways, cases_lt}
-use Rattle.std.proofs.lemmas.List.{length-map, length-take-le}
-use Rattle.std.proofs.lemmas.List.Elements.{All-nil, All-append, All-weaker, All-head, All-tail, All-map, recursion_from_All, All-from_recursion}
-use Rattle.std.proofs.lemmas.Option.{slice_get-map, slice_get_within, slice_get-get_or, get_or_from_slice_get}
+use Rattle.std.proofs.lemmas.Bool.{both_ways}
+use Rattle.std.proofs.lemmas.List.{length-map, map-append, length-take-le, take-append-drop}
+use Rattle.std.proofs.lemmas.List.Elements.{All-nil, All-cons, All-append, All-weaker, All-head, All-tail, All-map, All-from_recursion}
+use Rattle.std.proofs.lemmas.Option.{slice_get-map, slice_get_within, slice_get-get_or}
 use Rattle.limits.specs.declared.TheConstants.{MAX_TEXT_BYTES}
-use Rattle.list_laws.proofs.Ranges.{range_get, range_at, first_of_range}
-use Rattle.list_laws.proofs.Places.{seam_at, at_front, slice_past, inside_at, split_at}
-use Rattle.list_laws.proofs.Members.{each, all_front, all_back, all_flat_of}
+use Rattle.list_laws.proofs.Ranges.{range_at, first_of_range}
+use Rattle.list_laws.proofs.Places.{seam_at, drop_here, inside_at}
+use Rattle.list_laws.proofs.Members.{each, all_front, all_back}
 use Rattle.logic_four.specs.Kinds.{AllowsOperands}
 use Rattle.net_defs.specs.declared.netlist.Netlist.{Netlist}
 use Rattle.net_defs.specs.declared.netlist.Signal.{Signal}
 use Rattle.net_defs.specs.declared.netlist.Block.{Block}
 use Rattle.net_defs.specs.declared.netlist.Driver.TheVariants as driver
-use Rattle.net_defs.specs.Valid.{IsName, IsSignal, IsDrivable, IsMemory, is_input, AreNamed, NamesDiffer, InputsLead, IsValid}
+use Rattle.net_defs.specs.Valid.{IsName, IsSignal, IsDrivable, IsMemory, is_input, InputsLead, IsValid}
 use Rattle.bench_line.specs.Rows.{rows_of}
-use Rattle.bench_read.specs.Lines.{Line, Output, Gate, Register, Memory, driven, used, all_driven, all_used}
-use Rattle.bench_read.specs.Netlists.{input_names, other_names, names_of, number, numbers, input_signal, bit_signals, signals_by, memory_count, other_signals, printed_names, memories_by, netlist_of}
+use Rattle.bench_read.specs.Lines.{Line, Input, Output, Gate, Register, Memory, used, all_driven, all_used}
+use Rattle.bench_read.specs.Netlists.{input_names, names_of, number, numbers, input_signal, bit_signals, signals_by, other_signals, printed_names, memories_by, netlist_of}
 use Rattle.bench_read.specs.Reads.{AreOnce, AreSound, Reads}
-use Rattle.std.proofs.lemmas.List.FromFn.{length-range_with_len, length-enumerate_from, get_or-enumerate_from}
-use Rattle.bench_read.proofs.NumberLemmas.{line_orders, names_once, names_length, number_at, numbered}
-use Rattle.bench_read.proofs.MakingLemmas.{memories_counted, IsMaking, IsBelow, making_none, making_next, neighbours, grown}
-use Rattle.bench_read.proofs.MadeLemmas.{names_from, made_names, made_operands}
-use Rattle.bench_read.proofs.FoundLemmas.{memory_bits}
-use Rattle.bench_read.proofs.FairLemmas.{IsSized, IsFair, text_fair, printed-le, said_length, rows_length}
+use Rattle.std.proofs.lemmas.List.FromFn.{length-enumerate_from, get_or-enumerate_from}
+use Rattle.bench_read.proofs.NumberLemmas.{names_once, names_length, number_at, numbered}
+use Rattle.bench_read.proofs.MakingLemmas.{counted, IsMaking, making_next, neighbours}
+use Rattle.bench_read.proofs.MadeLemmas.{signal_names, made_operands}
+use Rattle.bench_read.proofs.WordLemmas.{rows_named}
+use Rattle.bench_read.proofs.FairLemmas.{IsFair, lines_fair, few_printed, rows_length}
 
--- ---- what is right of a line
-
--- it drives names, what it uses has numbers below n, and it is sized
-pub record IsRight (names : List (List ℕ)) (n : ℕ) (line : Line) : Type 0 where
-  pub named : All IsName (driven line)
-  pub uses : All (λ name. number names name < n) (used line)
-  pub sized : IsSized line
-
--- ---- what holds of each member of a list and its place, where the first has place s
-
-abbrev EachFrom : {X : Type 0} → (ℕ → X → Type 0) → ℕ → List X → Type 0
-EachFrom Q s [] = Unit {0}
-EachFrom Q s (x ∷ xs) = Q s x × EachFrom Q (s + 1) xs
-
-each_from : {X : Type 0} (Q : ℕ → X → Type 0) (s : ℕ) (xs : List X) (j : ℕ) (x : X) → EachFrom Q s xs → slice_get xs j ≡ Some x → Q (s + j) x
-each_from Q s [] j x all e = cc
-each_from Q s (y ∷ xs) zero x all e = let is : y ≡ x = cc in let at : s ≡ s + 0 = omega arith in subst (λ k. Q k x) at (subst (Q s) is all.0)
-each_from Q s (y ∷ xs) (suc j) x all e = let at : s + 1 + j ≡ s + suc j = omega arith in subst (λ k. Q k x) at (each_from Q (s + 1) xs j x all.1 e)
-
-each_append : {X : Type 0} (Q : ℕ → X → Type 0) (s n : ℕ) (xs ys : List X) → n ≡ s + length xs → EachFrom Q s xs → EachFrom Q n ys → EachFrom Q s (xs ++ ys)
-each_append Q s n [] ys at mine others = let same : n ≡ s = omega (arith, at) in subst (λ k. EachFrom Q k ys) same others
-each_append Q s n (x ∷ xs) ys at mine others = (mine.0, each_append Q (s + 1) n xs ys (omega (arith, at)) mine.1 others)
-
--- ---- the netlist of right lines
+-- inputs stand before signals that are none
+inputs_lead : (names : List (List ℕ)) (others : List Signal) → All (λ s. is_input s.driver ≡ false) others → InputsLead (map input_signal names ++ others)
+inputs_lead [] others none s t one other e f before input = absurd (both_ways _ (each (λ x. is_input x.driver ≡ false) others t other none f) input)
+inputs_lead (name ∷ names) others none zero t one other e f before input = let is : input_signal name ≡ one = cc in ap (λ (x : Signal). is_input x.driver) (sym is)
+inputs_lead (name ∷ names) others none (suc s) zero one other e f before input = absurd (omega arith)
+inputs_lead (name ∷ names) others none (suc s) (suc t) one other e f before input = inputs_lead names others none s t one other e f (omega arith) input
 
 module _ (lines : List Line) (once : AreOnce (all_driven lines)) where
   abbrev whole : Netlist
@@ -58,233 +40,158 @@ module _ (lines : List Line) (once : AreOnce (all_driven lines)) where
   abbrev names : List (List ℕ)
   names = names_of lines
 
-  abbrev Right : Line → Type 0
-  Right line = IsRight names (length whole.signals) line
-
-  -- ---- names
-
-  in_order : names_from whole.signals ≡ names
-  unfolding netlist_of
-  in_order = made_names names 0 lines
-
   pub signals_length : length whole.signals ≡ length names
-  signals_length = sym (length-map whole.signals (λ (s : Signal). s.name)) ∙ ap length in_order
+  signals_length = sym (length-map whole.signals (λ (s : Signal). s.name)) ∙ ap length (signal_names lines)
 
-  name_here : (s : ℕ) (signal : Signal) → slice_get whole.signals s ≡ Some signal → slice_get names s ≡ Some signal.name
-  name_here s signal e = rw (sym in_order, slice_get-map (λ (t : Signal). t.name) whole.signals s, e) refl
-
+  -- a signal stands at the number of its name
   number_here : (s : ℕ) (signal : Signal) → slice_get whole.signals s ≡ Some signal → number names signal.name ≡ s
   number_here s signal e =
-      let at = name_here s signal e in
-      let within = slice_get_within names s signal.name at in
-      let split = split_at names s signal.name within ∙ ap (λ n. take s names ++ n ∷ drop (s + 1) names) (get_or_from_slice_get names s signal.name signal.name at) in
-      number_at names (take s names) signal.name (drop (s + 1) names) (names_once lines once) split ∙ length-take-le s names (omega (arith, within))
-
-  pub distinct : NamesDiffer whole.signals
-  distinct s t one other e f same = sym (number_here s one e) ∙ ap (number names) same ∙ number_here t other f
-
-  -- ---- the signals of a memory line
-
-  -- what drives a signal beside inputs is there
-  abbrev IsDriven : ℕ → Signal → Type 0
-  IsDriven s signal = IsDrivable whole s signal.driver × (is_input signal.driver ≡ false)
-
-  -- a memory is right, and its first output stands behind those of the memories before it
-  abbrev IsKept : ℕ → Block → Type 0
-  IsKept m block = IsMemory whole m block
-      × ((k : ℕ) (one : Block) → slice_get whole.blocks k ≡ Some one → k < m → 1 ≤ length one.outs → get_or one.outs 0 0 < get_or block.outs 0 0)
-
-  module _ (o : List (List ℕ)) (enable : List ℕ) (address words : List (List ℕ)) (left : List Line) (uses : List ℕ) (net : Netlist) (made : IsMaking lines (Memory o enable address words ∷ left) uses net) where
-    abbrev memory : Block
-    memory = record { we = number names enable; address = numbers names address; word = numbers names words; outs = numbers names o }
-
-    outs_are : memory.outs ≡ range_with_len (length net.signals) (length o)
-    outs_are = neighbours lines left (Memory o enable address words) uses net made once
-
-    bits_driven : (n : ℕ) (some : List (List ℕ)) → n + length some ≡ length o
-        → EachFrom IsDriven (length net.signals + n) (map (λ p. record { name = p.1; driver = driver.BlockBit (length net.blocks) p.0 }) (enumerate_from n some))
-    bits_driven n [] all = tt
-    bits_driven n (name ∷ some) all =
-        let next : length net.signals + (n + 1) ≡ length net.signals + n + 1 = omega arith in (
-          ((memory, rw (sym made.blocks) (seam_at net.blocks memory (flat_map (memories_by names) left)), rw outs_are (range_get (length net.signals) (length o) n (omega (arith, all)))), refl),
-          rw next at (bits_driven (n + 1) some (omega (arith, all))),
-        )
-
-    signal_here : (j : ℕ) → j < length o → slice_get whole.signals (length net.signals + j) ≡ Some (record { name = get_or o j []; driver = driver.BlockBit (length net.blocks) (0 + j) })
-    unfolding other_signals
-    signal_here j within =
-        ap (λ ss. slice_get ss (length net.signals + j)) (sym made.signals)
-        ∙ inside_at net.signals (bit_signals (length net.blocks) o) (other_signals names (length net.blocks + 1) left) j _
-        (rw (slice_get-map {B = Signal} (λ p. record { name = p.1; driver = driver.BlockBit (length net.blocks) p.0 }) (enumerate_from 0 o) j, slice_get-get_or (enumerate_from 0 o) j (0, []) (omega (arith, within, length-enumerate_from 0 o)), get_or-enumerate_from 0 o j (0, []) within) refl)
-
-    kept : Right (Memory o enable address words) → IsKept (length net.blocks) memory
-    kept right =
-        let bits = memory_bits (length address) (length words) (length o) right.sized in
-        let below : ℕ → Type 0 = λ s. s < length whole.signals in
-        let rest = All-tail (λ name. below (number names name)) enable (address ++ words) right.uses in
-        let address_length = length-map address (number names) in
-        let word_length = length-map words (number names) in
-        let first = first_of_range (length net.signals) (length o) memory.outs outs_are (omega (arith, bits.some_words, bits.outputs_are)) in
-        let count : length o ≡ length (numbers names words) = omega (arith, bits.outputs_are, word_length) in (
-          record {
-            enable = All-head (λ name. below (number names name)) enable (address ++ words) right.uses;
-            address = All-map below (number names) address (all_front (λ name. below (number names name)) address words rest);
-            address_bits = (omega (arith, address_length, bits.some_address), omega (arith, address_length, bits.few_address));
-            word = All-map below (number names) words (all_back (λ name. below (number names name)) address words rest);
-            word_bits = (omega (arith, word_length, bits.some_words), omega (arith, word_length, bits.few_words));
-            outs = outs_are ∙ (λ k. range_with_len (first k) (count k));
-            driven = λ j s e.
-                let found = range_at (length net.signals) (length o) j s (sym (ap (λ ns. slice_get ns j) outs_are) ∙ e) in
-                let from : 0 + j ≡ j = omega arith in
-                (_, ap (slice_get whole.signals) found.0 ∙ signal_here j found.1, ap (driver.BlockBit (length net.blocks)) from);
-          },
-          λ k one e before some.
-              let here = sym (at_front net.blocks (memory ∷ flat_map (memories_by names) left) k before) ∙ ap (λ bs. slice_get bs k) made.blocks ∙ e in
-              omega (arith, some, each (IsBelow (length net.signals)) net.blocks k one made.below here, first),
-        )
+      let at : slice_get names s ≡ Some signal.name = rw (sym (signal_names lines), slice_get-map (λ (t : Signal). t.name) whole.signals s, e) refl in
+      let split = sym (take-append-drop s names) ∙ ap (λ rest. take s names ++ rest) (drop_here names s signal.name at) in
+      number_at names (take s names) signal.name (drop (s + 1) names) (names_once lines once) split ∙ length-take-le s names (omega (arith, slice_get_within names s signal.name at))
 
   -- ---- each signal and memory
 
-  line_driven : (line : Line) (left : List Line) (uses : List ℕ) (net : Netlist) → IsMaking lines (line ∷ left) uses net → Right line → EachFrom IsDriven (length net.signals) (signals_by names (length net.blocks) line)
-  line_driven (Gate name kind ns) left uses net made right =
-      (((subst (AllowsOperands kind) (sym (length-map ns (number names))) right.sized, All-map (λ s. s < length whole.signals) (number names) ns right.uses), refl), tt)
-  line_driven (Register name use_) left uses net made right = ((All-head (λ name. number names name < length whole.signals) use_ [] right.uses, refl), tt)
-  line_driven (Memory o enable address words) left uses net made right =
-      let from : length net.signals + 0 ≡ length net.signals = omega arith in rw from at (bits_driven o enable address words left uses net made 0 o (omega arith))
-  line_driven line left uses net made right = tt
+  -- the line is fair, and what it uses are signals
+  record IsRight (line : Line) : Type 0 where
+    pub fair : IsFair line
+    pub uses : All (IsSignal whole) (numbers names (used line))
 
-  line_kept : (line : Line) (left : List Line) (uses : List ℕ) (net : Netlist) → IsMaking lines (line ∷ left) uses net → Right line → EachFrom IsKept (length net.blocks) (memories_by names line)
-  line_kept (Memory o enable address words) left uses net made right = (kept o enable address words left uses net made right, tt)
-  line_kept line left uses net made right = tt
+  -- the signal has a name, and what drives it is there
+  abbrev IsThere : Signal → Type 0
+  IsThere signal = IsName signal.name × IsDrivable whole (number names signal.name) signal.driver
 
-  each_right : (left : List Line) (uses : List ℕ) (net : Netlist) → IsMaking lines left uses net → AllByRecursion Right left
-      → EachFrom IsDriven (length net.signals) (other_signals names (length net.blocks) left) × EachFrom IsKept (length net.blocks) (flat_map (memories_by names) left)
+  -- and is no input
+  abbrev IsDriven : Signal → Type 0
+  IsDriven signal = IsThere signal × (is_input signal.driver ≡ false)
+
+  module _ {o : List (List ℕ)} {enable : List ℕ} {address words : List (List ℕ)} {left : List Line} {net : Netlist} (made : IsMaking lines (Memory o enable address words ∷ left) net) where
+    abbrev memory : Block
+    memory = record { we = number names enable; address = numbers names address; word = numbers names words; outs = numbers names o }
+
+    abbrev bit : (ℕ × List ℕ) → Signal
+    bit p = record { name = p.1; driver = driver.BlockBit (length net.blocks) p.0 }
+
+    place : (k : ℕ) (d : ℕ × List ℕ) → k < length o → get_or (enumerate_from 0 o) k d ≡ (k, get_or o k d.1)
+    place k d within = let from : 0 + k ≡ k = omega arith in get_or-enumerate_from 0 o k d within ∙ ap (λ j. (j, get_or o k d.1)) from
+
+    bits_driven : AllByRecursion IsName o → All IsDriven (bit_signals (length net.blocks) o)
+    bits_driven named = All-map IsDriven bit (enumerate_from 0 o) (λ k d within.
+        let there : slice_get whole.blocks (length net.blocks) ≡ Some memory = rw (sym made.whole) (seam_at net.blocks memory (flat_map (memories_by names) left)) in
+        let inside : k < length o = omega (arith, within, length-enumerate_from 0 o) in
+        rw (place k d inside) ((All-from_recursion IsName o named k d.1 inside, (memory, there, rw (slice_get-map (number names) o k, slice_get-get_or o k d.1 inside) refl)), refl))
+
+    bit_there : (j : ℕ) → j < length o → slice_get whole.signals (length net.signals + j) ≡ Some (bit (j, get_or o j []))
+    unfolding other_signals
+    bit_there j within =
+        rw (sym made.whole) (inside_at net.signals (bit_signals (length net.blocks) o) _ j _
+        (rw (slice_get-map bit (enumerate_from 0 o) j, slice_get-get_or (enumerate_from 0 o) j (0, []) (omega (arith, within, length-enumerate_from 0 o)), place j (0, []) within) refl))
+
+    -- its outputs begin behind the signals before it
+    first_out : IsRight (Memory o enable address words) → length net.signals ≡ get_or memory.outs 0 0
+    first_out right = let bits = right.fair.sized in first_of_range (length net.signals) (length o) memory.outs (neighbours made once) (omega (arith, bits.some_words, bits.outputs_are))
+
+    memory_valid : IsRight (Memory o enable address words) → IsMemory whole (length net.blocks) memory
+    memory_valid right =
+        let bits = right.fair.sized in
+        let rest = rw (map-append (number names) address words) at (All-tail (IsSignal whole) memory.we (numbers names (address ++ words)) right.uses) in
+        let count : length o ≡ length memory.word = omega (arith, bits.outputs_are, length-map words (number names)) in
+        record {
+          enable = All-head (IsSignal whole) memory.we (numbers names (address ++ words)) right.uses;
+          address = all_front (IsSignal whole) memory.address memory.word rest;
+          address_bits = simp length-map (bits.some_address, bits.few_address);
+          word = all_back (IsSignal whole) memory.address memory.word rest;
+          word_bits = simp length-map (bits.some_words, bits.few_words);
+          outs = neighbours made once ∙ (λ k. range_with_len (first_out right k) (count k));
+          driven = λ j s e.
+              let found = range_at (length net.signals) (length o) j s (rw (neighbours made once) at e) in
+              (_, ap (slice_get whole.signals) found.0 ∙ bit_there j found.1, refl);
+        }
+
+  line_driven : (line : Line) {left : List Line} {net : Netlist} → IsMaking lines (line ∷ left) net → IsRight line → All IsDriven (signals_by names (length net.blocks) line)
+  line_driven (Gate name kind ns) made right = All-cons IsDriven _ [] ((right.fair.named.0, (subst (AllowsOperands kind) (sym (length-map ns (number names))) right.fair.sized, right.uses)), refl) (All-nil IsDriven)
+  line_driven (Register name use_) made right = All-cons IsDriven _ [] ((right.fair.named.0, All-head (IsSignal whole) (number names use_) [] right.uses), refl) (All-nil IsDriven)
+  line_driven (Memory o enable address words) made right = bits_driven made right.fair.named
+  line_driven line made right = All-nil IsDriven
+
+  lines_driven : (left : List Line) {net : Netlist} → IsMaking lines left net → AllByRecursion IsRight left → All IsDriven (other_signals names (length net.blocks) left)
   unfolding other_signals
-  each_right [] uses net made right = (tt, tt)
-  each_right (line ∷ left) uses net made right =
-      let m = length net.blocks in
-      let mine = signals_by names m line in
-      let memories = memories_by names line in
-      let next = grown lines left line uses net made in
-      let count : length next.blocks ≡ m + memory_count line = length-append net.blocks memories ∙ ap (λ n. m + n) (memories_counted names line) in
-      let later = each_right left (drop (length (used line)) uses) next (making_next lines left line uses net made once) right.1 in (
-        each_append IsDriven (length net.signals) (length next.signals) mine (other_signals names (m + memory_count line) left) (length-append net.signals mine) (line_driven line left uses net made right.0) (rw count at later.0),
-        each_append IsKept m (length next.blocks) memories (flat_map (memories_by names) left) (length-append net.blocks memories) (line_kept line left uses net made right.0) later.1,
-      )
+  lines_driven [] made right = All-nil IsDriven
+  lines_driven (line ∷ left) {net} made right =
+      All-append IsDriven (signals_by names (length net.blocks) line) _ (line_driven line made right.0) (rw (sym (counted names net line)) (lines_driven left (making_next made) right.1))
 
-  -- ---- what holds where each line is right
+  -- memory m of the lines that are left
+  memory_at : (left : List Line) {net : Netlist} → IsMaking lines left net → AllByRecursion IsRight left → (m k n : ℕ) (block : Block) → slice_get (flat_map (memories_by names) left) m ≡ Some block
+      → k ≡ length net.blocks + m → n ≤ length net.signals → IsMemory whole k block × (n ≤ get_or block.outs 0 0)
+  memory_at [] made right m k n block e is low = cc
+  memory_at (Memory o enable address words ∷ left) {net} made right zero k n block e is low =
+      let here : memory made ≡ block = cc in
+      let at : length net.blocks ≡ k = omega (arith, is) in
+      rw (sym here, sym at) (memory_valid made right.0, omega (arith, low, first_out made right.0))
+  memory_at (Memory o enable address words ∷ left) {net} made right (suc m) k n block e is low =
+      memory_at left (making_next made) right.1 m k n block e (omega (arith, is, counted names net (Memory o enable address words))) (simp length-append (omega arith))
+  memory_at (line ∷ left) {net} made right m k n block e is low =
+      memory_at left (making_next made) right.1 m k n block e (omega (arith, is, counted names net line)) (simp length-append (omega arith))
 
-  module _ (right : All Right lines) where
-    abbrev inputs : List Signal
-    inputs = map input_signal (flat_map input_names lines)
+  -- the outputs of memories stand in file order
+  rising : (left : List Line) {net : Netlist} → IsMaking lines left net → AllByRecursion IsRight left → (m n : ℕ) (one other : Block)
+      → slice_get (flat_map (memories_by names) left) m ≡ Some one → slice_get (flat_map (memories_by names) left) n ≡ Some other → m < n → get_or one.outs 0 0 < get_or other.outs 0 0
+  unfolding other_signals
+  rising [] made right m n one other e f before = cc
+  rising (Memory o enable address words ∷ left) {net} made right zero (suc n) one other e f before =
+      let here : memory made ≡ one = cc in
+      let bits = right.0.fair.sized in
+      let later = memory_at left (making_next made) right.1 n _ (length net.signals + length o) other f refl (simp (length-append, length-map, length-enumerate_from) (omega arith)) in
+      omega (arith, bits.some_words, bits.outputs_are, first_out made right.0, ap (λ (b : Block). get_or b.outs 0 0) here, later.1)
+  rising (Memory o enable address words ∷ left) made right (suc m) (suc n) one other e f before = rising left (making_next made) right.1 m n one other e f (omega arith)
+  rising (Memory o enable address words ∷ left) made right m zero one other e f before = absurd (omega arith)
+  rising (line ∷ left) made right m n one other e f before = rising left (making_next made) right.1 m n one other e f before
 
-    others_right : EachFrom IsDriven (length inputs) (other_signals names 0 lines) × EachFrom IsKept 0 (flat_map (memories_by names) lines)
-    others_right =
-        each_right lines (numbers names (all_used lines)) (record { signals = inputs; printed = []; blocks = [] })
-        (making_none lines (numbers names (all_used lines)) (record { signals = inputs; printed = []; blocks = [] }) refl refl refl refl) (recursion_from_All Right lines right)
+  -- ---- the lines of a text
 
-    all_named : All IsName names
-    unfolding names_of
-    all_named =
-        let named : (line : Line) → Right line → All IsName (input_names line ++ other_names line) = λ line r. subst (All IsName) (line_orders line) r.named in
-        All-append IsName (flat_map input_names lines) (flat_map other_names lines)
-        (all_flat_of IsName input_names lines (All-weaker Right (λ line. All IsName (input_names line)) (λ line r. all_front IsName (input_names line) (other_names line) (named line r)) lines right))
-        (all_flat_of IsName other_names lines (All-weaker Right (λ line. All IsName (other_names line)) (λ line r. all_back IsName (input_names line) (other_names line) (named line r)) lines right))
+  all_right : (some : List Line) → AllByRecursion IsFair some → All (IsSignal whole) (numbers names (all_used some)) → AllByRecursion IsRight some
+  unfolding all_used
+  all_right [] fair uses = tt
+  all_right (line ∷ some) fair uses =
+      let split = rw (map-append (number names) (used line) (flat_map used some)) at uses in
+      (record { fair = fair.0; uses = all_front (IsSignal whole) (numbers names (used line)) _ split }, all_right some fair.1 (all_back (IsSignal whole) (numbers names (used line)) _ split))
 
-    pub are_named : AreNamed whole.signals
-    are_named s signal e = each IsName names s signal.name all_named (name_here s signal e)
+  inputs_there : (some : List Line) → AllByRecursion IsRight some → All IsThere (map input_signal (flat_map input_names some))
+  inputs_there [] right = All-nil IsThere
+  inputs_there (Input name ∷ some) right = All-cons IsThere (input_signal name) _ (right.0.fair.named.0, tt) (inputs_there some right.1)
+  inputs_there (line ∷ some) right = inputs_there some right.1
 
-    -- a signal is an input, or one of a line behind all inputs
-    signal_cases : (s : ℕ) (signal : Signal) → slice_get whole.signals s ≡ Some signal → ((s < length inputs) × (signal.driver ≡ driver.Input)) ⊎ ((length inputs ≤ s) × IsDriven s signal)
-    unfolding netlist_of
-    signal_cases s signal e = elim (cases_lt s (length inputs)) [
-      | inl here ↦
-          let input = All-map (λ (t : Signal). t.driver ≡ driver.Input) input_signal (flat_map input_names lines) (λ k d within. refl) in
-          inl (here, each (λ (t : Signal). t.driver ≡ driver.Input) inputs s signal input (sym (at_front inputs (other_signals names 0 lines) s here) ∙ e))
-      | inr past ↦
-          let place : length inputs + (s - length inputs) ≡ s = omega (arith, past) in
-          let there = sym (slice_past inputs (other_signals names 0 lines) (s - length inputs)) ∙ ap (slice_get whole.signals) place ∙ e in
-          inr (past, subst (λ k. IsDriven k signal) place (each_from IsDriven (length inputs) (other_signals names 0 lines) (s - length inputs) signal others_right.0 there))
-    ]
+  printed_there : (some : List Line) → AllByRecursion IsRight some → All (IsSignal whole) (numbers names (flat_map printed_names some))
+  printed_there [] right = All-nil (IsSignal whole)
+  printed_there (Output name ∷ some) right = All-cons (IsSignal whole) (number names name) _ (All-head (IsSignal whole) (number names name) [] right.0.uses) (printed_there some right.1)
+  printed_there (line ∷ some) right = printed_there some right.1
 
-    pub inputs_first : InputsLead whole.signals
-    inputs_first s t one other e f before input =
-        ⊎_elim (λ here. ap is_input here.1)
-        (λ past. ⊎_elim (λ first. absurd (omega (arith, first.0, past.0, before))) (λ later. absurd (both_ways _ later.1.1 input)) (signal_cases t other f))
-        (signal_cases s one e)
-
-    pub drivers : (s : ℕ) (signal : Signal) → slice_get whole.signals s ≡ Some signal → IsDrivable whole s signal.driver
-    drivers s signal e = ⊎_elim (λ here. subst (IsDrivable whole s) (sym here.1) tt) (λ past. past.1.0) (signal_cases s signal e)
-
-    block_kept : (m : ℕ) (block : Block) → slice_get whole.blocks m ≡ Some block → IsKept m block
-    unfolding netlist_of
-    block_kept m block e = let from : 0 + m ≡ m = omega arith in rw from at (each_from IsKept 0 (flat_map (memories_by names) lines) m block others_right.1 e)
-
-    pub memories : (m : ℕ) (block : Block) → slice_get whole.blocks m ≡ Some block → IsMemory whole m block
-    memories m block e = (block_kept m block e).0
-
-    pub memories_in_order : (m n : ℕ) (one other : Block) → slice_get whole.blocks m ≡ Some one → slice_get whole.blocks n ≡ Some other → m < n → get_or one.outs 0 0 < get_or other.outs 0 0
-    memories_in_order m n one other e f before =
-        let is = memories m one e in
-        (block_kept n other f).1 m one e before (omega (arith, ap length is.outs, length-range_with_len (get_or one.outs 0 0) (length one.word), is.word_bits.0))
-
-    pub printed : All (IsSignal whole) whole.printed
-    unfolding netlist_of
-    printed =
-        All-map (IsSignal whole) (number names) (flat_map printed_names lines)
-        (all_flat_of (λ name. number names name < length whole.signals) printed_names lines
-        (All-weaker Right (λ line. All (λ name. number names name < length whole.signals) (printed_names line)) by_line lines right))
-      where
-        by_line : (line : Line) → Right line → All (λ name. number names name < length whole.signals) (printed_names line)
-        by_line (Output name) r = r.uses
-        by_line line r = All-nil (λ name. number names name < length whole.signals)
-
--- ---- the limits
-
-few_printed : (lines : List Line) → length (netlist_of lines).printed ≤ length lines
-unfolding netlist_of
-few_printed lines = omega (arith, length-map (flat_map printed_names lines) (number (names_of lines)), printed-le lines)
-
--- ---- sound lines
-
--- the lines of a text are right
-all_right : (lines : List Line) → AreSound lines → AllByRecursion IsFair lines → All (IsRight (names_of lines) (length (netlist_of lines).signals)) lines
-unfolding all_used
-all_right lines sound fair = All-from_recursion Right lines (each_of lines fair sound.driven) where
-  IsAmong : List ℕ → Type 0
-  IsAmong name = list_any (bytes_eq name) (all_driven lines) ≡ true
-
-  Right : Line → Type 0
-  Right = IsRight (names_of lines) (length (netlist_of lines).signals)
-
-  each_of : (some : List Line) → AllByRecursion IsFair some → All IsAmong (flat_map used some) → AllByRecursion Right some
-  each_of [] fair among = tt
-  each_of (line ∷ some) fair among = (
-    record {
-      named = All-from_recursion IsName (driven line) fair.0.named;
-      uses = All-weaker IsAmong (λ name. number (names_of lines) name < length (netlist_of lines).signals)
-          (λ name is. omega (arith, numbered lines name is, signals_length lines sound.once)) (used line)
-          (all_front IsAmong (used line) (flat_map used some) among);
-      sized = fair.0.sized;
-    },
-    each_of some fair.1 (all_back IsAmong (used line) (flat_map used some) among),
-  )
+  pub valid : AreSound lines → AllByRecursion IsFair lines → length (flat_map printed_names lines) < 2 ^ 32 → IsValid whole
+  unfolding netlist_of
+  valid sound fair few =
+      let among = All-weaker (λ name. list_any (bytes_eq name) (all_driven lines) ≡ true) (λ name. IsSignal whole (number names name))
+      (λ name is. omega (arith, numbered lines name is, signals_length)) (all_used lines) sound.driven in
+      let right = all_right lines fair (All-map (IsSignal whole) (number names) (all_used lines) among) in
+      let inputs : List Signal = map input_signal (flat_map input_names lines) in
+      let others = other_signals names 0 lines in
+      let making : IsMaking lines lines (record { signals = inputs; printed = []; blocks = [] }) = record { whole = refl } in
+      let driven = lines_driven lines making right in
+      let there = All-append IsThere inputs others (inputs_there lines right) (All-weaker IsDriven IsThere (λ signal is. is.0) others driven) in
+      record {
+        names = λ s signal e. (each IsThere whole.signals s signal there e).0;
+        distinct = λ s t one other e f same. sym (number_here s one e) ∙ ap (number names) same ∙ number_here t other f;
+        inputs_first = inputs_lead (flat_map input_names lines) others (All-weaker IsDriven (λ signal. is_input signal.driver ≡ false) (λ signal is. is.1) others driven);
+        drivers = λ s signal e. subst (λ k. IsDrivable whole k signal.driver) (number_here s signal e) (each IsThere whole.signals s signal there e).1;
+        memories = λ m block e. (memory_at lines making right m m 0 block e (omega arith) (omega arith)).0;
+        memories_in_order = rising lines making right;
+        printed = printed_there lines right;
+        few_signals = omega (arith, signals_length, names_length lines, sound.few_signals);
+        few_operands = omega (arith, made_operands lines, sound.few_operands);
+        few_printed = simp length-map few;
+      }
 
 -- what a text reads as is a valid netlist
 pub valid_from_reads : (text : List ℕ) (net : Netlist) → length text ≤ MAX_TEXT_BYTES → Reads text net → IsValid net
 valid_from_reads text net short reads =
-    let lines = reads.lines in
-    let once = reads.sound.once in
-    let right = all_right lines reads.sound (text_fair text lines reads.bytes reads.said) in
-    subst IsValid (sym reads.netlist) (record {
-      names = are_named lines once right;
-      distinct = distinct lines once;
-      inputs_first = inputs_first lines once right;
-      drivers = drivers lines once right;
-      memories = memories lines once right;
-      memories_in_order = memories_in_order lines once right;
-      printed = printed lines once right;
-      few_signals = omega (arith, signals_length lines once, names_length lines, reads.sound.few_signals);
-      few_operands = omega (arith, made_operands lines, reads.sound.few_operands);
-      few_printed = omega (arith, few_printed lines, said_length (rows_of text) lines reads.said, rows_length text, short);
-    })
+    subst IsValid (sym reads.netlist) (valid reads.lines reads.sound.once reads.sound (lines_fair (rows_of text) reads.lines (rows_named text reads.bytes) reads.said)
+    (omega (arith, few_printed (rows_of text) reads.lines reads.said, rows_length text, short)))

@@ -1,46 +1,46 @@
-use Rattle.std.proofs.Common.{◌≡◌, ◌++◌, List, ℕ, Bor, map, sym, ap, ◌∙◌, inl, inr, ⊎_elim, arith}
+use Rattle.std.proofs.Common.{◌≡◌, ◌+◌, ◌<◌, ◌++◌, append-nil, [], ◌∷◌, List, ℕ, Bor, map, take, drop, length, get_or, sym, ap, ◌∙◌, refl, inl, inr, ⊎_elim, subst, arith}
 use Rattle.std.proofs.lemmas.Result.{err_from_is_err_and}
-use Rattle.std.proofs.lemmas.List.{take_all}
-use Rattle.std.proofs.lemmas.Simd.{map-map}
-use Rattle.bench_read.specs.Placed.{Named, each_named}
+use Rattle.std.proofs.lemmas.List.{take_all, take_more, map_push, map-append, take-append-drop}
 use Rattle.bench_read.specs.Faults.{twice_fault}
+use Rattle.bench_read.specs.Placed.{Named, each_named}
 use Rattle.bench_read.specs.Storing.{named_by}
-use Rattle.bench_read.proofs.TwiceLemmas.{drive_none, drive_more, drive_fault}
+use Rattle.bench_read.proofs.TwiceLemmas.{HasDriven, twice_nil, drive_more, drive_fault}
 use Rattle.bench_read.proofs.drivers.drive.Goals as goal
 
-abbrev named : ℕ → Bor (List ℕ) → Named
-named at name = record { at = at; name = name.now }
+-- the names of a line, up to a place and after it
+module _ (at : ℕ) (names : List (Bor (List ℕ))) (i : ℕ) (d : Bor (List ℕ)) (within : i < length names) where
+  abbrev line : List (Bor (List ℕ)) → List Named
+  line some = each_named at (map (λ name. name.now) some)
 
-all_named : (at : ℕ) (names : List (Bor (List ℕ))) → each_named at (map (λ name. name.now) names) ≡ map (named at) names
-all_named at names = map-map (λ name. record { at = at; name = name }) (λ (name : Bor (List ℕ)). name.now) names
+  abbrev front : List Named
+  front = line (take i names) ++ record { at = at; name = (get_or names i d).now } ∷ []
+
+  grown : line (take (i + 1) names) ≡ front
+  grown = rw (take_more names i d within) (simp map_push refl)
+
+  whole : line names ≡ front ++ line (drop (i + 1) names)
+  whole = ap line (sym (take-append-drop (i + 1) names)) ∙ simp map-append (ap (λ ns. ns ++ line (drop (i + 1) names)) grown)
 
 pub loop-name-init : goal.loop-name-init
-loop-name-init c = drive_none _ c.args.driven.now c.args.names.now c.args.drivers.now c.requires
+loop-name-init c = record { same = c.requires; so_far = sym (append-nil _); no_fault = twice_nil _ }
 
 pub loop-name-preserved : goal.loop-name-preserved
 loop-name-preserved c =
     let is = c.in_ok-drive_one.ensures.answers in
-    drive_more (map named_by c.args.drivers.now) _ c.args.driven.now c.loop-name.name-index _ c.loop-name.names c.loop-name.drivers c.loop-name.invariant (omega arith)
-    c.drive_one.new.names c.drive_one.new.drivers is.0 is.1.0 is.1.1
+    subst (λ line. HasDriven (map named_by c.args.drivers.now) line c.drive_one.new.names c.drive_one.new.drivers) (sym (grown c.args.at c.args.driven.now c.loop-name.name-index _ (omega arith)))
+    (drive_more c.loop-name.invariant _ is.0 is.1.0 is.1.1)
 
 pub returns-in_err-drive_one : goal.returns-in_err-drive_one
 returns-in_err-drive_one c =
     let p = err_from_is_err_and c.from_residual.result c.from_residual.ensures.1 in
     record {
       answers = rw (p.1, p.2) (⊎_elim inl
-          (λ fault. inr (ap (twice_fault (map named_by c.args.drivers.now)) (all_named c.args.at c.args.driven.now)
-          ∙ drive_fault (map named_by c.args.drivers.now) (named c.args.at) c.args.driven.now c.loop-name.name-index _ c.loop-name.names c.loop-name.drivers c.loop-name.invariant (omega arith)
-          c.in_err-drive_one.field-0.0 fault))
+          (λ fault. inr (ap (twice_fault _) (whole c.args.at c.args.driven.now c.loop-name.name-index _ (omega arith)) ∙ drive_fault c.loop-name.invariant _ c.in_err-drive_one.field-0.0 _ fault))
           c.in_err-drive_one.ensures.answers);
     }
 
 pub returns : goal.returns
 returns c =
     let so = c.loop-name.invariant in
-    let all = ap (map (named c.args.at)) (take_all c.loop-name.name-index c.args.driven.now (omega arith)) ∙ sym (all_named c.args.at c.args.driven.now) in
-    record {
-      answers = (
-        sym (ap (twice_fault (map named_by c.args.drivers.now)) all) ∙ so.no_fault,
-        (so.same, so.so_far ∙ ap (λ ns. map named_by c.args.drivers.now ++ ns) all),
-      );
-    }
+    let all = take_all c.loop-name.name-index c.args.driven.now (omega arith) in
+    record { answers = (rw all at so.no_fault, (so.same, rw all at so.so_far)) }

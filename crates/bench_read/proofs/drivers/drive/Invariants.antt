@@ -1,7 +1,8 @@
-use Rattle.std.proofs.Common.{map}
+use Rattle.std.proofs.Common.{map, take}
+use Rattle.bench_read.specs.Placed.{each_named}
 use Rattle.bench_read.specs.Storing.{named_by}
 use Rattle.bench_read.proofs.TwiceLemmas.{HasDriven}
 use Rattle.bench_read.proofs.drivers.drive.Given as goal
 
 abbrev pub invariant-loop-name : goal.invariant-loop-name
-invariant-loop-name l = HasDriven (map named_by l.fn.drivers) (λ name. record { at = l.at; name = name.now }) l.driven l.name-index l.names l.drivers
+invariant-loop-name l = HasDriven (map named_by l.fn.drivers) (each_named l.at (map (λ name. name.now) (take l.name-index l.driven))) l.names l.drivers

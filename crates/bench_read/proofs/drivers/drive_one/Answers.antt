@@ -1,4 +1,4 @@
-use Rattle.std.proofs.Common.{◌≡◌, ◌++◌, [], ◌∷◌, false, cond, map, sym, ap, ◌∙◌, bytes_eq}
+use Rattle.std.proofs.Common.{◌≡◌, false, map, sym, ◌∙◌, refl, bytes_eq}
 use Rattle.std.specs.List.{list_any}
 use Rattle.std.proofs.lemmas.Bool.{not-true}
 use Rattle.std.proofs.lemmas.List.{map_push}
@@ -9,18 +9,14 @@ use Rattle.bench_read.proofs.drivers.drive_one.Goals as goal
 
 pub returns : goal.returns
 returns c =
-    let name = c.args.name.now in
     let drivers = c.args.drivers.now in
-    let new : list_any (bytes_eq name) c.args.names.now ≡ false = not-true _ (sym c.in_ok-is_new.ensures.is_new ∙ c.if-not-is_new.false) in
+    let new : list_any (bytes_eq c.args.name.now) c.args.names.now ≡ false = not-true _ (sym c.in_ok-is_new.ensures.is_new ∙ c.if-not-is_new.false) in
     record {
       answers = (
-        (repeat_none (map named_by drivers) (record { at = c.args.at; name = name })).1 (ap (list_any (bytes_eq name)) (names_same drivers ∙ sym c.requires) ∙ new),
+        (repeat_none (map named_by drivers) (record { at = c.args.at; name = c.args.name.now })).1 (rw (names_same drivers, sym c.requires) new),
         (
-          c.in_ok-is_new.ensures.added
-              ∙ ap (λ b. cond b (c.args.names.now ++ name ∷ []) c.args.names.now) c.if-not-is_new.false
-              ∙ ap (λ ns. ns ++ name ∷ []) c.requires
-              ∙ sym (ap (map (λ (d : DrivenName). d.name.now)) c.in_ok-push.ensures.ok ∙ map_push (λ (d : DrivenName). d.name.now) drivers _),
-          ap (map named_by) c.in_ok-push.ensures.ok ∙ map_push named_by drivers _,
+          rw (c.in_ok-is_new.ensures.added, c.if-not-is_new.false, c.requires, c.in_ok-push.ensures.ok, map_push (λ (d : DrivenName). d.name.now) drivers _) refl,
+          rw c.in_ok-push.ensures.ok (map_push named_by drivers _),
         ),
       );
     }

@@ -1,47 +1,42 @@
-use Rattle.std.proofs.Common.{length, take, drop, sym, ap, ◌∙◌, subst, arith}
+use Rattle.std.proofs.Common.{append-nil, length, sym, ap, ◌∙◌, subst, refl, arith, length-append}
 use Rattle.bench_read.specs.Drafting.{lines_in}
-use Rattle.bench_read.specs.Making.{seen, with_line}
+use Rattle.bench_read.specs.Making.{seen}
 use Rattle.bench_read.specs.Placed.{lines_at}
-use Rattle.bench_read.specs.Netlists.{names_of, numbers}
+use Rattle.bench_read.specs.Netlists.{names_of, numbers, netlist_of, other_signals}
 use Rattle.bench_read.specs.Reads.{AreOnce}
 use Rattle.bench_read.proofs.NumberLemmas.{names_length}
-use Rattle.bench_read.proofs.MakingLemmas.{IsMaking, making_none, making_all, making_more, next_making, uses_left, room}
+use Rattle.bench_read.proofs.MakingLemmas.{few_memories, making_more, uses_split, named}
+use Rattle.std.proofs.lemmas.List.{length-map}
 use Rattle.bench_read.proofs.netlist.add_lines.Goals as goal
 
 pub lines-init : goal.lines-init
+unfolding netlist_of
 lines-init c =
-    let draft = c.args.draft.now in
-    subst (λ left. IsMaking (lines_in draft) (lines_at left) c.args.uses.now c.args.net.now) (sym (c.into_iter-at-iterator.ensures.into_iter_gives ∙ c.new-at-items.ensures))
-    (making_none (lines_in draft) c.args.uses.now c.args.net.now c.requires.signals c.requires.printed c.requires.memories (c.requires.uses ∙ ap (numbers (names_of (lines_in draft))) (sym c.requires.whole.uses)))
+    rw (c.into_iter-at-iterator.ensures.into_iter_gives, c.new-at-items.ensures, c.requires.signals, c.requires.printed, c.requires.memories)
+    (record { made = record { whole = refl }; uses = c.requires.uses ∙ ap (numbers (names_of (lines_in c.args.draft.now))) (sym c.requires.whole.uses) })
 
 pub split_at-requires : goal.split_at-requires
 split_at-requires c =
-    omega (arith, c.used_count.ensures, uses_left (lines_in c.args.draft.now) (lines_at c.next.new.self) (seen c.in-Some.line) c.lines.left.now c.lines.net (next_making c.lines.invariant c.in-Some.ensures.steps))
+    let so = rw c.in-Some.ensures.steps at c.lines.invariant in
+    (uses_split (names_of (lines_in c.args.draft.now)) (seen c.in-Some.line) (lines_at c.next.new.self) c.lines.left.now _ c.used_count.ensures so.uses).2
 
 pub add_line-requires-clause-signals : goal.add_line-requires-clause-signals
 add_line-requires-clause-signals c =
-    let draft = c.args.draft.now in
-    omega (
-      arith,
-      room (lines_in draft) (lines_at c.next.new.self) (seen c.in-Some.line) c.lines.left.now c.lines.net (next_making c.lines.invariant c.in-Some.ensures.steps),
-      names_length (lines_in draft),
-      ap length c.requires.whole.drives,
-      c.requires.whole.few_signals,
-    )
+    let so = rw c.in-Some.ensures.steps at c.lines.invariant in
+    omega (arith, simp (length-append, length-map) at (ap length (named so.made)), names_length (lines_in c.args.draft.now), ap length c.requires.whole.drives, c.requires.whole.few_signals)
 
 pub add_line-requires-clause-blocks : goal.add_line-requires-clause-blocks
-add_line-requires-clause-blocks c = omega (arith, c.lines.invariant.few, c.requires.whole.few_operands)
+add_line-requires-clause-blocks c = omega (arith, few_memories c.lines.invariant.made, c.requires.whole.few_operands)
 
 pub lines-preserved : goal.lines-preserved
 lines-preserved c =
-    let draft = c.args.draft.now in
-    let line = seen c.in-Some.line in
-    let mine = c.split_at.ensures.front ∙ ap (λ n. take n c.lines.left.now) c.used_count.ensures in
-    let others = c.split_at.ensures.back ∙ ap (λ n. drop n c.lines.left.now) c.used_count.ensures in
-    subst (λ us. IsMaking (lines_in draft) (lines_at c.next.new.self) us c.add_line.new.net) (sym others)
-    (making_more (lines_in draft) (lines_at c.next.new.self) line c.lines.left.now c.lines.net (next_making c.lines.invariant c.in-Some.ensures.steps) c.add_line.new.net
-    (subst AreOnce (sym c.requires.whole.drives) c.requires.whole.once)
-    (c.in_ok-add_line.ensures ∙ ap (with_line c.lines.net line) mine))
+    let so = rw c.in-Some.ensures.steps at c.lines.invariant in
+    let uses = uses_split (names_of (lines_in c.args.draft.now)) (seen c.in-Some.line) (lines_at c.next.new.self) c.lines.left.now _ c.used_count.ensures so.uses in
+    rw c.in_ok-add_line.ensures (record {
+      made = making_more so.made _ (subst AreOnce (sym c.requires.whole.drives) c.requires.whole.once) (c.split_at.ensures.front ∙ uses.0);
+      uses = c.split_at.ensures.back ∙ uses.1;
+    })
 
 pub returns : goal.returns
-returns c = making_all (lines_in c.args.draft.now) c.lines.left.now c.lines.net (subst (λ left. IsMaking (lines_in c.args.draft.now) (lines_at left) c.lines.left.now c.lines.net) c.in-None.ensures.steps.0 c.lines.invariant)
+unfolding other_signals
+returns c = let so = rw c.in-None.ensures.steps.0 at c.lines.invariant.made in simp append-nil at so.whole

@@ -1,7 +1,13 @@
+use Rattle.std.proofs.Common.{◌≡◌}
 use Rattle.bench_read.specs.Drafting.{lines_in}
+use Rattle.bench_read.specs.Lines.{all_used}
+use Rattle.bench_read.specs.Netlists.{names_of, numbers}
 use Rattle.bench_read.specs.Placed.{lines_at}
 use Rattle.bench_read.proofs.MakingLemmas.{IsMaking}
 use Rattle.bench_read.proofs.netlist.add_lines.Given as goal
 
 abbrev pub invariant-lines : goal.invariant-lines
-invariant-lines l = IsMaking (lines_in l.draft) (lines_at l._at-iterator) l.left l.net
+invariant-lines l = record {
+  made : IsMaking (lines_in l.draft) (lines_at l._at-iterator) l.net;
+  uses : l.left ≡ numbers (names_of (lines_in l.draft)) (all_used (lines_at l._at-iterator));
+}
