@@ -19,7 +19,7 @@ use Rattle.bench_read.specs.declared.draft.Act.{Act}
 use Rattle.bench_read.specs.declared.draft.Act.TheVariants as act
 use Rattle.bench_read.specs.Lines.{Line, driven, used}
 use Rattle.bench_read.specs.Lines as lines
-use Rattle.bench_read.specs.Saying.{allows_memory, said_by_gate, said_by_form, said}
+use Rattle.bench_read.specs.Saying.{allows_memory, said_by_gate, said_by_form, said_by, said}
 use Rattle.bench_read.specs.Storing.{act_by_kind, act_by_head, act_of, name_in, driven_by, printed_by, IsFound}
 
 -- ---- numbers
@@ -43,33 +43,29 @@ memory_bits address words outputs e =
 
 -- ---- the line
 
-module _ (outs old_uses new_uses : List (List ℕ)) where
-  abbrev IsSame : List ℕ → Result Line BenchNo → Result Act BenchNo → Type 0
-  IsSame name (Ok line) (Ok which) = (which ≡ act_of line) × (driven_by which (name ∷ []) outs ≡ driven line) × (new_uses ++ printed_by which name ≡ old_uses ++ used line)
-  IsSame name (Err e) (Err f) = e ≡ f
-  IsSame name _ _ = ⊥
-
-  -- what a row says and what its head does: the same fault; or a line that does this, drives the one name or the names
-  -- in its square brackets, and uses those that were added to a list
+module _ (row : Row) (outs old_uses new_uses : List (List ℕ)) where
+  -- where the row says this, it says a line of this act, or has the same fault
   record Agree (name : List ℕ) (says : Result Line BenchNo) (does : Result Act BenchNo) : Type 0 where
-    same : IsSame name says does
+    answers : said row ≡ says → MatchResult does (λ which. IsFound row which (driven_by which (name ∷ []) outs) old_uses (new_uses ++ printed_by which name)) (λ e. said row ≡ Err e)
 
-  says_line : (name : List ℕ) (line : Line) → driven_by (act_of line) (name ∷ []) outs ≡ driven line → new_uses ++ printed_by (act_of line) name ≡ old_uses ++ used line → Agree name (Ok line) (Ok (act_of line))
-  says_line name line drives uses = record { same = (refl, drives, uses) }
+  -- the line drives the one name or the names in its square brackets, and uses those that were added to a list
+  says_line : (name : List ℕ) (line : Line) → driven_by (act_of line) (name ∷ []) outs ≡ driven line → new_uses ++ printed_by (act_of line) name ≡ old_uses ++ used line
+      → Agree name (Ok line) (Ok (act_of line))
+  says_line name line drives uses = record { answers = λ says. record { line = line; says = says; does = refl; drives = drives; uses = uses } }
 
   refused : (name : List ℕ) (e : BenchNo) → Agree name (Err e) (Err e)
-  refused name e = record { same = refl }
+  refused name e = record { answers = λ says. says }
 
   by_test : {name : List ℕ} {l m : Result Line BenchNo} {r s : Result Act BenchNo} (b : Bool) → (b ≡ true → Agree name l r) → Agree name m s → Agree name (cond b l m) (cond b r s)
   by_test true passes fails = passes refl
   by_test false passes fails = fails
 
-  by_head : (at : ℕ) (h : Head) (form : Form) → HasHead [] outs old_uses new_uses h form → Agree (name_in h) (said_by_form at form) (act_by_head at h)
-  by_head at (head.Port word name) form (is, _, same) =
+  by_head : (h : Head) (form : Form) → HasHead [] outs old_uses new_uses h form → Agree (name_in h) (said_by_form row.at form) (act_by_head row.at h)
+  by_head (head.Port word name) form (is, _, same) =
       rw is (by_test _ (λ _. says_line name.now (lines.Input name.now) refl (rw same refl))
-      (by_test _ (λ _. says_line name.now (lines.Output name.now) refl (rw same refl)) (refused name.now (Syntax at))))
-  by_head at (head.Gate name word count) form (uses, is, found, _) =
-      rw (is, found.counted) (by_test _ (λ _. by_test _ register (refused name.now (Arity at))) (by_kind (kind_of word.now)))
+      (by_test _ (λ _. says_line name.now (lines.Output name.now) refl (rw same refl)) (refused name.now (Syntax row.at))))
+  by_head (head.Gate name word count) form (uses, is, found, _) =
+      rw (is, found.counted) (by_test _ (λ _. by_test _ register (refused name.now (Arity row.at))) (by_kind (kind_of word.now)))
     where
       with_uses : length (all_of uses) ≤ MAX_GATE_OPERANDS → new_uses ++ [] ≡ old_uses ++ all_of uses
       with_uses few = append-nil new_uses ∙ found.added (omega (arith, few, found.counted))
@@ -79,13 +75,13 @@ module _ (outs old_uses new_uses : List (List ℕ)) where
           let one = eqb-true (length (all_of uses)) 1 is in
           says_line name.now (lines.Register name.now uses.first) refl (rw (with_uses (omega (arith, one)), nil_from_length uses.others (omega (arith, one))) refl)
 
-      by_kind : (o : Option Kind) → Agree name.now (said_by_gate at name.now uses o) (act_by_kind at (length (all_of uses)) o)
-      by_kind None = refused name.now (UnknownKind at)
+      by_kind : (o : Option Kind) → Agree name.now (said_by_gate row.at name.now uses o) (act_by_kind row.at (length (all_of uses)) o)
+      by_kind None = refused name.now (UnknownKind row.at)
       by_kind (Some kind) =
           by_test _ (λ allowed. says_line name.now (lines.Gate name.now kind (all_of uses)) refl (with_uses (few_allowed kind (length (all_of uses)) allowed)))
-          (refused name.now (Arity at))
-  by_head at (head.Memory word out_count address_count word_count) form (names, enable, address, words, is, found, addresses, datas, added) =
-      rw (is, found.counted, addresses, datas) (by_test _ (λ _. by_test _ memory (refused [] (Arity at))) (refused [] (UnknownKind at)))
+          (refused name.now (Arity row.at))
+  by_head (head.Memory word out_count address_count word_count) form (names, enable, address, words, is, found, addresses, datas, added) =
+      rw (is, found.counted, addresses, datas) (by_test _ (λ _. by_test _ memory (refused [] (Arity row.at))) (refused [] (UnknownKind row.at)))
     where
       memory : allows_memory (length (all_of address)) (length (all_of words)) (length (all_of names)) ≡ true
           → Agree [] (Ok (lines.Memory (all_of names) enable (all_of address) (all_of words))) (Ok (act.Memory (length (all_of names)) (length (all_of address)) (length (all_of words))))
@@ -95,16 +91,8 @@ module _ (outs old_uses new_uses : List (List ℕ)) where
           (found.added (omega (arith, bits.few_words, bits.outputs_are, found.counted)))
           (append-nil new_uses ∙ added (omega (arith, bits.few_address, addresses)) (omega (arith, bits.few_words, datas)))
 
-  module _ (row : Row) where
-    found_by : (name : List ℕ) (l : Result Line BenchNo) (r : Result Act BenchNo) → said row ≡ l → Agree name l r
-        → MatchResult r (λ which. IsFound row which (driven_by which (name ∷ []) outs) old_uses (new_uses ++ printed_by which name)) (λ e. said row ≡ Err e)
-    found_by name (Ok line) (Ok which) says both = record { line = line; says = says; does = both.same.0; drives = both.same.1; uses = both.same.2 }
-    found_by name (Err e) (Err f) says both = says ∙ ap Err both.same
-    found_by name (Ok line) (Err f) says both = absurd both.same
-    found_by name (Err e) (Ok which) says both = absurd both.same
-
-    -- a row says a line that does what its head does, or has the same fault
-    pub by_found : (h : Head) (r : Result Act BenchNo) → FoundForm [] outs old_uses new_uses (Some h) (form_of row.pieces) → act_by_head row.at h ≡ r
-        → MatchResult r (λ which. IsFound row which (driven_by which (name_in h ∷ []) outs) old_uses (new_uses ++ printed_by which (name_in h))) (λ e. said row ≡ Err e)
-    unfolding said
-    by_found h r found is = found_by (name_in h) (said row) r refl (rw (← is, found.1) (by_head row.at h found.0 found.2))
+  -- a row says a line that does what its head does, or has the same fault
+  pub by_found : (h : Head) (r : Result Act BenchNo) → FoundForm [] outs old_uses new_uses (Some h) (form_of row.pieces) → act_by_head row.at h ≡ r
+      → MatchResult r (λ which. IsFound row which (driven_by which (name_in h ∷ []) outs) old_uses (new_uses ++ printed_by which (name_in h))) (λ e. said row ≡ Err e)
+  unfolding said
+  by_found h r (form, is, has) does = rw (← does) ((by_head h form has).answers (ap (said_by row.at) is))

@@ -13,10 +13,10 @@ pub returns-in_err-act : goal.returns-in_err-act
 returns-in_err-act c =
     let p = err_from_is_err_and c.from_residual-in_err-act.result c.from_residual-in_err-act.ensures.1 in
     let found = rw (c.in-Some.is, c.requires) at c.in_ok-head.ensures in
-    rw (p.1, p.2) (inr (by_found _ _ _ (row_of (c.args.at, c.args.part.now)) c.in-Some.head (Err _) found (sym c.say.ensures ∙ c.in_err-act.was)))
+    rw (p.1, p.2) (inr (by_found (row_of (c.args.at, c.args.part.now)) _ _ _ c.in-Some.head (Err _) found (sym c.say.ensures ∙ c.in_err-act.was)))
 
 pub returns : goal.returns
 returns c =
     let found = rw (c.in-Some.is, c.requires) at c.in_ok-head.ensures in
     rw (c.in_ok-push_printed.ensures, c.name_in-name.ensures)
-    (by_found _ _ _ (row_of (c.args.at, c.args.part.now)) c.in-Some.head (Ok _) found (sym c.say.ensures ∙ c.in_ok-act.was))
+    (by_found (row_of (c.args.at, c.args.part.now)) _ _ _ c.in-Some.head (Ok _) found (sym c.say.ensures ∙ c.in_ok-act.was))
