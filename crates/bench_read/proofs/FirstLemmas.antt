@@ -27,12 +27,9 @@ first_of fault xs = first (λ i. fault (take i xs) (slice_get xs i)) (length xs)
 pub first_push : {X E : Type 0} (fault : List X → Option X → Option E) (xs : List X) (x : X) → first_of fault (xs ++ x ∷ []) ≡ option_or (first_of fault xs) (fault xs (Some x))
 first_push fault xs x =
     let more = xs ++ x ∷ [] in
-    ap (first (λ i. fault (take i more) (slice_get more i))) (rw add-one at (length_push xs x))
-    ∙ first-suc (λ i. fault (take i more) (slice_get more i)) (length xs)
-    ∙ ap (λ o. option_or o (fault (take (length xs) more) (slice_get more (length xs))))
-    (first_same _ _ (length xs) (λ i h. ap (λ ys. fault ys (slice_get more i)) (take-append-le i xs (x ∷ []) (omega (arith, h))) ∙ ap (fault (take i xs)) (at_front xs (x ∷ []) i h)))
-    ∙ ap (λ ys. option_or (first_of fault xs) (fault ys (slice_get more (length xs)))) (take-append_seam xs (x ∷ []))
-    ∙ ap (λ o. option_or (first_of fault xs) (fault xs o)) (seam_at xs x [])
+    let same : first (λ i. fault (take i more) (slice_get more i)) (length xs) ≡ first_of fault xs =
+    first_same _ _ (length xs) (λ i h. rw (take-append-le i xs (x ∷ []) (omega (arith, h)), at_front xs (x ∷ []) i h) refl) in
+    rw (rw add-one at (length_push xs x), first-suc (λ i. fault (take i more) (slice_get more i)) (length xs), same, take-append_seam xs (x ∷ []), seam_at xs x []) refl
 
 -- a fault stays the first, whatever follows
 pub first_stays : {X E : Type 0} (fault : List X → Option X → Option E) (e : E) (xs ys : List X) → first_of fault xs ≡ Some e → first_of fault (xs ++ ys) ≡ Some e
