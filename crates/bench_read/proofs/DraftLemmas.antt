@@ -1,18 +1,16 @@
 -- The draft of a text.
-use Rattle.std.proofs.Common.{◌≡◌, ℕ, ◌+◌, List, [], ◌∷◌, ◌++◌, append_assoc, append-nil, length, length-append, map, Some, None, sym, ap, ◌∙◌, refl, arith}
+use Rattle.std.proofs.Common.{◌≡◌, ℕ, List, [], ◌∷◌, ◌++◌, append_assoc, append-nil, length, length-append, map, None, sym, ap, ◌∙◌, refl, arith}
 use Rattle.std.proofs.lemmas.List.{take_at, drop_at}
 use Rattle.std.proofs.lemmas.List.Elements.{filter-append}
 use Rattle.bench_line.specs.Rows.{Row, row_of, is_some, rows_of, rows_in}
-use Rattle.bench_read.specs.declared.refusal.BenchNo.{BenchNo}
 use Rattle.bench_read.specs.declared.draft.Draft.{Draft}
 use Rattle.bench_read.specs.declared.draft.Statement.{Statement}
 use Rattle.bench_read.specs.Lines.{Line, Gate, Memory, driven, used, all_driven, all_used}
 use Rattle.bench_read.specs.Placed.{Placed, lines_at, placed_of, drivers_of}
-use Rattle.bench_read.specs.Faults.{row_fault, rows_fault}
+use Rattle.bench_read.specs.Faults.{rows_fault}
 use Rattle.bench_read.specs.Drafts.{lines_by}
 use Rattle.bench_read.specs.Drafting.{driven_names, placed_in, IsDraftOf}
 use Rattle.bench_read.specs.Storing.{act_of, statement_of, Stores}
-use Rattle.bench_read.proofs.FirstLemmas.{first_stays}
 use Rattle.bench_read.proofs.TwiceLemmas.{names_in, names_same}
 use Rattle.bench_read.proofs.RowLemmas.{names_driven, rows_none}
 
@@ -24,16 +22,7 @@ line_back : (at : ℕ) (line : Line) (statements : List Statement) (ds us : List
 unfolding lines_by
 line_back at (Gate name kind uses) statements ds us rest is = rw (take_at uses us (length uses) refl, drop_at uses us (length uses) refl, is) refl
 line_back at (Memory outs enable address words) statements ds us rest is =
-    rw (
-      take_at outs ds (length outs) refl,
-      drop_at outs ds (length outs) refl,
-      drop_at (enable ∷ (address ++ words)) us (1 + (length address + length words)) (omega (arith, length-append address words)),
-      append_assoc address words us,
-      take_at address (words ++ us) (length address) refl,
-      drop_at address (words ++ us) (length address) refl,
-      take_at words us (length words) refl,
-      is,
-    ) refl
+    grind (arith, take_at, drop_at, append_assoc, length-append, is)
 line_back at line statements ds us rest is = rw is refl
 
 lines_back : (lines : List Placed) → lines_by (map statement_of lines) (all_driven (lines_at lines)) (all_used (lines_at lines)) ≡ lines
@@ -54,10 +43,6 @@ pub record HasRead (text : List ℕ) (left : List (ℕ × List ℕ)) (draft : Dr
 pub seam : (text : List ℕ) (now left : List (ℕ × List ℕ)) (draft : Draft) (line : ℕ × List ℕ) (read : HasRead text now draft) → now ≡ line ∷ left
     → rows_of text ≡ (read.done ++ rows_in (line ∷ [])) ++ rows_in left
 seam text now left draft line read next = rw (read.rows, next, append_assoc, sym (filter-append is_some (row_of line ∷ []) (map row_of left))) refl
-
-pub read_fault : (rows more : List Row) (e : BenchNo) → rows_fault rows ≡ Some e → rows_fault (rows ++ more) ≡ Some e
-unfolding rows_fault
-read_fault rows more e fault = first_stays (λ front. row_fault (placed_of front)) e rows more fault
 
 pub read_all : (text : List ℕ) (left : List (ℕ × List ℕ)) (draft : Draft) → HasRead text left draft → left ≡ [] → (rows_fault (rows_of text) ≡ None) × IsDraftOf (rows_of text) draft
 read_all text left draft read over =

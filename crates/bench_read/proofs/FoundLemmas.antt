@@ -81,15 +81,12 @@ module _ (row : Row) (outs old_uses new_uses : List (List ℕ)) where
           by_test _ (λ allowed. says_line name.now (lines.Gate name.now kind (all_of uses)) refl (with_uses (few_allowed kind (length (all_of uses)) allowed)))
           (refused name.now (Arity row.at))
   by_head (head.Memory word out_count address_count word_count) form (names, enable, address, words, is, found, addresses, datas, added) =
-      rw (is, found.counted, addresses, datas) (by_test _ (λ _. by_test _ memory (refused [] (Arity row.at))) (refused [] (UnknownKind row.at)))
-    where
-      memory : allows_memory (length (all_of address)) (length (all_of words)) (length (all_of names)) ≡ true
-          → Agree [] (Ok (lines.Memory (all_of names) enable (all_of address) (all_of words))) (Ok (act.Memory (length (all_of names)) (length (all_of address)) (length (all_of words))))
-      memory allowed =
-          let bits = memory_bits (length (all_of address)) (length (all_of words)) (length (all_of names)) allowed in
-          says_line [] (lines.Memory (all_of names) enable (all_of address) (all_of words))
-          (found.added (omega (arith, bits.few_words, bits.outputs_are, found.counted)))
-          (append-nil new_uses ∙ added (omega (arith, bits.few_address, addresses)) (omega (arith, bits.few_words, datas)))
+      rw (is, found.counted, addresses, datas) (by_test _ (λ _. by_test _ (λ allowed.
+        let bits = memory_bits (length (all_of address)) (length (all_of words)) (length (all_of names)) allowed in
+        says_line [] (lines.Memory (all_of names) enable (all_of address) (all_of words))
+        (found.added (omega (arith, bits.few_words, bits.outputs_are, found.counted)))
+        (append-nil new_uses ∙ added (omega (arith, bits.few_address, addresses)) (omega (arith, bits.few_words, datas)))
+      ) (refused [] (Arity row.at))) (refused [] (UnknownKind row.at)))
 
   -- a row says a line that does what its head does, or has the same fault
   pub by_found : (h : Head) (r : Result Act BenchNo) → FoundForm [] outs old_uses new_uses (Some h) (form_of row.pieces) → act_by_head row.at h ≡ r

@@ -1,8 +1,9 @@
-use Rattle.std.proofs.Common.{◌+◌, inl, inr, ⊎_elim, ap, refl}
+use Rattle.std.proofs.Common.{◌+◌, inl, inr, ap, refl}
 use Rattle.std.proofs.lemmas.List.{length-map}
 use Rattle.std.proofs.lemmas.Result.{err_from_is_err_and}
 use Rattle.bench_line.specs.Rows.{row_of}
-use Rattle.bench_read.proofs.StoreLemmas.{row_refused, fault_is, stores_more}
+use Rattle.bench_read.proofs.RowLemmas.{rows_push}
+use Rattle.bench_read.proofs.StoreLemmas.{fault_is, stores_more}
 use Rattle.bench_read.proofs.rows.read_row.Goals as goal
 
 pub drive-requires : goal.drive-requires
@@ -11,7 +12,7 @@ drive-requires c = c.requires.names
 pub returns-in_err-act : goal.returns-in_err-act
 returns-in_err-act c rows none stores =
     let p = err_from_is_err_and c.from_residual.result c.from_residual.ensures.1 in
-    rw (p.1, p.2) (⊎_elim inl (λ says. inr (row_refused rows (row_of (c.args.at, c.args.part.now)) none c.in_err-act.field-0.0 says)) c.in_err-act.ensures)
+    rw (p.1, p.2, rows_push, none) (elim c.in_err-act.ensures [ | inl memory ↦ inl memory | inr says ↦ inr (rw says refl) ])
 
 pub returns-in_err-drive : goal.returns-in_err-drive
 returns-in_err-drive c rows none stores =

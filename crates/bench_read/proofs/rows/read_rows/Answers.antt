@@ -2,10 +2,11 @@ use Rattle.std.proofs.Common.{[], ◌++◌, ◌∷◌, sym, ap, ◌∙◌, inl, 
 use Rattle.std.proofs.lemmas.Result.{err_from_is_err_and}
 use Rattle.text_lines.proofs.AnswerLemmas.{first-zero}
 use Rattle.bench_line.specs.Rows.{rows_in, rows_of}
-use Rattle.bench_read.specs.Faults.{rows_fault}
+use Rattle.bench_read.specs.Faults.{row_fault, rows_fault}
 use Rattle.bench_read.specs.Placed.{placed_of}
+use Rattle.bench_read.proofs.FirstLemmas.{first_stays}
 use Rattle.bench_read.proofs.RowLemmas.{rows_none}
-use Rattle.bench_read.proofs.DraftLemmas.{seam, read_fault, read_all}
+use Rattle.bench_read.proofs.DraftLemmas.{seam, read_all}
 use Rattle.bench_read.proofs.rows.read_rows.Goals as goal
 
 pub lines-init : goal.lines-init
@@ -29,11 +30,12 @@ lines-preserved c =
     record { done = read.done ++ rows_in ((c.in-Some.at, c.in-Some.part.now) ∷ []); rows = seam c.args.text.now _ _ c.lines.draft _ read c.in-Some.ensures.steps; no_fault = is.0; stores = is.1 }
 
 pub returns-in_err-read_line : goal.returns-in_err-read_line
+unfolding rows_fault
 returns-in_err-read_line c =
     let read = c.lines.invariant in
     let p = err_from_is_err_and c.from_residual.result c.from_residual.ensures.1 in
     rw (p.1, p.2, seam c.args.text.now _ _ c.lines.draft _ read c.in-Some.ensures.steps)
-    (⊎_elim inl (λ fault. inr (read_fault _ _ c.in_err-read_line.field-0.0 fault)) (c.in_err-read_line.ensures read.done read.no_fault read.stores))
+    (⊎_elim inl (λ fault. inr (first_stays (λ front. row_fault (placed_of front)) c.in_err-read_line.field-0.0 _ _ fault)) (c.in_err-read_line.ensures read.done read.no_fault read.stores))
 
 pub returns : goal.returns
 returns c = read_all c.args.text.now _ c.lines.draft c.lines.invariant c.in-None.ensures.steps.0
