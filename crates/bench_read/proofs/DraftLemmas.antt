@@ -47,7 +47,7 @@ seam text now left draft line read next = rw (read.rows, next, append_assoc, sym
 pub read_all : (text : List ℕ) (left : List (ℕ × List ℕ)) (draft : Draft) → HasRead text left draft → left ≡ [] → (rows_fault (rows_of text) ≡ None) × IsDraftOf (rows_of text) draft
 read_all text left draft read over =
     let lines = placed_of read.done in
-    let fine = ((rows_none read.done).0 read.no_fault).fine in
+    let fine = ((rows_none read.done).0 read.no_fault).1 in
     let stores = read.stores in
     let driven : driven_names draft ≡ names_in (drivers_of lines) = sym (names_same draft.drivers) ∙ ap names_in stores.drivers in
     let placed : placed_in draft ≡ lines = rw (stores.statements, driven, names_driven lines, stores.uses) (lines_back lines) in
@@ -58,9 +58,9 @@ read_all text left draft read over =
           drives = rw (placed, driven) (sym (names_driven lines));
           uses = rw (placed, stores.uses) refl;
           names = stores.names;
-          once = rw driven fine.once;
-          few_signals = rw driven fine.few.0;
-          few_operands = rw placed fine.few.1;
+          once = rw driven fine.0;
+          few_signals = rw driven fine.1.0;
+          few_operands = rw placed fine.1.1;
         };
         said = placed;
       },

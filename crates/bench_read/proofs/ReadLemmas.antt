@@ -81,8 +81,8 @@ reads_where text net =
       λ reads.
           let say = said_lines rows reads.lines reads.said in
           let sound = rw say.0 at reads.sound in
-          let fine : AreFine placed = record { once = rw driven sound.once; few = rw driven (sound.few_signals, sound.few_operands) } in (
-            rw (reads.bytes, (rows_none rows).1 (record { lines = say.1; fine = fine })) ((uses_none placed).1 (rw (driven, used) sound.driven)),
+          let fine : AreFine placed = (rw driven sound.once, rw driven (sound.few_signals, sound.few_operands)) in (
+            rw (reads.bytes, (rows_none rows).1 (say.1, fine)) ((uses_none placed).1 (rw (driven, used) sound.driven)),
             reads.netlist ∙ ap netlist_of say.0,
           ),
       λ both.
@@ -92,11 +92,11 @@ reads_where text net =
           record {
             lines = lines_at placed;
             bytes = mapped_none of_text (byte_fault text) bytes.0;
-            said = say_placed rows all.lines;
+            said = say_placed rows all.0;
             sound = record {
-              once = rw (← driven) all.fine.once;
-              few_signals = rw (← driven) all.fine.few.0;
-              few_operands = all.fine.few.1;
+              once = rw (← driven) all.1.0;
+              few_signals = rw (← driven) all.1.1.0;
+              few_operands = all.1.1.1;
               driven = rw (← driven, ← used) ((uses_none placed).0 passes.1);
             };
             netlist = both.1;

@@ -1,5 +1,5 @@
 -- Lines after one another, and the rows that say them.
-use Rattle.std.proofs.Common.{◌≡◌, ℕ, ◌+◌, ◌≤◌, List, [], ◌∷◌, ◌++◌, append-nil, length, length-append, Some, None, Result, Ok, Err, sym, ap, ◌∙◌, refl, arith}
+use Rattle.std.proofs.Common.{◌≡◌, ℕ, ◌+◌, ◌≤◌, List, [], ◌∷◌, ◌++◌, append-nil, length, length-append, Some, None, Result, Ok, Err, ap, ◌∙◌, refl, arith}
 use Rattle.std.specs.Prelude.{◌↔◌, All}
 use Rattle.std.specs.List.{flat_map}
 use Rattle.std.specs.Option.{option_or}
@@ -11,7 +11,7 @@ use Rattle.std.proofs.lemmas.List.Concat.{flat_map-append}
 use Rattle.std.proofs.lemmas.List.Elements.{All-nil, All-push, All-pop, filter_map-append}
 use Rattle.std.proofs.lemmas.List.Sums.{sum_by_push}
 use Rattle.limits.specs.declared.TheConstants.{MAX_OPERANDS, MAX_SIGNALS}
-use Rattle.text_lines.proofs.AnswerLemmas.{first-zero, or_none}
+use Rattle.text_lines.proofs.AnswerLemmas.{or_none}
 use Rattle.bench_line.specs.Rows.{Row}
 use Rattle.bench_read.specs.declared.refusal.BenchNo.{BenchNo}
 use Rattle.bench_read.specs.Lines.{Line, driven, used, operands, all_driven, all_used, operand_count}
@@ -20,7 +20,7 @@ use Rattle.bench_read.specs.Saying.{Says, said}
 use Rattle.bench_read.proofs.SaidLemmas.{says_from_said, said_from_says}
 use Rattle.bench_read.specs.Faults.{twice_fault, limit_fault, many_fault, line_fault, said_fault, row_fault, rows_fault}
 use Rattle.bench_read.specs.Reads.{AreOnce}
-use Rattle.bench_read.proofs.FirstLemmas.{by_push, first_push}
+use Rattle.bench_read.proofs.FirstLemmas.{none_where, first_push}
 use Rattle.bench_read.proofs.NameLemmas.{once_front}
 use Rattle.bench_read.proofs.TwiceLemmas.{names_in, twice_none}
 
@@ -49,9 +49,9 @@ unfolding operand_count
 operands_push earlier placed = rw map-append (sum_by_push (λ (line : Line). length (operands line)) (lines_at earlier) placed.line)
 
 -- lines that drive no name twice, with not too many signals or operands
-pub record AreFine (placed : List Placed) : Type 0 where
-  pub once : AreOnce (names_in (drivers_of placed))
-  pub few : (length (names_in (drivers_of placed)) ≤ MAX_SIGNALS) × (operand_count (lines_at placed) ≤ MAX_OPERANDS)
+abbrev pub AreFine : List Placed → Type 0
+AreFine placed =
+    AreOnce (names_in (drivers_of placed)) × ((length (names_in (drivers_of placed)) ≤ MAX_SIGNALS) × (operand_count (lines_at placed) ≤ MAX_OPERANDS))
 
 -- within the limits
 limit_none : (at signals count : ℕ) → limit_fault at signals count ≡ None ↔ ((signals ≤ MAX_SIGNALS) × (count ≤ MAX_OPERANDS))
@@ -71,13 +71,13 @@ fine_push earlier placed =
     let limits = limit_none placed.at (length (names_in (drivers_of all))) (operand_count (lines_at all)) in (
       λ old.
           let both = or_none (twice_fault front mine) _ old.1 in
-          record { once = rw names ((twice_none front mine old.0.once).0 both.0); few = limits.0 (rw (← names_driven all) at both.1) },
+          (rw names ((twice_none front mine old.0.0).0 both.0), limits.0 (rw (← names_driven all) at both.1)),
       λ fine.
           let split = names ∙ map-append (λ named. named.name) front mine in
-          let once = once_front (names_in front) (names_in mine) (rw split at fine.once) in
-          let signals : length (names_in front) ≤ MAX_SIGNALS = omega (arith, fine.few.0, ap length split, length-append (names_in front) (names_in mine)) in (
-            record { once = once; few = (signals, omega (arith, fine.few.1, operands_push earlier placed)) },
-            rw ((twice_none front mine once).1 (rw names at fine.once), ← names_driven all) (limits.1 fine.few),
+          let once = once_front (names_in front) (names_in mine) (rw split at fine.0) in
+          let signals : length (names_in front) ≤ MAX_SIGNALS = omega (arith, fine.1.0, ap length split, length-append (names_in front) (names_in mine)) in (
+            (once, (signals, omega (arith, fine.1.1, operands_push earlier placed))),
+            rw ((twice_none front mine once).1 (rw names at fine.0), ← names_driven all) (limits.1 fine.1),
           ),
     )
 
@@ -96,32 +96,22 @@ abbrev pub SaysOne : Row → Type 0
 SaysOne row = (line : Line) × Says row line
 
 -- all rows say lines, and the lines are fine
-pub record AreSaid (rows : List Row) : Type 0 where
-  pub lines : All SaysOne rows
-  pub fine : AreFine (placed_of rows)
+abbrev pub AreSaid : List Row → Type 0
+AreSaid rows = All SaysOne rows × AreFine (placed_of rows)
 
-said_nothing : rows_fault [] ≡ None ↔ AreSaid []
-unfolding rows_fault placed_of drivers_of operand_count
-said_nothing = (λ _. record { lines = All-nil _; fine = record { once = λ name. omega arith; few = (omega arith, omega arith) } }, λ _. first-zero _)
+none_said : AreSaid []
+unfolding placed_of drivers_of operand_count
+none_said = (All-nil _, (λ name. omega arith, (omega arith, omega arith)))
 
 -- rows have no fault where they say fine lines
 pub rows_none : (rows : List Row) → rows_fault rows ≡ None ↔ AreSaid rows
-rows_none rows = by_push (λ rs. rows_fault rs ≡ None ↔ AreSaid rs) (λ rs row before. more rs row before (said row) refl) [] rows said_nothing where
-  more : (rs : List Row) (row : Row) → rows_fault rs ≡ None ↔ AreSaid rs → (r : Result Line BenchNo) → said row ≡ r → rows_fault (rs ++ row ∷ []) ≡ None ↔ AreSaid (rs ++ row ∷ [])
-  more rs row before (Ok line) says =
-      let push = fine_push (placed_of rs) (record { at = row.at; line = line }) in (
-        λ none.
-            let both = or_none (rows_fault rs) (said_fault (placed_of rs) (said_at row)) (sym (rows_push rs row) ∙ none) in
-            let old = before.0 both.0 in
-            record {
-              lines = All-push SaysOne rs row old.lines (line, says_from_said row line says);
-              fine = rw (placed_push rs row line says) (push.0 (old.fine, rw says at both.1));
-            },
-        λ all.
-            let old = push.1 (rw (placed_push rs row line says) at all.fine) in
-            rw (rows_push rs row, before.1 (record { lines = (All-pop SaysOne _ rs (Some row) refl all.lines).0; fine = old.0 }), says) old.1,
+unfolding rows_fault
+rows_none = none_where (λ front. row_fault (placed_of front)) AreSaid none_said (λ rs row. more rs row (said row) refl) where
+  more : (rs : List Row) (row : Row) (r : Result Line BenchNo) → said row ≡ r → (AreSaid rs × (said_fault (placed_of rs) (said_at row) ≡ None)) ↔ AreSaid (rs ++ row ∷ [])
+  more rs row (Ok line) says =
+      let push = fine_push (placed_of rs) (record { at = row.at; line = line }) in
+      let placed = placed_push rs row line says in (
+        λ old. (All-push SaysOne rs row old.0.0 (line, says_from_said row line says), rw placed (push.0 (old.0.1, rw says at old.1))),
+        λ all. let old = push.1 (rw placed at all.1) in (((All-pop SaysOne _ rs (Some row) refl all.0).0, old.0), rw says old.1),
       )
-  more rs row before (Err fault) says = (
-    λ none. cc (or_none (rows_fault rs) (said_fault (placed_of rs) (said_at row)) (sym (rows_push rs row) ∙ none)).1,
-    λ all. let one = (All-pop SaysOne _ rs (Some row) refl all.lines).1 in cc (said_from_says row one.0 one.1),
-  )
+  more rs row (Err fault) says = (λ old. cc old.1, λ all. let one = (All-pop SaysOne _ rs (Some row) refl all.0).1 in cc (said_from_says row one.0 one.1))

@@ -21,7 +21,7 @@ lines-init c = record {
 pub read_line-requires-clause-few : goal.read_line-requires-clause-few
 read_line-requires-clause-few c =
     let read = c.lines.invariant in
-    rw read.stores.operands ((rows_none read.done).0 read.no_fault).fine.few.1
+    rw read.stores.operands ((rows_none read.done).0 read.no_fault).1.1.1
 
 pub lines-preserved : goal.lines-preserved
 lines-preserved c =
