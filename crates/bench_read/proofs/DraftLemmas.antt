@@ -6,7 +6,7 @@ use Rattle.bench_line.specs.Rows.{Row, row_of, is_some, rows_of, rows_in}
 use Rattle.bench_read.specs.declared.draft.Draft.{Draft}
 use Rattle.bench_read.specs.declared.draft.Statement.{Statement}
 use Rattle.bench_read.specs.Lines.{Line, Gate, Memory, driven, used, all_driven, all_used}
-use Rattle.bench_read.specs.Placed.{Placed, lines_at, placed_of, drivers_of}
+use Rattle.bench_read.specs.Placed.{Placed, lines_at, placed_of}
 use Rattle.bench_read.specs.Faults.{rows_fault}
 use Rattle.bench_read.specs.Drafts.{lines_by}
 use Rattle.bench_read.specs.Drafting.{driven_names, placed_in, IsDraftOf}
@@ -49,13 +49,13 @@ read_all text left draft read over =
     let lines = placed_of read.done in
     let fine = ((rows_none read.done).0 read.no_fault).1 in
     let stores = read.stores in
-    let driven : driven_names draft ≡ names_in (drivers_of lines) = sym (names_same draft.drivers) ∙ ap names_in stores.drivers in
-    let placed : placed_in draft ≡ lines = rw (stores.statements, driven, names_driven lines, stores.uses) (lines_back lines) in
+    let driven : driven_names draft ≡ all_driven (lines_at lines) = sym (names_same draft.drivers) ∙ ap names_in stores.drivers ∙ names_driven lines in
+    let placed : placed_in draft ≡ lines = rw (stores.statements, driven, stores.uses) (lines_back lines) in
     rw (read.rows, over, append-nil) (
       read.no_fault,
       record {
         whole = record {
-          drives = rw (placed, driven) (sym (names_driven lines));
+          drives = rw (placed, driven) refl;
           uses = rw (placed, stores.uses) refl;
           names = stores.names;
           once = rw driven fine.0;

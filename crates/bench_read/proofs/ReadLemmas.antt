@@ -1,10 +1,12 @@
 -- What a text reads as: the netlist of its lines, where it has no fault.
-use Rattle.std.proofs.Common.{◌≡◌, ◌⊎◌, ℕ, true, false, not, List, [], ◌∷◌, Option, Some, None, Result, Ok, Err, sym, ap, ◌∙◌, refl, inl, inr, ⊎_elim, bytes_eq}
+use Rattle.std.proofs.Common.{Bool, ◌≡◌, ◌⊎◌, ℕ, true, false, not, List, [], ◌∷◌, Option, Some, None, Result, Ok, Err, sym, ap, ◌∙◌, refl, inl, inr, ⊎_elim, bytes_eq}
 use Rattle.std.specs.Prelude.{◌↔◌, All, MatchResult}
 use Rattle.std.specs.List.{list_any, find}
 use Rattle.std.specs.Option.{option_map, option_or}
-use Rattle.std.proofs.lemmas.Bool.{not-false, or_parts, or_from}
-use Rattle.std.proofs.lemmas.List.Elements.{All-nil, All-cons, All-head, All-tail}
+use Rattle.std.proofs.lemmas.Bool.{not-false, or_parts}
+use Rattle.std.proofs.lemmas.List.Elements.{All-nil, All-cons, All-head, All-tail, All-map, All-weaker}
+use Rattle.std.proofs.lemmas.List.Folds.{list_any_none}
+use Rattle.list_laws.proofs.Members.{all_of_map}
 use Rattle.list_laws.proofs.Tests.{list_any-map, find_none, any_not_none}
 use Rattle.list_laws.proofs.Options.{mapped_none}
 use Rattle.text_lines.specs.Answers.{Answers}
@@ -14,7 +16,7 @@ use Rattle.bench_line.specs.Rows.{Row, rows_of}
 use Rattle.net_defs.specs.declared.netlist.Netlist.{Netlist}
 use Rattle.bench_read.specs.declared.refusal.BenchNo.{BenchNo}
 use Rattle.bench_read.specs.declared.refusal.BenchNo.TheVariants.{Undriven, Memory}
-use Rattle.bench_read.specs.Lines.{Line}
+use Rattle.bench_read.specs.Lines.{Line, all_driven, all_used}
 use Rattle.bench_read.specs.Saying.{Say}
 use Rattle.bench_read.specs.Placed.{Placed, Named, lines_at, placed_of, drivers_of, uses_of}
 use Rattle.bench_read.specs.Faults.{is_undriven, rows_fault, uses_fault, of_text, first_fault}
@@ -22,7 +24,7 @@ use Rattle.bench_read.specs.Netlists.{netlist_of}
 use Rattle.bench_read.specs.Reads.{AreAmong, Reads}
 use Rattle.bench_read.proofs.SaidLemmas.{said_from_says}
 use Rattle.bench_read.proofs.TwiceLemmas.{names_in}
-use Rattle.bench_read.proofs.RowLemmas.{names_driven, names_used, AreFine, SaysOne, rows_none}
+use Rattle.bench_read.proofs.RowLemmas.{names_driven, names_used, SaysOne, rows_none}
 
 -- ---- what rows say
 
@@ -45,27 +47,25 @@ said_lines _ _ say = absurd say
 
 -- ---- uses
 
--- none of some names is undriven where each is driven
-driven_uses : (drivers uses : List Named) → list_any (is_undriven drivers) uses ≡ false ↔ AreAmong (names_in drivers) (names_in uses)
-driven_uses drivers [] = (λ _. All-nil _, λ _. refl)
-driven_uses drivers (use_ ∷ uses) =
-    let P : List ℕ → Type 0 = λ name. list_any (bytes_eq name) (names_in drivers) ≡ true in
-    let same = list_any-map (bytes_eq use_.name) (λ (driver : Named). driver.name) drivers in
-    let rest = driven_uses drivers uses in (
-      λ none.
-          let both = or_parts (is_undriven drivers use_) (list_any (is_undriven drivers) uses) none in
-          All-cons P use_.name (names_in uses) (same ∙ not-false _ both.0) (rest.0 both.1),
-      λ all. or_from _ _ (ap not (sym same ∙ All-head P use_.name (names_in uses) all)) (rest.1 (All-tail P use_.name (names_in uses) all)),
-    )
+none_each : {X : Type 0} (p : X → Bool) (xs : List X) → list_any p xs ≡ false → All (λ x. p x ≡ false) xs
+none_each p [] none = All-nil _
+none_each p (x ∷ xs) none = let both = or_parts (p x) (list_any p xs) none in All-cons (λ y. p y ≡ false) x xs both.0 (none_each p xs both.1)
 
-uses_none : (placed : List Placed) → uses_fault placed ≡ None ↔ AreAmong (names_in (drivers_of placed)) (names_in (uses_of placed))
+-- no use has a fault where each is driven
+uses_none : (placed : List Placed) → uses_fault placed ≡ None ↔ AreAmong (all_driven (lines_at placed)) (all_used (lines_at placed))
 unfolding uses_fault
 uses_none placed =
-    let fault : Named → BenchNo = λ named. Undriven named.name named.at in
+    let uses = uses_of placed in
+    let name : Named → List ℕ = λ named. named.name in
     let undriven = is_undriven (drivers_of placed) in
-    let among = driven_uses (drivers_of placed) (uses_of placed) in (
-      λ none. among.0 (any_not_none undriven (uses_of placed) (mapped_none fault (find undriven (uses_of placed)) none)),
-      λ all. ap (option_map fault) (find_none undriven (uses_of placed) (among.1 all)),
+    let IsIn : List ℕ → Type 0 = λ n. list_any (bytes_eq n) (names_in (drivers_of placed)) ≡ true in
+    let same = λ (use_ : Named). list_any-map (bytes_eq use_.name) name (drivers_of placed) in (
+      λ none.
+          let each = none_each undriven uses (any_not_none undriven uses (mapped_none (λ n. Undriven n.name n.at) (find undriven uses) none)) in
+          rw (← names_driven placed, ← names_used placed) (All-map IsIn name uses (All-weaker _ (λ n. IsIn n.name) (λ n e. same n ∙ not-false _ e) uses each)),
+      λ all.
+          let each = all_of_map IsIn name uses (rw (names_driven placed, names_used placed) all) in
+          ap (option_map (λ (n : Named). Undriven n.name n.at)) (find_none undriven uses (list_any_none undriven uses (All-weaker (λ n. IsIn n.name) (λ n. undriven n ≡ false) (λ n e. ap not (sym (same n) ∙ e)) uses each))),
     )
 
 -- ---- texts
@@ -75,30 +75,22 @@ pub reads_where : (text : List ℕ) (net : Netlist) → Reads text net ↔ ((fir
 unfolding first_fault
 reads_where text net =
     let rows = rows_of text in
-    let placed = placed_of rows in
-    let driven = names_driven placed in
-    let used = names_used placed in (
+    let placed = placed_of rows in (
       λ reads.
           let say = said_lines rows reads.lines reads.said in
-          let sound = rw say.0 at reads.sound in
-          let fine : AreFine placed = (rw driven sound.once, rw driven (sound.few_signals, sound.few_operands)) in (
-            rw (reads.bytes, (rows_none rows).1 (say.1, fine)) ((uses_none placed).1 (rw (driven, used) sound.driven)),
+          let sound = rw say.0 at reads.sound in (
+            rw (reads.bytes, (rows_none rows).1 (say.1, (sound.once, (sound.few_signals, sound.few_operands)))) ((uses_none placed).1 sound.driven),
             reads.netlist ∙ ap netlist_of say.0,
           ),
       λ both.
           let bytes = or_none (option_map of_text (byte_fault text)) (option_or (rows_fault rows) (uses_fault placed)) both.0 in
           let passes = or_none (rows_fault rows) (uses_fault placed) bytes.1 in
-          let all = (rows_none rows).0 passes.0 in
+          let (say, fine) = (rows_none rows).0 passes.0 in
           record {
             lines = lines_at placed;
             bytes = mapped_none of_text (byte_fault text) bytes.0;
-            said = say_placed rows all.0;
-            sound = record {
-              once = rw (← driven) all.1.0;
-              few_signals = rw (← driven) all.1.1.0;
-              few_operands = all.1.1.1;
-              driven = rw (← driven, ← used) ((uses_none placed).0 passes.1);
-            };
+            said = say_placed rows say;
+            sound = record { once = fine.0; few_signals = fine.1.0; few_operands = fine.1.1; driven = (uses_none placed).0 passes.1 };
             netlist = both.1;
           },
     )

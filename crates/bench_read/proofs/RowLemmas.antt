@@ -49,9 +49,8 @@ unfolding operand_count
 operands_push earlier placed = rw map-append (sum_by_push (λ (line : Line). length (operands line)) (lines_at earlier) placed.line)
 
 -- lines that drive no name twice, with not too many signals or operands
-abbrev pub AreFine : List Placed → Type 0
-AreFine placed =
-    AreOnce (names_in (drivers_of placed)) × ((length (names_in (drivers_of placed)) ≤ MAX_SIGNALS) × (operand_count (lines_at placed) ≤ MAX_OPERANDS))
+abbrev pub AreFine : List Line → Type 0
+AreFine lines = AreOnce (all_driven lines) × ((length (all_driven lines) ≤ MAX_SIGNALS) × (operand_count lines ≤ MAX_OPERANDS))
 
 -- within the limits
 limit_none : (at signals count : ℕ) → limit_fault at signals count ≡ None ↔ ((signals ≤ MAX_SIGNALS) × (count ≤ MAX_OPERANDS))
@@ -61,23 +60,23 @@ limit_none at signals count = (
 )
 
 -- fine lines are fine with one more that has no fault after them
-fine_push : (earlier : List Placed) (placed : Placed) → (AreFine earlier × (line_fault earlier placed ≡ None)) ↔ AreFine (earlier ++ placed ∷ [])
+fine_push : (earlier : List Placed) (placed : Placed) → (AreFine (lines_at earlier) × (line_fault earlier placed ≡ None)) ↔ AreFine (lines_at (earlier ++ placed ∷ []))
 unfolding line_fault many_fault
 fine_push earlier placed =
-    let all = earlier ++ placed ∷ [] in
+    let lines = lines_at (earlier ++ placed ∷ []) in
     let front = drivers_of earlier in
     let mine = driven_in placed in
-    let names : names_in (drivers_of all) ≡ names_in (front ++ mine) = ap names_in (drivers_push earlier placed) in
-    let limits = limit_none placed.at (length (names_in (drivers_of all))) (operand_count (lines_at all)) in (
+    let names : all_driven lines ≡ names_in (front ++ mine) = rw (← names_driven (earlier ++ placed ∷ []), drivers_push) refl in
+    let limits = limit_none placed.at (length (all_driven lines)) (operand_count lines) in (
       λ old.
           let both = or_none (twice_fault front mine) _ old.1 in
-          (rw names ((twice_none front mine old.0.0).0 both.0), limits.0 (rw (← names_driven all) at both.1)),
+          (rw names ((twice_none front mine (rw names_driven old.0.0)).0 both.0), limits.0 both.1),
       λ fine.
           let split = names ∙ map-append (λ named. named.name) front mine in
           let once = once_front (names_in front) (names_in mine) (rw split at fine.0) in
           let signals : length (names_in front) ≤ MAX_SIGNALS = omega (arith, fine.1.0, ap length split, length-append (names_in front) (names_in mine)) in (
-            (once, (signals, omega (arith, fine.1.1, operands_push earlier placed))),
-            rw ((twice_none front mine once).1 (rw names at fine.0), ← names_driven all) (limits.1 fine.1),
+            rw (← names_driven earlier) (once, (signals, omega (arith, fine.1.1, operands_push earlier placed))),
+            rw ((twice_none front mine once).1 (rw names at fine.0)) (limits.1 fine.1),
           ),
     )
 
@@ -97,10 +96,10 @@ SaysOne row = (line : Line) × Says row line
 
 -- all rows say lines, and the lines are fine
 abbrev pub AreSaid : List Row → Type 0
-AreSaid rows = All SaysOne rows × AreFine (placed_of rows)
+AreSaid rows = All SaysOne rows × AreFine (lines_at (placed_of rows))
 
 none_said : AreSaid []
-unfolding placed_of drivers_of operand_count
+unfolding placed_of all_driven operand_count
 none_said = (All-nil _, (λ name. omega arith, (omega arith, omega arith)))
 
 -- rows have no fault where they say fine lines
