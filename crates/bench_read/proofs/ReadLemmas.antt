@@ -1,5 +1,5 @@
 -- What a text reads as: the netlist of its lines, where it has no fault.
-use Rattle.std.proofs.Common.{Bool, ◌≡◌, ◌⊎◌, ℕ, true, false, not, List, [], ◌∷◌, Option, Some, None, Result, Ok, Err, sym, ap, ◌∙◌, refl, inl, inr, ⊎_elim, bytes_eq}
+use Rattle.std.proofs.Common.{Bool, ◌≡◌, ◌⊎◌, ℕ, true, false, not, List, [], ◌∷◌, Option, Some, None, Result, Ok, Err, sym, ap, ◌∙◌, refl, inl, inr, bytes_eq}
 use Rattle.std.specs.Prelude.{◌↔◌, All, MatchResult}
 use Rattle.std.specs.List.{list_any, find}
 use Rattle.std.specs.Option.{option_map, option_or}
@@ -10,7 +10,7 @@ use Rattle.list_laws.proofs.Members.{all_of_map}
 use Rattle.list_laws.proofs.Tests.{list_any-map, find_none, any_not_none}
 use Rattle.list_laws.proofs.Options.{mapped_none}
 use Rattle.text_lines.specs.Answers.{Answers}
-use Rattle.text_lines.proofs.AnswerLemmas.{or_none, none_is_not_some}
+use Rattle.text_lines.proofs.AnswerLemmas.{or_none}
 use Rattle.bench_text.specs.Tokens.{first_fault as byte_fault}
 use Rattle.bench_line.specs.Rows.{Row, rows_of}
 use Rattle.net_defs.specs.declared.netlist.Netlist.{Netlist}
@@ -119,6 +119,5 @@ reads_from text (Err e) a = a
 -- what the text reads as is what was read
 pub only_from : (text : List ℕ) (r : Result Netlist BenchNo) → Answers Memory r (first_fault text) (Reads text) → (net : Netlist) → Reads text net → (first_fault text ≡ None) × MatchResult r (λ read. read ≡ net) (λ e. e ≡ Memory)
 only_from text (Ok read) a net reads = (a.0, one_netlist text read net a.1 reads)
-only_from text (Err e) a net reads =
-    let none = no_fault_from_reads text net reads in
-    (none, ⊎_elim (λ memory. memory) (λ fault. absurd (none_is_not_some (sym none ∙ fault))) a)
+only_from text (Err e) (inl memory) net reads = (no_fault_from_reads text net reads, memory)
+only_from text (Err e) (inr fault) net reads = cc (no_fault_from_reads text net reads)

@@ -3,7 +3,7 @@ use Rattle.std.proofs.lemmas.List.{length-map}
 use Rattle.std.proofs.lemmas.Result.{err_from_is_err_and}
 use Rattle.bench_line.specs.Rows.{row_of}
 use Rattle.bench_read.proofs.RowLemmas.{rows_push}
-use Rattle.bench_read.proofs.StoreLemmas.{fault_is, stores_more}
+use Rattle.bench_read.proofs.DraftLemmas.{fault_is, stores_more}
 use Rattle.bench_read.proofs.rows.read_row.Goals as goal
 
 pub drive-requires : goal.drive-requires
