@@ -22,17 +22,15 @@ use_at : (lines : List Placed) (i : ℕ) → get_or (uses_of lines) i nothing �
 unfolding uses_of all_used line_of_use
 use_at [] i = refl
 use_at (placed ∷ lines) i =
-    let n = length (used placed.line) in
-    let same = length-map (used placed.line) (λ name. named placed.at name) in
-    elim (cases_lt i n) [
+    let named : List ℕ → Named = λ name. record { at = placed.at; name = name } in
+    let same = length-map (used placed.line) named in
+    elim (cases_lt i (length (used placed.line))) [
       | inl below ↦
-          rw (get_or_append_left (used_in placed) (uses_of lines) nothing i (omega arith), get_or-map (named placed.at) (used placed.line) i [] nothing below, lt-ltb i n below, get_or_append_left (used placed.line) (all_used (lines_at lines)) [] i below) refl
+          let first : i < length (used_in placed) = omega arith in
+          rw (get_or_append_left, get_or-map named (used placed.line) i [] nothing below, lt-ltb i _ below, get_or_append_left) refl
       | inr past ↦
-          rw (get_or-append_right (used_in placed) (uses_of lines) n i nothing same past, use_at lines (i - n), le-ltb i n past, get_or-append_right (used placed.line) (all_used (lines_at lines)) n i [] refl past) refl
+          rw (get_or-append_right (used_in placed) (uses_of lines) _ i nothing same past, use_at lines (i - length (used placed.line)), le-ltb i _ past, get_or-append_right (used placed.line) (all_used (lines_at lines)) _ i [] refl past) refl
     ]
-  where
-    named : ℕ → List ℕ → Named
-    named at name = record { at = at; name = name }
 
 -- ---- the first use that nothing drives
 

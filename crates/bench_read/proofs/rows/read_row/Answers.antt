@@ -6,9 +6,6 @@ use Rattle.bench_read.proofs.RowLemmas.{rows_push}
 use Rattle.bench_read.proofs.DraftLemmas.{fault_is, stores_more}
 use Rattle.bench_read.proofs.rows.read_row.Goals as goal
 
-pub drive-requires : goal.drive-requires
-drive-requires c = c.requires.names
-
 pub returns-in_err-act : goal.returns-in_err-act
 returns-in_err-act c rows none stores =
     let p = err_from_is_err_and c.from_residual.result c.from_residual.ensures.1 in
