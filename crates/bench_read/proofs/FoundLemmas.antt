@@ -82,10 +82,10 @@ module _ (row : Row) (outs old_uses new_uses : List (List ℕ)) where
           (refused name.now (Arity row.at))
   by_head (head.Memory word out_count address_count word_count) form (names, enable, address, words, is, found, addresses, datas, added) =
       rw (is, found.counted, addresses, datas) (by_test _ (λ _. by_test _ (λ allowed.
-        let bits = memory_bits (length (all_of address)) (length (all_of words)) (length (all_of names)) allowed in
-        says_line [] (lines.Memory (all_of names) enable (all_of address) (all_of words))
-        (found.added (omega (arith, bits.few_words, bits.outputs_are, found.counted)))
-        (append-nil new_uses ∙ added (omega (arith, bits.few_address, addresses)) (omega (arith, bits.few_words, datas)))
+      let bits = memory_bits (length (all_of address)) (length (all_of words)) (length (all_of names)) allowed in
+      says_line [] (lines.Memory (all_of names) enable (all_of address) (all_of words))
+      (found.added (omega (arith, bits.few_words, bits.outputs_are, found.counted)))
+      (append-nil new_uses ∙ added (omega (arith, bits.few_address, addresses)) (omega (arith, bits.few_words, datas)))
       ) (refused [] (Arity row.at))) (refused [] (UnknownKind row.at)))
 
   -- a row says a line that does what its head does, or has the same fault

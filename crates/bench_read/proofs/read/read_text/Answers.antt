@@ -13,7 +13,7 @@ pub returns-in_err-draft : goal.returns-in_err-draft
 unfolding first_fault
 returns-in_err-draft c =
     let p = err_from_is_err_and c.from_residual-in_err-draft.result c.from_residual-in_err-draft.ensures.1 in
-    rw (p.1, p.2, c.in_ok-check_bytes.ensures) (elim c.in_err-draft.ensures [ | inl memory ↦ inl memory | inr fault ↦ inr (rw fault refl) ])
+    rw (p.1, p.2, c.in_ok-check_bytes.ensures) (elim c.in_err-draft.ensures [ inl memory ↦ inl memory | inr fault ↦ inr (rw fault refl) ])
 
 pub returns : goal.returns
 unfolding first_fault
