@@ -1,81 +1,71 @@
 -- The draft of a text.
-use Rattle.std.proofs.Common.{◌≡◌, ℕ, ◌+◌, ◌≤◌, List, [], ◌∷◌, ◌++◌, append_assoc, append-nil, length, length-append, map, drop, Some, None, sym, ap, ◌∙◌, subst, refl, arith}
-use Rattle.std.specs.List.{enumerate_from}
-use Rattle.std.proofs.lemmas.List.{take_at, drop_at}
+use Rattle.std.proofs.Common.{◌≡◌, ℕ, List, [], ◌∷◌, ◌++◌, append_assoc, append-nil, length, length-append, map, None, sym, ap, ◌∙◌, refl, arith, ◌+◌}
+use Rattle.std.proofs.lemmas.List.{take_at, drop_at, length-map, map-append}
 use Rattle.std.proofs.lemmas.List.Elements.{filter-append}
-use Rattle.limits.specs.declared.TheConstants.{MAX_OPERANDS, MAX_SIGNALS}
-use Rattle.text_lines.specs.Lines.{parts_of}
 use Rattle.bench_line.specs.Rows.{Row, row_of, is_some, rows_of, rows_in}
-use Rattle.bench_read.specs.declared.refusal.BenchNo.{BenchNo}
 use Rattle.bench_read.specs.declared.draft.Draft.{Draft}
-use Rattle.bench_read.specs.Lines.{Line, Gate, Memory, driven, used, all_driven, all_used, operand_count}
-use Rattle.bench_read.specs.Placed.{Placed, lines_at, placed_of}
-use Rattle.bench_read.specs.Faults.{row_fault, rows_fault}
-use Rattle.bench_read.specs.Drafts.{driven_count, used_count, line_by, lines_by}
-use Rattle.bench_read.specs.Drafting.{driven_names, placed_in, IsDraftOf}
-use Rattle.bench_read.specs.Storing.{act_of, statement_of, Stores}
-use Rattle.bench_read.specs.Reads.{AreOnce}
-use Rattle.text_lines.proofs.AnswerLemmas.{first-zero}
-use Rattle.bench_read.proofs.FirstLemmas.{first_stays}
+use Rattle.bench_read.specs.declared.draft.Statement.{Statement}
+use Rattle.bench_read.specs.Lines.{Line, Gate, Memory, driven, used, all_driven, all_used, operands, operand_count}
+use Rattle.bench_read.specs.Placed.{Placed, lines_at, placed_of, each_named, drivers_of}
+use Rattle.bench_read.specs.Faults.{rows_fault, twice_fault, limit_fault, many_fault, line_fault}
+use Rattle.bench_read.specs.Drafts.{lines_by}
+use Rattle.bench_read.specs.Drafting.{driven_names, placed_in, IsDraftOf, used_names}
+use Rattle.bench_read.specs.Storing.{act_of, statement_of, Stores, operands_by, named_by, names_by, IsFound}
 use Rattle.bench_read.proofs.TwiceLemmas.{names_in, names_same}
-use Rattle.bench_read.proofs.RowLemmas.{names_driven, AreSaid, rows_none}
+use Rattle.bench_read.proofs.RowLemmas.{names_driven, rows_none, drivers_push, operands_push, placed_push, rows_push}
+use Rattle.std.specs.Option.{option_or}
+use Rattle.std.proofs.lemmas.List.Concat.{flat_map-append}
+use Rattle.bench_read.specs.declared.draft.Act.{Act}
+
+operands_same : (line : Line) → operands_by (act_of line) ≡ length (operands line)
+operands_same (Memory outs enable address words) = omega (arith, length-append address words)
+operands_same line = refl
+
+-- ---- a draft that stores one more row
+
+module _ (rows : List Row) (row : Row) (none : rows_fault rows ≡ None) (old : Draft) (which : Act) (driven_names new_uses : List (List ℕ)) (stores : Stores old (placed_of rows)) (found : IsFound row which driven_names (used_names old) new_uses) where
+  abbrev placed : Placed
+  placed = record { at = row.at; line = found.line }
+
+  drivers_now : drivers_of (placed_of rows ++ placed ∷ []) ≡ map named_by old.drivers ++ each_named row.at driven_names
+  drivers_now = rw (drivers_push (placed_of rows) placed, stores.drivers, found.drives) refl
+
+  operands_now : operand_count (lines_at (placed_of rows ++ placed ∷ [])) ≡ old.operands + operands_by which
+  operands_now = rw (operands_push (placed_of rows) placed, stores.operands, found.does, operands_same found.line) refl
+
+  -- a name is driven twice, or there are too many
+  pub fault_is : rows_fault (rows ++ row ∷ []) ≡ option_or (twice_fault (map named_by old.drivers) (each_named row.at driven_names))
+      (limit_fault row.at (length (map named_by old.drivers ++ each_named row.at driven_names)) (old.operands + operands_by which))
+  unfolding line_fault many_fault
+  fault_is =
+      rw (rows_push rows row, none, found.says, ← names_driven (placed_of rows ++ placed ∷ []), length-map, drivers_now, operands_now, stores.drivers, found.drives) refl
+
+  pub stores_more : (new : Draft) → map named_by new.drivers ≡ map named_by old.drivers ++ each_named row.at driven_names → new.operands ≡ old.operands + operands_by which
+      → new.statements ≡ old.statements ++ record { act = which; at = row.at } ∷ [] → used_names new ≡ new_uses → new.names ≡ names_by new.drivers → Stores new (placed_of (rows ++ row ∷ []))
+  unfolding all_used
+  stores_more new drivers operands statements uses names = rw (placed_push rows row found.line found.says) (record {
+    statements = rw (statements, stores.statements, found.does, map-append) refl;
+    drivers = drivers ∙ sym drivers_now;
+    uses = rw (uses, found.uses, stores.uses) (simp (map-append, flat_map-append, append-nil) refl);
+    names = names;
+    operands = operands ∙ sym operands_now;
+  })
 
 -- ---- what a draft stores is in it
 
--- a line by its act and its names, whatever names follow
-record IsBack (line : Line) (driven_names used_names : List (List ℕ)) : Type 0 where
-  pub same : line_by (act_of line) (driven line ++ driven_names) (used line ++ used_names) ≡ line
-  pub driven_left : drop (driven_count (act_of line)) (driven line ++ driven_names) ≡ driven_names
-  pub used_left : drop (used_count (act_of line)) (used line ++ used_names) ≡ used_names
-
-is_back : (line : Line) (ds us : List (List ℕ)) → IsBack line ds us
-is_back (Gate name kind uses) ds us =
-    record { same = ap (Gate name kind) (take_at uses us (length uses) refl); driven_left = refl; used_left = drop_at uses us (length uses) refl }
-is_back (Memory outs enable address words) ds us =
-    record {
-      same = rw (
-        take_at outs ds (length outs) refl,
-        append_assoc address words us,
-        take_at address (words ++ us) (length address) refl,
-        drop_at address (words ++ us) (length address) refl,
-        take_at words us (length words) refl,
-      ) refl;
-      driven_left = drop_at outs ds (length outs) refl;
-      used_left = drop_at (enable ∷ (address ++ words)) us (1 + (length address + length words)) (omega (arith, length-append address words));
-    }
-is_back line ds us = record { same = refl; driven_left = refl; used_left = refl }
+-- a line by its act and its names, before the lines that follow
+line_back : (at : ℕ) (line : Line) (statements : List Statement) (ds us : List (List ℕ)) (rest : List Placed) → lines_by statements ds us ≡ rest
+    → lines_by (record { act = act_of line; at = at } ∷ statements) (driven line ++ ds) (used line ++ us) ≡ record { at = at; line = line } ∷ rest
+unfolding lines_by
+line_back at (Gate name kind uses) statements ds us rest is = rw (take_at uses us (length uses) refl, drop_at uses us (length uses) refl, is) refl
+line_back at (Memory outs enable address words) statements ds us rest is =
+    grind (arith, take_at, drop_at, append_assoc, length-append, is)
+line_back at line statements ds us rest is = rw is refl
 
 lines_back : (lines : List Placed) → lines_by (map statement_of lines) (all_driven (lines_at lines)) (all_used (lines_at lines)) ≡ lines
 unfolding all_driven all_used lines_by
 lines_back [] = refl
-lines_back (placed ∷ lines) =
-    let back = is_back placed.line (all_driven (lines_at lines)) (all_used (lines_at lines)) in
-    rw (back.same, back.driven_left, back.used_left, lines_back lines) refl
-
-module _ (draft : Draft) (lines : List Placed) (stores : Stores draft lines) where
-  driven_are : driven_names draft ≡ all_driven (lines_at lines)
-  driven_are = sym (names_same draft.drivers) ∙ ap names_in stores.drivers ∙ names_driven lines
-
-  placed_are : placed_in draft ≡ lines
-  placed_are = rw (stores.statements, driven_are, stores.uses) (lines_back lines)
-
--- the draft of rows without a fault
-draft_of : (rows : List Row) (draft : Draft) → Stores draft (placed_of rows) → AreSaid rows → IsDraftOf rows draft
-draft_of rows draft stores said =
-    let lines = placed_of rows in
-    let placed = placed_are draft lines stores in
-    let driven = driven_are draft lines stores in
-    record {
-      whole = record {
-        drives = ap (λ ps. all_driven (lines_at ps)) placed ∙ sym driven;
-        uses = ap (λ ps. all_used (lines_at ps)) placed ∙ sym stores.uses;
-        names = stores.names;
-        once = subst AreOnce (sym driven) said.fine.once;
-        few_signals = subst (λ names. length names ≤ MAX_SIGNALS) (sym driven) said.fine.few_signals;
-        few_operands = subst (λ ps. operand_count (lines_at ps) ≤ MAX_OPERANDS) (sym placed) said.fine.few_operands;
-      };
-      said = placed;
-    }
+lines_back (placed ∷ lines) = line_back placed.at placed.line _ _ _ lines (lines_back lines)
 
 -- ---- line by line
 
@@ -86,27 +76,29 @@ pub record HasRead (text : List ℕ) (left : List (ℕ × List ℕ)) (draft : Dr
   pub no_fault : rows_fault done ≡ None
   pub stores : Stores draft (placed_of done)
 
-pub read_none : (text : List ℕ) (left : List (ℕ × List ℕ)) (draft : Draft) → left ≡ enumerate_from 1 (parts_of text) → Stores draft [] → HasRead text left draft
-unfolding rows_of rows_fault placed_of
-read_none text left draft all stores = record { done = []; rows = ap rows_in (sym all); no_fault = first-zero _; stores = stores }
-
-pub few_operands : {text : List ℕ} {left : List (ℕ × List ℕ)} {draft : Draft} → HasRead text left draft → draft.operands ≤ MAX_OPERANDS
-few_operands read = subst (λ n. n ≤ MAX_OPERANDS) (sym read.stores.operands) ((rows_none read.done).0 read.no_fault).fine.few_operands
-
-module _ (text : List ℕ) (now left : List (ℕ × List ℕ)) (draft : Draft) (line : ℕ × List ℕ) (read : HasRead text now draft) (next : now ≡ line ∷ left) where
-  seam : rows_of text ≡ (read.done ++ rows_in (line ∷ [])) ++ rows_in left
-  seam = rw (read.rows, next, append_assoc, sym (filter-append is_some (row_of line ∷ []) (map row_of left))) refl
-
-  pub read_more : (new : Draft) → rows_fault (read.done ++ rows_in (line ∷ [])) ≡ None → Stores new (placed_of (read.done ++ rows_in (line ∷ []))) → HasRead text left new
-  read_more new none stores = record { done = read.done ++ rows_in (line ∷ []); rows = seam; no_fault = none; stores = stores }
-
-  pub read_fault : (e : BenchNo) → rows_fault (read.done ++ rows_in (line ∷ [])) ≡ Some e → rows_fault (rows_of text) ≡ Some e
-  unfolding rows_fault
-  read_fault e fault = ap rows_fault seam ∙ first_stays (λ front. row_fault (placed_of front)) e (read.done ++ rows_in (line ∷ [])) (rows_in left) fault
+-- the rows with those of the next line
+pub seam : (text : List ℕ) (now left : List (ℕ × List ℕ)) (draft : Draft) (line : ℕ × List ℕ) (read : HasRead text now draft) → now ≡ line ∷ left
+    → rows_of text ≡ (read.done ++ rows_in (line ∷ [])) ++ rows_in left
+seam text now left draft line read next = rw (read.rows, next, append_assoc, sym (filter-append is_some (row_of line ∷ []) (map row_of left))) refl
 
 pub read_all : (text : List ℕ) (left : List (ℕ × List ℕ)) (draft : Draft) → HasRead text left draft → left ≡ [] → (rows_fault (rows_of text) ≡ None) × IsDraftOf (rows_of text) draft
 read_all text left draft read over =
-    let whole : read.done ≡ rows_of text = sym (read.rows ∙ ap (λ ls. read.done ++ rows_in ls) over ∙ append-nil read.done) in (
-      subst (λ rows. rows_fault rows ≡ None) whole read.no_fault,
-      subst (λ rows. IsDraftOf rows draft) whole (draft_of read.done draft read.stores ((rows_none read.done).0 read.no_fault)),
+    let lines = placed_of read.done in
+    let fine = ((rows_none read.done).0 read.no_fault).1 in
+    let stores = read.stores in
+    let driven : driven_names draft ≡ all_driven (lines_at lines) = sym (names_same draft.drivers) ∙ ap names_in stores.drivers ∙ names_driven lines in
+    let placed : placed_in draft ≡ lines = rw (stores.statements, driven, stores.uses) (lines_back lines) in
+    rw (read.rows, over, append-nil) (
+      read.no_fault,
+      record {
+        whole = record {
+          drives = rw (placed, driven) refl;
+          uses = rw (placed, stores.uses) refl;
+          names = stores.names;
+          once = rw driven fine.0;
+          few_signals = rw driven fine.1.0;
+          few_operands = rw placed fine.1.1;
+        };
+        said = placed;
+      },
     )

@@ -1,13 +1,13 @@
 -- The line that a row says, by its head and the word and numbers in it.
-use Rattle.std.proofs.Common.{◌≡◌, ℕ, ◌≤◌, Bool, true, false, cond, eqb, List, [], ◌∷◌, ◌++◌, append-nil, length, Option, Some, None, Result, Ok, Err, sym, ap, ◌∙◌, subst, refl, arith}
-use Rattle.std.specs.Prelude.{MatchResult, codes}
+use Rattle.std.proofs.Common.{◌≡◌, ℕ, ◌≤◌, Bool, true, false, cond, eqb, List, [], ◌∷◌, ◌++◌, append-nil, length, Option, Some, None, Result, Ok, Err, ap, ◌∙◌, refl, arith}
+use Rattle.std.specs.Prelude.{MatchResult}
 use Rattle.std.proofs.lemmas.Bool.{eqb-true}
 use Rattle.std.proofs.lemmas.List.{nil_from_length}
 use Rattle.limits.specs.declared.TheConstants.{MAX_ADDRESS_BITS, MAX_GATE_OPERANDS, MAX_WORD_BITS}
 use Rattle.logic_four.specs.declared.Kind.{Kind}
 use Rattle.logic_four.specs.declared.Kind.TheVariants as kind
 use Rattle.logic_four.specs.Kinds.{kind_of, allows_operands}
-use Rattle.bench_line.specs.Forms.{Names, all_of, Form}
+use Rattle.bench_line.specs.Forms.{all_of, Form}
 use Rattle.bench_line.specs.Rows.{Row}
 use Rattle.bench_line.specs.Decoding.{form_of}
 use Rattle.bench_line.specs.declared.form.Head.{Head}
@@ -17,10 +17,10 @@ use Rattle.bench_read.specs.declared.refusal.BenchNo.{BenchNo}
 use Rattle.bench_read.specs.declared.refusal.BenchNo.TheVariants.{Syntax, UnknownKind, Arity}
 use Rattle.bench_read.specs.declared.draft.Act.{Act}
 use Rattle.bench_read.specs.declared.draft.Act.TheVariants as act
-use Rattle.bench_read.specs.Lines.{Line}
+use Rattle.bench_read.specs.Lines.{Line, driven, used}
 use Rattle.bench_read.specs.Lines as lines
-use Rattle.bench_read.specs.Saying.{is_word, allows_memory, said_by_gate, said_by_register, said_by_form, said_by, said}
-use Rattle.bench_read.specs.Storing.{act_by_kind, act_by_gate, act_by_head, name_in, driven_by, printed_by, IsFound}
+use Rattle.bench_read.specs.Saying.{allows_memory, said_by_gate, said_by_form, said_by, said}
+use Rattle.bench_read.specs.Storing.{act_by_kind, act_by_head, act_of, name_in, driven_by, printed_by, IsFound}
 
 -- ---- numbers
 
@@ -43,86 +43,53 @@ memory_bits address words outputs e =
 
 -- ---- the line
 
--- a row by what its head does: it says a line that does this, or has the same fault
 module _ (row : Row) (outs old_uses new_uses : List (List ℕ)) where
-  abbrev pub Answers : List ℕ → Result Act BenchNo → Type 0
-  Answers name r =
-      MatchResult r (λ which. IsFound row which (driven_by which (name ∷ []) outs) old_uses (new_uses ++ printed_by which name)) (λ e. said row ≡ Err e)
+  -- where the row says this, it says a line of this act, or has the same fault
+  record Agree (name : List ℕ) (says : Result Line BenchNo) (does : Result Act BenchNo) : Type 0 where
+    answers : said row ≡ says → MatchResult does (λ which. IsFound row which (driven_by which (name ∷ []) outs) old_uses (new_uses ++ printed_by which name)) (λ e. said row ≡ Err e)
 
-  port : (b c : Bool) (name : List ℕ) → new_uses ≡ old_uses
-      → said row ≡ cond b (Ok (lines.Input name)) (cond c (Ok (lines.Output name)) (Err (Syntax row.at)))
-      → Answers name (cond b (Ok act.Input) (cond c (Ok act.Output) (Err (Syntax row.at))))
-  port true c name same says = record { line = lines.Input name; says = says; does = refl; drives = refl; uses = ap (λ us. us ++ []) same }
-  port false true name same says = record { line = lines.Output name; says = says; does = refl; drives = refl; uses = ap (λ us. us ++ name ∷ []) same }
-  port false false name same says = says
+  -- the line drives the one name or the names in its square brackets, and uses those that were added to a list
+  says_line : (name : List ℕ) (line : Line) → driven_by (act_of line) (name ∷ []) outs ≡ driven line → new_uses ++ printed_by (act_of line) name ≡ old_uses ++ used line
+      → Agree name (Ok line) (Ok (act_of line))
+  says_line name line drives uses = record { answers = λ says. record { line = line; says = says; does = refl; drives = drives; uses = uses } }
 
-  module _ (name : List ℕ) (uses : Names) (added : length (all_of uses) ≤ MAX_GATE_OPERANDS → new_uses ≡ old_uses ++ all_of uses) where
-    -- nothing is printed
-    with_uses : length (all_of uses) ≤ MAX_GATE_OPERANDS → new_uses ++ [] ≡ old_uses ++ all_of uses
-    with_uses few = append-nil new_uses ∙ added few
+  refused : (name : List ℕ) (e : BenchNo) → Agree name (Err e) (Err e)
+  refused name e = record { answers = λ says. says }
 
-    register : (c : Bool) → eqb (length (all_of uses)) 1 ≡ c
-        → said row ≡ cond c (Ok (lines.Register name uses.first)) (Err (Arity row.at)) → Answers name (cond c (Ok act.Register) (Err (Arity row.at)))
-    register true one says =
-        let no_others : uses.others ≡ [] = nil_from_length uses.others (omega (arith, eqb-true (length (all_of uses)) 1 one)) in
-        record {
-          line = lines.Register name uses.first;
-          says = says;
-          does = refl;
-          drives = refl;
-          uses = with_uses (omega (arith, eqb-true (length (all_of uses)) 1 one)) ∙ ap (λ others. old_uses ++ uses.first ∷ others) no_others;
-        }
-    register false one says = says
+  by_test : {name : List ℕ} {l m : Result Line BenchNo} {r s : Result Act BenchNo} (b : Bool) → (b ≡ true → Agree name l r) → Agree name m s → Agree name (cond b l m) (cond b r s)
+  by_test true passes fails = passes refl
+  by_test false passes fails = fails
 
-    of_kind : (kind : Kind) (c : Bool) → allows_operands kind (length (all_of uses)) ≡ c
-        → said row ≡ cond c (Ok (lines.Gate name kind (all_of uses))) (Err (Arity row.at)) → Answers name (cond c (Ok (act.Gate kind (length (all_of uses)))) (Err (Arity row.at)))
-    of_kind kind true allowed says =
-        record { line = lines.Gate name kind (all_of uses); says = says; does = refl; drives = refl; uses = with_uses (few_allowed kind (length (all_of uses)) allowed) }
-    of_kind kind false allowed says = says
+  by_head : (h : Head) (form : Form) → HasHead [] outs old_uses new_uses h form → Agree (name_in h) (said_by_form row.at form) (act_by_head row.at h)
+  by_head (head.Port word name) form (is, _, same) =
+      rw is (by_test _ (λ _. says_line name.now (lines.Input name.now) refl (rw same refl))
+      (by_test _ (λ _. says_line name.now (lines.Output name.now) refl (rw same refl)) (refused name.now (Syntax row.at))))
+  by_head (head.Gate name word count) form (uses, is, found, _) =
+      rw (is, found.counted) (by_test _ (λ _. by_test _ register (refused name.now (Arity row.at))) (by_kind (kind_of word.now)))
+    where
+      with_uses : length (all_of uses) ≤ MAX_GATE_OPERANDS → new_uses ++ [] ≡ old_uses ++ all_of uses
+      with_uses few = append-nil new_uses ∙ found.added (omega (arith, few, found.counted))
 
-    by_kind : (o : Option Kind) → said row ≡ said_by_gate row.at name uses o → Answers name (act_by_kind row.at (length (all_of uses)) o)
-    by_kind None says = says
-    by_kind (Some kind) says = of_kind kind _ refl says
+      register : eqb (length (all_of uses)) 1 ≡ true → Agree name.now (Ok (lines.Register name.now uses.first)) (Ok act.Register)
+      register is =
+          let one = eqb-true (length (all_of uses)) 1 is in
+          says_line name.now (lines.Register name.now uses.first) refl (rw (with_uses (omega (arith, one)), nil_from_length uses.others (omega (arith, one))) refl)
 
-    gate : (b : Bool) (o : Option Kind) → said row ≡ cond b (said_by_register row.at name uses) (said_by_gate row.at name uses o)
-        → Answers name (cond b (cond (eqb (length (all_of uses)) 1) (Ok act.Register) (Err (Arity row.at))) (act_by_kind row.at (length (all_of uses)) o))
-    gate true o says = register _ refl says
-    gate false o says = by_kind o says
+      by_kind : (o : Option Kind) → Agree name.now (said_by_gate row.at name.now uses o) (act_by_kind row.at (length (all_of uses)) o)
+      by_kind None = refused name.now (UnknownKind row.at)
+      by_kind (Some kind) =
+          by_test _ (λ allowed. says_line name.now (lines.Gate name.now kind (all_of uses)) refl (with_uses (few_allowed kind (length (all_of uses)) allowed)))
+          (refused name.now (Arity row.at))
+  by_head (head.Memory word out_count address_count word_count) form (names, enable, address, words, is, found, addresses, datas, added) =
+      rw (is, found.counted, addresses, datas) (by_test _ (λ _. by_test _ (λ allowed.
+      let bits = memory_bits (length (all_of address)) (length (all_of words)) (length (all_of names)) allowed in
+      says_line [] (lines.Memory (all_of names) enable (all_of address) (all_of words))
+      (found.added (omega (arith, bits.few_words, bits.outputs_are, found.counted)))
+      (append-nil new_uses ∙ added (omega (arith, bits.few_address, addresses)) (omega (arith, bits.few_words, datas)))
+      ) (refused [] (Arity row.at))) (refused [] (UnknownKind row.at)))
 
-  module _ (outs_of : Names) (enable : List ℕ) (address words : Names) where
-    memory : (b c : Bool) → allows_memory (length (all_of address)) (length (all_of words)) (length (all_of outs_of)) ≡ c
-        → (length (all_of outs_of) ≤ MAX_GATE_OPERANDS → outs ≡ all_of outs_of)
-        → (length (all_of address) ≤ MAX_GATE_OPERANDS → length (all_of words) ≤ MAX_GATE_OPERANDS → new_uses ≡ old_uses ++ (enable ∷ (all_of address ++ all_of words)))
-        → said row ≡ cond b (cond c (Ok (lines.Memory (all_of outs_of) enable (all_of address) (all_of words))) (Err (Arity row.at))) (Err (UnknownKind row.at))
-        → Answers [] (cond b (cond c (Ok (act.Memory (length (all_of outs_of)) (length (all_of address)) (length (all_of words)))) (Err (Arity row.at))) (Err (UnknownKind row.at)))
-    memory true true allowed driven uses says =
-        let bits = memory_bits (length (all_of address)) (length (all_of words)) (length (all_of outs_of)) allowed in
-        record {
-          line = lines.Memory (all_of outs_of) enable (all_of address) (all_of words);
-          says = says;
-          does = refl;
-          drives = driven (omega (arith, bits.few_words, bits.outputs_are));
-          uses = append-nil new_uses ∙ uses (omega (arith, bits.few_address)) (omega (arith, bits.few_words));
-        }
-    memory true false allowed driven uses says = says
-    memory false c allowed driven uses says = says
-
-  by_head : (h : Head) (form : Form) → HasHead [] outs old_uses new_uses h form → said row ≡ said_by_form row.at form → Answers (name_in h) (act_by_head row.at h)
-  by_head (head.Port word name) form has says = port (is_word (codes "INPUT") word.now) (is_word (codes "OUTPUT") word.now) name.now has.2 (says ∙ ap (said_by_form row.at) has.0)
-  by_head (head.Gate name word count) form has says =
-      subst (λ n. Answers name.now (act_by_gate row.at word.now n)) (sym has.2.counted)
-      (gate name.now has.0 (λ few. has.2.added (omega (arith, few, has.2.counted))) (is_word (codes "DFF") word.now) (kind_of word.now) (says ∙ ap (said_by_form row.at) has.1))
-  by_head (head.Memory word out_count address_count word_count) form has says =
-      rw (has.5.counted, has.6, has.7) (memory has.0 has.1 has.2 has.3 (is_word (codes "RAM") word.now) _ refl
-      (λ few. has.5.added (omega (arith, few, has.5.counted)))
-      (λ few few_words. has.8 (omega (arith, few, has.6)) (omega (arith, few_words, has.7)))
-      (says ∙ ap (said_by_form row.at) has.4))
-
-  pub by_found : (h : Head) → FoundForm [] outs old_uses new_uses (Some h) (form_of row.pieces) → Answers (name_in h) (act_by_head row.at h)
+  -- a row says a line that does what its head does, or has the same fault
+  pub by_found : (h : Head) (r : Result Act BenchNo) → FoundForm [] outs old_uses new_uses (Some h) (form_of row.pieces) → act_by_head row.at h ≡ r
+      → MatchResult r (λ which. IsFound row which (driven_by which (name_in h ∷ []) outs) old_uses (new_uses ++ printed_by which (name_in h))) (λ e. said row ≡ Err e)
   unfolding said
-  by_found h found = by_head h found.0 found.2 (ap (said_by row.at) found.1)
-
--- a row without a form
-pub no_form : (row : Row) → form_of row.pieces ≡ None → said row ≡ Err (Syntax row.at)
-unfolding said
-no_form row none = ap (said_by row.at) none
+  by_found h r (form, is, has) does = rw (← does) ((by_head h form has).answers (ap (said_by row.at) is))

@@ -16,7 +16,6 @@ mod ReadLemmas
 mod RowLemmas
 mod SaidLemmas
 mod ShapeLemmas
-mod StoreLemmas
 mod TwiceLemmas
 mod UseLemmas
 mod ValidLemmas

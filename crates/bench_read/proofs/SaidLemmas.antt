@@ -1,20 +1,14 @@
 -- What a row says by itself is what it says by its spelling.
-use Rattle.std.proofs.Common.{◌≡◌, Option, Some, None, Result, Ok, sym, ap, ◌∙◌, refl}
+use Rattle.std.proofs.Common.{◌≡◌, Option, Some, None, Result, Ok, refl}
 use Rattle.bench_line.specs.Forms.{Form}
 use Rattle.bench_line.specs.Rows.{Row}
 use Rattle.bench_line.specs.Decoding.{form_of}
-use Rattle.bench_line.proofs.SpellingLemmas.{one_form, form_again, form_spelled}
+use Rattle.bench_line.proofs.SpellingLemmas.{form_again, form_spelled}
 use Rattle.bench_read.specs.Lines.{Line}
-use Rattle.bench_read.specs.Saying.{Says, said_by_form, said_by, said}
+use Rattle.bench_read.specs.Saying.{Says, said_by, said}
 
 pub from_ok : {X E : Type 0} (x y : X) → ◌≡◌ {A = Result X E} (Ok x) (Ok y) → x ≡ y
 from_ok x y e = cc
-
--- a row says one line at most
-pub one_line : (row : Row) (line other : Line) → Says row line → Says row other → line ≡ other
-one_line row line other a b =
-    let same = one_form a.form b.form (sym a.spelling ∙ b.spelling) in
-    from_ok line other (sym a.word ∙ ap (said_by_form row.at) same ∙ b.word)
 
 -- what a row says by itself is what it says by its spelling
 pub says_from_said : (row : Row) (line : Line) → said row ≡ Ok line → Says row line
@@ -26,4 +20,8 @@ says_from_said row line e = by_form (form_of row.pieces) refl e where
 
 pub said_from_says : (row : Row) (line : Line) → Says row line → said row ≡ Ok line
 unfolding said
-said_from_says row line says = ap (said_by row.at) (ap form_of says.spelling ∙ form_again says.form) ∙ says.word
+said_from_says row line says = rw (says.spelling, form_again says.form) says.word
+
+-- a row says one line at most
+pub one_line : (row : Row) (line other : Line) → Says row line → Says row other → line ≡ other
+one_line row line other a b = cc (said_from_says row line a, said_from_says row other b)

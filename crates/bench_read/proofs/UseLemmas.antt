@@ -1,7 +1,6 @@
 -- The names that the lines of a draft drive and use.
-use Rattle.std.proofs.Common.{◌≡◌, ℕ, ◌+◌, ◌-◌, ◌<◌, ◌≤◌, true, false, not, List, [], ◌∷◌, length, take, get_or, Some, None, sym, ap, ◌∙◌, refl, inl, inr, arith, bytes_eq, length-append}
+use Rattle.std.proofs.Common.{◌≡◌, ℕ, ◌+◌, ◌-◌, ◌<◌, ◌≤◌, true, false, not, List, [], ◌∷◌, length, take, get_or, Some, None, sym, ap, ◌∙◌, refl, inl, inr, arith, bytes_eq}
 use Rattle.std.specs.List.{list_any}
-use Rattle.std.specs.Option.{option_map}
 use Rattle.std.proofs.lemmas.Bool.{cases_lt, lt-ltb, le-ltb}
 use Rattle.std.proofs.lemmas.List.{take_all, length-map, get_or-map, get_or_append_left, get_or-append_right}
 use Rattle.list_laws.proofs.Tests.{find_first, find_none, none_more, list_any-map}
@@ -15,42 +14,37 @@ use Rattle.bench_read.specs.Placed.{lines_at, Placed, Named, drivers_of, used_in
 
 -- ---- names with the numbers of their lines
 
-pub uses_length : (lines : List Placed) → length (uses_of lines) ≡ length (all_used (lines_at lines))
-uses_length lines = sym (length-map (uses_of lines) (λ (n : Named). n.name)) ∙ ap length (names_used lines)
+abbrev nothing : Named
+nothing = record { at = 0; name = [] }
 
 -- a use and the line that it stands in
-pub use_at : (lines : List Placed) (i : ℕ) (d : Named) → i < length (uses_of lines) → get_or (uses_of lines) i d ≡ record { at = line_of_use lines i; name = get_or (all_used (lines_at lines)) i [] }
+use_at : (lines : List Placed) (i : ℕ) → get_or (uses_of lines) i nothing ≡ record { at = line_of_use lines i; name = get_or (all_used (lines_at lines)) i [] }
 unfolding uses_of all_used line_of_use
-use_at [] i d within = absurd (omega arith)
-use_at (placed ∷ lines) i d within =
-    let n = length (used placed.line) in
-    let same = length-map (used placed.line) (λ name. named placed.at name) in
-    elim (cases_lt i n) [
+use_at [] i = refl
+use_at (placed ∷ lines) i =
+    let named : List ℕ → Named = λ name. record { at = placed.at; name = name } in
+    let same = length-map (used placed.line) named in
+    elim (cases_lt i (length (used placed.line))) [
       | inl below ↦
-          rw (get_or_append_left (used_in placed) (uses_of lines) d i (omega arith), get_or-map (named placed.at) (used placed.line) i [] d below, lt-ltb i n below, get_or_append_left (used placed.line) (all_used (lines_at lines)) [] i below) refl
+          let first : i < length (used_in placed) = omega arith in
+          rw (get_or_append_left, get_or-map named (used placed.line) i [] nothing below, lt-ltb i _ below, get_or_append_left) refl
       | inr past ↦
-          rw (get_or-append_right (used_in placed) (uses_of lines) n i d same past, use_at lines (i - n) d (omega (arith, length-append (used_in placed) (uses_of lines), same)), le-ltb i n past, get_or-append_right (used placed.line) (all_used (lines_at lines)) n i [] refl past) refl
+          rw (get_or-append_right (used_in placed) (uses_of lines) _ i nothing same past, use_at lines (i - length (used placed.line)), le-ltb i _ past, get_or-append_right (used placed.line) (all_used (lines_at lines)) _ i [] refl past) refl
     ]
-  where
-    named : ℕ → List ℕ → Named
-    named at name = record { at = at; name = name }
 
 -- ---- the first use that nothing drives
 
 -- lines that drive these names and use those, of which none before place i is driven by nothing
 module _ (lines : List Placed) (names uses : List (List ℕ)) (drives : all_driven (lines_at lines) ≡ names) (used_are : all_used (lines_at lines) ≡ uses) where
   amount : length (uses_of lines) ≡ length uses
-  amount = uses_length lines ∙ ap length used_are
+  amount = rw (← used_are, ← names_used lines) (sym (length-map (uses_of lines) (λ (n : Named). n.name)))
 
   module _ (i : ℕ) (name : List ℕ) (within : i < length uses) (is : get_or uses i [] ≡ name) (before : list_any (is_undriven (drivers_of lines)) (take i (uses_of lines)) ≡ false) where
-    nothing : Named
-    nothing = record { at = 0; name = [] }
-
     here : get_or (uses_of lines) i nothing ≡ record { at = line_of_use lines i; name = name }
-    here = rw (use_at lines i nothing (omega (arith, within, amount)), used_are, is) refl
+    here = rw (use_at lines i, used_are, is) refl
 
     undriven_here : is_undriven (drivers_of lines) (get_or (uses_of lines) i nothing) ≡ not (list_any (bytes_eq name) names)
-    undriven_here = rw (here, sym (list_any-map (bytes_eq name) (λ (n : Named). n.name) (drivers_of lines)), names_driven lines, drives) refl
+    undriven_here = rw (here, ← list_any-map (bytes_eq name) (λ (n : Named). n.name) (drivers_of lines), names_driven lines, drives) refl
 
     pub first_undriven : {place : ℕ} {e : BenchNo} → list_any (bytes_eq name) names ≡ false → place ≡ i → e ≡ Undriven name (line_of_use lines place) → uses_fault lines ≡ Some e
     unfolding uses_fault
@@ -62,7 +56,4 @@ module _ (lines : List Placed) (names uses : List (List ℕ)) (drives : all_driv
 
   pub none_undriven : (i : ℕ) → length uses ≤ i → list_any (is_undriven (drivers_of lines)) (take i (uses_of lines)) ≡ false → uses_fault lines ≡ None
   unfolding uses_fault
-  none_undriven i past none =
-      ap (option_map (λ (n : Named). Undriven n.name n.at))
-      (find_none (is_undriven (drivers_of lines)) (uses_of lines)
-      (ap (list_any (is_undriven (drivers_of lines))) (sym (take_all i (uses_of lines) (omega (arith, past, amount)))) ∙ none))
+  none_undriven i past none = rw (find_none (is_undriven (drivers_of lines)) (uses_of lines) (rw (take_all i (uses_of lines) (omega (arith, past, amount))) at none)) refl

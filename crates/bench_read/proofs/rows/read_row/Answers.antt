@@ -1,42 +1,35 @@
-use Rattle.std.proofs.Common.{◌+◌, inl, inr, ⊎_elim, ap, ◌∙◌, refl}
+use Rattle.std.proofs.Common.{◌+◌, inl, inr, ap, refl}
+use Rattle.std.proofs.lemmas.List.{length-map}
 use Rattle.std.proofs.lemmas.Result.{err_from_is_err_and}
 use Rattle.bench_line.specs.Rows.{row_of}
-use Rattle.bench_read.specs.declared.draft.Draft.{Draft}
-use Rattle.bench_read.proofs.StoreLemmas.{row_refused, twice_here, limits_here, stores_more}
+use Rattle.bench_read.proofs.RowLemmas.{rows_push}
+use Rattle.bench_read.proofs.DraftLemmas.{fault_is, stores_more}
 use Rattle.bench_read.proofs.rows.read_row.Goals as goal
-
-pub drive-requires : goal.drive-requires
-drive-requires c = c.requires.names
 
 pub returns-in_err-act : goal.returns-in_err-act
 returns-in_err-act c rows none stores =
     let p = err_from_is_err_and c.from_residual.result c.from_residual.ensures.1 in
-    rw (p.1, p.2) (⊎_elim inl (λ says. inr (row_refused rows (row_of (c.args.at, c.args.part.now)) none c.in_err-act.field-0.0 says)) c.in_err-act.ensures)
+    rw (p.1, p.2, rows_push, none) (elim c.in_err-act.ensures [ inl memory ↦ inl memory | inr says ↦ inr (rw says refl) ])
 
 pub returns-in_err-drive : goal.returns-in_err-drive
 returns-in_err-drive c rows none stores =
     let p = err_from_is_err_and c.from_residual-in_err-drive.result c.from_residual-in_err-drive.ensures.1 in
     let answers = rw (c.driven_by.ensures, c.as_slice.ensures) at c.in_err-drive.ensures.answers in
-    rw (p.1, p.2) (⊎_elim inl
-    (λ twice. inr (twice_here rows (row_of (c.args.at, c.args.part.now)) none c.args.draft.now c.in_ok-act.act _ _ stores c.in_ok-act.ensures c.in_err-drive.field-0.0 twice))
-    answers)
+    let fault = fault_is rows (row_of (c.args.at, c.args.part.now)) none c.args.draft.now c.in_ok-act.act _ _ stores c.in_ok-act.ensures in
+    rw (p.1, p.2, fault) (elim answers [ inl memory ↦ inl memory | inr twice ↦ inr (rw twice refl) ])
 
 pub returns-in_err-check_limits : goal.returns-in_err-check_limits
 returns-in_err-check_limits c rows none stores =
     let p = err_from_is_err_and c.from_residual-in_err-check_limits.result c.from_residual-in_err-check_limits.ensures.1 in
     let is = rw (c.driven_by.ensures, c.as_slice.ensures) at c.in_ok-drive.ensures.answers in
-    let limits = rw c.len.ensures at c.in_err-check_limits.ensures in
-    rw (p.1, p.2) (inr (limits_here rows (row_of (c.args.at, c.args.part.now)) none c.args.draft.now c.in_ok-act.act _ _ stores c.in_ok-act.ensures
-    (record { statements = c.args.draft.now.statements; drivers = c.drive.new.drivers; uses = c.read_act.new.uses; names = c.drive.new.names; operands = c.args.draft.now.operands + c.operands_by.result })
-    is.0 is.1.1 (ap (λ n. c.args.draft.now.operands + n) c.operands_by.ensures) ∙ limits))
+    let fault = fault_is rows (row_of (c.args.at, c.args.part.now)) none c.args.draft.now c.in_ok-act.act _ _ stores c.in_ok-act.ensures in
+    rw (p.1, p.2) (inr (rw (fault, is.0, ← is.1.1, length-map, ← c.len.ensures, ← c.operands_by.ensures) c.in_err-check_limits.ensures))
 
 pub returns : goal.returns
 returns c rows none stores =
-    let row = row_of (c.args.at, c.args.part.now) in
     let is = rw (c.driven_by.ensures, c.as_slice.ensures) at c.in_ok-drive.ensures.answers in
-    let limits = rw c.len.ensures at c.in_ok-check_limits.ensures in
-    let new : Draft = record { statements = c.push.new.self; drivers = c.drive.new.drivers; uses = c.read_act.new.uses; names = c.drive.new.names; operands = c.args.draft.now.operands + c.operands_by.result } in
-    let counted = ap (λ n. c.args.draft.now.operands + n) c.operands_by.ensures in (
-      limits_here rows row none c.args.draft.now c.in_ok-act.act _ _ stores c.in_ok-act.ensures new is.0 is.1.1 counted ∙ limits,
-      stores_more rows row none c.args.draft.now c.in_ok-act.act _ _ stores c.in_ok-act.ensures new is.0 is.1.1 counted c.in_ok-push.ensures.ok refl is.1.0,
+    let fault = fault_is rows (row_of (c.args.at, c.args.part.now)) none c.args.draft.now c.in_ok-act.act _ _ stores c.in_ok-act.ensures in (
+      rw (fault, is.0, ← is.1.1, length-map, ← c.len.ensures, ← c.operands_by.ensures) c.in_ok-check_limits.ensures,
+      stores_more rows (row_of (c.args.at, c.args.part.now)) none c.args.draft.now c.in_ok-act.act _ _ stores c.in_ok-act.ensures _
+          is.1.1 (ap (λ n. c.args.draft.now.operands + n) c.operands_by.ensures) c.in_ok-push.ensures.ok refl is.1.0,
     )

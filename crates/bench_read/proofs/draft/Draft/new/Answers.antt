@@ -1,6 +1,8 @@
-use Rattle.std.proofs.Common.{refl}
-use Rattle.bench_read.proofs.StoreLemmas.{stores_none}
+use Rattle.std.proofs.Common.{rules}
+use Rattle.bench_read.specs.Lines.{all_used, operand_count}
+use Rattle.bench_read.specs.Placed.{drivers_of}
 use Rattle.bench_read.proofs.draft.Draft.new.Goals as goal
 
 pub returns : goal.returns
-returns c = stores_none _ c.new.ensures c.new-2.ensures c.new-3.ensures c.new-4.ensures refl
+unfolding drivers_of all_used operand_count
+returns c = search rules
