@@ -1,5 +1,5 @@
 -- Forms and their spellings.
-use Rattle.std.proofs.Common.{◌≡◌, ℕ, ◌+◌, ◌<◌, ◌≤◌, length, arith, append_assoc, true, List, [], ◌∷◌, ◌++◌, Option, Some, None, sym, ap, ◌∙◌, refl}
+use Rattle.std.proofs.Common.{◌≡◌, ℕ, ◌+◌, ◌<◌, ◌≤◌, length, arith, append_assoc, true, List, [], ◌∷◌, ◌++◌, Option, Some, sym, ap, ◌∙◌, refl}
 use Rattle.std.specs.Option.{option_map, option_and_then}
 use Rattle.std.proofs.lemmas.Option.{option_and_then_some, same_Some}
 use Rattle.bench_text.specs.declared.token.Mark.TheVariants as mark
@@ -26,10 +26,7 @@ form_again form = simp more_again
 -- ---- from marks and names to the form that they spell
 
 more_is : (pieces : List Piece) (x : List (List ℕ) × List Piece) → take_more pieces ≡ Some x → pieces ≡ commas x.0 ++ x.1
-more_is (Sign mark.Comma ∷ Word name ∷ rest) x e = by_rest (take_more rest) (more_is rest) e where
-  by_rest : (o : Option (List (List ℕ) × List Piece)) → ((y : List (List ℕ) × List Piece) → o ≡ Some y → rest ≡ commas y.0 ++ y.1) → option_map (with_name name) o ≡ Some x → Sign Comma ∷ Word name ∷ rest ≡ commas x.0 ++ x.1
-  by_rest None is g = cc
-  by_rest (Some y) is g = rw (is y refl, sym (same_Some (with_name name y) x g)) refl
+more_is (Sign mark.Comma ∷ Word name ∷ rest) x e = grind (arith, e, more_is rest)
 more_is (Sign mark.Comma ∷ rest) x e = cc
 more_is pieces x e = rw (sym (same_Some ([], pieces) x e)) refl
 
@@ -116,14 +113,9 @@ taken_one {rest = rest} {comma = comma} {after = after} {name = name} {old = old
         counted = omega (arith, has.added.counted, length-append has.names.others (name ∷ []));
         added = λ few. rw (grown (omega arith), has.added.added (omega arith)) (append_assoc old (all_of has.names) (name ∷ []));
       };
-      left = has.left ∙ rw is (both (take_more after));
+      left = has.left ∙ rw is (grind (arith, append_assoc has.names.others (name ∷ [])));
       fits = omega (arith, has.fits, ap length is);
     }
-  where
-    both : (o : Option (List (List ℕ) × List Piece))
-        → option_and_then (with_more has.names) (option_map (with_name name) o) ≡ option_and_then (with_more (record { first = has.names.first; others = has.names.others ++ name ∷ [] })) o
-    both None = refl
-    both (Some taken) = rw (append_assoc has.names.others (name ∷ []) taken.0) refl
 
 -- ---- a memory, part by part
 
