@@ -1,15 +1,15 @@
 -- What is taken off the front of a part, and the pieces of the part.
-use Rattle.std.proofs.Common.{◌≡◌, ℕ, suc, ◌+◌, true, false, List, [], ◌∷◌, length, take, drop, take_all, ◌-◌, ◌≤◌, slice_index, eqb, Some, None, refl, arith, inl, inr, cond}
+use Rattle.std.proofs.Common.{◌≡◌, ℕ, suc, ◌+◌, true, false, List, [], ◌∷◌, length, take, drop, take_all, ◌-◌, ◌≤◌, slice_index, eqb, Some, None, refl, arith, cond}
 use Rattle.std.specs.List.{prefix_len, take_while}
 use Rattle.std.proofs.lemmas.List.{length-drop}
-use Rattle.std.proofs.lemmas.Bool.{ne_eqb, cases_Bool}
+use Rattle.std.proofs.lemmas.Bool.{ne_eqb}
 use Rattle.text_lines.specs.Names.{is_name_byte}
 use Rattle.bench_text.specs.Bytes.{sign_of, class_of}
 use Rattle.bench_text.specs.declared.class.Class.{Class}
 use Rattle.bench_text.specs.declared.class.Class.TheVariants as class
 use Rattle.bench_text.proofs.ByteLemmas.{IsOfClass, class_is, named_byte}
 use Rattle.bench_line.specs.Spelling.{Piece, Sign, Word}
-use Rattle.bench_line.specs.Rows.{goes_on, onto_pieces, pieces_of}
+use Rattle.bench_line.specs.Rows.{goes_on, pieces_of}
 use Rattle.bench_text.specs.declared.token.Mark.{Mark}
 use Rattle.bench_line.specs.Decoding.{take_sign, take_word, no_more}
 use Rattle.bench_line.specs.Parts.{is_filler, without_filler, is_this}
@@ -23,18 +23,12 @@ pub name_read : (bytes : List ℕ) → goes_on bytes ≡ true → pieces_of byte
 name_read [] is = cc
 name_read (byte ∷ rest) is =
     let one : 1 + prefix_len is_name_byte rest ≡ suc (prefix_len is_name_byte rest) = omega arith in
-    elim (cases_Bool (goes_on rest)) [
-      | inl more ↦ rw ((named_byte byte is).no_sign, is, one, more, name_read rest more) refl
-      | inr ends ↦ rw ((named_byte byte is).no_sign, is, one, ends, no_name rest ends) refl
-    ]
+    rw ((named_byte byte is).no_sign, is, one) (grind (arith, name_read rest, no_name rest))
 
 -- a part has no more pieces than bytes
 pub pieces_fit : (part : List ℕ) → length (pieces_of part) ≤ length part
 pieces_fit [] = omega arith
-pieces_fit (byte ∷ part) = by_pieces (pieces_of part) (pieces_fit part) where
-  by_pieces : (pieces : List Piece) → length pieces ≤ length part → length (onto_pieces byte (sign_of byte) (goes_on part) pieces) ≤ suc (length part)
-  by_pieces (Word name ∷ pieces) fits = grind (arith, fits)
-  by_pieces pieces fits = grind (arith, fits)
+pieces_fit (byte ∷ part) = grind (arith, pieces_fit part)
 
 -- what is skipped has no pieces, and then comes nothing, a mark or a name
 front_of : (P : List ℕ → List Piece → Type 0) → P [] []
@@ -52,15 +46,12 @@ front_of P none sign name (byte ∷ part) = by_class (class_of byte) (class_is b
   by_class (class.Sign mark) is rest = rw is.sign (sign byte part mark is.sign is.name)
   by_class class is rest = let one : 1 + prefix_len is_filler part ≡ suc (prefix_len is_filler part) = omega arith in rw (is.sign, is.name, one) rest
 
-no_mark : sign_of 0 ≡ None
-unfolding sign_of
-no_mark = refl
-
 -- a mark is taken, where the first piece is this one
 pub sign_taken : (mark : Mark) (part front : List ℕ) → front ≡ without_filler part
     → cond (is_this mark (sign_of (slice_index front 0))) (Some (pieces_of (take (length front - 1) (drop 1 front)))) None ≡ take_sign mark (pieces_of part)
+unfolding sign_of
 sign_taken mark part front is = rw is (front_of
-    (λ front pieces. cond (is_this mark (sign_of (slice_index front 0))) (Some (pieces_of (take (length front - 1) (drop 1 front)))) None ≡ take_sign mark pieces) (rw no_mark refl)
+    (λ front pieces. cond (is_this mark (sign_of (slice_index front 0))) (Some (pieces_of (take (length front - 1) (drop 1 front)))) None ≡ take_sign mark pieces) refl
     (λ byte rest other sign unnamed. rw (sign, take_all (length (byte ∷ rest) - 1) rest (omega arith)) refl)
     (λ byte rest sign named. rw sign refl) part)
 

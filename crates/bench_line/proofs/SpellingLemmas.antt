@@ -1,7 +1,8 @@
 -- Forms and their spellings.
-use Rattle.std.proofs.Common.{◌≡◌, ℕ, ◌+◌, ◌<◌, ◌≤◌, length, arith, append_assoc, true, List, [], ◌∷◌, ◌++◌, Option, Some, None, sym, ap, ◌∙◌, refl}
+use Rattle.std.proofs.Common.{◌≡◌, ℕ, ◌+◌, ◌<◌, ◌≤◌, length, arith, append_assoc, true, List, [], ◌∷◌, ◌++◌, Option, Some, sym, ap, ◌∙◌, refl}
 use Rattle.std.specs.Option.{option_map, option_and_then}
 use Rattle.std.proofs.lemmas.Option.{option_and_then_some, same_Some}
+use Rattle.bench_text.specs.declared.token.Mark.{Mark}
 use Rattle.bench_text.specs.declared.token.Mark.TheVariants as mark
 use Rattle.bench_text.specs.declared.token.Mark.TheVariants.{Open, Close, Comma, Equals, Semi, Left, Right}
 use Rattle.std.proofs.lemmas.List.{length-append}
@@ -26,10 +27,7 @@ form_again form = simp more_again
 -- ---- from marks and names to the form that they spell
 
 more_is : (pieces : List Piece) (x : List (List ℕ) × List Piece) → take_more pieces ≡ Some x → pieces ≡ commas x.0 ++ x.1
-more_is (Sign mark.Comma ∷ Word name ∷ rest) x e = by_rest (take_more rest) (more_is rest) e where
-  by_rest : (o : Option (List (List ℕ) × List Piece)) → ((y : List (List ℕ) × List Piece) → o ≡ Some y → rest ≡ commas y.0 ++ y.1) → option_map (with_name name) o ≡ Some x → Sign Comma ∷ Word name ∷ rest ≡ commas x.0 ++ x.1
-  by_rest None is g = cc
-  by_rest (Some y) is g = rw (is y refl, sym (same_Some (with_name name y) x g)) refl
+more_is (Sign mark.Comma ∷ Word name ∷ rest) x e = grind (arith, e, more_is rest)
 more_is (Sign mark.Comma ∷ rest) x e = cc
 more_is pieces x e = rw (sym (same_Some ([], pieces) x e)) refl
 
@@ -38,9 +36,8 @@ names_are (Word first ∷ pieces) x e =
     option_and_then_some _ (take_more pieces) x e (λ more f g. rw (more_is pieces more f, sym (same_Some (record { first = first; others = more.0 }, more.1) x g)) refl)
 names_are pieces x e = cc
 
-semi_is : (pieces rest : List Piece) → take_sign Semi pieces ≡ Some rest → pieces ≡ Sign Semi ∷ rest
-semi_is (Sign mark.Semi ∷ more) rest e = cc
-semi_is pieces rest e = cc
+sign_is : (m : Mark) (pieces rest : List Piece) → take_sign m pieces ≡ Some rest → pieces ≡ Sign m ∷ rest
+sign_is m pieces rest e = grind (arith, e)
 
 -- a last bracket
 closed_is : (one form : Form) (pieces : List Piece) → closed one pieces ≡ Some form → (pieces ≡ Sign Close ∷ []) × (one ≡ form)
@@ -67,7 +64,7 @@ form_spelled (Sign mark.Left ∷ rest) form e =
     option_and_then_some _ (take_sign Semi address.1) form e3 (λ semi f4 e4.
     option_and_then_some _ (take_names semi) form e4 (λ words f5 e5.
     let end = closed_is (Memory outs.0 head.0.0 head.0.1 address.0 words.0) form words.1 e5 in
-    rw (names_are rest outs f1, head_is outs.1 head f2, names_are head.1 address f3, semi_is address.1 semi f4, names_are semi words f5, end.0, sym end.1) refl)))))
+    rw (names_are rest outs f1, head_is outs.1 head f2, names_are head.1 address f3, sign_is Semi address.1 semi f4, names_are semi words f5, end.0, sym end.1) refl)))))
 form_spelled pieces form e = cc
 
 -- ---- one form, one line
@@ -90,12 +87,7 @@ pub record HasTaken (part rest : List Piece) (old now : List (List ℕ)) (count 
   pub fits : count + length rest ≤ length part
 
 word_is : (pieces : List Piece) (x : List ℕ × List Piece) → take_word pieces ≡ Some x → pieces ≡ Word x.0 ∷ x.1
-word_is (Word name ∷ rest) x e = rw (sym (same_Some (name, rest) x e)) refl
-word_is pieces x e = cc
-
-comma_is : (pieces rest : List Piece) → take_sign Comma pieces ≡ Some rest → pieces ≡ Sign Comma ∷ rest
-comma_is (Sign mark.Comma ∷ more) rest e = cc
-comma_is pieces rest e = cc
+word_is pieces x e = grind (arith, e)
 
 -- the first name
 pub taken_first : {part rest : List Piece} {name : List ℕ} {old : List (List ℕ)} → Some (name, rest) ≡ take_word part
@@ -109,21 +101,16 @@ pub taken_one : {part rest comma after : List Piece} {name : List ℕ} {old now 
     → Some comma ≡ take_sign Comma rest → Some (name, after) ≡ take_word comma → (count < MAX_GATE_OPERANDS → new ≡ now ++ name ∷ [])
     → HasTaken part after old new (count + 1)
 taken_one {rest = rest} {comma = comma} {after = after} {name = name} {old = old} has sign word grown =
-    let is = comma_is rest comma (sym sign) ∙ ap (λ ps. Sign Comma ∷ ps) (word_is comma (name, after) (sym word)) in
+    let is = sign_is Comma rest comma (sym sign) ∙ ap (λ ps. Sign Comma ∷ ps) (word_is comma (name, after) (sym word)) in
     record {
       names = record { first = has.names.first; others = has.names.others ++ name ∷ [] };
       added = record {
         counted = omega (arith, has.added.counted, length-append has.names.others (name ∷ []));
         added = λ few. rw (grown (omega arith), has.added.added (omega arith)) (append_assoc old (all_of has.names) (name ∷ []));
       };
-      left = has.left ∙ rw is (both (take_more after));
+      left = has.left ∙ rw is (grind (arith, append_assoc has.names.others (name ∷ [])));
       fits = omega (arith, has.fits, ap length is);
     }
-  where
-    both : (o : Option (List (List ℕ) × List Piece))
-        → option_and_then (with_more has.names) (option_map (with_name name) o) ≡ option_and_then (with_more (record { first = has.names.first; others = has.names.others ++ name ∷ [] })) o
-    both None = refl
-    both (Some taken) = rw (append_assoc has.names.others (name ∷ []) taken.0) refl
 
 -- ---- a memory, part by part
 

@@ -1,5 +1,5 @@
 -- The marks and names of the rows of a text are its tokens.
-use Rattle.std.proofs.Common.{◌||◌, ◌≡◌, ℕ, zero, suc, ◌+◌, ◌-◌, ◌<◌, ◌≤◌, Bool, true, false, cond, ◌&&◌, not, List, [], ◌∷◌, ◌++◌, length, map, take, drop, get_or, Option, Some, None, sym, refl, inl, inr, ◌⊎◌, arith, append-nil, append_assoc, if◌then◌else◌}
+use Rattle.std.proofs.Common.{◌||◌, ◌≡◌, ℕ, zero, suc, ◌+◌, ◌-◌, ◌<◌, ◌≤◌, Bool, true, false, cond, ◌&&◌, not, List, [], ◌∷◌, ◌++◌, length, map, take, drop, get_or, Option, Some, None, sym, refl, inl, inr, arith, append-nil, append_assoc, if◌then◌else◌}
 use Rattle.std.specs.Option.{option_to_list}
 use Rattle.std.specs.List.{take_while, flat_map, enumerate_from, onto_first}
 use Rattle.std.specs.Str.Lines.{strip_carriage_return}
@@ -83,17 +83,12 @@ behind within after text = if within then [] else if after && goes_on text then 
 
 name_first : (text : List ℕ) → goes_on text ≡ true → line_pieces text ≡ Word (name_at text) ∷ drop 1 (line_pieces text)
 name_first [] is = cc
-name_first (byte ∷ rest) is = let here = named_byte byte is in elim (cases_Bool (goes_on rest)) [
-  | inl more ↦ grind (arith, is, here, more, name_first rest more, take_while-cons is_name_byte byte rest)
-  | inr ends ↦ grind (arith, is, here, ends, no_name rest ends, take_while-cons is_name_byte byte rest)
-]
+name_first (byte ∷ rest) is = grind (arith, is, named_byte byte is, name_first rest, no_name rest, take_while-cons is_name_byte byte rest)
 
-behind_step : (within after : Bool) (byte : ℕ) (text : List ℕ) (class : Class) → IsOfClass byte class → is_line_feed byte ≡ false → (goes_on text ≡ true) ⊎ (goes_on text ≡ false)
+behind_step : (within after : Bool) (byte : ℕ) (text : List ℕ) (class : Class) → IsOfClass byte class → is_line_feed byte ≡ false
     → behind within after (byte ∷ text) ≡ begins within after byte text ++ behind (stays_in_comment within byte) (is_name_byte byte) text
 unfolding stays_in_comment
-behind_step false after byte text class.Name is goes (inl more) = grind (arith, is, more, name_first text more)
-behind_step false after byte text class.Name is goes (inr none) = grind (arith, is, none, no_name text none)
-behind_step within after byte text class is goes more = grind (arith, is, goes)
+behind_step within after byte text class is goes = grind (arith, is, goes, name_first text, no_name text)
 
 -- ---- rows
 
@@ -118,7 +113,7 @@ step_on : (within after : Bool) (k byte : ℕ) (text : List ℕ) (class : Class)
     ≡ at k (begins within after byte text) ++ from_here (stays_in_comment within byte) (is_name_byte byte) (if is_line_feed byte then k + 1 else k) text
 unfolding stays_in_comment
 step_on within after k byte text class.Feed is = grind (arith, is, rows_from (k + 1) text)
-step_on within after k byte text class is = rw (onto_is byte (lines_of text), behind_step within after byte text class is is.feed (cases_Bool (goes_on text)), is.feed, map-append, append_assoc) refl
+step_on within after k byte text class is = rw (onto_is byte (lines_of text), behind_step within after byte text class is is.feed, is.feed, map-append, append_assoc) refl
 
 -- ---- tokens
 

@@ -7,12 +7,11 @@ use Rattle.text_lines.specs.Places.{stays_in_comment, is_comment, line_at, colum
 use Rattle.text_lines.proofs.AnswerLemmas.{first_none, first_some}
 use Rattle.bench_text.specs.declared.scan.Scan.{Scan}
 use Rattle.bench_text.specs.declared.token.TextNo.{TextNo}
-use Rattle.bench_text.specs.declared.class.Class.{Class}
 use Rattle.bench_text.specs.declared.class.Class.TheVariants.{Name}
 use Rattle.bench_text.specs.Bytes.{class_of}
 use Rattle.bench_text.specs.Tokens.{follows_name, begins_name, name_length, token_at, is_bad, fault_at, first_fault}
 use Rattle.bench_text.specs.Scans.{HasPassed, follows_comment, scan_at, scan_after, fault_by, token_by}
-use Rattle.bench_text.proofs.ByteLemmas.{IsOfClass, class_is, named_byte}
+use Rattle.bench_text.proofs.ByteLemmas.{class_is, named_byte}
 
 pub is_comment_step : (text : List ℕ) (i : ℕ) → is_comment text i ≡ stays_in_comment (follows_comment text i) (get_or text i 0)
 unfolding is_comment
@@ -23,10 +22,7 @@ is_comment_step text (suc i) = refl
 pub place_is : (text : List ℕ) (i : ℕ) (scan : Scan) → scan ≡ scan_at text i
     → (fault_by text i scan (class_of (get_or text i 0)) ≡ fault_at text i) × (token_by text i scan (class_of (get_or text i 0)) ≡ token_at text i)
 unfolding fault_at is_bad begins_name is_line_end stays_in_comment token_at
-place_is text i scan at = rw at (by_class (class_of (get_or text i 0)) (class_is (get_or text i 0))) where
-  by_class : (class : Class) → IsOfClass (get_or text i 0) class → (fault_by text i (scan_at text i) class ≡ fault_at text i) × (token_by text i (scan_at text i) class ≡ token_at text i)
-  by_class Name is = (grind (arith, is, is_comment_step text i), grind (arith, is, is_comment_step text i))
-  by_class class is = (grind (arith, is, is_comment_step text i), grind (arith, is, is_comment_step text i))
+place_is text i scan at = rw at (grind (arith, class_is (get_or text i 0), is_comment_step text i), grind (arith, class_is (get_or text i 0), is_comment_step text i))
 
 -- ---- a scan, one place on
 

@@ -139,9 +139,7 @@ module _ (text : List ℕ) (none : (i : ℕ) → i < length text → fault_at te
     | inr here ↦ (n, omega arith, token_begins text n token (omega arith) (none n (omega arith)) (last (token_at text n) here))
   ] where
     last : (o : Option Token) → Contains (option_to_list o) token → o ≡ Some token
-    last None (k, below, is) = absurd (omega arith)
-    last (Some other) (zero, below, is) = ap Some is
-    last (Some other) (suc k, below, is) = absurd (omega arith)
+    last o (k, below, is) = grind (arith, below, is)
 
   in_order : (i j : ℕ) (a b : Token) → BeginsAt text i a → BeginsAt text j b → i < j → token_at text j ≡ Some b → IsBefore a b
   in_order i j a b first second before is = let place : i + (j - i) ≡ j = omega arith in (
