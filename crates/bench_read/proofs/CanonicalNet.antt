@@ -18,7 +18,7 @@ use Rattle.net_defs.specs.Valid.{IsSignal, IsValid, InputsLead, is_input}
 use Rattle.bench_read.specs.Lines.{Line, Output}
 use Rattle.bench_read.specs.Netlists.{input_names, names_of, number, numbers, input_signal, bit_signals, other_signals, printed_names, memories_by, netlist_of}
 use Rattle.bench_read.specs.Written.{names_at, input_line, driver_line, lines_of}
-use Rattle.bench_read.proofs.CutLemmas.{name_is, outs_are, first_of, bit_at, bit_place, IsCut, none_cut, cut_same, next_memory, cut_more, all_cut}
+use Rattle.bench_read.proofs.CutLemmas.{name_is, outs_are, first_of, bit_at, bit_place, IsCut, cut_same, next_memory, cut_more, all_cut}
 use Rattle.bench_read.proofs.NameLemmas.{same_name, same_bytes}
 use Rattle.bench_read.proofs.MadeLemmas.{names_from, made_names}
 
@@ -62,10 +62,10 @@ module _ (net : Netlist) (valid : IsValid net) where
   abbrev drivers_on : List Signal → List Line
   drivers_on signals = flat_map (driver_line net) signals
 
-  -- lines make these signals and the memories from one on, but no inputs and no printed names
-  record AreMade (m : ℕ) (lines : List Line) (xs : List Signal) : Type 0 where
+  -- lines make these signals, where j memories stand before, and the memories from one on, but no inputs and no printed names
+  record AreMade (j m : ℕ) (lines : List Line) (xs : List Signal) : Type 0 where
     pub inputs : flat_map input_names lines ≡ []
-    pub others : other_signals names m lines ≡ xs
+    pub others : other_signals names j lines ≡ xs
     pub printed : flat_map printed_names lines ≡ []
     pub blocks : flat_map (memories_by names) lines ≡ drop m net.blocks
 
@@ -79,34 +79,33 @@ module _ (net : Netlist) (valid : IsValid net) where
       rw (drop_here net.signals s found.0 found.1, found.2, ne_eqb k 0 (λ e. omega (arith, some, e))) (λ i. record { name = name_is net s found.0 found.1 i; driver = driver.BlockBit m k } ∷ later.0 i, later.1)
 
   -- a signal before others
-  step : (s m : ℕ) (name : List ℕ) (drive : Driver) → slice_get net.signals s ≡ Some (record { name = name; driver = drive }) → IsCut net s m
-      → ((j t : ℕ) → s < t → IsCut net t j → AreMade j (drivers_on (drop t net.signals)) (others_of (drop t net.signals)))
-      → AreMade m (drivers_on (record { name = name; driver = drive } ∷ drop (s + 1) net.signals)) (others_of (record { name = name; driver = drive } ∷ drop (s + 1) net.signals))
+  step : (s j m : ℕ) (name : List ℕ) (drive : Driver) → slice_get net.signals s ≡ Some (record { name = name; driver = drive }) → j ≡ m → IsCut net s m
+      → ((i n t : ℕ) → i ≡ n → s < t → IsCut net t n → AreMade i n (drivers_on (drop t net.signals)) (others_of (drop t net.signals)))
+      → AreMade j m (drivers_on (record { name = name; driver = drive } ∷ drop (s + 1) net.signals)) (others_of (record { name = name; driver = drive } ∷ drop (s + 1) net.signals))
   unfolding other_signals
-  step s m name driver.Input at cut next = next m (s + 1) (omega arith) (cut_same net valid s m _ at (λ n k e. cc) cut)
-  step s m name (driver.Gate kind ops) at cut next =
-      let made = next m (s + 1) (omega arith) (cut_same net valid s m _ at (λ n k e. cc) cut) in
-      let none : m + 0 ≡ m = omega arith in
-      record { inputs = made.inputs; others = rw none (λ k. record { name = name; driver = driver.Gate kind (numbers_are ops (valid.drivers s _ at).1 k) } ∷ made.others k); printed = made.printed; blocks = made.blocks }
-  step s m name (driver.Dff op) at cut next =
-      let made = next m (s + 1) (omega arith) (cut_same net valid s m _ at (λ n k e. cc) cut) in
-      let none : m + 0 ≡ m = omega arith in
-      record { inputs = made.inputs; others = rw none (λ k. record { name = name; driver = driver.Dff (number_is op (valid.drivers s _ at) k) } ∷ made.others k); printed = made.printed; blocks = made.blocks }
-  step s m name (driver.BlockBit n (suc bit)) at cut next = absurd (omega (arith, (next_memory net valid s m n (suc bit) cut (valid.drivers s _ at)).1))
-  step s m name (driver.BlockBit n zero) at cut next =
+  step s j m name driver.Input at same cut next = next j m (s + 1) same (omega arith) (cut_same net valid s m _ at (λ n k e. cc) cut)
+  step s j m name (driver.Gate kind ops) at same cut next =
+      let made = next (j + 0) m (s + 1) (omega arith) (omega arith) (cut_same net valid s m _ at (λ n k e. cc) cut) in
+      record { inputs = made.inputs; others = λ k. record { name = name; driver = driver.Gate kind (numbers_are ops (valid.drivers s _ at).1 k) } ∷ made.others k; printed = made.printed; blocks = made.blocks }
+  step s j m name (driver.Dff op) at same cut next =
+      let made = next (j + 0) m (s + 1) (omega arith) (omega arith) (cut_same net valid s m _ at (λ n k e. cc) cut) in
+      record { inputs = made.inputs; others = λ k. record { name = name; driver = driver.Dff (number_is op (valid.drivers s _ at) k) } ∷ made.others k; printed = made.printed; blocks = made.blocks }
+  step s j m name (driver.BlockBit n (suc bit)) at same cut next = absurd (omega (arith, (next_memory net valid s m n (suc bit) cut (valid.drivers s _ at)).1))
+  step s j m name (driver.BlockBit n zero) at same cut next =
       let b = valid.drivers s (record { name = name; driver = driver.BlockBit n zero }) at in
-      let same = sym (next_memory net valid s m n 0 cut b).0 in
-      let at_m : slice_get net.blocks m ≡ Some b.0 = ap (slice_get net.blocks) same ∙ b.1 in
+      let of_m = sym (next_memory net valid s m n 0 cut b).0 in
+      let at_m : slice_get net.blocks m ≡ Some b.0 = ap (slice_get net.blocks) of_m ∙ b.1 in
       let is = valid.memories m b.0 at_m in
       let w = length b.0.word - 1 in
       let first : first_of b.0 ≡ s = omega (arith, (bit_place net valid n 0 s b).0) in
       let count : length b.0.word ≡ suc w = omega (arith, (bit_place net valid n 0 s b).1) in
-      let made = next (m + 1) (s + length b.0.word) (omega (arith, count)) (cut_more net valid s m b.0 cut at_m first) in
+      let made = next (j + 1) (m + 1) (s + length b.0.word) (omega arith) (omega (arith, count)) (cut_more net valid s m b.0 cut at_m first) in
       let tail = bits m b.0 at_m w 1 (s + 1) (s + length b.0.word) (omega arith) (omega (arith, count)) (omega (arith, first)) (omega (arith, count)) in
       rw (b.1, sym tail.1) (record {
         inputs = made.inputs;
-        others = ap (λ os. bit_signals m (names_at net os) ++ other_signals names (m + 1) (drivers_on (drop (s + length b.0.word) net.signals))) (is.outs ∙ (λ k. range_with_len (first k) (count k)))
-            ∙ (λ k. record { name = name_is net s _ at k; driver = driver.BlockBit (same k) 0 } ∷ (ap (λ later. map (λ p. record { name = p.1; driver = driver.BlockBit m p.0 }) (enumerate_from 1 (names_at net (range_with_len (s + 1) w))) ++ later) made.others ∙ tail.0) k);
+        others = ap (λ os. bit_signals j (names_at net os) ++ other_signals names (j + 1) (drivers_on (drop (s + length b.0.word) net.signals))) (is.outs ∙ (λ k. range_with_len (first k) (count k)))
+            ∙ (λ k. record { name = name_is net s _ at k; driver = driver.BlockBit ((same ∙ of_m) k) 0 }
+            ∷ ((λ i. map (λ p. record { name = p.1; driver = driver.BlockBit (same i) p.0 }) (enumerate_from 1 (names_at net (range_with_len (s + 1) w))) ++ made.others i) ∙ tail.0) k);
         printed = made.printed;
         blocks = (λ k. record {
           we = number_is b.0.we is.enable k;
@@ -117,16 +116,16 @@ module _ (net : Netlist) (valid : IsValid net) where
       })
 
   -- the signals from one on, of which there are n at most
-  made_from : (n s m : ℕ) → length net.signals ≤ s + n → IsCut net s m → AreMade m (drivers_on (drop s net.signals)) (others_of (drop s net.signals))
+  made_from : (n s j m : ℕ) → j ≡ m → length net.signals ≤ s + n → IsCut net s m → AreMade j m (drivers_on (drop s net.signals)) (others_of (drop s net.signals))
   unfolding other_signals
-  made_from zero s m few cut =
+  made_from zero s j m same few cut =
       rw (drop_all s net.signals (omega (arith, few))) (record { inputs = refl; others = refl; printed = refl; blocks = sym (all_cut net valid s m cut (omega (arith, few))) })
-  made_from (suc n) s m few cut = elim (cases_lt s (length net.signals)) [
+  made_from (suc n) s j m same few cut = elim (cases_lt s (length net.signals)) [
     | inl inside ↦
         let x = get_or net.signals s (record { name = []; driver = driver.Input }) in
         let at = slice_get-get_or net.signals s (record { name = []; driver = driver.Input }) inside in
-        rw (drop_here net.signals s x at) (step s m x.name x.driver at cut (λ j t later. made_from n t j (omega (arith, few, later))))
-    | inr past ↦ made_from n s m (omega (arith, past)) cut
+        rw (drop_here net.signals s x at) (step s j m x.name x.driver at same cut (λ i k t is later. made_from n t i k is (omega (arith, few, later))))
+    | inr past ↦ made_from n s j m same (omega (arith, past)) cut
   ]
 
   -- ---- all lines
@@ -165,7 +164,7 @@ module _ (net : Netlist) (valid : IsValid net) where
   all_make : Make (lines_of net) net.signals net.printed
   unfolding lines_of
   all_make =
-      let made = made_from (length net.signals) 0 0 (omega arith) (none_cut net valid) in
+      let made = made_from (length net.signals) 0 0 0 refl (omega arith) (λ n k t bit. (λ less. omega arith, λ past. omega arith)) in
       let drivers = drivers_on net.signals in
       let outputs = map (λ s. Output (name_of net s)) net.printed in
       rw (append_assoc (inputs_on net.signals) outputs drivers) (after_inputs (outputs ++ drivers) net.signals valid.inputs_first (after_outputs drivers (others_of net.signals) net.printed valid.printed

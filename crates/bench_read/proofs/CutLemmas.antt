@@ -54,9 +54,6 @@ module _ (net : Netlist) (valid : IsValid net) where
 
   -- ---- the memories before a signal
 
-  pub none_cut : IsCut net 0 0
-  none_cut n k t bit = (λ less. absurd (omega arith), λ past. omega arith)
-
   -- a signal that no memory drives stands in none
   pub cut_same : (s m : ℕ) (signal : Signal) → slice_get net.signals s ≡ Some signal → ((n k : ℕ) → signal.driver ≡ BlockBit n k → ⊥) → IsCut net s m → IsCut net (s + 1) m
   cut_same s m signal at plain cut n k t bit =
