@@ -25,13 +25,12 @@ use Rattle.bench_read.specs.Lines.{used, all_driven, all_used, Output, Memory}
 use Rattle.bench_read.specs.Saying.{Say}
 use Rattle.bench_read.specs.Reads.{AreOnce, Reads}
 use Rattle.bench_read.specs.Written.{lines_of, names_at, input_line, driver_line}
-use Rattle.bench_read.proofs.CanonicalNet.{names_are, netlist_is}
+use Rattle.bench_read.proofs.CanonicalNet.{name_is, outs_are, names_are, netlist_is}
 use Rattle.bench_read.proofs.CanonicalRows.{whole_read, IsWhole}
 use Rattle.bench_read.proofs.NameLemmas.{same_name, same_bytes}
 use Rattle.bench_read.proofs.MadeLemmas.{names_from, made_operands}
 use Rattle.bench_read.proofs.NumberLemmas.{either_order, names_length}
 use Rattle.bench_read.proofs.ShapeLemmas.{canonical_is_written}
-use Rattle.bench_read.proofs.CutLemmas.{name_is, outs_are}
 
 -- ---- the lines
 
