@@ -23,15 +23,14 @@ use Rattle.net_defs.specs.declared.netlist.Driver.{Driver}
 use Rattle.bench_line.specs.Rows.{rows_of}
 use Rattle.bench_read.specs.Lines.{used, all_driven, all_used, Output, Memory}
 use Rattle.bench_read.specs.Saying.{Say}
-use Rattle.bench_read.specs.Reads.{AreOnce, AreAmong, Reads}
+use Rattle.bench_read.specs.Reads.{AreOnce, Reads}
 use Rattle.bench_read.specs.Written.{lines_of, names_at, input_line, driver_line}
-use Rattle.bench_read.proofs.CanonicalNet.{names_are, netlist_is}
+use Rattle.bench_read.proofs.CanonicalNet.{name_is, outs_are, names_are, netlist_is}
 use Rattle.bench_read.proofs.CanonicalRows.{whole_read, IsWhole}
 use Rattle.bench_read.proofs.NameLemmas.{same_name, same_bytes}
 use Rattle.bench_read.proofs.MadeLemmas.{names_from, made_operands}
 use Rattle.bench_read.proofs.NumberLemmas.{either_order, names_length}
 use Rattle.bench_read.proofs.ShapeLemmas.{canonical_is_written}
-use Rattle.bench_read.proofs.CutLemmas.{name_is, outs_are}
 
 -- ---- the lines
 
@@ -89,11 +88,11 @@ names_once (x ∷ signals) differ name =
     let rest = names_once signals (λ s t one other e f same. omega (arith, differ (suc s) (suc t) one other e f same)) name in
     let all = sum_by-cons (λ (n : List ℕ). cond (bytes_eq name n) 1 0) x.name (names_from signals) in
     let none : bytes_eq name x.name ≡ true → count_by (bytes_eq name) (names_from signals) ≡ 0 = λ same.
-        let differs = λ (t : ℕ) (d : Signal) (within : t < length signals) (other : bytes_eq name (get_or signals t d).name ≡ true).
-            differ 0 (suc t) x _ refl (slice_get-get_or signals t d within) (sym (same_name name x.name same) ∙ same_name name _ other)
-        in
-        let others = All-map (λ n. bytes_eq name n ≡ false) (λ (y : Signal). y.name) signals (λ t d within. false_from_ne_true _ (λ other. omega (arith, differs t d within other))) in
-        count_none (bytes_eq name) (names_from signals) (list_any_none (bytes_eq name) (names_from signals) others)
+    let differs = λ (t : ℕ) (d : Signal) (within : t < length signals) (other : bytes_eq name (get_or signals t d).name ≡ true).
+    differ 0 (suc t) x _ refl (slice_get-get_or signals t d within) (sym (same_name name x.name same) ∙ same_name name _ other)
+    in
+    let others = All-map (λ n. bytes_eq name n ≡ false) (λ (y : Signal). y.name) signals (λ t d within. false_from_ne_true _ (λ other. omega (arith, differs t d within other))) in
+    count_none (bytes_eq name) (names_from signals) (list_any_none (bytes_eq name) (names_from signals) others)
     in grind (arith, all, none, rest)
 
 module _ (net : Netlist) (valid : IsValid net) where
@@ -110,14 +109,10 @@ module _ (net : Netlist) (valid : IsValid net) where
       true_from_ne_false _
       (λ none. both_ways _ (none_counted (bytes_eq signal.name) (names_from net.signals) (sym (count_is signal.name) ∙ count_none (bytes_eq signal.name) (all_driven (lines_of net)) none)) some)
 
-  all_among : AreAmong (all_driven (lines_of net)) (all_used (lines_of net))
-  unfolding all_used
-  all_among =
-      let Among : List ℕ → Type 0 = λ name. list_any (bytes_eq name) (all_driven (lines_of net)) ≡ true in
-      all_flat_of Among used (lines_of net) (All-weaker (IsWhole Among) (λ line. All Among (used line)) (λ line is. is.used) (lines_of net) (lines_whole net valid Among is_driven))
-
   pub reads : Reads (canonical_text net) net
+  unfolding all_used
   reads =
+      let Among : List ℕ → Type 0 = λ name. list_any (bytes_eq name) (all_driven (lines_of net)) ≡ true in
       let read = subst (λ text. (byte_fault text ≡ None) × Say (rows_of text) (lines_of net)) (sym (canonical_is_written net)) (whole_read (lines_of net) (lines_whole net valid IsName valid.names)) in
       record {
         lines = lines_of net;
@@ -127,7 +122,8 @@ module _ (net : Netlist) (valid : IsValid net) where
           once = λ name. omega (arith, count_is name, names_once net.signals valid.distinct name);
           few_signals = omega (arith, names_length (lines_of net), ap length (names_are net valid), length-map net.signals (λ (x : Signal). x.name), valid.few_signals);
           few_operands = omega (arith, rw (netlist_is net valid) at (made_operands (lines_of net)), valid.few_operands);
-          driven = all_among;
+          driven = all_flat_of Among used (lines_of net)
+              (All-weaker (IsWhole Among) (λ line. All Among (used line)) (λ line is. is.used) (lines_of net) (lines_whole net valid Among is_driven));
         };
         netlist = sym (netlist_is net valid);
       }

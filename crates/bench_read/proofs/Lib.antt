@@ -1,7 +1,6 @@
 mod CanonicalNet
 mod CanonicalReads
 mod CanonicalRows
-mod CutLemmas
 mod DraftLemmas
 mod FairLemmas
 mod FirstLemmas
