@@ -40,16 +40,13 @@ module _ (lines : List Placed) (names uses : List (List ℕ)) (drives : all_driv
   amount = rw (← used_are, ← names_used lines) (sym (length-map (uses_of lines) (λ (n : Named). n.name)))
 
   module _ (i : ℕ) (name : List ℕ) (within : i < length uses) (is : get_or uses i [] ≡ name) (before : list_any (is_undriven (drivers_of lines)) (take i (uses_of lines)) ≡ false) where
-    here : get_or (uses_of lines) i nothing ≡ record { at = line_of_use lines i; name = name }
-    here = rw (use_at lines i, used_are, is) refl
-
     undriven_here : is_undriven (drivers_of lines) (get_or (uses_of lines) i nothing) ≡ not (list_any (bytes_eq name) names)
-    undriven_here = rw (here, ← list_any-map (bytes_eq name) (λ (n : Named). n.name) (drivers_of lines), names_driven lines, drives) refl
+    undriven_here = rw (use_at, used_are, is, ← list_any-map (bytes_eq name) (λ (n : Named). n.name), names_driven, drives) refl
 
     pub first_undriven : {place : ℕ} {e : BenchNo} → list_any (bytes_eq name) names ≡ false → place ≡ i → e ≡ Undriven name (line_of_use lines place) → uses_fault lines ≡ Some e
     unfolding uses_fault
     first_undriven none at refused =
-        rw (find_first (is_undriven (drivers_of lines)) (uses_of lines) i nothing (omega (arith, within, amount)) before (undriven_here ∙ ap not none), here, refused, at) refl
+        rw (find_first (is_undriven (drivers_of lines)) (uses_of lines) i nothing (omega (arith, within, amount)) before (undriven_here ∙ ap not none), use_at, used_are, is, refused, at) refl
 
     pub driven_more : list_any (bytes_eq name) names ≡ true → list_any (is_undriven (drivers_of lines)) (take (i + 1) (uses_of lines)) ≡ false
     driven_more some = none_more (is_undriven (drivers_of lines)) (uses_of lines) i nothing (omega (arith, within, amount)) before (undriven_here ∙ ap not some)
