@@ -29,7 +29,8 @@ use_at (placed ∷ lines) i =
           let first : i < length (used_in placed) = omega arith in
           rw (get_or_append_left, get_or-map named (used placed.line) i [] nothing below, lt-ltb i _ below, get_or_append_left) refl
       | inr past ↦
-          rw (get_or-append_right (used_in placed) (uses_of lines) _ i nothing same past, use_at lines (i - length (used placed.line)), le-ltb i _ past, get_or-append_right (used placed.line) (all_used (lines_at lines)) _ i [] refl past) refl
+          rw (get_or-append_right (used_in placed) (uses_of lines) _ i nothing same past, use_at lines (i - length (used placed.line)))
+          (rw (le-ltb i _ past, get_or-append_right (used placed.line) (all_used (lines_at lines)) _ i [] refl past) refl)
     ]
 
 -- ---- the first use that nothing drives
