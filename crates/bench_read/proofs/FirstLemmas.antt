@@ -38,10 +38,13 @@ first_stays fault e =
     by_push (λ xs. first_of fault xs ≡ Some e) (λ xs x is. first_push fault xs x ∙ ap (λ o. option_or o (fault xs (Some x))) is)
 
 -- what holds of no members, and with one more where that has no fault, holds where no member has one
-pub none_where : {X E : Type 0} (fault : List X → Option X → Option E) (P : List X → Type 0) → P [] → ((xs : List X) (x : X) → (P xs × (fault xs (Some x) ≡ None)) ↔ P (xs ++ x ∷ [])) → (xs : List X) → first_of fault xs ≡ None ↔ P xs
+pub none_where : {X E : Type 0} (fault : List X → Option X → Option E) (P : List X → Type 0) → P []
+    → ((xs : List X) (x : X) → (P xs × (fault xs (Some x) ≡ None)) ↔ P (xs ++ x ∷ [])) → (xs : List X) → first_of fault xs ≡ None ↔ P xs
 none_where {X} fault P nil step xs = by_push (λ ys. first_of fault ys ≡ None ↔ P ys) more [] xs (λ _. nil, λ _. first-zero _) where
   more : (ys : List X) (y : X) → first_of fault ys ≡ None ↔ P ys → first_of fault (ys ++ y ∷ []) ≡ None ↔ P (ys ++ y ∷ [])
   more ys y before = (
-    λ none. let both = or_none (first_of fault ys) (fault ys (Some y)) (sym (first_push fault ys y) ∙ none) in (step ys y).0 (before.0 both.0, both.1),
+    λ none.
+        let both = or_none (first_of fault ys) (fault ys (Some y)) (sym (first_push fault ys y) ∙ none) in
+        (step ys y).0 (before.0 both.0, both.1),
     λ all. let old = (step ys y).1 all in first_push fault ys y ∙ ap (λ o. option_or o (fault ys (Some y))) (before.1 old.0) ∙ old.1,
   )

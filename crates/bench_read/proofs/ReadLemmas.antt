@@ -65,7 +65,8 @@ uses_none placed =
           rw (← names_driven placed, ← names_used placed) (All-map IsIn name uses (All-weaker _ (λ n. IsIn n.name) (λ n e. same n ∙ not-false _ e) uses each)),
       λ all.
           let each = all_of_map IsIn name uses (rw (names_driven placed, names_used placed) all) in
-          ap (option_map (λ (n : Named). Undriven n.name n.at)) (find_none undriven uses (list_any_none undriven uses (All-weaker (λ n. IsIn n.name) (λ n. undriven n ≡ false) (λ n e. ap not (sym (same n) ∙ e)) uses each))),
+          ap (option_map (λ (n : Named). Undriven n.name n.at))
+          (find_none undriven uses (list_any_none undriven uses (All-weaker (λ n. IsIn n.name) (λ n. undriven n ≡ false) (λ n e. ap not (sym (same n) ∙ e)) uses each))),
     )
 
 -- ---- texts

@@ -18,7 +18,7 @@ use Rattle.bench_read.specs.Lines.{Line, driven, used, operands, all_driven, all
 use Rattle.bench_read.specs.Placed.{Placed, lines_at, said_at, placed_of, each_named, driven_in, drivers_of, uses_of}
 use Rattle.bench_read.specs.Saying.{Says, said}
 use Rattle.bench_read.proofs.SaidLemmas.{says_from_said, said_from_says}
-use Rattle.bench_read.specs.Faults.{twice_fault, limit_fault, many_fault, line_fault, said_fault, row_fault, rows_fault}
+use Rattle.bench_read.specs.Faults.{twice_fault, many_fault, line_fault, said_fault, row_fault, rows_fault}
 use Rattle.bench_read.specs.Reads.{AreOnce}
 use Rattle.bench_read.proofs.FirstLemmas.{none_where, first_push}
 use Rattle.bench_read.proofs.NameLemmas.{once_front}
@@ -52,13 +52,6 @@ operands_push earlier placed = rw map-append (sum_by_push (λ (line : Line). len
 abbrev pub AreFine : List Line → Type 0
 AreFine lines = AreOnce (all_driven lines) × ((length (all_driven lines) ≤ MAX_SIGNALS) × (operand_count lines ≤ MAX_OPERANDS))
 
--- within the limits
-limit_none : (at signals count : ℕ) → limit_fault at signals count ≡ None ↔ ((signals ≤ MAX_SIGNALS) × (count ≤ MAX_OPERANDS))
-limit_none at signals count = (
-  λ none. (grind (arith, nat_tests, none), grind (arith, nat_tests, none)),
-  λ few. grind (arith, nat_tests, few.0, few.1),
-)
-
 -- fine lines are fine with one more that has no fault after them
 fine_push : (earlier : List Placed) (placed : Placed) → (AreFine (lines_at earlier) × (line_fault earlier placed ≡ None)) ↔ AreFine (lines_at (earlier ++ placed ∷ []))
 unfolding line_fault many_fault
@@ -66,17 +59,16 @@ fine_push earlier placed =
     let lines = lines_at (earlier ++ placed ∷ []) in
     let front = drivers_of earlier in
     let mine = driven_in placed in
-    let names : all_driven lines ≡ names_in (front ++ mine) = rw (← names_driven (earlier ++ placed ∷ []), drivers_push) refl in
-    let limits = limit_none placed.at (length (all_driven lines)) (operand_count lines) in (
+    let names : all_driven lines ≡ names_in (front ++ mine) = rw (← names_driven (earlier ++ placed ∷ []), drivers_push) refl in (
       λ old.
           let both = or_none (twice_fault front mine) _ old.1 in
-          (rw names ((twice_none front mine (rw names_driven old.0.0)).0 both.0), limits.0 both.1),
+          (rw names ((twice_none front mine (rw names_driven old.0.0)).0 both.0), (grind (arith, nat_tests, both.1), grind (arith, nat_tests, both.1))),
       λ fine.
           let split = names ∙ map-append (λ named. named.name) front mine in
           let once = once_front (names_in front) (names_in mine) (rw split at fine.0) in
           let signals : length (names_in front) ≤ MAX_SIGNALS = omega (arith, fine.1.0, ap length split, length-append (names_in front) (names_in mine)) in (
             rw (← names_driven earlier) (once, (signals, omega (arith, fine.1.1, operands_push earlier placed))),
-            rw ((twice_none front mine once).1 (rw names at fine.0)) (limits.1 fine.1),
+            rw ((twice_none front mine once).1 (rw names at fine.0)) (grind (arith, nat_tests, fine.1.0, fine.1.1)),
           ),
     )
 

@@ -29,7 +29,8 @@ use_at (placed ∷ lines) i =
           let first : i < length (used_in placed) = omega arith in
           rw (get_or_append_left, get_or-map named (used placed.line) i [] nothing below, lt-ltb i _ below, get_or_append_left) refl
       | inr past ↦
-          rw (get_or-append_right (used_in placed) (uses_of lines) _ i nothing same past, use_at lines (i - length (used placed.line)), le-ltb i _ past, get_or-append_right (used placed.line) (all_used (lines_at lines)) _ i [] refl past) refl
+          rw (get_or-append_right (used_in placed) (uses_of lines) _ i nothing same past, use_at lines (i - length (used placed.line)))
+          (rw (le-ltb i _ past, get_or-append_right (used placed.line) (all_used (lines_at lines)) _ i [] refl past) refl)
     ]
 
 -- ---- the first use that nothing drives
@@ -40,16 +41,13 @@ module _ (lines : List Placed) (names uses : List (List ℕ)) (drives : all_driv
   amount = rw (← used_are, ← names_used lines) (sym (length-map (uses_of lines) (λ (n : Named). n.name)))
 
   module _ (i : ℕ) (name : List ℕ) (within : i < length uses) (is : get_or uses i [] ≡ name) (before : list_any (is_undriven (drivers_of lines)) (take i (uses_of lines)) ≡ false) where
-    here : get_or (uses_of lines) i nothing ≡ record { at = line_of_use lines i; name = name }
-    here = rw (use_at lines i, used_are, is) refl
-
     undriven_here : is_undriven (drivers_of lines) (get_or (uses_of lines) i nothing) ≡ not (list_any (bytes_eq name) names)
-    undriven_here = rw (here, ← list_any-map (bytes_eq name) (λ (n : Named). n.name) (drivers_of lines), names_driven lines, drives) refl
+    undriven_here = rw (use_at, used_are, is, ← list_any-map (bytes_eq name) (λ (n : Named). n.name), names_driven, drives) refl
 
     pub first_undriven : {place : ℕ} {e : BenchNo} → list_any (bytes_eq name) names ≡ false → place ≡ i → e ≡ Undriven name (line_of_use lines place) → uses_fault lines ≡ Some e
     unfolding uses_fault
     first_undriven none at refused =
-        rw (find_first (is_undriven (drivers_of lines)) (uses_of lines) i nothing (omega (arith, within, amount)) before (undriven_here ∙ ap not none), here, refused, at) refl
+        rw (find_first (is_undriven (drivers_of lines)) (uses_of lines) i nothing (omega (arith, within, amount)) before (undriven_here ∙ ap not none), use_at, used_are, is, refused, at) refl
 
     pub driven_more : list_any (bytes_eq name) names ≡ true → list_any (is_undriven (drivers_of lines)) (take (i + 1) (uses_of lines)) ≡ false
     driven_more some = none_more (is_undriven (drivers_of lines)) (uses_of lines) i nothing (omega (arith, within, amount)) before (undriven_here ∙ ap not some)

@@ -27,7 +27,8 @@ pub lines-preserved : goal.lines-preserved
 lines-preserved c =
     let read = c.lines.invariant in
     let is = c.in_ok-read_line.ensures read.done read.no_fault read.stores in
-    record { done = read.done ++ rows_in ((c.in-Some.at, c.in-Some.part.now) ∷ []); rows = seam c.args.text.now _ _ c.lines.draft _ read c.in-Some.ensures.steps; no_fault = is.0; stores = is.1 }
+    let rows = seam c.args.text.now _ _ c.lines.draft (c.in-Some.at, c.in-Some.part.now) read c.in-Some.ensures.steps in
+    record { done = read.done ++ rows_in ((c.in-Some.at, c.in-Some.part.now) ∷ []); rows = rows; no_fault = is.0; stores = is.1 }
 
 pub returns-in_err-read_line : goal.returns-in_err-read_line
 unfolding rows_fault
