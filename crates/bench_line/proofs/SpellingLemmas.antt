@@ -32,8 +32,7 @@ more_is (Sign mark.Comma ∷ rest) x e = cc
 more_is pieces x e = rw (sym (same_Some ([], pieces) x e)) refl
 
 names_are : (pieces : List Piece) (x : Names × List Piece) → take_names pieces ≡ Some x → pieces ≡ listed x.0 ++ x.1
-names_are (Word first ∷ pieces) x e =
-    option_and_then_some _ (take_more pieces) x e (λ more f g. rw (more_is pieces more f, sym (same_Some (record { first = first; others = more.0 }, more.1) x g)) refl)
+names_are (Word first ∷ pieces) x e = grind (arith, e, more_is pieces)
 names_are pieces x e = cc
 
 sign_is : (m : Mark) (pieces rest : List Piece) → take_sign m pieces ≡ Some rest → pieces ≡ Sign m ∷ rest
@@ -41,8 +40,7 @@ sign_is m pieces rest e = grind (arith, e)
 
 -- a last bracket
 closed_is : (one form : Form) (pieces : List Piece) → closed one pieces ≡ Some form → (pieces ≡ Sign Close ∷ []) × (one ≡ form)
-closed_is one form (Sign mark.Close ∷ []) e = (refl, same_Some one form e)
-closed_is one form pieces e = cc
+closed_is one form pieces e = (grind (arith, e), grind (arith, e))
 
 -- `] = WORD ( name ;`
 head_is : (pieces : List Piece) (x : (List ℕ × List ℕ) × List Piece) → take_head pieces ≡ Some x

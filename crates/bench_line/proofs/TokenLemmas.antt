@@ -1,9 +1,8 @@
 -- The marks and names of the rows of a text are its tokens.
-use Rattle.std.proofs.Common.{◌||◌, ◌≡◌, ℕ, zero, suc, ◌+◌, ◌-◌, ◌<◌, ◌≤◌, Bool, true, false, cond, ◌&&◌, not, List, [], ◌∷◌, ◌++◌, length, map, take, drop, get_or, Option, Some, None, sym, refl, inl, inr, arith, append-nil, append_assoc, if◌then◌else◌}
+use Rattle.std.proofs.Common.{◌||◌, ◌≡◌, ℕ, zero, suc, ◌+◌, ◌-◌, ◌<◌, ◌≤◌, Bool, true, false, cond, ◌&&◌, not, List, [], ◌∷◌, ◌++◌, length, map, take, drop, get_or, Option, Some, None, sym, refl, arith, append-nil, append_assoc, if◌then◌else◌}
 use Rattle.std.specs.Option.{option_to_list}
 use Rattle.std.specs.List.{take_while, flat_map, enumerate_from, onto_first}
 use Rattle.std.specs.Str.Lines.{strip_carriage_return}
-use Rattle.std.proofs.lemmas.Bool.{cases_Bool}
 use Rattle.std.proofs.lemmas.List.{map-append, drop_more, drop_all}
 use Rattle.std.proofs.lemmas.List.Sums.{take_while-cons}
 use Rattle.text_lines.specs.Bytes.{is_line_feed, is_hash}
@@ -49,22 +48,20 @@ strip_step byte next line =
     rw last (grind arith)
 
 -- a CR that is the last byte is not read, and nothing stands there
-part_reads : (byte : ℕ) (line : List ℕ) (class : Class) → IsOfClass byte class
-    → (goes_on (part_of (byte ∷ line)) ≡ is_name_byte byte) × (pieces_of (part_of (byte ∷ line)) ≡ cond (is_hash byte) [] (onto_pieces byte (sign_of byte) (goes_on (part_of line)) (pieces_of (part_of line))))
+part_reads : (byte : ℕ) (line : List ℕ) → (goes_on (part_of (byte ∷ line)) ≡ is_name_byte byte)
+    × (pieces_of (part_of (byte ∷ line)) ≡ cond (is_hash byte) [] (onto_pieces byte (sign_of byte) (goes_on (part_of line)) (pieces_of (part_of line))))
 unfolding part_of
-part_reads byte [] class is = (grind (arith, is), grind (arith, is))
-part_reads byte (next ∷ line) class is = rw (strip_step byte next line, take_while-cons (λ b. not (is_hash b)) byte (strip_carriage_return (next ∷ line))) (grind (arith, is), grind (arith, is))
+part_reads byte [] = (grind (arith, class_is byte), grind (arith, class_is byte))
+part_reads byte (next ∷ line) =
+    rw (strip_step byte next line, take_while-cons (λ b. not (is_hash b)) byte (strip_carriage_return (next ∷ line))) (grind (arith, class_is byte), grind (arith, class_is byte))
 
 first_reads : (text : List ℕ) → (goes_on (part_of (first_line text)) ≡ goes_on text) × (pieces_of (part_of (first_line text)) ≡ line_pieces text)
 unfolding part_of
 first_reads [] = (refl, refl)
-first_reads (byte ∷ text) = elim (cases_Bool (is_line_feed byte)) [
-  | inl feed ↦ rw feed (grind (arith, class_is byte), grind (arith, class_is byte))
-  | inr goes ↦
-      let read = part_reads byte (first_line text) (class_of byte) (class_is byte) in
-      let rest = first_reads text in
-      rw (goes, onto_is byte (lines_of text), read.0, read.1, rest.0, rest.1) (refl, grind arith)
-]
+first_reads (byte ∷ text) =
+    let read = part_reads byte (first_line text) in
+    let rest = first_reads text in
+    (grind (arith, class_is byte, onto_is byte (lines_of text), read.0), grind (arith, class_is byte, onto_is byte (lines_of text), read.1, rest.0, rest.1))
 
 -- ---- one byte on
 
