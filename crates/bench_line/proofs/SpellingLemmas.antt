@@ -28,8 +28,7 @@ form_again form = simp more_again
 
 more_is : (pieces : List Piece) (x : List (List ℕ) × List Piece) → take_more pieces ≡ Some x → pieces ≡ commas x.0 ++ x.1
 more_is (Sign mark.Comma ∷ Word name ∷ rest) x e = grind (arith, e, more_is rest)
-more_is (Sign mark.Comma ∷ rest) x e = cc
-more_is pieces x e = rw (sym (same_Some ([], pieces) x e)) refl
+more_is pieces x e = grind (arith, e)
 
 names_are : (pieces : List Piece) (x : Names × List Piece) → take_names pieces ≡ Some x → pieces ≡ listed x.0 ++ x.1
 names_are (Word first ∷ pieces) x e = grind (arith, e, more_is pieces)

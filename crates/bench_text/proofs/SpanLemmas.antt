@@ -136,10 +136,8 @@ module _ (text : List ℕ) (none : (i : ℕ) → i < length text → fault_at te
   found_before zero token within (k, below, is) = absurd (omega arith)
   found_before (suc n) token within has = elim (Contains-append_cases (tokens_before text n) (option_to_list (token_at text n)) token has) [
     | inl before ↦ let found = found_before n token (omega arith) before in (found.0, omega (arith, found.1), found.2)
-    | inr here ↦ (n, omega arith, token_begins text n token (omega arith) (none n (omega arith)) (last (token_at text n) here))
-  ] where
-    last : (o : Option Token) → Contains (option_to_list o) token → o ≡ Some token
-    last o (k, below, is) = grind (arith, below, is)
+    | inr here ↦ (n, omega arith, token_begins text n token (omega arith) (none n (omega arith)) (grind (arith, here.1, here.2)))
+  ]
 
   in_order : (i j : ℕ) (a b : Token) → BeginsAt text i a → BeginsAt text j b → i < j → token_at text j ≡ Some b → IsBefore a b
   in_order i j a b first second before is = let place : i + (j - i) ≡ j = omega arith in (
