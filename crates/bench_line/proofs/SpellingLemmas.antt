@@ -44,7 +44,8 @@ closed_is one form pieces e = (grind (arith, e), grind (arith, e))
 -- `] = WORD ( name ;`
 head_is : (pieces : List Piece) (x : (List ℕ × List ℕ) × List Piece) → take_head pieces ≡ Some x
     → pieces ≡ Sign Right ∷ Sign Equals ∷ Word x.0.0 ∷ Sign Open ∷ Word x.0.1 ∷ Sign Semi ∷ x.1
-head_is (Sign mark.Right ∷ Sign mark.Equals ∷ Word word ∷ Sign mark.Open ∷ Word enable ∷ Sign mark.Semi ∷ rest) x e = rw (sym (same_Some ((word, enable), rest) x e)) refl
+head_is (Sign mark.Right ∷ Sign mark.Equals ∷ Word word ∷ Sign mark.Open ∷ Word enable ∷ Sign mark.Semi ∷ rest) x e =
+    rw (sym (same_Some ((word, enable), rest) x e)) refl
 head_is pieces x e = cc
 
 -- marks and names with a form are its spelling
