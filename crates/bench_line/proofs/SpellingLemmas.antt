@@ -28,8 +28,7 @@ form_again form = simp more_again
 
 more_is : (pieces : List Piece) (x : List (List ℕ) × List Piece) → take_more pieces ≡ Some x → pieces ≡ commas x.0 ++ x.1
 more_is (Sign mark.Comma ∷ Word name ∷ rest) x e = grind (arith, e, more_is rest)
-more_is (Sign mark.Comma ∷ rest) x e = cc
-more_is pieces x e = rw (sym (same_Some ([], pieces) x e)) refl
+more_is pieces x e = grind (arith, e)
 
 names_are : (pieces : List Piece) (x : Names × List Piece) → take_names pieces ≡ Some x → pieces ≡ listed x.0 ++ x.1
 names_are (Word first ∷ pieces) x e = grind (arith, e, more_is pieces)
@@ -45,7 +44,8 @@ closed_is one form pieces e = (grind (arith, e), grind (arith, e))
 -- `] = WORD ( name ;`
 head_is : (pieces : List Piece) (x : (List ℕ × List ℕ) × List Piece) → take_head pieces ≡ Some x
     → pieces ≡ Sign Right ∷ Sign Equals ∷ Word x.0.0 ∷ Sign Open ∷ Word x.0.1 ∷ Sign Semi ∷ x.1
-head_is (Sign mark.Right ∷ Sign mark.Equals ∷ Word word ∷ Sign mark.Open ∷ Word enable ∷ Sign mark.Semi ∷ rest) x e = rw (sym (same_Some ((word, enable), rest) x e)) refl
+head_is (Sign mark.Right ∷ Sign mark.Equals ∷ Word word ∷ Sign mark.Open ∷ Word enable ∷ Sign mark.Semi ∷ rest) x e =
+    rw (sym (same_Some ((word, enable), rest) x e)) refl
 head_is pieces x e = cc
 
 -- marks and names with a form are its spelling

@@ -19,7 +19,7 @@ use Rattle.bench_text.specs.Tokens.{follows_name, name_length, tokens_before, to
 use Rattle.bench_text.proofs.ByteLemmas.{IsOfClass, class_is, named_byte}
 use Rattle.bench_text.proofs.PlaceLemmas.{is_comment_step, place_is}
 use Rattle.bench_line.specs.Spelling.{Piece, Sign, Word}
-use Rattle.bench_line.specs.Rows.{goes_on, onto_pieces, pieces_of, is_some, rows_in, rows_of, placed_pieces, piece_of}
+use Rattle.bench_line.specs.Rows.{Row, goes_on, onto_pieces, pieces_of, is_some, rows_in, rows_of, placed_pieces, piece_of}
 use Rattle.bench_line.proofs.PartLemmas.{no_name}
 
 abbrev name_at : List ℕ → List ℕ
@@ -99,18 +99,21 @@ from_here within after k text = at k (behind within after text) ++ in_rows (k + 
 rows_from : (k : ℕ) (text : List ℕ) → in_rows k (lines_of text) ≡ from_here false false k text
 unfolding part_of
 rows_from k text = by_lines (lines_of text) (first_reads text).1 where
-  by_lines : (lines : List (List ℕ)) → pieces_of (part_of (get_or lines 0 [])) ≡ line_pieces text → in_rows k lines ≡ at k (line_pieces text) ++ in_rows (k + 1) (drop 1 lines)
+  by_lines : (lines : List (List ℕ)) → pieces_of (part_of (get_or lines 0 [])) ≡ line_pieces text
+      → in_rows k lines ≡ at k (line_pieces text) ++ in_rows (k + 1) (drop 1 lines)
   by_lines [] is = rw (sym is) refl
-  by_lines (line ∷ lines) is = rw is (by_pieces (line_pieces text)) where
-    by_pieces : (pieces : List Piece) → flat_map placed_pieces (cond (is_some (record { at = k; pieces = pieces })) (record { at = k; pieces = pieces } ∷ rows_in (enumerate_from (k + 1) (map part_of lines))) (rows_in (enumerate_from (k + 1) (map part_of lines)))) ≡ at k pieces ++ in_rows (k + 1) lines
-    by_pieces [] = refl
-    by_pieces (piece ∷ pieces) = refl
+  by_lines (line ∷ lines) is = rw is (by_pieces (line_pieces text) (rows_in (enumerate_from (k + 1) (map part_of lines)))) where
+    by_pieces : (pieces : List Piece) (rows : List Row) → flat_map placed_pieces (cond (is_some (record { at = k; pieces = pieces })) (record { at = k; pieces = pieces } ∷ rows) rows)
+        ≡ at k pieces ++ flat_map placed_pieces rows
+    by_pieces [] rows = refl
+    by_pieces (piece ∷ pieces) rows = refl
 
 step_on : (within after : Bool) (k byte : ℕ) (text : List ℕ) (class : Class) → IsOfClass byte class → from_here within after k (byte ∷ text)
     ≡ at k (begins within after byte text) ++ from_here (stays_in_comment within byte) (is_name_byte byte) (if is_line_feed byte then k + 1 else k) text
 unfolding stays_in_comment
 step_on within after k byte text class.Feed is = grind (arith, is, rows_from (k + 1) text)
-step_on within after k byte text class is = rw (onto_is byte (lines_of text), behind_step within after byte text class is is.feed, is.feed, map-append, append_assoc) refl
+step_on within after k byte text class is =
+    rw (onto_is byte (lines_of text), behind_step within after byte text class is is.feed, is.feed, map-append, append_assoc) refl
 
 -- ---- tokens
 

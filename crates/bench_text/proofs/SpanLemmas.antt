@@ -92,7 +92,8 @@ name_begins text i within none begins = record {
 token_begins : (text : List ℕ) (i : ℕ) (token : Token) → i < length text → fault_at text i ≡ None → token_at text i ≡ Some token → BeginsAt text i token
 unfolding token_at
 token_begins text i token within none is = by_tests (is_comment text i) refl (sign_of (get_or text i 0)) refl is where
-  by_tests : (inside : Bool) → is_comment text i ≡ inside → (sign : Option Mark) → sign_of (get_or text i 0) ≡ sign → cond inside None (token_of_sign text i sign) ≡ Some token → BeginsAt text i token
+  by_tests : (inside : Bool) → is_comment text i ≡ inside → (sign : Option Mark) → sign_of (get_or text i 0) ≡ sign
+      → cond inside None (token_of_sign text i sign) ≡ Some token → BeginsAt text i token
   by_tests true at sign sign_at is = cc
   by_tests false at (Some mark) sign_at is = subst (BeginsAt text i) (same_Some _ token is) (sign_begins text i mark within at sign_at)
   by_tests false at None sign_at is = let found = cond_some (begins_name text i) _ token is in subst (BeginsAt text i) found.1 (name_begins text i within none found.0)
@@ -136,10 +137,8 @@ module _ (text : List ℕ) (none : (i : ℕ) → i < length text → fault_at te
   found_before zero token within (k, below, is) = absurd (omega arith)
   found_before (suc n) token within has = elim (Contains-append_cases (tokens_before text n) (option_to_list (token_at text n)) token has) [
     | inl before ↦ let found = found_before n token (omega arith) before in (found.0, omega (arith, found.1), found.2)
-    | inr here ↦ (n, omega arith, token_begins text n token (omega arith) (none n (omega arith)) (last (token_at text n) here))
-  ] where
-    last : (o : Option Token) → Contains (option_to_list o) token → o ≡ Some token
-    last o (k, below, is) = grind (arith, below, is)
+    | inr here ↦ (n, omega arith, token_begins text n token (omega arith) (none n (omega arith)) (grind (arith, here.1, here.2)))
+  ]
 
   in_order : (i j : ℕ) (a b : Token) → BeginsAt text i a → BeginsAt text j b → i < j → token_at text j ≡ Some b → IsBefore a b
   in_order i j a b first second before is = let place : i + (j - i) ≡ j = omega arith in (
@@ -162,7 +161,8 @@ module _ (text : List ℕ) (none : (i : ℕ) → i < length text → fault_at te
   unfolding token_at stays_in_comment fault_at is_bad is_line_end
   token_of_byte i within read = by_class (class_of (get_or text i 0)) (class_is (get_or text i 0)) where
     by_class : (class : Class) → IsOfClass (get_or text i 0) class → (k : ℕ) × (token : Token) × (k ≤ i) × (token_at text k ≡ Some token) × (token.from ≤ i) × (i < token.upto)
-    by_class (class.Sign mark) is = (i, record { mark = mark; from = i; upto = i + 1; line = line_at text i }, omega arith, grind (arith, read.0, is.sign), omega arith, omega arith)
+    by_class (class.Sign mark) is =
+        (i, record { mark = mark; from = i; upto = i + 1; line = line_at text i }, omega arith, grind (arith, read.0, is.sign), omega arith, omega arith)
     by_class class.Name is =
         let name = name_of_byte text i within read.0 is.name in
         (name.0, record { mark = Name; from = name.0; upto = name.0 + name_length text name.0; line = line_at text name.0 }, name.1, name.2, name.1, name.3)
