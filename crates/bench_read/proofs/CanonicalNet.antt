@@ -1,27 +1,16 @@
 -- The lines of a valid netlist make that netlist.
 use Rattle.std.proofs.Common.{◌≡◌, inl, inr, ℕ, zero, suc, ◌+◌, ◌<◌, false, List, [], ◌∷◌, ◌++◌, append_assoc, drop, length, map, get_or, slice_get, Some, sym, ap, ◌∙◌, refl, arith, bytes_eq, ◌-◌, ◌≤◌, not}
 use Rattle.std.specs.List.{All, filter, flat_map, enumerate_from, range_with_len}
-use Rattle.std.proofs.lemmas.Bool.{cases_lt, false_from_ne_true, ne_eqb}
+use Rattle.bench_read.proofs.Common.{cases_lt, false_from_ne_true, ne_eqb, position_or_len_is, All-head, All-tail, slice_get-get_or, slice_get_within, prefix_len-map, Netlist, Signal, Block, Driver, name_of, IsSignal}
+use Rattle.bench_read.proofs.Common.{IsValid, InputsLead, is_input, IsMemory, IsDrivable, Line, Output, BlockBit}
 use Rattle.std.proofs.lemmas.List.{drop_all}
-use Rattle.std.proofs.lemmas.List.Sums.{position_or_len_is}
-use Rattle.std.proofs.lemmas.List.Elements.{All-head, All-tail}
-use Rattle.std.proofs.lemmas.Option.{slice_get-get_or, slice_get_within}
 use Rattle.list_laws.proofs.Places.{drop_here, one_there}
-use Rattle.list_laws.proofs.Tests.{prefix_len-map}
-use Rattle.net_defs.specs.declared.netlist.Netlist.{Netlist}
-use Rattle.net_defs.specs.declared.netlist.Signal.{Signal}
-use Rattle.net_defs.specs.declared.netlist.Block.{Block}
-use Rattle.net_defs.specs.declared.netlist.Driver.{Driver}
 use Rattle.net_defs.specs.declared.netlist.Driver.TheVariants as driver
-use Rattle.net_defs.specs.Canonical.{name_of}
-use Rattle.net_defs.specs.Valid.{IsSignal, IsValid, InputsLead, is_input, IsMemory, IsDrivable}
-use Rattle.bench_read.specs.Lines.{Line, Output}
 use Rattle.bench_read.specs.Netlists.{input_names, names_of, number, numbers, input_signal, bit_signals, other_signals, printed_names, memories_by, netlist_of}
 use Rattle.bench_read.specs.Written.{names_at, input_line, driver_line, lines_of}
 use Rattle.bench_read.proofs.NameLemmas.{same_name, same_bytes}
 use Rattle.bench_read.proofs.MadeLemmas.{names_from, made_names}
 use Rattle.list_laws.proofs.Ranges.{range_get, range_at}
-use Rattle.net_defs.specs.declared.netlist.Driver.TheVariants.{BlockBit}
 
 -- the name of a signal
 pub name_is : (net : Netlist) (s : ℕ) (signal : Signal) → slice_get net.signals s ≡ Some signal → name_of net s ≡ signal.name

@@ -1,24 +1,15 @@
 -- The lines of a text, and how much they make.
 use Rattle.std.proofs.Common.{◌≡◌, ℕ, suc, ◌≤◌, Bool, true, false, cond, List, [], ◌∷◌, ◌++◌, length, map, Option, Some, None, Ok, Err, subst, refl, arith}
-use Rattle.std.specs.Prelude.{codes}
+use Rattle.bench_read.proofs.Common.{codes, length-map, length-enumerate_from, Kind, kind_of, AllowsOperands, is_line_feed, Piece, Word, commas, spelled, Row, row_of, is_some, rows_of, BenchNo, Syntax, UnknownKind}
+use Rattle.bench_read.proofs.Common.{Arity, printed_names}
 use Rattle.std.specs.List.{AllByRecursion, flat_map, enumerate_from, onto_first}
-use Rattle.std.proofs.lemmas.List.{length-map}
-use Rattle.std.proofs.lemmas.List.FromFn.{length-enumerate_from}
 use Rattle.std.proofs.lemmas.List.Sums.{length-filter, count_by-le-length}
-use Rattle.logic_four.specs.declared.Kind.{Kind}
-use Rattle.logic_four.specs.Kinds.{kind_of, AllowsOperands}
-use Rattle.text_lines.specs.Bytes.{is_line_feed}
 use Rattle.text_lines.specs.Lines.{lines_of, parts_of}
 use Rattle.text_lines.specs.Names.{IsName}
 use Rattle.bench_line.specs.Forms.{Names, all_of, Form}
 use Rattle.bench_line.specs.Forms as forms
-use Rattle.bench_line.specs.Spelling.{Piece, Word, commas, spelled}
-use Rattle.bench_line.specs.Rows.{Row, row_of, is_some, rows_of}
-use Rattle.bench_read.specs.declared.refusal.BenchNo.{BenchNo}
-use Rattle.bench_read.specs.declared.refusal.BenchNo.TheVariants.{Syntax, UnknownKind, Arity}
 use Rattle.bench_read.specs.Lines.{Line, Input, Output, Gate, Register, Memory, driven}
 use Rattle.bench_read.specs.Saying.{is_word, said_by_register, said_by_gate, said_by_memory, said_by_form, Say}
-use Rattle.bench_read.specs.Netlists.{printed_names}
 use Rattle.bench_read.proofs.FoundLemmas.{AreMemoryBits, memory_bits}
 use Rattle.bench_read.proofs.SaidLemmas.{from_ok}
 use Rattle.bench_read.proofs.WordLemmas.{IsNamed}

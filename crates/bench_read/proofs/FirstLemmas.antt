@@ -1,11 +1,8 @@
 -- The first fault of members that come one after another.
 use Rattle.std.proofs.Common.{◌≡◌, ℕ, zero, suc, ◌<◌, List, [], ◌∷◌, ◌++◌, append_assoc, append-nil, length, take, slice_get, Option, Some, None, sym, ap, ◌∙◌, subst, refl, arith, add-one}
-use Rattle.std.specs.Prelude.{◌↔◌}
-use Rattle.std.specs.Option.{option_or}
-use Rattle.std.proofs.Math.Seq.{take-append_seam}
+use Rattle.bench_read.proofs.Common.{◌↔◌, option_or, take-append_seam, first}
 use Rattle.std.proofs.lemmas.List.{length_push, take-append-le}
 use Rattle.list_laws.proofs.Places.{at_front, seam_at}
-use Rattle.text_lines.specs.Answers.{first}
 use Rattle.text_lines.proofs.AnswerLemmas.{first-zero, first-suc, or_none}
 
 -- what holds of some members, and still with one more, holds with all

@@ -1,25 +1,16 @@
 -- The line that a row says, by its head and the word and numbers in it.
 use Rattle.std.proofs.Common.{◌≡◌, ℕ, ◌≤◌, Bool, true, false, cond, eqb, List, [], ◌∷◌, ◌++◌, append-nil, length, Option, Some, None, Result, Ok, Err, ap, ◌∙◌, refl, arith}
-use Rattle.std.specs.Prelude.{MatchResult}
+use Rattle.bench_read.proofs.Common.{MatchResult, Kind, kind_of, allows_operands, all_of, Form, Row, form_of, BenchNo, Syntax, UnknownKind, Arity, Act, Line, driven, used, allows_memory, said_by_gate, said_by_form}
+use Rattle.bench_read.proofs.Common.{said_by, said}
 use Rattle.std.proofs.lemmas.Bool.{eqb-true}
 use Rattle.std.proofs.lemmas.List.{nil_from_length}
 use Rattle.limits.specs.declared.TheConstants.{MAX_ADDRESS_BITS, MAX_GATE_OPERANDS, MAX_WORD_BITS}
-use Rattle.logic_four.specs.declared.Kind.{Kind}
 use Rattle.logic_four.specs.declared.Kind.TheVariants as kind
-use Rattle.logic_four.specs.Kinds.{kind_of, allows_operands}
-use Rattle.bench_line.specs.Forms.{all_of, Form}
-use Rattle.bench_line.specs.Rows.{Row}
-use Rattle.bench_line.specs.Decoding.{form_of}
 use Rattle.bench_line.specs.declared.form.Head.{Head}
 use Rattle.bench_line.specs.declared.form.Head.TheVariants as head
 use Rattle.bench_line.specs.Heads.{HasHead, FoundForm}
-use Rattle.bench_read.specs.declared.refusal.BenchNo.{BenchNo}
-use Rattle.bench_read.specs.declared.refusal.BenchNo.TheVariants.{Syntax, UnknownKind, Arity}
-use Rattle.bench_read.specs.declared.draft.Act.{Act}
 use Rattle.bench_read.specs.declared.draft.Act.TheVariants as act
-use Rattle.bench_read.specs.Lines.{Line, driven, used}
 use Rattle.bench_read.specs.Lines as lines
-use Rattle.bench_read.specs.Saying.{allows_memory, said_by_gate, said_by_form, said_by, said}
 use Rattle.bench_read.specs.Storing.{act_by_kind, act_by_head, act_of, name_in, driven_by, printed_by, IsFound}
 
 -- ---- numbers

@@ -1,3 +1,4 @@
+mod Common
 mod CanonicalNet
 mod CanonicalReads
 mod CanonicalRows

@@ -1,12 +1,8 @@
 -- The names and operands of what lines make.
 use Rattle.std.proofs.Common.{◌≡◌, ℕ, ◌+◌, ◌≤◌, List, [], ◌∷◌, ◌++◌, length, map, ap, refl, arith}
-use Rattle.std.specs.List.{sum_by, flat_map, enumerate_from}
+use Rattle.bench_read.proofs.Common.{sum_by, flat_map, enumerate_from, map-map, sum_by-append, sum_by-cons, Signal, Block}
 use Rattle.std.proofs.lemmas.List.{map-append, map-id, length-map, length-append}
-use Rattle.std.proofs.lemmas.Simd.{map-map}
-use Rattle.std.proofs.lemmas.List.Sums.{sum_by-append, sum_by-cons}
 use Rattle.list_laws.proofs.Maps.{sum_none_of}
-use Rattle.net_defs.specs.declared.netlist.Signal.{Signal}
-use Rattle.net_defs.specs.declared.netlist.Block.{Block}
 use Rattle.net_defs.specs.declared.netlist.Driver.TheVariants as driver
 use Rattle.net_defs.specs.Valid.{operand_count as driver_operands, memory_operand_count}
 use Rattle.bench_read.specs.Lines.{Line, Memory, operands, operand_count}

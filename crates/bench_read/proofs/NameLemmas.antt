@@ -1,10 +1,7 @@
 -- Names that stand once.
 use Rattle.std.proofs.Common.{◌≡◌, ℕ, true, false, cond, List, [], ◌∷◌, ◌++◌, arith, bytes_eq}
-use Rattle.std.specs.List.{count_by, list_any}
+use Rattle.bench_read.proofs.Common.{count_by, list_any, sum_by-cons, sum_by-append, sum_by_push, count_none, none_counted, AreOnce}
 use Rattle.std.proofs.lemmas.Slice.Eq.{bytes_eq-Decides}
-use Rattle.std.proofs.lemmas.List.Sums.{sum_by-cons, sum_by-append, sum_by_push}
-use Rattle.list_laws.proofs.Tests.{count_none, none_counted}
-use Rattle.bench_read.specs.Reads.{AreOnce}
 
 pub same_name : (a b : List ℕ) → bytes_eq a b ≡ true → a ≡ b
 same_name a b e = grind (arith, bytes_eq-Decides)

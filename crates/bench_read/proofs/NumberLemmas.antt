@@ -1,17 +1,11 @@
 -- The numbers of names, and names in signal order.
 use Rattle.std.proofs.Common.{◌≡◌, ℕ, ◌+◌, ◌<◌, ◌≤◌, true, false, cond, List, [], ◌∷◌, ◌++◌, append_assoc, append-nil, length, get_or, Bool, Some, None, sym, ap, ◌∙◌, subst, refl, arith, bytes_eq, length-append}
-use Rattle.std.specs.List.{sum_by, list_any, flat_map, position, range_with_len}
-use Rattle.std.proofs.lemmas.List.{map-append, map-id, get_or-map}
+use Rattle.bench_read.proofs.Common.{sum_by, list_any, flat_map, position, range_with_len, map-append, map-id, get_or-map, list_any_at, sum_by-append, common_steps, order_by, AreOnce}
 use Rattle.std.proofs.lemmas.List.FromFn.{map-range_with_len_more}
-use Rattle.std.proofs.lemmas.List.Folds.{list_any_at}
 use Rattle.std.proofs.lemmas.List.Quantifiers.{position-Some}
-use Rattle.std.proofs.lemmas.List.Sums.{sum_by-append}
-use Rattle.std.proofs.lemmas.Grind.{common_steps}
 use Rattle.list_laws.proofs.Tests.{first_after, count_none, none_counted, none_past}
 use Rattle.bench_read.specs.Lines.{Line, Input, driven, all_driven}
 use Rattle.bench_read.specs.Netlists.{input_names, other_names, names_of, number, numbers}
-use Rattle.bench_read.specs.Making.{order_by}
-use Rattle.bench_read.specs.Reads.{AreOnce}
 use Rattle.bench_read.proofs.NameLemmas.{same_name, same_bytes, new_from_once}
 
 -- ---- signal order
@@ -40,7 +34,7 @@ names_length (line ∷ lines) = simp (line_orders, length-append) (omega (arith,
 pub numbered : (lines : List Line) (name : List ℕ) → list_any (bytes_eq name) (all_driven lines) ≡ true → number (names_of lines) name < length (names_of lines)
 numbered lines name some =
     let past = λ (p : length (names_of lines) ≤ number (names_of lines) name).
-        none_counted (bytes_eq name) (all_driven lines) (sym (either_order (λ n. cond (bytes_eq name n) 1 0) lines) ∙ count_none (bytes_eq name) (names_of lines) (none_past (bytes_eq name) (names_of lines) p)) in
+    none_counted (bytes_eq name) (all_driven lines) (sym (either_order (λ n. cond (bytes_eq name n) 1 0) lines) ∙ count_none (bytes_eq name) (names_of lines) (none_past (bytes_eq name) (names_of lines) p)) in
     grind (arith, past)
 
 -- ---- numbers in a row

@@ -3,17 +3,15 @@ use Rattle.std.proofs.Common.{◌≡◌, ℕ, suc, ◌≤◌, Bool, true, false,
 use Rattle.std.specs.Prelude.{◌==◌}
 use Rattle.std.specs.List.{All, flat_map, list_all, prefix_len, before_first}
 use Rattle.std.proofs.lemmas.Bool.{and_parts, or_right, cond-false}
-use Rattle.std.proofs.lemmas.List.Elements.{All-head, All-tail}
+use Rattle.bench_read.proofs.Common.{All-head, All-tail, Mark, written_piece, some_of}
 use Rattle.limits.specs.declared.TheConstants.{MAX_NAME_BYTES}
 use Rattle.text_lines.specs.Bytes.{is_visible, is_hash, is_line_feed, is_return, is_blank}
 use Rattle.text_lines.specs.Names.{IsName, is_mark, is_name_byte}
 use Rattle.bench_text.specs.Bytes.{sign_of}
-use Rattle.bench_text.specs.declared.token.Mark.{Mark}
 use Rattle.bench_text.specs.declared.token.Mark.TheVariants.{Comma, Name}
 use Rattle.bench_text.proofs.ByteLemmas.{named_byte}
 use Rattle.bench_line.specs.Spelling.{Piece, Sign, Word, same_mark, listed}
 use Rattle.bench_line.specs.Rows.{goes_on, pieces_of}
-use Rattle.bench_read.specs.Written.{written_piece, some_of}
 use Rattle.std.proofs.lemmas.List.Sums.{AllPass-from_list_all, position_or_len_is}
 use Rattle.text_lines.specs.Lines.{lines_of, part_of}
 use Rattle.text_lines.specs.Places.{is_line_end}

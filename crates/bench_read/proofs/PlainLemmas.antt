@@ -1,20 +1,12 @@
 -- No fault of a text is want of memory.
 use Rattle.std.proofs.Common.{◌≡◌, ℕ, cond, List, ◌++◌, length, take, slice_get, Option, Some, None, Result, Ok, Err, ap, ◌∙◌, ⊎_elim, arith}
 use Rattle.std.specs.Prelude.{IfErr, codes}
-use Rattle.std.specs.List.{find}
-use Rattle.std.specs.Option.{option_map, option_or}
-use Rattle.text_lines.specs.Answers.{first, Answers}
+use Rattle.bench_read.proofs.Common.{find, option_map, option_or, first, Answers, kind_of, Row, rows_of, form_of, BenchNo, Line, is_word, said_by_register, said_by_gate, said_by, said}
 use Rattle.text_lines.proofs.AnswerLemmas.{place_of_first}
-use Rattle.logic_four.specs.Kinds.{kind_of}
 use Rattle.bench_text.specs.declared.token.TextNo.TheVariants as text_no
 use Rattle.bench_text.specs.Tokens.{first_fault as byte_fault}
 use Rattle.bench_line.specs.Forms.{Form, Port, Gate, Memory}
-use Rattle.bench_line.specs.Rows.{Row, rows_of}
-use Rattle.bench_line.specs.Decoding.{form_of}
-use Rattle.bench_read.specs.declared.refusal.BenchNo.{BenchNo}
 use Rattle.bench_read.specs.declared.refusal.BenchNo.TheVariants as bench_no
-use Rattle.bench_read.specs.Lines.{Line}
-use Rattle.bench_read.specs.Saying.{is_word, said_by_register, said_by_gate, said_by, said}
 use Rattle.bench_read.specs.Placed.{Placed, placed_by, placed_of, driven_in, drivers_of, uses_of}
 use Rattle.bench_read.specs.Faults.{is_undriven, repeat_fault, option_repeat_fault, twice_fault, many_fault, line_fault, said_fault, row_fault, rows_fault, uses_fault, of_text, first_fault}
 

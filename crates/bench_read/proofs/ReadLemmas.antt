@@ -1,26 +1,12 @@
 -- What a text reads as: the netlist of its lines, where it has no fault.
 use Rattle.std.proofs.Common.{Bool, ◌≡◌, ◌⊎◌, ℕ, true, false, not, List, [], ◌∷◌, Option, Some, None, Result, Ok, Err, sym, ap, ◌∙◌, refl, inl, inr, bytes_eq}
 use Rattle.std.specs.Prelude.{◌↔◌, All, MatchResult}
-use Rattle.std.specs.List.{list_any, find}
-use Rattle.std.specs.Option.{option_map, option_or}
+use Rattle.bench_read.proofs.Common.{list_any, find, option_map, option_or, All-nil, All-cons, All-head, All-tail, All-map, All-weaker, list_any_none, all_of_map, list_any-map, find_none, any_not_none, mapped_none}
+use Rattle.bench_read.proofs.Common.{Answers, or_none, Row, rows_of, Netlist, BenchNo, Line, all_driven, all_used, Say, Placed, Named, lines_at, placed_of, drivers_of, uses_of, netlist_of}
 use Rattle.std.proofs.lemmas.Bool.{not-false, or_parts}
-use Rattle.std.proofs.lemmas.List.Elements.{All-nil, All-cons, All-head, All-tail, All-map, All-weaker}
-use Rattle.std.proofs.lemmas.List.Folds.{list_any_none}
-use Rattle.list_laws.proofs.Members.{all_of_map}
-use Rattle.list_laws.proofs.Tests.{list_any-map, find_none, any_not_none}
-use Rattle.list_laws.proofs.Options.{mapped_none}
-use Rattle.text_lines.specs.Answers.{Answers}
-use Rattle.text_lines.proofs.AnswerLemmas.{or_none}
 use Rattle.bench_text.specs.Tokens.{first_fault as byte_fault}
-use Rattle.bench_line.specs.Rows.{Row, rows_of}
-use Rattle.net_defs.specs.declared.netlist.Netlist.{Netlist}
-use Rattle.bench_read.specs.declared.refusal.BenchNo.{BenchNo}
 use Rattle.bench_read.specs.declared.refusal.BenchNo.TheVariants.{Undriven, Memory}
-use Rattle.bench_read.specs.Lines.{Line, all_driven, all_used}
-use Rattle.bench_read.specs.Saying.{Say}
-use Rattle.bench_read.specs.Placed.{Placed, Named, lines_at, placed_of, drivers_of, uses_of}
 use Rattle.bench_read.specs.Faults.{is_undriven, rows_fault, uses_fault, of_text, first_fault}
-use Rattle.bench_read.specs.Netlists.{netlist_of}
 use Rattle.bench_read.specs.Reads.{AreAmong, Reads}
 use Rattle.bench_read.proofs.SaidLemmas.{said_from_says}
 use Rattle.bench_read.proofs.TwiceLemmas.{names_in}

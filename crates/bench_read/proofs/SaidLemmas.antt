@@ -1,11 +1,7 @@
 -- What a row says by itself is what it says by its spelling.
 use Rattle.std.proofs.Common.{◌≡◌, Option, Some, None, Result, Ok, refl}
-use Rattle.bench_line.specs.Forms.{Form}
-use Rattle.bench_line.specs.Rows.{Row}
-use Rattle.bench_line.specs.Decoding.{form_of}
+use Rattle.bench_read.proofs.Common.{Form, Row, form_of, Line, Says, said_by, said}
 use Rattle.bench_line.proofs.SpellingLemmas.{form_again, form_spelled}
-use Rattle.bench_read.specs.Lines.{Line}
-use Rattle.bench_read.specs.Saying.{Says, said_by, said}
 
 pub from_ok : {X E : Type 0} (x y : X) → ◌≡◌ {A = Result X E} (Ok x) (Ok y) → x ≡ y
 from_ok x y e = cc

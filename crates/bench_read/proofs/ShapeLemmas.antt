@@ -1,17 +1,9 @@
 -- The canonical text of a netlist is the text of its lines.
 use Rattle.std.proofs.Common.{◌≡◌, ℕ, zero, suc, List, [], ◌∷◌, ◌++◌, slice_get, Option, Some, None, sym, ◌∙◌, refl, append-nil, append_assoc, arith}
-use Rattle.std.proofs.lemmas.Bool.{ne_eqb}
+use Rattle.bench_read.proofs.Common.{ne_eqb, codes, flat_map, flat_map-append, Netlist, Block, Driver, Piece, commas, listed, spelled, Line}
 use Rattle.std.proofs.lemmas.List.Folds.{flat_map-map}
-use Rattle.std.specs.Prelude.{codes}
-use Rattle.std.specs.List.{flat_map}
-use Rattle.std.proofs.lemmas.List.Concat.{flat_map-append}
-use Rattle.net_defs.specs.declared.netlist.Netlist.{Netlist}
-use Rattle.net_defs.specs.declared.netlist.Block.{Block}
-use Rattle.net_defs.specs.declared.netlist.Driver.{Driver}
 use Rattle.net_defs.specs.declared.netlist.Driver.TheVariants.{Input, Gate, Dff, BlockBit}
 use Rattle.net_defs.specs.Canonical.{name_of, names_of, input_line, output_line, gate_line, memory_line, memory_line_at, driver_line, canonical_text}
-use Rattle.bench_line.specs.Spelling.{Piece, commas, listed, spelled}
-use Rattle.bench_read.specs.Lines.{Line}
 use Rattle.bench_read.specs.Lines as lines
 use Rattle.bench_read.specs.Written.{written_piece, written, text_of_lines, lines_of, some_of, form_by, names_at, input_line as input_lines, memory_line as memory_lines, driver_line as driver_lines}
 

@@ -1,21 +1,14 @@
 -- What a text reads as is a valid netlist.
 use Rattle.std.proofs.Common.{◌≡◌, ℕ, zero, suc, ◌+◌, ◌<◌, ◌≤◌, ◌^◌, true, false, List, [], ◌∷◌, ◌++◌, length, map, take, drop, get_or, slice_get, Some, sym, ap, ◌∙◌, subst, refl, arith, length-append, bytes_eq}
 use Rattle.std.specs.List.{All, AllByRecursion, list_any, flat_map, enumerate_from, range_with_len}
-use Rattle.std.proofs.lemmas.Bool.{both_ways}
-use Rattle.std.proofs.lemmas.List.{length-map, map-append, length-take-le, take-append-drop}
-use Rattle.std.proofs.lemmas.List.Elements.{All-nil, All-cons, All-append, All-weaker, All-head, All-tail, All-map, All-from_recursion}
-use Rattle.std.proofs.lemmas.Option.{slice_get-map, slice_get_within, slice_get-get_or}
+use Rattle.bench_read.proofs.Common.{both_ways, length-map, map-append, length-take-le, take-append-drop, All-nil, All-cons, All-append, All-weaker, All-head, All-tail, All-map, All-from_recursion, slice_get-map}
+use Rattle.bench_read.proofs.Common.{slice_get_within, slice_get-get_or, AllowsOperands, Netlist, Signal, Block, rows_of}
 use Rattle.limits.specs.declared.TheConstants.{MAX_TEXT_BYTES}
 use Rattle.list_laws.proofs.Ranges.{range_at, first_of_range}
 use Rattle.list_laws.proofs.Places.{seam_at, drop_here, inside_at}
 use Rattle.list_laws.proofs.Members.{each, all_front, all_back}
-use Rattle.logic_four.specs.Kinds.{AllowsOperands}
-use Rattle.net_defs.specs.declared.netlist.Netlist.{Netlist}
-use Rattle.net_defs.specs.declared.netlist.Signal.{Signal}
-use Rattle.net_defs.specs.declared.netlist.Block.{Block}
 use Rattle.net_defs.specs.declared.netlist.Driver.TheVariants as driver
 use Rattle.net_defs.specs.Valid.{IsName, IsSignal, IsDrivable, IsMemory, is_input, InputsLead, IsValid}
-use Rattle.bench_line.specs.Rows.{rows_of}
 use Rattle.bench_read.specs.Lines.{Line, Input, Output, Gate, Register, Memory, used, all_driven, all_used}
 use Rattle.bench_read.specs.Netlists.{input_names, names_of, number, numbers, input_signal, bit_signals, signals_by, other_signals, printed_names, memories_by, netlist_of}
 use Rattle.bench_read.specs.Reads.{AreOnce, AreSound, Reads}

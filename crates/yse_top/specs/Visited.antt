@@ -1,6 +1,7 @@
 -- What the gates were told by a whole call.
-use Rattle.std.specs.Prelude.{◌≡◌, ◌⊎◌, ⊤, ℕ, List, Option, Some, None, Result, IfOk, OnErr}
+use Rattle.std.specs.Prelude.{◌≡◌, ◌<◌, ◌⊎◌, ⊤, ℕ, List, Option, Some, None, Result, IfOk, OnErr, slice_get}
 use Rattle.crew_run.specs.declared.gate.Gate as gate
+use Rattle.crew_run.specs.Crews.{CanTell}
 use Rattle.edge_io.specs.Names.{OfTold}
 use Rattle.large_run.specs.Setting.{large_machine}
 use Rattle.machine_run.specs.Visits.{AreInPlace, AreVisitsOf}
@@ -13,6 +14,7 @@ use Rattle.net_defs.specs.Time.{turn_count}
 use Rattle.cmd_words.specs.declared.command.Command.{Command}
 use Rattle.cmd_words.specs.declared.command.Command.TheVariants as command
 use Rattle.cmd_words.specs.declared.command.RunWords.{RunWords}
+use Rattle.cmd_words.specs.declared.options.TheConstants.{MAX_WORKERS}
 use Rattle.yse_top.specs.declared.commands.steps.Pace.{Pace}
 use Rattle.yse_top.specs.declared.commands.steps.Pace.TheVariants as pace
 use Rattle.yse_top.specs.declared.output.Output.{Output}
@@ -26,6 +28,10 @@ use Rattle.yse_top.specs.Readings.{Reading}
 use Rattle.yse_top.specs.Refusals.{outcome_of}
 use Rattle.yse_top.specs.Traced.{AreOfFiles}
 use Rattle.yse_top.specs.commands.Run.{EndsBy}
+
+-- each gate that a worker may use is there, and can be told of all turns
+abbrev pub AllCanTell : {G : Type 0} → gate.Ghosts G → List (Option G) → Type 0
+AllCanTell p gates = (w : ℕ) (gate : Option _) → w < MAX_WORKERS → slice_get gates w ≡ Some gate → CanTell p gate
 
 -- the machine that the text of the named file reads as, and else the default machine
 abbrev pub IsMachineOfFile : Option (List ℕ → List ℕ) → Option (List ℕ) → Machine → Type 0

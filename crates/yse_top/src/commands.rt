@@ -1,14 +1,13 @@
 //! What a command comes to before anything is written: one module for each command.
 
-ghost use Rattle.std.specs.Prelude.{◌≡◌, ◌<◌, ◌≤◌, ℕ, Option, Some, IfOk, length, slice_get};
-ghost use Rattle.crew_run.specs.Crews.{CanTell};
+ghost use Rattle.std.specs.Prelude.{◌≡◌, ◌≤◌, Some, IfOk, length};
 ghost use Rattle.cmd_words.specs.Forms.{IsInRange};
 ghost use Rattle.cmd_words.specs.declared.options.TheConstants.{MAX_WORKERS};
 ghost use Rattle.machine_run.specs.Visits.{AreInPlace};
 ghost use Rattle.yse_top.specs.Expected.{ExpectedOf};
 ghost use Rattle.yse_top.specs.Outputs.{CanWrite};
 ghost use Rattle.yse_top.specs.Refusals.{Follows, outcome_of};
-ghost use Rattle.yse_top.specs.Visited.{HasWorkers, TellsGates, order_in};
+ghost use Rattle.yse_top.specs.Visited.{AllCanTell, HasWorkers, TellsGates, order_in};
 
 mod large;
 mod plan;
@@ -39,7 +38,7 @@ pub fn prepare<'a, R: Threads + Wait + Sync, F: Files, G: Gate + Send>(
 ) -> Result<Output, Refusal<'a>>
     requires range { IsInRange command.now }
     requires gates { MAX_WORKERS ≤ length gates.old }
-    requires tell { (i : ℕ) (gate : Option G) → i < MAX_WORKERS → slice_get gates.old i ≡ Some gate → CanTell G.Gate.own gate }
+    requires tell { AllCanTell G.Gate.own gates.old }
     ensures expected { Follows (F.names files.old) (F.bytes files.old) (F.counts files.old) (F.counts files.new)
         result (ExpectedOf command.now) }
     ensures writable { IfOk result CanWrite }

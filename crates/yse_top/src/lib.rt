@@ -1,13 +1,12 @@
 //! The whole program over any store of files and any sinks.
 #![tactic(auto)]
 
-ghost use Rattle.std.specs.Prelude.{◌≡◌, ◌≢◌, ◌<◌, ◌≤◌, ◌↔◌, ℕ, List, Option, Some, None, IfSome, map, length, slice_get};
+ghost use Rattle.std.specs.Prelude.{◌≡◌, ◌≢◌, ◌≤◌, ◌↔◌, ℕ, List, None, IfSome, map, length};
 ghost use Rattle.std.specs.Io.KnownBytes.{append_known};
 ghost use Rattle.std.specs.String.{string_bytes};
 ghost use Rattle.edge_io.specs.Counts.{raised, Rose};
 ghost use Rattle.cmd_words.specs.Asked.{asked};
 ghost use Rattle.cmd_words.specs.declared.options.TheConstants.{MAX_WORKERS};
-ghost use Rattle.crew_run.specs.Crews.{CanTell};
 ghost use Rattle.machine_run.specs.Visits.{AreInPlace};
 ghost use Rattle.yse_top.specs.Ends.{EndsAs, IsDoneOrMemory, MayWrite, AreToldBy};
 ghost use Rattle.yse_top.specs.Expected.{Expected};
@@ -15,7 +14,7 @@ ghost use Rattle.yse_top.specs.Lines.{memory_line};
 ghost use Rattle.yse_top.specs.Outcome.{Outcome, done};
 ghost use Rattle.yse_top.specs.Readings.{Reading, AreReadings};
 ghost use Rattle.yse_top.specs.Traced.{IsTraceOfFiles};
-ghost use Rattle.yse_top.specs.Visited.{TellsGates};
+ghost use Rattle.yse_top.specs.Visited.{AllCanTell, TellsGates};
 ghost use Rattle.yse_top.specs.Words.{files_named, traced_by};
 ghost use Rattle.yse_top.specs.Writing.{TakesLine};
 
@@ -73,7 +72,7 @@ pub fn yse<R: Threads + Wait + Sync, F: Files, O: Sink, E: Sink, G: Gate + Send>
     gates: &mut [Option<G>],
 ) -> Status
     requires gates { MAX_WORKERS ≤ length gates.old }
-    requires tell { (i : ℕ) (gate : Option G) → i < MAX_WORKERS → slice_get gates.old i ≡ Some gate → CanTell G.Gate.own gate }
+    requires tell { AllCanTell G.Gate.own gates.old }
 
     // After a simulation the output is the trace of the netlist and the stimulus that its files read as.
     ensures trace { result ≡ Status.Done → (output : List ℕ)

@@ -1,15 +1,14 @@
 //! `large`: the summary of a run of a generated design.
 
 ghost use Rattle.machine_text.specs.Machines.{ports_of};
-ghost use Rattle.std.specs.Prelude.{[], ◌≡◌, ◌⊎◌, ◌<◌, ◌≤◌, ℕ, Option, Some, IfOk, length, slice_get};
-ghost use Rattle.crew_run.specs.Crews.{CanTell};
+ghost use Rattle.std.specs.Prelude.{[], ◌≡◌, ◌⊎◌, ◌≤◌, IfOk, length};
 ghost use Rattle.limits.specs.declared.TheConstants.{MAX_LARGE_CYCLES, MAX_LARGE_GATES};
 ghost use Rattle.cmd_words.specs.declared.options.TheConstants.{MAX_WORKERS};
 ghost use Rattle.large_run.specs.Setting.{large_machine};
 ghost use Rattle.machine_run.specs.Visits.{AreInPlace, AreVisitsOf};
 ghost use Rattle.yse_top.specs.Outputs.{CanWrite};
 ghost use Rattle.yse_top.specs.Refusals.{outcome_of};
-ghost use Rattle.yse_top.specs.Visited.{AreTold};
+ghost use Rattle.yse_top.specs.Visited.{AllCanTell, AreTold};
 ghost use Rattle.yse_top.specs.commands.Large.{ExpectedLarge};
 
 use crate::output::Output;
@@ -36,7 +35,7 @@ pub fn large<'a, R: Threads + Wait + Sync, G: Gate + Send>(
     requires some_workers { 1 ≤ workers }
     requires few_workers { workers ≤ MAX_WORKERS }
     requires gates { MAX_WORKERS ≤ length gates.old }
-    requires tell { (i : ℕ) (gate : Option G) → i < MAX_WORKERS → slice_get gates.old i ≡ Some gate → CanTell G.Gate.own gate }
+    requires tell { AllCanTell G.Gate.own gates.old }
     ensures expected { ExpectedLarge count cycles [] (outcome_of result) }
     ensures writable { IfOk result CanWrite }
     ensures visits { AreTold (outcome_of result).status (AreVisitsOf G.Gate.own (ports_of large_machine) cycles workers gates.old gates.new)

@@ -1,7 +1,6 @@
 //! `run` and `order`: the trace of the reference simulation, by the compiled machine.
 
-ghost use Rattle.std.specs.Prelude.{◌≡◌, ◌<◌, ◌≤◌, ℕ, Option, Some, IfOk, length, slice_get};
-ghost use Rattle.crew_run.specs.Crews.{CanTell};
+ghost use Rattle.std.specs.Prelude.{◌≡◌, ◌≤◌, IfOk, length};
 ghost use Rattle.machine_text.specs.Machines.{IsValid as IsValidMachine};
 ghost use Rattle.net_defs.specs.Valid.{IsValid, IsValidStimulus, input_count};
 ghost use Rattle.cmd_words.specs.Forms.{IsRunInRange};
@@ -10,7 +9,7 @@ ghost use Rattle.yse_top.specs.Images.{IsImageOf};
 ghost use Rattle.yse_top.specs.Orders.{IsMachineImage};
 ghost use Rattle.yse_top.specs.Outputs.{CanWrite};
 ghost use Rattle.yse_top.specs.Refusals.{Follows};
-ghost use Rattle.yse_top.specs.Visited.{EndsTelling, KeepsGates, TellsOfRun, order_in};
+ghost use Rattle.yse_top.specs.Visited.{AllCanTell, EndsTelling, KeepsGates, TellsOfRun, order_in};
 ghost use Rattle.yse_top.specs.commands.Run.{AfterMachine, AfterStimulus, EndsBy, ExpectedOn, ExpectedRun};
 
 use crate::checks::{Built, compiled, few_cells, machine_of, netlist_of, order_of, stimulus_of};
@@ -40,7 +39,7 @@ pub fn run<'a, R: Threads + Wait + Sync, F: Files, G: Gate + Send>(
 ) -> Result<Output, Refusal<'a>>
     requires range { IsRunInRange words.now }
     requires gates { MAX_WORKERS ≤ length gates.old }
-    requires tell { (i : ℕ) (gate : Option G) → i < MAX_WORKERS → slice_get gates.old i ≡ Some gate → CanTell G.Gate.own gate }
+    requires tell { AllCanTell G.Gate.own gates.old }
     ensures expected { Follows (F.names files.old) (F.bytes files.old) (F.counts files.old) (F.counts files.new)
         result (ExpectedRun words.now (order_in pace.entry)) }
     ensures writable { IfOk result CanWrite }
@@ -62,7 +61,7 @@ fn run_telling<'a, R: Threads + Wait + Sync, F: Files, G: Gate + Send>(
 ) -> Result<Output, Refusal<'a>>
     requires range { IsRunInRange words.now }
     requires gates { MAX_WORKERS ≤ length gates.old }
-    requires tell { (i : ℕ) (gate : Option G) → i < MAX_WORKERS → slice_get gates.old i ≡ Some gate → CanTell G.Gate.own gate }
+    requires tell { AllCanTell G.Gate.own gates.old }
     ensures expected { Follows (F.names files.old) (F.bytes files.old) (F.counts files.old) (F.counts files.new)
         result (AfterMachine words.now.machine (ExpectedOn words.now (EndsTelling G.Gate.own gates.old gates.new pace.entry words.now))) }
     ensures writable { IfOk result CanWrite }
@@ -95,7 +94,7 @@ fn run_by<'a, R: Threads + Wait + Sync, F: Files, G: Gate + Send>(
 ) -> Result<Output, Refusal<'a>>
     requires range { IsRunInRange words.now }
     requires gates { MAX_WORKERS ≤ length gates.old }
-    requires tell { (i : ℕ) (gate : Option G) → i < MAX_WORKERS → slice_get gates.old i ≡ Some gate → CanTell G.Gate.own gate }
+    requires tell { AllCanTell G.Gate.own gates.old }
     ensures expected { Follows (F.names files.old) (F.bytes files.old) (F.counts files.old) (F.counts files.new)
         result (AfterMachine (Some file.now) (ExpectedOn words.now (EndsTelling G.Gate.own gates.old gates.new pace.entry words.now))) }
     ensures writable { IfOk result CanWrite }
@@ -124,7 +123,7 @@ fn run_on<'a, R: Threads + Wait + Sync, F: Files, G: Gate + Send>(
     requires range { IsRunInRange words.now }
     requires machine { IsValidMachine machine }
     requires gates { MAX_WORKERS ≤ length gates.old }
-    requires tell { (i : ℕ) (gate : Option G) → i < MAX_WORKERS → slice_get gates.old i ≡ Some gate → CanTell G.Gate.own gate }
+    requires tell { AllCanTell G.Gate.own gates.old }
     ensures expected { Follows (F.names files.old) (F.bytes files.old) (F.counts files.old) (F.counts files.new)
         result (ExpectedOn words.now (EndsTelling G.Gate.own gates.old gates.new pace.entry words.now) machine) }
     ensures writable { IfOk result CanWrite }
@@ -160,7 +159,7 @@ fn execute<'a, R: Threads + Wait + Sync, F: Files, G: Gate + Send>(
     requires image { IsImageOf built.net words.now.timing built.image }
     requires made { IsMachineImage built.net machine.now words.now.timing built.image }
     requires gates { MAX_WORKERS ≤ length gates.old }
-    requires tell { (i : ℕ) (gate : Option G) → i < MAX_WORKERS → slice_get gates.old i ≡ Some gate → CanTell G.Gate.own gate }
+    requires tell { AllCanTell G.Gate.own gates.old }
     ensures expected { Follows (F.names files.old) (F.bytes files.old) (F.counts files.old) (F.counts files.new)
         result (AfterStimulus words.now.stimulus built.net (EndsTelling G.Gate.own gates.old gates.new pace.entry words.now machine.now built.net)) }
     ensures writable { IfOk result CanWrite }
@@ -201,7 +200,7 @@ fn finish<'a, R: Threads + Wait + Sync, F: Files, G: Gate + Send>(
     requires stimulus { IsValidStimulus stimulus.now }
     requires columns { stimulus.now.columns ≡ input_count built.net }
     requires gates { MAX_WORKERS ≤ length gates.old }
-    requires tell { (i : ℕ) (gate : Option G) → i < MAX_WORKERS → slice_get gates.old i ≡ Some gate → CanTell G.Gate.own gate }
+    requires tell { AllCanTell G.Gate.own gates.old }
     ensures expected { Follows (F.names files.old) (F.bytes files.old) (F.counts files.old) (F.counts files.new)
         result (EndsTelling G.Gate.own gates.old gates.new pace.entry words.now machine.now built.net stimulus.now) }
     ensures writable { IfOk result CanWrite }

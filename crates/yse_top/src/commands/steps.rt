@@ -1,9 +1,8 @@
 //! Runs of the machine: by workers, by rounds, and in a given order.
 
 ghost use Rattle.machine_text.specs.Machines.{ports_of};
-ghost use Rattle.std.specs.Prelude.{◌≡◌, ◌<◌, ◌≤◌, ℕ, Option, Some, IfOk, OnErr, OnOk, length, replicate, slice_get};
+ghost use Rattle.std.specs.Prelude.{◌≡◌, ◌<◌, ◌≤◌, ℕ, Some, IfOk, OnErr, OnOk, length, replicate, slice_get};
 ghost use Rattle.std.specs.List.{flat_map};
-ghost use Rattle.crew_run.specs.Crews.{CanTell};
 ghost use Rattle.machine_run.specs.Shown.{AreShown};
 ghost use Rattle.machine_run.specs.Visits.{AreInPlace, AreVisitsOf};
 ghost use Rattle.net_defs.specs.Time.{turn_count};
@@ -19,6 +18,7 @@ ghost use Rattle.yse_top.specs.Orders.{EndsInOrder, IsMachineImage};
 ghost use Rattle.yse_top.specs.Stepped.{HasStepped};
 ghost use Rattle.yse_top.specs.Outputs.{trace_bytes, CanPrint, CanWrite};
 ghost use Rattle.yse_top.specs.Refusals.{ended_with};
+ghost use Rattle.yse_top.specs.Visited.{AllCanTell};
 
 use crate::checks::Built;
 use crate::output::{Ending, Output, Trace};
@@ -65,7 +65,7 @@ pub fn by_workers<R: Threads + Wait + Sync, G: Gate + Send>(
     requires stimulus { IsValidStimulus stimulus.now }
     requires columns { stimulus.now.columns ≡ input_count built.net }
     requires gates { MAX_WORKERS ≤ length gates.old }
-    requires tell { (i : ℕ) (gate : Option G) → i < MAX_WORKERS → slice_get gates.old i ≡ Some gate → CanTell G.Gate.own gate }
+    requires tell { AllCanTell G.Gate.own gates.old }
     ensures printed { IfOk result (λ trace. IsTrace built.net words.now.timing stimulus.now (trace_bytes trace)) }
     ensures writable { IfOk result CanPrint }
     ensures visits { OnOk result (AreVisitsOf G.Gate.own (ports_of _machine.now) (turn_count words.now.timing stimulus.now) words.now.workers gates.old gates.new) }

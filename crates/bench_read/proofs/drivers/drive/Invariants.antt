@@ -1,6 +1,5 @@
 use Rattle.std.proofs.Common.{map, take}
-use Rattle.bench_read.specs.Placed.{each_named}
-use Rattle.bench_read.specs.Storing.{named_by}
+use Rattle.bench_read.proofs.Common.{each_named, named_by}
 use Rattle.bench_read.proofs.TwiceLemmas.{HasDriven}
 use Rattle.bench_read.proofs.drivers.drive.Given as goal
 

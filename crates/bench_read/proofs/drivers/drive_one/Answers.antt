@@ -1,9 +1,6 @@
 use Rattle.std.proofs.Common.{◌≡◌, false, map, sym, ◌∙◌, refl, bytes_eq}
-use Rattle.std.specs.List.{list_any}
+use Rattle.bench_read.proofs.Common.{list_any, map_push, DrivenName, named_by}
 use Rattle.std.proofs.lemmas.Bool.{not-true}
-use Rattle.std.proofs.lemmas.List.{map_push}
-use Rattle.bench_read.specs.declared.draft.DrivenName.{DrivenName}
-use Rattle.bench_read.specs.Storing.{named_by}
 use Rattle.bench_read.proofs.TwiceLemmas.{names_same, repeat_none}
 use Rattle.bench_read.proofs.drivers.drive_one.Goals as goal
 

@@ -1,8 +1,5 @@
 use Rattle.std.proofs.Common.{◌≡◌, ◌++◌, map}
-use Rattle.std.specs.List.{flat_map}
-use Rattle.bench_read.specs.Drafting.{lines_in}
-use Rattle.bench_read.specs.Placed.{lines_at}
-use Rattle.bench_read.specs.Netlists.{input_names, input_signal}
+use Rattle.bench_read.proofs.Common.{flat_map, lines_in, lines_at, input_names, input_signal}
 use Rattle.bench_read.proofs.netlist.input_signals.Given as goal
 
 abbrev pub invariant-lines : goal.invariant-lines

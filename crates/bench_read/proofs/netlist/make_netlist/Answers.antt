@@ -1,9 +1,6 @@
 use Rattle.std.proofs.Common.{length, sym, ap, ◌∙◌, subst, arith, length-append}
-use Rattle.std.specs.List.{flat_map}
-use Rattle.std.proofs.lemmas.List.{length-map}
-use Rattle.bench_read.specs.Drafting.{lines_in}
+use Rattle.bench_read.proofs.Common.{flat_map, length-map, lines_in, AreOnce}
 use Rattle.bench_read.specs.Netlists.{input_names, names_of, numbers, input_signal}
-use Rattle.bench_read.specs.Reads.{AreOnce}
 use Rattle.bench_read.proofs.NumberLemmas.{order_is, names_length}
 use Rattle.bench_read.proofs.netlist.make_netlist.Goals as goal
 

@@ -1,9 +1,7 @@
 use Rattle.std.proofs.Common.{◌≡◌, ℕ, ◌+◌, ◌<◌, List, [], ◌∷◌, ◌++◌, append_assoc, map, take, length, get_or, sym, ap, ◌∙◌, refl, arith}
-use Rattle.std.proofs.lemmas.List.{map_push, take_more, length-map, length-take-le}
+use Rattle.bench_read.proofs.Common.{map_push, take_more, length-map, length-take-le, DrivenName, bit_signals}
 use Rattle.list_laws.proofs.Maps.{enumerate_push}
 use Rattle.net_defs.specs.declared.netlist.Driver.TheVariants as driver
-use Rattle.bench_read.specs.declared.draft.DrivenName.{DrivenName}
-use Rattle.bench_read.specs.Netlists.{bit_signals}
 use Rattle.bench_read.proofs.netlist.push_bits.Goals as goal
 
 -- one bit more of a memory

@@ -1,5 +1,5 @@
 use Rattle.std.proofs.Common.{◌≡◌, ◌++◌, map, take}
-use Rattle.bench_read.specs.Netlists.{bit_signals}
+use Rattle.bench_read.proofs.Common.{bit_signals}
 use Rattle.bench_read.proofs.netlist.push_bits.Given as goal
 
 abbrev pub invariant-loop-bit : goal.invariant-loop-bit

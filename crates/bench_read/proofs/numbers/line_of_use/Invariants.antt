@@ -1,6 +1,5 @@
 use Rattle.std.proofs.Common.{◌≡◌}
-use Rattle.bench_read.specs.Drafting.{placed_in}
-use Rattle.bench_read.specs.Making.{line_of_use}
+use Rattle.bench_read.proofs.Common.{placed_in, line_of_use}
 use Rattle.bench_read.proofs.numbers.line_of_use.Given as goal
 
 abbrev pub invariant-lines : goal.invariant-lines

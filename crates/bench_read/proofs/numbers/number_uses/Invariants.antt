@@ -1,9 +1,6 @@
 use Rattle.std.proofs.Common.{◌≡◌, false, take}
-use Rattle.std.specs.List.{list_any}
-use Rattle.bench_read.specs.Drafting.{used_names, placed_in, lines_in}
-use Rattle.bench_read.specs.Faults.{is_undriven}
+use Rattle.bench_read.proofs.Common.{list_any, used_names, placed_in, lines_in, is_undriven, drivers_of, uses_of}
 use Rattle.bench_read.specs.Netlists.{names_of, numbers}
-use Rattle.bench_read.specs.Placed.{drivers_of, uses_of}
 use Rattle.bench_read.proofs.numbers.number_uses.Given as goal
 
 abbrev pub invariant-uses : goal.invariant-uses

@@ -1,5 +1,5 @@
 use Rattle.std.proofs.Common.{arith}
-use Rattle.std.proofs.lemmas.Grind.{common_steps}
+use Rattle.bench_read.proofs.Common.{common_steps}
 use Rattle.bench_read.proofs.NumberLemmas.{range_more}
 use Rattle.bench_read.proofs.numbers.push_range.Goals as goal
 

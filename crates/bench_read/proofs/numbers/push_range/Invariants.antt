@@ -1,5 +1,5 @@
 use Rattle.std.proofs.Common.{◌≡◌, ◌++◌}
-use Rattle.std.specs.List.{range_with_len}
+use Rattle.bench_read.proofs.Common.{range_with_len}
 use Rattle.bench_read.proofs.numbers.push_range.Given as goal
 
 abbrev pub invariant-loop-k : goal.invariant-loop-k

@@ -1,5 +1,5 @@
 use Rattle.std.proofs.Common.{append_assoc, append-nil, arith, length-append}
-use Rattle.bench_read.specs.Making.{order_by}
+use Rattle.bench_read.proofs.Common.{order_by}
 use Rattle.bench_read.proofs.numbers.signal_numbers.Goals as goal
 
 pub lines-preserved : goal.lines-preserved

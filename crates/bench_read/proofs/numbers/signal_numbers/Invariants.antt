@@ -1,9 +1,5 @@
 use Rattle.std.proofs.Common.{◌≡◌, ◌+◌, ◌≤◌, ◌<◌, ◌^◌, ◌++◌, length}
-use Rattle.std.specs.List.{flat_map}
-use Rattle.bench_read.specs.Drafting.{lines_in}
-use Rattle.bench_read.specs.Making.{order_by}
-use Rattle.bench_read.specs.Placed.{lines_at}
-use Rattle.bench_read.specs.Netlists.{input_names, other_names}
+use Rattle.bench_read.proofs.Common.{flat_map, lines_in, order_by, lines_at, input_names, other_names}
 use Rattle.bench_read.proofs.numbers.signal_numbers.Given as goal
 
 abbrev pub invariant-lines : goal.invariant-lines

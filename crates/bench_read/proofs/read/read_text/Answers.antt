@@ -1,5 +1,5 @@
 use Rattle.std.proofs.Common.{refl, inl, inr}
-use Rattle.std.proofs.lemmas.Result.{err_from_is_err_and}
+use Rattle.bench_read.proofs.Common.{err_from_is_err_and}
 use Rattle.bench_read.specs.Faults.{first_fault}
 use Rattle.bench_read.proofs.read.read_text.Goals as goal
 

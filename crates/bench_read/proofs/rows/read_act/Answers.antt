@@ -1,7 +1,5 @@
 use Rattle.std.proofs.Common.{sym, ap, ◌∙◌, inr, Ok, Err}
-use Rattle.std.proofs.lemmas.Result.{err_from_is_err_and}
-use Rattle.bench_line.specs.Rows.{row_of}
-use Rattle.bench_read.specs.Saying.{said, said_by}
+use Rattle.bench_read.proofs.Common.{err_from_is_err_and, row_of, said, said_by}
 use Rattle.bench_read.proofs.FoundLemmas.{by_found}
 use Rattle.bench_read.proofs.rows.read_act.Goals as goal
 

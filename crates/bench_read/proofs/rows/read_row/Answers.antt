@@ -1,7 +1,5 @@
 use Rattle.std.proofs.Common.{◌+◌, inl, inr, ap, refl}
-use Rattle.std.proofs.lemmas.List.{length-map}
-use Rattle.std.proofs.lemmas.Result.{err_from_is_err_and}
-use Rattle.bench_line.specs.Rows.{row_of}
+use Rattle.bench_read.proofs.Common.{length-map, err_from_is_err_and, row_of}
 use Rattle.bench_read.proofs.RowLemmas.{rows_push}
 use Rattle.bench_read.proofs.DraftLemmas.{fault_is, stores_more}
 use Rattle.bench_read.proofs.rows.read_row.Goals as goal

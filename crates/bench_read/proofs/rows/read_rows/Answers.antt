@@ -1,9 +1,5 @@
 use Rattle.std.proofs.Common.{[], ◌++◌, ◌∷◌, sym, ap, ◌∙◌, inl, inr, ⊎_elim}
-use Rattle.std.proofs.lemmas.Result.{err_from_is_err_and}
-use Rattle.text_lines.proofs.AnswerLemmas.{first-zero}
-use Rattle.bench_line.specs.Rows.{rows_in, rows_of}
-use Rattle.bench_read.specs.Faults.{row_fault, rows_fault}
-use Rattle.bench_read.specs.Placed.{placed_of}
+use Rattle.bench_read.proofs.Common.{err_from_is_err_and, first-zero, rows_in, rows_of, row_fault, rows_fault, placed_of}
 use Rattle.bench_read.proofs.FirstLemmas.{first_stays}
 use Rattle.bench_read.proofs.RowLemmas.{rows_none}
 use Rattle.bench_read.proofs.DraftLemmas.{seam, read_all}

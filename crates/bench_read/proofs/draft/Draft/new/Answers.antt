@@ -1,6 +1,5 @@
 use Rattle.std.proofs.Common.{rules}
-use Rattle.bench_read.specs.Lines.{all_used, operand_count}
-use Rattle.bench_read.specs.Placed.{drivers_of}
+use Rattle.bench_read.proofs.Common.{all_used, operand_count, drivers_of}
 use Rattle.bench_read.proofs.draft.Draft.new.Goals as goal
 
 pub returns : goal.returns

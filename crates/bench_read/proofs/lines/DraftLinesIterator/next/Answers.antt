@@ -1,6 +1,5 @@
 use Rattle.std.proofs.Common.{length, ap, refl, rules}
-use Rattle.std.proofs.lemmas.List.{drop-map}
-use Rattle.bench_read.specs.Drafts.{lines_by}
+use Rattle.bench_read.proofs.Common.{drop-map, lines_by}
 use Rattle.bench_read.proofs.lines.DraftLinesIterator.next.Goals as goal
 
 -- the line that comes, before those that are left

@@ -1,5 +1,5 @@
 -- The names are the keys as they are seen, and a key is found where its bytes are.
-use Rattle.list_laws.proofs.Tests.{list_any-map}
+use Rattle.bench_read.proofs.Common.{list_any-map}
 use Rattle.bench_read.proofs.names.Names.add.Goals as goal
 use Rattle.bench_read.proofs.names.Names.add.Goals.{in-Ok, in-Err}
 
