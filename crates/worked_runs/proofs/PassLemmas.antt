@@ -1,5 +1,5 @@
 -- The passes of a crossbar, taken from the last one on.
-use Rattle.std.proofs.Common.{List, ap, arith, length, slice_get, ℕ, ◌++◌, ◌+◌, ◌∙◌, ◌∷◌, [], ◌≡◌}
+use Rattle.std.proofs.Common.{List, ap, arith, length, slice_get, sym, ℕ, ◌++◌, ◌+◌, ◌∙◌, ◌∷◌, [], ◌≡◌}
 use Rattle.std.proofs.lemmas.List.{length_push}
 use Rattle.std.proofs.lemmas.Option.{slice_get_within}
 use Rattle.list_laws.proofs.Places.{at_front, seam_at}
