@@ -199,6 +199,12 @@ struct Tally {
     done: u32,
 }
 
+const NONE: Tally = Tally {
+    taken: 0,
+    wrong: 0,
+    done: 0,
+};
+
 /// Steps one hand.
 fn step<'a>(hand: &mut Hand<'a>, tally: &mut Tally) {
     let turn = hand.pass.turn();
@@ -215,27 +221,28 @@ fn step<'a>(hand: &mut Hand<'a>, tally: &mut Tally) {
     }
 }
 
-/// Steps each hand once.
-fn step_all<'a>(hands: &mut [Hand<'a>], tally: &mut Tally) {
-    tally.done = 0;
-    for hand in hands {
-        step(hand, tally);
-    }
-}
-
-/// Steps the hands until all are done.
-fn drive<'a>(hands: List<Hand<'a>>) -> Tally {
-    let mut hands = hands;
-    let mut tally = Tally {
-        taken: 0,
-        wrong: 0,
-        done: 0,
-    };
+/// Steps two hands in turn until both are done.
+fn drive_both<'a>(one: &mut Hand<'a>, other: &mut Hand<'a>) -> Tally {
+    let mut tally = NONE;
     for _ in 0..TRIES {
-        if tally.done as usize == hands.len() {
+        if tally.done == 2 {
             return tally;
         }
-        step_all(hands.as_mut_slice(), &mut tally);
+        tally.done = 0;
+        step(one, &mut tally);
+        step(other, &mut tally);
+    }
+    tally
+}
+
+/// Steps a hand until it is done.
+fn drive<'a>(one: &mut Hand<'a>) -> Tally {
+    let mut tally = NONE;
+    for _ in 0..TRIES {
+        if tally.done == 1 {
+            return tally;
+        }
+        step(one, &mut tally);
     }
     tally
 }
@@ -262,30 +269,6 @@ fn c17(alloc: Global) -> Option<Image>
     }
 }
 
-/// Two hands of one thread.
-fn pair<'a>(alloc: Global, one: Hand<'a>, other: Hand<'a>) -> Result<List<Hand<'a>>, Memory> {
-    let mut hands = List::new(alloc);
-    hands.push(one)?;
-    hands.push(other)?;
-    Ok(hands)
-}
-
-/// A hand of one thread.
-fn alone<'a>(alloc: Global, one: Hand<'a>) -> Result<List<Hand<'a>>, Memory> {
-    let mut hands = List::new(alloc);
-    hands.push(one)?;
-    Ok(hands)
-}
-
-/// The hands of port 0, of port 1 and of the host.
-fn three_hands<'a>(hands: List<Hand<'a>>) -> Option<(Hand<'a>, Hand<'a>, Hand<'a>)> {
-    let mut hands = hands;
-    let first = hands.pop()?;
-    let second = hands.pop()?;
-    let host = hands.pop()?;
-    Some((first, second, host))
-}
-
 /// What port 0, the host and port 0 again do first.
 fn first_steps<'a>(first: &mut Hand<'a>, host: &mut Hand<'a>) -> (Did, Did, Did) {
     let waits = first.step();
@@ -294,8 +277,26 @@ fn first_steps<'a>(first: &mut Hand<'a>, host: &mut Hand<'a>) -> (Did, Did, Did)
 }
 
 /// The host and port 0 in one thread, and port 1 in another.
-fn drive_all<'a, R: Threads>(rt: &R, one: List<Hand<'a>>, other: List<Hand<'a>>) -> (Tally, Tally) {
-    thread::join(rt, move || drive(one), move || drive(other))
+fn drive_all<'a, R: Threads>(
+    rt: &R,
+    host: &mut Hand<'a>,
+    first: &mut Hand<'a>,
+    second: &mut Hand<'a>,
+) -> (Tally, Tally) {
+    thread::join(rt, move || drive_both(host, first), move || drive(second))
+}
+
+/// What the first steps of three hands and then two threads do.
+fn drive_three<'a, R: Threads>(
+    rt: &R,
+    hands: &mut [Hand<'a>],
+) -> Option<((Did, Did, Did), Tally, Tally)> {
+    let (host, rest) = hands.split_first_mut()?;
+    let (second, rest) = rest.split_first_mut()?;
+    let (first, _) = rest.split_first_mut()?;
+    let steps = first_steps(first, host);
+    let (one, other) = drive_all(rt, host, first, second);
+    Some((steps, one, other))
 }
 
 /// What the first steps and then two threads do.
@@ -310,15 +311,8 @@ fn run_by_hand<R: Threads + Wait>(
     requires columns { stim.now.columns ≡ image.now.columns }
 {
     let (bar, passes) = Crossbar::make(rt, alloc, image, stim, 2)?;
-    let hands = all_hands(alloc, &bar, image, stim, passes)?;
-    let Some((mut first, second, mut host)) = three_hands(hands) else {
-        return Ok(None);
-    };
-    let steps = first_steps(&mut first, &mut host);
-    let one = pair(alloc, host, first)?;
-    let other = alone(alloc, second)?;
-    let (one, other) = drive_all(rt, one, other);
-    Ok(Some((steps, one, other)))
+    let mut hands = all_hands(alloc, &bar, image, stim, passes)?;
+    Ok(drive_three(rt, hands.as_mut_slice()))
 }
 
 /// The same of c17, over these rows.
