@@ -124,20 +124,21 @@ fn is_met(flag: &AtomicBool) -> bool {
     false
 }
 
-impl<'a> WatchGate<'a> {
-    /// Whether the flag of the worker is to be set.
-    fn is_marked(&self, turn: u64) -> bool {
-        match self.watch {
+impl Watch {
+    /// Whether the flag of the worker is to be set in a turn.
+    fn marks(self, turn: u64) -> bool {
+        match self {
             Watch::Pair => true,
             Watch::Hold => turn > 3,
         }
     }
 
-    /// Whether the call is to be held. The host is port 2.
-    fn is_held(&self, port: u32, turn: u64) -> bool {
-        match self.watch {
-            Watch::Pair => !self.held,
-            Watch::Hold => self.first && port == 2 && turn == 3,
+    /// Whether a call is to be held, of the first worker or not, where one was held before or not. The host is
+    /// port 2.
+    fn holds(self, first: bool, held: bool, port: u32, turn: u64) -> bool {
+        match self {
+            Watch::Pair => !held,
+            Watch::Hold => first && port == 2 && turn == 3,
         }
     }
 }
@@ -149,10 +150,10 @@ impl<'a> Gate for WatchGate<'a> {
 
     fn at(&mut self, port: u32, turn: u64) {
         self.counts.at(port, turn);
-        if self.is_marked(turn) {
+        if self.watch.marks(turn) {
             self.mine.store(true, Ordering::SeqCst);
         }
-        if self.is_held(port, turn) {
+        if self.watch.holds(self.first, self.held, port, turn) {
             self.held = true;
             self.found = is_met(self.other);
         }
