@@ -4,6 +4,8 @@
 #![tactic(auto)]
 
 #[cfg(test)]
+mod items;
+#[cfg(test)]
 mod of_array_cells;
 #[cfg(test)]
 mod of_bench_line;

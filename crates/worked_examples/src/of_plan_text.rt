@@ -1,30 +1,16 @@
 //! Reports of netlists that are read, with ample memory, against reports from outside.
 
-ghost use Rattle.std.specs.Prelude.{IfSome};
-ghost use Rattle.net_defs.specs.Valid.{IsValid};
-ghost use Rattle.node_defs.specs.WellFormed.{IsWellFormed};
-
+use crate::items::mapped;
 use bench_read::law::reads_as_valid;
 use bench_read::read_bench;
 use home_pick::homes;
 use machine_text::read_machine;
-use net_defs::{Init, Mode, Netlist, Timing};
-use node_defs::NodeNet;
-use node_map::map_nodes;
-use plan_defs::law::items_are_well_formed;
 use plan_text::{crossings, report};
-use rank_find::rank;
 use seen_list::Text;
 use slot_plan::first_fit;
 use std::alloc::Global;
 use std::test::Fail;
 use switch_set::settings;
-
-const RANK: Timing = Timing {
-    mode: Mode::Rank,
-    units: 1,
-    init: Init::Undef,
-};
 
 const C17: &str =
     "INPUT(1)\nINPUT(2)\nINPUT(3)\nINPUT(6)\nINPUT(7)\nOUTPUT(22)\nOUTPUT(23)\n10 = NAND(1, 3)\n11 = NAND(3, 6)\n16 = NAND(2, 11)\n19 = NAND(11, 7)\n22 = NAND(10, 16)\n23 = NAND(16, 19)\n";
@@ -49,17 +35,6 @@ const TWICE: &str = "INPUT(a)\nOUTPUT(a)\nOUTPUT(a)\n";
 const TWICE_ON_ONE: &str = "slots 1\nl0 items 0 tables 0 takes 0\nh items 1 takes 0\na h 0\n";
 
 const NOTHING_ON_ONE: &str = "slots 0\nl0 items 0 tables 0 takes 0\nh items 0 takes 0\n";
-
-fn mapped(alloc: Global, net: &Netlist) -> Option<NodeNet>
-    requires { IsValid net.now }
-    ensures { IfSome result IsWellFormed }
-{
-    let Ok(ranks) = rank(alloc, net, &RANK) else {
-        return None;
-    };
-    items_are_well_formed();
-    map_nodes(alloc, net, &ranks, &RANK).ok()
-}
 
 /// The report and the number of crossings of a netlist on a machine.
 fn reported(alloc: Global, text: &[u8], sizes: &[u8]) -> Option<(Text, u64)> {

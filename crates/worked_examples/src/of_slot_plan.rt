@@ -1,25 +1,10 @@
 //! Plans of netlists that are read, with ample memory, against plans worked out by hand.
 
-ghost use Rattle.std.specs.Prelude.{IfSome};
-ghost use Rattle.node_defs.specs.WellFormed.{IsWellFormed};
-
-use bench_read::law::reads_as_valid;
-use bench_read::read_bench;
+use crate::items::items_of;
 use home_pick::{HomeNo, homes};
 use machine_text::read_machine;
-use net_defs::{Init, Mode, Timing};
-use node_defs::NodeNet;
-use node_map::map_nodes;
-use plan_defs::law::items_are_well_formed;
-use rank_find::rank;
 use slot_plan::{PlanNo, first_fit};
 use std::alloc::Global;
-
-const RANK: Timing = Timing {
-    mode: Mode::Rank,
-    units: 1,
-    init: Init::Undef,
-};
 
 const C17: &[u8] =
     b"INPUT(1)\nINPUT(2)\nINPUT(3)\nINPUT(6)\nINPUT(7)\nOUTPUT(22)\nOUTPUT(23)\n10 = NAND(1, 3)\n11 = NAND(3, 6)\n16 = NAND(2, 11)\n19 = NAND(11, 7)\n22 = NAND(10, 16)\n23 = NAND(16, 19)\n";
@@ -39,23 +24,6 @@ enum End {
     Unread,
 }
 
-fn mapped(alloc: Global, text: &[u8]) -> Option<NodeNet>
-    ensures { IfSome result IsWellFormed }
-{
-    if text.len() > 1_000_000 {
-        return None;
-    }
-    let Ok(net) = read_bench(alloc, text) else {
-        return None;
-    };
-    reads_as_valid(text, &net);
-    let Ok(ranks) = rank(alloc, &net, &RANK) else {
-        return None;
-    };
-    items_are_well_formed();
-    map_nodes(alloc, &net, &ranks, &RANK).ok()
-}
-
 /// The slots needed, and those of the first and the last item.
 fn planned(alloc: Global, text: &[u8], settings: &[u8]) -> End {
     if settings.len() > 1_000_000 {
@@ -64,7 +32,7 @@ fn planned(alloc: Global, text: &[u8], settings: &[u8]) -> End {
     let Ok(machine) = read_machine(alloc, settings) else {
         return End::Unread;
     };
-    let Some(nodes) = mapped(alloc, text) else {
+    let Some(nodes) = items_of(alloc, text) else {
         return End::Unread;
     };
     match homes(alloc, &nodes, &machine) {

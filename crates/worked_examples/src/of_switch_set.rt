@@ -1,28 +1,13 @@
 //! The settings for netlists that are read, with ample memory, against settings worked out by hand.
 
-ghost use Rattle.std.specs.Prelude.{IfSome};
-ghost use Rattle.node_defs.specs.WellFormed.{IsWellFormed};
-
-use bench_read::law::reads_as_valid;
-use bench_read::read_bench;
+use crate::items::items_of;
 use home_pick::homes;
 use machine_text::read_machine;
-use net_defs::{Init, Mode, Timing};
-use node_defs::NodeNet;
-use node_map::map_nodes;
-use plan_defs::law::items_are_well_formed;
 use plan_defs::{PortLinks, Switch};
-use rank_find::rank;
 use slot_plan::first_fit;
 use std::alloc::Global;
 use std::test::Fail;
 use switch_set::settings;
-
-const RANK: Timing = Timing {
-    mode: Mode::Rank,
-    units: 1,
-    init: Init::Undef,
-};
 
 const C17: &[u8] =
     b"INPUT(1)\nINPUT(2)\nINPUT(3)\nINPUT(6)\nINPUT(7)\nOUTPUT(22)\nOUTPUT(23)\n10 = NAND(1, 3)\n11 = NAND(3, 6)\n16 = NAND(2, 11)\n19 = NAND(11, 7)\n22 = NAND(10, 16)\n23 = NAND(16, 19)\n";
@@ -32,30 +17,13 @@ const MEMORY: &[u8] = b"INPUT(w)\nINPUT(a)\nINPUT(d)\nOUTPUT(q)\n[q] = RAM(w; a;
 
 const TWICE: &[u8] = b"INPUT(a)\nOUTPUT(a)\nOUTPUT(a)\n";
 
-fn mapped(alloc: Global, text: &[u8]) -> Option<NodeNet>
-    ensures { IfSome result IsWellFormed }
-{
-    if text.len() > 1_000_000 {
-        return None;
-    }
-    let Ok(net) = read_bench(alloc, text) else {
-        return None;
-    };
-    reads_as_valid(text, &net);
-    let Ok(ranks) = rank(alloc, &net, &RANK) else {
-        return None;
-    };
-    items_are_well_formed();
-    map_nodes(alloc, &net, &ranks, &RANK).ok()
-}
-
 /// The settings of a netlist on a machine.
 fn switched(alloc: Global, text: &[u8], sizes: &[u8]) -> Option<Switch> {
     if sizes.len() > 1_000_000 {
         return None;
     }
     let machine = read_machine(alloc, sizes).ok()?;
-    let nodes = mapped(alloc, text)?;
+    let nodes = items_of(alloc, text)?;
     let Ok(ports) = homes(alloc, &nodes, &machine) else {
         return None;
     };

@@ -7,18 +7,21 @@ use text_lines::*;
 #[test]
 fn reads_lines(rt: HostRuntime) {
     let mut lines = Lines::new(b"slots 5\t07 # \xff\r\n\t \nx\r");
-    let first = lines.next().unwrap_or((0, b""));
-    assert_eq!(rt; first.0, 1);
-    assert_eq!(rt; first.1, b"slots 5\t07 ".as_slice());
-    let mut words = Words::new(first.1);
-    assert_eq!(rt; words.next().unwrap_or(b""), b"slots".as_slice());
-    assert_eq!(rt; words.next().unwrap_or(b""), b"5".as_slice());
-    assert_eq!(rt; number(words.next().unwrap_or(b"")), Some(7));
-    assert!(rt; words.next().is_none());
-    assert_eq!(rt; lines.next().unwrap_or((0, b"")).1, b"\t ".as_slice());
-    let last = lines.next().unwrap_or((0, b""));
-    assert_eq!(rt; last.0, 3);
-    assert_eq!(rt; last.1, b"x".as_slice());
+    for wanted in [(1, b"slots 5\t07 ".as_slice()), (2, b"\t "), (3, b"x")] {
+        let line = lines.next().unwrap_or((0, b""));
+        assert_eq!(rt; line.0, wanted.0);
+        assert_eq!(rt; line.1, wanted.1);
+    }
     assert!(rt; lines.next().is_none());
+}
+
+#[test]
+fn reads_words_and_numbers(rt: HostRuntime) {
+    let mut words = Words::new(b"slots 5\t07 ");
+    for word in [b"slots".as_slice(), b"5", b"07"] {
+        assert_eq!(rt; words.next().unwrap_or(b""), word);
+    }
+    assert!(rt; words.next().is_none());
+    assert_eq!(rt; number(b"07"), Some(7));
     assert_eq!(rt; number(b"99999999999999999999"), Some(u64::MAX));
 }

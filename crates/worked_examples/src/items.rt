@@ -1,0 +1,46 @@
+//! The items of netlists in rank order, for the tests of what is planned of them.
+
+ghost use Rattle.std.specs.Prelude.{IfSome};
+ghost use Rattle.net_defs.specs.Valid.{IsValid};
+ghost use Rattle.node_defs.specs.WellFormed.{IsWellFormed};
+
+use bench_read::law::reads_as_valid;
+use bench_read::read_bench;
+use net_defs::{Init, Mode, Netlist, Timing};
+use node_defs::NodeNet;
+use node_map::map_nodes;
+use plan_defs::law::items_are_well_formed;
+use rank_find::rank;
+use std::alloc::Global;
+
+const RANK: Timing = Timing {
+    mode: Mode::Rank,
+    units: 1,
+    init: Init::Undef,
+};
+
+/// None where there is no order or no memory.
+pub(crate) fn mapped(alloc: Global, net: &Netlist) -> Option<NodeNet>
+    requires { IsValid net.now }
+    ensures { IfSome result IsWellFormed }
+{
+    let Ok(ranks) = rank(alloc, net, &RANK) else {
+        return None;
+    };
+    items_are_well_formed();
+    map_nodes(alloc, net, &ranks, &RANK).ok()
+}
+
+/// Of the netlist of a text; none where there is no netlist, no order or no memory.
+pub(crate) fn items_of(alloc: Global, text: &[u8]) -> Option<NodeNet>
+    ensures { IfSome result IsWellFormed }
+{
+    if text.len() > 1_000_000 {
+        return None;
+    }
+    let Ok(net) = read_bench(alloc, text) else {
+        return None;
+    };
+    reads_as_valid(text, &net);
+    mapped(alloc, &net)
+}
