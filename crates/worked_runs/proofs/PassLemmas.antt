@@ -1,12 +1,12 @@
 -- The passes of a crossbar, taken from the last one on.
-use Rattle.std.proofs.Common.{List, ap, arith, length, slice_get, sym, ℕ, ◌++◌, ◌+◌, ◌∙◌, ◌∷◌, [], ◌≡◌}
+use Rattle.std.proofs.Common.{List, ap, arith, length, slice_get, subst, sym, ℕ, ◌++◌, ◌+◌, ◌∙◌, ◌∷◌, [], ◌≡◌}
 use Rattle.std.proofs.lemmas.List.{length_push}
 use Rattle.std.proofs.lemmas.Option.{slice_get_within}
 use Rattle.list_laws.proofs.Places.{at_front, seam_at}
 use Rattle.slot_words.specs.Passes.{AreFirstPasses, CrossbarView, IsFirstPass, PassView}
 
 -- the last of the passes
-pub last_pass : (made : CrossbarView) (n : ℕ) (passes rest : List PassView) (one : PassView) → AreFirstPasses made (n + 1) passes → passes ≡ rest ++ one ∷ [] → IsFirstPass made n one × AreFirstPasses made n rest
+last_pass : (made : CrossbarView) (n : ℕ) (passes rest : List PassView) (one : PassView) → AreFirstPasses made (n + 1) passes → passes ≡ rest ++ one ∷ [] → IsFirstPass made n one × AreFirstPasses made n rest
 last_pass made n passes rest one are popped = (
   are.each n one (ap (λ xs. slice_get xs n) popped ∙ (ap (λ k. slice_get (rest ++ one ∷ []) k) (sym long) ∙ seam_at rest one [])),
   record {
@@ -16,3 +16,16 @@ last_pass made n passes rest one are popped = (
 ) where
   long : length rest ≡ n
   long = let all = are.long in let grown = ap length popped ∙ length_push rest one in omega arith
+
+-- where all passes that there are are the first ones: the last of them, and the others
+pub record IsPopped (made : CrossbarView) (passes rest : List PassView) (one : PassView) : Type 0 where
+  pub first : IsFirstPass made one.port one
+  pub others : AreFirstPasses made (length rest) rest
+  pub count : length passes ≡ length rest + 1
+  pub port : one.port ≡ length rest
+
+pub popped : (made : CrossbarView) (passes rest : List PassView) (one : PassView) → AreFirstPasses made (length passes) passes → passes ≡ rest ++ one ∷ [] → IsPopped made passes rest one
+popped made passes rest one are last =
+    let count = ap length last ∙ length_push rest one in
+    let less = last_pass made (length rest) passes rest one (subst (λ n. AreFirstPasses made n passes) count are) last in
+    record { first = subst (λ q. IsFirstPass made q one) (sym less.0.port_is) less.0; others = less.1; count = count; port = less.0.port_is }
