@@ -1,4 +1,4 @@
-//! The items of netlists in rank order, for the tests of what is planned of them.
+//! The items of netlists that are read, for the tests of items and of what is planned of them.
 
 ghost use Rattle.std.specs.Prelude.{IfSome};
 ghost use Rattle.net_defs.specs.Valid.{IsValid};
@@ -13,26 +13,26 @@ use plan_defs::law::items_are_well_formed;
 use rank_find::rank;
 use std::alloc::Global;
 
-const RANK: Timing = Timing {
+pub(crate) const RANK: Timing = Timing {
     mode: Mode::Rank,
     units: 1,
     init: Init::Undef,
 };
 
 /// None where there is no order or no memory.
-pub(crate) fn mapped(alloc: Global, net: &Netlist) -> Option<NodeNet>
+fn mapped(alloc: Global, net: &Netlist, timing: &Timing) -> Option<NodeNet>
     requires { IsValid net.now }
     ensures { IfSome result IsWellFormed }
 {
-    let Ok(ranks) = rank(alloc, net, &RANK) else {
+    let Ok(ranks) = rank(alloc, net, timing) else {
         return None;
     };
     items_are_well_formed();
-    map_nodes(alloc, net, &ranks, &RANK).ok()
+    map_nodes(alloc, net, &ranks, timing).ok()
 }
 
 /// Of the netlist of a text; none where there is no netlist, no order or no memory.
-pub(crate) fn items_of(alloc: Global, text: &[u8]) -> Option<NodeNet>
+pub(crate) fn items_of(alloc: Global, text: &[u8], timing: &Timing) -> Option<NodeNet>
     ensures { IfSome result IsWellFormed }
 {
     if text.len() > 1_000_000 {
@@ -42,5 +42,5 @@ pub(crate) fn items_of(alloc: Global, text: &[u8]) -> Option<NodeNet>
         return None;
     };
     reads_as_valid(text, &net);
-    mapped(alloc, &net)
+    mapped(alloc, &net, timing)
 }

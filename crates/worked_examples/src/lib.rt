@@ -8,8 +8,6 @@ mod items;
 #[cfg(test)]
 mod of_array_cells;
 #[cfg(test)]
-mod of_bench_line;
-#[cfg(test)]
 mod of_bench_read;
 #[cfg(test)]
 mod of_bench_text;
@@ -24,24 +22,16 @@ mod of_logic_four;
 #[cfg(test)]
 mod of_machine_text;
 #[cfg(test)]
-mod of_net_defs;
-#[cfg(test)]
 mod of_node_map;
-#[cfg(test)]
-mod of_plan_text;
 #[cfg(test)]
 mod of_rank_find;
 #[cfg(test)]
 mod of_seen_list;
-#[cfg(test)]
-mod of_slot_plan;
 #[cfg(test)]
 mod of_stim_text;
 #[cfg(test)]
 mod of_switch_set;
 #[cfg(test)]
 mod of_text_lines;
-#[cfg(test)]
-mod of_trace_text;
 #[cfg(test)]
 mod of_yse_compile;

@@ -17,47 +17,53 @@ fn output(cells: &mut Cells, row: [V4; 4]) -> V4
     outs[0]
 }
 
-/// Reads of old words, of what was written, and of words that are not known any more. The values
-/// were worked out by hand.
+/// Enable, low and high address bit, data bit, and the output.
+type Edge = (V4, V4, V4, V4, V4);
+
+/// The old word is read where a word is written.
+const FROM_UNDEFINED: &[Edge] = &[
+    (One, One, Zero, One, Undef),
+    (Zero, One, Zero, Zero, One),
+    (Zero, One, Zero, Zero, One),
+    (One, One, Zero, Zero, One),
+    (Zero, One, Zero, Zero, Zero),
+];
+
+/// Nothing is written by an enable of 0. An undefined enable makes a word undefined, high impedance is stored as
+/// undefined, and a write to an undefined address makes every word undefined.
+const FROM_ZERO: &[Edge] = &[
+    (Zero, Zero, Zero, Zero, Zero),
+    (Zero, Undef, Zero, One, Undef),
+    (Zero, Zero, Zero, Zero, Zero),
+    (HighZ, One, One, One, Zero),
+    (One, Zero, One, HighZ, Zero),
+    (Zero, One, One, Zero, Undef),
+    (Zero, Zero, One, Zero, Undef),
+    (One, Undef, Zero, One, Undef),
+    (Zero, Zero, Zero, Zero, Undef),
+];
+
+/// Whether the edges, one after the other, give these outputs.
+fn agrees(cells: &mut Cells, edges: &[Edge]) -> bool
+    requires { HasShape 2 1 cells.old }
+    ensures { HasShape 2 1 cells.new }
+{
+    let mut all = true;
+    'edges: for (we, low, high, bit, want) in edges {
+        if output(cells, [*we, *low, *high, *bit]) != *want {
+            all = false;
+        }
+    }
+    all
+}
+
+/// Reads of old words, of what was written, and of words that are not known any more.
 #[test]
 fn edges_answer_as_tabled(rt: HostRuntime) -> Result<(), Fail> {
     let mut cells = Cells::new(rt.alloc(), 2, 1, Undef)?;
-    assert_eq!(rt; output(&mut cells, [One, One, Zero, One]), Undef);
-    assert_eq!(rt; output(&mut cells, [Zero, One, Zero, Zero]), One);
-    assert_eq!(rt; output(&mut cells, [Zero, One, Zero, Zero]), One);
-    assert_eq!(rt;
-        output(&mut cells, [One, One, Zero, Zero]),
-        One,
-        "the old word is read"
-    );
-    assert_eq!(rt; output(&mut cells, [Zero, One, Zero, Zero]), Zero);
-
+    assert!(rt; agrees(&mut cells, FROM_UNDEFINED));
     let mut cells = Cells::new(rt.alloc(), 2, 1, Zero)?;
-    assert_eq!(rt; output(&mut cells, [Zero, Zero, Zero, Zero]), Zero);
-    assert_eq!(rt; output(&mut cells, [Zero, Undef, Zero, One]), Undef);
-    assert_eq!(rt;
-        output(&mut cells, [Zero, Zero, Zero, Zero]),
-        Zero,
-        "nothing was written"
-    );
-    assert_eq!(rt; output(&mut cells, [HighZ, One, One, One]), Zero);
-    assert_eq!(rt; output(&mut cells, [One, Zero, One, HighZ]), Zero);
-    assert_eq!(rt;
-        output(&mut cells, [Zero, One, One, Zero]),
-        Undef,
-        "by an undefined enable"
-    );
-    assert_eq!(rt;
-        output(&mut cells, [Zero, Zero, One, Zero]),
-        Undef,
-        "z is stored as x"
-    );
-    assert_eq!(rt; output(&mut cells, [One, Undef, Zero, One]), Undef);
-    assert_eq!(rt;
-        output(&mut cells, [Zero, Zero, Zero, Zero]),
-        Undef,
-        "every word is lost"
-    );
+    assert!(rt; agrees(&mut cells, FROM_ZERO));
     Ok(())
 }
 

@@ -28,31 +28,31 @@ fn is_shown(alloc: Global, text: &[u8], shown: &[u8]) -> bool {
 /// anywhere, and a last line without its LF.
 #[test]
 fn reads_texts(rt: HostRuntime) {
-    let texts: [(&[u8], &[u8]); 6] = [
-        (b"", b""),
+    let texts: [(&str, &str); 6] = [
+        ("", ""),
         (
-            b"output(z)\nz=buf(a)\ninput(a)\n",
-            b"INPUT(a)\nOUTPUT(z)\nz = BUFF(a)\n",
+            "output(z)\nz=buf(a)\ninput(a)\n",
+            "INPUT(a)\nOUTPUT(z)\nz = BUFF(a)\n",
         ),
         (
-            b"INPUT(INPUT)\r\nAND = OR(INPUT, b) # \xff\r\n\r\nb=nand\t( INPUT ,INPUT)\r\n#\r",
-            b"INPUT(INPUT)\nAND = OR(INPUT, b)\nb = NAND(INPUT, INPUT)\n",
+            "INPUT(INPUT)\r\nAND = OR(INPUT, b) # \u{ff}\r\n\r\nb=nand\t( INPUT ,INPUT)\r\n#\r",
+            "INPUT(INPUT)\nAND = OR(INPUT, b)\nb = NAND(INPUT, INPUT)\n",
         ),
         (
-            b"INPUT(a)\nz = NOT(y)\ny = BUFF(a)\nOUTPUT(z)\nOUTPUT(a)\nOUTPUT(z)",
-            b"INPUT(a)\nOUTPUT(z)\nOUTPUT(a)\nOUTPUT(z)\nz = NOT(y)\ny = BUFF(a)\n",
+            "INPUT(a)\nz = NOT(y)\ny = BUFF(a)\nOUTPUT(z)\nOUTPUT(a)\nOUTPUT(z)",
+            "INPUT(a)\nOUTPUT(z)\nOUTPUT(a)\nOUTPUT(z)\nz = NOT(y)\ny = BUFF(a)\n",
         ),
         (
-            b"[q0, q1] = ram(we; a0, a1; d0, d1)\nINPUT(we)\nq=Dff(q1)\nINPUT(a0)\nINPUT(a1)\nINPUT(d0)\nINPUT(d1)\n[ r ]=RAM(q;q;q0)",
-            b"INPUT(we)\nINPUT(a0)\nINPUT(a1)\nINPUT(d0)\nINPUT(d1)\n[q0, q1] = RAM(we; a0, a1; d0, d1)\nq = DFF(q1)\n[r] = RAM(q; q; q0)\n",
+            "[q0, q1] = ram(we; a0, a1; d0, d1)\nINPUT(we)\nq=Dff(q1)\nINPUT(a0)\nINPUT(a1)\nINPUT(d0)\nINPUT(d1)\n[ r ]=RAM(q;q;q0)",
+            "INPUT(we)\nINPUT(a0)\nINPUT(a1)\nINPUT(d0)\nINPUT(d1)\n[q0, q1] = RAM(we; a0, a1; d0, d1)\nq = DFF(q1)\n[r] = RAM(q; q; q0)\n",
         ),
         (
-            b"INPUT(e)\nINPUT(a)\nt = TRI(e, a)\ny = BUS(t)\nx = xor(a, e)\nw = XNOR(a, x)\nv = NOR(a)\n",
-            b"INPUT(e)\nINPUT(a)\nt = TRI(e, a)\ny = BUS(t)\nx = XOR(a, e)\nw = XNOR(a, x)\nv = NOR(a)\n",
+            "INPUT(e)\nINPUT(a)\nt = TRI(e, a)\ny = BUS(t)\nx = xor(a, e)\nw = XNOR(a, x)\nv = NOR(a)\n",
+            "INPUT(e)\nINPUT(a)\nt = TRI(e, a)\ny = BUS(t)\nx = XOR(a, e)\nw = XNOR(a, x)\nv = NOR(a)\n",
         ),
     ];
     for (text, shown) in texts {
-        assert!(rt; is_shown(rt.alloc(), text, shown));
+        assert!(rt; is_shown(rt.alloc(), text.as_bytes(), shown.as_bytes()));
     }
 }
 
@@ -97,33 +97,32 @@ fn told(answer: Result<Netlist, BenchNo>, name: &[u8]) -> (u8, u32, u32) {
 /// The refused netlists, with their lines and columns.
 #[test]
 fn refuses_texts(rt: HostRuntime) {
-    let texts: [(&[u8], &[u8], (u8, u32, u32)); 20] = [
-        (b"INPUT(a)\nOUTPUT(z)\nz = AND(a, b)\n", b"b", (8, 3, 0)),
-        (b"INPUT(a)\na = NOT(a)\n", b"a", (7, 2, 1)),
-        (
-            b"INPUT(a)\nz = MAJ(a, a, a)\ny = NOT(a, a)\n",
-            b"",
-            (5, 2, 0),
-        ),
-        (b"INPUT(a)\nz = NOT(a\x01)\n", b"", (1, 2, 10)),
-        (b"INPUT(a)\nz = NOT(a, a)\n", b"", (6, 2, 0)),
-        (b"INPUT(a)\nz = NOT a\n", b"", (4, 2, 0)),
-        (b"z = RAM(a)\n", b"", (5, 1, 0)),
-        (b"[q] = AND(a; b; c)\n", b"", (5, 1, 0)),
-        (b"INPUT(a)\n[q, r] = RAM(a; a; a, a, a)\n", b"", (6, 2, 0)),
-        (b"INPUT(a)\n\n[q, q] = RAM(a; a; a, a)\n", b"q", (7, 3, 3)),
-        (b"x = NOT(u)\ny = NOT(v)\nx = BUFF(w)\n", b"x", (7, 3, 1)),
-        (b"x = AND(x, v)\ny = NOT(u)\n", b"v", (8, 1, 0)),
-        (b"OUTPUT(z)\n", b"z", (8, 1, 0)),
-        (b"FOO(z)\n", b"", (4, 1, 0)),
-        (b"[q] = RAM(a; b, ; c)\n", b"", (4, 1, 0)),
-        (b"[q] = RAM(a, b; b; c)\n", b"", (4, 1, 0)),
-        (b"z = AND()\n", b"", (4, 1, 0)),
-        (b"z = AND(a,)\n", b"", (4, 1, 0)),
-        (b"z = TRI(a)\n", b"", (6, 1, 0)),
-        (b"z = DFF(a, a)\n", b"", (6, 1, 0)),
+    let texts: [(&str, &str, (u8, u32, u32)); 20] = [
+        ("INPUT(a)\nOUTPUT(z)\nz = AND(a, b)\n", "b", (8, 3, 0)),
+        ("INPUT(a)\na = NOT(a)\n", "a", (7, 2, 1)),
+        ("INPUT(a)\nz = MAJ(a, a, a)\ny = NOT(a, a)\n", "", (5, 2, 0)),
+        ("INPUT(a)\nz = NOT(a\x01)\n", "", (1, 2, 10)),
+        ("INPUT(a)\nz = NOT(a, a)\n", "", (6, 2, 0)),
+        ("INPUT(a)\nz = NOT a\n", "", (4, 2, 0)),
+        ("z = RAM(a)\n", "", (5, 1, 0)),
+        ("[q] = AND(a; b; c)\n", "", (5, 1, 0)),
+        ("INPUT(a)\n[q, r] = RAM(a; a; a, a, a)\n", "", (6, 2, 0)),
+        ("INPUT(a)\n\n[q, q] = RAM(a; a; a, a)\n", "q", (7, 3, 3)),
+        ("x = NOT(u)\ny = NOT(v)\nx = BUFF(w)\n", "x", (7, 3, 1)),
+        ("x = AND(x, v)\ny = NOT(u)\n", "v", (8, 1, 0)),
+        ("OUTPUT(z)\n", "z", (8, 1, 0)),
+        ("FOO(z)\n", "", (4, 1, 0)),
+        ("[q] = RAM(a; b, ; c)\n", "", (4, 1, 0)),
+        ("[q] = RAM(a, b; b; c)\n", "", (4, 1, 0)),
+        ("z = AND()\n", "", (4, 1, 0)),
+        ("z = AND(a,)\n", "", (4, 1, 0)),
+        ("z = TRI(a)\n", "", (6, 1, 0)),
+        ("z = DFF(a, a)\n", "", (6, 1, 0)),
     ];
     for (text, name, want) in texts {
-        assert_eq!(rt; told(read(rt.alloc(), text), name), want);
+        assert_eq!(rt;
+            told(read(rt.alloc(), text.as_bytes()), name.as_bytes()),
+            want
+        );
     }
 }

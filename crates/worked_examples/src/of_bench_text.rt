@@ -77,16 +77,16 @@ fn fault(read: Result<Tokens, TextNo>) -> Option<TextNo> {
 /// Where a bad byte stands. A CR is one unless LF or the end of the text comes next.
 #[test]
 fn finds_bad_bytes(rt: HostRuntime) {
-    let texts: [(&[u8], u32, u32); 5] = [
-        (b"INPUT(a)\nz = NOT(a\x01)\n", 2, 10),
-        (b"a\rb", 1, 2),
-        (b"a\r\r\n", 1, 2),
-        (b"# \xff\r\n\xc3\xa9", 2, 1),
-        (b"\n\n \x7f", 3, 2),
+    let texts: [(&str, u32, u32); 5] = [
+        ("INPUT(a)\nz = NOT(a\x01)\n", 2, 10),
+        ("a\rb", 1, 2),
+        ("a\r\r\n", 1, 2),
+        ("# \u{ff}\r\n\u{e9}", 2, 1),
+        ("\n\n \x7f", 3, 2),
     ];
     for (text, line, column) in texts {
         assert_eq!(rt;
-            fault(tokens(rt.alloc(), text)),
+            fault(tokens(rt.alloc(), text.as_bytes())),
             Some(TextNo::BadByte { line, column })
         );
     }

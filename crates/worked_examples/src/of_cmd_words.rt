@@ -143,6 +143,10 @@ const CASES: &[(&str, &str)] = &[
     ("large 1 10001", "usage"),
 ];
 
+fn cases() -> &'static [(&'static str, &'static str)] {
+    CASES
+}
+
 /// The words of a line; `''` is the empty word.
 fn words_of(alloc: Global, line: &str) -> Result<Vec<String>, AllocError> {
     let mut words = Vec::new(alloc);
@@ -158,6 +162,14 @@ fn words_of(alloc: Global, line: &str) -> Result<Vec<String>, AllocError> {
 
 /// A simulation, as the table writes it.
 fn told_run(alloc: Global, command: &str, words: &RunWords) -> Result<String, Fail> {
+    let mut told = told_files(alloc, command, words)?;
+    push_option(&mut told, " machine ", &words.machine)?;
+    push_option(&mut told, " order ", &words.order)?;
+    Ok(told)
+}
+
+/// All but the machine and the order.
+fn told_files(alloc: Global, command: &str, words: &RunWords) -> Result<String, Fail> {
     let mode = match words.timing.mode {
         Mode::Rank => "rank",
         Mode::Unit => "unit",
@@ -166,22 +178,22 @@ fn told_run(alloc: Global, command: &str, words: &RunWords) -> Result<String, Fa
         Init::Undef => "x",
         Init::Zero => "0",
     };
-    let mut told = format!(in alloc;
-        "{command} {} {}",
+    Ok(format!(in alloc;
+        "{command} {} {} {mode} {} {init} banks {} workers {}",
         name_of(&words.netlist),
-        name_of(&words.stimulus)
-    )?;
-    told.push_str(&format!(in alloc;
-        " {mode} {} {init} banks {} workers {}",
-        words.timing.units, words.banks, words.workers
-    )?)?;
-    if let Some(machine) = &words.machine {
-        told.push_str(&format!(in alloc; " machine {}", name_of(machine))?)?;
+        name_of(&words.stimulus),
+        words.timing.units,
+        words.banks,
+        words.workers
+    )?)
+}
+
+fn push_option(told: &mut String, word: &str, file: &Option<Text>) -> Result<(), AllocError> {
+    if let Some(name) = file {
+        told.push_str(word)?;
+        told.push_str(name_of(name))?;
     }
-    if let Some(order) = &words.order {
-        told.push_str(&format!(in alloc; " order {}", name_of(order))?)?;
-    }
-    Ok(told)
+    Ok(())
 }
 
 fn name_of(text: &Text) -> &str {
@@ -211,14 +223,17 @@ fn told(alloc: Global, answer: &Result<Command, WordNo>) -> Result<String, Fail>
     }
 }
 
+/// What is read of a line.
+fn told_of(alloc: Global, line: &str) -> Result<String, Fail> {
+    let words = words_of(alloc, line)?;
+    told(alloc, &read_words(alloc, words.as_slice()))
+}
+
 /// Each line of the table is read as it says, where there is enough memory.
 #[test]
 fn reads_words(rt: HostRuntime) -> Result<(), Fail> {
-    let alloc = rt.alloc();
-    for (line, want) in CASES {
-        let words = words_of(alloc, line)?;
-        let told = told(alloc, &read_words(alloc, words.as_slice()))?;
-        assert_eq!(rt; told.as_bytes(), want.as_bytes());
+    for (line, want) in cases() {
+        assert_eq!(rt; told_of(rt.alloc(), line)?.as_bytes(), want.as_bytes());
     }
     Ok(())
 }

@@ -33,6 +33,6 @@ fn gates_answer_as_tabled(rt: HostRuntime) {
         (Kind::Bus, &[Undef, HighZ], Undef),
     ];
     for (kind, operands, want) in rows {
-        assert_eq!(rt; gate(kind, operands), want, "{kind:?} {operands:?}");
+        assert_eq!(rt; gate(kind, operands), want);
     }
 }

@@ -21,30 +21,30 @@ const DEFAULTS: Machine = Machine {
 /// The texts that are refused, with their lines, and texts at the ends of the ranges.
 #[test]
 fn reads_texts(rt: HostRuntime) {
-    let texts: [(&[u8], Result<Machine, MachNo>); 11] = [
-        (b"", Ok(DEFAULTS)),
-        (b"logic 0\n", Err(MachNo::Range { line: 1 })),
-        (b"logic 254\narray 2\n", Err(MachNo::Ports { sum: 257 })),
-        (b"slots 5\nslots 5\n", Err(MachNo::Twice { line: 2 })),
-        (b"slots 5\nslots 0\n", Err(MachNo::Twice { line: 2 })),
-        (b"wheels 4\n", Err(MachNo::Syntax { line: 1 })),
-        (b"\n\nslots 5 6", Err(MachNo::Syntax { line: 3 })),
+    let texts: [(&str, Result<Machine, MachNo>); 11] = [
+        ("", Ok(DEFAULTS)),
+        ("logic 0\n", Err(MachNo::Range { line: 1 })),
+        ("logic 254\narray 2\n", Err(MachNo::Ports { sum: 257 })),
+        ("slots 5\nslots 5\n", Err(MachNo::Twice { line: 2 })),
+        ("slots 5\nslots 0\n", Err(MachNo::Twice { line: 2 })),
+        ("wheels 4\n", Err(MachNo::Syntax { line: 1 })),
+        ("\n\nslots 5 6", Err(MachNo::Syntax { line: 3 })),
         (
-            b"logic 99999999999999999999\n",
+            "logic 99999999999999999999\n",
             Err(MachNo::Range { line: 1 }),
         ),
-        (b"slots 65537\nwheels 4\n", Err(MachNo::Range { line: 1 })),
+        ("slots 65537\nwheels 4\n", Err(MachNo::Range { line: 1 })),
         (
-            b"LOGIC 1 # \xff\r\n\tArray\t000\r\nslots 1\nfunctions 01\nbits 1\r",
+            "LOGIC 1 # \u{ff}\r\n\tArray\t000\r\nslots 1\nfunctions 01\nbits 1\r",
             Ok(SMALLEST),
         ),
         (
-            b"bits 65536\nfunctions 256\nslots 65536\nARRAY 1\nlogic 00000000000000000000004",
+            "bits 65536\nfunctions 256\nslots 65536\nARRAY 1\nlogic 00000000000000000000004",
             Ok(DEFAULTS),
         ),
     ];
     for (text, want) in texts {
-        assert_eq!(rt; read_machine(rt.alloc(), text), want);
+        assert_eq!(rt; read_machine(rt.alloc(), text.as_bytes()), want);
     }
     assert_eq!(rt; Machine::default_size(), DEFAULTS);
 }

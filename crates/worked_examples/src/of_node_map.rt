@@ -1,21 +1,11 @@
 //! `map_nodes` with ample memory, against items written out by hand.
 
-use bench_read::law::reads_as_valid;
-use bench_read::read_bench;
-use logic_four::V4;
+use crate::items::{RANK, items_of};
 use net_defs::{Init, Mode, Timing};
-use node_defs::{Feed, Feeds, Item, ItemName, NodeNet, Tag};
-use node_map::map_nodes;
-use rank_find::rank;
-use seen_list::Memory;
+use node_defs::{Feed, Item, NodeNet, Tag};
+use seen_list::{Memory, Text};
 use std::alloc::Global;
 use std::test::Fail;
-
-const RANK: Timing = Timing {
-    mode: Mode::Rank,
-    units: 1,
-    init: Init::Undef,
-};
 
 const UNIT: Timing = Timing {
     mode: Mode::Unit,
@@ -23,168 +13,127 @@ const UNIT: Timing = Timing {
     init: Init::Undef,
 };
 
-/// The items of the netlist of a text; none where there is no netlist, no order or no memory.
-fn mapped(alloc: Global, text: &[u8], timing: &Timing) -> Option<NodeNet> {
-    if text.len() > 1_000_000 {
-        return None;
+/// Adds an operand: its item, with a `'` where its value is that of the last turn; nothing for a value that is
+/// always 0.
+fn push_feed(alloc: Global, text: &mut Text, feed: Feed) -> Result<(), Fail> {
+    match feed {
+        Feed::From {
+            item,
+            tag: Tag::This,
+        } => text.push_bytes(format!(in alloc; " {item}")?.as_bytes())?,
+        Feed::From {
+            item,
+            tag: Tag::Last,
+        } => text.push_bytes(format!(in alloc; " {item}'")?.as_bytes())?,
+        Feed::Fixed(_) => {}
     }
-    let Ok(net) = read_bench(alloc, text) else {
-        return None;
-    };
-    reads_as_valid(text, &net);
-    let Ok(ranks) = rank(alloc, &net, timing) else {
-        return None;
-    };
-    map_nodes(alloc, &net, &ranks, timing).ok()
-}
-
-const OFF: Feed = Feed::Fixed(V4::Zero);
-
-fn own(signal: u32) -> ItemName {
-    ItemName {
-        signal,
-        helper: None,
-    }
-}
-
-fn helper(signal: u32, number: u32) -> ItemName {
-    ItemName {
-        signal,
-        helper: Some(number),
-    }
-}
-
-fn this(item: u32) -> Feed {
-    Feed::From {
-        item,
-        tag: Tag::This,
-    }
-}
-
-fn last(item: u32) -> Feed {
-    Feed::From {
-        item,
-        tag: Tag::Last,
-    }
-}
-
-fn node(table: u32, a: Feed, b: Feed, c: Feed, d: Feed) -> Item {
-    Item::Node {
-        table,
-        feeds: Feeds { a, b, c, d },
-    }
-}
-
-/// In unit delay only the first of three levels reads the last turn.
-#[test]
-fn wide_and(rt: HostRuntime) -> Result<(), Fail> {
-    let text =
-        b"INPUT(a)\nINPUT(b)\nINPUT(c)\nINPUT(d)\nINPUT(e)\nINPUT(f)\nINPUT(g)\nINPUT(h)\nINPUT(i)\nINPUT(j)\nINPUT(k)\nINPUT(l)\nINPUT(m)\nINPUT(n)\nINPUT(o)\nINPUT(p)\nINPUT(q)\nOUTPUT(z)\nz = AND(a, b, c, d, e, f, g, h, i, j, k, l, m, n, o, p, q)\n";
-    let nodes = mapped(rt.alloc(), text, &UNIT).ok_or("no items")?;
-    assert_eq!(rt; nodes.first_node, 17);
-    assert_eq!(rt; nodes.tables.len(), 3);
-    assert_eq!(rt; nodes.printed.as_slice(), [24].as_slice());
-    let names = [
-        helper(17, 0),
-        helper(17, 1),
-        helper(17, 2),
-        helper(17, 3),
-        helper(17, 4),
-        helper(17, 5),
-        helper(17, 6),
-        own(17),
-    ];
-    assert_eq!(rt; nodes.names.as_slice().get(17..), Some(names.as_slice()));
-    let items = [
-        node(0, last(0), last(1), last(2), last(3)),
-        node(0, last(4), last(5), last(6), last(7)),
-        node(0, last(8), last(9), last(10), last(11)),
-        node(0, last(12), last(13), last(14), last(15)),
-        node(1, last(16), OFF, OFF, OFF),
-        node(0, this(17), this(18), this(19), this(20)),
-        node(1, this(21), OFF, OFF, OFF),
-        node(2, this(22), this(23), OFF, OFF),
-    ];
-    assert_eq!(rt; nodes.items.as_slice().get(17..), Some(items.as_slice()));
     Ok(())
 }
 
-type Row<'a> = (&'a [u8], u32, usize, &'a [Item]);
+/// Adds an item: a register by its operand, a node by its table and its operands.
+fn push_item(alloc: Global, text: &mut Text, item: &Item) -> Result<(), Fail> {
+    match item {
+        Item::Latch { op } => text.push_bytes(format!(in alloc; "register {op}")?.as_bytes())?,
+        Item::Node { table, feeds } => {
+            text.push_bytes(format!(in alloc; "{table} of")?.as_bytes())?;
+            for feed in [feeds.a, feeds.b, feeds.c, feeds.d] {
+                push_feed(alloc, text, feed)?;
+            }
+        }
+        Item::Input { .. } | Item::BlockBit { .. } => text.push_bytes(b"no node")?,
+    }
+    text.push_bytes(b"\n")?;
+    Ok(())
+}
 
-/// Each netlist by its first node, its number of tables and its items from the first node on.
+/// The items from the first node on, a line each.
+fn told(alloc: Global, nodes: &NodeNet) -> Result<Text, Fail> {
+    let mut text = Text::new(alloc);
+    for item in nodes
+        .items
+        .as_slice()
+        .iter()
+        .skip(nodes.first_node as usize)
+    {
+        push_item(alloc, &mut text, item)?;
+    }
+    Ok(text)
+}
+
+/// A gate of 17 operands.
+const WIDE_AND: &str =
+    "INPUT(a)\nINPUT(b)\nINPUT(c)\nINPUT(d)\nINPUT(e)\nINPUT(f)\nINPUT(g)\nINPUT(h)\nINPUT(i)\nINPUT(j)\nINPUT(k)\nINPUT(l)\nINPUT(m)\nINPUT(n)\nINPUT(o)\nINPUT(p)\nINPUT(q)\nOUTPUT(z)\nz = AND(a, b, c, d, e, f, g, h, i, j, k, l, m, n, o, p, q)\n";
+
+/// A netlist, its timing, its first node, its number of tables, and its items from the first node on: the tables of
+/// nodes with their operands. In unit delay only the first of three levels reads the last turn.
+const ROWS: &[(&str, Timing, u32, usize, &str)] = &[
+    (
+        "INPUT(a)\nINPUT(b)\nINPUT(c)\nINPUT(d)\nINPUT(e)\nz = NAND(a, b, c, d, e)\n",
+        RANK,
+        5,
+        3,
+        "0 of 0 1 2 3\n1 of 4\n2 of 5 6\n",
+    ),
+    (
+        "INPUT(a)\nINPUT(b)\nINPUT(c)\nINPUT(d)\nINPUT(e)\nINPUT(f)\nINPUT(g)\nz = BUS(a, b, c, d, e, f, g)\n",
+        RANK,
+        7,
+        3,
+        "0 of 0 1 2 3\n1 of 4 5 6\n2 of 7 8\n",
+    ),
+    (
+        WIDE_AND,
+        UNIT,
+        17,
+        3,
+        "0 of 0' 1' 2' 3'\n0 of 4' 5' 6' 7'\n0 of 8' 9' 10' 11'\n0 of 12' 13' 14' 15'\n1 of 16'\n0 of 17 18 19 20\n1 of 21\n2 of 22 23\n",
+    ),
+    (
+        "INPUT(1)\nINPUT(2)\nINPUT(3)\nINPUT(6)\nINPUT(7)\n10 = NAND(1, 3)\n11 = NAND(3, 6)\n16 = NAND(2, 11)\n19 = NAND(11, 7)\n22 = NAND(10, 16)\n23 = NAND(16, 19)\n",
+        RANK,
+        5,
+        1,
+        "0 of 0 2\n0 of 2 3\n0 of 1 6\n0 of 6 4\n0 of 5 7\n0 of 7 8\n",
+    ),
+    (
+        "z = NOT(q)\nr = DFF(z)\n[q] = RAM(w; a, b; d)\nINPUT(w)\nINPUT(a)\nINPUT(b)\nINPUT(d)\n",
+        RANK,
+        5,
+        1,
+        "0 of 4\nregister 5\n",
+    ),
+    (
+        "INPUT(G0)\nINPUT(G1)\nINPUT(G2)\nINPUT(G3)\nG5 = DFF(G10)\nG6 = DFF(G11)\nG7 = DFF(G13)\nG14 = NOT(G0)\nG17 = NOT(G11)\nG8 = AND(G14, G6)\nG15 = OR(G12, G8)\nG16 = OR(G3, G8)\nG9 = NAND(G16, G15)\nG10 = NOR(G14, G11)\nG11 = NOR(G5, G9)\nG12 = NOR(G1, G7)\nG13 = NOR(G2, G12)\n",
+        RANK,
+        4,
+        5,
+        "register 16\nregister 14\nregister 12\n0 of 0\n1 of 7 5\n2 of 1 6\n3 of 9 8\n3 of 3 8\n2 of 2 9\n4 of 11 10\n2 of 4 13\n0 of 14\n2 of 7 14\n",
+    ),
+];
+
+fn rows() -> &'static [(&'static str, Timing, u32, usize, &'static str)] {
+    ROWS
+}
+
 #[test]
-fn small_netlists(rt: HostRuntime) -> Result<(), Fail> {
-    let nand: &[Item] = &[
-        node(0, this(0), this(1), this(2), this(3)),
-        node(1, this(4), OFF, OFF, OFF),
-        node(2, this(5), this(6), OFF, OFF),
-    ];
-    let bus: &[Item] = &[
-        node(0, this(0), this(1), this(2), this(3)),
-        node(1, this(4), this(5), this(6), OFF),
-        node(2, this(7), this(8), OFF, OFF),
-    ];
-    let c17: &[Item] = &[
-        node(0, this(0), this(2), OFF, OFF),
-        node(0, this(2), this(3), OFF, OFF),
-        node(0, this(1), this(6), OFF, OFF),
-        node(0, this(6), this(4), OFF, OFF),
-        node(0, this(5), this(7), OFF, OFF),
-        node(0, this(7), this(8), OFF, OFF),
-    ];
-    let ram: &[Item] = &[node(0, this(4), OFF, OFF, OFF), Item::Latch { op: 5 }];
-    let s27: &[Item] = &[
-        Item::Latch { op: 16 },
-        Item::Latch { op: 14 },
-        Item::Latch { op: 12 },
-        node(0, this(0), OFF, OFF, OFF),
-        node(1, this(7), this(5), OFF, OFF),
-        node(2, this(1), this(6), OFF, OFF),
-        node(3, this(9), this(8), OFF, OFF),
-        node(3, this(3), this(8), OFF, OFF),
-        node(2, this(2), this(9), OFF, OFF),
-        node(4, this(11), this(10), OFF, OFF),
-        node(2, this(4), this(13), OFF, OFF),
-        node(0, this(14), OFF, OFF, OFF),
-        node(2, this(7), this(14), OFF, OFF),
-    ];
-    let rows: &[Row] = &[
-        (
-            b"INPUT(a)\nINPUT(b)\nINPUT(c)\nINPUT(d)\nINPUT(e)\nz = NAND(a, b, c, d, e)\n",
-            5,
-            3,
-            nand,
-        ),
-        (
-            b"INPUT(a)\nINPUT(b)\nINPUT(c)\nINPUT(d)\nINPUT(e)\nINPUT(f)\nINPUT(g)\nz = BUS(a, b, c, d, e, f, g)\n",
-            7,
-            3,
-            bus,
-        ),
-        (
-            b"INPUT(1)\nINPUT(2)\nINPUT(3)\nINPUT(6)\nINPUT(7)\n10 = NAND(1, 3)\n11 = NAND(3, 6)\n16 = NAND(2, 11)\n19 = NAND(11, 7)\n22 = NAND(10, 16)\n23 = NAND(16, 19)\n",
-            5,
-            1,
-            c17,
-        ),
-        (
-            b"z = NOT(q)\nr = DFF(z)\n[q] = RAM(w; a, b; d)\nINPUT(w)\nINPUT(a)\nINPUT(b)\nINPUT(d)\n",
-            5,
-            1,
-            ram,
-        ),
-        (
-            b"INPUT(G0)\nINPUT(G1)\nINPUT(G2)\nINPUT(G3)\nG5 = DFF(G10)\nG6 = DFF(G11)\nG7 = DFF(G13)\nG14 = NOT(G0)\nG17 = NOT(G11)\nG8 = AND(G14, G6)\nG15 = OR(G12, G8)\nG16 = OR(G3, G8)\nG9 = NAND(G16, G15)\nG10 = NOR(G14, G11)\nG11 = NOR(G5, G9)\nG12 = NOR(G1, G7)\nG13 = NOR(G2, G12)\n",
-            4,
-            5,
-            s27,
-        ),
-    ];
-    for (text, first, tables, items) in rows {
-        let nodes = mapped(rt.alloc(), text, &RANK).ok_or("no items")?;
-        assert_eq!(rt; nodes.first_node, *first);
-        assert_eq!(rt; nodes.tables.len(), *tables);
-        assert_eq!(rt; nodes.items.as_slice().get(*first as usize..), Some(*items));
+fn netlists_have_these_items(rt: HostRuntime) -> Result<(), Fail> {
+    for (text, timing, first, tables, items) in rows() {
+        let nodes = items_of(rt.alloc(), text.as_bytes(), timing).ok_or("no items")?;
+        assert_eq!(rt; (nodes.first_node, nodes.tables.len()), (*first, *tables));
+        assert_eq!(rt; told(rt.alloc(), &nodes)?.as_bytes(), items.as_bytes());
+    }
+    Ok(())
+}
+
+/// Seven helpers, and then the gate's own node.
+#[test]
+fn helpers_are_numbered(rt: HostRuntime) -> Result<(), Fail> {
+    let nodes = items_of(rt.alloc(), WIDE_AND.as_bytes(), &UNIT).ok_or("no items")?;
+    assert_eq!(rt; nodes.names.len(), 25);
+    for (i, name) in nodes.names.as_slice().iter().skip(17).enumerate() {
+        assert!(rt;
+            name.signal == 17 && name.helper == (if i < 7 { Some(i as u32) } else { None })
+        );
     }
     Ok(())
 }

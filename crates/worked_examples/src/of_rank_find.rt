@@ -19,14 +19,6 @@ const UNIT: Timing = Timing {
     init: Init::Undef,
 };
 
-fn numbers(alloc: Global, items: &[u32]) -> Result<List<u32>, Memory> {
-    let mut list = List::new(alloc);
-    for item in items {
-        list.push(*item)?;
-    }
-    Ok(list)
-}
-
 /// Two inputs, and then what these drivers say: a gate by its operands, a register by one.
 fn netlist(alloc: Global, lines: &[(Kind, bool, &[u32])]) -> Result<Netlist, Memory> {
     let mut signals = List::new(alloc);
@@ -41,7 +33,7 @@ fn netlist(alloc: Global, lines: &[(Kind, bool, &[u32])]) -> Result<Netlist, Mem
             [op] if !*is_gate => Driver::Dff { op: *op },
             _ => Driver::Gate {
                 kind: *kind,
-                ops: numbers(alloc, operands)?,
+                ops: List::from_slice(alloc, operands)?,
             },
         };
         signals.push(Signal { name, driver })?;
@@ -69,70 +61,91 @@ fn ranked(
     }
 }
 
-type Row<'a> = (&'a [(Kind, bool, &'a [u32])], Timing, &'a [u32], &'a [u32]);
+/// What stands behind two inputs: a gate by its operands, or a register by one.
+type Lines<'a> = &'a [(Kind, bool, &'a [u32])];
+
+/// q = NAND(s, p), p = NAND(r, q)
+const LATCH: Lines<'static> = &[(Kind::Nand, true, &[0, 3]), (Kind::Nand, true, &[1, 2])];
+
+/// A chain in which each gate stands before its operand.
+const CHAIN: Lines<'static> = &[
+    (Kind::Not, true, &[3]),
+    (Kind::Not, true, &[4]),
+    (Kind::And, true, &[0, 1]),
+    (Kind::Or, true, &[2, 4]),
+];
+
+/// n = NOT(q), q = DFF(n)
+const TOGGLE: Lines<'static> = &[(Kind::Not, true, &[3]), (Kind::Not, false, &[2])];
+
+/// A gate that is its own operand, behind a gate of no loop.
+const ITSELF: Lines<'static> = &[(Kind::And, true, &[3, 0]), (Kind::Or, true, &[0, 3])];
+
+/// 5 is an operand of 4, 4 of 3, 3 of 5: the loop begins with 3.
+const THREE: Lines<'static> = &[
+    (Kind::Buf, true, &[5]),
+    (Kind::Buf, true, &[4]),
+    (Kind::Buf, true, &[5]),
+    (Kind::Buf, true, &[3]),
+];
+
+/// A netlist, its timing, and its order and its ranks, or its loop and nothing.
+type Row<'a> = (Lines<'a>, Timing, &'a [u32], &'a [u32]);
+
+const ROWS: &[Row<'static>] = &[
+    (LATCH, RANK, &[2, 3], &[]),
+    (LATCH, UNIT, &[2, 3], &[0, 0, 0, 0]),
+    (CHAIN, RANK, &[4, 3, 2, 5], &[0, 0, 2, 1, 0, 3]),
+    (TOGGLE, RANK, &[2], &[0, 0, 0, 0]),
+    (ITSELF, RANK, &[3], &[]),
+    (THREE, RANK, &[3, 5, 4], &[]),
+    (THREE, UNIT, &[2, 3, 4, 5], &[0, 0, 0, 0, 0, 0]),
+];
+
+fn rows() -> &'static [Row<'static>] {
+    ROWS
+}
 
 #[test]
 fn ranks_and_loops(rt: HostRuntime) -> Result<(), Fail> {
-    // q = NAND(s, p), p = NAND(r, q)
-    let latch: &[(Kind, bool, &[u32])] = &[
-        (Kind::Nand, true, &[0, 3]),
-        (Kind::Nand, true, &[1, 2]),
-    ];
-    // a chain in which each gate stands before its operand
-    let chain: &[(Kind, bool, &[u32])] = &[
-        (Kind::Not, true, &[3]),
-        (Kind::Not, true, &[4]),
-        (Kind::And, true, &[0, 1]),
-        (Kind::Or, true, &[2, 4]),
-    ];
-    // n = NOT(q), q = DFF(n)
-    let toggle: &[(Kind, bool, &[u32])] = &[(Kind::Not, true, &[3]), (Kind::Not, false, &[2])];
-    // a gate that is its own operand, behind a gate of no loop
-    let itself: &[(Kind, bool, &[u32])] = &[(Kind::And, true, &[3, 0]), (Kind::Or, true, &[0, 3])];
-    // 5 is an operand of 4, 4 of 3, 3 of 5: the loop begins with 3
-    let three: &[(Kind, bool, &[u32])] = &[
-        (Kind::Buf, true, &[5]),
-        (Kind::Buf, true, &[4]),
-        (Kind::Buf, true, &[5]),
-        (Kind::Buf, true, &[3]),
-    ];
-    let rows: [Row; 7] = [
-        (latch, RANK, &[2, 3], &[]),
-        (latch, UNIT, &[2, 3], &[0, 0, 0, 0]),
-        (chain, RANK, &[4, 3, 2, 5], &[0, 0, 2, 1, 0, 3]),
-        (toggle, RANK, &[2], &[0, 0, 0, 0]),
-        (itself, RANK, &[3], &[]),
-        (three, RANK, &[3, 5, 4], &[]),
-        (three, UNIT, &[2, 3, 4, 5], &[0, 0, 0, 0, 0, 0]),
-    ];
-    for (lines, timing, order, ranks) in rows {
+    for (lines, timing, order, ranks) in rows() {
         let net = netlist(rt.alloc(), lines)?;
-        let found = ranked(rt.alloc(), &net, &timing)?.ok_or("no memory")?;
-        assert_eq!(rt; found.0.as_slice(), order);
-        assert_eq!(rt; found.1.as_slice(), ranks);
+        let found = ranked(rt.alloc(), &net, timing)?.ok_or("no memory")?;
+        assert_eq!(rt; found.0.as_slice(), *order);
+        assert_eq!(rt; found.1.as_slice(), *ranks);
     }
     Ok(())
 }
 
-/// The members of a ring, each a NOT of the one before, are the loop in this order.
+/// So many gates, each a NOT of the one before it, the first one of the last.
+fn ring(alloc: Global, size: u32) -> Result<Netlist, Memory> {
+    let mut signals = List::new(alloc);
+    for gate in 0..size {
+        let before = if gate == 0 { size - 1 } else { gate - 1 };
+        signals.push(inverter(alloc, before)?)?;
+    }
+    Ok(Netlist {
+        signals,
+        printed: List::new(alloc),
+        blocks: List::new(alloc),
+    })
+}
+
+fn inverter(alloc: Global, operand: u32) -> Result<Signal, Memory> {
+    let driver = Driver::Gate {
+        kind: Kind::Not,
+        ops: List::from_slice(alloc, &[operand])?,
+    };
+    Ok(Signal {
+        name: Text::new(alloc),
+        driver,
+    })
+}
+
+/// The members of a long ring are the loop in their order.
 #[test]
 fn ring_of_a_million(rt: HostRuntime) -> Result<(), Fail> {
-    let size: u32 = 1_048_576;
-    let mut signals = List::new(rt.alloc());
-    for gate in 0..size {
-        let name = Text::new(rt.alloc());
-        let before = if gate == 0 { size - 1 } else { gate - 1 };
-        let driver = Driver::Gate {
-            kind: Kind::Not,
-            ops: numbers(rt.alloc(), &[before])?,
-        };
-        signals.push(Signal { name, driver })?;
-    }
-    let net = Netlist {
-        signals,
-        printed: List::new(rt.alloc()),
-        blocks: List::new(rt.alloc()),
-    };
+    let net = ring(rt.alloc(), 1_048_576)?;
     let found = ranked(rt.alloc(), &net, &RANK)?.ok_or("no memory")?;
     assert_eq!(rt; found.0.len(), 1_048_576);
     for (place, member) in found.0.as_slice().iter().enumerate() {

@@ -22,20 +22,23 @@ fn shown_rows(alloc: Global, stimulus: &Stimulus) -> Result<Text, Memory> {
 /// The texts that are read, for so many inputs, and their rows.
 #[test]
 fn reads_rows(rt: HostRuntime) -> Result<(), Fail> {
-    let texts: [(&[u8], u32, &[u8]); 4] = [
-        (b"11111\n00000\nxxxxx\n", 5, b"11111*1\n00000*1\nxxxxx*1\n"),
-        (b"", 5, b""),
-        (b"- * 2", 0, b"*2\n"),
+    let texts: [(&str, u32, &str); 4] = [
+        ("11111\n00000\nxxxxx\n", 5, "11111*1\n00000*1\nxxxxx*1\n"),
+        ("", 5, ""),
+        ("- * 2", 0, "*2\n"),
         (
-            b" 1 x\tX zZ*\t000000000000000000000999999 # \xff\r\n\n \t# 9\n0 0000\r",
+            " 1 x\tX zZ*\t000000000000000000000999999 # \u{ff}\r\n\n \t# 9\n0 0000\r",
             5,
-            b"1xxzz*999999\n00000*1\n",
+            "1xxzz*999999\n00000*1\n",
         ),
     ];
     for (text, inputs, want) in texts {
-        let stimulus = read_stim(rt.alloc(), text, inputs)?;
+        let stimulus = read_stim(rt.alloc(), text.as_bytes(), inputs)?;
         assert_eq!(rt; stimulus.columns, inputs);
-        assert_eq!(rt; shown_rows(rt.alloc(), &stimulus)?.as_bytes(), want);
+        assert_eq!(rt;
+            shown_rows(rt.alloc(), &stimulus)?.as_bytes(),
+            want.as_bytes()
+        );
     }
     Ok(())
 }
@@ -43,31 +46,34 @@ fn reads_rows(rt: HostRuntime) -> Result<(), Fail> {
 /// The texts that are refused, with their lines.
 #[test]
 fn refuses_texts(rt: HostRuntime) {
-    let texts: [(&[u8], u32, StimNo); 17] = [
-        (b"1111", 5, width(1, 4, 5)),
-        (b"11112", 5, StimNo::BadChar { line: 1 }),
-        (b"11111 * 0", 5, StimNo::Repeat { line: 1 }),
-        (b"111 * 0", 5, StimNo::Repeat { line: 1 }),
-        (b"112 * 0", 5, StimNo::BadChar { line: 1 }),
-        (b"11111 * 1000000\n00000", 5, StimNo::TooManyCycles),
-        (b"11111 * 1000001", 5, StimNo::Repeat { line: 1 }),
+    let texts: [(&str, u32, StimNo); 17] = [
+        ("1111", 5, width(1, 4, 5)),
+        ("11112", 5, StimNo::BadChar { line: 1 }),
+        ("11111 * 0", 5, StimNo::Repeat { line: 1 }),
+        ("111 * 0", 5, StimNo::Repeat { line: 1 }),
+        ("112 * 0", 5, StimNo::BadChar { line: 1 }),
+        ("11111 * 1000000\n00000", 5, StimNo::TooManyCycles),
+        ("11111 * 1000001", 5, StimNo::Repeat { line: 1 }),
         (
-            b"11111 * 18446744073709551617",
+            "11111 * 18446744073709551617",
             5,
             StimNo::Repeat { line: 1 },
         ),
-        (b"\n# 9\n11111 * 3 * 4", 5, StimNo::Repeat { line: 3 }),
-        (b"11111 * 3 4", 5, StimNo::Repeat { line: 1 }),
-        (b"11111 *", 5, StimNo::Repeat { line: 1 }),
-        (b"11111\n1\n2", 5, width(2, 1, 5)),
-        (b"* 3", 5, width(1, 0, 5)),
-        (b"-", 5, StimNo::BadChar { line: 1 }),
-        (b"0", 0, StimNo::BadChar { line: 1 }),
-        (b"* 3", 0, width(1, 0, 1)),
-        (b"- -", 0, width(1, 2, 1)),
+        ("\n# 9\n11111 * 3 * 4", 5, StimNo::Repeat { line: 3 }),
+        ("11111 * 3 4", 5, StimNo::Repeat { line: 1 }),
+        ("11111 *", 5, StimNo::Repeat { line: 1 }),
+        ("11111\n1\n2", 5, width(2, 1, 5)),
+        ("* 3", 5, width(1, 0, 5)),
+        ("-", 5, StimNo::BadChar { line: 1 }),
+        ("0", 0, StimNo::BadChar { line: 1 }),
+        ("* 3", 0, width(1, 0, 1)),
+        ("- -", 0, width(1, 2, 1)),
     ];
     for (text, inputs, want) in texts {
-        assert_eq!(rt; read_stim(rt.alloc(), text, inputs).err(), Some(want));
+        assert_eq!(rt;
+            read_stim(rt.alloc(), text.as_bytes(), inputs).err(),
+            Some(want)
+        );
     }
 }
 
@@ -84,49 +90,52 @@ fn shown_lines(alloc: Global, order: &Order) -> Result<Text, Memory> {
     Ok(text)
 }
 
-/// Order texts for so many ports, and the lines of their orders or why they are refused.
+/// Order texts for so many ports, and the lines of their orders.
 #[test]
 fn reads_orders(rt: HostRuntime) -> Result<(), Fail> {
-    let texts: [(&[u8], u32, Result<&[u8], OrderNo>); 18] = [
-        (b"", 4, Ok(b"")),
-        (b"2*1000\n3 * 1000", 4, Ok(b"2*1000\n3*1000\n")),
-        (b"1 * 100\n0 * 100\n", 2, Ok(b"1*100\n0*100\n")),
+    let texts: [(&str, u32, &str); 4] = [
+        ("", 4, ""),
+        ("2*1000\n3 * 1000", 4, "2*1000\n3*1000\n"),
+        ("1 * 100\n0 * 100\n", 2, "1*100\n0*100\n"),
         (
-            b" 00000000000000000000003\t* 000000000000000000001000000 # \xff\r\n\n \t# 9\n\t1\r",
+            " 00000000000000000000003\t* 000000000000000000001000000 # \u{ff}\r\n\n \t# 9\n\t1\r",
             4,
-            Ok(b"3*1000000\n1*1\n"),
+            "3*1000000\n1*1\n",
         ),
-        (b"4", 4, port(1)),
-        (b"0", 0, port(1)),
-        (b"0\n\n18446744073709551617", 4, port(3)),
-        (b"0 * 0", 4, syntax(1)),
-        (b"0 * 1000001", 4, syntax(1)),
-        (b"4 * 0", 4, syntax(1)),
-        (b"0\n0 1", 4, syntax(2)),
-        (b"* 3", 4, syntax(1)),
-        (b"1 *", 4, syntax(1)),
-        (b"1 * 2 * 3", 4, syntax(1)),
-        (b"1 * 2 3", 4, syntax(1)),
-        (b"-1", 4, syntax(1)),
-        (b"4\nx", 4, port(1)),
-        (b"x\n4", 4, syntax(1)),
     ];
     for (text, ports, want) in texts {
-        match read_order(rt.alloc(), text, ports) {
-            Ok(order) => {
-                let lines = shown_lines(rt.alloc(), &order)?;
-                assert_eq!(rt; Ok(lines.as_bytes()), want);
-            }
-            Err(why) => assert_eq!(rt; Err(why), want),
-        }
+        let order = read_order(rt.alloc(), text.as_bytes(), ports)?;
+        assert_eq!(rt;
+            shown_lines(rt.alloc(), &order)?.as_bytes(),
+            want.as_bytes()
+        );
     }
     Ok(())
 }
 
-fn port(line: u32) -> Result<&'static [u8], OrderNo> {
-    Err(OrderNo::Port { line })
-}
-
-fn syntax(line: u32) -> Result<&'static [u8], OrderNo> {
-    Err(OrderNo::Syntax { line })
+/// The order texts that are refused, with their lines.
+#[test]
+fn refuses_orders(rt: HostRuntime) {
+    let texts: [(&str, u32, OrderNo); 14] = [
+        ("4", 4, OrderNo::Port { line: 1 }),
+        ("0", 0, OrderNo::Port { line: 1 }),
+        ("0\n\n18446744073709551617", 4, OrderNo::Port { line: 3 }),
+        ("0 * 0", 4, OrderNo::Syntax { line: 1 }),
+        ("0 * 1000001", 4, OrderNo::Syntax { line: 1 }),
+        ("4 * 0", 4, OrderNo::Syntax { line: 1 }),
+        ("0\n0 1", 4, OrderNo::Syntax { line: 2 }),
+        ("* 3", 4, OrderNo::Syntax { line: 1 }),
+        ("1 *", 4, OrderNo::Syntax { line: 1 }),
+        ("1 * 2 * 3", 4, OrderNo::Syntax { line: 1 }),
+        ("1 * 2 3", 4, OrderNo::Syntax { line: 1 }),
+        ("-1", 4, OrderNo::Syntax { line: 1 }),
+        ("4\nx", 4, OrderNo::Port { line: 1 }),
+        ("x\n4", 4, OrderNo::Syntax { line: 1 }),
+    ];
+    for (text, ports, want) in texts {
+        assert_eq!(rt;
+            read_order(rt.alloc(), text.as_bytes(), ports).err(),
+            Some(want)
+        );
+    }
 }

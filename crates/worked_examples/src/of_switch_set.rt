@@ -1,8 +1,12 @@
 //! The settings for netlists that are read, with ample memory, against settings worked out by hand.
 
-use crate::items::items_of;
+ghost use Rattle.machine_text.specs.Machines.{IsValid};
+ghost use Rattle.node_defs.specs.WellFormed.{IsWellFormed};
+
+use crate::items::{RANK, items_of};
 use home_pick::homes;
-use machine_text::read_machine;
+use machine_text::{Machine, read_machine};
+use node_defs::NodeNet;
 use plan_defs::{PortLinks, Switch};
 use slot_plan::first_fit;
 use std::alloc::Global;
@@ -23,14 +27,22 @@ fn switched(alloc: Global, text: &[u8], sizes: &[u8]) -> Option<Switch> {
         return None;
     }
     let machine = read_machine(alloc, sizes).ok()?;
-    let nodes = items_of(alloc, text)?;
-    let Ok(ports) = homes(alloc, &nodes, &machine) else {
+    let nodes = items_of(alloc, text, &RANK)?;
+    planned(alloc, &nodes, &machine)
+}
+
+/// The settings for items on a machine.
+fn planned(alloc: Global, nodes: &NodeNet, machine: &Machine) -> Option<Switch>
+    requires nodes { IsWellFormed nodes.now }
+    requires machine { IsValid machine.now }
+{
+    let Ok(ports) = homes(alloc, nodes, machine) else {
         return None;
     };
-    let Ok(plan) = first_fit(alloc, &nodes, &ports, &machine) else {
+    let Ok(plan) = first_fit(alloc, nodes, &ports, machine) else {
         return None;
     };
-    settings(alloc, &nodes, &ports, &plan).ok()
+    settings(alloc, nodes, &ports, &plan).ok()
 }
 
 /// What a port sends, as slots and readers, and what it receives, as slots and senders.

@@ -1,4 +1,4 @@
-//! Calls that run: files and sinks, crews, crossbars, machines and large designs, against values that were
+//! Calls that run: files and sinks, crews, crossbars and large designs, against values that were
 //! worked out by hand. There is no code here but tests. They stand beside `worked_examples`, so that the two
 //! are proved at the same time.
 #![tactic(auto)]
@@ -9,9 +9,5 @@ mod of_crew_run;
 mod of_edge_io;
 #[cfg(test)]
 mod of_large_gen;
-#[cfg(test)]
-mod of_large_run;
-#[cfg(test)]
-mod of_machine_run;
 #[cfg(test)]
 mod of_slot_words;

@@ -6,6 +6,7 @@ ghost use Rattle.crew_run.specs.Crews.{AllCanRun, AreReady, CanRun, CanTell};
 ghost use Rattle.crew_run.specs.Lending.{AllAreReady};
 
 use crew_run::{CountGate, Gate, Step, Stepper, Worker, add, run_all, run_with};
+use machine_run::count_gates;
 use seen_list::{List, Memory};
 use std::alloc::Global;
 use std::hint;
@@ -244,18 +245,6 @@ fn two_meet(rt: HostRuntime) -> Result<(), Fail> {
     assert_eq!(rt; told(&workers[0], 255), Some((0, 0, false)));
     assert_eq!(rt; told(&workers[1], 255), Some((1000, 1000, false)));
     Ok(())
-}
-
-/// So many gates that were told nothing.
-fn count_gates(alloc: Global, count: usize) -> Result<List<Option<CountGate>>, Memory>
-    ensures count { IfOk result (λ gates. length gates ≡ count) }
-    ensures tell { IfOk result (λ gates. (i : ℕ) (gate : Option CountGate) → slice_get gates i ≡ Some gate → CanTell ⟦<CountGate as Gate>⟧ gate) }
-{
-    let mut gates = List::new(alloc);
-    'gates: for _ in 0..count {
-        gates.push(Some(CountGate::new()))?;
-    }
-    Ok(gates)
 }
 
 /// Adds a worker that has no gate of its own.

@@ -10,32 +10,23 @@ use std::test::Fail;
 use std::time::{SystemTime, UNIX_EPOCH};
 use std::{fs, io};
 
-fn list_of(alloc: Global, numbers: &[u64]) -> Result<List<u64>, Memory> {
-    let mut list = List::new(alloc);
-    for number in numbers {
-        list.push(*number)?;
-    }
-    Ok(list)
-}
-
 fn file(alloc: Global, name: &[u8], content: &[u8]) -> Result<NamedBytes, Memory> {
-    let mut file = NamedBytes {
-        name: Text::new(alloc),
-        bytes: List::new(alloc),
-    };
-    file.name.push_bytes(name)?;
-    for byte in content {
-        file.bytes.push(*byte)?;
-    }
-    Ok(file)
+    Ok(NamedBytes {
+        name: Text::from_bytes(alloc, name)?,
+        bytes: List::from_slice(alloc, content)?,
+    })
 }
 
 fn store(alloc: Global, fails: &[u64]) -> Result<MemFiles, Memory> {
     let mut files = List::new(alloc);
-    files.push(file(alloc, b"a", b"abc")?)?;
-    files.push(file(alloc, b"empty", b"")?)?;
-    files.push(file(alloc, b"a", b"later")?)?;
-    Ok(MemFiles::new(files, list_of(alloc, fails)?))
+    for (name, content) in [
+        (b"a".as_slice(), b"abc".as_slice()),
+        (b"empty", b""),
+        (b"a", b"later"),
+    ] {
+        files.push(file(alloc, name, content)?)?;
+    }
+    Ok(MemFiles::new(files, List::from_slice(alloc, fails)?))
 }
 
 fn seen(got: &Result<List<u8>, ReadNo>) -> Result<&[u8], ReadNo> {
@@ -84,7 +75,7 @@ fn writes_to_memory(rt: HostRuntime) -> Result<(), Fail> {
         (0, 1, [0], b"a", Err(WriteNo::Failed), b""),
     ] {
         assert!(rt; most > 0);
-        let fails = list_of(rt.alloc(), &fails)?;
+        let fails = List::from_slice(rt.alloc(), &fails)?;
         let mut sink = MemSink::new(rt.alloc(), usize::from(room), usize::from(most), fails)?;
         assert_eq!(rt; write_whole(&mut sink, piece), want);
         assert_eq!(rt; sink.taken(), taken);

@@ -1,7 +1,9 @@
-//! Large designs with ample memory, against draws, texts and summaries from outside.
+//! Large designs with ample memory, against draws and texts from outside.
 
-use large_gen::{CellCounts, Summary, large_net, large_rows, summary_text};
-use logic_four::V4::One;
+ghost use Rattle.limits.specs.declared.TheConstants.{MAX_LARGE_GATES};
+ghost use Rattle.std.specs.Prelude.{◌≤◌};
+
+use large_gen::{large_net, large_rows};
 use logic_four::to_char;
 use net_defs::{Stimulus, show};
 use seen_list::{Memory, Text};
@@ -28,44 +30,32 @@ fn rows_text(alloc: Global, stimulus: &Stimulus) -> Result<Text, Memory> {
     Ok(text)
 }
 
+/// The canonical text of a design of so many gates, and the state of the generator behind it.
+fn design(alloc: Global, gates: u32) -> Result<(Text, u32), Memory>
+    requires { gates ≤ MAX_LARGE_GATES }
+{
+    let design = large_net(alloc, gates)?;
+    Ok((show(alloc, &design.net)?, design.state))
+}
+
 #[test]
 fn designs_are_known(rt: HostRuntime) -> Result<(), Fail> {
+    let (two, _) = design(rt.alloc(), 2)?;
+    assert_eq!(rt; two.as_bytes(), TWO.as_bytes());
+    let (ten, state) = design(rt.alloc(), 10)?;
+    assert_eq!(rt; ten.as_bytes(), TEN.as_bytes());
+    assert_eq!(rt; state, TEN_STATE);
+    Ok(())
+}
+
+/// The two rows of a design of two gates.
+#[test]
+fn rows_are_known(rt: HostRuntime) -> Result<(), Fail> {
     let two = large_net(rt.alloc(), 2)?;
-    let text = show(rt.alloc(), &two.net)?;
-    assert_eq!(rt; text.as_bytes(), TWO.as_bytes());
     let rows = large_rows(rt.alloc(), two.state, 2)?;
     assert_eq!(rt;
         rows_text(rt.alloc(), &rows)?.as_bytes(),
         b"11001000\n10110111\n".as_slice()
-    );
-    let ten = large_net(rt.alloc(), 10)?;
-    let text = show(rt.alloc(), &ten.net)?;
-    assert_eq!(rt; text.as_bytes(), TEN.as_bytes());
-    assert_eq!(rt; ten.state, TEN_STATE);
-    Ok(())
-}
-
-#[test]
-fn summaries_are_known(rt: HostRuntime) -> Result<(), Fail> {
-    let mut cells = CellCounts::none();
-    cells.add(&[One, One]);
-    assert_eq!(rt; (cells.zeros, cells.ones, cells.xs, cells.zs), (0, 2, 0, 0));
-    let summary = Summary {
-        gates: 2,
-        nodes: 2,
-        slots: 9,
-        crossings: 5,
-        cells: CellCounts {
-            zeros: 2,
-            ones: 2,
-            xs: 0,
-            zs: 0,
-        },
-    };
-    let text = summary_text(rt.alloc(), &summary)?;
-    assert_eq!(rt;
-        text.as_bytes(),
-        b"gates 2 nodes 2 slots 9 crossings 5\nzeros 2 ones 2 xs 0 zs 0\n".as_slice()
     );
     Ok(())
 }

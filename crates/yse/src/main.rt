@@ -24,23 +24,18 @@ fn main(rt: HostRuntime) -> ExitCode {
     let mut out = HostSink::new(rt.stdout());
     let mut err = HostSink::new(rt.stderr());
     let status = match count_gates(rt.alloc(), GATES) {
-        Ok(mut gates) => {
-            let gates = gates.as_mut_slice();
-            match words(&rt) {
-                Ok(words) => yse(
-                    &rt,
-                    rt.alloc(),
-                    words.as_slice(),
-                    &mut files,
-                    &mut out,
-                    &mut err,
-                    gates,
-                ),
-                Err(error) if error.kind() == ErrorKind::OutOfMemory => out_of_memory(&mut err),
-                // A word that isn't UTF-8 is refused as no words at all are.
-                Err(_) => yse(&rt, rt.alloc(), &[], &mut files, &mut out, &mut err, gates),
-            }
-        }
+        Ok(mut gates) => match words(&rt) {
+            Ok(words) => yse(
+                &rt,
+                rt.alloc(),
+                words.as_slice(),
+                &mut files,
+                &mut out,
+                &mut err,
+                gates.as_mut_slice(),
+            ),
+            Err(Memory) => out_of_memory(&mut err),
+        },
         Err(Memory) => out_of_memory(&mut err),
     };
     exit_code(status)
@@ -53,8 +48,17 @@ fn exit_code(status: Status) -> ExitCode
     ExitCode::from(status.number())
 }
 
-/// The words of the command line, without the program's name.
-fn words(rt: &HostRuntime) -> io::Result<Vec<String>> {
+/// The words of the command line, without the program's name. A word that isn't UTF-8 is refused as no
+/// words at all are.
+fn words(rt: &HostRuntime) -> Result<Vec<String>, Memory> {
+    match read_words(rt) {
+        Ok(words) => Ok(words),
+        Err(error) if error.kind() == ErrorKind::OutOfMemory => Err(Memory),
+        Err(_) => Ok(Vec::new(rt.alloc())),
+    }
+}
+
+fn read_words(rt: &HostRuntime) -> io::Result<Vec<String>> {
     let words = env::args(rt)?.skip(1).collect(rt.alloc())?;
     Ok(words)
 }

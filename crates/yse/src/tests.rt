@@ -2,7 +2,9 @@
 
 ghost use Rattle.std.specs.Prelude.{length, ◌≤◌};
 ghost use Rattle.limits.specs.declared.TheConstants.{MAX_TEXT_BYTES};
+ghost use Rattle.cmd_words.specs.declared.options.TheConstants.{MAX_WORKERS};
 ghost use Rattle.net_defs.specs.Valid.{IsValid};
+ghost use Rattle.yse_top.specs.Visited.{AllCanTell};
 
 mod machines;
 mod orders;
@@ -10,43 +12,44 @@ mod threads;
 
 use bench_read::law::reads_as_valid;
 use bench_read::read_bench;
-use edge_io::{Files, MemFiles, MemSink, NamedBytes, NullSink, PlainFiles, PlainSink};
+use crew_run::Gate;
+use edge_io::{Files, MemFiles, MemSink, NamedBytes, NullSink, PlainFiles, PlainSink, Sink};
 use logic_four::V4;
 use machine_run::count_gates;
 use net_defs::{Init, Mode, Netlist, Stimulus, Timing, show};
 use ref_sim::refer;
 use seen_list::{List, Memory, Text};
 use std::alloc::{AllocError, Global};
-use std::marker::Sync;
+use std::marker::{Send, Sync};
 use std::sync::Wait;
 use std::test::Fail;
 use std::thread::Threads;
 use stim_text::read_stim;
-use yse_top::{Status, yse};
+use yse_top::yse;
 
-const C17: &[u8] =
-    b"INPUT(1)\nINPUT(2)\nINPUT(3)\nINPUT(6)\nINPUT(7)\nOUTPUT(22)\nOUTPUT(23)\n10 = NAND(1, 3)\n11 = NAND(3, 6)\n16 = NAND(2, 11)\n19 = NAND(11, 7)\n22 = NAND(10, 16)\n23 = NAND(16, 19)\n";
+const C17: &str =
+    "INPUT(1)\nINPUT(2)\nINPUT(3)\nINPUT(6)\nINPUT(7)\nOUTPUT(22)\nOUTPUT(23)\n10 = NAND(1, 3)\n11 = NAND(3, 6)\n16 = NAND(2, 11)\n19 = NAND(11, 7)\n22 = NAND(10, 16)\n23 = NAND(16, 19)\n";
 
-const S27: &[u8] =
-    b"INPUT(G0)\nINPUT(G1)\nINPUT(G2)\nINPUT(G3)\nOUTPUT(G17)\nG5 = DFF(G10)\nG6 = DFF(G11)\nG7 = DFF(G13)\nG14 = NOT(G0)\nG17 = NOT(G11)\nG8 = AND(G14, G6)\nG15 = OR(G12, G8)\nG16 = OR(G3, G8)\nG9 = NAND(G16, G15)\nG10 = NOR(G14, G11)\nG11 = NOR(G5, G9)\nG12 = NOR(G1, G7)\nG13 = NOR(G2, G12)\n";
+const S27: &str =
+    "INPUT(G0)\nINPUT(G1)\nINPUT(G2)\nINPUT(G3)\nOUTPUT(G17)\nG5 = DFF(G10)\nG6 = DFF(G11)\nG7 = DFF(G13)\nG14 = NOT(G0)\nG17 = NOT(G11)\nG8 = AND(G14, G6)\nG15 = OR(G12, G8)\nG16 = OR(G3, G8)\nG9 = NAND(G16, G15)\nG10 = NOR(G14, G11)\nG11 = NOR(G5, G9)\nG12 = NOR(G1, G7)\nG13 = NOR(G2, G12)\n";
 
-const LATCH: &[u8] = b"INPUT(s)\nINPUT(r)\nOUTPUT(q)\nOUTPUT(p)\nq = NAND(s, p)\np = NAND(r, q)\n";
+const LATCH: &str = "INPUT(s)\nINPUT(r)\nOUTPUT(q)\nOUTPUT(p)\nq = NAND(s, p)\np = NAND(r, q)\n";
 
-const RAM: &[u8] =
-    b"INPUT(we)\nINPUT(a0)\nINPUT(a1)\nINPUT(d)\nOUTPUT(q)\n[q] = RAM(we; a0, a1; d)\n";
+const RAM: &str =
+    "INPUT(we)\nINPUT(a0)\nINPUT(a1)\nINPUT(d)\nOUTPUT(q)\n[q] = RAM(we; a0, a1; d)\n";
 
-const SHARE: &[u8] =
-    b"INPUT(e)\nINPUT(a)\nINPUT(f)\nINPUT(b)\nOUTPUT(y)\nt = TRI(e, a)\nu = TRI(f, b)\ny = BUS(t, u)\n";
+const SHARE: &str =
+    "INPUT(e)\nINPUT(a)\nINPUT(f)\nINPUT(b)\nOUTPUT(y)\nt = TRI(e, a)\nu = TRI(f, b)\ny = BUS(t, u)\n";
 
-const WIDE: &[u8] =
-    b"INPUT(a1)\nINPUT(a2)\nINPUT(a3)\nINPUT(a4)\nINPUT(a5)\nINPUT(a6)\nINPUT(a7)\nINPUT(a8)\nINPUT(a9)\nINPUT(a10)\nINPUT(a11)\nINPUT(a12)\nINPUT(a13)\nINPUT(a14)\nINPUT(a15)\nINPUT(a16)\nINPUT(a17)\nOUTPUT(z)\nz = AND(a1, a2, a3, a4, a5, a6, a7, a8, a9, a10, a11, a12, a13, a14, a15, a16, a17)\n";
+const WIDE: &str =
+    "INPUT(a1)\nINPUT(a2)\nINPUT(a3)\nINPUT(a4)\nINPUT(a5)\nINPUT(a6)\nINPUT(a7)\nINPUT(a8)\nINPUT(a9)\nINPUT(a10)\nINPUT(a11)\nINPUT(a12)\nINPUT(a13)\nINPUT(a14)\nINPUT(a15)\nINPUT(a16)\nINPUT(a17)\nOUTPUT(z)\nz = AND(a1, a2, a3, a4, a5, a6, a7, a8, a9, a10, a11, a12, a13, a14, a15, a16, a17)\n";
 
 const CRLF: &[u8] = b"input(a)\r\noutput(z)\r\nz = not(y) # \xff\r\ny = buff(a)\r\n";
 
-const REGISTER: &[u8] = b"INPUT(a)\nOUTPUT(q)\nq = DFF(a)\n";
+const REGISTER: &str = "INPUT(a)\nOUTPUT(q)\nq = DFF(a)\n";
 
-const USAGE: &[u8] =
-    b"usage: yse (run/refer/order) NETLIST STIMULUS [options], yse plan NETLIST [options], yse show NETLIST, yse large GATES CYCLES [options]\n";
+const USAGE: &str =
+    "usage: yse (run/refer/order) NETLIST STIMULUS [options], yse plan NETLIST [options], yse show NETLIST, yse large GATES CYCLES [options]\n";
 
 /// The gates of a call.
 const GATES: usize = 64;
@@ -62,12 +65,12 @@ const FILES: &str = "net.bench net.stim";
 struct Case {
     commands: &'static str,
     words: &'static str,
-    netlist: &'static [u8],
-    stimulus: &'static [u8],
+    netlist: &'static str,
+    stimulus: &'static str,
     failing: (u64, u64),
     status: u8,
-    output: &'static [u8],
-    line: &'static [u8],
+    output: &'static str,
+    line: &'static str,
 }
 
 const CASES: &[Case] = &[
@@ -76,428 +79,407 @@ const CASES: &[Case] = &[
         commands: ALL,
         words: FILES,
         netlist: C17,
-        stimulus: b"11111\n00000\nxxxxx\n",
+        stimulus: "11111\n00000\nxxxxx\n",
         failing: (0, 0),
         status: 0,
-        output: b"cycle 22 23\n1 10\n2 00\n3 xx\n",
-        line: b"",
+        output: "cycle 22 23\n1 10\n2 00\n3 xx\n",
+        line: "",
     },
     Case {
         commands: ALL,
         words: FILES,
         netlist: C17,
-        stimulus: b"",
+        stimulus: "",
         failing: (0, 0),
         status: 0,
-        output: b"cycle 22 23\n",
-        line: b"",
+        output: "cycle 22 23\n",
+        line: "",
     },
     // C17 in three units, with a repeat.
     Case {
         commands: ALL,
         words: "net.bench net.stim --mode unit --units 3",
         netlist: C17,
-        stimulus: b"11111 * 2\n",
+        stimulus: "11111 * 2\n",
         failing: (0, 0),
         status: 0,
-        output: b"cycle 22 23\n1 1x\n2 10\n",
-        line: b"",
+        output: "cycle 22 23\n1 1x\n2 10\n",
+        line: "",
     },
     Case {
         commands: ALL,
         words: FILES,
         netlist: C17,
-        stimulus: b"1111\n",
+        stimulus: "1111\n",
         failing: (0, 0),
         status: 9,
-        output: b"",
-        line: b"stimulus: line 1: 4 values, 5 wanted\n",
+        output: "",
+        line: "stimulus: line 1: 4 values, 5 wanted\n",
     },
     Case {
         commands: ALL,
         words: FILES,
         netlist: C17,
-        stimulus: b"11112\n",
+        stimulus: "11112\n",
         failing: (0, 0),
         status: 9,
-        output: b"",
-        line: b"stimulus: line 1: bad character\n",
+        output: "",
+        line: "stimulus: line 1: bad character\n",
     },
     Case {
         commands: ALL,
         words: FILES,
         netlist: C17,
-        stimulus: b"11111 * 0\n",
+        stimulus: "11111 * 0\n",
         failing: (0, 0),
         status: 9,
-        output: b"",
-        line: b"stimulus: line 1: bad repeat\n",
+        output: "",
+        line: "stimulus: line 1: bad repeat\n",
     },
     Case {
         commands: ALL,
         words: FILES,
         netlist: C17,
-        stimulus: b"11111 * 1000000\n00000\n",
+        stimulus: "11111 * 1000000\n00000\n",
         failing: (0, 0),
         status: 9,
-        output: b"",
-        line: b"stimulus: too many cycles\n",
+        output: "",
+        line: "stimulus: too many cycles\n",
     },
     // S27, with the initial values 0 and x.
     Case {
         commands: ALL,
         words: "net.bench net.stim --init 0",
         netlist: S27,
-        stimulus: b"0000 * 3\n",
+        stimulus: "0000 * 3\n",
         failing: (0, 0),
         status: 0,
-        output: b"cycle G17\n1 1\n2 1\n3 1\n",
-        line: b"",
+        output: "cycle G17\n1 1\n2 1\n3 1\n",
+        line: "",
     },
     Case {
         commands: ALL,
         words: "net.bench net.stim --init 0",
         netlist: S27,
-        stimulus: b"0000\n0001\n0000\n1000\n0001\n",
+        stimulus: "0000\n0001\n0000\n1000\n0001\n",
         failing: (0, 0),
         status: 0,
-        output: b"cycle G17\n1 1\n2 0\n3 0\n4 1\n5 1\n",
-        line: b"",
+        output: "cycle G17\n1 1\n2 0\n3 0\n4 1\n5 1\n",
+        line: "",
     },
     Case {
         commands: ALL,
         words: FILES,
         netlist: S27,
-        stimulus: b"0000\n0001\n0000\n1000\n0001\n",
+        stimulus: "0000\n0001\n0000\n1000\n0001\n",
         failing: (0, 0),
         status: 0,
-        output: b"cycle G17\n1 x\n2 x\n3 x\n4 1\n5 1\n",
-        line: b"",
+        output: "cycle G17\n1 x\n2 x\n3 x\n4 1\n5 1\n",
+        line: "",
     },
     // The latch: a loop in rank order, and none in unit delay.
     Case {
         commands: ALL,
         words: FILES,
         netlist: LATCH,
-        stimulus: b"01\n11\n10\n",
+        stimulus: "01\n11\n10\n",
         failing: (0, 0),
         status: 7,
-        output: b"",
-        line: b"loop: q p\n",
+        output: "",
+        line: "loop: q p\n",
     },
     Case {
         commands: ALL,
         words: "net.bench net.stim --mode unit --units 4",
         netlist: LATCH,
-        stimulus: b"01\n11\n10\n",
+        stimulus: "01\n11\n10\n",
         failing: (0, 0),
         status: 0,
-        output: b"cycle q p\n1 10\n2 10\n3 01\n",
-        line: b"",
+        output: "cycle q p\n1 10\n2 10\n3 01\n",
+        line: "",
     },
     // A gate of 17 operands is one unit.
     Case {
         commands: ALL,
         words: "net.bench net.stim --mode unit --units 2",
         netlist: WIDE,
-        stimulus: b"11111111111111111\n11111111111111110\n",
+        stimulus: "11111111111111111\n11111111111111110\n",
         failing: (0, 0),
         status: 0,
-        output: b"cycle z\n1 1\n2 0\n",
-        line: b"",
+        output: "cycle z\n1 1\n2 0\n",
+        line: "",
     },
     // A buffer in unit delay.
     Case {
         commands: ALL,
         words: "net.bench net.stim --mode unit",
-        netlist: b"INPUT(a)\nOUTPUT(z)\nz = BUFF(a)\n",
-        stimulus: b"0\n1\n1\n",
+        netlist: "INPUT(a)\nOUTPUT(z)\nz = BUFF(a)\n",
+        stimulus: "0\n1\n1\n",
         failing: (0, 0),
         status: 0,
-        output: b"cycle z\n1 x\n2 0\n3 1\n",
-        line: b"",
+        output: "cycle z\n1 x\n2 0\n3 1\n",
+        line: "",
     },
     // A bus of two tri-state drivers.
     Case {
         commands: ALL,
         words: FILES,
         netlist: SHARE,
-        stimulus: b"0100\n1100\n1110\n1111\n1z00\n",
+        stimulus: "0100\n1100\n1110\n1111\n1z00\n",
         failing: (0, 0),
         status: 0,
-        output: b"cycle y\n1 z\n2 1\n3 x\n4 1\n5 x\n",
-        line: b"",
+        output: "cycle y\n1 z\n2 1\n3 x\n4 1\n5 x\n",
+        line: "",
     },
     // A memory: the read before the write.
     Case {
         commands: ALL,
         words: FILES,
         netlist: RAM,
-        stimulus: b"1101\n0100\n0100\n1100\n0100\n0100\n",
+        stimulus: "1101\n0100\n0100\n1100\n0100\n0100\n",
         failing: (0, 0),
         status: 0,
-        output: b"cycle q\n1 x\n2 x\n3 1\n4 1\n5 1\n6 0\n",
-        line: b"",
+        output: "cycle q\n1 x\n2 x\n3 1\n4 1\n5 1\n6 0\n",
+        line: "",
     },
     // An undefined address, and an undefined enable.
     Case {
         commands: ALL,
         words: "net.bench net.stim --init 0",
         netlist: RAM,
-        stimulus: b"0000\n1x01\n0000\n0000\n",
+        stimulus: "0000\n1x01\n0000\n0000\n",
         failing: (0, 0),
         status: 0,
-        output: b"cycle q\n1 0\n2 0\n3 x\n4 x\n",
-        line: b"",
+        output: "cycle q\n1 0\n2 0\n3 x\n4 x\n",
+        line: "",
     },
     Case {
         commands: ALL,
         words: "net.bench net.stim --init 0",
         netlist: RAM,
-        stimulus: b"0000\n0x01\n0000\n0000\n",
+        stimulus: "0000\n0x01\n0000\n0000\n",
         failing: (0, 0),
         status: 0,
-        output: b"cycle q\n1 0\n2 0\n3 x\n4 0\n",
-        line: b"",
+        output: "cycle q\n1 0\n2 0\n3 x\n4 0\n",
+        line: "",
     },
     // A netlist of no bytes.
     Case {
         commands: ALL,
         words: FILES,
-        netlist: b"",
-        stimulus: b"- * 2\n",
+        netlist: "",
+        stimulus: "- * 2\n",
         failing: (0, 0),
         status: 0,
-        output: b"cycle\n1 \n2 \n",
-        line: b"",
+        output: "cycle\n1 \n2 \n",
+        line: "",
     },
     // An input printed twice.
     Case {
         commands: ALL,
         words: FILES,
-        netlist: b"INPUT(a)\nOUTPUT(a)\nOUTPUT(a)\n",
-        stimulus: b"1\nz\n",
+        netlist: "INPUT(a)\nOUTPUT(a)\nOUTPUT(a)\n",
+        stimulus: "1\nz\n",
         failing: (0, 0),
         status: 0,
-        output: b"cycle a a\n1 11\n2 zz\n",
-        line: b"",
-    },
-    // Line ends of two bytes, and any byte in a comment.
-    Case {
-        commands: ALL,
-        words: FILES,
-        netlist: CRLF,
-        stimulus: b"0\n",
-        failing: (0, 0),
-        status: 0,
-        output: b"cycle z\n1 1\n",
-        line: b"",
+        output: "cycle a a\n1 11\n2 zz\n",
+        line: "",
     },
     // A register that breaks a loop.
     Case {
         commands: ALL,
         words: "net.bench net.stim --init 0",
-        netlist: b"OUTPUT(q)\nn = NOT(q)\nq = DFF(n)\n",
-        stimulus: b"- * 4\n",
+        netlist: "OUTPUT(q)\nn = NOT(q)\nq = DFF(n)\n",
+        stimulus: "- * 4\n",
         failing: (0, 0),
         status: 0,
-        output: b"cycle q\n1 0\n2 1\n3 0\n4 1\n",
-        line: b"",
+        output: "cycle q\n1 0\n2 1\n3 0\n4 1\n",
+        line: "",
     },
     // A register: undefined at first, and after high impedance.
     Case {
         commands: ALL,
         words: FILES,
         netlist: REGISTER,
-        stimulus: b"1\n0\nz\n0\n",
+        stimulus: "1\n0\nz\n0\n",
         failing: (0, 0),
         status: 0,
-        output: b"cycle q\n1 x\n2 1\n3 0\n4 x\n",
-        line: b"",
+        output: "cycle q\n1 x\n2 1\n3 0\n4 x\n",
+        line: "",
     },
     Case {
         commands: ALL,
         words: "net.bench net.stim --mode unit --units 3 --init 0",
         netlist: REGISTER,
-        stimulus: b"1\n0\n",
+        stimulus: "1\n0\n",
         failing: (0, 0),
         status: 0,
-        output: b"cycle q\n1 0\n2 1\n",
-        line: b"",
+        output: "cycle q\n1 0\n2 1\n",
+        line: "",
     },
     // Canonical texts.
     Case {
         commands: "show",
         words: "net.bench",
-        netlist: b"output(z)\nz=buf(a)\ninput(a)\n",
-        stimulus: b"",
+        netlist: "output(z)\nz=buf(a)\ninput(a)\n",
+        stimulus: "",
         failing: (0, 0),
         status: 0,
-        output: b"INPUT(a)\nOUTPUT(z)\nz = BUFF(a)\n",
-        line: b"",
-    },
-    Case {
-        commands: "show",
-        words: "net.bench",
-        netlist: CRLF,
-        stimulus: b"",
-        failing: (0, 0),
-        status: 0,
-        output: b"INPUT(a)\nOUTPUT(z)\nz = NOT(y)\ny = BUFF(a)\n",
-        line: b"",
+        output: "INPUT(a)\nOUTPUT(z)\nz = BUFF(a)\n",
+        line: "",
     },
     Case {
         commands: "show",
         words: "net.bench",
         netlist: RAM,
-        stimulus: b"",
+        stimulus: "",
         failing: (0, 0),
         status: 0,
-        output: b"INPUT(we)\nINPUT(a0)\nINPUT(a1)\nINPUT(d)\nOUTPUT(q)\n[q] = RAM(we; a0, a1; d)\n",
-        line: b"",
+        output: "INPUT(we)\nINPUT(a0)\nINPUT(a1)\nINPUT(d)\nOUTPUT(q)\n[q] = RAM(we; a0, a1; d)\n",
+        line: "",
     },
     // A text is one piece: there is no second write that could fail.
     Case {
         commands: "show",
         words: "net.bench",
-        netlist: CRLF,
-        stimulus: b"",
+        netlist: RAM,
+        stimulus: "",
         failing: (0, 2),
         status: 0,
-        output: b"INPUT(a)\nOUTPUT(z)\nz = NOT(y)\ny = BUFF(a)\n",
-        line: b"",
+        output: "INPUT(we)\nINPUT(a0)\nINPUT(a1)\nINPUT(d)\nOUTPUT(q)\n[q] = RAM(we; a0, a1; d)\n",
+        line: "",
     },
     // Refused netlists.
     Case {
         commands: "show",
         words: "net.bench",
-        netlist: b"INPUT(a)\nOUTPUT(z)\nz = AND(a, b)\n",
-        stimulus: b"",
+        netlist: "INPUT(a)\nOUTPUT(z)\nz = AND(a, b)\n",
+        stimulus: "",
         failing: (0, 0),
         status: 5,
-        output: b"",
-        line: b"netlist: line 3: b has no driver\n",
+        output: "",
+        line: "netlist: line 3: b has no driver\n",
     },
     Case {
         commands: "show",
         words: "net.bench",
-        netlist: b"INPUT(a)\na = NOT(a)\n",
-        stimulus: b"",
+        netlist: "INPUT(a)\na = NOT(a)\n",
+        stimulus: "",
         failing: (0, 0),
         status: 5,
-        output: b"",
-        line: b"netlist: line 2: a driven twice, first at line 1\n",
+        output: "",
+        line: "netlist: line 2: a driven twice, first at line 1\n",
     },
     Case {
         commands: "show",
         words: "net.bench",
-        netlist: b"INPUT(a)\nz = MAJ(a, a, a)\ny = NOT(a, a)\n",
-        stimulus: b"",
+        netlist: "INPUT(a)\nz = MAJ(a, a, a)\ny = NOT(a, a)\n",
+        stimulus: "",
         failing: (0, 0),
         status: 5,
-        output: b"",
-        line: b"netlist: line 2: unknown kind\n",
+        output: "",
+        line: "netlist: line 2: unknown kind\n",
     },
     Case {
         commands: "show",
         words: "net.bench",
-        netlist: b"INPUT(a)\nz = NOT(a, a)\n",
-        stimulus: b"",
+        netlist: "INPUT(a)\nz = NOT(a, a)\n",
+        stimulus: "",
         failing: (0, 0),
         status: 5,
-        output: b"",
-        line: b"netlist: line 2: wrong number of operands\n",
+        output: "",
+        line: "netlist: line 2: wrong number of operands\n",
     },
     Case {
         commands: "show",
         words: "net.bench",
-        netlist: b"INPUT(a\nz = MAJ(a)\n",
-        stimulus: b"",
+        netlist: "INPUT(a\nz = MAJ(a)\n",
+        stimulus: "",
         failing: (0, 0),
         status: 5,
-        output: b"",
-        line: b"netlist: line 1: syntax\n",
+        output: "",
+        line: "netlist: line 1: syntax\n",
     },
     Case {
         commands: "show",
         words: "net.bench",
-        netlist: b"INPUT(a)\nz = NOT(a\x01)\n",
-        stimulus: b"",
+        netlist: "INPUT(a)\nz = NOT(a\x01)\n",
+        stimulus: "",
         failing: (0, 0),
         status: 5,
-        output: b"",
-        line: b"netlist: line 2, column 10: bad byte\n",
+        output: "",
+        line: "netlist: line 2, column 10: bad byte\n",
     },
     Case {
         commands: "show",
         words: "net.bench",
-        netlist: b"INPUT(nnnnnnnnnnnnnnnnnnnnnnnnnnnnnnnnnnnnnnnnnnnnnnnnnnnnnnnnnnnnnnnnnnnnnnnnnnnnnnnnnnnnnnnnnnnnnnnnnnnnnnnnnnnnnnnnnnnnnnnnnnnnnnnnnnnnnnnnnnnnnnnnnnnnnnnnnnnnnnnnnnnnnnnnnnnnnnnnnnnnnnnnnnnnnnnnnnnnnnnnnnnnnnnnnnnnnnnnnnnnnnnnnnnnnnnnnnnnnnnnnnnnnnnnnnnnnnnn)\n",
-        stimulus: b"",
+        netlist: "INPUT(nnnnnnnnnnnnnnnnnnnnnnnnnnnnnnnnnnnnnnnnnnnnnnnnnnnnnnnnnnnnnnnnnnnnnnnnnnnnnnnnnnnnnnnnnnnnnnnnnnnnnnnnnnnnnnnnnnnnnnnnnnnnnnnnnnnnnnnnnnnnnnnnnnnnnnnnnnnnnnnnnnnnnnnnnnnnnnnnnnnnnnnnnnnnnnnnnnnnnnnnnnnnnnnnnnnnnnnnnnnnnnnnnnnnnnnnnnnnnnnnnnnnnnnnnnnnnnnn)\n",
+        stimulus: "",
         failing: (0, 0),
         status: 5,
-        output: b"",
-        line: b"netlist: line 1: name too long\n",
+        output: "",
+        line: "netlist: line 1: name too long\n",
     },
     // Calls of the sink and of the store that fail, and a file that isn't there.
     Case {
         commands: ALL,
         words: FILES,
         netlist: C17,
-        stimulus: b"11111\n00000\nxxxxx\n",
+        stimulus: "11111\n00000\nxxxxx\n",
         failing: (0, 3),
         status: 4,
-        output: b"cycle 22 23\n1 10\n",
-        line: b"write fault\n",
+        output: "cycle 22 23\n1 10\n",
+        line: "write fault\n",
     },
     Case {
         commands: ALL,
         words: FILES,
         netlist: C17,
-        stimulus: b"",
+        stimulus: "",
         failing: (1, 0),
         status: 3,
-        output: b"",
-        line: b"read fault: net.bench\n",
+        output: "",
+        line: "read fault: net.bench\n",
     },
     Case {
         commands: ALL,
         words: "net.bench other",
         netlist: C17,
-        stimulus: b"",
+        stimulus: "",
         failing: (0, 0),
         status: 3,
-        output: b"",
-        line: b"read fault: other\n",
+        output: "",
+        line: "read fault: other\n",
     },
     // Words of no form.
     Case {
         commands: "",
         words: "",
-        netlist: b"",
-        stimulus: b"",
+        netlist: "",
+        stimulus: "",
         failing: (0, 0),
         status: 2,
-        output: b"",
+        output: "",
         line: USAGE,
     },
     Case {
         commands: "run",
         words: "net.bench",
-        netlist: b"",
-        stimulus: b"",
+        netlist: "",
+        stimulus: "",
         failing: (0, 0),
         status: 2,
-        output: b"",
+        output: "",
         line: USAGE,
     },
     Case {
         commands: "show",
         words: "net.bench net.stim",
-        netlist: b"",
-        stimulus: b"",
+        netlist: "",
+        stimulus: "",
         failing: (0, 0),
         status: 2,
-        output: b"",
+        output: "",
         line: USAGE,
     },
     // Options before the files and behind them, and what stands behind `--`.
@@ -505,11 +487,11 @@ const CASES: &[Case] = &[
         commands: ALL,
         words: "--units=3 net.bench --mode unit -- net.stim",
         netlist: C17,
-        stimulus: b"11111 * 2\n",
+        stimulus: "11111 * 2\n",
         failing: (0, 0),
         status: 0,
-        output: b"cycle 22 23\n1 1x\n2 10\n",
-        line: b"",
+        output: "cycle 22 23\n1 1x\n2 10\n",
+        line: "",
     },
 ];
 
@@ -517,15 +499,22 @@ fn cases() -> &'static [Case] {
     CASES
 }
 
-/// The words of a line.
-fn words_of(alloc: Global, command: &str, line: &str) -> Result<Vec<String>, AllocError> {
+/// The words of these lines.
+fn words_of(alloc: Global, lines: &[&str]) -> Result<Vec<String>, AllocError> {
     let mut words = Vec::new(alloc);
-    for word in command.split(' ').chain(line.split(' ')) {
+    for line in lines {
+        push_words(alloc, &mut words, line)?;
+    }
+    Ok(words)
+}
+
+fn push_words(alloc: Global, words: &mut Vec<String>, line: &str) -> Result<(), AllocError> {
+    for word in line.split(' ') {
         if !word.is_empty() {
             words.push(String::from_str(alloc, word)?)?;
         }
     }
-    Ok(words)
+    Ok(())
 }
 
 fn named(alloc: Global, name: &[u8], bytes: List<u8>) -> Result<NamedBytes, Memory> {
@@ -535,17 +524,60 @@ fn named(alloc: Global, name: &[u8], bytes: List<u8>) -> Result<NamedBytes, Memo
     })
 }
 
+/// Files of these names and bytes; the call of this number fails (0: none).
+fn store(alloc: Global, files: &[(&[u8], &[u8])], failing: u64) -> Result<MemFiles, Memory> {
+    let mut list = List::new(alloc);
+    for (name, bytes) in files {
+        list.push(named(alloc, name, List::from_slice(alloc, bytes)?)?)?;
+    }
+    Ok(MemFiles::new(list, List::from_slice(alloc, &[failing])?))
+}
+
 /// The files of a netlist and of a stimulus; the call of this number fails (0: none).
-fn store(alloc: Global, netlist: &[u8], stimulus: &[u8], failing: u64) -> Result<MemFiles, Memory> {
-    let mut files = List::new(alloc);
-    files.push(named(alloc, b"net.bench", List::from_slice(alloc, netlist)?)?)?;
-    files.push(named(alloc, b"net.stim", List::from_slice(alloc, stimulus)?)?)?;
-    Ok(MemFiles::new(files, List::from_slice(alloc, &[failing])?))
+fn two_files(
+    alloc: Global,
+    netlist: &[u8],
+    stimulus: &[u8],
+    failing: u64,
+) -> Result<MemFiles, Memory> {
+    let files: [(&[u8], &[u8]); 2] = [(b"net.bench", netlist), (b"net.stim", stimulus)];
+    store(alloc, &files, failing)
+}
+
+/// The files of a netlist, a stimulus and a machine.
+fn three_files(
+    alloc: Global,
+    netlist: &[u8],
+    stimulus: &[u8],
+    machine: &[u8],
+) -> Result<MemFiles, Memory> {
+    let files: [(&[u8], &[u8]); 3] = [
+        (b"net.bench", netlist),
+        (b"net.stim", stimulus),
+        (b"net.machine", machine),
+    ];
+    store(alloc, &files, 0)
 }
 
 /// A sink whose call of this number fails (0: none).
 fn sink(alloc: Global, failing: u64) -> Result<MemSink, Memory> {
-    MemSink::new(alloc, 4096, 4096, List::from_slice(alloc, &[failing])?)
+    MemSink::new(alloc, 131_072, 4096, List::from_slice(alloc, &[failing])?)
+}
+
+/// The number of the status of a call.
+fn status_of<R: Threads + Wait + Sync, F: Files, O: Sink, E: Sink, G: Gate + Send>(
+    rt: &R,
+    alloc: Global,
+    words: &[String],
+    files: &mut F,
+    out: &mut O,
+    err: &mut E,
+    gates: &mut [Option<G>],
+) -> u8
+    requires gates { MAX_WORKERS ≤ length gates.old }
+    requires tell { AllCanTell G.Gate.own gates.old }
+{
+    yse(rt, alloc, words, files, out, err, gates).number()
 }
 
 /// What came of a call: the number of its status, and its sinks.
@@ -556,50 +588,100 @@ struct Ended {
     err: MemSink,
 }
 
-/// Calls `yse` with a sink whose call of this number fails (0: none).
+/// Calls `yse` with the words of these lines and a sink whose call of this number fails (0: none).
 fn end_of<R: Threads + Wait + Sync, F: Files>(
+    rt: &R,
+    alloc: Global,
+    lines: &[&str],
+    files: &mut F,
+    failing: u64,
+) -> Result<Ended, Memory> {
+    let words = words_of(alloc, lines)?;
+    end_of_words(rt, alloc, words.as_slice(), files, failing)
+}
+
+fn end_of_words<R: Threads + Wait + Sync, F: Files>(
     rt: &R,
     alloc: Global,
     words: &[String],
     files: &mut F,
     failing: u64,
 ) -> Result<Ended, Memory> {
+    let mut gates = count_gates(alloc, GATES)?;
+    end_with_gates(rt, alloc, words, files, failing, gates.as_mut_slice())
+}
+
+fn end_with_gates<R: Threads + Wait + Sync, F: Files, G: Gate + Send>(
+    rt: &R,
+    alloc: Global,
+    words: &[String],
+    files: &mut F,
+    failing: u64,
+    gates: &mut [Option<G>],
+) -> Result<Ended, Memory>
+    requires gates { MAX_WORKERS ≤ length gates.old }
+    requires tell { AllCanTell G.Gate.own gates.old }
+{
     let mut out = sink(alloc, failing)?;
     let mut err = sink(alloc, 0)?;
-    let mut gates = count_gates(alloc, GATES)?;
-    let status = yse(
-        rt,
+    let status = status_of(rt, alloc, words, files, &mut out, &mut err, gates);
+    Ok(Ended { status, out, err })
+}
+
+/// The end of a case with the words of these lines.
+fn end_of_case<R: Threads + Wait + Sync>(
+    rt: &R,
+    alloc: Global,
+    lines: &[&str],
+    case: &Case,
+) -> Result<Ended, Memory> {
+    let mut files = two_files(
         alloc,
-        words,
-        files,
-        &mut out,
-        &mut err,
-        gates.as_mut_slice(),
-    );
-    Ok(Ended {
-        status: status.number(),
-        out,
-        err,
-    })
+        case.netlist.as_bytes(),
+        case.stimulus.as_bytes(),
+        case.failing.0,
+    )?;
+    end_of(rt, alloc, lines, &mut files, case.failing.1)
 }
 
 #[test]
 fn calls_end_as_stated(rt: HostRuntime) -> Result<(), Fail> {
     for case in cases() {
         for command in case.commands.split(' ') {
-            let words = words_of(rt.alloc(), command, case.words)?;
-            let mut files = store(rt.alloc(), case.netlist, case.stimulus, case.failing.0)?;
-            let ended = end_of(
-                &rt,
-                rt.alloc(),
-                words.as_slice(),
-                &mut files,
-                case.failing.1,
-            )?;
-            assert_eq!(rt; ended.out.taken(), case.output);
-            assert_eq!(rt; ended.err.taken(), case.line);
+            let ended = end_of_case(&rt, rt.alloc(), &[command, case.words], case)?;
+            assert_eq!(rt; ended.out.taken(), case.output.as_bytes());
+            assert_eq!(rt; ended.err.taken(), case.line.as_bytes());
             assert_eq!(rt; ended.status, case.status);
         }
+    }
+    Ok(())
+}
+
+/// The end of a call over a netlist with line ends of two bytes, and with a byte in a comment that has no place
+/// elsewhere.
+fn end_of_crlf<R: Threads + Wait + Sync>(
+    rt: &R,
+    alloc: Global,
+    line: &str,
+) -> Result<Ended, Memory> {
+    let mut files = two_files(alloc, CRLF, b"0\n", 0)?;
+    end_of(rt, alloc, &[line], &mut files, 0)
+}
+
+#[test]
+fn comments_have_any_byte(rt: HostRuntime) -> Result<(), Fail> {
+    for (line, output) in [
+        ("run net.bench net.stim", "cycle z\n1 1\n"),
+        ("refer net.bench net.stim", "cycle z\n1 1\n"),
+        ("order net.bench net.stim", "cycle z\n1 1\n"),
+        (
+            "show net.bench",
+            "INPUT(a)\nOUTPUT(z)\nz = NOT(y)\ny = BUFF(a)\n",
+        ),
+    ] {
+        let ended = end_of_crlf(&rt, rt.alloc(), line)?;
+        assert_eq!(rt; ended.out.taken(), output.as_bytes());
+        assert_eq!(rt; ended.status, 0);
     }
     Ok(())
 }
@@ -611,20 +693,30 @@ fn comment(alloc: Global, bytes: usize) -> Result<PlainFiles, Memory> {
     Ok(PlainFiles::new(files))
 }
 
-/// The longest file is read, and one byte more is refused.
-#[test]
-fn long_files_are_refused(rt: HostRuntime) -> Result<(), Fail> {
-    let words = words_of(rt.alloc(), "refer", FILES)?;
-    let mut files = comment(rt.alloc(), 67_108_864)?;
-    let longest = end_of(&rt, rt.alloc(), words.as_slice(), &mut files, 0)?;
-    assert_eq!(rt; longest.status, 0);
-    assert_eq!(rt; longest.out.taken(), b"cycle\n".as_slice());
+/// The reference simulation of such a file.
+fn end_of_comment<R: Threads + Wait + Sync>(
+    rt: &R,
+    alloc: Global,
+    bytes: usize,
+) -> Result<Ended, Memory> {
+    let mut files = comment(alloc, bytes)?;
+    end_of(rt, alloc, &["refer", FILES], &mut files, 0)
+}
 
-    let mut files = comment(rt.alloc(), 67_108_865)?;
-    let longer = end_of(&rt, rt.alloc(), words.as_slice(), &mut files, 0)?;
-    assert_eq!(rt; longer.status, 10);
+#[test]
+fn longest_file_is_read(rt: HostRuntime) -> Result<(), Fail> {
+    let ended = end_of_comment(&rt, rt.alloc(), 67_108_864)?;
+    assert_eq!(rt; ended.status, 0);
+    assert_eq!(rt; ended.out.taken(), b"cycle\n".as_slice());
+    Ok(())
+}
+
+#[test]
+fn longer_file_is_refused(rt: HostRuntime) -> Result<(), Fail> {
+    let ended = end_of_comment(&rt, rt.alloc(), 67_108_865)?;
+    assert_eq!(rt; ended.status, 10);
     assert_eq!(rt;
-        longer.err.taken(),
+        ended.err.taken(),
         b"limit: net.bench has more than 67108864 bytes\n".as_slice()
     );
     Ok(())
@@ -633,12 +725,12 @@ fn long_files_are_refused(rt: HostRuntime) -> Result<(), Fail> {
 /// A million cycles are run by one worker.
 #[test]
 fn million_cycles_are_run(rt: HostRuntime) -> Result<(), Fail> {
-    let words = words_of(rt.alloc(), "run", "net.bench net.stim --workers 1")?;
-    let mut files = store(rt.alloc(), C17, b"11111 * 1000000\n", 0)?;
+    let words = words_of(rt.alloc(), &["run", FILES, "--workers 1"])?;
+    let mut files = two_files(rt.alloc(), C17.as_bytes(), b"11111 * 1000000\n", 0)?;
     let mut out = NullSink::new();
     let mut err = NullSink::new();
     let mut gates = count_gates(rt.alloc(), GATES)?;
-    let status = yse(
+    let status = status_of(
         &rt,
         rt.alloc(),
         words.as_slice(),
@@ -647,20 +739,24 @@ fn million_cycles_are_run(rt: HostRuntime) -> Result<(), Fail> {
         &mut err,
         gates.as_mut_slice(),
     );
-    assert_eq!(rt; status.number(), 0);
+    assert_eq!(rt; status, 0);
     Ok(())
+}
+
+/// A million cycles of a netlist that prints its input 300 times.
+fn end_of_many_cells<R: Threads + Wait + Sync>(rt: &R, alloc: Global) -> Result<Ended, Memory> {
+    let mut netlist = List::from_slice(alloc, b"INPUT(a)\n")?;
+    for _ in 0..300 {
+        netlist.extend_from_slice(b"OUTPUT(a)\n")?;
+    }
+    let mut files = two_files(alloc, netlist.as_slice(), b"1 * 1000000\n", 0)?;
+    end_of(rt, alloc, &["refer", FILES], &mut files, 0)
 }
 
 /// Too many cells are refused.
 #[test]
 fn cells_are_limited(rt: HostRuntime) -> Result<(), Fail> {
-    let words = words_of(rt.alloc(), "refer", FILES)?;
-    let mut netlist = List::from_slice(rt.alloc(), b"INPUT(a)\n")?;
-    for _ in 0..300 {
-        netlist.extend_from_slice(b"OUTPUT(a)\n")?;
-    }
-    let mut files = store(rt.alloc(), netlist.as_slice(), b"1 * 1000000\n", 0)?;
-    let ended = end_of(&rt, rt.alloc(), words.as_slice(), &mut files, 0)?;
+    let ended = end_of_many_cells(&rt, rt.alloc())?;
     assert_eq!(rt; ended.status, 10);
     assert_eq!(rt;
         ended.err.taken(),
@@ -729,7 +825,7 @@ fn referred(alloc: Global, netlist: &[u8], stimulus: &[u8]) -> Option<(V4, V4)>
 #[test]
 fn c17_is_referred(rt: HostRuntime) {
     assert_eq!(rt;
-        referred(rt.alloc(), C17, b"11111\n"),
+        referred(rt.alloc(), C17.as_bytes(), b"11111\n"),
         Some((V4::One, V4::Zero))
     );
 }

@@ -1,155 +1,156 @@
 //! Runs on the machine of a text: machines that hold the design, designs that are overfull, and
 //! machine texts that are refused. And plans on such a machine.
 
-use super::{C17, Ended, LATCH, end_of, named, words_of};
-use edge_io::MemFiles;
-use seen_list::{List, Memory};
+use super::{C17, Ended, LATCH, RAM, end_of, three_files};
+use seen_list::Memory;
 use std::alloc::Global;
 use std::marker::Sync;
 use std::sync::Wait;
 use std::test::Fail;
 use std::thread::Threads;
 
-const RUN: &str = "net.bench net.stim --machine net.machine";
+const PLAN: &str = "plan net.bench --machine net.machine";
 
-const ROWS: &[u8] = b"11111\n00000\nxxxxx\n";
+const RUN: &str = "run net.bench net.stim --machine net.machine";
 
-const TRACE: &[u8] = b"cycle 22 23\n1 10\n2 00\n3 xx\n";
+const ROWS: &str = "11111\n00000\nxxxxx\n";
 
-const TWO_GATES: &[u8] = b"INPUT(a)\nINPUT(b)\nOUTPUT(y)\ny = AND(a, b)\nz = OR(a, b)\n";
+const TRACE: &str = "cycle 22 23\n1 10\n2 00\n3 xx\n";
+
+const TWO_GATES: &str = "INPUT(a)\nINPUT(b)\nOUTPUT(y)\ny = AND(a, b)\nz = OR(a, b)\n";
 
 /// A memory of 65,536 words of two bits.
-const LARGE: &[u8] =
-    b"INPUT(a)\n[q0, q1] = RAM(a; a, a, a, a, a, a, a, a, a, a, a, a, a, a, a, a; a, a)\n";
+const LARGE: &str =
+    "INPUT(a)\n[q0, q1] = RAM(a; a, a, a, a, a, a, a, a, a, a, a, a, a, a, a, a; a, a)\n";
 
 /// A run on the machine of a text. What is wanted: the number of the status, the output and the line.
 #[derive(Clone, Copy)]
 struct Case {
-    machine: &'static [u8],
-    netlist: &'static [u8],
-    stimulus: &'static [u8],
+    machine: &'static str,
+    netlist: &'static str,
+    stimulus: &'static str,
     status: u8,
-    output: &'static [u8],
-    line: &'static [u8],
+    output: &'static str,
+    line: &'static str,
 }
 
 const CASES: &[Case] = &[
     // Eleven items in nine slots.
     Case {
-        machine: b"logic 1\nslots 9\n",
+        machine: "logic 1\nslots 9\n",
         netlist: C17,
         stimulus: ROWS,
         status: 0,
         output: TRACE,
-        line: b"",
+        line: "",
     },
     Case {
-        machine: b"logic 2\n",
+        machine: "logic 2\n",
         netlist: C17,
         stimulus: ROWS,
         status: 0,
         output: TRACE,
-        line: b"",
+        line: "",
     },
     Case {
-        machine: b"logic 4\n",
+        machine: "logic 4\n",
         netlist: C17,
         stimulus: ROWS,
         status: 0,
         output: TRACE,
-        line: b"",
+        line: "",
     },
     Case {
-        machine: b"logic 254\narray 0\n",
+        machine: "logic 254\narray 0\n",
         netlist: C17,
         stimulus: ROWS,
         status: 0,
         output: TRACE,
-        line: b"",
+        line: "",
     },
     // Two different tables, one for each of two processors.
     Case {
-        machine: b"logic 2\nfunctions 1\n",
+        machine: "logic 2\nfunctions 1\n",
         netlist: TWO_GATES,
-        stimulus: b"11\n01\n",
+        stimulus: "11\n01\n",
         status: 0,
-        output: b"cycle y\n1 1\n2 0\n",
-        line: b"",
+        output: "cycle y\n1 1\n2 0\n",
+        line: "",
     },
     // Designs that do not fit.
     Case {
-        machine: b"logic 2\nslots 7\n",
+        machine: "logic 2\nslots 7\n",
         netlist: C17,
         stimulus: ROWS,
         status: 8,
-        output: b"",
-        line: b"overfull: slots: 8 needed, limit is 7\n",
+        output: "",
+        line: "overfull: slots: 8 needed, limit is 7\n",
     },
     Case {
-        machine: b"logic 1\nfunctions 1\n",
+        machine: "logic 1\nfunctions 1\n",
         netlist: TWO_GATES,
-        stimulus: b"11\n",
+        stimulus: "11\n",
         status: 8,
-        output: b"",
-        line: b"overfull: functions of logic port 0: 2 needed, limit is 1\n",
+        output: "",
+        line: "overfull: functions of logic port 0: 2 needed, limit is 1\n",
     },
     Case {
-        machine: b"# the default\n",
+        machine: "# the default\n",
         netlist: LARGE,
-        stimulus: b"1\n",
+        stimulus: "1\n",
         status: 8,
-        output: b"",
-        line: b"overfull: bits of memory q0: 131072 needed, 65536 left\n",
+        output: "",
+        line: "overfull: bits of memory q0: 131072 needed, 65536 left\n",
     },
     Case {
-        machine: b"array 0\n",
+        machine: "array 0\n",
         netlist: LARGE,
-        stimulus: b"1\n",
+        stimulus: "1\n",
         status: 8,
-        output: b"",
-        line: b"overfull: bits of memory q0: 131072 needed, 0 left\n",
+        output: "",
+        line: "overfull: bits of memory q0: 131072 needed, 0 left\n",
     },
     // A loop is refused before the room is.
     Case {
-        machine: b"logic 1\nslots 1\n",
+        machine: "logic 1\nslots 1\n",
         netlist: LATCH,
-        stimulus: b"01\n",
+        stimulus: "01\n",
         status: 7,
-        output: b"",
-        line: b"loop: q p\n",
+        output: "",
+        line: "loop: q p\n",
     },
     // Machine texts that are refused.
     Case {
-        machine: b"logic 0\n",
+        machine: "logic 0\n",
         netlist: C17,
         stimulus: ROWS,
         status: 6,
-        output: b"",
-        line: b"machine: line 1: out of range\n",
+        output: "",
+        line: "machine: line 1: out of range\n",
     },
     Case {
-        machine: b"logic 254\narray 2\n",
+        machine: "logic 254\narray 2\n",
         netlist: C17,
         stimulus: ROWS,
         status: 6,
-        output: b"",
-        line: b"machine: 257 ports, limit is 256\n",
+        output: "",
+        line: "machine: 257 ports, limit is 256\n",
     },
     Case {
-        machine: b"slots 5\nslots 5\n",
+        machine: "slots 5\nslots 5\n",
         netlist: C17,
         stimulus: ROWS,
         status: 6,
-        output: b"",
-        line: b"machine: line 2: given twice\n",
+        output: "",
+        line: "machine: line 2: given twice\n",
     },
     Case {
-        machine: b"wheels 4\n",
+        machine: "wheels 4\n",
         netlist: C17,
         stimulus: ROWS,
         status: 6,
-        output: b"",
-        line: b"machine: line 1: syntax\n",
+        output: "",
+        line: "machine: line 1: syntax\n",
     },
 ];
 
@@ -158,37 +159,74 @@ fn cases() -> &'static [Case] {
 }
 
 /// A gate of five operands and a memory of four words of two bits.
-const CUT: &[u8] =
-    b"INPUT(a1)\nINPUT(a2)\nINPUT(a3)\nINPUT(a4)\nINPUT(a5)\nOUTPUT(z)\nOUTPUT(q)\nz = NAND(a1, a2, a3, a4, a5)\n[q, r] = RAM(a1; a2, z; a3, z)\n";
+const CUT: &str =
+    "INPUT(a1)\nINPUT(a2)\nINPUT(a3)\nINPUT(a4)\nINPUT(a5)\nOUTPUT(z)\nOUTPUT(q)\nz = NAND(a1, a2, a3, a4, a5)\n[q, r] = RAM(a1; a2, z; a3, z)\n";
 
-/// A plan: the words behind its command, what its machine's text and its netlist are, and its report.
+/// A gate of five operands, each of them one of two inputs.
+const WIDE_GATE: &str = "INPUT(a)\nINPUT(b)\nOUTPUT(z)\nz = NAND(a, b, a, b, a)\n";
+
+/// A plan: the options, what its machine's text and its netlist are, and its report.
 #[derive(Clone, Copy)]
 struct Layout {
-    words: &'static str,
-    machine: &'static [u8],
-    netlist: &'static [u8],
-    report: &'static [u8],
+    options: &'static str,
+    machine: &'static str,
+    netlist: &'static str,
+    report: &'static str,
 }
 
 const LAYOUTS: &[Layout] = &[
     Layout {
-        words: "net.bench --machine net.machine",
-        machine: b"logic 2\n",
+        options: "",
+        machine: "logic 2\n",
         netlist: C17,
-        report: b"slots 8\nl0 items 3 tables 1 takes 4\nl1 items 3 tables 1 takes 4\na0 items 0 bits 0 takes 0\nh items 5 takes 2\n1 h 0 l0\n2 h 1 l0\n3 h 2 l0 l1\n6 h 3 l1\n7 h 4 l1\n10 l0 3\n11 l1 4 l0\n16 l0 5 l1\n19 l1 5\n22 l0 6 h\n23 l1 7 h\n",
+        report: "slots 8\nl0 items 3 tables 1 takes 4\nl1 items 3 tables 1 takes 4\na0 items 0 bits 0 takes 0\nh items 5 takes 2\n1 h 0 l0\n2 h 1 l0\n3 h 2 l0 l1\n6 h 3 l1\n7 h 4 l1\n10 l0 3\n11 l1 4 l0\n16 l0 5 l1\n19 l1 5\n22 l0 6 h\n23 l1 7 h\n",
+    },
+    // Eleven items in nine slots.
+    Layout {
+        options: "",
+        machine: "logic 1\nslots 9\n",
+        netlist: C17,
+        report: "slots 9\nl0 items 6 tables 1 takes 5\na0 items 0 bits 0 takes 0\nh items 5 takes 2\n1 h 0 l0\n2 h 1 l0\n3 h 2 l0\n6 h 3 l0\n7 h 4 l0\n10 l0 3\n11 l0 4\n16 l0 5\n19 l0 6\n22 l0 7 h\n23 l0 8 h\n",
     },
     // In rank order and in unit delay.
     Layout {
-        words: "net.bench --machine net.machine",
-        machine: b"logic 2\n",
+        options: "",
+        machine: "logic 2\n",
         netlist: CUT,
-        report: b"slots 7\nl0 items 2 tables 2 takes 5\nl1 items 1 tables 1 takes 1\na0 items 2 bits 8 takes 4\nh items 5 takes 2\na1 h 0 l0 a0\na2 h 1 l0 a0\na3 h 2 l0 a0\na4 h 3 l0\na5 h 4 l1\nq a0 0 h\nr a0 1\nz/0 l0 4\nz/1 l1 5 l0\nz l0 6 a0 h\n",
+        report: "slots 7\nl0 items 2 tables 2 takes 5\nl1 items 1 tables 1 takes 1\na0 items 2 bits 8 takes 4\nh items 5 takes 2\na1 h 0 l0 a0\na2 h 1 l0 a0\na3 h 2 l0 a0\na4 h 3 l0\na5 h 4 l1\nq a0 0 h\nr a0 1\nz/0 l0 4\nz/1 l1 5 l0\nz l0 6 a0 h\n",
     },
     Layout {
-        words: "--mode unit net.bench --machine=net.machine",
-        machine: b"logic 2\n",
+        options: "--mode unit",
+        machine: "logic 2\n",
         netlist: CUT,
-        report: b"slots 6\nl0 items 2 tables 2 takes 5\nl1 items 1 tables 1 takes 1\na0 items 2 bits 8 takes 4\nh items 5 takes 2\na1 h 0 l0 a0\na2 h 1 l0 a0\na3 h 2 l0 a0\na4 h 3 l0\na5 h 4 l1\nq a0 0 h\nr a0 1\nz/0 l0 0\nz/1 l1 4 l0\nz l0 5 a0 h\n",
+        report: "slots 6\nl0 items 2 tables 2 takes 5\nl1 items 1 tables 1 takes 1\na0 items 2 bits 8 takes 4\nh items 5 takes 2\na1 h 0 l0 a0\na2 h 1 l0 a0\na3 h 2 l0 a0\na4 h 3 l0\na5 h 4 l1\nq a0 0 h\nr a0 1\nz/0 l0 0\nz/1 l1 4 l0\nz l0 5 a0 h\n",
+    },
+    // A memory, and a second array processor that has nothing to do.
+    Layout {
+        options: "",
+        machine: "logic 1\narray 2\n",
+        netlist: RAM,
+        report: "slots 4\nl0 items 0 tables 0 takes 0\na0 items 1 bits 4 takes 4\na1 items 0 bits 0 takes 0\nh items 4 takes 1\nwe h 0 a0\na0 h 1 a0\na1 h 2 a0\nd h 3 a0\nq a0 0 h\n",
+    },
+    // A gate that is cut into two helpers and its own node.
+    Layout {
+        options: "",
+        machine: "logic 1\narray 0\n",
+        netlist: WIDE_GATE,
+        report: "slots 4\nl0 items 3 tables 3 takes 2\nh items 2 takes 1\na h 0 l0\nb h 1 l0\nz/0 l0 2\nz/1 l0 1\nz l0 3 h\n",
+    },
+    // An input that is printed is at the host already, however often it is printed.
+    Layout {
+        options: "",
+        machine: "logic 1\narray 0\n",
+        netlist: "INPUT(a)\nOUTPUT(a)\nOUTPUT(a)\n",
+        report: "slots 1\nl0 items 0 tables 0 takes 0\nh items 1 takes 0\na h 0\n",
+    },
+    Layout {
+        options: "",
+        machine: "logic 1\narray 0\n",
+        netlist: "",
+        report: "slots 0\nl0 items 0 tables 0 takes 0\nh items 0 takes 0\n",
     },
 ];
 
@@ -196,25 +234,15 @@ fn layouts() -> &'static [Layout] {
     LAYOUTS
 }
 
-/// The files of a case.
-fn store(
-    alloc: Global,
-    machine: &[u8],
-    netlist: &[u8],
-    stimulus: &[u8],
-) -> Result<MemFiles, Memory> {
-    let mut files = List::new(alloc);
-    files.push(named(alloc, b"net.bench", List::from_slice(alloc, netlist)?)?)?;
-    files.push(named(alloc, b"net.stim", List::from_slice(alloc, stimulus)?)?)?;
-    files.push(named(alloc, b"net.machine", List::from_slice(alloc, machine)?)?)?;
-    Ok(MemFiles::new(files, List::new(alloc)))
-}
-
 /// The run of a case.
 fn run_of<R: Threads + Wait + Sync>(rt: &R, alloc: Global, case: &Case) -> Result<Ended, Memory> {
-    let words = words_of(alloc, "run", RUN)?;
-    let mut files = store(alloc, case.machine, case.netlist, case.stimulus)?;
-    end_of(rt, alloc, words.as_slice(), &mut files, 0)
+    let mut files = three_files(
+        alloc,
+        case.netlist.as_bytes(),
+        case.stimulus.as_bytes(),
+        case.machine.as_bytes(),
+    )?;
+    end_of(rt, alloc, &[RUN], &mut files, 0)
 }
 
 /// The plan of a layout.
@@ -223,17 +251,21 @@ fn plan_of<R: Threads + Wait + Sync>(
     alloc: Global,
     layout: &Layout,
 ) -> Result<Ended, Memory> {
-    let words = words_of(alloc, "plan", layout.words)?;
-    let mut files = store(alloc, layout.machine, layout.netlist, b"")?;
-    end_of(rt, alloc, words.as_slice(), &mut files, 0)
+    let mut files = three_files(
+        alloc,
+        layout.netlist.as_bytes(),
+        b"",
+        layout.machine.as_bytes(),
+    )?;
+    end_of(rt, alloc, &[PLAN, layout.options], &mut files, 0)
 }
 
 #[test]
 fn runs_on_machines_end_as_stated(rt: HostRuntime) -> Result<(), Fail> {
     for case in cases() {
         let ended = run_of(&rt, rt.alloc(), case)?;
-        assert_eq!(rt; ended.out.taken(), case.output);
-        assert_eq!(rt; ended.err.taken(), case.line);
+        assert_eq!(rt; ended.out.taken(), case.output.as_bytes());
+        assert_eq!(rt; ended.err.taken(), case.line.as_bytes());
         assert_eq!(rt; ended.status, case.status);
     }
     Ok(())
@@ -243,7 +275,7 @@ fn runs_on_machines_end_as_stated(rt: HostRuntime) -> Result<(), Fail> {
 fn plans_are_reported_as_stated(rt: HostRuntime) -> Result<(), Fail> {
     for layout in layouts() {
         let ended = plan_of(&rt, rt.alloc(), layout)?;
-        assert_eq!(rt; ended.out.taken(), layout.report);
+        assert_eq!(rt; ended.out.taken(), layout.report.as_bytes());
         assert_eq!(rt; ended.status, 0u8);
     }
     Ok(())

@@ -1,13 +1,13 @@
 //! Runs on threads: so many workers and banks, workers that meet, and a worker that waits for the crossbar.
 
+ghost use Rattle.cmd_words.specs.declared.options.TheConstants.{MAX_WORKERS};
 ghost use Rattle.crew_run.specs.Crews.{CanTell};
 ghost use Rattle.std.specs.Prelude.{All, IfOk, Option, Some, length, slice_get, true, ℕ, ◌+◌, ◌<◌, ◌^◌, ◌≡◌, ◌≤◌};
+ghost use Rattle.yse_top.specs.Visited.{AllCanTell};
 
-use super::{C17, GATES, S27, end_of, named, sink, store, words_of};
+use super::{C17, Ended, GATES, S27, end_of, end_with_gates, three_files, two_files, words_of};
 use crew_run::{CountGate, Gate};
-use edge_io::{MemFiles, MemSink};
-use machine_run::count_gates;
-use seen_list::{List, Memory, Text};
+use seen_list::{List, Memory};
 use std::alloc::Global;
 use std::hint;
 use std::marker::Sync;
@@ -15,80 +15,75 @@ use std::sync::Wait;
 use std::sync::atomic::{AtomicBool, Ordering};
 use std::test::Fail;
 use std::thread::Threads;
-use yse_top::yse;
 
 /// How often a hold tries at most.
 const TRIES: u32 = 50_000_000;
 
-const S27_ROWS: &[u8] = b"0000\n0001\n0000\n1000\n0001\n";
+const RUN_S27: &str = "run net.bench net.stim --init 0";
 
-const S27_TRACE: &[u8] = b"cycle G17\n1 1\n2 0\n3 0\n4 1\n5 1\n";
+const S27_ROWS: &str = "0000\n0001\n0000\n1000\n0001\n";
 
-/// S27 with these words behind its files.
-fn s27<R: Threads + Wait + Sync>(
+const S27_TRACE: &str = "cycle G17\n1 1\n2 0\n3 0\n4 1\n5 1\n";
+
+/// Whether a call over the files of S27, with these words, prints its trace.
+fn prints_s27<R: Threads + Wait + Sync>(
     rt: &R,
     alloc: Global,
-    command: &str,
-    options: &[&str],
-) -> Result<Text, Memory> {
-    let mut words = words_of(alloc, command, "net.bench net.stim --init 0")?;
-    for option in options {
-        words.push(String::from_str(alloc, option)?)?;
-    }
-    let mut files = store(alloc, S27, S27_ROWS, 0)?;
-    let ended = end_of(rt, alloc, words.as_slice(), &mut files, 0)?;
-    Text::from_bytes(alloc, ended.out.taken())
+    lines: &[&str],
+) -> Result<bool, Memory> {
+    let mut files = two_files(alloc, S27.as_bytes(), S27_ROWS.as_bytes(), 0)?;
+    let ended = end_of(rt, alloc, lines, &mut files, 0)?;
+    Ok(ended.out.taken() == S27_TRACE.as_bytes())
 }
 
-/// The same bytes with so many workers and banks, by an order of the ports, and by the reference.
+/// The same bytes with so many workers and banks.
 #[test]
 fn workers_print_the_reference(rt: HostRuntime) -> Result<(), Fail> {
     for workers in ["1", "2", "7", "64"] {
         for banks in ["1", "2", "8"] {
-            let options = ["--workers", workers, "--banks", banks];
-            let output = s27(&rt, rt.alloc(), "run", &options)?;
-            assert_eq!(rt; output.as_bytes(), S27_TRACE);
+            let lines = [RUN_S27, "--workers", workers, "--banks", banks];
+            assert!(rt; prints_s27(&rt, rt.alloc(), &lines)?);
         }
-    }
-    for command in ["order", "refer"] {
-        let output = s27(&rt, rt.alloc(), command, &[])?;
-        assert_eq!(rt; output.as_bytes(), S27_TRACE);
     }
     Ok(())
 }
 
-/// The trace of C17 for 10,000 cycles.
-fn long_trace<R: Threads + Wait + Sync>(
+/// The same bytes by an order of the ports, and by the reference.
+#[test]
+fn other_commands_print_the_same(rt: HostRuntime) -> Result<(), Fail> {
+    for command in ["order", "refer"] {
+        let lines = [command, "net.bench net.stim --init 0"];
+        assert!(rt; prints_s27(&rt, rt.alloc(), &lines)?);
+    }
+    Ok(())
+}
+
+/// The call of these words over c17 and 10,000 cycles.
+fn long_run<R: Threads + Wait + Sync>(rt: &R, alloc: Global, line: &str) -> Result<Ended, Memory> {
+    let rows = "10101 * 3000\n0x1z0 * 2000\n11111\n00110 * 4999\n";
+    let mut files = two_files(alloc, C17.as_bytes(), rows.as_bytes(), 0)?;
+    end_of(rt, alloc, &[line], &mut files, 0)
+}
+
+/// Whether the two calls have the same output.
+fn agree<R: Threads + Wait + Sync>(
     rt: &R,
     alloc: Global,
-    command: &str,
-    options: &str,
-) -> Result<MemSink, Memory> {
-    let words = words_of(alloc, command, options)?;
-    let rows: &[u8] = b"10101 * 3000\n0x1z0 * 2000\n11111\n00110 * 4999\n";
-    let mut files = store(alloc, C17, rows, 0)?;
-    let mut out = MemSink::new(alloc, 131_072, 4096, List::new(alloc))?;
-    let mut err = sink(alloc, 0)?;
-    let mut gates = count_gates(alloc, GATES)?;
-    let _ = yse(
-        rt,
-        alloc,
-        words.as_slice(),
-        &mut files,
-        &mut out,
-        &mut err,
-        gates.as_mut_slice(),
-    );
-    Ok(out)
+    one: &str,
+    other: &str,
+) -> Result<bool, Memory> {
+    let one = long_run(rt, alloc, one)?;
+    let other = long_run(rt, alloc, other)?;
+    Ok(one.out.taken() == other.out.taken())
 }
 
 /// Each row of a run by two workers is that of the reference.
 #[test]
 fn ten_thousand_turns_are_those_of_the_reference(rt: HostRuntime) -> Result<(), Fail> {
-    let run = long_trace(&rt, rt.alloc(), "run", "net.bench net.stim --workers 2")?;
-    let reference = long_trace(&rt, rt.alloc(), "refer", "net.bench net.stim")?;
-    assert_eq!(rt; run.taken(), reference.taken());
-    assert_eq!(rt; run.taken().len(), 78_906);
+    let line = "run net.bench net.stim --workers 2";
+    assert!(rt; agree(&rt, rt.alloc(), line, "refer net.bench net.stim")?);
+    let reference = long_run(&rt, rt.alloc(), "refer net.bench net.stim")?;
+    assert_eq!(rt; reference.out.taken().len(), 78_906);
     Ok(())
 }
 
@@ -198,24 +193,37 @@ fn watch_gates<'a>(
     Ok(gates)
 }
 
-/// The files of a netlist and a stimulus, and a machine of two logic processors and no array processor, where
-/// the second of two workers has the second of them alone.
-fn two_ports(alloc: Global, netlist: &[u8], stimulus: &[u8]) -> Result<MemFiles, Memory> {
-    let machine = List::from_slice(alloc, b"logic 2\narray 0\n")?;
-    let mut files = List::new(alloc);
-    files.push(named(alloc, b"net.bench", List::from_slice(alloc, netlist)?)?)?;
-    files.push(named(alloc, b"net.stim", List::from_slice(alloc, stimulus)?)?)?;
-    files.push(named(alloc, b"net.machine", machine)?)?;
-    Ok(MemFiles::new(files, List::new(alloc)))
-}
+/// A machine of two logic processors and no array processor, where the second of two workers has the second of
+/// them alone.
+const TWO_LOGIC: &str = "logic 2\narray 0\n";
 
-/// The status and the output of a run by two workers, and whether the two were held, and found something.
+/// A run by two workers, and whether the two were held, and found something.
 #[derive(Drop)]
 struct Watched {
-    status: u8,
-    output: Text,
+    ended: Ended,
     first: (bool, bool),
     second: (bool, bool),
+}
+
+/// The call of these words over a netlist, a stimulus and the machine of two logic processors, with these gates.
+fn end_with<'a, R: Threads + Wait + Sync>(
+    rt: &R,
+    alloc: Global,
+    line: &str,
+    design: (&str, &str),
+    gates: &mut [Option<WatchGate<'a>>],
+) -> Result<Ended, Memory>
+    requires gates { MAX_WORKERS ≤ length gates.old }
+    requires tell { AllCanTell ⟦<WatchGate<'a> as Gate>⟧ gates.old }
+{
+    let words = words_of(alloc, &[line])?;
+    let mut files = three_files(
+        alloc,
+        design.0.as_bytes(),
+        design.1.as_bytes(),
+        TWO_LOGIC.as_bytes(),
+    )?;
+    end_with_gates(rt, alloc, words.as_slice(), &mut files, 0, gates)
 }
 
 fn run_watched<R: Threads + Wait + Sync>(
@@ -223,30 +231,15 @@ fn run_watched<R: Threads + Wait + Sync>(
     alloc: Global,
     watch: Watch,
     line: &str,
-    netlist: &[u8],
-    stimulus: &[u8],
+    design: (&str, &str),
 ) -> Result<Watched, Memory> {
     let one = AtomicBool::new(false);
     let two = AtomicBool::new(false);
-    let words = words_of(alloc, "run", line)?;
-    let mut files = two_ports(alloc, netlist, stimulus)?;
-    let mut out = sink(alloc, 0)?;
-    let mut err = sink(alloc, 0)?;
     let mut gates = watch_gates(alloc, watch, &one, &two)?;
-    let status = yse(
-        rt,
-        alloc,
-        words.as_slice(),
-        &mut files,
-        &mut out,
-        &mut err,
-        gates.as_mut_slice(),
-    );
-    let output = Text::from_bytes(alloc, out.taken())?;
+    let ended = end_with(rt, alloc, line, design, gates.as_mut_slice())?;
     let gates = gates.as_slice();
     Ok(Watched {
-        status: status.number(),
-        output,
+        ended,
         first: held(gates.first()),
         second: held(gates.get(1)),
     })
@@ -264,36 +257,34 @@ fn held(gate: Option<&Option<WatchGate<'_>>>) -> (bool, bool) {
 /// another.
 #[test]
 fn two_workers_meet(rt: HostRuntime) -> Result<(), Fail> {
-    let line = "net.bench net.stim --init 0 --workers 2";
-    let ended = run_watched(&rt, rt.alloc(), Watch::Pair, line, S27, S27_ROWS)?;
-    assert_eq!(rt; ended.output.as_bytes(), S27_TRACE);
-    assert_eq!(rt; ended.first, (true, true));
-    assert_eq!(rt; ended.second, (true, true));
+    let line = "run net.bench net.stim --init 0 --workers 2";
+    let watched = run_watched(&rt, rt.alloc(), Watch::Pair, line, (S27, S27_ROWS))?;
+    assert_eq!(rt; watched.ended.out.taken(), S27_TRACE.as_bytes());
+    assert_eq!(rt; watched.first, (true, true));
+    assert_eq!(rt; watched.second, (true, true));
     Ok(())
 }
 
 /// While the host is held at its third turn, the port that takes values from it does not get past that turn.
 #[test]
 fn a_worker_waits_for_the_host(rt: HostRuntime) -> Result<(), Fail> {
-    let line = "net.bench net.stim --machine net.machine --workers 2";
-    let ended = run_watched(&rt, rt.alloc(), Watch::Hold, line, C17, b"11111 * 10\n")?;
-    let rows: &[u8] = b"cycle 22 23\n1 10\n2 10\n3 10\n4 10\n5 10\n6 10\n7 10\n8 10\n9 10\n10 10\n";
-    assert_eq!(rt; ended.status, 0u8);
-    assert_eq!(rt; ended.output.as_bytes(), rows);
-    assert_eq!(rt; ended.first, (true, false));
+    let line = "run net.bench net.stim --machine net.machine --workers 2";
+    let watched = run_watched(&rt, rt.alloc(), Watch::Hold, line, (C17, "11111 * 10\n"))?;
+    let rows = "cycle 22 23\n1 10\n2 10\n3 10\n4 10\n5 10\n6 10\n7 10\n8 10\n9 10\n10 10\n";
+    assert_eq!(rt; watched.ended.status, 0);
+    assert_eq!(rt; watched.ended.out.taken(), rows.as_bytes());
+    assert_eq!(rt; watched.first, (true, false));
     Ok(())
 }
 
-/// The summary of a generated design.
-fn summary<R: Threads + Wait + Sync>(rt: &R, alloc: Global, words: &str) -> Result<Text, Memory> {
-    let words = words_of(alloc, "large", words)?;
-    let mut files = store(alloc, b"", b"", 0)?;
-    let ended = end_of(rt, alloc, words.as_slice(), &mut files, 0)?;
-    Text::from_bytes(alloc, ended.out.taken())
+/// The end of a call for a generated design.
+fn large<R: Threads + Wait + Sync>(rt: &R, alloc: Global, words: &str) -> Result<Ended, Memory> {
+    let mut files = two_files(alloc, b"", b"", 0)?;
+    end_of(rt, alloc, &["large", words], &mut files, 0)
 }
 
 /// Generated designs: the words behind the command, and the summary.
-const SUMMARIES: &[(&str, &[u8])] = &[
+const SUMMARIES: &[(&str, &str)] = &[
     ("2 2", TWO_GATES),
     ("2000 20 --workers 1", THOUSANDS),
     ("2000 20 --workers 4", THOUSANDS),
@@ -302,15 +293,15 @@ const SUMMARIES: &[(&str, &[u8])] = &[
     ("20000 200 --workers 1", TENS_OF_THOUSANDS),
 ];
 
-const TWO_GATES: &[u8] = b"gates 2 nodes 2 slots 9 crossings 5\nzeros 2 ones 2 xs 0 zs 0\n";
+const TWO_GATES: &str = "gates 2 nodes 2 slots 9 crossings 5\nzeros 2 ones 2 xs 0 zs 0\n";
 
-const THOUSANDS: &[u8] =
-    b"gates 2000 nodes 2000 slots 292 crossings 3775\nzeros 87 ones 73 xs 0 zs 0\n";
+const THOUSANDS: &str =
+    "gates 2000 nodes 2000 slots 292 crossings 3775\nzeros 87 ones 73 xs 0 zs 0\n";
 
-const TENS_OF_THOUSANDS: &[u8] =
-    b"gates 20000 nodes 20000 slots 2464 crossings 36674\nzeros 1231 ones 369 xs 0 zs 0\n";
+const TENS_OF_THOUSANDS: &str =
+    "gates 20000 nodes 20000 slots 2464 crossings 36674\nzeros 1231 ones 369 xs 0 zs 0\n";
 
-fn summaries() -> &'static [(&'static str, &'static [u8])] {
+fn summaries() -> &'static [(&'static str, &'static str)] {
     SUMMARIES
 }
 
@@ -318,8 +309,8 @@ fn summaries() -> &'static [(&'static str, &'static [u8])] {
 #[test]
 fn generated_designs_are_summed_up(rt: HostRuntime) -> Result<(), Fail> {
     for (words, lines) in summaries() {
-        let output = summary(&rt, rt.alloc(), words)?;
-        assert_eq!(rt; output.as_bytes(), *lines);
+        let ended = large(&rt, rt.alloc(), words)?;
+        assert_eq!(rt; ended.out.taken(), lines.as_bytes());
     }
     Ok(())
 }
