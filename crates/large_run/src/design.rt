@@ -37,9 +37,9 @@ pub(crate) fn large_design(alloc: Global, gates: u32, cycles: u32) -> Result<Des
 {
     large_fits();
     let made = large_net(alloc, gates)?;
+    let rows = large_rows(alloc, made.state, cycles)?;
     let compiled = compile_large(alloc, &made.net)?;
     let figures = figures(alloc, gates, &compiled)?;
-    let rows = large_rows(alloc, made.state, cycles)?;
     Ok(Design {
         compiled,
         figures,

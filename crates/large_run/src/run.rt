@@ -4,10 +4,11 @@ ghost use Rattle.std.specs.Prelude.{◌≡◌, ◌⊎◌, ◌<◌, ◌≤◌, �
 ghost use Rattle.limits.specs.declared.TheConstants.{MAX_LARGE_CYCLES, MAX_LARGE_GATES};
 ghost use Rattle.crew_run.specs.Crews.{CanTell};
 ghost use Rattle.machine_run.specs.Visits.{AreInPlace, AreVisitsOf};
+ghost use Rattle.large_run.specs.Designs.{IsDesign};
 ghost use Rattle.large_run.specs.Runs.{IsSummaryOf};
 
 use crate::counts::summed_up;
-use crate::design::large_design;
+use crate::design::{Design, large_design};
 use crew_run::Gate;
 use machine_run::run_machine;
 use seen_list::{Memory, Text};
@@ -43,8 +44,32 @@ pub fn large<R: Threads + Wait + Sync, G: Gate + Send>(
     ensures refused { OnErr result ((gates.new ≡ gates.old) ⊎ AreVisitsOf G.Gate.own 17 cycles workers gates.old gates.new) }
     ensures kept { AreInPlace gates.old gates.new }
 {
-    same_inputs();
     let design = large_design(alloc, gates_count, cycles)?;
+    summary_of(rt, alloc, gates_count, cycles, &design, workers, gates)
+}
+
+/// The summary of a run of a design of so many gates over so many cycles.
+fn summary_of<R: Threads + Wait + Sync, G: Gate + Send>(
+    rt: &R,
+    alloc: Global,
+    _gates_count: u32,
+    _cycles: u32,
+    design: &Design,
+    workers: u32,
+    gates: &mut [Option<G>],
+) -> Result<Text, Memory>
+    requires design { IsDesign _gates_count _cycles design.now }
+    requires few_gates { _gates_count ≤ MAX_LARGE_GATES }
+    requires few_cycles { _cycles ≤ MAX_LARGE_CYCLES }
+    requires some_workers { 1 ≤ workers }
+    requires enough { workers ≤ length gates.old }
+    requires tell { (i : ℕ) (gate : Option G) → i < workers → slice_get gates.old i ≡ Some gate → CanTell G.Gate.own gate }
+    ensures summary { IfOk result (IsSummaryOf _gates_count _cycles) }
+    ensures visits { OnOk result (AreVisitsOf G.Gate.own 17 _cycles workers gates.old gates.new) }
+    ensures refused { OnErr result ((gates.new ≡ gates.old) ⊎ AreVisitsOf G.Gate.own 17 _cycles workers gates.old gates.new) }
+    ensures kept { AreInPlace gates.old gates.new }
+{
+    same_inputs();
     let rows = run_machine(
         rt,
         alloc,

@@ -49,40 +49,45 @@ pub struct Built {
 }
 
 /// The machine of a text.
-pub fn machine_of<'a>(alloc: Global, text: &[u8]) -> Result<Machine, Refusal<'a>>
-    requires { length text.now ≤ MAX_TEXT_BYTES }
-    ensures checked { Satisfies result (IsMachineOf text.now) }
+pub fn machine_of<'a>(alloc: Global, text: List<u8>) -> Result<Machine, Refusal<'a>>
+    requires { length text ≤ MAX_TEXT_BYTES }
+    ensures checked { Satisfies result (IsMachineOf text) }
     ensures valid { IfOk result IsValidMachine }
 {
-    match read_machine(alloc, text) {
+    match read_machine(alloc, text.as_slice()) {
         Ok(machine) => Ok(machine),
         Err(no) => Err(of_machine(no)),
     }
 }
 
-/// The netlist of a text.
-pub fn netlist_of<'a>(alloc: Global, text: &[u8]) -> Result<Netlist, Refusal<'a>>
-    requires { length text.now ≤ MAX_TEXT_BYTES }
-    ensures checked { Satisfies result (IsNetlistOf text.now) }
+/// The netlist of a text, which is given up once it is read.
+pub fn netlist_of<'a>(alloc: Global, text: List<u8>) -> Result<Netlist, Refusal<'a>>
+    requires { length text ≤ MAX_TEXT_BYTES }
+    ensures checked { Satisfies result (IsNetlistOf text) }
     ensures valid { IfOk result IsValid }
 {
-    match read_bench(alloc, text) {
+    let bytes = text.as_slice();
+    match read_bench(alloc, bytes) {
         Ok(net) => {
-            reads_as_valid(text, &net);
+            reads_as_valid(bytes, &net);
             Ok(net)
         }
         Err(no) => Err(of_netlist(no)),
     }
 }
 
-/// The stimulus of a text for the inputs of a netlist.
-pub fn stimulus_of<'a>(alloc: Global, text: &[u8], net: &Netlist) -> Result<Stimulus, Refusal<'a>>
+/// The stimulus of a text, which is given up once it is read, for the inputs of a netlist.
+pub fn stimulus_of<'a>(
+    alloc: Global,
+    text: List<u8>,
+    net: &Netlist,
+) -> Result<Stimulus, Refusal<'a>>
     requires valid { IsValid net.now }
-    requires short { length text.now ≤ MAX_TEXT_BYTES }
-    ensures checked { Satisfies result (IsStimulusOf text.now net.now) }
+    requires short { length text ≤ MAX_TEXT_BYTES }
+    ensures checked { Satisfies result (IsStimulusOf text net.now) }
     ensures valid { IfOk result IsValidStimulus }
 {
-    match read_stim(alloc, text, net.inputs()) {
+    match read_stim(alloc, text.as_slice(), net.inputs()) {
         Ok(stimulus) => Ok(stimulus),
         Err(no) => Err(of_stimulus(no)),
     }
@@ -181,13 +186,13 @@ fn cell_count(net: &Netlist, stimulus: &Stimulus) -> u64
 }
 
 /// The order of a text for the ports of a machine.
-pub fn order_of<'a>(alloc: Global, text: &[u8], machine: &Machine) -> Result<Order, Refusal<'a>>
+pub fn order_of<'a>(alloc: Global, text: List<u8>, machine: &Machine) -> Result<Order, Refusal<'a>>
     requires machine { IsValidMachine machine.now }
-    requires short { length text.now ≤ MAX_TEXT_BYTES }
-    ensures checked { Satisfies result (IsOrderOf text.now machine.now) }
+    requires short { length text ≤ MAX_TEXT_BYTES }
+    ensures checked { Satisfies result (IsOrderOf text machine.now) }
     ensures valid { IfOk result (IsValidOrder (ports_of machine.now)) }
 {
-    match read_order(alloc, text, machine.logic + machine.array + 1) {
+    match read_order(alloc, text.as_slice(), machine.logic + machine.array + 1) {
         Ok(order) => Ok(order),
         Err(no) => Err(of_order(no)),
     }

@@ -21,7 +21,7 @@ use machine_text::Machine;
 use net_defs::{Netlist, Timing};
 use plan_defs::law::items_are_well_formed;
 use plan_text::report;
-use seen_list::{Memory, Text};
+use seen_list::Memory;
 use std::alloc::Global;
 
 /// The report of the plan of a netlist on the machine of the named file, or on the default machine.
@@ -56,7 +56,7 @@ fn plan_by<'a, F: Files>(
     ensures writable { IfOk result CanWrite }
 {
     match read_text(alloc, files, file) {
-        Ok(text) => match machine_of(alloc, text.as_slice()) {
+        Ok(text) => match machine_of(alloc, text) {
             Ok(machine) => plan_on(alloc, files, words, machine),
             Err(no) => Err(no),
         },
@@ -79,7 +79,7 @@ fn plan_on<'a, F: Files>(
     ensures writable { IfOk result CanWrite }
 {
     match read_text(alloc, files, words.netlist.as_bytes()) {
-        Ok(text) => match netlist_of(alloc, text.as_slice()) {
+        Ok(text) => match netlist_of(alloc, text) {
             Ok(net) => lay_out(alloc, net, &machine, &words.timing),
             Err(no) => Err(no),
         },
@@ -102,34 +102,36 @@ fn lay_out<'a>(
     ensures writable { IfOk result CanWrite }
 {
     match designed(alloc, net, machine, timing) {
-        Ok(planned) => match report_of(alloc, &planned, machine, timing) {
-            Ok(text) => Ok(Output::Text(text)),
-            Err(Memory) => Err(Refusal::Memory),
-        },
+        Ok(planned) => report_of(alloc, &planned, machine, timing),
         Err(no) => Err(no),
     }
 }
 
 /// The report of a design.
-fn report_of(
+fn report_of<'a>(
     alloc: Global,
     planned: &Planned,
     _machine: &Machine,
     _timing: &Timing,
-) -> Result<Text, Memory>
+) -> Result<Output, Refusal<'a>>
     requires valid { IsValid planned.now.net }
     requires machine { IsValidMachine _machine.now }
     requires compiled { IsCompiled planned.now.net _machine.now _timing.now planned.now.compiled }
-    ensures { IfOk result (IsReportOf planned.now.net _machine.now _timing.now) }
+    ensures written { Ends (Writes (IsReportOf planned.now.net _machine.now _timing.now)) [] (outcome_of result) }
+    ensures writable { IfOk result CanWrite }
 {
     items_are_well_formed();
     let compiled = &planned.compiled;
-    report(
+    let text = report(
         alloc,
         &planned.net,
         &compiled.nodes,
         &compiled.homes,
         &compiled.plan,
         &compiled.switch,
-    )
+    );
+    match text {
+        Ok(text) => Ok(Output::Text(text)),
+        Err(Memory) => Err(Refusal::Memory),
+    }
 }

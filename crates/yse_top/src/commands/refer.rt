@@ -31,7 +31,7 @@ pub fn refer<'a, F: Files>(
     ensures writable { IfOk result CanWrite }
 {
     match read_text(alloc, files, words.netlist.as_bytes()) {
-        Ok(text) => match netlist_of(alloc, text.as_slice()) {
+        Ok(text) => match netlist_of(alloc, text) {
             Ok(net) => match ordered(alloc, net, &words.timing) {
                 Ok(design) => {
                     simulate(
@@ -66,7 +66,7 @@ fn simulate<'a, F: Files>(
     ensures writable { IfOk result CanWrite }
 {
     match read_text(alloc, files, file) {
-        Ok(text) => match stimulus_of(alloc, text.as_slice(), &design.net) {
+        Ok(text) => match stimulus_of(alloc, text, &design.net) {
             Ok(stimulus) => match few_cells(&design.net, &stimulus) {
                 Ok(()) => match printed(alloc, timing, design, &stimulus) {
                     Ok(trace) => Ok(Output::Trace(trace)),

@@ -101,7 +101,7 @@ fn run_by<'a, R: Threads + Wait + Sync, F: Files, G: Gate + Send>(
     ensures kept { KeepsGates pace.entry gates.old gates.new result }
 {
     match read_text(alloc, files, file) {
-        Ok(text) => match machine_of(alloc, text.as_slice()) {
+        Ok(text) => match machine_of(alloc, text) {
             Ok(machine) => run_on(rt, alloc, files, words, pace, machine, gates),
             Err(no) => Err(no),
         },
@@ -130,7 +130,7 @@ fn run_on<'a, R: Threads + Wait + Sync, F: Files, G: Gate + Send>(
     ensures kept { KeepsGates pace.entry gates.old gates.new result }
 {
     match read_text(alloc, files, words.netlist.as_bytes()) {
-        Ok(text) => match netlist_of(alloc, text.as_slice()) {
+        Ok(text) => match netlist_of(alloc, text) {
             Ok(net) => match compiled(alloc, net, &machine, &words.timing) {
                 Ok(built) => execute(rt, alloc, files, words, pace, &machine, built, gates),
                 Err(no) => Err(no),
@@ -166,7 +166,7 @@ fn execute<'a, R: Threads + Wait + Sync, F: Files, G: Gate + Send>(
     ensures kept { KeepsGates pace.entry gates.old gates.new result }
 {
     match read_text(alloc, files, words.stimulus.as_bytes()) {
-        Ok(text) => match stimulus_of(alloc, text.as_slice(), &built.net) {
+        Ok(text) => match stimulus_of(alloc, text, &built.net) {
             Ok(stimulus) => match few_cells(&built.net, &stimulus) {
                 Ok(()) => finish(
                     rt, alloc, files, words, pace, machine, built, &stimulus, gates,
@@ -244,7 +244,7 @@ fn in_order<'a, F: Files>(
     ensures writable { IfOk result CanWrite }
 {
     match read_text(alloc, files, file) {
-        Ok(text) => match order_of(alloc, text.as_slice(), machine) {
+        Ok(text) => match order_of(alloc, text, machine) {
             Ok(order) => match by_order(alloc, words, machine, built, stimulus, &order) {
                 Ok(output) => Ok(output),
                 Err(Memory) => Err(Refusal::Memory),

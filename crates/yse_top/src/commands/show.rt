@@ -26,7 +26,7 @@ pub fn show<'a, F: Files>(
     ensures writable { IfOk result CanWrite }
 {
     match read_text(alloc, files, file) {
-        Ok(text) => match netlist_of(alloc, text.as_slice()) {
+        Ok(text) => match netlist_of(alloc, text) {
             Ok(net) => match canonical_text(alloc, &net) {
                 Ok(text) => Ok(Output::Text(text)),
                 Err(Memory) => Err(Refusal::Memory),

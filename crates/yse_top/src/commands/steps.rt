@@ -5,7 +5,7 @@ ghost use Rattle.std.specs.Prelude.{◌≡◌, ◌<◌, ◌≤◌, ℕ, Some, If
 ghost use Rattle.std.specs.List.{flat_map};
 ghost use Rattle.machine_run.specs.Shown.{AreShown};
 ghost use Rattle.machine_run.specs.Visits.{AreInPlace, AreVisitsOf};
-ghost use Rattle.net_defs.specs.Time.{turn_count};
+ghost use Rattle.net_defs.specs.Time.{cycle_count, turn_count};
 ghost use Rattle.net_defs.specs.Trace.{IsTrace};
 ghost use Rattle.net_defs.specs.Valid.{IsValid, IsValidStimulus, input_count};
 ghost use Rattle.stim_text.specs.declared.order.OrderLine.{OrderLine};
@@ -14,7 +14,7 @@ ghost use Rattle.event_core.specs.Core.{AreDone, IsSameCore, IsSoundCore, rows_o
 ghost use Rattle.cmd_words.specs.Forms.{IsRunInRange};
 ghost use Rattle.cmd_words.specs.declared.options.TheConstants.{MAX_WORKERS};
 ghost use Rattle.yse_top.specs.Images.{IsImageOf};
-ghost use Rattle.yse_top.specs.Orders.{EndsInOrder, IsMachineImage};
+ghost use Rattle.yse_top.specs.Orders.{AreRowsInOrder, EndsInOrder, IsEndingOf, IsMachineImage};
 ghost use Rattle.yse_top.specs.Stepped.{HasStepped};
 ghost use Rattle.yse_top.specs.Outputs.{trace_bytes, CanPrint, CanWrite};
 ghost use Rattle.yse_top.specs.Refusals.{ended_with};
@@ -101,12 +101,31 @@ pub fn by_rounds(
     ensures printed { IfOk result (λ trace. IsTrace built.net words.now.timing stimulus.now (trace_bytes trace)) }
     ensures writable { IfOk result CanPrint }
 {
-    let Built { net, image } = built;
-    let line = TraceLine::new(alloc, &net)?;
-    let mut core = Core::new(alloc, &image, stimulus, words.banks)?;
+    let line = TraceLine::new(alloc, &built.net)?;
+    let rows = rows_by_rounds(alloc, words, &built, stimulus)?;
+    Ok(Trace {
+        net: built.net,
+        rows,
+        line,
+    })
+}
+
+/// The rows of a run to its end.
+fn rows_by_rounds(
+    alloc: Global,
+    words: &RunWords,
+    built: &Built,
+    stimulus: &Stimulus,
+) -> Result<Rows, Memory>
+    requires range { IsRunInRange words.now }
+    requires image { IsImageOf built.now.net words.now.timing built.now.image }
+    requires stimulus { IsValidStimulus stimulus.now }
+    requires columns { stimulus.now.columns ≡ input_count built.now.net }
+    ensures { IfOk result (λ rows. AreShown built.now.image stimulus.now (cycle_count stimulus.now) rows.rows) }
+{
+    let mut core = Core::new(alloc, &built.image, stimulus, words.banks)?;
     run_rounds(&mut core);
-    let rows = rows_of(alloc, &core)?;
-    Ok(Trace { net, rows, line })
+    rows_of(alloc, &core)
 }
 
 /// What is done of the trace by the end of an order of the machine's ports.
@@ -128,21 +147,53 @@ pub fn by_order(
     ensures ended { IfOk result (λ output. EndsInOrder order.now words.now.banks built.net _machine.now words.now.timing stimulus.now (ended_with output)) }
     ensures writable { IfOk result CanWrite }
 {
-    let Built { net, image } = built;
-    let line = TraceLine::new(alloc, &net)?;
-    let mut core = Core::new(alloc, &image, stimulus, words.banks)?;
+    let line = TraceLine::new(alloc, &built.net)?;
+    let (rows, ending) = rows_by_order(alloc, words, &built, stimulus, order)?;
+    let trace = Trace {
+        net: built.net,
+        rows,
+        line,
+    };
+    match ending {
+        None => Ok(Output::Trace(trace)),
+        Some(ending) => Ok(Output::Unfinished(trace, ending)),
+    }
+}
+
+/// The rows that are done by the end of an order, and where the run ended if a port is not done.
+fn rows_by_order(
+    alloc: Global,
+    words: &RunWords,
+    built: &Built,
+    stimulus: &Stimulus,
+    order: &Order,
+) -> Result<(Rows, Option<Ending>), Memory>
+    requires range { IsRunInRange words.now }
+    requires image { IsImageOf built.now.net words.now.timing built.now.image }
+    requires stimulus { IsValidStimulus stimulus.now }
+    requires columns { stimulus.now.columns ≡ input_count built.now.net }
+    requires order { IsValidOrder (length built.now.image.ports) order.now }
+    ensures { IfOk result (λ made. AreRowsInOrder order.now words.now.banks words.now.timing stimulus.now built.now.image made.0 made.1) }
+{
+    let mut core = Core::new(alloc, &built.image, stimulus, words.banks)?;
     step_lines(&mut core, order.lines.as_slice());
     steps_are_sound();
     let rows = rows_of(alloc, &core)?;
-    let trace = Trace { net, rows, line };
+    Ok((rows, ending_of(&core, stimulus)))
+}
+
+/// Where a run ends in which a port is not done.
+fn ending_of(core: &Core<'_>, stimulus: &Stimulus) -> Option<Ending>
+    requires { IsValidStimulus stimulus.now }
+    ensures { IsEndingOf core.now stimulus.now result }
+{
     if core.all_done() {
-        return Ok(Output::Trace(trace));
+        return None;
     }
-    let ending = Ending {
+    Some(Ending {
         rows: core.rows_done(),
         cycles: stimulus.cycles(),
-    };
-    Ok(Output::Unfinished(trace, ending))
+    })
 }
 
 /// Steps all ports until they are done.

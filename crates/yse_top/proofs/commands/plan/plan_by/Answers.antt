@@ -16,17 +16,17 @@ module _ (words : RunWords) where
 pub returns-in-Ok-machine_of-clause-expected : goal.returns-in-Ok-machine_of-clause-expected
 unfolding AfterMachine
 returns-in-Ok-machine_of-clause-expected g c =
-    let e = rw c.as_slice.ensures at c.in-Ok-machine_of.ensures in
+    let e = c.in-Ok-machine_of.ensures in
     let words = c.args.words.now in
     let machine = c.in-Ok-machine_of.machine in
     let text = c.in-Ok.text in
     follows_file _ _ _ _ _ _ _ _ text _ (of_text words) c.in-Ok.ensures.same_names c.in-Ok.ensures.same_bytes c.in-Ok.ensures.text
     (follows_on _ _ (IsMachineOf text) (ExpectedPlanOn words) machine _ _ _ e.checked c.plan_on.ensures.expected)
 
-pub returns-in-Ok-clause-expected : goal.returns-in-Ok-clause-expected
+pub returns-in-Err-machine_of-clause-expected : goal.returns-in-Err-machine_of-clause-expected
 unfolding AfterMachine
-returns-in-Ok-clause-expected g c =
-    let e = rw c.as_slice.ensures at c.in-Err-machine_of.ensures in
+returns-in-Err-machine_of-clause-expected g c =
+    let e = c.in-Err-machine_of.ensures in
     let words = c.args.words.now in
     let text = c.in-Ok.text in
     follows_file _ _ _ _ _ _ _ _ text _ (of_text words) c.in-Ok.ensures.same_names c.in-Ok.ensures.same_bytes c.in-Ok.ensures.text

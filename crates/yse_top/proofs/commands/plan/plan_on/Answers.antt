@@ -21,7 +21,7 @@ module _ (machine : Machine) (timing : Timing) where
 pub returns-in-Ok-netlist_of-clause-expected : goal.returns-in-Ok-netlist_of-clause-expected
 unfolding ExpectedPlanOn AfterDesign
 returns-in-Ok-netlist_of-clause-expected g c =
-    let e = rw c.as_slice.ensures at c.in-Ok-netlist_of.ensures in
+    let e = c.in-Ok-netlist_of.ensures in
     let machine = c.args.machine in
     let timing = c.args.words.now.timing in
     let net = c.in-Ok-netlist_of.net in

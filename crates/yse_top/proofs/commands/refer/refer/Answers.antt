@@ -22,7 +22,7 @@ module _ (words : RunWords) where
 pub returns-in-Ok-ordered-clause-expected : goal.returns-in-Ok-ordered-clause-expected
 unfolding ExpectedRefer
 returns-in-Ok-ordered-clause-expected g c =
-    let e = rw c.as_slice.ensures at c.in-Ok-netlist_of.ensures in
+    let e = c.in-Ok-netlist_of.ensures in
     let words = c.args.words.now in
     let net = c.in-Ok-netlist_of.net in
     let text = c.in-Ok.text in
@@ -31,10 +31,10 @@ returns-in-Ok-ordered-clause-expected g c =
     (follows_on _ _ (IsNetlistOf text) (of_netlist words) net _ _ _ e.checked
     (follows_on _ _ (HasNoLoop net words.timing) (λ passed. of_order words net) tt _ _ _ c.in-Ok-ordered.ensures.acyclic trace))
 
-pub returns-in-Ok-netlist_of-clause-expected : goal.returns-in-Ok-netlist_of-clause-expected
+pub returns-in-Err-ordered-clause-expected : goal.returns-in-Err-ordered-clause-expected
 unfolding ExpectedRefer
-returns-in-Ok-netlist_of-clause-expected g c =
-    let e = rw c.as_slice.ensures at c.in-Ok-netlist_of.ensures in
+returns-in-Err-ordered-clause-expected g c =
+    let e = c.in-Ok-netlist_of.ensures in
     let words = c.args.words.now in
     let net = c.in-Ok-netlist_of.net in
     let text = c.in-Ok.text in

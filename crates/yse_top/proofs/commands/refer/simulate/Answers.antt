@@ -26,7 +26,7 @@ module _ (net : Netlist) (timing : Timing) where
 pub returns-in-Ok-printed-clause-expected : goal.returns-in-Ok-printed-clause-expected
 unfolding AfterStimulus
 returns-in-Ok-printed-clause-expected g c =
-    let e = rw c.as_slice.ensures at c.in-Ok-stimulus_of.ensures in
+    let e = c.in-Ok-stimulus_of.ensures in
     let trace = c.in-Ok-printed.trace in
     let net = c.args.design.net in
     let timing = c.args.timing.now in

@@ -20,7 +20,7 @@ module _ (net : Netlist) (Next : Stimulus → List Reading → Outcome → Type 
 pub returns-in-Ok-few_cells-clause-expected : goal.returns-in-Ok-few_cells-clause-expected
 unfolding AfterStimulus
 returns-in-Ok-few_cells-clause-expected g c =
-    let e = rw c.as_slice.ensures at c.in-Ok-stimulus_of.ensures in
+    let e = c.in-Ok-stimulus_of.ensures in
     let net = c.args.built.net in
     let next = EndsTelling g.G.Gate c.args.gates.now c.finish.new.gates c.args.pace c.args.words.now c.args.machine.now net in
     let stimulus = c.in-Ok-stimulus_of.stimulus in
@@ -32,7 +32,7 @@ returns-in-Ok-few_cells-clause-expected g c =
 pub returns-in-Ok-clause-expected : goal.returns-in-Ok-clause-expected
 unfolding AfterStimulus
 returns-in-Ok-clause-expected g c =
-    let e = rw c.as_slice.ensures at c.in-Err-stimulus_of.ensures in
+    let e = c.in-Err-stimulus_of.ensures in
     let net = c.args.built.net in
     let next = EndsTelling g.G.Gate c.args.gates.now c.args.gates.now c.args.pace c.args.words.now c.args.machine.now net in
     let text = c.in-Ok.text in

@@ -23,7 +23,7 @@ module _ (words : RunWords) (machine : Machine) (net : Netlist) (stimulus : Stim
 pub returns-in-Ok-by_order-clause-expected : goal.returns-in-Ok-by_order-clause-expected
 unfolding EndsBy
 returns-in-Ok-by_order-clause-expected g c =
-    let e = rw c.as_slice.ensures at c.in-Ok-order_of.ensures in
+    let e = c.in-Ok-order_of.ensures in
     let words = c.args.words.now in
     let machine = c.args.machine.now in
     let net = c.args.built.net in
@@ -37,7 +37,7 @@ returns-in-Ok-by_order-clause-expected g c =
 pub returns-in-Ok-order_of-clause-expected : goal.returns-in-Ok-order_of-clause-expected
 unfolding EndsBy
 returns-in-Ok-order_of-clause-expected g c =
-    let e = rw c.as_slice.ensures at c.in-Ok-order_of.ensures in
+    let e = c.in-Ok-order_of.ensures in
     let words = c.args.words.now in
     let machine = c.args.machine.now in
     let net = c.args.built.net in
@@ -51,7 +51,7 @@ returns-in-Ok-order_of-clause-expected g c =
 pub returns-in-Ok-clause-expected : goal.returns-in-Ok-clause-expected
 unfolding EndsBy
 returns-in-Ok-clause-expected g c =
-    let e = rw c.as_slice.ensures at c.in-Err-order_of.ensures in
+    let e = c.in-Err-order_of.ensures in
     let words = c.args.words.now in
     let machine = c.args.machine.now in
     let net = c.args.built.net in

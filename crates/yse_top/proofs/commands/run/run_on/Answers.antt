@@ -25,7 +25,7 @@ module _ (words : RunWords) (End : (Machine → Netlist → Stimulus → List Re
 pub returns-in-Ok-compiled-clause-expected : goal.returns-in-Ok-compiled-clause-expected
 unfolding ExpectedOn AfterDesign
 returns-in-Ok-compiled-clause-expected g c =
-    let e = rw c.as_slice.ensures at c.in-Ok-netlist_of.ensures in
+    let e = c.in-Ok-netlist_of.ensures in
     let machine = c.args.machine in
     let words = c.args.words.now in
     let end = EndsTelling g.G.Gate c.args.gates.now c.execute.new.gates c.args.pace words in
@@ -37,10 +37,10 @@ returns-in-Ok-compiled-clause-expected g c =
     (follows_on _ _ (HasNoLoop net words.timing) (λ passed. After (HasRoom net machine words.timing) (λ fits. of_design words end machine net)) tt _ _ _ c.in-Ok-compiled.ensures.acyclic
     (follows_on _ _ (HasRoom net machine words.timing) (λ fits. of_design words end machine net) tt _ _ _ c.in-Ok-compiled.ensures.fits run)))
 
-pub returns-in-Ok-netlist_of-clause-expected : goal.returns-in-Ok-netlist_of-clause-expected
+pub returns-in-Err-compiled-clause-expected : goal.returns-in-Err-compiled-clause-expected
 unfolding ExpectedOn AfterDesign
-returns-in-Ok-netlist_of-clause-expected g c =
-    let e = rw c.as_slice.ensures at c.in-Ok-netlist_of.ensures in
+returns-in-Err-compiled-clause-expected g c =
+    let e = c.in-Ok-netlist_of.ensures in
     let machine = c.args.machine in
     let words = c.args.words.now in
     let end = EndsTelling g.G.Gate c.args.gates.now c.args.gates.now c.args.pace words in

@@ -15,7 +15,7 @@ of_netlist net = Ends (Writes (λ output. output ≡ canonical_text net))
 pub returns-in-Ok-canonical_text-clause-expected : goal.returns-in-Ok-canonical_text-clause-expected
 unfolding ExpectedShow
 returns-in-Ok-canonical_text-clause-expected g c =
-    let e = rw c.as_slice.ensures at c.in-Ok-netlist_of.ensures in
+    let e = c.in-Ok-netlist_of.ensures in
     let net = c.in-Ok-netlist_of.net in
     let text = c.in-Ok.text in
     follows_file _ _ _ _ _ _ _ _ text _ (λ text. After (IsNetlistOf text) of_netlist) c.in-Ok.ensures.same_names c.in-Ok.ensures.same_bytes c.in-Ok.ensures.text

@@ -9,20 +9,20 @@ use Rattle.net_defs.specs.Time.{cycle_count}
 use Rattle.large_run.specs.Rows.{cells_in}
 use Rattle.large_run.specs.Setting.{large_timing}
 use Rattle.large_run.proofs.DesignLemmas.{columns_large, run_few, summary_shown}
-use Rattle.large_run.proofs.run.large.Goals as goal
+use Rattle.large_run.proofs.run.summary_of.Goals as goal
 
 pub run_machine-requires-clause-columns : goal.run_machine-requires-clause-columns
 run_machine-requires-clause-columns g c κs within =
-    columns_large c.args.gates_count c.args.cycles c.in_ok-design.design c.in_ok-design.ensures
-    (c.same_inputs.ensures (large_netlist c.args.gates_count) large_timing c.in_ok-design.design.compiled.nodes (valid_large c.args.gates_count c.requires.few_gates) c.in_ok-design.ensures.compiled.items)
+    columns_large c.args._gates_count c.args._cycles c.args.design.now c.requires.design
+    (c.same_inputs.ensures (large_netlist c.args._gates_count) large_timing c.args.design.now.compiled.nodes (valid_large c.args._gates_count c.requires.few_gates) c.requires.design.compiled.items)
 
 pub summed_up-requires : goal.summed_up-requires
 summed_up-requires g c =
     subst (λ (rows : List CellRow). length (cells_in rows) < 2 ^ 64) (sym c.as_slice.ensures)
-    (run_few c.args.gates_count c.args.cycles c.in_ok-design.design c.in_ok-design.ensures c.in_ok-rows.rows.rows c.in_ok-rows.ensures.rows c.requires.few_cycles)
+    (run_few c.args._gates_count c.args._cycles c.args.design.now c.requires.design c.in_ok-rows.rows.rows c.in_ok-rows.ensures.rows c.requires.few_cycles)
 
 pub returns-clause-summary : goal.returns-clause-summary
 returns-clause-summary g c =
     IfOk-weaker c.summed_up.result _ _ (λ text told.
-    summary_shown c.args.gates_count c.args.cycles c.in_ok-design.design c.in_ok-design.ensures c.as_slice.result.now text
-    (subst (λ (rows : List CellRow). AreShown c.in_ok-design.design.compiled.image c.in_ok-design.design.rows (cycle_count c.in_ok-design.design.rows) rows) (sym c.as_slice.ensures) c.in_ok-rows.ensures.rows) told) c.summed_up.ensures
+    summary_shown c.args._gates_count c.args._cycles c.args.design.now c.requires.design c.as_slice.result.now text
+    (subst (λ (rows : List CellRow). AreShown c.args.design.now.compiled.image c.args.design.now.rows (cycle_count c.args.design.now.rows) rows) (sym c.as_slice.ensures) c.in_ok-rows.ensures.rows) told) c.summed_up.ensures
