@@ -1,6 +1,6 @@
 //! The whole image.
 
-ghost use Rattle.std.specs.Prelude.{◌≡◌, ◌<◌, ◌≤◌, ℕ, List as Items, IfOk};
+ghost use Rattle.std.specs.Prelude.{◌≡◌, ◌<◌, ◌≤◌, ℕ, List as Items, IfOk, length};
 ghost use Rattle.limits.specs.declared.TheConstants.{MAX_SLOTS};
 ghost use Rattle.net_defs.specs.declared.stimulus.Stimulus.{Stimulus};
 ghost use Rattle.net_defs.specs.Steps.{State};
@@ -10,10 +10,10 @@ ghost use Rattle.node_defs.specs.Values.{AreItemValues};
 ghost use Rattle.plan_defs.specs.Homes.{AreHomes, ports_of};
 ghost use Rattle.plan_defs.specs.Slots.{IsFirstFitPlan};
 ghost use Rattle.plan_defs.specs.Switches.{IsSwitch};
-ghost use Rattle.image_build.specs.PortItems.{ArePortItems};
+ghost use Rattle.image_build.specs.PortItems.{ArePortItems, ArePlanClaims};
 ghost use Rattle.image_build.specs.Built.{AreLinksOf, IsBuilt, GivesItems};
 ghost use Rattle.image_build.specs.Layouts.{IsWorkFor, IsLaidOut};
-ghost use Rattle.image_build.specs.Plans.{IsPlanned, AreMemories};
+ghost use Rattle.image_build.specs.Plans.{IsPlanned, AreMemories, AreFirstPorts};
 
 use crate::array::array_work;
 use crate::host::{column_count, host_work};
@@ -68,15 +68,7 @@ fn laid_out(
     ensures { IfOk result (λ image. (claims : Items (Items ℕ)) × IsLaidOut nodes.now homes.now plan.now switch.now timing.now claims image) }
 {
     let items = port_items(alloc, nodes, homes, plan)?;
-    let memories = memories_of(alloc, nodes, homes)?;
-    let links = switch.ports.as_slice();
-    let lists = items.as_slice();
-    let mut ports = List::new(alloc);
-    'ports: for p in 0..lists.len() {
-        let list = lists[p].as_slice();
-        let work = work_of(alloc, nodes, homes, plan, &memories, p as u32, list)?;
-        ports.push(port_of(alloc, work, &links[p])?)?;
-    }
+    let ports = port_images(alloc, nodes, homes, plan, switch, items.as_slice())?;
     Ok(Image {
         slots: plan.needed,
         units: timing.units,
@@ -86,13 +78,54 @@ fn laid_out(
     })
 }
 
-/// A port that does this work, with its links.
-fn port_of(alloc: Global, work: Work, links: &PortLinks) -> Result<PortImage, Memory>
-    ensures work { IfOk result (λ port. port.work ≡ work) }
+/// A port for each list of items, in the order of the lists.
+fn port_images(
+    alloc: Global,
+    nodes: &NodeNet,
+    homes: &Homes,
+    plan: &Plan,
+    switch: &Switch,
+    lists: &[List<u32>],
+) -> Result<List<PortImage>, Memory>
+    requires planned { IsPlanned nodes.now homes.now plan.now }
+    requires switch { IsSwitch nodes.now homes.now plan.now.slots switch.now }
+    requires claims { ArePlanClaims nodes.now homes.now plan.now.slots lists.now }
+    ensures { IfOk result (AreFirstPorts nodes.now homes.now plan.now switch.now lists.now (length lists.now)) }
+{
+    let memories = memories_of(alloc, nodes, homes)?;
+    let links = switch.ports.as_slice();
+    let mut ports = List::new(alloc);
+    'ports: for p in 0..lists.len() {
+        let items = lists[p].as_slice();
+        let port = port_image(
+            alloc, nodes, homes, plan, &memories, p as u32, items, &links[p],
+        )?;
+        ports.push(port)?;
+    }
+    Ok(ports)
+}
+
+/// The port of this number, which has these items and these links.
+fn port_image(
+    alloc: Global,
+    nodes: &NodeNet,
+    homes: &Homes,
+    plan: &Plan,
+    memories: &Memories,
+    port: u32,
+    items: &[u32],
+    links: &PortLinks,
+) -> Result<PortImage, Memory>
+    requires planned { IsPlanned nodes.now homes.now plan.now }
+    requires memories { AreMemories nodes.now homes.now memories.now }
+    requires port { port < ports_of homes.now }
+    requires items { ArePortItems nodes.now homes.now plan.now.slots port items.now }
+    ensures work { IfOk result (λ image. IsWorkFor nodes.now homes.now plan.now.slots port items.now image.work) }
     ensures links { IfOk result (AreLinksOf links.now) }
 {
     let outs = links_out(alloc, links.sends.as_slice())?;
     let ins = links_in(alloc, links.receipts.as_slice())?;
+    let work = work_of(alloc, nodes, homes, plan, memories, port, items)?;
     Ok(PortImage { work, outs, ins })
 }
 

@@ -70,6 +70,20 @@ module _ {S G : Type 0} (ws : List (Worker S G)) (w : ℕ) (worker worker' : Wor
 -- ---- dealing
 
 module _ {G : Type 0} (bar : CrossbarView) (n : ℕ) where
+  -- no port is dealt to idle workers
+  pub dealt_none : (from : ℕ) (ws : List (Worker Seated G)) → AreIdle n ws → 1 ≤ length bar.image.ports → length bar.image.ports ≤ from → AreDealt bar n from ws
+  dealt_none from ws idle some past = record {
+    count = idle.count;
+    each = λ w k seat is. absurd (none w k seat is);
+    apart = λ w j k a b is other away. absurd (none w j a is);
+    all = λ p above low. absurd (omega (arith, above, low, past));
+    host = λ above. absurd (omega (arith, above, some, past));
+  } where
+    none : (w k : ℕ) (seat : Seated) → IsMember ws w k seat → ⊥
+    none w k seat is =
+        let low = slice_get_within is.worker.members k seat is.member_is in
+        omega (arith, low, ap length (idle.idle w is.worker is.worker_is))
+
   module _ (p w : ℕ) (ws : List (Worker Seated G)) (worker worker' : Worker Seated G) (seat : Seated) where
     with_more : AreDealt bar n (p + 1) ws → IsSeatOf bar p seat → p < length bar.image.ports → w ≡ p % n → slice_get ws w ≡ Some worker → worker'.members ≡ worker.members ++ seat ∷ []
         → AreDealt bar n p (set ws w worker')

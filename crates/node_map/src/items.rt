@@ -1,6 +1,7 @@
 //! The items in their order.
 
 ghost use Rattle.std.specs.Prelude.{◌≡◌, ◌+◌, ◌^◌, ◌<◌, ◌≤◌, ◌↔◌, ℕ, [], length, Some, slice_get, slice_index, All, OnOk, IfOk};
+ghost use Rattle.func_table.specs.Shelf.{AreDifferent};
 ghost use Rattle.net_defs.specs.Valid.{IsValid, IsSignal};
 ghost use Rattle.node_defs.specs.Items.{own, IsNamed, StandFor, IsNodeBlock};
 ghost use Rattle.node_map.specs.Wires.{helpers_at};
@@ -12,6 +13,7 @@ use crate::keys::Key;
 use crate::nodes::node;
 use crate::numbering::Numbering;
 use crate::palette::Palette;
+use func_table::Table;
 use net_defs::{Block, Driver, Netlist, Timing, is_late};
 use node_defs::{Item, NodeBlock};
 use seen_list::{List, Memory};
@@ -81,7 +83,7 @@ fn item(
 }
 
 /// The items that have these keys.
-pub(crate) fn all_items(
+fn all_items(
     alloc: Global,
     palette: &mut Palette,
     net: &Netlist,
@@ -103,6 +105,35 @@ pub(crate) fn all_items(
     Ok(items)
 }
 
+/// Items, and the tables of those that are nodes by number.
+#[derive(Drop)]
+pub(crate) struct MadeItems {
+    pub items: List<Item>,
+    pub tables: List<Table>,
+}
+
+/// The items that have these keys, and their tables, each made once.
+pub(crate) fn make_items(
+    alloc: Global,
+    net: &Netlist,
+    timing: &Timing,
+    numbering: &Numbering,
+    keys: &[Key],
+) -> Result<MadeItems, Memory>
+    requires valid { IsValid net.now }
+    requires numbered { IsNumbering net.now numbering.now }
+    requires keyed { AreKeyed net.now keys.now }
+    ensures made { IfOk result (λ made. AreMade net.now timing.now numbering.now.names made.tables keys.now made.items) }
+    ensures different { IfOk result (λ made. AreDifferent made.tables) }
+{
+    let mut palette = Palette::new(alloc);
+    let items = all_items(alloc, &mut palette, net, timing, numbering, keys)?;
+    Ok(MadeItems {
+        items,
+        tables: palette.shelf.tables,
+    })
+}
+
 /// The number of the first node or latch: that of inputs and memory outputs.
 pub(crate) fn first_node(keys: &[Key]) -> u32
     requires few { length keys.now < 2 ^ 32 }
@@ -119,7 +150,7 @@ pub(crate) fn first_node(keys: &[Key]) -> u32
 }
 
 /// The numbers of the items that stand for these signals.
-pub(crate) fn stand_for(
+fn stand_for(
     alloc: Global,
     net: &Netlist,
     numbering: &Numbering,
@@ -155,7 +186,7 @@ fn block(
 }
 
 /// The memories by the numbers of items.
-pub(crate) fn all_blocks(
+fn all_blocks(
     alloc: Global,
     net: &Netlist,
     numbering: &Numbering,
@@ -169,4 +200,27 @@ pub(crate) fn all_blocks(
         blocks.push(block(alloc, net, numbering, memory)?)?;
     }
     Ok(blocks)
+}
+
+/// The printed items in file order, and the memories, by the numbers of items.
+#[derive(Drop)]
+pub(crate) struct References {
+    pub printed: List<u32>,
+    pub blocks: List<NodeBlock>,
+}
+
+/// The printed items and the memories of a netlist by the numbers of items.
+pub(crate) fn find_references(
+    alloc: Global,
+    net: &Netlist,
+    numbering: &Numbering,
+) -> Result<References, Memory>
+    requires valid { IsValid net.now }
+    requires numbered { IsNumbering net.now numbering.now }
+    ensures printed { IfOk result (λ references. StandFor numbering.now.names references.printed net.now.printed) }
+    ensures blocks { IfOk result (λ references. AreNodeBlocks numbering.now.names net.now.blocks references.blocks) }
+{
+    let printed = stand_for(alloc, net, numbering, net.printed.as_slice())?;
+    let blocks = all_blocks(alloc, net, numbering)?;
+    Ok(References { printed, blocks })
 }

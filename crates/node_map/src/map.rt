@@ -1,23 +1,61 @@
 //! From a netlist to its items.
 
-ghost use Rattle.std.specs.Prelude.{◌≡◌, List as Items, IfOk};
+ghost use Rattle.std.specs.Prelude.{◌≡◌, ℕ, List as Items, IfOk};
 ghost use Rattle.net_defs.specs.declared.stimulus.Stimulus.{Stimulus};
 ghost use Rattle.net_defs.specs.Steps.{State};
 ghost use Rattle.net_defs.specs.Valid.{IsValid};
-ghost use Rattle.net_defs.specs.Loops.{AreRanks};
+ghost use Rattle.net_defs.specs.Loops.{AreRanks, IsOrder};
 ghost use Rattle.node_defs.specs.Order.{AreItems};
 ghost use Rattle.node_defs.specs.Values.{AreItemValues, AreReferenceValues};
+ghost use Rattle.node_map.specs.Places.{AreKeyed, AreRight};
+ghost use Rattle.node_map.specs.Wires.{AreOwnRanks};
 
-use crate::items::{all_blocks, all_items, first_node, stand_for};
-use crate::keys::sorted_keys;
+use crate::items::{find_references, first_node, make_items};
+use crate::keys::{Key, sorted_keys};
 use crate::numbering::number_items;
-use crate::palette::Palette;
 use crate::ranks::own_ranks;
 use net_defs::{Netlist, Ranks, Timing};
 use node_defs::NodeNet;
 use node_defs::law::values_are_reference;
 use seen_list::Memory;
 use std::alloc::Global;
+
+/// The keys of all items in the order of the items, by the ranks along an order of the gates.
+fn ranked_keys(
+    alloc: Global,
+    net: &Netlist,
+    timing: &Timing,
+    order: &[u32],
+) -> Result<Vec<Key>, Memory>
+    requires valid { IsValid net.now }
+    requires order { IsOrder net.now timing.now order.now }
+    ensures keyed { IfOk result (λ keys. AreKeyed net.now keys.items) }
+    ensures ranked { IfOk result (λ keys. (own : Items ℕ) × AreOwnRanks net.now timing.now own × AreRight net.now timing.now own keys.items) }
+{
+    let own = own_ranks(alloc, net, timing, order)?;
+    sorted_keys(alloc, net, timing, own.as_slice())
+}
+
+/// The items that have these keys, with all that is told of them.
+fn nodes_of(alloc: Global, net: &Netlist, timing: &Timing, keys: &[Key]) -> Result<NodeNet, Memory>
+    requires valid { IsValid net.now }
+    requires keyed { AreKeyed net.now keys.now }
+    requires ranked { (own : Items ℕ) × AreOwnRanks net.now timing.now own × AreRight net.now timing.now own keys.now }
+    ensures { IfOk result (AreItems net.now timing.now) }
+{
+    let numbering = number_items(alloc, net, keys)?;
+    let made = make_items(alloc, net, timing, &numbering, keys)?;
+    let references = find_references(alloc, net, &numbering)?;
+    let first_node = first_node(keys);
+    Ok(NodeNet {
+        items: made.items,
+        names: numbering.names,
+        tables: made.tables,
+        printed: references.printed,
+        blocks: references.blocks,
+        first_node,
+    })
+}
 
 /// The items of a netlist in their order: inputs, memory outputs, and then nodes and registers, sorted
 /// by rank, signal and helper. Tables that are equal share a number.
@@ -32,28 +70,8 @@ pub fn map_nodes(
     ensures items { IfOk result (AreItems net.now timing.now) }
     ensures values { IfOk result (λ nodes. (stimulus : Stimulus) (values : Items State) → AreItemValues nodes timing.now stimulus values → AreReferenceValues net.now timing.now stimulus nodes values) }
 {
-    let own = own_ranks(alloc, net, timing, ranks.order.as_slice())?;
-    let keys = sorted_keys(alloc, net, timing, own.as_slice())?;
-    let numbering = number_items(alloc, net, keys.as_slice())?;
-    let mut palette = Palette::new(alloc);
-    let items = all_items(
-        alloc,
-        &mut palette,
-        net,
-        timing,
-        &numbering,
-        keys.as_slice(),
-    )?;
-    let printed = stand_for(alloc, net, &numbering, net.printed.as_slice())?;
-    let blocks = all_blocks(alloc, net, &numbering)?;
-    let first_node = first_node(keys.as_slice());
+    let keys = ranked_keys(alloc, net, timing, ranks.order.as_slice())?;
+    let nodes = nodes_of(alloc, net, timing, keys.as_slice())?;
     values_are_reference();
-    Ok(NodeNet {
-        items,
-        names: numbering.names,
-        tables: palette.shelf.tables,
-        printed,
-        blocks,
-        first_node,
-    })
+    Ok(nodes)
 }

@@ -36,12 +36,44 @@ pub fn refer_in_order(
     ensures simulated { HasOneSimulation net.now timing.now stim.now }
 {
     let schedule = make_schedule(alloc, net, timing, order)?;
+    run_from_start(alloc, net, timing, stim, &schedule)
+}
+
+/// The printed values of each cycle of a schedule, from the signals and memories that a run begins with.
+fn run_from_start(
+    alloc: Global,
+    net: &Netlist,
+    timing: &Timing,
+    stim: &Stimulus,
+    schedule: &Schedule,
+) -> Result<Rows, Memory>
+    requires valid { IsValid net.now }
+    requires schedule { IsSchedule net.now timing.now schedule.now }
+    ensures { IfOk result (AreRowsOf net.now timing.now stim.now) }
+{
     let mut state = initial_state(alloc, net, timing)?;
     let mut ports = make_ports(alloc, net)?;
+    printed_rows(alloc, &mut state, &mut ports, net, timing, stim, schedule)
+}
+
+/// Makes the rows and runs all cycles.
+fn printed_rows(
+    alloc: Global,
+    state: &mut SimState,
+    ports: &mut List<RamPort>,
+    net: &Netlist,
+    timing: &Timing,
+    stim: &Stimulus,
+    schedule: &Schedule,
+) -> Result<Rows, Memory>
+    requires valid { IsValid net.now }
+    requires schedule { IsSchedule net.now timing.now schedule.now }
+    requires ready { IsReady net.now state.old ports.old }
+    requires start { state_of net.now state.old ≡ first_state net.now timing.now }
+    ensures { IfOk result (AreRowsOf net.now timing.now stim.now) }
+{
     let mut rows = undefined_rows(alloc, net, stim)?;
-    run(
-        &mut rows, &mut state, &mut ports, net, timing, stim, &schedule,
-    );
+    run(&mut rows, state, ports, net, timing, stim, schedule);
     Ok(Rows { rows })
 }
 

@@ -1,8 +1,9 @@
 //! What is made before a run: the operations of the gates and registers, and the signals of each role.
 
-ghost use Rattle.std.specs.Prelude.{◌≡◌, ◌<◌, ◌^◌, IfOk};
+ghost use Rattle.std.specs.Prelude.{◌≡◌, ◌<◌, ◌^◌, length, IfOk};
 ghost use Rattle.net_defs.specs.Loops.{IsOrder};
 ghost use Rattle.net_defs.specs.Valid.{IsValid};
+ghost use Rattle.ref_sim.specs.Sequences.{Settles};
 ghost use Rattle.ref_sim.specs.Schedules.{driver_has_role, has_role, ListsRole, IsSchedule};
 
 use crate::gate_list::signal_ops;
@@ -44,15 +45,41 @@ pub(crate) fn make_schedule(
     ensures { IfOk result (IsSchedule net.now timing.now) }
 {
     let gate_ops = signal_ops(alloc, net, timing, order.as_slice())?;
-    let registers = signals_of(alloc, net, Role::Register)?;
-    let register_ops = signal_ops(alloc, net, timing, registers.as_slice())?;
+    let (registers, register_ops) = register_schedule(alloc, net, timing)?;
+    let (inputs, outputs) = input_and_output_signals(alloc, net)?;
     Ok(Schedule {
         gate_ops,
         register_ops,
-        inputs: signals_of(alloc, net, Role::Input)?,
+        inputs,
         registers,
-        outputs: signals_of(alloc, net, Role::Output)?,
+        outputs,
     })
+}
+
+/// The registers, and their operations.
+fn register_schedule(
+    alloc: Global,
+    net: &Netlist,
+    timing: &Timing,
+) -> Result<(List<u32>, List<GateOp>), Memory>
+    requires { IsValid net.now }
+    ensures registers { IfOk result (λ made. ListsRole net.now Role.Register made.0) }
+    ensures ops { IfOk result (λ made. Settles net.now timing.now made.0 (length made.0) made.1) }
+{
+    let registers = signals_of(alloc, net, Role::Register)?;
+    let ops = signal_ops(alloc, net, timing, registers.as_slice())?;
+    Ok((registers, ops))
+}
+
+/// The signals that the stimulus gives, and the outputs of the memories.
+fn input_and_output_signals(alloc: Global, net: &Netlist) -> Result<(List<u32>, List<u32>), Memory>
+    requires { IsValid net.now }
+    ensures inputs { IfOk result (λ made. ListsRole net.now Role.Input made.0) }
+    ensures outputs { IfOk result (λ made. ListsRole net.now Role.Output made.1) }
+{
+    let inputs = signals_of(alloc, net, Role::Input)?;
+    let outputs = signals_of(alloc, net, Role::Output)?;
+    Ok((inputs, outputs))
 }
 
 fn signals_of(alloc: Global, net: &Netlist, role: Role) -> Result<List<u32>, Memory>

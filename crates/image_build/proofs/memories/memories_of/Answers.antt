@@ -1,5 +1,5 @@
 use Rattle.std.proofs.Common.{◌<◌, length, ap, arith}
-use Rattle.image_build.proofs.MemoryLemmas.{memories_more, memories_all}
+use Rattle.image_build.proofs.MemoryLemmas.{memories_none, memories_more, memories_all}
 use Rattle.image_build.proofs.memories.memories_of.Goals as goal
 
 pub memories-preserved : goal.memories-preserved
@@ -12,3 +12,12 @@ memories-preserved c =
 
 pub returns : goal.returns
 returns c = memories_all c.args.nodes.now c.args.homes.now c.memories.m c.memories.memories (omega (arith, c.requires.homes.blocks, ap length c.as_slice-ports.ensures)) c.memories.invariant
+
+pub memories-init : goal.memories-init
+memories-init c = memories_none c.args.nodes.now c.args.homes.now _ c.in_ok-empty_lists.ensures c.new.ensures
+
+pub put-requires-clause-port : goal.put-requires-clause-port
+put-requires-clause-port c =
+    let low : c.memories.m < length c.args.nodes.now.blocks = omega (arith, c.requires.homes.blocks, ap length c.as_slice-ports.ensures) in
+    let home = (c.requires.homes.memories c.memories.m low).1 in
+    rw c.as_slice-ports.ensures (omega (arith, home, c.memories.invariant.ports))

@@ -3,7 +3,7 @@ use Rattle.std.proofs.lemmas.Option.{slice_get-get_or}
 use Rattle.plan_defs.proofs.PortLemmas.{home_port}
 use Rattle.switch_set.specs.Order.{IsSlotOrder}
 use Rattle.switch_set.proofs.SwitchLemmas.{item_low}
-use Rattle.image_build.proofs.ItemLemmas.{items_more, items_all}
+use Rattle.image_build.proofs.ItemLemmas.{items_none, items_more, items_all}
 use Rattle.image_build.proofs.port_items.port_items.Goals as goal
 
 pub push_to-requires : goal.push_to-requires
@@ -26,3 +26,6 @@ pub returns : goal.returns
 returns c =
     items_all c.args._nodes.now c.args.homes.now c.args.plan.now c.requires c.in_ok-order.order.items (subst (λ slots. IsSlotOrder slots c.in_ok-order.order.items) c.as_slice.ensures c.in_ok-order.ensures)
     c.items.k c.items.lists (omega arith) c.items.invariant
+
+pub items-init : goal.items-init
+items-init c = items_none c.args._nodes.now c.args.homes.now c.args.plan.now _ c.in_ok-lists.ensures

@@ -1,6 +1,6 @@
-use Rattle.std.proofs.Common.{ap, arith, length, subst, sym, ◌∙◌, ◌%◌}
+use Rattle.std.proofs.Common.{ap, arith, length, refl, subst, sym, ◌∙◌, ◌%◌}
 use Rattle.slot_words.specs.Passes.{IsFirstPass}
-use Rattle.machine_run.proofs.DealtLemmas.{dealt_more, passes_less}
+use Rattle.machine_run.proofs.DealtLemmas.{dealt_more, dealt_none, passes_less}
 use Rattle.machine_run.specs.Dealt.{AreDealt, IsSeatOf}
 use Rattle.machine_run.proofs.seats.deal.Goals as goal
 
@@ -27,3 +27,46 @@ passes-preserved g c =
           (c.worker_of-worker.ensures.is ∙ (ap (λ m. c.port.result % m) c.passes.invariant.dealt.count ∙ ap (λ q. q % length c.args.crew.now) (c.port.ensures ∙ less.2.port_is)))
           c.in_ok-give_to.ensures;
     }
+
+pub passes-init : goal.passes-init
+passes-init g c =
+    let all = ap (λ image. length image.ports) c.requires.image in
+    record {
+      passes = record { long = refl; each = c.requires.passes.each };
+      few = omega (arith, c.requires.passes.long, all);
+      dealt = dealt_none c.args.bar.now (length c.args.crew.now) (length c.args.passes) c.args.crew.now c.requires.idle
+          (omega (arith, c.requires.fits.some_ports, all)) (omega (arith, c.requires.passes.long, all));
+    }
+
+pub overflow_cast-port : goal.overflow_cast-port
+overflow_cast-port g c = omega (arith, c.port.type_inv)
+
+pub worker_of-worker-requires : goal.worker_of-worker-requires
+worker_of-worker-requires g c = omega (arith, c.requires.some, c.passes.invariant.dealt.count)
+
+pub seat-requires-clause-fits : goal.seat-requires-clause-fits
+seat-requires-clause-fits g c = c.requires.fits
+
+pub seat-requires-clause-valid : goal.seat-requires-clause-valid
+seat-requires-clause-valid g c = c.requires.valid
+
+pub seat-requires-clause-columns : goal.seat-requires-clause-columns
+seat-requires-clause-columns g c = c.requires.columns
+
+pub seat-requires-clause-image : goal.seat-requires-clause-image
+seat-requires-clause-image g c = c.requires.image
+
+pub seat-requires-clause-stimulus : goal.seat-requires-clause-stimulus
+seat-requires-clause-stimulus g c = c.requires.stimulus
+
+pub give_to-requires : goal.give_to-requires
+give_to-requires g c = c.worker_of-worker.ensures.within
+
+pub passes-smaller : goal.passes-smaller
+passes-smaller g c =
+    let less = passes_less c.args.bar.now _ _ _ c.in-Some.pass c.passes.invariant.passes c.in-Some.ensures.last in
+    omega (arith, less.0)
+
+pub returns : goal.returns
+returns g c =
+    subst (λ m. AreDealt c.args.bar.now (length c.args.crew.now) m c.passes.crew) (ap length (c.in_default.ensures.none.0 refl)) c.passes.invariant.dealt

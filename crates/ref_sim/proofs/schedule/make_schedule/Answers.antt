@@ -1,10 +1,7 @@
 use Rattle.std.proofs.Common.{subst, sym}
 use Rattle.ref_sim.specs.Sequences.{IsSequence}
-use Rattle.ref_sim.proofs.ScheduleLemmas.{order_sequence, register_sequence}
+use Rattle.ref_sim.proofs.ScheduleLemmas.{order_sequence}
 use Rattle.ref_sim.proofs.schedule.make_schedule.Goals as goal
 
 pub signal_ops-requires-clause-sequence : goal.signal_ops-requires-clause-sequence
 signal_ops-requires-clause-sequence c = subst (IsSequence c.args.net.now c.args.timing.now) (sym c.as_slice.ensures) (order_sequence _ _ _ c.requires.order)
-
-pub signal_ops-requires-2-clause-sequence : goal.signal_ops-requires-2-clause-sequence
-signal_ops-requires-2-clause-sequence c = subst (IsSequence c.args.net.now c.args.timing.now) (sym c.as_slice-2.ensures) (register_sequence _ _ _ c.in_ok-registers.ensures)

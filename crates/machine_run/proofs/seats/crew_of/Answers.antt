@@ -1,0 +1,37 @@
+use Rattle.std.proofs.Common.{ap, arith, drop, length, subst, sym, ◌∙◌}
+use Rattle.std.proofs.lemmas.List.{take_at}
+use Rattle.machine_run.specs.Dealt.{AreDealt, AreIdle}
+use Rattle.machine_run.proofs.seats.crew_of.Goals as goal
+
+pub deal-requires-clause-fits : goal.deal-requires-clause-fits
+deal-requires-clause-fits g c = c.requires.fits
+
+pub deal-requires-clause-valid : goal.deal-requires-clause-valid
+deal-requires-clause-valid g c = c.requires.valid
+
+pub deal-requires-clause-columns : goal.deal-requires-clause-columns
+deal-requires-clause-columns g c = c.requires.columns
+
+pub deal-requires-clause-image : goal.deal-requires-clause-image
+deal-requires-clause-image g c = c.requires.image
+
+pub deal-requires-clause-stimulus : goal.deal-requires-clause-stimulus
+deal-requires-clause-stimulus g c = c.requires.stimulus
+
+pub deal-requires-clause-passes : goal.deal-requires-clause-passes
+deal-requires-clause-passes g c = c.requires.passes
+
+pub deal-requires-clause-some : goal.deal-requires-clause-some
+deal-requires-clause-some g c = omega (arith, c.requires.some, ap length c.as_mut_slice.ensures.value, c.in_ok-crew.ensures.count)
+
+pub deal-requires-clause-idle : goal.deal-requires-clause-idle
+deal-requires-clause-idle g c =
+    let idle : AreIdle (length c.in_ok-crew.crew) c.in_ok-crew.crew = subst (λ n. AreIdle n c.in_ok-crew.crew) (sym c.in_ok-crew.ensures.count) c.in_ok-crew.ensures in
+    subst (λ ws. AreIdle (length ws) ws) (sym c.as_mut_slice.ensures.value) idle
+
+pub returns : goal.returns
+returns g c =
+    let long = ap length c.as_mut_slice.ensures.value in
+    subst (AreDealt c.args.bar.now c.args.workers 0)
+    (sym (take_at c.deal.new.crew (drop (length c.deal.new.crew) c.in_ok-crew.crew) (length c.in_ok-crew.crew) (c.in_ok-deal.ensures.count ∙ long)))
+    (subst (λ n. AreDealt c.args.bar.now n 0 c.deal.new.crew) (long ∙ c.in_ok-crew.ensures.count) c.in_ok-deal.ensures)
