@@ -1,5 +1,8 @@
-//! The limits of netlists, stimuli, texts and machines that this project's profile sets, each stated once.
+//! The limits of netlists, stimuli, texts and machines that this project's profile sets, each stated
+//! once. The law of the module `law` says each number in digits.
 #![tactic(auto)]
+
+pub mod law;
 
 ghost use Rattle.std.specs.Prelude.{◌↔◌, ◌≤◌, IsTrue};
 
@@ -25,8 +28,14 @@ pub const MAX_ADDRESS_BITS: usize = 16;
 /// The most bits of a word of a memory.
 pub const MAX_WORD_BITS: usize = 64;
 
-/// The most cycles of a run, and the most repeats of a row of a stimulus.
+/// The most cycles of a run.
 pub const MAX_CYCLES: u32 = 1_000_000;
+
+/// The most times that a row of a stimulus, or a line of an order, may be repeated.
+pub const MAX_REPEAT: u32 = MAX_CYCLES;
+
+/// The most steps of an order.
+pub const MAX_STEPS: u32 = 1_000_000_000;
 
 /// The most cells of a run: its cycles times the sum of its inputs and its printed names.
 pub const MAX_CELLS: u64 = 268_435_456;
@@ -51,6 +60,12 @@ pub const MAX_FUNCTIONS: u32 = 4096;
 
 /// The most bits of an array processor.
 pub const MAX_ARRAY_BITS: u32 = 16_777_216;
+
+/// The most banks of a crossbar: how many turns a processor may run ahead of its readers.
+pub const MAX_BANKS: u32 = 8;
+
+/// The most workers that a machine's ports may be dealt to.
+pub const MAX_WORKERS: u32 = 64;
 
 /// The most gates of a generated design.
 pub const MAX_LARGE_GATES: u32 = 30_000;
