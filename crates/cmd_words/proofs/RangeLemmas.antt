@@ -2,7 +2,7 @@
 use Rattle.std.proofs.Common.{◌≡◌, refl, sym, subst, ℕ, ◌≤◌, Bool, true, false, ◌&&◌, List, length, Option, None, Some, arith, codes}
 use Rattle.std.specs.Prelude.{nat_le, if◌then◌else◌, IfOk, Result, Ok, Err}
 use Rattle.std.proofs.lemmas.Bool.{leb-true}
-use Rattle.limits.specs.declared.TheConstants.{MAX_LARGE_CYCLES, MAX_LARGE_GATES, MAX_UNITS}
+use Rattle.limits.specs.declared.TheConstants.{MAX_LARGE_CYCLES, MAX_LARGE_GATES, MAX_UNITS, MAX_BANKS, MAX_WORKERS}
 use Rattle.text_lines.specs.Numbers.{number_of, within}
 use Rattle.net_defs.specs.declared.timing.Timing.{Timing}
 use Rattle.net_defs.specs.declared.timing.Mode.{Mode}
@@ -13,7 +13,6 @@ use Rattle.cmd_words.specs.declared.command.Command.{Command}
 use Rattle.cmd_words.specs.declared.command.Command.TheVariants.{Run, Refer, Order, Plan, Show, Large}
 use Rattle.cmd_words.specs.declared.command.RunWords.{RunWords}
 use Rattle.cmd_words.specs.declared.command.WordNo.{WordNo}
-use Rattle.cmd_words.specs.declared.options.TheConstants.{MAX_BANKS, MAX_WORKERS}
 use Rattle.cmd_words.specs.Arguments.{Word, value_given}
 use Rattle.cmd_words.specs.Asked.{Values, Answers, asked}
 use Rattle.cmd_words.specs.Forms.{HasForm, IsInRange, IsLarge, IsLargeInRange, IsRun, IsRunInRange}

@@ -6,8 +6,7 @@ use Rattle.cmd_words.specs.declared.command.Command.TheVariants.{Run, Refer, Ord
 use Rattle.cmd_words.specs.declared.command.RunWords.{RunWords}
 use Rattle.cmd_words.specs.declared.command.WordNo.{WordNo}
 use Rattle.cmd_words.specs.declared.command.WordNo.TheVariants.{Usage, Memory}
-use Rattle.limits.specs.declared.TheConstants.{MAX_LARGE_CYCLES, MAX_LARGE_GATES}
-use Rattle.cmd_words.specs.declared.options.TheConstants.{MAX_BANKS, MAX_WORKERS}
+use Rattle.limits.specs.declared.TheConstants.{MAX_LARGE_CYCLES, MAX_LARGE_GATES, MAX_BANKS, MAX_WORKERS}
 use Rattle.cmd_words.specs.Arguments.{Word, AreArguments, value_given}
 use Rattle.cmd_words.specs.Asked.{asked}
 use Rattle.cmd_words.specs.Settings.{run_options, refer_options, order_options, plan_options, show_options, large_options, timing_by, banks_by, workers_by, gates_of, cycles_of}

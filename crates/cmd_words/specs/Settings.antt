@@ -1,13 +1,12 @@
 -- The options of each command, and what the values of options say.
 use Rattle.std.specs.Prelude.{◌==◌, ℕ, Bool, true, List, [], ◌∷◌, length, nat_le, if◌then◌else◌, Option, Some, None, codes, bytes_eq}
-use Rattle.limits.specs.declared.TheConstants.{MAX_LARGE_CYCLES, MAX_LARGE_GATES, MAX_UNITS}
+use Rattle.limits.specs.declared.TheConstants.{MAX_LARGE_CYCLES, MAX_LARGE_GATES, MAX_UNITS, MAX_BANKS, MAX_WORKERS}
 use Rattle.text_lines.specs.Numbers.{number_of, within}
 use Rattle.net_defs.specs.declared.timing.Timing.{Timing}
 use Rattle.net_defs.specs.declared.timing.Mode.{Mode}
 use Rattle.net_defs.specs.declared.timing.Mode.TheVariants.{Rank, Unit}
 use Rattle.net_defs.specs.declared.timing.Init.{Init}
 use Rattle.net_defs.specs.declared.timing.Init.TheVariants.{Undef, Zero}
-use Rattle.cmd_words.specs.declared.options.TheConstants.{MAX_BANKS, MAX_WORKERS}
 use Rattle.cmd_words.specs.Arguments.{Word}
 
 -- ---- the options of each command

@@ -9,5 +9,4 @@ mod reading;
 mod settings;
 
 pub use command::{Command, RunWords, WordNo};
-pub use options::{MAX_BANKS, MAX_WORKERS};
 pub use reading::read_words;

@@ -1,11 +1,5 @@
 //! The options of each command. A command that is to have a further option gets its name here.
 
-/// The most words that the crossbar has for a send.
-pub const MAX_BANKS: u32 = 8;
-
-/// The most workers that step the ports of a machine.
-pub const MAX_WORKERS: u32 = 64;
-
 /// The options of `run`.
 pub static RUN: [&str; 6] = ["machine", "mode", "units", "init", "workers", "banks"];
 

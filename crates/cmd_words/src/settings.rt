@@ -4,10 +4,9 @@ ghost use Rattle.std.specs.Prelude.{◌≡◌, option_map};
 ghost use Rattle.cmd_words.specs.Parses.{value_found};
 ghost use Rattle.cmd_words.specs.Settings.{count_of, count_or, mode_of, init_of, allows_units, timing_with, timing_by, banks_by, workers_by, gates_of, cycles_of};
 
-use crate::options::{MAX_BANKS, MAX_WORKERS};
 use crate::parsing::value;
 use clap::ArgMatches;
-use limits::{MAX_LARGE_CYCLES, MAX_LARGE_GATES, MAX_UNITS};
+use limits::{MAX_BANKS, MAX_LARGE_CYCLES, MAX_LARGE_GATES, MAX_UNITS, MAX_WORKERS};
 use net_defs::{Init, Mode, Timing};
 use text_lines::numbers::number_within;
 

@@ -1,6 +1,7 @@
 //! The array ports of memories.
 
 ghost use Rattle.std.specs.Prelude.{◌≡◌, ◌+◌, ◌*◌, ◌^◌, ◌<◌, ◌≤◌, ◌⊎◌, ℕ, IfOk, OnOk, IsNone, IfSome, length, Some, slice_get, slice_index};
+ghost use Rattle.limits.specs.declared.TheConstants.{MAX_ADDRESS_BITS, MAX_WORD_BITS};
 ghost use Rattle.machine_text.specs.Machines.{IsValid};
 ghost use Rattle.node_defs.specs.WellFormed.{IsWellFormed};
 ghost use Rattle.plan_defs.specs.Lists.{IsLeastFree};
@@ -33,8 +34,8 @@ pub(crate) fn empty(alloc: Global, nodes: &NodeNet, machine: &Machine) -> Result
 
 /// The bits of a memory: 2^m words of n bits for m address and n data bits.
 pub fn block_bits(block: &NodeBlock) -> u32
-    requires address { length block.now.address ≤ 16 }
-    requires word { length block.now.word ≤ 64 }
+    requires address { length block.now.address ≤ MAX_ADDRESS_BITS }
+    requires word { length block.now.word ≤ MAX_WORD_BITS }
     ensures { result ≡ 2 ^ length block.now.address * length block.now.word }
 {
     (1 << block.address.len() as u32) * block.word.len() as u32

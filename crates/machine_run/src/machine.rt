@@ -1,6 +1,7 @@
 //! The run of a whole machine.
 
 ghost use Rattle.std.specs.Prelude.{IfOk, OnErr, OnOk, Option, Some, length, slice_get, ℕ, ◌<◌, ◌≡◌, ◌≤◌};
+ghost use Rattle.limits.specs.declared.TheConstants.{MAX_BANKS};
 ghost use Rattle.crew_run.specs.Crews.{CanTell};
 ghost use Rattle.image_defs.specs.WellFormed.{IsWellFormed};
 ghost use Rattle.machine_run.specs.Dealt.{HasHost};
@@ -63,7 +64,7 @@ pub fn run_machine<R: Threads + Wait + Sync, G: Gate + Send>(
     requires stimulus { IsValidStimulus stim.now }
     requires columns { stim.now.columns ≡ image.now.columns }
     requires some_banks { 1 ≤ banks }
-    requires few_banks { banks ≤ 8 }
+    requires few_banks { banks ≤ MAX_BANKS }
     requires some_workers { 1 ≤ workers }
     requires enough { workers ≤ length gates.old }
     requires tell { (i : ℕ) (gate : Option G) → i < workers → slice_get gates.old i ≡ Some gate → CanTell G.Gate.own gate }

@@ -1,5 +1,6 @@
 -- What planning and building ask of items, by plain facts. The items of a valid netlist have it.
 use Rattle.std.specs.Prelude.{◌≡◌, ◌↔◌, ℕ, ◌<◌, ◌≤◌, ◌^◌, Bool, true, false, length, Some, slice_get, count_by, All}
+use Rattle.limits.specs.declared.TheConstants.{MAX_ADDRESS_BITS, MAX_WORD_BITS}
 use Rattle.func_table.specs.Shelf.{AreDifferent}
 use Rattle.node_defs.specs.declared.items.Item.{Item}
 use Rattle.node_defs.specs.declared.items.Item.TheVariants.{Input, BlockBit, Node, Latch}
@@ -35,8 +36,8 @@ column_count nodes = count_by is_input nodes.items
 -- a memory reads items that are there, by 1 to 16 address bits and 1 to 64 data bits
 pub record IsMemoryOf (nodes : NodeNet) (block : NodeBlock) : Type 0 where
   pub taken : (o : ℕ) → BlockTakes block o → o < length nodes.items
-  pub address : (1 ≤ length block.address) × (length block.address ≤ 16)
-  pub word : (1 ≤ length block.word) × (length block.word ≤ 64)
+  pub address : (1 ≤ length block.address) × (length block.address ≤ MAX_ADDRESS_BITS)
+  pub word : (1 ≤ length block.word) × (length block.word ≤ MAX_WORD_BITS)
 
 pub record IsWellFormed (nodes : NodeNet) : Type 0 where
   -- operands are there, and those of this turn stand before

@@ -1,6 +1,7 @@
 //! How a gate of more than four operands is cut into nodes.
 
 ghost use Rattle.std.specs.Prelude.{◌≡◌, ◌<◌, ◌≤◌, length};
+ghost use Rattle.limits.specs.declared.TheConstants.{MAX_GATE_OPERANDS};
 ghost use Rattle.node_defs.specs.Groups.{groups};
 ghost use Rattle.node_defs.specs.Groups.{group_at as group_in};
 ghost use Rattle.node_defs.specs.Groups.{helper_count as helpers_in};
@@ -16,7 +17,7 @@ pub struct Group {
 
 /// The number of helpers of a gate of so many operands: 0 for at most four.
 pub fn helper_count(operands: u32) -> u32
-    requires { operands ≤ 1024 }
+    requires { operands ≤ MAX_GATE_OPERANDS }
     ensures { result ≡ helpers_in operands }
 {
     let mut count = operands;
@@ -31,7 +32,7 @@ pub fn helper_count(operands: u32) -> u32
 /// The group of a helper, by its number, or, at the place after the last helper, that of the gate's own
 /// node.
 pub fn group_at(operands: u32, place: u32) -> Group
-    requires few { operands ≤ 1024 }
+    requires few { operands ≤ MAX_GATE_OPERANDS }
     requires within { place < length (groups operands) }
     ensures { result ≡ group_in operands place }
 {

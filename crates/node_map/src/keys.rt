@@ -1,7 +1,7 @@
 //! Keys of items, in whose order they stand.
 
 ghost use Rattle.std.specs.Prelude.{◌≡◌, ◌+◌, ◌-◌, ◌^◌, ◌<◌, ◌≤◌, ◌++◌, ℕ, [], length, map, slice_index, OnOk, IfOk};
-ghost use Rattle.limits.specs.declared.TheConstants.{MAX_SIGNALS};
+ghost use Rattle.limits.specs.declared.TheConstants.{MAX_SIGNALS, MAX_GATE_OPERANDS};
 ghost use Rattle.std.specs.List.{range_with_len};
 ghost use Rattle.std.specs.List.Sorted.{IsPermutation, IsSorted};
 ghost use Rattle.net_defs.specs.Steps.{is_late};
@@ -46,7 +46,7 @@ fn push_keys(
     own: &[u32],
     signal: u32,
 ) -> Result<(), Memory>
-    requires few { length (operands_of net.now signal) ≤ 1024 }
+    requires few { length (operands_of net.now signal) ≤ MAX_GATE_OPERANDS }
     requires low { (s : ℕ) → slice_index own.now s + 2052 < 2 ^ 32 }
     ensures { OnOk result (keys.new.items ≡ keys.old.items ++ keys_of net.now timing.now own.now signal) }
 {
@@ -62,7 +62,7 @@ fn push_keys(
 /// The keys of all items by signal and place.
 fn all_keys(alloc: Global, net: &Netlist, timing: &Timing, own: &[u32]) -> Result<Vec<Key>, Memory>
     requires few { length net.now.signals ≤ MAX_SIGNALS }
-    requires narrow { (s : ℕ) → length (operands_of net.now s) ≤ 1024 }
+    requires narrow { (s : ℕ) → length (operands_of net.now s) ≤ MAX_GATE_OPERANDS }
     requires low { (s : ℕ) → slice_index own.now s + 2052 < 2 ^ 32 }
     ensures { IfOk result (λ keys. keys.items ≡ keys_to net.now timing.now own.now (length net.now.signals)) }
 {
@@ -90,7 +90,7 @@ pub(crate) fn sorted_keys(
     own: &[u32],
 ) -> Result<Vec<Key>, Memory>
     requires few { length net.now.signals ≤ MAX_SIGNALS }
-    requires narrow { (s : ℕ) → length (operands_of net.now s) ≤ 1024 }
+    requires narrow { (s : ℕ) → length (operands_of net.now s) ≤ MAX_GATE_OPERANDS }
     requires low { (s : ℕ) → slice_index own.now s + 2052 < 2 ^ 32 }
     ensures keyed { IfOk result (λ keys. AreKeyed net.now keys.items) }
     ensures right { IfOk result (λ keys. AreRight net.now timing.now own.now keys.items) }

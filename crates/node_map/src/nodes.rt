@@ -1,6 +1,7 @@
 //! The nodes of a gate.
 
 ghost use Rattle.std.specs.Prelude.{◌≡◌, ◌+◌, ◌^◌, ◌<◌, ◌≤◌, ℕ, length, All, Some, slice_get, OnOk, IfOk};
+ghost use Rattle.limits.specs.declared.TheConstants.{MAX_GATE_OPERANDS};
 ghost use Rattle.logic_four.specs.declared.V4.TheVariants.{Zero};
 ghost use Rattle.logic_four.specs.Kinds.{AllowsOperands};
 ghost use Rattle.net_defs.specs.Valid.{IsSignal};
@@ -83,7 +84,7 @@ fn feeds(net: &Netlist, numbering: &Numbering, late: bool, signal: u32, group: G
 }
 
 fn node_kind(kind: Kind, count: u32, place: u32) -> Kind
-    requires { count ≤ 1024 }
+    requires { count ≤ MAX_GATE_OPERANDS }
     ensures { result ≡ node_kind kind count place }
 {
     if place < helper_count(count) {

@@ -1,7 +1,7 @@
 //! The numbers of items by what they stand for.
 
 ghost use Rattle.std.specs.Prelude.{◌≡◌, ◌+◌, ◌^◌, ◌<◌, ◌≤◌, ℕ, [], length, map, replicate, slice_index, OnOk, IfOk};
-ghost use Rattle.limits.specs.declared.TheConstants.{MAX_SIGNALS};
+ghost use Rattle.limits.specs.declared.TheConstants.{MAX_SIGNALS, MAX_GATE_OPERANDS};
 ghost use Rattle.std.specs.List.{range_with_len};
 ghost use Rattle.net_defs.specs.declared.netlist.Netlist.{Netlist as Net};
 ghost use Rattle.node_defs.specs.Items.{own, helper_of, IsNamed};
@@ -45,7 +45,7 @@ impl Numbering {
 /// Where the items of each signal begin, and last where they end.
 fn starts(alloc: Global, net: &Netlist) -> Result<List<u32>, Memory>
     requires few { length net.now.signals ≤ MAX_SIGNALS }
-    requires narrow { (s : ℕ) → length (operands_of net.now s) ≤ 1024 }
+    requires narrow { (s : ℕ) → length (operands_of net.now s) ≤ MAX_GATE_OPERANDS }
     ensures { IfOk result (λ starts. starts ≡ map (start_of net.now) (range_with_len 0 (length net.now.signals + 1))) }
 {
     let mut starts = List::new(alloc);
@@ -59,7 +59,7 @@ fn starts(alloc: Global, net: &Netlist) -> Result<List<u32>, Memory>
 }
 
 fn name(net: &Netlist, key: &Key) -> ItemName
-    requires { (s : ℕ) → length (operands_of net.now s) ≤ 1024 }
+    requires { (s : ℕ) → length (operands_of net.now s) ≤ MAX_GATE_OPERANDS }
     ensures { result ≡ name_of net.now key.now }
 {
     let helper = if key.place < helpers(net, key.signal) {
@@ -74,7 +74,7 @@ fn name(net: &Netlist, key: &Key) -> ItemName
 }
 
 fn names(alloc: Global, net: &Netlist, keys: &[Key]) -> Result<List<ItemName>, Memory>
-    requires { (s : ℕ) → length (operands_of net.now s) ≤ 1024 }
+    requires { (s : ℕ) → length (operands_of net.now s) ≤ MAX_GATE_OPERANDS }
     ensures { IfOk result (λ names. names ≡ map (name_of net.now) keys.now) }
 {
     let mut names = List::new(alloc);
@@ -117,7 +117,7 @@ fn numbers(alloc: Global, starts: &[u32], keys: &[Key]) -> Result<List<u32>, Mem
 /// The names and the numbers of the items that have these keys.
 pub(crate) fn number_items(alloc: Global, net: &Netlist, keys: &[Key]) -> Result<Numbering, Memory>
     requires few { length net.now.signals ≤ MAX_SIGNALS }
-    requires narrow { (s : ℕ) → length (operands_of net.now s) ≤ 1024 }
+    requires narrow { (s : ℕ) → length (operands_of net.now s) ≤ MAX_GATE_OPERANDS }
     requires keyed { AreKeyed net.now keys.now }
     ensures numbered { IfOk result (IsNumbering net.now) }
     ensures named { IfOk result (λ numbering. numbering.names ≡ map (name_of net.now) keys.now) }

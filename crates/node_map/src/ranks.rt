@@ -1,7 +1,7 @@
 //! The rank of the own node of each signal, along an order.
 
 ghost use Rattle.std.specs.Prelude.{◌≡◌, ◌+◌, ◌^◌, ◌<◌, ◌≤◌, ℕ, [], length, replicate, slice_index, IfOk};
-ghost use Rattle.limits.specs.declared.TheConstants.{MAX_SIGNALS};
+ghost use Rattle.limits.specs.declared.TheConstants.{MAX_SIGNALS, MAX_GATE_OPERANDS};
 ghost use Rattle.net_defs.specs.Loops.{IsOrder};
 ghost use Rattle.node_map.specs.Wires.{operands_of, helpers_at, rank_at, AreOwnRanks};
 
@@ -29,7 +29,7 @@ fn own_rank(
     own: &[u32],
     gate: u32,
 ) -> Result<u32, Memory>
-    requires few { length (operands_of net.now gate) ≤ 1024 }
+    requires few { length (operands_of net.now gate) ≤ MAX_GATE_OPERANDS }
     requires low { (s : ℕ) → slice_index own.now s + 2052 < 2 ^ 32 }
     ensures { IfOk result (λ rank. rank ≡ rank_at net.now timing.now own.now gate (helpers_at net.now gate)) }
 {
@@ -47,7 +47,7 @@ pub(crate) fn own_ranks(
     timing: &Timing,
     order: &[u32],
 ) -> Result<List<u32>, Memory>
-    requires narrow { (s : ℕ) → length (operands_of net.now s) ≤ 1024 }
+    requires narrow { (s : ℕ) → length (operands_of net.now s) ≤ MAX_GATE_OPERANDS }
     requires order { IsOrder net.now timing.now order.now }
     requires short { length order.now ≤ MAX_SIGNALS }
     ensures ranks { IfOk result (AreOwnRanks net.now timing.now) }

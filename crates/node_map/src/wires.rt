@@ -1,6 +1,7 @@
 //! What drives a signal, and the ranks that its nodes have.
 
 ghost use Rattle.std.specs.Prelude.{◌≡◌, ◌+◌, ◌^◌, ◌<◌, ◌≤◌, ℕ, [], length, map, slice_index, OnOk};
+ghost use Rattle.limits.specs.declared.TheConstants.{MAX_GATE_OPERANDS};
 ghost use Rattle.node_defs.specs.Groups.{groups};
 ghost use Rattle.node_map.specs.Wires.{operands_of, helpers_at, class_at, past_of, most_of, pasts_to, pasts_of};
 
@@ -41,7 +42,7 @@ pub(crate) fn class(net: &Netlist, signal: u32) -> u32
 
 /// The number of helpers of what drives a signal.
 pub(crate) fn helpers(net: &Netlist, signal: u32) -> u32
-    requires { length (operands_of net.now signal) ≤ 1024 }
+    requires { length (operands_of net.now signal) ≤ MAX_GATE_OPERANDS }
     ensures { result ≡ helpers_at net.now signal }
 {
     helper_count(operands(net, signal).len() as u32)
@@ -110,7 +111,7 @@ pub(crate) fn fill_pasts(
     late: bool,
     ops: &[u32],
 ) -> Result<(), Memory>
-    requires few { length ops.now ≤ 1024 }
+    requires few { length ops.now ≤ MAX_GATE_OPERANDS }
     requires low { (s : ℕ) → slice_index own.now s + 2052 < 2 ^ 32 }
     ensures { OnOk result (pasts.new.items ≡ pasts_of net.now own.now late ops.now) }
 {

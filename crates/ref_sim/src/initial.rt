@@ -1,6 +1,7 @@
 //! The state before the first turn.
 
 ghost use Rattle.std.specs.Prelude.{◌≡◌, ◌≤◌, length, replicate, IfOk};
+ghost use Rattle.limits.specs.declared.TheConstants.{MAX_ADDRESS_BITS, MAX_WORD_BITS};
 ghost use Rattle.logic_four.specs.Memory.{initial_words};
 ghost use Rattle.logic_four.specs.declared.V4.TheVariants.{Undef};
 ghost use Rattle.net_defs.specs.Time.{initial_value};
@@ -63,8 +64,8 @@ fn initial_memories(alloc: Global, net: &Netlist, v: V4) -> Result<List<Cells>, 
 }
 
 fn initial_memory(alloc: Global, block: &Block, v: V4) -> Result<Cells, Memory>
-    requires address { length block.now.address ≤ 16 }
-    requires word { length block.now.word ≤ 64 }
+    requires address { length block.now.address ≤ MAX_ADDRESS_BITS }
+    requires word { length block.now.word ≤ MAX_WORD_BITS }
     ensures { IfOk result (λ words. words ≡ initial_words (length block.now.address) (length block.now.word) v) }
 {
     Cells::new(

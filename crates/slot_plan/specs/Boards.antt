@@ -1,5 +1,6 @@
 -- Which slots of which ports are taken.
 use Rattle.std.specs.Prelude.{◌≡◌, ◌⊎◌, ℕ, ◌+◌, ◌*◌, ◌^◌, ◌<◌, ◌≤◌, List, length, Contains, Option, Some, None}
+use Rattle.limits.specs.declared.TheConstants.{MAX_PORTS}
 use Rattle.bit_rows.specs.declared.BitRows.{BitRows}
 use Rattle.bit_rows.specs.Bits.{HasBit}
 use Rattle.plan_defs.specs.Lists.{IsLeastFree}
@@ -10,7 +11,7 @@ abbrev pub HasRows : BitRows → ℕ → Type 0
 HasRows rows ports = (row : ℕ) → row < 2 * ports → row * rows.stride + rows.stride ≤ length rows.words
 
 pub record IsBoard (board : Board) : Type 0 where
-  pub few : board.ports ≤ 256
+  pub few : board.ports ≤ MAX_PORTS
   pub small : board.rows.stride < 2 ^ 32
   pub room : HasRows board.rows board.ports
   -- there is a bit for each word, which says of full words alone that they are full

@@ -2,6 +2,7 @@
 
 ghost use Rattle.std.specs.Prelude.{◌≡◌, ◌↔◌, ◌+◌, ◌*◌, ◌^◌, ◌<◌, ◌≤◌, ℕ, Contains, IfOk};
 ghost use Rattle.std.specs.Int.{bit_at};
+ghost use Rattle.limits.specs.declared.TheConstants.{MAX_PORTS};
 ghost use Rattle.bit_rows.specs.Bits.{HasBit, Adds};
 ghost use Rattle.plan_defs.specs.Lists.{IsLeastFree};
 ghost use Rattle.slot_plan.specs.Boards.{HasRows, IsBoard, IsTaken, IsRuledOut, IsShut, IsRowFor, Finds};
@@ -23,7 +24,7 @@ pub(crate) struct Board {
 impl Board {
     /// So many ports, each with more than so many slots, none of them taken.
     pub(crate) fn new(alloc: Global, ports: usize, slots: usize) -> Result<Board, Memory>
-        requires ports { ports ≤ 256 }
+        requires ports { ports ≤ MAX_PORTS }
         requires slots { slots < 2 ^ 31 }
         ensures board { IfOk result IsBoard }
         ensures ports { IfOk result (λ board. board.ports ≡ ports) }
@@ -160,7 +161,7 @@ fn out_word(
     from: usize,
     w: usize,
 ) -> u64
-    requires few { ports ≤ 256 }
+    requires few { ports ≤ MAX_PORTS }
     requires rows { HasRows rows.now ports }
     requires home { home < ports }
     requires readers { (r : ℕ) → Contains readers.now r → r < ports }
@@ -173,7 +174,7 @@ fn out_word(
 
 /// Word number `w` of the home's row joined with those of what the readers receive.
 fn taken_word(rows: &BitRows, ports: usize, home: usize, readers: &[u32], w: usize) -> u64
-    requires few { ports ≤ 256 }
+    requires few { ports ≤ MAX_PORTS }
     requires rows { HasRows rows.now ports }
     requires home { home < ports }
     requires readers { (r : ℕ) → Contains readers.now r → r < ports }

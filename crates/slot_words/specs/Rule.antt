@@ -1,6 +1,7 @@
 -- The rule: what holds of the words and of all passes between any two steps. It has three parts. The first says
 -- which pass is which port's, the second speaks of turns alone, the third of values alone.
 use Rattle.std.specs.Prelude.{◌≡◌, ◌≢◌, ℕ, ◌+◌, ◌<◌, ◌≤◌, List, length, None, Some}
+use Rattle.limits.specs.declared.TheConstants.{MAX_BANKS}
 use mathlib.Core.Option.{some}
 use lib.ListN.{get_elem?}
 use Rattle.net_defs.specs.Time.{turn_count}
@@ -42,7 +43,7 @@ pub record IsRunnable (image : Image) (stimulus : Stimulus) (banks : ℕ) : Type
   pub image_fits : IsWellFormed image
   pub stimulus_fits : IsValidStimulus stimulus
   pub some : 1 ≤ banks
-  pub few : banks ≤ 8
+  pub few : banks ≤ MAX_BANKS
 
 -- ---- ownership
 

@@ -1,6 +1,7 @@
 //! Where the words of a port's sends and receipts stand.
 
 ghost use Rattle.std.specs.Prelude.{IfOk, length, ℕ, ◌%◌, ◌*◌, ◌+◌, ◌<◌, ◌^◌, ◌≡◌, ◌≤◌};
+ghost use Rattle.limits.specs.declared.TheConstants.{MAX_BANKS, MAX_PORTS};
 ghost use Rattle.image_defs.specs.WellFormed.{IsWellFormed};
 ghost use Rattle.send_row.specs.Sources.{AreFirsts};
 ghost use Rattle.slot_words.specs.Links.{AreReceiptLinksOf, AreSendLinksOf, HasSlot};
@@ -57,9 +58,9 @@ pub(crate) fn word_in_turn(word: u32, turn: u64, banks: u32) -> usize
 
 /// The word of bank 0 of a send, by its number among all sends.
 fn word_of(ports: usize, send: u32, banks: u32) -> u32
-    requires ports { ports ≤ 256 }
+    requires ports { ports ≤ MAX_PORTS }
     requires send { send < 2 ^ 25 }
-    requires banks { banks ≤ 8 }
+    requires banks { banks ≤ MAX_BANKS }
     ensures { result ≡ ports + send * banks }
 {
     ports as u32 + send * banks
@@ -75,7 +76,7 @@ pub(crate) fn send_links(
 ) -> Result<List<Link>, Memory>
     requires image { IsWellFormed image.now }
     requires firsts { AreFirsts image.now (length image.now.ports + 1) firsts.now }
-    requires banks { banks ≤ 8 }
+    requires banks { banks ≤ MAX_BANKS }
     requires there { p < length image.now.ports }
     ensures { IfOk result (AreSendLinksOf image.now banks p) }
 {
@@ -102,7 +103,7 @@ pub(crate) fn receipt_links(
 ) -> Result<List<Link>, Memory>
     requires image { IsWellFormed image.now }
     requires firsts { AreFirsts image.now (length image.now.ports + 1) firsts.now }
-    requires banks { banks ≤ 8 }
+    requires banks { banks ≤ MAX_BANKS }
     requires there { p < length image.now.ports }
     ensures { IfOk result (AreReceiptLinksOf image.now banks p) }
 {

@@ -1,6 +1,7 @@
 //! Making a crossbar and its passes.
 
 ghost use Rattle.std.specs.Prelude.{IfOk, IfSome, length, replicate, ◌++◌, ◌+◌, ◌<◌, ◌^◌, ◌≡◌, ◌≤◌};
+ghost use Rattle.limits.specs.declared.TheConstants.{MAX_BANKS};
 ghost use Rattle.net_defs.specs.Valid.{IsValidStimulus};
 ghost use Rattle.image_defs.specs.WellFormed.{IsWellFormed};
 ghost use Rattle.event_defs.specs.Row.{send_count};
@@ -43,7 +44,7 @@ fn open(
     requires image { IsWellFormed image.now }
     requires stimulus { IsValidStimulus stim.now }
     requires some { 1 ≤ banks }
-    requires few { banks ≤ 8 }
+    requires few { banks ≤ MAX_BANKS }
     requires sends { sends ≡ send_count image.now }
     ensures { IfOk result (λ opened. IsOpened image.now stim.now banks opened.0 opened.1) }
 {
@@ -143,7 +144,7 @@ impl Crossbar {
         requires stimulus { IsValidStimulus stim.now }
         requires columns { stim.now.columns ≡ image.now.columns }
         requires some { 1 ≤ banks }
-        requires few { banks ≤ 8 }
+        requires few { banks ≤ MAX_BANKS }
         ensures { IfOk result (λ made. IsMade image.now stim.now banks made.0 made.1) }
     {
         let firsts = first_sends(alloc, image)?;

@@ -8,9 +8,8 @@ use Rattle.list_laws.proofs.Members.{each}
 use Rattle.text_lines.specs.Lines.{parts_of}
 use Rattle.stim_text.specs.declared.order.Order.{Order}
 use Rattle.stim_text.specs.declared.order.OrderLine.{OrderLine}
-use Rattle.stim_text.specs.declared.order.TheConstants.{MAX_STEPS}
+use Rattle.limits.specs.declared.TheConstants.{MAX_STEPS, MAX_REPEAT}
 use Rattle.stim_text.specs.declared.refusal.OrderNo.{OrderNo}
-use Rattle.stim_text.specs.declared.repeat.TheConstants.{MAX_REPEAT}
 use Rattle.stim_text.specs.Repeats.{is_blank_part, number_in, before_repeat, repeat_of}
 use Rattle.stim_text.specs.OrderLines.{IsLine, IsAllowed, line_with, form_of, line_of, fits_after, form_fault, fault_of}
 use Rattle.stim_text.specs.Orders.{Reads, IsValidOrder, lines_of, step_count, steps_of, first_fault}

@@ -4,7 +4,7 @@ use Rattle.std.specs.Prelude.{◌&&◌}
 use Rattle.std.proofs.lemmas.Bool.{and_parts, leb-true}
 use Rattle.text_lines.specs.Bytes.{cut_at}
 use Rattle.text_lines.specs.Numbers.{within}
-use Rattle.stim_text.specs.declared.repeat.TheConstants.{MAX_REPEAT}
+use Rattle.limits.specs.declared.TheConstants.{MAX_REPEAT}
 use Rattle.stim_text.specs.Repeats.{number_in, repeat_of, after_star}
 
 chosen_some : (b : Bool) (m n : ℕ) → cond b (Some m) None ≡ Some n → (b ≡ true) × (m ≡ n)

@@ -1,7 +1,7 @@
 -- A line of an order text, outside its comment: it is blank, or it stands for steps of a port.
 use Rattle.std.specs.Prelude.{◌≡◌, ℕ, ◌+◌, ◌<◌, ◌⊎◌, List, Option, Some, None, nat_lt, nat_le, if◌then◌else◌, Bool, IsTrue}
 use Rattle.stim_text.specs.declared.order.OrderLine.{OrderLine}
-use Rattle.stim_text.specs.declared.order.TheConstants.{MAX_STEPS}
+use Rattle.limits.specs.declared.TheConstants.{MAX_STEPS}
 use Rattle.stim_text.specs.declared.refusal.OrderNo.{OrderNo}
 use Rattle.stim_text.specs.declared.refusal.OrderNo.TheVariants.{Syntax, Port, TooLong}
 use Rattle.stim_text.specs.Repeats.{is_blank_part, number_in, before_repeat, repeat_of}

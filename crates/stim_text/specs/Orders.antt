@@ -4,9 +4,8 @@ use Rattle.std.specs.List.{flat_map, filter_map, sum_by}
 use Rattle.text_lines.specs.Lines.{parts_of}
 use Rattle.stim_text.specs.declared.order.Order.{Order}
 use Rattle.stim_text.specs.declared.order.OrderLine.{OrderLine}
-use Rattle.stim_text.specs.declared.order.TheConstants.{MAX_STEPS}
+use Rattle.limits.specs.declared.TheConstants.{MAX_STEPS, MAX_REPEAT}
 use Rattle.stim_text.specs.declared.refusal.OrderNo.{OrderNo}
-use Rattle.stim_text.specs.declared.repeat.TheConstants.{MAX_REPEAT}
 use Rattle.stim_text.specs.Repeats.{first_fault_of}
 use Rattle.stim_text.specs.OrderLines.{IsAllowed, line_of, fault_of}
 

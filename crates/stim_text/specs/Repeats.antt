@@ -7,7 +7,7 @@ use Rattle.text_lines.specs.Answers.{first}
 use Rattle.text_lines.specs.Bytes.{is_blank, cut_at}
 use Rattle.text_lines.specs.Words.{words_of}
 use Rattle.text_lines.specs.Numbers.{number_of, within}
-use Rattle.stim_text.specs.declared.repeat.TheConstants.{MAX_REPEAT}
+use Rattle.limits.specs.declared.TheConstants.{MAX_REPEAT}
 
 -- whether the part of a line has blanks alone
 unfoldable pub is_blank_part : List ℕ → Bool

@@ -24,8 +24,7 @@ mod refusal;
 mod repeat;
 mod row;
 
-pub use order::{MAX_STEPS, Order, OrderLine};
+pub use order::{Order, OrderLine};
 pub use order_reading::read_order;
 pub use reading::read_stim;
 pub use refusal::{OrderNo, StimNo};
-pub use repeat::MAX_REPEAT;

@@ -2,9 +2,6 @@
 
 use seen_list::List;
 
-/// The most steps of an order.
-pub const MAX_STEPS: u32 = 1_000_000_000;
-
 /// Steps of one port, one after another: `times` of them, 1 to 1,000,000.
 #[derive(Clone, Copy, Debug, PartialEq, Eq)]
 pub struct OrderLine {

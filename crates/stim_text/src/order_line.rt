@@ -4,9 +4,10 @@ ghost use Rattle.std.specs.Prelude.{◌≡◌, ◌+◌, ◌≤◌, Some, IfOk, I
 ghost use Rattle.text_lines.specs.Answers.{fault_or};
 ghost use Rattle.stim_text.specs.OrderLines.{line_of, form_fault, fault_of};
 
-use crate::order::{MAX_STEPS, OrderLine};
+use crate::order::OrderLine;
 use crate::refusal::OrderNo;
 use crate::repeat::{cut_repeat, is_blank_part, number_in};
+use limits::MAX_STEPS;
 
 /// Reads the part of a line outside its comment, after lines of so many steps: the line of the order
 /// that it is, or `None` where it is blank, or its fault.

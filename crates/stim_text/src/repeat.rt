@@ -5,14 +5,10 @@ ghost use Rattle.std.specs.Option.{option_map};
 ghost use Rattle.text_lines.specs.Words.{words_of};
 ghost use Rattle.stim_text.specs.Repeats.{is_blank_part, before_repeat, repeat_of, repeat_in, only_word, number_in};
 
-use limits::MAX_CYCLES;
+use limits::MAX_REPEAT;
 use text_lines::Words;
 use text_lines::bytes::{is_blank, split_once};
 use text_lines::numbers::{number, number_within};
-
-/// The most that a line's repeat may be: as often may a row of a stimulus stand, or a step of an
-/// order.
-pub const MAX_REPEAT: u32 = MAX_CYCLES;
 
 /// Whether the part of a line has blanks alone.
 #[tactic(auto, unfolding(crate::specs::Repeats::is_blank_part))]

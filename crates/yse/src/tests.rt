@@ -1,8 +1,7 @@
 //! Whole calls over files and sinks in memory, with statuses, lines and output from outside.
 
 ghost use Rattle.std.specs.Prelude.{length, ◌≤◌};
-ghost use Rattle.limits.specs.declared.TheConstants.{MAX_TEXT_BYTES};
-ghost use Rattle.cmd_words.specs.declared.options.TheConstants.{MAX_WORKERS};
+ghost use Rattle.limits.specs.declared.TheConstants.{MAX_TEXT_BYTES, MAX_WORKERS};
 ghost use Rattle.net_defs.specs.Valid.{IsValid};
 ghost use Rattle.yse_top.specs.Visited.{AllCanTell};
 

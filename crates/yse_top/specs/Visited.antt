@@ -14,7 +14,7 @@ use Rattle.net_defs.specs.Time.{turn_count}
 use Rattle.cmd_words.specs.declared.command.Command.{Command}
 use Rattle.cmd_words.specs.declared.command.Command.TheVariants as command
 use Rattle.cmd_words.specs.declared.command.RunWords.{RunWords}
-use Rattle.cmd_words.specs.declared.options.TheConstants.{MAX_WORKERS}
+use Rattle.limits.specs.declared.TheConstants.{MAX_WORKERS}
 use Rattle.yse_top.specs.declared.commands.steps.Pace.{Pace}
 use Rattle.yse_top.specs.declared.commands.steps.Pace.TheVariants as pace
 use Rattle.yse_top.specs.declared.output.Output.{Output}

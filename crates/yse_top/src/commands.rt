@@ -2,7 +2,7 @@
 
 ghost use Rattle.std.specs.Prelude.{◌≡◌, ◌≤◌, Some, IfOk, length};
 ghost use Rattle.cmd_words.specs.Forms.{IsInRange};
-ghost use Rattle.cmd_words.specs.declared.options.TheConstants.{MAX_WORKERS};
+ghost use Rattle.limits.specs.declared.TheConstants.{MAX_WORKERS};
 ghost use Rattle.machine_run.specs.Visits.{AreInPlace};
 ghost use Rattle.yse_top.specs.Expected.{ExpectedOf};
 ghost use Rattle.yse_top.specs.Outputs.{CanWrite};

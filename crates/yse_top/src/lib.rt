@@ -6,7 +6,7 @@ ghost use Rattle.std.specs.Io.KnownBytes.{append_known};
 ghost use Rattle.std.specs.String.{string_bytes};
 ghost use Rattle.edge_io.specs.Counts.{raised, Rose};
 ghost use Rattle.cmd_words.specs.Asked.{asked};
-ghost use Rattle.cmd_words.specs.declared.options.TheConstants.{MAX_WORKERS};
+ghost use Rattle.limits.specs.declared.TheConstants.{MAX_WORKERS};
 ghost use Rattle.machine_run.specs.Visits.{AreInPlace};
 ghost use Rattle.yse_top.specs.Ends.{EndsAs, IsDoneOrMemory, MayWrite, AreToldBy};
 ghost use Rattle.yse_top.specs.Expected.{Expected};

@@ -1,6 +1,6 @@
 //! Runs on threads: so many workers and banks, workers that meet, and a worker that waits for the crossbar.
 
-ghost use Rattle.cmd_words.specs.declared.options.TheConstants.{MAX_WORKERS};
+ghost use Rattle.limits.specs.declared.TheConstants.{MAX_WORKERS};
 ghost use Rattle.crew_run.specs.Crews.{CanTell};
 ghost use Rattle.std.specs.Prelude.{All, IfOk, Option, Some, length, slice_get, true, ℕ, ◌+◌, ◌<◌, ◌^◌, ◌≡◌, ◌≤◌};
 ghost use Rattle.yse_top.specs.Visited.{AllCanTell};

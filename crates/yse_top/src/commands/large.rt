@@ -2,8 +2,7 @@
 
 ghost use Rattle.machine_text.specs.Machines.{ports_of};
 ghost use Rattle.std.specs.Prelude.{[], ◌≡◌, ◌⊎◌, ◌≤◌, IfOk, length};
-ghost use Rattle.limits.specs.declared.TheConstants.{MAX_LARGE_CYCLES, MAX_LARGE_GATES};
-ghost use Rattle.cmd_words.specs.declared.options.TheConstants.{MAX_WORKERS};
+ghost use Rattle.limits.specs.declared.TheConstants.{MAX_LARGE_CYCLES, MAX_LARGE_GATES, MAX_WORKERS};
 ghost use Rattle.large_run.specs.Setting.{large_machine};
 ghost use Rattle.machine_run.specs.Visits.{AreInPlace, AreVisitsOf};
 ghost use Rattle.yse_top.specs.Outputs.{CanWrite};

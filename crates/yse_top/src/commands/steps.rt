@@ -12,7 +12,7 @@ ghost use Rattle.stim_text.specs.declared.order.OrderLine.{OrderLine};
 ghost use Rattle.stim_text.specs.Orders.{IsValidOrder};
 ghost use Rattle.event_core.specs.Core.{AreDone, IsSameCore, IsSoundCore, rows_of};
 ghost use Rattle.cmd_words.specs.Forms.{IsRunInRange};
-ghost use Rattle.cmd_words.specs.declared.options.TheConstants.{MAX_WORKERS};
+ghost use Rattle.limits.specs.declared.TheConstants.{MAX_WORKERS};
 ghost use Rattle.yse_top.specs.Images.{IsImageOf};
 ghost use Rattle.yse_top.specs.Orders.{AreRowsInOrder, EndsInOrder, IsEndingOf, IsMachineImage};
 ghost use Rattle.yse_top.specs.Stepped.{HasStepped};

@@ -5,7 +5,7 @@ use Rattle.text_lines.specs.Lines.{parts_of}
 use Rattle.text_lines.proofs.AnswerLemmas.{fault_or_ok, fault_or_err}
 use Rattle.text_lines.proofs.LineLemmas.{next_line, no_next_line}
 use Rattle.stim_text.specs.declared.order.OrderLine.{OrderLine}
-use Rattle.stim_text.specs.declared.order.TheConstants.{MAX_STEPS}
+use Rattle.limits.specs.declared.TheConstants.{MAX_STEPS}
 use Rattle.stim_text.specs.OrderLines.{line_of, fault_of}
 use Rattle.stim_text.proofs.ReadingLemmas.{read_none, read_more, read_blank, read_fault, read_all, room_for}
 use Rattle.stim_text.proofs.order_reading.read_lines.Goals as goal

@@ -1,7 +1,7 @@
 use Rattle.std.proofs.Common.{◌≡◌, ◌+◌, ◌≤◌, length, drop}
 use Rattle.std.specs.List.{enumerate_from}
 use Rattle.text_lines.specs.Lines.{parts_of}
-use Rattle.stim_text.specs.declared.order.TheConstants.{MAX_STEPS}
+use Rattle.limits.specs.declared.TheConstants.{MAX_STEPS}
 use Rattle.stim_text.specs.OrderLines.{line_of, fault_of}
 use Rattle.stim_text.proofs.ReadingLemmas.{HasRead}
 use Rattle.stim_text.proofs.order_reading.read_lines.Given as goal
