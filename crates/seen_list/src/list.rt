@@ -2,6 +2,7 @@
 
 ghost use Rattle.std.specs.Prelude.{◌≡◌, ◌<◌, ◌↔◌, List as Items, [], ◌∷◌, ◌++◌, length, slice_set, OnErr, OnOk, IfOk, IsNone, IfSome, IsTrue, replicate, slice_get, option_copied};
 ghost use Rattle.std.specs.Slice.Iter.{iter_rest};
+ghost use Rattle.std.specs.Vec.{vec_capacity};
 ghost use Rattle.std.specs.Borrow.{sem};
 ghost use Rattle.seen_list.specs.Lending.{LendsMembers};
 
@@ -24,14 +25,20 @@ impl<T> Model for List<T> {
     ghost view = { λ l. l.inner.items };
 }
 
+/// A vector without values, and without room for any.
+pub(crate) fn bare<T>(alloc: Global) -> Vec<T>
+    ensures empty { result.items ≡ [] }
+    ensures no_memory { vec_capacity result ≡ 0 }
+{
+    Vec::new(alloc)
+}
+
 impl<T> List<T> {
     /// The empty list. It takes no memory, and keeps `alloc` for its growth.
     pub fn new(alloc: Global) -> List<T>
         ensures { result ≡ [] }
     {
-        List {
-            inner: Vec::new(alloc),
-        }
+        List { inner: bare(alloc) }
     }
 
     /// The number of values.

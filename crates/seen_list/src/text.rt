@@ -3,6 +3,7 @@
 ghost use Rattle.std.specs.Prelude.{◌≡◌, ◌↔◌, [], ◌++◌, length, OnErr, OnOk, IfOk, IsTrue};
 
 use crate::Memory;
+use crate::list::bare;
 use std::alloc::Global;
 use std::marker::Model;
 
@@ -25,9 +26,7 @@ impl Text {
     pub fn new(alloc: Global) -> Text
         ensures { result ≡ [] }
     {
-        Text {
-            inner: Vec::new(alloc),
-        }
+        Text { inner: bare(alloc) }
     }
 
     /// A text of the bytes of a slice.
