@@ -173,14 +173,17 @@ module _ {nodes : NodeNet} {homes : Homes} {plan : Plan} {switch : Switch} {timi
         let found = memory_at k m.0 m.1 in
         subst (IsBlock port) (some_only (block_for homes plan.slots p found.0) block (sym found.2 ∙ here)) found.3
 
-    blocks_are : AreBlocksOf nodes homes image claims p port.ins blocks
-    blocks_are = record {
+    blocks_are : (outs : List OutBit) → AreBits nodes plan.slots (claims_of claims p) numbers outs → AreBlocksOf nodes homes image claims p port.ins blocks outs
+    blocks_are outs made = record {
       numbers = numbers;
       lists = lists;
       as_many = are.as_many;
       each = λ k m block memory here is memory_is.
           let known : (m < length nodes.blocks) × (block_home homes m ≡ p) = (lists.exact m).0 (listed numbers k m is) in
           subst (λ b. MemoryImplements image claims p port.ins b memory) (some_only (block_for homes plan.slots p memory) block (sym (are.each k m memory is memory_is) ∙ here)) (memory_right m memory memory_is known.1).1;
+      bits = λ i x m bit out here claim is.
+          let for_it = made.each i x (BlockBit m bit) out claim is here in
+          subst (λ (o : OutBit). slice_get numbers o.block ≡ Some m) (sym for_it.2) for_it.1;
     }
 
     bit_right : (x : ℕ) (one : Item) (out : OutBit) → slice_get nodes.items x ≡ Some one → IsBitFor plan.slots numbers x one out
@@ -206,7 +209,7 @@ module _ {nodes : NodeNet} {homes : Homes} {plan : Plan} {switch : Switch} {timi
       same = λ i x one claim is.
           let out : (out : OutBit) × (slice_get outs i ≡ Some out) = member_at outs i (let within = slice_get_within (claims_of claims p) i x claim in let count = bits.as_many in omega (arith, within, count)) in
           (out.0, out.1, (bit_right x one out.0 is (bits.each i x one out.0 claim is out.1)).1);
-      ordered = (from, low, blocks_are);
+      ordered = (from, low, blocks_are outs bits);
     }
 
   -- ---- the host

@@ -7,12 +7,14 @@ use Rattle.net_defs.specs.declared.stimulus.Stimulus.{Stimulus}
 use Rattle.net_defs.specs.Steps.{State}
 use Rattle.func_table.specs.declared.table.Table.{Table}
 use Rattle.func_table.specs.Shelf.{AreDifferent}
+use Rattle.node_defs.specs.declared.items.Item.TheVariants.{BlockBit}
 use Rattle.node_defs.specs.declared.items.NodeBlock.{NodeBlock}
 use Rattle.node_defs.specs.declared.items.NodeNet.{NodeNet}
 use Rattle.image_defs.specs.declared.image.Source.{Source}
 use Rattle.image_defs.specs.declared.image.Task.{Task}
 use Rattle.image_defs.specs.declared.image.Task.TheVariants.{Eval}
 use Rattle.image_defs.specs.declared.image.BlockWork.{BlockWork}
+use Rattle.image_defs.specs.declared.image.OutBit.{OutBit}
 use Rattle.image_defs.specs.declared.image.Work.{Work}
 use Rattle.image_defs.specs.declared.image.Work.TheVariants.{Logic, Array, Host}
 use Rattle.image_defs.specs.declared.image.LinkIn.{LinkIn}
@@ -22,7 +24,7 @@ use Rattle.image_defs.specs.declared.image.Image.{Image}
 use Rattle.image_defs.specs.Places.{IsPort, item_slots}
 use Rattle.image_defs.specs.WellFormed.{IsWellFormed}
 use Rattle.image_defs.specs.Frames.{image_value, shown}
-use Rattle.image_match.specs.Matches.{claims_of, Matches, MemoryImplements}
+use Rattle.image_match.specs.Matches.{claims_of, IsClaim, Matches, MemoryImplements}
 use Rattle.plan_defs.specs.declared.plan.Homes.{Homes}
 use Rattle.plan_defs.specs.declared.plan.Plan.{Plan}
 use Rattle.plan_defs.specs.declared.switch.Sending.{Sending}
@@ -55,18 +57,19 @@ pub record AreInOrderOfUse (tables : List Table) (tasks : List Task) : Type 0 wh
 abbrev pub ArePortMemories : NodeNet → Homes → ℕ → List ℕ → Type 0
 ArePortMemories nodes homes p numbers = Lists (λ m. (m < length nodes.blocks) × (block_home homes m ≡ p)) numbers
 
--- these are the memories of port p, in their order
-pub record AreBlocksOf (nodes : NodeNet) (homes : Homes) (image : Image) (claims : List (List ℕ)) (p : ℕ) (ins : List LinkIn) (blocks : List BlockWork) : Type 0 where
+-- these are the memories of port p, in their order, and each output bit names its memory among them
+pub record AreBlocksOf (nodes : NodeNet) (homes : Homes) (image : Image) (claims : List (List ℕ)) (p : ℕ) (ins : List LinkIn) (blocks : List BlockWork) (outs : List OutBit) : Type 0 where
   pub numbers : List ℕ
   pub lists : ArePortMemories nodes homes p numbers
   pub as_many : length blocks ≡ length numbers
   pub each : (k m : ℕ) (block : BlockWork) (memory : NodeBlock) → slice_get blocks k ≡ Some block → slice_get numbers k ≡ Some m → slice_get nodes.blocks m ≡ Some memory → MemoryImplements image claims p ins block memory
+  pub bits : (i x m bit : ℕ) (out : OutBit) → slice_get outs i ≡ Some out → IsClaim claims p i x → slice_get nodes.items x ≡ Some (BlockBit m bit) → slice_get numbers out.block ≡ Some m
 
 -- logic ports come first, then array ports, then the host; tables and memories stand in order
 abbrev pub IsOrdered : NodeNet → Homes → Image → List (List ℕ) → ℕ → List LinkIn → Work → Type 0
 IsOrdered nodes homes image claims p ins (Logic tables tasks) = (p < homes.logic) × AreInOrderOfUse tables tasks
 IsOrdered nodes homes image claims p ins (Array blocks outs) =
-    (homes.logic ≤ p) × (p < host_of homes) × AreBlocksOf nodes homes image claims p ins blocks
+    (homes.logic ≤ p) × (p < host_of homes) × AreBlocksOf nodes homes image claims p ins blocks outs
 IsOrdered nodes homes image claims p ins (Host inputs printed) = p ≡ host_of homes
 
 -- ---- links
