@@ -92,6 +92,36 @@ module _ (nodes : NodeNet) (homes : Homes) (slots : List ℕ) (n : ℕ) (formed 
   slot_to zero i low within = absurd (omega (arith, low))
   slot_to (suc m) i low within = slot_next i within (λ j before. slot_to m j (omega (arith, low, before)) (omega (arith, before, within)))
 
+-- each slot up to that of an item is the slot of that item or of one before it
+module _ (nodes : NodeNet) (homes : Homes) (slots : List ℕ) (n : ℕ) (formed : IsWellFormed nodes) (fit : AreFirstFit nodes homes slots n) where
+  HasSlot : ℕ → ℕ → Type 0
+  HasSlot i s = (j : ℕ) × (j ≤ i) × (slot_of slots j ≡ s)
+
+  filled_by : (i s : ℕ) → ((j : ℕ) → j < i → s ≤ slot_of slots j → HasSlot j s) → IsBlocked nodes homes slots i s → HasSlot i s
+  filled_by i s before (inl early) =
+      let low : early.operand < i = formed.awaited i early.operand early.item early.is early.awaits in
+      let found = before early.operand low early.late in
+      (found.0, omega (arith, found.1, low), found.2)
+  filled_by i s before (inr (inl held)) = (held.holder, omega (arith, held.before), held.slot)
+  filled_by i s before (inr (inr heard)) = (heard.sent, omega (arith, heard.before), heard.slot)
+
+  filled_next : (i s : ℕ) → i < n → ((j : ℕ) → j < i → s ≤ slot_of slots j → HasSlot j s) → s ≤ slot_of slots i → HasSlot i s
+  filled_next i s within before under = by_place (cases_order s (slot_of slots i)) where
+    by_place : (s ≡ slot_of slots i) ⊎ ((s < slot_of slots i) ⊎ (slot_of slots i < s)) → HasSlot i s
+    by_place (inl same) = (i, omega arith, sym same)
+    by_place (inr (inl below)) = filled_by i s before ((fit.least i within).below s below)
+    by_place (inr (inr above)) = absurd (omega (arith, under, above))
+
+  filled_to : (m i s : ℕ) → i < m → i < n → s ≤ slot_of slots i → HasSlot i s
+  filled_to zero i s low within under = absurd (omega (arith, low))
+  filled_to (suc m) i s low within under =
+      filled_next i s within (λ j before below. filled_to m j s (omega (arith, low, before)) (omega (arith, before, within)) below) under
+
+-- the slots of a plan have no gap
+pub no_gap : (nodes : NodeNet) (homes : Homes) (plan : Plan) → IsWellFormed nodes → IsFirstFitPlan nodes homes plan
+    → (i s : ℕ) → i < length nodes.items → s ≤ slot_of plan.slots i → (j : ℕ) × (j ≤ i) × (slot_of plan.slots j ≡ s)
+no_gap nodes homes plan formed is i s within under = filled_to nodes homes plan.slots (length nodes.items) formed is.slots (i + 1) i s (omega arith) within under
+
 -- one more than each of some numbers is at most a bound, and so is the greatest of these
 needed_low : (slots : List ℕ) (first bound : ℕ) → first ≤ bound → ((i : ℕ) → i < length slots → get_or slots i 0 + 1 ≤ bound) → fold (λ needed slot. max needed (slot + 1)) first slots ≤ bound
 needed_low [] first bound begun low = begun

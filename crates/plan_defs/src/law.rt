@@ -43,6 +43,14 @@ pub fn few_slots()
         → IsFirstFitPlan nodes homes plan → plan.needed ≤ length nodes.items }
 {}
 
+/// A law: the slots that hold an item have no gap. Each slot up to that of an item is the slot of that
+/// item or of one before it. It does nothing.
+pub fn no_gap()
+    ensures { (nodes : NodeNet) (homes : Homes) (plan : Plan) → IsWellFormed nodes
+        → IsFirstFitPlan nodes homes plan → (i s : ℕ) → i < length nodes.items → s ≤ slot_of plan.slots i
+        → (j : ℕ) × (j ≤ i) × (slot_of plan.slots j ≡ s) }
+{}
+
 /// A law: the items of a valid netlist are what planning asks of them. It does nothing.
 pub fn items_are_well_formed()
     ensures { (net : Netlist) (timing : Timing) (nodes : NodeNet) → IsValid net → AreItems net timing nodes

@@ -1,44 +1,74 @@
 //! The program: real files, streams and gates around the top call, whose status is the exit status.
 #![tactic(auto)]
 
-ghost use Rattle.std.specs.Prelude.{◌≡◌};
+ghost use Rattle.std.specs.Prelude.{◌≡◌, ◌≤◌, None, IfSome, length};
 ghost use Rattle.std.specs.Process.{exit_status};
+ghost use Rattle.limits.specs.declared.TheConstants.{MAX_WORKERS};
+ghost use Rattle.yse_top.specs.Lines.{memory_line};
 ghost use Rattle.yse_top.specs.Statuses.{status_number};
+ghost use Rattle.yse_top.specs.Visited.{AllCanTell};
+ghost use Rattle.yse_top.specs.Writing.{TakesLine};
+ghost use Rattle.yse.specs.Given.{words_in, words_read};
+ghost use Rattle.yse.specs.Ended.{EndsBy};
 
 #[cfg(test)]
 mod tests;
 
-use edge_io::{HostFiles, HostSink};
+use crew_run::Gate;
+use edge_io::{Files, HostFiles, HostSink, Sink};
+use limits::MAX_WORKERS;
 use machine_run::count_gates;
 use seen_list::Memory;
+use std::alloc::Global;
 use std::io::ErrorKind;
+use std::marker::{Send, Sync};
 use std::process::ExitCode;
+use std::sync::Wait;
+use std::thread::Threads;
 use std::{env, io};
 use yse_top::{Status, out_of_memory, yse};
-
-/// The gates of a call.
-const GATES: usize = 64;
 
 fn main(rt: HostRuntime) -> ExitCode {
     let mut files = HostFiles::new(&rt);
     let mut out = HostSink::new(rt.stdout());
     let mut err = HostSink::new(rt.stderr());
-    let status = match count_gates(rt.alloc(), GATES) {
-        Ok(mut gates) => match words(&rt) {
-            Ok(words) => yse(
-                &rt,
-                rt.alloc(),
-                words.as_slice(),
-                &mut files,
-                &mut out,
-                &mut err,
-                gates.as_mut_slice(),
-            ),
-            Err(Memory) => out_of_memory(&mut err),
-        },
-        Err(Memory) => out_of_memory(&mut err),
-    };
-    exit_code(status)
+    match count_gates(rt.alloc(), MAX_WORKERS as usize) {
+        Ok(mut gates) => ended(
+            &rt,
+            rt.alloc(),
+            read_words(&rt),
+            &mut files,
+            &mut out,
+            &mut err,
+            gates.as_mut_slice(),
+        ),
+        Err(Memory) => exit_code(out_of_memory(&mut err)),
+    }
+}
+
+/// A whole call with the words that were read: the exit status is the number of its status.
+fn ended<R: Threads + Wait + Sync, F: Files, O: Sink, E: Sink, G: Gate + Send>(
+    rt: &R,
+    alloc: Global,
+    read: io::Result<Vec<String>>,
+    files: &mut F,
+    out: &mut O,
+    err: &mut E,
+    gates: &mut [Option<G>],
+) -> ExitCode
+    requires gates { MAX_WORKERS ≤ length gates.old }
+    requires tell { AllCanTell G.Gate.own gates.old }
+    ensures called { IfSome (words_read read) (λ words. EndsBy G.Gate.own (F.names files.old) (F.bytes files.old)
+        (F.counts files.old) (F.counts files.new) (O.taken out.old) (O.taken out.new) (O.faults out.old) (O.faults out.new)
+        (TakesLine (E.taken err.old) (E.taken err.new) (E.faults err.old) (E.faults err.new)) gates.old gates.new words
+        (exit_status result)) }
+    ensures memory { words_read read ≡ None → (exit_status result ≡ status_number Status.Memory)
+        × (out.new ≡ out.old) × TakesLine (E.taken err.old) (E.taken err.new) (E.faults err.old) (E.faults err.new) memory_line }
+{
+    match words_given(alloc, read) {
+        Ok(words) => exit_code(yse(rt, alloc, words.as_slice(), files, out, err, gates)),
+        Err(Memory) => exit_code(out_of_memory(err)),
+    }
 }
 
 /// The exit status of a call.
@@ -48,16 +78,18 @@ fn exit_code(status: Status) -> ExitCode
     ExitCode::from(status.number())
 }
 
-/// The words of the command line, without the program's name. A word that isn't UTF-8 is refused as no
-/// words at all are.
-fn words(rt: &HostRuntime) -> Result<Vec<String>, Memory> {
-    match read_words(rt) {
+/// The words that were read. Where one isn't UTF-8 there are none, as if none had been given.
+fn words_given(alloc: Global, read: io::Result<Vec<String>>) -> Result<Vec<String>, Memory>
+    ensures { words_in result ≡ words_read read }
+{
+    match read {
         Ok(words) => Ok(words),
         Err(error) if error.kind() == ErrorKind::OutOfMemory => Err(Memory),
-        Err(_) => Ok(Vec::new(rt.alloc())),
+        Err(_) => Ok(Vec::new(alloc)),
     }
 }
 
+/// The words of the command line, without the program's name.
 fn read_words(rt: &HostRuntime) -> io::Result<Vec<String>> {
     let words = env::args(rt)?.skip(1).collect(rt.alloc())?;
     Ok(words)
