@@ -31,8 +31,7 @@ use std::alloc::Global;
 /// The image of items at their homes, in the slots of their first-fit plan, with the switch's settings
 /// for them. It has as many slots as the plan needs. A logic port's tables stand in the order in which
 /// its tasks first use them, an array port's memories in their order, the host's printed sources in
-/// the order of the printed items, and all else of a port in slot order. Linear in the items and links,
-/// but for the sort of the items by their slots.
+/// the order of the printed items, and all else of a port in slot order.
 pub fn build(
     alloc: Global,
     nodes: &NodeNet,

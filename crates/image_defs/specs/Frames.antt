@@ -1,6 +1,5 @@
--- The value of an image. It meets the equations of `Steps`, which leave no choice where an item stands. It
--- is made turn by turn, and in a turn slot by slot; whoever uses it cites the equations, which are a law,
--- and never how it is made.
+-- The value of an image. It meets the equations of `Steps`. It is made turn by turn, and in a turn slot by
+-- slot; whoever uses it cites the equations, which are a law, and never how it is made.
 use Rattle.std.specs.Prelude.{ℕ, zero, suc, ◌*◌, ◌==◌, if◌then◌else◌, List, [], length, Option, Some, None, slice_get, unwrap_or}
 use Rattle.std.specs.List.{position_or_len}
 use Rattle.std.specs.Option.{option_map}

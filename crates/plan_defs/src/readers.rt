@@ -22,7 +22,7 @@ pub struct Readers {
 impl Readers {
     ghost use Rattle.plan_defs.specs.ReaderLists.{AreReaders};
 
-    /// The readers of all items at these homes, in one pass over the items and memories.
+    /// The readers of all items at these homes.
     pub fn new(alloc: Global, nodes: &NodeNet, homes: &Homes) -> Result<Readers, Memory>
         requires nodes { IsWellFormed nodes.now }
         requires homes { AreHomes nodes.now homes.now }

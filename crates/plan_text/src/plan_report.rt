@@ -18,8 +18,7 @@ use seen_list::{Memory, Text};
 use std::alloc::Global;
 
 /// The report of a plan: the slots that a turn wants, a line for each port in port order, and a line for
-/// each item in item order. It is refused for want of memory alone, and takes time and memory as the
-/// items and their readers do.
+/// each item in item order. It is refused for want of memory alone.
 pub fn report(
     alloc: Global,
     net: &Netlist,

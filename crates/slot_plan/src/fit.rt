@@ -43,10 +43,6 @@ impl From<Memory> for PlanNo {
 /// The first-fit plan of items at their homes, if it fits the machine. A design of at most as many
 /// items as a turn has slots, with at most as many tables as each port holds, is refused for want of
 /// memory alone, on any number of ports.
-///
-/// Memory grows with the items and, a bit each for sending and receiving, with the items times
-/// the ports. Time grows with the slots that a search looks at, 64 in a step, and 4,096 where one
-/// port of the item has none free.
 pub fn first_fit(
     alloc: Global,
     nodes: &NodeNet,

@@ -23,8 +23,7 @@ pub(crate) struct Crowded {
     pub(crate) needed: u32,
 }
 
-/// How many different tables the nodes of each logic port use, in port order. It is one pass over the
-/// items, and a bit for each table at each logic port.
+/// How many different tables the nodes of each logic port use, in port order.
 pub fn table_counts(alloc: Global, nodes: &NodeNet, homes: &Homes) -> Result<List<u32>, Memory>
     requires nodes { IsWellFormed nodes.now }
     requires homes { AreHomes nodes.now homes.now }

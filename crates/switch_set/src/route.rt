@@ -17,7 +17,7 @@ use std::alloc::Global;
 /// first-fit plan: in its slot the home of an item that is read sends it to all its readers, and
 /// each reader receives it from there. Each port's sends and receipts are in slot order, at most
 /// one of each in a slot, and the readers of a send are in ascending order. It is refused for want
-/// of memory alone, and takes one sort of the items by their slots and one step for each reader.
+/// of memory alone.
 pub fn settings(
     alloc: Global,
     nodes: &NodeNet,

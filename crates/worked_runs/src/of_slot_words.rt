@@ -169,7 +169,7 @@ fn inputs_in(cycle: u64) -> [V4; 5] {
     }
 }
 
-/// What a port receives in a slot in a cycle, by the papers' plan of c17 on two logic processors.
+/// What a port receives in a slot in a cycle, by the plan of c17 on two logic processors.
 fn received(port: u32, slot: u32, cycle: u64) -> Option<V4> {
     let [n1, n2, n3, n6, n7] = inputs_in(cycle);
     let n11 = nand(n3, n6);

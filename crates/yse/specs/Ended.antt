@@ -3,7 +3,7 @@ use Rattle.std.specs.Prelude.{◌≡◌, ℕ, Bool, List, Option, IfSome}
 use Rattle.std.specs.Io.KnownBytes.{append_known}
 use Rattle.cmd_words.specs.Asked.{asked}
 use Rattle.crew_run.specs.declared.gate.Gate as gate
-use Rattle.edge_io.specs.declared.files.Counts.{Counts}
+use Rattle.edge_io.specs.declared.counts.FileCounts.{FileCounts}
 use Rattle.yse_top.specs.declared.status.Status.{Status}
 use Rattle.yse_top.specs.declared.status.Status.TheVariants as status
 use Rattle.yse_top.specs.Ends.{EndsAs}
@@ -13,10 +13,11 @@ use Rattle.yse_top.specs.Readings.{Reading, AreReadings}
 use Rattle.yse_top.specs.Statuses.{status_number}
 use Rattle.yse_top.specs.Traced.{IsTraceOfFiles}
 use Rattle.yse_top.specs.Visited.{TellsGates}
+use Rattle.yse_top.specs.Words.{traced_by}
 
 -- The exit status is the number of the status that the call of these words ended with: after status 0 of a
 -- simulation the output is the trace of its files, the outcome is an expected one, and the gates were told.
-pub record EndsBy {G : Type 0} (p : gate.Ghosts G) (names : Option (List ℕ → Bool)) (bytes : Option (List ℕ → List ℕ)) (counts counts' : Counts)
+pub record EndsBy {G : Type 0} (p : gate.Ghosts G) (names : Option (List ℕ → Bool)) (bytes : Option (List ℕ → List ℕ)) (counts counts' : FileCounts)
     (taken taken' : Option (List ℕ)) (faults faults' : ℕ) (TakesLine : List ℕ → Type 0) (gates gates' : List (Option G)) (words : List (List ℕ)) (exit : ℕ) : Type 0 where
   pub status : Status
   pub number : exit ≡ status_number status
