@@ -67,10 +67,10 @@ module _ (image : Image) (fits : IsWellFormed image) (p : ℕ) (port : PortImage
   -- ---- the next event
 
   module _ (puts takes : List ℕ) where
-    abbrev SendsSome : Type 0
+    abbrev pub SendsSome : Type 0
     SendsSome = (i : ℕ) × (link : LinkOut) × SendsNext port puts takes i link
 
-    abbrev ReceivesSome : Type 0
+    abbrev pub ReceivesSome : Type 0
     ReceivesSome = (j : ℕ) × (link : LinkIn) × ReceivesNext port puts takes j link
 
     -- in a slot a Put is missing, or each is made there
@@ -140,7 +140,7 @@ module _ (image : Image) (fits : IsWellFormed image) (p : ℕ) (port : PortImage
       }
 
     -- something is missing first, or nothing is
-    whole : EndsNext port puts takes ⊎ (SendsSome ⊎ ReceivesSome)
+    pub whole : EndsNext port puts takes ⊎ (SendsSome ⊎ ReceivesSome)
     whole = elim (up_to image.slots) [
       | inr found ↦ inr found
       | inl done ↦

@@ -1,4 +1,5 @@
 pub mod Counts
+pub mod Foremost
 pub mod Linked
 pub mod Next
 pub mod Places

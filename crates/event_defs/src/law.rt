@@ -1,7 +1,7 @@
 //! Laws of events: functions that do nothing, whose clauses hold of all well-formed images,
 //! stimuli, numbers of banks and orders.
 
-ghost use Rattle.std.specs.Prelude.{List, length, ℕ, ◌*◌, ◌+◌, ◌<◌, ◌≡◌, ◌≤◌};
+ghost use Rattle.std.specs.Prelude.{List, length, ℕ, ◌*◌, ◌+◌, ◌<◌, ◌≡◌, ◌≤◌, ◌⊎◌};
 ghost use Rattle.logic_four.specs.Values.{code_of};
 ghost use Rattle.logic_four.specs.declared.V4.{V4};
 ghost use Rattle.net_defs.specs.declared.stimulus.Stimulus.{Stimulus};
@@ -11,13 +11,16 @@ ghost use Rattle.image_defs.specs.WellFormed.{IsWellFormed};
 ghost use Rattle.image_defs.specs.declared.image.Image.{Image};
 ghost use Rattle.image_defs.specs.declared.image.PortImage.{PortImage};
 ghost use Rattle.event_defs.specs.Counts.{events, events_left, moved_in};
+ghost use Rattle.event_defs.specs.Foremost.{IsForemost};
 ghost use Rattle.event_defs.specs.Linked.{AreLinkedAlike};
 ghost use Rattle.event_defs.specs.Next.{IsNext};
 ghost use Rattle.event_defs.specs.Places.{start};
 ghost use Rattle.event_defs.specs.Sound.{IsSound};
-ghost use Rattle.event_defs.specs.Steps.{AllDone, AllIdle, AreFirstSteps, AreRounds, AreSteps, CoreState, Puts, Takes, first_state, rows_done};
+ghost use Rattle.event_defs.specs.Steps.{AllDone, AllIdle, AreFirstSteps, AreRounds, AreSteps, CoreState, IsStep, Puts, Takes, first_state, rows_done};
 ghost use Rattle.event_defs.specs.declared.place.Action.{Action};
 ghost use Rattle.event_defs.specs.declared.place.CoreStep.{CoreStep};
+ghost use Rattle.event_defs.specs.declared.place.CoreStep.TheVariants.{Moved};
+ghost use Rattle.event_defs.specs.declared.place.Event.{Event};
 ghost use Rattle.event_defs.specs.declared.place.Place.{Place};
 
 /// A law: what a port does next is one.
@@ -66,6 +69,24 @@ pub fn some_port_moves()
     ensures { (image : Image) (stimulus : Stimulus) (banks until : ℕ) (state : CoreState)
         → IsWellFormed image → 1 ≤ banks → IsSound image stimulus banks until state
         → AllIdle image banks until state → AllDone image until state }
+{}
+
+/// A law: which port moves. Unless all are done there is a foremost port, which is in the least turn,
+/// and has there its next event in the least slot, an Ask or a Put before a Take, and a Tell last; and
+/// each step of such a port moves.
+pub fn foremost_moves()
+    ensures some { (image : Image) (stimulus : Stimulus) (banks until : ℕ) (state : CoreState)
+        → IsWellFormed image → 1 ≤ banks → IsSound image stimulus banks until state
+        → AllDone image until state
+        ⊎ ((p : ℕ) × (port : PortImage) × (event : Event) × (new : CoreState)
+        × IsForemost image until state p port
+        × IsStep image stimulus banks until p port state (Moved event) new) }
+    ensures each { (image : Image) (stimulus : Stimulus) (banks until : ℕ) (state : CoreState)
+        (p : ℕ) (port : PortImage) (answer : CoreStep) (new : CoreState)
+        → IsWellFormed image → 1 ≤ banks → IsSound image stimulus banks until state
+        → IsForemost image until state p port
+        → IsStep image stimulus banks until p port state answer new
+        → (event : Event) × (answer ≡ Moved event) }
 {}
 
 /// A law: before the first event as many events are left as a run has, and each step that moves
