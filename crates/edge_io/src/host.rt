@@ -97,18 +97,10 @@ pub struct HostSink<W: Write + Drop> {
     counts: SinkCounts,
 }
 
-impl<W: Write + Drop> Model for HostSink<W> {
-    ghost use Rattle.edge_io.specs.declared.counts.SinkCounts.{SinkCounts};
-
-    ghost Value = { SinkCounts };
-
-    ghost view = { λ s. s.counts };
-}
-
 impl<W: Write + Drop> HostSink<W> {
     /// A sink that writes to `writer`. It takes no memory.
     pub fn new(writer: W) -> HostSink<W>
-        ensures { result ≡ no_writes }
+        ensures { result ≡ record { writer = writer; counts = no_writes } }
     {
         HostSink {
             writer,
@@ -120,14 +112,15 @@ impl<W: Write + Drop> HostSink<W> {
 impl<W: Write + Drop> Sink for HostSink<W> {
     ghost taken = { λ _. None };
 
-    ghost faults = { λ s. s.faults };
+    ghost faults = { λ s. s.counts.faults };
 
-    ghost writes = { λ s. s.writes };
+    ghost writes = { λ s. s.counts.writes };
 
     fn write(&mut self, piece: &[u8]) -> Result<usize, Failed>
         ensures bound { IfOk result (λ n. n ≤ length piece.now) }
         ensures progress { IfOk result (λ n. 0 < length piece.now → 0 < n) }
-        ensures after { self.new ≡ after_write self.old (is_err result) }
+        ensures bytes { IfOk result (λ n. Appends (W.contents self.old.writer) (W.contents self.new.writer) (take n piece.now)) }
+        ensures after { self.new.counts ≡ after_write self.old.counts (is_err result) }
     {
         match write_through(&mut self.writer, piece) {
             Ok(n) if n > 0 || piece.is_empty() => {

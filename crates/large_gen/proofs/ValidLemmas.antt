@@ -20,7 +20,7 @@ use Rattle.net_defs.specs.declared.netlist.Block.{Block}
 use Rattle.net_defs.specs.declared.stimulus.StimRow.{StimRow}
 use Rattle.net_defs.specs.declared.stimulus.Stimulus.{Stimulus}
 use Rattle.net_defs.specs.declared.timing.Timing.{Timing}
-use Rattle.net_defs.specs.Loops.{IsLoop, waits_for, gate_operands}
+use Rattle.net_defs.specs.Loops.{IsCircle, waits_for, gate_operands}
 use Rattle.net_defs.specs.Steps.{is_late}
 use Rattle.net_defs.specs.Time.{cycle_count}
 use Rattle.net_defs.specs.Valid.{IsValid, IsValidStimulus, IsSignal, IsDrivable, is_input, operand_count}
@@ -302,12 +302,21 @@ waits_earlier gates timing s o among = elim (slice_get_cases (large_signals gate
     | inr gate ↦ (let place = gate.1 in let low = all_at (8 + gate.0) _ (gate_earlier (gate_state gate.0) gate.0) (rw gate.3 at operand) in omega (arith, low, place))
   ]
 
-pub no_loop_large : (gates : ℕ) (timing : Timing) (members : List ℕ) → IsLoop (large_netlist gates) timing members → ⊥
-no_loop_large gates timing members loop =
-    let some = loop.some in
-    let low = waits_earlier gates timing (get_or members 0 0) (get_or members (length members - 1) 0) loop.closed in
-    let least = loop.least (length members - 1) 0 (omega (arith, some)) in
-    omega (arith, low, least)
+-- a gate waits for gates before it alone, so no gates wait in a circle
+pub no_circle_large : (gates : ℕ) (timing : Timing) (members : List ℕ) → IsCircle (large_netlist gates) timing members → ⊥
+no_circle_large gates timing members circle =
+    let some = circle.some in
+    let low = waits_earlier gates timing (get_or members 0 0) (get_or members (length members - 1) 0) circle.closed in
+    let risen = rises (length members - 1) (omega (arith, some)) in
+    omega (arith, low, risen)
+  where
+    rises : (k : ℕ) → k < length members → get_or members 0 0 ≤ get_or members k 0
+    rises zero within = omega arith
+    rises (suc k) within =
+        let waits = subst (λ n. Contains (waits_for (large_netlist gates) timing (get_or members n 0)) (get_or members k 0)) (omega arith) (circle.next k (omega (arith, within))) in
+        let low = waits_earlier gates timing (get_or members (suc k) 0) (get_or members k 0) waits in
+        let risen = rises k (omega (arith, within)) in
+        omega (arith, low, risen)
 
 -- ---- the stimulus
 

@@ -4,7 +4,7 @@ ghost use Rattle.std.specs.Prelude.{◌≡◌, ◌≤◌, ◌++◌, ℕ, List as
 ghost use Rattle.limits.specs.declared.TheConstants.{MAX_LARGE_GATES};
 ghost use Rattle.std.specs.List.{range_with_len};
 ghost use Rattle.net_defs.specs.declared.timing.Timing.{Timing};
-ghost use Rattle.net_defs.specs.Loops.{IsLoop};
+ghost use Rattle.net_defs.specs.Loops.{IsCircle};
 ghost use Rattle.net_defs.specs.Valid.{IsValid, operand_count};
 ghost use Rattle.large_gen.specs.Draws.{IsState};
 ghost use Rattle.large_gen.specs.Large.{input_signal, gate_signal, gate_state, large_printed, large_netlist};
@@ -38,7 +38,7 @@ pub fn large_net(alloc: Global, gates: u32) -> Result<Generated, Memory>
     ensures state { IfOk result (λ made. made.state ≡ gate_state gates) }
     ensures valid { IfOk result (λ made. IsValid made.net) }
     ensures narrow { IfOk result (λ made. All (λ signal. operand_count signal.driver ≤ 4) made.net.signals) }
-    ensures no_loop { IfOk result (λ made. (timing : Timing) (members : Items ℕ) → IsLoop made.net timing members → ⊥) }
+    ensures no_loop { IfOk result (λ made. (timing : Timing) (members : Items ℕ) → IsCircle made.net timing members → ⊥) }
     ensures state_valid { IfOk result (λ made. IsState made.state) }
 {
     let mut draws = Draws { state: 1 };

@@ -42,17 +42,21 @@ waits_for net timing s = of_signal (slice_get net.signals s) where
   of_signal None = []
   of_signal (Some signal) = if is_late net timing s then [] else gate_operands signal.driver
 
--- a loop: different gates, at least one, each an operand of the next and the last one of the first,
--- begun at the member that stands first in signal order
-pub record IsLoop (net : Netlist) (timing : Timing) (loop : List ℕ) : Type 0 where
-  pub some : 1 ≤ length loop
-  pub different : AllPairs (λ s t. s ≢ t) loop
-  pub gates : All (IsGate net) loop
+-- gates that wait in a circle: different gates, at least one, each an operand of the next and the last
+-- one of the first
+pub record IsCircle (net : Netlist) (timing : Timing) (circle : List ℕ) : Type 0 where
+  pub some : 1 ≤ length circle
+  pub different : AllPairs (λ s t. s ≢ t) circle
+  pub gates : All (IsGate net) circle
   pub next :
-      (i : ℕ) → i + 1 < length loop
-      → Contains (waits_for net timing (slice_index loop (i + 1))) (slice_index loop i)
+      (i : ℕ) → i + 1 < length circle
+      → Contains (waits_for net timing (slice_index circle (i + 1))) (slice_index circle i)
   pub closed :
-      Contains (waits_for net timing (slice_index loop 0)) (slice_index loop (length loop - 1))
+      Contains (waits_for net timing (slice_index circle 0)) (slice_index circle (length circle - 1))
+
+-- a loop as it is named: a circle begun at the member that stands first in signal order
+pub record IsLoop (net : Netlist) (timing : Timing) (loop : List ℕ) : Type 0 where
+  pub circle : IsCircle net timing loop
   pub least : All (λ s. slice_index loop 0 ≤ s) loop
 
 -- an order: each gate once, after all the gates that it waits for

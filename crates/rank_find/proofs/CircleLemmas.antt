@@ -9,7 +9,7 @@ use Rattle.net_defs.specs.declared.timing.Timing.{Timing}
 use Rattle.net_defs.specs.Loops.{IsGate, waits_for, IsLoop}
 use Rattle.rank_find.specs.declared.walk.Mark.{Mark}
 use Rattle.rank_find.specs.Walk.{IsWalk}
-use Rattle.rank_find.specs.Circle.{place_of_member, IsCircle, IsLeastPlace}
+use Rattle.rank_find.specs.Circle.{place_of_member, IsCircleOn, IsLeastPlace}
 use Rattle.list_laws.proofs.Differ.{differ_at}
 use Rattle.rank_find.proofs.WalkLemmas.{marked_gate}
 
@@ -20,7 +20,7 @@ place_cases from least to i = elim (leb_tells (from + i) least) [
 ]
 
 module _ (net : Netlist) (timing : Timing) (marks : List Mark) (path order : List ℕ) (from least : ℕ) (loop : List ℕ)
-    (walk : IsWalk net timing marks path order) (low : IsLeastPlace path from least) (circle : IsCircle path from least loop)
+    (walk : IsWalk net timing marks path order) (low : IsLeastPlace path from least) (circle : IsCircleOn path from least loop)
     (back : Contains (waits_for net timing (get_or path (length path - 1) 0)) (get_or path from 0)) where
   place : ℕ → ℕ
   place i = place_of_member from least (length path) i
@@ -94,6 +94,7 @@ module _ (net : Netlist) (timing : Timing) (marks : List Mark) (path order : Lis
   -- the members of the circle are a loop
   pub circle-loop : IsLoop net timing loop
   circle-loop = record {
+    circle = record {
     some = omega (arith, some_member);
     different = λ i j d before within same.
         let i_within : i < length loop = omega arith in
@@ -112,6 +113,7 @@ module _ (net : Netlist) (timing : Timing) (marks : List Mark) (path order : Lis
         let at = place_within (length loop - 1) last_within in
         let waits = waits_from _ _ last_place at.1 in
         rw (circle.places (length loop - 1) last_within, circle.places 0 some_member) waits;
+    };
     least = λ k d within.
         let at = place_within k within in
         let below = low.below _ at.0 at.1 in

@@ -10,7 +10,7 @@ use Rattle.net_defs.specs.Loops.{IsGate, waits_for, IsOrder, OrderOrLoop}
 use Rattle.rank_find.specs.declared.walk.Mark.{Mark}
 use Rattle.rank_find.specs.declared.walk.Mark.TheVariants.{Fresh, Open, Done}
 use Rattle.rank_find.specs.Walk.{mark_at, first_mark, work_left, IsWalk}
-use Rattle.rank_find.specs.Circle.{place_of_member, IsCircle, IsLeastPlace}
+use Rattle.rank_find.specs.Circle.{place_of_member, IsCircleOn, IsLeastPlace}
 use Rattle.list_laws.proofs.Places.{place_of, read_last}
 use Rattle.rank_find.proofs.WalkLemmas.{enter, enter-nearer, finish, finish-nearer}
 use Rattle.rank_find.proofs.CircleLemmas.{circle-loop}
@@ -88,7 +88,7 @@ least_place path from within =
       },
     )
 
-circle_of : (path : List ℕ) (from least : ℕ) → (loop : List ℕ) × IsCircle path from least loop
+circle_of : (path : List ℕ) (from least : ℕ) → (loop : List ℕ) × IsCircleOn path from least loop
 circle_of path from least = (
   map (λ i. get_or path (place_of_member from least (length path) i) 0) (range_with_len 0 (length path - from)),
   record {

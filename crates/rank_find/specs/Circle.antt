@@ -8,7 +8,7 @@ abbrev pub place_of_member : ℕ → ℕ → ℕ → ℕ → ℕ
 place_of_member from least to i = if nat_le (from + i) least then least - i else to + least - from - i
 
 -- the loop has the members of the path from a place on
-pub record IsCircle (path : List ℕ) (from least : ℕ) (loop : List ℕ) : Type 0 where
+pub record IsCircleOn (path : List ℕ) (from least : ℕ) (loop : List ℕ) : Type 0 where
   pub members : length loop ≡ length path - from
   pub places : (i : ℕ) → i < length loop → slice_index loop i ≡ slice_index path (place_of_member from least (length path) i)
 
@@ -25,4 +25,4 @@ pub record IsCircleAt (path : List ℕ) (gate : ℕ) (loop : List ℕ) : Type 0 
   pub within : from < length path
   pub begins : slice_index path from ≡ gate
   pub low : IsLeastPlace path from least
-  pub circle : IsCircle path from least loop
+  pub circle : IsCircleOn path from least loop

@@ -1,7 +1,7 @@
 //! The loop at the end of a path.
 
 ghost use Rattle.std.specs.Prelude.{◌≡◌, ◌+◌, ◌^◌, ◌<◌, ◌≤◌, length, slice_index, Contains, IfOk};
-ghost use Rattle.rank_find.specs.Circle.{place_of_member, IsCircle, IsCircleAt, IsLeastPlace};
+ghost use Rattle.rank_find.specs.Circle.{place_of_member, IsCircleOn, IsCircleAt, IsLeastPlace};
 
 use seen_list::{List, Memory};
 use std::alloc::Global;
@@ -44,7 +44,7 @@ fn least_place(path: &[u32], from: usize) -> usize
 
 fn circle(alloc: Global, path: &[u32], from: usize, least: usize) -> Result<List<u32>, Memory>
     requires { IsLeastPlace path.now from least }
-    ensures { IfOk result (IsCircle path.now from least) }
+    ensures { IfOk result (IsCircleOn path.now from least) }
 {
     let mut members = List::new(alloc);
     for member in 0..path.len() - from {

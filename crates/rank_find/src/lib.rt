@@ -7,7 +7,7 @@ ghost use Rattle.net_defs.specs.declared.netlist.Netlist.{Netlist};
 ghost use Rattle.net_defs.specs.declared.timing.Timing.{Timing};
 ghost use Rattle.net_defs.specs.declared.timing.Mode.TheVariants as mode;
 ghost use Rattle.net_defs.specs.Valid.{IsValidTiming};
-ghost use Rattle.net_defs.specs.Loops.{IsOrder, IsLoop, AreRanks, OrderOrLoop};
+ghost use Rattle.net_defs.specs.Loops.{IsOrder, IsCircle, IsLoop, AreRanks, OrderOrLoop};
 ghost use Rattle.rank_find.specs.Refusal.{IfLoop};
 ghost use Rattle.rank_find.specs.Found.{IsFound};
 
@@ -42,7 +42,7 @@ pub fn rank(alloc: Global, net: &Netlist, timing: &Timing) -> Result<Ranks, Rank
     ensures ranks { IfOk result (AreRanks net.now timing.now) }
 
     // A loop is answered exactly where there is one; in unit delay there is none.
-    ensures acyclic { OnOk result ((members : Items ℕ) → IsLoop net.now timing.now members → ⊥) }
+    ensures acyclic { OnOk result ((members : Items ℕ) → IsCircle net.now timing.now members → ⊥) }
     ensures looped { IfErr result (λ no. IfLoop no (IsLoop net.now timing.now)) }
     ensures not_in_unit_delay { IfErr result (λ no. IfLoop no (λ _. timing.now.mode ≢ mode.Unit)) }
 {
@@ -60,7 +60,7 @@ pub fn order(alloc: Global, net: &Netlist, timing: &Timing) -> Result<List<u32>,
     ensures few { IfOk result (λ order. length order ≤ length net.now.signals) }
 
     // A loop is answered exactly where there is one; in unit delay there is none.
-    ensures acyclic { OnOk result ((members : Items ℕ) → IsLoop net.now timing.now members → ⊥) }
+    ensures acyclic { OnOk result ((members : Items ℕ) → IsCircle net.now timing.now members → ⊥) }
     ensures looped { IfErr result (λ no. IfLoop no (IsLoop net.now timing.now)) }
     ensures not_in_unit_delay { IfErr result (λ no. IfLoop no (λ _. timing.now.mode ≢ mode.Unit)) }
 {
@@ -108,5 +108,5 @@ fn ranked(alloc: Global, net: &Netlist, timing: &Timing, order: List<u32>) -> Re
 pub fn order_or_loop()
     ensures one { (net : Netlist) (timing : Timing) → OrderOrLoop net timing }
     ensures never_both { (net : Netlist) (timing : Timing) (order members : Items ℕ)
-        → IsOrder net timing order → IsLoop net timing members → ⊥ }
+        → IsOrder net timing order → IsCircle net timing members → ⊥ }
 {}

@@ -6,4 +6,4 @@ pub returns-clause-one : goal.returns-clause-one
 returns-clause-one c net timing = order_or_loop net timing
 
 pub returns-clause-never_both : goal.returns-clause-never_both
-returns-clause-never_both c net timing order members is_order is_loop = acyclic net timing order is_order members is_loop
+returns-clause-never_both c net timing order members is_order circle = acyclic net timing order is_order members circle

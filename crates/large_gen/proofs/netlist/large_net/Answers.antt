@@ -2,11 +2,11 @@ use Rattle.std.proofs.Common.{◌≤◌, ◌∙◌, sym, subst}
 use Rattle.std.specs.List.{All}
 use Rattle.net_defs.specs.declared.netlist.Netlist.{Netlist}
 use Rattle.net_defs.specs.declared.netlist.Signal.{Signal}
-use Rattle.net_defs.specs.Loops.{IsLoop}
+use Rattle.net_defs.specs.Loops.{IsCircle}
 use Rattle.net_defs.specs.Valid.{IsValid, operand_count}
 use Rattle.large_gen.specs.Draws.{IsState}
 use Rattle.large_gen.proofs.DrawLemmas.{signals_are, gate_state_is}
-use Rattle.large_gen.proofs.ValidLemmas.{net_is, valid_large, large_counts, no_loop_large}
+use Rattle.large_gen.proofs.ValidLemmas.{net_is, valid_large, large_counts, no_circle_large}
 use Rattle.large_gen.proofs.netlist.large_net.Goals as goal
 
 pub returns-clause-net : goal.returns-clause-net
@@ -21,7 +21,7 @@ pub returns-clause-narrow : goal.returns-clause-narrow
 returns-clause-narrow c = subst (λ (net : Netlist). All (λ (signal : Signal). operand_count signal.driver ≤ 4) net.signals) (sym (returns-clause-net c)) (large_counts c.args.gates c.requires)
 
 pub returns-clause-no_loop : goal.returns-clause-no_loop
-returns-clause-no_loop c = λ timing members. subst (λ (net : Netlist). IsLoop net timing members → ⊥) (sym (returns-clause-net c)) (no_loop_large c.args.gates timing members)
+returns-clause-no_loop c = λ timing members. subst (λ (net : Netlist). IsCircle net timing members → ⊥) (sym (returns-clause-net c)) (no_circle_large c.args.gates timing members)
 
 pub returns-clause-state_valid : goal.returns-clause-state_valid
 returns-clause-state_valid c = subst IsState (sym (c.reached.ensures ∙ c.in_ok-push_gates.ensures.state)) (gate_state_is c.args.gates)
