@@ -1,6 +1,6 @@
 //! The files and the writers of the host.
 
-ghost use Rattle.std.specs.Prelude.{◌≡◌, ◌<◌, ◌≤◌, None, false, IfOk, MatchResult, is_err, length, take};
+ghost use Rattle.std.specs.Prelude.{◌≡◌, ◌↔◌, ◌<◌, ◌≤◌, None, false, IfOk, IfSome, IsErr, IsTrue, MatchResult, is_err, is_none, length, take};
 ghost use Rattle.std.specs.Io.KnownBytes.{Appends, ReadConsumes};
 ghost use Rattle.edge_io.specs.FileCounts.{no_calls, after_start, after_read, after_failed_read};
 ghost use Rattle.edge_io.specs.SinkCounts.{no_writes, after_write};
@@ -25,18 +25,11 @@ pub struct HostFiles<'a, R: rt::Files> {
     counts: FileCounts,
 }
 
-impl<'a, R: rt::Files> Model for HostFiles<'a, R> {
-    ghost use Rattle.edge_io.specs.declared.counts.FileCounts.{FileCounts};
-
-    ghost Value = { FileCounts };
-
-    ghost view = { λ s. s.counts };
-}
-
 impl<'a, R: rt::Files> HostFiles<'a, R> {
     /// The files that this runtime reaches. It takes no memory.
     pub fn new(rt: &'a R) -> HostFiles<'a, R>
-        ensures { result ≡ no_calls }
+        ensures none_begun { result.file ≡ None }
+        ensures counts { result.counts ≡ no_calls }
     {
         HostFiles {
             rt,
@@ -54,10 +47,11 @@ impl<'a, R: rt::Files> Files for HostFiles<'a, R> {
     ghost left = { λ _. None };
 
     // it tells no names, so none is absent
-    ghost counts = { λ s. record s { absent_starts = 0 } };
+    ghost counts = { λ s. record s.counts { absent_starts = 0 } };
 
     fn start(&mut self, name: &[u8]) -> Result<(), Failed>
-        ensures { self.new ≡ after_start self.old false (is_err result) }
+        ensures begun { IsTrue (is_none self.new.file) ↔ IsErr result }
+        ensures counts { self.new.counts ≡ after_start self.old.counts false (is_err result) }
     {
         self.file = open(self.rt, name);
         let failed = self.file.is_none();
@@ -67,8 +61,10 @@ impl<'a, R: rt::Files> Files for HostFiles<'a, R> {
 
     fn read(&mut self, buf: &mut [u8]) -> Result<usize, Failed>
         ensures bound { IfOk result (λ n. n ≤ length buf.new) }
+        ensures given { IfSome self.old.file (λ old. IfSome self.new.file (λ new.
+            IfOk result (λ n. ReadConsumes (R.File.remaining old) (R.File.remaining new) result buf.new))) }
         ensures after { MatchResult result
-            (λ n. self.new ≡ after_read self.old n) (λ _. self.new ≡ after_failed_read self.old) }
+            (λ n. self.new.counts ≡ after_read self.old.counts n) (λ _. self.new.counts ≡ after_failed_read self.old.counts) }
     {
         let got = match &mut self.file {
             Some(file) => read_through(file, buf),
