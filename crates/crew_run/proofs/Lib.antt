@@ -2,4 +2,5 @@ pub mod Places
 pub mod StepLemmas
 pub mod PhaseLemmas
 pub mod CrewLemmas
+pub mod SoloLemmas
 pub mod LendLemmas

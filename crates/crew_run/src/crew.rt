@@ -7,12 +7,24 @@ ghost use Rattle.crew_run.specs.Phases.{AreDone, CanResume, Each, HasBegun, IsRe
 
 use crate::gate::Gate;
 use crate::phase::{begin, resume};
+use crate::pulse::Pulse;
+use crate::solo::run_solo;
 use crate::stepper::Stepper;
 use crate::worker::Worker;
 use std::marker::{Send, Sync};
 use std::sync::Wait;
 use std::thread;
 use std::thread::Threads;
+
+/// The steps of the first phase in the calling thread, for each worker.
+const SOLO_STEPS: u64 = 250_000;
+
+/// The most steps of such a phase to which they grow.
+const MOST_SOLO_STEPS: u64 = 64_000_000;
+
+/// How many times the steps of the phase in the calling thread before it a phase in threads has to make, if
+/// the next such phase is to be as short as the first.
+const GOOD_GAIN: u64 = 4;
 
 /// Whether the worker's members are all done.
 fn is_done<S: Stepper, G>(worker: &Worker<S, G>) -> bool
@@ -51,29 +63,66 @@ fn begin_all<R: Threads + Wait + Sync, S: Stepper + Send, G: Gate + Send>(
     requires can { (i : ℕ) (w : Worker S G) → slice_get workers.old i ≡ Some w → CanRun S.Stepper.own G.Gate.own w }
     ensures { Each (HasBegun S.Stepper.own G.Gate.own) workers.old workers.new }
 {
+    let pulse = Pulse::new();
     let threads = workers.len();
     let work = |_: usize, worker: &mut Worker<S, G>|
         requires { CanRun S.Stepper.own G.Gate.own worker.now }
         ensures { HasBegun S.Stepper.own G.Gate.own worker.entry.now worker.exit.now }
-    { begin(rt, worker) };
+    { begin(rt, &pulse, worker) };
     thread::for_each_mut(rt, workers, threads, &work);
 }
 
-/// A later phase of all workers.
+/// A later phase of all workers in threads. It answers how many steps moved a member.
 fn resume_all<R: Threads + Wait + Sync, S: Stepper + Send, G: Gate + Send>(
     rt: &R,
     workers: &mut [Worker<S, G>],
-)
+) -> u64
     requires some { 0 < length workers.old }
     requires can { (i : ℕ) (w : Worker S G) → slice_get workers.old i ≡ Some w → CanResume S.Stepper.own G.Gate.own w }
     ensures { Each (IsResumed S.Stepper.own G.Gate.own) workers.old workers.new }
 {
+    let pulse = Pulse::new();
     let threads = workers.len();
     let work = |_: usize, worker: &mut Worker<S, G>|
         requires { CanResume S.Stepper.own G.Gate.own worker.now }
         ensures { IsResumed S.Stepper.own G.Gate.own worker.entry.now worker.exit.now }
-    { resume(rt, worker) };
+    { resume(rt, &pulse, worker) };
     thread::for_each_mut(rt, workers, threads, &work);
+    pulse.steps()
+}
+
+/// The steps of the first phase in the calling thread, by the number of workers.
+fn first_solo(workers: usize) -> u64 {
+    SOLO_STEPS.saturating_mul(workers as u64)
+}
+
+/// The steps of the next phase in the calling thread: twice those of the last one, and as many as at first
+/// where the threads since then made many times as many.
+fn next_solo(workers: usize, steps: u64, in_threads: u64) -> u64 {
+    if in_threads > steps.saturating_mul(GOOD_GAIN) {
+        return first_solo(workers);
+    }
+    steps.saturating_mul(2).min(MOST_SOLO_STEPS)
+}
+
+/// Goes on after a phase in threads that no worker could go on with: a phase of so many steps in the calling
+/// thread and, where not all is done by then, another one in threads. It answers the steps of the next phase in the
+/// calling thread.
+fn go_on<R: Threads + Wait + Sync, S: Stepper + Send, G: Gate + Send>(
+    rt: &R,
+    workers: &mut [Worker<S, G>],
+    steps: u64,
+) -> u64
+    requires some { 0 < length workers.old }
+    requires can { (i : ℕ) (w : Worker S G) → slice_get workers.old i ≡ Some w → CanResume S.Stepper.own G.Gate.own w }
+    ensures { Each (IsResumed S.Stepper.own G.Gate.own) workers.old workers.new }
+{
+    run_solo(workers, steps);
+    if all_done(workers) {
+        return steps;
+    }
+    let in_threads = resume_all(rt, workers);
+    next_solo(workers.len(), steps, in_threads)
 }
 
 /// Runs workers, phase after phase, until all their members are done.
@@ -87,12 +136,14 @@ fn run_phases<R: Threads + Wait + Sync, S: Stepper + Send, G: Gate + Send>(
     if workers.is_empty() {
         return;
     }
+    // in threads: two workers may have to meet at their first turns
     begin_all(rt, workers);
+    let mut steps = first_solo(workers.len());
     'phases: for _ in rt.forever() {
         if all_done(workers) {
             return;
         }
-        resume_all(rt, workers);
+        steps = go_on(rt, workers, steps);
     }
     unreachable!()
 }

@@ -29,6 +29,8 @@ mod crew;
 mod gate;
 mod lend;
 mod phase;
+mod pulse;
+mod solo;
 mod stepper;
 mod worker;
 

@@ -6,28 +6,39 @@ ghost use Rattle.crew_run.specs.Phases.{AreBegun, AreStepped, CanResume, CanStep
 ghost use Rattle.crew_run.specs.Visits.{IsUntold};
 
 use crate::gate::Gate;
+use crate::pulse::{Pulse, Watch};
 use crate::stepper::{Step, Stepper};
 use crate::worker::Worker;
-use crossbeam_utils::Backoff;
 use std::sync::Wait;
-use std::thread::yield_now;
-
-/// The rounds in a row without a move after which a worker leaves a phase.
-const IDLE_ROUNDS: u32 = 1000;
-
-/// The rounds in a row without a move after which a worker offers its processor to other threads. It needs
-/// to: where there are fewer processors than workers, the one that can move may be waiting for this one's.
-const SPIN_ROUNDS: u32 = 8;
 
 /// The most steps that a member makes in one round.
 const STEPS_A_ROUND: u32 = 64;
 
 /// What a round came to, or the steps of one member in it.
-#[derive(Clone, Copy, PartialEq, Eq)]
-enum Progress {
-    Moved,
-    Waits,
-    Done,
+#[derive(Clone, Copy)]
+pub struct Progress {
+    /// The steps by which a member moved.
+    pub moved: u64,
+    /// Each member was found done.
+    pub done: bool,
+}
+
+impl Progress {
+    /// That of no member.
+    pub fn none() -> Progress {
+        Progress {
+            moved: 0,
+            done: true,
+        }
+    }
+
+    /// That of the members of both.
+    pub fn and(self, other: Progress) -> Progress {
+        Progress {
+            moved: self.moved.saturating_add(other.moved),
+            done: self.done && other.done,
+        }
+    }
 }
 
 /// Tells the gate of the turn that the member is in, where it has one left.
@@ -73,77 +84,54 @@ fn step_once<S: Stepper, G: Gate>(member: &mut S, gate: &mut G) -> Step
 }
 
 /// Steps a member until it waits, is done, or has made its steps of this round.
-fn step_member<S: Stepper, G: Gate>(member: &mut S, gate: &mut G) -> Progress
+fn step_member<S: Stepper, G: Gate>(member: &mut S, gate: &mut G, pulse: &Pulse) -> Progress
     requires port { S.port member.old < 256 }
     requires within { S.turn member.old ≤ S.last_turn member.old + 1 }
     requires small { S.last_turn member.old ≤ 2 ^ 62 }
     requires room { HasRoomFor S.Stepper.own G.Gate.own member.old gate.old }
     ensures { IsStepped S.Stepper.own G.Gate.own member.old gate.old member.new gate.new }
 {
-    let mut progress = Progress::Waits;
-    'steps: for _ in 0..STEPS_A_ROUND {
+    let mut moved = 0;
+    'steps: for k in 0..STEPS_A_ROUND {
         match step_once(member, gate) {
-            Step::Moved => progress = Progress::Moved,
-            Step::NotYet => return progress,
-            Step::Done if progress == Progress::Moved => return progress,
-            Step::Done => return Progress::Done,
+            Step::Moved => moved = u64::from(k) + 1,
+            Step::NotYet => return Progress { moved, done: false },
+            Step::Done => return Progress { moved, done: true },
         }
+        pulse.answer();
     }
-    progress
+    Progress { moved, done: false }
 }
 
 /// Steps each member.
-fn run_round<S: Stepper, G: Gate>(members: &mut [S], gate: &mut G) -> Progress
+pub fn run_round<S: Stepper, G: Gate>(members: &mut [S], gate: &mut G, pulse: &Pulse) -> Progress
     requires { CanStep S.Stepper.own G.Gate.own members.old gate.old }
     ensures { AreStepped S.Stepper.own G.Gate.own members.old gate.old members.new gate.new }
 {
-    let mut progress = Progress::Done;
+    let mut progress = Progress::none();
     'members: for k in 0..members.len() {
-        match step_member(&mut members[k], gate) {
-            Progress::Moved => progress = Progress::Moved,
-            Progress::Waits if progress == Progress::Done => progress = Progress::Waits,
-            Progress::Waits | Progress::Done => (),
-        }
+        progress = progress.and(step_member(&mut members[k], gate, pulse));
     }
     progress
 }
 
-/// Waits for a moment after so many rounds in a row without a move.
-fn pause(backoff: &Backoff, idle: u32) {
-    backoff.spin();
-    if idle > SPIN_ROUNDS {
-        yield_now();
-    }
-}
-
-/// Steps the members round after round until all are done, or none has moved for a while.
-fn run_rounds<R: Wait, S: Stepper, G: Gate>(rt: &R, members: &mut [S], gate: &mut G)
+/// Steps the members round after round until all are done, or the phase is over for those that wait.
+fn run_rounds<R: Wait, S: Stepper, G: Gate>(rt: &R, members: &mut [S], gate: &mut G, pulse: &Pulse)
     requires { CanStep S.Stepper.own G.Gate.own members.old gate.old }
     ensures { AreStepped S.Stepper.own G.Gate.own members.old gate.old members.new gate.new }
 {
-    let backoff = Backoff::new();
-    let mut idle = 0;
+    let mut watch = Watch::new();
     'rounds: for _ in rt.forever() {
-        match run_round(members, gate) {
-            Progress::Moved => {
-                idle = 0;
-                backoff.reset();
-            }
-            Progress::Waits => {
-                idle += 1;
-                if idle >= IDLE_ROUNDS {
-                    return;
-                }
-                pause(&backoff, idle);
-            }
-            Progress::Done => return,
+        let progress = run_round(members, gate, pulse);
+        if watch.leaves(progress, pulse) {
+            return;
         }
     }
     unreachable!()
 }
 
 /// A worker's first phase.
-pub fn begin<R: Wait, S: Stepper, G: Gate>(rt: &R, worker: &mut Worker<S, G>)
+pub fn begin<R: Wait, S: Stepper, G: Gate>(rt: &R, pulse: &Pulse, worker: &mut Worker<S, G>)
     requires { CanRun S.Stepper.own G.Gate.own worker.old }
     ensures { HasBegun S.Stepper.own G.Gate.own worker.old worker.new }
 {
@@ -151,18 +139,18 @@ pub fn begin<R: Wait, S: Stepper, G: Gate>(rt: &R, worker: &mut Worker<S, G>)
         return;
     };
     tell_turns(worker.members.as_slice(), &mut gate);
-    run_rounds(rt, worker.members.as_mut_slice(), &mut gate);
+    run_rounds(rt, worker.members.as_mut_slice(), &mut gate, pulse);
     worker.gate = Some(gate);
 }
 
 /// A later phase of a worker.
-pub fn resume<R: Wait, S: Stepper, G: Gate>(rt: &R, worker: &mut Worker<S, G>)
+pub fn resume<R: Wait, S: Stepper, G: Gate>(rt: &R, pulse: &Pulse, worker: &mut Worker<S, G>)
     requires { CanResume S.Stepper.own G.Gate.own worker.old }
     ensures { IsResumed S.Stepper.own G.Gate.own worker.old worker.new }
 {
     let Some(mut gate) = worker.gate.take() else {
         return;
     };
-    run_rounds(rt, worker.members.as_mut_slice(), &mut gate);
+    run_rounds(rt, worker.members.as_mut_slice(), &mut gate, pulse);
     worker.gate = Some(gate);
 }

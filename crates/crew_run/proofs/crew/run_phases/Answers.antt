@@ -7,10 +7,10 @@ all_done-requires g c = λ i w at k a there. (all_can_resume g.S.Stepper g.G.Gat
 pub returns-then-all_done : goal.returns-then-all_done
 returns-then-all_done g c = all_have_run g.S.Stepper g.G.Gate _ _ c.requires c.phases.invariant c.if-all_done.ensures
 
-pub resume_all-requires-clause-can : goal.resume_all-requires-clause-can
-resume_all-requires-clause-can g c κs within = all_can_resume g.S.Stepper g.G.Gate _ _ c.requires c.phases.invariant
+pub go_on-steps-requires-clause-can : goal.go_on-steps-requires-clause-can
+go_on-steps-requires-clause-can g c κs within = all_can_resume g.S.Stepper g.G.Gate _ _ c.requires c.phases.invariant
 
 pub phases-preserved : goal.phases-preserved
 phases-preserved g c =
     let laws = g.met.S.Stepper g.world.𝓛 g.world.𝓜 g.world.𝓡 ((λ s x. x), (λ x. x), (λ x. x), λ x. x) in
-    all_begun_resumed g.S.Stepper g.G.Gate laws.transitive _ _ _ c.phases.invariant c.resume_all.ensures
+    all_begun_resumed g.S.Stepper g.G.Gate laws.transitive _ _ _ c.phases.invariant c.go_on-steps.ensures

@@ -1,6 +1,5 @@
 use Rattle.crew_run.specs.Phases.{AreStepped}
-use Rattle.std.specs.Prelude.{◌<◌}
 use Rattle.crew_run.proofs.phase.run_rounds.Given as goal
 
 abbrev pub invariant-rounds : goal.invariant-rounds
-invariant-rounds g l = (l.idle < 1000) × AreStepped g.S.Stepper g.G.Gate l.initial.members l.initial.gate l.members l.gate
+invariant-rounds g l = AreStepped g.S.Stepper g.G.Gate l.initial.members l.initial.gate l.members l.gate
