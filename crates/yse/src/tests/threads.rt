@@ -19,6 +19,9 @@ use std::thread::Threads;
 /// How often a hold tries at most.
 const TRIES: u32 = 50_000_000;
 
+/// A buffer whose input alone is printed.
+const BUFFER: &str = "INPUT(a)\nOUTPUT(a)\nz = BUFF(a)\n";
+
 const RUN_S27: &str = "run net.bench net.stim --init 0";
 
 const S27_ROWS: &str = "0000\n0001\n0000\n1000\n0001\n";
@@ -94,6 +97,8 @@ enum Watch {
     Pair,
     /// The first worker's holds the host's turn 3, until the second worker was told of a later turn.
     Hold,
+    /// The first worker's holds its first call until the second worker was told of a turn past the third.
+    Ahead,
 }
 
 /// Counts, and holds its worker in one call. It says whether a try of the hold found what it looked for.
@@ -124,7 +129,7 @@ impl Watch {
     fn marks(self, turn: u64) -> bool {
         match self {
             Watch::Pair => true,
-            Watch::Hold => turn > 3,
+            Watch::Hold | Watch::Ahead => turn > 3,
         }
     }
 
@@ -134,6 +139,7 @@ impl Watch {
         match self {
             Watch::Pair => !held,
             Watch::Hold => first && port == 2 && turn == 3,
+            Watch::Ahead => first && !held,
         }
     }
 }
@@ -205,12 +211,12 @@ struct Watched {
     second: (bool, bool),
 }
 
-/// The call of these words over a netlist, a stimulus and the machine of two logic processors, with these gates.
+/// The call of these words over a netlist, a stimulus and a machine, with these gates.
 fn end_with<'a, R: Threads + Wait + Sync>(
     rt: &R,
     alloc: Global,
     line: &str,
-    design: (&str, &str),
+    design: (&str, &str, &str),
     gates: &mut [Option<WatchGate<'a>>],
 ) -> Result<Ended, Memory>
     requires gates { MAX_WORKERS ≤ length gates.old }
@@ -221,7 +227,7 @@ fn end_with<'a, R: Threads + Wait + Sync>(
         alloc,
         design.0.as_bytes(),
         design.1.as_bytes(),
-        TWO_LOGIC.as_bytes(),
+        design.2.as_bytes(),
     )?;
     end_with_gates(rt, alloc, words.as_slice(), &mut files, 0, gates)
 }
@@ -231,7 +237,7 @@ fn run_watched<R: Threads + Wait + Sync>(
     alloc: Global,
     watch: Watch,
     line: &str,
-    design: (&str, &str),
+    design: (&str, &str, &str),
 ) -> Result<Watched, Memory> {
     let one = AtomicBool::new(false);
     let two = AtomicBool::new(false);
@@ -258,7 +264,13 @@ fn held(gate: Option<&Option<WatchGate<'_>>>) -> (bool, bool) {
 #[test]
 fn two_workers_meet(rt: HostRuntime) -> Result<(), Fail> {
     let line = "run net.bench net.stim --init 0 --workers 2";
-    let watched = run_watched(&rt, rt.alloc(), Watch::Pair, line, (S27, S27_ROWS))?;
+    let watched = run_watched(
+        &rt,
+        rt.alloc(),
+        Watch::Pair,
+        line,
+        (S27, S27_ROWS, TWO_LOGIC),
+    )?;
     assert_eq!(rt; watched.ended.out.taken(), S27_TRACE.as_bytes());
     assert_eq!(rt; watched.first, (true, true));
     assert_eq!(rt; watched.second, (true, true));
@@ -269,11 +281,34 @@ fn two_workers_meet(rt: HostRuntime) -> Result<(), Fail> {
 #[test]
 fn a_worker_waits_for_the_host(rt: HostRuntime) -> Result<(), Fail> {
     let line = "run net.bench net.stim --machine net.machine --workers 2";
-    let watched = run_watched(&rt, rt.alloc(), Watch::Hold, line, (C17, "11111 * 10\n"))?;
+    let watched = run_watched(
+        &rt,
+        rt.alloc(),
+        Watch::Hold,
+        line,
+        (C17, "11111 * 10\n", TWO_LOGIC),
+    )?;
     let rows = "cycle 22 23\n1 10\n2 10\n3 10\n4 10\n5 10\n6 10\n7 10\n8 10\n9 10\n10 10\n";
     assert_eq!(rt; watched.ended.status, 0);
     assert_eq!(rt; watched.ended.out.taken(), rows.as_bytes());
     assert_eq!(rt; watched.first, (true, false));
+    Ok(())
+}
+
+/// Whether the host, which takes no value of the buffer, is told of its fourth turn while the worker of the
+/// only logic processor is held before its first, with so many banks.
+fn runs_ahead<R: Threads + Wait + Sync>(rt: &R, alloc: Global, line: &str) -> Result<bool, Memory> {
+    let design = (BUFFER, "1 * 10\n", "logic 1\narray 0\n");
+    Ok(run_watched(rt, alloc, Watch::Ahead, line, design)?.first.1)
+}
+
+/// With eight banks a port runs ahead of its readers, with one it waits for them.
+#[test]
+fn banks_let_a_port_run_ahead(rt: HostRuntime) -> Result<(), Fail> {
+    let eight = "run net.bench net.stim --machine net.machine --workers 2 --banks 8";
+    assert!(rt; runs_ahead(&rt, rt.alloc(), eight)?);
+    let one = "run net.bench net.stim --machine net.machine --workers 2 --banks 1";
+    assert!(rt; !runs_ahead(&rt, rt.alloc(), one)?);
     Ok(())
 }
 
