@@ -18,10 +18,26 @@ const DEFAULTS: Machine = Machine {
     bits: 65_536,
 };
 
+const MOST_LOGIC: Machine = Machine {
+    logic: 254,
+    array: 1,
+    slots: 65_536,
+    functions: 4096,
+    bits: 65_536,
+};
+
+const MOST_ARRAY: Machine = Machine {
+    logic: 4,
+    array: 64,
+    slots: 65_536,
+    functions: 256,
+    bits: 16_777_216,
+};
+
 /// The texts that are refused, with their lines, and texts at the ends of the ranges.
 #[test]
 fn reads_texts(rt: HostRuntime) {
-    let texts: [(&str, Result<Machine, MachNo>); 11] = [
+    let texts: [(&str, Result<Machine, MachNo>); 17] = [
         ("", Ok(DEFAULTS)),
         ("logic 0\n", Err(MachNo::Range { line: 1 })),
         ("logic 254\narray 2\n", Err(MachNo::Ports { sum: 257 })),
@@ -34,6 +50,12 @@ fn reads_texts(rt: HostRuntime) {
             Err(MachNo::Range { line: 1 }),
         ),
         ("slots 65537\nwheels 4\n", Err(MachNo::Range { line: 1 })),
+        ("logic 255\narray 0\n", Err(MachNo::Range { line: 1 })),
+        ("array 65\n", Err(MachNo::Range { line: 1 })),
+        ("functions 4097\n", Err(MachNo::Range { line: 1 })),
+        ("bits 16777217\n", Err(MachNo::Range { line: 1 })),
+        ("logic 254\nfunctions 4096\n", Ok(MOST_LOGIC)),
+        ("array 64\nbits 16777216\n", Ok(MOST_ARRAY)),
         (
             "LOGIC 1 # \u{ff}\r\n\tArray\t000\r\nslots 1\nfunctions 01\nbits 1\r",
             Ok(SMALLEST),

@@ -10,4 +10,6 @@ mod of_edge_io;
 #[cfg(test)]
 mod of_large_gen;
 #[cfg(test)]
+mod of_limits;
+#[cfg(test)]
 mod of_slot_words;

@@ -45,7 +45,7 @@ const CASES: &[Case] = &[
         line: "",
     },
     Case {
-        machine: "logic 2\n",
+        machine: "logic 1\narray 0\n",
         netlist: C17,
         stimulus: ROWS,
         status: 0,
@@ -53,7 +53,15 @@ const CASES: &[Case] = &[
         line: "",
     },
     Case {
-        machine: "logic 4\n",
+        machine: "logic 2\narray 0\n",
+        netlist: C17,
+        stimulus: ROWS,
+        status: 0,
+        output: TRACE,
+        line: "",
+    },
+    Case {
+        machine: "logic 4\narray 0\n",
         netlist: C17,
         stimulus: ROWS,
         status: 0,
