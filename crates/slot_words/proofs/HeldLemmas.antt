@@ -63,7 +63,7 @@ bank_word image banks p i word turn b n word_is n_is place turn_is b_is =
 abbrev pub reseated : Inside → Seat (Unit {0}) View → ℕ → ℕ → Inside
 reseated a seat send receipt = record a { seat = seat; last_send = send; last_receipt = receipt }
 
-module _ (a : Inside) (seat : Seat (Unit {0}) View) (x : Place) (word number send receipt : ℕ) (view_is : seat.me.0 ≡ after_step a.seat.me.0 x word number) where
+module _ (a : Inside) (seat : Seat (Unit {0}) View) (stamp : ℕ) (x : Place) (word number send receipt : ℕ) (view_is : seat.me.0 ≡ after_step a.seat.me.0 stamp x word number) where
   -- one step, as contracts see it
   pub pass_stepped : seat.table_id ≡ a.seat.table_id → pass_of (reseated a seat send receipt) ≡ one_step (pass_of a) x word number
   pass_stepped table_is = ap₂ seen table_is view_is where
@@ -165,8 +165,8 @@ word_room b a has own held q i link send word word_is =
 module _ (a : Inside) (held : IsHeld a) (seat : Seat (Unit {0}) View) (sender slot word number send receipt : ℕ) (finds : FindsIn a.seat.me.0 sender slot word number seat.me.0) where
   pub held_found : IsHeld (reseated a seat send receipt)
   held_found = elim (cases_eq (stamp_of number) a.seat.me.0.place.turn) [
-    | inl now ↦ held_stepped a seat (after_take a.seat.me.0.place slot) word number send receipt (finds.takes now).0 held refl refl
-    | inr older ↦ held_stepped a seat a.seat.me.0.place word number send receipt (finds.waits older).0 held refl refl
+    | inl now ↦ held_stepped a seat finds.at (after_take a.seat.me.0.place slot) word number send receipt (finds.takes now).0 held refl refl
+    | inr older ↦ held_stepped a seat finds.at a.seat.me.0.place word number send receipt (finds.waits older).0 held refl refl
   ]
 
   -- as contracts see it
@@ -174,10 +174,10 @@ module _ (a : Inside) (held : IsHeld a) (seat : Seat (Unit {0}) View) (sender sl
     abbrev Gives : Taken → Type 0
     Gives taken = IsFound (pass_of a) sender slot at seat.me.0.last.number taken (pass_of (reseated a seat send receipt))
 
-    seen_as : (x : Place) → seat.me.0 ≡ after_step a.seat.me.0 x word number → (seat.me.0.last.number ≡ number) × (pass_of (reseated a seat send receipt) ≡ one_step (pass_of a) x at seat.me.0.last.number)
+    seen_as : (x : Place) → seat.me.0 ≡ after_step a.seat.me.0 finds.at x word number → (seat.me.0.last.number ≡ number) × (pass_of (reseated a seat send receipt) ≡ one_step (pass_of a) x at seat.me.0.last.number)
     seen_as x view_is =
         let last : seat.me.0.last.number ≡ number = ap (λ (v : View). v.last.number) view_is in
-        (last, pass_stepped a seat x word number send receipt view_is table_is ∙ ap₂ (λ w n. one_step (pass_of a) x w n) word_is (sym last))
+        (last, pass_stepped a seat finds.at x word number send receipt view_is table_is ∙ ap₂ (λ w n. one_step (pass_of a) x w n) word_is (sym last))
 
     gives_value : (v : V4) → number / 4 ≡ a.turn → v ≡ value_of (number % 4) → Gives (Value v)
     gives_value v stamp v_is =

@@ -1,6 +1,7 @@
 pub mod Example
 pub mod HeldLemmas
 pub mod LinkLemmas
+pub mod LookLemmas
 pub mod OwnLemmas
 pub mod SoundLemmas
 pub mod StepLemmas

@@ -15,6 +15,7 @@ use Rattle.event_defs.specs.Places.{start}
 use Rattle.event_defs.specs.Row.{send_count, word_in}
 use Rattle.event_defs.specs.Sound.{AreCoded, AreStamped}
 use Rattle.send_row.proofs.SourceLemmas.{before_few}
+use Rattle.slot_words.proofs.LookLemmas.{looks_first}
 use Rattle.slot_words.proofs.OwnLemmas.{owned_first}
 use Rattle.slot_words.specs.declared.crossbar.Crossbar.TheInside as bar
 use Rattle.slot_words.specs.declared.rule.TheConstants.{UNCLAIMED}
@@ -65,6 +66,7 @@ module _ (image : Image) (stimulus : Stimulus) (banks : ℕ) (runs : IsRunnable 
       stamps = subst (AreStamped image banks (λ p. start (length image.ports))) (sym none_sent) (starts_stamped image runs.image_fits banks);
     };
     coded = subst (AreCoded image stimulus banks) (sym none_sent) (starts_coded image runs.image_fits banks stimulus);
+    looks = looks_first image stimulus banks first_words;
   }
 
   pub opened_kept : (ports sent : ℕ) (words : List ℕ) → ports ≡ length image.ports → sent ≡ send_count image * banks → words ≡ replicate ports UNCLAIMED ++ replicate sent 0

@@ -39,9 +39,9 @@ module _ (image : Image) (stimulus : Stimulus) (banks : ℕ) where
     one_view id v w one other = some-injective v w (sym one ∙ other)
 
     -- a port's own step: Ask, Put, Take or Tell
-    pub owned_stepped : (now : List ℕ) (id p : ℕ) (v : View) (x : Place) (word number : ℕ) → get_elem? views id ≡ some v → v.port ≡ Some p → SameClaims words now
-        → AreOwned image stimulus banks now (set views id (after_step v x word number)) (updated place p x) owner
-    owned_stepped now id p v x word number at port_is claims = record {
+    pub owned_stepped : (now : List ℕ) (id p : ℕ) (v : View) (stamp : ℕ) (x : Place) (word number : ℕ) → get_elem? views id ≡ some v → v.port ≡ Some p → SameClaims words now
+        → AreOwned image stimulus banks now (set views id (after_step v stamp x word number)) (updated place p x) owner
+    owned_stepped now id p v stamp x word number at port_is claims = record {
       same = λ j u here. elim (at_set views id j w u here) [
         | inl t ↦ subst (λ (u : View). (u.image ≡ image) × (u.stimulus ≡ stimulus) × (u.banks ≡ banks)) t.1 (owned.same id v at)
         | inr t ↦ owned.same j u t.1
@@ -86,7 +86,7 @@ module _ (image : Image) (stimulus : Stimulus) (banks : ℕ) where
           updated_there place p q x away ∙ owned.fresh q inside was;
     } where
       w : View
-      w = after_step v x word number
+      w = after_step v stamp x word number
 
       m : IsPassOf image words place owner id p v
       m = owned.mine id p v at port_is

@@ -30,6 +30,13 @@ rule_sound key s kept = record {
   same = kept.owned.same;
   place = kept.place;
   places = λ id p v at port_is. let m = kept.owned.mine id p v at port_is in (m.inside, m.place_is);
+  unclaimed = λ p inside. (
+    (λ free id v at port_is. (kept.owned.mine id p v at port_is).claimed free),
+    (λ nobody. elim (cases_eq (progress_in s.words p) UNCLAIMED) [
+      | inl free ↦ free
+      | inr claimed ↦ let has = kept.owned.seen p inside claimed in absurd (nobody (kept.owner p) has.view has.at has.port_is)
+    ]),
+  );
   fresh = kept.owned.fresh;
   sound = record {
     finished = λ p inside. counts _ _ _ _ s.words s.views kept.place kept.owner kept.owned kept.timed p inside;

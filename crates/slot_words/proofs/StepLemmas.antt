@@ -31,15 +31,16 @@ use Rattle.event_defs.specs.Sound.{AreCoded, IsCoded}
 use Rattle.event_defs.specs.Steps.{stamp_of, updated, written}
 use Rattle.event_defs.specs.declared.place.Place.{Place}
 use Rattle.slot_words.proofs.LinkLemmas.{member_at}
+use Rattle.slot_words.proofs.LookLemmas.{looks_claimed, looks_split, looks_stepped, told_progress, told_sent}
 use Rattle.slot_words.proofs.OwnLemmas.{owned_claimed, owned_split, owned_stepped}
-use Rattle.slot_words.proofs.SoundLemmas.{counts}
-use Rattle.slot_words.proofs.TimeLemmas.{progress_kept, progress_set, sent_set, timed_ask, timed_claim, timed_put, timed_take, timed_tell}
+use Rattle.slot_words.proofs.SoundLemmas.{counts, told_some}
+use Rattle.slot_words.proofs.TimeLemmas.{progress_kept, progress_set, send_room, sent_set, timed_ask, timed_claim, timed_put, timed_take, timed_tell}
 use Rattle.slot_words.specs.declared.rule.Key.{Key}
 use Rattle.slot_words.specs.declared.rule.TheConstants.{UNCLAIMED}
 use Rattle.slot_words.specs.declared.rule.View.{View}
-use Rattle.slot_words.specs.Layout.{progress_in, send_word, sent_in, turns_told}
+use Rattle.slot_words.specs.Layout.{progress_in, send_word, sent_in, told_in, turns_told}
 use Rattle.slot_words.specs.Plays.{Claims, Ends, FindsIn, Learns, Reads, Seated, Writes, after_step, claimed_by}
-use Rattle.slot_words.specs.Rule.{AreTimed, IsKept, IsPassOf, Kept, turns_of}
+use Rattle.slot_words.specs.Rule.{AreTimed, IsKept, IsPassOf, Kept, steps_in, turns_of}
 
 -- a changed function is the same where the new value is the old one
 updated_same : {X : Type 0} (f : ℕ → X) (p : ℕ) → updated f p (f p) ≡ f
@@ -103,15 +104,16 @@ module _ (words : List ℕ) (views : List View) (id p : ℕ) (v : View) (kept : 
   begun = subst (λ (a : Place). 1 ≤ a.turn) (sym mine.place_is) (kept.timed.paced.places p port_there.0 port_there.1).begun
 
   -- the same words, and another place of the port
-  same_words : (x : Place) (word number : ℕ) → AreTimed image v.banks until words (updated kept.place p x) → IsKept image v.stimulus v.banks words (set views id (after_step v x word number))
-  same_words x word number timed = record {
+  same_words : (x : Place) (word number : ℕ) → told_in image words word ≡ number → AreTimed image v.banks until words (updated kept.place p x) → IsKept image v.stimulus v.banks words (set views id (after_step v (steps_in views + 1) x word number))
+  same_words x word number told timed = record {
     place = updated kept.place p x;
     owner = kept.owner;
     runs = kept.runs;
     long = kept.long;
-    owned = owned_stepped image v.stimulus v.banks words views kept.place kept.owner kept.owned words id p v x word number at port_is (λ q _. ((λ e. e), (λ e. e)));
+    owned = owned_stepped image v.stimulus v.banks words views kept.place kept.owner kept.owned words id p v (steps_in views + 1) x word number at port_is (λ q _. ((λ e. e), (λ e. e)));
     timed = timed;
     coded = kept.coded;
+    looks = looks_stepped image words words views id v x word number kept.looks at p port_is told;
   }
 
   -- Ask
@@ -122,11 +124,11 @@ module _ (words : List ℕ) (views : List View) (id p : ℕ) (v : View) (kept : 
       omega arith
 
   pub ask_kept : (r : ℕ) → r < length image.ports
-      → IsKept image v.stimulus v.banks words (set views id (after_step v (after_ask v.place r (turns_told (progress_in words r))) r (turns_told (progress_in words r))))
+      → IsKept image v.stimulus v.banks words (set views id (after_step v (steps_in views + 1) (after_ask v.place r (turns_told (progress_in words r))) r (turns_told (progress_in words r))))
   ask_kept r r_in =
       let x : ℕ = turns_told (progress_in words r) in
       let sees = counts image v.stimulus v.banks until words views kept.place kept.owner kept.owned kept.timed r r_in in
-      same_words (after_ask v.place r x) r x
+      same_words (after_ask v.place r x) r x (told_progress image words r r_in)
       (subst (λ (a : Place). AreTimed image v.banks until words (updated kept.place p (after_ask a r x))) (sym mine.place_is)
       (timed_ask image kept.runs.image_fits v.banks until words kept.place kept.timed p port_there.0 port_there.1 r x r_in (omega arith)))
 
@@ -134,19 +136,24 @@ module _ (words : List ℕ) (views : List View) (id p : ℕ) (v : View) (kept : 
   pub put_kept : (i x : ℕ) (link : LinkOut) → IsSend image p i link → is_in link.slot v.place.puts ≡ false → turn ≤ until
       → ((r : ℕ) → Stands link.readers r → turn ≤ known_of v.place r + v.banks) → x ≡ 4 * turn + code_of (image_value image v.stimulus turn p link.slot)
       → IsKept image v.stimulus v.banks (set words (send_word image v.banks p i (turn % v.banks)) x)
-      (set views id (after_step v (after_put v.place link.slot) (send_word image v.banks p i (turn % v.banks)) x))
+      (set views id (after_step v (steps_in views + 1) (after_put v.place link.slot) (send_word image v.banks p i (turn % v.banks)) x))
   put_kept i x link send missing early ready x_is = record {
     place = updated kept.place p (after_put v.place link.slot);
     owner = kept.owner;
     runs = kept.runs;
     long = length-set words (send_word image v.banks p i (turn % v.banks)) x ∙ kept.long;
-    owned = owned_stepped image v.stimulus v.banks words views kept.place kept.owner kept.owned (set words (send_word image v.banks p i (turn % v.banks)) x) id p v (after_put v.place link.slot) (send_word image v.banks p i (turn % v.banks)) x at port_is
+    owned = owned_stepped image v.stimulus v.banks words views kept.place kept.owner kept.owned (set words (send_word image v.banks p i (turn % v.banks)) x) id p v (steps_in views + 1) (after_put v.place link.slot) (send_word image v.banks p i (turn % v.banks)) x at port_is
         (λ q q_in. let e = progress_kept image v.banks words (word_place v.banks (send_number image p i) (turn % v.banks)) x q q_in in ((λ free. sym e ∙ free), (λ free. e ∙ free)));
     timed = timed;
     coded = subst (AreCoded image v.stimulus v.banks) (sym (sent_set image v.banks words p i (turn % v.banks) x link send (mod-lt turn kept.runs.some) kept.long))
         (subst (λ n. AreCoded image v.stimulus v.banks (written (sent_in image v.banks words) p i (turn % v.banks) n)) (sym x_is)
         (coded_put image kept.runs.image_fits v.banks v.stimulus (sent_in image v.banks words) p i (turn % v.banks) turn link kept.coded send begun));
+    looks = looks_stepped image words (set words (send_word image v.banks p i (turn % v.banks)) x) views id v (after_put v.place link.slot) (send_word image v.banks p i (turn % v.banks)) x kept.looks at p port_is
+        (told_sent image v.banks (set words (send_word image v.banks p i (turn % v.banks)) x) p i (turn % v.banks) ∙ get_or-set_same words (send_word image v.banks p i (turn % v.banks)) x 0 room);
   } where
+    room : send_word image v.banks p i (turn % v.banks) < length words
+    room = subst (λ n. send_word image v.banks p i (turn % v.banks) < n) (sym kept.long) (send_room image v.banks p i (turn % v.banks) link send (mod-lt turn kept.runs.some))
+
     stamp : stamp_of x ≡ turn
     stamp = ap stamp_of x_is ∙ stamp_in turn (image_value image v.stimulus turn p link.slot)
 
@@ -210,27 +217,29 @@ module _ (words : List ℕ) (views : List View) (id p : ℕ) (v : View) (kept : 
         coded_is (λ k. image_value image v.stimulus k link.sender sent.slot) found turn is_coded begun stamp
 
     pub take_kept : is_in link.slot v.place.takes ≡ false → turn ≤ until → stamp_of found ≡ turn
-        → IsKept image v.stimulus v.banks words (set views id (after_step v (after_take v.place link.slot) bank_word found))
-    take_kept missing early stamp = same_words (after_take v.place link.slot) bank_word found (subst Stays (sym mine.place_is)
+        → IsKept image v.stimulus v.banks words (set views id (after_step v (steps_in views + 1) (after_take v.place link.slot) bank_word found))
+    take_kept missing early stamp = same_words (after_take v.place link.slot) bank_word found (told_sent image v.banks words link.sender i (turn % v.banks)) (subst Stays (sym mine.place_is)
         (timed_take image kept.runs.image_fits v.banks until words kept.place kept.timed p port is j link at_link) missing early (put_there stamp)) where
           Stays : Place → Type 0
           Stays a = is_in link.slot a.takes ≡ false → a.turn ≤ until → a.turn ≤ latest (kept.place link.sender) link.slot → AreTimed image v.banks until words (updated kept.place p (after_take a link.slot))
 
-    pub wait_kept : IsKept image v.stimulus v.banks words (set views id (after_step v v.place bank_word found))
-    wait_kept = same_words v.place bank_word found
+    pub wait_kept : IsKept image v.stimulus v.banks words (set views id (after_step v (steps_in views + 1) v.place bank_word found))
+    wait_kept = same_words v.place bank_word found (told_sent image v.banks words link.sender i (turn % v.banks))
         (subst (λ (a : Place). AreTimed image v.banks until words (updated kept.place p a)) (sym mine.place_is) (subst (AreTimed image v.banks until words) (sym (updated_same kept.place p)) kept.timed))
 
   -- Tell
   pub tell_kept : ((port : PortImage) → IsPort image p port → EndsNext port v.place.puts v.place.takes) → turn ≤ until
-      → IsKept image v.stimulus v.banks (set words p turn) (set views id (after_step v (after_tell v.place) p turn))
+      → IsKept image v.stimulus v.banks (set words p turn) (set views id (after_step v (steps_in views + 1) (after_tell v.place) p turn))
   tell_kept next early = record {
     place = updated kept.place p (after_tell v.place);
     owner = kept.owner;
     runs = kept.runs;
     long = length-set words p turn ∙ kept.long;
-    owned = owned_stepped image v.stimulus v.banks words views kept.place kept.owner kept.owned (set words p turn) id p v (after_tell v.place) p turn at port_is claims;
+    owned = owned_stepped image v.stimulus v.banks words views kept.place kept.owner kept.owned (set words p turn) id p v (steps_in views + 1) (after_tell v.place) p turn at port_is claims;
     timed = subst Stays (sym mine.place_is) (timed_tell image kept.runs.image_fits v.banks until words kept.place kept.timed p port_there.0 port_there.1 room mine.claimed) (next port_there.0 port_there.1) early;
     coded = subst (AreCoded image v.stimulus v.banks) (sym (progress_set image v.banks words p turn mine.inside)) kept.coded;
+    looks = looks_stepped image words (set words p turn) views id v (after_tell v.place) p turn kept.looks at p port_is
+        (told_progress image (set words p turn) p mine.inside ∙ (ap turns_told (get_or-set_same words p turn 0 room) ∙ told_some turn few));
   } where
     Stays : Place → Type 0
     Stays a = EndsNext port_there.0 a.puts a.takes → a.turn ≤ until → AreTimed image v.banks until (set words p a.turn) (updated kept.place p (after_tell a))
@@ -261,6 +270,7 @@ module _ (words : List ℕ) (views : List View) (id : ℕ) (v : View) (kept : Is
     owned = owned_claimed v.image v.stimulus v.banks words views kept.place kept.owner kept.owned id p v at port_is inside room free;
     timed = timed_claim v.image kept.runs.image_fits v.banks (turns_of v.image v.stimulus) words kept.place kept.timed p inside room (kept.owned.fresh p inside free);
     coded = subst (AreCoded v.image v.stimulus v.banks) (sym (progress_set v.image v.banks words p 0 inside)) kept.coded;
+    looks = looks_claimed v.image words views id p v kept.looks at inside room free;
   } where
     room : p < length words
     room = let long = kept.long in omega arith
@@ -275,6 +285,7 @@ module _ (words : List ℕ) (views : List View) (id : ℕ) (v : View) (kept : Is
     owned = owned_split v.image v.stimulus v.banks words views kept.place kept.owner kept.owned id v at port_is;
     timed = kept.timed;
     coded = kept.coded;
+    looks = looks_split v.image words views id v kept.looks at port_is;
   })
 
 -- ---- readers
@@ -299,14 +310,14 @@ module _ (key : Key) (slots id : ℕ) (me : Seated) where
   ask_allowed p r port_is r_in s kept _ at _ =
       let v : View = me.0 in
       let x : ℕ = turns_told (get_or s.words r 0) in
-      let w : View = after_step v (after_ask v.place r x) r x in
+      let w : View = after_step v (steps_in s.views + 1) (after_ask v.place r x) r x in
       let here = kept_here key s.words s.views id v kept at in (
         w,
         keeps,
         tt,
         kept_there key s.words s.views id v kept at (set s.words r (get_or s.words r 0)) (set s.views id w)
             (loaded v.image v.stimulus v.banks s.words (set s.views id w) r (ask_kept s.words s.views id p v here at port_is r r_in)),
-        record { is = refl; more = told_more s.words s.views id p v here at port_is r r_in },
+        record { at = steps_in s.views + 1; is = refl; more = told_more s.words s.views id p v here at port_is r r_in },
       )
 
   pub put_allowed : (p i x : ℕ) (link : LinkOut) → me.0.port ≡ Some p → IsSend me.0.image p i link → is_in link.slot me.0.place.puts ≡ false → me.0.place.turn ≤ turns_of me.0.image me.0.stimulus
@@ -316,17 +327,18 @@ module _ (key : Key) (slots id : ℕ) (me : Seated) where
   put_allowed p i x link port_is send missing early ready x_is word word_is s kept _ at _ =
       let v : View = me.0 in
       let here = kept_here key s.words s.views id v kept at in
-      let at_word : ℕ → Type 0 = λ k. IsKept v.image v.stimulus v.banks (set s.words k x) (set s.views id (after_step v (after_put v.place link.slot) k x)) in (
-        after_step v (after_put v.place link.slot) word x,
+      let at_word : ℕ → Type 0 = λ k. IsKept v.image v.stimulus v.banks (set s.words k x) (set s.views id (after_step v (steps_in s.views + 1) (after_put v.place link.slot) k x)) in (
+        after_step v (steps_in s.views + 1) (after_put v.place link.slot) word x,
         keeps,
         tt,
-        kept_there key s.words s.views id v kept at (set s.words word x) (set s.views id (after_step v (after_put v.place link.slot) word x))
+        kept_there key s.words s.views id v kept at (set s.words word x) (set s.views id (after_step v (steps_in s.views + 1) (after_put v.place link.slot) word x))
             (subst at_word (sym word_is) (put_kept s.words s.views id p v here at port_is i x link send missing early ready x_is)),
         record {
+          at = steps_in s.views + 1;
           each = λ q k other q_is word_of.
               let bank = mod-lt v.place.turn here.runs.some in
               let twin = same_word v.image v.banks p i q k (v.place.turn % v.banks) (v.place.turn % v.banks) link other send word_of.send bank bank (sym word_is ∙ word_of.is) in
-              ap (λ (l : LinkOut). after_step v (after_put v.place l.slot) word x) twin.1;
+              ap (λ (l : LinkOut). after_step v (steps_in s.views + 1) (after_put v.place l.slot) word x) twin.1;
         },
       )
 
@@ -337,25 +349,27 @@ module _ (key : Key) (slots id : ℕ) (me : Seated) where
   take_allowed p port j i link sent port_is is at_link send same_slot missing early word word_is s kept _ at _ =
       subst Allowed (sym word_is) (elim (cases_eq (stamp_of (get_or s.words at_bank 0)) v.place.turn) [
         | inl now ↦
-            let w : View = after_step v (after_take v.place link.slot) at_bank (get_or s.words at_bank 0) in (
+            let w : View = after_step v (steps_in s.views + 1) (after_take v.place link.slot) at_bank (get_or s.words at_bank 0) in (
               w,
               keeps,
               tt,
               kept_there key s.words s.views id v kept at (set s.words at_bank (get_or s.words at_bank 0)) (set s.views id w)
                   (loaded v.image v.stimulus v.banks s.words (set s.views id w) at_bank (take_kept s.words s.views id p v here at port_is port is j link i sent at_link send same_slot missing early now)),
               tells w refl refl (record {
-                takes = λ _. (ap (λ t. after_step v (after_take v.place t) at_bank (get_or s.words at_bank 0)) (sym same_slot), take_value s.words s.views id p v here at port_is port is j link i sent at_link send same_slot now);
+                at = steps_in s.views + 1;
+                takes = λ _. (ap (λ t. after_step v (steps_in s.views + 1) (after_take v.place t) at_bank (get_or s.words at_bank 0)) (sym same_slot), take_value s.words s.views id p v here at port_is port is j link i sent at_link send same_slot now);
                 waits = λ other. absurd (other now);
               }),
             )
         | inr older ↦
-            let w : View = after_step v v.place at_bank (get_or s.words at_bank 0) in (
+            let w : View = after_step v (steps_in s.views + 1) v.place at_bank (get_or s.words at_bank 0) in (
               w,
               keeps,
               tt,
               kept_there key s.words s.views id v kept at (set s.words at_bank (get_or s.words at_bank 0)) (set s.views id w)
                   (loaded v.image v.stimulus v.banks s.words (set s.views id w) at_bank (wait_kept s.words s.views id p v here at port_is port is j link i sent at_link send same_slot)),
               tells w refl refl (record {
+                at = steps_in s.views + 1;
                 takes = λ now. absurd (older now);
                 waits = λ _. (refl, take_older s.words s.views id p v here at port_is port is j link i sent at_link send same_slot older);
               }),
@@ -391,13 +405,13 @@ module _ (key : Key) (slots id : ℕ) (me : Seated) where
   tell_allowed p x port_is x_is next early s kept _ at _ =
       let v : View = me.0 in
       let here = kept_here key s.words s.views id v kept at in
-      let at_turn : ℕ → Type 0 = λ x. IsKept v.image v.stimulus v.banks (set s.words p x) (set s.views id (after_step v (after_tell v.place) p x)) in (
-        after_step v (after_tell v.place) p x,
+      let at_turn : ℕ → Type 0 = λ x. IsKept v.image v.stimulus v.banks (set s.words p x) (set s.views id (after_step v (steps_in s.views + 1) (after_tell v.place) p x)) in (
+        after_step v (steps_in s.views + 1) (after_tell v.place) p x,
         keeps,
         tt,
-        kept_there key s.words s.views id v kept at (set s.words p x) (set s.views id (after_step v (after_tell v.place) p x))
+        kept_there key s.words s.views id v kept at (set s.words p x) (set s.views id (after_step v (steps_in s.views + 1) (after_tell v.place) p x))
             (subst at_turn (sym x_is) (tell_kept s.words s.views id p v here at port_is next early)),
-        record { is = refl },
+        record { at = steps_in s.views + 1; is = refl },
       )
 
   pub claim_allowed : (p : ℕ) → me.0.port ≡ None → p < length me.0.image.ports

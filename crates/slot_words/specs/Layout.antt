@@ -1,6 +1,6 @@
 -- Which word of a crossbar is whose: first the progress word of each port, then the words of all sends, port
 -- after port, send after send, bank after bank.
-use Rattle.std.specs.Prelude.{ℕ, ◌+◌, ◌*◌, ◌==◌, if◌then◌else◌, List, drop, length, slice_index_or}
+use Rattle.std.specs.Prelude.{ℕ, ◌+◌, ◌*◌, ◌==◌, if◌then◌else◌, List, drop, length, nat_lt, slice_index_or}
 use Rattle.image_defs.specs.declared.image.Image.{Image}
 use Rattle.event_defs.specs.Row.{send_count, send_number, word_in, word_place}
 use Rattle.slot_words.specs.declared.rule.TheConstants.{UNCLAIMED}
@@ -23,6 +23,10 @@ progress_in words p = slice_index_or words (progress_word p) 0
 -- the turns that a progress word tells to be finished: an unclaimed one tells of none
 abbrev pub turns_told : ℕ → ℕ
 turns_told number = if number == UNCLAIMED then 0 else number
+
+-- what a word tells who looks at it: a progress word the turns that are finished, and a word of a send its number
+abbrev pub told_in : Image → List ℕ → ℕ → ℕ
+told_in image words word = if nat_lt word (length image.ports) then turns_told (progress_in words word) else slice_index_or words word 0
 
 -- the number in the word of bank b of send number i of port p
 abbrev pub sent_in : Image → ℕ → List ℕ → ℕ → ℕ → ℕ → ℕ

@@ -14,9 +14,9 @@ use Rattle.slot_words.specs.declared.rule.View.{View}
 use Rattle.slot_words.specs.Layout.{send_word, turns_told}
 use Rattle.slot_words.specs.Rule.{Kept}
 
--- the view after one more step, which saw this number in this word
-abbrev pub after_step : View → Place → ℕ → ℕ → View
-after_step v place word number = record v { place = place; steps = v.steps + 1; last = record { word = word; number = number } }
+-- the view after one more step, which saw this number in this word, and with which all passes had made so many
+abbrev pub after_step : View → ℕ → Place → ℕ → ℕ → View
+after_step v at place word number = record v { place = place; steps = v.steps + 1; last = record { word = word; number = number }; at = at }
 
 -- the view of the pass of port p
 abbrev pub claimed_by : View → ℕ → View
@@ -36,7 +36,8 @@ pub record Claims (s : OneStep) (me : Seated) (found : ℕ) (new : Seated) : Typ
 
 -- it has learnt how many turns the reader has finished, which are no fewer than it knew
 pub record Learns (s : OneStep) (me : Seated) (found : ℕ) (new : Seated) : Type 0 where
-  pub is : new.0 ≡ after_step me.0 (after_ask me.0.place s.word (turns_told found)) s.word (turns_told found)
+  pub at : ℕ
+  pub is : new.0 ≡ after_step me.0 at (after_ask me.0.place s.word (turns_told found)) s.word (turns_told found)
   pub more : known_of me.0.place s.word ≤ turns_told found
 
 -- the word is this turn's of send number i of port p
@@ -46,15 +47,17 @@ pub record IsWordOf (v : View) (word p i : ℕ) (link : LinkOut) : Type 0 where
 
 -- it has put what it sends there
 pub record Writes (s : OneStep) (me : Seated) (stored : ℕ) (new : Seated) : Type 0 where
+  pub at : ℕ
   pub each : (p i : ℕ) (link : LinkOut) → me.0.port ≡ Some p → IsWordOf me.0 s.word p i link
-      → new.0 ≡ after_step me.0 (after_put me.0.place link.slot) s.word stored
+      → new.0 ≡ after_step me.0 at (after_put me.0.place link.slot) s.word stored
 
 -- a word of this turn is taken, and has the sender's value of this turn; else the word is of a turn before
 pub record FindsIn (old : View) (sender slot word found : ℕ) (new : View) : Type 0 where
+  pub at : ℕ
   pub takes : stamp_of found ≡ old.place.turn
-      → (new ≡ after_step old (after_take old.place slot) word found)
+      → (new ≡ after_step old at (after_take old.place slot) word found)
       × (found ≡ 4 * old.place.turn + code_of (image_value old.image old.stimulus old.place.turn sender slot))
-  pub waits : stamp_of found ≢ old.place.turn → (new ≡ after_step old old.place word found) × (stamp_of found < old.place.turn)
+  pub waits : stamp_of found ≢ old.place.turn → (new ≡ after_step old at old.place word found) × (stamp_of found < old.place.turn)
 
 -- it has read this number in this word
 pub record Reads (s : OneStep) (me : Seated) (found : ℕ) (new : Seated) : Type 0 where
@@ -64,7 +67,8 @@ pub record Reads (s : OneStep) (me : Seated) (found : ℕ) (new : Seated) : Type
 
 -- the next turn has begun
 pub record Ends (s : OneStep) (me : Seated) (stored : ℕ) (new : Seated) : Type 0 where
-  pub is : new.0 ≡ after_step me.0 (after_tell me.0.place) s.word stored
+  pub at : ℕ
+  pub is : new.0 ≡ after_step me.0 at (after_tell me.0.place) s.word stored
 
 -- ---- what the rule allows the seat with this number
 

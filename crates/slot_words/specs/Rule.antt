@@ -1,6 +1,8 @@
--- The rule: what holds of the words and of all passes between any two steps. It has three parts. The first says
--- which pass is which port's, the second speaks of turns alone, the third of values alone.
-use Rattle.std.specs.Prelude.{◌≡◌, ◌≢◌, ℕ, ◌+◌, ◌<◌, ◌≤◌, List, length, None, Some}
+-- The rule: what holds of the words and of all passes between any two steps. It has four parts. The first says
+-- which pass is which port's, the second speaks of turns alone, the third of values alone, and the fourth of what
+-- passes saw at their last steps.
+use Rattle.std.specs.Prelude.{◌≡◌, ◌≢◌, ◌↔◌, ℕ, ◌+◌, ◌<◌, ◌≤◌, List, length, None, Some}
+use Rattle.std.specs.List.{sum_by}
 use Rattle.limits.specs.declared.TheConstants.{MAX_BANKS}
 use mathlib.Core.Option.{some}
 use lib.ListN.{get_elem?}
@@ -17,7 +19,7 @@ use Rattle.atomic_table.specs.Table.{State}
 use Rattle.slot_words.specs.declared.rule.Key.{Key}
 use Rattle.slot_words.specs.declared.rule.TheConstants.{UNCLAIMED}
 use Rattle.slot_words.specs.declared.rule.View.{View}
-use Rattle.slot_words.specs.Layout.{progress_in, sent_in, turns_told, word_count}
+use Rattle.slot_words.specs.Layout.{progress_in, sent_in, told_in, turns_told, word_count}
 
 -- the view of a seat that is no port's
 abbrev pub unseated : Image → Stimulus → ℕ → View
@@ -29,6 +31,7 @@ unseated image stimulus banks = record {
   place = start (length image.ports);
   steps = 0;
   last = record { word = 0; number = 0 };
+  at = 0;
 }
 
 abbrev pub nobody : Key → View
@@ -77,6 +80,27 @@ pub record AreTimed (image : Image) (banks until : ℕ) (words : List ℕ) (plac
   pub paced : ArePaced image banks until place
   pub stamps : AreStamped image banks place (sent_in image banks words)
 
+-- ---- looks
+
+-- how many steps all passes have made
+abbrev pub steps_in : List View → ℕ
+steps_in views = sum_by (λ (v : View). v.steps) views
+
+-- some seat made the last step of all
+pub record HasLast (views : List View) : Type 0 where
+  pub id : ℕ
+  pub view : View
+  pub there : get_elem? views id ≡ some view
+  pub last : view.at ≡ steps_in views
+
+-- a seat's last step was one of those that were made, and a seat that is no port's has made none. Some seat made
+-- the last of all, and the word that this one saw tells what it saw there
+pub record AreLooks (image : Image) (words : List ℕ) (views : List View) : Type 0 where
+  pub past : (id : ℕ) (v : View) → get_elem? views id ≡ some v → v.at ≤ steps_in views
+  pub idle : (id : ℕ) (v : View) → get_elem? views id ≡ some v → v.port ≡ None → v.steps ≡ 0
+  pub last : 1 ≤ steps_in views → HasLast views
+  pub seen : (id : ℕ) (v : View) → get_elem? views id ≡ some v → 1 ≤ steps_in views → v.at ≡ steps_in views → told_in image words v.last.word ≡ v.last.number
+
 -- ---- the rule
 
 -- there are places and owners, and a word of a send that names a turn has the code of the image's value there
@@ -88,6 +112,7 @@ pub record IsKept (image : Image) (stimulus : Stimulus) (banks : ℕ) (words : L
   pub owned : AreOwned image stimulus banks words views place owner
   pub timed : AreTimed image banks (turns_of image stimulus) words place
   pub coded : AreCoded image stimulus banks (sent_in image banks words)
+  pub looks : AreLooks image words views
 
 abbrev pub Kept : Key → State (Unit {0}) View → Type 0
 Kept key s = IsKept key.image.value key.stimulus.value key.banks s.words s.views
@@ -95,11 +120,13 @@ Kept key s = IsKept key.image.value key.stimulus.value key.banks s.words s.views
 -- ---- what it implies
 
 -- all seats have the key's image, stimulus and banks; the passes stand at places which, with the words, are
--- sound; and a port that nobody has claimed stands at its start
+-- sound; a progress word is unclaimed exactly where no seat has its port's pass; and then the port stands at its
+-- start
 pub record ArePassesSound (key : Key) (s : State (Unit {0}) View) : Type 0 where
   pub same : (id : ℕ) (v : View) → get_elem? s.views id ≡ some v → (v.image ≡ key.image.value) × (v.stimulus ≡ key.stimulus.value) × (v.banks ≡ key.banks)
   pub place : ℕ → Place
   pub places : (id p : ℕ) (v : View) → get_elem? s.views id ≡ some v → v.port ≡ Some p → (p < length key.image.value.ports) × (v.place ≡ place p)
+  pub unclaimed : (p : ℕ) → p < length key.image.value.ports → (progress_in s.words p ≡ UNCLAIMED) ↔ ((id : ℕ) (v : View) → get_elem? s.views id ≡ some v → v.port ≢ Some p)
   pub fresh : (p : ℕ) → p < length key.image.value.ports → progress_in s.words p ≡ UNCLAIMED → place p ≡ start (length key.image.value.ports)
   pub sound : IsSound key.image.value key.stimulus.value key.banks (turns_of key.image.value key.stimulus.value) (record {
     place = place;

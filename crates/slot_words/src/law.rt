@@ -1,30 +1,46 @@
 //! Laws of the rule: functions that do nothing, whose clauses hold of all states that meet it.
 
-ghost use Rattle.std.specs.Prelude.{ℕ, Some, ◌+◌, ◌≡◌, ◌≤◌};
+ghost use Rattle.std.specs.Prelude.{List, ℕ, Some, slice_set, ◌+◌, ◌≡◌, ◌≤◌};
 ghost use mathlib.Core.Option.{some};
 ghost use lib.ListN.{get_elem?};
 ghost use Rattle.image_defs.specs.Places.{Stands};
 ghost use Rattle.image_defs.specs.declared.image.LinkOut.{LinkOut};
 ghost use Rattle.event_defs.specs.Places.{IsSend, known_of};
-ghost use Rattle.atomic_table.specs.Table.{State};
+ghost use Rattle.atomic_table.specs.Table.{Act, State, stepped};
 ghost use Rattle.slot_words.specs.declared.rule.Key.{Key};
 ghost use Rattle.slot_words.specs.declared.rule.View.{View};
-ghost use Rattle.slot_words.specs.Layout.{progress_in, turns_told};
-ghost use Rattle.slot_words.specs.Rule.{AreDistinct, ArePassesSound, Kept};
+ghost use Rattle.slot_words.specs.Layout.{progress_in, told_in, turns_told};
+ghost use Rattle.slot_words.specs.Rule.{AreDistinct, AreLooks, ArePassesSound};
+
+use crate::rule::{Key, Law, View};
+use atomic_table::TableRule;
 
 /// A law: between any two steps, all seats have the key's image, stimulus and banks, the words and the
-/// places of the passes are sound, a port that nobody has claimed stands at its start, and no two seats
-/// have one port's pass.
+/// places of the passes are sound, a port stands at its start and its word is unclaimed where nobody has
+/// its pass, no two seats have one port's pass, and the word that the last step of all saw tells what
+/// that step saw there.
 pub fn rule_is_sound()
-    ensures sound { (key : Key) (s : State (Unit {0}) View) → Kept key s → ArePassesSound key s }
-    ensures distinct { (key : Key) (s : State (Unit {0}) View) → Kept key s → AreDistinct s.views }
+    ensures sound { (key : Key) (s : State (Unit {0}) View) → ⟦<Law as TableRule<(), View, Key>>⟧.holds key s → ArePassesSound key s }
+    ensures distinct { (key : Key) (s : State (Unit {0}) View) → ⟦<Law as TableRule<(), View, Key>>⟧.holds key s → AreDistinct s.views }
+    ensures looks { (key : Key) (s : State (Unit {0}) View) → ⟦<Law as TableRule<(), View, Key>>⟧.holds key s → AreLooks key.image.value s.words s.views }
+{}
+
+/// A law: looks are looks. Whatever a step of a seat reads or writes, and whatever is told of it: where
+/// the rule holds before it and after it and it is counted among the seat's steps, the word that the
+/// seat's `last` names tells after the step what `last` says that it saw there.
+pub fn counted_steps_look()
+    ensures { (key : Key) (s : State (Unit {0}) View) (word number id : ℕ) (held : List (ℕ × Unit {0}))
+        (old new : View) (act : Act (Unit {0})) → ⟦<Law as TableRule<(), View, Key>>⟧.holds key s
+        → get_elem? s.views id ≡ some old → new.steps ≡ old.steps + 1
+        → ⟦<Law as TableRule<(), View, Key>>⟧.holds key (stepped s word number id held new act)
+        → told_in key.image.value (slice_set s.words word number) new.last.word ≡ new.last.number }
 {}
 
 /// A law: whenever a pass may put, each reader of that send has told to have finished the turn whose word
 /// is overwritten, which is as many turns before as there are banks. So it has taken that word, since
 /// `tell` asks for all takes of the turn.
 pub fn puts_spare_readers()
-    ensures { (key : Key) (s : State (Unit {0}) View) → Kept key s
+    ensures { (key : Key) (s : State (Unit {0}) View) → ⟦<Law as TableRule<(), View, Key>>⟧.holds key s
         → (id p i r : ℕ) (v : View) (link : LinkOut) → get_elem? s.views id ≡ some v → v.port ≡ Some p
         → IsSend v.image p i link → Stands link.readers r → v.place.turn ≤ known_of v.place r + v.banks
         → v.place.turn ≤ turns_told (progress_in s.words r) + v.banks }

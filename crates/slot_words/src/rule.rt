@@ -18,7 +18,7 @@ pub struct Look {
 }
 
 /// What a pass is and knows: its port, where it stands, how many steps it has made and what the last of
-/// them saw. No value of it is made.
+/// them saw, and `at`, how many steps all passes had made with that one. No value of it is made.
 pub struct View {
     pub port: Option<u32>,
     pub image: Image,
@@ -27,6 +27,7 @@ pub struct View {
     pub place: Place,
     pub steps: u64,
     pub last: Look,
+    pub at: u64,
 }
 
 /// What is fixed when a crossbar is made.
