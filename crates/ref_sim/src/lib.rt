@@ -7,7 +7,7 @@ ghost use Rattle.net_defs.specs.declared.netlist.Netlist.{Netlist};
 ghost use Rattle.net_defs.specs.declared.timing.Timing.{Timing};
 ghost use Rattle.net_defs.specs.declared.timing.Mode.TheVariants as mode;
 ghost use Rattle.net_defs.specs.declared.stimulus.Stimulus.{Stimulus};
-ghost use Rattle.net_defs.specs.Loops.{IsLoop};
+ghost use Rattle.net_defs.specs.Loops.{IsCircle, IsLoop};
 ghost use Rattle.net_defs.specs.Valid.{IsValid, IsValidTiming};
 ghost use Rattle.net_defs.specs.Reference.{HasOneSimulation};
 ghost use Rattle.rank_find.specs.Refusal.{IfLoop};
@@ -40,7 +40,7 @@ pub fn refer(alloc: Global, net: &Netlist, timing: &Timing, stim: &Stimulus) -> 
     ensures simulated { OnOk result (HasOneSimulation net.now timing.now stim.now) }
 
     // A loop is answered exactly where there is one; in unit delay there is none.
-    ensures acyclic { OnOk result ((members : Items ℕ) → IsLoop net.now timing.now members → ⊥) }
+    ensures acyclic { OnOk result ((members : Items ℕ) → IsCircle net.now timing.now members → ⊥) }
     ensures looped { IfErr result (λ no. IfLoop no (IsLoop net.now timing.now)) }
     ensures not_in_unit_delay { IfErr result (λ no. IfLoop no (λ _. timing.now.mode ≢ mode.Unit)) }
 {
@@ -57,5 +57,5 @@ pub fn one_simulation()
     ensures unit_delay { (net : Netlist) (timing : Timing) (stimulus : Stimulus)
         → timing.mode ≡ mode.Unit → HasOneSimulation net timing stimulus }
     ensures without_loop { (net : Netlist) (timing : Timing) (stimulus : Stimulus)
-        → ((members : Items ℕ) → IsLoop net timing members → ⊥) → HasOneSimulation net timing stimulus }
+        → ((members : Items ℕ) → IsCircle net timing members → ⊥) → HasOneSimulation net timing stimulus }
 {}

@@ -4,7 +4,7 @@ use Rattle.machine_text.specs.declared.machine.Machine.{Machine}
 use Rattle.net_defs.specs.declared.netlist.Netlist.{Netlist}
 use Rattle.net_defs.specs.declared.timing.Timing.{Timing}
 use Rattle.net_defs.specs.declared.timing.Mode.TheVariants as mode
-use Rattle.net_defs.specs.Loops.{IsLoop}
+use Rattle.net_defs.specs.Loops.{IsCircle, IsLoop}
 use Rattle.node_defs.specs.declared.items.NodeNet.{NodeNet}
 use Rattle.node_defs.specs.Order.{AreItems}
 use Rattle.plan_defs.specs.declared.plan.Homes.{Homes}
@@ -16,7 +16,7 @@ use Rattle.slot_plan.specs.Refusals.{IsLong, IsCrowded}
 
 -- there is no loop; in unit delay there never is one
 abbrev pub IsAcyclic : Netlist → Timing → Type 0
-IsAcyclic net timing = (members : List ℕ) → IsLoop net timing members → ⊥
+IsAcyclic net timing = (members : List ℕ) → IsCircle net timing members → ⊥
 
 -- the design fits the machine: without a loop its items have homes, every memory among them, and a
 -- first-fit plan of few enough slots and tables

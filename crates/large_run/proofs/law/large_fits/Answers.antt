@@ -1,6 +1,6 @@
 use Rattle.std.proofs.Common.{inl, inr, arith}
 use Rattle.large_gen.specs.Large.{large_netlist}
-use Rattle.large_gen.proofs.ValidLemmas.{no_loop_large, valid_large}
+use Rattle.large_gen.proofs.ValidLemmas.{no_circle_large, valid_large}
 use Rattle.yse_compile.specs.declared.compiler.CompNo.{CompNo}
 use Rattle.yse_compile.specs.declared.compiler.CompNo.TheVariants as no
 use Rattle.yse_compile.specs.Compiled.{IsOverfull, IsRight}
@@ -10,10 +10,10 @@ use Rattle.large_run.proofs.law.large_fits.Goals as goal
 
 pub returns : goal.returns
 returns c gates few = elim (c.order_or_loop.ensures.one (large_netlist gates) large_timing) [
-  | inr loop ↦ absurd (no_loop_large gates large_timing loop.0 loop.1)
+  | inr loop ↦ absurd (no_circle_large gates large_timing loop.0 loop.1.circle)
   | inl order ↦
       let items = c.items_exist.ensures (large_netlist gates) large_timing order.0 (valid_large gates few) order.1 in
-      elim (c.fits_or_refused.ensures (large_netlist gates) large_machine large_timing items.0 (valid_large gates few) machine_valid (no_loop_large gates large_timing) items.1) [
+      elim (c.fits_or_refused.ensures (large_netlist gates) large_machine large_timing items.0 (valid_large gates few) machine_valid (no_circle_large gates large_timing) items.1) [
         | inl fits ↦ fits
         | inr refused ↦ absurd (never refused.0 refused.1 refused.2)
       ]
