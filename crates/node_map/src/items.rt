@@ -2,7 +2,7 @@
 
 ghost use Rattle.std.specs.Prelude.{◌≡◌, ◌+◌, ◌^◌, ◌<◌, ◌≤◌, ◌↔◌, ℕ, [], length, Some, slice_get, slice_index, All, OnOk, IfOk};
 ghost use Rattle.func_table.specs.Shelf.{AreDifferent};
-ghost use Rattle.net_defs.specs.Valid.{IsValid, IsSignal};
+ghost use Rattle.net_defs.specs.Valid.{IsValid, IsValidTiming, IsSignal};
 ghost use Rattle.node_defs.specs.Items.{own, IsNamed, StandFor, IsNodeBlock};
 ghost use Rattle.node_map.specs.Wires.{helpers_at};
 ghost use Rattle.node_map.specs.Places.{AreKeyed, IsNumbering};
@@ -29,6 +29,7 @@ fn driven_item(
     driver: &Driver,
 ) -> Result<Item, Memory>
     requires valid { IsValid net.now }
+    requires timing { IsValidTiming timing.now }
     requires numbered { IsNumbering net.now numbering.now }
     requires driven { driver_at net.now key.now.signal ≡ Some driver.now }
     requires within { key.now.signal < length net.now.signals }
@@ -69,6 +70,7 @@ fn item(
     key: &Key,
 ) -> Result<Item, Memory>
     requires valid { IsValid net.now }
+    requires timing { IsValidTiming timing.now }
     requires numbered { IsNumbering net.now numbering.now }
     requires within { key.now.signal < length net.now.signals }
     requires among { key.now.place ≤ helpers_at net.now key.now.signal }
@@ -92,6 +94,7 @@ fn all_items(
     keys: &[Key],
 ) -> Result<List<Item>, Memory>
     requires valid { IsValid net.now }
+    requires timing { IsValidTiming timing.now }
     requires numbered { IsNumbering net.now numbering.now }
     requires keyed { AreKeyed net.now keys.now }
     requires none { palette.old.shelf.tables ≡ [] }
@@ -121,6 +124,7 @@ pub(crate) fn make_items(
     keys: &[Key],
 ) -> Result<MadeItems, Memory>
     requires valid { IsValid net.now }
+    requires timing { IsValidTiming timing.now }
     requires numbered { IsNumbering net.now numbering.now }
     requires keyed { AreKeyed net.now keys.now }
     ensures made { IfOk result (λ made. AreMade net.now timing.now numbering.now.names made.tables keys.now made.items) }

@@ -5,6 +5,7 @@ ghost use Rattle.limits.specs.declared.TheConstants.{MAX_SIGNALS, MAX_GATE_OPERA
 ghost use Rattle.std.specs.List.{range_with_len};
 ghost use Rattle.std.specs.List.Sorted.{IsPermutation, IsSorted};
 ghost use Rattle.net_defs.specs.Steps.{is_late};
+ghost use Rattle.net_defs.specs.Valid.{IsValidTiming};
 ghost use Rattle.node_map.specs.Wires.{operands_of, helpers_at, class_at, pasts_of, AreOwnRanks};
 ghost use Rattle.node_map.specs.Places.{key_at, keys_of, keys_to, key_cmp, key_from, AreKeyed, AreRight};
 
@@ -47,6 +48,7 @@ fn push_keys(
     signal: u32,
 ) -> Result<(), Memory>
     requires few { length (operands_of net.now signal) ≤ MAX_GATE_OPERANDS }
+    requires timing { IsValidTiming timing.now }
     requires low { (s : ℕ) → slice_index own.now s + 2052 < 2 ^ 32 }
     ensures { OnOk result (keys.new.items ≡ keys.old.items ++ keys_of net.now timing.now own.now signal) }
 {
@@ -62,6 +64,7 @@ fn push_keys(
 /// The keys of all items by signal and place.
 fn all_keys(alloc: Global, net: &Netlist, timing: &Timing, own: &[u32]) -> Result<Vec<Key>, Memory>
     requires few { length net.now.signals ≤ MAX_SIGNALS }
+    requires timing { IsValidTiming timing.now }
     requires narrow { (s : ℕ) → length (operands_of net.now s) ≤ MAX_GATE_OPERANDS }
     requires low { (s : ℕ) → slice_index own.now s + 2052 < 2 ^ 32 }
     ensures { IfOk result (λ keys. keys.items ≡ keys_to net.now timing.now own.now (length net.now.signals)) }
@@ -90,6 +93,7 @@ pub(crate) fn sorted_keys(
     own: &[u32],
 ) -> Result<Vec<Key>, Memory>
     requires few { length net.now.signals ≤ MAX_SIGNALS }
+    requires timing { IsValidTiming timing.now }
     requires narrow { (s : ℕ) → length (operands_of net.now s) ≤ MAX_GATE_OPERANDS }
     requires low { (s : ℕ) → slice_index own.now s + 2052 < 2 ^ 32 }
     ensures keyed { IfOk result (λ keys. AreKeyed net.now keys.items) }

@@ -3,7 +3,7 @@
 ghost use Rattle.std.specs.Prelude.{◌≡◌, ℕ, List as Items, IfOk};
 ghost use Rattle.net_defs.specs.declared.stimulus.Stimulus.{Stimulus};
 ghost use Rattle.net_defs.specs.Steps.{State};
-ghost use Rattle.net_defs.specs.Valid.{IsValid};
+ghost use Rattle.net_defs.specs.Valid.{IsValid, IsValidTiming};
 ghost use Rattle.net_defs.specs.Loops.{AreRanks, IsOrder};
 ghost use Rattle.node_defs.specs.Order.{AreItems};
 ghost use Rattle.node_defs.specs.Values.{AreItemValues, AreReferenceValues};
@@ -28,6 +28,7 @@ fn ranked_keys(
     order: &[u32],
 ) -> Result<Vec<Key>, Memory>
     requires valid { IsValid net.now }
+    requires timing { IsValidTiming timing.now }
     requires order { IsOrder net.now timing.now order.now }
     ensures keyed { IfOk result (λ keys. AreKeyed net.now keys.items) }
     ensures ranked { IfOk result (λ keys. (own : Items ℕ) × AreOwnRanks net.now timing.now own × AreRight net.now timing.now own keys.items) }
@@ -39,6 +40,7 @@ fn ranked_keys(
 /// The items that have these keys, with all that is told of them.
 fn nodes_of(alloc: Global, net: &Netlist, timing: &Timing, keys: &[Key]) -> Result<NodeNet, Memory>
     requires valid { IsValid net.now }
+    requires timing { IsValidTiming timing.now }
     requires keyed { AreKeyed net.now keys.now }
     requires ranked { (own : Items ℕ) × AreOwnRanks net.now timing.now own × AreRight net.now timing.now own keys.now }
     ensures { IfOk result (AreItems net.now timing.now) }
@@ -66,6 +68,7 @@ pub fn map_nodes(
     timing: &Timing,
 ) -> Result<NodeNet, Memory>
     requires valid { IsValid net.now }
+    requires timing { IsValidTiming timing.now }
     requires ranked { AreRanks net.now timing.now ranks.now }
     ensures items { IfOk result (AreItems net.now timing.now) }
     ensures values { IfOk result (λ nodes. (stimulus : Stimulus) (values : Items State) → AreItemValues nodes timing.now stimulus values → AreReferenceValues net.now timing.now stimulus nodes values) }

@@ -3,6 +3,7 @@
 ghost use Rattle.std.specs.Prelude.{◌≡◌, ◌+◌, ◌^◌, ◌<◌, ◌≤◌, ℕ, [], length, replicate, slice_index, IfOk};
 ghost use Rattle.limits.specs.declared.TheConstants.{MAX_SIGNALS, MAX_GATE_OPERANDS};
 ghost use Rattle.net_defs.specs.Loops.{IsOrder};
+ghost use Rattle.net_defs.specs.Valid.{IsValidTiming};
 ghost use Rattle.node_map.specs.Wires.{operands_of, helpers_at, rank_at, AreOwnRanks};
 
 use crate::wires::{fill_pasts, number, operands};
@@ -30,6 +31,7 @@ fn own_rank(
     gate: u32,
 ) -> Result<u32, Memory>
     requires few { length (operands_of net.now gate) ≤ MAX_GATE_OPERANDS }
+    requires timing { IsValidTiming timing.now }
     requires low { (s : ℕ) → slice_index own.now s + 2052 < 2 ^ 32 }
     ensures { IfOk result (λ rank. rank ≡ rank_at net.now timing.now own.now gate (helpers_at net.now gate)) }
 {
@@ -48,6 +50,7 @@ pub(crate) fn own_ranks(
     order: &[u32],
 ) -> Result<List<u32>, Memory>
     requires narrow { (s : ℕ) → length (operands_of net.now s) ≤ MAX_GATE_OPERANDS }
+    requires timing { IsValidTiming timing.now }
     requires order { IsOrder net.now timing.now order.now }
     requires short { length order.now ≤ MAX_SIGNALS }
     ensures ranks { IfOk result (AreOwnRanks net.now timing.now) }
