@@ -1,6 +1,6 @@
 -- Which values an image has at each turn: equations between the values of a turn and those of the turn
 -- before, one for each item of each port. There are no banks, messages or events in them.
-use Rattle.std.specs.Prelude.{◌≡◌, ℕ, ◌+◌, if◌then◌else◌, List, length, map, Option, Some, None, slice_get}
+use Rattle.std.specs.Prelude.{◌≡◌, ℕ, ◌+◌, if◌then◌else◌, List, [], length, map, Option, Some, None, slice_get}
 use Rattle.logic_four.specs.declared.V4.{V4}
 use Rattle.logic_four.specs.declared.V4.TheVariants.{Undef}
 use Rattle.logic_four.specs.Values.{settled, value_at}
@@ -26,9 +26,10 @@ use Rattle.image_defs.specs.declared.image.PortImage.{PortImage}
 use Rattle.image_defs.specs.declared.image.Image.{Image}
 use Rattle.image_defs.specs.Places.{sender_in, IsPort, IsItemIn, IsBlockOf}
 
--- the turns of a cycle and the initial value of an image, as a timing; its mode is of no account
+-- the turns of a cycle and the initial value of an image, as a timing; its mode and its list are of no
+-- account
 abbrev pub timing_of : Image → Timing
-timing_of image = record { mode = mode.Unit; units = image.units; init = image.init }
+timing_of image = record { mode = mode.Unit; units = image.units; init = image.init; listed = [] }
 
 -- a value for each port and slot
 abbrev pub Grid : Type 0

@@ -21,7 +21,7 @@ use Rattle.image_defs.proofs.Example.{image, logic_port, array_port, host_port, 
 use Rattle.image_match.specs.Matches.{IsClaim, ClaimsIn, Carries, CarryAll, MemoryImplements, ImplementsClaim, PrintsItems, Matches, claims_of}
 
 abbrev timing : Timing
-timing = record { mode = mode.Rank; units = 1; init = init.Zero }
+timing = record { mode = mode.Rank; units = 1; init = init.Zero; listed = [] }
 
 abbrev block : NodeBlock
 block = record { we = 0; address = 0 ∷ []; word = 0 ∷ [] }

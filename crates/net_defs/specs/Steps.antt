@@ -1,6 +1,7 @@
 -- States, and the right step from one state to the next: equations between whole states, one for
 -- each signal by its driver, in no order.
 use Rattle.std.specs.Prelude.{◌≡◌, ℕ, ◌==◌, Bool, true, false, if◌then◌else◌, List, [], length, map, Option, Some, None, slice_get, slice_index_or, replicate}
+use Rattle.std.specs.List.{list_any}
 use Rattle.logic_four.specs.declared.V4.{V4}
 use Rattle.logic_four.specs.declared.V4.TheVariants.{Undef}
 use Rattle.logic_four.specs.Values.{settled}
@@ -22,13 +23,19 @@ pub record State : Type 0 where
   pub row : List V4
   pub words : List (List (List V4))
 
-abbrev pub is_unit : Mode → Bool
-is_unit mode.Rank = false
-is_unit mode.Unit = true
+-- the list has this number
+abbrev pub is_listed : List ℕ → ℕ → Bool
+is_listed listed signal = list_any (λ s. s == signal) listed
+
+-- in rank order no gate is late, in unit delay each is, and in mixed mode those that are listed
+abbrev pub late_in : Mode → List ℕ → ℕ → Bool
+late_in mode.Rank listed signal = false
+late_in mode.Unit listed signal = true
+late_in mode.Mixed listed signal = is_listed listed signal
 
 -- a late gate reads the last turn; the others read this turn
 abbrev pub is_late : Netlist → Timing → ℕ → Bool
-is_late net timing signal = is_unit timing.mode
+is_late net timing signal = late_in timing.mode timing.listed signal
 
 -- the values of these signals, from left to right
 abbrev pub values_of : List V4 → List ℕ → List V4

@@ -102,11 +102,17 @@ pub record IsValid (net : Netlist) : Type 0 where
       ≤ MAX_OPERANDS
   pub few_printed : length net.printed < 2 ^ 32
 
--- a valid timing: 1 to 4,096 turns a cycle, and 1 in rank order
+-- each number is greater than those before it
+abbrev pub Ascends : List ℕ → Type 0
+Ascends numbers =
+    (i j : ℕ) → i < j → j < length numbers → slice_index numbers i < slice_index numbers j
+
+-- a valid timing: 1 to 4,096 turns a cycle, and 1 in rank order; the list ascends
 pub record IsValidTiming (timing : Timing) : Type 0 where
   pub some : 1 ≤ timing.units
   pub few : timing.units ≤ MAX_UNITS
   pub rank : timing.mode ≡ mode.Rank → timing.units ≡ 1
+  pub ascends : Ascends timing.listed
 
 -- a valid stimulus: each row has a value for each input and 1 to 1,000,000 cycles, of which there
 -- are at most 1,000,000 in all

@@ -1,17 +1,24 @@
 //! What a gate waits for in a turn. Loops, orders and ranks speak of this alone.
 
-ghost use Rattle.std.specs.Prelude.{◌≡◌};
+ghost use Rattle.std.specs.Prelude.{◌≡◌, ◌<◌, length};
 ghost use Rattle.net_defs.specs.Steps.{is_late};
 ghost use Rattle.net_defs.specs.Loops.{gate_operands, is_gate, waits_for};
+ghost use Rattle.net_defs.specs.Valid.{IsValidTiming};
 
 use crate::{Driver, Mode, Netlist, Timing};
 
 /// Whether the gate of this number is late: it reads the last turn's values. In unit delay every gate
-/// is late, in rank order none.
+/// is late, in rank order none, in mixed mode those that are listed. It takes as many steps as the
+/// length of the list has binary digits.
 pub fn is_late(net: &Netlist, timing: &Timing, gate: u32) -> bool
+    requires { IsValidTiming timing.now }
     ensures { result ≡ is_late net.now timing.now gate }
 {
-    matches!(timing.mode, Mode::Unit)
+    match timing.mode {
+        Mode::Rank => false,
+        Mode::Unit => true,
+        Mode::Mixed => timing.listed.as_slice().binary_search(&gate).is_ok(),
+    }
 }
 
 /// Whether a gate drives the signal of this number. A register or a memory is no gate.
@@ -27,6 +34,7 @@ pub fn is_gate(net: &Netlist, signal: u32) -> bool
 /// The signals whose values of this turn the signal of this number needs: of a gate that is not late
 /// its operands, from left to right, and of all else none.
 pub fn waits_for<'a>(net: &'a Netlist, timing: &Timing, signal: u32) -> &'a [u32]
+    requires { IsValidTiming timing.now }
     ensures { result.now ≡ waits_for net.now timing.now signal }
 {
     match net.signals.get(signal as usize) {

@@ -1,9 +1,14 @@
 //! How a netlist is run in time.
 
-ghost use Rattle.std.specs.Prelude.{◌≡◌, ◌≤◌};
+ghost use Rattle.std.specs.Prelude.{◌≡◌, ◌≤◌, []};
+ghost use Rattle.limits.specs.declared.TheConstants.{MAX_UNITS};
+ghost use Rattle.net_defs.specs.declared.timing.Mode.TheVariants as modes;
 ghost use Rattle.net_defs.specs.Time.{is_edge, initial_value};
+ghost use Rattle.net_defs.specs.Valid.{IsValidTiming, Ascends};
 
 use logic_four::V4;
+use seen_list::List;
+use std::alloc::Global;
 
 /// Which values a gate reads.
 #[derive(Clone, Copy, Debug, PartialEq, Eq)]
@@ -12,6 +17,8 @@ pub enum Mode {
     Rank,
     /// The last turn's values: each gate has one unit of delay.
     Unit,
+    /// The last turn's values for the gates that are listed, and this turn's for the others.
+    Mixed,
 }
 
 /// What registers and memories hold at first.
@@ -22,12 +29,44 @@ pub enum Init {
 }
 
 /// The timing of a run.
-#[derive(Clone, Copy, Debug, PartialEq, Eq)]
+#[derive(Drop)]
 pub struct Timing {
     pub mode: Mode,
-    /// The turns of a cycle: 1 in rank order, 1 to 4,096 in unit delay (this project's profile).
+    /// The turns of a cycle: 1 in rank order, 1 to 4,096 in unit delay and in mixed mode (this
+    /// project's profile).
     pub units: u32,
     pub init: Init,
+    /// The numbers of the gates that are late in mixed mode, from the least on. No other mode asks it,
+    /// and the number of what is no gate changes nothing.
+    pub listed: List<u32>,
+}
+
+impl Timing {
+    /// The timing that lists no gate. It takes no memory.
+    pub fn unlisted(alloc: Global, mode: Mode, units: u32, init: Init) -> Timing
+        ensures is { result ≡ record { mode = mode; units = units; init = init; listed = [] } }
+        ensures valid { 1 ≤ units → units ≤ MAX_UNITS → (mode ≡ modes.Rank → units ≡ 1) → IsValidTiming result }
+    {
+        Timing {
+            mode,
+            units,
+            init,
+            listed: List::new(alloc),
+        }
+    }
+
+    /// The same timing with these gates listed.
+    pub fn listing(&self, listed: List<u32>) -> Timing
+        ensures is { result ≡ record self.now { listed = listed } }
+        ensures valid { IsValidTiming self.now → Ascends listed → IsValidTiming result }
+    {
+        Timing {
+            mode: self.mode,
+            units: self.units,
+            init: self.init,
+            listed,
+        }
+    }
 }
 
 /// What registers and memories hold at first.

@@ -4,7 +4,6 @@ use Rattle.std.specs.List.{Contains, slice_get}
 use Rattle.net_defs.specs.declared.netlist.Netlist.{Netlist}
 use Rattle.net_defs.specs.declared.netlist.Signal.{Signal}
 use Rattle.net_defs.specs.declared.timing.Timing.{Timing}
-use Rattle.net_defs.specs.declared.timing.Mode.{Mode}
 use Rattle.net_defs.specs.declared.timing.Mode.TheVariants as mode
 use Rattle.net_defs.specs.Loops.{waits_for, IsOrder, IsLoop}
 use Rattle.list_laws.proofs.Places.{place_of}
@@ -32,7 +31,7 @@ module _ (net : Netlist) (timing : Timing) (order members : List ℕ) (is_order 
       let at = place_of order (get_or members 0 0) (is_order.whole (get_or members 0 0) (is_loop.gates 0 0 some)) in
       none_below (length order) (omega arith) 0 at.0 some at.1 at.2
 
--- in unit delay nothing waits, so a loop stands in rank order alone
+-- in unit delay nothing waits, so there is no loop
 module _ (net : Netlist) (timing : Timing) where
   unit_waits_for_nothing : (s : ℕ) → timing.mode ≡ mode.Unit → waits_for net timing s ≡ []
   unit_waits_for_nothing s unit = by_signal (slice_get net.signals s) refl where
@@ -40,11 +39,8 @@ module _ (net : Netlist) (timing : Timing) where
     by_signal None is = rw is refl
     by_signal (Some signal) is = rw (is, unit) refl
 
-  pub loop_in_rank_order : (members : List ℕ) → IsLoop net timing members → timing.mode ≡ mode.Rank
-  loop_in_rank_order members is_loop = by_mode timing.mode refl where
-    by_mode : (at : Mode) → timing.mode ≡ at → timing.mode ≡ mode.Rank
-    by_mode mode.Rank is = is
-    by_mode mode.Unit is = absurd (omega (arith, is_loop.closed.1, ap length (unit_waits_for_nothing (get_or members 0 0) is)))
+  pub loop_not_in_unit_delay : (members : List ℕ) → IsLoop net timing members → timing.mode ≢ mode.Unit
+  loop_not_in_unit_delay members is_loop unit = omega (arith, is_loop.closed.1, ap length (unit_waits_for_nothing (get_or members 0 0) unit))
 
 -- of an order and a loop, one for the code
 pub acyclic : (net : Netlist) (timing : Timing) (order : List ℕ) → IsOrder net timing order → (members : List ℕ) → IsLoop net timing members → ⊥

@@ -2,10 +2,11 @@
 //! the rank of each gate; or a loop of gates that wait for one another.
 #![tactic(auto)]
 
-ghost use Rattle.std.specs.Prelude.{◌≡◌, ◌<◌, ◌≤◌, ◌^◌, List as Items, ℕ, length, IfOk, IfErr, OnOk};
+ghost use Rattle.std.specs.Prelude.{◌≡◌, ◌≢◌, ◌<◌, ◌≤◌, ◌^◌, List as Items, ℕ, length, IfOk, IfErr, OnOk};
 ghost use Rattle.net_defs.specs.declared.netlist.Netlist.{Netlist};
 ghost use Rattle.net_defs.specs.declared.timing.Timing.{Timing};
 ghost use Rattle.net_defs.specs.declared.timing.Mode.TheVariants as mode;
+ghost use Rattle.net_defs.specs.Valid.{IsValidTiming};
 ghost use Rattle.net_defs.specs.Loops.{IsOrder, IsLoop, AreRanks, OrderOrLoop};
 ghost use Rattle.rank_find.specs.Refusal.{IfLoop};
 ghost use Rattle.rank_find.specs.Found.{IsFound};
@@ -30,19 +31,20 @@ pub enum RankNo {
     Memory,
 }
 
-/// An order of all gates, and the rank of each signal. In rank order each gate comes after the gates
-/// among its operands, and there is none where gates wait for one another in a loop; in unit delay a
-/// gate waits for nothing, and any order will do. Time and memory grow with the netlist's size, and
+/// An order of all gates, and the rank of each signal. A gate that is not late comes after the gates
+/// among its operands, and there is no order where gates wait for one another in a loop; a late gate
+/// waits for nothing, so in unit delay any order will do. Time and memory grow with the netlist's size, and
 /// no call is as deep as the netlist. It serves any netlist of fewer than 2^32 signals, so each valid
 /// one; an operand that is no signal is waited for by nobody.
 pub fn rank(alloc: Global, net: &Netlist, timing: &Timing) -> Result<Ranks, RankNo>
-    requires { length net.now.signals < 2 ^ 32 }
+    requires few { length net.now.signals < 2 ^ 32 }
+    requires timing { IsValidTiming timing.now }
     ensures ranks { IfOk result (AreRanks net.now timing.now) }
 
-    // A loop is answered exactly where there is one, which is in rank order alone.
+    // A loop is answered exactly where there is one; in unit delay there is none.
     ensures acyclic { OnOk result ((members : Items ℕ) → IsLoop net.now timing.now members → ⊥) }
     ensures looped { IfErr result (λ no. IfLoop no (IsLoop net.now timing.now)) }
-    ensures in_rank_order { IfErr result (λ no. IfLoop no (λ _. timing.now.mode ≡ mode.Rank)) }
+    ensures not_in_unit_delay { IfErr result (λ no. IfLoop no (λ _. timing.now.mode ≢ mode.Unit)) }
 {
     match order(alloc, net, timing) {
         Ok(order) => ranked(alloc, net, timing, order),
@@ -52,14 +54,15 @@ pub fn rank(alloc: Global, net: &Netlist, timing: &Timing) -> Result<Ranks, Rank
 
 /// The order alone, of which `rank` says the rest. It is as long as the gates are many.
 pub fn order(alloc: Global, net: &Netlist, timing: &Timing) -> Result<List<u32>, RankNo>
-    requires { length net.now.signals < 2 ^ 32 }
+    requires few { length net.now.signals < 2 ^ 32 }
+    requires timing { IsValidTiming timing.now }
     ensures order { IfOk result (IsOrder net.now timing.now) }
     ensures few { IfOk result (λ order. length order ≤ length net.now.signals) }
 
-    // A loop is answered exactly where there is one, which is in rank order alone.
+    // A loop is answered exactly where there is one; in unit delay there is none.
     ensures acyclic { OnOk result ((members : Items ℕ) → IsLoop net.now timing.now members → ⊥) }
     ensures looped { IfErr result (λ no. IfLoop no (IsLoop net.now timing.now)) }
-    ensures in_rank_order { IfErr result (λ no. IfLoop no (λ _. timing.now.mode ≡ mode.Rank)) }
+    ensures not_in_unit_delay { IfErr result (λ no. IfLoop no (λ _. timing.now.mode ≢ mode.Unit)) }
 {
     match find_order(alloc, net, timing) {
         Ok(Found::Order(order)) => Ok(order),
@@ -76,7 +79,8 @@ enum Found {
 }
 
 fn find_order(alloc: Global, net: &Netlist, timing: &Timing) -> Result<Found, Memory>
-    requires { length net.now.signals < 2 ^ 32 }
+    requires few { length net.now.signals < 2 ^ 32 }
+    requires timing { IsValidTiming timing.now }
     ensures { IfOk result (IsFound net.now timing.now) }
 {
     let mut walk = Walk::new(alloc, net)?;
@@ -90,6 +94,7 @@ fn ranked(alloc: Global, net: &Netlist, timing: &Timing, order: List<u32>) -> Re
     requires order { IsOrder net.now timing.now order }
     requires few { length order ≤ length net.now.signals }
     requires short { length net.now.signals < 2 ^ 32 }
+    requires timing { IsValidTiming timing.now }
     ensures ranks { IfOk result (AreRanks net.now timing.now) }
     ensures memory { IfErr result (λ no. no ≡ RankNo.Memory) }
 {

@@ -2,6 +2,7 @@
 
 ghost use Rattle.std.specs.Prelude.{◌≡◌, ℕ, ◌+◌, ◌^◌, ◌<◌, ◌≤◌, length, replicate, slice_index, IfOk};
 ghost use Rattle.net_defs.specs.Loops.{waits_for, IsOrder, IsRanking, rank_past, rank_above};
+ghost use Rattle.net_defs.specs.Valid.{IsValidTiming};
 
 use net_defs::{Netlist, Timing, is_gate, waits_for};
 use seen_list::{List, Memory};
@@ -16,6 +17,7 @@ pub(crate) fn rank_numbers(
 ) -> Result<List<u32>, Memory>
     requires order { IsOrder net.now timing.now order.now }
     requires short { length order.now < 2 ^ 32 }
+    requires timing { IsValidTiming timing.now }
     ensures { IfOk result (IsRanking net.now timing.now) }
 {
     let mut rank = zeros(alloc, net)?;

@@ -2,7 +2,7 @@
 
 ghost use Rattle.std.specs.Prelude.{◌≡◌, ◌≢◌, ℕ, ◌+◌, ◌-◌, ◌*◌, ◌^◌, ◌<◌, ◌≤◌, [], ◌∷◌, ◌++◌, length, take, map, replicate, slice_set, slice_index, IfOk, OnOk, IfSome, IsNone, MatchOption, Contains};
 ghost use Rattle.net_defs.specs.Loops.{waits_for, IsLoop};
-ghost use Rattle.net_defs.specs.Valid.{IsValid};
+ghost use Rattle.net_defs.specs.Valid.{IsValidTiming};
 ghost use Rattle.rank_find.specs.Walk.{mark_at, first_mark, work_left, IsWalking, Advances, Reaches, IsTop, IsFirstUndone, AreDoneFrom, IsStart, IsIdle, IsOver, WentDown, StepsTo};
 
 use crate::circle::circle_at;
@@ -55,6 +55,7 @@ impl Walk {
         timing: &Timing,
     ) -> Result<Option<List<u32>>, Memory>
         requires few { length net.now.signals < 2 ^ 32 }
+        requires timing { IsValidTiming timing.now }
         requires idle { IsIdle net.now timing.now self.old }
         ensures { IfOk result (λ found.
             MatchOption found (IsOver net.now timing.now self.new) (IsLoop net.now timing.now)) }
@@ -77,6 +78,7 @@ impl Walk {
         timing: &Timing,
         root: u32,
     ) -> Result<Option<List<u32>>, Memory>
+        requires timing { IsValidTiming timing.now }
         requires idle { IsIdle net.now timing.now self.old }
         requires fresh { mark_at self.old.marks root ≡ Mark.Fresh }
         ensures { IfOk result (λ found.
@@ -100,6 +102,7 @@ impl Walk {
         timing: &Timing,
         gate: u32,
     ) -> Result<Option<List<u32>>, Memory>
+        requires timing { IsValidTiming timing.now }
         requires walking { IsWalking net.now timing.now self.old }
         requires top { IsTop self.old.path gate }
         ensures { IfOk result (λ found.

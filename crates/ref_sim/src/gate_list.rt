@@ -7,7 +7,7 @@ ghost use Rattle.logic_four.specs.Kinds.{AllowsOperands};
 ghost use Rattle.logic_four.specs.Folds.{takes_many};
 ghost use Rattle.net_defs.specs.Time.{value_at};
 ghost use Rattle.net_defs.specs.Steps.{is_late};
-ghost use Rattle.net_defs.specs.Valid.{IsValid, IsSignal, IsDrivable};
+ghost use Rattle.net_defs.specs.Valid.{IsValid, IsValidTiming, IsSignal, IsDrivable};
 ghost use Rattle.ref_sim.specs.Ops.{Adds};
 ghost use Rattle.ref_sim.specs.Sequences.{spare_place, here_driven, here_value, IsSequence, Settles, AddsPair};
 
@@ -34,6 +34,7 @@ pub(crate) fn signal_ops(
     list: &[u32],
 ) -> Result<List<GateOp>, Memory>
     requires valid { IsValid net.now }
+    requires timing { IsValidTiming timing.now }
     requires sequence { IsSequence net.now timing.now list.now }
     ensures { IfOk result (Settles net.now timing.now list.now (length list.now)) }
 {
@@ -52,6 +53,7 @@ fn push_signal(
     signal: u32,
 ) -> Result<(), Memory>
     requires valid { IsValid net.now }
+    requires timing { IsValidTiming timing.now }
     requires signal { IsSignal net.now signal }
     ensures { OnOk result (Adds (spare_place net.now) signal (here_value net.now timing.now signal) ops.old ops.new) }
 {
@@ -69,6 +71,7 @@ fn push_driven(
     driver: &Driver,
 ) -> Result<(), Memory>
     requires few { length net.now.signals ≤ MAX_SIGNALS }
+    requires timing { IsValidTiming timing.now }
     requires signal { IsSignal net.now signal }
     requires drivable { IsDrivable net.now signal driver.now }
     ensures { OnOk result (Adds (spare_place net.now) signal
@@ -95,7 +98,8 @@ fn push_driven(
 
 /// Where the operands of a gate begin: a late gate reads the last turn.
 fn operand_base(net: &Netlist, timing: &Timing, gate: u32) -> u32
-    requires { length net.now.signals < 2 ^ 32 }
+    requires few { length net.now.signals < 2 ^ 32 }
+    requires timing { IsValidTiming timing.now }
     ensures { result ≡ (if is_late net.now timing.now gate then length net.now.signals else 0) }
 {
     if is_late(net, timing, gate) {

@@ -1,14 +1,14 @@
 //! The reference simulation: the printed values of each cycle of a netlist under a stimulus, in rank
-//! order or in unit delay.
+//! order, in unit delay or in mixed mode.
 #![tactic(auto)]
 
-ghost use Rattle.std.specs.Prelude.{◌≡◌, List as Items, ℕ, IfOk, IfErr, OnOk};
+ghost use Rattle.std.specs.Prelude.{◌≡◌, ◌≢◌, List as Items, ℕ, IfOk, IfErr, OnOk};
 ghost use Rattle.net_defs.specs.declared.netlist.Netlist.{Netlist};
 ghost use Rattle.net_defs.specs.declared.timing.Timing.{Timing};
 ghost use Rattle.net_defs.specs.declared.timing.Mode.TheVariants as mode;
 ghost use Rattle.net_defs.specs.declared.stimulus.Stimulus.{Stimulus};
 ghost use Rattle.net_defs.specs.Loops.{IsLoop};
-ghost use Rattle.net_defs.specs.Valid.{IsValid};
+ghost use Rattle.net_defs.specs.Valid.{IsValid, IsValidTiming};
 ghost use Rattle.net_defs.specs.Reference.{HasOneSimulation};
 ghost use Rattle.rank_find.specs.Refusal.{IfLoop};
 ghost use Rattle.ref_sim.specs.Runs.{AreRowsOf};
@@ -34,14 +34,15 @@ use std::alloc::Global;
 /// The printed values of each cycle of the reference simulation: those that the signals have at the
 /// cycle's last turn.
 pub fn refer(alloc: Global, net: &Netlist, timing: &Timing, stim: &Stimulus) -> Result<Rows, RefNo>
-    requires { IsValid net.now }
+    requires valid { IsValid net.now }
+    requires timing { IsValidTiming timing.now }
     ensures rows { IfOk result (AreRowsOf net.now timing.now stim.now) }
     ensures simulated { OnOk result (HasOneSimulation net.now timing.now stim.now) }
 
-    // A loop is answered exactly where there is one, which is in rank order alone.
+    // A loop is answered exactly where there is one; in unit delay there is none.
     ensures acyclic { OnOk result ((members : Items ℕ) → IsLoop net.now timing.now members → ⊥) }
     ensures looped { IfErr result (λ no. IfLoop no (IsLoop net.now timing.now)) }
-    ensures in_rank_order { IfErr result (λ no. IfLoop no (λ _. timing.now.mode ≡ mode.Rank)) }
+    ensures not_in_unit_delay { IfErr result (λ no. IfLoop no (λ _. timing.now.mode ≢ mode.Unit)) }
 {
     let gates = order(alloc, net, timing)?;
     match refer_in_order(alloc, net, timing, stim, gates) {
@@ -50,11 +51,11 @@ pub fn refer(alloc: Global, net: &Netlist, timing: &Timing, stim: &Stimulus) -> 
     }
 }
 
-/// A law: in unit delay, and in rank order where there is no loop, a netlist has exactly one
-/// simulation under each stimulus. It does nothing.
+/// A law: where there is no loop, as in unit delay at any time, a netlist has exactly one simulation
+/// under each stimulus. It does nothing.
 pub fn one_simulation()
     ensures unit_delay { (net : Netlist) (timing : Timing) (stimulus : Stimulus)
         → timing.mode ≡ mode.Unit → HasOneSimulation net timing stimulus }
-    ensures rank_order { (net : Netlist) (timing : Timing) (stimulus : Stimulus)
+    ensures without_loop { (net : Netlist) (timing : Timing) (stimulus : Stimulus)
         → ((members : Items ℕ) → IsLoop net timing members → ⊥) → HasOneSimulation net timing stimulus }
 {}

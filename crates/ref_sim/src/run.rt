@@ -3,7 +3,7 @@
 ghost use Rattle.std.specs.Prelude.{◌≡◌, ℕ, ◌+◌, ◌*◌, ◌<◌, ◌≤◌, ◌^◌, ◌==◌, [], length, take, slice_index_or, IfOk};
 ghost use Rattle.net_defs.specs.declared.stimulus.Stimulus.{Stimulus};
 ghost use Rattle.net_defs.specs.Time.{cycle_rows, cycle_count};
-ghost use Rattle.net_defs.specs.Valid.{IsValid};
+ghost use Rattle.net_defs.specs.Valid.{IsValid, IsValidTiming};
 ghost use Rattle.net_defs.specs.Steps.{first_state};
 ghost use Rattle.net_defs.specs.Reference.{HasOneSimulation};
 ghost use Rattle.net_defs.specs.Loops.{IsOrder};
@@ -31,6 +31,7 @@ pub fn refer_in_order(
     order: List<u32>,
 ) -> Result<Rows, Memory>
     requires valid { IsValid net.now }
+    requires timing { IsValidTiming timing.now }
     requires order { IsOrder net.now timing.now order }
     ensures rows { IfOk result (AreRowsOf net.now timing.now stim.now) }
     ensures simulated { HasOneSimulation net.now timing.now stim.now }

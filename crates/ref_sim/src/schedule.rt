@@ -2,7 +2,7 @@
 
 ghost use Rattle.std.specs.Prelude.{◌≡◌, ◌<◌, ◌^◌, length, IfOk};
 ghost use Rattle.net_defs.specs.Loops.{IsOrder};
-ghost use Rattle.net_defs.specs.Valid.{IsValid};
+ghost use Rattle.net_defs.specs.Valid.{IsValid, IsValidTiming};
 ghost use Rattle.ref_sim.specs.Sequences.{Settles};
 ghost use Rattle.ref_sim.specs.Schedules.{driver_has_role, has_role, ListsRole, IsSchedule};
 
@@ -41,6 +41,7 @@ pub(crate) fn make_schedule(
     order: List<u32>,
 ) -> Result<Schedule, Memory>
     requires valid { IsValid net.now }
+    requires timing { IsValidTiming timing.now }
     requires order { IsOrder net.now timing.now order }
     ensures { IfOk result (IsSchedule net.now timing.now) }
 {
@@ -62,7 +63,8 @@ fn register_schedule(
     net: &Netlist,
     timing: &Timing,
 ) -> Result<(List<u32>, List<GateOp>), Memory>
-    requires { IsValid net.now }
+    requires valid { IsValid net.now }
+    requires timing { IsValidTiming timing.now }
     ensures registers { IfOk result (λ made. ListsRole net.now Role.Register made.0) }
     ensures ops { IfOk result (λ made. Settles net.now timing.now made.0 (length made.0) made.1) }
 {

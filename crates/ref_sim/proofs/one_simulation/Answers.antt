@@ -5,7 +5,7 @@ use Rattle.net_defs.specs.declared.stimulus.Stimulus.{Stimulus}
 use Rattle.net_defs.specs.Loops.{IsLoop}
 use Rattle.net_defs.specs.Reference.{HasOneSimulation}
 use Rattle.rank_find.proofs.Existence.{order_or_loop}
-use Rattle.rank_find.proofs.Exclusion.{loop_in_rank_order}
+use Rattle.rank_find.proofs.Exclusion.{loop_not_in_unit_delay}
 use Rattle.ref_sim.proofs.Simulations.{one_along}
 use Rattle.ref_sim.proofs.one_simulation.Goals as goal
 
@@ -16,7 +16,7 @@ without_loop net timing stimulus none = elim (order_or_loop net timing) [
 ]
 
 pub returns-clause-unit_delay : goal.returns-clause-unit_delay
-returns-clause-unit_delay c net timing stimulus unit = without_loop net timing stimulus (λ members is_loop. let rank = loop_in_rank_order net timing members is_loop in cc)
+returns-clause-unit_delay c net timing stimulus unit = without_loop net timing stimulus (λ members is_loop. loop_not_in_unit_delay net timing members is_loop unit)
 
-pub returns-clause-rank_order : goal.returns-clause-rank_order
-returns-clause-rank_order c net timing stimulus none = without_loop net timing stimulus none
+pub returns-clause-without_loop : goal.returns-clause-without_loop
+returns-clause-without_loop c net timing stimulus none = without_loop net timing stimulus none
