@@ -6,7 +6,7 @@ use Rattle.text_lines.specs.Answers.{IsReader}
 use Rattle.net_defs.specs.declared.netlist.Netlist.{Netlist}
 use Rattle.net_defs.specs.declared.timing.Timing.{Timing}
 use Rattle.net_defs.specs.declared.stimulus.Stimulus.{Stimulus}
-use Rattle.net_defs.specs.Loops.{IsLoop, IsOrder, OrderOrLoop}
+use Rattle.net_defs.specs.Loops.{IsCircle, IsOrder, OrderOrLoop}
 use Rattle.net_defs.specs.Reference.{HasOneSimulation}
 use Rattle.net_defs.specs.Time.{cycle_count}
 use Rattle.net_defs.specs.Trace.{IsTrace, trace_to}
@@ -54,17 +54,17 @@ loops_alike o p l k e f = record {
   line = λ other_status. absurd (other_status (ap (λ (x : Outcome). x.status) e));
 }
 
-pub loop_check : (net : Netlist) (timing : Timing) → OrderOrLoop net timing → ((order loop : List ℕ) → IsOrder net timing order → IsLoop net timing loop → ⊥) → IsCheck (HasNoLoop net timing)
+pub loop_check : (net : Netlist) (timing : Timing) → OrderOrLoop net timing → ((order circle : List ℕ) → IsOrder net timing order → IsCircle net timing circle → ⊥) → IsCheck (HasNoLoop net timing)
 loop_check net timing order_or_loop never_both = record {
   values = λ x y passed passed_too. refl;
-  either = λ x o passed refused. passed refused.0 refused.1;
+  either = λ x o passed refused. passed refused.0 refused.1.circle;
   refusals = λ o p refused refused_too. loops_alike o p _ _ refused.2 refused_too.2;
   some = some order_or_loop;
   of_text = λ o refused. subst (λ (p : Outcome). IsOfText p.status) (sym refused.2) tt;
 }
   where
     some : OrderOrLoop net timing → ((x : Unit {0}) × HasNoLoop net timing (Ok x)) ⊎ ((o : Outcome) × HasNoLoop net timing (Err o))
-    some (inl (order, is)) = inl (tt, λ loop is_loop. never_both order loop is is_loop)
+    some (inl (order, is)) = inl (tt, λ circle is_circle. never_both order circle is is_circle)
     some (inr (loop, is)) = inr (refusal status.Loop (loop_line net loop), (loop, is, refl))
 
 -- ---- whether a design fits

@@ -67,7 +67,7 @@ module _ (names : Option (List ℕ → Bool)) (bytes : Option (List ℕ → List
 
   -- what was read without a fault is what is told
   told_of : (told : Option (List ℕ → List ℕ)) (reading other : Reading) → IfSome reading.bytes (λ read. OfTold told reading.file (λ whole. read ≡ whole)) → (reading.bytes ≡ None → ⊥) → (readings : List Reading) (place : ℕ) → AreToldBy names told readings → slice_get readings place ≡ Some other → reading.file ≡ other.file → reading.bytes ≡ other.bytes
-  told_of None reading other whole some readings place are at same = absurd are
+  told_of None reading other whole some readings place are at same = absurd (are place other at)
   told_of (Some told) reading other whole some readings place are at same = by reading.bytes whole some
     where
       by : (b : Option (List ℕ)) → IfSome b (λ read. read ≡ told reading.file) → (b ≡ None → ⊥) → b ≡ other.bytes

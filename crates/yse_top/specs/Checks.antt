@@ -6,7 +6,7 @@ use Rattle.limits.specs.declared.TheConstants.{MAX_CELLS, MAX_TEXT_BYTES}
 use Rattle.net_defs.specs.declared.netlist.Netlist.{Netlist}
 use Rattle.net_defs.specs.declared.timing.Timing.{Timing}
 use Rattle.net_defs.specs.declared.stimulus.Stimulus.{Stimulus}
-use Rattle.net_defs.specs.Loops.{IsLoop}
+use Rattle.net_defs.specs.Loops.{IsCircle, IsLoop}
 use Rattle.machine_text.specs.Machines as machine_text
 use Rattle.machine_text.specs.declared.machine.Machine.{Machine}
 use Rattle.net_defs.specs.Time.{cycle_count}
@@ -87,7 +87,7 @@ IsOrderOf text machine =
 
 -- no gates wait for one another
 abbrev pub HasNoLoop : Netlist → Timing → Result (Unit {0}) Outcome → Type 0
-HasNoLoop net timing (Ok passed) = (loop : List ℕ) → IsLoop net timing loop → ⊥
+HasNoLoop net timing (Ok passed) = (circle : List ℕ) → IsCircle net timing circle → ⊥
 HasNoLoop net timing (Err outcome) = (loop : List ℕ) × IsLoop net timing loop × (outcome ≡ refusal status.Loop (loop_line net loop))
 
 -- the design fits the machine; where it doesn't, the refusal says why

@@ -30,9 +30,11 @@ IsDoneOrMemory status.Done = ⊤
 IsDoneOrMemory status.Memory = ⊤
 IsDoneOrMemory _ = ⊥
 
+-- the reading is what a store tells of its file; a store that tells no bytes tells none
+abbrev pub IsToldBy : Option (List ℕ → Bool) → Option (List ℕ → List ℕ) → Reading → Type 0
+IsToldBy names None reading = ⊥
+IsToldBy names (Some bytes) reading = (is_absent names reading.file ≡ false) × (reading.bytes ≡ Some (bytes reading.file))
+
 -- each reading is what a store tells of its file
 abbrev pub AreToldBy : Option (List ℕ → Bool) → Option (List ℕ → List ℕ) → List Reading → Type 0
-AreToldBy names None readings = ⊥
-AreToldBy names (Some bytes) readings =
-    (place : ℕ) (reading : Reading) → slice_get readings place ≡ Some reading
-    → (is_absent names reading.file ≡ false) × (reading.bytes ≡ Some (bytes reading.file))
+AreToldBy names told readings = (place : ℕ) (reading : Reading) → slice_get readings place ≡ Some reading → IsToldBy names told reading

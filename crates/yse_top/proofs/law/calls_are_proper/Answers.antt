@@ -15,7 +15,7 @@ use Rattle.net_defs.specs.declared.netlist.Netlist.{Netlist}
 use Rattle.net_defs.specs.declared.stimulus.Stimulus.{Stimulus}
 use Rattle.net_defs.specs.declared.timing.Timing.{Timing}
 use Rattle.net_defs.specs.Canonical.{canonical_text}
-use Rattle.net_defs.specs.Loops.{IsLoop, IsOrder, OrderOrLoop}
+use Rattle.net_defs.specs.Loops.{IsCircle, IsOrder, OrderOrLoop}
 use Rattle.net_defs.specs.Reference.{HasOneSimulation}
 use Rattle.net_defs.specs.Time.{turn_count}
 use Rattle.net_defs.specs.Trace.{IsTrace}
@@ -63,7 +63,7 @@ record Laws : Type 0 where
   valid_machines : (text : List ℕ) (machine : Machine) → machine_text.Reads text machine → IsValidMachine machine
   default_valid : IsValidMachine default_machine
   valid_netlists : (text : List ℕ) (net : Netlist) → length text ≤ MAX_TEXT_BYTES → bench_reads.Reads text net → IsValid net
-  room : (net : Netlist) (machine : Machine) (timing : Timing) → IsValid net → IsValidMachine machine → ((loop : List ℕ) → IsLoop net timing loop → ⊥) → IsRoomLaw net machine timing
+  room : (net : Netlist) (machine : Machine) (timing : Timing) → IsValid net → IsValidMachine machine → ((circle : List ℕ) → IsCircle net timing circle → ⊥) → IsRoomLaw net machine timing
   stimuli : (inputs : ℕ) → IsReader (stim.Reads inputs) (stim.first_fault inputs)
   orders : (ports : ℕ) → IsReader (orders.Reads ports) (orders.first_fault ports)
   forms : (words : List (List ℕ)) (command : Command) → (asked words ≡ Some command) ↔ HasForm words command
@@ -73,8 +73,8 @@ record Laws : Type 0 where
   one_summary : (gates cycles : ℕ) (one other : List ℕ) → gates ≤ MAX_LARGE_GATES → IsSummaryOf gates cycles one → IsSummaryOf gates cycles other → one ≡ other
   once : (net : Netlist) (machine : Machine) (timing : Timing) → IsValid net → AreOnce net machine timing
   order_or_loop : (net : Netlist) (timing : Timing) → OrderOrLoop net timing
-  never_both : (net : Netlist) (timing : Timing) (order loop : List ℕ) → IsOrder net timing order → IsLoop net timing loop → ⊥
-  one_simulation : (net : Netlist) (timing : Timing) (stimulus : Stimulus) → ((loop : List ℕ) → IsLoop net timing loop → ⊥) → HasOneSimulation net timing stimulus
+  never_both : (net : Netlist) (timing : Timing) (order circle : List ℕ) → IsOrder net timing order → IsCircle net timing circle → ⊥
+  one_simulation : (net : Netlist) (timing : Timing) (stimulus : Stimulus) → ((circle : List ℕ) → IsCircle net timing circle → ⊥) → HasOneSimulation net timing stimulus
 
 words_status : (o : Outcome) → o ≡ refusal status.Words usage_line → o.status ≡ status.Words
 words_status o is = ap (λ (o : Outcome). o.status) is
@@ -295,7 +295,7 @@ returns c =
       room = λ net machine timing valid machine_valid acyclic. record {
         some = elim (c.order_or_loop.ensures.one net timing) [
           | inl (order, is) ↦ some_room (c.fits_or_refused.ensures net machine timing (c.items_exist.ensures net timing order valid is).0 valid machine_valid acyclic (c.items_exist.ensures net timing order valid is).1)
-          | inr (loop, is) ↦ absurd (acyclic loop is)
+          | inr (loop, is) ↦ absurd (acyclic loop is.circle)
         ];
         never_both = λ why fits is right. never_room why is right
             (λ block needed left lacks. c.fits_bits.ensures net machine timing fits block needed left lacks)
