@@ -14,9 +14,10 @@ use Rattle.text_lines.specs.Lines.{parts_of}
 use Rattle.text_lines.specs.Words.{words_of}
 use Rattle.text_lines.proofs.AnswerLemmas.{first_none, none_below}
 use Rattle.net_defs.specs.declared.netlist.Netlist.{Netlist}
+use Rattle.net_defs.specs.Steps.{is_listed}
 use Rattle.bench_read.specs.declared.refusal.LastNo.{LastNo}
 use Rattle.bench_read.specs.declared.refusal.LastNo.TheVariants.{Syntax, Twice}
-use Rattle.bench_read.specs.GateLists.{is_listed, is_name, gate_named, gate_of_words, gate_of, gates_of, ascending, Reads, gate_fault, words_fault, fault_of, fault_at, first_fault}
+use Rattle.bench_read.specs.GateLists.{is_name, gate_named, gate_of_words, gate_of, gates_of, ascending, Reads, gate_fault, words_fault, fault_of, fault_at, first_fault}
 
 -- ---- one line
 

@@ -15,8 +15,10 @@ use Rattle.text_lines.specs.Lines.{parts_of}
 use Rattle.text_lines.proofs.AnswerLemmas.{first-zero, first_none_more, first_some}
 use Rattle.text_lines.proofs.LineLemmas.{IsNextLine}
 use Rattle.net_defs.specs.declared.netlist.Netlist.{Netlist}
+use Rattle.net_defs.specs.Steps.{is_listed}
+use Rattle.net_defs.specs.Valid.{Ascends}
 use Rattle.bench_read.specs.declared.refusal.LastNo.{LastNo}
-use Rattle.bench_read.specs.GateLists.{Ascends, AreMarks, is_listed, gate_of, gates_of, ascending, marked, fault_of, fault_at, first_fault, Reads}
+use Rattle.bench_read.specs.GateLists.{AreMarks, gate_of, gates_of, ascending, marked, fault_of, fault_at, first_fault, Reads}
 use Rattle.bench_read.proofs.ListLemmas.{gates_more}
 use Rattle.bench_read.proofs.NumberLemmas.{range_more}
 

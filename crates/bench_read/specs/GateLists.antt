@@ -1,6 +1,6 @@
 -- Which gates a list text names, and its first fault.
-use Rattle.std.specs.Prelude.{◌≡◌, ◌≢◌, ℕ, ◌+◌, ◌<◌, ◌==◌, ◌&&◌, ◌⊎◌, Bool, false, List, [], ◌∷◌, length, take, map, filter, slice_index, slice_index_or, Option, Some, None, if◌then◌else◌, nat_le, bytes_eq, All, AllPairs}
-use Rattle.std.specs.List.{list_any, list_all, filter_map, position, range_with_len}
+use Rattle.std.specs.Prelude.{◌≡◌, ◌≢◌, ℕ, ◌+◌, ◌<◌, ◌&&◌, ◌⊎◌, Bool, false, List, [], ◌∷◌, length, take, map, filter, slice_index_or, Option, Some, None, if◌then◌else◌, nat_le, bytes_eq, All, AllPairs}
+use Rattle.std.specs.List.{list_all, filter_map, position, range_with_len}
 use Rattle.limits.specs.declared.TheConstants.{MAX_NAME_BYTES}
 use Rattle.text_lines.specs.Answers.{first}
 use Rattle.text_lines.specs.Lines.{parts_of}
@@ -8,16 +8,9 @@ use Rattle.text_lines.specs.Names.{is_name_byte}
 use Rattle.text_lines.specs.Words.{words_of}
 use Rattle.net_defs.specs.declared.netlist.Netlist.{Netlist}
 use Rattle.net_defs.specs.Loops.{is_gate}
+use Rattle.net_defs.specs.Steps.{is_listed}
 use Rattle.bench_read.specs.declared.refusal.LastNo.{LastNo}
 use Rattle.bench_read.specs.declared.refusal.LastNo.TheVariants.{Syntax, NoGate, Twice}
-
--- the list has this number
-abbrev pub is_listed : List ℕ → ℕ → Bool
-is_listed listed signal = list_any (λ s. s == signal) listed
-
--- each number is below all later ones
-abbrev pub Ascends : List ℕ → Type 0
-Ascends numbers = (i j : ℕ) → i < j → j < length numbers → slice_index numbers i < slice_index numbers j
 
 -- ---- names
 

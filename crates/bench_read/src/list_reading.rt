@@ -4,9 +4,9 @@ ghost use Rattle.std.specs.Prelude.{◌≡◌, ◌≤◌, List as Items, ℕ, No
 ghost use Rattle.limits.specs.declared.TheConstants.{MAX_SIGNALS, MAX_TEXT_BYTES};
 ghost use Rattle.text_lines.specs.Answers.{Answers};
 ghost use Rattle.text_lines.specs.Lines.{parts_of};
-ghost use Rattle.net_defs.specs.Valid.{IsValid, NamesDiffer};
+ghost use Rattle.net_defs.specs.Valid.{Ascends, IsValid, NamesDiffer};
 ghost use Rattle.bench_read.specs.declared.refusal.LastNo.TheVariants.{Memory as NoMemory};
-ghost use Rattle.bench_read.specs.GateLists.{AreMarks, Ascends, Reads, first_fault, gates_of, marked, names_in};
+ghost use Rattle.bench_read.specs.GateLists.{AreMarks, Reads, first_fault, gates_of, marked, names_in};
 
 use crate::list_line::read_line;
 use crate::names::Names;
