@@ -14,7 +14,7 @@ pub struct Placed {
     pub item: u32,
 }
 
-/// The items in slot order, given the slot of each.
+/// The items in slot order, given the slot of each. Items of one slot stand in any order among themselves.
 pub fn slot_order(alloc: Global, slots: &[u32]) -> Result<Vec<Placed>, Memory>
     requires { length slots.now < 2 ^ 32 }
     ensures { IfOk result (λ order. IsSlotOrder slots.now order.items) }

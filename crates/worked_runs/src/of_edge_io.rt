@@ -99,9 +99,10 @@ fn reads_from_plain_files(rt: HostRuntime) -> Result<(), Fail> {
 /// Where there is memory enough, the room is taken; nothing that follows can fail.
 #[test]
 fn writes_to_plain_sinks(rt: HostRuntime) -> Result<(), Fail> {
-    let mut sink = PlainSink::new(rt.alloc(), 4)?;
-    sink.write(b"abc");
-    assert_eq!(rt; sink.taken(), b"abc".as_slice());
+    let text = b"INPUT(a)\nOUTPUT(z)\nz = BUFF(a)\n".as_slice();
+    let mut sink = PlainSink::new(rt.alloc(), 32)?;
+    sink.write(text);
+    assert_eq!(rt; sink.taken(), text);
     assert_eq!(rt; sink.room(), 1);
     assert_eq!(rt; write_whole(&mut NullSink::new(), b"abc"), Ok(()));
     Ok(())

@@ -58,10 +58,22 @@ fn too_many(alloc: Global, text: &Text) -> Option<(u32, Option<Many>)> {
 #[test]
 fn netlists_at_the_limits(rt: HostRuntime) -> Result<(), Fail> {
     let alloc = rt.alloc();
-    assert_eq!(rt; too_many(alloc, &inputs(alloc, 1_048_576)?), Some((0, None)));
-    assert_eq!(rt; too_many(alloc, &inputs(alloc, 1_048_577)?), Some((1_048_577, Some(Many::Signals))));
-    assert_eq!(rt; too_many(alloc, &gates(alloc, 4095, 1024)?), Some((0, None)));
-    assert_eq!(rt; too_many(alloc, &gates(alloc, 4096, 1)?), Some((4098, Some(Many::Operands))));
+    assert_eq!(rt;
+        too_many(alloc, &inputs(alloc, 1_048_576)?),
+        Some((0, None))
+    );
+    assert_eq!(rt;
+        too_many(alloc, &inputs(alloc, 1_048_577)?),
+        Some((1_048_577, Some(Many::Signals)))
+    );
+    assert_eq!(rt;
+        too_many(alloc, &gates(alloc, 4095, 1024)?),
+        Some((0, None))
+    );
+    assert_eq!(rt;
+        too_many(alloc, &gates(alloc, 4096, 1)?),
+        Some((4098, Some(Many::Operands)))
+    );
     Ok(())
 }
 
@@ -88,6 +100,9 @@ fn order_refusal(alloc: Global, text: &Text) -> Option<OrderNo> {
 fn orders_at_the_limit(rt: HostRuntime) -> Result<(), Fail> {
     let alloc = rt.alloc();
     assert_eq!(rt; order_refusal(alloc, &steps(alloc, 1000, "")?), None);
-    assert_eq!(rt; order_refusal(alloc, &steps(alloc, 1000, "0")?), Some(OrderNo::TooLong { line: 1001 }));
+    assert_eq!(rt;
+        order_refusal(alloc, &steps(alloc, 1000, "0")?),
+        Some(OrderNo::TooLong { line: 1001 })
+    );
     Ok(())
 }

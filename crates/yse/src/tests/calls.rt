@@ -312,6 +312,26 @@ const CASES: &[Case] = &[
         output: "INPUT(we)\nINPUT(a0)\nINPUT(a1)\nINPUT(d)\nOUTPUT(q)\n[q] = RAM(we; a0, a1; d)\n",
         line: "",
     },
+    Case {
+        commands: "plan",
+        words: "net.bench",
+        netlist: "",
+        stimulus: "",
+        failing: (0, 2),
+        status: 0,
+        output: "slots 0\nl0 items 0 tables 0 takes 0\nl1 items 0 tables 0 takes 0\nl2 items 0 tables 0 takes 0\nl3 items 0 tables 0 takes 0\na0 items 0 bits 0 takes 0\nh items 0 takes 0\n",
+        line: "",
+    },
+    Case {
+        commands: "large",
+        words: "2 2",
+        netlist: "",
+        stimulus: "",
+        failing: (0, 2),
+        status: 0,
+        output: "gates 2 nodes 2 slots 9 crossings 5\nzeros 2 ones 2 xs 0 zs 0\n",
+        line: "",
+    },
     // Refused netlists.
     Case {
         commands: "show",

@@ -320,15 +320,12 @@ fn large<R: Threads + Wait + Sync>(rt: &R, alloc: Global, words: &str) -> Result
 
 /// Generated designs: the words behind the command, and the summary.
 const SUMMARIES: &[(&str, &str)] = &[
-    ("2 2", TWO_GATES),
     ("2000 20 --workers 1", THOUSANDS),
     ("2000 20 --workers 4", THOUSANDS),
     ("2000 20 --workers 64", THOUSANDS),
     ("20000 200 --workers 1", TENS_OF_THOUSANDS),
     ("20000 200 --workers 1", TENS_OF_THOUSANDS),
 ];
-
-const TWO_GATES: &str = "gates 2 nodes 2 slots 9 crossings 5\nzeros 2 ones 2 xs 0 zs 0\n";
 
 const THOUSANDS: &str =
     "gates 2000 nodes 2000 slots 292 crossings 3775\nzeros 87 ones 73 xs 0 zs 0\n";
