@@ -1,9 +1,9 @@
 //! What a gate waits for in a turn. Loops, orders and ranks speak of this alone.
 
 ghost use Rattle.std.specs.Prelude.{◌≡◌, ◌<◌, length};
-ghost use Rattle.net_defs.specs.Steps.{is_late};
+ghost use Rattle.net_defs.specs.Steps.{is_late, is_listed};
 ghost use Rattle.net_defs.specs.Loops.{gate_operands, is_gate, waits_for};
-ghost use Rattle.net_defs.specs.Valid.{IsValidTiming};
+ghost use Rattle.net_defs.specs.Valid.{Ascends, IsValidTiming};
 
 use crate::{Driver, Mode, Netlist, Timing};
 
@@ -17,8 +17,16 @@ pub fn is_late(net: &Netlist, timing: &Timing, gate: u32) -> bool
     match timing.mode {
         Mode::Rank => false,
         Mode::Unit => true,
-        Mode::Mixed => timing.listed.as_slice().binary_search(&gate).is_ok(),
+        Mode::Mixed => is_listed(timing.listed.as_slice(), gate),
     }
+}
+
+/// Whether an ascending list has this number.
+fn is_listed(listed: &[u32], gate: u32) -> bool
+    requires { Ascends listed.now }
+    ensures { result ≡ is_listed listed.now gate }
+{
+    listed.binary_search(&gate).is_ok()
 }
 
 /// Whether a gate drives the signal of this number. A register or a memory is no gate.
