@@ -6,8 +6,10 @@ mod DraftLemmas
 mod FairLemmas
 mod FirstLemmas
 mod FoundLemmas
+mod ListLemmas
 mod MadeLemmas
 mod MakingLemmas
+mod MarkLemmas
 mod NameLemmas
 mod NumberLemmas
 mod PieceLemmas

@@ -1,6 +1,7 @@
 pub mod Drafting
 pub mod Drafts
 pub mod Faults
+pub mod GateLists
 pub mod Lines
 pub mod Making
 pub mod Netlists

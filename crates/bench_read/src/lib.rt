@@ -1,10 +1,17 @@
-//! The netlist of a text in the ISCAS'89 `.bench` format, or the text's first fault.
+//! The netlist of a text in the ISCAS'89 `.bench` format, or the text's first fault; and the gates
+//! that a list names by a line for each, or the list's first fault.
+//!
+//! List text: a line outside its comment is blank, or it is the name of a gate, with blanks around.
+//! No gate is named twice. The format is this project's profile.
 #![tactic(auto)]
 
 mod draft;
 mod drivers;
 pub mod law;
 mod lines;
+pub mod list_law;
+mod list_line;
+mod list_reading;
 mod names;
 mod netlist;
 mod numbers;
@@ -13,5 +20,6 @@ mod refusal;
 mod rows;
 mod say;
 
+pub use list_reading::read_last;
 pub use read::read_bench;
-pub use refusal::{BenchNo, Many};
+pub use refusal::{BenchNo, LastNo, Many};

@@ -1,4 +1,4 @@
-//! Why a netlist text is refused.
+//! Why a netlist text, or the text of a list of gates, is refused.
 
 ghost use Rattle.std.specs.Prelude.{◌≡◌};
 ghost use Rattle.bench_read.specs.Faults.{of_text};
@@ -47,6 +47,31 @@ impl From<Memory> for BenchNo {
 
     fn from(_refused: Memory) -> BenchNo {
         BenchNo::Memory
+    }
+}
+
+/// Why the text of a list of gates is refused. Lines are counted from 1.
+#[derive(Clone, Copy, Debug, PartialEq, Eq)]
+pub enum LastNo {
+    /// The line is neither blank nor one name.
+    Syntax { line: u32 },
+    /// The line's name is that of no gate of the netlist. An input, a register and the output of a
+    /// memory are no gates.
+    NoGate { line: u32 },
+    /// An earlier line has the line's name.
+    Twice { line: u32 },
+    /// There was not enough memory to read the text.
+    Memory,
+}
+
+impl From<Memory> for LastNo {
+    ghost use Rattle.std.specs.Prelude.{◌≡◌};
+    ghost use Rattle.bench_read.specs.declared.refusal.LastNo.TheVariants.{Memory as NoMemory};
+
+    ghost from_gives = { λ _ e. e ≡ NoMemory };
+
+    fn from(_refused: Memory) -> LastNo {
+        LastNo::Memory
     }
 }
 
