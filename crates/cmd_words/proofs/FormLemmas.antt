@@ -27,24 +27,25 @@ call_says names proper reading name words arguments given call =
 
 -- the simulation of values
 run_is : (run : RunWords) (value : Values) → run.machine ≡ value (codes "machine") → run.order ≡ value (codes "order")
-    → timing_by value ≡ Some run.timing → banks_by value ≡ Some run.banks → workers_by value ≡ Some run.workers → run_by run.netlist run.stimulus value ≡ Some run
-run_is run value machine order timing banks workers =
+    → run.last ≡ value (codes "last") → timing_by value ≡ Some run.timing → banks_by value ≡ Some run.banks → workers_by value ≡ Some run.workers → run_by run.netlist run.stimulus value ≡ Some run
+run_is run value machine order last timing banks workers =
     ap₂ (λ timing banks. run_with run.netlist run.stimulus value timing banks (workers_by value)) timing banks
     ∙ ap (run_with run.netlist run.stimulus value (Some run.timing) (Some run.banks)) workers
-    ∙ ap₂ (λ machine order. Some (record run { machine = machine; order = order })) (sym machine) (sym order)
+    ∙ ap₂ (λ machine order. Some (record run { machine = machine; order = order; last = value (codes "last") })) (sym machine) (sym order)
+    ∙ ap (λ last. Some (record run { last = last })) (sym last)
 
 run_says : (names : List Word) → list_all is_proper names ≡ true → (name : Word) (words : List Word) (run : RunWords) → (form : IsRun name names words (run.netlist ∷ run.stimulus ∷ []) run)
     → says names of_two_files form.call.others ≡ Some run
 run_says names proper name words run form =
     call_says names proper of_two_files name words (run.netlist ∷ run.stimulus ∷ []) form.given form.call
-    ∙ run_is run (value_given form.given) form.machine form.order form.timing form.banks form.workers
+    ∙ run_is run (value_given form.given) form.machine form.order form.last form.timing form.banks form.workers
 
 plan_says : (words : List Word) (run : RunWords) → (form : IsRun (codes "plan") plan_options words (run.netlist ∷ []) run) → run.stimulus ≡ []
     → says plan_options of_plan form.call.others ≡ Some run
 plan_says words run form none =
     call_says plan_options refl of_plan (codes "plan") words (run.netlist ∷ []) form.given form.call
     ∙ ap (λ stimulus. run_by run.netlist stimulus (value_given form.given)) (sym none)
-    ∙ run_is run (value_given form.given) form.machine form.order form.timing form.banks form.workers
+    ∙ run_is run (value_given form.given) form.machine form.order form.last form.timing form.banks form.workers
 
 large_says : (words : List Word) (gates cycles workers : ℕ) → (form : IsLarge words gates cycles workers)
     → says large_options of_large form.call.others ≡ Some (Large gates cycles workers)
@@ -91,6 +92,7 @@ record IsRunBy (arguments : List Word) (value : Values) (run : RunWords) : Type 
   pub arguments_are : arguments ≡ run.netlist ∷ run.stimulus ∷ []
   pub machine : run.machine ≡ value (codes "machine")
   pub order : run.order ≡ value (codes "order")
+  pub last : run.last ≡ value (codes "last")
   pub timing : timing_by value ≡ Some run.timing
   pub banks : banks_by value ≡ Some run.banks
   pub workers : workers_by value ≡ Some run.workers
@@ -106,6 +108,7 @@ run_back netlist stimulus value run e = go (timing_by value) (banks_by value) (w
           stimulus = stimulus;
           machine = value (codes "machine");
           order = value (codes "order");
+          last = value (codes "last");
           timing = timing;
           banks = banks;
           workers = workers;
@@ -114,6 +117,7 @@ run_back netlist stimulus value run e = go (timing_by value) (banks_by value) (w
           arguments_are = ap (λ (run : RunWords). run.netlist ∷ run.stimulus ∷ []) is;
           machine = sym (ap (λ (run : RunWords). run.machine) is);
           order = sym (ap (λ (run : RunWords). run.order) is);
+          last = sym (ap (λ (run : RunWords). run.last) is);
           timing = t ∙ ap (λ (run : RunWords). Some run.timing) is;
           banks = b ∙ ap (λ (run : RunWords). Some run.banks) is;
           workers = w ∙ ap (λ (run : RunWords). Some run.workers) is;
@@ -138,6 +142,7 @@ run_form names name words run e =
       call = record { others = words; words_are = refl; arguments_are = rw (is.arguments_are) at so.arguments };
       machine = is.machine;
       order = is.order;
+      last = is.last;
       timing = is.timing;
       banks = is.banks;
       workers = is.workers;
@@ -160,7 +165,7 @@ plan_back (netlist ∷ []) value run e =
     record {
       arguments_are = ap (λ (word : Word). word ∷ []) same.0;
       none = sym same.1;
-      is = record { arguments_are = refl; machine = is.machine; order = is.order; timing = is.timing; banks = is.banks; workers = is.workers };
+      is = record { arguments_are = refl; machine = is.machine; order = is.order; last = is.last; timing = is.timing; banks = is.banks; workers = is.workers };
     }
 plan_back [] value run e = cc
 plan_back (one ∷ other ∷ others) value run e = cc
@@ -175,6 +180,7 @@ plan_form words run e =
         call = record { others = words; words_are = refl; arguments_are = rw (by.arguments_are) at so.arguments };
         machine = by.is.machine;
         order = by.is.order;
+        last = by.is.last;
         timing = by.is.timing;
         banks = by.is.banks;
         workers = by.is.workers;

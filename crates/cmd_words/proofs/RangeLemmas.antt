@@ -1,12 +1,12 @@
 -- The numbers of a command that words ask for are in their ranges.
-use Rattle.std.proofs.Common.{◌≡◌, refl, sym, subst, ℕ, ◌≤◌, Bool, true, false, ◌&&◌, List, length, Option, None, Some, arith, codes}
+use Rattle.std.proofs.Common.{◌≡◌, refl, sym, subst, ℕ, ◌≤◌, Bool, true, false, ◌&&◌, List, [], length, Option, None, Some, arith, codes}
 use Rattle.std.specs.Prelude.{nat_le, if◌then◌else◌, IfOk, Result, Ok, Err}
 use Rattle.std.proofs.lemmas.Bool.{leb-true}
 use Rattle.limits.specs.declared.TheConstants.{MAX_LARGE_CYCLES, MAX_LARGE_GATES, MAX_UNITS, MAX_BANKS, MAX_WORKERS}
 use Rattle.text_lines.specs.Numbers.{number_of, within}
 use Rattle.net_defs.specs.declared.timing.Timing.{Timing}
 use Rattle.net_defs.specs.declared.timing.Mode.{Mode}
-use Rattle.net_defs.specs.declared.timing.Mode.TheVariants.{Rank, Unit}
+use Rattle.net_defs.specs.declared.timing.Mode.TheVariants.{Rank, Unit, Mixed}
 use Rattle.net_defs.specs.declared.timing.Init.{Init}
 use Rattle.net_defs.specs.Valid.{IsValidTiming}
 use Rattle.cmd_words.specs.declared.command.Command.{Command}
@@ -16,7 +16,7 @@ use Rattle.cmd_words.specs.declared.command.WordNo.{WordNo}
 use Rattle.cmd_words.specs.Arguments.{Word, value_given}
 use Rattle.cmd_words.specs.Asked.{Values, Answers, asked}
 use Rattle.cmd_words.specs.Forms.{HasForm, IsInRange, IsLarge, IsLargeInRange, IsRun, IsRunInRange}
-use Rattle.cmd_words.specs.Settings.{allows_units, count_of, count_or, mode_of, init_of, timing_with}
+use Rattle.cmd_words.specs.Settings.{allows_units, allows_list, count_of, count_or, mode_of, init_of, timing_with}
 use Rattle.cmd_words.proofs.FormLemmas.{form_from}
 
 -- a number within limits
@@ -49,20 +49,22 @@ one_turn Rank units allows is = by_test
     by_test : units ≡ 1
     by_test = grind arith
 one_turn Unit units allows is = cc
+one_turn Mixed units allows is = cc
 
-timed : (value : Option Word) (mode : Option Mode) (units : Option ℕ) (init : Option Init) (timing : Timing) → count_or MAX_UNITS 1 value ≡ units
-    → timing_with mode units init ≡ Some timing → IsValidTiming timing
-timed value None units init timing are is = cc
-timed value (Some mode) None init timing are is = cc
-timed value (Some mode) (Some units) None timing are is = cc
-timed value (Some mode) (Some units) (Some init) timing are is = by (allows_units mode units) refl is
+timed : (value file : Option Word) (mode : Option Mode) (units : Option ℕ) (init : Option Init) (timing : Timing) → count_or MAX_UNITS 1 value ≡ units
+    → timing_with mode units init file ≡ Some timing → IsValidTiming timing
+timed value file None units init timing are is = cc
+timed value file (Some mode) None init timing are is = cc
+timed value file (Some mode) (Some units) None timing are is = cc
+timed value file (Some mode) (Some units) (Some init) timing are is = by (allows_units mode units) (allows_list mode file) refl is
   where
-    by : (b : Bool) → allows_units mode units ≡ b → (if b then Some (record { mode = mode; units = units; init = init }) else None) ≡ Some timing → IsValidTiming timing
-    by true allows e =
-        let same : record { mode = mode; units = units; init = init } ≡ timing = cc in
+    by : (a b : Bool) → allows_units mode units ≡ a → (if a && b then Some (record { mode = mode; units = units; init = init; listed = [] }) else None) ≡ Some timing → IsValidTiming timing
+    by true true allows e =
+        let same : record { mode = mode; units = units; init = init; listed = [] } ≡ timing = cc in
         let range = counted_or MAX_UNITS 1 value units (omega arith) (omega arith) are in
-        subst IsValidTiming same (record { some = range.0; few = range.1; rank = one_turn mode units allows })
-    by false allows e = cc
+        subst IsValidTiming same (record { some = range.0; few = range.1; rank = one_turn mode units allows; ascends = λ i j before within. absurd (omega arith) })
+    by true false allows e = cc
+    by false b allows e = cc
 
 run_in_range : (name : Word) (options words arguments : List Word) (run : RunWords) → IsRun name options words arguments run → IsRunInRange run
 run_in_range name options words arguments run form =
@@ -70,7 +72,7 @@ run_in_range name options words arguments run form =
     let banks = counted_or MAX_BANKS 1 (value (codes "banks")) run.banks (omega arith) (omega arith) form.banks in
     let workers = counted_or MAX_WORKERS 4 (value (codes "workers")) run.workers (omega arith) (omega arith) form.workers in
     record {
-      timing = timed (value (codes "units")) (mode_of (value (codes "mode"))) (count_or MAX_UNITS 1 (value (codes "units"))) (init_of (value (codes "init"))) run.timing refl form.timing;
+      timing = timed (value (codes "units")) (value (codes "last")) (mode_of (value (codes "mode"))) (count_or MAX_UNITS 1 (value (codes "units"))) (init_of (value (codes "init"))) run.timing refl form.timing;
       banks_some = banks.0;
       banks_few = banks.1;
       workers_some = workers.0;

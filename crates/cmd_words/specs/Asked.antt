@@ -20,6 +20,7 @@ run_with netlist stimulus value (Some timing) (Some banks) (Some workers) = Some
   stimulus = stimulus;
   machine = value (codes "machine");
   order = value (codes "order");
+  last = value (codes "last");
   timing = timing;
   banks = banks;
   workers = workers;

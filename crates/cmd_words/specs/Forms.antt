@@ -23,6 +23,7 @@ pub record IsRun (name : Word) (options words arguments : List Word) (run : RunW
   pub call : IsCall name options words arguments given
   pub machine : run.machine ≡ value_given given (codes "machine")
   pub order : run.order ≡ value_given given (codes "order")
+  pub last : run.last ≡ value_given given (codes "last")
   pub timing : timing_by (value_given given) ≡ Some run.timing
   pub banks : banks_by (value_given given) ≡ Some run.banks
   pub workers : workers_by (value_given given) ≡ Some run.workers

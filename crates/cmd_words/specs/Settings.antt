@@ -1,10 +1,10 @@
 -- The options of each command, and what the values of options say.
-use Rattle.std.specs.Prelude.{◌==◌, ℕ, Bool, true, List, [], ◌∷◌, length, nat_le, if◌then◌else◌, Option, Some, None, codes, bytes_eq}
+use Rattle.std.specs.Prelude.{◌==◌, ◌&&◌, ℕ, Bool, true, not, is_some, List, [], ◌∷◌, length, nat_le, if◌then◌else◌, Option, Some, None, codes, bytes_eq}
 use Rattle.limits.specs.declared.TheConstants.{MAX_LARGE_CYCLES, MAX_LARGE_GATES, MAX_UNITS, MAX_BANKS, MAX_WORKERS}
 use Rattle.text_lines.specs.Numbers.{number_of, within}
 use Rattle.net_defs.specs.declared.timing.Timing.{Timing}
 use Rattle.net_defs.specs.declared.timing.Mode.{Mode}
-use Rattle.net_defs.specs.declared.timing.Mode.TheVariants.{Rank, Unit}
+use Rattle.net_defs.specs.declared.timing.Mode.TheVariants.{Rank, Unit, Mixed}
 use Rattle.net_defs.specs.declared.timing.Init.{Init}
 use Rattle.net_defs.specs.declared.timing.Init.TheVariants.{Undef, Zero}
 use Rattle.cmd_words.specs.Arguments.{Word}
@@ -12,16 +12,16 @@ use Rattle.cmd_words.specs.Arguments.{Word}
 -- ---- the options of each command
 
 abbrev pub run_options : List Word
-run_options = codes "machine" ∷ codes "mode" ∷ codes "units" ∷ codes "init" ∷ codes "workers" ∷ codes "banks" ∷ []
+run_options = codes "machine" ∷ codes "mode" ∷ codes "last" ∷ codes "units" ∷ codes "init" ∷ codes "workers" ∷ codes "banks" ∷ []
 
 abbrev pub refer_options : List Word
-refer_options = codes "mode" ∷ codes "units" ∷ codes "init" ∷ []
+refer_options = codes "mode" ∷ codes "last" ∷ codes "units" ∷ codes "init" ∷ []
 
 abbrev pub order_options : List Word
-order_options = codes "machine" ∷ codes "mode" ∷ codes "units" ∷ codes "init" ∷ codes "order" ∷ codes "banks" ∷ []
+order_options = codes "machine" ∷ codes "mode" ∷ codes "last" ∷ codes "units" ∷ codes "init" ∷ codes "order" ∷ codes "banks" ∷ []
 
 abbrev pub plan_options : List Word
-plan_options = codes "machine" ∷ codes "mode" ∷ []
+plan_options = codes "machine" ∷ codes "mode" ∷ codes "last" ∷ []
 
 abbrev pub show_options : List Word
 show_options = []
@@ -54,6 +54,7 @@ mode_of None = Some Rank
 mode_of (Some value) =
     if bytes_eq value (codes "rank") then Some Rank
     else if bytes_eq value (codes "unit") then Some Unit
+    else if bytes_eq value (codes "mixed") then Some Mixed
     else None
 
 -- the initial value, and undefined where none is given
@@ -70,16 +71,26 @@ init_of (Some value) =
 abbrev pub allows_units : Mode → ℕ → Bool
 allows_units Rank units = units == 1
 allows_units Unit units = true
+allows_units Mixed units = true
 
-abbrev pub timing_with : Option Mode → Option ℕ → Option Init → Option Timing
-timing_with (Some mode) (Some units) (Some init) =
-    if allows_units mode units then Some (record { mode = mode; units = units; init = init }) else None
-timing_with _ _ _ = None
+-- exactly in mixed mode a file of a list is named
+abbrev pub allows_list : Mode → Option Word → Bool
+allows_list Rank file = not (is_some file)
+allows_list Unit file = not (is_some file)
+allows_list Mixed file = is_some file
+
+-- the list is not read yet
+abbrev pub timing_with : Option Mode → Option ℕ → Option Init → Option Word → Option Timing
+timing_with (Some mode) (Some units) (Some init) file =
+    if allows_units mode units && allows_list mode file
+    then Some (record { mode = mode; units = units; init = init; listed = [] })
+    else None
+timing_with _ _ _ _ = None
 
 -- the timing that the values of options say: 1 to 4,096 turns a cycle, and 1 where none are given
 abbrev pub timing_by : (Word → Option Word) → Option Timing
 timing_by value =
-    timing_with (mode_of (value (codes "mode"))) (count_or MAX_UNITS 1 (value (codes "units"))) (init_of (value (codes "init")))
+    timing_with (mode_of (value (codes "mode"))) (count_or MAX_UNITS 1 (value (codes "units"))) (init_of (value (codes "init"))) (value (codes "last"))
 
 -- the words of each send: 1 to 8, and 1 where none are given
 abbrev pub banks_by : (Word → Option Word) → Option ℕ

@@ -15,7 +15,10 @@ pub struct RunWords {
     pub machine: Option<Text>,
     /// The file of the order of the ports, of `order` alone, where `None` stands for rounds.
     pub order: Option<Text>,
-    /// How the netlist is run in time. It is valid: `IsInRange`.
+    /// The file of the list of gates that read the last turn: exactly in mixed mode there is one.
+    pub last: Option<Text>,
+    /// How the netlist is run in time. It is valid: `IsInRange`. It lists no gate: the file of the list
+    /// is not read here.
     pub timing: Timing,
     /// The words that the crossbar has for each send, 1 to 8.
     pub banks: u32,

@@ -1,16 +1,18 @@
 //! The options of each command. A command that is to have a further option gets its name here.
 
 /// The options of `run`.
-pub static RUN: [&str; 6] = ["machine", "mode", "units", "init", "workers", "banks"];
+pub static RUN: [&str; 7] = [
+    "machine", "mode", "last", "units", "init", "workers", "banks",
+];
 
 /// The options of `refer`.
-pub static REFER: [&str; 3] = ["mode", "units", "init"];
+pub static REFER: [&str; 4] = ["mode", "last", "units", "init"];
 
 /// The options of `order`.
-pub static ORDER: [&str; 6] = ["machine", "mode", "units", "init", "order", "banks"];
+pub static ORDER: [&str; 7] = ["machine", "mode", "last", "units", "init", "order", "banks"];
 
 /// The options of `plan`.
-pub static PLAN: [&str; 2] = ["machine", "mode"];
+pub static PLAN: [&str; 3] = ["machine", "mode", "last"];
 
 /// The options of `show`: none.
 pub static SHOW: [&str; 0] = [];

@@ -186,7 +186,7 @@ fn run_words(
     ensures { Answers result (run_by netlist.now stimulus.now (value_found matches.now)) }
 {
     let (Some(timing), Some(banks), Some(workers)) = (
-        timing(matches),
+        timing(alloc, matches),
         banks(matches),
         workers(matches),
     ) else {
@@ -197,6 +197,7 @@ fn run_words(
         stimulus: Text::from_bytes(alloc, stimulus.as_bytes())?,
         machine: text(alloc, value(matches, "machine"))?,
         order: text(alloc, value(matches, "order"))?,
+        last: text(alloc, value(matches, "last"))?,
         timing,
         banks,
         workers,

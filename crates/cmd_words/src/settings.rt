@@ -2,25 +2,26 @@
 
 ghost use Rattle.std.specs.Prelude.{◌≡◌, option_map};
 ghost use Rattle.cmd_words.specs.Parses.{value_found};
-ghost use Rattle.cmd_words.specs.Settings.{count_of, count_or, mode_of, init_of, allows_units, timing_with, timing_by, banks_by, workers_by, gates_of, cycles_of};
+ghost use Rattle.cmd_words.specs.Settings.{count_of, count_or, mode_of, init_of, allows_units, allows_list, timing_with, timing_by, banks_by, workers_by, gates_of, cycles_of};
 
 use crate::parsing::value;
 use clap::ArgMatches;
 use limits::{MAX_BANKS, MAX_LARGE_CYCLES, MAX_LARGE_GATES, MAX_UNITS, MAX_WORKERS};
 use net_defs::{Init, Mode, Timing};
+use std::alloc::Global;
 use text_lines::numbers::number_within;
 
 /// The most digits of a number among the words.
 const MAX_DIGITS: usize = 10;
 
 /// The timing that the options say.
-pub fn timing(matches: &ArgMatches<'_>) -> Option<Timing>
+pub fn timing(alloc: Global, matches: &ArgMatches<'_>) -> Option<Timing>
     ensures { result ≡ timing_by (value_found matches.now) }
 {
     let mode = mode_of(value(matches, "mode"));
     let units = count_or(value(matches, "units"), MAX_UNITS, 1);
     let init = init_of(value(matches, "init"));
-    timing_with(mode, units, init)
+    timing_with(alloc, mode, units, init, value(matches, "last"))
 }
 
 /// The words that the crossbar is to have for each send.
@@ -51,12 +52,18 @@ pub fn cycles_of(digits: &[u8]) -> Option<u32>
     count_of(digits, MAX_LARGE_CYCLES)
 }
 
-fn timing_with(mode: Option<Mode>, units: Option<u32>, init: Option<Init>) -> Option<Timing>
-    ensures { result ≡ timing_with mode units init }
+fn timing_with(
+    alloc: Global,
+    mode: Option<Mode>,
+    units: Option<u32>,
+    init: Option<Init>,
+    file: Option<&str>,
+) -> Option<Timing>
+    ensures { result ≡ timing_with mode units init (option_map (λ text. text.now) file.entry) }
 {
     let (mode, units, init) = (mode?, units?, init?);
-    if allows_units(mode, units) {
-        Some(Timing { mode, units, init })
+    if allows_units(mode, units) && allows_list(mode, file) {
+        Some(Timing::unlisted(alloc, mode, units, init))
     } else {
         None
     }
@@ -69,6 +76,18 @@ fn allows_units(mode: Mode, units: u32) -> bool
     match mode {
         Mode::Rank => units == 1,
         Mode::Unit => true,
+        Mode::Mixed => true,
+    }
+}
+
+/// Exactly in mixed mode a list of gates is named.
+fn allows_list(mode: Mode, file: Option<&str>) -> bool
+    ensures { result ≡ allows_list mode (option_map (λ text. text.now) file.entry) }
+{
+    match mode {
+        Mode::Rank => file.is_none(),
+        Mode::Unit => file.is_none(),
+        Mode::Mixed => file.is_some(),
     }
 }
 
@@ -82,6 +101,8 @@ fn mode_of(value: Option<&str>) -> Option<Mode>
         Some(Mode::Rank)
     } else if value == "unit" {
         Some(Mode::Unit)
+    } else if value == "mixed" {
+        Some(Mode::Mixed)
     } else {
         None
     }

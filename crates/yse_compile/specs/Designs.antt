@@ -1,5 +1,5 @@
 -- When a design fits a machine, and why it doesn't.
-use Rattle.std.specs.Prelude.{◌≡◌, ℕ, List}
+use Rattle.std.specs.Prelude.{◌≡◌, ◌≢◌, ℕ, List}
 use Rattle.machine_text.specs.declared.machine.Machine.{Machine}
 use Rattle.net_defs.specs.declared.netlist.Netlist.{Netlist}
 use Rattle.net_defs.specs.declared.timing.Timing.{Timing}
@@ -32,9 +32,9 @@ pub record DesignFits (net : Netlist) (machine : Machine) (timing : Timing) : Ty
 
 -- ---- refusals, each after those before it
 
--- in rank order there is this loop
+-- there is this loop, and so the mode is not unit delay
 pub record HasLoop (net : Netlist) (timing : Timing) (members : List ℕ) : Type 0 where
-  pub rank_order : timing.mode ≡ mode.Rank
+  pub not_in_unit_delay : timing.mode ≢ mode.Unit
   pub is : IsLoop net timing members
 
 -- without a loop, this memory is the first that finds no port

@@ -38,6 +38,7 @@ pub(crate) fn items_of(
     timing: &Timing,
 ) -> Result<NodeNet, CompNo>
     requires net { IsValid net.now }
+    requires timing { IsValidTiming timing.now }
     ensures items { IfOk result (AreItems net.now timing.now) }
     ensures acyclic { OnOk result (IsAcyclic net.now timing.now) }
     ensures refused { IfErr result (IsRight net.now _machine.now timing.now) }
