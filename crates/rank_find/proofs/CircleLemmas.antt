@@ -95,24 +95,24 @@ module _ (net : Netlist) (timing : Timing) (marks : List Mark) (path order : Lis
   pub circle-loop : IsLoop net timing loop
   circle-loop = record {
     circle = record {
-    some = omega (arith, some_member);
-    different = λ i j d before within same.
-        let i_within : i < length loop = omega arith in
-        members_differ i j before within (get_or_default loop i 0 d i_within ∙ same ∙ get_or_default loop j d 0 within);
-    gates = λ k d within.
-        let at = place_within k within in
-        subst (IsGate net) (sym (circle.places k within) ∙ get_or_default loop k 0 d within)
-        (marked_gate net timing marks path order walk _ (λ done. let is = walk.path_open _ at.1 in cc));
-    next = λ i within.
-        let i_within : i < length loop = omega arith in
-        let at = place_within i i_within in
-        let waits = waits_from _ _ (next_place i within) at.1 in
-        rw (circle.places i i_within, circle.places (i + 1) within) waits;
-    closed =
-        let last_within : length loop - 1 < length loop = omega (arith, some_member) in
-        let at = place_within (length loop - 1) last_within in
-        let waits = waits_from _ _ last_place at.1 in
-        rw (circle.places (length loop - 1) last_within, circle.places 0 some_member) waits;
+      some = omega (arith, some_member);
+      different = λ i j d before within same.
+          let i_within : i < length loop = omega arith in
+          members_differ i j before within (get_or_default loop i 0 d i_within ∙ same ∙ get_or_default loop j d 0 within);
+      gates = λ k d within.
+          let at = place_within k within in
+          subst (IsGate net) (sym (circle.places k within) ∙ get_or_default loop k 0 d within)
+          (marked_gate net timing marks path order walk _ (λ done. let is = walk.path_open _ at.1 in cc));
+      next = λ i within.
+          let i_within : i < length loop = omega arith in
+          let at = place_within i i_within in
+          let waits = waits_from _ _ (next_place i within) at.1 in
+          rw (circle.places i i_within, circle.places (i + 1) within) waits;
+      closed =
+          let last_within : length loop - 1 < length loop = omega (arith, some_member) in
+          let at = place_within (length loop - 1) last_within in
+          let waits = waits_from _ _ last_place at.1 in
+          rw (circle.places (length loop - 1) last_within, circle.places 0 some_member) waits;
     };
     least = λ k d within.
         let at = place_within k within in
