@@ -3,6 +3,7 @@ use Rattle.std.proofs.Common.{◌≡◌, ◌≢◌, ◌∙◌, ℕ, ◌+◌, ◌
 use Rattle.std.proofs.lemmas.Bool.{cases_eq, cases_lt}
 use Rattle.std.proofs.lemmas.List.{length-set}
 use Rattle.std.proofs.lemmas.Option.{slice_get_within}
+use Rattle.limits.specs.declared.TheConstants.{MAX_PORTS}
 use Rattle.list_laws.proofs.Places.{one_there}
 use Rattle.crew_run.specs.declared.gate.Gate as gate
 use Rattle.crew_run.specs.declared.stepper.Stepper as stepper
@@ -61,7 +62,7 @@ module _ {S G : Type 0} (m : stepper.Ghosts S) (p : gate.Ghosts G) where
   -- the members stay ready
   pub ready_kept : (members members' : List S) (g g' : G) → AreStepped m p members g members' g' → AreReady m members → AreReady m members'
   ready_kept members members' g g' h ready = record {
-    port = λ k b at. subst (λ q. q < 256) (sym (follows k b at).port) (ready.port k (old k b at).0 (old k b at).1);
+    port = λ k b at. subst (λ q. q < MAX_PORTS) (sym (follows k b at).port) (ready.port k (old k b at).0 (old k b at).1);
     apart = λ j k a b at at' away is. ready.apart j k (old j a at).0 (old k b at').0 (old j a at).1 (old k b at').1 away (sym (follows j a at).port ∙ (is ∙ (follows k b at').port));
     begun = λ k b at. omega (arith, (follows k b at).later, ready.begun k (old k b at).0 (old k b at).1);
     within = λ k b at. omega (arith, (follows k b at).within (ready.within k (old k b at).0 (old k b at).1), (follows k b at).last_turn);

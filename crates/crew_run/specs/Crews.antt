@@ -1,5 +1,6 @@
 -- What a crew needs, and what it has done once all its members are done.
 use Rattle.std.specs.Prelude.{All, List, Option, Some, length, slice_get, ℕ, ◌+◌, ◌<◌, ◌^◌, ◌≡◌, ◌≢◌, ◌≤◌}
+use Rattle.limits.specs.declared.TheConstants.{MAX_PORTS}
 use Rattle.crew_run.specs.declared.gate.Gate as gate
 use Rattle.crew_run.specs.declared.stepper.Stepper as stepper
 use Rattle.crew_run.specs.declared.worker.Worker.{Worker}
@@ -8,7 +9,7 @@ use Rattle.crew_run.specs.Visits.{AreVisits}
 module _ {S : Type 0} (m : stepper.Ghosts S) where
   -- the members of one worker can be stepped, and have ports of their own
   pub record AreReady (members : List S) : Type 0 where
-    pub port : (k : ℕ) (a : S) → slice_get members k ≡ Some a → m.port a < 256
+    pub port : (k : ℕ) (a : S) → slice_get members k ≡ Some a → m.port a < MAX_PORTS
     pub apart : (j k : ℕ) (a b : S) → slice_get members j ≡ Some a → slice_get members k ≡ Some b → j ≢ k → m.port a ≢ m.port b
     pub begun : (k : ℕ) (a : S) → slice_get members k ≡ Some a → 1 ≤ m.turn a
     pub within : (k : ℕ) (a : S) → slice_get members k ≡ Some a → m.turn a ≤ m.last_turn a + 1

@@ -1,6 +1,7 @@
 //! A gate that only counts.
 
 ghost use Rattle.std.specs.Prelude.{replicate, slice_index, ◌<◌, ◌≡◌};
+ghost use Rattle.limits.specs.declared.TheConstants.{MAX_PORTS};
 
 use crate::gate::Gate;
 
@@ -26,8 +27,8 @@ impl Gate for CountGate {
 impl CountGate {
     /// A gate that was told nothing.
     pub fn new() -> CountGate
-        ensures times { ⟦<CountGate as Gate>⟧.times result ≡ replicate 256 0 }
-        ensures latest { ⟦<CountGate as Gate>⟧.latest result ≡ replicate 256 0 }
+        ensures times { ⟦<CountGate as Gate>⟧.times result ≡ replicate MAX_PORTS 0 }
+        ensures latest { ⟦<CountGate as Gate>⟧.latest result ≡ replicate MAX_PORTS 0 }
     {
         CountGate {
             times: [0; 256],
@@ -37,7 +38,7 @@ impl CountGate {
 
     /// How often a turn of the port was told.
     pub fn times(&self, port: u32) -> u64
-        requires { port < 256 }
+        requires { port < MAX_PORTS }
         ensures { result ≡ slice_index (⟦<CountGate as Gate>⟧.times self.now) port }
     {
         self.times[port as usize]
@@ -45,7 +46,7 @@ impl CountGate {
 
     /// The turn of the port that was told last, 0 where none was.
     pub fn latest(&self, port: u32) -> u64
-        requires { port < 256 }
+        requires { port < MAX_PORTS }
         ensures { result ≡ slice_index (⟦<CountGate as Gate>⟧.latest self.now) port }
     {
         self.latest[port as usize]

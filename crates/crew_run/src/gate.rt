@@ -1,6 +1,7 @@
 //! What a worker tells of the turns that begin.
 
 ghost use Rattle.std.specs.Prelude.{List, length, slice_index, ℕ, if◌then◌else◌, ◌+◌, ◌<◌, ◌==◌, ◌^◌, ◌≡◌};
+ghost use Rattle.limits.specs.declared.TheConstants.{MAX_PORTS};
 
 /// What is told of each turn that begins.
 ///
@@ -13,9 +14,9 @@ pub trait Gate: Drop {
 
     /// Tells that a turn of a port begins.
     fn at(&mut self, port: u32, turn: u64)
-        requires port { port < 256 }
+        requires port { port < MAX_PORTS }
         requires room { slice_index (times self.old) port < 2 ^ 63 }
         ensures times { (q : ℕ) → slice_index (times self.new) q ≡ slice_index (times self.old) q + (if q == port then 1 else 0) }
         ensures latest { (q : ℕ) → slice_index (latest self.new) q ≡ (if q == port then turn else slice_index (latest self.old) q) }
-        ensures wide { (length (times self.new) ≡ 256) × (length (latest self.new) ≡ 256) };
+        ensures wide { (length (times self.new) ≡ MAX_PORTS) × (length (latest self.new) ≡ MAX_PORTS) };
 }

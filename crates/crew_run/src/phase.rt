@@ -1,6 +1,7 @@
 //! One worker's part of a phase: it tells its gate of the turns that begin, and steps its members.
 
 ghost use Rattle.std.specs.Prelude.{All, Some, length, slice_get, slice_index, ℕ, ◌+◌, ◌<◌, ◌^◌, ◌≡◌, ◌≢◌, ◌≤◌};
+ghost use Rattle.limits.specs.declared.TheConstants.{MAX_PORTS};
 ghost use Rattle.crew_run.specs.Crews.{AreReady, CanRun};
 ghost use Rattle.crew_run.specs.Phases.{AreBegun, AreStepped, CanResume, CanStep, HasBegun, HasRoomFor, IsBegun, IsResumed, IsStepped};
 ghost use Rattle.crew_run.specs.Visits.{IsUntold};
@@ -43,7 +44,7 @@ impl Progress {
 
 /// Tells the gate of the turn that the member is in, where it has one left.
 fn tell_turn<S: Stepper, G: Gate>(member: &S, gate: &mut G)
-    requires port { S.port member.now < 256 }
+    requires port { S.port member.now < MAX_PORTS }
     requires within { S.turn member.now ≤ S.last_turn member.now + 1 }
     requires room { slice_index (G.times gate.old) (S.port member.now) ≤ 2 ^ 62 }
     ensures begun { IsBegun S.Stepper.own G.Gate.own member.now gate.old gate.new }
@@ -68,7 +69,7 @@ fn tell_turns<S: Stepper, G: Gate>(members: &[S], gate: &mut G)
 
 /// Makes one step of a member, and tells the gate where by it a turn begins.
 fn step_once<S: Stepper, G: Gate>(member: &mut S, gate: &mut G) -> Step
-    requires port { S.port member.old < 256 }
+    requires port { S.port member.old < MAX_PORTS }
     requires within { S.turn member.old ≤ S.last_turn member.old + 1 }
     requires small { S.last_turn member.old ≤ 2 ^ 62 }
     requires room { HasRoomFor S.Stepper.own G.Gate.own member.old gate.old }
@@ -85,7 +86,7 @@ fn step_once<S: Stepper, G: Gate>(member: &mut S, gate: &mut G) -> Step
 
 /// Steps a member until it waits, is done, or has made its steps of this round.
 fn step_member<S: Stepper, G: Gate>(member: &mut S, gate: &mut G, pulse: &Pulse) -> Progress
-    requires port { S.port member.old < 256 }
+    requires port { S.port member.old < MAX_PORTS }
     requires within { S.turn member.old ≤ S.last_turn member.old + 1 }
     requires small { S.last_turn member.old ≤ 2 ^ 62 }
     requires room { HasRoomFor S.Stepper.own G.Gate.own member.old gate.old }

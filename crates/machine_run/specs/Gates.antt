@@ -1,5 +1,6 @@
 -- New gates.
 use Rattle.std.specs.Prelude.{Option, Some, replicate, ◌≡◌}
+use Rattle.limits.specs.declared.TheConstants.{MAX_PORTS}
 use Rattle.crew_run.specs.contracts.count_gate.CountGateGate.TheImpl as count_gate
 use Rattle.crew_run.specs.declared.count_gate.CountGate.{CountGate}
 
@@ -7,5 +8,5 @@ use Rattle.crew_run.specs.declared.count_gate.CountGate.{CountGate}
 pub record IsNew (gate : Option CountGate) : Type 0 where
   pub counts : CountGate
   pub is : gate ≡ Some counts
-  pub times : count_gate.ghosts.times counts ≡ replicate 256 0
-  pub latest : count_gate.ghosts.latest counts ≡ replicate 256 0
+  pub times : count_gate.ghosts.times counts ≡ replicate MAX_PORTS 0
+  pub latest : count_gate.ghosts.latest counts ≡ replicate MAX_PORTS 0
