@@ -94,7 +94,7 @@ module _ (nodes : NodeNet) (homes : Homes) (slots : List ℕ) (n : ℕ) (formed 
 
 -- each slot up to that of an item is the slot of that item or of one before it
 module _ (nodes : NodeNet) (homes : Homes) (slots : List ℕ) (n : ℕ) (formed : IsWellFormed nodes) (fit : AreFirstFit nodes homes slots n) where
-  HasSlot : ℕ → ℕ → Type 0
+  abbrev HasSlot : ℕ → ℕ → Type 0
   HasSlot i s = (j : ℕ) × (j ≤ i) × (slot_of slots j ≡ s)
 
   filled_by : (i s : ℕ) → ((j : ℕ) → j < i → s ≤ slot_of slots j → HasSlot j s) → IsBlocked nodes homes slots i s → HasSlot i s
