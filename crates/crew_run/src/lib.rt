@@ -6,11 +6,21 @@
 //! to do. A worker owns its members and a `Gate`, which it tells of each turn of a member before the first
 //! step of that turn. Neither a member nor a gate is ever in two threads at once.
 //!
-//! Work goes in phases. In each phase every worker goes round its members, and leaves the phase when all of
-//! them are done or 1,000 rounds in a row came without a move; phases follow until all members of all
-//! workers are done. Where no second thread can be made, a phase runs one worker after another, and so they
-//! still get on. A round without a move is followed by a short wait, and past the eighth in a row the
-//! processor is offered to other threads.
+//! Work goes in phases, of two kinds that take turns, until all members of all workers are done. In a phase
+//! in threads, which the first one is, each worker has a thread of its own where one can be made. It goes
+//! round its members, and leaves when all of them are done or the phase is over. A round without a move is
+//! followed by a short wait; no processor is offered to other threads. After 32 such rounds in a row the
+//! worker asks whether any other one moves, and whoever makes the next move answers. Where no answer comes
+//! within 400 rounds in a row, the worker ends the phase, and the others leave it as soon as they have to
+//! wait for long: where no worker at all gets on, they wait for processors and not for one another. A worker
+//! that doesn't know yet that another one runs beside it allows 1,000 rounds, since threads take a while to
+//! start.
+//!
+//! In the phase after it the calling thread goes round the members of all workers by itself, and tells the
+//! gate of each worker of its own members' turns. So a crew gets on at the speed of one worker where there
+//! are too few processors, or where no second thread can be made. Such a phase ends after 250,000 steps for
+//! each worker. The next one is twice as long, up to 64,000,000 steps, but as short as the first again if the
+//! phase in threads between them made more than four times its steps.
 //!
 //! To run members of your own, implement `Stepper` for them, give the members of one worker ports of their
 //! own below 256, and call `run_all`, or `run_with` where the gates belong to the caller. Nothing here takes
