@@ -2,13 +2,15 @@
 use Rattle.std.proofs.Common.{ap, ap₂, arith, eq-eqb, false, inl, inr, length, mod-lt, refl, subst, sym, true, ℕ, ◌%◌, ◌*◌, ◌+◌, ◌<◌, ◌∙◌, ◌≡◌, ◌≤◌}
 use Rattle.logic_four.specs.Values.{code_of}
 use Rattle.image_defs.specs.Frames.{image_value}
-use Rattle.image_defs.specs.Places.{IsPort}
+use Rattle.image_defs.specs.Places.{IsPort, Stands}
 use Rattle.image_defs.specs.declared.image.PortImage.{PortImage}
 use Rattle.event_defs.proofs.NextLemmas.{one_next}
 use Rattle.event_defs.proofs.PaceLemmas.{same_port}
 use Rattle.event_defs.proofs.SlotLemmas.{updated_here}
-use Rattle.event_defs.specs.Next.{AsksNext, IsNext, PutsNext, ReceivesNext, TellsNext}
-use Rattle.event_defs.specs.Places.{after_ask, after_put, after_take, after_tell}
+use Rattle.event_defs.proofs.StampLemmas.{written_here}
+use Rattle.event_defs.specs.Next.{AsksNext, IsNext, PutsNext, ReceivesNext, SendsNext, TellsNext}
+use Rattle.event_defs.specs.Places.{IsSend, after_ask, after_put, after_take, after_tell, known_of}
+use Rattle.event_defs.specs.Row.{send_number, word_place}
 use Rattle.event_defs.specs.Steps.{AskWaits as CoreAskWaits, CoreState, Moves, Reads, TakeWaits as CoreTakeWaits, Waits, stamp_of, updated, written}
 use Rattle.event_defs.specs.declared.place.Action.{Action}
 use Rattle.event_defs.specs.declared.place.Action.TheVariants as action
@@ -17,8 +19,9 @@ use Rattle.event_defs.specs.declared.place.Event.TheVariants.{Ask, Put, Take, Te
 use Rattle.event_defs.specs.declared.place.Place.{Place}
 use Rattle.event_defs.specs.declared.place.CoreStep.TheVariants.{Moved, NotYet, Done}
 use Rattle.slot_words.proofs.LinkLemmas.{member_at}
+use Rattle.slot_words.proofs.StepLemmas.{same_places}
 use Rattle.port_run.proofs.NextLemmas.{asked_again, asked_in}
-use Rattle.slot_words.specs.Layout.{progress_word}
+use Rattle.slot_words.specs.Layout.{progress_word, send_word}
 use Rattle.slot_words.specs.Passes.{IsFit, PassView, one_step}
 use Rattle.slot_words.specs.declared.rule.Look.{Look}
 use Rattle.port_run.specs.Core.{IsCoreEvent, IsCoreStep, Shows, StandsIn, is_look}
@@ -34,8 +37,18 @@ module _ (old : PassView) (fit : IsFit old) (state : CoreState) (stands : Stands
   placed f new after after_is new_is = ap (λ g. g old.port) after_is ∙ (updated_here state.place old.port (f (state.place old.port)) ∙ (ap f stands ∙ sym new_is))
 
   module _ (seat : PortImage) (is : IsPort old.image old.port seat) (early : old.place.turn ≤ until old) (new : PassView) where
-    event_by : (e : Event) (after : CoreState) → Moves old.image old.banks old.port seat state old.stimulus e after → StandsIn new after → IsCoreEvent old e new state
-    event_by e after moves stands_there = record { after = after; step = record { seat = seat; is = is; step = (here (λ a. a.turn ≤ until old) early, moves) }; stands = stands_there }
+    event_by : (e : Event) (after : CoreState) → Moves old.image old.banks old.port seat state old.stimulus e after → StandsIn new after → Shows old after new.last → IsCoreEvent old e new state
+    event_by e after moves stands_there shows = record { after = after; step = record { seat = seat; is = is; step = (here (λ a. a.turn ≤ until old) early, moves) }; stands = stands_there; shows = shows }
+
+    -- no progress word is one of a send
+    progress_apart : (r p i b : ℕ) → r < length old.image.ports → progress_word r ≡ send_word old.image old.banks p i b → ⊥
+    progress_apart r p i b inside same =
+        let row : ℕ = word_place old.banks (send_number old.image p i) b in
+        let at : r ≡ length old.image.ports + row = same in
+        omega arith
+
+    turn_is : (state.place old.port).turn ≡ old.place.turn
+    turn_is = ap (λ (a : Place). a.turn) stands
 
     same_port_stands : new.port ≡ old.port → (after : CoreState) → StandsIn (record old { place = new.place }) after → StandsIn new after
     same_port_stands port_is after at = ap after.place port_is ∙ at
@@ -72,15 +85,55 @@ module _ (old : PassView) (fit : IsFit old) (state : CoreState) (stands : Stands
           is = refl;
         }) (same_port_stands (ap (λ (x : PassView). x.port) has.asks.is) after
         (placed (λ a. after_ask a reader (state.finished reader)) new after refl (ap (λ (x : PassView). x.place) has.asks.is ∙ ap (λ n. after_ask old.place reader n) (sym found))))
+        (record { progress = shows.progress; sent = shows.sent })
+
+    -- the words after a Put: that of this turn has what was put
+    put_shows : (slot : ℕ) (puts : Puts seat old new slot) (place : ℕ → Place) → Shows old (record {
+      place = place;
+      finished = state.finished;
+      word = written state.word old.port puts.next.i ((state.place old.port).turn % old.banks) (4 * (state.place old.port).turn + code_of (image_value old.image old.stimulus (state.place old.port).turn old.port slot));
+    }) new.last
+    put_shows slot puts place = record {
+      progress = λ r inside at. absurd (progress_apart r old.port puts.next.i (old.place.turn % old.banks) inside (sym at ∙ look_word));
+      sent = λ q k b link send b_in at.
+          let own : IsSend old.image old.port puts.next.i puts.next.link = record { port = seat; is = is; link_is = puts.next.sends.is } in
+          let twin = same_places old.image old.banks old.port puts.next.i q k (old.place.turn % old.banks) b puts.next.link link own send (mod-lt old.place.turn fit.runs.some) b_in (sym look_word ∙ at) in
+          subst (λ q. word q k b ≡ new.last.number) twin.0 (subst (λ k. word old.port k b ≡ new.last.number) twin.1 (subst (λ b. word old.port puts.next.i b ≡ new.last.number) twin.2 here_is));
+    } where
+      look_word : new.last.word ≡ word_now old old.port puts.next.i
+      look_word = ap (λ (x : PassView). x.last.word) puts.is
+
+      x : ℕ
+      x = 4 * (state.place old.port).turn + code_of (image_value old.image old.stimulus (state.place old.port).turn old.port slot)
+
+      bank : ℕ
+      bank = (state.place old.port).turn % old.banks
+
+      word : ℕ → ℕ → ℕ → ℕ
+      word = written state.word old.port puts.next.i bank x
+
+      at_own : word old.port puts.next.i bank ≡ x
+      at_own = ap (λ (w : ℕ → ℕ). w bank) (written_here state.word old.port puts.next.i bank x) ∙ updated_here (state.word old.port puts.next.i) bank x
+
+      here_is : word old.port puts.next.i (old.place.turn % old.banks) ≡ new.last.number
+      here_is = subst (λ t. word old.port puts.next.i (t % old.banks) ≡ new.last.number) turn_is
+          (at_own ∙ (ap (λ t. 4 * t + code_of (image_value old.image old.stimulus t old.port slot)) turn_is ∙ sym (ap (λ (x : PassView). x.last.number) puts.is)))
 
     puts_event : (slot : ℕ) → Puts seat old new slot → IsCoreEvent old (Put slot) new state
     puts_event slot puts =
-        let next = here (λ a. PutsNext seat a old.banks slot) puts.next in
+        let next : PutsNext seat (state.place old.port) old.banks slot = record {
+          i = puts.next.i;
+          link = puts.next.link;
+          slot_is = puts.next.slot_is;
+          sends = here (λ a. SendsNext seat a.puts a.takes puts.next.i puts.next.link) puts.next.sends;
+          ready = here (λ a. (r : ℕ) → Stands puts.next.link.readers r → a.turn ≤ known_of a r + old.banks) puts.next.ready;
+        } in
         let after : CoreState = record state {
           place = updated state.place old.port (after_put (state.place old.port) slot);
-          word = written state.word old.port next.i ((state.place old.port).turn % old.banks) (4 * (state.place old.port).turn + code_of (image_value old.image old.stimulus (state.place old.port).turn old.port slot));
+          word = written state.word old.port puts.next.i ((state.place old.port).turn % old.banks) (4 * (state.place old.port).turn + code_of (image_value old.image old.stimulus (state.place old.port).turn old.port slot));
         } in
         event_by (Put slot) after (record { next = next; is = refl }) (same_port_stands (ap (λ (x : PassView). x.port) puts.is) after (placed (λ a. after_put a slot) new after refl (ap (λ (x : PassView). x.place) puts.is)))
+        (put_shows slot puts after.place)
 
     takes_event : (slot : ℕ) → HasTaken seat old new slot → Shows old state new.last → IsCoreEvent old (Take slot) new state
     takes_event slot has shows =
@@ -92,11 +145,23 @@ module _ (old : PassView) (fit : IsFit old) (state : CoreState) (stands : Stands
           moves = ap stamp_of found ∙ (has.now ∙ sym (ap (λ (a : Place). a.turn) stands));
           is = refl;
         }) (same_port_stands (ap (λ (x : PassView). x.port) has.looks.is) after (placed (λ a. after_take a slot) new after refl (ap (λ (x : PassView). x.place) has.looks.is)))
+        (record { progress = shows.progress; sent = shows.sent })
+
+    -- the words after a Tell: the port's progress word has the turn that is over
+    tell_shows : (tells : Tells seat old new) (place : ℕ → Place) → Shows old (record { place = place; finished = updated state.finished old.port (state.place old.port).turn; word = state.word }) new.last
+    tell_shows tells place = record {
+      progress = λ r inside at. subst (λ r. updated state.finished old.port (state.place old.port).turn r ≡ new.last.number) (sym look_word ∙ at)
+          (updated_here state.finished old.port (state.place old.port).turn ∙ (turn_is ∙ sym (ap (λ (x : PassView). x.last.number) tells.is)));
+      sent = λ q k b link send b_in at. absurd (progress_apart old.port q k b fit.inside (sym look_word ∙ at));
+    } where
+      look_word : new.last.word ≡ progress_word old.port
+      look_word = ap (λ (x : PassView). x.last.word) tells.is
 
     tells_event : Tells seat old new → IsCoreEvent old Tell new state
     tells_event tells =
         let after : CoreState = record state { place = updated state.place old.port (after_tell (state.place old.port)); finished = updated state.finished old.port (state.place old.port).turn } in
         event_by Tell after (record { next = here (λ a. TellsNext seat a) tells.next; is = refl }) (same_port_stands (ap (λ (x : PassView). x.port) tells.is) after (placed after_tell new after refl (ap (λ (x : PassView). x.place) tells.is)))
+        (tell_shows tells after.place)
 
     made_event : (e : Event) → Makes seat old new e → (is_look e ≡ true → Shows old state new.last) → IsCoreEvent old e new state
     made_event (Ask reader) makes shows = asks_event reader makes (shows refl)

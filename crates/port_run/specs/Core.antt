@@ -36,8 +36,10 @@ pub record IsCoreStep (pass : PassView) (state : CoreState) (answer : CoreStep) 
   pub is : IsPort pass.image pass.port seat
   pub step : IsStep pass.image pass.stimulus pass.banks (until pass) pass.port seat state answer after
 
--- the core makes the same event, and its port stands afterwards where the pass does
+-- the core makes the same event; its port stands afterwards where the pass does, and the word of the pass's last
+-- step, which the event read or wrote, has the number that it found or left there
 pub record IsCoreEvent (old : PassView) (event : Event) (new : PassView) (state : CoreState) : Type 0 where
   pub after : CoreState
   pub step : IsCoreStep old state (Moved event) after
   pub stands : StandsIn new after
+  pub shows : Shows old after new.last

@@ -15,8 +15,8 @@ ghost use Rattle.port_run.specs.Steps.{IsEvent, IsWait, value_there};
 
 /// A law: a step is the core's. Take any state of a core in which the port stands where it stood, and in
 /// which the word that it looked at, if it looked, has the number that it found. Then the core's step of
-/// that port makes the same event, after which the port stands at the same place; or it has to wait; or
-/// the port is done.
+/// that port makes the same event, after which the port stands at the same place, and the word of the
+/// step has the same number, which a Put or a Tell wrote; or it has to wait; or the port is done.
 pub fn steps_are_the_cores()
     ensures event { (old new : PassView) (event : Event) (state : CoreState) → IsFit old → IsEvent old event new → StandsIn old state
         → (is_look event ≡ true → Shows old state new.last) → IsCoreEvent old event new state }

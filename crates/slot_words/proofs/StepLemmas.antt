@@ -59,12 +59,17 @@ module _ (image : Image) (banks : ℕ) where
   sent_read : (words : List ℕ) (p i b : ℕ) (link : LinkOut) → IsSend image p i link → b < banks → get_or words (send_word image banks p i b) 0 ≡ sent_in image banks words p i b
   sent_read words p i b link send within = sym (word_at image banks (drop (length image.ports) words) p i b (send_within image p i link send) within ∙ get_or-drop (length image.ports) words (word_place banks (send_number image p i) b) 0)
 
-  -- no two sends have one word
-  same_word : (p i q k b c : ℕ) (link other : LinkOut) → IsSend image p i link → IsSend image q k other → b < banks → c < banks → send_word image banks p i b ≡ send_word image banks q k c → (p ≡ q) × (link ≡ other)
-  same_word p i q k b c link other one two b_in c_in same =
+  -- no two sends have one word, and no two banks of one send
+  pub same_places : (p i q k b c : ℕ) (link other : LinkOut) → IsSend image p i link → IsSend image q k other → b < banks → c < banks → send_word image banks p i b ≡ send_word image banks q k c → (p ≡ q) × (i ≡ k) × (b ≡ c)
+  same_places p i q k b c link other one two b_in c_in same =
       let places : word_place banks (send_number image p i) b ≡ word_place banks (send_number image q k) c = let m : ℕ = word_place banks (send_number image p i) b in let n : ℕ = word_place banks (send_number image q k) c in let e : length image.ports + m ≡ length image.ports + n = same in omega arith in
       let numbers = same_place banks (send_number image p i) b (send_number image q k) c b_in c_in places in
       let pair = same_number image p i q k (send_within image p i link one) (send_within image q k other two) numbers.0 in
+      (pair.0, pair.1, numbers.1)
+
+  same_word : (p i q k b c : ℕ) (link other : LinkOut) → IsSend image p i link → IsSend image q k other → b < banks → c < banks → send_word image banks p i b ≡ send_word image banks q k c → (p ≡ q) × (link ≡ other)
+  same_word p i q k b c link other one two b_in c_in same =
+      let pair = same_places p i q k b c link other one two b_in c_in same in
       let at_q : IsPort image p two.port = subst (λ x. IsPort image x two.port) (sym pair.0) two.is in
       let at_k : slice_get one.port.outs i ≡ Some other = subst (λ x. slice_get one.port.outs x ≡ Some other) (sym pair.1) (subst (λ (o : PortImage). slice_get o.outs k ≡ Some other) (sym (same_port image p one.port two.port one.is at_q)) two.link_is) in
       let both : Some link ≡ Some other = sym one.link_is ∙ at_k in
