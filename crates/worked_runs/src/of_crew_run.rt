@@ -306,10 +306,11 @@ fn rounds<'a, R: Threads + Wait + Sync>(
     rt: &R,
     alloc: Global,
     shared: &'a [AtomicU64; 3],
+    tries: u64,
 ) -> Result<List<Option<CountGate>>, Memory> {
     let one = paced(0, (1, 5), u64::MAX, &shared[0], &shared[1]);
     let two = paced(1, (1, 5), u64::MAX, &shared[1], &shared[0]);
-    let three = paced(7, (8, 9), 2500, &shared[2], &shared[1]);
+    let three = paced(7, (8, 9), tries, &shared[2], &shared[1]);
     let mut workers = four_workers(alloc, one, two, three)?;
     let mut gates = count_gates(alloc, 5)?;
     run_with(rt, workers.as_mut_slice(), gates.as_mut_slice());
@@ -319,7 +320,7 @@ fn rounds<'a, R: Threads + Wait + Sync>(
 #[test]
 fn gates_are_told(rt: HostRuntime) -> Result<(), Fail> {
     let shared = [AtomicU64::new(0), AtomicU64::new(0), AtomicU64::new(0)];
-    let gates = rounds(&rt, rt.alloc(), &shared)?;
+    let gates = rounds(&rt, rt.alloc(), &shared, 2500)?;
     let gates = gates.as_slice();
     assert_eq!(rt; gates.len(), 5);
     let told = [
@@ -331,6 +332,21 @@ fn gates_are_told(rt: HostRuntime) -> Result<(), Fail> {
         (3, 7, 0, 0),
         (4, 0, 0, 0),
     ];
+    for (worker, port, times, latest) in told {
+        assert_eq!(rt; visits(&gates[worker], port), Some((times, latest)));
+    }
+    Ok(())
+}
+
+/// The gate of worker 2 is told of each turn once, though the third member finds nothing for so long that the
+/// workers go through two phases in threads and two in the calling thread.
+#[test]
+fn gates_are_told_in_both_kinds_of_phase(rt: HostRuntime) -> Result<(), Fail> {
+    let shared = [AtomicU64::new(0), AtomicU64::new(0), AtomicU64::new(0)];
+    let gates = rounds(&rt, rt.alloc(), &shared, 800_000)?;
+    let gates = gates.as_slice();
+    assert_eq!(rt; gates.len(), 5);
+    let told = [(0, 0, 5, 5), (2, 1, 5, 5), (2, 7, 2, 9)];
     for (worker, port, times, latest) in told {
         assert_eq!(rt; visits(&gates[worker], port), Some((times, latest)));
     }
