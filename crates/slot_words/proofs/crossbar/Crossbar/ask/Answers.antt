@@ -1,4 +1,4 @@
-use Rattle.std.proofs.Common.{length, subst, sym, ℕ, ◌<◌, ◌≡◌}
+use Rattle.std.proofs.Common.{arith, length, subst, sym, ℕ, ◌<◌, ◌≡◌}
 use Rattle.image_defs.specs.declared.image.Image.{Image}
 use Rattle.slot_words.proofs.HeldLemmas.{own_fields, progress_room}
 use Rattle.slot_words.proofs.StepLemmas.{ask_allowed}
@@ -21,11 +21,13 @@ ask-requires-clause-inside c =
     let b = c.self.inside in
     let a = c.pass.inside in
     let own = own_fields b a c.args.self.now c.args.pass.now c.self.view_is c.pass.view_is c.requires.own in
-    progress_room b a c.self.invariant own c.args.reader (reader_in b a c.args.self.now c.args.reader c.self.view_is own c.requires.reader)
+    let low = reader_in b a c.args.self.now c.args.reader c.self.view_is own c.requires.reader in
+    progress_room b a c.self.invariant own _ (omega arith)
 
 pub ask-requires-clause-may : goal.ask-requires-clause-may
 ask-requires-clause-may c =
     let b = c.self.inside in
     let a = c.pass.inside in
     let own = own_fields b a c.args.self.now c.args.pass.now c.self.view_is c.pass.view_is c.requires.own in
-    ask_allowed b.table.shared.key b.table.shared.table_id.slots a.seat.id a.seat.me a.port c.args.reader c.pass.invariant.port (reader_in b a c.args.self.now c.args.reader c.self.view_is own c.requires.reader)
+    let low = reader_in b a c.args.self.now c.args.reader c.self.view_is own c.requires.reader in
+    ask_allowed b.table.shared.key b.table.shared.table_id.slots a.seat.id a.seat.me a.port _ c.pass.invariant.port (omega arith)
