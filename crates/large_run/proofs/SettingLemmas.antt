@@ -19,4 +19,4 @@ machine_valid = record {
 }
 
 pub timing_valid : IsValidTiming large_timing
-timing_valid = record { some = omega arith; few = omega arith; rank = λ is. refl }
+timing_valid = record { some = omega arith; few = omega arith; rank = λ is. refl; ascends = λ i j before within. absurd (omega arith) }

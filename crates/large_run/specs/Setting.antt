@@ -1,4 +1,5 @@
 -- The machine on which large netlists run, and their timing.
+use Rattle.std.specs.Prelude.{[]}
 use Rattle.machine_text.specs.declared.machine.Machine.{Machine}
 use Rattle.net_defs.specs.declared.timing.Timing.{Timing}
 use Rattle.net_defs.specs.declared.timing.Init.TheVariants as init
@@ -8,6 +9,6 @@ use Rattle.net_defs.specs.declared.timing.Mode.TheVariants as mode
 abbrev pub large_machine : Machine
 large_machine = record { logic = 16; array = 0; slots = 65536; functions = 256; bits = 1 }
 
--- rank order, where registers hold 0 at first
+-- rank order, where registers hold 0 at first and no gate is listed
 abbrev pub large_timing : Timing
-large_timing = record { mode = mode.Rank; units = 1; init = init.Zero }
+large_timing = record { mode = mode.Rank; units = 1; init = init.Zero; listed = [] }

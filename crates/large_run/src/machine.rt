@@ -7,6 +7,7 @@ ghost use Rattle.large_run.specs.Setting.{large_machine as machine_is, large_tim
 
 use machine_text::Machine;
 use net_defs::{Init, Mode, Timing};
+use std::alloc::Global;
 
 /// Sixteen logic processors.
 pub(crate) fn large_machine() -> Machine
@@ -23,13 +24,9 @@ pub(crate) fn large_machine() -> Machine
 }
 
 /// Rank order, where registers hold 0 at first.
-pub(crate) fn large_timing() -> Timing
+pub(crate) fn large_timing(alloc: Global) -> Timing
     ensures is { result ≡ timing_is }
     ensures valid { IsValidTiming result }
 {
-    Timing {
-        mode: Mode::Rank,
-        units: 1,
-        init: Init::Zero,
-    }
+    Timing::unlisted(alloc, Mode::Rank, 1, Init::Zero)
 }

@@ -20,7 +20,7 @@ returns-clause-some c gates cycles few =
     let formed = c.items_are_well_formed.ensures (large_netlist gates) large_timing fits.nodes (valid_large gates few) fits.items in
     let crossed = crossings_there fits.nodes fits.homes formed (homes_are fits.nodes large_machine fits.homes machine_valid fits.picked) in
     let simulated : HasOneSimulation (large_netlist gates) large_timing (large_stimulus (gate_state gates) cycles) =
-    c.one_simulation.ensures.rank_order (large_netlist gates) large_timing (large_stimulus (gate_state gates) cycles) (no_loop_large gates large_timing) in (
+    c.one_simulation.ensures.without_loop (large_netlist gates) large_timing (large_stimulus (gate_state gates) cycles) (no_loop_large gates large_timing) in (
       summary_text (summary_of gates fits.nodes fits.plan crossed.0 (cells_to (large_netlist gates) large_timing simulated.states cycles)),
       record {
         nodes = fits.nodes;
@@ -46,7 +46,7 @@ returns-clause-one c gates cycles one other few a b =
     let crossed = crossings_kept a.nodes b.nodes b.homes a.crossings there back (subst (λ h. AreCrossings a.nodes h a.crossings) homes a.crossed) in
     let crossings = c.one_crossing_count.ensures b.nodes b.homes a.crossings b.crossings crossed b.crossed in
     let simulated : HasOneSimulation (large_netlist gates) large_timing (large_stimulus (gate_state gates) cycles) =
-    c.one_simulation.ensures.rank_order (large_netlist gates) large_timing (large_stimulus (gate_state gates) cycles) (no_loop_large gates large_timing) in
+    c.one_simulation.ensures.without_loop (large_netlist gates) large_timing (large_stimulus (gate_state gates) cycles) (no_loop_large gates large_timing) in
     let states : a.states ≡ b.states = simulated.only a.states a.simulation ∙ sym (simulated.only b.states b.simulation) in
     a.summary
     ∙ (ap summary_text (same_summary gates (length a.nodes.items - a.nodes.first_node) a.plan.needed a.crossings (length b.nodes.items - b.nodes.first_node) b.plan.needed b.crossings
