@@ -10,11 +10,11 @@ use Rattle.yse_top.specs.declared.refusal.Refusal.{Refusal}
 use Rattle.machine_text.specs.declared.machine.Machine.{Machine}
 use Rattle.net_defs.specs.declared.netlist.Netlist.{Netlist}
 use Rattle.net_defs.specs.declared.timing.Timing.{Timing}
-use Rattle.yse_top.specs.Checks.{After, AfterFile, RefusesDesign}
+use Rattle.yse_top.specs.Checks.{After, AfterFile, Refuses, RefusesDesign, IsListOf, listing}
 use Rattle.yse_top.specs.Outcome.{Outcome}
 use Rattle.yse_top.specs.Readings.{Reading, IsReading, AreReadings}
-use Rattle.yse_top.specs.Refusals.{AnswersText, GivesText, Follows, outcome_of}
-use Rattle.yse_top.specs.commands.Run.{AfterFit}
+use Rattle.yse_top.specs.Refusals.{AnswersText, GivesText, Follows, outcome_of, refused_of}
+use Rattle.yse_top.specs.commands.Run.{AfterFit, AfterList}
 use Rattle.yse_top.proofs.WritingLemmas.{rose_since, rose_until}
 
 -- a count raised twice
@@ -114,3 +114,28 @@ module _ (names : Option (List ℕ → Bool)) (bytes : Option (List ℕ → List
       by : (gave : Option (List ℕ)) → AreReadings names bytes old new (record { file = file; bytes = gave } ∷ []) → AnswersText file gave (Err why) → Follows names bytes old new (Err why) (AfterFile file Next)
       by None reading answer = record { readings = record { file = file; bytes = None } ∷ []; are = reading; expected = (refl, (refl, answer)) }
       by (Some read) reading answer = record { readings = record { file = file; bytes = Some read } ∷ []; are = reading; expected = (refl, inr (refl, answer)) }
+
+  -- ---- the list
+
+  -- no file of a list is named
+  pub follows_unlisted : (last : Option (List ℕ)) (net : Netlist) (timing : Timing) (Next : Timing → List Reading → Outcome → Type 0) (old new : FileCounts) (result : Result Output Refusal) → last ≡ None → Follows names bytes old new result (Next timing) → Follows names bytes old new result (AfterList last net timing Next)
+  unfolding AfterList
+  follows_unlisted last net timing Next old new result is follows = subst (λ l. Follows names bytes old new result (AfterList l net timing Next)) (sym is) follows
+
+  -- the file of a list is named
+  pub follows_named : (last : Option (List ℕ)) (file : List ℕ) (net : Netlist) (timing : Timing) (Next : Timing → List Reading → Outcome → Type 0) (old new : FileCounts) (result : Result Output Refusal) → last ≡ Some file → Follows names bytes old new result (AfterList (Some file) net timing Next) → Follows names bytes old new result (AfterList last net timing Next)
+  follows_named last file net timing Next old new result is follows = subst (λ l. Follows names bytes old new result (AfterList l net timing Next)) (sym is) follows
+
+  -- the file of a list gave a text that lists these gates
+  pub follows_listed : (names-then : Option (List ℕ → Bool)) (bytes-then : Option (List ℕ → List ℕ)) (old mid new : FileCounts) (file text listed : List ℕ) (net : Netlist) (timing : Timing) (Next : Timing → List Reading → Outcome → Type 0) (result : Result Output Refusal) → names-then ≡ names → bytes-then ≡ bytes → GivesText names bytes old mid file (Ok text) → IsListOf text net (Ok listed) → Follows names-then bytes-then mid new result (Next (listing timing listed)) → Follows names bytes old new result (AfterList (Some file) net timing Next)
+  unfolding AfterList
+  follows_listed names-then bytes-then old mid new file text listed net timing Next result same_names same_bytes gives is next =
+      follows_file names bytes old mid new file text result (λ text. After (IsListOf text net) (λ listed. Next (listing timing listed))) refl refl gives
+      (follows_on (IsListOf text net) (λ listed. Next (listing timing listed)) listed mid new result is (rw same_names at (rw same_bytes at next)))
+
+  -- the text of the file of a list is refused
+  pub follows_no_list : (old new : FileCounts) (file text : List ℕ) (net : Netlist) (timing : Timing) (Next : Timing → List Reading → Outcome → Type 0) (why : Refusal) → GivesText names bytes old new file (Ok text) → Refuses (IsListOf text net) (refused_of why) → Follows names bytes old new (Err why) (AfterList (Some file) net timing Next)
+  unfolding AfterList
+  follows_no_list old new file text net timing Next why gives refused =
+      follows_file names bytes old new new file text (Err why) (λ text. After (IsListOf text net) (λ listed. Next (listing timing listed))) refl refl gives
+      (follows_here new (Err why) (After (IsListOf text net) (λ listed. Next (listing timing listed))) (inr (refl, refused)))

@@ -26,6 +26,7 @@ text_is_command status.Overfull is = tt
 text_is_command status.Stimulus is = tt
 text_is_command status.Limit is = tt
 text_is_command status.OrderText is = tt
+text_is_command status.LastList is = tt
 text_is_command _ is = absurd is
 
 end_is_command : (s : Status) → IsOfEnd s → IsOfCommand s

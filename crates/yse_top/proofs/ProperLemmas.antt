@@ -22,6 +22,7 @@ IsOfText status.Overfull = ⊤
 IsOfText status.Stimulus = ⊤
 IsOfText status.Limit = ⊤
 IsOfText status.OrderText = ⊤
+IsOfText status.LastList = ⊤
 IsOfText _ = ⊥
 
 -- the statuses that an end may have

@@ -6,6 +6,8 @@ use Rattle.edge_io.specs.Names.{OfTold}
 use Rattle.edge_io.specs.declared.counts.FileCounts.{FileCounts}
 use Rattle.net_defs.specs.declared.netlist.Netlist.{Netlist}
 use Rattle.net_defs.specs.declared.stimulus.Stimulus.{Stimulus}
+use Rattle.net_defs.specs.declared.timing.Timing.{Timing}
+use Rattle.net_defs.specs.Time.{turn_count}
 use Rattle.net_defs.specs.Trace.{IsTrace}
 use Rattle.bench_read.specs.Reads as bench
 use Rattle.cmd_words.specs.declared.command.Command.{Command}
@@ -19,19 +21,19 @@ use Rattle.machine_text.specs.Machines.{default_machine}
 use Rattle.yse_top.specs.declared.output.Output.{Output}
 use Rattle.yse_top.specs.declared.status.Status.{Status}
 use Rattle.yse_top.specs.declared.status.Status.TheVariants as status
-use Rattle.yse_top.specs.Checks.{After, AfterRead, AfterFile, Ends, text_of, IsMachineOf, IsNetlistOf, HasNoLoop, HasRoom, IsStimulusOf, HasFewCells, IsOrderOf}
+use Rattle.yse_top.specs.Checks.{After, AfterRead, AfterFile, Ends, text_of, IsMachineOf, IsNetlistOf, HasNoLoop, HasRoom, IsStimulusOf, HasFewCells, IsListOf, IsOrderOf, listing}
 use Rattle.yse_top.specs.Expected.{ExpectedOf}
 use Rattle.yse_top.specs.Outcome.{Outcome, done, refusal}
 use Rattle.yse_top.specs.Lines.{too_long_line}
 use Rattle.yse_top.specs.Outputs.{bytes_of}
 use Rattle.yse_top.specs.Readings.{Reading}
 use Rattle.yse_top.specs.Refusals.{Follows}
-use Rattle.yse_top.specs.Traced.{AreOfFiles, IsTraceOfFiles}
+use Rattle.yse_top.specs.Traced.{AreOfFiles, IsTimingOfFile, IsTraceOfFiles}
 use Rattle.yse_top.specs.Orders.{EndsIn, EndsInOrder}
 use Rattle.yse_top.specs.Endings.{ending_in, status_after}
 use Rattle.yse_top.specs.Visited.{IsMachineOfFile}
 use Rattle.yse_top.specs.Words.{traced_by}
-use Rattle.yse_top.specs.commands.Run.{AfterDesign, AfterFit, AfterMachine, AfterStimulus, WritesTrace, EndsBy, ExpectedRun, ExpectedOn, ExpectedRefer}
+use Rattle.yse_top.specs.commands.Run.{AfterDesign, AfterFit, AfterList, AfterLoop, AfterMachine, AfterStimulus, WritesTrace, EndsBy, ExpectedRun, ExpectedOn, ExpectedRefer, OnTiming}
 use Rattle.yse_top.proofs.EndingLemmas.{whole_output}
 use Rattle.yse_top.proofs.ProperLemmas.{passes, refuses, refused_once, never_both}
 use Rattle.std.specs.Prelude.{nat_le, length, if◌then◌else◌}
@@ -53,6 +55,11 @@ whole_text file bytes text = by (nat_le (length bytes) MAX_TEXT_BYTES)
     by : (b : Bool) → (if b then Ok bytes else Err (refusal status.Limit (too_long_line file))) ≡ Ok text → bytes ≡ text
     by true e = cc
     by false e = cc
+
+-- a list changes no turn
+pub same_turns : (bytes : Option (List ℕ → List ℕ)) (last : Option (List ℕ)) (net : Netlist) (given timing : Timing) → IsTimingOfFile bytes last net given timing → (stimulus : Stimulus) → turn_count timing stimulus ≡ turn_count given stimulus
+same_turns bytes None net given timing is stimulus = ap (λ t. turn_count t stimulus) is
+same_turns bytes (Some file) net given timing (text, listed, told, reads, is) stimulus = ap (λ t. turn_count t stimulus) is
 
 module _ (bytes : Option (List ℕ → List ℕ)) where
   -- what was read is what is told
@@ -93,15 +100,48 @@ module _ (bytes : Option (List ℕ → List ℕ)) where
   -- ---- the end of a run, once its files are read
 
   -- a run came to its end over the machine, the netlist and the stimulus of its files
-  pub record Reached (words : RunWords) (End : Machine → Netlist → Stimulus → List Reading → Outcome → Type 0) (output : List ℕ) : Type 0 where
+  pub record Reached (words : RunWords) (End : Machine → Timing → Netlist → Stimulus → List Reading → Outcome → Type 0) (output : List ℕ) : Type 0 where
     pub machine : Machine
     pub machine_is : IsMachineOfFile bytes words.machine machine
     pub net : Netlist
+    pub timing : Timing
+    pub timing_is : IsTimingOfFile bytes words.last net words.timing timing
     pub stimulus : Stimulus
     pub are : AreOfFiles bytes words net stimulus
     pub others : List Reading
     pub told : AreTold others
-    pub ends : End machine net stimulus others (done output)
+    pub ends : End machine timing net stimulus others (done output)
+
+  -- the timing of a netlist
+  record ReachedTiming (words : RunWords) (net : Netlist) (Next : Timing → List Reading → Outcome → Type 0) (output : List ℕ) : Type 0 where
+    timing : Timing
+    timing_is : IsTimingOfFile bytes words.last net words.timing timing
+    others : List Reading
+    are : AreTold others
+    next : Next timing others (done output)
+
+  reached_timing : (words : RunWords) (net : Netlist) (Next : Timing → List Reading → Outcome → Type 0) (readings : List Reading) (output : List ℕ) → AreTold readings → AfterList words.last net words.timing Next readings (done output) → ReachedTiming words net Next output
+  unfolding AfterList
+  reached_timing words net Next readings output are expected = by words.last refl expected
+    where
+      by : (last : Option (List ℕ)) → words.last ≡ last → AfterList last net words.timing Next readings (done output) → ReachedTiming words net Next output
+      by None is expected = record {
+        timing = words.timing;
+        timing_is = subst (λ l. IsTimingOfFile bytes l net words.timing words.timing) (sym is) refl;
+        others = readings;
+        are = are;
+        next = expected;
+      }
+      by (Some file) is expected =
+          let first = gave file (λ text. After (IsListOf text net) (λ listed. Next (listing words.timing listed))) readings output are expected in
+          let list = passed (IsListOf first.text net) (λ listed. Next (listing words.timing listed)) first.others output (λ e. not_done _ status.LastList output e.2 refl (λ e. cc)) first.next in
+          record {
+            timing = listing words.timing list.0;
+            timing_is = subst (λ l. IsTimingOfFile bytes l net words.timing (listing words.timing list.0)) (sym is) (first.text, list.0, first.told, list.1, refl);
+            others = first.others;
+            are = first.are;
+            next = list.2;
+          }
 
   -- the stimulus of a netlist
   record ReachedStimulus (words : RunWords) (net : Netlist) (End : Stimulus → List Reading → Outcome → Type 0) (output : List ℕ) : Type 0 where
@@ -139,27 +179,32 @@ module _ (bytes : Option (List ℕ → List ℕ)) where
     stimulus_reads = end.reads;
   }
 
-  reached_on : (words : RunWords) (End : Machine → Netlist → Stimulus → List Reading → Outcome → Type 0) (machine : Machine) → IsMachineOfFile bytes words.machine machine → (readings : List Reading) (output : List ℕ) → AreTold readings → ExpectedOn words End machine readings (done output) → Reached words End output
+  reached_on : (words : RunWords) (End : Machine → Timing → Netlist → Stimulus → List Reading → Outcome → Type 0) (machine : Machine) → IsMachineOfFile bytes words.machine machine → (readings : List Reading) (output : List ℕ) → AreTold readings → ExpectedOn words End machine readings (done output) → Reached words End output
   unfolding ExpectedOn AfterDesign
   reached_on words End machine is readings output are expected =
-      let Next : Netlist → List Reading → Outcome → Type 0 = λ net. AfterStimulus words.stimulus net (End machine net) in
-      let first = gave words.netlist (λ text. After (IsNetlistOf text) (λ net. AfterFit net machine words.timing (Next net))) readings output are expected in
-      let netlist = passed (IsNetlistOf first.text) (λ net. AfterFit net machine words.timing (Next net)) first.others output (λ e. not_done _ status.Netlist output e.2 refl (λ e. cc)) first.next in
-      let order = passed (HasNoLoop netlist.0 words.timing) (λ passed. After (HasRoom netlist.0 machine words.timing) (λ fits. Next netlist.0)) first.others output (λ e. not_done _ status.Loop output e.2 refl (λ e. cc)) netlist.2 in
-      let room = passed (HasRoom netlist.0 machine words.timing) (λ fits. Next netlist.0) first.others output (λ e. not_done _ status.Overfull output e.3 refl (λ e. cc)) order.2 in
-      let end = reached_stimulus words netlist.0 (End machine netlist.0) first.others output first.are room.2 in
+      let Next : Netlist → List Reading → Outcome → Type 0 = λ net. AfterList words.last net words.timing (OnTiming words End machine net) in
+      let first = gave words.netlist (λ text. After (IsNetlistOf text) Next) readings output are expected in
+      let netlist = passed (IsNetlistOf first.text) Next first.others output (λ e. not_done _ status.Netlist output e.2 refl (λ e. cc)) first.next in
+      let net = netlist.0 in
+      let list = reached_timing words net (OnTiming words End machine net) first.others output first.are netlist.2 in
+      let Then : List Reading → Outcome → Type 0 = AfterStimulus words.stimulus net (End machine list.timing net) in
+      let order = passed (HasNoLoop net list.timing) (λ passed. After (HasRoom net machine list.timing) (λ fits. Then)) list.others output (λ e. not_done _ status.Loop output e.2 refl (λ e. cc)) list.next in
+      let room = passed (HasRoom net machine list.timing) (λ fits. Then) list.others output (λ e. not_done _ status.Overfull output e.3 refl (λ e. cc)) order.2 in
+      let end = reached_stimulus words net (End machine list.timing net) list.others output list.are room.2 in
       record {
         machine = machine;
         machine_is = is;
-        net = netlist.0;
+        net = net;
+        timing = list.timing;
+        timing_is = list.timing_is;
         stimulus = end.stimulus;
-        are = of_files words first.text first.told netlist.0 netlist.1 (End machine netlist.0) output end;
+        are = of_files words first.text first.told net netlist.1 (End machine list.timing net) output end;
         others = end.others;
         told = end.told;
         ends = end.ends;
       }
 
-  pub reached : (words : RunWords) (End : Machine → Netlist → Stimulus → List Reading → Outcome → Type 0) (readings : List Reading) (output : List ℕ) → AreTold readings → AfterMachine words.machine (ExpectedOn words End) readings (done output) → Reached words End output
+  pub reached : (words : RunWords) (End : Machine → Timing → Netlist → Stimulus → List Reading → Outcome → Type 0) (readings : List Reading) (output : List ℕ) → AreTold readings → AfterMachine words.machine (ExpectedOn words End) readings (done output) → Reached words End output
   unfolding AfterMachine
   reached words End readings output are expected = by words.machine refl readings are expected
     where
@@ -172,40 +217,46 @@ module _ (bytes : Option (List ℕ → List ℕ)) where
 
   -- ---- the trace
 
-  written : (net : Netlist) (words : RunWords) (stimulus : Stimulus) (readings : List Reading) (output : List ℕ) → WritesTrace net words.timing stimulus readings (done output) → IsTrace net words.timing stimulus output
-  written net words stimulus readings output (none, inl (text, is, same)) = subst (IsTrace net words.timing stimulus) (sym (ap (λ (o : Outcome). o.output) same)) is
-  written net words stimulus readings output (none, inr memory) = absurd (not_done _ status.Memory output memory refl (λ e. cc))
+  written : (net : Netlist) (timing : Timing) (stimulus : Stimulus) (readings : List Reading) (output : List ℕ) → WritesTrace net timing stimulus readings (done output) → IsTrace net timing stimulus output
+  written net timing stimulus readings output (none, inl (text, is, same)) = subst (IsTrace net timing stimulus) (sym (ap (λ (o : Outcome). o.output) same)) is
+  written net timing stimulus readings output (none, inr memory) = absurd (not_done _ status.Memory output memory refl (λ e. cc))
 
-  ordered : (net : Netlist) (words : RunWords) (machine : Machine) (stimulus : Stimulus) (order : Order) (readings : List Reading) (output : List ℕ) → Ends (EndsInOrder order words.banks net machine words.timing stimulus) readings (done output) → IsTrace net words.timing stimulus output
-  ordered net words machine stimulus order readings output (none, inr memory) = absurd (not_done _ status.Memory output memory refl (λ e. cc))
-  ordered net words machine stimulus order readings output (none, inl is) = by is.ends
+  ordered : (net : Netlist) (words : RunWords) (machine : Machine) (timing : Timing) (stimulus : Stimulus) (order : Order) (readings : List Reading) (output : List ℕ) → Ends (EndsInOrder order words.banks net machine timing stimulus) readings (done output) → IsTrace net timing stimulus output
+  ordered net words machine timing stimulus order readings output (none, inr memory) = absurd (not_done _ status.Memory output memory refl (λ e. cc))
+  ordered net words machine timing stimulus order readings output (none, inl is) = by is.ends
     where
-      by : EndsIn net words.timing stimulus is.states is.image is.state (done output) → IsTrace net words.timing stimulus output
+      by : EndsIn net timing stimulus is.states is.image is.state (done output) → IsTrace net timing stimulus output
       by (inl (all, same)) = record { states = is.states; simulation = is.simulation; printed = ap (λ (o : Outcome). o.output) same }
       by (inr (some, same)) = absurd (not_done _ status.Unfinished output same refl (λ e. cc))
 
-  ends_traced : (order : Option (List ℕ)) (words : RunWords) (machine : Machine) (net : Netlist) (stimulus : Stimulus) (readings : List Reading) (output : List ℕ) → AreTold readings → EndsBy order words machine net stimulus readings (done output) → IsTrace net words.timing stimulus output
+  ends_traced : (order : Option (List ℕ)) (words : RunWords) (machine : Machine) (timing : Timing) (net : Netlist) (stimulus : Stimulus) (readings : List Reading) (output : List ℕ) → AreTold readings → EndsBy order words machine timing net stimulus readings (done output) → IsTrace net timing stimulus output
   unfolding EndsBy
-  ends_traced None words machine net stimulus readings output are expected = written net words stimulus readings output expected
-  ends_traced (Some file) words machine net stimulus readings output are expected =
-      let first = gave file (λ text. After (IsOrderOf text machine) (λ order. Ends (EndsInOrder order words.banks net machine words.timing stimulus))) readings output are expected in
-      let order = passed (IsOrderOf first.text machine) (λ order. Ends (EndsInOrder order words.banks net machine words.timing stimulus)) first.others output (λ e. not_done _ status.OrderText output e.2 refl (λ e. cc)) first.next in
-      ordered net words machine stimulus order.0 first.others output order.2
+  ends_traced None words machine timing net stimulus readings output are expected = written net timing stimulus readings output expected
+  ends_traced (Some file) words machine timing net stimulus readings output are expected =
+      let first = gave file (λ text. After (IsOrderOf text machine) (λ order. Ends (EndsInOrder order words.banks net machine timing stimulus))) readings output are expected in
+      let order = passed (IsOrderOf first.text machine) (λ order. Ends (EndsInOrder order words.banks net machine timing stimulus)) first.others output (λ e. not_done _ status.OrderText output e.2 refl (λ e. cc)) first.next in
+      ordered net words machine timing stimulus order.0 first.others output order.2
 
   -- ---- commands
 
   refer_traced : (words : RunWords) (readings : List Reading) (output : List ℕ) → AreTold readings → ExpectedRefer words readings (done output) → IsTraceOfFiles bytes output words
   unfolding ExpectedRefer
   refer_traced words readings output are expected =
-      let first = gave words.netlist (λ text. After (IsNetlistOf text) (λ net. After (HasNoLoop net words.timing) (λ passed. AfterStimulus words.stimulus net (WritesTrace net words.timing)))) readings output are expected in
-      let netlist = passed (IsNetlistOf first.text) (λ net. After (HasNoLoop net words.timing) (λ passed. AfterStimulus words.stimulus net (WritesTrace net words.timing))) first.others output (λ e. not_done _ status.Netlist output e.2 refl (λ e. cc)) first.next in
-      let order = passed (HasNoLoop netlist.0 words.timing) (λ passed. AfterStimulus words.stimulus netlist.0 (WritesTrace netlist.0 words.timing)) first.others output (λ e. not_done _ status.Loop output e.2 refl (λ e. cc)) netlist.2 in
-      let end = reached_stimulus words netlist.0 (WritesTrace netlist.0 words.timing) first.others output first.are order.2 in
+      let Next : Netlist → List Reading → Outcome → Type 0 = λ net. AfterList words.last net words.timing (AfterLoop words.stimulus net) in
+      let first = gave words.netlist (λ text. After (IsNetlistOf text) Next) readings output are expected in
+      let netlist = passed (IsNetlistOf first.text) Next first.others output (λ e. not_done _ status.Netlist output e.2 refl (λ e. cc)) first.next in
+      let net = netlist.0 in
+      let list = reached_timing words net (AfterLoop words.stimulus net) first.others output first.are netlist.2 in
+      let timing = list.timing in
+      let order = passed (HasNoLoop net timing) (λ passed. AfterStimulus words.stimulus net (WritesTrace net timing)) list.others output (λ e. not_done _ status.Loop output e.2 refl (λ e. cc)) list.next in
+      let end = reached_stimulus words net (WritesTrace net timing) list.others output list.are order.2 in
       record {
-        net = netlist.0;
+        net = net;
         stimulus = end.stimulus;
-        are = of_files words first.text first.told netlist.0 netlist.1 (WritesTrace netlist.0 words.timing) output end;
-        trace = written netlist.0 words end.stimulus end.others output end.ends;
+        are = of_files words first.text first.told net netlist.1 (WritesTrace net timing) output end;
+        timing = timing;
+        timing_is = list.timing_is;
+        trace = written net timing end.stimulus end.others output end.ends;
       }
 
   run_traced : (words : RunWords) (by : Option (List ℕ)) (readings : List Reading) (output : List ℕ) → AreTold readings → ExpectedRun words by readings (done output) → IsTraceOfFiles bytes output words
@@ -216,7 +267,9 @@ module _ (bytes : Option (List ℕ → List ℕ)) where
         net = end.net;
         stimulus = end.stimulus;
         are = end.are;
-        trace = ends_traced by words end.machine end.net end.stimulus end.others output end.told end.ends;
+        timing = end.timing;
+        timing_is = end.timing_is;
+        trace = ends_traced by words end.machine end.timing end.net end.stimulus end.others output end.told end.ends;
       }
 
   command_traced : (command : Command) (readings : List Reading) (output : List ℕ) → AreTold readings → ExpectedOf command readings (done output) → IfSome (traced_by (Some command)) (IsTraceOfFiles bytes output)

@@ -3,6 +3,8 @@ use Rattle.std.proofs.Common.{◌≡◌, refl, subst, inl, inr, ℕ, List, [], �
 use Rattle.std.specs.Prelude.{IfOk, OnErr}
 use Rattle.crew_run.specs.declared.gate.Gate as gate
 use Rattle.edge_io.specs.declared.counts.FileCounts.{FileCounts}
+use Rattle.machine_run.specs.Visits.{AreVisitsOf}
+use Rattle.machine_text.specs.Machines.{ports_of}
 use Rattle.machine_text.specs.declared.machine.Machine.{Machine}
 use Rattle.net_defs.specs.declared.netlist.Netlist.{Netlist}
 use Rattle.net_defs.specs.declared.stimulus.Stimulus.{Stimulus}
@@ -16,7 +18,7 @@ use Rattle.yse_top.specs.declared.output.Output.TheVariants as output
 use Rattle.yse_top.specs.declared.refusal.Refusal.{Refusal}
 use Rattle.yse_top.specs.declared.refusal.Refusal.TheVariants as refusal
 use Rattle.yse_top.specs.declared.status.Status.{Status}
-use Rattle.yse_top.specs.Checks.{After, AfterFile, AfterRead, IsMachineOf, IsNetlistOf, HasNoLoop, HasRoom, IsStimulusOf, HasFewCells, text_of}
+use Rattle.yse_top.specs.Checks.{After, AfterFile, AfterRead, IsMachineOf, IsNetlistOf, HasNoLoop, HasRoom, IsStimulusOf, HasFewCells, IsListOf, listing, text_of}
 use Rattle.yse_top.specs.Outcome.{Outcome, done}
 use Rattle.yse_top.specs.Outputs.{trace_bytes}
 use Rattle.yse_top.specs.Readings.{Reading}
@@ -24,8 +26,8 @@ use Rattle.yse_top.specs.Endings.{ending_in}
 use Rattle.yse_top.specs.Ends.{MayWrite}
 use Rattle.yse_top.specs.Refusals.{Follows, ended_with, outcome_of, refused_of}
 use Rattle.yse_top.specs.Visited.{AreVisitsOfFiles, EndsTelling, HasWorkers, KeepsGates, TellsGates, TellsOfRun, order_in}
-use Rattle.yse_top.specs.commands.Run.{AfterDesign, AfterFit, AfterMachine, AfterStimulus, EndsBy, ExpectedOn, ExpectedRun}
-use Rattle.yse_top.proofs.TracedLemmas.{reached}
+use Rattle.yse_top.specs.commands.Run.{AfterDesign, AfterFit, AfterList, AfterMachine, AfterStimulus, EndsBy, ExpectedOn, ExpectedRun}
+use Rattle.yse_top.proofs.TracedLemmas.{reached, same_turns}
 
 -- ---- a chain that ends otherwise
 
@@ -52,19 +54,31 @@ stimulus_so file net One Other so =
     after_so (IsStimulusOf text net) (λ stimulus. After (HasFewCells net stimulus) (λ few. One stimulus)) (λ stimulus. After (HasFewCells net stimulus) (λ few. Other stimulus)) (λ stimulus.
     after_so (HasFewCells net stimulus) (λ few. One stimulus) (λ few. Other stimulus) (λ few. so stimulus)))
 
-design_so : (file : List ℕ) (machine : Machine) (timing : Timing) (One Other : Netlist → List Reading → Outcome → Type 0) → ((net : Netlist) → Implies (One net) (Other net)) → Implies (AfterDesign file machine timing One) (AfterDesign file machine timing Other)
-unfolding AfterDesign
-design_so file machine timing One Other so =
-    file_so file (λ text. After (IsNetlistOf text) (λ net. AfterFit net machine timing (One net))) (λ text. After (IsNetlistOf text) (λ net. AfterFit net machine timing (Other net))) (λ text.
-    after_so (IsNetlistOf text) (λ net. AfterFit net machine timing (One net)) (λ net. AfterFit net machine timing (Other net)) (λ net.
-    after_so (HasNoLoop net timing) (λ passed. After (HasRoom net machine timing) (λ fits. One net)) (λ passed. After (HasRoom net machine timing) (λ fits. Other net)) (λ passed.
-    after_so (HasRoom net machine timing) (λ fits. One net) (λ fits. Other net) (λ fits. so net))))
+list_so : (last : Option (List ℕ)) (net : Netlist) (timing : Timing) (One Other : Timing → List Reading → Outcome → Type 0) → ((t : Timing) → Implies (One t) (Other t)) → Implies (AfterList last net timing One) (AfterList last net timing Other)
+unfolding AfterList
+list_so None net timing One Other so = so timing
+list_so (Some file) net timing One Other so =
+    file_so file (λ text. After (IsListOf text net) (λ listed. One (listing timing listed))) (λ text. After (IsListOf text net) (λ listed. Other (listing timing listed))) (λ text.
+    after_so (IsListOf text net) (λ listed. One (listing timing listed)) (λ listed. Other (listing timing listed)) (λ listed. so (listing timing listed)))
 
-on_so : (words : RunWords) (One Other : Machine → Netlist → Stimulus → List Reading → Outcome → Type 0) → ((machine : Machine) (net : Netlist) (stimulus : Stimulus) → Implies (One machine net stimulus) (Other machine net stimulus)) → (machine : Machine) → Implies (ExpectedOn words One machine) (ExpectedOn words Other machine)
+fit_so : (net : Netlist) (machine : Machine) (timing : Timing) (One Other : List Reading → Outcome → Type 0) → Implies One Other → Implies (AfterFit net machine timing One) (AfterFit net machine timing Other)
+fit_so net machine timing One Other so =
+    after_so (HasNoLoop net timing) (λ passed. After (HasRoom net machine timing) (λ fits. One)) (λ passed. After (HasRoom net machine timing) (λ fits. Other)) (λ passed.
+    after_so (HasRoom net machine timing) (λ fits. One) (λ fits. Other) (λ fits. so))
+
+design_so : (words : RunWords) (machine : Machine) (One Other : Timing → Netlist → List Reading → Outcome → Type 0) → ((timing : Timing) (net : Netlist) → Implies (One timing net) (Other timing net)) → Implies (AfterDesign words machine One) (AfterDesign words machine Other)
+unfolding AfterDesign
+design_so words machine One Other so =
+    file_so words.netlist (λ text. After (IsNetlistOf text) (λ net. AfterList words.last net words.timing (λ timing. AfterFit net machine timing (One timing net)))) (λ text. After (IsNetlistOf text) (λ net. AfterList words.last net words.timing (λ timing. AfterFit net machine timing (Other timing net)))) (λ text.
+    after_so (IsNetlistOf text) (λ net. AfterList words.last net words.timing (λ timing. AfterFit net machine timing (One timing net))) (λ net. AfterList words.last net words.timing (λ timing. AfterFit net machine timing (Other timing net))) (λ net.
+    list_so words.last net words.timing (λ timing. AfterFit net machine timing (One timing net)) (λ timing. AfterFit net machine timing (Other timing net)) (λ timing.
+    fit_so net machine timing (One timing net) (Other timing net) (so timing net))))
+
+on_so : (words : RunWords) (One Other : Machine → Timing → Netlist → Stimulus → List Reading → Outcome → Type 0) → ((machine : Machine) (timing : Timing) (net : Netlist) (stimulus : Stimulus) → Implies (One machine timing net stimulus) (Other machine timing net stimulus)) → (machine : Machine) → Implies (ExpectedOn words One machine) (ExpectedOn words Other machine)
 unfolding ExpectedOn
 on_so words One Other so machine =
-    design_so words.netlist machine words.timing (λ net. AfterStimulus words.stimulus net (One machine net)) (λ net. AfterStimulus words.stimulus net (Other machine net)) (λ net.
-    stimulus_so words.stimulus net (One machine net) (Other machine net) (so machine net))
+    design_so words machine (λ timing net. AfterStimulus words.stimulus net (One machine timing net)) (λ timing net. AfterStimulus words.stimulus net (Other machine timing net)) (λ timing net.
+    stimulus_so words.stimulus net (One machine timing net) (Other machine timing net) (so machine timing net))
 
 machine_so : (file : Option (List ℕ)) (One Other : Machine → List Reading → Outcome → Type 0) → ((machine : Machine) → Implies (One machine) (Other machine)) → Implies (AfterMachine file One) (AfterMachine file Other)
 unfolding AfterMachine
@@ -86,6 +100,7 @@ refused_writes (refusal.Overfull net why) may = may
 refused_writes (refusal.Stimulus why) may = may
 refused_writes (refusal.Cells cells) may = may
 refused_writes (refusal.OrderText why) may = may
+refused_writes (refusal.LastList why) may = may
 refused_writes refusal.Memory may = may
 
 -- an output may be written
@@ -114,7 +129,7 @@ module _ {G : Type 0} (p : gate.Ghosts G) (gates gates' : List (Option G)) (name
     readings = follows.readings;
     are = follows.are;
     expected = machine_so words.machine (ExpectedOn words (EndsTelling p gates gates' pace words)) (ExpectedOn words (EndsBy (order_in pace) words))
-        (on_so words (EndsTelling p gates gates' pace words) (EndsBy (order_in pace) words) (λ machine net stimulus readings outcome telling. telling.ends))
+        (on_so words (EndsTelling p gates gates' pace words) (EndsBy (order_in pace) words) (λ machine timing net stimulus readings outcome telling. telling.ends))
         follows.readings (outcome_of result) follows.expected;
   }
 
@@ -128,7 +143,7 @@ module _ {G : Type 0} (p : gate.Ghosts G) (gates gates' : List (Option G)) (name
         net = end.net;
         stimulus = end.stimulus;
         are = end.are;
-        visits = end.ends.visits has refl;
+        visits = subst (λ n. AreVisitsOf p (ports_of end.machine) n words.workers gates gates') (same_turns bytes words.last end.net words.timing end.timing end.timing_is end.stimulus) (end.ends.visits has refl);
       }
 
   -- an output may be written, so what is left is of a refusal

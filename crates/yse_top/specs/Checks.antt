@@ -12,6 +12,7 @@ use Rattle.machine_text.specs.declared.machine.Machine.{Machine}
 use Rattle.net_defs.specs.Time.{cycle_count}
 use Rattle.net_defs.specs.Valid.{input_count}
 use Rattle.bench_read.specs.Faults as bench
+use Rattle.bench_read.specs.GateLists as gate_lists
 use Rattle.bench_read.specs.Reads as bench_reads
 use Rattle.stim_text.specs.Stimuli as stim
 use Rattle.stim_text.specs.declared.order.Order.{Order}
@@ -20,7 +21,7 @@ use Rattle.yse_compile.specs.declared.compiler.CompNo.{CompNo}
 use Rattle.yse_compile.specs.Compiled.{IsRight, IsOverfull}
 use Rattle.yse_compile.specs.Designs.{DesignFits}
 use Rattle.yse_top.specs.declared.status.Status.TheVariants as status
-use Rattle.yse_top.specs.Lines.{read_fault_line, too_long_line, machine_line, netlist_line, loop_line, overfull_line, stimulus_line, cells_line, order_line}
+use Rattle.yse_top.specs.Lines.{read_fault_line, too_long_line, machine_line, netlist_line, loop_line, overfull_line, stimulus_line, cells_line, order_line, list_line}
 use Rattle.yse_top.specs.Outcome.{Outcome, done, refusal, out_of_memory}
 use Rattle.yse_top.specs.Readings.{Reading}
 
@@ -84,6 +85,15 @@ IsStimulusOf text net =
 abbrev pub IsOrderOf : List ℕ → Machine → Result Order Outcome → Type 0
 IsOrderOf text machine =
     ReadsAs (orders.Reads (machine_text.ports_of machine) text) (orders.first_fault (machine_text.ports_of machine) text) (λ why. refusal status.OrderText (order_line why))
+
+-- the list of a text for the gates of a netlist
+abbrev pub IsListOf : List ℕ → Netlist → Result (List ℕ) Outcome → Type 0
+IsListOf text net =
+    ReadsAs (gate_lists.Reads net text) (gate_lists.first_fault net text) (λ why. refusal status.LastList (list_line why))
+
+-- the timing with these gates listed
+abbrev pub listing : Timing → List ℕ → Timing
+listing timing listed = record timing { listed = listed }
 
 -- no gates wait for one another
 abbrev pub HasNoLoop : Netlist → Timing → Result (Unit {0}) Outcome → Type 0

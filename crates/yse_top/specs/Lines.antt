@@ -8,6 +8,8 @@ use Rattle.bench_read.specs.declared.refusal.Many.{Many}
 use Rattle.bench_read.specs.declared.refusal.Many.TheVariants.{Signals, Operands}
 use Rattle.bench_read.specs.declared.refusal.BenchNo.{BenchNo}
 use Rattle.bench_read.specs.declared.refusal.BenchNo.TheVariants as bench_no
+use Rattle.bench_read.specs.declared.refusal.LastNo.{LastNo}
+use Rattle.bench_read.specs.declared.refusal.LastNo.TheVariants as last_no
 use Rattle.machine_text.specs.declared.machine.MachNo.{MachNo}
 use Rattle.machine_text.specs.declared.machine.MachNo.TheVariants as mach_no
 use Rattle.yse_compile.specs.declared.compiler.CompNo.{CompNo}
@@ -155,3 +157,15 @@ order_line order_no.Memory = memory_line
 -- an order that ended with so many of the rows done
 unfoldable pub unfinished_line : ℕ → ℕ → List ℕ
 unfinished_line rows total = joined (codes "order: ended with " ∷ decimal rows ∷ codes " of " ∷ decimal total ∷ codes " rows done\n" ∷ [])
+
+-- ---- lists of gates
+
+-- a fault of a line of the text of a list
+unfoldable pub gate_line : ℕ → List ℕ → List ℕ
+gate_line line fault = joined (codes "last list: line " ∷ decimal line ∷ codes ": " ∷ fault ∷ codes "\n" ∷ [])
+
+abbrev pub list_line : LastNo → List ℕ
+list_line (last_no.Syntax line) = gate_line line (codes "syntax")
+list_line (last_no.NoGate line) = gate_line line (codes "no such gate")
+list_line (last_no.Twice line) = gate_line line (codes "given twice")
+list_line last_no.Memory = memory_line

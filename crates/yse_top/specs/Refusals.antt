@@ -5,6 +5,8 @@ use Rattle.machine_text.specs.declared.machine.MachNo.{MachNo}
 use Rattle.machine_text.specs.declared.machine.MachNo.TheVariants as mach_no
 use Rattle.bench_read.specs.declared.refusal.BenchNo.{BenchNo}
 use Rattle.bench_read.specs.declared.refusal.BenchNo.TheVariants as bench_no
+use Rattle.bench_read.specs.declared.refusal.LastNo.{LastNo}
+use Rattle.bench_read.specs.declared.refusal.LastNo.TheVariants as last_no
 use Rattle.stim_text.specs.declared.refusal.StimNo.{StimNo}
 use Rattle.stim_text.specs.declared.refusal.StimNo.TheVariants as stim_no
 use Rattle.stim_text.specs.declared.refusal.OrderNo.{OrderNo}
@@ -16,7 +18,7 @@ use Rattle.yse_top.specs.declared.refusal.Refusal.TheVariants as refusal
 use Rattle.yse_top.specs.declared.status.Status.{Status}
 use Rattle.yse_top.specs.declared.status.Status.TheVariants as status
 use Rattle.yse_top.specs.Checks.{Refuses, text_of, read_fault}
-use Rattle.yse_top.specs.Lines.{usage_line, read_fault_line, memory_line, too_long_line, machine_line, netlist_line, loop_line, overfull_line, stimulus_line, cells_line, order_line}
+use Rattle.yse_top.specs.Lines.{usage_line, read_fault_line, memory_line, too_long_line, machine_line, netlist_line, loop_line, overfull_line, stimulus_line, cells_line, order_line, list_line}
 use Rattle.yse_top.specs.Outcome.{Outcome, done, unfinished, refusal as refused}
 use Rattle.yse_top.specs.Outputs.{trace_bytes}
 use Rattle.yse_top.specs.Readings.{Reading, AreReadings}
@@ -32,6 +34,7 @@ line_of (refusal.Overfull net why) = overfull_line net why
 line_of (refusal.Stimulus why) = stimulus_line why
 line_of (refusal.Cells cells) = cells_line cells
 line_of (refusal.OrderText why) = order_line why
+line_of (refusal.LastList why) = list_line why
 line_of refusal.Memory = memory_line
 
 abbrev pub status_of : Refusal → Status
@@ -45,6 +48,7 @@ status_of (refusal.Overfull net why) = status.Overfull
 status_of (refusal.Stimulus why) = status.Stimulus
 status_of (refusal.Cells cells) = status.Limit
 status_of (refusal.OrderText why) = status.OrderText
+status_of (refusal.LastList why) = status.LastList
 status_of refusal.Memory = status.Memory
 
 -- the refusal of a machine text
@@ -66,6 +70,11 @@ of_stimulus why = refusal.Stimulus why
 abbrev pub of_order : OrderNo → Refusal
 of_order order_no.Memory = refusal.Memory
 of_order why = refusal.OrderText why
+
+-- the refusal of the text of a list of gates
+abbrev pub of_list : LastNo → Refusal
+of_list last_no.Memory = refusal.Memory
+of_list why = refusal.LastList why
 
 -- ---- outcomes
 

@@ -16,4 +16,5 @@ status_number status.Stimulus = 9
 status_number status.Limit = 10
 status_number status.Unfinished = 11
 status_number status.OrderText = 12
+status_number status.LastList = 13
 status_number status.Memory = 70

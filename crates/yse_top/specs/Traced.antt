@@ -1,13 +1,16 @@
 -- What the output of a simulation is, by what its files told.
-use Rattle.std.specs.Prelude.{ℕ, List, Option, ◌≡◌}
+use Rattle.std.specs.Prelude.{ℕ, List, Option, Some, None, ◌≡◌}
 use Rattle.edge_io.specs.Names.{OfTold}
 use Rattle.net_defs.specs.declared.netlist.Netlist.{Netlist}
 use Rattle.net_defs.specs.declared.stimulus.Stimulus.{Stimulus}
+use Rattle.net_defs.specs.declared.timing.Timing.{Timing}
 use Rattle.net_defs.specs.Trace.{IsTrace}
 use Rattle.net_defs.specs.Valid.{input_count}
+use Rattle.bench_read.specs.GateLists as gate_lists
 use Rattle.bench_read.specs.Reads as bench
 use Rattle.stim_text.specs.Stimuli as stim
 use Rattle.cmd_words.specs.declared.command.RunWords.{RunWords}
+use Rattle.yse_top.specs.Checks.{listing}
 
 -- The text of the netlist file, and the netlist that it reads as; the text of the stimulus file, and the
 -- stimulus that it reads as for the netlist's inputs. Where the store tells the bytes of its files, the texts
@@ -20,9 +23,18 @@ pub record AreOfFiles (bytes : Option (List ℕ → List ℕ)) (words : RunWords
   pub stimulus_told : OfTold bytes words.stimulus (λ told. stimulus_text ≡ told)
   pub stimulus_reads : stim.Reads (input_count net) stimulus_text stimulus
 
--- the output is the trace of the netlist and the stimulus of the files
+-- The timing of the words; where they name the file of a list, with the gates listed that its text lists.
+abbrev pub IsTimingOfFile : Option (List ℕ → List ℕ) → Option (List ℕ) → Netlist → Timing → Timing → Type 0
+IsTimingOfFile bytes None net given timing = timing ≡ given
+IsTimingOfFile bytes (Some file) net given timing =
+    (text : List ℕ) × (listed : List ℕ) × OfTold bytes file (λ told. text ≡ told) × gate_lists.Reads net text listed × (timing ≡ listing given listed)
+
+-- the output is the trace of the netlist and the stimulus of the files, in the timing of the words and
+-- their list
 pub record IsTraceOfFiles (bytes : Option (List ℕ → List ℕ)) (output : List ℕ) (words : RunWords) : Type 0 where
   pub net : Netlist
   pub stimulus : Stimulus
   pub are : AreOfFiles bytes words net stimulus
-  pub trace : IsTrace net words.timing stimulus output
+  pub timing : Timing
+  pub timing_is : IsTimingOfFile bytes words.last net words.timing timing
+  pub trace : IsTrace net timing stimulus output

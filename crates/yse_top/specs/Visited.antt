@@ -10,6 +10,7 @@ use Rattle.machine_text.specs.Machines as machine_text
 use Rattle.machine_text.specs.Machines.{default_machine, ports_of}
 use Rattle.net_defs.specs.declared.netlist.Netlist.{Netlist}
 use Rattle.net_defs.specs.declared.stimulus.Stimulus.{Stimulus}
+use Rattle.net_defs.specs.declared.timing.Timing.{Timing}
 use Rattle.net_defs.specs.Time.{turn_count}
 use Rattle.cmd_words.specs.declared.command.Command.{Command}
 use Rattle.cmd_words.specs.declared.command.Command.TheVariants as command
@@ -79,9 +80,9 @@ HasWorkers _ = ⊥
 
 module _ {G : Type 0} (p : gate.Ghosts G) (gates gates' : List (Option G)) where
   -- the end of a run; where workers stepped the ports to the end, they told the gates
-  pub record EndsTelling (pace : Pace) (words : RunWords) (machine : Machine) (net : Netlist) (stimulus : Stimulus) (readings : List Reading) (outcome : Outcome) : Type 0 where
-    pub ends : EndsBy (order_in pace) words machine net stimulus readings outcome
-    pub visits : HasWorkers pace → outcome.status ≡ status.Done → AreVisitsOf p (ports_of machine) (turn_count words.timing stimulus) words.workers gates gates'
+  pub record EndsTelling (pace : Pace) (words : RunWords) (machine : Machine) (timing : Timing) (net : Netlist) (stimulus : Stimulus) (readings : List Reading) (outcome : Outcome) : Type 0 where
+    pub ends : EndsBy (order_in pace) words machine timing net stimulus readings outcome
+    pub visits : HasWorkers pace → outcome.status ≡ status.Done → AreVisitsOf p (ports_of machine) (turn_count timing stimulus) words.workers gates gates'
 
 -- where workers stepped the ports, the gates are told as by a run
 abbrev pub TellsOfRun : {G : Type 0} → gate.Ghosts G → Option (List ℕ → List ℕ) → List (Option G) → List (Option G) → Pace → RunWords → Result Output Refusal → Type 0

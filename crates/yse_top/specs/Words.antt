@@ -7,10 +7,10 @@ use Rattle.cmd_words.specs.declared.command.RunWords.{RunWords}
 
 -- the files that a command reads, in the order in which it does
 abbrev pub files_of : Command → List (List ℕ)
-files_of (command.Run words) = option_to_list words.machine ++ (words.netlist ∷ words.stimulus ∷ [])
-files_of (command.Refer words) = words.netlist ∷ words.stimulus ∷ []
-files_of (command.Order words) = option_to_list words.machine ++ (words.netlist ∷ words.stimulus ∷ option_to_list words.order)
-files_of (command.Plan words) = option_to_list words.machine ++ (words.netlist ∷ [])
+files_of (command.Run words) = option_to_list words.machine ++ (words.netlist ∷ (option_to_list words.last ++ (words.stimulus ∷ [])))
+files_of (command.Refer words) = words.netlist ∷ (option_to_list words.last ++ (words.stimulus ∷ []))
+files_of (command.Order words) = option_to_list words.machine ++ (words.netlist ∷ (option_to_list words.last ++ (words.stimulus ∷ option_to_list words.order)))
+files_of (command.Plan words) = option_to_list words.machine ++ (words.netlist ∷ option_to_list words.last)
 files_of (command.Show netlist) = netlist ∷ []
 files_of (command.Large gates cycles workers) = []
 

@@ -5,17 +5,17 @@ ghost use Rattle.limits.specs.declared.TheConstants.{MAX_TEXT_BYTES};
 ghost use Rattle.net_defs.specs.Loops.{IsOrder};
 ghost use Rattle.machine_text.specs.Machines.{IsValid as IsValidMachine, ports_of};
 ghost use Rattle.net_defs.specs.declared.stimulus.Stimulus.{Stimulus};
-ghost use Rattle.net_defs.specs.Valid.{IsValid, IsValidStimulus, IsValidTiming};
+ghost use Rattle.net_defs.specs.Valid.{Ascends, IsValid, IsValidStimulus, IsValidTiming};
 ghost use Rattle.yse_compile.specs.Compiled.{IsCompiled, ShowsReference};
-ghost use Rattle.yse_top.specs.Checks.{Refuses, RefusesDesign, IsMachineOf, IsNetlistOf, IsOrderOf, IsStimulusOf, HasNoLoop, HasRoom, HasFewCells, cell_count};
+ghost use Rattle.yse_top.specs.Checks.{Refuses, RefusesDesign, IsListOf, IsMachineOf, IsNetlistOf, IsOrderOf, IsStimulusOf, HasNoLoop, HasRoom, HasFewCells, cell_count};
 ghost use Rattle.stim_text.specs.Orders.{IsValidOrder};
 ghost use Rattle.yse_top.specs.Images.{IsImageOf};
 ghost use Rattle.yse_top.specs.Orders.{IsMachineImage};
 ghost use Rattle.yse_top.specs.Refusals.{Satisfies, refused_of};
 
-use crate::refusal::{Refusal, of_machine, of_netlist, of_order, of_stimulus};
+use crate::refusal::{Refusal, of_list, of_machine, of_netlist, of_order, of_stimulus};
 use bench_read::law::reads_as_valid;
-use bench_read::read_bench;
+use bench_read::{read_bench, read_last};
 use image_defs::Image;
 use limits::MAX_CELLS;
 use machine_text::{Machine, read_machine};
@@ -93,9 +93,23 @@ pub fn stimulus_of<'a>(
     }
 }
 
+/// The gates that a text lists, which is given up once it is read.
+pub fn list_of<'a>(alloc: Global, text: List<u8>, net: &Netlist) -> Result<List<u32>, Refusal<'a>>
+    requires valid { IsValid net.now }
+    requires short { length text ≤ MAX_TEXT_BYTES }
+    ensures checked { Satisfies result (IsListOf text net.now) }
+    ensures ascends { IfOk result Ascends }
+{
+    match read_last(alloc, text.as_slice(), net) {
+        Ok(listed) => Ok(listed),
+        Err(no) => Err(of_list(no)),
+    }
+}
+
 /// The netlist with an order of its gates, and else a loop.
 pub fn ordered<'a>(alloc: Global, net: Netlist, timing: &Timing) -> Result<Design, Refusal<'a>>
-    requires { IsValid net }
+    requires net { IsValid net }
+    requires timing { IsValidTiming timing.now }
     ensures same { IfOk result (λ design. design.net ≡ net) }
     ensures order { IfOk result (λ design. IsOrder net timing.now design.order) }
     ensures acyclic { OnOk result (HasNoLoop net timing.now (Ok tt)) }

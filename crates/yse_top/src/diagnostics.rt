@@ -7,6 +7,7 @@ ghost use Rattle.yse_top.specs.Lines.{usage_line, read_fault_line, write_fault_l
 ghost use Rattle.yse_top.specs.Refusals.{line_of, status_of};
 ghost use Rattle.yse_top.specs.Writing.{Takes, TakesLine};
 
+use crate::list_lines::write_list_line;
 use crate::order_lines::write_order_line;
 use crate::output::write_piece;
 use crate::overfull::{write_machine_line, write_overfull_line};
@@ -53,6 +54,7 @@ fn status_of(refusal: &Refusal<'_>) -> Status
         Refusal::Stimulus(_) => Status::Stimulus,
         Refusal::TooLong(_) | Refusal::Cells(_) => Status::Limit,
         Refusal::OrderText(_) => Status::OrderText,
+        Refusal::LastList(_) => Status::LastList,
         Refusal::Memory => Status::Memory,
     }
 }
@@ -92,6 +94,7 @@ fn write_line<S: Sink>(sink: &mut S, refusal: &Refusal<'_>) -> Result<(), WriteN
         Refusal::Stimulus(no) => write_stimulus_line(sink, no),
         Refusal::Cells(cells) => write_cells_line(sink, *cells),
         Refusal::OrderText(no) => write_order_line(sink, no),
+        Refusal::LastList(no) => write_list_line(sink, no),
         Refusal::Memory => write_memory_line(sink),
     }
 }

@@ -3,6 +3,7 @@
 ghost use Rattle.yse_top.specs.Law.{AreProper, HaveOutcomes, TellsWords};
 
 use bench_read::law::{reads_or_faults as netlists_or_faults, texts_read_as_valid};
+use bench_read::list_law::reads_or_faults as lists_or_faults;
 use cmd_words::law::{forms_are_asked, forms_are_in_range};
 use event_defs::law::links_decide;
 use large_run::law::one_summary;
@@ -33,6 +34,7 @@ pub fn calls_are_proper()
     stimuli_or_faults();
     machines_or_faults();
     orders_or_faults();
+    lists_or_faults();
     machines_are_valid();
     texts_read_as_valid();
     order_or_loop();

@@ -23,6 +23,7 @@ mod commands;
 mod diagnostics;
 mod ending;
 pub mod law;
+mod list_lines;
 mod order_lines;
 mod output;
 mod overfull;
@@ -45,16 +46,17 @@ use std::marker::{Send, Sync};
 use std::sync::Wait;
 use std::thread::Threads;
 
-/// Does what the words say. `run`, `refer` and `order` with `NETLIST STIMULUS [--mode rank|unit]
-/// [--units K] [--init x|0]` simulate the netlist of the one file with the stimulus of the other and
-/// write the trace to `out`, one line a piece, the header first; a cycle is K turns, 1 to 4,096, and 1
-/// in rank order. `run` and `order` take `--machine FILE`, the machine that the netlist is compiled
+/// Does what the words say. `run`, `refer` and `order` with `NETLIST STIMULUS [--mode rank|unit|mixed]
+/// [--last FILE] [--units K] [--init x|0]` simulate the netlist of the one file with the stimulus of the
+/// other and write the trace to `out`, one line a piece, the header first; a cycle is K turns, 1 to 4,096,
+/// and 1 in rank order. `--last` names the file of the list of gates that read the last turn, in mixed mode
+/// and no other. `run` and `order` take `--machine FILE`, the machine that the netlist is compiled
 /// for, and `--banks B`, how many turns a port may run ahead of its readers, 1 to 8; `run` takes
 /// `--workers N`, the workers that step the machine's ports, 1 to 64, each in a thread of its own where
 /// one can be made; `order` takes `--order FILE`, the order of the ports' steps. An order that ends before
 /// every port is done writes the rows that are done, and ends with `Unfinished`.
 ///
-/// `plan NETLIST [--machine FILE] [--mode rank|unit]` writes the report of the netlist's plan on the machine
+/// `plan NETLIST [--machine FILE] [--mode rank|unit|mixed] [--last FILE]` writes the report of the netlist's plan on the machine
 /// as one piece, `show NETLIST` the netlist's canonical text, and `large GATES CYCLES [--workers N]` the
 /// summary of a run of a generated design. A file has at most 67,108,864 bytes, and a simulation at most
 /// 268,435,456 cells (this project's profile). A status other than `Done` writes its line to `err`, and a

@@ -1,9 +1,9 @@
 //! Why a call ends before its output. A fault of writing is no refusal.
 
 ghost use Rattle.std.specs.Prelude.{◌≡◌};
-ghost use Rattle.yse_top.specs.Refusals.{of_machine, of_netlist, of_order, of_stimulus};
+ghost use Rattle.yse_top.specs.Refusals.{of_list, of_machine, of_netlist, of_order, of_stimulus};
 
-use bench_read::BenchNo;
+use bench_read::{BenchNo, LastNo};
 use machine_text::MachNo;
 use net_defs::Netlist;
 use seen_list::List;
@@ -33,6 +33,8 @@ pub enum Refusal<'a> {
     Cells(u64),
     /// The text is no order of the machine's ports.
     OrderText(OrderNo),
+    /// The text is no list of the netlist's gates.
+    LastList(LastNo),
     /// Want of memory.
     Memory,
 }
@@ -74,5 +76,15 @@ pub fn of_order<'a>(no: OrderNo) -> Refusal<'a>
     match no {
         OrderNo::Memory => Refusal::Memory,
         other => Refusal::OrderText(other),
+    }
+}
+
+/// The refusal of the text of a list of gates.
+pub fn of_list<'a>(no: LastNo) -> Refusal<'a>
+    ensures { result ≡ of_list no }
+{
+    match no {
+        LastNo::Memory => Refusal::Memory,
+        other => Refusal::LastList(other),
     }
 }

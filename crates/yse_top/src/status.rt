@@ -18,7 +18,7 @@ pub enum Status {
     Netlist,
     /// A machine text is refused.
     Machine,
-    /// A loop of gates in rank order.
+    /// A loop of gates, none of them late.
     Loop,
     /// The design does not fit the machine.
     Overfull,
@@ -30,12 +30,14 @@ pub enum Status {
     Unfinished,
     /// An order text is refused.
     OrderText,
+    /// The text of a list of gates is refused.
+    LastList,
     /// Want of memory.
     Memory,
 }
 
 impl Status {
-    /// The exit status: 0, 2 to 12, or 70.
+    /// The exit status: 0, 2 to 13, or 70.
     pub fn number(&self) -> u8
         ensures { result ≡ status_number self.now }
     {
@@ -52,6 +54,7 @@ impl Status {
             Status::Limit => 10,
             Status::Unfinished => 11,
             Status::OrderText => 12,
+            Status::LastList => 13,
             Status::Memory => 70,
         }
     }

@@ -14,7 +14,7 @@ use Rattle.cmd_words.specs.declared.command.RunWords.{RunWords}
 use Rattle.yse_top.specs.Checks.{Ends, Writes}
 use Rattle.yse_top.specs.Outcome.{Outcome}
 use Rattle.yse_top.specs.Readings.{Reading}
-use Rattle.yse_top.specs.commands.Run.{AfterDesign, AfterMachine}
+use Rattle.yse_top.specs.commands.Run.{AfterDesign, AfterFit, AfterMachine}
 
 -- the output is the report of the first-fit plan of the netlist's items at their homes on the machine
 pub record IsReportOf (net : Netlist) (machine : Machine) (timing : Timing) (output : List ℕ) : Type 0 where
@@ -26,10 +26,14 @@ pub record IsReportOf (net : Netlist) (machine : Machine) (timing : Timing) (out
   pub first_fit : IsFirstFitPlan nodes homes plan
   pub report : IsReport net nodes homes plan output
 
+-- the design of a netlist in a timing, and then its report
+abbrev pub PlansIn : Netlist → Machine → Timing → List Reading → Outcome → Type 0
+PlansIn net machine timing = AfterFit net machine timing (Ends (Writes (IsReportOf net machine timing)))
+
 -- the design, and then its report
 unfoldable pub ExpectedPlanOn : RunWords → Machine → List Reading → Outcome → Type 0
 ExpectedPlanOn words machine =
-    AfterDesign words.netlist machine words.timing (λ net. Ends (Writes (IsReportOf net machine words.timing)))
+    AfterDesign words machine (λ timing net. Ends (Writes (IsReportOf net machine timing)))
 
 -- the machine, and then a plan on it
 unfoldable pub ExpectedPlan : RunWords → List Reading → Outcome → Type 0

@@ -8,7 +8,7 @@ use Rattle.net_defs.specs.declared.stimulus.Stimulus.{Stimulus}
 use Rattle.net_defs.specs.declared.timing.Timing.{Timing}
 use Rattle.net_defs.specs.Trace.{IsTrace}
 use Rattle.cmd_words.specs.declared.command.RunWords.{RunWords}
-use Rattle.yse_top.specs.Checks.{After, AfterFile, Ends, Writes, IsMachineOf, IsNetlistOf, HasNoLoop, HasRoom, IsStimulusOf, HasFewCells, IsOrderOf}
+use Rattle.yse_top.specs.Checks.{After, AfterFile, Ends, Writes, IsMachineOf, IsNetlistOf, HasNoLoop, HasRoom, IsStimulusOf, HasFewCells, IsListOf, IsOrderOf, listing}
 use Rattle.yse_top.specs.Orders.{EndsInOrder}
 use Rattle.yse_top.specs.Outcome.{Outcome}
 use Rattle.yse_top.specs.Readings.{Reading}
@@ -17,6 +17,14 @@ use Rattle.yse_top.specs.Readings.{Reading}
 unfoldable pub AfterMachine : Option (List ℕ) → (Machine → List Reading → Outcome → Type 0) → List Reading → Outcome → Type 0
 AfterMachine None Next = Next default_machine
 AfterMachine (Some file) Next = AfterFile file (λ text. After (IsMachineOf text) Next)
+
+-- where the file of a list is named, that file, its text, and the timing with the gates that it lists; else
+-- the timing as it is
+unfoldable pub AfterList : Option (List ℕ) → Netlist → Timing → (Timing → List Reading → Outcome → Type 0) → List Reading → Outcome → Type 0
+AfterList None net timing Next = Next timing
+AfterList (Some file) net timing Next =
+    AfterFile file (λ text.
+    After (IsListOf text net) (λ listed. Next (listing timing listed)))
 
 -- the stimulus file, its text and the cells
 unfoldable pub AfterStimulus : List ℕ → Netlist → (Stimulus → List Reading → Outcome → Type 0) → List Reading → Outcome → Type 0
@@ -31,11 +39,12 @@ AfterFit net machine timing Next =
     After (HasNoLoop net timing) (λ passed.
     After (HasRoom net machine timing) (λ fits. Next))
 
--- the netlist file, its text, and the design on the machine
-unfoldable pub AfterDesign : List ℕ → Machine → Timing → (Netlist → List Reading → Outcome → Type 0) → List Reading → Outcome → Type 0
-AfterDesign file machine timing Next =
-    AfterFile file (λ text.
-    After (IsNetlistOf text) (λ net. AfterFit net machine timing (Next net)))
+-- the netlist file, its text, the list, and the design on the machine in the timing
+unfoldable pub AfterDesign : RunWords → Machine → (Timing → Netlist → List Reading → Outcome → Type 0) → List Reading → Outcome → Type 0
+AfterDesign words machine Next =
+    AfterFile words.netlist (λ text.
+    After (IsNetlistOf text) (λ net.
+    AfterList words.last net words.timing (λ timing. AfterFit net machine timing (Next timing net))))
 
 -- the trace is written
 abbrev pub WritesTrace : Netlist → Timing → Stimulus → List Reading → Outcome → Type 0
@@ -43,26 +52,34 @@ WritesTrace net timing stimulus = Ends (Writes (IsTrace net timing stimulus))
 
 -- without an order file the trace is written; in the order of the named file, once its text is read, what
 -- is done by its end
-unfoldable pub EndsBy : Option (List ℕ) → RunWords → Machine → Netlist → Stimulus → List Reading → Outcome → Type 0
-EndsBy None words machine net stimulus = WritesTrace net words.timing stimulus
-EndsBy (Some file) words machine net stimulus =
+unfoldable pub EndsBy : Option (List ℕ) → RunWords → Machine → Timing → Netlist → Stimulus → List Reading → Outcome → Type 0
+EndsBy None words machine timing net stimulus = WritesTrace net timing stimulus
+EndsBy (Some file) words machine timing net stimulus =
     AfterFile file (λ text.
     After (IsOrderOf text machine) (λ order.
-    Ends (EndsInOrder order words.banks net machine words.timing stimulus)))
+    Ends (EndsInOrder order words.banks net machine timing stimulus)))
 
 -- the design, the stimulus, and then this end of the run
-unfoldable pub ExpectedOn : RunWords → (Machine → Netlist → Stimulus → List Reading → Outcome → Type 0) → Machine → List Reading → Outcome → Type 0
+unfoldable pub ExpectedOn : RunWords → (Machine → Timing → Netlist → Stimulus → List Reading → Outcome → Type 0) → Machine → List Reading → Outcome → Type 0
 ExpectedOn words End machine =
-    AfterDesign words.netlist machine words.timing (λ net. AfterStimulus words.stimulus net (End machine net))
+    AfterDesign words machine (λ timing net. AfterStimulus words.stimulus net (End machine timing net))
+
+-- the same once the netlist and the timing are known
+abbrev pub OnTiming : RunWords → (Machine → Timing → Netlist → Stimulus → List Reading → Outcome → Type 0) → Machine → Netlist → Timing → List Reading → Outcome → Type 0
+OnTiming words End machine net timing =
+    AfterFit net machine timing (AfterStimulus words.stimulus net (End machine timing net))
 
 -- the machine, and then a run on it, to its end or in the order of the named file
 unfoldable pub ExpectedRun : RunWords → Option (List ℕ) → List Reading → Outcome → Type 0
 ExpectedRun words order = AfterMachine words.machine (ExpectedOn words (EndsBy order words))
 
--- the netlist file, its text, the loop, the stimulus, and then the trace
+-- the loop, the stimulus, and then the trace
+abbrev pub AfterLoop : List ℕ → Netlist → Timing → List Reading → Outcome → Type 0
+AfterLoop stimulus net timing =
+    After (HasNoLoop net timing) (λ passed. AfterStimulus stimulus net (WritesTrace net timing))
+
+-- the netlist file, its text, the list, the loop, the stimulus, and then the trace
 unfoldable pub ExpectedRefer : RunWords → List Reading → Outcome → Type 0
 ExpectedRefer words =
     AfterFile words.netlist (λ text.
-    After (IsNetlistOf text) (λ net.
-    After (HasNoLoop net words.timing) (λ passed.
-    AfterStimulus words.stimulus net (WritesTrace net words.timing))))
+    After (IsNetlistOf text) (λ net. AfterList words.last net words.timing (AfterLoop words.stimulus net)))

@@ -8,10 +8,10 @@ ghost use Rattle.yse_compile.specs.Compiled.{IsCompiled};
 ghost use Rattle.yse_top.specs.Checks.{Ends, Writes};
 ghost use Rattle.yse_top.specs.Outputs.{CanWrite};
 ghost use Rattle.yse_top.specs.Refusals.{Follows, outcome_of};
-ghost use Rattle.yse_top.specs.commands.Plan.{ExpectedPlan, ExpectedPlanOn, IsReportOf};
-ghost use Rattle.yse_top.specs.commands.Run.{AfterFit, AfterMachine};
+ghost use Rattle.yse_top.specs.commands.Plan.{ExpectedPlan, ExpectedPlanOn, IsReportOf, PlansIn};
+ghost use Rattle.yse_top.specs.commands.Run.{AfterList, AfterMachine};
 
-use crate::checks::{Planned, designed, machine_of, netlist_of};
+use crate::checks::{Planned, designed, list_of, machine_of, netlist_of};
 use crate::output::Output;
 use crate::reading::read_text;
 use crate::refusal::Refusal;
@@ -80,7 +80,57 @@ fn plan_on<'a, F: Files>(
 {
     match read_text(alloc, files, words.netlist.as_bytes()) {
         Ok(text) => match netlist_of(alloc, text) {
-            Ok(net) => lay_out(alloc, net, &machine, &words.timing),
+            Ok(net) => plan_netlist(alloc, files, words, &machine, net),
+            Err(no) => Err(no),
+        },
+        Err(no) => Err(no),
+    }
+}
+
+/// The report of the plan of a netlist, where the gates of the named list read the last turn.
+fn plan_netlist<'a, F: Files>(
+    alloc: Global,
+    files: &mut F,
+    words: &'a RunWords,
+    machine: &Machine,
+    net: Netlist,
+) -> Result<Output, Refusal<'a>>
+    requires range { IsRunInRange words.now }
+    requires machine { IsValidMachine machine.now }
+    requires valid { IsValid net }
+    ensures expected { Follows (F.names files.old) (F.bytes files.old) (F.counts files.old) (F.counts files.new)
+        result (AfterList words.now.last net words.now.timing (PlansIn net machine.now)) }
+    ensures writable { IfOk result CanWrite }
+{
+    match &words.last {
+        None => lay_out(alloc, net, machine, &words.timing),
+        Some(file) => plan_listed(alloc, files, words, machine, net, file.as_bytes()),
+    }
+}
+
+/// The report of the plan of a netlist, where the gates of the list in this file read the last turn.
+#[tactic(auto, using(crate::proofs::ChainLemmas::follows_refused), unfolding(crate::specs::commands::Run::AfterList))]
+fn plan_listed<'a, F: Files>(
+    alloc: Global,
+    files: &mut F,
+    words: &'a RunWords,
+    machine: &Machine,
+    net: Netlist,
+    file: &'a [u8],
+) -> Result<Output, Refusal<'a>>
+    requires range { IsRunInRange words.now }
+    requires machine { IsValidMachine machine.now }
+    requires valid { IsValid net }
+    ensures expected { Follows (F.names files.old) (F.bytes files.old) (F.counts files.old) (F.counts files.new)
+        result (AfterList (Some file.now) net words.now.timing (PlansIn net machine.now)) }
+    ensures writable { IfOk result CanWrite }
+{
+    match read_text(alloc, files, file) {
+        Ok(text) => match list_of(alloc, text, &net) {
+            Ok(listed) => {
+                let timing = words.timing.listing(listed);
+                lay_out(alloc, net, machine, &timing)
+            }
             Err(no) => Err(no),
         },
         Err(no) => Err(no),
@@ -97,8 +147,7 @@ fn lay_out<'a>(
     requires valid { IsValid net }
     requires machine { IsValidMachine machine.now }
     requires timing { IsValidTiming timing.now }
-    ensures expected { AfterFit net machine.now timing.now (Ends (Writes (IsReportOf net machine.now timing.now)))
-        [] (outcome_of result) }
+    ensures expected { PlansIn net machine.now timing.now [] (outcome_of result) }
     ensures writable { IfOk result CanWrite }
 {
     match designed(alloc, net, machine, timing) {

@@ -2,7 +2,7 @@
 
 ghost use Rattle.std.specs.Prelude.{◌≡◌, ◌≤◌, IfOk, length};
 ghost use Rattle.machine_text.specs.Machines.{IsValid as IsValidMachine};
-ghost use Rattle.net_defs.specs.Valid.{IsValid, IsValidStimulus, input_count};
+ghost use Rattle.net_defs.specs.Valid.{IsValid, IsValidStimulus, IsValidTiming, input_count};
 ghost use Rattle.cmd_words.specs.Forms.{IsRunInRange};
 ghost use Rattle.cmd_words.specs.declared.options.TheConstants.{MAX_WORKERS};
 ghost use Rattle.yse_top.specs.Images.{IsImageOf};
@@ -10,9 +10,11 @@ ghost use Rattle.yse_top.specs.Orders.{IsMachineImage};
 ghost use Rattle.yse_top.specs.Outputs.{CanWrite};
 ghost use Rattle.yse_top.specs.Refusals.{Follows};
 ghost use Rattle.yse_top.specs.Visited.{AllCanTell, EndsTelling, KeepsGates, TellsOfRun, order_in};
-ghost use Rattle.yse_top.specs.commands.Run.{AfterMachine, AfterStimulus, EndsBy, ExpectedOn, ExpectedRun};
+ghost use Rattle.yse_top.specs.commands.Run.{AfterList, AfterMachine, AfterStimulus, EndsBy, ExpectedOn, ExpectedRun, OnTiming};
 
-use crate::checks::{Built, compiled, few_cells, machine_of, netlist_of, order_of, stimulus_of};
+use crate::checks::{
+    Built, compiled, few_cells, list_of, machine_of, netlist_of, order_of, stimulus_of,
+};
 use crate::commands::steps::{Pace, by_order, by_rounds, by_workers};
 use crate::output::Output;
 use crate::reading::read_text;
@@ -21,7 +23,7 @@ use cmd_words::RunWords;
 use crew_run::Gate;
 use edge_io::Files;
 use machine_text::Machine;
-use net_defs::Stimulus;
+use net_defs::{Netlist, Stimulus, Timing};
 use seen_list::Memory;
 use std::alloc::Global;
 use std::marker::{Send, Sync};
@@ -131,12 +133,109 @@ fn run_on<'a, R: Threads + Wait + Sync, F: Files, G: Gate + Send>(
 {
     match read_text(alloc, files, words.netlist.as_bytes()) {
         Ok(text) => match netlist_of(alloc, text) {
-            Ok(net) => match compiled(alloc, net, &machine, &words.timing) {
-                Ok(built) => execute(rt, alloc, files, words, pace, &machine, built, gates),
-                Err(no) => Err(no),
-            },
+            Ok(net) => run_netlist(rt, alloc, files, words, pace, &machine, net, gates),
             Err(no) => Err(no),
         },
+        Err(no) => Err(no),
+    }
+}
+
+/// The trace of a netlist on a machine, where the gates of the named list read the last turn.
+fn run_netlist<'a, R: Threads + Wait + Sync, F: Files, G: Gate + Send>(
+    rt: &R,
+    alloc: Global,
+    files: &mut F,
+    words: &'a RunWords,
+    pace: Pace<'a>,
+    machine: &Machine,
+    net: Netlist,
+    gates: &mut [Option<G>],
+) -> Result<Output, Refusal<'a>>
+    requires range { IsRunInRange words.now }
+    requires machine { IsValidMachine machine.now }
+    requires valid { IsValid net }
+    requires gates { MAX_WORKERS ≤ length gates.old }
+    requires tell { AllCanTell G.Gate.own gates.old }
+    ensures expected { Follows (F.names files.old) (F.bytes files.old) (F.counts files.old) (F.counts files.new)
+        result (AfterList words.now.last net words.now.timing
+        (OnTiming words.now (EndsTelling G.Gate.own gates.old gates.new pace.entry words.now) machine.now net)) }
+    ensures writable { IfOk result CanWrite }
+    ensures kept { KeepsGates pace.entry gates.old gates.new result }
+{
+    match &words.last {
+        None => {
+            let timing = &words.timing;
+            run_in_timing(rt, alloc, files, words, pace, machine, timing, net, gates)
+        }
+        Some(file) => {
+            let file = file.as_bytes();
+            run_listed(rt, alloc, files, words, pace, machine, net, file, gates)
+        }
+    }
+}
+
+/// The trace of a netlist on a machine, where the gates of the list in this file read the last turn.
+#[tactic(auto, using(crate::proofs::ChainLemmas::follows_refused, crate::proofs::GateLemmas::gates_kept), unfolding(crate::specs::commands::Run::AfterList))]
+fn run_listed<'a, R: Threads + Wait + Sync, F: Files, G: Gate + Send>(
+    rt: &R,
+    alloc: Global,
+    files: &mut F,
+    words: &'a RunWords,
+    pace: Pace<'a>,
+    machine: &Machine,
+    net: Netlist,
+    file: &'a [u8],
+    gates: &mut [Option<G>],
+) -> Result<Output, Refusal<'a>>
+    requires range { IsRunInRange words.now }
+    requires machine { IsValidMachine machine.now }
+    requires valid { IsValid net }
+    requires gates { MAX_WORKERS ≤ length gates.old }
+    requires tell { AllCanTell G.Gate.own gates.old }
+    ensures expected { Follows (F.names files.old) (F.bytes files.old) (F.counts files.old) (F.counts files.new)
+        result (AfterList (Some file.now) net words.now.timing
+        (OnTiming words.now (EndsTelling G.Gate.own gates.old gates.new pace.entry words.now) machine.now net)) }
+    ensures writable { IfOk result CanWrite }
+    ensures kept { KeepsGates pace.entry gates.old gates.new result }
+{
+    match read_text(alloc, files, file) {
+        Ok(text) => match list_of(alloc, text, &net) {
+            Ok(listed) => {
+                let timing = words.timing.listing(listed);
+                run_in_timing(rt, alloc, files, words, pace, machine, &timing, net, gates)
+            }
+            Err(no) => Err(no),
+        },
+        Err(no) => Err(no),
+    }
+}
+
+/// The trace of a netlist on a machine in a timing.
+#[tactic(auto, using(crate::proofs::GateLemmas::gates_kept))]
+fn run_in_timing<'a, R: Threads + Wait + Sync, F: Files, G: Gate + Send>(
+    rt: &R,
+    alloc: Global,
+    files: &mut F,
+    words: &'a RunWords,
+    pace: Pace<'a>,
+    machine: &Machine,
+    timing: &Timing,
+    net: Netlist,
+    gates: &mut [Option<G>],
+) -> Result<Output, Refusal<'a>>
+    requires range { IsRunInRange words.now }
+    requires machine { IsValidMachine machine.now }
+    requires timing { IsValidTiming timing.now }
+    requires valid { IsValid net }
+    requires gates { MAX_WORKERS ≤ length gates.old }
+    requires tell { AllCanTell G.Gate.own gates.old }
+    ensures expected { Follows (F.names files.old) (F.bytes files.old) (F.counts files.old) (F.counts files.new)
+        result (OnTiming words.now (EndsTelling G.Gate.own gates.old gates.new pace.entry words.now) machine.now net timing.now) }
+    ensures writable { IfOk result CanWrite }
+    ensures kept { KeepsGates pace.entry gates.old gates.new result }
+{
+    match compiled(alloc, net, machine, timing) {
+        Ok(built) => execute(rt, alloc, files, words, pace, machine, timing, built, gates),
         Err(no) => Err(no),
     }
 }
@@ -150,18 +249,19 @@ fn execute<'a, R: Threads + Wait + Sync, F: Files, G: Gate + Send>(
     words: &'a RunWords,
     pace: Pace<'a>,
     machine: &Machine,
+    timing: &Timing,
     built: Built,
     gates: &mut [Option<G>],
 ) -> Result<Output, Refusal<'a>>
     requires range { IsRunInRange words.now }
     requires machine { IsValidMachine machine.now }
     requires valid { IsValid built.net }
-    requires image { IsImageOf built.net words.now.timing built.image }
-    requires made { IsMachineImage built.net machine.now words.now.timing built.image }
+    requires image { IsImageOf built.net timing.now built.image }
+    requires made { IsMachineImage built.net machine.now timing.now built.image }
     requires gates { MAX_WORKERS ≤ length gates.old }
     requires tell { AllCanTell G.Gate.own gates.old }
     ensures expected { Follows (F.names files.old) (F.bytes files.old) (F.counts files.old) (F.counts files.new)
-        result (AfterStimulus words.now.stimulus built.net (EndsTelling G.Gate.own gates.old gates.new pace.entry words.now machine.now built.net)) }
+        result (AfterStimulus words.now.stimulus built.net (EndsTelling G.Gate.own gates.old gates.new pace.entry words.now machine.now timing.now built.net)) }
     ensures writable { IfOk result CanWrite }
     ensures kept { KeepsGates pace.entry gates.old gates.new result }
 {
@@ -169,7 +269,7 @@ fn execute<'a, R: Threads + Wait + Sync, F: Files, G: Gate + Send>(
         Ok(text) => match stimulus_of(alloc, text, &built.net) {
             Ok(stimulus) => match few_cells(&built.net, &stimulus) {
                 Ok(()) => finish(
-                    rt, alloc, files, words, pace, machine, built, &stimulus, gates,
+                    rt, alloc, files, words, pace, machine, timing, built, &stimulus, gates,
                 ),
                 Err(no) => Err(no),
             },
@@ -188,6 +288,7 @@ fn finish<'a, R: Threads + Wait + Sync, F: Files, G: Gate + Send>(
     words: &'a RunWords,
     pace: Pace<'a>,
     machine: &Machine,
+    timing: &Timing,
     built: Built,
     stimulus: &Stimulus,
     gates: &mut [Option<G>],
@@ -195,29 +296,29 @@ fn finish<'a, R: Threads + Wait + Sync, F: Files, G: Gate + Send>(
     requires range { IsRunInRange words.now }
     requires machine { IsValidMachine machine.now }
     requires valid { IsValid built.net }
-    requires image { IsImageOf built.net words.now.timing built.image }
-    requires made { IsMachineImage built.net machine.now words.now.timing built.image }
+    requires image { IsImageOf built.net timing.now built.image }
+    requires made { IsMachineImage built.net machine.now timing.now built.image }
     requires stimulus { IsValidStimulus stimulus.now }
     requires columns { stimulus.now.columns ≡ input_count built.net }
     requires gates { MAX_WORKERS ≤ length gates.old }
     requires tell { AllCanTell G.Gate.own gates.old }
     ensures expected { Follows (F.names files.old) (F.bytes files.old) (F.counts files.old) (F.counts files.new)
-        result (EndsTelling G.Gate.own gates.old gates.new pace.entry words.now machine.now built.net stimulus.now) }
+        result (EndsTelling G.Gate.own gates.old gates.new pace.entry words.now machine.now timing.now built.net stimulus.now) }
     ensures writable { IfOk result CanWrite }
     ensures kept { KeepsGates pace.entry gates.old gates.new result }
 {
     match pace {
         Pace::Workers => {
-            match by_workers(rt, alloc, words, machine, built, stimulus, gates) {
+            match by_workers(rt, alloc, words, machine, timing, built, stimulus, gates) {
                 Ok(trace) => Ok(Output::Trace(trace)),
                 Err(Memory) => Err(Refusal::Memory),
             }
         }
-        Pace::Rounds => match by_rounds(alloc, words, built, stimulus) {
+        Pace::Rounds => match by_rounds(alloc, words, timing, built, stimulus) {
             Ok(trace) => Ok(Output::Trace(trace)),
             Err(Memory) => Err(Refusal::Memory),
         },
-        Pace::Order(file) => in_order(alloc, files, words, file, machine, built, stimulus),
+        Pace::Order(file) => in_order(alloc, files, words, file, machine, timing, built, stimulus),
     }
 }
 
@@ -229,23 +330,24 @@ fn in_order<'a, F: Files>(
     words: &'a RunWords,
     file: &'a [u8],
     machine: &Machine,
+    timing: &Timing,
     built: Built,
     stimulus: &Stimulus,
 ) -> Result<Output, Refusal<'a>>
     requires range { IsRunInRange words.now }
     requires machine { IsValidMachine machine.now }
     requires valid { IsValid built.net }
-    requires image { IsImageOf built.net words.now.timing built.image }
-    requires made { IsMachineImage built.net machine.now words.now.timing built.image }
+    requires image { IsImageOf built.net timing.now built.image }
+    requires made { IsMachineImage built.net machine.now timing.now built.image }
     requires stimulus { IsValidStimulus stimulus.now }
     requires columns { stimulus.now.columns ≡ input_count built.net }
     ensures expected { Follows (F.names files.old) (F.bytes files.old) (F.counts files.old) (F.counts files.new)
-        result (EndsBy (Some file.now) words.now machine.now built.net stimulus.now) }
+        result (EndsBy (Some file.now) words.now machine.now timing.now built.net stimulus.now) }
     ensures writable { IfOk result CanWrite }
 {
     match read_text(alloc, files, file) {
         Ok(text) => match order_of(alloc, text, machine) {
-            Ok(order) => match by_order(alloc, words, machine, built, stimulus, &order) {
+            Ok(order) => match by_order(alloc, words, machine, timing, built, stimulus, &order) {
                 Ok(output) => Ok(output),
                 Err(Memory) => Err(Refusal::Memory),
             },

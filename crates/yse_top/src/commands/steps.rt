@@ -28,7 +28,7 @@ use event_core::{Core, CoreStep};
 use event_defs::law::steps_are_sound;
 use machine_run::run_machine;
 use machine_text::Machine;
-use net_defs::{CellRow, Rows, Stimulus};
+use net_defs::{CellRow, Rows, Stimulus, Timing};
 use seen_list::{List, Memory};
 use std::alloc::Global;
 use std::marker::{Send, Sync};
@@ -54,21 +54,22 @@ pub fn by_workers<R: Threads + Wait + Sync, G: Gate + Send>(
     alloc: Global,
     words: &RunWords,
     _machine: &Machine,
+    _timing: &Timing,
     built: Built,
     stimulus: &Stimulus,
     gates: &mut [Option<G>],
 ) -> Result<Trace, Memory>
     requires range { IsRunInRange words.now }
     requires valid { IsValid built.net }
-    requires image { IsImageOf built.net words.now.timing built.image }
-    requires made { IsMachineImage built.net _machine.now words.now.timing built.image }
+    requires image { IsImageOf built.net _timing.now built.image }
+    requires made { IsMachineImage built.net _machine.now _timing.now built.image }
     requires stimulus { IsValidStimulus stimulus.now }
     requires columns { stimulus.now.columns ≡ input_count built.net }
     requires gates { MAX_WORKERS ≤ length gates.old }
     requires tell { AllCanTell G.Gate.own gates.old }
-    ensures printed { IfOk result (λ trace. IsTrace built.net words.now.timing stimulus.now (trace_bytes trace)) }
+    ensures printed { IfOk result (λ trace. IsTrace built.net _timing.now stimulus.now (trace_bytes trace)) }
     ensures writable { IfOk result CanPrint }
-    ensures visits { OnOk result (AreVisitsOf G.Gate.own (ports_of _machine.now) (turn_count words.now.timing stimulus.now) words.now.workers gates.old gates.new) }
+    ensures visits { OnOk result (AreVisitsOf G.Gate.own (ports_of _machine.now) (turn_count _timing.now stimulus.now) words.now.workers gates.old gates.new) }
     ensures refused { OnErr result (gates.new ≡ gates.old) }
     ensures in_place { AreInPlace gates.old gates.new }
 {
@@ -90,19 +91,20 @@ pub fn by_workers<R: Threads + Wait + Sync, G: Gate + Send>(
 pub fn by_rounds(
     alloc: Global,
     words: &RunWords,
+    timing: &Timing,
     built: Built,
     stimulus: &Stimulus,
 ) -> Result<Trace, Memory>
     requires range { IsRunInRange words.now }
     requires valid { IsValid built.net }
-    requires image { IsImageOf built.net words.now.timing built.image }
+    requires image { IsImageOf built.net timing.now built.image }
     requires stimulus { IsValidStimulus stimulus.now }
     requires columns { stimulus.now.columns ≡ input_count built.net }
-    ensures printed { IfOk result (λ trace. IsTrace built.net words.now.timing stimulus.now (trace_bytes trace)) }
+    ensures printed { IfOk result (λ trace. IsTrace built.net timing.now stimulus.now (trace_bytes trace)) }
     ensures writable { IfOk result CanPrint }
 {
     let line = TraceLine::new(alloc, &built.net)?;
-    let rows = rows_by_rounds(alloc, words, &built, stimulus)?;
+    let rows = rows_by_rounds(alloc, words, timing, &built, stimulus)?;
     Ok(Trace {
         net: built.net,
         rows,
@@ -114,11 +116,12 @@ pub fn by_rounds(
 fn rows_by_rounds(
     alloc: Global,
     words: &RunWords,
+    _timing: &Timing,
     built: &Built,
     stimulus: &Stimulus,
 ) -> Result<Rows, Memory>
     requires range { IsRunInRange words.now }
-    requires image { IsImageOf built.now.net words.now.timing built.now.image }
+    requires image { IsImageOf built.now.net _timing.now built.now.image }
     requires stimulus { IsValidStimulus stimulus.now }
     requires columns { stimulus.now.columns ≡ input_count built.now.net }
     ensures { IfOk result (λ rows. AreShown built.now.image stimulus.now (cycle_count stimulus.now) rows.rows) }
@@ -133,22 +136,23 @@ pub fn by_order(
     alloc: Global,
     words: &RunWords,
     _machine: &Machine,
+    timing: &Timing,
     built: Built,
     stimulus: &Stimulus,
     order: &Order,
 ) -> Result<Output, Memory>
     requires range { IsRunInRange words.now }
     requires valid { IsValid built.net }
-    requires image { IsImageOf built.net words.now.timing built.image }
-    requires made { IsMachineImage built.net _machine.now words.now.timing built.image }
+    requires image { IsImageOf built.net timing.now built.image }
+    requires made { IsMachineImage built.net _machine.now timing.now built.image }
     requires stimulus { IsValidStimulus stimulus.now }
     requires columns { stimulus.now.columns ≡ input_count built.net }
     requires order { IsValidOrder (ports_of _machine.now) order.now }
-    ensures ended { IfOk result (λ output. EndsInOrder order.now words.now.banks built.net _machine.now words.now.timing stimulus.now (ended_with output)) }
+    ensures ended { IfOk result (λ output. EndsInOrder order.now words.now.banks built.net _machine.now timing.now stimulus.now (ended_with output)) }
     ensures writable { IfOk result CanWrite }
 {
     let line = TraceLine::new(alloc, &built.net)?;
-    let (rows, ending) = rows_by_order(alloc, words, &built, stimulus, order)?;
+    let (rows, ending) = rows_by_order(alloc, words, timing, &built, stimulus, order)?;
     let trace = Trace {
         net: built.net,
         rows,
@@ -164,16 +168,17 @@ pub fn by_order(
 fn rows_by_order(
     alloc: Global,
     words: &RunWords,
+    _timing: &Timing,
     built: &Built,
     stimulus: &Stimulus,
     order: &Order,
 ) -> Result<(Rows, Option<Ending>), Memory>
     requires range { IsRunInRange words.now }
-    requires image { IsImageOf built.now.net words.now.timing built.now.image }
+    requires image { IsImageOf built.now.net _timing.now built.now.image }
     requires stimulus { IsValidStimulus stimulus.now }
     requires columns { stimulus.now.columns ≡ input_count built.now.net }
     requires order { IsValidOrder (length built.now.image.ports) order.now }
-    ensures { IfOk result (λ made. AreRowsInOrder order.now words.now.banks words.now.timing stimulus.now built.now.image made.0 made.1) }
+    ensures { IfOk result (λ made. AreRowsInOrder order.now words.now.banks _timing.now stimulus.now built.now.image made.0 made.1) }
 {
     let mut core = Core::new(alloc, &built.image, stimulus, words.banks)?;
     step_lines(&mut core, order.lines.as_slice());

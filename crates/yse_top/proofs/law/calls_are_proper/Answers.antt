@@ -1,6 +1,7 @@
 -- The chain of each command, link by link.
 use Rattle.std.proofs.Common.{◌≡◌, ◌∙◌, ◌↔◌, ◌⊎◌, inl, inr, ◌≢◌, ◌≤◌, sym, ap, refl, subst, ℕ, List, [], ◌∷◌, ◌++◌, length, Option, Some, None, Ok, Err, arith}
 use Rattle.std.specs.Option.{option_to_list}
+use Rattle.std.proofs.lemmas.List.{append-nil}
 use Rattle.limits.specs.declared.TheConstants.{MAX_LARGE_GATES, MAX_TEXT_BYTES}
 use Rattle.machine_text.specs.declared.machine.Machine.{Machine}
 use Rattle.machine_text.specs.Machines as machine_text
@@ -24,6 +25,7 @@ use Rattle.event_defs.specs.Linked.{AreLinkedAlike}
 use Rattle.stim_text.specs.Orders.{steps_of}
 use Rattle.net_defs.specs.Valid.{input_count}
 use Rattle.bench_read.specs.Faults as bench
+use Rattle.bench_read.specs.GateLists as gate_lists
 use Rattle.bench_read.specs.Reads as bench_reads
 use Rattle.stim_text.specs.declared.order.Order.{Order}
 use Rattle.stim_text.specs.Orders as orders
@@ -34,19 +36,19 @@ use Rattle.cmd_words.specs.declared.command.RunWords.{RunWords}
 use Rattle.cmd_words.specs.Asked.{asked}
 use Rattle.large_run.specs.Runs.{IsSummaryOf}
 use Rattle.yse_top.specs.declared.status.Status.TheVariants as status
-use Rattle.yse_top.specs.Checks.{After, Ends, Writes, IsMachineOf, IsNetlistOf, HasNoLoop, HasRoom, IsStimulusOf, HasFewCells, IsOrderOf}
+use Rattle.yse_top.specs.Checks.{After, Ends, Writes, IsMachineOf, IsNetlistOf, HasNoLoop, HasRoom, IsStimulusOf, HasFewCells, IsListOf, IsOrderOf, listing}
 use Rattle.cmd_words.specs.Forms.{HasForm, IsInRange}
 use Rattle.yse_top.specs.declared.status.Status.{Status}
 use Rattle.yse_top.specs.Expected.{Expected, ExpectedOf, Asks}
 use Rattle.yse_top.specs.Law.{IsProper, HasOutcome}
-use Rattle.yse_top.specs.Lines.{usage_line, machine_line, netlist_line, stimulus_line, order_line}
+use Rattle.yse_top.specs.Lines.{usage_line, machine_line, netlist_line, stimulus_line, order_line, list_line}
 use Rattle.yse_top.specs.Outcome.{Outcome, refusal}
 use Rattle.yse_top.specs.Readings.{Reading}
 use Rattle.yse_top.specs.Orders.{EndsInOrder}
 use Rattle.yse_top.specs.Words.{files_of, files_named, order_named}
 use Rattle.yse_top.specs.commands.Large.{ExpectedLarge}
-use Rattle.yse_top.specs.commands.Plan.{ExpectedPlan, ExpectedPlanOn, IsReportOf}
-use Rattle.yse_top.specs.commands.Run.{AfterDesign, AfterFit, AfterMachine, AfterStimulus, WritesTrace, EndsBy, ExpectedRun, ExpectedOn, ExpectedRefer}
+use Rattle.yse_top.specs.commands.Plan.{ExpectedPlan, ExpectedPlanOn, IsReportOf, PlansIn}
+use Rattle.yse_top.specs.commands.Run.{AfterDesign, AfterFit, AfterList, AfterLoop, AfterMachine, AfterStimulus, WritesTrace, EndsBy, ExpectedRun, ExpectedOn, ExpectedRefer}
 use Rattle.yse_top.specs.commands.Show.{ExpectedShow}
 use Rattle.yse_top.proofs.CommandLemmas.{IsCommand, command_after, command_file, command_ends, not_words}
 use Rattle.yse_top.proofs.OrderLemmas.{DecidesOrder, done_alike, order_ending}
@@ -66,6 +68,7 @@ record Laws : Type 0 where
   room : (net : Netlist) (machine : Machine) (timing : Timing) → IsValid net → IsValidMachine machine → ((loop : List ℕ) → IsLoop net timing loop → ⊥) → IsRoomLaw net machine timing
   stimuli : (inputs : ℕ) → IsReader (stim.Reads inputs) (stim.first_fault inputs)
   orders : (ports : ℕ) → IsReader (orders.Reads ports) (orders.first_fault ports)
+  lists : (net : Netlist) → IsReader (gate_lists.Reads net) (gate_lists.first_fault net)
   forms : (words : List (List ℕ)) (command : Command) → (asked words ≡ Some command) ↔ HasForm words command
   in_range : (words : List (List ℕ)) (command : Command) → HasForm words command → IsInRange command
   decides : (order : Order) (banks : ℕ) (net : Netlist) (machine : Machine) (timing : Timing) (stimulus : Stimulus) → 1 ≤ banks → IsValid net → DecidesOrder order banks net machine timing stimulus
@@ -106,6 +109,9 @@ module _ (laws : Laws) where
   order_check text machine =
       reads_check (orders.Reads (ports_of machine)) (orders.first_fault (ports_of machine)) (laws.orders (ports_of machine)) text status.OrderText order_line tt
 
+  list_check : (text : List ℕ) (net : Netlist) → IsCheck (IsListOf text net)
+  list_check text net = reads_check (gate_lists.Reads net) (gate_lists.first_fault net) (laws.lists net) text status.LastList list_line tt
+
   module _ (Settled : Type 0) where
     trace_proper : (net : Netlist) (timing : Timing) (stimulus : Stimulus) → IsAcyclic net timing → IsCommand Settled [] (WritesTrace net timing stimulus)
     trace_proper net timing stimulus acyclic =
@@ -128,33 +134,56 @@ module _ (laws : Laws) where
         command_file Settled file files (λ text. After (IsMachineOf text) Next) (λ text short.
         command_after Settled files (IsMachineOf text) Next (machine_check text) (λ machine is. on machine (laws.valid_machines text machine is)))
 
-    refer_proper : (words : RunWords) → IsCommand Settled (words.netlist ∷ words.stimulus ∷ []) (ExpectedRefer words)
+    list_proper : (last : Option (List ℕ)) (files : List (List ℕ)) (net : Netlist) (timing : Timing) (Next : Timing → List Reading → Outcome → Type 0) → ((t : Timing) → IsCommand Settled files (Next t)) → IsCommand Settled (option_to_list last ++ files) (AfterList last net timing Next)
+    unfolding AfterList
+    list_proper None files net timing Next on = on timing
+    list_proper (Some file) files net timing Next on =
+        command_file Settled file files (λ text. After (IsListOf text net) (λ listed. Next (listing timing listed))) (λ text short.
+        command_after Settled files (IsListOf text net) (λ listed. Next (listing timing listed)) (list_check text net) (λ listed is. on (listing timing listed)))
+
+    loop_proper : (file : List ℕ) (net : Netlist) (timing : Timing) → IsCommand Settled (file ∷ []) (AfterLoop file net timing)
+    loop_proper file net timing =
+        command_after Settled (file ∷ []) (HasNoLoop net timing) (λ passed. AfterStimulus file net (WritesTrace net timing)) (loop_check net timing (laws.order_or_loop net timing) (laws.never_both net timing)) (λ passed acyclic.
+        stimulus_proper file [] net (WritesTrace net timing) (λ stimulus. trace_proper net timing stimulus acyclic))
+
+    refer_proper : (words : RunWords) → IsCommand Settled (words.netlist ∷ (option_to_list words.last ++ (words.stimulus ∷ []))) (ExpectedRefer words)
     unfolding ExpectedRefer
     refer_proper words =
-        command_file Settled words.netlist (words.stimulus ∷ []) (λ text. After (IsNetlistOf text) (λ net. After (HasNoLoop net words.timing) (λ passed. AfterStimulus words.stimulus net (WritesTrace net words.timing)))) (λ text short.
-        command_after Settled (words.stimulus ∷ []) (IsNetlistOf text) (λ net. After (HasNoLoop net words.timing) (λ passed. AfterStimulus words.stimulus net (WritesTrace net words.timing))) (netlist_check text) (λ net is.
-        command_after Settled (words.stimulus ∷ []) (HasNoLoop net words.timing) (λ passed. AfterStimulus words.stimulus net (WritesTrace net words.timing)) (loop_check net words.timing (laws.order_or_loop net words.timing) (laws.never_both net words.timing)) (λ passed acyclic.
-        stimulus_proper words.stimulus [] net (WritesTrace net words.timing) (λ stimulus. trace_proper net words.timing stimulus acyclic))))
+        let Next : Netlist → List Reading → Outcome → Type 0 = λ net. AfterList words.last net words.timing (AfterLoop words.stimulus net) in
+        let files : List (List ℕ) = option_to_list words.last ++ (words.stimulus ∷ []) in
+        command_file Settled words.netlist files (λ text. After (IsNetlistOf text) Next) (λ text short.
+        command_after Settled files (IsNetlistOf text) Next (netlist_check text) (λ net is.
+        list_proper words.last (words.stimulus ∷ []) net words.timing (AfterLoop words.stimulus net) (loop_proper words.stimulus net)))
 
-    design_proper : (file : List ℕ) (files : List (List ℕ)) (machine : Machine) → IsValidMachine machine → (timing : Timing) (Next : Netlist → List Reading → Outcome → Type 0)
-        → ((net : Netlist) → IsValid net → IsAcyclic net timing → DesignFits net machine timing → IsCommand Settled files (Next net)) → IsCommand Settled (file ∷ files) (AfterDesign file machine timing Next)
+    fit_proper : (files : List (List ℕ)) (net : Netlist) (machine : Machine) → IsValid net → IsValidMachine machine → (timing : Timing) (Next : List Reading → Outcome → Type 0)
+        → (IsAcyclic net timing → DesignFits net machine timing → IsCommand Settled files Next) → IsCommand Settled files (AfterFit net machine timing Next)
+    fit_proper files net machine valid machine_valid timing Next on =
+        command_after Settled files (HasNoLoop net timing) (λ passed. After (HasRoom net machine timing) (λ fits. Next)) (loop_check net timing (laws.order_or_loop net timing) (laws.never_both net timing)) (λ passed acyclic.
+        command_after Settled files (HasRoom net machine timing) (λ fits. Next) (room_check net machine timing (laws.room net machine timing valid machine_valid acyclic)) (λ fits has. on acyclic has))
+
+    design_proper : (words : RunWords) (files : List (List ℕ)) (machine : Machine) → IsValidMachine machine → (Next : Timing → Netlist → List Reading → Outcome → Type 0)
+        → ((timing : Timing) (net : Netlist) → IsValid net → IsAcyclic net timing → DesignFits net machine timing → IsCommand Settled files (Next timing net))
+        → IsCommand Settled (words.netlist ∷ (option_to_list words.last ++ files)) (AfterDesign words machine Next)
     unfolding AfterDesign
-    design_proper file files machine machine_valid timing Next on =
-        command_file Settled file files (λ text. After (IsNetlistOf text) (λ net. AfterFit net machine timing (Next net))) (λ text short.
-        command_after Settled files (IsNetlistOf text) (λ net. AfterFit net machine timing (Next net)) (netlist_check text) (λ net is.
+    design_proper words files machine machine_valid Next on =
+        let Listed : Netlist → List Reading → Outcome → Type 0 = λ net. AfterList words.last net words.timing (λ timing. AfterFit net machine timing (Next timing net)) in
+        let all : List (List ℕ) = option_to_list words.last ++ files in
+        command_file Settled words.netlist all (λ text. After (IsNetlistOf text) Listed) (λ text short.
+        command_after Settled all (IsNetlistOf text) Listed (netlist_check text) (λ net is.
         let valid = laws.valid_netlists text net short is in
-        command_after Settled files (HasNoLoop net timing) (λ passed. After (HasRoom net machine timing) (λ fits. Next net)) (loop_check net timing (laws.order_or_loop net timing) (laws.never_both net timing)) (λ passed acyclic.
-        command_after Settled files (HasRoom net machine timing) (λ fits. Next net) (room_check net machine timing (laws.room net machine timing valid machine_valid acyclic)) (λ fits has. on net valid acyclic has))))
+        list_proper words.last files net words.timing (λ timing. AfterFit net machine timing (Next timing net)) (λ timing.
+        fit_proper files net machine valid machine_valid timing (Next timing net) (on timing net valid))))
 
-    plan_proper : (words : RunWords) → IsCommand Settled (option_to_list words.machine ++ (words.netlist ∷ [])) (ExpectedPlan words)
+    plan_proper : (words : RunWords) → IsCommand Settled (option_to_list words.machine ++ (words.netlist ∷ option_to_list words.last)) (ExpectedPlan words)
     unfolding ExpectedPlan ExpectedPlanOn
     plan_proper words =
-        machine_proper words.machine (words.netlist ∷ []) (ExpectedPlanOn words) (λ machine machine_valid.
-        design_proper words.netlist [] machine machine_valid words.timing (λ net. Ends (Writes (IsReportOf net machine words.timing))) (λ net valid acyclic fits.
-        let once = laws.once net machine words.timing valid in
-        let report = some_report net machine words.timing once machine_valid fits in
-        command_ends Settled (Writes (IsReportOf net machine words.timing)) (writes_ending (IsReportOf net machine words.timing) (one_report net machine words.timing once))
-        (λ settled. outcome_writes (IsReportOf net machine words.timing) report.0 report.1)))
+        machine_proper words.machine (words.netlist ∷ option_to_list words.last) (ExpectedPlanOn words) (λ machine machine_valid.
+        subst (λ (files : List (List ℕ)). IsCommand Settled (words.netlist ∷ files) (ExpectedPlanOn words machine)) (append-nil (option_to_list words.last))
+        (design_proper words [] machine machine_valid (λ timing net. Ends (Writes (IsReportOf net machine timing))) (λ timing net valid acyclic fits.
+        let once = laws.once net machine timing valid in
+        let report = some_report net machine timing once machine_valid fits in
+        command_ends Settled (Writes (IsReportOf net machine timing)) (writes_ending (IsReportOf net machine timing) (one_report net machine timing once))
+        (λ settled. outcome_writes (IsReportOf net machine timing) report.0 report.1))))
 
     large_proper : (gates cycles : ℕ) → gates ≤ MAX_LARGE_GATES → IsCommand Settled [] (ExpectedLarge gates cycles)
     large_proper gates cycles few =
@@ -171,25 +200,25 @@ module _ (laws : Laws) where
         (λ settled. outcome_writes (λ output. output ≡ canonical_text net) (canonical_text net) refl)))
 
   -- without an order file there is an outcome
-  ends_proper : (file : Option (List ℕ)) (words : RunWords) (machine : Machine) (net : Netlist) (stimulus : Stimulus) → 1 ≤ words.banks → IsValid net → IsAcyclic net words.timing → IsCommand (file ≡ None) (option_to_list file) (EndsBy file words machine net stimulus)
+  ends_proper : (file : Option (List ℕ)) (words : RunWords) (machine : Machine) (timing : Timing) (net : Netlist) (stimulus : Stimulus) → 1 ≤ words.banks → IsValid net → IsAcyclic net timing → IsCommand (file ≡ None) (option_to_list file) (EndsBy file words machine timing net stimulus)
   unfolding EndsBy
-  ends_proper None words machine net stimulus banks valid acyclic = trace_proper (None ≡ None) net words.timing stimulus acyclic
-  ends_proper (Some file) words machine net stimulus banks valid acyclic =
-      command_file (Some file ≡ None) file [] (λ text. After (IsOrderOf text machine) (λ order. Ends (EndsInOrder order words.banks net machine words.timing stimulus))) (λ text short.
-      command_after (Some file ≡ None) [] (IsOrderOf text machine) (λ order. Ends (EndsInOrder order words.banks net machine words.timing stimulus)) (order_check text machine) (λ order is.
-      command_ends (Some file ≡ None) (EndsInOrder order words.banks net machine words.timing stimulus)
-      (order_ending net words.timing stimulus order words.banks machine (laws.one_simulation net words.timing stimulus acyclic) (laws.decides order words.banks net machine words.timing stimulus banks valid))
+  ends_proper None words machine timing net stimulus banks valid acyclic = trace_proper (None ≡ None) net timing stimulus acyclic
+  ends_proper (Some file) words machine timing net stimulus banks valid acyclic =
+      command_file (Some file ≡ None) file [] (λ text. After (IsOrderOf text machine) (λ order. Ends (EndsInOrder order words.banks net machine timing stimulus))) (λ text short.
+      command_after (Some file ≡ None) [] (IsOrderOf text machine) (λ order. Ends (EndsInOrder order words.banks net machine timing stimulus)) (order_check text machine) (λ order is.
+      command_ends (Some file ≡ None) (EndsInOrder order words.banks net machine timing stimulus)
+      (order_ending net timing stimulus order words.banks machine (laws.one_simulation net timing stimulus acyclic) (laws.decides order words.banks net machine timing stimulus banks valid))
       (λ none. cc)))
 
-  on_proper : (words : RunWords) (order : Option (List ℕ)) → 1 ≤ words.banks → (machine : Machine) → IsValidMachine machine → IsCommand (order ≡ None) (words.netlist ∷ words.stimulus ∷ option_to_list order) (ExpectedOn words (EndsBy order words) machine)
+  on_proper : (words : RunWords) (order : Option (List ℕ)) → 1 ≤ words.banks → (machine : Machine) → IsValidMachine machine → IsCommand (order ≡ None) (words.netlist ∷ (option_to_list words.last ++ (words.stimulus ∷ option_to_list order))) (ExpectedOn words (EndsBy order words) machine)
   unfolding ExpectedOn
   on_proper words order banks machine machine_valid =
-      design_proper (order ≡ None) words.netlist (words.stimulus ∷ option_to_list order) machine machine_valid words.timing (λ net. AfterStimulus words.stimulus net (EndsBy order words machine net)) (λ net valid acyclic fits.
-      stimulus_proper (order ≡ None) words.stimulus (option_to_list order) net (EndsBy order words machine net) (λ stimulus. ends_proper order words machine net stimulus banks valid acyclic))
+      design_proper (order ≡ None) words (words.stimulus ∷ option_to_list order) machine machine_valid (λ timing net. AfterStimulus words.stimulus net (EndsBy order words machine timing net)) (λ timing net valid acyclic fits.
+      stimulus_proper (order ≡ None) words.stimulus (option_to_list order) net (EndsBy order words machine timing net) (λ stimulus. ends_proper order words machine timing net stimulus banks valid acyclic))
 
-  run_proper : (words : RunWords) (order : Option (List ℕ)) → 1 ≤ words.banks → IsCommand (order ≡ None) (option_to_list words.machine ++ (words.netlist ∷ words.stimulus ∷ option_to_list order)) (ExpectedRun words order)
+  run_proper : (words : RunWords) (order : Option (List ℕ)) → 1 ≤ words.banks → IsCommand (order ≡ None) (option_to_list words.machine ++ (words.netlist ∷ (option_to_list words.last ++ (words.stimulus ∷ option_to_list order)))) (ExpectedRun words order)
   unfolding ExpectedRun
-  run_proper words order banks = machine_proper (order ≡ None) words.machine (words.netlist ∷ words.stimulus ∷ option_to_list order) (ExpectedOn words (EndsBy order words)) (on_proper words order banks)
+  run_proper words order banks = machine_proper (order ≡ None) words.machine (words.netlist ∷ (option_to_list words.last ++ (words.stimulus ∷ option_to_list order))) (ExpectedOn words (EndsBy order words)) (on_proper words order banks)
 
   command_proper : (asked : Command) → IsInRange asked → IsCommand (order_named (Some asked) ≡ None) (files_of asked) (ExpectedOf asked)
   command_proper (command.Run words) range = run_proper words None range.banks_some
@@ -280,6 +309,7 @@ returns c =
       stimuli = c.reads_or_faults-2.ensures.reader;
       machines = c.reads_or_faults-3.ensures.reader;
       orders = c.reads_or_faults-4.ensures.reader;
+      lists = c.reads_or_faults-5.ensures.reader;
       forms = c.forms_are_asked.ensures;
       in_range = c.forms_are_in_range.ensures;
       decides = λ order banks net machine timing stimulus some valid image other one two made made_too after after_too.
@@ -312,7 +342,7 @@ returns c =
       };
       order_or_loop = c.order_or_loop.ensures.one;
       never_both = c.order_or_loop.ensures.never_both;
-      one_simulation = c.one_simulation.ensures.rank_order;
+      one_simulation = c.one_simulation.ensures.without_loop;
     } in
     record {
       proper = asked_proper laws;

@@ -1,19 +1,19 @@
--- The report is expected after the design.
+-- The report is expected after the netlist.
 use Rattle.std.proofs.Common.{List, ℕ}
+use Rattle.cmd_words.specs.declared.command.RunWords.{RunWords}
 use Rattle.machine_text.specs.declared.machine.Machine.{Machine}
 use Rattle.net_defs.specs.declared.netlist.Netlist.{Netlist}
-use Rattle.net_defs.specs.declared.timing.Timing.{Timing}
-use Rattle.yse_top.specs.Checks.{After, Ends, Writes, IsNetlistOf}
+use Rattle.yse_top.specs.Checks.{After, IsNetlistOf}
 use Rattle.yse_top.specs.Outcome.{Outcome}
 use Rattle.yse_top.specs.Readings.{Reading}
-use Rattle.yse_top.specs.commands.Plan.{ExpectedPlanOn, IsReportOf}
-use Rattle.yse_top.specs.commands.Run.{AfterDesign, AfterFit}
-use Rattle.yse_top.proofs.ChainLemmas.{follows_file, follows_on, follows_here}
+use Rattle.yse_top.specs.commands.Plan.{ExpectedPlanOn, PlansIn}
+use Rattle.yse_top.specs.commands.Run.{AfterDesign, AfterList}
+use Rattle.yse_top.proofs.ChainLemmas.{follows_file, follows_on}
 use Rattle.yse_top.proofs.commands.plan.plan_on.Goals as goal
 
-module _ (machine : Machine) (timing : Timing) where
+module _ (words : RunWords) (machine : Machine) where
   abbrev of_netlist : Netlist → List Reading → Outcome → Type 0
-  of_netlist net = AfterFit net machine timing (Ends (Writes (IsReportOf net machine timing)))
+  of_netlist net = AfterList words.last net words.timing (PlansIn net machine)
 
   abbrev of_text : List ℕ → List Reading → Outcome → Type 0
   of_text text = After (IsNetlistOf text) of_netlist
@@ -23,9 +23,8 @@ unfolding ExpectedPlanOn AfterDesign
 returns-in-Ok-netlist_of-clause-expected g c =
     let e = c.in-Ok-netlist_of.ensures in
     let machine = c.args.machine in
-    let timing = c.args.words.now.timing in
+    let words = c.args.words.now in
     let net = c.in-Ok-netlist_of.net in
     let text = c.in-Ok.text in
-    follows_file _ _ _ _ _ _ _ _ text _ (of_text machine timing) c.in-Ok.ensures.same_names c.in-Ok.ensures.same_bytes (rw c.as_bytes.ensures at c.in-Ok.ensures.text)
-    (follows_on _ _ (IsNetlistOf text) (of_netlist machine timing) net _ _ _ e.checked
-    (follows_here _ _ _ _ (of_netlist machine timing net) c.lay_out.ensures.expected))
+    follows_file _ _ _ _ _ _ _ _ text _ (of_text words machine) c.in-Ok.ensures.same_names c.in-Ok.ensures.same_bytes (rw c.as_bytes.ensures at c.in-Ok.ensures.text)
+    (follows_on _ _ (IsNetlistOf text) (of_netlist words machine) net _ _ _ e.checked c.plan_netlist.ensures.expected)

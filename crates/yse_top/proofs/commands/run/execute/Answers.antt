@@ -22,7 +22,7 @@ unfolding AfterStimulus
 returns-in-Ok-few_cells-clause-expected g c =
     let e = c.in-Ok-stimulus_of.ensures in
     let net = c.args.built.net in
-    let next = EndsTelling g.G.Gate c.args.gates.now c.finish.new.gates c.args.pace c.args.words.now c.args.machine.now net in
+    let next = EndsTelling g.G.Gate c.args.gates.now c.finish.new.gates c.args.pace c.args.words.now c.args.machine.now c.args.timing.now net in
     let stimulus = c.in-Ok-stimulus_of.stimulus in
     let text = c.in-Ok.text in
     follows_file _ _ _ _ _ _ _ _ text _ (of_text net next) c.in-Ok.ensures.same_names c.in-Ok.ensures.same_bytes (rw c.as_bytes.ensures at c.in-Ok.ensures.text)
@@ -34,7 +34,7 @@ unfolding AfterStimulus
 returns-in-Ok-clause-expected g c =
     let e = c.in-Err-stimulus_of.ensures in
     let net = c.args.built.net in
-    let next = EndsTelling g.G.Gate c.args.gates.now c.args.gates.now c.args.pace c.args.words.now c.args.machine.now net in
+    let next = EndsTelling g.G.Gate c.args.gates.now c.args.gates.now c.args.pace c.args.words.now c.args.machine.now c.args.timing.now net in
     let text = c.in-Ok.text in
     follows_file _ _ _ _ _ _ _ _ text _ (of_text net next) c.in-Ok.ensures.same_names c.in-Ok.ensures.same_bytes (rw c.as_bytes.ensures at c.in-Ok.ensures.text)
     (follows_here _ _ _ _ (of_text net next text) (inr (refl, e.checked)))

@@ -8,23 +8,23 @@ use Rattle.yse_top.proofs.commands.run.finish.Goals as goal
 pub returns-in-Ok-clause-expected : goal.returns-in-Ok-clause-expected
 unfolding EndsBy
 returns-in-Ok-clause-expected g c =
-    rw c.in-Workers.is (follows_here _ _ _ _ (EndsTelling g.G.Gate c.args.gates.now c.by_workers.new.gates _ c.args.words.now c.args.machine.now c.args.built.net c.args.stimulus.now)
+    rw c.in-Workers.is (follows_here _ _ _ _ (EndsTelling g.G.Gate c.args.gates.now c.by_workers.new.gates _ c.args.words.now c.args.machine.now c.args.timing.now c.args.built.net c.args.stimulus.now)
     (record { ends = (refl, inl (_, c.in-Ok.ensures.printed, refl)); visits = λ has is. c.in-Ok.ensures.visits }))
 
 pub returns-in-Err-clause-expected : goal.returns-in-Err-clause-expected
 unfolding EndsBy
 returns-in-Err-clause-expected g c =
-    rw c.in-Workers.is (follows_here _ _ _ _ (EndsTelling g.G.Gate c.args.gates.now c.by_workers.new.gates _ c.args.words.now c.args.machine.now c.args.built.net c.args.stimulus.now)
+    rw c.in-Workers.is (follows_here _ _ _ _ (EndsTelling g.G.Gate c.args.gates.now c.by_workers.new.gates _ c.args.words.now c.args.machine.now c.args.timing.now c.args.built.net c.args.stimulus.now)
     (record { ends = (refl, inr refl); visits = λ has is. cc }))
 
 pub returns-in-Ok-by_rounds-clause-expected : goal.returns-in-Ok-by_rounds-clause-expected
 unfolding EndsBy
 returns-in-Ok-by_rounds-clause-expected g c =
-    rw c.in-Rounds.is (follows_here _ _ _ _ (EndsTelling g.G.Gate c.args.gates.now c.args.gates.now _ c.args.words.now c.args.machine.now c.args.built.net c.args.stimulus.now)
+    rw c.in-Rounds.is (follows_here _ _ _ _ (EndsTelling g.G.Gate c.args.gates.now c.args.gates.now _ c.args.words.now c.args.machine.now c.args.timing.now c.args.built.net c.args.stimulus.now)
     (record { ends = (refl, inl (_, c.in-Ok-by_rounds.ensures.printed, refl)); visits = λ has is. absurd has }))
 
 pub returns-in-Err-by_rounds-clause-expected : goal.returns-in-Err-by_rounds-clause-expected
 unfolding EndsBy
 returns-in-Err-by_rounds-clause-expected g c =
-    rw c.in-Rounds.is (follows_here _ _ _ _ (EndsTelling g.G.Gate c.args.gates.now c.args.gates.now _ c.args.words.now c.args.machine.now c.args.built.net c.args.stimulus.now)
+    rw c.in-Rounds.is (follows_here _ _ _ _ (EndsTelling g.G.Gate c.args.gates.now c.args.gates.now _ c.args.words.now c.args.machine.now c.args.timing.now c.args.built.net c.args.stimulus.now)
     (record { ends = (refl, inr refl); visits = λ has is. absurd has }))

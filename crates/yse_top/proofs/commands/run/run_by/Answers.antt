@@ -4,6 +4,7 @@ use Rattle.cmd_words.specs.declared.command.RunWords.{RunWords}
 use Rattle.machine_text.specs.declared.machine.Machine.{Machine}
 use Rattle.net_defs.specs.declared.netlist.Netlist.{Netlist}
 use Rattle.net_defs.specs.declared.stimulus.Stimulus.{Stimulus}
+use Rattle.net_defs.specs.declared.timing.Timing.{Timing}
 use Rattle.yse_top.specs.Checks.{After, IsMachineOf}
 use Rattle.yse_top.specs.Outcome.{Outcome}
 use Rattle.yse_top.specs.Readings.{Reading}
@@ -12,7 +13,7 @@ use Rattle.yse_top.specs.commands.Run.{AfterMachine, ExpectedOn}
 use Rattle.yse_top.proofs.ChainLemmas.{follows_file, follows_on, follows_here}
 use Rattle.yse_top.proofs.commands.run.run_by.Goals as goal
 
-module _ (words : RunWords) (End : (Machine → Netlist → Stimulus → List Reading → Outcome → Type 0)) where
+module _ (words : RunWords) (End : (Machine → Timing → Netlist → Stimulus → List Reading → Outcome → Type 0)) where
   abbrev of_text : List ℕ → List Reading → Outcome → Type 0
   of_text text = After (IsMachineOf text) (ExpectedOn words End)
 

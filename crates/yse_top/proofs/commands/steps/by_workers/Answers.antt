@@ -7,14 +7,14 @@ use Rattle.yse_top.proofs.commands.steps.by_workers.Goals as goal
 
 pub returns-clause-printed : goal.returns-clause-printed
 returns-clause-printed g c =
-    trace_shown c.args.built.net c.args.words.now.timing c.args.stimulus.now c.args.built.image c.in_ok-rows.rows.rows c.requires.image c.in_ok-rows.ensures.rows
+    trace_shown c.args.built.net c.args._timing.now c.args.stimulus.now c.args.built.image c.in_ok-rows.rows.rows c.requires.image c.in_ok-rows.ensures.rows
 
 pub returns-clause-writable : goal.returns-clause-writable
 returns-clause-writable g c =
-    shown_prints c.args.built.net c.args.words.now.timing c.args.stimulus.now c.args.built.image (cycle_count c.args.stimulus.now) c.in_ok-rows.rows c.in_ok-line.line
+    shown_prints c.args.built.net c.args._timing.now c.args.stimulus.now c.args.built.image (cycle_count c.args.stimulus.now) c.in_ok-rows.rows c.in_ok-line.line
     c.in_ok-line.ensures.room c.requires.stimulus c.requires.image c.in_ok-rows.ensures.rows (omega arith)
 
 pub returns-clause-visits : goal.returns-clause-visits
 returns-clause-visits g c =
-    machine_visits g.G.Gate c.args.built.net c.args._machine.now c.args.words.now.timing c.args.stimulus.now c.args.built.image c.requires.image c.requires.made
+    machine_visits g.G.Gate c.args.built.net c.args._machine.now c.args._timing.now c.args.stimulus.now c.args.built.image c.requires.image c.requires.made
     c.args.words.now.workers c.args.gates.now _ c.in_ok-rows.ensures.visits

@@ -1,0 +1,14 @@
+-- The pieces are those of the line, its numbers in decimal.
+use Rattle.std.proofs.Common.{◌∙◌, ap, [], ◌∷◌, List, ℕ}
+use Rattle.std.specs.Prelude.{codes}
+use Rattle.yse_top.specs.Lines.{gate_line}
+use Rattle.yse_top.specs.Writing.{joined}
+use Rattle.yse_top.proofs.WritingLemmas.{writes_same}
+use Rattle.yse_top.proofs.list_lines.write_gate_line.Goals as goal
+
+pub returns : goal.returns
+unfolding gate_line
+returns g c =
+    writes_same _ _ _ _ _ _ _
+    (ap (λ (d : List ℕ). joined (codes "last list: line " ∷ d ∷ codes ": " ∷ c.args.fault.now ∷ codes "\n" ∷ [])) (c.as_bytes-line.ensures.value ∙ c.format.ensures.text))
+    c.write_pieces.ensures
