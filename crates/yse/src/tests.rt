@@ -7,6 +7,7 @@ ghost use Rattle.yse_top.specs.Visited.{AllCanTell};
 
 mod calls;
 mod machines;
+mod mixed;
 mod orders;
 mod threads;
 
@@ -38,7 +39,13 @@ const LATCH: &str = "INPUT(s)\nINPUT(r)\nOUTPUT(q)\nOUTPUT(p)\nq = NAND(s, p)\np
 const RAM: &str =
     "INPUT(we)\nINPUT(a0)\nINPUT(a1)\nINPUT(d)\nOUTPUT(q)\n[q] = RAM(we; a0, a1; d)\n";
 
+const WIDE: &str =
+    "INPUT(a1)\nINPUT(a2)\nINPUT(a3)\nINPUT(a4)\nINPUT(a5)\nINPUT(a6)\nINPUT(a7)\nINPUT(a8)\nINPUT(a9)\nINPUT(a10)\nINPUT(a11)\nINPUT(a12)\nINPUT(a13)\nINPUT(a14)\nINPUT(a15)\nINPUT(a16)\nINPUT(a17)\nOUTPUT(z)\nz = AND(a1, a2, a3, a4, a5, a6, a7, a8, a9, a10, a11, a12, a13, a14, a15, a16, a17)\n";
+
 const CRLF: &[u8] = b"input(a)\r\noutput(z)\r\nz = not(y) # \xff\r\ny = buff(a)\r\n";
+
+const USAGE: &str =
+    "usage: yse (run/refer/order) NETLIST STIMULUS [options], yse plan NETLIST [options], yse show NETLIST, yse large GATES CYCLES [options]\n";
 
 /// The gates of a call.
 const GATES: usize = 64;

@@ -1,6 +1,6 @@
 //! A table of whole calls: what the commands end with over the same files.
 
-use super::{C17, Ended, FILES, LATCH, RAM, S27, end_of, two_files};
+use super::{C17, Ended, FILES, LATCH, RAM, S27, USAGE, WIDE, end_of, two_files};
 use seen_list::Memory;
 use std::alloc::Global;
 use std::marker::Sync;
@@ -11,13 +11,7 @@ use std::thread::Threads;
 const SHARE: &str =
     "INPUT(e)\nINPUT(a)\nINPUT(f)\nINPUT(b)\nOUTPUT(y)\nt = TRI(e, a)\nu = TRI(f, b)\ny = BUS(t, u)\n";
 
-const WIDE: &str =
-    "INPUT(a1)\nINPUT(a2)\nINPUT(a3)\nINPUT(a4)\nINPUT(a5)\nINPUT(a6)\nINPUT(a7)\nINPUT(a8)\nINPUT(a9)\nINPUT(a10)\nINPUT(a11)\nINPUT(a12)\nINPUT(a13)\nINPUT(a14)\nINPUT(a15)\nINPUT(a16)\nINPUT(a17)\nOUTPUT(z)\nz = AND(a1, a2, a3, a4, a5, a6, a7, a8, a9, a10, a11, a12, a13, a14, a15, a16, a17)\n";
-
 const REGISTER: &str = "INPUT(a)\nOUTPUT(q)\nq = DFF(a)\n";
-
-const USAGE: &str =
-    "usage: yse (run/refer/order) NETLIST STIMULUS [options], yse plan NETLIST [options], yse show NETLIST, yse large GATES CYCLES [options]\n";
 
 const ALL: &str = "run refer order";
 
