@@ -1,17 +1,12 @@
 //! `map_nodes` with ample memory, against items written out by hand.
 
-use crate::items::{RANK, items_of};
+use crate::items::items_of;
+use limits::MAX_UNITS;
 use net_defs::{Init, Mode, Timing};
 use node_defs::{Feed, Item, NodeNet, Tag};
 use seen_list::{Memory, Text};
 use std::alloc::Global;
 use std::test::Fail;
-
-const UNIT: Timing = Timing {
-    mode: Mode::Unit,
-    units: 9,
-    init: Init::Undef,
-};
 
 /// Adds an operand: its item, with a `'` where its value is that of the last turn; nothing for a value that is
 /// always 0.
@@ -64,61 +59,70 @@ fn told(alloc: Global, nodes: &NodeNet) -> Result<Text, Fail> {
 const WIDE_AND: &str =
     "INPUT(a)\nINPUT(b)\nINPUT(c)\nINPUT(d)\nINPUT(e)\nINPUT(f)\nINPUT(g)\nINPUT(h)\nINPUT(i)\nINPUT(j)\nINPUT(k)\nINPUT(l)\nINPUT(m)\nINPUT(n)\nINPUT(o)\nINPUT(p)\nINPUT(q)\nOUTPUT(z)\nz = AND(a, b, c, d, e, f, g, h, i, j, k, l, m, n, o, p, q)\n";
 
-/// A netlist, its timing, its first node, its number of tables, and its items from the first node on: the tables of
+/// A netlist, its mode and the turns of a cycle, its first node, its number of tables, and its items from the first node on: the tables of
 /// nodes with their operands. In unit delay only the first of three levels reads the last turn.
-const ROWS: &[(&str, Timing, u32, usize, &str)] = &[
+const ROWS: &[(&str, (Mode, u32), u32, usize, &str)] = &[
     (
         "INPUT(a)\nINPUT(b)\nINPUT(c)\nINPUT(d)\nINPUT(e)\nz = NAND(a, b, c, d, e)\n",
-        RANK,
+        (Mode::Rank, 1),
         5,
         3,
         "0 of 0 1 2 3\n1 of 4\n2 of 5 6\n",
     ),
     (
         "INPUT(a)\nINPUT(b)\nINPUT(c)\nINPUT(d)\nINPUT(e)\nINPUT(f)\nINPUT(g)\nz = BUS(a, b, c, d, e, f, g)\n",
-        RANK,
+        (Mode::Rank, 1),
         7,
         3,
         "0 of 0 1 2 3\n1 of 4 5 6\n2 of 7 8\n",
     ),
     (
         WIDE_AND,
-        UNIT,
+        (Mode::Unit, 9),
         17,
         3,
         "0 of 0' 1' 2' 3'\n0 of 4' 5' 6' 7'\n0 of 8' 9' 10' 11'\n0 of 12' 13' 14' 15'\n1 of 16'\n0 of 17 18 19 20\n1 of 21\n2 of 22 23\n",
     ),
     (
         "INPUT(1)\nINPUT(2)\nINPUT(3)\nINPUT(6)\nINPUT(7)\n10 = NAND(1, 3)\n11 = NAND(3, 6)\n16 = NAND(2, 11)\n19 = NAND(11, 7)\n22 = NAND(10, 16)\n23 = NAND(16, 19)\n",
-        RANK,
+        (Mode::Rank, 1),
         5,
         1,
         "0 of 0 2\n0 of 2 3\n0 of 1 6\n0 of 6 4\n0 of 5 7\n0 of 7 8\n",
     ),
     (
         "z = NOT(q)\nr = DFF(z)\n[q] = RAM(w; a, b; d)\nINPUT(w)\nINPUT(a)\nINPUT(b)\nINPUT(d)\n",
-        RANK,
+        (Mode::Rank, 1),
         5,
         1,
         "0 of 4\nregister 5\n",
     ),
     (
         "INPUT(G0)\nINPUT(G1)\nINPUT(G2)\nINPUT(G3)\nG5 = DFF(G10)\nG6 = DFF(G11)\nG7 = DFF(G13)\nG14 = NOT(G0)\nG17 = NOT(G11)\nG8 = AND(G14, G6)\nG15 = OR(G12, G8)\nG16 = OR(G3, G8)\nG9 = NAND(G16, G15)\nG10 = NOR(G14, G11)\nG11 = NOR(G5, G9)\nG12 = NOR(G1, G7)\nG13 = NOR(G2, G12)\n",
-        RANK,
+        (Mode::Rank, 1),
         4,
         5,
         "register 16\nregister 14\nregister 12\n0 of 0\n1 of 7 5\n2 of 1 6\n3 of 9 8\n3 of 3 8\n2 of 2 9\n4 of 11 10\n2 of 4 13\n0 of 14\n2 of 7 14\n",
     ),
 ];
 
-fn rows() -> &'static [(&'static str, Timing, u32, usize, &'static str)] {
+/// The items of a netlist in a mode in which no gate is listed.
+fn told_items(alloc: Global, text: &str, mode: Mode, units: u32) -> Option<NodeNet> {
+    if units == 0 || units > MAX_UNITS || (mode == Mode::Rank && units != 1) {
+        return None;
+    }
+    let timing = Timing::unlisted(alloc, mode, units, Init::Undef);
+    items_of(alloc, text.as_bytes(), &timing)
+}
+
+fn rows() -> &'static [(&'static str, (Mode, u32), u32, usize, &'static str)] {
     ROWS
 }
 
 #[test]
 fn netlists_have_these_items(rt: HostRuntime) -> Result<(), Fail> {
-    for (text, timing, first, tables, items) in rows() {
-        let nodes = items_of(rt.alloc(), text.as_bytes(), timing).ok_or("no items")?;
+    for (text, (mode, units), first, tables, items) in rows() {
+        let nodes = told_items(rt.alloc(), text, *mode, *units).ok_or("no items")?;
         assert_eq!(rt; (nodes.first_node, nodes.tables.len()), (*first, *tables));
         assert_eq!(rt; told(rt.alloc(), &nodes)?.as_bytes(), items.as_bytes());
     }
@@ -128,7 +132,7 @@ fn netlists_have_these_items(rt: HostRuntime) -> Result<(), Fail> {
 /// Seven helpers, and then the gate's own node.
 #[test]
 fn helpers_are_numbered(rt: HostRuntime) -> Result<(), Fail> {
-    let nodes = items_of(rt.alloc(), WIDE_AND.as_bytes(), &UNIT).ok_or("no items")?;
+    let nodes = told_items(rt.alloc(), WIDE_AND, Mode::Unit, 9).ok_or("no items")?;
     assert_eq!(rt; nodes.names.len(), 25);
     for (i, name) in nodes.names.as_slice().iter().skip(17).enumerate() {
         assert!(rt;

@@ -7,18 +7,6 @@ use seen_list::{List, Memory, Text};
 use std::alloc::Global;
 use std::test::Fail;
 
-const RANK: Timing = Timing {
-    mode: Mode::Rank,
-    units: 1,
-    init: Init::Undef,
-};
-
-const UNIT: Timing = Timing {
-    mode: Mode::Unit,
-    units: 1,
-    init: Init::Undef,
-};
-
 /// Two inputs, and then what these drivers say: a gate by its operands, a register by one.
 fn netlist(alloc: Global, lines: &[(Kind, bool, &[u32])]) -> Result<Netlist, Memory> {
     let mut signals = List::new(alloc);
@@ -49,12 +37,13 @@ fn netlist(alloc: Global, lines: &[(Kind, bool, &[u32])]) -> Result<Netlist, Mem
 fn ranked(
     alloc: Global,
     net: &Netlist,
-    timing: &Timing,
+    mode: Mode,
 ) -> Result<Option<(List<u32>, List<u32>)>, Memory> {
     if net.signals.len() > 2_000_000 {
         return Ok(None);
     }
-    match rank(alloc, net, timing) {
+    let timing = Timing::unlisted(alloc, mode, 1, Init::Undef);
+    match rank(alloc, net, &timing) {
         Ok(ranks) => Ok(Some((ranks.order, ranks.rank))),
         Err(RankNo::Loop(members)) => Ok(Some((members, List::new(alloc)))),
         Err(RankNo::Memory) => Ok(None),
@@ -89,17 +78,17 @@ const THREE: Lines<'static> = &[
     (Kind::Buf, true, &[3]),
 ];
 
-/// A netlist, its timing, and its order and its ranks, or its loop and nothing.
-type Row<'a> = (Lines<'a>, Timing, &'a [u32], &'a [u32]);
+/// A netlist, its mode, and its order and its ranks, or its loop and nothing.
+type Row<'a> = (Lines<'a>, Mode, &'a [u32], &'a [u32]);
 
 const ROWS: &[Row<'static>] = &[
-    (LATCH, RANK, &[2, 3], &[]),
-    (LATCH, UNIT, &[2, 3], &[0, 0, 0, 0]),
-    (CHAIN, RANK, &[4, 3, 2, 5], &[0, 0, 2, 1, 0, 3]),
-    (TOGGLE, RANK, &[2], &[0, 0, 0, 0]),
-    (ITSELF, RANK, &[3], &[]),
-    (THREE, RANK, &[3, 5, 4], &[]),
-    (THREE, UNIT, &[2, 3, 4, 5], &[0, 0, 0, 0, 0, 0]),
+    (LATCH, Mode::Rank, &[2, 3], &[]),
+    (LATCH, Mode::Unit, &[2, 3], &[0, 0, 0, 0]),
+    (CHAIN, Mode::Rank, &[4, 3, 2, 5], &[0, 0, 2, 1, 0, 3]),
+    (TOGGLE, Mode::Rank, &[2], &[0, 0, 0, 0]),
+    (ITSELF, Mode::Rank, &[3], &[]),
+    (THREE, Mode::Rank, &[3, 5, 4], &[]),
+    (THREE, Mode::Unit, &[2, 3, 4, 5], &[0, 0, 0, 0, 0, 0]),
 ];
 
 fn rows() -> &'static [Row<'static>] {
@@ -108,9 +97,9 @@ fn rows() -> &'static [Row<'static>] {
 
 #[test]
 fn ranks_and_loops(rt: HostRuntime) -> Result<(), Fail> {
-    for (lines, timing, order, ranks) in rows() {
+    for (lines, mode, order, ranks) in rows() {
         let net = netlist(rt.alloc(), lines)?;
-        let found = ranked(rt.alloc(), &net, timing)?.ok_or("no memory")?;
+        let found = ranked(rt.alloc(), &net, *mode)?.ok_or("no memory")?;
         assert_eq!(rt; found.0.as_slice(), *order);
         assert_eq!(rt; found.1.as_slice(), *ranks);
     }
@@ -146,7 +135,7 @@ fn inverter(alloc: Global, operand: u32) -> Result<Signal, Memory> {
 #[test]
 fn ring_of_a_million(rt: HostRuntime) -> Result<(), Fail> {
     let net = ring(rt.alloc(), 1_048_576)?;
-    let found = ranked(rt.alloc(), &net, &RANK)?.ok_or("no memory")?;
+    let found = ranked(rt.alloc(), &net, Mode::Rank)?.ok_or("no memory")?;
     assert_eq!(rt; found.0.len(), 1_048_576);
     for (place, member) in found.0.as_slice().iter().enumerate() {
         assert_eq!(rt; *member as usize, place);

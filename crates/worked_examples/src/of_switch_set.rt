@@ -3,7 +3,7 @@
 ghost use Rattle.machine_text.specs.Machines.{IsValid};
 ghost use Rattle.node_defs.specs.WellFormed.{IsWellFormed};
 
-use crate::items::{RANK, items_of};
+use crate::items::{items_of, rank_order};
 use home_pick::homes;
 use machine_text::{Machine, read_machine};
 use node_defs::NodeNet;
@@ -27,7 +27,7 @@ fn switched(alloc: Global, text: &[u8], sizes: &[u8]) -> Option<Switch> {
         return None;
     }
     let machine = read_machine(alloc, sizes).ok()?;
-    let nodes = items_of(alloc, text, &RANK)?;
+    let nodes = items_of(alloc, text, &rank_order(alloc))?;
     planned(alloc, &nodes, &machine)
 }
 

@@ -1,6 +1,6 @@
 //! A netlist that is read and compiled, with ample memory, against an image worked out by hand.
 
-use crate::items::RANK;
+use crate::items::rank_order;
 use bench_read::law::reads_as_valid;
 use bench_read::read_bench;
 use image_defs::{Image, InColumn, LinkIn, LinkOut, PortImage, Source, Task, Work};
@@ -26,7 +26,7 @@ fn compiled(alloc: Global, text: &[u8], sizes: &[u8]) -> Option<Compiled> {
         return None;
     };
     reads_as_valid(text, &net);
-    compile(alloc, &net, &machine, &RANK).ok()
+    compile(alloc, &net, &machine, &rank_order(alloc)).ok()
 }
 
 /// The logic port looks what it gets from the host up in a buffer's table, and sends the answer. Of

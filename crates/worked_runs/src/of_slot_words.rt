@@ -258,11 +258,7 @@ fn c17(alloc: Global) -> Option<Image>
         return None;
     };
     reads_as_valid(C17, &net);
-    let timing = Timing {
-        mode: Mode::Rank,
-        units: 1,
-        init: Init::Undef,
-    };
+    let timing = Timing::unlisted(alloc, Mode::Rank, 1, Init::Undef);
     match compile(alloc, &net, &machine, &timing) {
         Ok(compiled) => Some(compiled.image),
         Err(_) => None,

@@ -313,11 +313,7 @@ fn canonical_text_fits_its_room(rt: HostRuntime) -> Result<(), Fail> {
 fn printed(alloc: Global, net: &Netlist, stimulus: &Stimulus) -> Option<(V4, V4)>
     requires { IsValid net.now }
 {
-    let timing = Timing {
-        mode: Mode::Rank,
-        units: 1,
-        init: Init::Undef,
-    };
+    let timing = Timing::unlisted(alloc, Mode::Rank, 1, Init::Undef);
     match refer(alloc, net, &timing, stimulus) {
         Ok(rows) => match rows.rows.as_slice() {
             [row] => match row.cells.as_slice() {
