@@ -126,6 +126,18 @@ const CASES: &[(&str, &str)] = &[
     ),
     ("run a b --mode unit --units 00000000007", "usage"),
     ("run a b --mode unit --units 0", "usage"),
+    (
+        "run a b --mode mixed --last l --units 2",
+        "run a b mixed 2 x banks 1 workers 4 last l",
+    ),
+    (
+        "plan a --last l --mode mixed",
+        "plan a  mixed 1 x banks 1 workers 4 last l",
+    ),
+    ("refer a b --mode mixed", "usage"),
+    ("order a b --mode unit --last l", "usage"),
+    ("run a b --last l", "usage"),
+    ("show a --mode mixed --last l", "usage"),
     ("run a b --mode unit --units 4097", "usage"),
     ("run a b --mode unit --units +7", "usage"),
     ("run a b --mode Unit", "usage"),
@@ -165,14 +177,16 @@ fn told_run(alloc: Global, command: &str, words: &RunWords) -> Result<String, Fa
     let mut told = told_files(alloc, command, words)?;
     push_option(&mut told, " machine ", &words.machine)?;
     push_option(&mut told, " order ", &words.order)?;
+    push_option(&mut told, " last ", &words.last)?;
     Ok(told)
 }
 
-/// All but the machine and the order.
+/// All but the machine, the order and the list.
 fn told_files(alloc: Global, command: &str, words: &RunWords) -> Result<String, Fail> {
     let mode = match words.timing.mode {
         Mode::Rank => "rank",
         Mode::Unit => "unit",
+        Mode::Mixed => "mixed",
     };
     let init = match words.timing.init {
         Init::Undef => "x",
