@@ -1,13 +1,14 @@
 -- How a program ends that makes one call.
-use Rattle.std.specs.Prelude.{◌≡◌, ℕ, Bool, List, Option, IfSome}
+use Rattle.std.specs.Prelude.{◌≡◌, ℕ, Bool, List, Option, Some, None, IfSome}
 use Rattle.std.specs.Io.KnownBytes.{append_known}
 use Rattle.cmd_words.specs.Asked.{asked}
 use Rattle.crew_run.specs.declared.gate.Gate as gate
 use Rattle.edge_io.specs.declared.counts.FileCounts.{FileCounts}
 use Rattle.yse_top.specs.declared.status.Status.{Status}
-use Rattle.yse_top.specs.declared.status.Status.TheVariants as status
+use Rattle.yse_top.specs.declared.status.Status.TheVariants.{Done, Memory}
 use Rattle.yse_top.specs.Ends.{EndsAs}
 use Rattle.yse_top.specs.Expected.{Expected}
+use Rattle.yse_top.specs.Lines.{memory_line}
 use Rattle.yse_top.specs.Outcome.{Outcome}
 use Rattle.yse_top.specs.Readings.{Reading, AreReadings}
 use Rattle.yse_top.specs.Statuses.{status_number}
@@ -21,10 +22,14 @@ pub record EndsBy {G : Type 0} (p : gate.Ghosts G) (names : Option (List ℕ →
     (taken taken' : Option (List ℕ)) (faults faults' : ℕ) (TakesLine : List ℕ → Type 0) (gates gates' : List (Option G)) (words : List (List ℕ)) (exit : ℕ) : Type 0 where
   pub status : Status
   pub number : exit ≡ status_number status
-  pub trace : status ≡ status.Done → (output : List ℕ) × (taken' ≡ append_known taken output) × IfSome (traced_by (asked words)) (IsTraceOfFiles bytes output)
+  pub trace : status ≡ Done → (output : List ℕ) × (taken' ≡ append_known taken output) × IfSome (traced_by (asked words)) (IsTraceOfFiles bytes output)
   pub readings : List Reading
   pub outcome : Outcome
   pub read : AreReadings names bytes counts counts' readings
   pub expected : Expected words readings outcome
   pub ends : EndsAs status outcome taken taken' faults faults' TakesLine
   pub visits : TellsGates p bytes gates gates' status (asked words)
+
+-- for want of memory to read the words: the exit status is that of want of memory, and its line is told
+abbrev pub EndsForMemory : (List ℕ → Type 0) → ℕ → Type 0
+EndsForMemory TakesLine exit = (exit ≡ status_number Memory) × TakesLine memory_line

@@ -1,15 +1,15 @@
 //! The program: real files, streams and gates around the top call, whose status is the exit status.
 #![tactic(auto)]
 
-ghost use Rattle.std.specs.Prelude.{◌≡◌, ◌≤◌, None, IfSome, length};
+ghost use Rattle.std.specs.Prelude.{◌≡◌, ◌≤◌, ℕ, List as Items, Option, MatchOption, length};
+ghost use Rattle.std.specs.IoError.{error_kind};
 ghost use Rattle.std.specs.Process.{exit_status};
 ghost use Rattle.limits.specs.declared.TheConstants.{MAX_WORKERS};
-ghost use Rattle.yse_top.specs.Lines.{memory_line};
 ghost use Rattle.yse_top.specs.Statuses.{status_number};
 ghost use Rattle.yse_top.specs.Visited.{AllCanTell};
 ghost use Rattle.yse_top.specs.Writing.{TakesLine};
-ghost use Rattle.yse.specs.Given.{words_in, words_read};
-ghost use Rattle.yse.specs.Ended.{EndsBy};
+ghost use Rattle.yse.specs.Given.{Gives, words_in};
+ghost use Rattle.yse.specs.Ended.{EndsBy, EndsForMemory};
 
 #[cfg(test)]
 mod tests;
@@ -58,12 +58,13 @@ fn ended<R: Threads + Wait + Sync, F: Files, O: Sink, E: Sink, G: Gate + Send>(
 ) -> ExitCode
     requires gates { MAX_WORKERS ≤ length gates.old }
     requires tell { AllCanTell G.Gate.own gates.old }
-    ensures called { IfSome (words_read read) (λ words. EndsBy G.Gate.own (F.names files.old) (F.bytes files.old)
-        (F.counts files.old) (F.counts files.new) (O.taken out.old) (O.taken out.new) (O.faults out.old) (O.faults out.new)
+    ensures called { (given : Option (Items (Items ℕ)))
+        × Gives error_kind ErrorKind.OutOfMemory read given
+        × MatchOption given (EndsForMemory (TakesLine (E.taken err.old) (E.taken err.new) (E.faults err.old) (E.faults err.new)) (exit_status result))
+        (λ words. EndsBy G.Gate.own (F.names files.old) (F.bytes files.old) (F.counts files.old) (F.counts files.new)
+        (O.taken out.old) (O.taken out.new) (O.faults out.old) (O.faults out.new)
         (TakesLine (E.taken err.old) (E.taken err.new) (E.faults err.old) (E.faults err.new)) gates.old gates.new words
         (exit_status result)) }
-    ensures memory { words_read read ≡ None → (exit_status result ≡ status_number Status.Memory)
-        × (out.new ≡ out.old) × TakesLine (E.taken err.old) (E.taken err.new) (E.faults err.old) (E.faults err.new) memory_line }
 {
     match words_given(alloc, read) {
         Ok(words) => exit_code(yse(rt, alloc, words.as_slice(), files, out, err, gates)),
@@ -80,7 +81,7 @@ fn exit_code(status: Status) -> ExitCode
 
 /// The words that were read. Where one isn't UTF-8 there are none, as if none had been given.
 fn words_given(alloc: Global, read: io::Result<Vec<String>>) -> Result<Vec<String>, Memory>
-    ensures { words_in result ≡ words_read read }
+    ensures { Gives error_kind ErrorKind.OutOfMemory read (words_in result) }
 {
     match read {
         Ok(words) => Ok(words),
