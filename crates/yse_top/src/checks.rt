@@ -6,7 +6,7 @@ ghost use Rattle.net_defs.specs.Loops.{IsOrder};
 ghost use Rattle.machine_text.specs.Machines.{IsValid as IsValidMachine, ports_of};
 ghost use Rattle.net_defs.specs.declared.stimulus.Stimulus.{Stimulus};
 ghost use Rattle.net_defs.specs.Valid.{Ascends, IsValid, IsValidStimulus, IsValidTiming};
-ghost use Rattle.yse_compile.specs.Compiled.{IsCompiled, ShowsReference};
+ghost use Rattle.yse_compile.specs.Compiled.{IsCompiled, ShowsReference, IsRight};
 ghost use Rattle.yse_top.specs.Checks.{Refuses, RefusesDesign, IsListOf, IsMachineOf, IsNetlistOf, IsOrderOf, IsStimulusOf, HasNoLoop, HasRoom, HasFewCells, cell_count};
 ghost use Rattle.stim_text.specs.Orders.{IsValidOrder};
 ghost use Rattle.yse_top.specs.Images.{IsImageOf};
@@ -142,9 +142,43 @@ pub fn designed<'a>(
 {
     match compile(alloc, &net, machine, timing) {
         Ok(compiled) => Ok(Planned { net, compiled }),
-        Err(CompNo::Loop(members)) => Err(Refusal::Loop(net, members)),
-        Err(CompNo::Memory) => Err(Refusal::Memory),
-        Err(no) => Err(Refusal::Overfull(net, no)),
+        Err(no) => Err(of_design(net, machine, timing, no)),
+    }
+}
+
+/// The refusal of a netlist that is not compiled, which a loop comes before.
+fn of_design<'a>(net: Netlist, _machine: &Machine, _timing: &Timing, no: CompNo) -> Refusal<'a>
+    requires { IsRight net _machine.now _timing.now no }
+    ensures { RefusesDesign net _machine.now _timing.now (refused_of result) }
+{
+    match no {
+        CompNo::Loop(members) => Refusal::Loop(net, members),
+        CompNo::Bits {
+            block,
+            needed,
+            left,
+        } => {
+            let no = CompNo::Bits {
+                block,
+                needed,
+                left,
+            };
+            Refusal::Overfull(net, no)
+        }
+        CompNo::Slots { needed, limit } => Refusal::Overfull(net, CompNo::Slots { needed, limit }),
+        CompNo::Functions {
+            port,
+            needed,
+            limit,
+        } => {
+            let no = CompNo::Functions {
+                port,
+                needed,
+                limit,
+            };
+            Refusal::Overfull(net, no)
+        }
+        CompNo::Memory => Refusal::Memory,
     }
 }
 
