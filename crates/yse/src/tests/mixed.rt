@@ -301,11 +301,11 @@ fn cases() -> &'static [Case] {
     CASES
 }
 
-/// The end of a call of a case.
+/// The end of a call of a case with the words of these lines.
 fn end_of_case<R: Threads + Wait + Sync>(
     rt: &R,
     alloc: Global,
-    call: &str,
+    lines: &[&str],
     case: &Case,
 ) -> Result<Ended, Memory> {
     let files: [(&[u8], &[u8]); 3] = [
@@ -314,14 +314,14 @@ fn end_of_case<R: Threads + Wait + Sync>(
         (b"net.last", case.list.as_bytes()),
     ];
     let mut files = store(alloc, &files, 0)?;
-    end_of(rt, alloc, &[call, case.words], &mut files, 0)
+    end_of(rt, alloc, lines, &mut files, 0)
 }
 
 #[test]
 fn mixed_calls_end_as_stated(rt: HostRuntime) -> Result<(), Fail> {
     for case in cases() {
         for call in case.calls.split('|') {
-            let ended = end_of_case(&rt, rt.alloc(), call, case)?;
+            let ended = end_of_case(&rt, rt.alloc(), &[call, case.words], case)?;
             assert_eq!(rt; ended.out.taken(), case.output.as_bytes());
             assert_eq!(rt; ended.err.taken(), case.line.as_bytes());
             assert_eq!(rt; ended.status, case.status);
