@@ -1,6 +1,6 @@
 //! The files and the writers of the host.
 
-ghost use Rattle.std.specs.Prelude.{◌≡◌, ◌↔◌, ◌<◌, ◌≤◌, None, false, IfOk, IfSome, IsErr, IsTrue, MatchResult, is_err, is_none, length, take};
+ghost use Rattle.std.specs.Prelude.{◌≡◌, ◌↔◌, ◌<◌, ◌≤◌, None, Some, Ok, false, IfOk, IfSome, IsErr, IsTrue, MatchResult, is_err, is_none, length, take};
 ghost use Rattle.std.specs.Io.KnownBytes.{Appends, ReadConsumes};
 ghost use Rattle.edge_io.specs.FileCounts.{no_calls, after_start, after_read, after_failed_read};
 ghost use Rattle.edge_io.specs.SinkCounts.{no_writes, after_write};
@@ -61,8 +61,9 @@ impl<'a, R: rt::Files> Files for HostFiles<'a, R> {
 
     fn read(&mut self, buf: &mut [u8]) -> Result<usize, Failed>
         ensures bound { IfOk result (λ n. n ≤ length buf.new) }
-        ensures given { IfSome self.old.file (λ old. IfSome self.new.file (λ new.
-            IfOk result (λ n. ReadConsumes (R.File.remaining old) (R.File.remaining new) result buf.new))) }
+        ensures given { IfSome self.old.file (λ old. IfOk result (λ n. (new : R.File)
+            × (self.new.file ≡ Some new) × ReadConsumes (R.File.remaining old) (R.File.remaining new) result buf.new)) }
+        ensures unbegun { self.old.file ≡ None → (result ≡ Ok 0) × (self.new.file ≡ None) }
         ensures after { MatchResult result
             (λ n. self.new.counts ≡ after_read self.old.counts n) (λ _. self.new.counts ≡ after_failed_read self.old.counts) }
     {

@@ -8,8 +8,7 @@ ghost use Rattle.net_defs.specs.Valid.{Ascends, IsValidTiming};
 use crate::{Driver, Mode, Netlist, Timing};
 
 /// Whether the gate of this number is late: it reads the last turn's values. In unit delay every gate
-/// is late, in rank order none, in mixed mode those that are listed. It takes as many steps as the
-/// length of the list has binary digits.
+/// is late, in rank order none, in mixed mode those that are listed.
 pub fn is_late(net: &Netlist, timing: &Timing, gate: u32) -> bool
     requires { IsValidTiming timing.now }
     ensures { result ≡ is_late net.now timing.now gate }

@@ -33,9 +33,8 @@ pub enum RankNo {
 
 /// An order of all gates, and the rank of each signal. A gate that is not late comes after the gates
 /// among its operands, and there is no order where gates wait for one another in a loop; a late gate
-/// waits for nothing, so in unit delay any order will do. Time and memory grow with the netlist's size, and
-/// no call is as deep as the netlist. It serves any netlist of fewer than 2^32 signals, so each valid
-/// one; an operand that is no signal is waited for by nobody.
+/// waits for nothing, so in unit delay any order will do. It serves any netlist of fewer than 2^32 signals,
+/// so each valid one; an operand that is no signal is waited for by nobody.
 pub fn rank(alloc: Global, net: &Netlist, timing: &Timing) -> Result<Ranks, RankNo>
     requires few { length net.now.signals < 2 ^ 32 }
     requires timing { IsValidTiming timing.now }

@@ -36,8 +36,8 @@ pub struct Compiled {
 /// Why a netlist is not compiled: the first of these that holds.
 #[derive(Drop)]
 pub enum CompNo {
-    /// In rank order these gates are a loop: each is an operand of the next, and the last of the first.
-    /// It begins with the gate that stands first in signal order.
+    /// These gates, none of them late, are a loop: each is an operand of the next, and the last of the
+    /// first. It begins with the gate that stands first in signal order.
     Loop(List<u32>),
     /// The first memory that finds no array port, given by its number, the bits that it needs, and the
     /// most bits that are left on an array port, 0 without one.
