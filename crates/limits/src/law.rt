@@ -1,7 +1,7 @@
 //! A law of the profile: a function that does nothing, whose clauses are its numbers in digits.
 
 ghost use Rattle.std.specs.Prelude.{◌≡◌};
-ghost use Rattle.limits.specs.declared.TheConstants.{MAX_TEXT_BYTES, MAX_SIGNALS, MAX_OPERANDS, MAX_GATE_OPERANDS, MAX_NAME_BYTES, MAX_ADDRESS_BITS, MAX_WORD_BITS, MAX_CYCLES, MAX_REPEAT, MAX_STEPS, MAX_CELLS, MAX_UNITS, MAX_LOGIC, MAX_ARRAY, MAX_PORTS, MAX_SLOTS, MAX_FUNCTIONS, MAX_ARRAY_BITS, MAX_BANKS, MAX_WORKERS, MAX_LARGE_GATES, MAX_LARGE_CYCLES};
+ghost use Rattle.limits.specs.declared.TheConstants.{MAX_TEXT_BYTES, MAX_SIGNALS, MAX_OPERANDS, MAX_GATE_OPERANDS, MAX_NAME_BYTES, MAX_ADDRESS_BITS, MAX_WORD_BITS, MAX_CYCLES, MAX_REPEAT, MAX_STEPS, MAX_CELLS, MAX_UNITS, MAX_LOGIC, MAX_ARRAY, MAX_PORTS, MAX_SLOTS, MAX_FUNCTIONS, MAX_NODES, MAX_ARRAY_BITS, MAX_BANKS, MAX_WORKERS, MAX_LARGE_GATES, MAX_LARGE_CYCLES};
 
 /// A law: what each limit is. The numbers are those of this project's profile. It does nothing.
 pub fn profile()
@@ -22,6 +22,7 @@ pub fn profile()
     ensures ports { MAX_PORTS ≡ 256 }
     ensures slots { MAX_SLOTS ≡ 65536 }
     ensures functions { MAX_FUNCTIONS ≡ 4096 }
+    ensures nodes { MAX_NODES ≡ 4194304 }
     ensures array_bits { MAX_ARRAY_BITS ≡ 16777216 }
     ensures banks { MAX_BANKS ≡ 8 }
     ensures workers { MAX_WORKERS ≡ 64 }

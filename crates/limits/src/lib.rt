@@ -58,6 +58,9 @@ pub const MAX_SLOTS: u32 = 65_536;
 /// The most different functions of a logic processor.
 pub const MAX_FUNCTIONS: u32 = 4096;
 
+/// The most nodes of a logic processor. No netlist has more.
+pub const MAX_NODES: u32 = 4_194_304;
+
 /// The most bits of an array processor.
 pub const MAX_ARRAY_BITS: u32 = 16_777_216;
 
