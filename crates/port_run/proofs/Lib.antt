@@ -1,4 +1,5 @@
 pub mod CoreLemmas
 pub mod NextLemmas
 pub mod RunLemmas
+pub mod StateLemmas
 pub mod StepLemmas

@@ -1,17 +1,25 @@
 -- Steps of a running port as steps of a core.
-use Rattle.std.specs.Prelude.{Bool, false, true, length, ℕ, ◌+◌, ◌<◌, ◌≡◌}
+use Rattle.std.specs.Prelude.{Bool, false, true, Some, length, ℕ, ◌+◌, ◌<◌, ◌≡◌}
+use mathlib.Core.Option.{some}
+use lib.ListN.{get_elem?}
 use Rattle.image_defs.specs.Places.{IsPort}
 use Rattle.image_defs.specs.declared.image.LinkOut.{LinkOut}
 use Rattle.image_defs.specs.declared.image.PortImage.{PortImage}
 use Rattle.event_defs.specs.Places.{IsSend}
+use Rattle.event_defs.specs.Sound.{IsSound}
 use Rattle.event_defs.specs.Steps.{CoreState, IsStep}
 use Rattle.event_defs.specs.declared.place.CoreStep.{CoreStep}
 use Rattle.event_defs.specs.declared.place.CoreStep.TheVariants.{Moved}
 use Rattle.event_defs.specs.declared.place.Event.{Event}
 use Rattle.event_defs.specs.declared.place.Event.TheVariants.{Ask, Put, Take, Tell}
-use Rattle.slot_words.specs.Layout.{progress_word, send_word}
+use Rattle.atomic_table.specs.Seated.{TableId}
+use Rattle.atomic_table.specs.Table.{State}
+use Rattle.slot_words.specs.Layout.{progress_in, progress_word, send_word, sent_in, turns_told}
 use Rattle.slot_words.specs.Passes.{PassView}
+use Rattle.slot_words.specs.Rule.{turns_of}
+use Rattle.slot_words.specs.declared.rule.Key.{Key}
 use Rattle.slot_words.specs.declared.rule.Look.{Look}
+use Rattle.slot_words.specs.declared.rule.View.{View}
 use Rattle.port_run.specs.Pairs.{until}
 
 -- in this state of a core the word of the look has the number that the look found
@@ -43,3 +51,25 @@ pub record IsCoreEvent (old : PassView) (event : Event) (new : PassView) (state 
   pub step : IsCoreStep old state (Moved event) after
   pub stands : StandsIn new after
   pub shows : Shows old after new.last
+
+-- ---- the states of a crossbar
+
+-- the pass of port p that a seat has
+abbrev pub pass_in : TableId → ℕ → View → PassView
+pass_in table p v = record {
+  table = table;
+  port = p;
+  image = v.image;
+  stimulus = v.stimulus;
+  banks = v.banks;
+  place = v.place;
+  steps = v.steps;
+  last = v.last;
+}
+
+-- the state of the core is sound, it has the words of the crossbar, and in it each port stands where its pass does
+pub record IsStateOf (key : Key) (s : State (Unit {0}) View) (state : CoreState) : Type 0 where
+  pub sound : IsSound key.image.value key.stimulus.value key.banks (turns_of key.image.value key.stimulus.value) state
+  pub finished : (r : ℕ) → state.finished r ≡ turns_told (progress_in s.words r)
+  pub word : state.word ≡ sent_in key.image.value key.banks s.words
+  pub stands : (id p : ℕ) (v : View) → get_elem? s.views id ≡ some v → v.port ≡ Some p → state.place p ≡ v.place

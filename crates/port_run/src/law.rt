@@ -1,6 +1,8 @@
 //! Laws of running ports: functions that do nothing, whose clauses hold of all steps.
 
-ghost use Rattle.std.specs.Prelude.{true, ◌≡◌};
+ghost use Rattle.std.specs.Prelude.{List, Some, slice_set, true, ℕ, ◌≡◌};
+ghost use mathlib.Core.Option.{some};
+ghost use lib.ListN.{get_elem?};
 ghost use Rattle.image_defs.specs.Places.{IsPort};
 ghost use Rattle.image_defs.specs.declared.image.PortImage.{PortImage};
 ghost use Rattle.event_defs.specs.Next.{IsNext};
@@ -8,8 +10,13 @@ ghost use Rattle.event_defs.specs.Steps.{CoreState};
 ghost use Rattle.event_defs.specs.declared.place.Action.{Action};
 ghost use Rattle.event_defs.specs.declared.place.CoreStep.TheVariants.{Done, NotYet};
 ghost use Rattle.event_defs.specs.declared.place.Event.{Event};
+ghost use Rattle.atomic_table.specs.Seated.{TableId};
+ghost use Rattle.atomic_table.specs.Table.{Act, State, stepped};
 ghost use Rattle.slot_words.specs.Passes.{IsFit, PassView};
-ghost use Rattle.port_run.specs.Core.{IsCoreEvent, IsCoreStep, Shows, StandsIn, is_look};
+ghost use Rattle.slot_words.specs.Rule.{Kept};
+ghost use Rattle.slot_words.specs.declared.rule.Key.{Key};
+ghost use Rattle.slot_words.specs.declared.rule.View.{View};
+ghost use Rattle.port_run.specs.Core.{IsCoreEvent, IsCoreStep, IsStateOf, Shows, StandsIn, is_look, pass_in};
 ghost use Rattle.port_run.specs.Pairs.{IsDone, until};
 ghost use Rattle.port_run.specs.Steps.{IsEvent, IsWait, value_there};
 
@@ -23,6 +30,23 @@ pub fn steps_are_the_cores()
     ensures wait { (old new : PassView) (state : CoreState) → IsFit old → IsWait old new → StandsIn old state
         → Shows old state new.last → IsCoreStep old state NotYet state }
     ensures done { (pass : PassView) (state : CoreState) → IsFit pass → IsDone pass → StandsIn pass state → IsCoreStep pass state Done state }
+{}
+
+/// A law: each step of a port is one event of a core on a sound state. Between any two steps of the seats of
+/// a crossbar, as its rule says (`slot_words::law::rule_is_kept`), its words and the places of its passes are a
+/// sound state of a core. Take a step of a seat by
+/// which its pass makes an event, as a step of a running port does; where the event looks, the step leaves
+/// the words as they are. Then the core's step of the port makes the same event in that state.
+pub fn steps_are_events_of_sound_states()
+    ensures state { (key : Key) (s : State (Unit {0}) View) → Kept key s
+        → (state : CoreState) × IsStateOf key s state }
+    ensures event { (key : Key) (s : State (Unit {0}) View) (word number id p : ℕ) (held : List (ℕ × Unit {0}))
+        (old new : View) (act : Act (Unit {0})) (table : TableId) (event : Event) (state : CoreState)
+        → Kept key s → get_elem? s.views id ≡ some old → old.port ≡ Some p
+        → Kept key (stepped s word number id held new act)
+        → IsEvent (pass_in table p old) event (pass_in table p new)
+        → (is_look event ≡ true → slice_set s.words word number ≡ s.words) → IsStateOf key s state
+        → IsCoreEvent (pass_in table p old) event (pass_in table p new) state }
 {}
 
 /// A law: a step that has to wait leaves the next event, though an Ask may have learnt a greater number of

@@ -56,7 +56,7 @@ turns_few image stimulus fits valid =
     omega arith
 
 module _ (image : Image) (banks : ℕ) where
-  sent_read : (words : List ℕ) (p i b : ℕ) (link : LinkOut) → IsSend image p i link → b < banks → get_or words (send_word image banks p i b) 0 ≡ sent_in image banks words p i b
+  pub sent_read : (words : List ℕ) (p i b : ℕ) (link : LinkOut) → IsSend image p i link → b < banks → get_or words (send_word image banks p i b) 0 ≡ sent_in image banks words p i b
   sent_read words p i b link send within = sym (word_at image banks (drop (length image.ports) words) p i b (send_within image p i link send) within ∙ get_or-drop (length image.ports) words (word_place banks (send_number image p i) b) 0)
 
   -- no two sends have one word, and no two banks of one send

@@ -10,10 +10,17 @@ ghost use Rattle.atomic_table.specs.Table.{Act, State, stepped};
 ghost use Rattle.slot_words.specs.declared.rule.Key.{Key};
 ghost use Rattle.slot_words.specs.declared.rule.View.{View};
 ghost use Rattle.slot_words.specs.Layout.{progress_in, told_in, turns_told};
-ghost use Rattle.slot_words.specs.Rule.{AreDistinct, AreLooks, ArePassesSound};
+ghost use Rattle.slot_words.specs.Rule.{AreDistinct, AreLooks, ArePassesSound, Kept};
 
 use crate::rule::{Key, Law, View};
 use atomic_table::TableRule;
+
+/// A law: what the table holds between any two steps is the rule by its four parts, and nothing else. It does
+/// nothing.
+pub fn rule_is_kept()
+    ensures kept { (key : Key) (s : State (Unit {0}) View) → ⟦<Law as TableRule<(), View, Key>>⟧.holds key s → Kept key s }
+    ensures held { (key : Key) (s : State (Unit {0}) View) → Kept key s → ⟦<Law as TableRule<(), View, Key>>⟧.holds key s }
+{}
 
 /// A law: between any two steps, all seats have the key's image, stimulus and banks, the words and the
 /// places of the passes are sound, a port stands at its start and its word is unclaimed where nobody has

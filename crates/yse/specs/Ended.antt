@@ -30,6 +30,13 @@ pub record EndsBy {G : Type 0} (p : gate.Ghosts G) (names : Option (List ℕ →
   pub ends : EndsAs status outcome taken taken' faults faults' TakesLine
   pub visits : TellsGates p bytes gates gates' status (asked words)
 
--- for want of memory to read the words: the exit status is that of want of memory, and its line is told
-abbrev pub EndsForMemory : (List ℕ → Type 0) → ℕ → Type 0
-EndsForMemory TakesLine exit = (exit ≡ status_number Memory) × TakesLine memory_line
+-- for want of memory to read the words: the exit status is that of want of memory, and its line is told. No
+-- file was asked for, nothing was written, and no gate was told
+pub record EndsForMemory {G : Type 0} (counts counts' : FileCounts) (taken taken' : Option (List ℕ)) (faults faults' : ℕ) (TakesLine : List ℕ → Type 0)
+    (gates gates' : List (Option G)) (exit : ℕ) : Type 0 where
+  pub number : exit ≡ status_number Memory
+  pub line : TakesLine memory_line
+  pub files : counts' ≡ counts
+  pub output : taken' ≡ taken
+  pub output_faults : faults' ≡ faults
+  pub untold : gates' ≡ gates

@@ -60,7 +60,8 @@ fn ended<R: Threads + Wait + Sync, F: Files, O: Sink, E: Sink, G: Gate + Send>(
     requires tell { AllCanTell G.Gate.own gates.old }
     ensures called { (given : Option (Items (Items ℕ)))
         × Gives error_kind ErrorKind.OutOfMemory read given
-        × MatchOption given (EndsForMemory (TakesLine (E.taken err.old) (E.taken err.new) (E.faults err.old) (E.faults err.new)) (exit_status result))
+        × MatchOption given (EndsForMemory (F.counts files.old) (F.counts files.new) (O.taken out.old) (O.taken out.new) (O.faults out.old) (O.faults out.new)
+        (TakesLine (E.taken err.old) (E.taken err.new) (E.faults err.old) (E.faults err.new)) gates.old gates.new (exit_status result))
         (λ words. EndsBy G.Gate.own (F.names files.old) (F.bytes files.old) (F.counts files.old) (F.counts files.new)
         (O.taken out.old) (O.taken out.new) (O.faults out.old) (O.faults out.new)
         (TakesLine (E.taken err.old) (E.taken err.new) (E.faults err.old) (E.faults err.new)) gates.old gates.new words

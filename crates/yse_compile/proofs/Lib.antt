@@ -12,3 +12,4 @@ pub mod SamePlans
 pub mod SameSwitches
 pub mod SameTables
 pub mod ShownLemmas
+pub mod SwitchExists

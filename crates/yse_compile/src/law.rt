@@ -12,9 +12,11 @@ ghost use Rattle.node_defs.specs.Order.{AreItems};
 ghost use Rattle.node_defs.specs.WellFormed.{IsWellFormed};
 ghost use Rattle.plan_defs.specs.declared.plan.Homes.{Homes};
 ghost use Rattle.plan_defs.specs.declared.plan.Plan.{Plan};
+ghost use Rattle.plan_defs.specs.declared.switch.Switch.{Switch};
 ghost use Rattle.plan_defs.specs.Homes.{AreHomes};
 ghost use Rattle.plan_defs.specs.Picks.{ArePicked, FindsNoPort};
 ghost use Rattle.plan_defs.specs.Slots.{IsFirstFitPlan};
+ghost use Rattle.plan_defs.specs.Switches.{IsSwitch};
 ghost use Rattle.plan_defs.specs.Tables.{UsesTables};
 ghost use Rattle.yse_compile.specs.declared.compiler.CompNo.{CompNo};
 ghost use Rattle.yse_compile.specs.declared.compiler.Compiled.{Compiled};
@@ -66,6 +68,12 @@ pub fn homes_or_refusal()
 pub fn plan_exists()
     ensures { (nodes : NodeNet) (homes : Homes) → IsWellFormed nodes → AreHomes nodes homes
         → (plan : Plan) × IsFirstFitPlan nodes homes plan }
+{}
+
+/// A law: items at their homes in the slots of their first-fit plan have a switch. It does nothing.
+pub fn switch_exists()
+    ensures { (nodes : NodeNet) (homes : Homes) (plan : Plan) → IsWellFormed nodes → AreHomes nodes homes
+        → IsFirstFitPlan nodes homes plan → (switch : Switch) × IsSwitch nodes homes plan.slots switch }
 {}
 
 /// A law: the tables of a port's nodes have a number. It does nothing.
