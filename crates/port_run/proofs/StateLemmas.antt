@@ -1,5 +1,5 @@
 -- The states of a crossbar are sound states of a core, and steps of ports are events there.
-use Rattle.std.proofs.Common.{List, Some, ap, arith, inl, inr, length, refl, set, subst, sym, true, ℕ, ◌+◌, ◌<◌, ◌∙◌, ◌≡◌}
+use Rattle.std.proofs.Common.{List, Some, ap, arith, length, refl, set, subst, sym, true, ℕ, ◌+◌, ◌<◌, ◌∙◌, ◌≡◌}
 use mathlib.Core.Option.{some}
 use lib.ListN.{get_elem?}
 use Rattle.image_defs.specs.declared.image.Image.{Image}
@@ -14,14 +14,14 @@ use Rattle.atomic_table.specs.Table.{Act, State, stepped}
 use Rattle.slot_words.proofs.LookLemmas.{counted_look, told_progress, told_sent}
 use Rattle.slot_words.proofs.SoundLemmas.{rule_sound}
 use Rattle.slot_words.proofs.StepLemmas.{sent_read}
-use Rattle.slot_words.specs.Layout.{progress_word, send_word, sent_in, told_in}
+use Rattle.slot_words.specs.Layout.{send_word, sent_in, told_in}
 use Rattle.slot_words.specs.Passes.{IsFit, PassView}
 use Rattle.slot_words.specs.Rule.{ArePassesSound, IsRunnable, Kept}
 use Rattle.slot_words.specs.declared.rule.Key.{Key}
 use Rattle.slot_words.specs.declared.rule.View.{View}
 use Rattle.port_run.proofs.CoreLemmas.{core_event}
-use Rattle.port_run.specs.Core.{IsCoreEvent, IsStateOf, Shows, StandsIn, is_look, pass_in}
-use Rattle.port_run.specs.Steps.{IsEvent, Makes}
+use Rattle.port_run.specs.Core.{IsCoreEvent, IsStateOf, Shows, is_look, pass_in}
+use Rattle.port_run.specs.Steps.{IsEvent}
 
 pub state_there : (key : Key) (s : State (Unit {0}) View) → Kept key s → (state : CoreState) × IsStateOf key s state
 state_there key s kept =

@@ -1,5 +1,5 @@
 -- Steps of a running port as steps of a core.
-use Rattle.std.specs.Prelude.{Bool, false, true, Some, length, ℕ, ◌+◌, ◌<◌, ◌≡◌}
+use Rattle.std.specs.Prelude.{Bool, false, true, Some, length, ℕ, ◌<◌, ◌≡◌}
 use mathlib.Core.Option.{some}
 use lib.ListN.{get_elem?}
 use Rattle.image_defs.specs.Places.{IsPort}
