@@ -23,6 +23,8 @@ pub enum HomeNo {
     Bits { block: u32, needed: u32, left: u32 },
     /// There was not enough memory to pick homes.
     Memory,
+    /// Each memory has a port, and there are more nodes than all logic ports hold together.
+    Nodes { needed: u32, limit: u32 },
 }
 
 impl From<Memory> for HomeNo {
