@@ -13,7 +13,7 @@ ghost use Rattle.node_defs.specs.WellFormed.{IsWellFormed};
 ghost use Rattle.plan_defs.specs.declared.plan.Homes.{Homes};
 ghost use Rattle.plan_defs.specs.declared.plan.Plan.{Plan};
 ghost use Rattle.plan_defs.specs.Homes.{AreHomes};
-ghost use Rattle.plan_defs.specs.Picks.{ArePicked, FindsNoPort};
+ghost use Rattle.plan_defs.specs.Picks.{ArePicked, FindsNoPort, HasTooManyNodes};
 ghost use Rattle.plan_defs.specs.Slots.{IsFirstFitPlan};
 ghost use Rattle.plan_defs.specs.Tables.{UsesTables};
 ghost use Rattle.yse_compile.specs.declared.compiler.CompNo.{CompNo};
@@ -35,7 +35,6 @@ pub fn one_homes()
         → ArePicked others machine other_homes → homes ≡ other_homes }
 {
     one_list();
-    one_housing();
 }
 
 /// A law: on a machine the first-fit plans of a netlist need one number of slots, whichever numbers
@@ -55,11 +54,12 @@ pub fn one_need()
 }
 
 /// A law: on a machine there are homes that are picked for items, or a memory is the first that
-/// finds no port. It does nothing.
+/// finds no port, or the nodes are more than the logic ports hold. It does nothing.
 pub fn homes_or_refusal()
     ensures { (nodes : NodeNet) (machine : Machine) → IsWellFormed nodes → IsValidMachine machine
         → ((homes : Homes) × ArePicked nodes machine homes × AreHomes nodes homes)
-        ⊎ ((block needed left : ℕ) × FindsNoPort nodes machine block needed left) }
+        ⊎ (((block needed left : ℕ) × FindsNoPort nodes machine block needed left)
+        ⊎ ((needed limit : ℕ) × HasTooManyNodes nodes machine needed limit)) }
 {}
 
 /// A law: items at their homes have a first-fit plan. It does nothing.
