@@ -20,7 +20,7 @@ ghost use Rattle.yse_compile.specs.declared.compiler.CompNo.{CompNo};
 ghost use Rattle.yse_compile.specs.declared.compiler.Compiled.{Compiled};
 ghost use Rattle.yse_compile.specs.Compiled.{IsCompiled, IsRight, IsOverfull};
 ghost use Rattle.yse_compile.specs.Designs.{IsAcyclic, DesignFits};
-ghost use Rattle.yse_compile.specs.Designs.{LacksBits, LacksSlots, LacksFunctions};
+ghost use Rattle.yse_compile.specs.Designs.{LacksBits, LacksNodes, LacksSlots, LacksFunctions};
 
 use home_pick::law::{housed_or_refused, one_housing};
 use node_defs::law::one_list;
@@ -98,6 +98,25 @@ pub fn bits_first()
     housed_or_refused();
 }
 
+/// A law: where a memory finds no port, the nodes are not spoken of. It does nothing.
+pub fn bits_before_nodes()
+    ensures { (net : Netlist) (machine : Machine) (timing : Timing)
+        → (block bits left needed limit : ℕ) → LacksBits net machine timing block bits left
+        → LacksNodes net machine timing needed limit → ⊥ }
+{
+    one_list();
+    housed_or_refused();
+}
+
+/// A law: where the nodes are too many, the items have no homes. It does nothing.
+pub fn nodes_first()
+    ensures { (net : Netlist) (machine : Machine) (timing : Timing) (nodes : NodeNet)
+        → (homes : Homes) → AreItems net timing nodes → ArePicked nodes machine homes
+        → (needed limit : ℕ) → LacksNodes net machine timing needed limit → ⊥ }
+{
+    one_list();
+}
+
 /// A law: where a plan has too many slots, no port's tables are spoken of. It does nothing.
 pub fn slots_first()
     ensures { (net : Netlist) (machine : Machine) (timing : Timing) → IsValid net
@@ -113,6 +132,14 @@ pub fn fits_bits()
         → (block needed left : ℕ) → LacksBits net machine timing block needed left → ⊥ }
 {
     bits_first();
+}
+
+/// A law: where a design fits, its nodes are not too many. It does nothing.
+pub fn fits_nodes()
+    ensures { (net : Netlist) (machine : Machine) (timing : Timing) → DesignFits net machine timing
+        → (needed limit : ℕ) → LacksNodes net machine timing needed limit → ⊥ }
+{
+    nodes_first();
 }
 
 /// A law: where a design fits, its plan needs no more slots than a turn has. It does nothing.
@@ -144,6 +171,18 @@ pub fn one_lack()
 {
     one_list();
     one_housing();
+}
+
+/// A law: nodes that are too many are one number, and so are those that all logic ports hold. It does
+/// nothing.
+pub fn one_many()
+    ensures { (net : Netlist) (machine : Machine) (timing : Timing)
+        → (needed limit other_needed other_limit : ℕ)
+        → LacksNodes net machine timing needed limit
+        → LacksNodes net machine timing other_needed other_limit
+        → (needed ≡ other_needed) × (limit ≡ other_limit) }
+{
+    one_list();
 }
 
 /// A law: a plan of too many slots needs one number of them. It does nothing.
@@ -179,6 +218,9 @@ pub fn one_refusal()
 {
     one_lack();
     bits_first();
+    bits_before_nodes();
+    one_many();
+    nodes_first();
     one_length();
     slots_first();
     one_crowd();
