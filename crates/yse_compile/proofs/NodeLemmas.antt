@@ -1,5 +1,5 @@
 -- The same items have as many nodes.
-use Rattle.std.proofs.Common.{◌≡◌, ◌-◌, length, arith}
+use Rattle.std.proofs.Common.{◌≡◌, arith}
 use Rattle.node_defs.specs.declared.items.NodeNet.{NodeNet}
 use Rattle.node_defs.specs.Same.{AreSameItems}
 use Rattle.plan_defs.specs.Picks.{node_count}
