@@ -1,14 +1,19 @@
 -- Memories that get their ports one after another.
-use Rattle.std.proofs.Common.{◌≡◌, ◌∙◌, ◌⊎◌, inl, inr, ℕ, zero, suc, ◌+◌, ◌-◌, ◌*◌, ◌^◌, ◌<◌, ◌≤◌, List, [], ◌∷◌, ◌++◌, length, get_or, set, replicate, refl, sym, ap, subst, arith, if◌then◌else◌, eq-eqb, Some, slice_get}
+use Rattle.std.proofs.Common.{◌≡◌, ◌∙◌, ◌⊎◌, inl, inr, ℕ, zero, suc, ◌+◌, ◌-◌, ◌*◌, ◌^◌, ◌<◌, ◌≤◌, List, [], ◌∷◌, ◌++◌, length, map, get_or, set, refl, sym, ap, subst, arith, if◌then◌else◌, eq-eqb, Some, slice_get}
 use Rattle.std.specs.Prelude.{◌==◌}
 use Rattle.std.specs.List.{sum_by, range_with_len}
 use Rattle.std.proofs.Math.Nat.{mul-le-mul}
+use Rattle.std.proofs.Math.Numerals.{add-one}
 use Rattle.std.proofs.Math.Pow.{pow-lt}
 use Rattle.std.proofs.lemmas.Bool.{cases_lt, cases_eq, cases_Bool, eqb-true}
-use Rattle.std.proofs.lemmas.List.{get_or_append_left, length-append, get_or-set_same, get_or-set_other, length-set, get_or-replicate, length-replicate}
+use Rattle.std.proofs.lemmas.List.{get_or_append_left, length-append, get_or-set_same, get_or-set_other, length-set, map-append}
+use Rattle.std.proofs.lemmas.List.FromFn.{length-map-range_with_len, get_or-map-range_with_len}
 use Rattle.std.proofs.lemmas.List.Sums.{sum_by-append}
 use Rattle.std.proofs.Math.Seq.{get_or-append_seam}
+use Rattle.machine_text.specs.declared.machine.Limited.{Limited}
+use Rattle.machine_text.specs.declared.machine.Limited.TheVariants.{Bits}
 use Rattle.machine_text.specs.declared.machine.Machine.{Machine}
+use Rattle.machine_text.specs.Limits.{limit_at}
 use Rattle.node_defs.specs.declared.items.NodeBlock.{NodeBlock}
 use Rattle.node_defs.specs.declared.items.NodeNet.{NodeNet}
 use Rattle.plan_defs.specs.Lists.{IsLeastFree}
@@ -16,7 +21,7 @@ use Rattle.plan_defs.specs.Picks.{bits_of, bits_before, bit_limit, bits_left, La
 use Rattle.plan_defs.proofs.ListLemmas.{last_or}
 use Rattle.plan_defs.proofs.PlanLemmas.{least_same}
 use Rattle.home_pick.specs.declared.blocks.Filling.{Filling}
-use Rattle.home_pick.specs.Rooms.{LacksBits, IsMostLeft, AreFilled}
+use Rattle.home_pick.specs.Rooms.{limits_of, LacksBits, IsMostLeft, AreFilled}
 
 -- ---- the bits of one memory more
 
@@ -28,26 +33,30 @@ range_more a (suc n) =
     let last : a + 1 + n ≡ a + suc n = omega arith in
     ap (range_with_len a) long ∙ ap (λ xs. a ∷ xs) (ap (range_with_len (a + 1)) short ∙ (range_more (a + 1) n ∙ ap (λ k. range_with_len (a + 1) n ++ k ∷ []) last))
 
+-- a sum over one number more, and sums of the same numbers
+pub sum_more : (f : ℕ → ℕ) (n : ℕ) → sum_by f (range_with_len 0 (n + 1)) ≡ sum_by f (range_with_len 0 n) + f n
+sum_more f n =
+    let first : 0 + n ≡ n = omega arith in
+    let range : range_with_len 0 (n + 1) ≡ range_with_len 0 n ++ n ∷ [] = range_more 0 n ∙ ap (λ k. range_with_len 0 n ++ k ∷ []) first in
+    let one : 0 + f n ≡ f n = omega arith in
+    ap (sum_by f) range ∙ (sum_by-append f (range_with_len 0 n) (n ∷ []) ∙ ap (λ m. sum_by f (range_with_len 0 n) + m) one)
+
+pub sum_alike : (f g : ℕ → ℕ) (n : ℕ) → ((k : ℕ) → k < n → f k ≡ g k) → sum_by f (range_with_len 0 n) ≡ sum_by g (range_with_len 0 n)
+sum_alike f g zero same = refl
+sum_alike f g (suc n) same =
+    let before = sum_alike f g n (λ k low. same k (omega (arith, low))) in
+    let last = same n (omega arith) in
+    subst (λ m. sum_by f (range_with_len 0 m) ≡ sum_by g (range_with_len 0 m)) (add-one n) (omega (arith, sum_more f n, sum_more g n, before, last))
+
 -- the bits of memory k where it is at the port
 abbrev pub bits_at : NodeNet → List ℕ → ℕ → ℕ → ℕ
 bits_at nodes ports port k = if get_or ports k 0 == port then bits_of nodes k else 0
 
 pub bits_more : (nodes : NodeNet) (ports : List ℕ) (m port : ℕ) → bits_before nodes ports (m + 1) port ≡ bits_before nodes ports m port + bits_at nodes ports port m
-bits_more nodes ports m port =
-    let first : 0 + m ≡ m = omega arith in
-    let range : range_with_len 0 (m + 1) ≡ range_with_len 0 m ++ m ∷ [] = range_more 0 m ∙ ap (λ k. range_with_len 0 m ++ k ∷ []) first in
-    let one : 0 + bits_at nodes ports port m ≡ bits_at nodes ports port m = omega arith in
-    ap (sum_by (bits_at nodes ports port)) range ∙ (sum_by-append (bits_at nodes ports port) (range_with_len 0 m) (m ∷ []) ∙ ap (λ n. bits_before nodes ports m port + n) one)
+bits_more nodes ports m port = sum_more (bits_at nodes ports port) m
 
 pub bits_same : (nodes : NodeNet) (xs ys : List ℕ) (m port : ℕ) → ((k : ℕ) → k < m → get_or xs k 0 ≡ get_or ys k 0) → bits_before nodes xs m port ≡ bits_before nodes ys m port
-bits_same nodes xs ys zero port same = refl
-bits_same nodes xs ys (suc m) port same =
-    let more : suc m ≡ m + 1 = omega arith in
-    let before = bits_same nodes xs ys m port (λ k low. same k (omega (arith, low))) in
-    let last : bits_at nodes xs port m ≡ bits_at nodes ys port m = ap (λ p. if p == port then bits_of nodes m else 0) (same m (omega arith)) in
-    let one = bits_more nodes xs m port in
-    let other = bits_more nodes ys m port in
-    subst (λ n. bits_before nodes xs n port ≡ bits_before nodes ys n port) (sym more) (one ∙ (ap (λ n. n + bits_at nodes xs port m) before ∙ (ap (λ n. bits_before nodes ys m port + n) last ∙ sym other)))
+bits_same nodes xs ys m port same = sum_alike (bits_at nodes xs port) (bits_at nodes ys port) m (λ k low. ap (λ p. if p == port then bits_of nodes k else 0) (same k low))
 
 pub at_same : (p q n : ℕ) → p ≡ q → (if p == q then n else 0) ≡ n
 at_same p q n same = ap (λ b. if b then n else 0) (eq-eqb p q same)
@@ -78,13 +87,13 @@ module _ (nodes : NodeNet) (machine : Machine) (filling : Filling) (n : ℕ) (be
   new_lacks a m b up lacks = subst (λ bits. bit_limit machine b < bits + bits_of nodes m) (sym (old_bits a m (machine.logic + b) up)) lacks
 
   -- a port that lacks bits lacks room
-  bits_lack : (b needed : ℕ) → b < machine.array → needed ≡ bits_of nodes n → LacksBits machine filling.used needed b → LacksRoom nodes machine filling.ports n b
-  bits_lack b needed low is lacks = let used = before.bits b low in omega (arith, used, is, lacks)
+  bits_lack : (b needed : ℕ) → b < machine.array → needed ≡ bits_of nodes n → LacksBits filling.left needed b → LacksRoom nodes machine filling.ports n b
+  bits_lack b needed low is lacks = let left = before.bits b low in omega (arith, left, is, lacks)
 
-  room_lacks : (b needed : ℕ) → b < machine.array → needed ≡ bits_of nodes n → LacksRoom nodes machine filling.ports n b → LacksBits machine filling.used needed b
-  room_lacks b needed low is lacks = let used = before.bits b low in omega (arith, used, is, lacks)
+  room_lacks : (b needed : ℕ) → b < machine.array → needed ≡ bits_of nodes n → LacksRoom nodes machine filling.ports n b → LacksBits filling.left needed b
+  room_lacks b needed low is lacks = let left = before.bits b low in omega (arith, left, is, lacks)
 
-  housed_more : (a needed : ℕ) → a < machine.array → needed ≡ bits_of nodes n → IsLeastFree (LacksBits machine filling.used needed) a → AreHoused nodes machine (ports_put a) (n + 1)
+  housed_more : (a needed : ℕ) → a < machine.array → needed ≡ bits_of nodes n → IsLeastFree (LacksBits filling.left needed) a → AreHoused nodes machine (ports_put a) (n + 1)
   housed_more a needed low is least = record {
     memories = let count = before.housed.memories in omega (arith, length-append filling.ports ((machine.logic + a) ∷ []), count);
     array = λ m under. elim (last_or m n under) [
@@ -112,71 +121,87 @@ module _ (nodes : NodeNet) (machine : Machine) (filling : Filling) (n : ℕ) (be
       },
     )
 
-  pub filled_more : (a needed : ℕ) → a < machine.array → needed ≡ bits_of nodes n → IsLeastFree (LacksBits machine filling.used needed) a
-      → AreFilled nodes machine (n + 1) (record { ports = filling.ports ++ (machine.logic + a) ∷ []; used = set filling.used a (get_or filling.used a 0 + needed) })
+  pub filled_more : (a needed : ℕ) → a < machine.array → needed ≡ bits_of nodes n → IsLeastFree (LacksBits filling.left needed) a
+      → AreFilled nodes machine (n + 1) (record { ports = filling.ports ++ (machine.logic + a) ∷ []; left = set filling.left a (get_or filling.left a 0 - needed) })
   filled_more a needed low is least = record {
     housed = housed_more a needed low is least;
-    array = length-set filling.used a (get_or filling.used a 0 + needed) ∙ before.array;
+    array = length-set filling.left a (get_or filling.left a 0 - needed) ∙ before.array;
     bits = λ b within. let more = bits_more nodes (ports_put a) n (machine.logic + b) in let old = old_bits a n (machine.logic + b) (omega arith) in elim (cases_eq b a) [
       | inl same ↦
-          let used : get_or (set filling.used a (get_or filling.used a 0 + needed)) b 0 ≡ get_or filling.used a 0 + needed = ap (λ k. get_or (set filling.used a (get_or filling.used a 0 + needed)) k 0) same ∙ get_or-set_same filling.used a (get_or filling.used a 0 + needed) 0 (let count = before.array in omega (arith, low, count)) in
-          let had : get_or filling.used a 0 ≡ bits_before nodes filling.ports n (machine.logic + b) = before.bits a low ∙ ap (λ k. bits_before nodes filling.ports n (machine.logic + k)) (sym same) in
+          let left : get_or (set filling.left a (get_or filling.left a 0 - needed)) b 0 ≡ get_or filling.left a 0 - needed = ap (λ k. get_or (set filling.left a (get_or filling.left a 0 - needed)) k 0) same ∙ get_or-set_same filling.left a (get_or filling.left a 0 - needed) 0 (let count = before.array in omega (arith, low, count)) in
+          let had : bits_before nodes filling.ports n (machine.logic + b) + get_or filling.left a 0 ≡ bit_limit machine b = ap (λ k. bits_before nodes filling.ports n (machine.logic + b) + get_or filling.left k 0) (sym same) ∙ before.bits b within in
           let here : bits_at nodes (ports_put a) (machine.logic + b) n ≡ bits_of nodes n = at_same (get_or (ports_put a) n 0) (machine.logic + b) (bits_of nodes n) (new_port a ∙ ap (λ k. machine.logic + k) (sym same)) in
-          omega (arith, used, had, here, more, old, is)
+          let room : needed ≤ get_or filling.left a 0 = elim (cases_lt (get_or filling.left a 0) needed) [ inl lacks ↦ absurd (least.free lacks) | inr room ↦ room ] in
+          omega (arith, left, had, here, more, old, is, room)
       | inr apart ↦
-          let used : get_or (set filling.used a (get_or filling.used a 0 + needed)) b 0 ≡ get_or filling.used b 0 = get_or-set_other filling.used a b (get_or filling.used a 0 + needed) 0 apart in
+          let left : get_or (set filling.left a (get_or filling.left a 0 - needed)) b 0 ≡ get_or filling.left b 0 = get_or-set_other filling.left a b (get_or filling.left a 0 - needed) 0 apart in
           let had = before.bits b within in
           let port = new_port a in
           let here : bits_at nodes (ports_put a) (machine.logic + b) n ≡ 0 = at_other (get_or (ports_put a) n 0) (machine.logic + b) (bits_of nodes n) (λ same. apart (omega (arith, same, port))) in
-          omega (arith, used, had, here, more, old)
-    ];
-    fit = λ b within. elim (cases_eq b a) [
-      | inl same ↦
-          let used : get_or (set filling.used a (get_or filling.used a 0 + needed)) b 0 ≡ get_or filling.used a 0 + needed = ap (λ k. get_or (set filling.used a (get_or filling.used a 0 + needed)) k 0) same ∙ get_or-set_same filling.used a (get_or filling.used a 0 + needed) 0 (let count = before.array in omega (arith, low, count)) in
-          elim (cases_lt (bit_limit machine a) (get_or filling.used a 0 + needed)) [ inl lacks ↦ absurd (least.free lacks) | inr room ↦ omega (arith, used, room) ]
-      | inr apart ↦ rw (get_or-set_other filling.used a b (get_or filling.used a 0 + needed) 0 apart) (before.fit b within)
+          omega (arith, left, had, here, more, old)
     ];
   }
 
   -- the memory finds no port
-  pub none_found : (needed left : ℕ) → n < length nodes.blocks → needed ≡ bits_of nodes n → ((a : ℕ) → a < length filling.used → LacksBits machine filling.used needed a) → IsMostLeft machine filling.used (length filling.used) left → 1 ≤ needed → FindsNoPort nodes machine n needed left
-  none_found needed left there is none most some_bit = record {
+  pub none_found : (needed most : ℕ) → n < length nodes.blocks → needed ≡ bits_of nodes n → ((a : ℕ) → a < length filling.left → LacksBits filling.left needed a) → IsMostLeft filling.left (length filling.left) most → 1 ≤ needed → FindsNoPort nodes machine n needed most
+  none_found needed most there is none left some_bit = record {
     ports = filling.ports;
     before = before.housed;
     there = there;
     bits = is;
     none = λ a low. bits_lack a needed low is (none a (inside a low));
-    past = elim most.reached [ inl nothing ↦ omega (arith, nothing, some_bit) | inr one ↦ (let lacks = none one.0 one.1 in let is = one.2 in omega (arith, lacks, is, some_bit)) ];
-    most = λ a low. (let used = before.bits a low in let up = most.most a (inside a low) in omega (arith, used, up));
-    reached = (λ empty. elim most.reached [ inl nothing ↦ nothing | inr one ↦ (let low = one.1 in let count = before.array in absurd (omega (arith, low, count, empty))) ], some);
+    past = elim left.reached [ inl nothing ↦ omega (arith, nothing, some_bit) | inr one ↦ (let lacks = none one.0 one.1 in let at = one.2 in omega (arith, lacks, at)) ];
+    most = λ a low. (let up = left.most a (inside a low) in omega (arith, left_is a low, up));
+    reached = (λ empty. elim left.reached [ inl nothing ↦ nothing | inr one ↦ (let low = one.1 in let count = before.array in absurd (omega (arith, low, count, empty))) ], some);
   } where
-    inside : (a : ℕ) → a < machine.array → a < length filling.used
+    inside : (a : ℕ) → a < machine.array → a < length filling.left
     inside a low = let count = before.array in omega (arith, low, count)
 
-    some : 1 ≤ machine.array → (a : ℕ) × (a < machine.array) × (bits_left nodes machine filling.ports n a ≡ left)
-    some up = elim most.reached [
-      | inl nothing ↦ (0, omega (arith, up), (let used = before.bits 0 (omega (arith, up)) in let least = most.most 0 (inside 0 (omega (arith, up))) in omega (arith, used, least, nothing)))
-      | inr one ↦ (one.0, (let low = one.1 in let count = before.array in omega (arith, low, count)), (let low : one.0 < machine.array = (let within = one.1 in let count = before.array in omega (arith, within, count)) in let used = before.bits one.0 low in let is = one.2 in omega (arith, used, is)))
+    left_is : (a : ℕ) → a < machine.array → bits_left nodes machine filling.ports n a ≡ get_or filling.left a 0
+    left_is a low = let had = before.bits a low in omega (arith, had)
+
+    some : 1 ≤ machine.array → (a : ℕ) × (a < machine.array) × (bits_left nodes machine filling.ports n a ≡ most)
+    some up = elim left.reached [
+      | inl nothing ↦ (0, omega (arith, up), (let least = left.most 0 (inside 0 (omega (arith, up))) in omega (arith, left_is 0 (omega (arith, up)), least, nothing)))
+      | inr one ↦ (let low : one.0 < machine.array = (let within = one.1 in let count = before.array in omega (arith, within, count)) in (one.0, low, left_is one.0 low ∙ one.2))
     ]
 
-pub filled_none : (nodes : NodeNet) (machine : Machine) → AreFilled nodes machine 0 (record { ports = []; used = replicate machine.array 0 })
-filled_none nodes machine = record {
+-- the limits that hold at ports, and how many they are
+pub limits_at : (machine : Machine) (what : Limited) (count port : ℕ) → port < count → get_or (limits_of machine what count) port 0 ≡ limit_at machine what port
+unfolding limits_of
+limits_at machine what count port low = get_or-map-range_with_len (limit_at machine what) 0 count port port 0 low (omega arith)
+
+pub limits_count : (machine : Machine) (what : Limited) (count : ℕ) → length (limits_of machine what count) ≡ count
+unfolding limits_of
+limits_count machine what count = length-map-range_with_len (limit_at machine what) 0 count
+
+pub limits_none : (machine : Machine) (what : Limited) → limits_of machine what 0 ≡ []
+unfolding limits_of
+limits_none machine what = refl
+
+pub limits_more : (machine : Machine) (what : Limited) (n : ℕ) → limits_of machine what (n + 1) ≡ limits_of machine what n ++ limit_at machine what n ∷ []
+unfolding limits_of
+limits_more machine what n =
+    let first : 0 + n ≡ n = omega arith in
+    ap (map (limit_at machine what)) (range_more 0 n ∙ ap (λ k. range_with_len 0 n ++ k ∷ []) first) ∙ map-append (limit_at machine what) (range_with_len 0 n) (n ∷ [])
+
+pub filled_none : (nodes : NodeNet) (machine : Machine) (left : List ℕ) → left ≡ limits_of machine Bits machine.array → AreFilled nodes machine 0 (record { ports = []; left = left })
+filled_none nodes machine left are = record {
   housed = record { memories = refl; array = λ m low. absurd (omega (arith, low)) };
-  array = length-replicate {A = ℕ} machine.array 0;
-  bits = λ a low. (let read : get_or (replicate machine.array 0) a 0 ≡ 0 = get_or-replicate {A = ℕ} machine.array a 0 0 low in read);
-  fit = λ a low. (let read : get_or (replicate machine.array 0) a 0 ≡ 0 = get_or-replicate {A = ℕ} machine.array a 0 0 low in omega (arith, read));
+  array = ap length are ∙ limits_count machine Bits machine.array;
+  bits = λ a low. (let is : get_or left a 0 ≡ bit_limit machine a = ap (λ xs. get_or xs a 0) are ∙ limits_at machine Bits machine.array a low in omega (arith, is));
 }
 
 -- ---- the most that is left
 
-pub left_none : (machine : Machine) (used : List ℕ) → IsMostLeft machine used 0 0
-left_none machine used = record { most = λ a low. absurd (omega (arith, low)); reached = inl refl }
+pub left_none : (left : List ℕ) → IsMostLeft left 0 0
+left_none left = record { most = λ a low. absurd (omega (arith, low)); reached = inl refl }
 
-pub left_more : (machine : Machine) (used : List ℕ) (n left new : ℕ) → IsMostLeft machine used n left → (left ≤ new) × (bit_limit machine n - get_or used n 0 ≤ new) → (new ≡ left) ⊎ (new ≡ bit_limit machine n - get_or used n 0) → IsMostLeft machine used (n + 1) new
-left_more machine used n left new before up one = record {
+pub left_more : (left : List ℕ) (n most new : ℕ) → IsMostLeft left n most → (most ≤ new) × (get_or left n 0 ≤ new) → (new ≡ most) ⊎ (new ≡ get_or left n 0) → IsMostLeft left (n + 1) new
+left_more left n most new before up one = record {
   most = λ a low. elim (last_or a n low) [
     | inl below ↦ (let least = before.most a below in let old = up.0 in omega (arith, least, old))
-    | inr same ↦ subst (λ k. bit_limit machine k - get_or used k 0 ≤ new) (sym same) up.1
+    | inr same ↦ subst (λ k. get_or left k 0 ≤ new) (sym same) up.1
   ];
   reached = elim one [
     | inl old ↦ elim before.reached [ inl nothing ↦ inl (old ∙ nothing) | inr found ↦ inr (found.0, (let low = found.1 in omega (arith, low)), found.2 ∙ sym old) ]

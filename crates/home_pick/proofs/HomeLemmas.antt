@@ -1,9 +1,9 @@
--- Homes that are picked are homes of their items.
-use Rattle.std.proofs.Common.{◌≡◌, ◌∙◌, inl, inr, ℕ, ◌+◌, ◌-◌, ◌<◌, ◌≤◌, List, [], ◌∷◌, ◌++◌, length, get_or, refl, sym, ap, subst, arith, Some, slice_get}
+-- Homes that are picked are homes of their items, and the ports of one item more.
+use Rattle.std.proofs.Common.{◌≡◌, ◌∙◌, inl, inr, ℕ, ◌+◌, ◌-◌, ◌<◌, ◌≤◌, List, [], ◌∷◌, ◌++◌, length, refl, sym, subst, arith, Some, slice_get}
+use Rattle.std.proofs.lemmas.Bool.{cases_lt}
 use Rattle.std.proofs.lemmas.Nat.{mod_below}
 use Rattle.std.proofs.lemmas.Option.{slice_get_within}
 use Rattle.std.proofs.lemmas.List.{get_or_append_left, length-append}
-use Rattle.std.proofs.Math.Seq.{get_or-append_seam}
 use Rattle.machine_text.specs.declared.machine.Machine.{Machine}
 use Rattle.machine_text.specs.Machines.{IsValid}
 use Rattle.node_defs.specs.declared.items.Item.{Item}
@@ -12,18 +12,38 @@ use Rattle.node_defs.specs.declared.items.NodeNet.{NodeNet}
 use Rattle.node_defs.specs.WellFormed.{IsWellFormed, IsComputed}
 use Rattle.plan_defs.specs.declared.plan.Homes.{Homes}
 use Rattle.plan_defs.specs.Homes.{AreHomes, MayHouse, home_of}
-use Rattle.plan_defs.specs.Picks.{AreHoused, ArePicked, picked_home}
+use Rattle.plan_defs.specs.Picks.{node_count, node_room, AreHoused, ArePicked, IsInTurn, HasPickedHome}
 use Rattle.plan_defs.proofs.ListLemmas.{last_or}
-use Rattle.home_pick.specs.Rooms.{port_of, AreItemPorts}
+use Rattle.home_pick.specs.Rooms.{homes_at, AreItemPorts}
+use Rattle.home_pick.proofs.TurnLemmas.{turn_same}
 
-housed_at : (nodes : NodeNet) (homes : Homes) (i : ℕ) (item : Item) → 1 ≤ homes.logic → home_of homes i ≡ picked_home nodes homes i item → MayHouse homes item (home_of homes i)
-housed_at nodes homes i (Input column) up at = at
-housed_at nodes homes i (BlockBit block bit) up at = at
-housed_at nodes homes i (Node table feeds) up at = subst (λ p. p < homes.logic) (sym at) (mod_below (i - nodes.first_node) homes.logic up)
-housed_at nodes homes i (Latch op) up at = subst (λ p. p < homes.logic) (sym at) (mod_below (i - nodes.first_node) homes.logic up)
+-- nodes and latches come last
+pub computed_last : (nodes : NodeNet) (i : ℕ) (item : Item) → IsWellFormed nodes → slice_get nodes.items i ≡ Some item → IsComputed item → nodes.first_node ≤ i
+computed_last nodes i item formed is computed = (formed.nodes_last i item is).0 computed
 
-pub homes_are : (nodes : NodeNet) (machine : Machine) (homes : Homes) → IsValid machine → ArePicked nodes machine homes → AreHomes nodes homes
-homes_are nodes machine homes valid picked =
+-- a node or latch finds room, where all do
+pub node_room_left : (nodes : NodeNet) (machine : Machine) (i : ℕ) (item : Item) → IsWellFormed nodes → slice_get nodes.items i ≡ Some item → IsComputed item → node_count nodes ≤ node_room machine → i - nodes.first_node < node_room machine
+node_room_left nodes machine i item formed is computed few = omega (arith, computed_last nodes i item formed is computed, slice_get_within nodes.items i item is, few)
+
+-- what isn't computed stands before the first node
+pub source_first : (nodes : NodeNet) (i : ℕ) (item : Item) → IsWellFormed nodes → slice_get nodes.items i ≡ Some item → (IsComputed item → ⊥) → i < nodes.first_node
+source_first nodes i item formed is other = elim (cases_lt i nodes.first_node) [ inl before ↦ before | inr from ↦ absurd (other ((formed.nodes_last i item is).1 from)) ]
+
+-- a node in turn is at a logic port
+turn_low : (nodes : NodeNet) (machine : Machine) (homes : Homes) (i : ℕ) → 1 ≤ machine.logic → homes.logic ≡ machine.logic → nodes.first_node ≤ i → IsInTurn nodes machine homes.items (i - nodes.first_node) → home_of homes i < homes.logic
+turn_low nodes machine homes i some logic from turn =
+    let place : nodes.first_node + (i - nodes.first_node) ≡ i = omega (arith, from) in
+    let low = mod_below (i - nodes.first_node + turn.past) machine.logic some in
+    subst (λ k. home_of homes k < homes.logic) place (omega (arith, low, turn.at, logic))
+
+housed_at : (nodes : NodeNet) (machine : Machine) (homes : Homes) (i : ℕ) (item : Item) → 1 ≤ machine.logic → homes.logic ≡ machine.logic → (IsComputed item → nodes.first_node ≤ i) → HasPickedHome nodes machine homes i item → MayHouse homes item (home_of homes i)
+housed_at nodes machine homes i (Input column) some logic last at = at
+housed_at nodes machine homes i (BlockBit block bit) some logic last at = at
+housed_at nodes machine homes i (Node table feeds) some logic last at = turn_low nodes machine homes i some logic (last tt) at
+housed_at nodes machine homes i (Latch op) some logic last at = turn_low nodes machine homes i some logic (last tt) at
+
+pub homes_are : (nodes : NodeNet) (machine : Machine) (homes : Homes) → IsWellFormed nodes → IsValid machine → ArePicked nodes machine homes → AreHomes nodes homes
+homes_are nodes machine homes formed valid picked =
     let logic = picked.logic in
     let array = picked.array in
     let least = valid.logic_least in
@@ -35,42 +55,47 @@ homes_are nodes machine homes valid picked =
       array = omega (arith, array, few);
       ports = omega (arith, logic, array, ports);
       items = picked.items;
-      housed = λ i item is. housed_at nodes homes i item (omega (arith, logic, least)) (picked.picked i item is);
+      housed = λ i item is. housed_at nodes machine homes i item least logic (λ computed. computed_last nodes i item formed is computed) (picked.picked i item is);
       blocks = picked.memories.memories;
       memories = λ m low. (let found = picked.memories.array m low in let within = found.1 in let at = found.2 in (omega (arith, logic, at), omega (arith, logic, array, at, within)));
     }
 
-port_picked : (nodes : NodeNet) (machine : Machine) (blocks items : List ℕ) (i : ℕ) (item : Item) → port_of nodes machine blocks i item ≡ picked_home nodes (record { logic = machine.logic; array = machine.array; items = items; blocks = blocks }) i item
-port_picked nodes machine blocks items i (Input column) = refl
-port_picked nodes machine blocks items i (BlockBit block bit) = refl
-port_picked nodes machine blocks items i (Node table feeds) = refl
-port_picked nodes machine blocks items i (Latch op) = refl
-
-pub picked_are : (nodes : NodeNet) (machine : Machine) (blocks items : List ℕ) → AreHoused nodes machine blocks (length nodes.blocks) → AreItemPorts nodes machine blocks (length nodes.items) items
-    → ArePicked nodes machine (record { logic = machine.logic; array = machine.array; items = items; blocks = blocks })
-picked_are nodes machine blocks items housed ports = record {
+pub picked_are : (nodes : NodeNet) (machine : Machine) (blocks items : List ℕ) → AreHoused nodes machine blocks (length nodes.blocks) → node_count nodes ≤ node_room machine → AreItemPorts nodes machine blocks (length nodes.items) items
+    → ArePicked nodes machine (homes_at machine blocks items)
+picked_are nodes machine blocks items housed few ports = record {
   logic = refl;
   array = refl;
   memories = housed;
+  few = few;
   items = ports.count;
-  picked = λ i item is. ports.each i item (slice_get_within nodes.items i item is) is ∙ port_picked nodes machine blocks items i item;
+  picked = λ i item is. ports.each i item (slice_get_within nodes.items i item is) is;
 }
 
--- nodes and latches come last
-pub computed_last : (nodes : NodeNet) (i : ℕ) (item : Item) → IsWellFormed nodes → slice_get nodes.items i ≡ Some item → IsComputed item → nodes.first_node ≤ i
-computed_last nodes i item formed is computed = (formed.nodes_last i item is).0 computed
+-- ---- one item more
 
-pub ports_more : (nodes : NodeNet) (machine : Machine) (blocks ports : List ℕ) (n port : ℕ) (item : Item) → AreItemPorts nodes machine blocks n ports → slice_get nodes.items n ≡ Some item → port ≡ port_of nodes machine blocks n item → AreItemPorts nodes machine blocks (n + 1) (ports ++ port ∷ [])
-ports_more nodes machine blocks ports n port item before is here = record {
-  count = let count = before.count in omega (arith, length-append ports (port ∷ []), count);
-  each = each;
-} where
-  each : (i : ℕ) (other : Item) → i < n + 1 → slice_get nodes.items i ≡ Some other → get_or (ports ++ port ∷ []) i 0 ≡ port_of nodes machine blocks i other
-  each i other low at = elim (last_or i n low) [
-    | inl below ↦ (let count = before.count in get_or_append_left ports (port ∷ []) 0 i (omega (arith, below, count))) ∙ before.each i other below at
-    | inr same ↦
-        let there : slice_get nodes.items n ≡ Some other = subst (λ k. slice_get nodes.items k ≡ Some other) same at in
-        let one : item ≡ other = cc in
-        let read : get_or (ports ++ port ∷ []) i 0 ≡ port = ap (λ k. get_or (ports ++ port ∷ []) k 0) (same ∙ sym before.count) ∙ get_or-append_seam ports port [] 0 in
-        subst (λ k. get_or (ports ++ port ∷ []) i 0 ≡ port_of nodes machine blocks k other) (sym same) (subst (λ it. get_or (ports ++ port ∷ []) i 0 ≡ port_of nodes machine blocks n it) one (read ∙ here))
-  ]
+module _ (nodes : NodeNet) (machine : Machine) (blocks ports : List ℕ) (port : ℕ) where
+  abbrev more : List ℕ
+  more = ports ++ port ∷ []
+
+  turn_kept : (i : ℕ) → i < length ports → nodes.first_node ≤ i → IsInTurn nodes machine ports (i - nodes.first_node) → IsInTurn nodes machine more (i - nodes.first_node)
+  turn_kept i low from turn = turn_same nodes machine ports more (i - nodes.first_node) (λ j before. sym (get_or_append_left ports (port ∷ []) 0 j (omega (arith, before, from, low)))) turn
+
+  picked_kept : (i : ℕ) (item : Item) → i < length ports → (IsComputed item → nodes.first_node ≤ i) → HasPickedHome nodes machine (homes_at machine blocks ports) i item → HasPickedHome nodes machine (homes_at machine blocks more) i item
+  picked_kept i (Input column) low last at = get_or_append_left ports (port ∷ []) 0 i low ∙ at
+  picked_kept i (BlockBit block bit) low last at = get_or_append_left ports (port ∷ []) 0 i low ∙ at
+  picked_kept i (Node table feeds) low last at = turn_kept i low (last tt) at
+  picked_kept i (Latch op) low last at = turn_kept i low (last tt) at
+
+  pub ports_more : (n : ℕ) (item : Item) → IsWellFormed nodes → AreItemPorts nodes machine blocks n ports → slice_get nodes.items n ≡ Some item → HasPickedHome nodes machine (homes_at machine blocks more) n item → AreItemPorts nodes machine blocks (n + 1) more
+  ports_more n item formed before is here = record {
+    count = let count = before.count in omega (arith, length-append ports (port ∷ []), count);
+    each = each;
+  } where
+    each : (i : ℕ) (other : Item) → i < n + 1 → slice_get nodes.items i ≡ Some other → HasPickedHome nodes machine (homes_at machine blocks more) i other
+    each i other low at = elim (last_or i n low) [
+      | inl below ↦ picked_kept i other (let count = before.count in omega (arith, below, count)) (λ computed. computed_last nodes i other formed at computed) (before.each i other below at)
+      | inr same ↦
+          let there : slice_get nodes.items n ≡ Some other = subst (λ k. slice_get nodes.items k ≡ Some other) same at in
+          let one : item ≡ other = cc in
+          subst (λ k. HasPickedHome nodes machine (homes_at machine blocks more) k other) (sym same) (subst (HasPickedHome nodes machine (homes_at machine blocks more) n) one here)
+    ]

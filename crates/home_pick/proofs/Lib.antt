@@ -1,3 +1,4 @@
 pub mod FillLemmas
 pub mod HomeLemmas
-mod HousingLemmas
+pub mod HousingLemmas
+pub mod TurnLemmas

@@ -1,15 +1,18 @@
 //! The homes of items, or why there are none.
 
-ghost use Rattle.std.specs.Prelude.{◌≡◌, ◌+◌, ◌-◌, ◌%◌, ◌<◌, ◌≤◌, IfOk, IfErr, OnOk, length, Some, slice_get};
+ghost use Rattle.std.specs.Prelude.{◌≡◌, ◌+◌, ◌-◌, ◌<◌, ◌≤◌, ◌++◌, ◌∷◌, [], IfOk, IfErr, OnOk, length, Some, slice_get};
 ghost use Rattle.machine_text.specs.Machines.{IsValid};
+ghost use Rattle.machine_text.specs.declared.machine.Limited.TheVariants.{Nodes as NodesOf};
 ghost use Rattle.node_defs.specs.WellFormed.{IsWellFormed};
 ghost use Rattle.plan_defs.specs.Homes.{AreHomes};
-ghost use Rattle.plan_defs.specs.Picks.{AreHoused, ArePicked};
-ghost use Rattle.home_pick.specs.Rooms.{AreFilled, port_of, AreItemPorts};
+ghost use Rattle.plan_defs.specs.Picks.{AreHoused, ArePicked, HasPickedHome, node_count, node_room};
+ghost use Rattle.home_pick.specs.Rooms.{AreFilled, AreItemPorts, AreTurned, homes_at, limits_of as limits_at};
 ghost use Rattle.home_pick.specs.Refusals.{IsRight};
 
 use crate::blocks::{Filling, block_bits, empty, first_with_room, most_left};
-use machine_text::Machine;
+use crate::ports::{limits_of, total};
+use crate::turns::{Turns, begin};
+use machine_text::{Limited, Machine};
 use node_defs::{Item, NodeNet};
 use plan_defs::Homes;
 use seen_list::{List, Memory};
@@ -23,6 +26,8 @@ pub enum HomeNo {
     Bits { block: u32, needed: u32, left: u32 },
     /// There was not enough memory to pick homes.
     Memory,
+    /// Each memory has a port, and there are more nodes than all logic ports hold together.
+    Nodes { needed: u32, limit: u32 },
 }
 
 impl From<Memory> for HomeNo {
@@ -36,8 +41,9 @@ impl From<Memory> for HomeNo {
     }
 }
 
-/// The homes of items on a machine: memories in their order at the first array port with room, nodes
-/// and latches in turn over the logic ports, and inputs at the host.
+/// The homes of items on a machine: inputs at the host, memories in their order at the first array
+/// port with room, and nodes and latches in turn over the logic ports: node number n at the first of
+/// the ports n, n + 1 and so on, modulo their number, that isn't full.
 pub fn homes(alloc: Global, nodes: &NodeNet, machine: &Machine) -> Result<Homes, HomeNo>
     requires nodes { IsWellFormed nodes.now }
     requires machine { IsValid machine.now }
@@ -46,7 +52,8 @@ pub fn homes(alloc: Global, nodes: &NodeNet, machine: &Machine) -> Result<Homes,
     ensures refused { IfErr result (IsRight nodes.now machine.now) }
 {
     let blocks = block_ports(alloc, nodes, machine)?;
-    let items = item_ports(alloc, nodes, machine, blocks.as_slice())?;
+    let limits = node_limits(alloc, nodes, machine, blocks.as_slice())?;
+    let items = item_ports(alloc, nodes, machine, blocks.as_slice(), limits)?;
     Ok(Homes {
         logic: machine.logic,
         array: machine.array,
@@ -84,7 +91,7 @@ fn place(
     ensures refused { IfErr result (IsRight nodes.now machine.now) }
 {
     let needed = block_bits(&nodes.blocks.as_slice()[block]);
-    match first_with_room(filling.used.as_slice(), needed, machine) {
+    match first_with_room(filling.left.as_slice(), needed) {
         Some(a) => {
             filling.put(nodes, machine, a, needed)?;
             Ok(())
@@ -92,52 +99,90 @@ fn place(
         None => Err(HomeNo::Bits {
             block: block as u32,
             needed,
-            left: most_left(filling.used.as_slice(), machine),
+            left: most_left(filling.left.as_slice()),
         }),
     }
 }
 
-/// The ports of the items.
+/// The node limits of the logic ports, where these hold all nodes. The memories have their ports.
+fn node_limits(
+    alloc: Global,
+    nodes: &NodeNet,
+    machine: &Machine,
+    blocks: &[u32],
+) -> Result<List<u32>, HomeNo>
+    requires nodes { IsWellFormed nodes.now }
+    requires machine { IsValid machine.now }
+    requires blocks { AreHoused nodes.now machine.now blocks.now (length nodes.now.blocks) }
+    ensures limits { IfOk result (λ limits. limits ≡ limits_at machine.now NodesOf machine.now.logic) }
+    ensures few { IfOk result (λ limits. node_count nodes.now ≤ node_room machine.now) }
+    ensures refused { IfErr result (IsRight nodes.now machine.now) }
+{
+    let limits = limits_of(alloc, machine, Limited::Nodes, machine.logic)?;
+    let needed = count_nodes(nodes);
+    let limit = total(limits.as_slice());
+    if limit < needed {
+        return Err(HomeNo::Nodes { needed, limit });
+    }
+    Ok(limits)
+}
+
+/// The number of nodes, latches among them.
+fn count_nodes(nodes: &NodeNet) -> u32
+    requires { IsWellFormed nodes.now }
+    ensures { result ≡ node_count nodes.now }
+{
+    (nodes.items.len() as u32).saturating_sub(nodes.first_node)
+}
+
+/// The ports of the items, where the logic ports hold all nodes.
 fn item_ports(
     alloc: Global,
     nodes: &NodeNet,
     machine: &Machine,
     blocks: &[u32],
+    limits: List<u32>,
 ) -> Result<List<u32>, Memory>
     requires nodes { IsWellFormed nodes.now }
     requires machine { IsValid machine.now }
     requires blocks { length blocks.now ≡ length nodes.now.blocks }
+    requires limits { limits ≡ limits_at machine.now NodesOf machine.now.logic }
+    requires few { node_count nodes.now ≤ node_room machine.now }
     ensures { IfOk result (AreItemPorts nodes.now machine.now blocks.now (length nodes.now.items)) }
 {
-    let mut ports = List::new(alloc);
+    let mut turns = begin(alloc, nodes, machine, limits)?;
     let items = nodes.items.as_slice();
     'items: for i in 0..items.len() {
-        ports.push(item_port(nodes, machine, blocks, &items[i], i as u32))?;
+        let port = item_port(&mut turns, nodes, machine, blocks, &items[i], i as u32);
+        turns.ports.push(port)?;
     }
-    Ok(ports)
+    Ok(turns.ports)
 }
 
-/// The port of an item, given with its number.
-fn item_port(nodes: &NodeNet, machine: &Machine, blocks: &[u32], item: &Item, i: u32) -> u32
+/// The port of the next item, given with its number.
+fn item_port(
+    turns: &mut Turns,
+    nodes: &NodeNet,
+    machine: &Machine,
+    blocks: &[u32],
+    item: &Item,
+    i: u32,
+) -> u32
     requires nodes { IsWellFormed nodes.now }
     requires machine { IsValid machine.now }
     requires blocks { length blocks.now ≡ length nodes.now.blocks }
     requires item { slice_get nodes.now.items i ≡ Some item.now }
-    ensures { result ≡ port_of nodes.now machine.now blocks.now i item.now }
+    requires next { length turns.old.ports ≡ i }
+    requires few { node_count nodes.now ≤ node_room machine.now }
+    requires before { AreTurned nodes.now machine.now turns.old.ports (i - nodes.now.first_node) turns.old.left turns.old.skips }
+    ensures ports { turns.new.ports ≡ turns.old.ports }
+    ensures home { HasPickedHome nodes.now machine.now (homes_at machine.now blocks.now (turns.old.ports ++ result ∷ [])) i item.now }
+    ensures turned { AreTurned nodes.now machine.now (turns.old.ports ++ result ∷ []) (i + 1 - nodes.now.first_node) turns.new.left turns.new.skips }
 {
     match item {
         Item::Input { .. } => machine.logic + machine.array,
         Item::BlockBit { block, .. } => blocks[*block as usize],
-        Item::Node { .. } => turn_port(nodes, machine, i),
-        Item::Latch { .. } => turn_port(nodes, machine, i),
+        Item::Node { .. } => turns.turn_port(nodes, machine, i - nodes.first_node),
+        Item::Latch { .. } => turns.turn_port(nodes, machine, i - nodes.first_node),
     }
-}
-
-/// The port of the node or latch of this number.
-fn turn_port(nodes: &NodeNet, machine: &Machine, i: u32) -> u32
-    requires machine { IsValid machine.now }
-    requires node { nodes.now.first_node ≤ i }
-    ensures { result ≡ (i - nodes.now.first_node) % machine.now.logic }
-{
-    (i - nodes.first_node) % machine.logic
 }

@@ -54,7 +54,7 @@ fn compile_large(alloc: Global, net: &Netlist) -> Result<Compiled, Memory>
     ensures compiled { IfOk result (IsCompiled net.now machine_is timing_is) }
     ensures shown { IfOk result (λ compiled. (stimulus : Rows) → ShowsReference net.now timing_is stimulus compiled.image) }
 {
-    match compile(alloc, net, &large_machine(), &large_timing(alloc)) {
+    match compile(alloc, net, &large_machine(alloc), &large_timing(alloc)) {
         Ok(compiled) => Ok(compiled),
         Err(refusal) => Err(lack(&refusal)),
     }
@@ -70,6 +70,7 @@ fn lack(refusal: &CompNo) -> Memory
         CompNo::Slots { .. } => unreachable!(),
         CompNo::Functions { .. } => unreachable!(),
         CompNo::Memory => Memory,
+        CompNo::Nodes { .. } => unreachable!(),
     }
 }
 

@@ -1,6 +1,6 @@
 //! Laws of large netlists and their runs: functions that do nothing, whose clauses hold of all of them.
 
-ghost use Rattle.std.specs.Prelude.{◌≡◌, ◌+◌, ◌≤◌, ℕ, List, length};
+ghost use Rattle.std.specs.Prelude.{◌≡◌, ◌+◌, ◌<◌, ◌≤◌, ℕ, List, length};
 ghost use Rattle.limits.specs.declared.TheConstants.{MAX_LARGE_GATES};
 ghost use Rattle.large_gen.specs.Large.{large_netlist};
 ghost use Rattle.machine_text.specs.declared.machine.Machine.{Machine};
@@ -10,7 +10,7 @@ ghost use Rattle.net_defs.specs.Valid.{IsValid};
 ghost use Rattle.node_defs.specs.declared.items.NodeNet.{NodeNet};
 ghost use Rattle.node_defs.specs.Order.{AreItems};
 ghost use Rattle.plan_defs.specs.declared.plan.Homes.{Homes};
-ghost use Rattle.plan_defs.specs.Tables.{UsesTables};
+ghost use Rattle.plan_defs.specs.Tables.{UsesTables, table_limit};
 ghost use Rattle.yse_compile.specs.Designs.{DesignFits, LacksFunctions};
 ghost use Rattle.large_run.specs.Runs.{IsSummaryOf};
 ghost use Rattle.large_run.specs.Setting.{large_machine, large_timing};
@@ -24,14 +24,15 @@ use ref_sim::one_simulation;
 use yse_compile::law::{fits_or_refused, one_homes, one_need};
 
 /// A law: the gates of one to four operands have at most 31 different tables, so the nodes of a netlist
-/// use no more, and on a machine whose processors have room for so many, no design is refused for its
-/// functions. It does nothing.
+/// use no more, and on a machine each of whose logic processors has room for so many, no design is refused
+/// for its functions. It does nothing.
 pub fn few_tables()
     ensures all { (net : Netlist) (timing : Timing) (nodes : NodeNet) → IsValid net → AreItems net timing nodes
         → length nodes.tables ≤ 31 }
     ensures used { (net : Netlist) (timing : Timing) (nodes : NodeNet) → IsValid net → AreItems net timing nodes
         → (homes : Homes) (port count : ℕ) → UsesTables nodes homes port count → count ≤ 31 }
-    ensures never { (net : Netlist) (machine : Machine) (timing : Timing) → IsValid net → 31 ≤ machine.functions
+    ensures never { (net : Netlist) (machine : Machine) (timing : Timing) → IsValid net
+        → ((port : ℕ) → port < machine.logic → 31 ≤ table_limit machine port)
         → (port needed limit : ℕ) → LacksFunctions net machine timing port needed limit → ⊥ }
 {}
 

@@ -7,10 +7,11 @@ ghost use Rattle.large_run.specs.Setting.{large_machine as machine_is, large_tim
 
 use machine_text::Machine;
 use net_defs::{Init, Mode, Timing};
+use seen_list::List;
 use std::alloc::Global;
 
 /// Sixteen logic processors.
-pub(crate) fn large_machine() -> Machine
+pub(crate) fn large_machine(alloc: Global) -> Machine
     ensures is { result ≡ machine_is }
     ensures valid { IsValid result }
 {
@@ -20,6 +21,8 @@ pub(crate) fn large_machine() -> Machine
         slots: 65_536,
         functions: 256,
         bits: 1,
+        nodes: 4_194_304,
+        own: List::new(alloc),
     }
 }
 

@@ -170,6 +170,10 @@ valid_from_reads text machine reads =
       functions_most = functions.1;
       bits_least = bits.0;
       bits_most = bits.1;
+      nodes_least = omega arith;
+      nodes_most = omega arith;
+      own = λ i d low. absurd (omega (arith, low));
+      once = λ i j d low up. absurd (omega (arith, up));
       ports = subst (λ m. ports_of m ≤ MAX_PORTS) reads.numbers reads.ports;
     })
 

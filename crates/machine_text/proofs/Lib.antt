@@ -1,2 +1,3 @@
 mod LawLemmas
+pub mod LimitLemmas
 mod MachineLemmas

@@ -1,3 +1,4 @@
+pub mod Limits
 pub mod Machines
 pub mod Quantities
 pub mod Settings

@@ -1,8 +1,8 @@
 -- Which machine a text reads as, and its first fault.
-use Rattle.std.specs.Prelude.{◌≡◌, ℕ, ◌+◌, ◌≤◌, true, false, List, [], length, take, slice_index_or, Option, Some, None, unwrap_or, if◌then◌else◌, nat_lt, All, AllPairs}
+use Rattle.std.specs.Prelude.{◌≡◌, ℕ, ◌+◌, ◌<◌, ◌≤◌, true, false, List, [], length, take, slice_index_or, Option, Some, None, unwrap_or, if◌then◌else◌, nat_lt, All, AllPairs}
 use Rattle.std.specs.List.{find}
 use Rattle.std.specs.Option.{option_map, option_or}
-use Rattle.limits.specs.declared.TheConstants.{MAX_LOGIC, MAX_ARRAY, MAX_PORTS, MAX_SLOTS, MAX_FUNCTIONS, MAX_ARRAY_BITS}
+use Rattle.limits.specs.declared.TheConstants.{MAX_LOGIC, MAX_ARRAY, MAX_PORTS, MAX_SLOTS, MAX_FUNCTIONS, MAX_NODES, MAX_ARRAY_BITS}
 use Rattle.text_lines.specs.Answers.{first}
 use Rattle.text_lines.specs.Lines.{parts_of}
 use Rattle.machine_text.specs.declared.quantity.Quantity.{Quantity}
@@ -13,6 +13,8 @@ use Rattle.machine_text.specs.declared.line.Says.TheVariants.{Nothing, Sets, Oth
 use Rattle.machine_text.specs.declared.machine.Machine.{Machine}
 use Rattle.machine_text.specs.declared.machine.MachNo.{MachNo}
 use Rattle.machine_text.specs.declared.machine.MachNo.TheVariants.{Ports}
+use Rattle.machine_text.specs.declared.machine.PortLimit.{PortLimit}
+use Rattle.machine_text.specs.Limits.{is_at, limit_most, port_count}
 use Rattle.machine_text.specs.Quantities.{default_of, in_range, same_quantity}
 use Rattle.machine_text.specs.Settings.{says, sets, settings_of, fault_of}
 
@@ -29,6 +31,8 @@ machine_of settings = record {
   slots = number_in settings Slots;
   functions = number_in settings Functions;
   bits = number_in settings Bits;
+  nodes = MAX_NODES;
+  own = [];
 }
 
 -- the machine of a text that sets nothing
@@ -39,7 +43,13 @@ default_machine = machine_of []
 abbrev pub ports_of : Machine → ℕ
 ports_of machine = machine.logic + machine.array + 1
 
--- each number is in its range, and there are not too many ports
+-- the own limit is in its range, and its port is there
+pub record IsOwnLimit (machine : Machine) (own : PortLimit) : Type 0 where
+  pub least : 1 ≤ own.limit
+  pub most : own.limit ≤ limit_most own.what
+  pub port : own.port < port_count machine own.what
+
+-- each number is in its range, there are not too many ports, and no port has two own limits of a kind
 pub record IsValid (machine : Machine) : Type 0 where
   pub logic_least : 1 ≤ machine.logic
   pub logic_most : machine.logic ≤ MAX_LOGIC
@@ -50,7 +60,11 @@ pub record IsValid (machine : Machine) : Type 0 where
   pub functions_most : machine.functions ≤ MAX_FUNCTIONS
   pub bits_least : 1 ≤ machine.bits
   pub bits_most : machine.bits ≤ MAX_ARRAY_BITS
+  pub nodes_least : 1 ≤ machine.nodes
+  pub nodes_most : machine.nodes ≤ MAX_NODES
   pub ports : ports_of machine ≤ MAX_PORTS
+  pub own : All (IsOwnLimit machine) machine.own
+  pub once : AllPairs (λ a b. is_at a.what a.port b ≡ false) machine.own
 
 -- ---- what a text reads as
 

@@ -11,5 +11,5 @@ mod machine;
 mod quantity;
 mod reading;
 
-pub use machine::{MachNo, Machine};
+pub use machine::{Limited, MachNo, Machine, PortLimit};
 pub use reading::read_machine;

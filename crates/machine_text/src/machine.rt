@@ -1,13 +1,37 @@
 //! A machine, and why a machine text is refused.
 
 ghost use Rattle.std.specs.Prelude.{◌≡◌};
+ghost use Rattle.std.specs.List.{find};
+ghost use Rattle.machine_text.specs.Limits.{common_limit, is_at, limit_at};
 ghost use Rattle.machine_text.specs.Machines.{default_machine, IsValid};
 
 use crate::quantity::Quantity;
-use seen_list::Memory;
+use seen_list::{List, Memory};
+use std::alloc::Global;
+
+/// What a machine text can limit at single ports.
+#[derive(Clone, Copy, Debug, PartialEq, Eq)]
+pub enum Limited {
+    /// The different functions of a logic processor.
+    Functions,
+    /// The nodes of a logic processor.
+    Nodes,
+    /// The bits of an array processor.
+    Bits,
+}
+
+/// A limit that holds at one port, in place of that of all ports.
+#[derive(Clone, Copy, Debug, PartialEq, Eq)]
+pub struct PortLimit {
+    pub what: Limited,
+    /// Which of the logic processors it is, and for bits which of the array processors, from 0.
+    pub port: u32,
+    /// In the range of what it limits.
+    pub limit: u32,
+}
 
 /// The numbers and sizes of a machine's processors.
-#[derive(Clone, Copy, Debug, PartialEq, Eq)]
+#[derive(Drop)]
 pub struct Machine {
     /// The number of logic processors, 1 to 254. With the array processors and the host there are
     /// at most 256 ports.
@@ -20,11 +44,15 @@ pub struct Machine {
     pub functions: u32,
     /// The bits that an array processor holds, 1 to 16,777,216.
     pub bits: u32,
+    /// The nodes that a logic processor holds, 1 to 4,194,304.
+    pub nodes: u32,
+    /// The limits of single ports, at most one of a kind for each port.
+    pub own: List<PortLimit>,
 }
 
 impl Machine {
-    /// The machine of a text that sets nothing.
-    pub fn default_size() -> Machine
+    /// The machine of a text that sets nothing. It takes no memory.
+    pub fn default_size(alloc: Global) -> Machine
         ensures default { result ≡ default_machine }
         ensures valid { IsValid result }
     {
@@ -34,8 +62,39 @@ impl Machine {
             slots: Quantity::Slots.default_number(),
             functions: Quantity::Functions.default_number(),
             bits: Quantity::Bits.default_number(),
+            nodes: limits::MAX_NODES,
+            own: List::new(alloc),
         }
     }
+
+    /// The limit that holds at the port of this number, counted as in [`PortLimit`]: its own, and where
+    /// it has none, that of all ports.
+    pub fn limit_at(&self, what: Limited, port: u32) -> u32
+        ensures { result ≡ limit_at self.now what port }
+    {
+        match self.own.iter().find(|own| is_at(own, what, port)) {
+            Some(own) => own.limit,
+            None => self.common_limit(what),
+        }
+    }
+
+    /// The limit that holds at all ports that have none of their own.
+    fn common_limit(&self, what: Limited) -> u32
+        ensures { result ≡ common_limit self.now what }
+    {
+        match what {
+            Limited::Functions => self.functions,
+            Limited::Nodes => self.nodes,
+            Limited::Bits => self.bits,
+        }
+    }
+}
+
+/// Whether this is the own limit of a port.
+fn is_at(own: &PortLimit, what: Limited, port: u32) -> bool
+    ensures { result ≡ is_at what port own.now }
+{
+    own.what == what && own.port == port
 }
 
 /// Why a machine text is refused. Lines are counted from 1.
@@ -51,6 +110,8 @@ pub enum MachNo {
     Ports { sum: u32 },
     /// There was not enough memory to read the text.
     Memory,
+    /// No line has a fault, the ports are few enough, and the line limits a port that is not there.
+    NoPort { line: u32 },
 }
 
 impl From<Memory> for MachNo {

@@ -34,7 +34,7 @@ pub fn read_machine(alloc: Global, bytes: &[u8]) -> Result<Machine, MachNo>
         → (first_fault bytes.now ≡ None) × MatchResult result (λ read. read ≡ machine) (λ e. e ≡ NoMemory) }
 {
     let settings = read_settings(alloc, bytes)?;
-    let machine = machine_of(settings.as_slice());
+    let machine = machine_of(alloc, settings.as_slice());
     let sum = machine.logic + machine.array + 1;
     if sum > MAX_PORTS {
         return Err(MachNo::Ports { sum });
@@ -58,7 +58,7 @@ fn read_settings(alloc: Global, bytes: &[u8]) -> Result<List<Setting>, MachNo>
 }
 
 /// The machine that the settings make.
-fn machine_of(settings: &[Setting]) -> Machine
+fn machine_of(alloc: Global, settings: &[Setting]) -> Machine
     ensures { result ≡ machine_of settings.now }
 {
     Machine {
@@ -67,6 +67,8 @@ fn machine_of(settings: &[Setting]) -> Machine
         slots: number_in(settings, Quantity::Slots),
         functions: number_in(settings, Quantity::Functions),
         bits: number_in(settings, Quantity::Bits),
+        nodes: limits::MAX_NODES,
+        own: List::new(alloc),
     }
 }
 

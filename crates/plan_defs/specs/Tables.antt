@@ -1,6 +1,8 @@
 -- The different tables that a port's nodes use, and when a plan fits a machine.
 use Rattle.std.specs.Prelude.{◌≡◌, ℕ, ◌<◌, ◌≤◌, Some, slice_get}
 use Rattle.machine_text.specs.declared.machine.Machine.{Machine}
+use Rattle.machine_text.specs.declared.machine.Limited.TheVariants.{Functions}
+use Rattle.machine_text.specs.Limits.{limit_at}
 use Rattle.node_defs.specs.declared.items.Feeds.{Feeds}
 use Rattle.node_defs.specs.declared.items.Item.TheVariants.{Node}
 use Rattle.node_defs.specs.declared.items.NodeNet.{NodeNet}
@@ -26,7 +28,7 @@ slot_limit machine = machine.slots
 
 -- the most different tables that a logic port may use
 abbrev pub table_limit : Machine → ℕ → ℕ
-table_limit machine port = machine.functions
+table_limit machine port = limit_at machine Functions port
 
 -- the port's tables are few enough
 pub record FitsTables (nodes : NodeNet) (homes : Homes) (machine : Machine) (port : ℕ) : Type 0 where

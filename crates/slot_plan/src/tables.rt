@@ -10,7 +10,7 @@ ghost use Rattle.plan_defs.specs.UserRows.{HasPlace};
 ghost use Rattle.slot_plan.specs.UsedTables.{HasTable, AreUsed, AreTableCounts, CountsBelow, IsFirstCrowded};
 
 use bit_rows::BitRows;
-use machine_text::Machine;
+use machine_text::{Limited, Machine};
 use node_defs::{Item, NodeNet};
 use plan_defs::Homes;
 use seen_list::{List, Memory};
@@ -97,10 +97,10 @@ fn counted(count: u32, is: bool) -> u32
 }
 
 /// The most different tables that a logic port may use.
-pub(crate) fn table_limit(machine: &Machine, _port: u32) -> u32
-    ensures { result ≡ limit_of machine.now _port }
+pub(crate) fn table_limit(machine: &Machine, port: u32) -> u32
+    ensures { result ≡ limit_of machine.now port }
 {
-    machine.functions
+    machine.limit_at(Limited::Functions, port)
 }
 
 /// The first port whose nodes use more tables than it may, by the number of tables of each port.

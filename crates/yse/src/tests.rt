@@ -9,6 +9,7 @@ mod calls;
 mod machines;
 mod mixed;
 mod orders;
+mod own_limits;
 mod threads;
 
 use bench_read::law::reads_as_valid;

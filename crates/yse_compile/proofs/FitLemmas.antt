@@ -9,12 +9,12 @@ use Rattle.node_defs.specs.Order.{AreItems}
 use Rattle.node_defs.specs.Same.{AreSameItems}
 use Rattle.plan_defs.specs.declared.plan.Homes.{Homes}
 use Rattle.plan_defs.specs.declared.plan.Plan.{Plan}
-use Rattle.plan_defs.specs.Picks.{ArePicked, FindsNoPort}
+use Rattle.plan_defs.specs.Picks.{ArePicked, FindsNoPort, HasTooManyNodes}
 use Rattle.plan_defs.specs.Slots.{IsFirstFitPlan}
 use Rattle.plan_defs.specs.Tables.{UsesTables, FitsTables, slot_limit, table_limit}
 use Rattle.slot_plan.specs.Refusals.{IsCrowded}
 use Rattle.yse_compile.specs.declared.compiler.CompNo.{CompNo}
-use Rattle.yse_compile.specs.declared.compiler.CompNo.TheVariants.{Bits, Slots, Functions}
+use Rattle.yse_compile.specs.declared.compiler.CompNo.TheVariants.{Bits, Nodes, Slots, Functions}
 use Rattle.yse_compile.specs.Designs.{IsAcyclic, DesignFits}
 use Rattle.yse_compile.specs.Compiled.{IsRight, IsOverfull}
 use Rattle.yse_compile.proofs.KnownLemmas.{first_or_all}
@@ -70,6 +70,9 @@ module _ (net : Netlist) (machine : Machine) (timing : Timing) (nodes : NodeNet)
 
   pub none_fits : (block needed left : ℕ) → FindsNoPort nodes machine block needed left → FitsOrNot net machine timing
   none_fits block needed left none = inr (Bits block needed left, record { acyclic = acyclic; nodes = nodes; items = items; none = none }, tt)
+
+  pub many_fits : (needed limit : ℕ) → HasTooManyNodes nodes machine needed limit → FitsOrNot net machine timing
+  many_fits needed limit many = inr (Nodes needed limit, record { acyclic = acyclic; nodes = nodes; items = items; many = many }, tt)
 
 -- ---- one port is the first whose tables are too many
 

@@ -1,34 +1,40 @@
--- The items of a machine have homes, or a memory finds no port.
-use Rattle.std.proofs.Common.{◌≡◌, ◌⊎◌, inl, inr, ℕ, zero, suc, ◌+◌, ◌-◌, ◌<◌, ◌≤◌, List, [], ◌∷◌, ◌++◌, length, get_or, set, replicate, refl, sym, subst, arith}
+-- The items of a machine have homes, or a memory finds no port, or the nodes are too many.
+use Rattle.std.proofs.Common.{◌≡◌, ◌∙◌, ◌⊎◌, inl, inr, ℕ, zero, suc, ◌+◌, ◌-◌, ◌%◌, ◌<◌, ◌≤◌, List, [], ◌∷◌, ◌++◌, length, get_or, set, replicate, refl, sym, ap, subst, arith}
 use Rattle.std.specs.Prelude.{Some, slice_get}
-use Rattle.std.proofs.lemmas.Bool.{cases_lt}
+use Rattle.std.specs.List.{sum}
+use Rattle.std.proofs.lemmas.Bool.{cases_lt, cases_eq}
+use Rattle.std.proofs.lemmas.Nat.{mod_below}
 use Rattle.std.proofs.Math.Numerals.{add-one}
+use Rattle.std.proofs.Math.Seq.{get_or-append_seam}
+use Rattle.machine_text.specs.declared.machine.Limited.TheVariants.{Nodes, Bits}
 use Rattle.machine_text.specs.declared.machine.Machine.{Machine}
+use Rattle.machine_text.specs.Machines.{IsValid}
 use Rattle.node_defs.specs.declared.items.Item.{Item}
+use Rattle.node_defs.specs.declared.items.Item.TheVariants.{Input, BlockBit, Node, Latch}
 use Rattle.node_defs.specs.declared.items.NodeBlock.{NodeBlock}
 use Rattle.node_defs.specs.declared.items.NodeNet.{NodeNet}
-use Rattle.node_defs.specs.WellFormed.{IsWellFormed}
+use Rattle.node_defs.specs.WellFormed.{IsWellFormed, IsComputed}
 use Rattle.node_defs.proofs.MemberLemmas.{member_at}
 use Rattle.plan_defs.specs.declared.plan.Homes.{Homes}
 use Rattle.plan_defs.specs.Lists.{IsLeastFree}
-use Rattle.plan_defs.specs.Picks.{bits_of, bit_limit, ArePicked, FindsNoPort}
-use Rattle.home_pick.specs.Rooms.{LacksBits, IsMostLeft, AreFilled, port_of, AreItemPorts}
+use Rattle.plan_defs.specs.Picks.{bits_of, node_count, node_room, IsInTurn, HasPickedHome, ArePicked, FindsNoPort, HasTooManyNodes}
+use Rattle.home_pick.specs.Rooms.{limits_of, LacksBits, IsMostLeft, AreFilled, IsSpent, AreTurned, homes_at, AreItemPorts}
 use Rattle.home_pick.proofs.FillLemmas.{filled_none, filled_more, none_found, left_none, left_more, bits_read, some_bits}
-use Rattle.home_pick.proofs.HomeLemmas.{picked_are, ports_more}
+use Rattle.home_pick.proofs.HomeLemmas.{picked_are, ports_more, computed_last, node_room_left, source_first}
+use Rattle.home_pick.proofs.TurnLemmas.{turned_none, turned_before, turned_more, in_turn, room_left, some_unspent}
 use Rattle.yse_compile.proofs.KnownLemmas.{known_less, least_or_all}
 
 -- the most that is left on the first n array ports
-most_left : (machine : Machine) (used : List ℕ) (n : ℕ) → (left : ℕ) × IsMostLeft machine used n left
-most_left machine used zero = (0, left_none machine used)
-most_left machine used (suc n) = next (most_left machine used n).0 (most_left machine used n).1 where
-  next : (left : ℕ) → IsMostLeft machine used n left → (new : ℕ) × IsMostLeft machine used (suc n) new
-  next left before = elim (cases_lt left (bit_limit machine n - get_or used n 0)) [
+most_left : (left : List ℕ) (n : ℕ) → (bits : ℕ) × IsMostLeft left n bits
+most_left left zero = (0, left_none left)
+most_left left (suc n) = next (most_left left n).0 (most_left left n).1 where
+  next : (bits : ℕ) → IsMostLeft left n bits → (new : ℕ) × IsMostLeft left (suc n) new
+  next bits before = elim (cases_lt bits (get_or left n 0)) [
     | inl low ↦ (
-      bit_limit machine n - get_or used n 0,
-      subst (λ k. IsMostLeft machine used k (bit_limit machine n - get_or used n 0)) (add-one n)
-          (left_more machine used n left (bit_limit machine n - get_or used n 0) before (omega (arith, low), omega arith) (inr refl)),
+      get_or left n 0,
+      subst (λ k. IsMostLeft left k (get_or left n 0)) (add-one n) (left_more left n bits (get_or left n 0) before (omega (arith, low), omega arith) (inr refl)),
     )
-    | inr up ↦ (left, subst (λ k. IsMostLeft machine used k left) (add-one n) (left_more machine used n left left before (omega arith, up) (inl refl)))
+    | inr up ↦ (bits, subst (λ k. IsMostLeft left k bits) (add-one n) (left_more left n bits bits before (omega arith, up) (inl refl)))
   ]
 
 -- a memory has a bit
@@ -45,13 +51,13 @@ AreFilledOrNot nodes machine n =
 
 filled_next : (nodes : NodeNet) (machine : Machine) (n : ℕ) → IsWellFormed nodes → n < length nodes.blocks → (filling : _) → AreFilled nodes machine n filling → AreFilledOrNot nodes machine (n + 1)
 filled_next nodes machine n formed low filling before =
-    told (least_or_all (LacksBits machine filling.used (bits_of nodes n)) (λ a. known_less (bit_limit machine a) (get_or filling.used a 0 + bits_of nodes n)) machine.array) where
-      left : (most : ℕ) × IsMostLeft machine filling.used (length filling.used) most
-      left = most_left machine filling.used (length filling.used)
+    told (least_or_all (LacksBits filling.left (bits_of nodes n)) (λ a. known_less (get_or filling.left a 0) (bits_of nodes n)) machine.array) where
+      left : (bits : ℕ) × IsMostLeft filling.left (length filling.left) bits
+      left = most_left filling.left (length filling.left)
 
-      told : ((a : ℕ) × (a < machine.array) × IsLeastFree (LacksBits machine filling.used (bits_of nodes n)) a) ⊎ ((a : ℕ) → a < machine.array → LacksBits machine filling.used (bits_of nodes n) a) → AreFilledOrNot nodes machine (n + 1)
+      told : ((a : ℕ) × (a < machine.array) × IsLeastFree (LacksBits filling.left (bits_of nodes n)) a) ⊎ ((a : ℕ) → a < machine.array → LacksBits filling.left (bits_of nodes n) a) → AreFilledOrNot nodes machine (n + 1)
       told (inl found) = inl (
-        record { ports = filling.ports ++ (machine.logic + found.0) ∷ []; used = set filling.used found.0 (get_or filling.used found.0 0 + bits_of nodes n) },
+        record { ports = filling.ports ++ (machine.logic + found.0) ∷ []; left = set filling.left found.0 (get_or filling.left found.0 0 - bits_of nodes n) },
         filled_more nodes machine filling n before found.0 (bits_of nodes n) found.1 refl found.2,
       )
       told (inr none) = inr (
@@ -62,29 +68,102 @@ filled_next nodes machine n formed low filling before =
       )
 
 filled_to : (nodes : NodeNet) (machine : Machine) (n : ℕ) → IsWellFormed nodes → n ≤ length nodes.blocks → AreFilledOrNot nodes machine n
-filled_to nodes machine zero formed up = inl (record { ports = []; used = replicate machine.array 0 }, filled_none nodes machine)
+filled_to nodes machine zero formed up = inl (record { ports = []; left = limits_of machine Bits machine.array }, filled_none nodes machine (limits_of machine Bits machine.array) refl)
 filled_to nodes machine (suc n) formed up = next (filled_to nodes machine n formed (omega (arith, up))) where
   next : AreFilledOrNot nodes machine n → AreFilledOrNot nodes machine (suc n)
   next (inl (filling, before)) = subst (AreFilledOrNot nodes machine) (add-one n) (filled_next nodes machine n formed (omega (arith, up)) filling before)
   next (inr refused) = inr refused
 
--- the ports of the first n items
-ports_to : (nodes : NodeNet) (machine : Machine) (blocks : List ℕ) (n : ℕ) → n ≤ length nodes.items → (ports : List ℕ) × AreItemPorts nodes machine blocks n ports
-ports_to nodes machine blocks zero up = ([], record { count = refl; each = λ i item low is. absurd (omega (arith, low)) })
-ports_to nodes machine blocks (suc n) up = next (ports_to nodes machine blocks n (omega (arith, up))) (member_at nodes.items n (omega (arith, up))) where
-  next : (ports : List ℕ) × AreItemPorts nodes machine blocks n ports → (item : Item) × (slice_get nodes.items n ≡ Some item) → (ports : List ℕ) × AreItemPorts nodes machine blocks (suc n) ports
-  next (ports, before) (item, is) = (
-    ports ++ port_of nodes machine blocks n item ∷ [],
-    subst (λ k. AreItemPorts nodes machine blocks k (ports ++ port_of nodes machine blocks n item ∷ [])) (add-one n)
-        (ports_more nodes machine blocks ports n (port_of nodes machine blocks n item) item before is refl),
+-- ---- items
+
+-- the first n items have ports, and of each logic port it is known how many nodes more it holds
+abbrev ArePlaced : NodeNet → Machine → List ℕ → ℕ → Type 0
+ArePlaced nodes machine blocks n =
+    (ports left skips : List ℕ) × AreItemPorts nodes machine blocks n ports × AreTurned nodes machine ports (n - nodes.first_node) left skips
+
+module _ (nodes : NodeNet) (machine : Machine) (blocks : List ℕ) (formed : IsWellFormed nodes) (valid : IsValid machine) (few : node_count nodes ≤ node_room machine) where
+  last_port : (ports : List ℕ) (n port : ℕ) → length ports ≡ n → get_or (ports ++ port ∷ []) n 0 ≡ port
+  last_port ports n port count = ap (λ k. get_or (ports ++ port ∷ []) k 0) (sym count) ∙ get_or-append_seam ports port [] 0
+
+  -- an item that isn't computed
+  put_source : (n : ℕ) (item : Item) (port : ℕ) → slice_get nodes.items n ≡ Some item → (IsComputed item → ⊥)
+      → ((ports : List ℕ) → length ports ≡ n → HasPickedHome nodes machine (homes_at machine blocks (ports ++ port ∷ [])) n item) → ArePlaced nodes machine blocks n → ArePlaced nodes machine blocks (n + 1)
+  put_source n item port is other home (ports, left, skips, are, turned) = (
+    ports ++ port ∷ [],
+    left,
+    skips,
+    ports_more nodes machine blocks ports port n item formed are is (home ports are.count),
+    turned_before nodes machine ports (ports ++ port ∷ []) n left skips (source_first nodes n item formed is other) turned,
   )
 
-pub homes_or_refusal : (nodes : NodeNet) (machine : Machine) → IsWellFormed nodes → ((homes : Homes) × ArePicked nodes machine homes) ⊎ ((block needed left : ℕ) × FindsNoPort nodes machine block needed left)
-homes_or_refusal nodes machine formed = told (filled_to nodes machine (length nodes.blocks) formed (omega arith)) where
-  told : AreFilledOrNot nodes machine (length nodes.blocks) → ((homes : Homes) × ArePicked nodes machine homes) ⊎ ((block needed left : ℕ) × FindsNoPort nodes machine block needed left)
-  told (inl (filling, filled)) =
-      let items = ports_to nodes machine filling.ports (length nodes.items) (omega arith) in inl (
-        record { logic = machine.logic; array = machine.array; items = items.0; blocks = filling.ports },
-        picked_are nodes machine filling.ports items.0 filled.housed items.1,
-      )
-  told (inr refused) = inr refused
+  -- a node or latch
+  put_node : (n : ℕ) (item : Item) → slice_get nodes.items n ≡ Some item → IsComputed item
+      → ((ports : List ℕ) → IsInTurn nodes machine ports (n - nodes.first_node) → HasPickedHome nodes machine (homes_at machine blocks ports) n item) → ArePlaced nodes machine blocks n → ArePlaced nodes machine blocks (n + 1)
+  put_node n item is computed home (ports, left, skips, are, turned) = told (least_or_all (IsSpent left start) (λ e. cases_eq (get_or left ((start + e) % length left) 0) 0) machine.logic) where
+    start : ℕ
+    start = (n - nodes.first_node) % machine.logic
+
+    from : nodes.first_node ≤ n
+    from = computed_last nodes n item formed is computed
+
+    next : length ports ≡ nodes.first_node + (n - nodes.first_node)
+    next = omega (arith, from, are.count)
+
+    told : ((e : ℕ) × (e < machine.logic) × IsLeastFree (IsSpent left start) e) ⊎ ((e : ℕ) → e < machine.logic → IsSpent left start e) → ArePlaced nodes machine blocks (n + 1)
+    told (inl (past, within, first)) =
+        let port : ℕ = (start + past) % machine.logic in (
+          ports ++ port ∷ [],
+          set left port (get_or left port 0 - 1),
+          set skips start past,
+          ports_more nodes machine blocks ports port n item formed are is
+              (home (ports ++ port ∷ []) (in_turn nodes machine ports (n - nodes.first_node) left skips turned valid.logic_least next past within first)),
+          subst (λ k. AreTurned nodes machine (ports ++ port ∷ []) k (set left port (get_or left port 0 - 1)) (set skips start past))
+              (let more : n - nodes.first_node + 1 ≡ n + 1 - nodes.first_node = omega (arith, from) in more)
+              (turned_more nodes machine ports (n - nodes.first_node) left skips turned valid.logic_least next past within first),
+        )
+    told (inr all) =
+        let begun : start < machine.logic = mod_below (n - nodes.first_node) machine.logic valid.logic_least in
+        let some : 1 ≤ sum left = room_left nodes machine ports (n - nodes.first_node) left skips turned (node_room_left nodes machine n item formed is computed few) in
+        absurd (some_unspent left start (omega (arith, begun, turned.logic)) some (λ e low. all e (omega (arith, low, turned.logic))))
+
+  put_item : (n : ℕ) (item : Item) → slice_get nodes.items n ≡ Some item → ArePlaced nodes machine blocks n → ArePlaced nodes machine blocks (n + 1)
+  put_item n (Input column) is before =
+      put_source n (Input column) (machine.logic + machine.array) is (λ computed. computed) (λ ports count. last_port ports n (machine.logic + machine.array) count) before
+  put_item n (BlockBit block bit) is before =
+      put_source n (BlockBit block bit) (get_or blocks block 0) is (λ computed. computed) (λ ports count. last_port ports n (get_or blocks block 0) count) before
+  put_item n (Node table feeds) is before = put_node n (Node table feeds) is tt (λ ports turn. turn) before
+  put_item n (Latch op) is before = put_node n (Latch op) is tt (λ ports turn. turn) before
+
+  placed_to : (n : ℕ) → n ≤ length nodes.items → ArePlaced nodes machine blocks n
+  placed_to zero up = (
+    [],
+    limits_of machine Nodes machine.logic,
+    replicate machine.logic 0,
+    record { count = refl; each = λ i item low is. absurd (omega (arith, low)) },
+    subst (λ n. AreTurned nodes machine [] n (limits_of machine Nodes machine.logic) (replicate machine.logic 0)) (let none : 0 ≡ 0 - nodes.first_node = omega arith in none)
+        (turned_none nodes machine (limits_of machine Nodes machine.logic) valid.logic_least refl),
+  )
+  placed_to (suc n) up =
+      let there : (item : Item) × (slice_get nodes.items n ≡ Some item) = member_at nodes.items n (omega (arith, up)) in
+      subst (ArePlaced nodes machine blocks) (add-one n) (put_item n there.0 there.1 (placed_to n (omega (arith, up))))
+
+-- homes, or why there are none
+abbrev HomesOrNot : NodeNet → Machine → Type 0
+HomesOrNot nodes machine =
+    ((homes : Homes) × ArePicked nodes machine homes)
+    ⊎ (((block needed left : ℕ) × FindsNoPort nodes machine block needed left)
+    ⊎ ((needed limit : ℕ) × HasTooManyNodes nodes machine needed limit))
+
+pub homes_or_refusal : (nodes : NodeNet) (machine : Machine) → IsWellFormed nodes → IsValid machine
+    → ((homes : Homes) × ArePicked nodes machine homes) ⊎ (((block needed left : ℕ) × FindsNoPort nodes machine block needed left) ⊎ ((needed limit : ℕ) × HasTooManyNodes nodes machine needed limit))
+homes_or_refusal nodes machine formed valid = told (filled_to nodes machine (length nodes.blocks) formed (omega arith)) where
+  placed : (filling : _) → AreFilled nodes machine (length nodes.blocks) filling → (node_room machine < node_count nodes) ⊎ (node_count nodes ≤ node_room machine) → HomesOrNot nodes machine
+  placed filling filled (inl many) =
+      inr (inr (node_count nodes, node_room machine, record { ports = filling.ports; memories = filled.housed; count = refl; room = refl; past = many }))
+  placed filling filled (inr few) =
+      let items = placed_to nodes machine filling.ports formed valid few (length nodes.items) (omega arith) in
+      inl (homes_at machine filling.ports items.0, picked_are nodes machine filling.ports items.0 filled.housed few items.3)
+
+  told : AreFilledOrNot nodes machine (length nodes.blocks) → HomesOrNot nodes machine
+  told (inl (filling, filled)) = placed filling filled (cases_lt (node_room machine) (node_count nodes))
+  told (inr refused) = inr (inl refused)

@@ -3,6 +3,7 @@ pub mod HousedLemmas
 pub mod InputLemmas
 pub mod KnownLemmas
 pub mod KnownUses
+pub mod NodeLemmas
 pub mod OneNone
 pub mod OneRefusal
 pub mod PlanExists

@@ -1,20 +1,21 @@
--- The homes of the same items are the same, and so is the memory that finds no port.
-use Rattle.std.proofs.Common.{◌≡◌, ◌∙◌, ℕ, ◌+◌, ◌-◌, ◌%◌, ◌<◌, ◌==◌, if◌then◌else◌, List, [], ◌∷◌, length, get_or, refl, sym, ap, subst, arith}
-use Rattle.std.specs.Prelude.{Option, Some, None, slice_get}
+-- The homes of the same items are the same, and so are the memory that finds no port and the nodes that
+-- are too many.
+use Rattle.std.proofs.Common.{◌≡◌, ◌∙◌, ℕ, ◌+◌, ◌-◌, ◌%◌, ◌<◌, ◌≤◌, ◌==◌, if◌then◌else◌, List, [], ◌∷◌, length, get_or, refl, sym, ap, subst, arith}
+use Rattle.std.specs.Prelude.{◌↔◌, Option, Some, None, slice_get}
 use Rattle.std.specs.List.{sum_by, range_with_len}
-use Rattle.std.proofs.lemmas.List.{ext_get_or}
 use Rattle.std.proofs.lemmas.List.Sums.{sum_by-cons}
 use Rattle.machine_text.specs.declared.machine.Machine.{Machine}
 use Rattle.node_defs.specs.declared.items.Item.{Item}
 use Rattle.node_defs.specs.declared.items.Item.TheVariants.{Input, BlockBit, Node, Latch}
 use Rattle.node_defs.specs.declared.items.NodeBlock.{NodeBlock}
 use Rattle.node_defs.specs.declared.items.NodeNet.{NodeNet}
+use Rattle.node_defs.specs.Order.{class_of}
 use Rattle.node_defs.specs.Same.{AreSameItems}
-use Rattle.node_defs.proofs.MemberLemmas.{member_at}
+use Rattle.node_defs.specs.WellFormed.{IsComputed}
 use Rattle.plan_defs.specs.declared.plan.Homes.{Homes}
-use Rattle.plan_defs.specs.Homes.{home_of}
-use Rattle.plan_defs.specs.Picks.{bits_of, bits_before, bit_limit, bits_left, LacksRoom, AreHoused, picked_home, ArePicked, FindsNoPort}
+use Rattle.plan_defs.specs.Picks.{bits_of, bits_before, bit_limit, bits_left, LacksRoom, AreHoused, node_limit, nodes_before, IsFull, IsInTurn, HasPickedHome, ArePicked, FindsNoPort, HasTooManyNodes}
 use Rattle.plan_defs.proofs.PlanLemmas.{least_same}
+use Rattle.home_pick.proofs.HousingLemmas.{homes_one}
 use Rattle.yse_compile.proofs.SameItems.{carried, partner}
 
 sum_same : {X : Type 0} (f g : X → ℕ) (xs : List X) → ((x : X) → f x ≡ g x) → sum_by f xs ≡ sum_by g xs
@@ -76,42 +77,70 @@ refused_kept one other machine block needed left same none = record {
   reached = (none.reached.0, λ some. (let at = none.reached.1 some in (at.0, at.1, sym (left_kept one other same machine none.ports block at.0) ∙ at.2)));
 }
 
+-- the nodes are too many in both
+pub too_many_kept : (one other : NodeNet) (machine : Machine) (needed limit : ℕ) → AreSameItems one other → HasTooManyNodes one machine needed limit → HasTooManyNodes other machine needed limit
+too_many_kept one other machine needed limit same many = record {
+  ports = many.ports;
+  memories = all_housed one other machine many.ports same.blocks many.memories;
+  count = omega (arith, many.count, same.count, same.first_node);
+  room = many.room;
+  past = many.past;
+}
+
 -- ---- items
 
-abbrev homes_of : ℕ → ℕ → List ℕ → List ℕ → Homes
-homes_of logic array items blocks = record { logic = logic; array = array; items = items; blocks = blocks }
+-- which items are nodes is told by where they begin
+module _ (one other : NodeNet) (machine : Machine) (ports : List ℕ) (n : ℕ) (same : one.first_node ≡ other.first_node) where
+  counts_kept : (port : ℕ) → nodes_before one ports n port ≡ nodes_before other ports n port
+  counts_kept port = ap (λ first. sum_by (λ k. if get_or ports (first + k) 0 == port then 1 else 0) (range_with_len 0 n)) same
 
-homes_equal : (a b : Homes) → a.logic ≡ b.logic → a.array ≡ b.array → a.items ≡ b.items → a.blocks ≡ b.blocks → a ≡ b
-homes_equal a b logic array items blocks =
-    ap (λ l. homes_of l a.array a.items a.blocks) logic
-    ∙ (ap (λ k. homes_of b.logic k a.items a.blocks) array
-    ∙ (ap (λ is. homes_of b.logic b.array is a.blocks) items
-    ∙ ap (homes_of b.logic b.array b.items) blocks))
+  full_kept : (port : ℕ) → IsFull one machine ports n port → IsFull other machine ports n port
+  full_kept port full = subst (λ count. node_limit machine port ≤ count) (counts_kept port) full
 
-module _ (one other : NodeNet) (same : AreSameItems one other) (machine : Machine) (a b : Homes) (first : ArePicked one machine a) (second : ArePicked other machine b) (blocks : a.blocks ≡ b.blocks) where
-  logic : a.logic ≡ b.logic
-  logic = first.logic ∙ sym second.logic
+  full_back : (port : ℕ) → IsFull other machine ports n port → IsFull one machine ports n port
+  full_back port full = subst (λ count. node_limit machine port ≤ count) (sym (counts_kept port)) full
 
-  array : a.array ≡ b.array
-  array = first.array ∙ sym second.array
+  turn_kept : IsInTurn one machine ports n → IsInTurn other machine ports n
+  turn_kept turn = record {
+    past = turn.past;
+    within = turn.within;
+    at = subst (λ first. get_or ports (first + n) 0 ≡ (n + turn.past) % machine.logic) same turn.at;
+    first = least_same (λ e. IsFull one machine ports n ((n + e) % machine.logic)) (λ e. IsFull other machine ports n ((n + e) % machine.logic)) turn.past
+        (λ e. full_kept ((n + e) % machine.logic)) (λ e. full_back ((n + e) % machine.logic)) turn.first;
+  }
 
-  -- an item is picked the same home in both
-  pick_same : (x : ℕ) (i : Item) → picked_home one a x i ≡ picked_home other b x i
-  pick_same x (Input column) = omega (arith, logic, array)
-  pick_same x (BlockBit block bit) = ap (λ ports. get_or ports block 0) blocks
-  pick_same x (Node table feeds) = ap (λ n. (x - n) % a.logic) same.first_node ∙ ap (λ l. (x - other.first_node) % l) logic
-  pick_same x (Latch op) = ap (λ n. (x - n) % a.logic) same.first_node ∙ ap (λ l. (x - other.first_node) % l) logic
+-- an item has its home in both
+home_kept : (one other : NodeNet) (machine : Machine) (homes : Homes) (x : ℕ) (i : Item) → one.first_node ≡ other.first_node → HasPickedHome one machine homes x i → HasPickedHome other machine homes x i
+home_kept one other machine homes x (Input column) same at = at
+home_kept one other machine homes x (BlockBit block bit) same at = at
+home_kept one other machine homes x (Node table feeds) same at =
+    turn_kept one other machine homes.items (x - other.first_node) same (subst (λ first. IsInTurn one machine homes.items (x - first)) same at)
+home_kept one other machine homes x (Latch op) same at =
+    turn_kept one other machine homes.items (x - other.first_node) same (subst (λ first. IsInTurn one machine homes.items (x - first)) same at)
 
-  home_at : (x : ℕ) (i : Item) → slice_get one.items x ≡ Some i → home_of a x ≡ home_of b x
-  home_at x i at =
+-- homes that are picked for one list of items are picked for another of the same
+pub picked_kept : (one other : NodeNet) → AreSameItems one other → (machine : Machine) (homes : Homes) → ArePicked other machine homes → ArePicked one machine homes
+picked_kept one other same machine homes picked = record {
+  logic = picked.logic;
+  array = picked.array;
+  memories = all_housed other one machine homes.blocks (sym same.blocks) picked.memories;
+  few = omega (arith, picked.few, same.count, same.first_node);
+  items = picked.items ∙ sym same.count;
+  picked = λ x i at.
       let there = partner one other same x i at in
-      let pick : picked_home other b x i ≡ picked_home other b x there.0 =
-      carried (λ k. picked_home other b x i ≡ picked_home other b x k) (λ t u f is. is) one.tables other.tables i there.0 there.2 refl in
-      first.picked x i at ∙ (pick_same x i ∙ (pick ∙ sym (second.picked x there.0 there.1)))
+      let back : HasPickedHome other machine homes x there.0 → HasPickedHome other machine homes x i =
+      carried (λ k. HasPickedHome other machine homes x k → HasPickedHome other machine homes x i) (λ t u f is. is) one.tables other.tables i there.0 there.2 (λ is. is) in
+      home_kept other one machine homes x i (sym same.first_node) (back (picked.picked x there.0 there.1));
+}
 
-  pub homes_same : a ≡ b
-  homes_same = homes_equal a b logic array (ext_get_or 0 a.items b.items (first.items ∙ (same.count ∙ sym second.items)) at) blocks where
-    at : (x : ℕ) → x < length a.items → get_or a.items x 0 ≡ get_or b.items x 0
-    at x within =
-        let i : (item : Item) × (slice_get one.items x ≡ Some item) = member_at one.items x (omega (arith, within, first.items)) in
-        home_at x i.0 i.1
+class_computed : (item : Item) → IsComputed item → class_of item ≡ 2
+class_computed (Input column) is = absurd is
+class_computed (BlockBit block bit) is = absurd is
+class_computed (Node table feeds) is = refl
+class_computed (Latch op) is = refl
+
+-- the homes of both are the same
+pub homes_same : (one other : NodeNet) (machine : Machine) (a b : Homes) → AreSameItems one other → ((x : ℕ) (item : Item) → slice_get one.items x ≡ Some item → (class_of item ≡ 2) ↔ (one.first_node ≤ x))
+    → ArePicked one machine a → ArePicked other machine b → a ≡ b
+homes_same one other machine a b same last first second =
+    homes_one one machine a b (λ x item at computed. (last x item at).0 (class_computed item computed)) first (picked_kept one other same machine b second)

@@ -19,8 +19,8 @@ use Rattle.image_defs.specs.Frames.{shown}
 use Rattle.image_build.specs.Built.{IsBuilt}
 use Rattle.yse_compile.specs.declared.compiler.Compiled.{Compiled}
 use Rattle.yse_compile.specs.declared.compiler.CompNo.{CompNo}
-use Rattle.yse_compile.specs.declared.compiler.CompNo.TheVariants.{Loop, Bits, Slots, Functions, Memory}
-use Rattle.yse_compile.specs.Designs.{IsAcyclic, HasLoop, LacksBits, LacksSlots, LacksFunctions}
+use Rattle.yse_compile.specs.declared.compiler.CompNo.TheVariants.{Loop, Bits, Slots, Functions, Memory, Nodes}
+use Rattle.yse_compile.specs.Designs.{IsAcyclic, HasLoop, LacksBits, LacksNodes, LacksSlots, LacksFunctions}
 
 -- these are the netlist's items, their homes on the machine, their first-fit plan, which fits, its switch
 -- and its image
@@ -47,6 +47,7 @@ IsRight net machine timing (Bits block needed left) = LacksBits net machine timi
 IsRight net machine timing (Slots needed limit) = LacksSlots net machine timing needed limit
 IsRight net machine timing (Functions port needed limit) = LacksFunctions net machine timing port needed limit
 IsRight net machine timing Memory = Unit {0}
+IsRight net machine timing (Nodes needed limit) = LacksNodes net machine timing needed limit
 
 -- the refusal says that the machine is too small for the design
 abbrev pub IsOverfull : CompNo → Type 0
@@ -55,3 +56,4 @@ IsOverfull (Bits block needed left) = Unit {0}
 IsOverfull (Slots needed limit) = Unit {0}
 IsOverfull (Functions port needed limit) = Unit {0}
 IsOverfull Memory = ⊥
+IsOverfull (Nodes needed limit) = Unit {0}

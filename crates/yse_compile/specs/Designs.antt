@@ -1,5 +1,5 @@
 -- When a design fits a machine, and why it doesn't.
-use Rattle.std.specs.Prelude.{◌≡◌, ◌≢◌, ℕ, List}
+use Rattle.std.specs.Prelude.{◌≢◌, ℕ, List}
 use Rattle.machine_text.specs.declared.machine.Machine.{Machine}
 use Rattle.net_defs.specs.declared.netlist.Netlist.{Netlist}
 use Rattle.net_defs.specs.declared.timing.Timing.{Timing}
@@ -9,7 +9,7 @@ use Rattle.node_defs.specs.declared.items.NodeNet.{NodeNet}
 use Rattle.node_defs.specs.Order.{AreItems}
 use Rattle.plan_defs.specs.declared.plan.Homes.{Homes}
 use Rattle.plan_defs.specs.declared.plan.Plan.{Plan}
-use Rattle.plan_defs.specs.Picks.{ArePicked, FindsNoPort}
+use Rattle.plan_defs.specs.Picks.{ArePicked, FindsNoPort, HasTooManyNodes}
 use Rattle.plan_defs.specs.Slots.{IsFirstFitPlan}
 use Rattle.plan_defs.specs.Tables.{Fits}
 use Rattle.slot_plan.specs.Refusals.{IsLong, IsCrowded}
@@ -44,7 +44,14 @@ pub record LacksBits (net : Netlist) (machine : Machine) (timing : Timing) (bloc
   pub items : AreItems net timing nodes
   pub none : FindsNoPort nodes machine block needed left
 
--- each memory has a port, and the plan needs more slots than a turn has
+-- each memory has a port, and the nodes are more than the logic ports hold together
+pub record LacksNodes (net : Netlist) (machine : Machine) (timing : Timing) (needed limit : ℕ) : Type 0 where
+  pub acyclic : IsAcyclic net timing
+  pub nodes : NodeNet
+  pub items : AreItems net timing nodes
+  pub many : HasTooManyNodes nodes machine needed limit
+
+-- the items have homes, and the plan needs more slots than a turn has
 pub record LacksSlots (net : Netlist) (machine : Machine) (timing : Timing) (needed limit : ℕ) : Type 0 where
   pub acyclic : IsAcyclic net timing
   pub nodes : NodeNet
@@ -53,7 +60,7 @@ pub record LacksSlots (net : Netlist) (machine : Machine) (timing : Timing) (nee
   pub picked : ArePicked nodes machine homes
   pub long : IsLong nodes homes machine needed limit
 
--- the slots suffice, and this port is the first whose nodes use too many different tables
+-- the slots suffice, and this port is the first whose nodes use more different tables than its limit
 pub record LacksFunctions (net : Netlist) (machine : Machine) (timing : Timing) (port needed limit : ℕ) : Type 0 where
   pub acyclic : IsAcyclic net timing
   pub nodes : NodeNet

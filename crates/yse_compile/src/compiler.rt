@@ -8,7 +8,7 @@ ghost use Rattle.yse_compile.specs.Designs.{DesignFits};
 ghost use Rattle.yse_compile.specs.Compiled.{IsCompiled, ShowsReference, IsRight};
 ghost use Rattle.yse_compile.specs.declared.compiler.CompNo.TheVariants as no;
 
-use crate::law::{fits_bits, fits_functions, fits_slots};
+use crate::law::{fits_bits, fits_functions, fits_nodes, fits_slots};
 use crate::steps::{compile_items, items_of};
 use image_defs::Image;
 use machine_text::Machine;
@@ -33,7 +33,8 @@ pub struct Compiled {
     pub image: Image,
 }
 
-/// Why a netlist is not compiled: the first of these that holds.
+/// Why a netlist is not compiled: the first that holds of loop, bits, nodes, slots and functions, or
+/// want of memory.
 #[derive(Drop)]
 pub enum CompNo {
     /// These gates, none of them late, are a loop: each is an operand of the next, and the last of the
@@ -44,10 +45,13 @@ pub enum CompNo {
     Bits { block: u32, needed: u32, left: u32 },
     /// A turn needs more slots than the machine has.
     Slots { needed: u32, limit: u32 },
-    /// The nodes of this logic port, the first such, use more different tables than it holds.
+    /// The nodes of this logic port, the first such, use more different tables than its own limit.
     Functions { port: u32, needed: u32, limit: u32 },
     /// There was not enough memory.
     Memory,
+    /// Each memory has a port, and there are more nodes than all logic ports hold together. It comes
+    /// before `Slots`.
+    Nodes { needed: u32, limit: u32 },
 }
 
 impl From<Memory> for CompNo {
@@ -79,6 +83,7 @@ pub fn compile(
     ensures fits { DesignFits net.now machine.now timing.now → IfErr result (λ refusal. refusal ≡ no.Memory) }
 {
     fits_bits();
+    fits_nodes();
     fits_slots();
     fits_functions();
     match items_of(alloc, net, machine, timing) {

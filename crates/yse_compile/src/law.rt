@@ -14,7 +14,7 @@ ghost use Rattle.plan_defs.specs.declared.plan.Homes.{Homes};
 ghost use Rattle.plan_defs.specs.declared.plan.Plan.{Plan};
 ghost use Rattle.plan_defs.specs.declared.switch.Switch.{Switch};
 ghost use Rattle.plan_defs.specs.Homes.{AreHomes};
-ghost use Rattle.plan_defs.specs.Picks.{ArePicked, FindsNoPort};
+ghost use Rattle.plan_defs.specs.Picks.{ArePicked, FindsNoPort, HasTooManyNodes};
 ghost use Rattle.plan_defs.specs.Slots.{IsFirstFitPlan};
 ghost use Rattle.plan_defs.specs.Switches.{IsSwitch};
 ghost use Rattle.plan_defs.specs.Tables.{UsesTables};
@@ -22,7 +22,7 @@ ghost use Rattle.yse_compile.specs.declared.compiler.CompNo.{CompNo};
 ghost use Rattle.yse_compile.specs.declared.compiler.Compiled.{Compiled};
 ghost use Rattle.yse_compile.specs.Compiled.{IsCompiled, IsRight, IsOverfull};
 ghost use Rattle.yse_compile.specs.Designs.{IsAcyclic, DesignFits};
-ghost use Rattle.yse_compile.specs.Designs.{LacksBits, LacksSlots, LacksFunctions};
+ghost use Rattle.yse_compile.specs.Designs.{LacksBits, LacksNodes, LacksSlots, LacksFunctions};
 
 use home_pick::law::{housed_or_refused, one_housing};
 use node_defs::law::one_list;
@@ -37,7 +37,6 @@ pub fn one_homes()
         → ArePicked others machine other_homes → homes ≡ other_homes }
 {
     one_list();
-    one_housing();
 }
 
 /// A law: on a machine the first-fit plans of a netlist need one number of slots, whichever numbers
@@ -57,11 +56,12 @@ pub fn one_need()
 }
 
 /// A law: on a machine there are homes that are picked for items, or a memory is the first that
-/// finds no port. It does nothing.
+/// finds no port, or the nodes are more than the logic ports hold. It does nothing.
 pub fn homes_or_refusal()
     ensures { (nodes : NodeNet) (machine : Machine) → IsWellFormed nodes → IsValidMachine machine
         → ((homes : Homes) × ArePicked nodes machine homes × AreHomes nodes homes)
-        ⊎ ((block needed left : ℕ) × FindsNoPort nodes machine block needed left) }
+        ⊎ (((block needed left : ℕ) × FindsNoPort nodes machine block needed left)
+        ⊎ ((needed limit : ℕ) × HasTooManyNodes nodes machine needed limit)) }
 {}
 
 /// A law: items at their homes have a first-fit plan. It does nothing.
@@ -106,6 +106,25 @@ pub fn bits_first()
     housed_or_refused();
 }
 
+/// A law: where a memory finds no port, the nodes are not spoken of. It does nothing.
+pub fn bits_before_nodes()
+    ensures { (net : Netlist) (machine : Machine) (timing : Timing)
+        → (block bits left needed limit : ℕ) → LacksBits net machine timing block bits left
+        → LacksNodes net machine timing needed limit → ⊥ }
+{
+    one_list();
+    housed_or_refused();
+}
+
+/// A law: where the nodes are too many, the items have no homes. It does nothing.
+pub fn nodes_first()
+    ensures { (net : Netlist) (machine : Machine) (timing : Timing) (nodes : NodeNet)
+        → (homes : Homes) → AreItems net timing nodes → ArePicked nodes machine homes
+        → (needed limit : ℕ) → LacksNodes net machine timing needed limit → ⊥ }
+{
+    one_list();
+}
+
 /// A law: where a plan has too many slots, no port's tables are spoken of. It does nothing.
 pub fn slots_first()
     ensures { (net : Netlist) (machine : Machine) (timing : Timing) → IsValid net
@@ -121,6 +140,14 @@ pub fn fits_bits()
         → (block needed left : ℕ) → LacksBits net machine timing block needed left → ⊥ }
 {
     bits_first();
+}
+
+/// A law: where a design fits, its nodes are not too many. It does nothing.
+pub fn fits_nodes()
+    ensures { (net : Netlist) (machine : Machine) (timing : Timing) → DesignFits net machine timing
+        → (needed limit : ℕ) → LacksNodes net machine timing needed limit → ⊥ }
+{
+    nodes_first();
 }
 
 /// A law: where a design fits, its plan needs no more slots than a turn has. It does nothing.
@@ -152,6 +179,18 @@ pub fn one_lack()
 {
     one_list();
     one_housing();
+}
+
+/// A law: nodes that are too many are one number, and so are those that all logic ports hold. It does
+/// nothing.
+pub fn one_many()
+    ensures { (net : Netlist) (machine : Machine) (timing : Timing)
+        → (needed limit other_needed other_limit : ℕ)
+        → LacksNodes net machine timing needed limit
+        → LacksNodes net machine timing other_needed other_limit
+        → (needed ≡ other_needed) × (limit ≡ other_limit) }
+{
+    one_list();
 }
 
 /// A law: a plan of too many slots needs one number of them. It does nothing.
@@ -187,6 +226,9 @@ pub fn one_refusal()
 {
     one_lack();
     bits_first();
+    bits_before_nodes();
+    one_many();
+    nodes_first();
     one_length();
     slots_first();
     one_crowd();

@@ -114,6 +114,7 @@ fn homes_of(
             left,
         }),
         Err(HomeNo::Memory) => Err(CompNo::Memory),
+        Err(HomeNo::Nodes { needed, limit }) => Err(CompNo::Nodes { needed, limit }),
     }
 }
 

@@ -190,7 +190,7 @@ module _ (net : Netlist) (machine : Machine) (timing : Timing) (once : AreOnce n
   pub some_report : IsValidMachine machine → DesignFits net machine timing → (s : List ℕ) × IsReportOf net machine timing s
   some_report valid fits =
       let formed = once.formed fits.nodes fits.items in
-      let are = homes_are fits.nodes machine fits.homes valid fits.picked in (
+      let are = homes_are fits.nodes machine fits.homes formed valid fits.picked in (
         report_text net fits.nodes fits.homes fits.plan (figures fits.nodes fits.homes formed are fits.plan.slots),
         record {
           nodes = fits.nodes;

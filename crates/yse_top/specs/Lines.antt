@@ -59,6 +59,7 @@ machine_line (mach_no.Range line) = setting_line line (codes "out of range")
 machine_line (mach_no.Twice line) = setting_line line (codes "given twice")
 machine_line (mach_no.Ports sum) = ports_line sum
 machine_line mach_no.Memory = memory_line
+machine_line (mach_no.NoPort line) = setting_line line (codes "no such port")
 
 -- ---- designs that don't fit
 
@@ -72,6 +73,10 @@ memory_name net block = of_memory (slice_get net.blocks block) where
 unfoldable pub bits_line : List ℕ → ℕ → ℕ → List ℕ
 bits_line name needed left =
     joined (codes "overfull: bits of memory " ∷ name ∷ codes ": " ∷ decimal needed ∷ codes " needed, " ∷ decimal left ∷ codes " left\n" ∷ [])
+
+unfoldable pub nodes_line : ℕ → ℕ → List ℕ
+nodes_line needed limit =
+    joined (codes "overfull: nodes: " ∷ decimal needed ∷ codes " needed, limit is " ∷ decimal limit ∷ codes "\n" ∷ [])
 
 unfoldable pub slots_line : ℕ → ℕ → List ℕ
 slots_line needed limit =
@@ -87,6 +92,7 @@ overfull_line net (comp_no.Bits block needed left) = bits_line (memory_name net 
 overfull_line net (comp_no.Slots needed limit) = slots_line needed limit
 overfull_line net (comp_no.Functions port needed limit) = functions_line port needed limit
 overfull_line net comp_no.Memory = memory_line
+overfull_line net (comp_no.Nodes needed limit) = nodes_line needed limit
 
 -- ---- netlists
 

@@ -179,6 +179,7 @@ fn of_design<'a>(net: Netlist, _machine: &Machine, _timing: &Timing, no: CompNo)
             Refusal::Overfull(net, no)
         }
         CompNo::Memory => Refusal::Memory,
+        CompNo::Nodes { needed, limit } => Refusal::Overfull(net, CompNo::Nodes { needed, limit }),
     }
 }
 

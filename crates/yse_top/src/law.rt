@@ -18,7 +18,8 @@ use ref_sim::one_simulation;
 use stim_text::law::reads_or_faults as stimuli_or_faults;
 use stim_text::order_law::reads_or_faults as orders_or_faults;
 use yse_compile::law::{
-    fits_bits, fits_functions, fits_or_refused, fits_slots, one_homes, one_linking, one_refusal,
+    fits_bits, fits_functions, fits_nodes, fits_or_refused, fits_slots, one_homes, one_linking,
+    one_refusal,
 };
 
 /// Words come to one outcome over what is read, but that any loop may be named where there are several,
@@ -42,6 +43,7 @@ pub fn calls_are_proper()
     items_exist();
     fits_or_refused();
     fits_bits();
+    fits_nodes();
     fits_slots();
     fits_functions();
     one_refusal();

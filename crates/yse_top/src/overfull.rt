@@ -1,7 +1,7 @@
 //! The lines of machine texts that are refused, and of designs that do not fit a machine.
 
 ghost use Rattle.std.specs.Prelude.{◌≡◌};
-ghost use Rattle.yse_top.specs.Lines.{machine_line, setting_line, ports_line, overfull_line, bits_line, slots_line, functions_line, memory_name as name_of_memory};
+ghost use Rattle.yse_top.specs.Lines.{machine_line, setting_line, ports_line, overfull_line, bits_line, nodes_line, slots_line, functions_line, memory_name as name_of_memory};
 ghost use Rattle.yse_top.specs.Writing.{Takes};
 
 use crate::diagnostics::{write_loop_line, write_memory_line, write_pieces};
@@ -23,6 +23,7 @@ pub fn write_machine_line<S: Sink>(sink: &mut S, no: &MachNo) -> Result<(), Writ
         MachNo::Twice { line } => write_setting_line(sink, *line, b"given twice"),
         MachNo::Ports { sum } => write_ports_line(sink, *sum),
         MachNo::Memory => write_memory_line(sink),
+        MachNo::NoPort { line } => write_setting_line(sink, *line, b"no such port"),
     }
 }
 
@@ -69,6 +70,7 @@ pub fn write_overfull_line<S: Sink>(sink: &mut S, net: &Netlist, no: &CompNo) ->
             limit,
         } => write_functions_line(sink, *port, *needed, *limit),
         CompNo::Memory => write_memory_line(sink),
+        CompNo::Nodes { needed, limit } => write_nodes_line(sink, *needed, *limit),
     }
 }
 
@@ -111,6 +113,26 @@ fn write_bits_line<S: Sink>(
             b" needed, ",
             left,
             b" left\n",
+        ],
+    )
+}
+
+#[tactic(auto, unfolding(crate::specs::Lines::nodes_line))]
+fn write_nodes_line<S: Sink>(sink: &mut S, needed: u32, limit: u32) -> Result<(), WriteNo>
+    ensures { Takes (S.taken sink.old) (S.taken sink.new) (S.faults sink.old) (S.faults sink.new)
+        result (nodes_line needed limit) }
+{
+    let (mut first, mut second) = (Buffer::new(), Buffer::new());
+    let needed = first.format(needed).as_bytes();
+    let limit = second.format(limit).as_bytes();
+    write_pieces(
+        sink,
+        &[
+            b"overfull: nodes: ",
+            needed,
+            b" needed, limit is ",
+            limit,
+            b"\n",
         ],
     )
 }

@@ -37,7 +37,7 @@ pub fn plan<'a, F: Files>(
     ensures writable { IfOk result CanWrite }
 {
     match &words.machine {
-        None => plan_on(alloc, files, words, Machine::default_size()),
+        None => plan_on(alloc, files, words, Machine::default_size(alloc)),
         Some(file) => plan_by(alloc, files, words, file.as_bytes()),
     }
 }

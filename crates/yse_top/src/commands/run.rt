@@ -76,7 +76,7 @@ fn run_telling<'a, R: Threads + Wait + Sync, F: Files, G: Gate + Send>(
             files,
             words,
             pace,
-            Machine::default_size(),
+            Machine::default_size(alloc),
             gates,
         ),
         Some(file) => run_by(rt, alloc, files, words, pace, file.as_bytes(), gates),

@@ -3,4 +3,4 @@ use Rattle.home_pick.specs.Rooms.{LacksBits}
 use Rattle.home_pick.proofs.blocks.first_with_room.Given as goal
 
 abbrev pub invariant-ports : goal.invariant-ports
-invariant-ports l = (b : ℕ) → b < l.a → LacksBits l.machine l.used l.needed b
+invariant-ports l = (b : ℕ) → b < l.a → LacksBits l.left l.needed b

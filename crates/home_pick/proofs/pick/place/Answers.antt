@@ -2,16 +2,11 @@ use Rattle.std.proofs.Common.{◌≡◌, ◌∙◌, ◌<◌, List, ℕ, Some, sl
 use Rattle.std.proofs.lemmas.Option.{slice_get_read}
 use Rattle.plan_defs.specs.Picks.{bits_of}
 use Rattle.home_pick.specs.Rooms.{LacksBits, IsMostLeft}
-use Rattle.home_pick.proofs.FillLemmas.{bits_few, bits_read, none_found, some_bits}
+use Rattle.home_pick.proofs.FillLemmas.{bits_read, none_found, some_bits}
 use Rattle.home_pick.proofs.pick.place.Goals as goal
 
 pub block_bits-needed-requires-clause-word : goal.block_bits-needed-requires-clause-word
 block_bits-needed-requires-clause-word c = (c.requires.nodes.memories c.args.block c.index-as_slice-block.result (subst (λ xs. slice_get xs c.args.block ≡ Some c.index-as_slice-block.result) c.as_slice.ensures (slice_get_read c.as_slice.result.now (length c.as_slice.result.now) c.args.block c.index-as_slice-block.result refl (omega (arith, ap length c.as_slice.ensures)) c.index-as_slice-block.is))).word.1
-
-pub first_with_room-requires-clause-needed : goal.first_with_room-requires-clause-needed
-first_with_room-requires-clause-needed c =
-    let memory = c.requires.nodes.memories c.args.block c.index-as_slice-block.result (subst (λ xs. slice_get xs c.args.block ≡ Some c.index-as_slice-block.result) c.as_slice.ensures (slice_get_read c.as_slice.result.now (length c.as_slice.result.now) c.args.block c.index-as_slice-block.result refl (omega (arith, ap length c.as_slice.ensures)) c.index-as_slice-block.is)) in
-    rw c.block_bits-needed.ensures (bits_few (length c.index-as_slice-block.result.address) (length c.index-as_slice-block.result.word) memory.address.1 memory.word.1)
 
 pub put-requires-clause-needed : goal.put-requires-clause-needed
 put-requires-clause-needed c =
@@ -22,7 +17,7 @@ pub returns-in-None-clause-refused : goal.returns-in-None-clause-refused
 returns-in-None-clause-refused c =
     none_found c.args.nodes.now c.args.machine.now c.args.filling.now c.args.block c.requires.before c.block_bits-needed.result c.most_left.result c.requires.block
     (c.block_bits-needed.ensures ∙ sym (bits_read c.args.nodes.now c.args.block c.index-as_slice-block.result (subst (λ xs. slice_get xs c.args.block ≡ Some c.index-as_slice-block.result) c.as_slice.ensures (slice_get_read c.as_slice.result.now (length c.as_slice.result.now) c.args.block c.index-as_slice-block.result refl (omega (arith, ap length c.as_slice.ensures)) c.index-as_slice-block.is))))
-    (subst (λ (used : List ℕ). (a : ℕ) → a < length used → LacksBits c.args.machine.now used c.block_bits-needed.result a) c.as_slice-2.ensures (c.in-None.ensures.none refl))
-    (subst (λ (used : List ℕ). IsMostLeft c.args.machine.now used (length used) c.most_left.result) c.as_slice-in-None.ensures c.most_left.ensures)
+    (subst (λ (left : List ℕ). (a : ℕ) → a < length left → LacksBits left c.block_bits-needed.result a) c.as_slice-2.ensures (c.in-None.ensures.none refl))
+    (subst (λ (left : List ℕ). IsMostLeft left (length left) c.most_left.result) c.as_slice-in-None.ensures c.most_left.ensures)
     (let memory = c.requires.nodes.memories c.args.block c.index-as_slice-block.result (subst (λ xs. slice_get xs c.args.block ≡ Some c.index-as_slice-block.result) c.as_slice.ensures (slice_get_read c.as_slice.result.now (length c.as_slice.result.now) c.args.block c.index-as_slice-block.result refl (omega (arith, ap length c.as_slice.ensures)) c.index-as_slice-block.is)) in
     rw c.block_bits-needed.ensures (some_bits (length c.index-as_slice-block.result.address) (length c.index-as_slice-block.result.word) memory.word.0))

@@ -11,4 +11,5 @@ crossings-requires-clause-nodes c =
 
 pub crossings-requires-clause-homes : goal.crossings-requires-clause-homes
 crossings-requires-clause-homes c =
-    homes_are c.args.compiled.now.nodes large_machine c.args.compiled.now.homes machine_valid c.requires.compiled.picked
+    homes_are c.args.compiled.now.nodes large_machine c.args.compiled.now.homes
+    (c.items_are_well_formed.ensures (large_netlist c.args.gates) large_timing c.args.compiled.now.nodes (valid_large c.args.gates c.requires.few) c.requires.compiled.items) machine_valid c.requires.compiled.picked

@@ -5,7 +5,7 @@ use Rattle.yse_compile.specs.declared.compiler.CompNo.{CompNo}
 use Rattle.yse_compile.specs.declared.compiler.CompNo.TheVariants as no
 use Rattle.yse_compile.specs.Compiled.{IsOverfull, IsRight}
 use Rattle.large_run.specs.Setting.{large_machine, large_timing}
-use Rattle.large_run.proofs.SettingLemmas.{machine_valid}
+use Rattle.large_run.proofs.SettingLemmas.{large_room, machine_valid}
 use Rattle.large_run.proofs.law.large_fits.Goals as goal
 
 pub returns : goal.returns
@@ -22,10 +22,13 @@ returns c gates few = elim (c.order_or_loop.ensures.one (large_netlist gates) la
   never (no.Loop members) right overfull = overfull
   never no.Memory right overfull = overfull
   never (no.Bits block needed left) right overfull = omega (arith, right.none.there, right.items.memories)
+  never (no.Nodes needed limit) right overfull =
+      let items = c.few_items.ensures gates large_timing right.nodes few right.items in
+      omega (arith, items, few, right.many.count, right.many.room, right.many.past, large_room)
   never (no.Slots needed limit) right overfull =
       let formed = c.items_are_well_formed.ensures (large_netlist gates) large_timing right.nodes (valid_large gates few) right.items in
       let slots = c.few_slots.ensures right.nodes right.homes right.long.plan formed right.long.is in
       let items = c.few_items.ensures gates large_timing right.nodes few right.items in
       omega (arith, slots, items, few, right.long.needs, right.long.most, right.long.past)
   never (no.Functions port needed limit) right overfull =
-      c.few_tables.ensures.never (large_netlist gates) large_machine large_timing (valid_large gates few) (omega arith) port needed limit right
+      c.few_tables.ensures.never (large_netlist gates) large_machine large_timing (valid_large gates few) (λ p low. omega arith) port needed limit right

@@ -18,7 +18,7 @@ pub returns-clause-some : goal.returns-clause-some
 returns-clause-some c gates cycles few =
     let fits = c.large_fits.ensures gates few in
     let formed = c.items_are_well_formed.ensures (large_netlist gates) large_timing fits.nodes (valid_large gates few) fits.items in
-    let crossed = crossings_there fits.nodes fits.homes formed (homes_are fits.nodes large_machine fits.homes machine_valid fits.picked) in
+    let crossed = crossings_there fits.nodes fits.homes formed (homes_are fits.nodes large_machine fits.homes formed machine_valid fits.picked) in
     let simulated : HasOneSimulation (large_netlist gates) large_timing (large_stimulus (gate_state gates) cycles) =
     c.one_simulation.ensures.without_loop (large_netlist gates) large_timing (large_stimulus (gate_state gates) cycles) (no_circle_large gates large_timing) in (
       summary_text (summary_of gates fits.nodes fits.plan crossed.0 (cells_to (large_netlist gates) large_timing simulated.states cycles)),

@@ -1,5 +1,5 @@
 use Rattle.std.proofs.Common.{inl, inr}
-use Rattle.yse_compile.proofs.FitLemmas.{plan_fits, none_fits}
+use Rattle.yse_compile.proofs.FitLemmas.{plan_fits, none_fits, many_fits}
 use Rattle.yse_compile.proofs.law.fits_or_refused.Goals as goal
 
 pub returns : goal.returns
@@ -9,5 +9,6 @@ returns c net machine timing nodes valid machine_valid acyclic items =
       | inl found ↦
           let plan = c.plan_exists.ensures nodes found.0 formed found.2 in
           plan_fits net machine timing nodes acyclic items found.0 found.1 (c.tables_counted.ensures nodes found.0 formed) plan.0 plan.1
-      | inr refused ↦ none_fits net machine timing nodes acyclic items refused.0 refused.1 refused.2 refused.3
+      | inr (inl refused) ↦ none_fits net machine timing nodes acyclic items refused.0 refused.1 refused.2 refused.3
+      | inr (inr refused) ↦ many_fits net machine timing nodes acyclic items refused.0 refused.1 refused.2
     ]

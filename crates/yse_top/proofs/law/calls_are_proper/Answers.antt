@@ -10,7 +10,7 @@ use Rattle.net_defs.specs.Valid.{IsValid}
 use Rattle.yse_compile.specs.declared.compiler.CompNo.{CompNo}
 use Rattle.yse_compile.specs.declared.compiler.CompNo.TheVariants as comp_no
 use Rattle.yse_compile.specs.Compiled.{IsRight, IsOverfull}
-use Rattle.yse_compile.specs.Designs.{DesignFits, IsAcyclic, LacksBits, LacksSlots, LacksFunctions}
+use Rattle.yse_compile.specs.Designs.{DesignFits, IsAcyclic, LacksBits, LacksNodes, LacksSlots, LacksFunctions}
 use Rattle.text_lines.specs.Answers.{IsReader}
 use Rattle.net_defs.specs.declared.netlist.Netlist.{Netlist}
 use Rattle.net_defs.specs.declared.stimulus.Stimulus.{Stimulus}
@@ -276,16 +276,18 @@ module _ {net : Netlist} {machine : Machine} {timing : Timing} where
   some_room (inl fits) = inl fits
   some_room (inr (why, right, is)) = inr (why, is, right)
 
-  -- a refusal is one of the three
+  -- a refusal is one of the four
   never_room : (why : CompNo) → IsOverfull why → IsRight net machine timing why
       → ((block needed left : ℕ) → LacksBits net machine timing block needed left → ⊥)
+      → ((needed limit : ℕ) → LacksNodes net machine timing needed limit → ⊥)
       → ((needed limit : ℕ) → LacksSlots net machine timing needed limit → ⊥)
       → ((port needed limit : ℕ) → LacksFunctions net machine timing port needed limit → ⊥) → ⊥
-  never_room (comp_no.Loop members) is right bits slots functions = is
-  never_room (comp_no.Bits block needed left) is right bits slots functions = bits block needed left right
-  never_room (comp_no.Slots needed limit) is right bits slots functions = slots needed limit right
-  never_room (comp_no.Functions port needed limit) is right bits slots functions = functions port needed limit right
-  never_room comp_no.Memory is right bits slots functions = is
+  never_room (comp_no.Loop members) is right bits nodes slots functions = is
+  never_room (comp_no.Bits block needed left) is right bits nodes slots functions = bits block needed left right
+  never_room (comp_no.Slots needed limit) is right bits nodes slots functions = slots needed limit right
+  never_room (comp_no.Functions port needed limit) is right bits nodes slots functions = functions port needed limit right
+  never_room (comp_no.Nodes needed limit) is right bits nodes slots functions = nodes needed limit right
+  never_room comp_no.Memory is right bits nodes slots functions = is
 
 default_is_valid : IsValidMachine default_machine
 default_is_valid = record {
@@ -298,6 +300,10 @@ default_is_valid = record {
   functions_most = omega arith;
   bits_least = omega arith;
   bits_most = omega arith;
+  nodes_least = omega arith;
+  nodes_most = omega arith;
+  own = λ i d low. absurd (omega (arith, low));
+  once = λ i j d low up. absurd (omega (arith, up));
   ports = omega arith;
 }
 
@@ -329,6 +335,7 @@ returns c =
         ];
         never_both = λ why fits is right. never_room why is right
             (λ block needed left lacks. c.fits_bits.ensures net machine timing fits block needed left lacks)
+            (λ needed limit lacks. c.fits_nodes.ensures net machine timing fits needed limit lacks)
             (λ needed limit lacks. c.fits_slots.ensures net machine timing valid fits needed limit lacks)
             (λ port needed limit lacks. c.fits_functions.ensures net machine timing fits port needed limit lacks);
         one = λ why other is is_too right right_too. c.one_refusal.ensures net machine timing valid why other right right_too is is_too;

@@ -9,7 +9,8 @@ report-text-requires-clause-nodes c =
 
 pub report-text-requires-clause-homes : goal.report-text-requires-clause-homes
 report-text-requires-clause-homes c =
-    homes_are c.args.planned.now.compiled.nodes c.args._machine.now c.args.planned.now.compiled.homes c.requires.machine c.requires.compiled.picked
+    homes_are c.args.planned.now.compiled.nodes c.args._machine.now c.args.planned.now.compiled.homes
+    (c.items_are_well_formed.ensures c.args.planned.now.net c.args._timing.now c.args.planned.now.compiled.nodes c.requires.valid c.requires.compiled.items) c.requires.machine c.requires.compiled.picked
 
 pub returns-in-Ok-clause-written : goal.returns-in-Ok-clause-written
 returns-in-Ok-clause-written c = (refl, inl (_, made, refl)) where
