@@ -1,9 +1,8 @@
 -- The homes of the same items are the same, and so are the memory that finds no port and the nodes that
 -- are too many.
-use Rattle.std.proofs.Common.{◌≡◌, ◌∙◌, ℕ, ◌+◌, ◌-◌, ◌%◌, ◌<◌, ◌≤◌, ◌==◌, if◌then◌else◌, List, [], ◌∷◌, length, get_or, refl, sym, ap, subst, arith}
+use Rattle.std.proofs.Common.{◌≡◌, ◌∙◌, ℕ, ◌+◌, ◌-◌, ◌%◌, ◌<◌, ◌≤◌, ◌==◌, if◌then◌else◌, List, length, get_or, refl, sym, ap, subst, arith}
 use Rattle.std.specs.Prelude.{◌↔◌, Option, Some, None, slice_get}
 use Rattle.std.specs.List.{sum_by, range_with_len}
-use Rattle.std.proofs.lemmas.List.Sums.{sum_by-cons}
 use Rattle.machine_text.specs.declared.machine.Machine.{Machine}
 use Rattle.node_defs.specs.declared.items.Item.{Item}
 use Rattle.node_defs.specs.declared.items.Item.TheVariants.{Input, BlockBit, Node, Latch}
@@ -15,12 +14,9 @@ use Rattle.node_defs.specs.WellFormed.{IsComputed}
 use Rattle.plan_defs.specs.declared.plan.Homes.{Homes}
 use Rattle.plan_defs.specs.Picks.{bits_of, bits_before, bit_limit, bits_left, LacksRoom, AreHoused, node_limit, nodes_before, IsFull, IsInTurn, HasPickedHome, ArePicked, FindsNoPort, HasTooManyNodes}
 use Rattle.plan_defs.proofs.PlanLemmas.{least_same}
+use Rattle.home_pick.proofs.FillLemmas.{sum_alike, bits_at}
 use Rattle.home_pick.proofs.HousingLemmas.{homes_one}
 use Rattle.yse_compile.proofs.SameItems.{carried, partner}
-
-sum_same : {X : Type 0} (f g : X → ℕ) (xs : List X) → ((x : X) → f x ≡ g x) → sum_by f xs ≡ sum_by g xs
-sum_same f g [] same = refl
-sum_same f g (x ∷ xs) same = omega (arith, sum_by-cons f x xs, sum_by-cons g x xs, same x, sum_same f g xs same)
 
 -- ---- memories
 
@@ -36,8 +32,7 @@ module _ (one other : NodeNet) (same : one.blocks ≡ other.blocks) where
 
   pub before_kept : (ports : List ℕ) (m port : ℕ) → bits_before one ports m port ≡ bits_before other ports m port
   before_kept ports m port =
-      sum_same (λ k. if get_or ports k 0 == port then bits_of one k else 0) (λ k. if get_or ports k 0 == port then bits_of other k else 0) (range_with_len 0 m)
-      (λ k. ap (λ bits. if get_or ports k 0 == port then bits else 0) (bits_kept k))
+      sum_alike (bits_at one ports port) (bits_at other ports port) m (λ k low. ap (λ bits. if get_or ports k 0 == port then bits else 0) (bits_kept k))
 
   room_kept : (machine : Machine) (ports : List ℕ) (m a : ℕ) → LacksRoom one machine ports m a → LacksRoom other machine ports m a
   room_kept machine ports m a lacks = omega (arith, lacks, before_kept ports m (machine.logic + a), bits_kept m)
