@@ -1,2 +1,6 @@
+pub mod DigitLemmas
+mod GivenLemmas
 mod LawLemmas
-mod MachineLemmas
+mod LimitLemmas
+mod SayingLemmas
+mod VersionLemmas
