@@ -1,3 +1,7 @@
+pub mod DigitLemmas
+mod GivenLemmas
+mod KeptLemmas
 mod LawLemmas
 pub mod LimitLemmas
-mod MachineLemmas
+mod SayingLemmas
+mod VersionLemmas

@@ -1,3 +1,5 @@
+pub mod Digits
+pub mod Given
 pub mod Limits
 pub mod Machines
 pub mod Quantities

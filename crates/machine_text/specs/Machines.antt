@@ -1,43 +1,48 @@
 -- Which machine a text reads as, and its first fault.
-use Rattle.std.specs.Prelude.{◌≡◌, ℕ, ◌+◌, ◌<◌, ◌≤◌, true, false, List, [], length, take, slice_index_or, Option, Some, None, unwrap_or, if◌then◌else◌, nat_lt, All, AllPairs}
-use Rattle.std.specs.List.{find}
+use Rattle.std.specs.Prelude.{◌≡◌, ℕ, ◌+◌, ◌<◌, ◌≤◌, true, false, List, [], ◌∷◌, ◌++◌, codes, length, take, slice_index_or, Option, Some, None, unwrap_or, if◌then◌else◌, nat_lt, All, AllPairs}
+use Rattle.std.specs.List.{find, list_any}
 use Rattle.std.specs.Option.{option_map, option_or}
 use Rattle.limits.specs.declared.TheConstants.{MAX_LOGIC, MAX_ARRAY, MAX_PORTS, MAX_SLOTS, MAX_FUNCTIONS, MAX_NODES, MAX_ARRAY_BITS}
 use Rattle.text_lines.specs.Answers.{first}
-use Rattle.text_lines.specs.Lines.{parts_of}
 use Rattle.machine_text.specs.declared.quantity.Quantity.{Quantity}
-use Rattle.machine_text.specs.declared.quantity.Quantity.TheVariants.{Logic, Array, Slots, Functions, Bits}
-use Rattle.machine_text.specs.declared.line.Setting.{Setting}
-use Rattle.machine_text.specs.declared.line.Says.{Says}
-use Rattle.machine_text.specs.declared.line.Says.TheVariants.{Nothing, Sets, Other}
+use Rattle.machine_text.specs.declared.quantity.Quantity.TheVariants.{Logic, Array, Slots, Functions, Bits, Nodes}
+use Rattle.machine_text.specs.declared.saying.Setting.{Setting}
+use Rattle.machine_text.specs.declared.saying.Says.{Says}
+use Rattle.machine_text.specs.declared.saying.Says.TheVariants.{Nothing, Limits, Other}
+use Rattle.machine_text.specs.declared.machine.Limited.{Limited}
+use Rattle.machine_text.specs.declared.machine.Limited.TheVariants as limited
 use Rattle.machine_text.specs.declared.machine.Machine.{Machine}
 use Rattle.machine_text.specs.declared.machine.MachNo.{MachNo}
-use Rattle.machine_text.specs.declared.machine.MachNo.TheVariants.{Ports}
+use Rattle.machine_text.specs.declared.machine.MachNo.TheVariants.{Syntax, Range, Twice, Ports, NoPort}
 use Rattle.machine_text.specs.declared.machine.PortLimit.{PortLimit}
 use Rattle.machine_text.specs.Limits.{is_at, limit_most, port_count}
-use Rattle.machine_text.specs.Quantities.{default_of, in_range, same_quantity}
-use Rattle.machine_text.specs.Settings.{says, sets, settings_of, fault_of}
+use Rattle.machine_text.specs.Quantities.{default_of}
+use Rattle.machine_text.specs.Settings.{is_allowed, limits_of, lines_say, same_given, sets, settings_of}
 
 -- the number that settings give a quantity, or its default
 abbrev pub number_in : List Setting → Quantity → ℕ
 number_in settings quantity =
     unwrap_or (option_map (λ setting. setting.value) (find (sets quantity) settings)) (default_of quantity)
 
--- the machine that settings make
-abbrev pub machine_of : List Setting → Machine
-machine_of settings = record {
+-- the machine that settings and limits of single ports make
+abbrev pub machine_of : List Setting → List PortLimit → Machine
+machine_of settings own = record {
   logic = number_in settings Logic;
   array = number_in settings Array;
   slots = number_in settings Slots;
   functions = number_in settings Functions;
   bits = number_in settings Bits;
-  nodes = MAX_NODES;
-  own = [];
+  nodes = number_in settings Nodes;
+  own = own;
 }
+
+-- the machine that lines make
+abbrev pub machine_said : List Says → Machine
+machine_said says = machine_of (settings_of says) (limits_of says)
 
 -- the machine of a text that sets nothing
 abbrev pub default_machine : Machine
-default_machine = machine_of []
+default_machine = machine_of [] []
 
 -- the ports of a machine: its processors and the host
 abbrev pub ports_of : Machine → ℕ
@@ -68,36 +73,57 @@ pub record IsValid (machine : Machine) : Type 0 where
 
 -- ---- what a text reads as
 
--- the line says nothing, or gives a quantity a number in its range
-abbrev pub IsAllowed : Says → Type 0
-IsAllowed Nothing = Unit {0}
-IsAllowed (Sets quantity n) = in_range quantity n ≡ true
-IsAllowed Other = ⊥
-
--- the lines don't both give the same quantity
-abbrev pub AreApart : Says → Says → Type 0
-AreApart (Sets a m) (Sets b n) = same_quantity b a ≡ false
-AreApart _ _ = Unit {0}
-
--- The text reads as the machine: each line is allowed, no two give the same quantity, each quantity
--- has the number that a line gives it or else its default, and there are not too many ports.
+-- The text reads as the machine: each line is blank or has a form, with a number in its range; no two give
+-- the same quantity for all ports or for the same port; each quantity has the number that a line gives it or
+-- else its default; there are not too many ports; and the ports that have limits of their own are there.
 pub record Reads (text : List ℕ) (machine : Machine) : Type 0 where
-  pub lines : All (λ part. IsAllowed (says part)) (parts_of text)
-  pub once : AllPairs (λ a b. AreApart (says a) (says b)) (parts_of text)
-  pub numbers : machine ≡ machine_of (settings_of (parts_of text))
+  pub lines : All (λ said. is_allowed said ≡ true) (lines_say text)
+  pub once : AllPairs (λ a b. same_given b a ≡ false) (lines_say text)
+  pub numbers : machine ≡ machine_said (lines_say text)
   pub ports : ports_of machine ≤ MAX_PORTS
+  pub own : All (λ own. own.port < port_count machine own.what) machine.own
+
+-- the text behind the line `version 2`
+abbrev pub behind_version_two : List ℕ → List ℕ
+behind_version_two text = codes "version 2" ++ 10 ∷ text
 
 -- ---- its first fault
 
+-- the fault of a line with this number, after lines that say this
+abbrev pub fault_of : List Says → ℕ → Says → Option MachNo
+fault_of earlier line Nothing = None
+fault_of earlier line Other = Some (Syntax line)
+fault_of earlier line said =
+    if list_any (same_given said) earlier then Some (Twice line)
+    else if is_allowed said then None
+    else Some (Range line)
+
 -- the fault of the line at a place among the lines, counted from 0
-abbrev pub line_fault : List ℕ → ℕ → Option MachNo
-line_fault text i =
-    fault_of (settings_of (take i (parts_of text))) (i + 1) (says (slice_index_or (parts_of text) i []))
+abbrev pub line_fault : List Says → ℕ → Option MachNo
+line_fault says i = fault_of (take i says) (i + 1) (slice_index_or says i Nothing)
 
-abbrev pub ports_fault : Machine → Option MachNo
-ports_fault machine = if nat_lt MAX_PORTS (ports_of machine) then Some (Ports (ports_of machine)) else None
+-- how many ports there are of those that have such a limit
+abbrev pub processors : ℕ → ℕ → Limited → ℕ
+processors logic array limited.Functions = logic
+processors logic array limited.Nodes = logic
+processors logic array limited.Bits = array
 
--- the fault of the first line that has one, and where no line has one, too many ports
+-- the fault of a line that limits a port which is not there
+abbrev pub absent_fault : ℕ → ℕ → ℕ → Says → Option MachNo
+absent_fault logic array line (Limits what port n) =
+    if nat_lt port (processors logic array what) then None else Some (NoPort line)
+absent_fault logic array line _ = None
+
+abbrev pub port_fault : ℕ → ℕ → List Says → ℕ → Option MachNo
+port_fault logic array says i = absent_fault logic array (i + 1) (slice_index_or says i Nothing)
+
+-- too many ports, or else the first line that limits a port which is not there
+abbrev pub machine_fault : Machine → List Says → Option MachNo
+machine_fault machine says =
+    if nat_lt MAX_PORTS (ports_of machine) then Some (Ports (ports_of machine))
+    else first (port_fault machine.logic machine.array says) (length says)
+
+-- the fault of the first line that has one, and where no line has one, that of the ports
 abbrev pub first_fault : List ℕ → Option MachNo
 first_fault text =
-    option_or (first (line_fault text) (length (parts_of text))) (ports_fault (machine_of (settings_of (parts_of text))))
+    option_or (first (line_fault (lines_say text)) (length (lines_say text))) (machine_fault (machine_said (lines_say text)) (lines_say text))

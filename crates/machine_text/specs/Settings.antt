@@ -1,58 +1,125 @@
 -- What the lines of a machine text say.
-use Rattle.std.specs.Prelude.{ℕ, ◌-◌, ◌^◌, min, Bool, List, [], ◌∷◌, Option, Some, None, Result, if◌then◌else◌}
-use Rattle.std.specs.List.{list_any, filter_map}
+use Rattle.std.specs.Prelude.{ℕ, Bool, true, false, ◌&&◌, nat_eq, List, [], ◌∷◌, map, codes, Option, Some, None, unwrap_or, if◌then◌else◌}
+use Rattle.std.specs.List.{filter_map}
+use Rattle.std.specs.Option.{is_some}
+use Rattle.std.specs.Str.{str_eq_ignore_ascii_case}
+use Rattle.text_lines.specs.Lines.{parts_of}
 use Rattle.text_lines.specs.Words.{words_of}
-use Rattle.text_lines.specs.Answers.{fault_or}
-use Rattle.text_lines.specs.Numbers.{number_of}
+use Rattle.text_lines.specs.Numbers.{number_of, within}
+use Rattle.machine_text.specs.declared.machine.Limited.{Limited}
+use Rattle.machine_text.specs.declared.machine.PortLimit.{PortLimit}
 use Rattle.machine_text.specs.declared.quantity.Quantity.{Quantity}
-use Rattle.machine_text.specs.declared.line.Setting.{Setting}
-use Rattle.machine_text.specs.declared.line.Says.{Says}
-use Rattle.machine_text.specs.declared.line.Says.TheVariants.{Nothing, Sets, Other}
-use Rattle.machine_text.specs.declared.machine.MachNo.{MachNo}
-use Rattle.machine_text.specs.declared.machine.MachNo.TheVariants.{Syntax, Range, Twice}
-use Rattle.machine_text.specs.Quantities.{same_quantity, named, in_range}
+use Rattle.machine_text.specs.declared.quantity.Version.{Version}
+use Rattle.machine_text.specs.declared.quantity.Version.TheVariants.{One, Two}
+use Rattle.machine_text.specs.declared.saying.Setting.{Setting}
+use Rattle.machine_text.specs.declared.saying.Says.{Says}
+use Rattle.machine_text.specs.declared.saying.Says.TheVariants.{Nothing, Sets, Limits, Other}
+use Rattle.machine_text.specs.Limits.{same_limited}
+use Rattle.machine_text.specs.Quantities.{in_range, is_word, named, per_port, quantity_of, same_quantity}
 
--- a word that names a quantity and a number set it
-abbrev pub set_by : Option Quantity → Option ℕ → Says
-set_by (Some quantity) (Some n) = Sets quantity n
-set_by _ _ = Other
+-- ---- one line
 
-abbrev pub words_say : List (List ℕ) → Says
-words_say [] = Nothing
-words_say (word ∷ number ∷ []) = set_by (named word) (number_of number)
-words_say _ = Other
+-- a word of the version that names a quantity, and a number, set it
+abbrev pub set_by : Version → Option Quantity → Option ℕ → Says
+set_by version (Some quantity) (Some n) = if is_word version quantity then Sets quantity n else Other
+set_by version _ _ = Other
 
--- what the part of a line outside its comment says, its number being of any size
-unfoldable pub says : List ℕ → Says
-says part = words_say (words_of part)
+-- what is limited at each port, a port and a number limit it there
+abbrev pub limit_by : Option Limited → Option ℕ → Option ℕ → Says
+limit_by (Some what) (Some port) (Some n) = Limits what port n
+limit_by _ _ _ = Other
 
--- what a line sets, if anything
+abbrev pub limited_by : Option Quantity → Option Limited
+limited_by (Some quantity) = per_port quantity
+limited_by None = None
+
+-- what the words of a line say in a text of the version
+abbrev pub words_say : Version → List (List ℕ) → Says
+words_say version [] = Nothing
+words_say version (word ∷ number ∷ []) = set_by version (named word) (number_of number)
+words_say Two (word ∷ port ∷ number ∷ []) = limit_by (limited_by (named word)) (number_of port) (number_of number)
+words_say version _ = Other
+
+-- ---- the lines of a text
+
+-- whether the words are `version 2`, the word in any letter case
+abbrev pub announces_two : List (List ℕ) → Bool
+announces_two (word ∷ number ∷ []) = str_eq_ignore_ascii_case word (codes "version") && is_some (within 2 2 (number_of number))
+announces_two _ = false
+
+abbrev pub no_words : List (List ℕ) → Bool
+no_words [] = true
+no_words _ = false
+
+-- The version of the text, if a line with these words or an earlier one settles it: the first line that is
+-- not blank does.
+abbrev pub settled : Option Version → List (List ℕ) → Option Version
+settled (Some version) words = Some version
+settled None [] = None
+settled None words = if announces_two words then Some Two else Some One
+
+-- what a line says after lines that settled this: the line that announces the version says nothing more
+abbrev pub line_says : Option Version → List (List ℕ) → Says
+line_says (Some version) words = words_say version words
+line_says None words = if announces_two words then Nothing else words_say One words
+
+unfoldable pub says_from : Option Version → List (List (List ℕ)) → List Says
+says_from version [] = []
+says_from version (words ∷ lines) = line_says version words ∷ says_from (settled version words) lines
+
+-- the words of the lines of a text
+abbrev pub line_words : List ℕ → List (List (List ℕ))
+line_words text = map words_of (parts_of text)
+
+-- what the lines of a text say, in order
+abbrev pub lines_say : List ℕ → List Says
+lines_say text = says_from None (line_words text)
+
+unfoldable pub settled_by : Option Version → List (List (List ℕ)) → Option Version
+settled_by version [] = version
+settled_by version (words ∷ lines) = settled_by (settled version words) lines
+
+-- the version of a text
+abbrev pub version_of : List ℕ → Version
+version_of text = unwrap_or (settled_by None (line_words text)) One
+
+-- ---- what the lines set
+
 abbrev pub setting_of : Says → Option Setting
 setting_of (Sets quantity n) = Some (record { quantity = quantity; value = n })
 setting_of _ = None
 
--- what lines set, in order
-unfoldable pub settings_of : List (List ℕ) → List Setting
-settings_of parts = filter_map (λ part. setting_of (says part)) parts
+abbrev pub limit_of : Says → Option PortLimit
+limit_of (Limits what port n) = Some (record { what = what; port = port; limit = n })
+limit_of _ = None
+
+-- what lines set for all ports, in order
+unfoldable pub settings_of : List Says → List Setting
+settings_of says = filter_map setting_of says
+
+-- what lines limit at single ports, in order
+unfoldable pub limits_of : List Says → List PortLimit
+limits_of says = filter_map limit_of says
 
 -- whether a setting is of the quantity
 abbrev pub sets : Quantity → Setting → Bool
 sets quantity setting = same_quantity quantity setting.quantity
 
--- the fault of a line with this number, after lines that set this
-abbrev pub fault_of : List Setting → ℕ → Says → Option MachNo
-fault_of earlier line Nothing = None
-fault_of earlier line Other = Some (Syntax line)
-fault_of earlier line (Sets quantity n) =
-    if list_any (sets quantity) earlier then Some (Twice line)
-    else if in_range quantity n then None
-    else Some (Range line)
+-- whether both give the same quantity a number, for all ports or for the same port
+abbrev pub same_given : Says → Says → Bool
+same_given (Sets a m) (Sets b n) = same_quantity a b
+same_given (Limits a p m) (Limits b q n) = same_limited a b && nat_eq p q
+same_given _ _ = false
 
--- what a line sets, or its fault
-abbrev pub answer_of : List Setting → ℕ → Says → Result (Option Setting) MachNo
-answer_of earlier line said = fault_or (fault_of earlier line said) (setting_of said)
+-- the line says nothing, or gives a quantity a number in its range
+abbrev pub is_allowed : Says → Bool
+is_allowed Nothing = true
+is_allowed (Sets quantity n) = in_range quantity n
+is_allowed (Limits what port n) = in_range (quantity_of what) n
+is_allowed Other = false
 
--- with its number cut to a u64
-abbrev pub capped : Says → Says
-capped (Sets quantity n) = Sets quantity (min n (2 ^ 64 - 1))
-capped said = said
+-- what numbered lines say, with their numbers
+unfoldable pub said_lines : Option Version → List (ℕ × List ℕ) → List (ℕ × Says)
+said_lines version [] = []
+said_lines version (line ∷ lines) =
+    (line.0, line_says version (words_of line.1)) ∷ said_lines (settled version (words_of line.1)) lines

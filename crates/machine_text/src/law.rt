@@ -5,7 +5,9 @@ ghost use Rattle.std.specs.Prelude.{◌≡◌, ◌⊎◌, List as Items, ℕ, So
 ghost use Rattle.text_lines.specs.Answers.{IsReader};
 ghost use Rattle.machine_text.specs.declared.machine.Machine.{Machine};
 ghost use Rattle.machine_text.specs.declared.machine.MachNo.{MachNo};
-ghost use Rattle.machine_text.specs.Machines.{IsValid, Reads, first_fault};
+ghost use Rattle.machine_text.specs.declared.quantity.Version.TheVariants.{One};
+ghost use Rattle.machine_text.specs.Settings.{version_of};
+ghost use Rattle.machine_text.specs.Machines.{IsValid, Reads, behind_version_two, first_fault};
 
 /// Each text reads as one machine at most, and has no fault beside it.
 pub fn reads_as_one()
@@ -23,4 +25,9 @@ pub fn reads_as_valid()
 pub fn reads_or_faults()
     ensures some { (text : Items ℕ) → ((machine : Machine) × Reads text machine) ⊎ ((why : MachNo) × (first_fault text ≡ Some why)) }
     ensures reader { IsReader Reads first_fault }
+{}
+
+/// A text of version 1 reads as the same machine behind the line `version 2`.
+pub fn reads_behind_version_two()
+    ensures { (text : Items ℕ) (machine : Machine) → version_of text ≡ One → Reads text machine → Reads (behind_version_two text) machine }
 {}

@@ -62,7 +62,7 @@ impl Machine {
             slots: Quantity::Slots.default_number(),
             functions: Quantity::Functions.default_number(),
             bits: Quantity::Bits.default_number(),
-            nodes: limits::MAX_NODES,
+            nodes: Quantity::Nodes.default_number(),
             own: List::new(alloc),
         }
     }

@@ -1,7 +1,16 @@
 //! The quantities that a machine text can set.
 
 ghost use Rattle.std.specs.Prelude.{◌≡◌};
-ghost use Rattle.machine_text.specs.Quantities.{named, least_of, most_of, default_of, same_quantity};
+ghost use Rattle.machine_text.specs.Quantities.{named, least_of, most_of, default_of, same_quantity, per_port, quantity_of, is_word};
+
+use crate::machine::Limited;
+
+/// The versions of the machine text.
+#[derive(Clone, Copy, Debug, PartialEq, Eq)]
+pub enum Version {
+    One,
+    Two,
+}
 
 /// A quantity of the machine, which a text names by a word.
 #[derive(Clone, Copy, Debug, PartialEq, Eq)]
@@ -16,6 +25,8 @@ pub enum Quantity {
     Functions,
     /// The bits of an array processor.
     Bits,
+    /// The nodes of a logic processor.
+    Nodes,
 }
 
 impl Quantity {
@@ -34,8 +45,29 @@ impl Quantity {
             Some(Quantity::Functions)
         } else if word.eq_ignore_ascii_case(b"bits") {
             Some(Quantity::Bits)
+        } else if word.eq_ignore_ascii_case(b"nodes") {
+            Some(Quantity::Nodes)
         } else {
             None
+        }
+    }
+
+    /// Whether a text of the version can set the quantity.
+    pub fn is_word(self, version: Version) -> bool
+        ensures { result ≡ is_word version self }
+    {
+        version == Version::Two || self != Quantity::Nodes
+    }
+
+    /// What the quantity limits at each port, if it is such a limit.
+    pub fn per_port(self) -> Option<Limited>
+        ensures { result ≡ per_port self }
+    {
+        match self {
+            Quantity::Functions => Some(Limited::Functions),
+            Quantity::Nodes => Some(Limited::Nodes),
+            Quantity::Bits => Some(Limited::Bits),
+            _ => None,
         }
     }
 
@@ -59,6 +91,7 @@ impl Quantity {
             Quantity::Slots => limits::MAX_SLOTS,
             Quantity::Functions => limits::MAX_FUNCTIONS,
             Quantity::Bits => limits::MAX_ARRAY_BITS,
+            Quantity::Nodes => limits::MAX_NODES,
         }
     }
 
@@ -69,10 +102,21 @@ impl Quantity {
         match self {
             Quantity::Logic => 4,
             Quantity::Array => 1,
-            Quantity::Slots => limits::MAX_SLOTS,
+            Quantity::Slots | Quantity::Nodes => self.most(),
             Quantity::Functions => 256,
             Quantity::Bits => 65_536,
         }
+    }
+}
+
+/// The quantity that is limited at a port.
+pub fn quantity_of(what: Limited) -> Quantity
+    ensures { result ≡ quantity_of what }
+{
+    match what {
+        Limited::Functions => Quantity::Functions,
+        Limited::Nodes => Quantity::Nodes,
+        Limited::Bits => Quantity::Bits,
     }
 }
 
