@@ -13,7 +13,7 @@ use crate::worker::Worker;
 use std::sync::Wait;
 
 /// The most steps that a member makes in one round.
-const STEPS_A_ROUND: u32 = 64;
+pub const STEPS_A_ROUND: u32 = 64;
 
 /// What a round came to, or the steps of one member in it.
 #[derive(Clone, Copy)]
@@ -68,7 +68,8 @@ fn tell_turns<S: Stepper, G: Gate>(members: &[S], gate: &mut G)
 }
 
 /// Makes one step of a member, and tells the gate where by it a turn begins.
-fn step_once<S: Stepper, G: Gate>(member: &mut S, gate: &mut G) -> Step
+#[inline(always)]
+pub fn step_once<S: Stepper, G: Gate>(member: &mut S, gate: &mut G) -> Step
     requires port { S.port member.old < MAX_PORTS }
     requires within { S.turn member.old ≤ S.last_turn member.old + 1 }
     requires small { S.last_turn member.old ≤ 2 ^ 62 }
@@ -105,7 +106,7 @@ fn step_member<S: Stepper, G: Gate>(member: &mut S, gate: &mut G, pulse: &Pulse)
 }
 
 /// Steps each member.
-pub fn run_round<S: Stepper, G: Gate>(members: &mut [S], gate: &mut G, pulse: &Pulse) -> Progress
+fn run_round<S: Stepper, G: Gate>(members: &mut [S], gate: &mut G, pulse: &Pulse) -> Progress
     requires { CanStep S.Stepper.own G.Gate.own members.old gate.old }
     ensures { AreStepped S.Stepper.own G.Gate.own members.old gate.old members.new gate.new }
 {
@@ -131,8 +132,31 @@ fn run_rounds<R: Wait, S: Stepper, G: Gate>(rt: &R, members: &mut [S], gate: &mu
     unreachable!()
 }
 
+/// The rounds of a first phase. A worker that is alone makes none: it goes on as in a phase of the calling
+/// thread.
+fn begin_rounds<R: Wait, S: Stepper, G: Gate>(
+    rt: &R,
+    members: &mut [S],
+    gate: &mut G,
+    pulse: &Pulse,
+    alone: bool,
+)
+    requires { CanStep S.Stepper.own G.Gate.own members.old gate.old }
+    ensures { AreStepped S.Stepper.own G.Gate.own members.old gate.old members.new gate.new }
+{
+    if alone {
+        return;
+    }
+    run_rounds(rt, members, gate, pulse);
+}
+
 /// A worker's first phase.
-pub fn begin<R: Wait, S: Stepper, G: Gate>(rt: &R, pulse: &Pulse, worker: &mut Worker<S, G>)
+pub fn begin<R: Wait, S: Stepper, G: Gate>(
+    rt: &R,
+    pulse: &Pulse,
+    worker: &mut Worker<S, G>,
+    alone: bool,
+)
     requires { CanRun S.Stepper.own G.Gate.own worker.old }
     ensures { HasBegun S.Stepper.own G.Gate.own worker.old worker.new }
 {
@@ -140,7 +164,7 @@ pub fn begin<R: Wait, S: Stepper, G: Gate>(rt: &R, pulse: &Pulse, worker: &mut W
         return;
     };
     tell_turns(worker.members.as_slice(), &mut gate);
-    run_rounds(rt, worker.members.as_mut_slice(), &mut gate, pulse);
+    begin_rounds(rt, worker.members.as_mut_slice(), &mut gate, pulse, alone);
     worker.gate = Some(gate);
 }
 
