@@ -1,6 +1,9 @@
 //! How the calling thread goes through turns: each worker's members come to the same turn before any of them
 //! goes on, and once a turn was gone through, the visits of it are a hint for the turns after it.
 
+use crate::phase::{NO_TURN, Progress};
+use crate::pulse::Pulse;
+
 /// The most visits of a turn that are written down. What comes after them is found by rounds.
 const MOST_VISITS: usize = 65_536;
 
@@ -29,37 +32,6 @@ impl Visit {
     }
 }
 
-/// What a round came to, or the steps of one member in it.
-#[derive(Clone, Copy)]
-pub struct Advance {
-    /// The steps by which a member moved.
-    pub moved: u64,
-    /// The latest turn that a member is in.
-    pub latest: u64,
-    /// Each member is in the turn to which they go, or in a later one, or done.
-    pub arrived: bool,
-}
-
-impl Advance {
-    /// That of no member.
-    pub fn none() -> Advance {
-        Advance {
-            moved: 0,
-            latest: 0,
-            arrived: true,
-        }
-    }
-
-    /// That of the members of both.
-    pub fn and(self, other: Advance) -> Advance {
-        Advance {
-            moved: self.moved.saturating_add(other.moved),
-            latest: self.latest.max(other.latest),
-            arrived: self.arrived && other.arrived,
-        }
-    }
-}
-
 /// The turn to which the members go, and the visits by which they once went through a turn. A visit is a hint:
 /// whether its member is there, and how many of its steps it can make, is seen when they are made.
 #[derive(Drop)]
@@ -72,6 +44,8 @@ pub struct Course {
     visits: [Visit; MOST_VISITS],
     len: usize,
     lap_steps: u64,
+    // nobody asks: there is no other thread
+    pulse: Pulse,
 }
 
 impl Course {
@@ -90,12 +64,18 @@ impl Course {
             visits: [none; MOST_VISITS],
             len: 0,
             lap_steps: 0,
+            pulse: Pulse::new(),
         }
     }
 
     /// The turn to which the members go; at first none, so that a round finds where they are.
     pub fn goal(&self) -> u64 {
         self.goal
+    }
+
+    /// The pulse of this thread.
+    pub fn pulse(&self) -> &Pulse {
+        &self.pulse
     }
 
     /// How many of the visits are to be made before the next round.
@@ -131,7 +111,7 @@ impl Course {
 
     /// A round came. Where all members have come to their turn by it, they go to the next one, by the visits if
     /// there are any.
-    pub fn after(&mut self, round: Advance) {
+    pub fn after(&mut self, round: Progress) {
         self.made = self.made.saturating_add(round.moved.max(1));
         self.due = 0;
         if round.arrived {
@@ -139,7 +119,7 @@ impl Course {
             self.begin_lap(round.latest);
         } else if round.moved == 0 {
             // one of them waits for a later turn of another
-            self.goal = u64::MAX;
+            self.goal = NO_TURN;
         }
     }
 

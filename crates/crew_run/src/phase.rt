@@ -15,13 +15,18 @@ use std::sync::Wait;
 /// The most steps that a member makes in one round.
 pub const STEPS_A_ROUND: u32 = 64;
 
+/// The turn to which members go that need not come to one.
+pub const NO_TURN: u64 = u64::MAX;
+
 /// What a round came to, or the steps of one member in it.
 #[derive(Clone, Copy)]
 pub struct Progress {
     /// The steps by which a member moved.
     pub moved: u64,
-    /// Each member was found done.
-    pub done: bool,
+    /// The latest turn that a member is in.
+    pub latest: u64,
+    /// Each member was found done, or in the turn to which it goes or a later one.
+    pub arrived: bool,
 }
 
 impl Progress {
@@ -29,7 +34,17 @@ impl Progress {
     pub fn none() -> Progress {
         Progress {
             moved: 0,
-            done: true,
+            latest: 0,
+            arrived: true,
+        }
+    }
+
+    /// That of one member.
+    fn of<S: Stepper>(member: &S, moved: u64, arrived: bool) -> Progress {
+        Progress {
+            moved,
+            latest: member.turn(),
+            arrived,
         }
     }
 
@@ -37,7 +52,8 @@ impl Progress {
     pub fn and(self, other: Progress) -> Progress {
         Progress {
             moved: self.moved.saturating_add(other.moved),
-            done: self.done && other.done,
+            latest: self.latest.max(other.latest),
+            arrived: self.arrived && other.arrived,
         }
     }
 }
@@ -68,8 +84,7 @@ fn tell_turns<S: Stepper, G: Gate>(members: &[S], gate: &mut G)
 }
 
 /// Makes one step of a member, and tells the gate where by it a turn begins.
-#[inline(always)]
-pub fn step_once<S: Stepper, G: Gate>(member: &mut S, gate: &mut G) -> Step
+fn step_once<S: Stepper, G: Gate>(member: &mut S, gate: &mut G) -> Step
     requires port { S.port member.old < MAX_PORTS }
     requires within { S.turn member.old ≤ S.last_turn member.old + 1 }
     requires small { S.last_turn member.old ≤ 2 ^ 62 }
@@ -85,8 +100,14 @@ pub fn step_once<S: Stepper, G: Gate>(member: &mut S, gate: &mut G) -> Step
     step
 }
 
-/// Steps a member until it waits, is done, or has made its steps of this round.
-fn step_member<S: Stepper, G: Gate>(member: &mut S, gate: &mut G, pulse: &Pulse) -> Progress
+/// Steps a member until it is in turn `goal`, waits, is done, or has made so many steps.
+pub fn step_member<S: Stepper, G: Gate>(
+    member: &mut S,
+    gate: &mut G,
+    goal: u64,
+    steps: u32,
+    pulse: &Pulse,
+) -> Progress
     requires port { S.port member.old < MAX_PORTS }
     requires within { S.turn member.old ≤ S.last_turn member.old + 1 }
     requires small { S.last_turn member.old ≤ 2 ^ 62 }
@@ -94,15 +115,18 @@ fn step_member<S: Stepper, G: Gate>(member: &mut S, gate: &mut G, pulse: &Pulse)
     ensures { IsStepped S.Stepper.own G.Gate.own member.old gate.old member.new gate.new }
 {
     let mut moved = 0;
-    'steps: for k in 0..STEPS_A_ROUND {
+    'steps: for k in 0..steps {
+        if member.turn() >= goal {
+            return Progress::of(member, moved, true);
+        }
         match step_once(member, gate) {
             Step::Moved => moved = u64::from(k) + 1,
-            Step::NotYet => return Progress { moved, done: false },
-            Step::Done => return Progress { moved, done: true },
+            Step::NotYet => return Progress::of(member, moved, false),
+            Step::Done => return Progress::of(member, moved, true),
         }
         pulse.answer();
     }
-    Progress { moved, done: false }
+    Progress::of(member, moved, false)
 }
 
 /// Steps each member.
@@ -112,7 +136,8 @@ fn run_round<S: Stepper, G: Gate>(members: &mut [S], gate: &mut G, pulse: &Pulse
 {
     let mut progress = Progress::none();
     'members: for k in 0..members.len() {
-        progress = progress.and(step_member(&mut members[k], gate, pulse));
+        let member = &mut members[k];
+        progress = progress.and(step_member(member, gate, NO_TURN, STEPS_A_ROUND, pulse));
     }
     progress
 }

@@ -3,30 +3,32 @@
 ghost use Rattle.std.specs.Prelude.{Some, slice_get, ℕ, ◌≡◌};
 ghost use Rattle.crew_run.specs.Phases.{CanResume, Each, IsResumed};
 
-use crate::course::{Advance, Course, Visit};
+use crate::course::{Course, Visit};
 use crate::gate::Gate;
+use crate::phase::Progress;
+use crate::pulse::Pulse;
 use crate::stepper::Stepper;
 use crate::turns::{step_again, step_all};
 use crate::worker::Worker;
 
 /// One round of one worker, by its place: its members are stepped, and its own gate is told of their turns.
-fn visit<S: Stepper, G: Gate>(worker: &mut Worker<S, G>, i: usize, course: &mut Course) -> Advance
+fn visit<S: Stepper, G: Gate>(worker: &mut Worker<S, G>, i: usize, course: &mut Course) -> Progress
     requires { CanResume S.Stepper.own G.Gate.own worker.old }
     ensures { IsResumed S.Stepper.own G.Gate.own worker.old worker.new }
 {
     // the gate stays where it is: it is large, and moving it out and back would cost each round
     match &mut worker.gate {
         Some(gate) => step_all(worker.members.as_mut_slice(), gate, i, course),
-        None => Advance::none(),
+        None => Progress::none(),
     }
 }
 
 /// One round of each worker.
-fn visit_all<S: Stepper, G: Gate>(workers: &mut [Worker<S, G>], course: &mut Course) -> Advance
+fn visit_all<S: Stepper, G: Gate>(workers: &mut [Worker<S, G>], course: &mut Course) -> Progress
     requires { (i : ℕ) (w : Worker S G) → slice_get workers.old i ≡ Some w → CanResume S.Stepper.own G.Gate.own w }
     ensures { Each (IsResumed S.Stepper.own G.Gate.own) workers.old workers.new }
 {
-    let mut round = Advance::none();
+    let mut round = Progress::none();
     'workers: for i in 0..workers.len() {
         round = round.and(visit(&mut workers[i], i, course));
     }
@@ -34,18 +36,18 @@ fn visit_all<S: Stepper, G: Gate>(workers: &mut [Worker<S, G>], course: &mut Cou
 }
 
 /// One visit of a member of a worker.
-fn revisit<S: Stepper, G: Gate>(worker: &mut Worker<S, G>, visit: Visit)
+fn revisit<S: Stepper, G: Gate>(worker: &mut Worker<S, G>, visit: Visit, pulse: &Pulse)
     requires { CanResume S.Stepper.own G.Gate.own worker.old }
     ensures { IsResumed S.Stepper.own G.Gate.own worker.old worker.new }
 {
     match &mut worker.gate {
-        Some(gate) => step_again(worker.members.as_mut_slice(), gate, visit),
+        Some(gate) => step_again(worker.members.as_mut_slice(), gate, visit, pulse),
         None => {}
     }
 }
 
 /// One visit, where its worker is there.
-fn revisit_one<S: Stepper, G: Gate>(workers: &mut [Worker<S, G>], visit: Visit)
+fn revisit_one<S: Stepper, G: Gate>(workers: &mut [Worker<S, G>], visit: Visit, pulse: &Pulse)
     requires { (i : ℕ) (w : Worker S G) → slice_get workers.old i ≡ Some w → CanResume S.Stepper.own G.Gate.own w }
     ensures { Each (IsResumed S.Stepper.own G.Gate.own) workers.old workers.new }
 {
@@ -53,7 +55,7 @@ fn revisit_one<S: Stepper, G: Gate>(workers: &mut [Worker<S, G>], visit: Visit)
     if i >= workers.len() {
         return;
     }
-    revisit(&mut workers[i], visit);
+    revisit(&mut workers[i], visit, pulse);
 }
 
 /// The visits that are due.
@@ -62,7 +64,7 @@ fn revisit_all<S: Stepper, G: Gate>(workers: &mut [Worker<S, G>], course: &Cours
     ensures { Each (IsResumed S.Stepper.own G.Gate.own) workers.old workers.new }
 {
     'visits: for v in 0..course.due() {
-        revisit_one(workers, course.visit(v));
+        revisit_one(workers, course.visit(v), course.pulse());
     }
 }
 
