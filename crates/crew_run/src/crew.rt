@@ -65,10 +65,11 @@ fn begin_all<R: Threads + Wait + Sync, S: Stepper + Send, G: Gate + Send>(
 {
     let pulse = Pulse::new();
     let threads = workers.len();
+    let alone = threads == 1;
     let work = |_: usize, worker: &mut Worker<S, G>|
         requires { CanRun S.Stepper.own G.Gate.own worker.now }
         ensures { HasBegun S.Stepper.own G.Gate.own worker.entry.now worker.exit.now }
-    { begin(rt, &pulse, worker) };
+    { begin(rt, &pulse, worker, alone) };
     thread::for_each_mut(rt, workers, threads, &work);
 }
 
@@ -91,8 +92,12 @@ fn resume_all<R: Threads + Wait + Sync, S: Stepper + Send, G: Gate + Send>(
     pulse.steps()
 }
 
-/// The steps of the first phase in the calling thread, by the number of workers.
+/// The steps of the first phase in the calling thread, by the number of workers. A worker that is alone stays
+/// there.
 fn first_solo(workers: usize) -> u64 {
+    if workers == 1 {
+        return u64::MAX;
+    }
     SOLO_STEPS.saturating_mul(workers as u64)
 }
 

@@ -20,7 +20,14 @@
 //! gate of each worker of its own members' turns. So a crew gets on at the speed of one worker where there
 //! are too few processors, or where no second thread can be made. Such a phase ends after 250,000 steps for
 //! each worker. The next one is twice as long, up to 64,000,000 steps, but as short as the first again if the
-//! phase in threads between them made more than four times its steps.
+//! phase in threads between them made more than four times its steps. A crew of one worker makes all its steps
+//! in such a phase, which then has no bound.
+//!
+//! One thread goes by turns: all members come to the same turn before any of them goes on. What visits the third turn
+//! took, which member made how many steps, it writes down and repeats in the turns after it, so that no step
+//! is made only to find that nothing is there yet. The visits are a hint, and what they leave undone is found
+//! by rounds. They cost memory of fixed size, for 65,536 of them; a turn that takes more goes on by rounds.
+//! Where no member moves on the way to a turn, the thread goes on by rounds alone.
 //!
 //! To run members of your own, implement `Stepper` for them, give the members of one worker ports of their
 //! own below 256, and call `run_all`, or `run_with` where the gates belong to the caller. Nothing here takes
@@ -35,6 +42,7 @@
 #![tactic(auto)]
 
 mod count_gate;
+mod course;
 mod crew;
 mod gate;
 mod lend;
@@ -42,6 +50,7 @@ mod phase;
 mod pulse;
 mod solo;
 mod stepper;
+mod turns;
 mod worker;
 
 pub use count_gate::CountGate;

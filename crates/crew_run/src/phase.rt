@@ -13,15 +13,20 @@ use crate::worker::Worker;
 use std::sync::Wait;
 
 /// The most steps that a member makes in one round.
-const STEPS_A_ROUND: u32 = 64;
+pub const STEPS_A_ROUND: u32 = 64;
+
+/// The turn to which members go that need not come to one.
+pub const NO_TURN: u64 = u64::MAX;
 
 /// What a round came to, or the steps of one member in it.
 #[derive(Clone, Copy)]
 pub struct Progress {
     /// The steps by which a member moved.
     pub moved: u64,
-    /// Each member was found done.
-    pub done: bool,
+    /// The latest turn that a member is in.
+    pub latest: u64,
+    /// Each member was found done, or in the turn to which it goes or a later one.
+    pub arrived: bool,
 }
 
 impl Progress {
@@ -29,7 +34,17 @@ impl Progress {
     pub fn none() -> Progress {
         Progress {
             moved: 0,
-            done: true,
+            latest: 0,
+            arrived: true,
+        }
+    }
+
+    /// That of one member.
+    fn of<S: Stepper>(member: &S, moved: u64, arrived: bool) -> Progress {
+        Progress {
+            moved,
+            latest: member.turn(),
+            arrived,
         }
     }
 
@@ -37,7 +52,8 @@ impl Progress {
     pub fn and(self, other: Progress) -> Progress {
         Progress {
             moved: self.moved.saturating_add(other.moved),
-            done: self.done && other.done,
+            latest: self.latest.max(other.latest),
+            arrived: self.arrived && other.arrived,
         }
     }
 }
@@ -84,8 +100,14 @@ fn step_once<S: Stepper, G: Gate>(member: &mut S, gate: &mut G) -> Step
     step
 }
 
-/// Steps a member until it waits, is done, or has made its steps of this round.
-fn step_member<S: Stepper, G: Gate>(member: &mut S, gate: &mut G, pulse: &Pulse) -> Progress
+/// Steps a member until it is in turn `goal`, waits, is done, or has made so many steps.
+pub fn step_member<S: Stepper, G: Gate>(
+    member: &mut S,
+    gate: &mut G,
+    goal: u64,
+    steps: u32,
+    pulse: &Pulse,
+) -> Progress
     requires port { S.port member.old < MAX_PORTS }
     requires within { S.turn member.old ≤ S.last_turn member.old + 1 }
     requires small { S.last_turn member.old ≤ 2 ^ 62 }
@@ -93,25 +115,29 @@ fn step_member<S: Stepper, G: Gate>(member: &mut S, gate: &mut G, pulse: &Pulse)
     ensures { IsStepped S.Stepper.own G.Gate.own member.old gate.old member.new gate.new }
 {
     let mut moved = 0;
-    'steps: for k in 0..STEPS_A_ROUND {
+    'steps: for k in 0..steps {
+        if member.turn() >= goal {
+            return Progress::of(member, moved, true);
+        }
         match step_once(member, gate) {
             Step::Moved => moved = u64::from(k) + 1,
-            Step::NotYet => return Progress { moved, done: false },
-            Step::Done => return Progress { moved, done: true },
+            Step::NotYet => return Progress::of(member, moved, false),
+            Step::Done => return Progress::of(member, moved, true),
         }
         pulse.answer();
     }
-    Progress { moved, done: false }
+    Progress::of(member, moved, false)
 }
 
 /// Steps each member.
-pub fn run_round<S: Stepper, G: Gate>(members: &mut [S], gate: &mut G, pulse: &Pulse) -> Progress
+fn run_round<S: Stepper, G: Gate>(members: &mut [S], gate: &mut G, pulse: &Pulse) -> Progress
     requires { CanStep S.Stepper.own G.Gate.own members.old gate.old }
     ensures { AreStepped S.Stepper.own G.Gate.own members.old gate.old members.new gate.new }
 {
     let mut progress = Progress::none();
     'members: for k in 0..members.len() {
-        progress = progress.and(step_member(&mut members[k], gate, pulse));
+        let member = &mut members[k];
+        progress = progress.and(step_member(member, gate, NO_TURN, STEPS_A_ROUND, pulse));
     }
     progress
 }
@@ -131,8 +157,31 @@ fn run_rounds<R: Wait, S: Stepper, G: Gate>(rt: &R, members: &mut [S], gate: &mu
     unreachable!()
 }
 
+/// The rounds of a first phase. A worker that is alone makes none: it goes on as in a phase of the calling
+/// thread.
+fn begin_rounds<R: Wait, S: Stepper, G: Gate>(
+    rt: &R,
+    members: &mut [S],
+    gate: &mut G,
+    pulse: &Pulse,
+    alone: bool,
+)
+    requires { CanStep S.Stepper.own G.Gate.own members.old gate.old }
+    ensures { AreStepped S.Stepper.own G.Gate.own members.old gate.old members.new gate.new }
+{
+    if alone {
+        return;
+    }
+    run_rounds(rt, members, gate, pulse);
+}
+
 /// A worker's first phase.
-pub fn begin<R: Wait, S: Stepper, G: Gate>(rt: &R, pulse: &Pulse, worker: &mut Worker<S, G>)
+pub fn begin<R: Wait, S: Stepper, G: Gate>(
+    rt: &R,
+    pulse: &Pulse,
+    worker: &mut Worker<S, G>,
+    alone: bool,
+)
     requires { CanRun S.Stepper.own G.Gate.own worker.old }
     ensures { HasBegun S.Stepper.own G.Gate.own worker.old worker.new }
 {
@@ -140,7 +189,7 @@ pub fn begin<R: Wait, S: Stepper, G: Gate>(rt: &R, pulse: &Pulse, worker: &mut W
         return;
     };
     tell_turns(worker.members.as_slice(), &mut gate);
-    run_rounds(rt, worker.members.as_mut_slice(), &mut gate, pulse);
+    begin_rounds(rt, worker.members.as_mut_slice(), &mut gate, pulse, alone);
     worker.gate = Some(gate);
 }
 

@@ -96,7 +96,7 @@ impl Watch {
     /// over for those that wait.
     pub fn leaves(&mut self, progress: Progress, pulse: &Pulse) -> bool {
         self.steps = self.steps.saturating_add(progress.moved);
-        let leaves = progress.done || (progress.moved == 0 && self.waits(pulse));
+        let leaves = progress.arrived || (progress.moved == 0 && self.waits(pulse));
         if progress.moved > 0 {
             self.moved();
         }

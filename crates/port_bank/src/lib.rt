@@ -1,6 +1,6 @@
 //! What the ports of an image have in common: the flat memory of a port in its run, which has the
 //! values of its own items, those that it receives and the constants in places of their own, and
-//! the tasks of a port laid flat over these places.
+//! the place of each source.
 #![tactic(auto)]
 
 mod bank;

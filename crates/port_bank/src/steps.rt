@@ -1,14 +1,11 @@
-//! Tasks laid flat: each operand is a place of a bank.
+//! Sources laid flat: each operand is a place of a bank.
 
-ghost use Rattle.std.specs.Prelude.{◌≡◌, ◌+◌, ◌<◌, ◌≤◌, map, IfOk};
+ghost use Rattle.std.specs.Prelude.{◌≡◌, ◌+◌, ◌<◌, ◌≤◌};
 ghost use Rattle.limits.specs.declared.TheConstants.{MAX_SLOTS};
-ghost use Rattle.image_defs.specs.Places.{Each};
-ghost use Rattle.port_bank.specs.Flat.{operand_of, step_of, IsWithin, IsTaskWithin};
+ghost use Rattle.port_bank.specs.Flat.{operand_of, IsWithin};
 
-use image_defs::{Source, Task};
+use image_defs::Source;
 use logic_four::code;
-use seen_list::{List, Memory};
-use std::alloc::Global;
 
 /// A place of the bank of the last turn, or of the bank of this one.
 ///
@@ -18,23 +15,6 @@ use std::alloc::Global;
 pub struct Operand {
     pub place: u32,
     pub last: bool,
-}
-
-/// What a task does, by places.
-#[derive(Clone, Copy, Debug, PartialEq, Eq)]
-pub enum Step {
-    /// Looks four operands up in the table of this number.
-    Look {
-        table: u32,
-        a: Operand,
-        b: Operand,
-        c: Operand,
-        d: Operand,
-    },
-    /// Holds a register, which takes this operand at an edge.
-    Keep {
-        from: Operand,
-    },
 }
 
 /// The place of what is received in a slot, where a turn has so many slots.
@@ -63,44 +43,4 @@ pub fn operand_of(slots: u32, source: Source) -> Operand
             last: false,
         },
     }
-}
-
-/// The step of a task, where a turn has so many slots.
-pub fn step_of(slots: u32, task: &Task) -> Step
-    requires few { slots ≤ MAX_SLOTS }
-    requires within { IsTaskWithin slots task.now }
-    ensures { result ≡ step_of slots task.now }
-{
-    match task {
-        Task::Eval {
-            table,
-            a,
-            b,
-            c,
-            d,
-            ..
-        } => Step::Look {
-            table: *table,
-            a: operand_of(slots, *a),
-            b: operand_of(slots, *b),
-            c: operand_of(slots, *c),
-            d: operand_of(slots, *d),
-        },
-        Task::Hold { from, .. } => Step::Keep {
-            from: operand_of(slots, *from),
-        },
-    }
-}
-
-/// The steps of the tasks, in order, where a turn has so many slots.
-pub fn steps_of(alloc: Global, slots: u32, tasks: &[Task]) -> Result<List<Step>, Memory>
-    requires few { slots ≤ MAX_SLOTS }
-    requires within { Each (IsTaskWithin slots) tasks.now }
-    ensures { IfOk result (λ steps. steps ≡ map (step_of slots) tasks.now) }
-{
-    let mut steps = List::new(alloc);
-    'tasks: for task in tasks {
-        steps.push(step_of(slots, task))?;
-    }
-    Ok(steps)
 }

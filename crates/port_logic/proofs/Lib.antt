@@ -1,1 +1,2 @@
+pub mod OpLemmas
 pub mod TaskLemmas

@@ -1,10 +1,8 @@
--- What a step answers is the value of its task.
+-- The tasks of a logic processor, and the one that is executed next.
 use Rattle.std.proofs.Common.{◌≡◌, ◌∙◌, ℕ, ◌≤◌, List, length, map, slice_get, Some, sym, ap, subst, refl, arith}
 use Rattle.std.specs.Option.{option_map}
 use Rattle.std.proofs.lemmas.Option.{slice_get-map}
 use Rattle.logic_four.specs.declared.V4.{V4}
-use Rattle.logic_four.specs.Values.{settled}
-use Rattle.net_defs.specs.Steps.{registered}
 use Rattle.func_table.specs.declared.table.Table.{Table}
 use Rattle.image_defs.specs.declared.image.Source.{Source}
 use Rattle.image_defs.specs.declared.image.Task.{Task}
@@ -15,30 +13,16 @@ use Rattle.image_defs.specs.declared.image.Image.{Image}
 use Rattle.net_defs.specs.declared.stimulus.Stimulus.{Stimulus}
 use Rattle.image_defs.specs.Places.{Each, task_slot, IsPort, IsItemIn}
 use Rattle.image_defs.specs.WellFormed.{IsWellFormed, IsOperand, IsTask, IsWork}
-use Rattle.image_defs.specs.Steps.{past_value, task_value, item_value, value_of_member, timing_of}
+use Rattle.image_defs.specs.Steps.{task_value, item_value, value_of_member}
 use Rattle.image_defs.specs.Ports.{PortView, CanExecute, at_first, value_in}
 use Rattle.image_defs.proofs.PlaceLemmas.{at_map}
-use Rattle.port_bank.specs.declared.steps.Operand.{Operand}
-use Rattle.port_bank.specs.declared.steps.Step.TheVariants.{Keep}
-use Rattle.port_bank.specs.Flat.{place_count, operand_of, step_of, IsTaskWithin, FitsStep}
-use Rattle.port_bank.specs.Reads.{IsAtHand, IsRead, IsHeld, now_in, past_in}
-use Rattle.port_bank.proofs.TurnLemmas.{item_meets, there_within, place_within, operand_at_hand, past_at_hand, past_taken}
+use Rattle.port_bank.specs.Flat.{place_count}
+use Rattle.port_bank.specs.Reads.{IsAtHand, now_in, past_in}
+use Rattle.port_bank.proofs.TurnLemmas.{item_meets, there_within, operand_at_hand}
 use Rattle.port_logic.specs.declared.port.LogicPort.TheInside.{Inside}
+use Rattle.port_logic.specs.Ops.{op_of, IsTaskWithin, IsTabled, FitsOp}
 use Rattle.port_logic.specs.Tasks.{IsTaskAtHand, IsAnswer, IsReady}
-
--- ---- a step
-
-pub held_right : (view : PortView) (tables : List Table) (from : Operand) (slot : ℕ) (read kept : V4) → IsRead view from read → IsHeld view slot (settled read) kept → IsAnswer view tables (Keep from) slot kept
-held_right view tables from slot read kept is_read is_held port i task is stands at hand same = of_task task at hand same where
-  of_task : (task : Task) → task_slot task ≡ slot → IsTaskAtHand view port task → Keep from ≡ step_of view.image.slots task
-      → kept ≡ task_value view.image view.turn view.port port.ins (past_in view) (now_in view).value tables task
-  of_task (Eval s table a b c d) at hand same = cc
-  of_task (Hold s source) at hand same =
-      let place : from ≡ operand_of view.image.slots source = cc in
-      let taken : read ≡ past_value view.port port.ins (past_in view).value source = is_read port source is (past_at_hand view port source hand) place ∙ past_taken view port source hand in
-      is_held port i is stands
-      ∙ ap (λ v. registered (timing_of view.image) view.turn (settled v) ((past_in view).value view.port slot)) taken
-      ∙ ap (λ t. registered (timing_of view.image) view.turn (settled (past_value view.port port.ins (past_in view).value source)) ((past_in view).value view.port t)) (sym at)
+use Rattle.port_logic.proofs.OpLemmas.{op_fits}
 
 -- ---- the tasks of a logic processor
 
@@ -47,10 +31,9 @@ task_within image p port tables (Eval slot table a b c d) fits is right =
     (there_within image p port a fits is right.1.there, there_within image p port b fits is right.2.there, there_within image p port c fits is right.3.there, there_within image p port d fits is right.4.there)
 task_within image p port tables (Hold slot from) fits is right = there_within image p port from fits is right.there
 
-step_fits : (tables slots : ℕ) (port : PortImage) (task : Task) → IsTask port tables task → IsTaskWithin slots task → FitsStep tables (place_count slots) (step_of slots task)
-step_fits tables slots port (Eval slot table a b c d) right within =
-    (right.0, place_within slots a within.0, place_within slots b within.1, place_within slots c within.2, place_within slots d within.3)
-step_fits tables slots port (Hold slot from) right within = place_within slots from within
+task_tabled : (port : PortImage) (tables : ℕ) (task : Task) → IsTask port tables task → IsTabled tables task
+task_tabled port tables (Eval slot table a b c d) right = right.0
+task_tabled port tables (Hold slot from) right = tt
 
 task_at_hand : (view : PortView) (slot tables : ℕ) (task : Task) (can : CanExecute view slot) → IsWellFormed view.image → task_slot task ≡ slot → IsTask can.port tables task → IsTaskAtHand view can.port task
 task_at_hand view slot tables (Eval s table a b c d) can fits at right =
@@ -67,16 +50,19 @@ tasks_right image p port tables tasks fits is work = subst (IsWork image.columns
 pub tasks_within : (image : Image) (p : ℕ) (port : PortImage) (tables : List Table) (tasks : List Task) → IsWellFormed image → IsPort image p port → port.work ≡ Logic tables tasks → Each (IsTaskWithin image.slots) tasks
 tasks_within image p port tables tasks fits is work i task there = task_within image p port (length tables) task fits is (tasks_right image p port tables tasks fits is work i task there)
 
+pub tasks_tabled : (image : Image) (p : ℕ) (port : PortImage) (tables : List Table) (tasks : List Task) → IsWellFormed image → IsPort image p port → port.work ≡ Logic tables tasks → Each (IsTabled (length tables)) tasks
+tasks_tabled image p port tables tasks fits is work i task there = task_tabled port (length tables) task (tasks_right image p port tables tasks fits is work i task there)
+
 -- a logic processor before its first turn
 pub ready_first : (a : Inside) (image : Image) (stimulus : Stimulus) (p : ℕ) (seat : PortImage) → a.bank ≡ at_first image stimulus p → IsWellFormed image → IsPort image p seat
-    → seat.work ≡ Logic a.tables.now a.tasks.now → a.steps ≡ map (step_of image.slots) a.tasks.now → IsReady a
-ready_first a image stimulus p seat bank fits is work steps = record {
+    → seat.work ≡ Logic a.tables.now a.tasks.now → a.ops ≡ map (op_of image.slots a.tables.now) a.tasks.now → IsReady a
+ready_first a image stimulus p seat bank fits is work ops = record {
   image = subst (λ b. IsWellFormed b.image) (sym bank) fits;
   first = subst (λ b. 1 ≤ b.turn) (sym bank) (omega arith);
   seat = seat;
   is = subst (λ b. IsPort b.image b.port seat) (sym bank) is;
   work = work;
-  steps = subst (λ b. a.steps ≡ map (step_of b.image.slots) a.tasks.now) (sym bank) steps;
+  ops = subst (λ b. a.ops ≡ map (op_of b.image.slots a.tables.now) a.tasks.now) (sym bank) ops;
 }
 
 -- ---- the task that is executed next
@@ -86,7 +72,7 @@ pub record IsNext (a : Inside) (port : PortImage) (slot : ℕ) : Type 0 where
   pub there : slice_get a.tasks.now a.bank.executed ≡ Some task
   pub at : task_slot task ≡ slot
   pub right : IsTask port (length a.tables.now) task
-  pub step : slice_get a.steps a.bank.executed ≡ Some (step_of a.bank.image.slots task)
+  pub op : slice_get a.ops a.bank.executed ≡ Some (op_of a.bank.image.slots a.tables.now task)
 
 same_work : (a : Inside) (port : PortImage) → IsReady a → IsPort a.bank.image a.bank.port port → port.work ≡ Logic a.tables.now a.tasks.now
 same_work a port ready is = let same : ready.seat ≡ port = cc in subst (λ q. q.work ≡ Logic a.tables.now a.tasks.now) same ready.work
@@ -102,17 +88,17 @@ next_task a slot ready can = of_task (at_map task_slot a.tasks.now a.bank.execut
     there = there;
     at = at;
     right = tasks_right a.bank.image a.bank.port can.port a.tables.now a.tasks.now ready.image can.is work a.bank.executed task there;
-    step = ap (λ steps. slice_get steps a.bank.executed) ready.steps ∙ slice_get-map (step_of a.bank.image.slots) a.tasks.now a.bank.executed ∙ ap (option_map (step_of a.bank.image.slots)) there;
+    op = ap (λ ops. slice_get ops a.bank.executed) ready.ops ∙ slice_get-map (op_of a.bank.image.slots a.tables.now) a.tasks.now a.bank.executed ∙ ap (option_map (op_of a.bank.image.slots a.tables.now)) there;
   }
 
-pub next_fits : (a : Inside) (slot : ℕ) → IsReady a → (can : CanExecute a.bank slot) → (next : IsNext a can.port slot) → FitsStep (length a.tables.now) (place_count a.bank.image.slots) (step_of a.bank.image.slots next.task)
+pub next_fits : (a : Inside) (slot : ℕ) → IsReady a → (can : CanExecute a.bank slot) → (next : IsNext a can.port slot) → FitsOp (length a.tables.now) (place_count a.bank.image.slots) (op_of a.bank.image.slots a.tables.now next.task)
 next_fits a slot ready can next =
-    step_fits (length a.tables.now) a.bank.image.slots can.port next.task next.right (task_within a.bank.image a.bank.port can.port (length a.tables.now) next.task ready.image can.is next.right)
+    op_fits a.bank.image.slots a.tables.now next.task (task_tabled can.port (length a.tables.now) next.task next.right) (task_within a.bank.image a.bank.port can.port (length a.tables.now) next.task ready.image can.is next.right)
 
 pub next_answers : (a : Inside) (slot : ℕ) (v : V4) → IsReady a → (can : CanExecute a.bank slot) → (next : IsNext a can.port slot)
-    → IsAnswer a.bank a.tables.now (step_of a.bank.image.slots next.task) slot v → v ≡ value_in a.bank slot
+    → IsAnswer a.bank a.tables.now (op_of a.bank.image.slots a.tables.now next.task) slot v → v ≡ value_in a.bank slot
 next_answers a slot v ready can next is =
-    is can.port a.bank.executed next.task can.is can.next next.at (task_at_hand a.bank slot (length a.tables.now) next.task can ready.image next.at next.right) refl
+    is can.port a.bank.executed next.task can.is can.next next.at (task_at_hand a.bank slot (length a.tables.now) next.task can ready.image next.at next.right) (task_tabled can.port (length a.tables.now) next.task next.right) refl
     ∙ ap (value_of_member (task_value a.bank.image a.bank.turn a.bank.port can.port.ins (past_in a.bank) (now_in a.bank).value a.tables.now)) (sym next.there)
     ∙ ap (λ work. item_value a.bank.image a.bank.stimulus a.bank.turn (past_in a.bank) (now_in a.bank).value a.bank.port can.port.ins work a.bank.executed) (sym (same_work a can.port ready can.is))
     ∙ sym (item_meets a.bank can.port a.bank.executed slot ready.image ready.first can.is can.next)

@@ -1,5 +1,5 @@
--- What a logic processor keeps, and what a step of it answers.
-use Rattle.std.specs.Prelude.{◌≡◌, ℕ, ◌≤◌, List, map}
+-- What a logic processor keeps, and what it answers for a task.
+use Rattle.std.specs.Prelude.{◌≡◌, ℕ, ◌≤◌, List, length, map}
 use Rattle.logic_four.specs.declared.V4.{V4}
 use Rattle.func_table.specs.declared.table.Table.{Table}
 use Rattle.image_defs.specs.declared.image.Task.{Task}
@@ -10,28 +10,28 @@ use Rattle.image_defs.specs.Places.{task_slot, IsPort, IsItemIn}
 use Rattle.image_defs.specs.WellFormed.{IsWellFormed, IsPast}
 use Rattle.image_defs.specs.Steps.{task_value}
 use Rattle.image_defs.specs.Ports.{PortView}
-use Rattle.port_bank.specs.declared.steps.Step.{Step}
-use Rattle.port_bank.specs.Flat.{step_of}
 use Rattle.port_bank.specs.Reads.{IsAtHand, now_in, past_in}
+use Rattle.port_logic.specs.declared.op.Op.{Op}
 use Rattle.port_logic.specs.declared.port.LogicPort.TheInside.{Inside}
+use Rattle.port_logic.specs.Ops.{op_of, IsTabled}
 
 -- all that a task takes is at hand; what a register takes is of the last turn
 abbrev pub IsTaskAtHand : PortView → PortImage → Task → Type 0
 IsTaskAtHand view port (Eval slot table a b c d) = IsAtHand view port a × IsAtHand view port b × IsAtHand view port c × IsAtHand view port d
 IsTaskAtHand view port (Hold slot from) = IsPast port from
 
--- v is the value of the task in this slot whose step this is, if all that it takes is at hand
-abbrev pub IsAnswer : PortView → List Table → Step → ℕ → V4 → Type 0
-IsAnswer view tables step slot v =
+-- v is the value of the task in this slot that is laid flat so, if all that it takes is at hand
+abbrev pub IsAnswer : PortView → List Table → Op → ℕ → V4 → Type 0
+IsAnswer view tables op slot v =
     (port : PortImage) (i : ℕ) (task : Task) → IsPort view.image view.port port → IsItemIn port.work i slot → task_slot task ≡ slot
-    → IsTaskAtHand view port task → step ≡ step_of view.image.slots task
+    → IsTaskAtHand view port task → IsTabled (length tables) task → op ≡ op_of view.image.slots tables task
     → v ≡ task_value view.image view.turn view.port port.ins (past_in view) (now_in view).value tables task
 
--- the bank is a logic processor's, and the steps are those of its tasks
+-- the bank is a logic processor's, and its tasks are laid flat
 pub record IsReady (a : Inside) : Type 0 where
   pub image : IsWellFormed a.bank.image
   pub first : 1 ≤ a.bank.turn
   pub seat : PortImage
   pub is : IsPort a.bank.image a.bank.port seat
   pub work : seat.work ≡ Logic a.tables.now a.tasks.now
-  pub steps : a.steps ≡ map (step_of a.bank.image.slots) a.tasks.now
+  pub ops : a.ops ≡ map (op_of a.bank.image.slots a.tables.now) a.tasks.now

@@ -6,15 +6,16 @@ ghost use Rattle.image_defs.specs.Places.{task_slot};
 ghost use Rattle.image_defs.specs.WellFormed.{IsWellFormed, IsPortOf, IsLogic};
 ghost use Rattle.image_defs.specs.Ports.{at_first, after_begin, after_execute, after_receive, after_end, value_in, next_item, CanBegin, CanExecute, CanReceive, CanEnd};
 ghost use Rattle.port_bank.specs.Links.{next_link};
-ghost use Rattle.port_bank.specs.Flat.{place_count, FitsStep};
+ghost use Rattle.port_bank.specs.Flat.{place_count};
+ghost use Rattle.port_logic.specs.Ops.{FitsOp};
 ghost use Rattle.port_logic.specs.Tasks.{IsAnswer};
 
+use crate::op::{Op, ops_of};
 use func_table::Table;
 use image_defs::{Image, LinkIn, Task, Work};
-use logic_four::{V4, settle};
+use logic_four::{V4, code, packed, settle};
 use net_defs::Stimulus;
 use port_bank::Bank;
-use port_bank::steps::{Step, steps_of};
 use seen_list::{List, Memory};
 use std::alloc::Global;
 use std::marker::Model;
@@ -26,7 +27,7 @@ pub struct LogicPort<'a> {
     bank: Bank<'a>,
     tables: &'a [Table],
     tasks: &'a [Task],
-    steps: List<Step>,
+    ops: List<Op>,
 }
 
 impl<'a> Model for LogicPort<'a> {
@@ -49,22 +50,27 @@ fn slot_of(task: &Task) -> u32
     }
 }
 
-/// What a step answers for the item in a slot.
+/// The value of the item in a slot whose task is laid flat so.
 #[inline]
-fn answer(bank: &Bank<'_>, tables: &[Table], step: Step, slot: u32) -> V4
+fn answer(bank: &Bank<'_>, tables: &[Table], op: Op, slot: u32) -> V4
     requires slot { slot < bank.now.image.slots }
-    requires fits { FitsStep (length tables.now) (place_count bank.now.image.slots) step }
-    ensures { IsAnswer bank.now tables.now step slot result }
+    requires fits { FitsOp (length tables.now) (place_count bank.now.image.slots) op }
+    ensures { IsAnswer bank.now tables.now op slot result }
 {
-    match step {
-        Step::Look { table, a, b, c, d } => {
+    match op {
+        Op::Pair { from, word, a, b } => {
+            let a = bank.read(a);
+            let b = bank.read(b);
+            packed::value_in(word, from as usize + (code(a) + 4 * code(b)) as usize)
+        }
+        Op::Look { table, a, b, c, d } => {
             let a = bank.read(a);
             let b = bank.read(b);
             let c = bank.read(c);
             let d = bank.read(d);
             tables[table as usize].eval(a, b, c, d)
         }
-        Step::Keep { from } => bank.held(slot, settle(bank.read(from))),
+        Op::Keep { from } => bank.held(slot, settle(bank.read(from))),
     }
 }
 
@@ -85,13 +91,15 @@ impl<'a> LogicPort<'a> {
         let seat = &image.ports.as_slice()[port as usize];
         match &seat.work {
             Work::Logic { tables, tasks } => {
-                let steps = steps_of(alloc, image.slots, tasks.as_slice())?;
+                let tables = tables.as_slice();
+                let tasks = tasks.as_slice();
+                let ops = ops_of(alloc, image.slots, tables, tasks)?;
                 let bank = Bank::new(alloc, image, stim, port)?;
                 Ok(LogicPort {
                     bank,
-                    tables: tables.as_slice(),
-                    tasks: tasks.as_slice(),
-                    steps,
+                    tables,
+                    tasks,
+                    ops,
                 })
             }
             Work::Array { .. } => unreachable!(),
@@ -130,8 +138,8 @@ impl<'a> LogicPort<'a> {
         ensures value { result ≡ value_in self.old slot }
         ensures view { self.new ≡ after_execute self.old }
     {
-        let step = self.steps.as_slice()[self.bank.executed()];
-        let value = answer(&self.bank, self.tables, step, slot);
+        let op = self.ops.as_slice()[self.bank.executed()];
+        let value = answer(&self.bank, self.tables, op, slot);
         self.bank.execute(slot, value);
         value
     }

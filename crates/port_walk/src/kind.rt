@@ -3,7 +3,7 @@
 ghost use Rattle.std.specs.Prelude.{◌≡◌, ◌<◌, length, IfOk};
 ghost use Rattle.net_defs.specs.Valid.{IsValidStimulus};
 ghost use Rattle.image_defs.specs.WellFormed.{IsWellFormed};
-ghost use Rattle.image_defs.specs.Ports.{after_begin, after_execute, after_receive, after_end, value_in, CanBegin, CanExecute, CanReceive, CanEnd};
+ghost use Rattle.image_defs.specs.Ports.{after_begin, after_receive, after_end, CanBegin, CanReceive, CanEnd};
 ghost use Rattle.port_walk.specs.Kinds.{view_in, is_host, IsFirst, CanRun, HasRun, CanEnter, HasEntered, IsLastValue};
 
 use image_defs::{Image, Work};
@@ -21,6 +21,48 @@ pub(crate) enum Kind<'a> {
     Logic(LogicPort<'a>),
     Array(ArrayPort<'a>),
     Host(HostPort<'a>),
+}
+
+/// Executes items of a logic processor, as `Kind::run` does.
+fn run_logic(port: &mut LogicPort<'_>, slots: &[u32], from: u32, to: u32, last: V4) -> V4
+    requires can { CanRun port.old slots.now from to }
+    requires last { IsLastValue port.old last }
+    ensures run { HasRun port.old port.new to }
+    ensures last { IsLastValue port.new result }
+{
+    let mut value = last;
+    'items: for i in from..to {
+        value = port.execute(slots[i as usize]);
+    }
+    value
+}
+
+/// Executes items of an array processor, as `Kind::run` does.
+fn run_array(port: &mut ArrayPort<'_>, slots: &[u32], from: u32, to: u32, last: V4) -> V4
+    requires can { CanRun port.old slots.now from to }
+    requires last { IsLastValue port.old last }
+    ensures run { HasRun port.old port.new to }
+    ensures last { IsLastValue port.new result }
+{
+    let mut value = last;
+    'items: for i in from..to {
+        value = port.execute(slots[i as usize]);
+    }
+    value
+}
+
+/// Executes items of the host, as `Kind::run` does.
+fn run_host(port: &mut HostPort<'_>, slots: &[u32], from: u32, to: u32, last: V4) -> V4
+    requires can { CanRun port.old slots.now from to }
+    requires last { IsLastValue port.old last }
+    ensures run { HasRun port.old port.new to }
+    ensures last { IsLastValue port.new result }
+{
+    let mut value = last;
+    'items: for i in from..to {
+        value = port.execute(slots[i as usize]);
+    }
+    value
 }
 
 impl<'a> Kind<'a> {
@@ -57,21 +99,6 @@ impl<'a> Kind<'a> {
         }
     }
 
-    /// Executes the item in a slot, and answers its value.
-    #[inline]
-    pub(crate) fn execute(&mut self, slot: u32) -> V4
-        requires { CanExecute (view_in self.old) slot }
-        ensures value { result ≡ value_in (view_in self.old) slot }
-        ensures view { view_in self.new ≡ after_execute (view_in self.old) }
-        ensures kind { is_host self.new ≡ is_host self.old }
-    {
-        match self {
-            Kind::Logic(port) => port.execute(slot),
-            Kind::Array(port) => port.execute(slot),
-            Kind::Host(port) => port.execute(slot),
-        }
-    }
-
     /// Receives the value that is sent in a slot.
     #[inline]
     pub(crate) fn receive(&mut self, slot: u32, v: V4)
@@ -101,7 +128,7 @@ impl<'a> Kind<'a> {
 
     /// Executes the items from number `from` to below number `to`, where `slots` has the slots of
     /// all items, and answers the value of the last one executed in this turn; that was `last`.
-    #[inline]
+    #[inline(always)]
     pub(crate) fn run(&mut self, slots: &[u32], from: u32, to: u32, last: V4) -> V4
         requires can { CanRun (view_in self.old) slots.now from to }
         requires last { IsLastValue (view_in self.old) last }
@@ -109,11 +136,26 @@ impl<'a> Kind<'a> {
         ensures last { IsLastValue (view_in self.new) result }
         ensures kind { is_host self.new ≡ is_host self.old }
     {
-        let mut value = last;
-        'items: for i in from..to {
-            value = self.execute(slots[i as usize]);
+        // half of all calls find none
+        if to <= from {
+            return last;
         }
-        value
+        self.run_some(slots, from, to, last)
+    }
+
+    /// Does what `run` does, by the loop of the port's kind.
+    fn run_some(&mut self, slots: &[u32], from: u32, to: u32, last: V4) -> V4
+        requires can { CanRun (view_in self.old) slots.now from to }
+        requires last { IsLastValue (view_in self.old) last }
+        ensures run { HasRun (view_in self.old) (view_in self.new) to }
+        ensures last { IsLastValue (view_in self.new) result }
+        ensures kind { is_host self.new ≡ is_host self.old }
+    {
+        match self {
+            Kind::Logic(port) => run_logic(port, slots, from, to, last),
+            Kind::Array(port) => run_array(port, slots, from, to, last),
+            Kind::Host(port) => run_host(port, slots, from, to, last),
+        }
     }
 
     /// Begins the turn and executes its items below number `to`, if it is one that the port `runs`,

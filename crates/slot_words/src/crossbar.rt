@@ -93,7 +93,7 @@ impl Crossbar {
         ensures { IsPut pass.old slot v pass.new }
     {
         let k = links::find(pass.sends.as_slice(), pass.last_send, slot);
-        pass.last_send = k;
+        pass.last_send = k + 1;
         let first = pass.sends.as_slice()[k].word;
         let word = links::word_in_turn(first, pass.turn, pass.banks);
         let number = stamped(pass.turn, v);
@@ -109,11 +109,11 @@ impl Crossbar {
         ensures { IsTake pass.old slot result pass.new }
     {
         let k = links::find(pass.receipts.as_slice(), pass.last_receipt, slot);
-        pass.last_receipt = k;
         let first = pass.receipts.as_slice()[k].word;
         let word = links::word_in_turn(first, pass.turn, pass.banks);
         let shared = &self.table.shared;
         let number = steps::take(shared, &mut pass.seat, word);
+        pass.last_receipt = links::next_hint(k, number / 4 == pass.turn);
         taken_in(number, pass.turn)
     }
 

@@ -19,20 +19,23 @@ pub struct Link {
 }
 
 /// The number of the link of a slot. Slots come mostly in their order, so the link of the hint is tried
-/// first, and then the one after it.
+/// before the others. A hint may be any number.
+#[inline]
 pub(crate) fn find(links: &[Link], hint: usize, slot: u32) -> usize
     requires { (k : ℕ) × HasSlot links.now slot k }
     ensures { HasSlot links.now slot result }
 {
-    if hint < links.len() {
-        if links[hint].slot == slot {
-            return hint;
-        }
-        if hint + 1 < links.len() && links[hint + 1].slot == slot {
-            return hint + 1;
-        }
+    if hint < links.len() && links[hint].slot == slot {
+        hint
+    } else {
+        search(links, slot)
     }
-    search(links, slot)
+}
+
+/// The hint for the next receipt after one that passed, or has to be tried again.
+#[inline]
+pub(crate) fn next_hint(k: usize, passed: bool) -> usize {
+    if passed { k.saturating_add(1) } else { k }
 }
 
 /// The number of the link of a slot, by a search from the first.
@@ -53,7 +56,11 @@ pub(crate) fn word_in_turn(word: u32, turn: u64, banks: u32) -> usize
     requires some { 1 ≤ banks }
     ensures { result ≡ word + turn % banks }
 {
-    word as usize + (turn % banks as u64) as usize
+    if banks == 1 {
+        word as usize
+    } else {
+        word as usize + (turn % banks as u64) as usize
+    }
 }
 
 /// The word of bank 0 of a send, by its number among all sends.

@@ -2,22 +2,29 @@ use Rattle.std.proofs.Common.{◌≡◌, ◌∙◌, ap, subst}
 use Rattle.image_defs.specs.Places.{IsPort}
 use Rattle.image_defs.specs.WellFormed.{IsLogic}
 use Rattle.port_bank.proofs.TurnLemmas.{seat_found}
-use Rattle.port_logic.proofs.TaskLemmas.{tasks_within, ready_first}
+use Rattle.port_logic.proofs.TaskLemmas.{tasks_tabled, tasks_within, ready_first}
 use Rattle.port_logic.proofs.port.LogicPort.new.Goals as goal
 
-pub steps_of-requires-clause-within : goal.steps_of-requires-clause-within
-steps_of-requires-clause-within c =
+pub ops_of-requires-clause-within : goal.ops_of-requires-clause-within
+ops_of-requires-clause-within c =
     let seat = c.index-as_slice-port.result in
     let same : c.requires.logic.port ≡ seat = seat_found c.args.image.now c.args.port c.requires.logic.port seat _ c.requires.logic.is c.as_slice.ensures c.index-as_slice-port.is in
-    rw c.as_slice-in-Logic.ensures
+    rw c.as_slice-tasks.ensures
     (tasks_within c.args.image.now c.args.port seat c.in-Logic.tables c.in-Logic.tasks c.requires.image (subst (IsPort c.args.image.now c.args.port) same c.requires.logic.is) c.in-Logic.is)
+
+pub ops_of-requires-clause-tabled : goal.ops_of-requires-clause-tabled
+ops_of-requires-clause-tabled c =
+    let seat = c.index-as_slice-port.result in
+    let same : c.requires.logic.port ≡ seat = seat_found c.args.image.now c.args.port c.requires.logic.port seat _ c.requires.logic.is c.as_slice.ensures c.index-as_slice-port.is in
+    rw (c.as_slice-tables.ensures, c.as_slice-tasks.ensures)
+    (tasks_tabled c.args.image.now c.args.port seat c.in-Logic.tables c.in-Logic.tasks c.requires.image (subst (IsPort c.args.image.now c.args.port) same c.requires.logic.is) c.in-Logic.is)
 
 pub invariant_of-result : goal.invariant_of-result
 invariant_of-result c =
     let seat = c.index-as_slice-port.result in
     let same : c.requires.logic.port ≡ seat = seat_found c.args.image.now c.args.port c.requires.logic.port seat _ c.requires.logic.is c.as_slice.ensures c.index-as_slice-port.is in
     ready_first _ c.args.image.now c.args.stim.now c.args.port seat c.in_ok-bank-in-Logic.ensures c.requires.image (subst (IsPort c.args.image.now c.args.port) same c.requires.logic.is)
-    (rw (c.as_slice-in-Logic-2.ensures, c.as_slice-in-Logic-3.ensures) c.in-Logic.is) (rw c.as_slice-in-Logic-3.ensures (rw c.as_slice-in-Logic.ensures at c.in_ok-steps-in-Logic.ensures))
+    (rw (c.as_slice-tables.ensures, c.as_slice-tasks.ensures) c.in-Logic.is) c.in_ok-ops-in-Logic.ensures
 
 pub unreachable-requires : goal.unreachable-requires
 unreachable-requires c =

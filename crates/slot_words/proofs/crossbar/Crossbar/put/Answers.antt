@@ -51,16 +51,16 @@ pub invariant_of-pass : goal.invariant_of-pass
 invariant_of-pass c =
     let a = c.pass.inside in
     let can : CanPut (pass_of a) c.args.slot c.args.v = subst (λ (o : PassView). CanPut o c.args.slot c.args.v) (sym c.pass.view_is) c.requires.can in
-    held_stepped a c.put.new.seat c.put.ensures.writes.at (after_put a.seat.me.0.place c.args.slot) _ _ c.find-k.result a.last_receipt (view_is c can.i can.link can.send can.slot_is) c.pass.invariant refl refl
+    held_stepped a c.put.new.seat c.put.ensures.writes.at (after_put a.seat.me.0.place c.args.slot) _ _ (c.find-k.result + 1) a.last_receipt (view_is c can.i can.link can.send can.slot_is) c.pass.invariant refl refl
 
 pub returns : goal.returns
 returns c =
     let a = c.pass.inside in
     let v = a.seat.me.0 in
     let held = c.pass.invariant in
-    subst (λ (o : PassView). IsPut o c.args.slot c.args.v (pass_of (reseated a c.put.new.seat c.find-k.result a.last_receipt))) c.pass.view_is (record {
+    subst (λ (o : PassView). IsPut o c.args.slot c.args.v (pass_of (reseated a c.put.new.seat (c.find-k.result + 1) a.last_receipt))) c.pass.view_is (record {
       each = λ i link send slot_is.
-          pass_stepped a c.put.new.seat c.put.ensures.writes.at (after_put v.place c.args.slot) _ _ c.find-k.result a.last_receipt (view_is c i link send slot_is) c.put.ensures.table
+          pass_stepped a c.put.new.seat c.put.ensures.writes.at (after_put v.place c.args.slot) _ _ (c.find-k.result + 1) a.last_receipt (view_is c i link send slot_is) c.put.ensures.table
           ∙ ap₂ (λ w x. one_step (pass_of a) (after_put v.place c.args.slot) w x) (put_word a held c.as_slice.result.now c.as_slice-2.result.now c.find-k.result c.args.slot c.word_in_turn-word.result c.find-k.ensures c.word_in_turn-word.ensures c.as_slice.ensures c.as_slice-2.ensures i link send slot_is) (c.stamped-number.ensures ∙ ap (λ t. 4 * t + code_of c.args.v) held.turn);
     })
 

@@ -43,14 +43,14 @@ invariant_of-pass c =
     let held = c.pass.invariant in
     let can : CanTake (pass_of a) c.args.slot = subst (λ (o : PassView). CanTake o c.args.slot) (sym c.pass.view_is) c.requires.can in
     let from = source a.seat.me.0.image held.runs.image_fits a.port can.port can.j can.link can.is can.receives in
-    held_found a held c.take-number.new.seat can.link.sender c.args.slot c.word_in_turn-word.result c.take-number.result a.last_send c.find-k.result (take_finds a held c.as_slice.result.now c.as_slice-2.result.now c.find-k.result c.args.slot c.word_in_turn-word.result _ c.take-number.result c.take-number.new.seat.me c.find-k.ensures c.word_in_turn-word.ensures c.as_slice.ensures c.as_slice-2.ensures c.take-number.ensures.reads can.port can.j from.0 can.link from.1 can.is can.receives can.slot_is from.2 (from.3 ∙ can.slot_is)).1
+    held_found a held c.take-number.new.seat can.link.sender c.args.slot c.word_in_turn-word.result c.take-number.result a.last_send c.next_hint-pass-inside.result (take_finds a held c.as_slice.result.now c.as_slice-2.result.now c.find-k.result c.args.slot c.word_in_turn-word.result _ c.take-number.result c.take-number.new.seat.me c.find-k.ensures c.word_in_turn-word.ensures c.as_slice.ensures c.as_slice-2.ensures c.take-number.ensures.reads can.port can.j from.0 can.link from.1 can.is can.receives can.slot_is from.2 (from.3 ∙ can.slot_is)).1
 
 pub returns : goal.returns
 returns c =
     let a = c.pass.inside in
     let v = a.seat.me.0 in
     let held = c.pass.invariant in
-    let new = reseated a c.take-number.new.seat a.last_send c.find-k.result in
+    let new = reseated a c.take-number.new.seat a.last_send c.next_hint-pass-inside.result in
     subst (λ (o : PassView). IsTake o c.args.slot c.taken_in.result (pass_of new)) c.pass.view_is (record {
       each = λ port j link is at slot_is.
           let from = source v.image held.runs.image_fits a.port port j link is at in
@@ -62,6 +62,6 @@ returns c =
             send = from.2;
             same_slot = from.3;
             found = subst (λ s. IsFound (pass_of a) link.sender s at_word (pass_of new).last.number c.taken_in.result (pass_of new)) (sym slot_is)
-                (gives a held c.take-number.new.seat link.sender c.args.slot c.word_in_turn-word.result c.take-number.result a.last_send c.find-k.result found.1 at_word found.0 c.take-number.ensures.table c.taken_in.result c.taken_in.ensures);
+                (gives a held c.take-number.new.seat link.sender c.args.slot c.word_in_turn-word.result c.take-number.result a.last_send c.next_hint-pass-inside.result found.1 at_word found.0 c.take-number.ensures.table c.taken_in.result c.taken_in.ensures);
           };
     })

@@ -1,0 +1,17 @@
+use Rattle.std.proofs.Common.{arith}
+use Rattle.std.proofs.lemmas.Option.{slice_get-get_or}
+use Rattle.crew_run.proofs.SoloLemmas.{all_resumed_none, all_resumed_set}
+use Rattle.crew_run.proofs.solo.revisit_one.Goals as goal
+
+pub returns-then-i-workers : goal.returns-then-i-workers
+returns-then-i-workers g c = all_resumed_none g.S.Stepper g.G.Gate g.met.S.Stepper.reflexive _ c.requires
+
+pub revisit-requires : goal.revisit-requires
+revisit-requires g c =
+    let at = slice_get-get_or c.args.workers.now c.worker-i.result c.index-workers-i.result (omega (arith, c.if-i-workers.false)) in
+    c.requires _ _ at
+
+pub returns : goal.returns
+returns g c =
+    let at = slice_get-get_or c.args.workers.now c.worker-i.result c.index-workers-i.result (omega (arith, c.if-i-workers.false)) in
+    all_resumed_set g.S.Stepper g.G.Gate g.met.S.Stepper.transitive _ _ _ _ _ (all_resumed_none g.S.Stepper g.G.Gate g.met.S.Stepper.reflexive _ c.requires) at c.revisit.ensures

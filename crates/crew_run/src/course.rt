@@ -1,0 +1,141 @@
+//! How the calling thread goes through turns: each worker's members come to the same turn before any of them
+//! goes on, and once a turn was gone through, the visits of it are a hint for the turns after it.
+
+use crate::phase::{NO_TURN, Progress};
+use crate::pulse::Pulse;
+
+/// The most visits of a turn that are written down. What comes after them is found by rounds.
+const MOST_VISITS: usize = 65_536;
+
+/// Which lap is written down. In the ones before it members may make steps that they need only once.
+const WRITTEN_LAP: u32 = 3;
+
+/// Some steps of one member, by its worker's place and its own.
+#[derive(Clone, Copy)]
+pub struct Visit {
+    worker: u16,
+    member: u8,
+    steps: u8,
+}
+
+impl Visit {
+    pub fn worker(self) -> usize {
+        self.worker as usize
+    }
+
+    pub fn member(self) -> usize {
+        self.member as usize
+    }
+
+    pub fn steps(self) -> u32 {
+        self.steps as u32
+    }
+}
+
+/// The turn to which the members go, and the visits by which they once went through a turn. A visit is a hint:
+/// whether its member is there, and how many of its steps it can make, is seen when they are made.
+#[derive(Drop)]
+pub struct Course {
+    goal: u64,
+    laps: u32,
+    done: bool,
+    made: u64,
+    due: usize,
+    visits: [Visit; MOST_VISITS],
+    len: usize,
+    lap_steps: u64,
+    // nobody asks: there is no other thread
+    pulse: Pulse,
+}
+
+impl Course {
+    pub fn new() -> Course {
+        let none = Visit {
+            worker: 0,
+            member: 0,
+            steps: 0,
+        };
+        Course {
+            goal: 0,
+            laps: 0,
+            done: false,
+            made: 0,
+            due: 0,
+            visits: [none; MOST_VISITS],
+            len: 0,
+            lap_steps: 0,
+            pulse: Pulse::new(),
+        }
+    }
+
+    /// The turn to which the members go; at first none, so that a round finds where they are.
+    pub fn goal(&self) -> u64 {
+        self.goal
+    }
+
+    /// The pulse of this thread.
+    pub fn pulse(&self) -> &Pulse {
+        &self.pulse
+    }
+
+    /// How many of the visits are to be made before the next round.
+    pub fn due(&self) -> usize {
+        self.due
+    }
+
+    /// Visit number `v`, or one of no steps.
+    pub fn visit(&self, v: usize) -> Visit {
+        if v < MOST_VISITS {
+            self.visits[v]
+        } else {
+            Visit {
+                worker: 0,
+                member: 0,
+                steps: 0,
+            }
+        }
+    }
+
+    /// Writes a visit of up to 64 steps down, where it belongs to the lap that is written down.
+    pub fn add(&mut self, worker: usize, member: usize, steps: u64) {
+        if self.laps == WRITTEN_LAP && steps > 0 && self.len < MOST_VISITS {
+            self.visits[self.len] = Visit {
+                worker: (worker % 0x1_0000) as u16,
+                member: (member % 0x100) as u8,
+                steps: (steps % 0x100) as u8,
+            };
+            self.len += 1;
+            self.lap_steps = self.lap_steps.saturating_add(steps);
+        }
+    }
+
+    /// A round came. Where all members have come to their turn by it, they go to the next one, by the visits if
+    /// there are any.
+    pub fn after(&mut self, round: Progress) {
+        self.made = self.made.saturating_add(round.moved.max(1));
+        self.due = 0;
+        if round.arrived {
+            self.done = round.latest < self.goal;
+            self.begin_lap(round.latest);
+        } else if round.moved == 0 {
+            // one of them waits for a later turn of another
+            self.goal = NO_TURN;
+        }
+    }
+
+    fn begin_lap(&mut self, latest: u64) {
+        let reached = if self.laps == 0 { latest } else { self.goal };
+        self.goal = reached.saturating_add(1);
+        self.laps = self.laps.saturating_add(1);
+        if self.laps > WRITTEN_LAP {
+            self.due = self.len;
+            self.made = self.made.saturating_add(self.lap_steps);
+        }
+    }
+
+    /// Whether all members were found done, or have made so many steps together. A round without a step
+    /// counts as one.
+    pub fn is_over(&self, steps: u64) -> bool {
+        self.done || self.made >= steps
+    }
+}
