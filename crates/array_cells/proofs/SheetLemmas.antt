@@ -1,9 +1,10 @@
 -- Packed words, all of which one new number clears.
 use Rattle.std.proofs.Common.{inl, inr, ◌≡◌, ◌≢◌, ℕ, ◌+◌, ◌<◌, List, length, set, get_or, replicate, refl, sym, ap, ◌∙◌, arith, get_or-set_same, get_or-set_other}
 use Rattle.std.proofs.lemmas.Bool.{cases_eq, cond-true, cond-false, eq-eqb, ne_eqb}
-use Rattle.std.proofs.lemmas.List.{ext_get_or, length-set, length-replicate, get_or-replicate}
+use Rattle.std.proofs.lemmas.List.{get_or_read, ext_get_or, length-set, length-replicate, get_or-replicate}
 use Rattle.std.proofs.lemmas.List.FromFn.{length-map-range_with_len, get_or-map-range_with_len}
 use Rattle.std.specs.Prelude.{slice_index}
+use Rattle.array_cells.specs.declared.sheet.Sheet.TheInside.{Inside}
 use Rattle.array_cells.specs.declared.sheet.TheConstants.{BLANK}
 use Rattle.array_cells.specs.Sheets.{word_after, words_after, IsDated}
 
@@ -39,7 +40,8 @@ words_after-set words seen clearings k word count within =
     get_or-words_after (set words k word) (set seen k clearings) clearings j (omega (arith, length-set words k word)) ∙
     elim (cases_eq j k) as (λ _. word_after (get_or (set words k word) j 0) (get_or (set seen k clearings) j 0) clearings ≡ get_or (set (words_after words seen clearings) k word) j 0) [
       | inl same ↦
-          rw (same, get_or-set_same words k word 0 within, get_or-set_same seen k clearings 0 (omega arith), get_or-set_same (words_after words seen clearings) k word 0 (omega (arith, length-words_after words seen clearings)))
+          let among' : k < length (words_after words seen clearings) = omega (arith, length-words_after words seen clearings) in
+          rw (same, get_or-set_same words k word 0 within, get_or-set_same seen k clearings 0 (omega arith), get_or-set_same (words_after words seen clearings) k word 0 among')
           (word_after-seen word clearings clearings refl)
       | inr other ↦
           rw (get_or-set_other words k j word 0 other, get_or-set_other seen k j clearings 0 other, get_or-set_other (words_after words seen clearings) k j word 0 other)
@@ -67,22 +69,44 @@ words_after-seen words n clearings count =
     get_or-words_after words (replicate n clearings) clearings k among
     ∙ word_after-seen (get_or words k 0) (get_or (replicate n clearings) k 0) clearings (get_or-replicate n k clearings 0 (omega arith)))
 
--- a place among the words as they read is one among the kept words and their numbers
-pub within_kept : (words seen : List ℕ) (clearings : ℕ) (now : List ℕ) (k : ℕ)
-    → IsDated words seen clearings → words_after words seen clearings ≡ now → k < length now
-    → (k < length words) × (k < length seen)
-within_kept words seen clearings now k dated view within =
-    let count : length seen ≡ length words = dated.count in
-    let long : length now ≡ length words = ap length (sym view) ∙ length-words_after words seen clearings in
-    (omega arith, omega arith)
+-- the sheet has as many words kept as are read
+pub as_many : (inside : Inside) (now : List ℕ)
+    → words_after inside.words.items inside.seen.items inside.clearings ≡ now
+    → length inside.words.items ≡ length now
+as_many inside now view = sym (length-words_after inside.words.items inside.seen.items inside.clearings) ∙ ap length view
 
--- the word there, if it has seen the last clearing, and if it hasn't
-pub seen_word : (words seen : List ℕ) (clearings k : ℕ) → k < length words → get_or seen k 0 ≡ clearings
-    → get_or words k 0 ≡ get_or (words_after words seen clearings) k 0
-seen_word words seen clearings k within same =
-    sym (word_after-seen (get_or words k 0) (get_or seen k 0) clearings same) ∙ sym (get_or-words_after words seen clearings k within)
+-- a word of the sheet and its number
+pub record IsKept (inside : Inside) (k : ℕ) : Type 0 where
+  pub word : k < length inside.words.items
+  pub number : k < length inside.seen.items
 
-pub unseen_word : (words seen : List ℕ) (clearings k : ℕ) → k < length words → get_or seen k 0 ≢ clearings
-    → BLANK ≡ get_or (words_after words seen clearings) k 0
-unseen_word words seen clearings k within apart =
-    sym (word_after-unseen (get_or words k 0) (get_or seen k 0) clearings apart) ∙ sym (get_or-words_after words seen clearings k within)
+pub kept_at : (inside : Inside) (now : List ℕ) (k : ℕ)
+    → IsDated inside.words.items inside.seen.items inside.clearings
+    → words_after inside.words.items inside.seen.items inside.clearings ≡ now
+    → k < length now → IsKept inside k
+kept_at inside now k dated view within =
+    let long : length inside.words.items ≡ length now = as_many inside now view in
+    let count : length inside.seen.items ≡ length inside.words.items = dated.count in
+    record { word = omega arith; number = omega arith }
+
+-- the word that is read, if it has seen the last clearing, and if it hasn't
+pub seen_word : (inside : Inside) (now : List ℕ) (k number word : ℕ) → IsKept inside k
+    → words_after inside.words.items inside.seen.items inside.clearings ≡ now
+    → number ≡ get_or inside.seen.items k number → number ≡ inside.clearings
+    → word ≡ get_or inside.words.items k word → word ≡ get_or now k 0
+seen_word inside now k number word kept view number_is same word_is =
+    get_or_read inside.words.items k word kept.word word_is 0
+    ∙ sym (word_after-seen (get_or inside.words.items k 0) (get_or inside.seen.items k 0) inside.clearings
+    (sym (get_or_read inside.seen.items k number kept.number number_is 0) ∙ same))
+    ∙ sym (get_or-words_after inside.words.items inside.seen.items inside.clearings k kept.word)
+    ∙ ap (λ words. get_or words k 0) view
+
+pub unseen_word : (inside : Inside) (now : List ℕ) (k number : ℕ) → IsKept inside k
+    → words_after inside.words.items inside.seen.items inside.clearings ≡ now
+    → number ≡ get_or inside.seen.items k number → number ≢ inside.clearings
+    → BLANK ≡ get_or now k 0
+unseen_word inside now k number kept view number_is apart =
+    sym (word_after-unseen (get_or inside.words.items k 0) (get_or inside.seen.items k 0) inside.clearings
+    (λ same. apart (get_or_read inside.seen.items k number kept.number number_is 0 ∙ same)))
+    ∙ sym (get_or-words_after inside.words.items inside.seen.items inside.clearings k kept.word)
+    ∙ ap (λ words. get_or words k 0) view

@@ -11,9 +11,9 @@ use std::marker::Model;
 /// A word whose values are all undefined.
 pub const BLANK: u64 = 0xAAAA_AAAA_AAAA_AAAA;
 
-/// Values in packed words. Beside each word stands the number of the last clearing when it was written; where
-/// that isn't the number of the last clearing now, the word is undefined, whatever is kept of it. A contract
-/// sees the words as they read.
+/// Values in packed words, which are all cleared by counting a clearing. For each word stands the number of
+/// the clearing that it has seen; where that isn't the last one, the word is blank, whatever is kept of it.
+/// A contract sees the words as they read.
 #[derive(Drop)]
 pub struct Sheet {
     words: Vec<u64>,
@@ -99,6 +99,7 @@ impl Sheet {
         ensures { self.new ≡ replicate (length self.old) BLANK }
     {
         if self.clearings == u8::MAX {
+            // No number is left: the words are filled one by one, and all have seen the first number.
             self.words.fill(BLANK);
             self.seen.fill(0);
             self.clearings = 0;

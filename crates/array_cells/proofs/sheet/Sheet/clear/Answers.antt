@@ -2,7 +2,7 @@ use Rattle.std.proofs.Common.{◌≡◌, length, replicate, rules, sym, ap, ◌�
 use Rattle.std.proofs.lemmas.List.{length-replicate}
 use Rattle.array_cells.specs.Sheets.{words_after}
 use Rattle.array_cells.specs.declared.sheet.TheConstants.{BLANK}
-use Rattle.array_cells.proofs.SheetLemmas.{length-words_after, words_after-cleared, words_after-seen}
+use Rattle.array_cells.proofs.SheetLemmas.{as_many, words_after-cleared, words_after-seen}
 use Rattle.array_cells.proofs.sheet.Sheet.clear.Goals as goal
 
 pub returns-then-self : goal.returns-then-self
@@ -14,11 +14,9 @@ returns-then-self c =
     ap (λ numbers. words_after c.fill.new.self.items numbers 0) seen
     ∙ words_after-seen c.fill.new.self.items (length c.self.inside.seen.items) 0 count
     ∙ words
-    ∙ ap (λ n. replicate n BLANK)
-    (sym (length-words_after c.self.inside.words.items c.self.inside.seen.items c.self.inside.clearings) ∙ ap length c.self.view_is)
+    ∙ ap (λ n. replicate n BLANK) (as_many c.self.inside c.args.self.now c.self.view_is)
 
 pub returns-else-self : goal.returns-else-self
 returns-else-self c =
     words_after-cleared c.self.inside.words.items c.self.inside.seen.items c.self.inside.clearings c.self.invariant
-    ∙ ap (λ n. replicate n BLANK)
-    (sym (length-words_after c.self.inside.words.items c.self.inside.seen.items c.self.inside.clearings) ∙ ap length c.self.view_is)
+    ∙ ap (λ n. replicate n BLANK) (as_many c.self.inside c.args.self.now c.self.view_is)
