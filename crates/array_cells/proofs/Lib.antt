@@ -1,3 +1,4 @@
 pub mod AddressLemmas
 pub mod PlaceLemmas
+pub mod SheetLemmas
 pub mod WordLemmas

@@ -57,11 +57,11 @@ is_word packed w n words k m room view within long =
 
 -- the word of a memory with the number k, which has m bits
 pub word_in : (inside : Inside) (words : List (List V4)) (k m : ℕ)
-    → HasRoom inside.packed.items inside.words inside.word_bits
-    → words_of inside.packed.items inside.words inside.word_bits ≡ words
+    → HasRoom inside.sheet inside.words inside.word_bits
+    → words_of inside.sheet inside.words inside.word_bits ≡ words
     → k < length words → length (get_or words k []) ≡ m
-    → IsWord inside.packed.items inside.words inside.word_bits k m
-word_in inside = is_word inside.packed.items inside.words inside.word_bits
+    → IsWord inside.sheet inside.words inside.word_bits k m
+word_in inside = is_word inside.sheet inside.words inside.word_bits
 
 -- two lists of words that agree word by word, and two words that agree bit by bit
 same_words : (xs ys : List (List V4)) (w : ℕ) → length xs ≡ w → length ys ≡ w

@@ -8,8 +8,9 @@ ghost use Rattle.limits.specs.declared.TheConstants.{MAX_ADDRESS_BITS, MAX_WORD_
 ghost use Rattle.array_cells.specs.Places.{stored};
 
 use crate::places;
+use crate::sheet::Sheet;
 use limits::MAX_ADDRESS_BITS;
-use logic_four::{V4, packed};
+use logic_four::V4;
 use seen_list::Memory;
 use std::alloc::Global;
 use std::marker::Model;
@@ -21,7 +22,7 @@ const MAX_WORDS: usize = 1 << MAX_ADDRESS_BITS;
 /// each word a list of its bits, bit 0 first.
 #[derive(Drop)]
 pub struct Cells {
-    packed: Vec<u64>,
+    sheet: Sheet,
     words: usize,
     word_bits: usize,
 }
@@ -33,9 +34,9 @@ impl Model for Cells {
 
     ghost Value = { List (List V4) };
 
-    ghost view = { λ c. words_of c.packed.items c.words c.word_bits };
+    ghost view = { λ c. words_of c.sheet c.words c.word_bits };
 
-    ghost invariant = { λ c. HasRoom c.packed.items c.words c.word_bits };
+    ghost invariant = { λ c. HasRoom c.sheet c.words c.word_bits };
 }
 
 fn all_known(address: &[V4]) -> bool
@@ -76,9 +77,9 @@ impl Cells {
     {
         let words = 1 << address_bits;
         let word_bits = word_bits as usize;
-        let packed = places::room_for(alloc, words * word_bits, init)?;
+        let sheet = Sheet::new(alloc, words * word_bits, init)?;
         Ok(Cells {
-            packed,
+            sheet,
             words,
             word_bits,
         })
@@ -90,7 +91,7 @@ impl Cells {
         requires bit_within { bit < length (slice_index_or self.now word []) }
         ensures { slice_get (slice_index_or self.now word []) bit ≡ Some result }
     {
-        packed::value(self.packed.as_slice(), word * self.word_bits + bit)
+        self.sheet.value(word * self.word_bits + bit)
     }
 
     /// The number of the word at an address, and `None` where some bit is neither 0 nor 1.
@@ -115,7 +116,7 @@ impl Cells {
         ensures { outs.new ≡ word_at self.now number (length outs.old) }
     {
         match number {
-            Some(number) => places::read(self.packed.as_slice(), number * self.word_bits, outs),
+            Some(number) => places::read(&self.sheet, number * self.word_bits, outs),
             None => outs.fill(V4::Undef),
         }
     }
@@ -126,19 +127,14 @@ impl Cells {
         requires fits { length (slice_index_or self.old number []) ≡ length word.now }
         ensures { self.new ≡ slice_set self.old number (map (stored we) word.now) }
     {
-        places::store(
-            self.packed.as_mut_slice(),
-            number * self.word_bits,
-            we,
-            word,
-        );
+        places::store(&mut self.sheet, number * self.word_bits, we, word);
     }
 
     /// Makes every bit of every word undefined.
     fn forget(&mut self)
         ensures { self.new ≡ map (λ word. undefined_word (length word)) self.old }
     {
-        places::forget(self.packed.as_mut_slice());
+        self.sheet.clear();
     }
 
     /// What a write leaves, by its enable and the number of its word, if that is known.

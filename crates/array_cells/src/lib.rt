@@ -3,5 +3,6 @@
 
 mod cells;
 mod places;
+mod sheet;
 
 pub use cells::Cells;

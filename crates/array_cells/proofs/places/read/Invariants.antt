@@ -4,4 +4,4 @@ use Rattle.logic_four.specs.Packed.{packed_value}
 use Rattle.array_cells.proofs.places.read.Given as goal
 
 abbrev pub invariant-loop-i : goal.invariant-loop-i
-invariant-loop-i l = (k : ℕ) → k < l.i → get_or l.outs k Undef ≡ packed_value l.words (l.base + k)
+invariant-loop-i l = (k : ℕ) → k < l.i → get_or l.outs k Undef ≡ packed_value l.sheet (l.base + k)

@@ -4,5 +4,5 @@ use Rattle.array_cells.proofs.places.store.Goals as goal
 
 pub loop-i-preserved : goal.loop-i-preserved
 loop-i-preserved c =
-    Writes-more c.args.words.now c.loop-i.words _ c.args.base c.loop-i.i _ c.loop-i.invariant c.put.ensures.as_long
+    Writes-more c.args.sheet.now c.loop-i.sheet _ c.args.base c.loop-i.i _ c.loop-i.invariant c.put.ensures.as_long
     (c.put.ensures.here ∙ c.stored_bit.ensures) c.put.ensures.others

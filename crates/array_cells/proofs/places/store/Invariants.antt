@@ -4,4 +4,4 @@ use Rattle.array_cells.specs.Places.{Writes, stored}
 use Rattle.array_cells.proofs.places.store.Given as goal
 
 abbrev pub invariant-loop-i : goal.invariant-loop-i
-invariant-loop-i l = Writes l.initial.words l.words l.base l.i (λ i. stored l.we (slice_index_or l.word i Zero))
+invariant-loop-i l = Writes l.initial.sheet l.sheet l.base l.i (λ i. stored l.we (slice_index_or l.word i Zero))

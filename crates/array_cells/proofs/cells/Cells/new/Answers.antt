@@ -10,8 +10,8 @@ unfolding initial_words
 is_initial c =
     let words : 1 * 2 ^ c.args.address_bits % 2 ^ 64 ≡ 2 ^ c.args.address_bits =
     one_shl c.args.address_bits 64 (omega arith) in
-    let all = rw words at c.in_ok-packed.ensures.all in
-    rw words (words_of-filled c.in_ok-packed.packed.items (2 ^ c.args.address_bits) c.args.word_bits c.args.init all)
+    let all = rw words at c.in_ok-sheet.ensures.all in
+    rw words (words_of-filled c.in_ok-sheet.sheet (2 ^ c.args.address_bits) c.args.word_bits c.args.init all)
 
 pub returns-clause-words : goal.returns-clause-words
 returns-clause-words c = is_initial c

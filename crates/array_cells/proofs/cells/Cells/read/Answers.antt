@@ -1,4 +1,4 @@
-use Rattle.std.proofs.Common.{[], length, ap, arith}
+use Rattle.std.proofs.Common.{[], length, arith}
 use Rattle.logic_four.specs.Memory.{undefined_word}
 use Rattle.array_cells.proofs.WordLemmas.{word_in, word_read}
 use Rattle.array_cells.proofs.cells.Cells.read.Goals as goal
@@ -17,7 +17,7 @@ read-requires-clause-within c =
     let is =
     word_in c.self.inside c.args.self.now c.in-Some.number (length c.args.outs.now)
     c.self.invariant c.self.view_is within (c.requires.fits c.in-Some.number [] within) in
-    omega (arith, ap length c.as_slice.ensures.value)
+    omega arith
 
 pub read-requires-clause-small : goal.read-requires-clause-small
 read-requires-clause-small c =
@@ -33,6 +33,6 @@ returns-in-Some c =
     let is =
     word_in c.self.inside c.args.self.now c.in-Some.number (length c.args.outs.now)
     c.self.invariant c.self.view_is within (c.requires.fits c.in-Some.number [] within) in
-    rw (c.in-Some.is, c.read.ensures, c.as_slice.ensures.value)
-    (word_read c.self.inside.packed.items c.self.inside.words c.self.inside.word_bits c.args.self.now
+    rw (c.in-Some.is, c.read.ensures)
+    (word_read c.self.inside.sheet c.self.inside.words c.self.inside.word_bits c.args.self.now
     c.in-Some.number (length c.args.outs.now) (undefined_word (length c.args.outs.now)) c.self.view_is is.within is.width)

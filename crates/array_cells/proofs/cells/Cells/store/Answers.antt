@@ -1,5 +1,4 @@
 use Rattle.std.proofs.Common.{length, map, set, ap, ◌∙◌, arith}
-use Rattle.std.proofs.lemmas.List.{with_items_is}
 use Rattle.array_cells.specs.Places.{stored}
 use Rattle.array_cells.proofs.WordLemmas.{word_in, words_of-stored}
 use Rattle.array_cells.proofs.cells.Cells.store.Goals as goal
@@ -16,7 +15,7 @@ store-requires-clause-within c =
     let is =
     word_in c.self.inside c.args.self.now c.args.number (length c.args.word.now)
     c.self.invariant c.self.view_is c.requires.within c.requires.fits in
-    omega (arith, ap length c.as_mut_slice.ensures.value)
+    omega arith
 
 pub store-requires-clause-small : goal.store-requires-clause-small
 store-requires-clause-small c =
@@ -30,8 +29,6 @@ returns c =
     let is =
     word_in c.self.inside c.args.self.now c.args.number (length c.args.word.now)
     c.self.invariant c.self.view_is c.requires.within c.requires.fits in
-    let writes = rw c.as_mut_slice.ensures.value at c.store.ensures in
-    rw (with_items_is c.self.inside.packed c.store.new.words (c.store.ensures.as_long ∙ c.as_mut_slice.ensures.len))
-    (words_of-stored c.self.inside.packed.items c.store.new.words c.self.inside.words c.self.inside.word_bits
-    c.args.number c.args.we c.args.word.now is.within is.width writes
-    ∙ ap (λ words. set words c.args.number (map (stored c.args.we) c.args.word.now)) c.self.view_is)
+    words_of-stored c.self.inside.sheet c.store.new.sheet c.self.inside.words c.self.inside.word_bits
+    c.args.number c.args.we c.args.word.now is.within is.width c.store.ensures
+    ∙ ap (λ words. set words c.args.number (map (stored c.args.we) c.args.word.now)) c.self.view_is

@@ -7,7 +7,7 @@ use Rattle.array_cells.proofs.cells.Cells.word_number.Goals as goal
 pub number_of-requires : goal.number_of-requires
 number_of-requires c =
     let count : c.self.inside.words ≡ length c.args.self.now =
-    sym (length-words_of c.self.inside.packed.items c.self.inside.words c.self.inside.word_bits) ∙ ap length c.self.view_is in
+    sym (length-words_of c.self.inside.sheet c.self.inside.words c.self.inside.word_bits) ∙ ap length c.self.view_is in
     few_bits (length c.args.address.now) (omega arith)
 
 pub returns-then-all_known-clause-address : goal.returns-then-all_known-clause-address
