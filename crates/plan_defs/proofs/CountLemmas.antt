@@ -1,14 +1,16 @@
 -- How many items, tables and memories there are.
-use Rattle.std.proofs.Common.{◌≡◌, ◌≢◌, ◌∙◌, ◌⊎◌, inl, inr, ℕ, zero, suc, ◌+◌, ◌<◌, ◌≤◌, ◌==◌, Bool, true, false, List, [], ◌∷◌, ◌++◌, length, take, map, get_or, cond, sym, subst, arith}
+use Rattle.std.proofs.Common.{◌≡◌, ◌≢◌, ◌∙◌, ◌⊎◌, inl, inr, ℕ, zero, suc, ◌+◌, ◌<◌, ◌≤◌, ◌==◌, Bool, true, false, List, [], ◌∷◌, ◌++◌, length, take, map, get_or, cond, sym, ap, subst, arith}
+use Rattle.std.specs.Prelude.{Some, slice_get}
 use Rattle.std.specs.List.{All, AllPairs, Contains, sum_by, count_by, range_with_len}
 use Rattle.std.proofs.lemmas.Bool.{cases_lt}
 use Rattle.std.proofs.lemmas.Bool.Decides.{eqb_tells, Decides-eqb}
 use Rattle.std.proofs.lemmas.Map.Made.{IsDistinct-from_AllPairs}
 use Rattle.std.proofs.lemmas.Map.Steps.{length-le_from_distinct_below}
 use Rattle.std.proofs.lemmas.Map.Views.{Contains-from_any}
+use Rattle.std.proofs.lemmas.Option.{slice_get_within, get_or_from_slice_get}
 use Rattle.std.proofs.lemmas.List.{length-append, get_or_default}
 use Rattle.std.proofs.lemmas.List.FromFn.{length-map-range_with_len, get_or-map-range_with_len}
-use Rattle.std.proofs.lemmas.List.Sums.{sum_by-cons}
+use Rattle.std.proofs.lemmas.List.Sums.{sum_by-cons, sum_by_more, sum_by_more_le}
 use Rattle.node_defs.specs.Groups.{group_count, groups_from, groups, helper_count}
 use Rattle.node_defs.proofs.LevelLemmas.{groups_last}
 use Rattle.node_defs.proofs.GroupLemmas.{groups_narrow, groups_wide, level_of, level_length}
@@ -49,27 +51,42 @@ length-le-sum {X} f (x ∷ xs) all =
     let here : 1 ≤ f x = all 0 x (omega arith) in
     rw (sum_by-cons f x xs) (omega (arith, rest, here))
 
--- a longer front has no fewer that pass
-pub count_later : {X : Type 0} (p : X → Bool) (xs : List X) (i j : ℕ) → i ≤ j → count_by p (take i xs) ≤ count_by p (take j xs)
-count_later p xs zero j up = omega arith
-count_later p xs (suc i) zero up = absurd (omega (arith, up))
-count_later p [] (suc i) (suc j) up = omega arith
-count_later p (x ∷ xs) (suc i) (suc j) up =
-    let one = sum_by-cons (λ y. cond (p y) 1 0) x (take i xs) in
-    let other = sum_by-cons (λ y. cond (p y) 1 0) x (take j xs) in
-    omega (arith, one, other, count_later p xs i j (omega (arith, up)))
+-- a longer front has no smaller sum, and no fewer that pass
+pub sum_later : {X : Type 0} (f : X → ℕ) (xs : List X) (i j : ℕ) → i ≤ j → sum_by f (take i xs) ≤ sum_by f (take j xs)
+sum_later f xs zero j up = omega arith
+sum_later f xs (suc i) zero up = absurd (omega (arith, up))
+sum_later f [] (suc i) (suc j) up = omega arith
+sum_later f (x ∷ xs) (suc i) (suc j) up =
+    let one = sum_by-cons f x (take i xs) in
+    let other = sum_by-cons f x (take j xs) in
+    omega (arith, one, other, sum_later f xs i j (omega (arith, up)))
 
--- a gate has no more groups than operands, and one
-pub groups_short : (levels first count : ℕ) → length (groups_from levels first count) ≤ count + 1
-groups_short levels first count = by_size levels first count (cases_lt 4 count) where
-  by_size : (l f c : ℕ) → (4 < c) ⊎ (c ≤ 4) → length (groups_from l f c) ≤ c + 1
-  by_size l f c (inr few) = rw (groups_narrow l f c few) (omega arith)
-  by_size zero f c (inl many) = rw (groups_last f c) (omega arith)
-  by_size (suc l) f c (inl many) =
-      let rest : length (groups_from l (f + c) (group_count c)) ≤ group_count c + 1 = by_size l (f + c) (group_count c) (cases_lt 4 (group_count c)) in
+pub count_later : {X : Type 0} (p : X → Bool) (xs : List X) (i j : ℕ) → i ≤ j → count_by p (take i xs) ≤ count_by p (take j xs)
+count_later p xs i j up = sum_later (λ y. cond (p y) 1 0) xs i j up
+
+-- the places that members have one after another: place c of a member is one of all, and stands before
+-- those of the members after it
+pub place_low : {X : Type 0} (f : X → ℕ) (xs : List X) (i c : ℕ) (x : X) → slice_get xs i ≡ Some x → c < f x → sum_by f (take i xs) + c < sum_by f xs
+place_low f xs i c x at low =
+    let is : f (get_or xs i x) ≡ f x = ap f (get_or_from_slice_get xs i x x at) in
+    omega (arith, low, is, sum_by_more_le f xs i x (slice_get_within xs i x at))
+
+pub place_before : {X : Type 0} (f : X → ℕ) (xs : List X) (i j c e : ℕ) (x : X) → slice_get xs i ≡ Some x → c < f x → i < j → sum_by f (take i xs) + c < sum_by f (take j xs) + e
+place_before f xs i j c e x at low before =
+    let is : f (get_or xs i x) ≡ f x = ap f (get_or_from_slice_get xs i x x at) in
+    omega (arith, low, is, sum_by_more f xs i x (slice_get_within xs i x at), sum_later f xs (i + 1) j (omega (arith, before)))
+
+-- a gate has no more groups than operands, and so fewer helpers
+pub groups_short : (levels first count : ℕ) → 1 ≤ count → length (groups_from levels first count) ≤ count
+groups_short levels first count some = by_size levels first count some (cases_lt 4 count) where
+  by_size : (l f c : ℕ) → 1 ≤ c → (4 < c) ⊎ (c ≤ 4) → length (groups_from l f c) ≤ c
+  by_size l f c one (inr few) = rw (groups_narrow l f c few) (omega (arith, one))
+  by_size zero f c one (inl many) = rw (groups_last f c) (omega (arith, one))
+  by_size (suc l) f c one (inl many) =
+      let rest : length (groups_from l (f + c) (group_count c)) ≤ group_count c = by_size l (f + c) (group_count c) (omega (arith, many)) (cases_lt 4 (group_count c)) in
       let long : length (level_of f c ++ groups_from l (f + c) (group_count c)) ≡ length (level_of f c) + length (groups_from l (f + c) (group_count c)) =
       length-append (level_of f c) (groups_from l (f + c) (group_count c)) in
       rw (groups_wide l f c many) (omega (arith, rest, long, level_length f c, many))
 
-pub helpers_few : (n : ℕ) → helper_count n ≤ n
-helpers_few n = let short : length (groups n) ≤ n + 1 = groups_short n 0 n in omega (arith, short)
+pub helpers_few : (n : ℕ) → 1 ≤ n → helper_count n < n
+helpers_few n some = let short : length (groups n) ≤ n = groups_short n 0 n some in omega (arith, short, some)

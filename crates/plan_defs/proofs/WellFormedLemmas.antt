@@ -8,7 +8,8 @@ use Rattle.std.proofs.lemmas.List.{get_or_default}
 use Rattle.std.proofs.lemmas.List.Elements.{All-from_get_or}
 use Rattle.std.proofs.lemmas.List.FromFn.{length-range_with_len}
 use Rattle.std.proofs.lemmas.List.Sums.{count_by_more_yes, sum_by-take-le}
-use Rattle.logic_four.proofs.KindLemmas.{few_operands}
+use Rattle.limits.specs.declared.TheConstants.{MAX_NODES}
+use Rattle.logic_four.proofs.KindLemmas.{few_operands, some_operands}
 use Rattle.net_defs.specs.declared.netlist.Netlist.{Netlist}
 use Rattle.net_defs.specs.declared.netlist.Signal.{Signal}
 use Rattle.net_defs.specs.declared.netlist.Block.{Block}
@@ -16,7 +17,7 @@ use Rattle.net_defs.specs.declared.netlist.Driver.{Driver}
 use Rattle.net_defs.specs.declared.netlist.Driver.TheVariants as driver
 use Rattle.net_defs.specs.declared.timing.Timing.{Timing}
 use Rattle.net_defs.specs.Steps.{is_late}
-use Rattle.net_defs.specs.Valid.{IsValid, IsDrivable, IsMemory, is_input as is_input_driver, memory_operand_count}
+use Rattle.net_defs.specs.Valid.{IsValid, IsDrivable, IsMemory, is_input as is_input_driver, operand_count, memory_operand_count}
 use Rattle.node_defs.specs.declared.items.Tag.TheVariants.{This, Last}
 use Rattle.node_defs.specs.declared.items.Feed.{Feed}
 use Rattle.node_defs.specs.declared.items.Feed.TheVariants.{From, Fixed}
@@ -32,7 +33,8 @@ use Rattle.node_defs.specs.Takes.{FeedTakes, FeedAwaits, Takes, Awaits}
 use Rattle.node_defs.specs.WellFormed.{IsComputed, NamesParts, is_input, column_count, IsMemoryOf, IsWellFormed}
 use Rattle.node_defs.proofs.MemberLemmas.{member_at}
 use Rattle.node_defs.proofs.EarlierLemmas.{earlier, operand_there, table_there}
-use Rattle.plan_defs.proofs.CountLemmas.{few_partners, length-le-sum, count_later, helpers_few}
+use Rattle.plan_defs.specs.Picks.{node_count}
+use Rattle.plan_defs.proofs.CountLemmas.{few_partners, length-le-sum, count_later, place_low, place_before, helpers_few}
 
 module _ (net : Netlist) (timing : Timing) (nodes : NodeNet) (valid : IsValid net) (are : AreItems net timing nodes) where
   -- a name is some item's
@@ -315,7 +317,7 @@ module _ (net : Netlist) (timing : Timing) (nodes : NodeNet) (valid : IsValid ne
   helper_small late s (driver.BlockBit m b) helper item drivable is = rw is.0 (omega arith)
   helper_small late s (driver.Gate kind ops) None item drivable is = omega arith
   helper_small late s (driver.Gate kind ops) (Some h) item drivable is =
-      omega (arith, is.0, helpers_few (length ops), few_operands kind (length ops) drivable.0)
+      omega (arith, is.0, helpers_few (length ops) (some_operands kind (length ops) drivable.0), few_operands kind (length ops) drivable.0)
 
   name_at : ℕ → ItemName
   name_at x = get_or nodes.names x (own 0)
@@ -354,6 +356,13 @@ module _ (net : Netlist) (timing : Timing) (nodes : NodeNet) (valid : IsValid ne
   unfolding named_by
   name_same one other signal helper = ap (λ s. named_by s one.helper) signal ∙ ap (λ h. named_by other.signal h) helper
 
+  -- items of one name are one
+  names_apart : (x y : ℕ) → x < y → y < length nodes.items → (name_at x).signal ≡ (name_at y).signal → helper_code (name_at x).helper ≡ helper_code (name_at y).helper → ⊥
+  names_apart x y before within signal helper =
+      let names : name_at x ≡ name_at y = name_same (name_at x) (name_at y) signal (helper_one (name_at x).helper (name_at y).helper helper) in
+      let one : x ≡ y = are.names.once x y (name_at y) (name_there x (omega (arith, before, within)) ∙ ap Some names) (name_there y within) in
+      omega (arith, before, one)
+
   few : length nodes.items < 2 ^ 31
   unfolding name_code
   few =
@@ -364,12 +373,84 @@ module _ (net : Netlist) (timing : Timing) (nodes : NodeNet) (valid : IsValid ne
         low x within = omega (arith, (code_low x within).0, (code_low x within).1)
 
         different : (x y : ℕ) → x < y → y < length nodes.items → name_code (name_at x) ≢ name_code (name_at y)
-        different x y before within same = by_code (omega (arith, same, (code_low x (omega (arith, before, within))).1, (code_low y within).1)) (omega (arith, same, (code_low x (omega (arith, before, within))).1, (code_low y within).1)) where
-          by_code : (name_at x).signal ≡ (name_at y).signal → helper_code (name_at x).helper ≡ helper_code (name_at y).helper → ⊥
-          by_code signal helper =
-              let names : name_at x ≡ name_at y = name_same (name_at x) (name_at y) signal (helper_one (name_at x).helper (name_at y).helper helper) in
-              let one : x ≡ y = are.names.once x y (name_at y) (name_there x (omega (arith, before, within)) ∙ ap Some names) (name_there y within) in
-              omega (arith, before, one)
+        different x y before within same =
+            let one = (code_low x (omega (arith, before, within))).1 in
+            let other = (code_low y within).1 in
+            names_apart x y before within (omega (arith, same, one, other)) (omega (arith, same, one, other))
+
+  -- ---- how many nodes there are
+
+  operands_of : Signal → ℕ
+  operands_of signal = operand_count signal.driver
+
+  -- the helper of a node is one of fewer than its signal has operands, and there is one
+  helper_fits : (late : Bool) (s : ℕ) (d : Driver) (helper : Option ℕ) (item : Item) → IsDrivable net s d → IsItemOf nodes.names nodes.tables late s d helper item → class_of item ≡ 2 → helper_code helper < operand_count d
+  unfolding helper_code
+  helper_fits late s driver.Input helper item drivable is computed = let other : class_of item ≡ 0 = ap class_of is.1 in absurd (omega (arith, other, computed))
+  helper_fits late s (driver.BlockBit m b) helper item drivable is computed = let other : class_of item ≡ 1 = ap class_of is.1 in absurd (omega (arith, other, computed))
+  helper_fits late s (driver.Dff o) helper item drivable is computed = rw is.0 (omega arith)
+  helper_fits late s (driver.Gate kind ops) None item drivable is computed = omega (arith, some_operands kind (length ops) drivable.0)
+  helper_fits late s (driver.Gate kind ops) (Some h) item drivable is computed =
+      omega (arith, is.0, helpers_few (length ops) (some_operands kind (length ops) drivable.0))
+
+  record HasOperand (x : ℕ) : Type 0 where
+    signal : Signal
+    is_signal : slice_get net.signals (name_at x).signal ≡ Some signal
+    fits : helper_code (name_at x).helper < operands_of signal
+
+  node_operand : (x : ℕ) → nodes.first_node ≤ x → x < length nodes.items → HasOperand x
+  unfolding operands_of
+  node_operand x from within = by_signal (slice_get net.signals (name_at x).signal) refl where
+    item : (i : Item) × (slice_get nodes.items x ≡ Some i)
+    item = member_at nodes.items x within
+
+    right : IsItem net timing nodes.names nodes.tables (name_at x) item.0
+    right = are.right x (name_at x) item.0 (name_there x within) item.1
+
+    by_signal : (found : Option Signal) → slice_get net.signals (name_at x).signal ≡ found → HasOperand x
+    by_signal None missing = absurd (rw missing at right)
+    by_signal (Some signal) there = record {
+      signal = signal;
+      is_signal = there;
+      fits = helper_fits (is_late net timing (name_at x).signal) (name_at x).signal signal.driver (name_at x).helper item.0 (valid.drivers (name_at x).signal signal there) (rw there at right) ((are.first_node x item.0 item.1).1 from);
+    }
+
+  -- the operand, of all of the netlist, that a node stands for
+  operand_at : ℕ → ℕ
+  operand_at x = sum_by operands_of (take (name_at x).signal net.signals) + helper_code (name_at x).helper
+
+  operand_low : (x : ℕ) → HasOperand x → operand_at x < sum_by operands_of net.signals
+  unfolding operand_at
+  operand_low x has = place_low operands_of net.signals (name_at x).signal (helper_code (name_at x).helper) has.signal has.is_signal has.fits
+
+  operands_apart : (x y : ℕ) → x < y → y < length nodes.items → HasOperand x → HasOperand y → operand_at x ≢ operand_at y
+  unfolding operand_at
+  operands_apart x y before within one other same = by_order (cases_order (name_at x).signal (name_at y).signal) where
+    by_order : ((name_at x).signal ≡ (name_at y).signal) ⊎ (((name_at x).signal < (name_at y).signal) ⊎ ((name_at y).signal < (name_at x).signal)) → ⊥
+    by_order (inl signal) =
+        let sums : sum_by operands_of (take (name_at x).signal net.signals) ≡ sum_by operands_of (take (name_at y).signal net.signals) = ap (λ s. sum_by operands_of (take s net.signals)) signal in
+        names_apart x y before within signal (omega (arith, same, sums))
+    by_order (inr (inl less)) =
+        omega (arith, same, place_before operands_of net.signals (name_at x).signal (name_at y).signal (helper_code (name_at x).helper) (helper_code (name_at y).helper) one.signal one.is_signal one.fits less)
+    by_order (inr (inr more)) =
+        omega (arith, same, place_before operands_of net.signals (name_at y).signal (name_at x).signal (helper_code (name_at y).helper) (helper_code (name_at x).helper) other.signal other.is_signal other.fits more)
+
+  -- nodes and latches are no more than the operands
+  pub few_nodes : node_count nodes ≤ MAX_NODES
+  unfolding operands_of
+  few_nodes =
+      let below : node_count nodes ≤ sum_by (λ signal. operand_count signal.driver) net.signals =
+      few_partners (node_count nodes) (sum_by operands_of net.signals) (λ k. operand_at (nodes.first_node + k)) different low in
+      omega (arith, below, valid.few_operands) where
+        has : (k : ℕ) → k < node_count nodes → HasOperand (nodes.first_node + k)
+        has k within = node_operand (nodes.first_node + k) (omega arith) (omega (arith, within))
+
+        low : (k : ℕ) → k < node_count nodes → operand_at (nodes.first_node + k) < sum_by operands_of net.signals
+        low k within = operand_low (nodes.first_node + k) (has k within)
+
+        different : (k l : ℕ) → k < l → l < node_count nodes → operand_at (nodes.first_node + k) ≢ operand_at (nodes.first_node + l)
+        different k l before within =
+            operands_apart (nodes.first_node + k) (nodes.first_node + l) (omega (arith, before)) (omega (arith, within)) (has k (omega (arith, before, within))) (has l within)
 
   -- the node that uses a table
   user : (t : ℕ) → (t < length nodes.tables) ⊎ (length nodes.tables ≤ t) → ℕ

@@ -2,6 +2,7 @@
 //! clauses hold of all items and homes.
 
 ghost use Rattle.std.specs.Prelude.{◌≡◌, ◌<◌, ◌≤◌, ℕ, length};
+ghost use Rattle.limits.specs.declared.TheConstants.{MAX_NODES};
 ghost use Rattle.net_defs.specs.declared.netlist.Netlist.{Netlist};
 ghost use Rattle.net_defs.specs.declared.timing.Timing.{Timing};
 ghost use Rattle.net_defs.specs.Valid.{IsValid};
@@ -11,6 +12,7 @@ ghost use Rattle.node_defs.specs.WellFormed.{IsWellFormed};
 ghost use Rattle.plan_defs.specs.declared.plan.Homes.{Homes};
 ghost use Rattle.plan_defs.specs.declared.plan.Plan.{Plan};
 ghost use Rattle.plan_defs.specs.Homes.{home_of};
+ghost use Rattle.plan_defs.specs.Picks.{node_count};
 ghost use Rattle.plan_defs.specs.Readers.{IsReader};
 ghost use Rattle.plan_defs.specs.Slots.{slot_of, IsFirstFitPlan};
 
@@ -55,4 +57,11 @@ pub fn no_gap()
 pub fn items_are_well_formed()
     ensures { (net : Netlist) (timing : Timing) (nodes : NodeNet) → IsValid net → AreItems net timing nodes
         → IsWellFormed nodes }
+{}
+
+/// A law: the nodes of a valid netlist, latches among them, are no more than the greatest limit of a
+/// logic port, which is the default of `nodes`: each stands for an operand of its own. It does nothing.
+pub fn few_nodes()
+    ensures { (net : Netlist) (timing : Timing) (nodes : NodeNet) → IsValid net → AreItems net timing nodes
+        → node_count nodes ≤ MAX_NODES }
 {}

@@ -1,0 +1,5 @@
+use Rattle.plan_defs.proofs.WellFormedLemmas as formed
+use Rattle.plan_defs.proofs.law.few_nodes.Goals as goal
+
+pub returns : goal.returns
+returns c net timing nodes valid are = formed.few_nodes net timing nodes valid are
