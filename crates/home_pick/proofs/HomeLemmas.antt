@@ -1,5 +1,5 @@
 -- Homes that are picked are homes of their items, and the ports of one item more.
-use Rattle.std.proofs.Common.{◌≡◌, ◌∙◌, inl, inr, ℕ, ◌+◌, ◌-◌, ◌<◌, ◌≤◌, List, [], ◌∷◌, ◌++◌, length, refl, sym, subst, arith, Some, slice_get}
+use Rattle.std.proofs.Common.{◌≡◌, ◌∙◌, inl, inr, ℕ, ◌+◌, ◌-◌, ◌<◌, ◌≤◌, ◌%◌, List, [], ◌∷◌, ◌++◌, length, get_or, refl, sym, subst, arith, Some, slice_get}
 use Rattle.std.proofs.lemmas.Bool.{cases_lt}
 use Rattle.std.proofs.lemmas.Nat.{mod_below}
 use Rattle.std.proofs.lemmas.Option.{slice_get_within}
@@ -10,12 +10,13 @@ use Rattle.node_defs.specs.declared.items.Item.{Item}
 use Rattle.node_defs.specs.declared.items.Item.TheVariants.{Input, BlockBit, Node, Latch}
 use Rattle.node_defs.specs.declared.items.NodeNet.{NodeNet}
 use Rattle.node_defs.specs.WellFormed.{IsWellFormed, IsComputed}
+use Rattle.node_defs.proofs.MemberLemmas.{member_at}
 use Rattle.plan_defs.specs.declared.plan.Homes.{Homes}
 use Rattle.plan_defs.specs.Homes.{AreHomes, MayHouse, home_of}
-use Rattle.plan_defs.specs.Picks.{node_count, node_room, AreHoused, ArePicked, IsInTurn, HasPickedHome}
+use Rattle.plan_defs.specs.Picks.{node_count, node_limit, node_room, AreHoused, ArePicked, IsInTurn, HasPickedHome}
 use Rattle.plan_defs.proofs.ListLemmas.{last_or}
 use Rattle.home_pick.specs.Rooms.{homes_at, AreItemPorts}
-use Rattle.home_pick.proofs.TurnLemmas.{turn_same}
+use Rattle.home_pick.proofs.TurnLemmas.{turn_same, turn_wide}
 
 -- nodes and latches come last
 pub computed_last : (nodes : NodeNet) (i : ℕ) (item : Item) → IsWellFormed nodes → slice_get nodes.items i ≡ Some item → IsComputed item → nodes.first_node ≤ i
@@ -70,6 +71,24 @@ picked_are nodes machine blocks items housed few ports = record {
   items = ports.count;
   picked = λ i item is. ports.each i item (slice_get_within nodes.items i item is) is;
 }
+
+-- ---- limits that no port reaches
+
+in_turn : (nodes : NodeNet) (machine : Machine) (homes : Homes) (i : ℕ) (item : Item) → IsComputed item → HasPickedHome nodes machine homes i item → IsInTurn nodes machine homes.items (i - nodes.first_node)
+in_turn nodes machine homes i (Input column) computed at = absurd computed
+in_turn nodes machine homes i (BlockBit block bit) computed at = absurd computed
+in_turn nodes machine homes i (Node table feeds) computed at = at
+in_turn nodes machine homes i (Latch op) computed at = at
+
+-- node number n is at the n-th port in turn, where each port holds all nodes
+pub wide_home : (nodes : NodeNet) (machine : Machine) (homes : Homes) (n : ℕ) → IsWellFormed nodes → 1 ≤ machine.logic → ((p : ℕ) → p < machine.logic → node_count nodes ≤ node_limit machine p) → ArePicked nodes machine homes → n < node_count nodes
+    → get_or homes.items (nodes.first_node + n) 0 ≡ n % machine.logic
+wide_home nodes machine homes n formed some wide picked low =
+    let item : (i : Item) × (slice_get nodes.items (nodes.first_node + n) ≡ Some i) = member_at nodes.items (nodes.first_node + n) (omega (arith, low)) in
+    let computed : IsComputed item.0 = (formed.nodes_last (nodes.first_node + n) item.0 item.1).1 (omega arith) in
+    let number : nodes.first_node + n - nodes.first_node ≡ n = omega arith in
+    turn_wide nodes machine homes.items n some (λ p inside. omega (arith, low, wide p inside))
+    (subst (IsInTurn nodes machine homes.items) number (in_turn nodes machine homes (nodes.first_node + n) item.0 computed (picked.picked (nodes.first_node + n) item.0 item.1)))
 
 -- ---- one item more
 

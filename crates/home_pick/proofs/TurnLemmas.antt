@@ -1,12 +1,13 @@
 -- Nodes that get their ports in turn.
-use Rattle.std.proofs.Common.{◌≡◌, ◌≢◌, ◌∙◌, ◌⊎◌, inl, inr, ℕ, suc, ◌+◌, ◌-◌, ◌%◌, ◌<◌, ◌≤◌, List, [], ◌∷◌, ◌++◌, length, get_or, set, replicate, refl, sym, ap, subst, arith, if◌then◌else◌}
+use Rattle.std.proofs.Common.{◌≡◌, ◌≢◌, ◌∙◌, ◌⊎◌, inl, inr, ℕ, suc, ◌+◌, ◌-◌, ◌%◌, ◌<◌, ◌≤◌, Bool, true, false, List, [], ◌∷◌, ◌++◌, length, get_or, set, replicate, refl, sym, ap, subst, arith, if◌then◌else◌}
 use Rattle.std.specs.Prelude.{◌==◌}
 use Rattle.std.specs.List.{sum, range_with_len}
 use Rattle.std.proofs.Math.Nat.{mod-add-mod, mod-eq_of_lt, add-mod_right}
 use Rattle.std.proofs.lemmas.Bool.{cases_lt, cases_eq}
 use Rattle.std.proofs.lemmas.Nat.{mod_below}
 use Rattle.std.proofs.lemmas.List.{get_or_append_left, get_or-set_same, get_or-set_other, length-set, get_or-replicate, length-replicate}
-use Rattle.std.proofs.lemmas.List.Sums.{sum-map, sum_by-set, sum_by-cons}
+use Rattle.std.proofs.lemmas.List.FromFn.{length-range_with_len, get_or-range_with_len}
+use Rattle.std.proofs.lemmas.List.Sums.{sum-map, sum_by-set, sum_by-cons, sum_by-le, get_or-le-sum_by}
 use Rattle.std.proofs.Math.Seq.{get_or-append_seam}
 use Rattle.machine_text.specs.declared.machine.Limited.TheVariants.{Nodes}
 use Rattle.machine_text.specs.declared.machine.Machine.{Machine}
@@ -53,6 +54,33 @@ turn_one nodes machine xs ys n same one other =
     (least_same (λ e. IsFull nodes machine xs n ((n + e) % machine.logic)) (λ e. IsFull nodes machine ys n ((n + e) % machine.logic)) one.past
     (λ e. full_same nodes machine xs ys n ((n + e) % machine.logic) same) (λ e. full_same nodes machine ys xs n ((n + e) % machine.logic) (λ i low. sym (same i low))) one.first) other.first in
     one.at ∙ (ap (λ e. (n + e) % machine.logic) past ∙ sym other.at)
+
+-- ---- ports that are never full
+
+one_most : (test : Bool) → (if test then 1 else 0) ≤ 1
+one_most true = omega arith
+one_most false = omega arith
+
+-- no port has more nodes than there are
+few_before : (nodes : NodeNet) (ports : List ℕ) (n port : ℕ) → nodes_before nodes ports n port ≤ n
+few_before nodes ports n port =
+    let most = sum_by-le (node_at nodes ports port) 1 (range_with_len 0 n) (λ k d within. one_most (get_or ports (nodes.first_node + get_or (range_with_len 0 n) k d) 0 == port)) in
+    omega (arith, most, length-range_with_len 0 n)
+
+-- where each limit is past the node, it is at its first port
+pub turn_wide : (nodes : NodeNet) (machine : Machine) (ports : List ℕ) (n : ℕ) → 1 ≤ machine.logic → ((p : ℕ) → p < machine.logic → n < node_limit machine p) → IsInTurn nodes machine ports n → get_or ports (nodes.first_node + n) 0 ≡ n % machine.logic
+turn_wide nodes machine ports n some wide turn = turn.at ∙ ap (λ m. m % machine.logic) (none_past (cases_lt 0 turn.past)) where
+  none_past : (0 < turn.past) ⊎ (turn.past ≤ 0) → n + turn.past ≡ n
+  none_past (inr none) = omega (arith, none)
+  none_past (inl past) =
+      let full : IsFull nodes machine ports n ((n + 0) % machine.logic) = turn.first.below 0 past in
+      absurd (omega (arith, full, few_before nodes ports n ((n + 0) % machine.logic), wide ((n + 0) % machine.logic) (mod_below (n + 0) machine.logic some)))
+
+-- all ports together hold what the first holds
+pub room_first : (machine : Machine) → 1 ≤ machine.logic → node_limit machine 0 ≤ node_room machine
+room_first machine some =
+    let first : node_limit machine (get_or (range_with_len 0 machine.logic) 0 0) ≡ node_limit machine 0 = ap (node_limit machine) (get_or-range_with_len 0 machine.logic 0 0 some) in
+    omega (arith, first, get_or-le-sum_by (node_limit machine) (range_with_len 0 machine.logic) 0 0 (omega (arith, some, length-range_with_len 0 machine.logic)))
 
 -- ---- ports that hold no node more
 

@@ -1,11 +1,12 @@
 //! Laws of picked homes: functions that do nothing, whose clauses hold of all items and machines.
 
-ghost use Rattle.std.specs.Prelude.{◌≡◌, List as Items, ℕ, length};
+ghost use Rattle.std.specs.Prelude.{◌≡◌, ◌+◌, ◌%◌, ◌<◌, ◌≤◌, List as Items, ℕ, length, slice_index};
 ghost use Rattle.machine_text.specs.declared.machine.Machine.{Machine};
+ghost use Rattle.machine_text.specs.Machines.{IsValid};
 ghost use Rattle.node_defs.specs.declared.items.NodeNet.{NodeNet};
 ghost use Rattle.node_defs.specs.WellFormed.{IsWellFormed};
 ghost use Rattle.plan_defs.specs.declared.plan.Homes.{Homes};
-ghost use Rattle.plan_defs.specs.Picks.{AreHoused, ArePicked, FindsNoPort, HasTooManyNodes};
+ghost use Rattle.plan_defs.specs.Picks.{node_count, node_limit, AreHoused, ArePicked, FindsNoPort, HasTooManyNodes};
 
 /// A law: memories have one list of ports. It does nothing.
 pub fn one_housing()
@@ -29,4 +30,18 @@ pub fn one_picking()
 pub fn picked_or_too_many()
     ensures { (nodes : NodeNet) (machine : Machine) (homes : Homes) (needed limit : ℕ)
         → ArePicked nodes machine homes → HasTooManyNodes nodes machine needed limit → ⊥ }
+{}
+
+/// A law: where each logic port may have all nodes, its limit changes nothing. Node number n is at port n
+/// modulo their number, and the nodes are not too many. So it is on each machine whose logic ports have no
+/// limits of their own and whose `nodes` is the default, since no valid netlist has more nodes than that
+/// (`plan_defs::law::few_nodes`). It does nothing.
+pub fn wide_limits()
+    ensures turn { (nodes : NodeNet) (machine : Machine) (homes : Homes) (n : ℕ) → IsWellFormed nodes → IsValid machine
+        → ((p : ℕ) → p < machine.logic → node_count nodes ≤ node_limit machine p)
+        → ArePicked nodes machine homes → n < node_count nodes
+        → slice_index homes.items (nodes.first_node + n) ≡ n % machine.logic }
+    ensures room { (nodes : NodeNet) (machine : Machine) (needed limit : ℕ) → IsValid machine
+        → ((p : ℕ) → p < machine.logic → node_count nodes ≤ node_limit machine p)
+        → HasTooManyNodes nodes machine needed limit → ⊥ }
 {}
