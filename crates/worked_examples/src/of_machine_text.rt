@@ -1,6 +1,7 @@
 //! Calls of `machine_text`.
 
 use machine_text::*;
+use std::alloc::Global;
 
 /// The numbers of a machine, without the limits of single ports.
 #[derive(Clone, Copy, Debug, PartialEq, Eq)]
@@ -69,11 +70,14 @@ fn numbers_of(machine: &Machine) -> Numbers {
     }
 }
 
-/// The numbers of what was read, or its refusal.
-fn numbers_read(read: &Result<Machine, MachNo>) -> Result<Numbers, MachNo> {
-    match read {
-        Ok(machine) => Ok(numbers_of(machine)),
-        Err(why) => Err(*why),
+/// The numbers that a text says, or its refusal.
+fn read(alloc: Global, text: &str) -> Result<Numbers, MachNo> {
+    if text.len() > 1_000_000 {
+        return Err(MachNo::Memory);
+    }
+    match read_machine(alloc, text.as_bytes()) {
+        Ok(machine) => Ok(numbers_of(&machine)),
+        Err(why) => Err(why),
     }
 }
 
@@ -120,8 +124,7 @@ fn reads_texts(rt: HostRuntime) {
         ("logic 4\nversion 2\n", Err(MachNo::Syntax { line: 2 })),
     ];
     for (text, want) in texts {
-        let read = read_machine(rt.alloc(), text.as_bytes());
-        assert_eq!(rt; numbers_read(&read), want);
+        assert_eq!(rt; read(rt.alloc(), text), want);
     }
     assert_eq!(rt; numbers_of(&Machine::default_size(rt.alloc())), DEFAULTS);
 }
@@ -200,8 +203,7 @@ fn reads_version_two(rt: HostRuntime) {
         ),
     ];
     for (text, want) in texts {
-        let read = read_machine(rt.alloc(), text.as_bytes());
-        assert_eq!(rt; numbers_read(&read), want);
+        assert_eq!(rt; read(rt.alloc(), text), want);
     }
 }
 
