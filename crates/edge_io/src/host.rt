@@ -61,8 +61,8 @@ impl<'a, R: rt::Files> Files for HostFiles<'a, R> {
 
     fn read(&mut self, buf: &mut [u8]) -> Result<usize, Failed>
         ensures bound { IfOk result (λ n. n ≤ length buf.new) }
-        ensures given { IfSome self.old.file (λ old. IfOk result (λ n. (new : R.File)
-            × (self.new.file ≡ Some new) × ReadConsumes (R.File.remaining old) (R.File.remaining new) result buf.new)) }
+        ensures given { IfSome self.old.file (λ old. (new : R.File) × (self.new.file ≡ Some new)
+            × ReadConsumes (R.File.remaining old) (R.File.remaining new) result buf.new) }
         ensures unbegun { self.old.file ≡ None → (result ≡ Ok 0) × (self.new.file ≡ None) }
         ensures after { MatchResult result
             (λ n. self.new.counts ≡ after_read self.old.counts n) (λ _. self.new.counts ≡ after_failed_read self.old.counts) }

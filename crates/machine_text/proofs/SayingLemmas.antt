@@ -7,7 +7,8 @@ use Rattle.text_lines.specs.Words.{words_of}
 use Rattle.machine_text.specs.declared.quantity.Version.{Version}
 use Rattle.machine_text.specs.declared.saying.Says.{Says}
 use Rattle.machine_text.specs.declared.saying.Says.TheVariants.{Nothing}
-use Rattle.machine_text.specs.Settings.{line_says, said_lines, says_from, settled}
+use Rattle.machine_text.specs.Sayings.{said_lines}
+use Rattle.machine_text.specs.Settings.{line_says, says_from, settled}
 
 -- what numbered lines say is what they say, with the numbers
 pub said_numbered : (version : Option Version) (k : ℕ) (parts : List (List ℕ)) → said_lines version (enumerate_from k parts) ≡ enumerate_from k (says_from version (map words_of parts))

@@ -3,4 +3,5 @@ pub mod Given
 pub mod Limits
 pub mod Machines
 pub mod Quantities
+pub mod Sayings
 pub mod Settings

@@ -47,10 +47,6 @@ abbrev pub announces_two : List (List ℕ) → Bool
 announces_two (word ∷ number ∷ []) = str_eq_ignore_ascii_case word (codes "version") && is_some (within 2 2 (number_of number))
 announces_two _ = false
 
-abbrev pub no_words : List (List ℕ) → Bool
-no_words [] = true
-no_words _ = false
-
 -- The version of the text, if a line with these words or an earlier one settles it: the first line that is
 -- not blank does.
 abbrev pub settled : Option Version → List (List ℕ) → Option Version
@@ -117,9 +113,3 @@ is_allowed Nothing = true
 is_allowed (Sets quantity n) = in_range quantity n
 is_allowed (Limits what port n) = in_range (quantity_of what) n
 is_allowed Other = false
-
--- what numbered lines say, with their numbers
-unfoldable pub said_lines : Option Version → List (ℕ × List ℕ) → List (ℕ × Says)
-said_lines version [] = []
-said_lines version (line ∷ lines) =
-    (line.0, line_says version (words_of line.1)) ∷ said_lines (settled version (words_of line.1)) lines

@@ -100,11 +100,12 @@ fn is_at(own: &PortLimit, what: Limited, port: u32) -> bool
 /// Why a machine text is refused. Lines are counted from 1.
 #[derive(Clone, Copy, Debug, PartialEq, Eq)]
 pub enum MachNo {
-    /// The line is neither blank nor a word of the format, blanks and a number.
+    /// The line is neither blank nor one of the forms that the text's version has.
     Syntax { line: u32 },
     /// The line's number is out of its word's range.
     Range { line: u32 },
-    /// An earlier line has the line's word.
+    /// An earlier line has the line's word, without a port where the line has none, and else with the
+    /// same port.
     Twice { line: u32 },
     /// No line has a fault, and the processors and the host are `sum` ports, more than 256.
     Ports { sum: u32 },

@@ -37,7 +37,7 @@ pub record FitsTables (nodes : NodeNet) (homes : Homes) (machine : Machine) (por
   pub few : count ≤ table_limit machine port
 
 -- the plan's slots and each logic port's tables are within the machine's limits; whether each memory
--- finds a port is not asked here
+-- finds a port, and whether the nodes are few enough, is asked of the homes
 pub record Fits (nodes : NodeNet) (homes : Homes) (machine : Machine) (plan : Plan) : Type 0 where
   pub slots : plan.needed ≤ slot_limit machine
   pub tables : (port : ℕ) → port < homes.logic → FitsTables nodes homes machine port

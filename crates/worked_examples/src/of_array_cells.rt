@@ -43,6 +43,12 @@ const FROM_ZERO: &[Edge] = &[
     (Zero, Zero, Zero, Zero, Undef),
 ];
 
+/// A write to an undefined address, and a read of a word that nothing was written into since.
+const CLEARED: &[Edge] = &[
+    (One, Undef, Zero, One, Undef),
+    (Zero, One, Zero, Zero, Undef),
+];
+
 /// Whether the edges, one after the other, give these outputs.
 fn agrees(cells: &mut Cells, edges: &[Edge]) -> bool
     requires { HasShape 2 1 cells.old }
@@ -57,6 +63,20 @@ fn agrees(cells: &mut Cells, edges: &[Edge]) -> bool
     all
 }
 
+/// Whether the word is undefined after each of so many writes to an undefined address.
+fn stays_cleared(cells: &mut Cells, times: usize) -> bool
+    requires { HasShape 2 1 cells.old }
+    ensures { HasShape 2 1 cells.new }
+{
+    let mut all = true;
+    'clearings: for _clearing in 0..times {
+        if !agrees(cells, CLEARED) {
+            all = false;
+        }
+    }
+    all
+}
+
 /// Reads of old words, of what was written, and of words that are not known any more.
 #[test]
 fn edges_answer_as_tabled(rt: HostRuntime) -> Result<(), Fail> {
@@ -64,6 +84,16 @@ fn edges_answer_as_tabled(rt: HostRuntime) -> Result<(), Fail> {
     assert!(rt; agrees(&mut cells, FROM_UNDEFINED));
     let mut cells = Cells::new(rt.alloc(), 2, 1, Zero)?;
     assert!(rt; agrees(&mut cells, FROM_ZERO));
+    Ok(())
+}
+
+/// A word stays undefined, however often every word was made so, and what is written then is read.
+#[test]
+fn many_clearings(rt: HostRuntime) -> Result<(), Fail> {
+    let mut cells = Cells::new(rt.alloc(), 2, 1, One)?;
+    assert!(rt; stays_cleared(&mut cells, 600));
+    assert!(rt; agrees(&mut cells, FROM_UNDEFINED));
+    assert!(rt; stays_cleared(&mut cells, 600));
     Ok(())
 }
 

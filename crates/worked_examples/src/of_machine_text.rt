@@ -1,43 +1,98 @@
 //! Calls of `machine_text`.
 
 use machine_text::*;
+use std::alloc::Global;
 
-const SMALLEST: Machine = Machine {
+/// The numbers of a machine, without the limits of single ports.
+#[derive(Clone, Copy, Debug, PartialEq, Eq)]
+struct Numbers {
+    logic: u32,
+    array: u32,
+    slots: u32,
+    functions: u32,
+    bits: u32,
+    nodes: u32,
+}
+
+const SMALLEST: Numbers = Numbers {
     logic: 1,
     array: 0,
     slots: 1,
     functions: 1,
     bits: 1,
+    nodes: 4_194_304,
 };
 
-const DEFAULTS: Machine = Machine {
+const DEFAULTS: Numbers = Numbers {
     logic: 4,
     array: 1,
     slots: 65_536,
     functions: 256,
     bits: 65_536,
+    nodes: 4_194_304,
 };
 
-const MOST_LOGIC: Machine = Machine {
+const MOST_LOGIC: Numbers = Numbers {
     logic: 254,
     array: 1,
     slots: 65_536,
     functions: 4096,
     bits: 65_536,
+    nodes: 4_194_304,
 };
 
-const MOST_ARRAY: Machine = Machine {
+const MOST_ARRAY: Numbers = Numbers {
     logic: 4,
     array: 64,
     slots: 65_536,
     functions: 256,
     bits: 16_777_216,
+    nodes: 4_194_304,
 };
+
+const ONE_NODE: Numbers = Numbers {
+    logic: 4,
+    array: 1,
+    slots: 65_536,
+    functions: 256,
+    bits: 65_536,
+    nodes: 1,
+};
+
+fn numbers_of(machine: &Machine) -> Numbers {
+    Numbers {
+        logic: machine.logic,
+        array: machine.array,
+        slots: machine.slots,
+        functions: machine.functions,
+        bits: machine.bits,
+        nodes: machine.nodes,
+    }
+}
+
+/// The numbers that a text says, or its refusal.
+fn read(alloc: Global, text: &str) -> Result<Numbers, MachNo> {
+    if text.len() > 1_000_000 {
+        return Err(MachNo::Memory);
+    }
+    match read_machine(alloc, text.as_bytes()) {
+        Ok(machine) => Ok(numbers_of(&machine)),
+        Err(why) => Err(why),
+    }
+}
+
+/// Whether a machine was read that has these limits of single ports.
+fn has_own(read: &Result<Machine, MachNo>, own: &[PortLimit]) -> bool {
+    match read {
+        Ok(machine) => machine.own.as_slice() == own,
+        Err(_) => false,
+    }
+}
 
 /// The texts that are refused, with their lines, and texts at the ends of the ranges.
 #[test]
 fn reads_texts(rt: HostRuntime) {
-    let texts: [(&str, Result<Machine, MachNo>); 17] = [
+    let texts: [(&str, Result<Numbers, MachNo>); 20] = [
         ("", Ok(DEFAULTS)),
         ("logic 0\n", Err(MachNo::Range { line: 1 })),
         ("logic 254\narray 2\n", Err(MachNo::Ports { sum: 257 })),
@@ -64,9 +119,120 @@ fn reads_texts(rt: HostRuntime) {
             "bits 65536\nfunctions 256\nslots 65536\nARRAY 1\nlogic 00000000000000000000004",
             Ok(DEFAULTS),
         ),
+        ("nodes 5\n", Err(MachNo::Syntax { line: 1 })),
+        ("functions 0 5\n", Err(MachNo::Syntax { line: 1 })),
+        ("logic 4\nversion 2\n", Err(MachNo::Syntax { line: 2 })),
     ];
     for (text, want) in texts {
-        assert_eq!(rt; read_machine(rt.alloc(), text.as_bytes()), want);
+        assert_eq!(rt; read(rt.alloc(), text), want);
     }
-    assert_eq!(rt; Machine::default_size(), DEFAULTS);
+    assert_eq!(rt; numbers_of(&Machine::default_size(rt.alloc())), DEFAULTS);
+}
+
+/// The same of texts of version 2, and of texts whose first line names another version.
+#[test]
+fn reads_version_two(rt: HostRuntime) {
+    let texts: [(&str, Result<Numbers, MachNo>); 26] = [
+        ("version 2\n", Ok(DEFAULTS)),
+        (
+            "\n# version 3\n\tVERSION 0002 # \u{ff}\r\nNODES 4194304\n",
+            Ok(DEFAULTS),
+        ),
+        ("version 2\nnodes 1\n", Ok(ONE_NODE)),
+        ("version 3\n", Err(MachNo::Syntax { line: 1 })),
+        ("version 1\n", Err(MachNo::Syntax { line: 1 })),
+        ("version 2 2\n", Err(MachNo::Syntax { line: 1 })),
+        ("version 2\nversion 2\n", Err(MachNo::Syntax { line: 2 })),
+        ("version 2\nlogic 0 5\n", Err(MachNo::Syntax { line: 2 })),
+        ("version 2\nnodes 0 1 5\n", Err(MachNo::Syntax { line: 2 })),
+        ("version 2\nnodes -1 5\n", Err(MachNo::Syntax { line: 2 })),
+        ("version 2\nnodes 0\n", Err(MachNo::Range { line: 2 })),
+        ("version 2\nnodes 4194305\n", Err(MachNo::Range { line: 2 })),
+        ("version 2\nnodes 0 0\n", Err(MachNo::Range { line: 2 })),
+        (
+            "version 2\nnodes 0 4194305\n",
+            Err(MachNo::Range { line: 2 }),
+        ),
+        (
+            "version 2\nfunctions 0 4097\n",
+            Err(MachNo::Range { line: 2 }),
+        ),
+        (
+            "version 2\nbits 0 16777217\n",
+            Err(MachNo::Range { line: 2 }),
+        ),
+        (
+            "version 2\nnodes 5\nnodes 0 5\nnodes 6\n",
+            Err(MachNo::Twice { line: 4 }),
+        ),
+        (
+            "version 2\nnodes 0 5\nnodes 00 6\n",
+            Err(MachNo::Twice { line: 3 }),
+        ),
+        (
+            "version 2\nnodes 1 5\nnodes 1 0\n",
+            Err(MachNo::Twice { line: 3 }),
+        ),
+        (
+            "version 2\nbits 18446744073709551616 5\nbits 018446744073709551616 5\n",
+            Err(MachNo::Twice { line: 3 }),
+        ),
+        (
+            "version 2\nbits 18446744073709551616 5\nbits 18446744073709551617 5\nlogic 0\n",
+            Err(MachNo::Range { line: 4 }),
+        ),
+        (
+            "version 2\nlogic 2\nnodes 2 5",
+            Err(MachNo::NoPort { line: 3 }),
+        ),
+        (
+            "version 2\nbits 0 5\nbits 1 5\nfunctions 4 5\n",
+            Err(MachNo::NoPort { line: 3 }),
+        ),
+        (
+            "version 2\nbits 18446744073709551616 5\n",
+            Err(MachNo::NoPort { line: 2 }),
+        ),
+        (
+            "version 2\nnodes 4 5\nwheels 4\n",
+            Err(MachNo::Syntax { line: 3 }),
+        ),
+        (
+            "version 2\nnodes 254 5\nlogic 254\narray 2\n",
+            Err(MachNo::Ports { sum: 257 }),
+        ),
+    ];
+    for (text, want) in texts {
+        assert_eq!(rt; read(rt.alloc(), text), want);
+    }
+}
+
+/// The limits of single ports stand in file order, and a port is there if a later line says so.
+#[test]
+fn reads_limits_of_ports(rt: HostRuntime) {
+    let read = read_machine(
+        rt.alloc(),
+        b"version 2\nnodes 1 4194304\nFunctions 0 01\nbits 000 16777216\nnodes 4 1\nlogic 5\nnodes 9\n",
+    );
+    let own = [
+        limit(Limited::Nodes, 1, 4_194_304),
+        limit(Limited::Functions, 0, 1),
+        limit(Limited::Bits, 0, 16_777_216),
+        limit(Limited::Nodes, 4, 1),
+    ];
+    assert!(rt; has_own(&read, own.as_slice()));
+    assert_eq!(rt; nodes_at(&read, 4), Some(1));
+    assert_eq!(rt; nodes_at(&read, 0), Some(9));
+}
+
+fn limit(what: Limited, port: u32, limit: u32) -> PortLimit {
+    PortLimit { what, port, limit }
+}
+
+/// The limit of nodes at a port of the machine that was read.
+fn nodes_at(read: &Result<Machine, MachNo>, port: u32) -> Option<u32> {
+    match read {
+        Ok(machine) => Some(machine.limit_at(Limited::Nodes, port)),
+        Err(_) => None,
+    }
 }
