@@ -1,11 +1,18 @@
 -- Homes that are picked are homes of their items, and the ports of one item more.
-use Rattle.std.proofs.Common.{◌≡◌, ◌∙◌, inl, inr, ℕ, ◌+◌, ◌-◌, ◌<◌, ◌≤◌, ◌%◌, List, [], ◌∷◌, ◌++◌, length, get_or, refl, sym, subst, arith, Some, slice_get}
+use Rattle.std.proofs.Common.{◌≡◌, ◌≢◌, ◌∙◌, inl, inr, ℕ, ◌+◌, ◌-◌, ◌<◌, ◌≤◌, ◌%◌, Bool, true, List, [], ◌∷◌, ◌++◌, length, get_or, refl, sym, subst, arith, Option, Some, None, slice_get}
+use Rattle.std.specs.Prelude.{◌==◌, ◌&&◌, All}
+use Rattle.std.specs.List.{find}
 use Rattle.std.proofs.lemmas.Bool.{cases_lt}
 use Rattle.std.proofs.lemmas.Nat.{mod_below}
 use Rattle.std.proofs.lemmas.Option.{slice_get_within}
 use Rattle.std.proofs.lemmas.List.{get_or_append_left, length-append}
+use Rattle.machine_text.specs.declared.machine.Limited.{Limited}
+use Rattle.machine_text.specs.declared.machine.Limited.TheVariants.{Functions, Nodes, Bits}
 use Rattle.machine_text.specs.declared.machine.Machine.{Machine}
+use Rattle.machine_text.specs.declared.machine.PortLimit.{PortLimit}
+use Rattle.machine_text.specs.Limits.{same_limited, is_at}
 use Rattle.machine_text.specs.Machines.{IsValid}
+use Rattle.machine_text.proofs.LimitLemmas.{found_is}
 use Rattle.node_defs.specs.declared.items.Item.{Item}
 use Rattle.node_defs.specs.declared.items.Item.TheVariants.{Input, BlockBit, Node, Latch}
 use Rattle.node_defs.specs.declared.items.NodeNet.{NodeNet}
@@ -89,6 +96,20 @@ wide_home nodes machine homes n formed some wide picked low =
     let number : nodes.first_node + n - nodes.first_node ≡ n = omega arith in
     turn_wide nodes machine homes.items n some (λ p inside. omega (arith, low, wide p inside))
     (subst (IsInTurn nodes machine homes.items) number (in_turn nodes machine homes (nodes.first_node + n) item.0 computed (picked.picked (nodes.first_node + n) item.0 item.1)))
+
+not_nodes : (what : Limited) (here : Bool) → what ≢ Nodes → (same_limited what Nodes && here) ≡ true → ⊥
+not_nodes Functions here other is = cc
+not_nodes Nodes here other is = other refl
+not_nodes Bits here other is = cc
+
+-- where no port has a limit of nodes of its own, that of all ports holds
+pub common_nodes : (machine : Machine) (p : ℕ) → All (λ own. own.what ≢ Nodes) machine.own → node_limit machine p ≡ machine.nodes
+common_nodes machine p none = by_own (find (is_at Nodes p) machine.own) refl where
+  by_own : (found : Option PortLimit) → find (is_at Nodes p) machine.own ≡ found → node_limit machine p ≡ machine.nodes
+  by_own None missing = rw missing refl
+  by_own (Some own) there =
+      let is : (own.what ≢ Nodes) × (is_at Nodes p own ≡ true) = found_is (λ o. o.what ≢ Nodes) (is_at Nodes p) machine.own own none there in
+      absurd (not_nodes own.what (own.port == p) is.0 is.1)
 
 -- ---- one item more
 

@@ -1,9 +1,15 @@
 //! Laws of picked homes: functions that do nothing, whose clauses hold of all items and machines.
 
-ghost use Rattle.std.specs.Prelude.{◌≡◌, ◌+◌, ◌%◌, ◌<◌, ◌≤◌, List as Items, ℕ, length, slice_index};
+ghost use Rattle.std.specs.Prelude.{◌≡◌, ◌≢◌, ◌+◌, ◌%◌, ◌<◌, ◌≤◌, All, List as Items, ℕ, length, slice_index};
+ghost use Rattle.limits.specs.declared.TheConstants.{MAX_NODES};
+ghost use Rattle.machine_text.specs.declared.machine.Limited.TheVariants.{Nodes};
 ghost use Rattle.machine_text.specs.declared.machine.Machine.{Machine};
-ghost use Rattle.machine_text.specs.Machines.{IsValid};
+ghost use Rattle.machine_text.specs.Machines.{IsValid as IsValidMachine};
+ghost use Rattle.net_defs.specs.declared.netlist.Netlist.{Netlist};
+ghost use Rattle.net_defs.specs.declared.timing.Timing.{Timing};
+ghost use Rattle.net_defs.specs.Valid.{IsValid};
 ghost use Rattle.node_defs.specs.declared.items.NodeNet.{NodeNet};
+ghost use Rattle.node_defs.specs.Order.{AreItems};
 ghost use Rattle.node_defs.specs.WellFormed.{IsWellFormed};
 ghost use Rattle.plan_defs.specs.declared.plan.Homes.{Homes};
 ghost use Rattle.plan_defs.specs.Picks.{node_count, node_limit, AreHoused, ArePicked, FindsNoPort, HasTooManyNodes};
@@ -32,16 +38,23 @@ pub fn picked_or_too_many()
         → ArePicked nodes machine homes → HasTooManyNodes nodes machine needed limit → ⊥ }
 {}
 
-/// A law: where each logic port may have all nodes, its limit changes nothing. Node number n is at port n
-/// modulo their number, and the nodes are not too many. So it is on each machine whose logic ports have no
-/// limits of their own and whose `nodes` is the default, since no valid netlist has more nodes than that
-/// (`plan_defs::law::few_nodes`). It does nothing.
+/// A law: where each logic port may have all nodes, the limits of nodes change nothing. Node number n is
+/// at port n modulo their number, and the nodes are not too many. It does nothing.
 pub fn wide_limits()
-    ensures turn { (nodes : NodeNet) (machine : Machine) (homes : Homes) (n : ℕ) → IsWellFormed nodes → IsValid machine
+    ensures turn { (nodes : NodeNet) (machine : Machine) (homes : Homes) (n : ℕ) → IsWellFormed nodes → IsValidMachine machine
         → ((p : ℕ) → p < machine.logic → node_count nodes ≤ node_limit machine p)
         → ArePicked nodes machine homes → n < node_count nodes
         → slice_index homes.items (nodes.first_node + n) ≡ n % machine.logic }
-    ensures room { (nodes : NodeNet) (machine : Machine) (needed limit : ℕ) → IsValid machine
+    ensures room { (nodes : NodeNet) (machine : Machine) (needed limit : ℕ) → IsValidMachine machine
         → ((p : ℕ) → p < machine.logic → node_count nodes ≤ node_limit machine p)
         → HasTooManyNodes nodes machine needed limit → ⊥ }
+{}
+
+/// A law: at the default of `nodes`, and without limits of nodes of single ports, each logic port may have
+/// all nodes of a valid netlist (`plan_defs::law::few_nodes`). So each home is as without limits of nodes,
+/// and none is refused for them (`wide_limits`). It does nothing.
+pub fn default_nodes()
+    ensures { (net : Netlist) (timing : Timing) (nodes : NodeNet) (machine : Machine) (p : ℕ) → IsValid net
+        → AreItems net timing nodes → machine.nodes ≡ MAX_NODES → All (λ own. own.what ≢ Nodes) machine.own
+        → node_count nodes ≤ node_limit machine p }
 {}
