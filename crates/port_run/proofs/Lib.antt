@@ -1,3 +1,4 @@
+pub mod AfterLemmas
 pub mod CoreLemmas
 pub mod NextLemmas
 pub mod RunLemmas

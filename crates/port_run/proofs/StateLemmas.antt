@@ -1,11 +1,9 @@
 -- The states of a crossbar are sound states of a core, and steps of ports are events there.
-use Rattle.std.proofs.Common.{List, Some, ap, arith, length, refl, set, subst, sym, true, ℕ, ◌+◌, ◌<◌, ◌∙◌, ◌≡◌}
+use Rattle.std.proofs.Common.{List, Some, ap, inl, inr, length, refl, set, subst, sym, true, ℕ, ◌+◌, ◌∙◌, ◌≡◌}
 use mathlib.Core.Option.{some}
 use lib.ListN.{get_elem?}
-use Rattle.image_defs.specs.declared.image.Image.{Image}
-use Rattle.image_defs.specs.declared.image.LinkOut.{LinkOut}
-use Rattle.event_defs.specs.Places.{IsSend}
 use Rattle.event_defs.specs.Steps.{CoreState}
+use Rattle.event_defs.specs.declared.place.CoreStep.TheVariants.{NotYet}
 use Rattle.event_defs.specs.declared.place.Event.{Event}
 use Rattle.event_defs.specs.declared.place.Event.TheVariants.{Ask, Put, Take, Tell}
 use Rattle.event_defs.specs.declared.place.Place.{Place}
@@ -14,67 +12,110 @@ use Rattle.atomic_table.specs.Table.{Act, State, stepped}
 use Rattle.slot_words.proofs.LookLemmas.{counted_look, told_progress, told_sent}
 use Rattle.slot_words.proofs.SoundLemmas.{rule_sound}
 use Rattle.slot_words.proofs.StepLemmas.{sent_read}
-use Rattle.slot_words.specs.Layout.{send_word, sent_in, told_in}
+use Rattle.slot_words.specs.Layout.{told_in}
 use Rattle.slot_words.specs.Passes.{IsFit, PassView}
-use Rattle.slot_words.specs.Rule.{ArePassesSound, IsRunnable, Kept}
+use Rattle.slot_words.specs.Rule.{ArePassesSound, IsKept, IsPassOf, Kept}
 use Rattle.slot_words.specs.declared.rule.Key.{Key}
+use Rattle.slot_words.specs.declared.rule.Look.{Look}
 use Rattle.slot_words.specs.declared.rule.View.{View}
-use Rattle.port_run.proofs.CoreLemmas.{core_event}
-use Rattle.port_run.specs.Core.{IsCoreEvent, IsStateOf, Shows, is_look, pass_in}
-use Rattle.port_run.specs.Steps.{IsEvent}
+use Rattle.port_run.proofs.AfterLemmas.{IsStateIn, after_there}
+use Rattle.port_run.proofs.CoreLemmas.{core_event, core_wait}
+use Rattle.port_run.specs.Core.{IsCoreEvent, IsCoreStep, IsStateOf, Shows, is_look, pass_in}
+use Rattle.port_run.specs.Steps.{IsEvent, IsWait}
 
 pub state_there : (key : Key) (s : State (Unit {0}) View) → Kept key s → (state : CoreState) × IsStateOf key s state
 state_there key s kept =
     let sound : ArePassesSound key s = rule_sound key s kept in
-    (_, record { sound = sound.sound; finished = λ r. refl; word = refl; stands = λ id p v at port_is. sym (sound.places id p v at port_is).1 })
+    (_, record { sound = sound.sound; finished = λ r low. refl; word = refl; stands = λ id p v at port_is. sym (sound.places id p v at port_is).1 })
 
--- an event that looks is a counted step
-look_counted : (old : PassView) (event : Event) (new : PassView) → IsEvent old event new → is_look event ≡ true → new.steps ≡ old.steps + 1
-look_counted old (Ask reader) new made looks = ap (λ (pass : PassView). pass.steps) made.makes.asks.is
-look_counted old (Put slot) new made looks = cc
-look_counted old (Take slot) new made looks = ap (λ (pass : PassView). pass.steps) made.makes.looks.is
-look_counted old Tell new made looks = cc
+-- an event is a counted step, and so is what has to wait
+event_counted : (old : PassView) (event : Event) (new : PassView) → IsEvent old event new → new.steps ≡ old.steps + 1
+event_counted old (Ask reader) new made = ap (λ (pass : PassView). pass.steps) made.makes.asks.is
+event_counted old (Put slot) new made = ap (λ (pass : PassView). pass.steps) made.makes.is
+event_counted old (Take slot) new made = ap (λ (pass : PassView). pass.steps) made.makes.looks.is
+event_counted old Tell new made = ap (λ (pass : PassView). pass.steps) made.makes.is
 
--- what a word of a send tells is what a core has there
-told_there : (image : Image) (banks : ℕ) (words : List ℕ) (q i b : ℕ) (link : LinkOut) → IsSend image q i link → b < banks → told_in image words (send_word image banks q i b) ≡ sent_in image banks words q i b
-told_there image banks words q i b link send low = told_sent image banks words q i b ∙ sent_read image banks words q i b link send low
+wait_counted : (old new : PassView) → IsWait old new → new.steps ≡ old.steps + 1
+wait_counted old new wait = elim wait.waits [
+  | inl ask ↦ ap (λ (pass : PassView). pass.steps) ask.asks.is
+  | inr take ↦ ap (λ (pass : PassView). pass.steps) take.looks.is
+]
 
-module _ (key : Key) (s : State (Unit {0}) View) (id p : ℕ) (old : View) (table : TableId) (kept : Kept key s) (there : get_elem? s.views id ≡ some old) (port_is : old.port ≡ Some p) where
-  image_is : old.image ≡ key.image.value
-  image_is = (kept.owned.same id old there).0
+-- ---- by the image, stimulus and banks of a view
 
-  banks_are : old.banks ≡ key.banks
-  banks_are = (kept.owned.same id old there).2
+module _ (words : List ℕ) (views : List View) (id p : ℕ) (old : View) (table : TableId) (kept : IsKept old.image old.stimulus old.banks words views) (there : get_elem? views id ≡ some old) (port_is : old.port ≡ Some p)
+    (state : CoreState) (is : IsStateIn old.image old.stimulus old.banks words views state) where
+  mine : IsPassOf old.image words kept.place kept.owner id p old
+  mine = kept.owned.mine id p old there port_is
 
-  -- the seat's pass is of a port of the key's image
   fits : IsFit (pass_in table p old)
-  fits =
-      let mine = kept.owned.mine id p old there port_is in
-      let ports : length old.image.ports ≡ length key.image.value.ports = ap (λ (image : Image). length image.ports) image_is in
-      let wide : length old.place.known ≡ length key.image.value.ports = ap (λ (place : Place). length place.known) mine.place_is ∙ kept.timed.paced.wide p mine.inside in
-      record {
-        runs = subst (λ image. IsRunnable image old.stimulus old.banks) (sym image_is)
-            (subst (λ stimulus. IsRunnable key.image.value stimulus old.banks) (sym (kept.owned.same id old there).1) (subst (IsRunnable key.image.value key.stimulus.value) (sym banks_are) kept.runs));
-        inside = (let low = mine.inside in omega (arith, low, ports));
-        wide = wide ∙ sym ports;
-      }
-
-  -- what a word tells is what the state has there
-  shown : (state : CoreState) (word number : ℕ) → IsStateOf key s state → told_in key.image.value s.words word ≡ number → Shows (pass_in table p old) state (record { word = word; number = number })
-  shown state word number is told = record {
-    progress = λ r low at. is.finished r ∙ (sym (told_progress key.image.value s.words r (subst (λ (image : Image). r < length image.ports) image_is low)) ∙ subst (λ w. told_in key.image.value s.words w ≡ number) at told);
-    sent = λ q i b link send low at.
-        let word_is : word ≡ send_word key.image.value key.banks q i b = subst (λ banks. word ≡ send_word key.image.value banks q i b) banks_are (subst (λ image. word ≡ send_word image old.banks q i b) image_is at) in
-        ap (λ f. f q i b) is.word
-        ∙ (sym (told_there key.image.value key.banks s.words q i b link (subst (λ image. IsSend image q i link) image_is send) (subst (λ banks. b < banks) banks_are low))
-        ∙ subst (λ w. told_in key.image.value s.words w ≡ number) word_is told);
+  fits = record {
+    runs = kept.runs;
+    inside = mine.inside;
+    wide = ap (λ (place : Place). length place.known) mine.place_is ∙ kept.timed.paced.wide p mine.inside;
   }
 
-  pub event_there : (word number : ℕ) (held : List (ℕ × Unit {0})) (new : View) (act : Act (Unit {0})) (event : Event) (state : CoreState) → Kept key (stepped s word number id held new act)
-      → IsEvent (pass_in table p old) event (pass_in table p new) → (is_look event ≡ true → set s.words word number ≡ s.words) → IsStateOf key s state
-      → IsCoreEvent (pass_in table p old) event (pass_in table p new) state
-  event_there word number held new act event state after made still is =
-      core_event (pass_in table p old) (pass_in table p new) event state fits made (is.stands id p old there port_is)
-      (λ looks. shown state new.last.word new.last.number is
-      (subst (λ words. told_in key.image.value words new.last.word ≡ new.last.number) (still looks)
-      (counted_look key.image.value s.words (set s.words word number) s.views id old new kept.looks there (look_counted (pass_in table p old) event (pass_in table p new) made looks) after.looks)))
+  -- what a word tells is what the state has there
+  shown : (look : Look) → told_in old.image words look.word ≡ look.number → Shows (pass_in table p old) state look
+  shown look told = record {
+    progress = λ r low at. is.finished r low ∙ (sym (told_progress old.image words r low) ∙ subst (λ w. told_in old.image words w ≡ look.number) at told);
+    sent = λ q i b link send low at. ap (λ f. f q i b) is.word
+        ∙ (sym (told_sent old.image old.banks words q i b ∙ sent_read old.image old.banks words q i b link send low)
+        ∙ subst (λ w. told_in old.image words w ≡ look.number) at told);
+  }
+
+  module _ (word number : ℕ) (new : View) (after : IsKept old.image old.stimulus old.banks (set words word number) (set views id new)) where
+    told : new.steps ≡ old.steps + 1 → told_in old.image (set words word number) new.last.word ≡ new.last.number
+    told counted = counted_look old.image words (set words word number) views id old new kept.looks there counted after.looks
+
+    -- a step that leaves the words found what the state has
+    still_shown : new.steps ≡ old.steps + 1 → set words word number ≡ words → Shows (pass_in table p old) state new.last
+    still_shown counted still = shown new.last (subst (λ ws. told_in old.image ws new.last.word ≡ new.last.number) still (told counted))
+
+    event_in : (event : Event) → IsEvent (pass_in table p old) event (pass_in table p new) → (is_look event ≡ true → set words word number ≡ words)
+        → (core : IsCoreEvent (pass_in table p old) event (pass_in table p new) state) × IsStateIn old.image old.stimulus old.banks (set words word number) (set views id new) core.after
+    event_in event made still =
+        let counted : new.steps ≡ old.steps + 1 = event_counted (pass_in table p old) event (pass_in table p new) made in
+        let core : IsCoreEvent (pass_in table p old) event (pass_in table p new) state =
+        core_event (pass_in table p old) (pass_in table p new) event state fits made (is.stands id p old there port_is) (λ looks. still_shown counted (still looks)) in
+        (core, after_there words views id p old kept there port_is state is table word number new after event made core still (told counted))
+
+    wait_in : IsWait (pass_in table p old) (pass_in table p new) → set words word number ≡ words → IsCoreStep (pass_in table p old) state NotYet state
+    wait_in wait still = core_wait (pass_in table p old) (pass_in table p new) state fits wait (is.stands id p old there port_is) (still_shown (wait_counted (pass_in table p old) (pass_in table p new) wait) still)
+
+-- ---- by the key
+
+module _ (key : Key) (s : State (Unit {0}) View) (id p : ℕ) (old : View) (table : TableId) (kept : Kept key s) (there : get_elem? s.views id ≡ some old) (port_is : old.port ≡ Some p) where
+  same : (old.image ≡ key.image.value) × (old.stimulus ≡ key.stimulus.value) × (old.banks ≡ key.banks)
+  same = kept.owned.same id old there
+
+  state_in : (state : CoreState) → IsStateOf key s state → IsStateIn old.image old.stimulus old.banks s.words s.views state
+  state_in state is =
+      subst (λ i. IsStateIn i old.stimulus old.banks s.words s.views state) (sym same.0)
+      (subst (λ m. IsStateIn key.image.value m old.banks s.words s.views state) (sym same.1)
+      (subst (λ b. IsStateIn key.image.value key.stimulus.value b s.words s.views state) (sym same.2)
+      (record { sound = is.sound; finished = is.finished; word = is.word; stands = is.stands })))
+
+  state_of : (now : State (Unit {0}) View) (state : CoreState) → IsStateIn old.image old.stimulus old.banks now.words now.views state → IsStateOf key now state
+  state_of now state is =
+      let there : IsStateIn key.image.value key.stimulus.value key.banks now.words now.views state =
+      subst (λ b. IsStateIn key.image.value key.stimulus.value b now.words now.views state) same.2
+      (subst (λ m. IsStateIn key.image.value m old.banks now.words now.views state) same.1
+      (subst (λ i. IsStateIn i old.stimulus old.banks now.words now.views state) same.0 is)) in
+      record { sound = there.sound; finished = there.finished; word = there.word; stands = there.stands }
+
+  kept_in : (words : List ℕ) (views : List View) → IsKept key.image.value key.stimulus.value key.banks words views → IsKept old.image old.stimulus old.banks words views
+  kept_in words views new =
+      subst (λ i. IsKept i old.stimulus old.banks words views) (sym same.0)
+      (subst (λ m. IsKept key.image.value m old.banks words views) (sym same.1)
+      (subst (λ b. IsKept key.image.value key.stimulus.value b words views) (sym same.2) new))
+
+  module _ (word number : ℕ) (held : List (ℕ × Unit {0})) (new : View) (act : Act (Unit {0})) (state : CoreState) (after : Kept key (stepped s word number id held new act)) (is : IsStateOf key s state) where
+    pub event_there : (event : Event) → IsEvent (pass_in table p old) event (pass_in table p new) → (is_look event ≡ true → set s.words word number ≡ s.words)
+        → (core : IsCoreEvent (pass_in table p old) event (pass_in table p new) state) × IsStateOf key (stepped s word number id held new act) core.after
+    event_there event made still =
+        let both = event_in s.words s.views id p old table (kept_in s.words s.views kept) there port_is state (state_in state is) word number new (kept_in (set s.words word number) (set s.views id new) after) event made still in
+        (both.0, state_of (stepped s word number id held new act) both.0.after both.1)
+
+    pub wait_there : IsWait (pass_in table p old) (pass_in table p new) → set s.words word number ≡ s.words → IsCoreStep (pass_in table p old) state NotYet state
+    wait_there wait still = wait_in s.words s.views id p old table (kept_in s.words s.views kept) there port_is state (state_in state is) word number new (kept_in (set s.words word number) (set s.views id new) after) wait still

@@ -70,6 +70,6 @@ pass_in table p v = record {
 -- the state of the core is sound, it has the words of the crossbar, and in it each port stands where its pass does
 pub record IsStateOf (key : Key) (s : State (Unit {0}) View) (state : CoreState) : Type 0 where
   pub sound : IsSound key.image.value key.stimulus.value key.banks (turns_of key.image.value key.stimulus.value) state
-  pub finished : (r : ℕ) → state.finished r ≡ turns_told (progress_in s.words r)
+  pub finished : (r : ℕ) → r < length key.image.value.ports → state.finished r ≡ turns_told (progress_in s.words r)
   pub word : state.word ≡ sent_in key.image.value key.banks s.words
   pub stands : (id p : ℕ) (v : View) → get_elem? s.views id ≡ some v → v.port ≡ Some p → state.place p ≡ v.place

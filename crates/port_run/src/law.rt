@@ -34,9 +34,11 @@ pub fn steps_are_the_cores()
 
 /// A law: each step of a port is one event of a core on a sound state. Between any two steps of the seats of
 /// a crossbar, as its rule says (`slot_words::law::rule_is_kept`), its words and the places of its passes are a
-/// sound state of a core. Take a step of a seat by
-/// which its pass makes an event, as a step of a running port does; where the event looks, the step leaves
-/// the words as they are. Then the core's step of the port makes the same event in that state.
+/// sound state of a core. Take a step of a seat by which its pass makes an event, as a step of a running port
+/// does; where the event looks, the step leaves the words as they are. Then the core's step of the port makes
+/// the same event in that state, and the core's state afterwards is that of the crossbar after the step. Where
+/// a pass has to wait, the core's step of the port has to wait in that state, though the pass may have learnt
+/// there a greater number of turns.
 pub fn steps_are_events_of_sound_states()
     ensures state { (key : Key) (s : State (Unit {0}) View) → Kept key s
         → (state : CoreState) × IsStateOf key s state }
@@ -46,7 +48,15 @@ pub fn steps_are_events_of_sound_states()
         → Kept key (stepped s word number id held new act)
         → IsEvent (pass_in table p old) event (pass_in table p new)
         → (is_look event ≡ true → slice_set s.words word number ≡ s.words) → IsStateOf key s state
-        → IsCoreEvent (pass_in table p old) event (pass_in table p new) state }
+        → (core : IsCoreEvent (pass_in table p old) event (pass_in table p new) state)
+        × IsStateOf key (stepped s word number id held new act) core.after }
+    ensures wait { (key : Key) (s : State (Unit {0}) View) (word number id p : ℕ) (held : List (ℕ × Unit {0}))
+        (old new : View) (act : Act (Unit {0})) (table : TableId) (state : CoreState)
+        → Kept key s → get_elem? s.views id ≡ some old → old.port ≡ Some p
+        → Kept key (stepped s word number id held new act)
+        → IsWait (pass_in table p old) (pass_in table p new)
+        → slice_set s.words word number ≡ s.words → IsStateOf key s state
+        → IsCoreStep (pass_in table p old) state NotYet state }
 {}
 
 /// A law: a step that has to wait leaves the next event, though an Ask may have learnt a greater number of
