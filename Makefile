@@ -25,7 +25,7 @@ try:
 test:
 	rt ci
 
-# Simulates each example and compares its trace with the stored one.
+# Simulates each example, compares its trace with the stored one, and tries the scripts among the examples.
 examples: build
 	examples/check $(YSE)
 
