@@ -1,5 +1,5 @@
 -- A store of files in memory.
-use Rattle.std.specs.Prelude.{ℕ, List, [], drop, Bool, not, ◌||◌, if◌then◌else◌, Option, None, Some, is_some, position, slice_get, bytes_eq}
+use Rattle.std.specs.Prelude.{ℕ, List, [], length, drop, min, Bool, not, ◌||◌, if◌then◌else◌, Option, None, Some, is_some, position, slice_get, bytes_eq}
 use Rattle.std.specs.Option.{option_map_or}
 use Rattle.edge_io.specs.declared.counts.FileCounts.{FileCounts}
 use Rattle.edge_io.specs.declared.script.Script.{Script}
@@ -7,16 +7,18 @@ use Rattle.edge_io.specs.declared.mem_files.NamedBytes.{NamedBytes}
 use Rattle.edge_io.specs.FileCounts.{no_calls, after_start, after_read, after_failed_read}
 use Rattle.edge_io.specs.Script.{next_fails, called}
 
--- the files, the calls that fail, what is left of the file begun, and the counts
+-- the files, the calls that fail, the most bytes that one read gives (where there is such a number), what is left
+-- of the file begun, and the counts
 pub record MemStore : Type 0 where
   pub files : List NamedBytes
   pub script : Script
+  pub most : Option ℕ
   pub left : List ℕ
   pub counts : FileCounts
 
 -- a store before its first call
-abbrev pub unread : List NamedBytes → List ℕ → MemStore
-unread files fails = record { files = files; script = record { fails = fails; calls = 0 }; left = []; counts = no_calls }
+abbrev pub unread : List NamedBytes → List ℕ → Option ℕ → MemStore
+unread files fails most = record { files = files; script = record { fails = fails; calls = 0 }; most = most; left = []; counts = no_calls }
 
 -- the bytes of the file at a place, or none
 abbrev pub bytes_at : List NamedBytes → Option ℕ → List ℕ
@@ -46,6 +48,15 @@ started s name = record s {
   left = if start_fails s name then [] else bytes_named s.files name;
   counts = after_start s.counts (not (has_name s.files name)) (start_fails s name);
 }
+
+-- a number, or the most that there may be
+abbrev pub at_most : Option ℕ → ℕ → ℕ
+at_most None n = n
+at_most (Some most) n = min n most
+
+-- how many bytes one `read` gives into a buffer with so much room
+abbrev pub share : MemStore → ℕ → ℕ
+share s room = min room (at_most s.most (length s.left))
 
 -- after a `read` of the next n bytes
 abbrev pub read_past : MemStore → ℕ → MemStore

@@ -1,8 +1,8 @@
 //! A store of files in memory, with calls that fail by their number.
 
-ghost use Rattle.std.specs.Prelude.{◌≡◌, ◌≤◌, Some, min, length, take, drop, ◌++◌, IfOk, is_err, MatchResult};
+ghost use Rattle.std.specs.Prelude.{◌≡◌, ◌<◌, ◌≤◌, Some, length, take, drop, ◌++◌, IfOk, IfSome, is_err, MatchResult};
 ghost use Rattle.edge_io.specs.Script.{next_fails};
-ghost use Rattle.edge_io.specs.MemStore.{place_named, bytes_at};
+ghost use Rattle.edge_io.specs.MemStore.{place_named, bytes_at, at_most};
 
 use crate::counts::FileCounts;
 use crate::script::Script;
@@ -17,7 +17,8 @@ pub struct NamedBytes {
     pub bytes: List<u8>,
 }
 
-/// Files in memory. The first with a name counts.
+/// Files in memory, of which one read perhaps gives at most so many bytes. The first with a name
+/// counts.
 ///
 /// A `start` that fails leaves nothing to read; a `read` that fails gives nothing, and the next one
 /// goes on from the same place.
@@ -25,13 +26,14 @@ pub struct NamedBytes {
 pub struct MemFiles {
     files: List<NamedBytes>,
     script: Script,
+    most: Option<usize>,
     current: Option<usize>,
     offset: usize,
     counts: FileCounts,
 }
 
 impl Model for MemFiles {
-    ghost use Rattle.std.specs.Prelude.{◌≤◌, length, drop};
+    ghost use Rattle.std.specs.Prelude.{◌<◌, ◌≤◌, length, drop, IfSome};
     ghost use Rattle.edge_io.specs.MemStore.{MemStore, bytes_at};
 
     ghost Value = { MemStore };
@@ -39,24 +41,44 @@ impl Model for MemFiles {
     ghost view = { λ s. record {
       files = s.files;
       script = s.script;
+      most = s.most;
       left = drop s.offset (bytes_at s.files s.current);
       counts = s.counts;
     } };
 
-    ghost invariant = { λ s. s.offset ≤ length (bytes_at s.files s.current) };
+    ghost invariant = { λ s. (s.offset ≤ length (bytes_at s.files s.current)) × IfSome s.most (λ most. 0 < most) };
 }
 
 impl MemFiles {
+    ghost use Rattle.std.specs.Prelude.{None};
     ghost use Rattle.edge_io.specs.MemStore.{unread};
 
-    /// A store of these files. Calls of `start` and `read` are numbered together, from 1 on; those
-    /// whose numbers are in `fails` fail. It takes no memory.
+    /// A store of these files, of which one read gives as many bytes as there is room for. Calls of
+    /// `start` and `read` are numbered together, from 1 on; those whose numbers are in `fails` fail.
+    /// It takes no memory.
     pub fn new(files: List<NamedBytes>, fails: List<u64>) -> MemFiles
-        ensures { result ≡ unread files fails }
+        ensures { result ≡ unread files fails None }
+    {
+        MemFiles::by_reads(files, fails, None)
+    }
+
+    /// The same, but one read gives at most `most` bytes.
+    pub fn with_most(files: List<NamedBytes>, fails: List<u64>, most: usize) -> MemFiles
+        requires { 1 ≤ most }
+        ensures { result ≡ unread files fails (Some most) }
+    {
+        MemFiles::by_reads(files, fails, Some(most))
+    }
+
+    /// A store before its first call.
+    fn by_reads(files: List<NamedBytes>, fails: List<u64>, most: Option<usize>) -> MemFiles
+        requires { IfSome most (λ most. 1 ≤ most) }
+        ensures { result ≡ unread files fails most }
     {
         MemFiles {
             files,
             script: Script::new(fails),
+            most,
             current: None,
             offset: 0,
             counts: FileCounts::new(),
@@ -65,7 +87,7 @@ impl MemFiles {
 }
 
 impl Files for MemFiles {
-    ghost use Rattle.edge_io.specs.MemStore.{MemStore, has_name, bytes_named, start_fails, started, read_past, read_failed};
+    ghost use Rattle.edge_io.specs.MemStore.{MemStore, has_name, bytes_named, start_fails, started, share, read_past, read_failed};
 
     ghost names = { λ s. Some (has_name s.files) };
 
@@ -94,7 +116,8 @@ impl Files for MemFiles {
 
     fn read(&mut self, buf: &mut [u8]) -> Result<usize, Failed>
         ensures answer { is_err result ≡ next_fails self.old.script }
-        ensures count { IfOk result (λ n. n ≡ min (length buf.old) (length self.old.left)) }
+        ensures count { IfOk result (λ n. n ≡ share self.old (length buf.old)) }
+        ensures progress { IfOk result (λ n. 0 < length buf.old → 0 < length self.old.left → 0 < n) }
         ensures buffer { IfOk result (λ n. buf.new ≡ take n self.old.left ++ drop n buf.old) }
         ensures after { MatchResult result (λ n. self.new ≡ read_past self.old n) (λ _. self.new ≡ read_failed self.old) }
     {
@@ -103,7 +126,8 @@ impl Files for MemFiles {
             return Err(Failed);
         }
         let left = &bytes_of(self.files.as_slice(), self.current)[self.offset..];
-        let n = copy_front(left, buf);
+        let n = buf.len().min(up_to(self.most, left.len()));
+        copy_front(left, n, buf);
         self.offset += n;
         self.counts.read(n);
         Ok(n)
@@ -130,12 +154,23 @@ pub(crate) fn bytes_of(files: &[NamedBytes], place: Option<usize>) -> &[u8]
     }
 }
 
-/// Copies as many of the bytes as `buf` has places to its front, and answers how many.
-pub(crate) fn copy_front(bytes: &[u8], buf: &mut [u8]) -> usize
-    ensures count { result ≡ min (length buf.old) (length bytes.now) }
-    ensures buffer { buf.new ≡ take result bytes.now ++ drop result buf.old }
+/// A number, or the most that there may be.
+fn up_to(most: Option<usize>, n: usize) -> usize
+    requires { IfSome most (λ most. 1 ≤ most) }
+    ensures number { result ≡ at_most most n }
+    ensures progress { 0 < n → 0 < result }
 {
-    let n = buf.len().min(bytes.len());
+    match most {
+        Some(most) => n.min(most),
+        None => n,
+    }
+}
+
+/// Copies the first n of the bytes to the front of `buf`.
+pub(crate) fn copy_front(bytes: &[u8], n: usize, buf: &mut [u8])
+    requires bytes { n ≤ length bytes.now }
+    requires buffer { n ≤ length buf.old }
+    ensures { buf.new ≡ take n bytes.now ++ drop n buf.old }
+{
     buf[..n].copy_from_slice(&bytes[..n]);
-    n
 }

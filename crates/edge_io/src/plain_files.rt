@@ -82,7 +82,8 @@ impl Files for PlainFiles {
         ensures after { IfOk result (λ n. self.new ≡ read_past self.old n) }
     {
         let left = &bytes_of(self.files.as_slice(), self.current)[self.offset..];
-        let n = copy_front(left, buf);
+        let n = buf.len().min(left.len());
+        copy_front(left, n, buf);
         self.offset += n;
         self.counts.read(n);
         Ok(n)
