@@ -28,7 +28,9 @@ use Rattle.port_bank.specs.declared.steps.Operand.{Operand}
 use Rattle.port_bank.specs.declared.bank.Bank.TheInside.{Inside}
 use Rattle.port_bank.specs.Flat.{operand_of}
 use Rattle.port_bank.specs.Reads.{IsAtHand, IsRead, value_taken}
-use Rattle.port_bank.specs.Banks.{blank, value_in_place, IsRoom, Holds, HoldsAll, view_of, IsKept}
+use Rattle.port_bank.specs.Places.{numbered}
+use Rattle.port_bank.proofs.PlaceLemmas.{numbered_even, numbered_past, numbered_this}
+use Rattle.port_bank.specs.Banks.{blank, IsRoom, Holds, HoldsAll, view_of, IsKept}
 
 -- ---- places
 
@@ -65,9 +67,9 @@ same_port image p one other is is_other = cc
 
 -- ---- what is read
 
-pub read_right : (a : Inside) (operand : Operand) → IsKept a → IsRead (view_of a) operand (value_in_place a.this a.past operand)
+pub read_right : (a : Inside) (operand : Operand) → IsKept a → IsRead (view_of a) operand (numbered a.places operand.number)
 read_right a operand kept port source is hand at =
-    subst (λ o. value_in_place a.this a.past o ≡ value_taken (view_of a) port source) (sym at) (of_source source hand)
+    subst (λ o. numbered a.places o.number ≡ value_taken (view_of a) port source) (sym at) (of_source source hand)
   where
     of_link : (old : List V4) (turn i slot : ℕ) (link : LinkIn) → slice_get port.ins i ≡ Some link → link.slot ≡ slot
         → value_at old (a.image.now.slots + link.slot) ≡ image_value a.image.now a.stim.now turn link.sender link.slot
@@ -76,13 +78,13 @@ read_right a operand kept port source is hand at =
         subst (λ s. value_at old (a.image.now.slots + s) ≡ image_value a.image.now a.stim.now turn (sender_in port.ins s) s) same
         (got ∙ ap (λ q. image_value a.image.now a.stim.now turn q link.slot) (sym (sender_found port.ins i link (kept.image.ports a.port port is).ins there)))
 
-    of_source : (source : Source) → IsAtHand (view_of a) port source → value_in_place a.this a.past (operand_of a.image.now.slots source) ≡ value_taken (view_of a) port source
-    of_source (Own slot true) (i, stands, early) = (kept.past port is).own i slot (slice_get_within (item_slots port.work) i slot stands) stands
-    of_source (Own slot false) (i, stands, early) = (kept.this port is).own i slot (early refl) stands
+    of_source : (source : Source) → IsAtHand (view_of a) port source → numbered a.places (operand_of a.image.now.slots source).number ≡ value_taken (view_of a) port source
+    of_source (Own slot true) (i, stands, early) = numbered_past a.places slot ∙ (kept.past port is).own i slot (slice_get_within (item_slots port.work) i slot stands) stands
+    of_source (Own slot false) (i, stands, early) = numbered_this a.places slot ∙ (kept.this port is).own i slot (early refl) stands
     of_source (Got slot true) (i, link, there, same, early) =
-        of_link a.past (a.turn - 1) i slot link there same ((kept.past port is).got i link (slice_get_within port.ins i link there) there)
-    of_source (Got slot false) (i, link, there, same, early) = of_link a.this a.turn i slot link there same ((kept.this port is).got i link (early refl) there)
-    of_source (Const v) hand = kept.this_room.constants v
+        numbered_past a.places (a.image.now.slots + slot) ∙ of_link a.places.past (a.turn - 1) i slot link there same ((kept.past port is).got i link (slice_get_within port.ins i link there) there)
+    of_source (Got slot false) (i, link, there, same, early) = numbered_this a.places (a.image.now.slots + slot) ∙ of_link a.places.this a.turn i slot link there same ((kept.this port is).got i link (early refl) there)
+    of_source (Const v) hand = numbered_even a.places (2 * a.image.now.slots + code_of v) ∙ kept.this_room.constants v
 
 -- ---- what is kept
 
@@ -138,7 +140,7 @@ holds_received image stimulus turn p port bank n m link v fits is room holds her
       (get_or-set_same bank (image.slots + link.slot) v Undef (omega arith) ∙ value)
 
 pub kept_executed : (a : Inside) (slot : ℕ) (v : V4) → IsKept a → CanExecute (view_of a) slot → v ≡ value_in (view_of a) slot
-    → IsKept (record a { executed = a.executed + 1; this = set a.this slot v })
+    → IsKept (record a { executed = a.executed + 1; places = record a.places { this = set a.places.this slot v } })
 kept_executed a slot v kept can value = record {
   image = kept.image;
   stimulus = kept.stimulus;
@@ -147,18 +149,18 @@ kept_executed a slot v kept can value = record {
   running = kept.running;
   edge = kept.edge;
   this_room = let small : slot < a.image.now.slots = slot_low a.image.now a.port can.port a.executed slot kept.image can.is can.next in
-      room_stays a.image.now.slots slot v a.this (omega arith) kept.this_room;
+      room_stays a.image.now.slots slot v a.places.this (omega arith) kept.this_room;
   past_room = kept.past_room;
   this = λ port is.
-      holds_executed a.image.now a.stim.now a.turn a.port port a.this a.executed a.received slot v kept.image is kept.this_room (kept.this port is)
+      holds_executed a.image.now a.stim.now a.turn a.port port a.places.this a.executed a.received slot v kept.image is kept.this_room (kept.this port is)
       (subst (λ q. IsItemIn q.work a.executed slot) (same_port a.image.now a.port can.port port can.is is) can.next) value;
   past = kept.past;
 }
 
 pub kept_received : (a : Inside) (slot : ℕ) (v : V4) → IsKept a → CanReceive (view_of a) slot v
-    → IsKept (record a { received = a.received + 1; this = set a.this (a.image.now.slots + slot) v })
+    → IsKept (record a { received = a.received + 1; places = record a.places { this = set a.places.this (a.image.now.slots + slot) v } })
 kept_received a slot v kept can =
-    subst (λ s. IsKept (record a { received = a.received + 1; this = set a.this (a.image.now.slots + s) v })) can.slot_is record {
+    subst (λ s. IsKept (record a { received = a.received + 1; places = record a.places { this = set a.places.this (a.image.now.slots + s) v } })) can.slot_is record {
       image = kept.image;
       stimulus = kept.stimulus;
       first = kept.first;
@@ -166,10 +168,10 @@ kept_received a slot v kept can =
       running = kept.running;
       edge = kept.edge;
       this_room = let small : can.link.slot < a.image.now.slots = link_low a.image.now a.port can.port a.received can.link kept.image can.is can.next in
-          room_stays a.image.now.slots (a.image.now.slots + can.link.slot) v a.this (omega arith) kept.this_room;
+          room_stays a.image.now.slots (a.image.now.slots + can.link.slot) v a.places.this (omega arith) kept.this_room;
       past_room = kept.past_room;
       this = λ port is.
-          holds_received a.image.now a.stim.now a.turn a.port port a.this a.executed a.received can.link v kept.image is kept.this_room (kept.this port is)
+          holds_received a.image.now a.stim.now a.turn a.port port a.places.this a.executed a.received can.link v kept.image is kept.this_room (kept.this port is)
           (subst (λ q. slice_get q.ins a.received ≡ Some can.link) (same_port a.image.now a.port can.port port can.is is) can.next)
           (can.value ∙ ap (λ s. image_value a.image.now a.stim.now a.turn can.link.sender s) (sym can.slot_is));
       past = kept.past;
@@ -177,7 +179,7 @@ kept_received a slot v kept can =
 
 -- the banks after they have changed places
 pub kept_ended : (a : Inside) (edge : Bool) → IsKept a → CanEnd (view_of a) → edge ≡ is_edge a.image.now.units (a.turn + 1)
-    → IsKept (record a { turn = a.turn + 1; begun = false; at_edge = edge; executed = 0; received = 0; this = a.past; past = a.this })
+    → IsKept (record a { turn = a.turn + 1; begun = false; at_edge = edge; executed = 0; received = 0; places = record { this = a.places.past; past = a.places.this } })
 kept_ended a edge kept can is_right = record {
   image = kept.image;
   stimulus = kept.stimulus;
@@ -192,9 +194,9 @@ kept_ended a edge kept can is_right = record {
       let same : can.port ≡ port = same_port a.image.now a.port can.port port can.is is in
       let items : a.executed ≡ length (item_slots port.work) = can.executed_all ∙ ap (λ q. length (item_slots q.work)) same in
       let receipts : a.received ≡ length port.ins = can.received_all ∙ ap (λ q. length q.ins) same in
-      subst (λ t. HoldsAll a.image.now a.stim.now t a.port port a.this) (sym (add-sub_cancel a.turn 1))
-      (subst (λ n. Holds a.image.now a.stim.now a.turn a.port port n (length port.ins) a.this) items
-      (subst (λ m. Holds a.image.now a.stim.now a.turn a.port port a.executed m a.this) receipts (kept.this port is)));
+      subst (λ t. HoldsAll a.image.now a.stim.now t a.port port a.places.this) (sym (add-sub_cancel a.turn 1))
+      (subst (λ n. Holds a.image.now a.stim.now a.turn a.port port n (length port.ins) a.places.this) items
+      (subst (λ m. Holds a.image.now a.stim.now a.turn a.port port a.executed m a.places.this) receipts (kept.this port is)));
 }
 
 -- the turns of a run
@@ -233,18 +235,18 @@ blank_holds image stimulus p port fits is = record {
 }
 
 pub kept_new : (a : Inside) → IsWellFormed a.image.now → IsValidStimulus a.stim.now → a.turn ≡ 1 → a.begun ≡ false → a.at_edge ≡ false → a.executed ≡ 0 → a.received ≡ 0
-    → a.this ≡ blank a.image.now.slots → a.past ≡ blank a.image.now.slots → IsKept a
-kept_new a fits valid turn begun at_edge executed received this past = record {
+    → a.places ≡ record { this = blank a.image.now.slots; past = blank a.image.now.slots } → IsKept a
+kept_new a fits valid turn begun at_edge executed received places = record {
   image = fits;
   stimulus = valid;
   first = omega arith;
   until = omega arith;
   running = λ is. cc;
   edge = at_edge ∙ ap (is_edge a.image.now.units) (sym turn);
-  this_room = subst (IsRoom a.image.now.slots) (sym this) (blank_room a.image.now.slots);
-  past_room = subst (IsRoom a.image.now.slots) (sym past) (blank_room a.image.now.slots);
+  this_room = subst (IsRoom a.image.now.slots) (sym (ap (λ p. p.this) places)) (blank_room a.image.now.slots);
+  past_room = subst (IsRoom a.image.now.slots) (sym (ap (λ p. p.past) places)) (blank_room a.image.now.slots);
   this = λ port is. record { own = λ i slot low stands. absurd (omega arith); got = λ i link low there. absurd (omega arith) };
   past = λ port is.
-      subst (λ t. HoldsAll a.image.now a.stim.now (t - 1) a.port port a.past) (sym turn)
-      (subst (HoldsAll a.image.now a.stim.now 0 a.port port) (sym past) (blank_holds a.image.now a.stim.now a.port port fits is));
+      subst (λ t. HoldsAll a.image.now a.stim.now (t - 1) a.port port a.places.past) (sym turn)
+      (subst (HoldsAll a.image.now a.stim.now 0 a.port port) (sym (ap (λ p. p.past) places)) (blank_holds a.image.now a.stim.now a.port port fits is));
 }

@@ -1,2 +1,3 @@
 pub mod BankLemmas
+pub mod PlaceLemmas
 pub mod TurnLemmas

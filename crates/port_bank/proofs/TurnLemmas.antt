@@ -17,6 +17,7 @@ use Rattle.image_defs.specs.Frames.{frame}
 use Rattle.image_defs.specs.Ports.{PortView, CanExecute, value_in}
 use Rattle.image_defs.proofs.PlaceLemmas.{Rises, rises, at_map}
 use Rattle.image_defs.proofs.ValueLemmas.{value_meets}
+use Rattle.port_bank.proofs.PlaceLemmas.{number_few}
 use Rattle.port_bank.specs.Flat.{place_count, operand_of, IsWithin}
 use Rattle.port_bank.specs.Reads.{IsAtHand, value_taken, now_in, past_in}
 
@@ -42,11 +43,11 @@ there_within image p port (Got slot last) fits is (i, stands) = (fits.ports p po
 there_within image p port (Const v) fits is there = tt
 
 -- its place is one of a bank's
-pub place_within : (slots : ℕ) (source : Source) → IsWithin slots source → (operand_of slots source).place < place_count slots
-place_within slots (Own slot last) low = omega arith
-place_within slots (Got slot last) low = omega arith
+pub place_within : (slots : ℕ) (source : Source) → IsWithin slots source → (operand_of slots source).number < 2 * place_count slots
+place_within slots (Own slot last) low = omega (arith, number_few last)
+place_within slots (Got slot last) low = omega (arith, number_few last)
 place_within slots (Const v) low = code_low v where
-  code_low : (w : V4) → 2 * slots + code_of w < place_count slots
+  code_low : (w : V4) → 2 * (2 * slots + code_of w) < 2 * place_count slots
   code_low Zero = omega arith
   code_low One = omega arith
   code_low Undef = omega arith

@@ -1,5 +1,5 @@
 -- What the banks of a port have: one the values of its turn so far, the other those of the turn before.
-use Rattle.std.specs.Prelude.{◌≡◌, ℕ, ◌+◌, ◌-◌, ◌*◌, ◌<◌, ◌≤◌, true, if◌then◌else◌, List, [], ◌∷◌, ◌++◌, length, replicate, Some, slice_get}
+use Rattle.std.specs.Prelude.{◌≡◌, ℕ, ◌+◌, ◌-◌, ◌*◌, ◌<◌, ◌≤◌, true, List, [], ◌∷◌, ◌++◌, length, replicate, Some, slice_get}
 use Rattle.logic_four.specs.declared.V4.{V4}
 use Rattle.logic_four.specs.declared.V4.TheVariants.{Zero, One, Undef, HighZ}
 use Rattle.logic_four.specs.Values.{code_of, value_at}
@@ -13,17 +13,12 @@ use Rattle.image_defs.specs.Places.{item_slots, IsPort, IsItemIn}
 use Rattle.image_defs.specs.WellFormed.{IsWellFormed}
 use Rattle.image_defs.specs.Frames.{image_value}
 use Rattle.image_defs.specs.Ports.{PortView, last_turn}
-use Rattle.port_bank.specs.declared.steps.Operand.{Operand}
 use Rattle.port_bank.specs.Flat.{place_count}
 use Rattle.port_bank.specs.declared.bank.Bank.TheInside.{Inside}
 
 -- undefined values, and the four values by their codes
 abbrev pub blank : ℕ → List V4
 blank slots = replicate (2 * slots) Undef ++ (Zero ∷ One ∷ Undef ∷ HighZ ∷ [])
-
--- the value in an operand's place
-abbrev pub value_in_place : List V4 → List V4 → Operand → V4
-value_in_place this past operand = value_at (if operand.last then past else this) operand.place
 
 -- there are all places for so many slots, and the constants stand in theirs
 pub record IsRoom (slots : ℕ) (bank : List V4) : Type 0 where
@@ -51,7 +46,7 @@ pub record IsKept (a : Inside) : Type 0 where
   pub until : a.turn ≤ last_turn (view_of a) + 1
   pub running : a.begun ≡ true → a.turn ≤ last_turn (view_of a)
   pub edge : a.at_edge ≡ is_edge a.image.now.units a.turn
-  pub this_room : IsRoom a.image.now.slots a.this
-  pub past_room : IsRoom a.image.now.slots a.past
-  pub this : (port : PortImage) → IsPort a.image.now a.port port → Holds a.image.now a.stim.now a.turn a.port port a.executed a.received a.this
-  pub past : (port : PortImage) → IsPort a.image.now a.port port → HoldsAll a.image.now a.stim.now (a.turn - 1) a.port port a.past
+  pub this_room : IsRoom a.image.now.slots a.places.this
+  pub past_room : IsRoom a.image.now.slots a.places.past
+  pub this : (port : PortImage) → IsPort a.image.now a.port port → Holds a.image.now a.stim.now a.turn a.port port a.executed a.received a.places.this
+  pub past : (port : PortImage) → IsPort a.image.now a.port port → HoldsAll a.image.now a.stim.now (a.turn - 1) a.port port a.places.past

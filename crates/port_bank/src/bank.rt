@@ -1,7 +1,6 @@
 //! The memory of a port in its run.
 
-ghost use Rattle.std.specs.Prelude.{◌≡◌, ◌<◌, ◌≤◌, length, IfOk};
-ghost use Rattle.limits.specs.declared.TheConstants.{MAX_SLOTS};
+ghost use Rattle.std.specs.Prelude.{◌≡◌, ◌*◌, ◌<◌, IfOk};
 ghost use Rattle.net_defs.specs.Time.{is_edge};
 ghost use Rattle.net_defs.specs.Valid.{IsValidStimulus};
 ghost use Rattle.image_defs.specs.WellFormed.{IsWellFormed};
@@ -9,19 +8,18 @@ ghost use Rattle.image_defs.specs.Ports.{at_first, after_begin, after_execute, a
 ghost use Rattle.port_bank.specs.Flat.{place_count, IsWithin};
 ghost use Rattle.port_bank.specs.Links.{next_link};
 ghost use Rattle.port_bank.specs.Reads.{IsRead, IsHeld, IsTaken};
-ghost use Rattle.port_bank.specs.Banks.{blank, value_in_place};
 
+use crate::places::Places;
 use crate::steps::{Operand, got_place, operand_of};
 use image_defs::{Image, LinkIn, Source};
 use logic_four::V4;
 use net_defs::{Stimulus, initial_value, is_edge};
-use seen_list::{List, Memory};
+use seen_list::Memory;
 use std::alloc::Global;
 use std::marker::Model;
-use std::mem;
 
-/// The values of a port in its run, of its turn and of the turn before, in two banks. A contract
-/// sees whose image and stimulus it runs and how far it has come, and nothing of the banks.
+/// The values of a port in its run, of its turn and of the turn before. A contract sees whose image and
+/// stimulus it runs and how far it has come, and nothing of the values.
 #[derive(Drop)]
 pub struct Bank<'a> {
     image: &'a Image,
@@ -32,8 +30,7 @@ pub struct Bank<'a> {
     at_edge: bool,
     executed: usize,
     received: usize,
-    this: List<V4>,
-    past: List<V4>,
+    places: Places,
 }
 
 impl<'a> Model for Bank<'a> {
@@ -48,29 +45,6 @@ impl<'a> Model for Bank<'a> {
     ghost invariant = { IsKept };
 }
 
-/// A bank of undefined values, with the constants at its end.
-pub(crate) fn blank(alloc: Global, slots: u32) -> Result<List<V4>, Memory>
-    requires { slots ≤ MAX_SLOTS }
-    ensures { IfOk result (λ bank. bank ≡ blank slots) }
-{
-    let mut bank = List::filled(alloc, V4::Undef, 2 * slots as usize)?;
-    bank.extend_from_slice(&[V4::Zero, V4::One, V4::Undef, V4::HighZ])?;
-    Ok(bank)
-}
-
-#[inline]
-fn value_in_place(this: &[V4], past: &[V4], operand: Operand) -> V4
-    requires this { operand.place < length this.now }
-    requires past { operand.place < length past.now }
-    ensures { result ≡ value_in_place this.now past.now operand }
-{
-    if operand.last {
-        past[operand.place as usize]
-    } else {
-        this[operand.place as usize]
-    }
-}
-
 impl<'a> Bank<'a> {
     /// The banks of a port before its first turn. It takes memory for four values a slot.
     pub fn new(
@@ -83,8 +57,7 @@ impl<'a> Bank<'a> {
         requires stimulus { IsValidStimulus stim.now }
         ensures { IfOk result (λ bank. bank ≡ at_first image.now stim.now port) }
     {
-        let this = blank(alloc, image.slots)?;
-        let past = blank(alloc, image.slots)?;
+        let places = Places::new(alloc, image.slots)?;
         Ok(Bank {
             image,
             stim,
@@ -94,8 +67,7 @@ impl<'a> Bank<'a> {
             at_edge: false,
             executed: 0,
             received: 0,
-            this,
-            past,
+            places,
         })
     }
 
@@ -129,13 +101,13 @@ impl<'a> Bank<'a> {
         self.at_edge
     }
 
-    /// The value of the source whose place this is.
+    /// The value of the source whose operand this is.
     #[inline]
     pub fn read(&self, operand: Operand) -> V4
-        requires { operand.place < place_count self.now.image.slots }
+        requires { operand.number < 2 * place_count self.now.image.slots }
         ensures { IsRead self.now operand result }
     {
-        value_in_place(self.this.as_slice(), self.past.as_slice(), operand)
+        self.places.value(operand.number)
     }
 
     /// The value of a source.
@@ -157,7 +129,7 @@ impl<'a> Bank<'a> {
         } else if self.at_edge {
             new
         } else {
-            self.past.as_slice()[slot as usize]
+            self.places.past(slot)
         }
     }
 
@@ -177,7 +149,7 @@ impl<'a> Bank<'a> {
         requires value { v ≡ value_in self.old slot }
         ensures { self.new ≡ after_execute self.old }
     {
-        self.this.set(slot as usize, v);
+        self.places.set(slot, v);
         self.executed += 1;
     }
 
@@ -189,17 +161,17 @@ impl<'a> Bank<'a> {
         ensures { self.new ≡ after_receive self.old }
     {
         let place = got_place(self.image.slots, slot);
-        self.this.set(place as usize, v);
+        self.places.set(place, v);
         self.received += 1;
     }
 
-    /// Ends the turn: the banks change places.
+    /// Ends the turn: its values are now those of the turn before.
     #[tactic(auto, using(crate::proofs::BankLemmas::kept_ended))]
     pub fn end_turn(&mut self)
         requires { CanEnd self.old }
         ensures { self.new ≡ after_end self.old }
     {
-        mem::swap(&mut self.this, &mut self.past);
+        self.places.swap();
         self.executed = 0;
         self.received = 0;
         self.begun = false;

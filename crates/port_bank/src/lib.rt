@@ -4,6 +4,7 @@
 #![tactic(auto)]
 
 mod bank;
+mod places;
 pub mod steps;
 
 pub use bank::Bank;

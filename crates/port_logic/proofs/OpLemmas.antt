@@ -1,5 +1,7 @@
 -- What a task laid flat answers is the value of the task.
-use Rattle.std.proofs.Common.{◌≡◌, ◌∙◌, ℕ, ◌+◌, ◌*◌, ◌/◌, ◌%◌, ◌<◌, ◌≤◌, List, length, slice_get, slice_index, inl, inr, sym, ap, ap₂, arith}
+use Rattle.std.proofs.Common.{◌≡◌, ◌∙◌, ℕ, ◌+◌, ◌*◌, ◌/◌, ◌%◌, ◌^◌, ◌<◌, List, length, slice_get, slice_index, inl, inr, sym, ap, ap₂, arith}
+use Rattle.std.proofs.Math.Nat.{div-div-eq-div-mul}
+use Rattle.std.proofs.lemmas.Nat.{pow-add}
 use Rattle.std.proofs.lemmas.Option.{slice_get_cases}
 use Rattle.logic_four.specs.declared.V4.{V4}
 use Rattle.logic_four.specs.Values.{code_of, value_of, settled}
@@ -31,39 +33,44 @@ word_of_entry x y z w h k = omega arith
 place_of_entry : (x y z w : ℕ) → x < 4 → y < 4 → (x + 4 * y + 16 * z + 64 * w) % 32 ≡ (16 * z + 64 * w) % 32 + (x + 4 * y)
 place_of_entry x y z w h k = omega arith
 
+-- a code of a word that is shifted down
+code_shifted : (word from i : ℕ) → code_in (word / 2 ^ (2 * from)) i ≡ code_in word (from + i)
+code_shifted word from i =
+    ap (λ n. n % 4) (div-div-eq-div-mul word (2 ^ (2 * from)) (2 ^ (2 * i)) ∙ ap (λ n. word / n) (sym (pow-add 2 (2 * from) (2 * i)) ∙ ap (λ n. 2 ^ n) (omega arith)))
+
 -- the entry for four operands stands in the word of the last two, as far behind their first as the first two say
-pair_entry : (table : Table) (a b c d : V4) → value_of (code_in (slice_index table.words (entry_at c d / 32)) (entry_at c d % 32 + (code_of a + 4 * code_of b))) ≡ entry_for table a b c d
+pair_entry : (table : Table) (a b c d : V4) → value_of (code_in (slice_index table.words (entry_at c d / 32) / 2 ^ (2 * (entry_at c d % 32))) (code_of a + 4 * code_of b)) ≡ entry_for table a b c d
 unfolding entry_for entry_of packed_value
 pair_entry table a b c d =
-    sym (ap₂ (λ k i. value_of (code_in (slice_index table.words k) i))
+    ap value_of (code_shifted (slice_index table.words (entry_at c d / 32)) (entry_at c d % 32) (code_of a + 4 * code_of b))
+    ∙ sym (ap₂ (λ k i. value_of (code_in (slice_index table.words k) i))
     (word_of_entry (code_of a) (code_of b) (code_of c) (code_of d) (code_of_small a) (code_of_small b))
     (place_of_entry (code_of a) (code_of b) (code_of c) (code_of d) (code_of_small a) (code_of_small b)))
 
 -- ---- a gate of two operands
 
 module _ (view : PortView) (tables : List Table) where
-  pub pair_right : (from word : ℕ) (a b : Operand) (slot : ℕ) (x y v : V4) → IsRead view a x → IsRead view b y → v ≡ value_of (code_in word (from + (code_of x + 4 * code_of y))) → IsAnswer view tables (Pair from word a b) slot v
-  pair_right from word a b slot x y v is_x is_y v_is port i task is stands at hand tabled same = of_task task hand tabled same where
+  pub pair_right : (word : ℕ) (a b : Operand) (slot : ℕ) (x y v : V4) → IsRead view a x → IsRead view b y → v ≡ value_of (code_in word (code_of x + 4 * code_of y)) → IsAnswer view tables (Pair word a b) slot v
+  pair_right word a b slot x y v is_x is_y v_is port i task is stands at hand tabled same = of_task task hand tabled same where
     of_table : (table : ℕ) (p q : Source) (c d : V4) → IsAtHand view port p → IsAtHand view port q → table < length tables
-        → Pair from word a b ≡ Pair (entry_at c d % 32) (word_in (slice_get tables table) (entry_at c d / 32)) (operand_of view.image.slots p) (operand_of view.image.slots q)
+        → Pair word a b ≡ Pair (word_in (slice_get tables table) (entry_at c d / 32) / 2 ^ (2 * (entry_at c d % 32))) (operand_of view.image.slots p) (operand_of view.image.slots q)
         → v ≡ looked_up (slice_get tables table) (value_taken view port p) (value_taken view port q) c d
     of_table table p q c d p_hand q_hand tabled same = elim (slice_get_cases tables table).1 [
       | inl there ↦
-          let from_is : from ≡ entry_at c d % 32 = cc in
-          let word_is : word ≡ word_in (slice_get tables table) (entry_at c d / 32) = cc in
+          let word_is : word ≡ word_in (slice_get tables table) (entry_at c d / 32) / 2 ^ (2 * (entry_at c d % 32)) = cc in
           let a_is : a ≡ operand_of view.image.slots p = cc in
           let b_is : b ≡ operand_of view.image.slots q = cc in
           let taken : x ≡ value_taken view port p = is_x port p is p_hand a_is in
           let taken' : y ≡ value_taken view port q = is_y port q is q_hand b_is in
           v_is
-          ∙ ap₂ (λ w n. value_of (code_in w (n + (code_of x + 4 * code_of y)))) (word_is ∙ ap (λ o. word_in o (entry_at c d / 32)) there.2) from_is
+          ∙ ap (λ w. value_of (code_in w (code_of x + 4 * code_of y))) (word_is ∙ ap (λ o. word_in o (entry_at c d / 32) / 2 ^ (2 * (entry_at c d % 32))) there.2)
           ∙ pair_entry there.0 x y c d
           ∙ ap₂ (λ s t. entry_for there.0 s t c d) taken taken'
           ∙ ap (λ o. looked_up o (value_taken view port p) (value_taken view port q) c d) (sym there.2)
       | inr none ↦ absurd (omega (arith, tabled, none.0))
     ]
 
-    of_task : (task : Task) → IsTaskAtHand view port task → IsTabled (length tables) task → Pair from word a b ≡ op_of view.image.slots tables task
+    of_task : (task : Task) → IsTaskAtHand view port task → IsTabled (length tables) task → Pair word a b ≡ op_of view.image.slots tables task
         → v ≡ task_value view.image view.turn view.port port.ins (past_in view) (now_in view).value tables task
     of_task (Eval s table p q (Const c) (Const d)) hand tabled same = of_table table p q c d hand.0 hand.1 tabled same
     of_task (Eval s table p q (Const c) (Own t l)) hand tabled same = cc
@@ -96,9 +103,6 @@ module _ (view : PortView) (tables : List Table) where
 
 -- ---- what fits
 
-first_entry : (x y : ℕ) → x < 4 → y < 4 → (16 * x + 64 * y) % 32 ≤ 16
-first_entry x y h k = omega arith
-
 -- a task that names what there is fits
 pub op_fits : (slots : ℕ) (tables : List Table) (task : Task) → IsTabled (length tables) task → IsTaskWithin slots task → FitsOp (length tables) (place_count slots) (op_of slots tables task)
 op_fits slots tables (Eval slot table a b c d) tabled within = of_gate c d within.2 within.3 where
@@ -106,7 +110,7 @@ op_fits slots tables (Eval slot table a b c d) tabled within = of_gate c d withi
   looks c d c_in d_in = (tabled, place_within slots a within.0, place_within slots b within.1, place_within slots c c_in, place_within slots d d_in)
 
   of_gate : (c d : Source) → IsWithin slots c → IsWithin slots d → FitsOp (length tables) (place_count slots) (gate_of slots tables table a b c d)
-  of_gate (Const v) (Const w) c_in d_in = (first_entry (code_of v) (code_of w) (code_of_small v) (code_of_small w), place_within slots a within.0, place_within slots b within.1)
+  of_gate (Const v) (Const w) c_in d_in = (place_within slots a within.0, place_within slots b within.1)
   of_gate (Const v) (Own s l) c_in d_in = looks (Const v) (Own s l) c_in d_in
   of_gate (Const v) (Got s l) c_in d_in = looks (Const v) (Got s l) c_in d_in
   of_gate (Own s l) d c_in d_in = looks (Own s l) d c_in d_in

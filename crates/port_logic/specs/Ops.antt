@@ -1,6 +1,6 @@
 -- Tasks laid flat. A gate whose third and fourth operands are constants needs 16 entries of its table, which
 -- stand side by side in one of the table's words.
-use Rattle.std.specs.Prelude.{ℕ, ◌+◌, ◌*◌, ◌/◌, ◌%◌, ◌<◌, ◌≤◌, List, Option, Some, None, slice_get, slice_index}
+use Rattle.std.specs.Prelude.{ℕ, ◌+◌, ◌*◌, ◌/◌, ◌%◌, ◌^◌, ◌<◌, List, Option, Some, None, slice_get, slice_index}
 use Rattle.logic_four.specs.declared.V4.{V4}
 use Rattle.logic_four.specs.Values.{code_of}
 use Rattle.func_table.specs.declared.table.Table.{Table}
@@ -23,7 +23,7 @@ word_in (Some table) k = slice_index table.words k
 
 abbrev pub pair_of : ℕ → List Table → ℕ → Source → Source → V4 → V4 → Op
 pair_of slots tables table a b c d =
-    Pair (entry_at c d % 32) (word_in (slice_get tables table) (entry_at c d / 32)) (operand_of slots a) (operand_of slots b)
+    Pair (word_in (slice_get tables table) (entry_at c d / 32) / 2 ^ (2 * (entry_at c d % 32))) (operand_of slots a) (operand_of slots b)
 
 abbrev pub look_of : ℕ → ℕ → Source → Source → Source → Source → Op
 look_of slots table a b c d = Look table (operand_of slots a) (operand_of slots b) (operand_of slots c) (operand_of slots d)
@@ -50,8 +50,8 @@ abbrev pub IsTabled : ℕ → Task → Type 0
 IsTabled tables (Eval slot table a b c d) = table < tables
 IsTabled tables (Hold slot from) = Unit {0}
 
--- it names only tables, places and entries that there are
+-- it names only tables and places that there are
 abbrev pub FitsOp : ℕ → ℕ → Op → Type 0
-FitsOp tables places (Pair from word a b) = (from ≤ 16) × (a.place < places) × (b.place < places)
-FitsOp tables places (Look table a b c d) = (table < tables) × (a.place < places) × (b.place < places) × (c.place < places) × (d.place < places)
-FitsOp tables places (Keep from) = from.place < places
+FitsOp tables places (Pair word a b) = (a.number < 2 * places) × (b.number < 2 * places)
+FitsOp tables places (Look table a b c d) = (table < tables) × (a.number < 2 * places) × (b.number < 2 * places) × (c.number < 2 * places) × (d.number < 2 * places)
+FitsOp tables places (Keep from) = from.number < 2 * places

@@ -1,4 +1,4 @@
-//! Tasks laid flat: each operand is a place of a bank, and a gate whose third and fourth operands are
+//! Tasks laid flat: each operand is a number of a bank, and a gate whose third and fourth operands are
 //! constants is a part of one word of its table.
 
 ghost use Rattle.std.specs.Prelude.{◌≡◌, ◌<◌, ◌≤◌, length, map, IfOk};
@@ -14,12 +14,11 @@ use port_bank::steps::{Operand, operand_of};
 use seen_list::{List, Memory};
 use std::alloc::Global;
 
-/// What a task does, by places.
+/// What a task does, by operands of a bank.
 #[derive(Clone, Copy, Debug, PartialEq, Eq)]
 pub(crate) enum Op {
-    /// Looks two operands up in a word of a table, in the 16 places from `from` on.
+    /// Looks two operands up in the 16 lowest places of this part of a table.
     Pair {
-        from: u32,
         word: u64,
         a: Operand,
         b: Operand,
@@ -48,8 +47,7 @@ fn pair_of(slots: u32, tables: &[Table], table: u32, a: Source, b: Source, c: V4
 {
     let entry = 16 * code(c) + 64 * code(d);
     Op::Pair {
-        from: (entry % 32) as u32,
-        word: tables[table as usize].words[(entry / 32) as usize],
+        word: tables[table as usize].words[(entry / 32) as usize] >> (2 * (entry % 32)),
         a: operand_of(slots, a),
         b: operand_of(slots, b),
     }

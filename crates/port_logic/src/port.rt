@@ -58,10 +58,10 @@ fn answer(bank: &Bank<'_>, tables: &[Table], op: Op, slot: u32) -> V4
     ensures { IsAnswer bank.now tables.now op slot result }
 {
     match op {
-        Op::Pair { from, word, a, b } => {
+        Op::Pair { word, a, b } => {
             let a = bank.read(a);
             let b = bank.read(b);
-            packed::value_in(word, from as usize + (code(a) + 4 * code(b)) as usize)
+            packed::value_in(word, (code(a) + 4 * code(b)) as usize)
         }
         Op::Look { table, a, b, c, d } => {
             let a = bank.read(a);

@@ -7,7 +7,7 @@ use Rattle.port_logic.proofs.port.answer.Goals as goal
 pub returns-in-Pair : goal.returns-in-Pair
 returns-in-Pair c =
     subst (λ op. IsAnswer c.args.bank.now c.args.tables.now op c.args.slot c.value_in.result) (sym c.in-Pair.is)
-    (pair_right c.args.bank.now c.args.tables.now c.in-Pair.from c.in-Pair.word c.in-Pair.a c.in-Pair.b c.args.slot _ _ c.value_in.result c.read-a.ensures c.read-b.ensures (rw (c.code.ensures, c.code-in-Pair.ensures) at c.value_in.ensures))
+    (pair_right c.args.bank.now c.args.tables.now c.in-Pair.word c.in-Pair.a c.in-Pair.b c.args.slot _ _ c.value_in.result c.read-a.ensures c.read-b.ensures (rw (c.code.ensures, c.code-in-Pair.ensures) at c.value_in.ensures))
 
 pub returns-in-Keep : goal.returns-in-Keep
 returns-in-Keep c =

@@ -2,5 +2,4 @@ use Rattle.port_bank.proofs.BankLemmas.{read_right}
 use Rattle.port_bank.proofs.bank.Bank.read.Goals as goal
 
 pub returns : goal.returns
-returns c =
-    rw (← c.self.view_is, c.value_in_place.ensures, c.as_slice.ensures, c.as_slice-2.ensures) (read_right c.self.inside c.args.operand c.self.invariant)
+returns c = rw (← c.self.view_is, c.value.ensures) (read_right c.self.inside c.args.operand c.self.invariant)
