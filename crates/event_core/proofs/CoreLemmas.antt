@@ -111,7 +111,7 @@ module _ (a : Inside) (kept : IsKept a) (p : ℕ) (within : p < length a.image.n
   here_turn = ap (λ (x : Place). x.turn) here
 
   abbrev as_port : PlacedPort
-  as_port = record seat.port { image = image; stimulus = stimulus; port = p; until = until }
+  as_port = record seat.port { image = image; stimulus = stimulus; port = p; first_row = 0; until = until }
 
   -- ---- what is next
 
@@ -158,7 +158,7 @@ module _ (a : Inside) (kept : IsKept a) (p : ℕ) (within : p < length a.image.n
   pub put_room : HasPutRoom seat a.banks (length a.words)
   put_room = record {
     each = λ i link sending.
-        let s : IsSending (record seat.port { image = image; stimulus = stimulus; port = p; until = until }) i link = subst (λ (w : PlacedPort). IsSending w i link) is_seat.port sending in
+        let s : IsSending (record seat.port { image = image; stimulus = stimulus; port = p; first_row = 0; until = until }) i link = subst (λ (w : PlacedPort). IsSending w i link) is_seat.port sending in
         subst (λ n. word_place a.banks (n + i) seat.bank < length a.words) (sym is_seat.first)
         (word_low p i seat.bank link (record { port = s.seat; is = s.is; link_is = s.next.is }) bank_low);
   }
@@ -174,12 +174,12 @@ module _ (a : Inside) (kept : IsKept a) (p : ℕ) (within : p < length a.image.n
   pub take_room : HasTakeRoom seat a.banks (length a.words)
   take_room = record {
     there = λ j link receiving.
-        let r : IsReceiving (record seat.port { image = image; stimulus = stimulus; port = p; until = until }) j link = subst (λ (w : PlacedPort). IsReceiving w j link) is_seat.port receiving in
+        let r : IsReceiving (record seat.port { image = image; stimulus = stimulus; port = p; first_row = 0; until = until }) j link = subst (λ (w : PlacedPort). IsReceiving w j link) is_seat.port receiving in
         let low = slice_get_within r.seat.ins j link r.next.is in
         let long = (is_seat.sources r.seat r.is).long in
         omega arith;
     each = λ j n link receiving source.
-        let r : IsReceiving (record seat.port { image = image; stimulus = stimulus; port = p; until = until }) j link = subst (λ (w : PlacedPort). IsReceiving w j link) is_seat.port receiving in
+        let r : IsReceiving (record seat.port { image = image; stimulus = stimulus; port = p; first_row = 0; until = until }) j link = subst (λ (w : PlacedPort). IsReceiving w j link) is_seat.port receiving in
         let from = source_of r.seat r.is j n link r.next.is source in
         subst (λ m. word_place a.banks m seat.bank < length a.words) (sym from.number) (word_low link.sender from.i seat.bank from.sent from.send bank_low);
   }

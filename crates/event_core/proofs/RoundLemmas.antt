@@ -160,6 +160,9 @@ module _ (a : Inside) (kept : IsKept a) (n : ℕ) (count : n ≡ length a.image.
     pub stimulus_here : seat.port.stimulus ≡ a.stim.now
     stimulus_here = ap (λ (w : PlacedPort). w.stimulus) seated.port
 
+    pub first_here : seat.port.first_row ≡ 0
+    first_here = ap (λ (w : PlacedPort). w.first_row) seated.port
+
     pub is_host : IsHostSeat seat
     is_host = ap (λ (w : PlacedPort). w.port) seated.port ∙ (host_is ∙ ap host_of (sym image_here))
 

@@ -1,12 +1,12 @@
 -- A core before its first event.
-use Rattle.std.proofs.Common.{List, Some, [], ap, ap₂, arith, inl, inr, length, length-append, map, refl, replicate, slice_get, slice_index_or, subst, sym, ℕ, ◌%◌, ◌*◌, ◌++◌, ◌+◌, ◌∙◌, ◌∷◌, ◌≡◌, ◌≤◌}
+use Rattle.std.proofs.Common.{List, Some, [], ap, ap₂, arith, inl, inr, length, length-append, map, max, min, refl, replicate, slice_get, slice_index_or, subst, sym, ℕ, ◌%◌, ◌*◌, ◌++◌, ◌+◌, ◌∙◌, ◌∷◌, ◌≡◌, ◌≤◌}
 use Rattle.std.proofs.Math.Path.{fun_ext}
 use Rattle.std.proofs.lemmas.Bool.{cases_lt}
 use Rattle.std.proofs.lemmas.List.{get_or_past, length-map, length-replicate}
 use Rattle.std.proofs.lemmas.Option.{slice_get_within, get_or_from_slice_get, slice_get_cases}
 use Rattle.list_laws.proofs.Places.{at_front, seam_at}
 use Rattle.list_laws.proofs.Ranges.{zeros_read}
-use Rattle.net_defs.specs.Time.{turn_count}
+use Rattle.net_defs.specs.Time.{cycle_count, turn_count}
 use Rattle.net_defs.specs.Valid.{IsValidStimulus}
 use Rattle.net_defs.specs.declared.stimulus.Stimulus.{Stimulus}
 use Rattle.image_defs.specs.Steps.{timing_of}
@@ -20,10 +20,10 @@ use Rattle.event_defs.specs.Row.{send_count, word_in}
 use Rattle.event_defs.specs.Sound.{IsSound}
 use Rattle.event_defs.specs.Steps.{CoreState, first_state}
 use Rattle.event_defs.specs.declared.place.Place.{Place}
-use Rattle.port_walk.specs.Placed.{PlacedPort, place_of}
+use Rattle.port_walk.specs.Placed.{PlacedPort, at_start, block_end, place_of}
 use Rattle.event_core.specs.Core.{IsSoundCore, IsStart, state_of}
 use Rattle.event_core.specs.Kept.{IsKept, IsSeat, view_of}
-use Rattle.event_core.specs.Made.{AreFirstSeats, IsFirstSeat}
+use Rattle.event_core.specs.Made.{AreFirstSeats, IsFirstSeat, whole_run}
 use Rattle.event_core.specs.Seats.{place_in}
 use Rattle.event_core.specs.declared.core_run.Core.TheInside.{Inside}
 use Rattle.event_core.specs.declared.seats.Seat.{Seat}
@@ -32,9 +32,16 @@ use Rattle.event_core.specs.declared.seats.Seat.{Seat}
 pub seat_starts : (image : Image) (stimulus : Stimulus) (banks p : ℕ) (seat : Seat) → IsFirstSeat image stimulus banks p seat → place_in seat ≡ start (length image.ports)
 seat_starts image stimulus banks p seat first = ap₂ (λ (w : PlacedPort) (known : List ℕ). place_of w known) first.port first.known
 
+-- one block of all cycles has all turns
+whole_end : (image : Image) (stimulus : Stimulus) → block_end image stimulus 0 (whole_run stimulus) ≡ turn_count (timing_of image) stimulus
+whole_end image stimulus = ap (λ n. image.units * n) all where
+  all : min (0 + max 1 (cycle_count stimulus)) (cycle_count stimulus) ≡ cycle_count stimulus
+  all = omega arith
+
 pub seat_fits : (image : Image) (stimulus : Stimulus) (banks p : ℕ) (seat : Seat) → IsFirstSeat image stimulus banks p seat → IsSeat image stimulus banks p seat
 seat_fits image stimulus banks p seat first = record {
-  port = subst (λ (w : PlacedPort). w ≡ record w { image = image; stimulus = stimulus; port = p; until = turn_count (timing_of image) stimulus }) (sym first.port) refl;
+  port = subst (λ (w : PlacedPort). w ≡ record w { image = image; stimulus = stimulus; port = p; first_row = 0; until = turn_count (timing_of image) stimulus }) (sym first.port)
+      (ap {A = ℕ} {B = PlacedPort} (λ n. record (at_start image stimulus p (whole_run stimulus)) { until = n }) (whole_end image stimulus));
   bank = first.bank ∙ ap (λ (w : PlacedPort). w.turn % banks) (sym first.port);
   first = first.first;
   sources = first.sources;

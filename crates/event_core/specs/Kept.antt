@@ -27,7 +27,7 @@ view_of a = record {
 
 -- the seat of port p
 pub record IsSeat (image : Image) (stimulus : Stimulus) (banks p : ℕ) (seat : Seat) : Type 0 where
-  pub port : seat.port ≡ record seat.port { image = image; stimulus = stimulus; port = p; until = turn_count (timing_of image) stimulus }
+  pub port : seat.port ≡ record seat.port { image = image; stimulus = stimulus; port = p; first_row = 0; until = turn_count (timing_of image) stimulus }
   pub bank : seat.bank ≡ seat.port.turn % banks
   pub first : seat.first ≡ sends_before image p
   pub sources : (port : PortImage) → IsPort image p port → AreSources image port.ins (length port.ins) seat.sources

@@ -1,5 +1,6 @@
 -- What a core is made of.
-use Rattle.std.specs.Prelude.{List, Some, length, replicate, slice_get, ℕ, ◌%◌, ◌≡◌}
+use Rattle.std.specs.Prelude.{List, Some, length, max, replicate, slice_get, ℕ, ◌%◌, ◌≡◌}
+use Rattle.net_defs.specs.Time.{cycle_count}
 use Rattle.net_defs.specs.declared.stimulus.Stimulus.{Stimulus}
 use Rattle.image_defs.specs.Places.{IsPort}
 use Rattle.image_defs.specs.declared.image.Image.{Image}
@@ -9,9 +10,13 @@ use Rattle.port_walk.specs.Placed.{at_start}
 use Rattle.send_row.specs.Sources.{AreSources}
 use Rattle.event_core.specs.declared.seats.Seat.{Seat}
 
+-- the window of a port that runs all cycles in one block
+abbrev pub whole_run : Stimulus → ℕ
+whole_run stimulus = max 1 (cycle_count stimulus)
+
 -- the seat of port p before its first event
 pub record IsFirstSeat (image : Image) (stimulus : Stimulus) (banks p : ℕ) (seat : Seat) : Type 0 where
-  pub port : seat.port ≡ at_start image stimulus p
+  pub port : seat.port ≡ at_start image stimulus p (whole_run stimulus)
   pub known : seat.known ≡ replicate (length image.ports) 0
   pub bank : seat.bank ≡ 1 % banks
   pub first : seat.first ≡ sends_before image p

@@ -91,12 +91,14 @@ impl<'a> Core<'a> {
         let ports = image.ports.len();
         let firsts = send_row::first_sends(alloc, image)?;
         let sends = firsts.as_slice()[ports];
-        let seats = seats::make(alloc, image, stim, firsts.as_slice(), banks)?;
+        let cycles = stim.cycles();
+        let window = cycles.max(1);
+        let seats = seats::make(alloc, image, stim, firsts.as_slice(), banks, window)?;
         Ok(Core {
             image,
             stim,
             banks,
-            until: image.units as u64 * stim.cycles() as u64,
+            until: image.units as u64 * cycles as u64,
             seats,
             finished: List::filled(alloc, 0, ports)?,
             words: List::filled(alloc, 0, sends as usize * banks as usize)?,

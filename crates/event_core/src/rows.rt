@@ -18,10 +18,11 @@ pub(crate) fn rows_done(seats: &[Seat], p: usize) -> u32
     }
 }
 
-/// The row of a cycle that the host at this seat has done.
+/// The row of a cycle that the host at this seat has done. It has given up none.
 pub(crate) fn cells<'b>(seats: &'b [Seat], p: usize, cycle: u32) -> &'b [V4]
     requires there { p < length seats.now }
     requires host { AtSeat seats.now p IsHostSeat }
+    requires all { AtSeat seats.now p (λ seat. seat.port.first_row ≡ 0) }
     requires some { 1 ≤ cycle }
     requires done { AtSeat seats.now p (λ seat. cycle ≤ host_rows seat) }
     ensures { AtSeat seats.now p (λ seat. IsRowOf seat cycle result.now) }

@@ -7,7 +7,7 @@ ghost use Rattle.image_defs.specs.declared.image.LinkIn.{LinkIn};
 ghost use Rattle.image_defs.specs.declared.image.LinkOut.{LinkOut};
 ghost use Rattle.port_walk.specs.Placed.{CanPut, CanTake, CanTakeValue, IsEnding, IsReceiving, IsSending};
 ghost use Rattle.send_row.specs.Sources.{AreFirsts};
-ghost use Rattle.event_core.specs.Made.{AreFirstSeats, IsFirstSeat};
+ghost use Rattle.event_core.specs.Made.{AreFirstSeats, IsFirstSeat, whole_run};
 ghost use Rattle.event_core.specs.Seats.{AtSeat, HasPutRoom, HasTakeRoom, HasWritten, IsNextIn, IsWordRead, seat_asked, seat_put, seat_taken, seat_told};
 
 use crate::words::{first_bank, next_bank, place_of, word_of};
@@ -31,13 +31,14 @@ pub(crate) struct Seat<'a> {
     pub bank: u32,
 }
 
-/// The seat of a port before its first event.
+/// The seat of a port before its first event. The port runs all cycles in one block, of this window.
 fn first_seat<'a>(
     alloc: Global,
     image: &'a Image,
     stim: &'a Stimulus,
     firsts: &[u32],
     banks: u32,
+    window: u32,
     p: usize,
 ) -> Result<Seat<'a>, Memory>
     requires image { IsWellFormed image.now }
@@ -45,11 +46,12 @@ fn first_seat<'a>(
     requires columns { stim.now.columns ≡ image.now.columns }
     requires some { 1 ≤ banks }
     requires firsts { AreFirsts image.now (length image.now.ports + 1) firsts.now }
+    requires window { window ≡ whole_run stim.now }
     requires there { p < length image.now.ports }
     ensures { IfOk result (IsFirstSeat image.now stim.now banks p) }
 {
     Ok(Seat {
-        port: AnyPort::new(alloc, image, stim, p as u32)?,
+        port: AnyPort::new(alloc, image, stim, p as u32, window)?,
         known: List::filled(alloc, 0, image.ports.len())?,
         sources: send_row::sources_of(alloc, image, firsts, p)?,
         first: firsts[p],
@@ -57,24 +59,27 @@ fn first_seat<'a>(
     })
 }
 
-/// The seats of all ports before their first events.
+/// The seats of all ports before their first events. The ports run all cycles in one block, of this
+/// window.
 pub(crate) fn make<'a>(
     alloc: Global,
     image: &'a Image,
     stim: &'a Stimulus,
     firsts: &[u32],
     banks: u32,
+    window: u32,
 ) -> Result<List<Seat<'a>>, Memory>
     requires image { IsWellFormed image.now }
     requires stimulus { IsValidStimulus stim.now }
     requires columns { stim.now.columns ≡ image.now.columns }
     requires some { 1 ≤ banks }
     requires firsts { AreFirsts image.now (length image.now.ports + 1) firsts.now }
+    requires window { window ≡ whole_run stim.now }
     ensures { IfOk result (AreFirstSeats image.now stim.now banks (length image.now.ports)) }
 {
     let mut seats = List::new(alloc);
     'ports: for p in 0..image.ports.len() {
-        seats.push(first_seat(alloc, image, stim, firsts, banks, p)?)?;
+        seats.push(first_seat(alloc, image, stim, firsts, banks, window, p)?)?;
     }
     Ok(seats)
 }

@@ -1,4 +1,4 @@
--- The host keeps its place in the stimulus, and the rows of the cycles that are over.
+-- The host keeps its place in the stimulus, and the rows of the cycles that are over and not given up.
 use Rattle.std.proofs.Common.{◌≡◌, ◌≢◌, ◌∙◌, ◌⊎◌, inl, inr, ℕ, ◌+◌, ◌-◌, ◌*◌, ◌/◌, ◌<◌, ◌≤◌, true, false, List, [], length, get_or, Option, Some, None, slice_get, sym, ap, subst, refl, arith}
 use Rattle.std.proofs.lemmas.Bool.{cases_lt}
 use Rattle.std.proofs.lemmas.Option.{slice_get_within, slice_get-get_or, slice_get_read}
@@ -26,10 +26,10 @@ use Rattle.port_bank.specs.Reads.{IsAtHand, now_in, past_in}
 use Rattle.port_bank.proofs.TurnLemmas.{item_meets, there_within}
 use Rattle.port_host.specs.declared.cursor.Progress.{Progress}
 use Rattle.port_host.specs.declared.port.HostPort.TheInside.{Inside}
-use Rattle.port_host.specs.Rows.{values_in, turn_of, rows_done, printed_sources, row_start, IsOn, HasPrinted, HasRows}
-use Rattle.port_host.specs.Kept.{IsReady}
+use Rattle.port_host.specs.Rows.{values_in, turn_of, rows_done, printed_sources, row_start, HasRoom, IsOn, HasPrinted, HasRows}
+use Rattle.port_host.specs.Kept.{IsReady, view_of}
 use Rattle.port_host.proofs.CursorLemmas.{still_within, row_is}
-use Rattle.port_host.proofs.RowLemmas.{row_fits, cycles_over, cycle_runs, cycle_ends, cycle_goes_on, one_more, row_more}
+use Rattle.port_host.proofs.RowLemmas.{row_fits, cycles_over, cycle_runs, cycle_ends, cycle_goes_on, cycle_done, one_more, row_more}
 
 -- ---- the work of the host
 
@@ -52,14 +52,14 @@ pub host_found : (image : Image) (count : ℕ) (seat : PortImage) (ports : List 
 host_found image count seat ports fits whole counted there =
     slice_get_read image.ports (length image.ports) (host_of image) seat refl (omega (arith, fits.some_ports)) (there ∙ ap (λ xs. get_or xs (count - 1) seat) whole ∙ ap (λ n. get_or image.ports (n - 1) seat) counted)
 
-pub room_made : (cells : List V4) (stimulus : Stimulus) (cycles count : ℕ) (printed : List Source) → length cells ≡ cycles * count → cycles ≡ cycle_count stimulus → count ≡ length printed → length cells ≡ cycle_count stimulus * length printed
-room_made cells stimulus cycles count printed room rows width = room ∙ ap (λ n. n * count) rows ∙ ap (λ n. cycle_count stimulus * n) width
+pub room_made : (cells : List V4) (window count : ℕ) (printed : List Source) → length cells ≡ window * count → count ≡ length printed → length cells ≡ window * length printed
+room_made cells window count printed room width = room ∙ ap (λ n. window * n) width
 
 pub ready_first : (a : Inside) (image : Image) (stimulus : Stimulus) (seat : PortImage) → a.bank ≡ at_first image stimulus (host_of image)
     → IsWellFormed image → IsValidStimulus stimulus → stimulus.columns ≡ image.columns → IsPort image (host_of image) seat → seat.work ≡ Host a.inputs.now a.printed.now
-    → a.stim.now ≡ stimulus → a.units ≡ image.units
-    → ((units : ℕ) → 0 < units → IsOn stimulus units a.progress) → ((units : ℕ) → turn_of units a.progress ≡ 1) → length a.cells ≡ cycle_count stimulus * length a.printed.now → IsReady a
-ready_first a image stimulus seat bank fits valid columns is work stim units on first room =
+    → a.stim.now ≡ stimulus → a.units ≡ image.units → a.first_row ≡ 0
+    → ((units : ℕ) → 0 < units → IsOn stimulus units a.progress) → ((units : ℕ) → turn_of units a.progress ≡ 1) → length a.cells ≡ a.window * length a.printed.now → IsReady a
+ready_first a image stimulus seat bank fits valid columns is work stim units none on first room =
     let no_rows : a.progress.rows ≡ 0 = omega (arith, first 1) in record {
       image = subst (λ view. IsWellFormed view.image) (sym bank) fits;
       stimulus = subst IsValidStimulus (sym stim) valid;
@@ -73,7 +73,9 @@ ready_first a image stimulus seat bank fits valid columns is work stim units on 
       running = λ begun. absurd (not_begun (ap (λ view. view.begun) (sym bank) ∙ begun));
       turn = ap (λ view. view.turn) bank ∙ sym (first a.units);
       on = subst (λ s. IsOn s a.units a.progress) (sym stim) (on a.units (omega (arith, units, fits.units.0)));
-      room = room ∙ ap (λ s. cycle_count s * length a.printed.now) (sym stim);
+      given = omega (arith, none);
+      few = omega (arith, no_rows);
+      room = room;
       cells = record { each = λ c j some few low. absurd (omega (arith, some, few, no_rows)) };
     }
   where
@@ -130,9 +132,15 @@ next_answers a slot input v ready can next is =
 
 -- ---- the last turn of a cycle
 
-pub room_there : (a : Inside) → IsReady a → a.bank.begun ≡ true → row_start a.progress.rows (length a.printed.now) + length a.printed.now ≤ length a.cells
-room_there a ready begun =
-    let fits = row_fits a.progress.rows (cycle_count a.stim.now) (length a.printed.now) (runs_here a ready begun) in
+last_turn_is : (a : Inside) → IsReady a → a.progress.unit + 1 ≡ a.units → a.bank.turn ≡ (a.progress.rows + 1) * a.bank.image.units
+last_turn_is a ready last =
+    ready.turn ∙ (let more = one_more a.progress.rows (a.progress.rows + 1) a.units refl in omega (arith, last, more)) ∙ ap (λ u. (a.progress.rows + 1) * u) ready.units_is
+
+pub room_there : (a : Inside) → IsReady a → HasRoom (view_of a) → a.progress.unit + 1 ≡ a.units
+    → row_start (a.progress.rows - a.first_row) (length a.printed.now) + length a.printed.now ≤ length a.cells
+room_there a ready room last =
+    let done = cycle_done a.bank (a.progress.rows + 1) (omega (arith, last, ready.units_is)) (last_turn_is a ready last) in
+    let fits = row_fits (a.progress.rows - a.first_row) a.window (length a.printed.now) (omega (arith, room, done, ready.given)) in
     omega (arith, fits, ready.room)
 
 -- a printed source is at hand once all is executed and received
@@ -164,15 +172,12 @@ printed_is image values p j seat source host is there =
 
 -- the row of the cycle, once it is printed
 module _ (a : Inside) (cells : List V4) (ready : IsReady a) (can : CanEnd a.bank) (last : a.progress.unit + 1 ≡ a.units)
-    (kept : HasPrinted a.bank a.printed.now (length a.printed.now) (row_start a.progress.rows (length a.printed.now)) a.cells cells) where
-  turn_is : a.bank.turn ≡ (a.progress.rows + 1) * a.bank.image.units
-  turn_is = ready.turn ∙ (let more = one_more a.progress.rows (a.progress.rows + 1) a.units refl in omega (arith, last, more)) ∙ ap (λ u. (a.progress.rows + 1) * u) ready.units_is
-
+    (kept : HasPrinted a.bank a.printed.now (length a.printed.now) (row_start (a.progress.rows - a.first_row) (length a.printed.now)) a.cells cells) where
   seat_is : can.port ≡ ready.seat
   seat_is = let here = ready.is in let there = can.is in cc
 
   source_here : (j : ℕ) (source : Source) → j < length a.printed.now → slice_get a.printed.now j ≡ Some source
-      → value_at cells (row_start a.progress.rows (length a.printed.now) + j) ≡ shown a.bank.image a.bank.stimulus (a.progress.rows + 1) j
+      → value_at cells (row_start (a.progress.rows - a.first_row) (length a.printed.now) + j) ≡ shown a.bank.image a.bank.stimulus (a.progress.rows + 1) j
   source_here j source low there =
       let right : IsPresent ready.seat source = (work_right a.bank.image a.bank.port ready.seat a.inputs.now a.printed.now ready.image ready.is ready.work).1 j source there in
       let items : a.bank.executed ≡ length (item_slots ready.seat.work) = can.executed_all ∙ ap (λ q. length (item_slots q.work)) seat_is in
@@ -180,22 +185,35 @@ module _ (a : Inside) (cells : List V4) (ready : IsReady a) (can : CanEnd a.bank
       kept.printed j source low there ready.seat ready.is (present_at_hand a.bank ready.seat source items receipts right)
       ∙ present_taken a.bank.port ready.seat.ins (past_in a.bank).value (now_in a.bank).value ready.seat source right
       ∙ sym (printed_is a.bank.image (now_in a.bank).value a.bank.port j ready.seat source ready.host ready.is (ap (λ work. slice_get (printed_of work) j) ready.work ∙ there))
-      ∙ ap (λ t. printed_value a.bank.image (frame a.bank.image a.bank.stimulus t).value j) turn_is
+      ∙ ap (λ t. printed_value a.bank.image (frame a.bank.image a.bank.stimulus t).value j) (last_turn_is a ready last)
 
-  row_kept : HasRows (a.progress.rows + 1) (length a.printed.now) (shown a.bank.image a.bank.stimulus) cells
+  row_kept : HasRows (a.progress.rows - a.first_row + 1) (length a.printed.now) (λ c. shown a.bank.image a.bank.stimulus (a.first_row + c)) cells
   row_kept =
-      row_more a.progress.rows (length a.printed.now) (shown a.bank.image a.bank.stimulus) a.cells cells ready.cells kept.before
-      (λ j low. source_here j (get_or a.printed.now j (Const Undef)) low (slice_get-get_or a.printed.now j (Const Undef) low))
+      row_more (a.progress.rows - a.first_row) (length a.printed.now) (λ c. shown a.bank.image a.bank.stimulus (a.first_row + c)) a.cells cells ready.cells kept.before
+      (λ j low.
+      source_here j (get_or a.printed.now j (Const Undef)) low (slice_get-get_or a.printed.now j (Const Undef) low)
+      ∙ ap (λ c. shown a.bank.image a.bank.stimulus c j) row_number)
+    where
+      row_number : a.progress.rows + 1 ≡ a.first_row + (a.progress.rows - a.first_row + 1)
+      row_number = omega (arith, ready.given)
 
-pub ready_ended : (a : Inside) (cells : List V4) (progress : Progress) (bank : PortView) → IsReady a → CanEnd a.bank
-    → (a.progress.unit + 1 ≡ a.units → HasPrinted a.bank a.printed.now (length a.printed.now) (row_start a.progress.rows (length a.printed.now)) a.cells cells)
+pub ready_ended : (a : Inside) (cells : List V4) (progress : Progress) (bank : PortView) → IsReady a → CanEnd a.bank → HasRoom (view_of a)
+    → (a.progress.unit + 1 ≡ a.units → HasPrinted a.bank a.printed.now (length a.printed.now) (row_start (a.progress.rows - a.first_row) (length a.printed.now)) a.cells cells)
     → (a.progress.unit + 1 ≢ a.units → cells ≡ a.cells) → IsOn a.stim.now a.units progress → turn_of a.units progress ≡ turn_of a.units a.progress + 1
     → bank ≡ after_end a.bank → IsReady (record a { bank = bank; progress = progress; cells = cells })
-ready_ended a cells progress bank ready can kept same on more is =
+ready_ended a cells progress bank ready can room kept same on more is =
     subst (λ view. IsReady (record a { bank = view; progress = progress; cells = cells })) (sym is) (of_unit (cases_lt (a.progress.unit + 1) a.units))
   where
-    ready_with : length cells ≡ length a.cells → HasRows progress.rows (length a.printed.now) (shown a.bank.image a.bank.stimulus) cells → IsReady (record a { bank = after_end a.bank; progress = progress; cells = cells })
-    ready_with long rows = record {
+    turn_then : a.bank.turn + 1 ≡ turn_of a.units progress
+    turn_then = ap (λ t. t + 1) ready.turn ∙ sym more
+
+    rows_then : rows_done (after_end a.bank) ≡ progress.rows
+    rows_then = ap (λ u. (a.bank.turn + 1 - 1) / u) (sym ready.units_is) ∙ cycles_over a.units (a.bank.turn + 1) progress on.unit turn_then
+
+    ready_with : length cells ≡ length a.cells → a.progress.rows ≤ progress.rows
+        → HasRows (progress.rows - a.first_row) (length a.printed.now) (λ c. shown a.bank.image a.bank.stimulus (a.first_row + c)) cells
+        → IsReady (record a { bank = after_end a.bank; progress = progress; cells = cells })
+    ready_with long no_less rows = record {
       image = ready.image;
       stimulus = ready.stimulus;
       columns = ready.columns;
@@ -206,8 +224,10 @@ ready_ended a cells progress bank ready can kept same on more is =
       is = ready.is;
       work = ready.work;
       running = λ begun. cc;
-      turn = ap (λ t. t + 1) ready.turn ∙ sym more;
+      turn = turn_then;
       on = on;
+      given = omega (arith, ready.given, no_less);
+      few = omega (arith, room, rows_then);
       room = long ∙ ready.room;
       cells = rows;
     }
@@ -216,14 +236,36 @@ ready_ended a cells progress bank ready can kept same on more is =
     of_unit (inl below) =
         let other : a.progress.unit + 1 ≢ a.units = λ e. omega (arith, below, e) in
         let stays : progress.rows ≡ a.progress.rows = cycle_goes_on a.units a.progress progress ready.on.unit on.unit more other in
-        ready_with (ap length (same other))
-        (subst (λ rows. HasRows rows (length a.printed.now) (shown a.bank.image a.bank.stimulus) cells) (sym stays)
-        (subst (HasRows a.progress.rows (length a.printed.now) (shown a.bank.image a.bank.stimulus)) (sym (same other)) ready.cells))
+        ready_with (ap length (same other)) (omega (arith, stays))
+        (subst (λ rows. HasRows (rows - a.first_row) (length a.printed.now) (λ c. shown a.bank.image a.bank.stimulus (a.first_row + c)) cells) (sym stays)
+        (subst (HasRows (a.progress.rows - a.first_row) (length a.printed.now) (λ c. shown a.bank.image a.bank.stimulus (a.first_row + c))) (sym (same other)) ready.cells))
     of_unit (inr past) =
         let last : a.progress.unit + 1 ≡ a.units = omega (arith, past, ready.on.unit) in
-        ready_with (kept last).long
-        (subst (λ rows. HasRows rows (length a.printed.now) (shown a.bank.image a.bank.stimulus) cells) (sym (cycle_ends a.units a.progress progress on.unit more last))
-        (row_kept a cells ready can last (kept last)))
+        let ends : progress.rows ≡ a.progress.rows + 1 = cycle_ends a.units a.progress progress on.unit more last in
+        ready_with (kept last).long (omega (arith, ends))
+        (subst (λ rows. HasRows rows (length a.printed.now) (λ c. shown a.bank.image a.bank.stimulus (a.first_row + c)) cells) (omega (arith, ends, ready.given)) (row_kept a cells ready can last (kept last)))
+
+-- ---- rows that are given up
+
+pub ready_given_up : (a : Inside) → IsReady a → IsReady (record a { first_row = a.progress.rows })
+ready_given_up a ready = record {
+  image = ready.image;
+  stimulus = ready.stimulus;
+  columns = ready.columns;
+  stimulus_is = ready.stimulus_is;
+  units_is = ready.units_is;
+  host = ready.host;
+  seat = ready.seat;
+  is = ready.is;
+  work = ready.work;
+  running = ready.running;
+  turn = ready.turn;
+  on = ready.on;
+  given = omega arith;
+  few = omega arith;
+  room = ready.room;
+  cells = record { each = λ c j some few low. absurd (omega (arith, some, few)) };
+}
 
 -- ---- the cells
 
@@ -235,12 +277,22 @@ width_is a ready =
     sources_of None = []
     sources_of (Some port) = printed_of port.work
 
-pub row_done : (a : Inside) (cycle : ℕ) → IsReady a → 1 ≤ cycle → cycle ≤ rows_done a.bank → row_start (cycle - 1) (length a.printed.now) + length a.printed.now ≤ length a.cells
-row_done a cycle ready some few =
+pub row_done : (a : Inside) (cycle : ℕ) → IsReady a → a.first_row < cycle → cycle ≤ rows_done a.bank
+    → row_start (cycle - 1 - a.first_row) (length a.printed.now) + length a.printed.now ≤ length a.cells
+row_done a cycle ready kept few =
     let done = rows_here a ready in
-    let fits = row_fits (cycle - 1) (cycle_count a.stim.now) (length a.printed.now) (omega (arith, some, few, done, ready.on.rows)) in
+    let fits = row_fits (cycle - 1 - a.first_row) a.window (length a.printed.now) (omega (arith, kept, few, done, ready.few)) in
     omega (arith, fits, ready.room)
 
-pub cells_done : (a : Inside) (cycle j : ℕ) → IsReady a → 1 ≤ cycle → cycle ≤ rows_done a.bank → j < length a.printed.now
-    → value_at a.cells (row_start (cycle - 1) (length a.printed.now) + j) ≡ shown a.bank.image a.bank.stimulus cycle j
-cells_done a cycle j ready some few low = ready.cells.each cycle j some (let done = rows_here a ready in omega (arith, few, done)) low
+pub cells_done : (a : Inside) (cycle j : ℕ) → IsReady a → a.first_row < cycle → cycle ≤ rows_done a.bank → j < length a.printed.now
+    → value_at a.cells (row_start (cycle - 1 - a.first_row) (length a.printed.now) + j) ≡ shown a.bank.image a.bank.stimulus cycle j
+cells_done a cycle j ready kept few low =
+    ap (λ n. value_at a.cells (row_start n (length a.printed.now) + j)) place
+    ∙ ready.cells.each (cycle - a.first_row) j (omega (arith, kept)) (let done = rows_here a ready in omega (arith, few, done)) low
+    ∙ ap (λ c. shown a.bank.image a.bank.stimulus c j) number
+  where
+    place : cycle - 1 - a.first_row ≡ cycle - a.first_row - 1
+    place = omega arith
+
+    number : a.first_row + (cycle - a.first_row) ≡ cycle
+    number = omega (arith, kept)

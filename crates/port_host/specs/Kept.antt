@@ -1,6 +1,5 @@
--- What the host keeps: its place in the stimulus, and the rows of the cycles that are over.
-use Rattle.std.specs.Prelude.{◌≡◌, ◌*◌, ◌≤◌, true, length}
-use Rattle.net_defs.specs.Time.{cycle_count}
+-- What the host keeps: its place in the stimulus, and the rows of the cycles that are over and not given up.
+use Rattle.std.specs.Prelude.{◌≡◌, ◌+◌, ◌-◌, ◌*◌, ◌≤◌, true, length}
 use Rattle.net_defs.specs.Valid.{IsValidStimulus}
 use Rattle.image_defs.specs.declared.image.PortImage.{PortImage}
 use Rattle.image_defs.specs.declared.image.Work.TheVariants.{Host}
@@ -8,8 +7,11 @@ use Rattle.image_defs.specs.Places.{host_of, IsPort}
 use Rattle.image_defs.specs.WellFormed.{IsWellFormed}
 use Rattle.image_defs.specs.Frames.{shown}
 use Rattle.image_defs.specs.Ports.{last_turn}
-use Rattle.port_host.specs.Rows.{turn_of, IsOn, HasRows}
+use Rattle.port_host.specs.Rows.{HostView, turn_of, IsOn, HasRows}
 use Rattle.port_host.specs.declared.port.HostPort.TheInside.{Inside}
+
+abbrev pub view_of : Inside → HostView
+view_of a = record { port = a.bank; window = a.window; first_row = a.first_row }
 
 pub record IsReady (a : Inside) : Type 0 where
   pub image : IsWellFormed a.bank.image
@@ -24,5 +26,7 @@ pub record IsReady (a : Inside) : Type 0 where
   pub running : a.bank.begun ≡ true → a.bank.turn ≤ last_turn a.bank
   pub turn : a.bank.turn ≡ turn_of a.units a.progress
   pub on : IsOn a.stim.now a.units a.progress
-  pub room : length a.cells ≡ cycle_count a.stim.now * length a.printed.now
-  pub cells : HasRows a.progress.rows (length a.printed.now) (shown a.bank.image a.bank.stimulus) a.cells
+  pub given : a.first_row ≤ a.progress.rows
+  pub few : a.progress.rows ≤ a.first_row + a.window
+  pub room : length a.cells ≡ a.window * length a.printed.now
+  pub cells : HasRows (a.progress.rows - a.first_row) (length a.printed.now) (λ c. shown a.bank.image a.bank.stimulus (a.first_row + c)) a.cells

@@ -10,7 +10,7 @@ use Rattle.image_defs.specs.declared.image.Source.{Source}
 use Rattle.image_defs.specs.declared.image.PortImage.{PortImage}
 use Rattle.image_defs.specs.declared.image.Image.{Image}
 use Rattle.image_defs.specs.Places.{host_of, printed_of}
-use Rattle.image_defs.specs.Ports.{PortView}
+use Rattle.image_defs.specs.Ports.{PortView, after_end, at_first}
 use Rattle.port_bank.specs.Reads.{IsTaken}
 use Rattle.port_host.specs.declared.cursor.RowCursor.{RowCursor}
 use Rattle.port_host.specs.declared.cursor.Progress.{Progress}
@@ -53,6 +53,30 @@ pub record IsOn (stimulus : Stimulus) (units : ℕ) (progress : Progress) : Type
 -- the cycles that are over before a port's turn
 abbrev pub rows_done : PortView → ℕ
 rows_done view = (view.turn - 1) / view.image.units
+
+-- ---- the host
+
+-- the host, which keeps the rows of so many cycles at most (its window), and how many rows it has given up
+pub record HostView : Type 0 where
+  pub port : PortView
+  pub window : ℕ
+  pub first_row : ℕ
+
+-- before its first turn
+abbrev pub host_at_first : Image → Stimulus → ℕ → HostView
+host_at_first image stimulus window = record { port = at_first image stimulus (host_of image); window = window; first_row = 0 }
+
+-- as a port it has come this far
+abbrev pub moved_to : HostView → PortView → HostView
+moved_to host port = record host { port = port }
+
+-- the rows that are done once it has ended its turn, less those given up, are no more than its window
+abbrev pub HasRoom : HostView → Type 0
+HasRoom host = rows_done (after_end host.port) ≤ host.first_row + host.window
+
+-- all rows that are done are given up
+abbrev pub given_up : HostView → HostView
+given_up host = record host { first_row = rows_done host.port }
 
 -- ---- cells
 

@@ -1,4 +1,4 @@
-//! The cells that are printed: those of all cycles, one row after the other.
+//! The cells that are printed: those of some cycles, one row after the other.
 
 ghost use Rattle.std.specs.Prelude.{ℕ, ◌≡◌, ◌≢◌, ◌+◌, ◌*◌, ◌<◌, ◌≤◌, length, IfOk};
 ghost use Rattle.logic_four.specs.Values.{value_at};
@@ -6,7 +6,6 @@ ghost use Rattle.image_defs.specs.Places.{Each};
 ghost use Rattle.port_bank.specs.Flat.{IsWithin};
 ghost use Rattle.port_host.specs.Rows.{row_start, HasPrinted};
 
-use crate::cursor::Progress;
 use image_defs::Source;
 use logic_four::V4;
 use port_bank::Bank;
@@ -43,26 +42,28 @@ fn print(cells: &mut List<V4>, start: usize, sources: &[Source], bank: &Bank<'_>
     }
 }
 
-/// Keeps what the sources have after the last turn of a cycle, in the cycle's row.
+/// Keeps what the sources have after the last turn of a cycle, behind so many rows that are kept.
+/// `unit` is the number of turns of this cycle that are over.
 pub(crate) fn keep_row(
     cells: &mut List<V4>,
     units: u32,
-    progress: Progress,
+    unit: u32,
+    rows: u32,
     sources: &[Source],
     bank: &Bank<'_>,
 )
-    requires unit { progress.unit < units }
-    requires room { row_start progress.rows (length sources.now) + length sources.now
-        ≤ length cells.old }
+    requires unit { unit < units }
+    requires room { unit + 1 ≡ units
+        → row_start rows (length sources.now) + length sources.now ≤ length cells.old }
     requires within { Each (IsWithin bank.now.image.slots) sources.now }
-    ensures kept { progress.unit + 1 ≡ units
+    ensures kept { unit + 1 ≡ units
         → HasPrinted bank.now sources.now (length sources.now)
-        (row_start progress.rows (length sources.now)) cells.old cells.new }
-    ensures same { progress.unit + 1 ≢ units → cells.new ≡ cells.old }
+        (row_start rows (length sources.now)) cells.old cells.new }
+    ensures same { unit + 1 ≢ units → cells.new ≡ cells.old }
 {
     let count = cells.len();
-    if progress.unit + 1 == units {
-        let start = row_start(progress.rows, sources.len(), count);
+    if unit + 1 == units {
+        let start = row_start(rows, sources.len(), count);
         print(cells, start, sources, bank);
     }
 }

@@ -3,12 +3,11 @@
 ghost use Rattle.std.specs.Prelude.{ℕ, ◌≡◌, ◌<◌, ◌≤◌, length, IfOk};
 ghost use Rattle.net_defs.specs.Time.{value_at};
 ghost use Rattle.net_defs.specs.Valid.{IsValidStimulus};
-ghost use Rattle.image_defs.specs.Places.{host_of};
 ghost use Rattle.image_defs.specs.WellFormed.{IsWellFormed};
 ghost use Rattle.image_defs.specs.Frames.{shown};
-ghost use Rattle.image_defs.specs.Ports.{at_first, after_begin, after_execute, after_receive, after_end, value_in, next_item, CanBegin, CanExecute, CanReceive, CanEnd};
+ghost use Rattle.image_defs.specs.Ports.{after_begin, after_execute, after_receive, after_end, value_in, next_item, CanBegin, CanExecute, CanReceive, CanEnd};
 ghost use Rattle.port_bank.specs.Links.{next_link};
-ghost use Rattle.port_host.specs.Rows.{rows_done, printed_sources};
+ghost use Rattle.port_host.specs.Rows.{HasRoom, given_up, host_at_first, moved_to, printed_sources, rows_done};
 
 use crate::cells::{keep_row, room, row, row_start};
 use crate::cursor::{Progress, begin, input_value, turn_over};
@@ -20,7 +19,9 @@ use seen_list::{List, Memory};
 use std::alloc::Global;
 use std::marker::Model;
 
-/// The host in its run. A contract sees whose image and stimulus it runs and how far it has come.
+/// The host in its run. It keeps the rows of at most `window` cycles: those that are over and not given
+/// up. A contract sees whose image and stimulus it runs, how far it has come, its window and how many rows
+/// it has given up.
 #[derive(Drop)]
 pub struct HostPort<'a> {
     bank: Bank<'a>,
@@ -29,30 +30,38 @@ pub struct HostPort<'a> {
     inputs: &'a [InColumn],
     printed: &'a [Source],
     progress: Progress,
+    window: u32,
+    first_row: u32,
     cells: List<V4>,
 }
 
 impl<'a> Model for HostPort<'a> {
-    ghost use Rattle.image_defs.specs.Ports.{PortView};
+    ghost use Rattle.port_host.specs.Rows.{HostView};
 
-    ghost Value = { PortView };
+    ghost Value = { HostView };
 
-    ghost use Rattle.port_host.specs.Kept.{IsReady};
+    ghost use Rattle.port_host.specs.Kept.{IsReady, view_of};
 
-    ghost view = { λ a. a.bank };
+    ghost view = { view_of };
 
     ghost invariant = { IsReady };
 }
 
 impl<'a> HostPort<'a> {
-    /// The host before its first turn. It takes memory for four values a slot, and for the printed
-    /// values of all cycles: `Memory` also where these are more than can be counted. No later call
-    /// takes any.
-    pub fn new(alloc: Global, image: &'a Image, stim: &'a Stimulus) -> Result<HostPort<'a>, Memory>
+    /// The host before its first turn, with room for the rows of so many cycles. It takes memory for four
+    /// values a slot, and for the printed values of these rows: `Memory` also where they are more than can
+    /// be counted. No later call takes any.
+    pub fn new(
+        alloc: Global,
+        image: &'a Image,
+        stim: &'a Stimulus,
+        window: u32,
+    ) -> Result<HostPort<'a>, Memory>
         requires image { IsWellFormed image.now }
         requires stimulus { IsValidStimulus stim.now }
         requires columns { stim.now.columns ≡ image.now.columns }
-        ensures { IfOk result (λ made. made ≡ at_first image.now stim.now (host_of image.now)) }
+        requires some { 1 ≤ window }
+        ensures { IfOk result (λ made. made ≡ host_at_first image.now stim.now window) }
     {
         let port = image.ports.len() - 1;
         let seat = &image.ports.as_slice()[port];
@@ -60,7 +69,7 @@ impl<'a> HostPort<'a> {
             Work::Logic { .. } => unreachable!(),
             Work::Array { .. } => unreachable!(),
             Work::Host { inputs, printed } => {
-                let cells = room(alloc, stim.cycles(), printed.len())?;
+                let cells = room(alloc, window, printed.len())?;
                 let bank = Bank::new(alloc, image, stim, port as u32)?;
                 Ok(HostPort {
                     bank,
@@ -69,6 +78,8 @@ impl<'a> HostPort<'a> {
                     inputs: inputs.as_slice(),
                     printed: printed.as_slice(),
                     progress: begin(stim),
+                    window,
+                    first_row: 0,
                     cells,
                 })
             }
@@ -77,7 +88,7 @@ impl<'a> HostPort<'a> {
 
     /// The slot of the next item of this turn, and `None` where all are executed.
     pub fn next_slot(&self) -> Option<u32>
-        ensures { result ≡ next_item self.now }
+        ensures { result ≡ next_item self.now.port }
     {
         match self.inputs.get(self.bank.executed()) {
             Some(input) => Some(input.slot),
@@ -87,24 +98,24 @@ impl<'a> HostPort<'a> {
 
     /// What the port receives next in this turn, and `None` where it has received all.
     pub fn next_link(&self) -> Option<LinkIn>
-        ensures { result ≡ next_link self.now }
+        ensures { result ≡ next_link self.now.port }
     {
         self.bank.next_link()
     }
 
     /// Begins a turn.
     pub fn begin_turn(&mut self)
-        requires { CanBegin self.old }
-        ensures { self.new ≡ after_begin self.old }
+        requires { CanBegin self.old.port }
+        ensures { self.new ≡ moved_to self.old (after_begin self.old.port) }
     {
         self.bank.begin_turn();
     }
 
     /// Executes the item in a slot, and answers its value: that of its input in this cycle.
     pub fn execute(&mut self, slot: u32) -> V4
-        requires { CanExecute self.old slot }
-        ensures value { result ≡ value_in self.old slot }
-        ensures view { self.new ≡ after_execute self.old }
+        requires { CanExecute self.old.port slot }
+        ensures value { result ≡ value_in self.old.port slot }
+        ensures view { self.new ≡ moved_to self.old (after_execute self.old.port) }
     {
         let input = self.inputs[self.bank.executed()];
         let value = input_value(self.stim, self.progress.cursor, input.column);
@@ -114,21 +125,25 @@ impl<'a> HostPort<'a> {
 
     /// Receives the value that is sent in a slot.
     pub fn receive(&mut self, slot: u32, v: V4)
-        requires { CanReceive self.old slot v }
-        ensures { self.new ≡ after_receive self.old }
+        requires { CanReceive self.old.port slot v }
+        ensures { self.new ≡ moved_to self.old (after_receive self.old.port) }
     {
         self.bank.receive(slot, v);
     }
 
-    /// Ends the turn. After the last turn of a cycle the host keeps the row that is printed.
+    /// Ends the turn. After the last turn of a cycle the host keeps the row that is printed, for which it
+    /// has to have room.
     pub fn end_turn(&mut self)
-        requires { CanEnd self.old }
-        ensures { self.new ≡ after_end self.old }
+        requires end { CanEnd self.old.port }
+        requires room { HasRoom self.old }
+        ensures { self.new ≡ moved_to self.old (after_end self.old.port) }
     {
+        let rows = self.progress.rows - self.first_row;
         keep_row(
             &mut self.cells,
             self.units,
-            self.progress,
+            self.progress.unit,
+            rows,
             self.printed,
             &self.bank,
         );
@@ -136,23 +151,38 @@ impl<'a> HostPort<'a> {
         self.bank.end_turn();
     }
 
+    /// Gives up all rows that are done, so that there is room for others.
+    pub fn give_up(&mut self)
+        ensures { self.new ≡ given_up self.old }
+    {
+        self.first_row = self.progress.rows;
+    }
+
     /// The number of cycles that are over, each of which has its row.
     pub fn rows_done(&self) -> u32
-        ensures { result ≡ rows_done self.now }
+        ensures { result ≡ rows_done self.now.port }
     {
         self.progress.rows
     }
 
-    /// The row of a cycle, counted from 1: what each printed source had at its last turn.
+    /// The number of rows that are given up: those of the first cycles.
+    pub fn first_row(&self) -> u32
+        ensures { result ≡ self.now.first_row }
+    {
+        self.first_row
+    }
+
+    /// The row of a cycle, counted from 1, that is done and not given up: what each printed source had at
+    /// its last turn.
     pub fn cells(&self, cycle: u32) -> &[V4]
-        requires some { 1 ≤ cycle }
-        requires done { cycle ≤ rows_done self.now }
-        ensures long { length result.now ≡ length (printed_sources self.now.image) }
+        requires kept { self.now.first_row < cycle }
+        requires done { cycle ≤ rows_done self.now.port }
+        ensures long { length result.now ≡ length (printed_sources self.now.port.image) }
         ensures cells { (j : ℕ) → j < length result.now
-            → value_at result.now j ≡ shown self.now.image self.now.stimulus cycle j }
+            → value_at result.now j ≡ shown self.now.port.image self.now.port.stimulus cycle j }
     {
         let width = self.printed.len();
-        let start = row_start(cycle - 1, width, self.cells.len());
+        let start = row_start(cycle - 1 - self.first_row, width, self.cells.len());
         row(self.cells.as_slice(), start, width)
     }
 }

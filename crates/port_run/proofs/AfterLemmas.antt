@@ -191,10 +191,10 @@ module _ (words : List ℕ) (views : List View) (id p : ℕ) (old : View) (kept 
           | inr t ↦ absurd (other_port (now.owner p) p has.view t.1 has.port_is t.0 refl)
         ]
 
-    pub after_there : (event : Event) → IsEvent (pass_in table p old) event (pass_in table p new) → (core : IsCoreEvent (pass_in table p old) event (pass_in table p new) state)
+    pub after_there : (until : ℕ) (event : Event) → IsEvent until (pass_in table p old) event (pass_in table p new) → (core : IsCoreEvent (turns_of old.image old.stimulus) (pass_in table p old) event (pass_in table p new) state)
         → (is_look event ≡ true → set words word number ≡ words) → told_in old.image (set words word number) new.last.word ≡ new.last.number
         → IsStateIn old.image old.stimulus old.banks (set words word number) (set views id new) core.after
-    after_there event made core still told =
+    after_there until event made core still told =
         let seat : PortImage = core.step.seat in
         let at : IsPort old.image p seat = core.step.is in
         let makes : Makes seat (pass_in table p old) (pass_in table p new) event = subst (λ s. Makes s (pass_in table p old) (pass_in table p new) event) (same_port old.image p made.seat seat made.is at) made.makes in

@@ -1,5 +1,5 @@
 -- Each step of a running port is the core's, by the number that it found.
-use Rattle.std.proofs.Common.{ap, ap₂, arith, eq-eqb, false, inl, inr, length, mod-lt, refl, subst, sym, true, ℕ, ◌%◌, ◌*◌, ◌+◌, ◌<◌, ◌∙◌, ◌≡◌, ◌≤◌}
+use Rattle.std.proofs.Common.{ap, arith, inl, inr, length, mod-lt, refl, subst, sym, true, ℕ, ◌%◌, ◌*◌, ◌+◌, ◌<◌, ◌∙◌, ◌≡◌, ◌≤◌}
 use Rattle.logic_four.specs.Values.{code_of}
 use Rattle.image_defs.specs.Frames.{image_value}
 use Rattle.image_defs.specs.Places.{IsPort, Stands}
@@ -11,21 +11,20 @@ use Rattle.event_defs.proofs.StampLemmas.{written_here}
 use Rattle.event_defs.specs.Next.{AsksNext, IsNext, PutsNext, ReceivesNext, SendsNext, TellsNext}
 use Rattle.event_defs.specs.Places.{IsSend, after_ask, after_put, after_take, after_tell, known_of}
 use Rattle.event_defs.specs.Row.{send_number, word_place}
-use Rattle.event_defs.specs.Steps.{AskWaits as CoreAskWaits, CoreState, Moves, Reads, TakeWaits as CoreTakeWaits, Waits, stamp_of, updated, written}
+use Rattle.event_defs.specs.Steps.{CoreState, Moves, Reads, Waits, stamp_of, updated, written}
 use Rattle.event_defs.specs.declared.place.Action.{Action}
 use Rattle.event_defs.specs.declared.place.Action.TheVariants as action
 use Rattle.event_defs.specs.declared.place.Event.{Event}
 use Rattle.event_defs.specs.declared.place.Event.TheVariants.{Ask, Put, Take, Tell}
 use Rattle.event_defs.specs.declared.place.Place.{Place}
-use Rattle.event_defs.specs.declared.place.CoreStep.TheVariants.{Moved, NotYet, Done}
+use Rattle.event_defs.specs.declared.place.CoreStep.TheVariants.{NotYet, Done}
 use Rattle.slot_words.proofs.LinkLemmas.{member_at}
 use Rattle.slot_words.proofs.StepLemmas.{same_places}
 use Rattle.port_run.proofs.NextLemmas.{asked_again, asked_in}
 use Rattle.slot_words.specs.Layout.{progress_word, send_word}
-use Rattle.slot_words.specs.Passes.{IsFit, PassView, one_step}
-use Rattle.slot_words.specs.declared.rule.Look.{Look}
+use Rattle.slot_words.specs.Passes.{IsFit, PassView}
 use Rattle.port_run.specs.Core.{IsCoreEvent, IsCoreStep, Shows, StandsIn, is_look}
-use Rattle.port_run.specs.Pairs.{IsDone, until}
+use Rattle.port_run.specs.Pairs.{HasMade}
 use Rattle.port_run.specs.Steps.{AskWaits, HasAsked, HasTaken, IsEvent, IsWait, Looks, Makes, Puts, TakeWaits, Tells, value_there, word_now}
 
 module _ (old : PassView) (fit : IsFit old) (state : CoreState) (stands : StandsIn old state) where
@@ -36,9 +35,9 @@ module _ (old : PassView) (fit : IsFit old) (state : CoreState) (stands : Stands
   placed : (f : Place → Place) (new : PassView) (after : CoreState) → after.place ≡ updated state.place old.port (f (state.place old.port)) → new.place ≡ f old.place → StandsIn (record old { place = new.place }) after
   placed f new after after_is new_is = ap (λ g. g old.port) after_is ∙ (updated_here state.place old.port (f (state.place old.port)) ∙ (ap f stands ∙ sym new_is))
 
-  module _ (seat : PortImage) (is : IsPort old.image old.port seat) (early : old.place.turn ≤ until old) (new : PassView) where
-    event_by : (e : Event) (after : CoreState) → Moves old.image old.banks old.port seat state old.stimulus e after → StandsIn new after → Shows old after new.last → IsCoreEvent old e new state
-    event_by e after moves stands_there shows = record { after = after; step = record { seat = seat; is = is; step = (here (λ a. a.turn ≤ until old) early, moves) }; stands = stands_there; shows = shows }
+  module _ (seat : PortImage) (is : IsPort old.image old.port seat) (turns : ℕ) (early : old.place.turn ≤ turns) (new : PassView) where
+    event_by : (e : Event) (after : CoreState) → Moves old.image old.banks old.port seat state old.stimulus e after → StandsIn new after → Shows old after new.last → IsCoreEvent turns old e new state
+    event_by e after moves stands_there shows = record { after = after; step = record { seat = seat; is = is; step = (here (λ a. a.turn ≤ turns) early, moves) }; stands = stands_there; shows = shows }
 
     -- no progress word is one of a send
     progress_apart : (r p i b : ℕ) → r < length old.image.ports → progress_word r ≡ send_word old.image old.banks p i b → ⊥
@@ -75,7 +74,7 @@ module _ (old : PassView) (fit : IsFit old) (state : CoreState) (stands : Stands
       word = refl;
     }
 
-    asks_event : (reader : ℕ) → HasAsked seat old new reader → Shows old state new.last → IsCoreEvent old (Ask reader) new state
+    asks_event : (reader : ℕ) → HasAsked seat old new reader → Shows old state new.last → IsCoreEvent turns old (Ask reader) new state
     asks_event reader has shows =
         let found = finished_is reader has.asks.next (ap (λ (x : PassView). x.last.word) has.asks.is) shows in
         let after : CoreState = record state { place = updated state.place old.port (after_ask (state.place old.port) reader (state.finished reader)) } in
@@ -119,7 +118,7 @@ module _ (old : PassView) (fit : IsFit old) (state : CoreState) (stands : Stands
       here_is = subst (λ t. word old.port puts.next.i (t % old.banks) ≡ new.last.number) turn_is
           (at_own ∙ (ap (λ t. 4 * t + code_of (image_value old.image old.stimulus t old.port slot)) turn_is ∙ sym (ap (λ (x : PassView). x.last.number) puts.is)))
 
-    puts_event : (slot : ℕ) → Puts seat old new slot → IsCoreEvent old (Put slot) new state
+    puts_event : (slot : ℕ) → Puts seat old new slot → IsCoreEvent turns old (Put slot) new state
     puts_event slot puts =
         let next : PutsNext seat (state.place old.port) old.banks slot = record {
           i = puts.next.i;
@@ -135,7 +134,7 @@ module _ (old : PassView) (fit : IsFit old) (state : CoreState) (stands : Stands
         event_by (Put slot) after (record { next = next; is = refl }) (same_port_stands (ap (λ (x : PassView). x.port) puts.is) after (placed (λ a. after_put a slot) new after refl (ap (λ (x : PassView). x.place) puts.is)))
         (put_shows slot puts after.place)
 
-    takes_event : (slot : ℕ) → HasTaken seat old new slot → Shows old state new.last → IsCoreEvent old (Take slot) new state
+    takes_event : (slot : ℕ) → HasTaken seat old new slot → Shows old state new.last → IsCoreEvent turns old (Take slot) new state
     takes_event slot has shows =
         let found = word_is slot (after_take old.place slot) has.looks shows in
         let after : CoreState = record state { place = updated state.place old.port (after_take (state.place old.port) slot) } in
@@ -157,13 +156,13 @@ module _ (old : PassView) (fit : IsFit old) (state : CoreState) (stands : Stands
       look_word : new.last.word ≡ progress_word old.port
       look_word = ap (λ (x : PassView). x.last.word) tells.is
 
-    tells_event : Tells seat old new → IsCoreEvent old Tell new state
+    tells_event : Tells seat old new → IsCoreEvent turns old Tell new state
     tells_event tells =
         let after : CoreState = record state { place = updated state.place old.port (after_tell (state.place old.port)); finished = updated state.finished old.port (state.place old.port).turn } in
         event_by Tell after (record { next = here (λ a. TellsNext seat a) tells.next; is = refl }) (same_port_stands (ap (λ (x : PassView). x.port) tells.is) after (placed after_tell new after refl (ap (λ (x : PassView). x.place) tells.is)))
         (tell_shows tells after.place)
 
-    made_event : (e : Event) → Makes seat old new e → (is_look e ≡ true → Shows old state new.last) → IsCoreEvent old e new state
+    made_event : (e : Event) → Makes seat old new e → (is_look e ≡ true → Shows old state new.last) → IsCoreEvent turns old e new state
     made_event (Ask reader) makes shows = asks_event reader makes (shows refl)
     made_event (Put slot) makes shows = puts_event slot makes
     made_event (Take slot) makes shows = takes_event slot makes (shows refl)
@@ -192,46 +191,49 @@ module _ (old : PassView) (fit : IsFit old) (state : CoreState) (stands : Stands
           },
         )
 
-pub core_event : (old new : PassView) (e : Event) (state : CoreState) → IsFit old → IsEvent old e new → StandsIn old state → (is_look e ≡ true → Shows old state new.last) → IsCoreEvent old e new state
-core_event old new e state fit made stands shows = made_event old fit state stands made.seat made.is made.early new e made.makes shows
+pub core_event : (until turns : ℕ) (old new : PassView) (e : Event) (state : CoreState) → until ≤ turns → IsFit old → IsEvent until old e new → StandsIn old state → (is_look e ≡ true → Shows old state new.last) → IsCoreEvent turns old e new state
+core_event until turns old new e state few fit made stands shows = made_event old fit state stands made.seat made.is turns (let early = made.early in omega arith) new e made.makes shows
 
-pub core_wait : (old new : PassView) (state : CoreState) → IsFit old → IsWait old new → StandsIn old state → Shows old state new.last → IsCoreStep old state NotYet state
-core_wait old new state fit wait stands shows = record {
+pub core_wait : (until turns : ℕ) (old new : PassView) (state : CoreState) → until ≤ turns → IsFit old → IsWait until old new → StandsIn old state → Shows old state new.last → IsCoreStep turns old state NotYet state
+core_wait until turns old new state few fit wait stands shows = record {
   seat = wait.seat;
   is = wait.is;
   step = (
-    here old fit state stands (λ a. a.turn ≤ until old) wait.early,
+    here old fit state stands (λ a. a.turn ≤ turns) early,
     elim wait.waits [
-      | inl ask ↦ ask_waits old fit state stands wait.seat wait.is wait.early new ask shows
-      | inr take ↦ take_waits old fit state stands wait.seat wait.is wait.early new take shows
+      | inl ask ↦ ask_waits old fit state stands wait.seat wait.is turns early new ask shows
+      | inr take ↦ take_waits old fit state stands wait.seat wait.is turns early new take shows
     ],
     refl,
   );
-}
+} where
+  early : old.place.turn ≤ turns
+  early = let soon = wait.early in omega arith
 
-pub core_done : (pass : PassView) (state : CoreState) → IsFit pass → IsDone pass → StandsIn pass state → IsCoreStep pass state Done state
-core_done pass state fit done stands =
+pub core_done : (turns : ℕ) (pass : PassView) (state : CoreState) → IsFit pass → HasMade turns pass → StandsIn pass state → IsCoreStep turns pass state Done state
+core_done turns pass state fit done stands =
     let seat = member_at pass.image.ports pass.port fit.inside in
-    record { seat = seat.0; is = seat.1; step = (here pass fit state stands (λ a. a.turn ≡ until pass + 1) done, refl) }
+    record { seat = seat.0; is = seat.1; step = (here pass fit state stands (λ a. a.turn ≡ turns + 1) done, refl) }
 
 -- ---- the next event after one that has to wait
 
-module _ (old new : PassView) (seat : PortImage) (fit : IsFit old) (is : IsPort old.image old.port seat) (early : old.place.turn ≤ until old) where
+module _ (until : ℕ) (old new : PassView) (seat : PortImage) (fit : IsFit old) (is : IsPort old.image old.port seat) (early : old.place.turn ≤ until) where
   abbrev Next : PassView → Action → Type 0
-  Next pass a = IsNext seat pass.place pass.banks (until pass) (value_there pass) a
+  Next pass a = IsNext seat pass.place pass.banks until (value_there pass) a
 
   ask_keeps : (a : Action) → AskWaits seat old new → Next old a → Next new a
   ask_keeps a waits next =
-      let same : action.Ask waits.reader ≡ a = one_next old.image fit.runs.image_fits old.port seat is old.place old.banks (until old) (value_there old) (action.Ask waits.reader) a (early, waits.asks.next) next in
+      let same : action.Ask waits.reader ≡ a = one_next old.image fit.runs.image_fits old.port seat is old.place old.banks until (value_there old) (action.Ask waits.reader) a (early, waits.asks.next) next in
       subst (Next new) same (subst (λ x. Next x (action.Ask waits.reader)) (sym waits.asks.is) (early, asked_again old fit seat is waits.reader new.last.number waits.asks.next waits.less))
 
   take_keeps : (a : Action) → TakeWaits seat old new → Next old a → Next new a
   take_keeps a waits next =
-      let same : action.Take waits.slot ≡ a = one_next old.image fit.runs.image_fits old.port seat is old.place old.banks (until old) (value_there old) (action.Take waits.slot) a (early, waits.looks.next) next in
+      let same : action.Take waits.slot ≡ a = one_next old.image fit.runs.image_fits old.port seat is old.place old.banks until (value_there old) (action.Take waits.slot) a (early, waits.looks.next) next in
       subst (Next new) same (subst (λ x. Next x (action.Take waits.slot)) (sym waits.looks.is) (early, waits.looks.next))
 
-pub wait_keeps : (old new : PassView) (seat : PortImage) (a : Action) → IsFit old → IsWait old new → IsPort old.image old.port seat → IsNext seat old.place old.banks (until old) (value_there old) a → IsNext seat new.place new.banks (until new) (value_there new) a
-wait_keeps old new seat a fit wait is next = elim wait.waits [
-  | inl ask ↦ ask_keeps old new seat fit is wait.early a (subst (λ s. AskWaits s old new) (same_port old.image old.port wait.seat seat wait.is is) ask) next
-  | inr take ↦ take_keeps old new seat fit is wait.early a (subst (λ s. TakeWaits s old new) (same_port old.image old.port wait.seat seat wait.is is) take) next
+pub wait_keeps : (until : ℕ) (old new : PassView) (seat : PortImage) (a : Action) → IsFit old → IsWait until old new → IsPort old.image old.port seat → IsNext seat old.place old.banks until (value_there old) a
+    → IsNext seat new.place new.banks until (value_there new) a
+wait_keeps until old new seat a fit wait is next = elim wait.waits [
+  | inl ask ↦ ask_keeps until old new seat fit is wait.early a (subst (λ s. AskWaits s old new) (same_port old.image old.port wait.seat seat wait.is is) ask) next
+  | inr take ↦ take_keeps until old new seat fit is wait.early a (subst (λ s. TakeWaits s old new) (same_port old.image old.port wait.seat seat wait.is is) take) next
 ]

@@ -17,7 +17,6 @@ use Rattle.event_defs.specs.declared.place.Event.TheVariants.{Ask, Put, Take, Te
 use Rattle.event_defs.specs.declared.place.Place.{Place}
 use Rattle.slot_words.specs.Layout.{progress_word}
 use Rattle.slot_words.specs.Passes.{IsFit, PassView, one_step}
-use Rattle.port_run.specs.Pairs.{until}
 use Rattle.port_run.specs.Steps.{AskWaits, IsEvent, IsShort, IsWait, Makes, TakeWaits, value_there, word_now}
 
 -- the words of sends stand behind those of ports
@@ -39,11 +38,11 @@ action_of pass (Put slot) = action.Put slot (value_there pass slot)
 action_of pass (Take slot) = action.Take slot
 action_of pass Tell = action.Tell
 
-module _ (old new : PassView) (fit : IsFit old) where
+module _ (until : ℕ) (old new : PassView) (fit : IsFit old) where
   abbrev Next : PortImage → Action → Type 0
-  Next seat a = IsNext seat old.place old.banks (until old) (value_there old) a
+  Next seat a = IsNext seat old.place old.banks until (value_there old) a
 
-  makes_next : (seat : PortImage) (e : Event) → old.place.turn ≤ until old → Makes seat old new e → Next seat (action_of old e)
+  makes_next : (seat : PortImage) (e : Event) → old.place.turn ≤ until → Makes seat old new e → Next seat (action_of old e)
   makes_next seat (Ask reader) early makes = (early, makes.asks.next)
   makes_next seat (Put slot) early makes = (early, makes.next, refl)
   makes_next seat (Take slot) early makes = (early, makes.looks.next)
@@ -51,23 +50,23 @@ module _ (old new : PassView) (fit : IsFit old) where
 
   one : (seat other : PortImage) (a b : Action) → IsPort old.image old.port seat → IsPort old.image old.port other → Next seat a → Next other b → a ≡ b
   one seat other a b is other_is next other_next =
-      one_next old.image fit.runs.image_fits old.port seat is old.place old.banks (until old) (value_there old) a b next
+      one_next old.image fit.runs.image_fits old.port seat is old.place old.banks until (value_there old) a b next
       (subst (λ s. Next s b) (same_port old.image old.port other seat other_is is) other_next)
 
-  ask_not_waits : (e : Event) (seat other : PortImage) → IsPort old.image old.port seat → IsPort old.image old.port other → old.place.turn ≤ until old → Makes seat old new e → AskWaits other old new → ⊥
+  ask_not_waits : (e : Event) (seat other : PortImage) → IsPort old.image old.port seat → IsPort old.image old.port other → old.place.turn ≤ until → Makes seat old new e → AskWaits other old new → ⊥
   ask_not_waits (Ask reader) seat other is other_is early makes waits = let enough = makes.enough in let less = waits.less in absurd (omega arith)
   ask_not_waits (Put slot) seat other is other_is early makes waits = let e : action.Put slot (value_there old slot) ≡ action.Ask waits.reader = one seat other (action.Put slot (value_there old slot)) (action.Ask waits.reader) is other_is (makes_next seat (Put slot) early makes) (early, waits.asks.next) in cc
   ask_not_waits (Take slot) seat other is other_is early makes waits = let e : action.Take slot ≡ action.Ask waits.reader = one seat other (action.Take slot) (action.Ask waits.reader) is other_is (makes_next seat (Take slot) early makes) (early, waits.asks.next) in cc
   ask_not_waits Tell seat other is other_is early makes waits = let e : action.Tell ≡ action.Ask waits.reader = one seat other (action.Tell) (action.Ask waits.reader) is other_is (makes_next seat Tell early makes) (early, waits.asks.next) in cc
 
-  take_not_waits : (e : Event) (seat other : PortImage) → IsPort old.image old.port seat → IsPort old.image old.port other → old.place.turn ≤ until old → Makes seat old new e → TakeWaits other old new → ⊥
+  take_not_waits : (e : Event) (seat other : PortImage) → IsPort old.image old.port seat → IsPort old.image old.port other → old.place.turn ≤ until → Makes seat old new e → TakeWaits other old new → ⊥
   take_not_waits (Ask reader) seat other is other_is early makes waits = let e : action.Ask reader ≡ action.Take waits.slot = one seat other (action.Ask reader) (action.Take waits.slot) is other_is (makes_next seat (Ask reader) early makes) (early, waits.looks.next) in cc
   take_not_waits (Put slot) seat other is other_is early makes waits = let e : action.Put slot (value_there old slot) ≡ action.Take waits.slot = one seat other (action.Put slot (value_there old slot)) (action.Take waits.slot) is other_is (makes_next seat (Put slot) early makes) (early, waits.looks.next) in cc
   take_not_waits (Take slot) seat other is other_is early makes waits = let now = makes.now in let less = waits.less in absurd (omega arith)
   take_not_waits Tell seat other is other_is early makes waits = let e : action.Tell ≡ action.Take waits.slot = one seat other (action.Tell) (action.Take waits.slot) is other_is (makes_next seat Tell early makes) (early, waits.looks.next) in cc
 
   -- what has to wait is no event
-  pub event_not_wait : (e : Event) → IsEvent old e new → IsWait old new → ⊥
+  pub event_not_wait : (e : Event) → IsEvent until old e new → IsWait until old new → ⊥
   event_not_wait e made wait = elim wait.waits [
     | inl ask ↦ ask_not_waits e made.seat wait.seat made.is wait.is made.early made.makes ask
     | inr take ↦ take_not_waits e made.seat wait.seat made.is wait.is made.early made.makes take
@@ -89,33 +88,33 @@ module _ (old : PassView) (fit : IsFit old) (seat : PortImage) (is : IsPort old.
     room : reader < length old.place.known
     room = let wide = fit.wide in let low = asked_in old fit seat is old.place old.banks reader asks in omega arith
 
-  ask_short : (new : PassView) → old.place.turn ≤ until old → AskWaits seat old new → IsShort new
-  ask_short new early waits = subst IsShort (sym waits.asks.is) (record {
+  ask_short : (until : ℕ) (new : PassView) → old.place.turn ≤ until → AskWaits seat old new → IsShort until new
+  ask_short until new early waits = subst (IsShort until) (sym waits.asks.is) (record {
     seat = seat;
     is = is;
     early = early;
     short = inl (record { reader = waits.reader; next = asked_again waits.reader new.last.number waits.asks.next waits.less; word = refl; less = waits.less });
   })
 
-  take_short : (new : PassView) → old.place.turn ≤ until old → TakeWaits seat old new → IsShort new
-  take_short new early waits = subst IsShort (sym waits.looks.is) (record {
+  take_short : (until : ℕ) (new : PassView) → old.place.turn ≤ until → TakeWaits seat old new → IsShort until new
+  take_short until new early waits = subst (IsShort until) (sym waits.looks.is) (record {
     seat = seat;
     is = is;
     early = early;
     short = inr (record { slot = waits.slot; next = waits.looks.next; i = waits.looks.i; source = record { sent = waits.looks.source.sent; send = waits.looks.source.send; same_slot = waits.looks.source.same_slot }; word = refl; less = waits.less });
   })
 
-pub wait_short : (old new : PassView) → IsFit old → IsWait old new → IsShort new
-wait_short old new fit wait = elim wait.waits [
-  | inl ask ↦ ask_short old fit wait.seat wait.is new wait.early ask
-  | inr take ↦ take_short old fit wait.seat wait.is new wait.early take
+pub wait_short : (until : ℕ) (old new : PassView) → IsFit old → IsWait until old new → IsShort until new
+wait_short until old new fit wait = elim wait.waits [
+  | inl ask ↦ ask_short old fit wait.seat wait.is until new wait.early ask
+  | inr take ↦ take_short old fit wait.seat wait.is until new wait.early take
 ]
 
 -- ---- nothing is short after an event
 
-module _ (old : PassView) (fit : IsFit old) where
+module _ (until : ℕ) (old : PassView) (fit : IsFit old) where
   -- a step that looked at a word of a send, or wrote one
-  sent_not_short : (place : Place) (p i n : ℕ) → length place.known ≡ length old.place.known → place.turn ≡ old.place.turn → old.place.turn ≤ stamp_of n → IsShort (one_step old place (word_now old p i) n) → ⊥
+  sent_not_short : (place : Place) (p i n : ℕ) → length place.known ≡ length old.place.known → place.turn ≡ old.place.turn → old.place.turn ≤ stamp_of n → IsShort until (one_step old place (word_now old p i) n) → ⊥
   sent_not_short place p i n wide turn stamp short = elim short.short [
     | inl ask ↦
         let fits : IsFit (one_step old place (word_now old p i) n) = record { runs = fit.runs; inside = fit.inside; wide = wide ∙ fit.wide } in
@@ -124,24 +123,24 @@ module _ (old : PassView) (fit : IsFit old) where
   ]
 
   -- a step that looked at a progress word, or wrote one
-  told_not_short : (place : Place) (r n : ℕ) → r < length old.image.ports → place.turn ≤ n + old.banks → IsShort (one_step old place (progress_word r) n) → ⊥
+  told_not_short : (place : Place) (r n : ℕ) → r < length old.image.ports → place.turn ≤ n + old.banks → IsShort until (one_step old place (progress_word r) n) → ⊥
   told_not_short place r n inside enough short = elim short.short [
     | inl ask ↦ let less = ask.less in absurd (omega arith)
     | inr take ↦ past_ports (one_step old place (progress_word r) n) take.next.link.sender take.i r inside (sym take.word)
   ]
 
   module _ (new : PassView) (seat : PortImage) (is : IsPort old.image old.port seat) where
-    makes_not_short : (e : Event) → Makes seat old new e → IsShort new → ⊥
+    makes_not_short : (e : Event) → Makes seat old new e → IsShort until new → ⊥
     makes_not_short (Ask reader) makes short =
-        told_not_short (after_ask old.place reader new.last.number) reader new.last.number (asked_in old fit seat is old.place old.banks reader makes.asks.next) makes.enough (subst IsShort makes.asks.is short)
+        told_not_short (after_ask old.place reader new.last.number) reader new.last.number (asked_in old fit seat is old.place old.banks reader makes.asks.next) makes.enough (subst (IsShort until) makes.asks.is short)
     makes_not_short (Put slot) makes short =
         let stamp = stamp_in old.place.turn (value_there old slot) in
-        sent_not_short (after_put old.place slot) old.port makes.next.i (4 * old.place.turn + code_of (value_there old slot)) refl refl (subst (λ k. old.place.turn ≤ k) (sym stamp) (omega arith)) (subst IsShort makes.is short)
+        sent_not_short (after_put old.place slot) old.port makes.next.i (4 * old.place.turn + code_of (value_there old slot)) refl refl (subst (λ k. old.place.turn ≤ k) (sym stamp) (omega arith)) (subst (IsShort until) makes.is short)
     makes_not_short (Take slot) makes short =
-        sent_not_short (after_take old.place slot) makes.looks.next.link.sender makes.looks.i new.last.number refl refl (subst (λ k. old.place.turn ≤ k) (sym makes.now) (omega arith)) (subst IsShort makes.looks.is short)
+        sent_not_short (after_take old.place slot) makes.looks.next.link.sender makes.looks.i new.last.number refl refl (subst (λ k. old.place.turn ≤ k) (sym makes.now) (omega arith)) (subst (IsShort until) makes.looks.is short)
     makes_not_short Tell makes short =
         let some = fit.runs.some in
-        told_not_short (after_tell old.place) old.port old.place.turn fit.inside (omega arith) (subst IsShort makes.is short)
+        told_not_short (after_tell old.place) old.port old.place.turn fit.inside (omega arith) (subst (IsShort until) makes.is short)
 
-pub event_not_short : (old new : PassView) → IsFit old → (e : Event) → IsEvent old e new → IsShort new → ⊥
-event_not_short old new fit e made = makes_not_short old fit new made.seat made.is e made.makes
+pub event_not_short : (until : ℕ) (old new : PassView) → IsFit old → (e : Event) → IsEvent until old e new → IsShort until new → ⊥
+event_not_short until old new fit e made = makes_not_short until old fit new made.seat made.is e made.makes

@@ -1,5 +1,5 @@
 -- The states of a crossbar are sound states of a core, and steps of ports are events there.
-use Rattle.std.proofs.Common.{List, Some, ap, inl, inr, length, refl, set, subst, sym, true, ℕ, ◌+◌, ◌∙◌, ◌≡◌}
+use Rattle.std.proofs.Common.{List, Some, ap, inl, inr, length, refl, set, subst, sym, true, ℕ, ◌+◌, ◌∙◌, ◌≡◌, ◌≤◌}
 use mathlib.Core.Option.{some}
 use lib.ListN.{get_elem?}
 use Rattle.event_defs.specs.Steps.{CoreState}
@@ -14,7 +14,7 @@ use Rattle.slot_words.proofs.SoundLemmas.{rule_sound}
 use Rattle.slot_words.proofs.StepLemmas.{sent_read}
 use Rattle.slot_words.specs.Layout.{told_in}
 use Rattle.slot_words.specs.Passes.{IsFit, PassView}
-use Rattle.slot_words.specs.Rule.{ArePassesSound, IsKept, IsPassOf, Kept}
+use Rattle.slot_words.specs.Rule.{ArePassesSound, IsKept, IsPassOf, Kept, turns_of}
 use Rattle.slot_words.specs.declared.rule.Key.{Key}
 use Rattle.slot_words.specs.declared.rule.Look.{Look}
 use Rattle.slot_words.specs.declared.rule.View.{View}
@@ -29,14 +29,14 @@ state_there key s kept =
     (_, record { sound = sound.sound; finished = λ r low. refl; word = refl; stands = λ id p v at port_is. sym (sound.places id p v at port_is).1 })
 
 -- an event is a counted step, and so is what has to wait
-event_counted : (old : PassView) (event : Event) (new : PassView) → IsEvent old event new → new.steps ≡ old.steps + 1
-event_counted old (Ask reader) new made = ap (λ (pass : PassView). pass.steps) made.makes.asks.is
-event_counted old (Put slot) new made = ap (λ (pass : PassView). pass.steps) made.makes.is
-event_counted old (Take slot) new made = ap (λ (pass : PassView). pass.steps) made.makes.looks.is
-event_counted old Tell new made = ap (λ (pass : PassView). pass.steps) made.makes.is
+event_counted : (until : ℕ) (old : PassView) (event : Event) (new : PassView) → IsEvent until old event new → new.steps ≡ old.steps + 1
+event_counted until old (Ask reader) new made = ap (λ (pass : PassView). pass.steps) made.makes.asks.is
+event_counted until old (Put slot) new made = ap (λ (pass : PassView). pass.steps) made.makes.is
+event_counted until old (Take slot) new made = ap (λ (pass : PassView). pass.steps) made.makes.looks.is
+event_counted until old Tell new made = ap (λ (pass : PassView). pass.steps) made.makes.is
 
-wait_counted : (old new : PassView) → IsWait old new → new.steps ≡ old.steps + 1
-wait_counted old new wait = elim wait.waits [
+wait_counted : (until : ℕ) (old new : PassView) → IsWait until old new → new.steps ≡ old.steps + 1
+wait_counted until old new wait = elim wait.waits [
   | inl ask ↦ ap (λ (pass : PassView). pass.steps) ask.asks.is
   | inr take ↦ ap (λ (pass : PassView). pass.steps) take.looks.is
 ]
@@ -72,16 +72,16 @@ module _ (words : List ℕ) (views : List View) (id p : ℕ) (old : View) (table
     still_shown : new.steps ≡ old.steps + 1 → set words word number ≡ words → Shows (pass_in table p old) state new.last
     still_shown counted still = shown new.last (subst (λ ws. told_in old.image ws new.last.word ≡ new.last.number) still (told counted))
 
-    event_in : (event : Event) → IsEvent (pass_in table p old) event (pass_in table p new) → (is_look event ≡ true → set words word number ≡ words)
-        → (core : IsCoreEvent (pass_in table p old) event (pass_in table p new) state) × IsStateIn old.image old.stimulus old.banks (set words word number) (set views id new) core.after
-    event_in event made still =
-        let counted : new.steps ≡ old.steps + 1 = event_counted (pass_in table p old) event (pass_in table p new) made in
-        let core : IsCoreEvent (pass_in table p old) event (pass_in table p new) state =
-        core_event (pass_in table p old) (pass_in table p new) event state fits made (is.stands id p old there port_is) (λ looks. still_shown counted (still looks)) in
-        (core, after_there words views id p old kept there port_is state is table word number new after event made core still (told counted))
+    event_in : (until : ℕ) (event : Event) → until ≤ turns_of old.image old.stimulus → IsEvent until (pass_in table p old) event (pass_in table p new) → (is_look event ≡ true → set words word number ≡ words)
+        → (core : IsCoreEvent (turns_of old.image old.stimulus) (pass_in table p old) event (pass_in table p new) state) × IsStateIn old.image old.stimulus old.banks (set words word number) (set views id new) core.after
+    event_in until event few made still =
+        let counted : new.steps ≡ old.steps + 1 = event_counted until (pass_in table p old) event (pass_in table p new) made in
+        let core : IsCoreEvent (turns_of old.image old.stimulus) (pass_in table p old) event (pass_in table p new) state =
+        core_event until (turns_of old.image old.stimulus) (pass_in table p old) (pass_in table p new) event state few fits made (is.stands id p old there port_is) (λ looks. still_shown counted (still looks)) in
+        (core, after_there words views id p old kept there port_is state is table word number new after until event made core still (told counted))
 
-    wait_in : IsWait (pass_in table p old) (pass_in table p new) → set words word number ≡ words → IsCoreStep (pass_in table p old) state NotYet state
-    wait_in wait still = core_wait (pass_in table p old) (pass_in table p new) state fits wait (is.stands id p old there port_is) (still_shown (wait_counted (pass_in table p old) (pass_in table p new) wait) still)
+    wait_in : (until : ℕ) → until ≤ turns_of old.image old.stimulus → IsWait until (pass_in table p old) (pass_in table p new) → set words word number ≡ words → IsCoreStep (turns_of old.image old.stimulus) (pass_in table p old) state NotYet state
+    wait_in until few wait still = core_wait until (turns_of old.image old.stimulus) (pass_in table p old) (pass_in table p new) state few fits wait (is.stands id p old there port_is) (still_shown (wait_counted until (pass_in table p old) (pass_in table p new) wait) still)
 
 -- ---- by the key
 
@@ -111,11 +111,11 @@ module _ (key : Key) (s : State (Unit {0}) View) (id p : ℕ) (old : View) (tabl
       (subst (λ b. IsKept key.image.value key.stimulus.value b words views) (sym same.2) new))
 
   module _ (word number : ℕ) (held : List (ℕ × Unit {0})) (new : View) (act : Act (Unit {0})) (state : CoreState) (after : Kept key (stepped s word number id held new act)) (is : IsStateOf key s state) where
-    pub event_there : (event : Event) → IsEvent (pass_in table p old) event (pass_in table p new) → (is_look event ≡ true → set s.words word number ≡ s.words)
-        → (core : IsCoreEvent (pass_in table p old) event (pass_in table p new) state) × IsStateOf key (stepped s word number id held new act) core.after
-    event_there event made still =
-        let both = event_in s.words s.views id p old table (kept_in s.words s.views kept) there port_is state (state_in state is) word number new (kept_in (set s.words word number) (set s.views id new) after) event made still in
+    pub event_there : (until : ℕ) (event : Event) → until ≤ turns_of old.image old.stimulus → IsEvent until (pass_in table p old) event (pass_in table p new) → (is_look event ≡ true → set s.words word number ≡ s.words)
+        → (core : IsCoreEvent (turns_of old.image old.stimulus) (pass_in table p old) event (pass_in table p new) state) × IsStateOf key (stepped s word number id held new act) core.after
+    event_there until event few made still =
+        let both = event_in s.words s.views id p old table (kept_in s.words s.views kept) there port_is state (state_in state is) word number new (kept_in (set s.words word number) (set s.views id new) after) until event few made still in
         (both.0, state_of (stepped s word number id held new act) both.0.after both.1)
 
-    pub wait_there : IsWait (pass_in table p old) (pass_in table p new) → set s.words word number ≡ s.words → IsCoreStep (pass_in table p old) state NotYet state
-    wait_there wait still = wait_in s.words s.views id p old table (kept_in s.words s.views kept) there port_is state (state_in state is) word number new (kept_in (set s.words word number) (set s.views id new) after) wait still
+    pub wait_there : (until : ℕ) → until ≤ turns_of old.image old.stimulus → IsWait until (pass_in table p old) (pass_in table p new) → set s.words word number ≡ s.words → IsCoreStep (turns_of old.image old.stimulus) (pass_in table p old) state NotYet state
+    wait_there until few wait still = wait_in s.words s.views id p old table (kept_in s.words s.views kept) there port_is state (state_in state is) word number new (kept_in (set s.words word number) (set s.views id new) after) until few wait still

@@ -20,7 +20,6 @@ use Rattle.slot_words.specs.Rule.{turns_of}
 use Rattle.slot_words.specs.declared.rule.Key.{Key}
 use Rattle.slot_words.specs.declared.rule.Look.{Look}
 use Rattle.slot_words.specs.declared.rule.View.{View}
-use Rattle.port_run.specs.Pairs.{until}
 
 -- in this state of a core the word of the look has the number that the look found
 pub record Shows (pass : PassView) (state : CoreState) (look : Look) : Type 0 where
@@ -38,17 +37,17 @@ is_look Tell = false
 abbrev pub StandsIn : PassView → CoreState → Type 0
 StandsIn pass state = state.place pass.port ≡ pass.place
 
--- this is the core's step of the pass's port
-pub record IsCoreStep (pass : PassView) (state : CoreState) (answer : CoreStep) (after : CoreState) : Type 0 where
+-- this is the core's step of the pass's port, in a run that has this last turn
+pub record IsCoreStep (turns : ℕ) (pass : PassView) (state : CoreState) (answer : CoreStep) (after : CoreState) : Type 0 where
   pub seat : PortImage
   pub is : IsPort pass.image pass.port seat
-  pub step : IsStep pass.image pass.stimulus pass.banks (until pass) pass.port seat state answer after
+  pub step : IsStep pass.image pass.stimulus pass.banks turns pass.port seat state answer after
 
 -- the core makes the same event; its port stands afterwards where the pass does, and the word of the pass's last
 -- step, which the event read or wrote, has the number that it found or left there
-pub record IsCoreEvent (old : PassView) (event : Event) (new : PassView) (state : CoreState) : Type 0 where
+pub record IsCoreEvent (turns : ℕ) (old : PassView) (event : Event) (new : PassView) (state : CoreState) : Type 0 where
   pub after : CoreState
-  pub step : IsCoreStep old state (Moved event) after
+  pub step : IsCoreStep turns old state (Moved event) after
   pub stands : StandsIn new after
   pub shows : Shows old after new.last
 

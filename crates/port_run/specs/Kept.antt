@@ -1,12 +1,13 @@
 -- What holds of the fields of a running port.
 use Rattle.std.specs.Prelude.{◌≡◌}
-use Rattle.slot_words.specs.Passes.{PassView}
-use Rattle.port_run.specs.Pairs.{placed}
+use Rattle.port_walk.specs.Placed.{block_end}
+use Rattle.port_run.specs.Pairs.{RunView, placed}
 use Rattle.port_run.specs.declared.running.Running.TheInside.{Inside}
 
-abbrev pub pass_in : Inside → PassView
-pass_in a = a.pass
+abbrev pub view_of : Inside → RunView
+view_of a = record { pass = a.pass; window = a.port.window; first_row = a.port.first_row; until = a.port.until }
 
--- the port is at the place of the pass
+-- the port is at the place of the pass, and its block is one of its image and stimulus
 pub record IsKept (a : Inside) : Type 0 where
-  pub port : a.port ≡ placed a.pass
+  pub port : a.port ≡ placed (view_of a)
+  pub until : a.port.until ≡ block_end a.pass.image a.pass.stimulus a.port.first_row a.port.window

@@ -19,7 +19,8 @@ use Rattle.crew_run.specs.declared.stepper.Step.{Step}
 use Rattle.crew_run.specs.declared.stepper.Step.TheVariants.{Done, Moved, NotYet}
 use Rattle.slot_words.specs.Layout.{progress_word, send_word}
 use Rattle.slot_words.specs.Passes.{IsFit, PassView, one_step}
-use Rattle.port_run.specs.Pairs.{IsDone, until}
+use Rattle.slot_words.specs.Rule.{turns_of}
+use Rattle.port_run.specs.Pairs.{HasMade}
 
 -- what the image has in a slot of the pass's port in its turn
 abbrev pub value_there : PassView → ℕ → V4
@@ -91,25 +92,25 @@ module _ (seat : PortImage) (old new : PassView) where
 
 -- ---- steps
 
--- one event leads from the first to the second
-pub record IsEvent (old : PassView) (event : Event) (new : PassView) : Type 0 where
+-- one event leads from the first to the second, in a turn up to this last one
+pub record IsEvent (until : ℕ) (old : PassView) (event : Event) (new : PassView) : Type 0 where
   pub seat : PortImage
   pub is : IsPort old.image old.port seat
-  pub early : old.place.turn ≤ until old
+  pub early : old.place.turn ≤ until
   pub makes : Makes seat old new event
 
--- its next event is an Ask or a Take that has to wait, and one look was made
-pub record IsWait (old new : PassView) : Type 0 where
+-- its next event is an Ask or a Take that has to wait, and one look was made, in a turn up to this last one
+pub record IsWait (until : ℕ) (old new : PassView) : Type 0 where
   pub seat : PortImage
   pub is : IsPort old.image old.port seat
-  pub early : old.place.turn ≤ until old
+  pub early : old.place.turn ≤ until
   pub waits : AskWaits seat old new ⊎ TakeWaits seat old new
 
--- what comes of a step
-abbrev pub IsStepOf : PassView → Step → PassView → Type 0
-IsStepOf old Moved new = (event : Event) × IsEvent old event new
-IsStepOf old NotYet new = IsWait old new
-IsStepOf old Done new = IsDone old × (new ≡ old)
+-- what comes of a step in a block that has this last turn
+abbrev pub IsStepOf : ℕ → PassView → Step → PassView → Type 0
+IsStepOf until old Moved new = (event : Event) × IsEvent until old event new
+IsStepOf until old NotYet new = IsWait until old new
+IsStepOf until old Done new = HasMade until old × (new ≡ old)
 
 -- the event ends the turn
 abbrev pub ends_turn : Event → Bool
@@ -137,21 +138,22 @@ module _ (seat : PortImage) (pass : PassView) where
     pub word : pass.last.word ≡ word_now pass next.link.sender i
     pub less : stamp_of pass.last.number < pass.place.turn
 
--- the last look was that of its next event, which has to wait by what it found
-pub record IsShort (pass : PassView) : Type 0 where
+-- the last look was that of its next event, which has to wait by what it found, in a turn up to this last one
+pub record IsShort (until : ℕ) (pass : PassView) : Type 0 where
   pub seat : PortImage
   pub is : IsPort pass.image pass.port seat
-  pub early : pass.place.turn ≤ until pass
+  pub early : pass.place.turn ≤ until
   pub short : AskIsShort seat pass ⊎ TakeIsShort seat pass
 
 -- ---- within a step
 
--- this is the next event of its place
-pub record IsUpcoming (pass : PassView) (action : Action) : Type 0 where
+-- this is the next event of its place in a block that has this last turn
+pub record IsUpcoming (until : ℕ) (pass : PassView) (action : Action) : Type 0 where
   pub fit : IsFit pass
+  pub few : until ≤ turns_of pass.image pass.stimulus
   pub seat : PortImage
   pub is : IsPort pass.image pass.port seat
-  pub next : IsNext seat pass.place pass.banks (until pass) (value_there pass) action
+  pub next : IsNext seat pass.place pass.banks until (value_there pass) action
 
 -- the answer of an Ask
 abbrev pub IsAnswer : ℕ → ℕ → ℕ → Step → Type 0

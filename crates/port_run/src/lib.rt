@@ -2,9 +2,13 @@
 //! one store of one shared word at a time. What a step does is the core's event of the same port, by the
 //! number that it found in the one word that it looked at.
 //!
-//! To run an image, make its crossbar, pair each pass with the `AnyPort` of its number, and hand each
-//! `Running` with the crossbar to a crew as a `Seated`. Once all are done the host has the rows of all
-//! cycles. That they get done no contract says.
+//! Turns make a cycle, and cycles make a block: a port runs one block after the other, each of at most as many
+//! cycles as its window, and rests at the end of each until `go_on`.
+//!
+//! To run an image, make its crossbar, pair each pass with the `AnyPort` of its number, all of one window, and
+//! hand each `Running` with the crossbar to a crew as a `Seated`. Once all have made the turns of their block
+//! the host has the rows of its cycles, and when all have gone on they are run again. That they get done no
+//! contract says.
 #![tactic(auto)]
 
 pub mod law;

@@ -1,3 +1,4 @@
+pub mod BlockLemmas
 pub mod CursorLemmas
 pub mod KeptLemmas
 pub mod KindLemmas

@@ -1,12 +1,11 @@
 -- From stop to stop: what a port may do there, and what it keeps.
 use Rattle.std.proofs.Common.{◌≡◌, ◌↔◌, inl, inr, ℕ, ◌+◌, ◌<◌, ◌≤◌, Bool, true, false, nat_le, if◌then◌else◌, List, [], ◌∷◌, ◌++◌, length, take, get_or, slice_get, Some, sym, ap, ◌∙◌, subst, refl, arith}
 use Rattle.std.proofs.lemmas.Bool.{cases_lt, le-leb}
-use Rattle.std.proofs.lemmas.Bool.Decides.{leb_tells}
 use Rattle.std.proofs.lemmas.List.{length-map, take_more}
 use Rattle.std.proofs.lemmas.Option.{slice_get_within, slice_get-get_or, slice_get_cases, get_or_from_slice_get}
 use Rattle.list_laws.proofs.Places.{one_there, past_end}
 use Rattle.logic_four.specs.declared.V4.{V4}
-use Rattle.net_defs.specs.Time.{turn_count}
+use Rattle.net_defs.specs.Time.{cycle_count, turn_count}
 use Rattle.net_defs.specs.Valid.{IsValidStimulus}
 use Rattle.image_defs.specs.declared.image.Image.{Image}
 use Rattle.image_defs.specs.declared.image.LinkIn.{LinkIn}
@@ -27,11 +26,12 @@ use Rattle.port_walk.specs.declared.stops.Stop.{Stop}
 use Rattle.port_walk.specs.declared.stops.StopKind.{StopKind}
 use Rattle.port_walk.specs.declared.stops.StopKind.TheVariants.{Send, Receive, End}
 use Rattle.port_walk.specs.Kept.{view_of, inner, IsKept}
-use Rattle.port_walk.specs.Kinds.{view_in, is_host, FitsKind, CanRun, CanEnter, IsLastValue}
-use Rattle.port_walk.specs.Placed.{IsSending, IsReceiving, IsEnding, CanTakeValue, HasPut, HasTaken}
+use Rattle.port_walk.specs.Kinds.{view_in, is_host, rows_in, FitsKind, CanRun, CanEnter, IsLastValue}
+use Rattle.port_walk.specs.Placed.{IsSending, IsReceiving, IsEnding, CanTakeValue, HasPut, HasTaken, block_end}
 use Rattle.port_walk.specs.Rows.{AreReaders}
 use Rattle.port_walk.specs.Stops.{IsFront, IsStop, AreStops, counts, kind_at, slot_at}
 use Rattle.port_walk.proofs.StopLemmas.{tells, counts_more, send_grows, receipt_grows}
+use Rattle.port_walk.proofs.BlockLemmas.{le_late}
 use Rattle.port_walk.proofs.CursorLemmas.{received_before}
 use Rattle.port_walk.proofs.KeptLemmas.{no_stop, outs, ins, good, same_seat, out_places, in_places, is_stop, send_here, receipt_here, end_here}
 
@@ -208,13 +208,17 @@ module _ (a : Inside) (kept : IsKept a) (stop : Stop) (at : slice_get a.stops a.
         subst (λ (v : PortView). i < v.received) (sym inside) got;
   }
 
-  pub kept_after : (kind : Kind) (value : V4) (sent took : ℕ) (next : Stop) → a.turn ≤ a.until → IsAfter sent took next → view_in kind ≡ inner_at next took → is_host kind ≡ is_host a.kind → IsLastValue (view_in kind) value
-      → IsKept (record a { kind = kind; at = a.at + 1; sent = sent; took = took; value = value })
-  kept_after kind value sent took next early after inside host last = record {
+  pub kept_after : (kind : Kind) (value : V4) (sent took : ℕ) (next : Stop) → a.turn ≤ a.until → IsAfter sent took next → view_in kind ≡ inner_at next took → is_host kind ≡ is_host a.kind → rows_in kind ≡ rows_in a.kind
+      → IsLastValue (view_in kind) value → IsKept (record a { kind = kind; at = a.at + 1; sent = sent; took = took; value = value })
+  kept_after kind value sent took next early after inside host rows last = record {
     image = kept.image;
     stimulus = kept.stimulus;
     seat = kept.seat;
     kind = subst (λ b. (b ≡ true) ↔ (a.port + 1 ≡ length a.image.now.ports)) (sym host) kept.kind;
+    rows = λ is. rows ∙ kept.rows (sym host ∙ is);
+    cycles = kept.cycles;
+    some = kept.some;
+    until_is = kept.until_is;
     few = kept.few;
     first = kept.first;
     last = kept.last;
@@ -228,6 +232,7 @@ module _ (a : Inside) (kept : IsKept a) (stop : Stop) (at : slice_get a.stops a.
     inner = inside ∙ ap (λ n. record (inner a n) { received = took }) (sym (ap (λ (v : PortView). v.executed) inside));
     executed = λ _ s there. ap (λ (v : PortView). v.executed) inside ∙ ap (λ (x : Stop). x.items) (one_there a.stops (a.at + 1) (a.at + 1) next s refl after.there there);
     rests = λ late. absurd (omega arith);
+    unmoved = λ late. absurd (omega arith);
     value = last;
   }
 
@@ -321,6 +326,10 @@ pub record IsFresh (b : Inside) : Type 0 where
   pub stimulus : IsValidStimulus b.stim.now
   pub seat : IsPort b.image.now b.port b.seat.now
   pub kind : FitsKind b.image.now b.port b.kind
+  pub rows : is_host b.kind ≡ true → rows_in b.kind ≡ Some (b.window, b.first_row)
+  pub cycles : b.cycles ≡ cycle_count b.stim.now
+  pub some : 1 ≤ b.window
+  pub until_is : b.until ≡ block_end b.image.now b.stim.now b.first_row b.window
   pub few : b.until ≤ turn_count (timing_of b.image.now) b.stim.now
   pub first : 1 ≤ b.turn
   pub last : b.turn ≤ b.until + 1
@@ -342,6 +351,10 @@ kept_fresh b fresh = record {
   stimulus = fresh.stimulus;
   seat = fresh.seat;
   kind = fresh.kind;
+  rows = fresh.rows;
+  cycles = fresh.cycles;
+  some = fresh.some;
+  until_is = fresh.until_is;
   few = fresh.few;
   first = fresh.first;
   last = fresh.last;
@@ -356,14 +369,9 @@ kept_fresh b fresh = record {
   executed = λ early s at.
       let same : fresh.stop ≡ s = one_there b.stops 0 b.at fresh.stop s (sym fresh.at) fresh.there at in
       executed_is ∙ (ap {A = Bool} {B = ℕ} (λ t. if t then fresh.stop.items else 0) (le-leb b.turn b.until early) ∙ ap (λ (x : Stop). x.items) same);
-  rests = λ late. executed_is ∙ ap {A = Bool} {B = ℕ} (λ t. if t then fresh.stop.items else 0) (le_late late);
+  rests = λ late. executed_is ∙ ap {A = Bool} {B = ℕ} (λ t. if t then fresh.stop.items else 0) (le_late b.turn b.until late);
+  unmoved = λ late. fresh.at;
   value = fresh.value;
 } where
   executed_is : (view_in b.kind).executed ≡ (if nat_le b.turn b.until then fresh.stop.items else 0)
   executed_is = ap (λ (v : PortView). v.executed) fresh.entered
-
-  le_late : b.until < b.turn → nat_le b.turn b.until ≡ false
-  le_late late = elim (leb_tells b.turn b.until) [
-    | inl h ↦ let low = h.1 in absurd (omega arith)
-    | inr h ↦ h.0
-  ]

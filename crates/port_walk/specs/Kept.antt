@@ -1,6 +1,6 @@
 -- What a port with its place keeps: it has executed all items up to its next stop, and no others.
-use Rattle.std.specs.Prelude.{◌≡◌, ℕ, ◌+◌, ◌<◌, ◌≤◌, nat_le, take, length, Some, slice_get}
-use Rattle.net_defs.specs.Time.{turn_count}
+use Rattle.std.specs.Prelude.{◌≡◌, ℕ, ◌+◌, ◌<◌, ◌≤◌, nat_le, take, length, true, Some, slice_get}
+use Rattle.net_defs.specs.Time.{cycle_count, turn_count}
 use Rattle.net_defs.specs.Valid.{IsValidStimulus}
 use Rattle.image_defs.specs.Places.{IsPort, item_slots, in_slots, out_slots}
 use Rattle.image_defs.specs.WellFormed.{IsWellFormed}
@@ -8,8 +8,8 @@ use Rattle.image_defs.specs.Steps.{timing_of}
 use Rattle.image_defs.specs.Ports.{PortView}
 use Rattle.port_walk.specs.declared.stops.Stop.{Stop}
 use Rattle.port_walk.specs.declared.any_port.AnyPort.TheInside.{Inside}
-use Rattle.port_walk.specs.Kinds.{view_in, FitsKind, IsLastValue}
-use Rattle.port_walk.specs.Placed.{PlacedPort}
+use Rattle.port_walk.specs.Kinds.{view_in, is_host, rows_in, FitsKind, IsLastValue}
+use Rattle.port_walk.specs.Placed.{PlacedPort, block_end}
 use Rattle.port_walk.specs.Rows.{AreReaders}
 use Rattle.port_walk.specs.Stops.{counts, AreStops}
 
@@ -18,6 +18,8 @@ view_of a = record {
   image = a.image.now;
   stimulus = a.stim.now;
   port = a.port;
+  window = a.window;
+  first_row = a.first_row;
   until = a.until;
   turn = a.turn;
   puts = take a.sent (out_slots a.seat.now.outs);
@@ -34,6 +36,10 @@ pub record IsKept (a : Inside) : Type 0 where
   pub stimulus : IsValidStimulus a.stim.now
   pub seat : IsPort a.image.now a.port a.seat.now
   pub kind : FitsKind a.image.now a.port a.kind
+  pub rows : is_host a.kind ≡ true → rows_in a.kind ≡ Some (a.window, a.first_row)
+  pub cycles : a.cycles ≡ cycle_count a.stim.now
+  pub some : 1 ≤ a.window
+  pub until_is : a.until ≡ block_end a.image.now a.stim.now a.first_row a.window
   pub few : a.until ≤ turn_count (timing_of a.image.now) a.stim.now
   pub first : 1 ≤ a.turn
   pub last : a.turn ≤ a.until + 1
@@ -47,4 +53,5 @@ pub record IsKept (a : Inside) : Type 0 where
   pub inner : view_in a.kind ≡ inner a (view_in a.kind).executed
   pub executed : a.turn ≤ a.until → (stop : Stop) → slice_get a.stops a.at ≡ Some stop → (view_in a.kind).executed ≡ stop.items
   pub rests : a.until < a.turn → (view_in a.kind).executed ≡ 0
+  pub unmoved : a.until < a.turn → a.at ≡ 0
   pub value : IsLastValue (view_in a.kind) a.value

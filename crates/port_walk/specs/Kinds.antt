@@ -1,5 +1,5 @@
 -- A port of any kind, as the definitions see ports, and a run of its items.
-use Rattle.std.specs.Prelude.{◌≡◌, ◌↔◌, ℕ, ◌+◌, ◌<◌, ◌≤◌, Bool, true, false, if◌then◌else◌, List, length, Some, slice_get}
+use Rattle.std.specs.Prelude.{⊤, ◌≡◌, ◌↔◌, ℕ, ◌+◌, ◌<◌, ◌≤◌, Bool, true, false, if◌then◌else◌, List, length, Option, None, Some, slice_get}
 use Rattle.logic_four.specs.declared.V4.{V4}
 use Rattle.net_defs.specs.declared.stimulus.Stimulus.{Stimulus}
 use Rattle.image_defs.specs.declared.image.LinkIn.{LinkIn}
@@ -7,6 +7,7 @@ use Rattle.image_defs.specs.declared.image.PortImage.{PortImage}
 use Rattle.image_defs.specs.declared.image.Image.{Image}
 use Rattle.image_defs.specs.Places.{IsPort, IsItemIn, item_slots}
 use Rattle.image_defs.specs.Ports.{PortView, at_first, last_turn, value_in}
+use Rattle.port_host.specs.Rows.{HasRoom, given_up}
 use Rattle.port_walk.specs.declared.kind.Kind.{Kind}
 use Rattle.port_walk.specs.declared.kind.Kind.TheVariants.{Logic, Array, Host}
 
@@ -14,7 +15,7 @@ use Rattle.port_walk.specs.declared.kind.Kind.TheVariants.{Logic, Array, Host}
 abbrev pub view_in : Kind → PortView
 view_in (Logic port) = port
 view_in (Array port) = port
-view_in (Host port) = port
+view_in (Host host) = host.port
 
 abbrev pub is_host : Kind → Bool
 is_host (Logic port) = false
@@ -25,10 +26,29 @@ is_host (Host port) = true
 abbrev pub FitsKind : Image → ℕ → Kind → Type 0
 FitsKind image p kind = (is_host kind ≡ true) ↔ (p + 1 ≡ length image.ports)
 
--- it is the port of this number before its first turn
-pub record IsFirst (image : Image) (stimulus : Stimulus) (p : ℕ) (kind : Kind) : Type 0 where
+-- the host's window and how many rows it has given up
+abbrev pub rows_in : Kind → Option (ℕ × ℕ)
+rows_in (Logic port) = None
+rows_in (Array port) = None
+rows_in (Host host) = Some (host.window, host.first_row)
+
+-- the host has room for the row of its turn
+abbrev pub HasRoomIn : Kind → Type 0
+HasRoomIn (Logic port) = ⊤
+HasRoomIn (Array port) = ⊤
+HasRoomIn (Host host) = HasRoom host
+
+-- the host has given up all rows that are done
+abbrev pub given_up_in : Kind → Kind
+given_up_in (Logic port) = Logic port
+given_up_in (Array port) = Array port
+given_up_in (Host host) = Host (given_up host)
+
+-- it is the port of this number before its first turn, and as the host it has this window
+pub record IsFirst (image : Image) (stimulus : Stimulus) (p window : ℕ) (kind : Kind) : Type 0 where
   pub view : view_in kind ≡ at_first image stimulus p
   pub fits : FitsKind image p kind
+  pub rows : is_host kind ≡ true → rows_in kind ≡ Some (window, 0)
 
 -- the turn has begun, and the items up to number `to` may be executed from number `from` on: all that
 -- comes in the slots before theirs is received

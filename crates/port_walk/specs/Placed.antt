@@ -1,8 +1,8 @@
 -- A port with its place in the turn, as contracts see it, and what comes next.
-use Rattle.std.specs.Prelude.{◌≡◌, ℕ, ◌+◌, ◌≤◌, List, [], ◌∷◌, ◌++◌}
+use Rattle.std.specs.Prelude.{◌≡◌, ℕ, ◌+◌, ◌*◌, ◌<◌, ◌≤◌, min, List, [], ◌∷◌, ◌++◌}
 use Rattle.logic_four.specs.declared.V4.{V4}
 use Rattle.net_defs.specs.declared.stimulus.Stimulus.{Stimulus}
-use Rattle.net_defs.specs.Time.{turn_count}
+use Rattle.net_defs.specs.Time.{cycle_count, turn_count}
 use Rattle.image_defs.specs.declared.image.LinkIn.{LinkIn}
 use Rattle.image_defs.specs.declared.image.LinkOut.{LinkOut}
 use Rattle.image_defs.specs.declared.image.PortImage.{PortImage}
@@ -10,29 +10,46 @@ use Rattle.image_defs.specs.declared.image.Image.{Image}
 use Rattle.image_defs.specs.Places.{IsPort, host_of}
 use Rattle.image_defs.specs.Steps.{timing_of}
 use Rattle.image_defs.specs.Frames.{image_value}
-use Rattle.image_defs.specs.Ports.{PortView}
 use Rattle.event_defs.specs.declared.place.Place.{Place}
 use Rattle.event_defs.specs.declared.place.Action.{Action}
 use Rattle.event_defs.specs.Next.{SendsNext, ReceivesNext, EndsNext, IsNext}
+use Rattle.port_host.specs.Rows.{HostView}
 
--- a port of an image with a stimulus: the last turn that it executes, its turn, the slots whose items it has
--- sent in this turn, and those in which it has received
+-- a port of an image with a stimulus: the most cycles of a block (its window), the cycles before its block, the
+-- last turn of the block, its turn, the slots whose items it has sent in this turn, and those in which it has
+-- received
 pub record PlacedPort : Type 0 where
   pub image : Image
   pub stimulus : Stimulus
   pub port : ℕ
+  pub window : ℕ
+  pub first_row : ℕ
   pub until : ℕ
   pub turn : ℕ
   pub puts : List ℕ
   pub takes : List ℕ
+
+-- the last turn of the block of at most so many cycles that comes after the first ones
+abbrev pub block_end : Image → Stimulus → ℕ → ℕ → ℕ
+block_end image stimulus first window = image.units * min (first + window) (cycle_count stimulus)
 
 -- its place, where it knows each port to have finished so many turns
 abbrev pub place_of : PlacedPort → List ℕ → Place
 place_of view known = record { turn = view.turn; puts = view.puts; takes = view.takes; known = known }
 
 -- the port before its first event
-abbrev pub at_start : Image → Stimulus → ℕ → PlacedPort
-at_start image stimulus port = record { image = image; stimulus = stimulus; port = port; until = turn_count (timing_of image) stimulus; turn = 1; puts = []; takes = [] }
+abbrev pub at_start : Image → Stimulus → ℕ → ℕ → PlacedPort
+at_start image stimulus port window = record {
+  image = image;
+  stimulus = stimulus;
+  port = port;
+  window = window;
+  first_row = 0;
+  until = block_end image stimulus 0 window;
+  turn = 1;
+  puts = [];
+  takes = [];
+}
 
 -- ---- what comes next
 
@@ -95,6 +112,20 @@ pub record HasTaken (old new : PlacedPort) : Type 0 where
 abbrev pub in_next_turn : PlacedPort → PlacedPort
 in_next_turn view = record view { turn = view.turn + 1; puts = []; takes = [] }
 
+-- ---- from block to block
+
+-- it has executed all turns of its block, and these are not all turns
+pub record CanGoOn (view : PlacedPort) : Type 0 where
+  pub rests : view.turn ≡ view.until + 1
+  pub more : view.until < turn_count (timing_of view.image) view.stimulus
+
+-- it is in the same turn, which is the first one of the next block
+abbrev pub in_next_block : PlacedPort → PlacedPort
+in_next_block view = record view {
+  first_row = view.first_row + view.window;
+  until = block_end view.image view.stimulus (view.first_row + view.window) view.window;
+}
+
 -- ---- numbers of links, and the host
 
 -- what it sends next is link number n of what it sends
@@ -105,10 +136,12 @@ pub record IsNextSend (view : PlacedPort) (n : ℕ) : Type 0 where
 pub record IsNextReceipt (view : PlacedPort) (n : ℕ) : Type 0 where
   pub each : (j : ℕ) (link : LinkIn) → IsReceiving view j link → j ≡ n
 
--- this is the host of the same image and stimulus, in the same turn
-pub record IsHostIn (view : PlacedPort) (host : PortView) : Type 0 where
+-- this is the host of the same image and stimulus, in the same turn of the same block
+pub record IsHostIn (view : PlacedPort) (host : HostView) : Type 0 where
   pub is_host : view.port ≡ host_of view.image
-  pub image : host.image ≡ view.image
-  pub stimulus : host.stimulus ≡ view.stimulus
-  pub port : host.port ≡ view.port
-  pub turn : host.turn ≡ view.turn
+  pub image : host.port.image ≡ view.image
+  pub stimulus : host.port.stimulus ≡ view.stimulus
+  pub port : host.port.port ≡ view.port
+  pub turn : host.port.turn ≡ view.turn
+  pub window : host.window ≡ view.window
+  pub first_row : host.first_row ≡ view.first_row

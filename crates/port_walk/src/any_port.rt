@@ -1,12 +1,12 @@
 //! A port of any kind with its place in the turn.
 
-ghost use Rattle.std.specs.Prelude.{◌≡◌, ◌≢◌, ◌↔◌, ◌-◌, ◌<◌, length, slice_index_or, IsTrue, IfOk, MatchOption};
+ghost use Rattle.std.specs.Prelude.{◌≡◌, ◌≢◌, ◌↔◌, ◌+◌, ◌-◌, ◌*◌, ◌<◌, ◌≤◌, min, length, slice_index_or, IsTrue, IfOk, MatchOption};
 ghost use Rattle.net_defs.specs.Valid.{IsValidStimulus};
 ghost use Rattle.std.specs.List.Sorted.{IsStrictlyIncreasing};
 ghost use Rattle.image_defs.specs.Places.{Each, host_of};
 ghost use Rattle.image_defs.specs.WellFormed.{IsWellFormed};
 ghost use Rattle.port_walk.specs.Readers.{NoneLags, IsFirstLagging, IsSendAction};
-ghost use Rattle.port_walk.specs.Placed.{at_start, in_next_turn, IsNextOf, CanPut, CanTake, CanTakeValue, IsEnding, HasPut, HasTaken, IsNextSend, IsNextReceipt, IsHostIn};
+ghost use Rattle.port_walk.specs.Placed.{at_start, in_next_block, in_next_turn, IsNextOf, CanGoOn, CanPut, CanTake, CanTakeValue, IsEnding, HasPut, HasTaken, IsNextSend, IsNextReceipt, IsHostIn};
 
 use crate::kind::Kind;
 use crate::readers::{Readers, readers_at, readers_of};
@@ -21,8 +21,9 @@ use std::alloc::Global;
 use std::marker::Model;
 
 /// A port of any kind with its place in the turn. After each call it has executed all its items in
-/// the slots up to that of its next event; more it can't execute before that. A contract sees whose
-/// image and stimulus it runs, and its place.
+/// the slots up to that of its next event; more it can't execute before that. It runs the cycles in
+/// blocks of at most `window` of them, one after the other, and rests at the end of each. A contract
+/// sees whose image and stimulus it runs, its block, and its place.
 #[derive(Drop)]
 pub struct AnyPort<'a> {
     kind: Kind<'a>,
@@ -30,6 +31,9 @@ pub struct AnyPort<'a> {
     image: &'a Image,
     stim: &'a Stimulus,
     port: u32,
+    cycles: u32,
+    window: u32,
+    first_row: u32,
     slots: List<u32>,
     readers: Readers,
     stops: List<Stop>,
@@ -52,6 +56,15 @@ impl<'a> Model for AnyPort<'a> {
     ghost view = { view_of };
 
     ghost invariant = { IsKept };
+}
+
+/// The last turn of the block of at most so many cycles that comes after the first ones, where a run
+/// has so many cycles.
+fn last_turn(units: u32, cycles: u32, first_row: u32, window: u32) -> u64
+    ensures { result ≡ units * min (first_row + window) cycles }
+{
+    let end = first_row as u64 + window as u64;
+    units as u64 * end.min(cycles as u64)
 }
 
 /// How many turns a port in this turn wants its readers to have finished, with so many banks.
@@ -106,19 +119,22 @@ pub(crate) fn send_action(
 }
 
 impl<'a> AnyPort<'a> {
-    /// The port of this number before its first event. It takes memory for what its kind needs, and
-    /// for its items, sends, readers and receipts. No later call takes any.
+    /// The port of this number before its first event, with blocks of so many cycles. It takes memory
+    /// for what its kind needs, which for the host is that of the rows of one block, and for its items,
+    /// sends, readers and receipts. No later call takes any.
     pub fn new(
         alloc: Global,
         image: &'a Image,
         stim: &'a Stimulus,
         port: u32,
+        window: u32,
     ) -> Result<AnyPort<'a>, Memory>
         requires image { IsWellFormed image.now }
         requires stimulus { IsValidStimulus stim.now }
         requires columns { stim.now.columns ≡ image.now.columns }
         requires there { port < length image.now.ports }
-        ensures { IfOk result (λ made. made ≡ at_start image.now stim.now port) }
+        requires some { 1 ≤ window }
+        ensures { IfOk result (λ made. made ≡ at_start image.now stim.now port window) }
     {
         let seat = &image.ports.as_slice()[port as usize];
         let slots = slots_of(alloc, &seat.work)?;
@@ -130,8 +146,9 @@ impl<'a> AnyPort<'a> {
             seat.ins.as_slice(),
         )?;
         let readers = readers_of(alloc, seat.outs.as_slice())?;
-        let mut kind = Kind::new(alloc, image, stim, port)?;
-        let until = image.units as u64 * stim.cycles() as u64;
+        let mut kind = Kind::new(alloc, image, stim, port, window)?;
+        let cycles = stim.cycles();
+        let until = last_turn(image.units, cycles, 0, window);
         let value = kind.enter(slots.as_slice(), stops.as_slice()[0].items, 1 <= until);
         Ok(AnyPort {
             kind,
@@ -139,6 +156,9 @@ impl<'a> AnyPort<'a> {
             image,
             stim,
             port,
+            cycles,
+            window,
+            first_row: 0,
             slots,
             readers,
             stops,
@@ -222,7 +242,7 @@ impl<'a> AnyPort<'a> {
         self.took += 1;
     }
 
-    /// The Tell that was next is made: the next turn begins.
+    /// The Tell that was next is made: the next turn begins, if it is one of its block.
     pub fn told(&mut self)
         requires { IsEnding self.old }
         ensures { self.new ≡ in_next_turn self.old }
@@ -238,7 +258,20 @@ impl<'a> AnyPort<'a> {
             .enter(self.slots.as_slice(), first, self.turn <= self.until);
     }
 
-    /// The turn that it is in, or the last one that it executes plus one when it is done.
+    /// Begins the next block: the first turn of it begins. The host gives up the rows of the block that is
+    /// over.
+    pub fn go_on(&mut self)
+        requires { CanGoOn self.old }
+        ensures { self.new ≡ in_next_block self.old }
+    {
+        self.kind.give_up();
+        self.first_row += self.window;
+        self.until = last_turn(self.image.units, self.cycles, self.first_row, self.window);
+        let first = self.stops.as_slice()[0].items;
+        self.value = self.kind.enter(self.slots.as_slice(), first, true);
+    }
+
+    /// The turn that it is in, or the last one of its block plus one when it rests.
     #[inline]
     pub fn turn(&self) -> u64
         ensures { result ≡ self.now.turn }
@@ -246,14 +279,15 @@ impl<'a> AnyPort<'a> {
         self.turn
     }
 
-    /// The last turn that it executes, which is the number of turns.
+    /// The last turn that it executes in its block.
     pub fn until(&self) -> u64
         ensures { result ≡ self.now.until }
     {
         self.until
     }
 
-    /// The port as the host. `None` exactly where it is another.
+    /// The port as the host, which has the rows of its block that are done. `None` exactly where it is
+    /// another.
     pub fn host(&self) -> Option<&HostPort<'a>>
         ensures { MatchOption result
             (self.now.port ≢ host_of self.now.image)

@@ -1,10 +1,11 @@
 //! The kinds of port, behind one contract.
 
-ghost use Rattle.std.specs.Prelude.{◌≡◌, ◌<◌, length, IfOk};
+ghost use Rattle.std.specs.Prelude.{◌≡◌, ◌<◌, ◌≤◌, length, IfOk};
 ghost use Rattle.net_defs.specs.Valid.{IsValidStimulus};
 ghost use Rattle.image_defs.specs.WellFormed.{IsWellFormed};
 ghost use Rattle.image_defs.specs.Ports.{after_begin, after_receive, after_end, CanBegin, CanReceive, CanEnd};
-ghost use Rattle.port_walk.specs.Kinds.{view_in, is_host, IsFirst, CanRun, HasRun, CanEnter, HasEntered, IsLastValue};
+ghost use Rattle.port_host.specs.Rows.{moved_to};
+ghost use Rattle.port_walk.specs.Kinds.{view_in, is_host, rows_in, given_up_in, IsFirst, HasRoomIn, CanRun, HasRun, CanEnter, HasEntered, IsLastValue};
 
 use image_defs::{Image, Work};
 use logic_four::V4;
@@ -52,37 +53,40 @@ fn run_array(port: &mut ArrayPort<'_>, slots: &[u32], from: u32, to: u32, last: 
 }
 
 /// Executes items of the host, as `Kind::run` does.
-fn run_host(port: &mut HostPort<'_>, slots: &[u32], from: u32, to: u32, last: V4) -> V4
-    requires can { CanRun port.old slots.now from to }
-    requires last { IsLastValue port.old last }
-    ensures run { HasRun port.old port.new to }
-    ensures last { IsLastValue port.new result }
+fn run_host(host: &mut HostPort<'_>, slots: &[u32], from: u32, to: u32, last: V4) -> V4
+    requires can { CanRun host.old.port slots.now from to }
+    requires last { IsLastValue host.old.port last }
+    ensures run { HasRun host.old.port host.new.port to }
+    ensures last { IsLastValue host.new.port result }
+    ensures host { host.new ≡ moved_to host.old host.new.port }
 {
     let mut value = last;
     'items: for i in from..to {
-        value = port.execute(slots[i as usize]);
+        value = host.execute(slots[i as usize]);
     }
     value
 }
 
 impl<'a> Kind<'a> {
-    /// Port number `port` of the image before its first turn.
+    /// Port number `port` of the image before its first turn. As the host it has this window.
     pub(crate) fn new(
         alloc: Global,
         image: &'a Image,
         stim: &'a Stimulus,
         port: u32,
+        window: u32,
     ) -> Result<Kind<'a>, Memory>
         requires image { IsWellFormed image.now }
         requires stimulus { IsValidStimulus stim.now }
         requires columns { stim.now.columns ≡ image.now.columns }
         requires there { port < length image.now.ports }
-        ensures { IfOk result (IsFirst image.now stim.now port) }
+        requires some { 1 ≤ window }
+        ensures { IfOk result (IsFirst image.now stim.now port window) }
     {
         match &image.ports.as_slice()[port as usize].work {
             Work::Logic { .. } => Ok(Kind::Logic(LogicPort::new(alloc, image, stim, port)?)),
             Work::Array { .. } => Ok(Kind::Array(ArrayPort::new(alloc, image, stim, port)?)),
-            Work::Host { .. } => Ok(Kind::Host(HostPort::new(alloc, image, stim)?)),
+            Work::Host { .. } => Ok(Kind::Host(HostPort::new(alloc, image, stim, window)?)),
         }
     }
 
@@ -91,6 +95,7 @@ impl<'a> Kind<'a> {
         requires { CanBegin (view_in self.old) }
         ensures view { view_in self.new ≡ after_begin (view_in self.old) }
         ensures kind { is_host self.new ≡ is_host self.old }
+        ensures rows { rows_in self.new ≡ rows_in self.old }
     {
         match self {
             Kind::Logic(port) => port.begin_turn(),
@@ -105,6 +110,7 @@ impl<'a> Kind<'a> {
         requires { CanReceive (view_in self.old) slot v }
         ensures view { view_in self.new ≡ after_receive (view_in self.old) }
         ensures kind { is_host self.new ≡ is_host self.old }
+        ensures rows { rows_in self.new ≡ rows_in self.old }
     {
         match self {
             Kind::Logic(port) => port.receive(slot, v),
@@ -115,14 +121,27 @@ impl<'a> Kind<'a> {
 
     /// Ends the turn.
     pub(crate) fn end_turn(&mut self)
-        requires { CanEnd (view_in self.old) }
+        requires end { CanEnd (view_in self.old) }
+        requires room { HasRoomIn self.old }
         ensures view { view_in self.new ≡ after_end (view_in self.old) }
         ensures kind { is_host self.new ≡ is_host self.old }
+        ensures rows { rows_in self.new ≡ rows_in self.old }
     {
         match self {
             Kind::Logic(port) => port.end_turn(),
             Kind::Array(port) => port.end_turn(),
             Kind::Host(port) => port.end_turn(),
+        }
+    }
+
+    /// Gives up the rows that are done, if it is the host.
+    pub(crate) fn give_up(&mut self)
+        ensures { self.new ≡ given_up_in self.old }
+    {
+        match self {
+            Kind::Logic(_) => (),
+            Kind::Array(_) => (),
+            Kind::Host(host) => host.give_up(),
         }
     }
 
@@ -135,6 +154,7 @@ impl<'a> Kind<'a> {
         ensures run { HasRun (view_in self.old) (view_in self.new) to }
         ensures last { IsLastValue (view_in self.new) result }
         ensures kind { is_host self.new ≡ is_host self.old }
+        ensures rows { rows_in self.new ≡ rows_in self.old }
     {
         // half of all calls find none
         if to <= from {
@@ -150,6 +170,7 @@ impl<'a> Kind<'a> {
         ensures run { HasRun (view_in self.old) (view_in self.new) to }
         ensures last { IsLastValue (view_in self.new) result }
         ensures kind { is_host self.new ≡ is_host self.old }
+        ensures rows { rows_in self.new ≡ rows_in self.old }
     {
         match self {
             Kind::Logic(port) => run_logic(port, slots, from, to, last),
@@ -165,6 +186,7 @@ impl<'a> Kind<'a> {
         ensures entered { HasEntered (view_in self.old) (view_in self.new) to runs }
         ensures last { IsLastValue (view_in self.new) result }
         ensures kind { is_host self.new ≡ is_host self.old }
+        ensures rows { rows_in self.new ≡ rows_in self.old }
     {
         if runs {
             self.begin_turn();

@@ -4,11 +4,14 @@ use Rattle.image_defs.specs.declared.image.Image.{Image}
 use Rattle.image_defs.specs.Frames.{shown}
 use Rattle.port_host.specs.Rows.{printed_sources}
 use Rattle.event_core.specs.Core.{CoreView, rows_of}
-use Rattle.event_core.proofs.RoundLemmas.{host_there, image_here, stimulus_here, is_host, rows_here}
+use Rattle.event_core.proofs.RoundLemmas.{first_here, host_there, image_here, stimulus_here, is_host, rows_here}
 use Rattle.event_core.proofs.core_run.Core.cells.Goals as goal
 
 pub cells-requires-clause-host : goal.cells-requires-clause-host
 cells-requires-clause-host c seat at = is_host c.self.inside c.self.invariant c.len.result c.len.ensures c.as_slice.result.now c.as_slice.ensures seat at
+
+pub cells-requires-clause-all : goal.cells-requires-clause-all
+cells-requires-clause-all c seat at = first_here c.self.inside c.self.invariant c.len.result c.len.ensures c.as_slice.result.now c.as_slice.ensures seat at
 
 pub cells-requires-clause-done : goal.cells-requires-clause-done
 cells-requires-clause-done c seat at =

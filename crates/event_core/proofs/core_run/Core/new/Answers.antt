@@ -6,27 +6,27 @@ use Rattle.event_core.proofs.core_run.Core.new.Goals as goal
 
 pub invariant_of-result : goal.invariant_of-result
 invariant_of-result c = start_kept
-    (record { image = c.args.image; stim = c.args.stim; banks = c.args.banks; until = c.args.image.now.units * c.cycles.result; seats = c.in_ok-seats.seats; finished = c.in_ok-filled.field-0; words = c.in_ok-filled-2.field-0 })
+    (record { image = c.args.image; stim = c.args.stim; banks = c.args.banks; until = c.args.image.now.units * c.cycles-cycles.result; seats = c.in_ok-seats.seats; finished = c.in_ok-filled.field-0; words = c.in_ok-filled-2.field-0 })
     c.requires.image c.requires.stimulus c.requires.some
-    (ap (λ n. c.args.image.now.units * n) c.cycles.ensures)
+    (ap (λ n. c.args.image.now.units * n) c.cycles-cycles.ensures)
     (c.in_ok-seats.ensures)
     (c.in_ok-filled.ensures ∙ ap (λ n. replicate n 0) c.len-ports.ensures)
     (c.in_ok-filled-2.ensures ∙ ap (λ n. replicate (n * c.args.banks) 0) (ap (λ xs. get_or xs c.len-ports.result 0) c.as_slice.ensures ∙ (ap (λ k. get_or c.in_ok-firsts.firsts k 0) c.len-ports.ensures ∙ get_or_from_slice_get c.in_ok-firsts.firsts (length c.args.image.now.ports) (send_count c.args.image.now) 0 (c.in_ok-firsts.ensures.each (length c.args.image.now.ports) (omega arith)))))
 
 pub returns-clause-start : goal.returns-clause-start
 returns-clause-start c = is_start
-    (record { image = c.args.image; stim = c.args.stim; banks = c.args.banks; until = c.args.image.now.units * c.cycles.result; seats = c.in_ok-seats.seats; finished = c.in_ok-filled.field-0; words = c.in_ok-filled-2.field-0 })
+    (record { image = c.args.image; stim = c.args.stim; banks = c.args.banks; until = c.args.image.now.units * c.cycles-cycles.result; seats = c.in_ok-seats.seats; finished = c.in_ok-filled.field-0; words = c.in_ok-filled-2.field-0 })
     c.requires.image c.requires.stimulus c.requires.some
-    (ap (λ n. c.args.image.now.units * n) c.cycles.ensures)
+    (ap (λ n. c.args.image.now.units * n) c.cycles-cycles.ensures)
     (c.in_ok-seats.ensures)
     (c.in_ok-filled.ensures ∙ ap (λ n. replicate n 0) c.len-ports.ensures)
     (c.in_ok-filled-2.ensures ∙ ap (λ n. replicate (n * c.args.banks) 0) (ap (λ xs. get_or xs c.len-ports.result 0) c.as_slice.ensures ∙ (ap (λ k. get_or c.in_ok-firsts.firsts k 0) c.len-ports.ensures ∙ get_or_from_slice_get c.in_ok-firsts.firsts (length c.args.image.now.ports) (send_count c.args.image.now) 0 (c.in_ok-firsts.ensures.each (length c.args.image.now.ports) (omega arith)))))
 
 pub returns-clause-sound : goal.returns-clause-sound
 returns-clause-sound c = start_sound
-    (record { image = c.args.image; stim = c.args.stim; banks = c.args.banks; until = c.args.image.now.units * c.cycles.result; seats = c.in_ok-seats.seats; finished = c.in_ok-filled.field-0; words = c.in_ok-filled-2.field-0 })
+    (record { image = c.args.image; stim = c.args.stim; banks = c.args.banks; until = c.args.image.now.units * c.cycles-cycles.result; seats = c.in_ok-seats.seats; finished = c.in_ok-filled.field-0; words = c.in_ok-filled-2.field-0 })
     c.requires.image c.requires.stimulus c.requires.some
-    (ap (λ n. c.args.image.now.units * n) c.cycles.ensures)
+    (ap (λ n. c.args.image.now.units * n) c.cycles-cycles.ensures)
     (c.in_ok-seats.ensures)
     (c.in_ok-filled.ensures ∙ ap (λ n. replicate n 0) c.len-ports.ensures)
     (c.in_ok-filled-2.ensures ∙ ap (λ n. replicate (n * c.args.banks) 0) (ap (λ xs. get_or xs c.len-ports.result 0) c.as_slice.ensures ∙ (ap (λ k. get_or c.in_ok-firsts.firsts k 0) c.len-ports.ensures ∙ get_or_from_slice_get c.in_ok-firsts.firsts (length c.args.image.now.ports) (send_count c.args.image.now) 0 (c.in_ok-firsts.ensures.each (length c.args.image.now.ports) (omega arith)))))

@@ -11,5 +11,5 @@ invariant_of-result c =
     ready_first _ image c.args.stim.now c.index-as_slice-port.result (c.in_ok-bank-in-Host.ensures ∙ ap (at_first image c.args.stim.now) port) c.requires.image c.requires.stimulus c.requires.columns
     (host_found image c.len-port.result c.index-as_slice-port.result _ c.requires.image c.as_slice.ensures c.len-port.ensures c.index-as_slice-port.is)
     (rw (c.as_slice-in-Host.ensures, c.as_slice-in-Host-2.ensures) c.in-Host.is)
-    refl refl c.begin.ensures.on c.begin.ensures.turn
-    (rw c.as_slice-in-Host-2.ensures (room_made _ c.args.stim.now c.cycles.result c.len.result c.in-Host.printed c.in_ok-cells-in-Host.ensures c.cycles.ensures c.len.ensures))
+    refl refl refl c.begin.ensures.on c.begin.ensures.turn
+    (rw c.as_slice-in-Host-2.ensures (room_made _ c.args.window c.len.result c.in-Host.printed c.in_ok-cells-in-Host.ensures c.len.ensures))

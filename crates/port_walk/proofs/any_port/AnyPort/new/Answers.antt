@@ -1,4 +1,4 @@
-use Rattle.std.proofs.Common.{◌≡◌, ◌↔◌, ◌∙◌, ◌+◌, ◌*◌, ◌≤◌, true, nat_le, if◌then◌else◌, length, get_or, Some, slice_get, ap, subst, sym, refl, arith}
+use Rattle.std.proofs.Common.{◌≡◌, ◌↔◌, ◌∙◌, ◌+◌, ◌*◌, ◌≤◌, min, true, nat_le, if◌then◌else◌, length, get_or, Some, slice_get, ap, subst, sym, refl, arith}
 use Rattle.std.proofs.lemmas.Bool.{leb-true}
 use Rattle.std.proofs.lemmas.Option.{slice_get-get_or}
 use Rattle.net_defs.specs.Time.{turn_count}
@@ -9,6 +9,8 @@ use Rattle.image_defs.specs.Ports.{PortView, last_turn}
 use Rattle.port_walk.specs.Kinds.{view_in}
 use Rattle.port_walk.specs.Rows.{HasFewReaders, AreReaders}
 use Rattle.port_walk.specs.Stops.{ArePlaces, AreStops}
+use Rattle.port_walk.specs.Placed.{block_end}
+use Rattle.port_walk.proofs.BlockLemmas.{end_low}
 use Rattle.port_walk.proofs.KindLemmas.{seat_there}
 use Rattle.port_walk.proofs.KeptLemmas.{no_stop, out_places, in_places, few_sends, few_readers}
 use Rattle.port_walk.proofs.MoveLemmas.{can_enter, first_within, kept_fresh}
@@ -47,10 +49,11 @@ enter-value-requires c =
     let there : slice_get stops 0 ≡ Some first =
     slice_get-get_or stops 0 no_stop (first_within image c.args.port seat good is slots stops slots_are stops_are) ∙ ap (λ xs. Some (get_or xs 0 no_stop)) (sym c.as_slice-7.ensures) in
     let view : PortView = view_in c.in_ok-kind.kind in
+    let until_is : c.last_turn-until.result ≡ block_end image c.args.stim.now 0 c.args.window = c.last_turn-until.ensures ∙ ap (λ n. image.units * min (0 + c.args.window) n) c.cycles-cycles.ensures in
     let begins = c.in_ok-kind.ensures.view in
-    can_enter image c.args.port seat good is slots stops slots_are stops_are view c.as_slice-6.result.now first (nat_le 1 (image.units * c.cycles.result))
+    can_enter image c.args.port seat good is slots stops slots_are stops_are view c.as_slice-6.result.now first (nat_le 1 c.last_turn-until.result)
     (ap (λ (v : PortView). v.image) begins) (ap (λ (v : PortView). v.port) begins) (ap (λ (v : PortView). v.begun) begins) (ap (λ (v : PortView). v.executed) begins)
-    (λ runs. subst (λ (v : PortView). v.turn ≤ last_turn v) (sym begins) (subst (λ n. 1 ≤ image.units * n) c.cycles.ensures (leb-true 1 (image.units * c.cycles.result) runs)))
+    (λ runs. subst (λ (v : PortView). v.turn ≤ last_turn v) (sym begins) (omega (arith, leb-true 1 c.last_turn-until.result runs, until_is, end_low image c.args.stim.now 0 c.args.window)))
     c.as_slice-6.ensures there
 
 pub invariant_of-result : goal.invariant_of-result
@@ -69,14 +72,18 @@ invariant_of-result c =
     let first = get_or c.as_slice-7.result.now 0 no_stop in
     let there : slice_get stops 0 ≡ Some first =
     slice_get-get_or stops 0 no_stop (first_within image c.args.port seat good is slots stops slots_are stops_are) ∙ ap (λ xs. Some (get_or xs 0 no_stop)) (sym c.as_slice-7.ensures) in
-    let until = image.units * c.cycles.result in
-    let all : until ≡ turn_count (timing_of image) c.args.stim.now = ap (λ n. image.units * n) c.cycles.ensures in
+    let until = c.last_turn-until.result in
+    let until_is : until ≡ block_end image c.args.stim.now 0 c.args.window = c.last_turn-until.ensures ∙ ap (λ n. image.units * min (0 + c.args.window) n) c.cycles-cycles.ensures in
     kept_fresh _ (record {
       image = c.requires.image;
       stimulus = c.requires.stimulus;
       seat = is;
       kind = subst (λ b. (b ≡ true) ↔ (c.args.port + 1 ≡ length image.ports)) (sym c.enter-value.ensures.kind) c.in_ok-kind.ensures.fits;
-      few = omega arith;
+      rows = λ is. c.enter-value.ensures.rows ∙ c.in_ok-kind.ensures.rows (sym c.enter-value.ensures.kind ∙ is);
+      cycles = c.cycles-cycles.ensures;
+      some = c.requires.some;
+      until_is = until_is;
+      few = omega (arith, until_is, end_low image c.args.stim.now 0 c.args.window);
       first = omega arith;
       last = omega arith;
       slots = slots_are;

@@ -44,7 +44,7 @@ invariant_of-self c =
     let next = after_send a kept (get_or stops a.at no_stop) at stops c.as_slice-stops.ensures here.kind in
     kept_after a kept (get_or stops a.at no_stop) at c.run-self-inside.new.self c.run-self-inside.result (a.sent + 1) a.took (get_or stops (a.at + 1) no_stop) can.sending.early next
     (c.run-self-inside.ensures.run ∙ ap (λ (view : PortView). record view { executed = (get_or stops (a.at + 1) no_stop).items }) (inner_here a kept (get_or stops a.at no_stop) at can.sending.early))
-    c.run-self-inside.ensures.kind c.run-self-inside.ensures.last
+    c.run-self-inside.ensures.kind c.run-self-inside.ensures.rows c.run-self-inside.ensures.last
 
 pub returns : goal.returns
 returns c =

@@ -1,16 +1,26 @@
-use Rattle.std.proofs.Common.{◌≡◌, ◌↔◌, ◌∙◌, ◌+◌, ◌≤◌, true, nat_le, if◌then◌else◌, length, get_or, Some, slice_get, ap, subst, sym, refl, arith}
+use Rattle.std.proofs.Common.{◌≡◌, ◌↔◌, ◌∙◌, ◌+◌, ◌*◌, ◌≤◌, min, true, nat_le, if◌then◌else◌, length, get_or, Some, slice_get, ap, subst, sym, refl, arith}
 use Rattle.std.proofs.lemmas.Bool.{leb-true}
 use Rattle.std.proofs.lemmas.Option.{slice_get-get_or}
+use Rattle.net_defs.specs.Time.{cycle_count}
 use Rattle.image_defs.specs.Ports.{PortView, after_end, last_turn}
 use Rattle.port_walk.specs.Kinds.{view_in}
 use Rattle.port_walk.specs.Kept.{view_of, inner}
 use Rattle.port_walk.specs.Placed.{IsEnding}
+use Rattle.port_walk.proofs.BlockLemmas.{room_in}
 use Rattle.port_walk.proofs.KeptLemmas.{no_stop, good, found}
 use Rattle.port_walk.proofs.MoveLemmas.{inner_here, can_end, can_enter, first_within, kept_fresh}
 use Rattle.port_walk.proofs.any_port.AnyPort.told.Goals as goal
 
-pub end_turn-requires : goal.end_turn-requires
-end_turn-requires c =
+pub end_turn-requires-clause-room : goal.end_turn-requires-clause-room
+end_turn-requires-clause-room c =
+    let a = c.self.inside in
+    let kept = c.self.invariant in
+    let ending : IsEnding (view_of a) = subst IsEnding (sym c.self.view_is) c.requires in
+    room_in a.kind a.image.now.units a.first_row a.window a.turn (cycle_count a.stim.now) kept.rows (ap (λ (v : PortView). v.image.units) kept.inner) (ap (λ (v : PortView). v.turn) kept.inner)
+    (subst (λ n. a.turn ≤ n) kept.until_is ending.early)
+
+pub end_turn-requires-clause-end : goal.end_turn-requires-clause-end
+end_turn-requires-clause-end c =
     let a = c.self.inside in
     let kept = c.self.invariant in
     can_end a kept (get_or a.stops a.at no_stop) (found a kept a.stops refl) (subst IsEnding (sym c.self.view_is) c.requires)
@@ -40,11 +50,16 @@ invariant_of-self c =
     slice_get-get_or a.stops 0 no_stop (first_within a.image.now a.port a.seat.now (good a kept) kept.seat a.slots a.stops kept.slots kept.stops) ∙ ap (λ xs. Some (get_or xs 0 no_stop)) (sym c.as_slice.ensures) in
     let inside : view_in c.end_turn.new.self ≡ after_end (inner a (get_or a.stops a.at no_stop).items) =
     c.end_turn.ensures.view ∙ ap after_end (inner_here a kept (get_or a.stops a.at no_stop) (found a kept a.stops refl) ending.early) in
+    let host = c.enter-self-inside.ensures.kind ∙ c.end_turn.ensures.kind in
     kept_fresh _ (record {
       image = kept.image;
       stimulus = kept.stimulus;
       seat = kept.seat;
-      kind = subst (λ b. (b ≡ true) ↔ (a.port + 1 ≡ length a.image.now.ports)) (sym (c.enter-self-inside.ensures.kind ∙ c.end_turn.ensures.kind)) kept.kind;
+      kind = subst (λ b. (b ≡ true) ↔ (a.port + 1 ≡ length a.image.now.ports)) (sym host) kept.kind;
+      rows = λ is. c.enter-self-inside.ensures.rows ∙ (c.end_turn.ensures.rows ∙ kept.rows (sym host ∙ is));
+      cycles = kept.cycles;
+      some = kept.some;
+      until_is = kept.until_is;
       few = kept.few;
       first = omega arith;
       last = let early = ending.early in omega arith;

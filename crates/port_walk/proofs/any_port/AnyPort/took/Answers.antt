@@ -54,7 +54,7 @@ invariant_of-self c =
     c.receive.ensures.view ∙ ap after_receive (inner_here a kept (get_or stops a.at no_stop) at can.receiving.early) in
     kept_after a kept (get_or stops a.at no_stop) at c.run-self-inside.new.self c.run-self-inside.result a.sent (a.took + 1) (get_or stops (a.at + 1) no_stop) can.receiving.early next
     (c.run-self-inside.ensures.run ∙ ap (λ (view : PortView). record view { executed = (get_or stops (a.at + 1) no_stop).items }) inside)
-    (c.run-self-inside.ensures.kind ∙ c.receive.ensures.kind) c.run-self-inside.ensures.last
+    (c.run-self-inside.ensures.kind ∙ c.receive.ensures.kind) (c.run-self-inside.ensures.rows ∙ c.receive.ensures.rows) c.run-self-inside.ensures.last
 
 pub returns : goal.returns
 returns c =
