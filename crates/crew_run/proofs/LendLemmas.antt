@@ -51,7 +51,7 @@ module _ {S G : Type 0} (m : stepper.Ghosts S) (p : gate.Ghosts G) (ws : List (W
       let (w, at) = beside ws1 ws i w1 (sym out.worker_count) at1 in
       let low = slice_get_within ws i w at in
       let (gate, there) = member_at gates i (omega (arith, low, can.enough)) in
-      let ready : CanRun m p (lent w gate) = record { members = can.ready i w at; gate = can.tell i gate low there } in
+      let ready : CanRun m p (lent w gate) = record { members = can.ready i w at; gate = can.tell i w gate at there } in
       subst (CanRun m p) (one_some (lent w gate) w1 (sym (out.taken i w gate low at there) ∙ at1)) ready
 
   -- and once they have run the gates come back

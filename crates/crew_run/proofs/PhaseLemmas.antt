@@ -1,5 +1,5 @@
 -- What phases come to that follow one another.
-use Rattle.std.proofs.Common.{◌≡◌, ◌≢◌, ◌∙◌, ℕ, ◌+◌, ◌≤◌, ◌^◌, All, List, length, slice_get, slice_index, Some, inl, inr, sym, ap, subst, arith}
+use Rattle.std.proofs.Common.{◌≡◌, ◌≢◌, ◌∙◌, ℕ, ◌+◌, List, length, slice_get, Some, inl, inr, sym, ap, subst, arith}
 use Rattle.std.proofs.lemmas.Bool.{cases_lt}
 use Rattle.std.proofs.lemmas.Option.{slice_get_within}
 use Rattle.list_laws.proofs.Places.{one_there}
@@ -7,10 +7,10 @@ use Rattle.list_laws.proofs.Ranges.{last_or}
 use Rattle.crew_run.specs.declared.gate.Gate as gate
 use Rattle.crew_run.specs.declared.stepper.Stepper as stepper
 use Rattle.crew_run.specs.declared.worker.Worker.{Worker}
-use Rattle.crew_run.specs.Crews.{AreReady, CanRun, HasRun}
+use Rattle.crew_run.specs.Crews.{AreReady, CanRun, HasRoomToRun, HasRun}
 use Rattle.crew_run.specs.Phases.{AreBegun, AreDone, AreStepped, CanResume, CanStep, HasBegun, IsBegun, IsResumed, begun}
 use Rattle.crew_run.specs.Visits.{AreVisits, IsTold, IsUntold}
-use Rattle.crew_run.proofs.Places.{beside, one_some, read_below}
+use Rattle.crew_run.proofs.Places.{beside, one_some}
 use Rattle.crew_run.proofs.StepLemmas.{can_step_kept, stepped_more, untold_more, untold_none}
 
 module _ {S G : Type 0} (m : stepper.Ghosts S) (p : gate.Ghosts G) where
@@ -45,17 +45,17 @@ module _ {S G : Type 0} (m : stepper.Ghosts S) (p : gate.Ghosts G) where
       quiet = λ high. now.quiet high ∙ quiet.latest;
     }
 
-  -- the counts of a port that was not told leave room for all turns
-  pub untold_room : (n : ℕ) (members : List S) (a : S) (g g' : G) → slice_get members n ≡ Some a → AreBegun m p n members g g' → All (λ t. t ≤ 2 ^ 62) (p.times g) → slice_index (p.times g') (m.port a) ≤ 2 ^ 62
-  untold_room n members a g g' at h small = omega (arith, (h.untold n a (omega arith) at).times, read_below (p.times g) (m.port a) (2 ^ 62) small)
+  -- the count of a port that was not told leaves as much room as before
+  pub untold_room : (n : ℕ) (members : List S) (a : S) (g g' : G) → slice_get members n ≡ Some a → AreBegun m p n members g g' → HasRoomToRun m p a g → HasRoomToRun m p a g'
+  untold_room n members a g g' at h room = omega (arith, (h.untold n a (omega arith) at).times, room)
 
   -- once the gate was told of all, they can be stepped
-  pub begun_can_step : (members : List S) (g g' : G) → AreReady m members → All (λ t. t ≤ 2 ^ 62) (p.times g) → AreBegun m p (length members) members g g' → CanStep m p members g'
-  begun_can_step members g g' ready small h = record {
+  pub begun_can_step : (members : List S) (g g' : G) → AreReady m members → ((k : ℕ) (a : S) → slice_get members k ≡ Some a → HasRoomToRun m p a g) → AreBegun m p (length members) members g g' → CanStep m p members g'
+  begun_can_step members g g' ready room h = record {
     ready = ready;
     room = λ k a at.
         let told = h.told k a (slice_get_within members k a at) at in
-        omega (arith, told.times, read_below (p.times g) (m.port a) (2 ^ 62) small, ready.small k a at, ready.begun k a at, ready.within k a at);
+        omega (arith, told.times, room k a at, ready.within k a at);
   }
 
   -- what the gate was told once all members are done
@@ -81,15 +81,17 @@ module _ {S G : Type 0} (m : stepper.Ghosts S) (p : gate.Ghosts G) where
           before = λ high. passed.quiet (omega (arith, high, same_last, ended)) ∙ opened.quiet high;
         }
 
+  -- the gate of a worker that can run has room for its members
+  pub room_of : (w : Worker S G) (g : G) → CanRun m p w → w.gate ≡ Some g → (k : ℕ) (a : S) → slice_get w.members k ≡ Some a → HasRoomToRun m p a g
+  room_of w g can is k a at = subst (HasRoomToRun m p a) (one_some can.gate.told g (sym can.gate.is ∙ is)) (can.gate.room k a at)
+
   -- a worker that has begun can resume
   pub can_resume : (w w' : Worker S G) → CanRun m p w → HasBegun m p w w' → CanResume m p w'
   can_resume w w' can h = record {
     gate = h.gate';
     gate_is = h.gate'_is;
-    can = can_step_kept m p w.members w'.members h.told h.gate' h.stepped (begun_can_step w.members h.gate h.told can.members small h.begun);
-  } where
-    small : All (λ t. t ≤ 2 ^ 62) (p.times h.gate)
-    small = subst (λ g. All (λ t. t ≤ 2 ^ 62) (p.times g)) (one_some can.gate.told h.gate (sym can.gate.is ∙ h.gate_is)) can.gate.times
+    can = can_step_kept m p w.members w'.members h.told h.gate' h.stepped (begun_can_step w.members h.gate h.told can.members (room_of w h.gate can h.gate_is) h.begun);
+  }
 
   -- a worker that has begun and is done has run
   pub has_run : (w w' : Worker S G) → CanRun m p w → HasBegun m p w w' → AreDone m w'.members → HasRun m p w w'

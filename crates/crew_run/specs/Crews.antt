@@ -1,5 +1,5 @@
 -- What a crew needs, and what it has done once all its members are done.
-use Rattle.std.specs.Prelude.{All, List, Option, Some, length, slice_get, ℕ, ◌+◌, ◌<◌, ◌^◌, ◌≡◌, ◌≢◌, ◌≤◌}
+use Rattle.std.specs.Prelude.{All, List, Option, Some, length, slice_get, slice_index, ℕ, ◌+◌, ◌-◌, ◌<◌, ◌^◌, ◌≡◌, ◌≢◌, ◌≤◌}
 use Rattle.limits.specs.declared.TheConstants.{MAX_PORTS}
 use Rattle.crew_run.specs.declared.gate.Gate as gate
 use Rattle.crew_run.specs.declared.stepper.Stepper as stepper
@@ -27,10 +27,20 @@ module _ {G : Type 0} (p : gate.Ghosts G) where
     pub times : All (λ n. n ≤ 2 ^ 62) (p.times told)
 
 module _ {S G : Type 0} (m : stepper.Ghosts S) (p : gate.Ghosts G) where
+  -- the count of the member's port leaves room for the turns that the member has left
+  abbrev pub HasRoomToRun : S → G → Type 0
+  HasRoomToRun a g = slice_index (p.times g) (m.port a) + (m.last_turn a + 1 - m.turn a) ≤ 2 ^ 63
+
+  -- there is a gate, and it can be told of all turns that the members have left
+  pub record CanTellOf (members : List S) (gate : Option G) : Type 0 where
+    pub told : G
+    pub is : gate ≡ Some told
+    pub room : (k : ℕ) (a : S) → slice_get members k ≡ Some a → HasRoomToRun a told
+
   -- the members can be stepped, and the gate can be told of their turns
   pub record CanRun (w : Worker S G) : Type 0 where
     pub members : AreReady m w.members
-    pub gate : CanTell p w.gate
+    pub gate : CanTellOf w.members w.gate
 
   -- the worker's members are done, each in its place, and its gate was told of their turns
   pub record HasRun (w w' : Worker S G) : Type 0 where

@@ -17,7 +17,7 @@ use std::thread;
 use std::thread::Threads;
 
 /// The steps of the first phase in the calling thread, for each worker.
-const SOLO_STEPS: u64 = 250_000;
+const SOLO_STEPS: u64 = 1_000_000;
 
 /// The most steps of such a phase to which they grow.
 const MOST_SOLO_STEPS: u64 = 64_000_000;

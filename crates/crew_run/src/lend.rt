@@ -34,6 +34,9 @@ fn swap_gates<S: Stepper, G: Gate>(workers: &mut [Worker<S, G>], gates: &mut [Op
 
 /// Runs all workers as `run_all` does, each with the gate in its place in `gates`. The gates are back in
 /// their places when it returns, and each worker has again the one that it had.
+///
+/// A crew can be run again, once its members have turns left: all that it asks of a gate is that the count of a
+/// port doesn't pass 2 ^ 63 by the turns that are left.
 pub fn run_with<R: Threads + Wait + Sync, S: Stepper + Send, G: Gate + Send>(
     rt: &R,
     workers: &mut [Worker<S, G>],

@@ -18,7 +18,7 @@
 //!
 //! In the phase after it the calling thread goes round the members of all workers by itself, and tells the
 //! gate of each worker of its own members' turns. So a crew gets on at the speed of one worker where there
-//! are too few processors, or where no second thread can be made. Such a phase ends after 250,000 steps for
+//! are too few processors, or where no second thread can be made. Such a phase ends after 1,000,000 steps for
 //! each worker. The next one is twice as long, up to 64,000,000 steps, but as short as the first again if the
 //! phase in threads between them made more than four times its steps. A crew of one worker makes all its steps
 //! in such a phase, which then has no bound.

@@ -1,8 +1,8 @@
 //! One worker's part of a phase: it tells its gate of the turns that begin, and steps its members.
 
-ghost use Rattle.std.specs.Prelude.{All, Some, length, slice_get, slice_index, ℕ, ◌+◌, ◌<◌, ◌^◌, ◌≡◌, ◌≢◌, ◌≤◌};
+ghost use Rattle.std.specs.Prelude.{Some, length, slice_get, ℕ, ◌+◌, ◌<◌, ◌^◌, ◌≡◌, ◌≢◌, ◌≤◌};
 ghost use Rattle.limits.specs.declared.TheConstants.{MAX_PORTS};
-ghost use Rattle.crew_run.specs.Crews.{AreReady, CanRun};
+ghost use Rattle.crew_run.specs.Crews.{AreReady, CanRun, HasRoomToRun};
 ghost use Rattle.crew_run.specs.Phases.{AreBegun, AreStepped, CanResume, CanStep, HasBegun, HasRoomFor, IsBegun, IsResumed, IsStepped};
 ghost use Rattle.crew_run.specs.Visits.{IsUntold};
 
@@ -62,7 +62,7 @@ impl Progress {
 fn tell_turn<S: Stepper, G: Gate>(member: &S, gate: &mut G)
     requires port { S.port member.now < MAX_PORTS }
     requires within { S.turn member.now ≤ S.last_turn member.now + 1 }
-    requires room { slice_index (G.times gate.old) (S.port member.now) ≤ 2 ^ 62 }
+    requires room { HasRoomToRun S.Stepper.own G.Gate.own member.now gate.old }
     ensures begun { IsBegun S.Stepper.own G.Gate.own member.now gate.old gate.new }
     ensures others { (q : ℕ) → q ≢ S.port member.now → IsUntold G.Gate.own q gate.old gate.new }
 {
@@ -75,7 +75,7 @@ fn tell_turn<S: Stepper, G: Gate>(member: &S, gate: &mut G)
 /// Tells the gate of the turn of each member that has one left.
 fn tell_turns<S: Stepper, G: Gate>(members: &[S], gate: &mut G)
     requires ready { AreReady S.Stepper.own members.now }
-    requires room { All (λ n. n ≤ 2 ^ 62) (G.times gate.old) }
+    requires room { (k : ℕ) (a : S) → slice_get members.now k ≡ Some a → HasRoomToRun S.Stepper.own G.Gate.own a gate.old }
     ensures { AreBegun S.Stepper.own G.Gate.own (length members.now) members.now gate.old gate.new }
 {
     for k in 0..members.len() {
