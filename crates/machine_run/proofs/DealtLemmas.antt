@@ -9,6 +9,7 @@ use Rattle.crew_run.specs.declared.worker.Worker.{Worker}
 use Rattle.image_defs.specs.Places.{host_of}
 use Rattle.port_run.specs.declared.seated.Seated.{Seated}
 use Rattle.slot_words.specs.Passes.{AreFirstPasses, CrossbarView, IsFirstPass, PassView}
+use Rattle.machine_run.specs.Crews.{CrewView}
 use Rattle.machine_run.specs.Dealt.{AreDealt, AreIdle, HasGained, HasPort, IsDealtTo, IsMember, IsSeatOf}
 
 module _ {S G : Type 0} where
@@ -69,9 +70,9 @@ module _ {S G : Type 0} (ws : List (Worker S G)) (w : ℕ) (worker worker' : Wor
 
 -- ---- dealing
 
-module _ {G : Type 0} (bar : CrossbarView) (n : ℕ) where
+module _ {G : Type 0} (crew : CrewView) where
   -- no port is dealt to idle workers
-  pub dealt_none : (from : ℕ) (ws : List (Worker Seated G)) → AreIdle n ws → 1 ≤ length bar.image.ports → length bar.image.ports ≤ from → AreDealt bar n from ws
+  pub dealt_none : (from : ℕ) (ws : List (Worker Seated G)) → AreIdle crew.workers ws → 1 ≤ length crew.image.ports → length crew.image.ports ≤ from → AreDealt crew from ws
   dealt_none from ws idle some past = record {
     count = idle.count;
     each = λ w k seat is. absurd (none w k seat is);
@@ -85,13 +86,13 @@ module _ {G : Type 0} (bar : CrossbarView) (n : ℕ) where
         omega (arith, low, ap length (idle.idle w is.worker is.worker_is))
 
   module _ (p w : ℕ) (ws : List (Worker Seated G)) (worker worker' : Worker Seated G) (seat : Seated) where
-    with_more : AreDealt bar n (p + 1) ws → IsSeatOf bar p seat → p < length bar.image.ports → w ≡ p % n → slice_get ws w ≡ Some worker → worker'.members ≡ worker.members ++ seat ∷ []
-        → AreDealt bar n p (set ws w worker')
-    with_more so_far seat_is inside w_is at given = record {
+    with_more : AreDealt crew (p + 1) ws → IsSeatOf crew seat → seat.run.pass.port ≡ p → p < length crew.image.ports → w ≡ p % crew.workers → slice_get ws w ≡ Some worker → worker'.members ≡ worker.members ++ seat ∷ []
+        → AreDealt crew p (set ws w worker')
+    with_more so_far seat_is port_is inside w_is at given = record {
       count = length-set ws w worker' ∙ so_far.count;
       each = λ v k one is. elim (after v k one is) [
         | inl old ↦ (let was = so_far.each v k one old in record { seat_is = was.seat_is; from_is = omega (arith, was.from_is); inside = was.inside; whose = was.whose })
-        | inr last ↦ subst (IsDealtTo bar n p v) last.2 (subst (λ x. IsDealtTo bar n p x seat) (sym last.0) newest)
+        | inr last ↦ subst (IsDealtTo crew p v) last.2 (subst (λ x. IsDealtTo crew p x seat) (sym last.0) newest)
       ];
       apart = λ v j k a b is is' away. elim (after v j a is) [
         | inl old ↦ elim (after v k b is') [
@@ -105,38 +106,35 @@ module _ {G : Type 0} (bar : CrossbarView) (n : ℕ) where
       ];
       all = λ q from low. elim (cases_lt p q) [
         | inl past ↦ (let old = so_far.all q (omega (arith, past)) low in (old.0, kept q old.0 old.1))
-        | inr here ↦ (length worker.members, subst (λ x. HasPort n (set ws w worker') x (length worker.members)) (omega (arith, from, here)) last_port)
+        | inr here ↦ (length worker.members, subst (λ x. HasPort crew.workers (set ws w worker') x (length worker.members)) (omega (arith, from, here)) last_port)
       ];
-      host = λ from. elim (cases_lt p (host_of bar.image)) [
-        | inl past ↦ kept (host_of bar.image) 0 (so_far.host (omega (arith, past)))
-        | inr here ↦ subst (λ x. HasPort n (set ws w worker') x 0) (omega (arith, from, here)) (subst (HasPort n (set ws w worker') p) (alone (omega (arith, from, here, inside))) last_port)
+      host = λ from. elim (cases_lt p (host_of crew.image)) [
+        | inl past ↦ kept (host_of crew.image) 0 (so_far.host (omega (arith, past)))
+        | inr here ↦ subst (λ x. HasPort crew.workers (set ws w worker') x 0) (omega (arith, from, here)) (subst (HasPort crew.workers (set ws w worker') p) (alone (omega (arith, from, here, inside))) last_port)
       ];
     } where
       after : (v k : ℕ) (one : Seated) → IsMember (set ws w worker') v k one → IsMember ws v k one ⊎ ((v ≡ w) × (k ≡ length worker.members) × (seat ≡ one))
       after = member_after ws w worker worker' seat at given
 
-      kept : (q k : ℕ) → HasPort n ws q k → HasPort n (set ws w worker') q k
-      kept q k has = record { seat = has.seat; member = member_kept ws w worker worker' seat at given (q % n) k has.seat has.member; port_is = has.port_is }
+      kept : (q k : ℕ) → HasPort crew.workers ws q k → HasPort crew.workers (set ws w worker') q k
+      kept q k has = record { seat = has.seat; member = member_kept ws w worker worker' seat at given (q % crew.workers) k has.seat has.member; port_is = has.port_is }
 
-      port_is : seat.run.port ≡ p
-      port_is = seat_is.first.port_is
-
-      newest : IsDealtTo bar n p w seat
+      newest : IsDealtTo crew p w seat
       newest = record {
-        seat_is = subst (λ q. IsSeatOf bar q seat) (sym port_is) seat_is;
+        seat_is = seat_is;
         from_is = omega (arith, port_is);
-        inside = subst (λ q. q < length bar.image.ports) (sym port_is) inside;
-        whose = ap (λ q. q % n) port_is ∙ sym w_is;
+        inside = subst (λ q. q < length crew.image.ports) (sym port_is) inside;
+        whose = ap (λ q. q % crew.workers) port_is ∙ sym w_is;
       }
 
-      later : (a b : Seated) → p + 1 ≤ a.run.port → seat ≡ b → a.run.port ≢ b.run.port
-      later a b above is same = let b_is : b.run.port ≡ p = ap (λ (x : Seated). x.run.port) (sym is) ∙ port_is in absurd (omega (arith, above, same, b_is))
+      later : (a b : Seated) → p + 1 ≤ a.run.pass.port → seat ≡ b → a.run.pass.port ≢ b.run.pass.port
+      later a b above is same = let b_is : b.run.pass.port ≡ p = ap (λ (x : Seated). x.run.pass.port) (sym is) ∙ port_is in absurd (omega (arith, above, same, b_is))
 
-      last_port : HasPort n (set ws w worker') p (length worker.members)
+      last_port : HasPort crew.workers (set ws w worker') p (length worker.members)
       last_port = record { seat = seat; member = subst (λ v. IsMember (set ws w worker') v (length worker.members) seat) w_is (member_new ws w worker worker' seat at given); port_is = port_is }
 
       -- the last port of all is the first that is dealt
-      alone : p + 1 ≡ length bar.image.ports → length worker.members ≡ 0
+      alone : p + 1 ≡ length crew.image.ports → length worker.members ≡ 0
       alone last = elim (cases_lt 0 (length worker.members)) [
         | inl some ↦
             let one = member_at worker.members 0 some in
@@ -146,5 +144,5 @@ module _ {G : Type 0} (bar : CrossbarView) (n : ℕ) where
       ]
 
   -- one port more is dealt
-  pub dealt_more : (p w : ℕ) (ws ws' : List (Worker Seated G)) (seat : Seated) → AreDealt bar n (p + 1) ws → IsSeatOf bar p seat → p < length bar.image.ports → w ≡ p % n → HasGained ws w seat ws' → AreDealt bar n p ws'
-  dealt_more p w ws ws' seat so_far seat_is inside w_is gain = subst (AreDealt bar n p) (sym gain.is) (with_more p w ws gain.worker gain.worker' seat so_far seat_is inside w_is gain.at gain.gained)
+  pub dealt_more : (p w : ℕ) (ws ws' : List (Worker Seated G)) (seat : Seated) → AreDealt crew (p + 1) ws → IsSeatOf crew seat → seat.run.pass.port ≡ p → p < length crew.image.ports → w ≡ p % crew.workers → HasGained ws w seat ws' → AreDealt crew p ws'
+  dealt_more p w ws ws' seat so_far seat_is port_is inside w_is gain = subst (AreDealt crew p) (sym gain.is) (with_more p w ws gain.worker gain.worker' seat so_far seat_is port_is inside w_is gain.at gain.gained)

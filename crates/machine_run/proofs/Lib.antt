@@ -1,6 +1,12 @@
+pub mod BlockLemmas
+pub mod CrewLemmas
 pub mod DealtLemmas
-pub mod EndLemmas
 pub mod GateLemmas
 pub mod HostLemmas
+pub mod KeptLemmas
+pub mod MoveLemmas
 pub mod ReadyLemmas
+pub mod RoomLemmas
+pub mod TurnLemmas
 pub mod VisitLemmas
+pub mod WholeLemmas

@@ -1,57 +1,48 @@
--- Workers to whom ports are dealt are ready for a run.
-use Rattle.std.proofs.Common.{List, Option, Some, ap, ap₂, arith, length, slice_get, subst, sym, ℕ, ◌*◌, ◌<◌, ◌^◌, ◌≡◌, ◌≤◌}
-use Rattle.std.proofs.lemmas.Nat.{mul-le}
-use Rattle.crew_run.specs.Crews.{CanTell}
+-- Workers to whom ports are dealt are ready to run a block.
+use Rattle.std.proofs.Common.{List, Option, Some, arith, length, slice_get, ℕ, ◌+◌, ◌≡◌, ◌≤◌}
+use Rattle.std.proofs.lemmas.Option.{slice_get_within}
 use Rattle.crew_run.specs.Lending.{AllAreReady, AllCanRunWith}
 use Rattle.crew_run.specs.declared.gate.Gate as gate
 use Rattle.crew_run.specs.declared.worker.Worker.{Worker}
-use Rattle.event_defs.specs.declared.place.Place.{Place}
 use Rattle.image_defs.specs.WellFormed.{IsWellFormed}
-use Rattle.image_defs.specs.declared.image.Image.{Image}
-use Rattle.limits.specs.declared.TheConstants.{MAX_CYCLES, MAX_UNITS}
-use Rattle.net_defs.specs.Time.{cycle_count}
 use Rattle.net_defs.specs.Valid.{IsValidStimulus}
-use Rattle.net_defs.specs.declared.stimulus.Stimulus.{Stimulus}
-use Rattle.port_run.specs.Pairs.{until}
 use Rattle.port_run.specs.contracts.seated.SeatedStepper.TheImpl as seated
 use Rattle.port_run.specs.declared.seated.Seated.{Seated}
-use Rattle.slot_words.specs.Passes.{CrossbarView, IsMade, PassView}
-use Rattle.slot_words.specs.Rule.{turns_of}
-use Rattle.machine_run.specs.Dealt.{AreDealt, IsDealtTo, IsMember, IsSeatOf}
+use Rattle.machine_run.specs.Crews.{CrewView, at_block_end, rows_at_end, turns_left, turns_made}
+use Rattle.machine_run.specs.Dealt.{AreDealt, IsDealtTo}
+use Rattle.machine_run.specs.Visits.{AllCanTellTurns, CanTellTurns}
+use Rattle.machine_run.proofs.CrewLemmas.{made_few, made_more, turns_few}
 
--- a run has few turns
-pub turns_few : (image : Image) (stimulus : Stimulus) → IsWellFormed image → IsValidStimulus stimulus → turns_of image stimulus ≤ 2 ^ 62
-turns_few image stimulus fits valid = let most : image.units * cycle_count stimulus ≤ MAX_UNITS * MAX_CYCLES = mul-le _ _ _ _ fits.units.1 valid.cycles in omega (arith, most)
+module _ {G : Type 0} (crew : CrewView) (fits : IsWellFormed crew.image) (valid : IsValidStimulus crew.stimulus) (few : crew.rows ≤ rows_at_end crew) (ws : List (Worker Seated G)) (dealt : AreDealt crew 0 ws) where
+  each : (i : ℕ) (w : Worker Seated G) → slice_get ws i ≡ Some w → (k : ℕ) (a : Seated) → slice_get w.members k ≡ Some a → IsDealtTo crew 0 i a
+  each i w at k a there = dealt.each i k a (record { worker = w; worker_is = at; member_is = there })
 
-module _ (bar : CrossbarView) (p : ℕ) (seat : Seated) (is : IsSeatOf bar p seat) where
-  -- a port before its first event is in its first turn, and makes the turns of the crossbar's run
-  pub turn_is : seat.run.place.turn ≡ 1
-  turn_is = ap (λ (x : Place). x.turn) is.first.place_is
+  -- a member makes the turns of the block
+  until_is : (i : ℕ) (w : Worker Seated G) → slice_get ws i ≡ Some w → (k : ℕ) (a : Seated) → slice_get w.members k ≡ Some a → a.run.until ≡ turns_made (at_block_end crew)
+  until_is i w at k a there = (each i w at k a there).seat_is.until
 
-  pub until_is : until seat.run ≡ turns_of bar.image bar.stimulus
-  until_is = ap₂ turns_of is.first.of.image is.first.of.stimulus
+  turn_is : (i : ℕ) (w : Worker Seated G) → slice_get ws i ≡ Some w → (k : ℕ) (a : Seated) → slice_get w.members k ≡ Some a → a.run.pass.place.turn ≡ turns_made crew + 1
+  turn_is i w at k a there = (each i w at k a there).seat_is.turn
 
-module _ {G : Type 0} (bar : CrossbarView) (n : ℕ) (ws : List (Worker Seated G)) where
-  pub dealt_ready : AreDealt bar n 0 ws → IsWellFormed bar.image → IsValidStimulus bar.stimulus → AllAreReady seated.ghosts ws
-  dealt_ready dealt fits valid i w at = record {
-    port = λ k a there. (let inside = (each k a there).inside in omega (arith, inside, fits.most_ports));
-    apart = λ j k a b here there away. dealt.apart i j k a b (member j a here) (member k b there) away;
-    begun = λ k a there. (let turn = turn_is bar a.run.port a (each k a there).seat_is in omega (arith, turn));
-    within = λ k a there. (let turn = turn_is bar a.run.port a (each k a there).seat_is in omega (arith, turn));
-    small = λ k a there. subst (λ t. t ≤ 2 ^ 62) (sym (until_is bar a.run.port a (each k a there).seat_is)) (turns_few bar.image bar.stimulus fits valid);
-  } where
-    member : (k : ℕ) (a : Seated) → slice_get w.members k ≡ Some a → IsMember ws i k a
-    member k a there = record { worker = w; worker_is = at; member_is = there }
+  pub dealt_ready : AllAreReady seated.ghosts ws
+  dealt_ready i w at = record {
+    port = λ k a there. (let inside = (each i w at k a there).inside in omega (arith, inside, fits.most_ports));
+    apart = λ j k a b here there away. dealt.apart i j k a b (record { worker = w; worker_is = at; member_is = here }) (record { worker = w; worker_is = at; member_is = there }) away;
+    begun = λ k a there. omega (arith, turn_is i w at k a there);
+    within = λ k a there. omega (arith, turn_is i w at k a there, until_is i w at k a there, made_more crew few);
+    small = λ k a there. omega (arith, until_is i w at k a there, made_few crew few, turns_few crew.image crew.stimulus fits valid);
+  }
 
-    each : (k : ℕ) (a : Seated) → slice_get w.members k ≡ Some a → IsDealtTo bar n 0 i a
-    each k a there = dealt.each i k a (member k a there)
-
--- so they can run with gates that can be told of their turns
-pub can_run : {G : Type 0} (p : gate.Ghosts G) (image : Image) (stimulus : Stimulus) (banks : ℕ) (bar : CrossbarView) (passes : List PassView) → IsMade image stimulus banks bar passes → IsWellFormed image → IsValidStimulus stimulus
-    → (n : ℕ) (ws ws' : List (Worker Seated G)) (gates : List (Option G)) → AreDealt bar n 0 ws → ws' ≡ ws → n ≤ length gates
-    → ((i : ℕ) (gate : Option G) → i < n → slice_get gates i ≡ Some gate → CanTell p gate) → AllCanRunWith seated.ghosts p ws' gates
-can_run p image stimulus banks bar passes made fits valid n ws ws' gates dealt same enough tell = subst (λ xs. AllCanRunWith seated.ghosts p xs gates) (sym same) (record {
-  ready = dealt_ready bar n ws dealt (subst IsWellFormed (sym made.image_is) fits) (subst IsValidStimulus (sym made.stimulus_is) valid);
-  enough = omega (arith, enough, dealt.count);
-  tell = λ i gate low. tell i gate (omega (arith, low, dealt.count));
-})
+  -- with gates that can be told of the turns that are left
+  pub can_run : (p : gate.Ghosts G) (gates : List (Option G)) → crew.workers ≤ length gates → AllCanTellTurns p (turns_left crew) crew.workers gates → AllCanRunWith seated.ghosts p ws gates
+  can_run p gates enough tell = record {
+    ready = dealt_ready;
+    enough = omega (arith, enough, dealt.count);
+    tell = λ i w gate at there.
+        let can : CanTellTurns p (turns_left crew) gate = tell i gate (let low = slice_get_within ws i w at in omega (arith, low, dealt.count)) there in
+        record {
+          told = can.told;
+          is = can.is;
+          room = λ k a here. omega (arith, can.times a.run.pass.port, turn_is i w at k a here, until_is i w at k a here, made_more crew few, made_few crew few);
+        };
+  }

@@ -1,17 +1,18 @@
--- Ports that are dealt to workers.
-use Rattle.std.specs.Prelude.{List, Some, [], length, slice_get, slice_set, ℕ, ◌%◌, ◌++◌, ◌<◌, ◌∷◌, ◌≡◌, ◌≢◌, ◌≤◌}
+-- Ports that are dealt to the workers of a crew.
+use Rattle.std.specs.Prelude.{List, Some, [], length, slice_get, slice_set, ℕ, ◌%◌, ◌*◌, ◌+◌, ◌++◌, ◌<◌, ◌∷◌, ◌≡◌, ◌≢◌, ◌≤◌}
 use Rattle.crew_run.specs.declared.worker.Worker.{Worker}
 use Rattle.image_defs.specs.Places.{host_of}
-use Rattle.image_defs.specs.declared.image.Image.{Image}
-use Rattle.net_defs.specs.declared.stimulus.Stimulus.{Stimulus}
-use Rattle.port_run.specs.Pairs.{IsDone}
 use Rattle.port_run.specs.declared.seated.Seated.{Seated}
-use Rattle.slot_words.specs.Passes.{CrossbarView, IsFirstPass}
+use Rattle.machine_run.specs.Crews.{CrewView, rows_at_end, turns_made}
 
--- port p beside this crossbar, before its first event
-pub record IsSeatOf (bar : CrossbarView) (p : ℕ) (seat : Seated) : Type 0 where
-  pub bar_is : seat.bar.now ≡ bar
-  pub first : IsFirstPass bar p seat.run
+-- a port of the crew's run, in the block of the crew, after the turns that the crew has made
+pub record IsSeatOf (crew : CrewView) (seat : Seated) : Type 0 where
+  pub image : seat.run.pass.image ≡ crew.image
+  pub stimulus : seat.run.pass.stimulus ≡ crew.stimulus
+  pub window : seat.run.window ≡ crew.window
+  pub first_row : seat.run.first_row ≡ crew.first_row
+  pub until : seat.run.until ≡ crew.image.units * rows_at_end crew
+  pub turn : seat.run.pass.place.turn ≡ turns_made crew + 1
 
 -- so many workers without members
 pub record AreIdle {S G : Type 0} (n : ℕ) (ws : List (Worker S G)) : Type 0 where
@@ -33,37 +34,26 @@ module _ {S G : Type 0} where
     pub gained : worker'.members ≡ worker.members ++ member ∷ []
     pub is : ws' ≡ slice_set ws w worker'
 
--- what is dealt to worker w of n: one of its ports, from this number on, before its first event
-pub record IsDealtTo (bar : CrossbarView) (n from w : ℕ) (seat : Seated) : Type 0 where
-  pub seat_is : IsSeatOf bar seat.run.port seat
-  pub from_is : from ≤ seat.run.port
-  pub inside : seat.run.port < length bar.image.ports
-  pub whose : seat.run.port % n ≡ w
+-- what is dealt to worker w of a crew: one of its ports, from this number on
+pub record IsDealtTo (crew : CrewView) (from w : ℕ) (seat : Seated) : Type 0 where
+  pub seat_is : IsSeatOf crew seat
+  pub from_is : from ≤ seat.run.pass.port
+  pub inside : seat.run.pass.port < length crew.image.ports
+  pub whose : seat.run.pass.port % crew.workers ≡ w
 
 module _ {G : Type 0} (n : ℕ) where
   -- port p is member number k of its worker
   pub record HasPort (ws : List (Worker Seated G)) (p k : ℕ) : Type 0 where
     pub seat : Seated
     pub member : IsMember ws (p % n) k seat
-    pub port_is : seat.run.port ≡ p
+    pub port_is : seat.run.pass.port ≡ p
 
-module _ {G : Type 0} (bar : CrossbarView) (n : ℕ) where
-  -- the ports of the image from this number on are dealt to n workers, each once; the host is the first member of
-  -- its worker
+module _ {G : Type 0} (crew : CrewView) where
+  -- the ports of the image from this number on are dealt to the workers, each once; the host is the first member of its
+  -- worker
   pub record AreDealt (from : ℕ) (ws : List (Worker Seated G)) : Type 0 where
-    pub count : length ws ≡ n
-    pub each : (w k : ℕ) (seat : Seated) → IsMember ws w k seat → IsDealtTo bar n from w seat
-    pub apart : (w j k : ℕ) (a b : Seated) → IsMember ws w j a → IsMember ws w k b → j ≢ k → a.run.port ≢ b.run.port
-    pub all : (p : ℕ) → from ≤ p → p < length bar.image.ports → (k : ℕ) × HasPort n ws p k
-    pub host : from ≤ host_of bar.image → HasPort n ws (host_of bar.image) 0
-
--- the first member of the host's worker is the host of this image and stimulus, at its end
-pub record HasHost {G : Type 0} (image : Image) (stimulus : Stimulus) (ws : List (Worker Seated G)) : Type 0 where
-  pub some_workers : 1 ≤ length ws
-  pub some_ports : 1 ≤ length image.ports
-  pub seat : Seated
-  pub member : IsMember ws (host_of image % length ws) 0 seat
-  pub image_is : seat.run.image ≡ image
-  pub stimulus_is : seat.run.stimulus ≡ stimulus
-  pub port_is : seat.run.port ≡ host_of image
-  pub done : IsDone seat.run
+    pub count : length ws ≡ crew.workers
+    pub each : (w k : ℕ) (seat : Seated) → IsMember ws w k seat → IsDealtTo crew from w seat
+    pub apart : (w j k : ℕ) (a b : Seated) → IsMember ws w j a → IsMember ws w k b → j ≢ k → a.run.pass.port ≢ b.run.pass.port
+    pub all : (p : ℕ) → from ≤ p → p < length crew.image.ports → (k : ℕ) × HasPort crew.workers ws p k
+    pub host : from ≤ host_of crew.image → HasPort crew.workers ws (host_of crew.image) 0

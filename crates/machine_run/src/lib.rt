@@ -1,11 +1,15 @@
 //! A whole machine, run by a crew of workers over one crossbar: each port is dealt to one of them, which
-//! steps it to the end of its turns, in a thread of its own where one can be made.
+//! steps it to the end of a block of cycles, in a thread of its own where one can be made. Once all ports are
+//! there, they go on with the next block.
 #![tactic(auto)]
 
+mod crew;
 mod gates;
 mod machine;
 mod rows;
 mod seats;
+mod steps;
 
+pub use crew::Crew;
 pub use gates::count_gates;
 pub use machine::run_machine;

@@ -4,20 +4,17 @@ ghost use Rattle.std.specs.Prelude.{IfOk, OnErr, OnOk, Option, Some, length, sli
 ghost use Rattle.limits.specs.declared.TheConstants.{MAX_BANKS};
 ghost use Rattle.crew_run.specs.Crews.{CanTell};
 ghost use Rattle.image_defs.specs.WellFormed.{IsWellFormed};
-ghost use Rattle.machine_run.specs.Dealt.{HasHost};
-ghost use Rattle.machine_run.specs.Shown.{AreShown, AreWide};
+ghost use Rattle.machine_run.specs.Shown.{AreShown};
 ghost use Rattle.machine_run.specs.Visits.{AreInPlace, AreVisitsOf};
 ghost use Rattle.net_defs.specs.Time.{cycle_count};
 ghost use Rattle.net_defs.specs.Valid.{IsValidStimulus};
-ghost use Rattle.port_host.specs.Rows.{printed_sources};
 ghost use Rattle.slot_words.specs.Rule.{turns_of};
 
+use crate::crew::Crew;
 use crate::rows::{blank_rows, fill_rows};
-use crate::seats::{crew_of, worker_of};
-use crew_run::{Gate, Worker, run_with};
+use crew_run::Gate;
 use image_defs::Image;
-use net_defs::{CellRow, Rows, Stimulus};
-use port_run::Seated;
+use net_defs::{Rows, Stimulus};
 use seen_list::Memory;
 use slot_words::Crossbar;
 use std::alloc::Global;
@@ -25,27 +22,8 @@ use std::marker::{Send, Sync};
 use std::sync::Wait;
 use std::thread::Threads;
 
-/// Copies the rows of the host, which is the first member of its worker.
-fn print_rows<'a, G: Gate>(
-    rows: &mut [CellRow],
-    crew: &[Worker<Seated<'a>, G>],
-    image: &Image,
-    stim: &Stimulus,
-)
-    requires host { HasHost image.now stim.now crew.now }
-    requires room { AreWide (cycle_count stim.now) (length (printed_sources image.now)) rows.old }
-    ensures { AreShown image.now stim.now (cycle_count stim.now) rows.new }
-{
-    let host = image.ports.len() - 1;
-    let worker = &crew[worker_of(host, crew.len())];
-    match worker.members.as_slice()[0].run.host() {
-        Some(host) => fill_rows(rows, host),
-        None => unreachable!(),
-    }
-}
-
 /// Runs the image under the stimulus with so many workers, to the end of all turns, and answers one row
-/// for each cycle, of as many cells as the host prints. Worker `w` steps the ports `p` of which
+/// for each cycle, of as many cells as the host prints. All cycles are one block. Worker `w` steps the ports `p` of which
 /// `p % workers` is `w`, and tells the gate `w` of their turns; the gates past the workers are not used.
 /// A refusal comes before any gate is told. It may wait, so what it promises holds if it returns.
 ///
@@ -73,10 +51,11 @@ pub fn run_machine<R: Threads + Wait + Sync, G: Gate + Send>(
     ensures refused { OnErr result (gates.new ≡ gates.old) }
     ensures kept { AreInPlace gates.old gates.new }
 {
+    let cycles = stim.cycles();
     let (bar, passes) = Crossbar::make(rt, alloc, image, stim, banks)?;
-    let mut rows = blank_rows(alloc, image, stim.cycles())?;
-    let mut crew = crew_of(alloc, &bar, image, stim, passes, workers)?;
-    run_with(rt, crew.as_mut_slice(), gates);
-    print_rows(rows.rows.as_mut_slice(), crew.as_slice(), image, stim);
+    let mut rows = blank_rows(alloc, image, cycles)?;
+    let mut crew = Crew::new(alloc, &bar, image, stim, passes, workers, cycles.max(1))?;
+    crew.run_block(rt, gates);
+    fill_rows(rows.rows.as_mut_slice(), crew.host());
     Ok(rows)
 }

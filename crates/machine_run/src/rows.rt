@@ -12,7 +12,7 @@ use port_host::HostPort;
 use seen_list::{List, Memory};
 use std::alloc::Global;
 
-/// How many cells a row of the image has.
+/// How many cells a row of the image has: one for each source that the host prints.
 fn width(image: &Image) -> usize
     requires { IsWellFormed image.now }
     ensures { result ≡ length (printed_sources image.now) }
@@ -55,10 +55,11 @@ fn fill_row(row: &mut CellRow, cells: &[V4])
     row.cells.as_mut_slice().copy_from_slice(cells);
 }
 
-/// Copies the host's rows.
+/// Copies the rows of the host, which has given up none.
 pub(crate) fn fill_rows(rows: &mut [CellRow], host: &HostPort<'_>)
-    requires { AreWide (rows_done host.now) (length (printed_sources host.now.image)) rows.old }
-    ensures { AreShown host.now.image host.now.stimulus (rows_done host.now) rows.new }
+    requires none { host.now.first_row ≡ 0 }
+    requires room { AreWide (rows_done host.now.port) (length (printed_sources host.now.port.image)) rows.old }
+    ensures { AreShown host.now.port.image host.now.port.stimulus (rows_done host.now.port) rows.new }
 {
     'cycles: for c in 0..host.rows_done() {
         fill_row(&mut rows[c as usize], host.cells(c + 1));

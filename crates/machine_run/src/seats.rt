@@ -1,9 +1,10 @@
 //! Ports that are dealt to workers.
 
-ghost use Rattle.std.specs.Prelude.{IfOk, OnErr, OnOk, [], length, ◌%◌, ◌++◌, ◌<◌, ◌∷◌, ◌≡◌, ◌≤◌};
+ghost use Rattle.std.specs.Prelude.{IfOk, OnOk, [], length, ◌%◌, ◌++◌, ◌<◌, ◌∷◌, ◌≡◌, ◌≤◌, ℕ};
 ghost use Rattle.net_defs.specs.Valid.{IsValidStimulus};
 ghost use Rattle.image_defs.specs.WellFormed.{IsWellFormed};
 ghost use Rattle.slot_words.specs.Passes.{AreFirstPasses, IsFirstPass};
+ghost use Rattle.machine_run.specs.Crews.{at_first};
 ghost use Rattle.machine_run.specs.Dealt.{AreDealt, AreIdle, HasGained, IsSeatOf};
 
 use crew_run::{Gate, Stepper, Worker};
@@ -55,13 +56,14 @@ fn give_to<S: Stepper, G: Gate>(
     give(&mut crew[place], member)
 }
 
-/// The port of a pass beside its crossbar, before its first event.
+/// The port of a pass beside its crossbar, before its first event, with blocks of so many cycles.
 fn seat<'a>(
     alloc: Global,
     bar: &'a Crossbar,
     image: &'a Image,
     stim: &'a Stimulus,
     pass: Pass,
+    window: u32,
 ) -> Result<Seated<'a>, Memory>
     requires fits { IsWellFormed image.now }
     requires valid { IsValidStimulus stim.now }
@@ -70,9 +72,11 @@ fn seat<'a>(
     requires stimulus { bar.now.stimulus ≡ stim.now }
     requires first { IsFirstPass bar.now pass.port pass }
     requires there { pass.port < length image.now.ports }
-    ensures { IfOk result (IsSeatOf bar.now pass.port) }
+    requires some_cycles { 1 ≤ window }
+    ensures seat { IfOk result (λ seat. (workers : ℕ) → IsSeatOf (at_first image.now stim.now workers window) seat) }
+    ensures port { IfOk result (λ seat. seat.run.pass.port ≡ pass.port) }
 {
-    let port = AnyPort::new(alloc, image, stim, pass.port())?;
+    let port = AnyPort::new(alloc, image, stim, pass.port(), window)?;
     let run = Running::new(pass, port);
     Ok(Seated { bar, run })
 }
@@ -86,13 +90,14 @@ pub(crate) fn worker_of(port: usize, workers: usize) -> usize
     port % workers
 }
 
-/// Deals the ports of all passes to the workers, the last port first.
+/// Deals the ports of all passes to the workers, the last port first, with blocks of so many cycles.
 fn deal<'a, G: Gate>(
     alloc: Global,
     bar: &'a Crossbar,
     image: &'a Image,
     stim: &'a Stimulus,
     passes: List<Pass>,
+    window: u32,
     crew: &mut [Worker<Seated<'a>, G>],
 ) -> Result<(), Memory>
     requires fits { IsWellFormed image.now }
@@ -101,27 +106,29 @@ fn deal<'a, G: Gate>(
     requires image { bar.now.image ≡ image.now }
     requires stimulus { bar.now.stimulus ≡ stim.now }
     requires passes { AreFirstPasses bar.now (length image.now.ports) passes }
+    requires some_cycles { 1 ≤ window }
     requires some { 1 ≤ length crew.old }
     requires idle { AreIdle (length crew.old) crew.old }
-    ensures { OnOk result (AreDealt bar.now (length crew.old) 0 crew.new) }
+    ensures { OnOk result (AreDealt (at_first image.now stim.now (length crew.old) window) 0 crew.new) }
 {
     let mut passes = passes;
     'passes: while let Some(pass) = passes.pop() {
         let worker = worker_of(pass.port() as usize, crew.len());
-        let member = seat(alloc, bar, image, stim, pass)?;
+        let member = seat(alloc, bar, image, stim, pass, window)?;
         give_to(crew, worker, member)?;
     }
     Ok(())
 }
 
-/// So many workers, to which the ports of all passes are dealt.
-pub(crate) fn crew_of<'a, G: Gate>(
+/// So many workers, to which the ports of all passes are dealt, with blocks of so many cycles.
+pub(crate) fn workers_of<'a, G: Gate>(
     alloc: Global,
     bar: &'a Crossbar,
     image: &'a Image,
     stim: &'a Stimulus,
     passes: List<Pass>,
     workers: u32,
+    window: u32,
 ) -> Result<List<Worker<Seated<'a>, G>>, Memory>
     requires fits { IsWellFormed image.now }
     requires valid { IsValidStimulus stim.now }
@@ -130,9 +137,10 @@ pub(crate) fn crew_of<'a, G: Gate>(
     requires stimulus { bar.now.stimulus ≡ stim.now }
     requires passes { AreFirstPasses bar.now (length image.now.ports) passes }
     requires some { 1 ≤ workers }
-    ensures { IfOk result (AreDealt bar.now workers 0) }
+    requires some_cycles { 1 ≤ window }
+    ensures { IfOk result (AreDealt (at_first image.now stim.now workers window) 0) }
 {
     let mut crew = idle_crew(alloc, workers)?;
-    deal(alloc, bar, image, stim, passes, crew.as_mut_slice())?;
+    deal(alloc, bar, image, stim, passes, window, crew.as_mut_slice())?;
     Ok(crew)
 }

@@ -4,4 +4,4 @@ use Rattle.machine_run.specs.Shown.{AreFilled, AreWide}
 use Rattle.machine_run.proofs.rows.fill_rows.Given as goal
 
 abbrev pub invariant-cycles : goal.invariant-cycles
-invariant-cycles l = AreWide (rows_done l.host) (length (printed_sources l.host.image)) l.rows × AreFilled l.host.image l.host.stimulus l.c l.rows
+invariant-cycles l = AreWide (rows_done l.host.port) (length (printed_sources l.host.port.image)) l.rows × AreFilled l.host.port.image l.host.port.stimulus l.c l.rows

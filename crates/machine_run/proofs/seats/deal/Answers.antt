@@ -1,7 +1,8 @@
 use Rattle.std.proofs.Common.{ap, arith, length, refl, subst, sym, ◌∙◌, ◌%◌}
 use Rattle.slot_words.specs.Passes.{IsFirstPass}
 use Rattle.machine_run.proofs.DealtLemmas.{dealt_more, dealt_none, passes_less}
-use Rattle.machine_run.specs.Dealt.{AreDealt, IsSeatOf}
+use Rattle.machine_run.specs.Crews.{at_first}
+use Rattle.machine_run.specs.Dealt.{AreDealt}
 use Rattle.machine_run.proofs.seats.deal.Goals as goal
 
 pub seat-requires-clause-first : goal.seat-requires-clause-first
@@ -12,31 +13,31 @@ seat-requires-clause-first g c =
 pub seat-requires-clause-there : goal.seat-requires-clause-there
 seat-requires-clause-there g c =
     let less = passes_less c.args.bar.now _ _ _ c.in-Some.pass c.passes.invariant.passes c.in-Some.ensures.last in
-    omega (arith, less.0, less.2.port_is, c.passes.invariant.few, ap (λ image. length image.ports) c.requires.image)
+    omega (arith, less.0, less.2.port_is, c.passes.invariant.few)
 
 pub passes-preserved : goal.passes-preserved
 passes-preserved g c =
     let less = passes_less c.args.bar.now _ _ _ c.in-Some.pass c.passes.invariant.passes c.in-Some.ensures.last in
+    let crew = at_first c.args.image.now c.args.stim.now (length c.args.crew.now) c.args.window in
     record {
       passes = less.1;
       few = omega (arith, less.0, c.passes.invariant.few);
-      dealt = dealt_more c.args.bar.now (length c.args.crew.now) (length c.pop.new.self) c.worker_of-worker.result c.passes.crew c.give_to.new.crew c.in_ok-member.member
-          (subst (λ m. AreDealt c.args.bar.now (length c.args.crew.now) m c.passes.crew) less.0 c.passes.invariant.dealt)
-          (subst (λ q. IsSeatOf c.args.bar.now q c.in_ok-member.member) less.2.port_is c.in_ok-member.ensures)
+      dealt = dealt_more crew (length c.pop.new.self) c.worker_of-worker.result c.passes.crew c.give_to.new.crew c.in_ok-member.member
+          (subst (λ m. AreDealt crew m c.passes.crew) less.0 c.passes.invariant.dealt)
+          (c.in_ok-member.ensures.seat (length c.args.crew.now))
+          (c.in_ok-member.ensures.port ∙ less.2.port_is)
           (omega (arith, less.0, c.passes.invariant.few))
           (c.worker_of-worker.ensures.is ∙ (ap (λ m. c.port.result % m) c.passes.invariant.dealt.count ∙ ap (λ q. q % length c.args.crew.now) (c.port.ensures ∙ less.2.port_is)))
           c.in_ok-give_to.ensures;
     }
 
 pub passes-init : goal.passes-init
-passes-init g c =
-    let all = ap (λ image. length image.ports) c.requires.image in
-    record {
-      passes = record { long = refl; each = c.requires.passes.each };
-      few = omega (arith, c.requires.passes.long, all);
-      dealt = dealt_none c.args.bar.now (length c.args.crew.now) (length c.args.passes) c.args.crew.now c.requires.idle
-          (omega (arith, c.requires.fits.some_ports, all)) (omega (arith, c.requires.passes.long, all));
-    }
+passes-init g c = record {
+  passes = record { long = refl; each = c.requires.passes.each };
+  few = omega (arith, c.requires.passes.long);
+  dealt = dealt_none (at_first c.args.image.now c.args.stim.now (length c.args.crew.now) c.args.window) (length c.args.passes) c.args.crew.now c.requires.idle
+      c.requires.fits.some_ports (omega (arith, c.requires.passes.long));
+}
 
 pub overflow_cast-port : goal.overflow_cast-port
 overflow_cast-port g c = omega (arith, c.port.type_inv)
@@ -69,4 +70,4 @@ passes-smaller g c =
 
 pub returns : goal.returns
 returns g c =
-    subst (λ m. AreDealt c.args.bar.now (length c.args.crew.now) m c.passes.crew) (ap length (c.in_default.ensures.none.0 refl)) c.passes.invariant.dealt
+    subst (λ m. AreDealt (at_first c.args.image.now c.args.stim.now (length c.args.crew.now) c.args.window) m c.passes.crew) (ap length (c.in_default.ensures.none.0 refl)) c.passes.invariant.dealt

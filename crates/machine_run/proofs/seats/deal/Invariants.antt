@@ -1,13 +1,14 @@
 use Rattle.std.proofs.Common.{length, ◌≤◌}
 use Rattle.slot_words.specs.Passes.{AreFirstPasses}
+use Rattle.machine_run.specs.Crews.{at_first}
 use Rattle.machine_run.specs.Dealt.{AreDealt}
 use Rattle.machine_run.proofs.seats.deal.Given as goal
 
 abbrev pub invariant-passes : goal.invariant-passes
 invariant-passes g l = record {
   passes : AreFirstPasses l.bar (length l.passes) l.passes;
-  few : length l.passes ≤ length l.bar.image.ports;
-  dealt : AreDealt l.bar (length l.fn.crew) (length l.passes) l.crew;
+  few : length l.passes ≤ length l.image.ports;
+  dealt : AreDealt (at_first l.image l.stim (length l.fn.crew) l.window) (length l.passes) l.crew;
 }
 
 abbrev pub decreases-passes : goal.decreases-passes

@@ -1,7 +1,8 @@
-use Rattle.std.proofs.Common.{ap, arith, drop, length, subst, sym, ◌∙◌}
+use Rattle.std.proofs.Common.{ap, arith, drop, length, subst, sym}
 use Rattle.std.proofs.lemmas.List.{take_at}
+use Rattle.machine_run.specs.Crews.{at_first}
 use Rattle.machine_run.specs.Dealt.{AreDealt, AreIdle}
-use Rattle.machine_run.proofs.seats.crew_of.Goals as goal
+use Rattle.machine_run.proofs.seats.workers_of.Goals as goal
 
 pub deal-requires-clause-fits : goal.deal-requires-clause-fits
 deal-requires-clause-fits g c = c.requires.fits
@@ -29,9 +30,11 @@ deal-requires-clause-idle g c =
     let idle : AreIdle (length c.in_ok-crew.crew) c.in_ok-crew.crew = subst (λ n. AreIdle n c.in_ok-crew.crew) (sym c.in_ok-crew.ensures.count) c.in_ok-crew.ensures in
     subst (λ ws. AreIdle (length ws) ws) (sym c.as_mut_slice.ensures.value) idle
 
+pub deal-requires-clause-some_cycles : goal.deal-requires-clause-some_cycles
+deal-requires-clause-some_cycles g c = c.requires.some_cycles
+
 pub returns : goal.returns
 returns g c =
-    let long = ap length c.as_mut_slice.ensures.value in
-    subst (AreDealt c.args.bar.now c.args.workers 0)
-    (sym (take_at c.deal.new.crew (drop (length c.deal.new.crew) c.in_ok-crew.crew) (length c.in_ok-crew.crew) (c.in_ok-deal.ensures.count ∙ long)))
-    (subst (λ n. AreDealt c.args.bar.now n 0 c.deal.new.crew) (long ∙ c.in_ok-crew.ensures.count) c.in_ok-deal.ensures)
+    subst (AreDealt (at_first c.args.image.now c.args.stim.now c.args.workers c.args.window) 0)
+    (sym (take_at c.deal.new.crew (drop (length c.deal.new.crew) c.in_ok-crew.crew) (length c.in_ok-crew.crew) (omega (arith, c.in_ok-deal.ensures.count, ap length c.as_mut_slice.ensures.value))))
+    (subst (λ n. AreDealt (at_first c.args.image.now c.args.stim.now n c.args.window) 0 c.deal.new.crew) (omega (arith, ap length c.as_mut_slice.ensures.value, c.in_ok-crew.ensures.count)) c.in_ok-deal.ensures)
