@@ -1,0 +1,4 @@
+pub mod Forms
+pub mod Ranges
+pub mod Tokens
+pub mod Words
