@@ -1,0 +1,9 @@
+pub mod EachLemmas
+pub mod SearchLemmas
+pub mod ShapeLemmas
+pub mod WorkLemmas
+pub mod LinkLemmas
+pub mod PortLemmas
+pub mod ClaimLemmas
+pub mod CarryLemmas
+pub mod FirstLemmas

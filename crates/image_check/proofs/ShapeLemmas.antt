@@ -1,0 +1,33 @@
+-- The slots of the ports.
+use Rattle.std.proofs.Common.{◌≡◌, ℕ, ◌+◌, ◌<◌, get_or, List, [], ◌∷◌, ◌++◌, length, Some, slice_get, sym, subst, refl, arith}
+use Rattle.std.proofs.lemmas.List.{length_push}
+use Rattle.list_laws.proofs.Places.{one_there}
+use Rattle.image_defs.specs.declared.image.PortImage.{PortImage}
+use Rattle.image_check.specs.declared.shapes.Shape.{Shape}
+use Rattle.image_check.specs.Shapes.{IsShapeOf, AreShapesOf}
+use Rattle.image_check.proofs.EachLemmas.{each_pushed, indexed}
+
+-- the slots of the first n ports
+abbrev pub ShapesBelow : List PortImage → ℕ → List Shape → Type 0
+ShapesBelow ports n shapes =
+    (length shapes ≡ n)
+    × ((p : ℕ) (port : PortImage) (shape : Shape) → slice_get ports p ≡ Some port → slice_get shapes p ≡ Some shape → IsShapeOf port shape)
+
+pub shapes_more : (ports : List PortImage) (shapes : List Shape) (n : ℕ) (here : PortImage) (shape : Shape) (grown : List Shape) → ShapesBelow ports n shapes → slice_get ports n ≡ Some here → IsShapeOf here shape
+    → grown ≡ shapes ++ shape ∷ [] → ShapesBelow ports (n + 1) grown
+shapes_more ports shapes n here shape grown (long, each) is right are = rw are (omega (arith, long, length_push shapes shape), more) where
+  Right : ℕ → Shape → Type 0
+  Right p other = (port : PortImage) → slice_get ports p ≡ Some port → IsShapeOf port other
+
+  more : (p : ℕ) (port : PortImage) (other : Shape) → slice_get ports p ≡ Some port → slice_get (shapes ++ shape ∷ []) p ≡ Some other → IsShapeOf port other
+  more p port other at stands =
+      each_pushed Right n shapes shape long (λ q one there port at. each q port one at there) (λ port at. subst (λ q. IsShapeOf q shape) (one_there ports n n here port refl is at) right) p other stands port at
+
+-- the slots of the port at a place, both read there
+pub shape_at : (ports : List PortImage) (shapes : List Shape) (p : ℕ) (port : PortImage) (shape : Shape) → AreShapesOf ports shapes → p < length ports → port ≡ get_or ports p port → shape ≡ get_or shapes p shape → IsShapeOf port shape
+shape_at ports shapes p port shape are within here there =
+    are.each p port shape (indexed ports ports p port refl within here) (indexed shapes shapes p shape refl (omega (arith, within, are.as_many)) there)
+
+-- the same, where the ports are read in a slice of them
+pub shape_of_port : (ports slice : List PortImage) (shapes : List Shape) (p : ℕ) (port : PortImage) (shape : Shape) → AreShapesOf ports shapes → slice ≡ ports → p < length slice → port ≡ get_or slice p port → shape ≡ get_or shapes p shape → IsShapeOf port shape
+shape_of_port ports slice shapes p port shape are same = shape_at slice shapes p port shape (subst (λ xs. AreShapesOf xs shapes) (sym same) are)

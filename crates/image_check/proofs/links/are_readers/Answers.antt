@@ -1,0 +1,10 @@
+use Rattle.std.proofs.Common.{rules}
+use Rattle.image_check.specs.Links.{IsReader}
+use Rattle.image_check.proofs.EachLemmas.{each_read, each_done}
+use Rattle.image_check.proofs.links.are_readers.Goals as goal
+
+pub readers-preserved : goal.readers-preserved
+readers-preserved c = each_read (IsReader c.args.image.now c.args.p c.args.slot) c.readers.k c.args.readers.now _ c.readers.invariant c.readers-test.true (c.if-not-is_reader.ensures.0 (search rules))
+
+pub returns : goal.returns
+returns c = each_done (IsReader c.args.image.now c.args.p c.args.slot) c.readers.k c.args.readers.now c.readers-test.false c.readers.invariant

@@ -1,0 +1,27 @@
+-- What the check of an image that comes from elsewhere says.
+use Rattle.std.specs.Prelude.{◌≡◌, ℕ, Result, Ok, Err}
+use Rattle.net_defs.specs.declared.timing.Timing.{Timing}
+use Rattle.node_defs.specs.declared.items.NodeNet.{NodeNet}
+use Rattle.image_defs.specs.WellFormed.{IsWellFormed}
+use Rattle.image_match.specs.Matches.{Matches}
+use Rattle.image_check.specs.declared.file.ImageFile.{ImageFile}
+use Rattle.image_check.specs.declared.check.CheckNo.{CheckNo}
+use Rattle.image_check.specs.declared.check.CheckNo.TheVariants as no
+use Rattle.image_check.specs.Claimed.{lists_of, HasTiming, PlaceMatches, IsFirstPlace, IsFirstColumn}
+
+-- each answer by what it says of the image; the cases but that of memory exclude one another
+abbrev pub Says : ImageFile → NodeNet → Timing → Result (Unit {0}) CheckNo → Type 0
+Says file nodes timing (Ok done) = IsWellFormed file.image × Matches file.image (lists_of file.claims) nodes timing
+Says file nodes timing (Err no.Form) = IsWellFormed file.image → ⊥
+Says file nodes timing (Err no.Timing) = IsWellFormed file.image × (HasTiming file.image nodes timing → ⊥)
+Says file nodes timing (Err (no.Place p slot)) =
+    IsWellFormed file.image × HasTiming file.image nodes timing × IsFirstPlace file.image (lists_of file.claims) nodes p slot
+Says file nodes timing (Err (no.Column j)) =
+    IsWellFormed file.image × HasTiming file.image nodes timing
+    × ((p slot : ℕ) → PlaceMatches file.image (lists_of file.claims) nodes p slot) × IsFirstColumn file.image (lists_of file.claims) nodes j
+Says file nodes timing (Err no.Memory) = Unit {0}
+
+-- the image is accepted, or there was not enough memory to check it
+abbrev pub IsOkOrMemory : Result (Unit {0}) CheckNo → Type 0
+IsOkOrMemory (Ok done) = Unit {0}
+IsOkOrMemory (Err why) = why ≡ no.Memory
