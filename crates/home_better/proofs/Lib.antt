@@ -1,0 +1,12 @@
+pub mod SumLemmas
+pub mod BagLemmas
+pub mod ChoiceLemmas
+pub mod CrossingLemmas
+pub mod LinkLemmas
+pub mod LoadLemmas
+pub mod MoveLemmas
+pub mod PassLemmas
+pub mod PullLemmas
+pub mod ReaderLemmas
+pub mod UseLemmas
+pub mod WorkLemmas
