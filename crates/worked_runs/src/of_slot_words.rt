@@ -5,7 +5,7 @@ ghost use Rattle.net_defs.specs.Valid.{IsValidStimulus, IsValidTiming};
 ghost use Rattle.image_defs.specs.WellFormed.{IsWellFormed};
 ghost use Rattle.event_defs.specs.declared.place.Action.TheVariants as action;
 ghost use Rattle.slot_words.specs.Passes.{AreFirstPasses, IsFirstPass, IsOf};
-ghost use Rattle.port_run.specs.Pairs.{placed};
+ghost use Rattle.port_run.specs.Kept.{IsKept};
 ghost use Rattle.port_run.specs.Steps.{IsUpcoming};
 
 use bench_read::law::reads_as_valid;
@@ -52,7 +52,7 @@ struct Hand<'a> {
     pass: Pass,
     port: AnyPort<'a>,
     ghost own: { IsOf bar.now pass },
-    ghost there: { port ≡ placed pass },
+    ghost there: { IsKept (record { pass = pass; port = port }) },
 }
 
 impl<'a> Hand<'a> {
@@ -68,14 +68,14 @@ impl<'a> Hand<'a> {
     }
 
     fn ask(&mut self, reader: u32) -> Did
-        requires { IsUpcoming self.old.pass (action.Ask reader) }
+        requires { IsUpcoming self.old.port.until self.old.pass (action.Ask reader) }
     {
         self.bar.ask(&mut self.pass, reader);
         Did::Asked
     }
 
     fn put(&mut self, slot: u32, value: V4) -> Did
-        requires { IsUpcoming self.old.pass (action.Put slot value) }
+        requires { IsUpcoming self.old.port.until self.old.pass (action.Put slot value) }
     {
         self.bar.put(&mut self.pass, slot, value);
         self.port.put_done();
@@ -83,7 +83,7 @@ impl<'a> Hand<'a> {
     }
 
     fn take(&mut self, slot: u32) -> Did
-        requires { IsUpcoming self.old.pass (action.Take slot) }
+        requires { IsUpcoming self.old.port.until self.old.pass (action.Take slot) }
     {
         match self.bar.take(&mut self.pass, slot) {
             Taken::Value(value) => {
@@ -95,7 +95,7 @@ impl<'a> Hand<'a> {
     }
 
     fn tell(&mut self) -> Did
-        requires { IsUpcoming self.old.pass action.Tell }
+        requires { IsUpcoming self.old.port.until self.old.pass action.Tell }
     {
         self.bar.tell(&mut self.pass);
         self.port.told();
@@ -103,7 +103,7 @@ impl<'a> Hand<'a> {
     }
 }
 
-/// The pass of a port and what comes next there, before its first event.
+/// The pass of a port and what comes next there, before its first event, in one block of all cycles.
 fn hand_of<'a>(
     alloc: Global,
     bar: &'a Crossbar,
@@ -119,7 +119,9 @@ fn hand_of<'a>(
     requires first { IsFirstPass bar.now pass.port pass }
     requires there { pass.port < length image.now.ports }
 {
-    let port = AnyPort::new(alloc, image, stim, pass.port())?;
+    let cycles = stim.cycles();
+    let window = cycles.max(1);
+    let port = AnyPort::new(alloc, image, stim, pass.port(), window)?;
     Ok(Hand { bar, pass, port })
 }
 

@@ -4,10 +4,10 @@
 ghost use Rattle.std.specs.Prelude.{◌≡◌, ◌≤◌, ℕ, List as Items, Option, MatchOption, length};
 ghost use Rattle.std.specs.IoError.{error_kind};
 ghost use Rattle.std.specs.Process.{exit_status};
+ghost use Rattle.edge_io.specs.Writing.{TakesLine};
 ghost use Rattle.limits.specs.declared.TheConstants.{MAX_WORKERS};
 ghost use Rattle.yse_top.specs.Statuses.{status_number};
 ghost use Rattle.yse_top.specs.Visited.{AllCanTell};
-ghost use Rattle.yse_top.specs.Writing.{TakesLine};
 ghost use Rattle.yse.specs.Given.{Gives, words_in};
 ghost use Rattle.yse.specs.Ended.{EndsBy, EndsForMemory};
 

@@ -5,7 +5,9 @@ ghost use Rattle.limits.specs.declared.TheConstants.{MAX_TEXT_BYTES, MAX_WORKERS
 ghost use Rattle.net_defs.specs.Valid.{IsValid};
 ghost use Rattle.yse_top.specs.Visited.{AllCanTell};
 
+mod blocks;
 mod calls;
+mod hostile;
 mod machines;
 mod mixed;
 mod orders;

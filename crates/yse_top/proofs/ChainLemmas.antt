@@ -15,7 +15,7 @@ use Rattle.yse_top.specs.Outcome.{Outcome}
 use Rattle.yse_top.specs.Readings.{Reading, IsReading, AreReadings}
 use Rattle.yse_top.specs.Refusals.{AnswersText, GivesText, Follows, outcome_of, refused_of}
 use Rattle.yse_top.specs.commands.Run.{AfterFit, AfterList}
-use Rattle.yse_top.proofs.WritingLemmas.{rose_since, rose_until}
+use Rattle.edge_io.proofs.WritingLemmas.{rose_since, rose_until}
 
 -- a count raised twice
 raised_more : (count a b : ℕ) → raised (raised count a) b ≡ raised count (a + b)

@@ -1,5 +1,5 @@
 -- What a run of the core comes to: the trace after its last row, and else the rows that are done.
-use Rattle.std.proofs.Common.{None, Option, Some, ◌≡◌, ◌∙◌, sym, ap, subst, inl, inr, ℕ, ◌*◌, ◌≤◌, arith}
+use Rattle.std.proofs.Common.{None, Option, Some, ◌≡◌, ◌∙◌, sym, ap, subst, inl, inr, ℕ, ◌*◌, arith}
 use Rattle.std.proofs.lemmas.Option.{none-some, same_Some}
 use Rattle.net_defs.specs.declared.netlist.Netlist.{Netlist}
 use Rattle.net_defs.specs.declared.timing.Timing.{Timing}

@@ -9,24 +9,27 @@ use Rattle.yse_top.specs.Ends.{MayWrite}
 use Rattle.yse_top.specs.Outputs.{bytes_of}
 use Rattle.yse_top.specs.Outcome.{done}
 use Rattle.yse_top.specs.Refusals.{ended_with}
-use Rattle.yse_top.specs.Writing.{TakesLine}
-use Rattle.yse_top.proofs.WritingLemmas.{writes_none, tells_written}
+use Rattle.edge_io.specs.Writing.{TakesLine}
+use Rattle.edge_io.proofs.WritingLemmas.{writes_none, tells_written}
 
 pub ended_status : (output : Output) → status_after (ending_in output) ≡ (ended_with output).status
 ended_status (output.Text text) = refl
 ended_status (output.Trace trace) = refl
 ended_status (output.Unfinished trace ending) = refl
+ended_status (output.Written run) = refl
 
 pub ended_output : (output : Output) → bytes_of output ≡ (ended_with output).output
 ended_output (output.Text text) = refl
 ended_output (output.Trace trace) = refl
 ended_output (output.Unfinished trace ending) = refl
+ended_output (output.Written run) = refl
 
 -- an output after which nothing is told is the whole one
 pub whole_output : (output : Output) → status_after (ending_in output) ≡ status.Done → ended_with output ≡ done (bytes_of output)
 whole_output (output.Text text) is = refl
 whole_output (output.Trace trace) is = refl
 whole_output (output.Unfinished trace ending) is = cc
+whole_output (output.Written run) is = refl
 
 module _ {E : Type 0} (taken : E → Option (List ℕ)) (faults : E → ℕ) where
   -- nothing is told where nothing is to be told
@@ -37,6 +40,7 @@ module _ {E : Type 0} (taken : E → Option (List ℕ)) (faults : E → ℕ) whe
   told_line (output.Text text) old new told = quiet old new told
   told_line (output.Trace trace) old new told = quiet old new told
   told_line (output.Unfinished trace ending) old new told = told
+  told_line (output.Written run) old new told = quiet old new told
 
   pub told_nothing : (ending : Option Ending) (old new : E) → status_after ending ≡ status.Done → IsTold old new (taken old) (taken new) (faults old) (faults new) ending → new ≡ old
   told_nothing None old new is told = told

@@ -1,20 +1,26 @@
 -- Gates that are told nothing, and the visits of a run on the machine.
 use Rattle.machine_text.specs.Machines.{ports_of}
-use Rattle.std.proofs.Common.{◌≡◌, ◌∙◌, sym, ap, refl, subst, ℕ, ◌+◌, ◌*◌, List, length, Option, Err}
+use Rattle.std.proofs.Common.{◌≡◌, ◌∙◌, sym, ap, refl, subst, ℕ, zero, suc, ◌+◌, ◌*◌, ◌≤◌, List, length, Option, Result, Ok, Err, arith}
+use Rattle.std.specs.Prelude.{min}
+use Rattle.std.proofs.Math.Nat.{le-mul_of_pos_right}
+use Rattle.block_run.specs.Blocks.{AreVisitsOfRun, block_cycles, turns_of_blocks, window_of}
 use Rattle.crew_run.specs.declared.gate.Gate as gate
+use Rattle.edge_io.specs.declared.writing.WriteNo.{WriteNo}
 use Rattle.image_defs.specs.declared.image.Image.{Image}
 use Rattle.machine_run.specs.Visits.{AreInPlace, AreVisitsOf}
 use Rattle.machine_text.specs.declared.machine.Machine.{Machine}
 use Rattle.net_defs.specs.declared.netlist.Netlist.{Netlist}
 use Rattle.net_defs.specs.declared.stimulus.Stimulus.{Stimulus}
 use Rattle.net_defs.specs.declared.timing.Timing.{Timing}
-use Rattle.net_defs.specs.Time.{cycle_count, turn_count}
+use Rattle.net_defs.specs.Time.{cycle_count}
+use Rattle.net_defs.specs.Valid.{input_count}
+use Rattle.port_host.specs.Rows.{printed_sources}
 use Rattle.slot_words.specs.Rule.{turns_of}
 use Rattle.yse_top.specs.declared.commands.steps.Pace.{Pace}
 use Rattle.yse_top.specs.declared.refusal.Refusal.{Refusal}
 use Rattle.yse_top.specs.Images.{IsImageOf}
 use Rattle.yse_top.specs.Orders.{IsMachineImage}
-use Rattle.yse_top.specs.Visited.{KeepsGates}
+use Rattle.yse_top.specs.Visited.{AreRunVisits, KeepsGates, block_of}
 
 pub stay_in_place : {G : Type 0} (gates : List (Option G)) → AreInPlace gates gates
 stay_in_place gates = record { count = refl; some = λ i g there. (g, there) }
@@ -28,9 +34,41 @@ machine_ports net machine timing image made =
     ap (λ (i : Image). length i.ports) (sym made.image_is) ∙ sym made.is.built.matches.ports ∙ made.is.built.planned.ports
     ∙ ap (λ n. n + made.compiled.homes.array + 1) made.is.picked.logic ∙ ap (λ n. machine.logic + n + 1) made.is.picked.array
 
+-- a block of a run of the image is one of the netlist
+same_block : (net : Netlist) (timing : Timing) (image : Image) → IsImageOf net timing image → window_of image ≡ block_of net
+same_block net timing image of =
+    ap (λ n. block_cycles (n + length (printed_sources image))) of.columns ∙ ap (λ n. block_cycles (input_count net + n)) of.printed
+
 -- the visits of a run of the image are those of the machine and the timing
-pub machine_visits : {G : Type 0} (p : gate.Ghosts G) (net : Netlist) (machine : Machine) (timing : Timing) (stimulus : Stimulus) (image : Image) → IsImageOf net timing image → IsMachineImage net machine timing image → (workers : ℕ) (gates gates' : List (Option G))
-    → AreVisitsOf p (length image.ports) (turns_of image stimulus) workers gates gates' → AreVisitsOf p (ports_of machine) (turn_count timing stimulus) workers gates gates'
-machine_visits p net machine timing stimulus image of made workers gates gates' visits =
-    subst (λ n. AreVisitsOf p n (turn_count timing stimulus) workers gates gates') (machine_ports net machine timing image made)
-    (subst (λ n. AreVisitsOf p (length image.ports) n workers gates gates') (ap (λ u. u * cycle_count stimulus) of.units) visits)
+pub machine_visits : {G : Type 0} (p : gate.Ghosts G) (net : Netlist) (machine : Machine) (timing : Timing) (stimulus : Stimulus) (image : Image) → IsImageOf net timing image → IsMachineImage net machine timing image → (workers : ℕ) (gates gates' : List (Option G)) (wrote : Result (Unit {0}) WriteNo)
+    → AreVisitsOfRun p image stimulus workers gates gates' wrote → AreRunVisits p gates gates' wrote machine timing net stimulus workers
+machine_visits p net machine timing stimulus image of made workers gates gates' (Ok done) visits = record {
+  turns = turns_of image stimulus;
+  are = ap (λ u. u * cycle_count stimulus) of.units;
+  visits = subst (λ n. AreVisitsOf p n (turns_of image stimulus) workers gates gates') (machine_ports net machine timing image made) visits;
+}
+machine_visits p net machine timing stimulus image of made workers gates gates' (Err why) visits = record {
+  turns = turns_of_blocks image stimulus visits.blocks;
+  are = (
+    visits.blocks,
+    ap (λ u. u * min (visits.blocks * window_of image) (cycle_count stimulus)) of.units
+        ∙ ap (λ w. timing.units * min (visits.blocks * w) (cycle_count stimulus)) (same_block net timing image of),
+  );
+  visits = subst (λ n. AreVisitsOf p n (turns_of_blocks image stimulus visits.blocks) workers gates gates') (machine_ports net machine timing image made) visits.visits;
+}
+
+-- a block has a cycle at least
+some_cycles : (n : ℕ) → 1 ≤ block_cycles n
+some_cycles zero = omega arith
+some_cycles (suc n) = omega arith
+
+-- all turns are those of so many blocks as there are cycles
+pub all_blocks : {G : Type 0} (p : gate.Ghosts G) (gates gates' : List (Option G)) (why : WriteNo) (machine : Machine) (timing : Timing) (net : Netlist) (stimulus : Stimulus) (workers : ℕ)
+    → AreRunVisits p gates gates' (Ok tt) machine timing net stimulus workers → AreRunVisits p gates gates' (Err why) machine timing net stimulus workers
+all_blocks p gates gates' why machine timing net stimulus workers visits = record {
+  turns = visits.turns;
+  are = (cycle_count stimulus, visits.are ∙ ap (λ c. timing.units * c) (sym (least (cycle_count stimulus) (block_of net) (some_cycles (input_count net + length net.printed)))));
+  visits = visits.visits;
+} where
+  least : (c w : ℕ) → 1 ≤ w → min (c * w) c ≡ c
+  least c w some = let long : c ≤ c * w = le-mul_of_pos_right c some in omega (arith, long)

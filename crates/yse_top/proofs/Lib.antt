@@ -16,4 +16,3 @@ mod TextLemmas
 mod TraceLemmas
 mod TracedLemmas
 mod VisitedLemmas
-mod WritingLemmas

@@ -7,7 +7,6 @@ use Rattle.edge_io.specs.declared.counts.FileCounts.{FileCounts}
 use Rattle.net_defs.specs.declared.netlist.Netlist.{Netlist}
 use Rattle.net_defs.specs.declared.stimulus.Stimulus.{Stimulus}
 use Rattle.net_defs.specs.declared.timing.Timing.{Timing}
-use Rattle.net_defs.specs.Time.{turn_count}
 use Rattle.net_defs.specs.Trace.{IsTrace}
 use Rattle.bench_read.specs.Reads as bench
 use Rattle.cmd_words.specs.declared.command.Command.{Command}
@@ -33,7 +32,7 @@ use Rattle.yse_top.specs.Orders.{EndsIn, EndsInOrder}
 use Rattle.yse_top.specs.Endings.{ending_in, status_after}
 use Rattle.yse_top.specs.Visited.{IsMachineOfFile}
 use Rattle.yse_top.specs.Words.{traced_by}
-use Rattle.yse_top.specs.commands.Run.{AfterDesign, AfterFit, AfterList, AfterLoop, AfterMachine, AfterStimulus, WritesTrace, EndsBy, ExpectedRun, ExpectedOn, ExpectedRefer, OnTiming}
+use Rattle.yse_top.specs.commands.Run.{AfterCells, AfterDesign, AfterList, AfterLoop, AfterMachine, AfterStimulus, WritesTrace, EndsBy, EndsWithin, ExpectedRun, ExpectedOn, ExpectedRefer, KeepsTrace, OnTiming}
 use Rattle.yse_top.proofs.EndingLemmas.{whole_output}
 use Rattle.yse_top.proofs.ProperLemmas.{passes, refuses, refused_once, never_both}
 use Rattle.std.specs.Prelude.{nat_le, length, if◌then◌else◌}
@@ -57,9 +56,9 @@ whole_text file bytes text = by (nat_le (length bytes) MAX_TEXT_BYTES)
     by false e = cc
 
 -- a list changes no turn
-pub same_turns : (bytes : Option (List ℕ → List ℕ)) (last : Option (List ℕ)) (net : Netlist) (given timing : Timing) → IsTimingOfFile bytes last net given timing → (stimulus : Stimulus) → turn_count timing stimulus ≡ turn_count given stimulus
-same_turns bytes None net given timing is stimulus = ap (λ t. turn_count t stimulus) is
-same_turns bytes (Some file) net given timing (text, listed, told, reads, is) stimulus = ap (λ t. turn_count t stimulus) is
+pub same_units : (bytes : Option (List ℕ → List ℕ)) (last : Option (List ℕ)) (net : Netlist) (given timing : Timing) → IsTimingOfFile bytes last net given timing → timing.units ≡ given.units
+same_units bytes None net given timing is = ap (λ (t : Timing). t.units) is
+same_units bytes (Some file) net given timing (text, listed, told, reads, is) = ap (λ (t : Timing). t.units) is
 
 module _ (bytes : Option (List ℕ → List ℕ)) where
   -- what was read is what is told
@@ -156,9 +155,8 @@ module _ (bytes : Option (List ℕ → List ℕ)) where
   reached_stimulus : (words : RunWords) (net : Netlist) (End : Stimulus → List Reading → Outcome → Type 0) (readings : List Reading) (output : List ℕ) → AreTold readings → AfterStimulus words.stimulus net End readings (done output) → ReachedStimulus words net End output
   unfolding AfterStimulus
   reached_stimulus words net End readings output are expected =
-      let second = gave words.stimulus (λ text. After (IsStimulusOf text net) (λ stimulus. After (HasFewCells net stimulus) (λ few. End stimulus))) readings output are expected in
-      let stimulus = passed (IsStimulusOf second.text net) (λ stimulus. After (HasFewCells net stimulus) (λ few. End stimulus)) second.others output (λ e. not_done _ status.Stimulus output e.2 refl (λ e. cc)) second.next in
-      let cells = passed (HasFewCells net stimulus.0) (λ few. End stimulus.0) second.others output (λ e. not_done _ status.Limit output e.1 refl (λ e. cc)) stimulus.2 in
+      let second = gave words.stimulus (λ text. After (IsStimulusOf text net) End) readings output are expected in
+      let stimulus = passed (IsStimulusOf second.text net) End second.others output (λ e. not_done _ status.Stimulus output e.2 refl (λ e. cc)) second.next in
       record {
         text = second.text;
         text_told = second.told;
@@ -166,8 +164,13 @@ module _ (bytes : Option (List ℕ → List ℕ)) where
         reads = stimulus.1;
         others = second.others;
         told = second.are;
-        ends = cells.2;
+        ends = stimulus.2;
       }
+
+  -- there were few cells, where they are limited
+  within : (limited : Bool) (net : Netlist) (stimulus : Stimulus) (Next : List Reading → Outcome → Type 0) (readings : List Reading) (output : List ℕ) → AfterCells limited net stimulus Next readings (done output) → Next readings (done output)
+  within false net stimulus Next readings output expected = expected
+  within true net stimulus Next readings output expected = (passed (HasFewCells net stimulus) (λ few. Next) readings output (λ e. not_done _ status.Limit output e.1 refl (λ e. cc)) expected).2
 
   of_files : (words : RunWords) (text : List ℕ) → OfTold bytes words.netlist (λ told. text ≡ told) → (net : Netlist) → bench.Reads text net → (End : Stimulus → List Reading → Outcome → Type 0) (output : List ℕ) → (end : ReachedStimulus words net End output) → AreOfFiles bytes words net end.stimulus
   of_files words text told net reads End output end = record {
@@ -248,34 +251,35 @@ module _ (bytes : Option (List ℕ → List ℕ)) where
       let net = netlist.0 in
       let list = reached_timing words net (AfterLoop words.stimulus net) first.others output first.are netlist.2 in
       let timing = list.timing in
-      let order = passed (HasNoLoop net timing) (λ passed. AfterStimulus words.stimulus net (WritesTrace net timing)) list.others output (λ e. not_done _ status.Loop output e.2 refl (λ e. cc)) list.next in
-      let end = reached_stimulus words net (WritesTrace net timing) list.others output list.are order.2 in
+      let order = passed (HasNoLoop net timing) (λ passed. AfterStimulus words.stimulus net (KeepsTrace net timing)) list.others output (λ e. not_done _ status.Loop output e.2 refl (λ e. cc)) list.next in
+      let end = reached_stimulus words net (KeepsTrace net timing) list.others output list.are order.2 in
       record {
         net = net;
         stimulus = end.stimulus;
-        are = of_files words first.text first.told net netlist.1 (WritesTrace net timing) output end;
+        are = of_files words first.text first.told net netlist.1 (KeepsTrace net timing) output end;
         timing = timing;
         timing_is = list.timing_is;
-        trace = written net timing end.stimulus end.others output end.ends;
+        trace = written net timing end.stimulus end.others output (within true net end.stimulus (WritesTrace net timing end.stimulus) end.others output end.ends);
       }
 
-  run_traced : (words : RunWords) (by : Option (List ℕ)) (readings : List Reading) (output : List ℕ) → AreTold readings → ExpectedRun words by readings (done output) → IsTraceOfFiles bytes output words
+  run_traced : (words : RunWords) (limited : Bool) (by : Option (List ℕ)) (readings : List Reading) (output : List ℕ) → AreTold readings → ExpectedRun words limited by readings (done output) → IsTraceOfFiles bytes output words
   unfolding ExpectedRun
-  run_traced words by readings output are expected =
-      let end = reached words (EndsBy by words) readings output are expected in
+  run_traced words limited by readings output are expected =
+      let end = reached words (EndsWithin limited by words) readings output are expected in
+      let ends = within limited end.net end.stimulus (EndsBy by words end.machine end.timing end.net end.stimulus) end.others output end.ends in
       record {
         net = end.net;
         stimulus = end.stimulus;
         are = end.are;
         timing = end.timing;
         timing_is = end.timing_is;
-        trace = ends_traced by words end.machine end.timing end.net end.stimulus end.others output end.told end.ends;
+        trace = ends_traced by words end.machine end.timing end.net end.stimulus end.others output end.told ends;
       }
 
   command_traced : (command : Command) (readings : List Reading) (output : List ℕ) → AreTold readings → ExpectedOf command readings (done output) → IfSome (traced_by (Some command)) (IsTraceOfFiles bytes output)
-  command_traced (command.Run words) readings output are expected = run_traced words None readings output are expected
+  command_traced (command.Run words) readings output are expected = run_traced words false None readings output are expected
   command_traced (command.Refer words) readings output are expected = refer_traced words readings output are expected
-  command_traced (command.Order words) readings output are expected = run_traced words words.order readings output are expected
+  command_traced (command.Order words) readings output are expected = run_traced words true words.order readings output are expected
   command_traced (command.Plan words) readings output are expected = tt
   command_traced (command.Show file) readings output are expected = tt
   command_traced (command.Large gates cycles workers) readings output are expected = tt

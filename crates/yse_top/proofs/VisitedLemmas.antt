@@ -1,14 +1,15 @@
 -- A run whose end tells the gates: what is expected of it, and its visits.
-use Rattle.std.proofs.Common.{◌≡◌, refl, subst, inl, inr, ℕ, List, [], ◌∷◌, Option, Some, None, Result, Ok, Err, Bool}
-use Rattle.std.specs.Prelude.{IfOk, OnErr}
+use Rattle.std.proofs.Common.{◌≡◌, ◌∙◌, sym, ap, refl, subst, inl, inr, ℕ, ◌*◌, List, [], ◌∷◌, Option, Some, None, Result, Ok, Err, Bool}
+use Rattle.std.specs.Prelude.{IfOk, OnErr, min}
 use Rattle.crew_run.specs.declared.gate.Gate as gate
 use Rattle.edge_io.specs.declared.counts.FileCounts.{FileCounts}
-use Rattle.machine_run.specs.Visits.{AreVisitsOf}
-use Rattle.machine_text.specs.Machines.{ports_of}
+use Rattle.edge_io.specs.declared.writing.WriteNo.{WriteNo}
+use Rattle.edge_io.specs.declared.writing.WriteNo.TheVariants.{Failed}
 use Rattle.machine_text.specs.declared.machine.Machine.{Machine}
 use Rattle.net_defs.specs.declared.netlist.Netlist.{Netlist}
 use Rattle.net_defs.specs.declared.stimulus.Stimulus.{Stimulus}
 use Rattle.net_defs.specs.declared.timing.Timing.{Timing}
+use Rattle.net_defs.specs.Time.{cycle_count}
 use Rattle.cmd_words.specs.declared.command.Command.{Command}
 use Rattle.cmd_words.specs.declared.command.Command.TheVariants as command
 use Rattle.cmd_words.specs.declared.command.RunWords.{RunWords}
@@ -18,16 +19,19 @@ use Rattle.yse_top.specs.declared.output.Output.TheVariants as output
 use Rattle.yse_top.specs.declared.refusal.Refusal.{Refusal}
 use Rattle.yse_top.specs.declared.refusal.Refusal.TheVariants as refusal
 use Rattle.yse_top.specs.declared.status.Status.{Status}
-use Rattle.yse_top.specs.Checks.{After, AfterFile, AfterRead, IsMachineOf, IsNetlistOf, HasNoLoop, HasRoom, IsStimulusOf, HasFewCells, IsListOf, listing, text_of}
+use Rattle.yse_top.specs.declared.status.Status.TheVariants as status
+use Rattle.yse_top.specs.Checks.{After, AfterFile, AfterRead, IsMachineOf, IsNetlistOf, HasNoLoop, HasRoom, IsStimulusOf, IsListOf, listing, text_of}
 use Rattle.yse_top.specs.Outcome.{Outcome, done}
-use Rattle.yse_top.specs.Outputs.{trace_bytes}
+use Rattle.yse_top.specs.Outputs.{run_bytes, trace_bytes, wrote_in}
 use Rattle.yse_top.specs.Readings.{Reading}
 use Rattle.yse_top.specs.Endings.{ending_in}
-use Rattle.yse_top.specs.Ends.{MayWrite}
-use Rattle.yse_top.specs.Refusals.{Follows, ended_with, outcome_of, refused_of}
-use Rattle.yse_top.specs.Visited.{AreVisitsOfFiles, EndsTelling, HasWorkers, KeepsGates, TellsGates, TellsOfRun, order_in}
-use Rattle.yse_top.specs.commands.Run.{AfterDesign, AfterFit, AfterList, AfterMachine, AfterStimulus, EndsBy, ExpectedOn, ExpectedRun}
-use Rattle.yse_top.proofs.TracedLemmas.{reached, same_turns}
+use Rattle.yse_top.specs.Ends.{IsWhole, MayWrite}
+use Rattle.yse_top.specs.Refusals.{Follows, ended_with, outcome_of, refused_of, status_so_far, status_told, written_by}
+use Rattle.yse_top.specs.Visited.{AreRunVisits, AreTold, AreTurnsOf, AreVisitsOfFiles, EndsTelling, HasWorkers, KeepsGates, TellsGates, TellsOfRun, block_of, has_limit, order_in}
+use Rattle.yse_top.specs.commands.Run.{AfterDesign, AfterFit, AfterList, AfterMachine, AfterStimulus, EndsWithin, ExpectedOn, ExpectedRun}
+use Rattle.yse_top.proofs.CallLemmas.{ended_no_fault}
+use Rattle.yse_top.proofs.GateLemmas.{all_blocks}
+use Rattle.yse_top.proofs.TracedLemmas.{reached, same_units}
 
 -- ---- a chain that ends otherwise
 
@@ -50,9 +54,8 @@ file_so file One Other so (reading ∷ readings) outcome (is, after) = (is, by r
 stimulus_so : (file : List ℕ) (net : Netlist) (One Other : Stimulus → List Reading → Outcome → Type 0) → ((stimulus : Stimulus) → Implies (One stimulus) (Other stimulus)) → Implies (AfterStimulus file net One) (AfterStimulus file net Other)
 unfolding AfterStimulus
 stimulus_so file net One Other so =
-    file_so file (λ text. After (IsStimulusOf text net) (λ stimulus. After (HasFewCells net stimulus) (λ few. One stimulus))) (λ text. After (IsStimulusOf text net) (λ stimulus. After (HasFewCells net stimulus) (λ few. Other stimulus))) (λ text.
-    after_so (IsStimulusOf text net) (λ stimulus. After (HasFewCells net stimulus) (λ few. One stimulus)) (λ stimulus. After (HasFewCells net stimulus) (λ few. Other stimulus)) (λ stimulus.
-    after_so (HasFewCells net stimulus) (λ few. One stimulus) (λ few. Other stimulus) (λ few. so stimulus)))
+    file_so file (λ text. After (IsStimulusOf text net) One) (λ text. After (IsStimulusOf text net) Other) (λ text.
+    after_so (IsStimulusOf text net) One Other so)
 
 list_so : (last : Option (List ℕ)) (net : Netlist) (timing : Timing) (One Other : Timing → List Reading → Outcome → Type 0) → ((t : Timing) → Implies (One t) (Other t)) → Implies (AfterList last net timing One) (AfterList last net timing Other)
 unfolding AfterList
@@ -108,57 +111,122 @@ pub output_writes : (output : Output) → MayWrite (ended_with output).status
 output_writes (output.Text text) = tt
 output_writes (output.Trace trace) = tt
 output_writes (output.Unfinished trace ending) = tt
+output_writes (output.Written run) = tt
+
+-- where the whole output was written, something was
+whole_writes : (s : Status) → IsWhole s → MayWrite s
+whole_writes status.Done whole = tt
+whole_writes status.Unfinished whole = tt
+whole_writes _ whole = absurd whole
+
+so_far_writes : (wrote : Result (Unit {0}) WriteNo) (outcome : Outcome) → MayWrite outcome.status → MayWrite (status_so_far wrote outcome)
+so_far_writes (Ok done) outcome may = may
+so_far_writes (Err why) outcome may = tt
+
+pub told_writes : (output : Output) → MayWrite (status_told (Ok output))
+told_writes output = so_far_writes (wrote_in output) (ended_with output) (output_writes output)
+
+-- a run that met a fault when it wrote is told as one, and ends as one
+pub told_fails : (output : Output) (ended : Status) → OnErr (wrote_in output) (ended ≡ status.WriteFault) → status_told (Ok output) ≡ status.WriteFault → ended ≡ status.WriteFault
+told_fails output ended failed = by (wrote_in output) failed
+  where
+    by : (wrote : Result (Unit {0}) WriteNo) → OnErr wrote (ended ≡ status.WriteFault) → status_so_far wrote (ended_with output) ≡ status.WriteFault → ended ≡ status.WriteFault
+    by (Ok done) failed is = absurd (ended_no_fault output is)
+    by (Err why) failed is = failed
 
 -- a whole run is an end with its output
 is_done : (result : Result Output Refusal) → IfOk result (λ output. ending_in output ≡ None) → MayWrite (outcome_of result).status → (text : List ℕ) × (outcome_of result ≡ done text)
 is_done (Ok (output.Text text)) whole may = (text, refl)
 is_done (Ok (output.Trace trace)) whole may = (trace_bytes trace, refl)
 is_done (Ok (output.Unfinished trace ending)) whole may = cc
+is_done (Ok (output.Written run)) whole may = (run_bytes run, refl)
 is_done (Err why) whole may = absurd (refused_writes why may)
 
 -- ---- a run that tells the gates
 
+-- the visits of a timing whose cycles have as many turns
+same_visits : {G : Type 0} (p : gate.Ghosts G) (gates gates' : List (Option G)) (wrote : Result (Unit {0}) WriteNo) (machine : Machine) (timing given : Timing) (net : Netlist) (stimulus : Stimulus) (workers : ℕ) → timing.units ≡ given.units
+    → AreRunVisits p gates gates' wrote machine timing net stimulus workers → AreRunVisits p gates gates' wrote machine given net stimulus workers
+same_visits p gates gates' wrote machine timing given net stimulus workers same visits = record {
+  turns = visits.turns;
+  are = turns_are wrote visits.are;
+  visits = visits.visits;
+} where
+  turns_are : (wrote : Result (Unit {0}) WriteNo) → AreTurnsOf wrote timing net stimulus visits.turns → AreTurnsOf wrote given net stimulus visits.turns
+  turns_are (Ok done) is = is ∙ ap (λ u. u * cycle_count stimulus) same
+  turns_are (Err why) (blocks, is) = (blocks, is ∙ ap (λ u. u * min (blocks * block_of net) (cycle_count stimulus)) same)
+
 module _ {G : Type 0} (p : gate.Ghosts G) (gates gates' : List (Option G)) (names : Option (List ℕ → Bool)) (bytes : Option (List ℕ → List ℕ)) (old new : FileCounts) (pace : Pace) (words : RunWords) (result : Result Output Refusal) where
   -- what a run comes to with what it tells
   abbrev pub Telling : List Reading → Outcome → Type 0
-  Telling = AfterMachine words.machine (ExpectedOn words (EndsTelling p gates gates' pace words))
+  Telling = AfterMachine words.machine (ExpectedOn words (EndsTelling p gates gates' (written_by result) pace words))
 
-  pub expects : Follows names bytes old new result Telling → Follows names bytes old new result (ExpectedRun words (order_in pace))
+  pub expects : Follows names bytes old new result Telling → Follows names bytes old new result (ExpectedRun words (has_limit pace) (order_in pace))
   unfolding ExpectedRun
   expects follows = record {
     readings = follows.readings;
     are = follows.are;
-    expected = machine_so words.machine (ExpectedOn words (EndsTelling p gates gates' pace words)) (ExpectedOn words (EndsBy (order_in pace) words))
-        (on_so words (EndsTelling p gates gates' pace words) (EndsBy (order_in pace) words) (λ machine timing net stimulus readings outcome telling. telling.ends))
+    expected = machine_so words.machine (ExpectedOn words (EndsTelling p gates gates' (written_by result) pace words)) (ExpectedOn words (EndsWithin (has_limit pace) (order_in pace) words))
+        (on_so words (EndsTelling p gates gates' (written_by result) pace words) (EndsWithin (has_limit pace) (order_in pace) words) (λ machine timing net stimulus readings outcome telling. telling.ends))
         follows.readings (outcome_of result) follows.expected;
   }
 
-  visits : Follows names bytes old new result Telling → HasWorkers pace → IfOk result (λ output. ending_in output ≡ None) → MayWrite (outcome_of result).status → AreVisitsOfFiles p bytes gates gates' words
+  visits : Follows names bytes old new result Telling → HasWorkers pace → IfOk result (λ output. ending_in output ≡ None) → MayWrite (outcome_of result).status → AreVisitsOfFiles p bytes gates gates' words (written_by result)
   visits follows has whole may =
       let (text, same) = is_done result whole may in
-      let end = reached bytes words (EndsTelling p gates gates' pace words) follows.readings text (λ place reading at. (follows.are.each place reading at).whole) (subst (λ (o : Outcome). Telling follows.readings o) same follows.expected) in
+      let end = reached bytes words (EndsTelling p gates gates' (written_by result) pace words) follows.readings text (λ place reading at. (follows.are.each place reading at).whole) (subst (λ (o : Outcome). Telling follows.readings o) same follows.expected) in
       record {
         machine = end.machine;
         machine_is = end.machine_is;
         net = end.net;
         stimulus = end.stimulus;
         are = end.are;
-        visits = subst (λ n. AreVisitsOf p (ports_of end.machine) n words.workers gates gates') (same_turns bytes words.last end.net words.timing end.timing end.timing_is end.stimulus) (end.ends.visits has refl);
+        visits = same_visits p gates gates' (written_by result) end.machine end.timing words.timing end.net end.stimulus words.workers (same_units bytes words.last end.net words.timing end.timing end.timing_is) (end.ends.visits has refl);
       }
 
-  -- an output may be written, so what is left is of a refusal
-  left : (r : Result Output Refusal) → OnErr r (gates' ≡ gates) → (MayWrite (outcome_of r).status → ⊥) → gates' ≡ gates
-  left (Ok output) kept none = absurd (none (output_writes output))
-  left (Err why) kept none = kept
+  -- the visits go with what came of the writing
+  told_so : (wrote : Result (Unit {0}) WriteNo) (outcome : Outcome) → MayWrite outcome.status → (outcome.status ≡ status.WriteFault → ⊥) → AreVisitsOfFiles p bytes gates gates' words wrote
+      → AreTold (status_so_far wrote outcome) (AreVisitsOfFiles p bytes gates gates' words (Ok tt)) (AreVisitsOfFiles p bytes gates gates' words (Err Failed)) (gates' ≡ gates)
+  told_so (Ok done) outcome may other visits = record { written = λ whole. visits; cut = λ is. absurd (other is); refused = λ none. absurd (none may) }
+  told_so (Err Failed) outcome may other visits = record { written = λ whole. absurd whole; cut = λ is. visits; refused = λ none. absurd (none tt) }
+
+  told_as : (r : Result Output Refusal) → (MayWrite (outcome_of r).status → AreVisitsOfFiles p bytes gates gates' words (written_by r)) → OnErr r (gates' ≡ gates)
+      → AreTold (status_told r) (AreVisitsOfFiles p bytes gates gates' words (Ok tt)) (AreVisitsOfFiles p bytes gates gates' words (Err Failed)) (gates' ≡ gates)
+  told_as (Ok output) visits kept =
+      told_so (wrote_in output) (ended_with output) (output_writes output) (ended_no_fault output) (visits (output_writes output))
+  told_as (Err why) visits kept = record {
+    written = λ whole. absurd (refused_writes why (whole_writes (refused_of why).status whole));
+    cut = λ is. absurd (refused_writes why (subst MayWrite (sym is) tt));
+    refused = λ none. kept;
+  }
 
   pub tells : Follows names bytes old new result Telling → KeepsGates pace gates gates' result → TellsOfRun p bytes gates gates' pace words result
-  tells follows kept has = record { written = visits follows has (kept.whole has); refused = left result kept.refused }
+  tells follows kept has = told_as result (visits follows has (kept.whole has)) kept.refused
 
--- what the gates are told rests on whether anything may be written
-pub tells_alike : {G : Type 0} (p : gate.Ghosts G) (bytes : Option (List ℕ → List ℕ)) (gates gates' : List (Option G)) (one other : Status) (command : Command) → MayWrite one → MayWrite other → TellsGates p bytes gates gates' one (Some command) → TellsGates p bytes gates gates' other (Some command)
-tells_alike p bytes gates gates' one other (command.Run words) may may_too told = record { written = λ w. told.written may; refused = λ none. absurd (none may_too) }
-tells_alike p bytes gates gates' one other (command.Large count cycles workers) may may_too told = record { written = λ w. told.written may; refused = λ none. absurd (none may_too) }
-tells_alike p bytes gates gates' one other (command.Refer words) may may_too told = told
-tells_alike p bytes gates gates' one other (command.Order words) may may_too told = told
-tells_alike p bytes gates gates' one other (command.Plan words) may may_too told = told
-tells_alike p bytes gates gates' one other (command.Show file) may may_too told = told
+-- ---- the end of a call
+
+-- all that is written after the gates were told may still end at a fault
+ended_told : {Visits Cut Left : Type 0} (told ended : Status) → MayWrite told → MayWrite ended → (told ≡ status.WriteFault → ended ≡ status.WriteFault) → (Visits → Cut) → AreTold told Visits Cut Left → AreTold ended Visits Cut Left
+ended_told status.Done ended may may_too fails weaken tells = record { written = λ whole. tells.written tt; cut = λ is. weaken (tells.written tt); refused = λ none. absurd (none may_too) }
+ended_told status.Unfinished ended may may_too fails weaken tells = record { written = λ whole. tells.written tt; cut = λ is. weaken (tells.written tt); refused = λ none. absurd (none may_too) }
+ended_told status.WriteFault ended may may_too fails weaken tells = record { written = λ whole. absurd (subst IsWhole (fails refl) whole); cut = λ is. tells.cut refl; refused = λ none. absurd (none may_too) }
+ended_told _ ended may may_too fails weaken tells = absurd may
+
+module _ {G : Type 0} (p : gate.Ghosts G) (bytes : Option (List ℕ → List ℕ)) (gates gates' : List (Option G)) where
+  files_cut : (words : RunWords) → AreVisitsOfFiles p bytes gates gates' words (Ok tt) → AreVisitsOfFiles p bytes gates gates' words (Err Failed)
+  files_cut words visits = record {
+    machine = visits.machine;
+    machine_is = visits.machine_is;
+    net = visits.net;
+    stimulus = visits.stimulus;
+    are = visits.are;
+    visits = all_blocks p gates gates' Failed visits.machine words.timing visits.net visits.stimulus words.workers visits.visits;
+  }
+
+  pub tells_ended : (told ended : Status) (command : Command) → MayWrite told → MayWrite ended → (told ≡ status.WriteFault → ended ≡ status.WriteFault) → TellsGates p bytes gates gates' told (Some command) → TellsGates p bytes gates gates' ended (Some command)
+  tells_ended told ended (command.Run words) may may_too fails tells = ended_told told ended may may_too fails (files_cut words) tells
+  tells_ended told ended (command.Large count cycles workers) may may_too fails tells = ended_told told ended may may_too fails (λ visits. visits) tells
+  tells_ended told ended (command.Refer words) may may_too fails tells = tells
+  tells_ended told ended (command.Order words) may may_too fails tells = tells
+  tells_ended told ended (command.Plan words) may may_too fails tells = tells
+  tells_ended told ended (command.Show file) may may_too fails tells = tells

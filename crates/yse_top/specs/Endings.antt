@@ -6,13 +6,14 @@ use Rattle.yse_top.specs.declared.output.Output.TheVariants as output
 use Rattle.yse_top.specs.declared.status.Status.{Status}
 use Rattle.yse_top.specs.declared.status.Status.TheVariants as status
 use Rattle.yse_top.specs.Lines.{unfinished_line}
-use Rattle.yse_top.specs.Writing.{TakesLine}
+use Rattle.edge_io.specs.Writing.{TakesLine}
 
 -- where the run of an output ended, if it was not finished
 abbrev pub ending_in : Output → Option Ending
 ending_in (output.Text text) = None
 ending_in (output.Trace trace) = None
 ending_in (output.Unfinished trace ending) = Some ending
+ending_in (output.Written run) = None
 
 abbrev pub status_after : Option Ending → Status
 status_after None = status.Done

@@ -17,6 +17,12 @@ EndsAs result outcome old new faults_old faults_new TakesLine =
     ((result ≡ outcome.status) × (new ≡ append_known old outcome.output) × TakesLine outcome.line)
     ⊎ ((result ≡ status.WriteFault) × TakesProperPrefix old new outcome.output × Rose faults_old faults_new × TakesLine write_fault_line)
 
+-- the statuses at which the whole output was written
+abbrev pub IsWhole : Status → Type 0
+IsWhole status.Done = ⊤
+IsWhole status.Unfinished = ⊤
+IsWhole _ = ⊥
+
 -- the statuses at which something may have been written
 abbrev pub MayWrite : Status → Type 0
 MayWrite status.Done = ⊤

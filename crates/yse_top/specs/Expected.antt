@@ -1,5 +1,5 @@
 -- What a whole call comes to, given the words and what was read: the chain of checks of its command.
-use Rattle.std.specs.Prelude.{◌≡◌, ℕ, List, None, Result, Ok, Err}
+use Rattle.std.specs.Prelude.{◌≡◌, true, false, ℕ, List, None, Result, Ok, Err}
 use Rattle.cmd_words.specs.declared.command.Command.{Command}
 use Rattle.cmd_words.specs.declared.command.Command.TheVariants as command
 use Rattle.cmd_words.specs.Forms.{HasForm}
@@ -14,9 +14,9 @@ use Rattle.yse_top.specs.commands.Run.{ExpectedRun, ExpectedRefer}
 use Rattle.yse_top.specs.commands.Show.{ExpectedShow}
 
 abbrev pub ExpectedOf : Command → List Reading → Outcome → Type 0
-ExpectedOf (command.Run words) readings outcome = ExpectedRun words None readings outcome
+ExpectedOf (command.Run words) readings outcome = ExpectedRun words false None readings outcome
 ExpectedOf (command.Refer words) readings outcome = ExpectedRefer words readings outcome
-ExpectedOf (command.Order words) readings outcome = ExpectedRun words words.order readings outcome
+ExpectedOf (command.Order words) readings outcome = ExpectedRun words true words.order readings outcome
 ExpectedOf (command.Plan words) readings outcome = ExpectedPlan words readings outcome
 ExpectedOf (command.Show netlist) readings outcome = ExpectedShow netlist readings outcome
 ExpectedOf (command.Large gates cycles workers) readings outcome = ExpectedLarge gates cycles readings outcome

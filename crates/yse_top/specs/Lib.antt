@@ -16,4 +16,3 @@ pub mod Stepped
 pub mod Traced
 pub mod Visited
 pub mod Words
-pub mod Writing

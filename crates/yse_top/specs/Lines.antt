@@ -21,7 +21,7 @@ use Rattle.stim_text.specs.declared.refusal.OrderNo.TheVariants as order_no
 use Rattle.net_defs.specs.declared.netlist.Netlist.{Netlist}
 use Rattle.net_defs.specs.declared.netlist.Block.{Block}
 use Rattle.net_defs.specs.Canonical.{name_of}
-use Rattle.yse_top.specs.Writing.{joined}
+use Rattle.edge_io.specs.Writing.{joined}
 
 unfoldable pub usage_line : List ℕ
 usage_line = codes "usage: yse (run/refer/order) NETLIST STIMULUS [options], yse plan NETLIST [options], yse show NETLIST, yse large GATES CYCLES [options]\n"
@@ -74,13 +74,10 @@ unfoldable pub bits_line : List ℕ → ℕ → ℕ → List ℕ
 bits_line name needed left =
     joined (codes "overfull: bits of memory " ∷ name ∷ codes ": " ∷ decimal needed ∷ codes " needed, " ∷ decimal left ∷ codes " left\n" ∷ [])
 
-unfoldable pub nodes_line : ℕ → ℕ → List ℕ
-nodes_line needed limit =
-    joined (codes "overfull: nodes: " ∷ decimal needed ∷ codes " needed, limit is " ∷ decimal limit ∷ codes "\n" ∷ [])
-
-unfoldable pub slots_line : ℕ → ℕ → List ℕ
-slots_line needed limit =
-    joined (codes "overfull: slots: " ∷ decimal needed ∷ codes " needed, limit is " ∷ decimal limit ∷ codes "\n" ∷ [])
+-- of the whole machine: nodes, slots
+unfoldable pub needed_line : List ℕ → ℕ → ℕ → List ℕ
+needed_line what needed limit =
+    joined (codes "overfull: " ∷ what ∷ codes ": " ∷ decimal needed ∷ codes " needed, limit is " ∷ decimal limit ∷ codes "\n" ∷ [])
 
 unfoldable pub functions_line : ℕ → ℕ → ℕ → List ℕ
 functions_line port needed limit =
@@ -89,10 +86,10 @@ functions_line port needed limit =
 abbrev pub overfull_line : Netlist → CompNo → List ℕ
 overfull_line net (comp_no.Loop members) = loop_line net members
 overfull_line net (comp_no.Bits block needed left) = bits_line (memory_name net block) needed left
-overfull_line net (comp_no.Slots needed limit) = slots_line needed limit
+overfull_line net (comp_no.Slots needed limit) = needed_line (codes "slots") needed limit
 overfull_line net (comp_no.Functions port needed limit) = functions_line port needed limit
 overfull_line net comp_no.Memory = memory_line
-overfull_line net (comp_no.Nodes needed limit) = nodes_line needed limit
+overfull_line net (comp_no.Nodes needed limit) = needed_line (codes "nodes") needed limit
 
 -- ---- netlists
 

@@ -1,7 +1,10 @@
 -- The output of a request.
-use Rattle.std.specs.Prelude.{◌≡◌, ⊤, ℕ, ◌+◌, ◌≤◌, List, ◌++◌, length, Some, slice_get}
+use Rattle.std.specs.Prelude.{◌≡◌, ⊤, ℕ, ◌+◌, ◌≤◌, List, ◌++◌, length, Option, Some, Result, Ok, slice_get}
 use Rattle.limits.specs.declared.TheConstants.{MAX_CYCLES}
 use Rattle.std.specs.List.{enumerate_from, flat_map}
+use Rattle.block_run.specs.Lines.{bytes_of_run}
+use Rattle.edge_io.specs.Writing.{Takes}
+use Rattle.edge_io.specs.declared.writing.WriteNo.{WriteNo}
 use Rattle.net_defs.specs.declared.netlist.Netlist.{Netlist}
 use Rattle.net_defs.specs.declared.timing.Timing.{Timing}
 use Rattle.net_defs.specs.declared.stimulus.Stimulus.{Stimulus}
@@ -15,6 +18,7 @@ use Rattle.trace_text.specs.Line.{HasRoom}
 use Rattle.yse_top.specs.declared.output.Output.{Output}
 use Rattle.yse_top.specs.declared.output.Output.TheVariants as output
 use Rattle.yse_top.specs.declared.output.Trace.{Trace}
+use Rattle.yse_top.specs.declared.output.Written.{Written}
 
 -- the lines of cycles with these printed values, counted from 1
 abbrev pub cycle_lines : List CellRow → List ℕ
@@ -24,11 +28,16 @@ cycle_lines rows = flat_map (λ p. cycle_line (p.0 + 1) p.1.cells) (enumerate_fr
 abbrev pub trace_bytes : Trace → List ℕ
 trace_bytes trace = header_line trace.net ++ cycle_lines trace.rows.rows
 
+-- the header and the lines of a run that wrote them itself
+abbrev pub run_bytes : Written → List ℕ
+run_bytes run = bytes_of_run run.net run.image run.stimulus
+
 -- the bytes of an output
 abbrev pub bytes_of : Output → List ℕ
 bytes_of (output.Text text) = text
 bytes_of (output.Trace trace) = trace_bytes trace
 bytes_of (output.Unfinished trace ending) = trace_bytes trace
+bytes_of (output.Written run) = run_bytes run
 
 -- the rows fit the line's room
 pub record CanPrint (trace : Trace) : Type 0 where
@@ -36,10 +45,35 @@ pub record CanPrint (trace : Trace) : Type 0 where
   pub cells : (c : ℕ) (row : CellRow) → slice_get trace.rows.rows c ≡ Some row → length row.cells ≡ length trace.net.printed
   pub cycles : length trace.rows.rows ≤ MAX_CYCLES
 
+-- an output that is still to be written can be
 abbrev pub CanWrite : Output → Type 0
 CanWrite (output.Text text) = ⊤
 CanWrite (output.Trace trace) = CanPrint trace
 CanWrite (output.Unfinished trace ending) = CanPrint trace
+CanWrite (output.Written run) = ⊥
+
+-- an output can be written, or its run wrote it
+abbrev pub CanEnd : Output → Type 0
+CanEnd (output.Text text) = ⊤
+CanEnd (output.Trace trace) = CanPrint trace
+CanEnd (output.Unfinished trace ending) = CanPrint trace
+CanEnd (output.Written run) = ⊤
+
+-- what came of the writing that a run did itself
+abbrev pub wrote_in : Output → Result (Unit {0}) WriteNo
+wrote_in (output.Text text) = Ok tt
+wrote_in (output.Trace trace) = Ok tt
+wrote_in (output.Unfinished trace ending) = Ok tt
+wrote_in (output.Written run) = run.wrote
+
+-- what a sink has taken of an output by the time when the output is had: of a run that wrote it itself all, or a
+-- proper prefix after a fault, and of another nothing
+module _ {O : Type 0} (taken : O → Option (List ℕ)) (faults : O → ℕ) (before after : O) where
+  abbrev pub HasTaken : Output → Type 0
+  HasTaken (output.Text text) = after ≡ before
+  HasTaken (output.Trace trace) = after ≡ before
+  HasTaken (output.Unfinished trace ending) = after ≡ before
+  HasTaken (output.Written run) = Takes (taken before) (taken after) (faults before) (faults after) run.wrote (run_bytes run)
 
 -- the rows are the printed values of the reference simulation
 pub record ArePrinted (net : Netlist) (timing : Timing) (stimulus : Stimulus) (rows : Rows) : Type 0 where

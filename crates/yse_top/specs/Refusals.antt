@@ -1,6 +1,7 @@
 -- The line and the status of each refusal, and what a call that may refuse says of its check.
 use Rattle.std.specs.Prelude.{◌≡◌, ℕ, List, [], ◌∷◌, Bool, Option, Some, None, Result, Ok, Err}
 use Rattle.edge_io.specs.declared.counts.FileCounts.{FileCounts}
+use Rattle.edge_io.specs.declared.writing.WriteNo.{WriteNo}
 use Rattle.machine_text.specs.declared.machine.MachNo.{MachNo}
 use Rattle.machine_text.specs.declared.machine.MachNo.TheVariants as mach_no
 use Rattle.bench_read.specs.declared.refusal.BenchNo.{BenchNo}
@@ -20,7 +21,7 @@ use Rattle.yse_top.specs.declared.status.Status.TheVariants as status
 use Rattle.yse_top.specs.Checks.{Refuses, text_of, read_fault}
 use Rattle.yse_top.specs.Lines.{usage_line, read_fault_line, memory_line, too_long_line, machine_line, netlist_line, loop_line, overfull_line, stimulus_line, cells_line, order_line, list_line}
 use Rattle.yse_top.specs.Outcome.{Outcome, done, unfinished, refusal as refused}
-use Rattle.yse_top.specs.Outputs.{trace_bytes}
+use Rattle.yse_top.specs.Outputs.{HasTaken, run_bytes, trace_bytes, wrote_in}
 use Rattle.yse_top.specs.Readings.{Reading, AreReadings}
 
 abbrev pub line_of : Refusal → List ℕ
@@ -83,6 +84,7 @@ abbrev pub ended_with : Output → Outcome
 ended_with (output.Text text) = done text
 ended_with (output.Trace trace) = done (trace_bytes trace)
 ended_with (output.Unfinished trace ending) = unfinished ending.rows ending.cycles (trace_bytes trace)
+ended_with (output.Written run) = done (run_bytes run)
 
 abbrev pub refused_of : Refusal → Outcome
 refused_of why = refused (status_of why) (line_of why)
@@ -90,6 +92,25 @@ refused_of why = refused (status_of why) (line_of why)
 abbrev pub outcome_of : Result Output Refusal → Outcome
 outcome_of (Ok output) = ended_with output
 outcome_of (Err why) = refused_of why
+
+-- what came of the writing that a run did itself; a refusal has written nothing
+abbrev pub written_by : Result Output Refusal → Result (Unit {0}) WriteNo
+written_by (Ok output) = wrote_in output
+written_by (Err why) = Ok tt
+
+-- the status that an output comes to, as far as it is written
+abbrev pub status_so_far : Result (Unit {0}) WriteNo → Outcome → Status
+status_so_far (Ok written) outcome = outcome.status
+status_so_far (Err why) outcome = status.WriteFault
+
+abbrev pub status_told : Result Output Refusal → Status
+status_told result = status_so_far (written_by result) (outcome_of result)
+
+-- what a sink has taken by the time when the answer is had: nothing before a refusal
+module _ {O : Type 0} (taken : O → Option (List ℕ)) (faults : O → ℕ) (before after : O) where
+  abbrev pub MayTake : Result Output Refusal → Type 0
+  MayTake (Ok output) = HasTaken taken faults before after output
+  MayTake (Err why) = after ≡ before
 
 -- a call answers what the check lets pass, or its refusal
 abbrev pub Satisfies : {X : Type 0} → Result X Refusal → (Result X Outcome → Type 0) → Type 0

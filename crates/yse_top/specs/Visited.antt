@@ -1,8 +1,11 @@
 -- What the gates were told by a whole call.
-use Rattle.std.specs.Prelude.{◌≡◌, ◌<◌, ◌⊎◌, ⊤, ℕ, List, Option, Some, None, Result, IfOk, OnErr, slice_get}
+use Rattle.std.specs.Prelude.{◌≡◌, ◌<◌, ◌⊎◌, ◌+◌, ◌*◌, ⊤, ℕ, Bool, true, false, List, length, min, Option, Some, None, Result, Ok, Err, IfOk, OnErr, slice_get}
+use Rattle.block_run.specs.Blocks.{block_cycles}
 use Rattle.crew_run.specs.declared.gate.Gate as gate
 use Rattle.crew_run.specs.Crews.{CanTell}
 use Rattle.edge_io.specs.Names.{OfTold}
+use Rattle.edge_io.specs.declared.writing.WriteNo.{WriteNo}
+use Rattle.edge_io.specs.declared.writing.WriteNo.TheVariants.{Failed}
 use Rattle.large_run.specs.Setting.{large_machine}
 use Rattle.machine_run.specs.Visits.{AreInPlace, AreVisitsOf}
 use Rattle.machine_text.specs.declared.machine.Machine.{Machine}
@@ -11,7 +14,8 @@ use Rattle.machine_text.specs.Machines.{default_machine, ports_of}
 use Rattle.net_defs.specs.declared.netlist.Netlist.{Netlist}
 use Rattle.net_defs.specs.declared.stimulus.Stimulus.{Stimulus}
 use Rattle.net_defs.specs.declared.timing.Timing.{Timing}
-use Rattle.net_defs.specs.Time.{turn_count}
+use Rattle.net_defs.specs.Time.{cycle_count, turn_count}
+use Rattle.net_defs.specs.Valid.{input_count}
 use Rattle.cmd_words.specs.declared.command.Command.{Command}
 use Rattle.cmd_words.specs.declared.command.Command.TheVariants as command
 use Rattle.cmd_words.specs.declared.command.RunWords.{RunWords}
@@ -23,12 +27,12 @@ use Rattle.yse_top.specs.declared.refusal.Refusal.{Refusal}
 use Rattle.yse_top.specs.declared.status.Status.{Status}
 use Rattle.yse_top.specs.declared.status.Status.TheVariants as status
 use Rattle.yse_top.specs.Endings.{ending_in}
-use Rattle.yse_top.specs.Ends.{MayWrite}
+use Rattle.yse_top.specs.Ends.{IsWhole, MayWrite}
 use Rattle.yse_top.specs.Outcome.{Outcome}
 use Rattle.yse_top.specs.Readings.{Reading}
-use Rattle.yse_top.specs.Refusals.{outcome_of}
+use Rattle.yse_top.specs.Refusals.{status_told}
 use Rattle.yse_top.specs.Traced.{AreOfFiles}
-use Rattle.yse_top.specs.commands.Run.{EndsBy}
+use Rattle.yse_top.specs.commands.Run.{EndsWithin}
 
 -- each gate that a worker may use is there, and can be told of all turns
 abbrev pub AllCanTell : {G : Type 0} → gate.Ghosts G → List (Option G) → Type 0
@@ -39,31 +43,50 @@ abbrev pub IsMachineOfFile : Option (List ℕ → List ℕ) → Option (List ℕ
 IsMachineOfFile bytes None machine = machine ≡ default_machine
 IsMachineOfFile bytes (Some file) machine = (text : List ℕ) × OfTold bytes file (λ told. text ≡ told) × machine_text.Reads text machine
 
--- the visits of a call where output may have been written, and else what is left
-pub record AreTold (result : Status) (Visits Left : Type 0) : Type 0 where
-  pub written : MayWrite result → Visits
+-- the visits of a call where its whole output was written, where a fault of writing cut it, and else what is left
+pub record AreTold (result : Status) (Visits Cut Left : Type 0) : Type 0 where
+  pub written : IsWhole result → Visits
+  pub cut : result ≡ status.WriteFault → Cut
   pub refused : (MayWrite result → ⊥) → Left
+
+-- the cycles of a block of a run: a cycle has a cell for each input and each printed name
+abbrev pub block_of : Netlist → ℕ
+block_of net = block_cycles (input_count net + length net.printed)
+
+-- the turns of a run that wrote its trace, and those of a whole number of blocks where a fault of writing ended it
+abbrev pub AreTurnsOf : Result (Unit {0}) WriteNo → Timing → Netlist → Stimulus → ℕ → Type 0
+AreTurnsOf (Ok written) timing net stimulus turns = turns ≡ turn_count timing stimulus
+AreTurnsOf (Err why) timing net stimulus turns =
+    (blocks : ℕ) × (turns ≡ timing.units * min (blocks * block_of net) (cycle_count stimulus))
+
+-- the visits of the turns of a run, of all ports of the machine, by so many workers
+pub record AreRunVisits {G : Type 0} (p : gate.Ghosts G) (gates gates' : List (Option G)) (wrote : Result (Unit {0}) WriteNo) (machine : Machine) (timing : Timing) (net : Netlist) (stimulus : Stimulus) (workers : ℕ) : Type 0 where
+  pub turns : ℕ
+  pub are : AreTurnsOf wrote timing net stimulus turns
+  pub visits : AreVisitsOf p (ports_of machine) turns workers gates gates'
 
 module _ {G : Type 0} (p : gate.Ghosts G) (bytes : Option (List ℕ → List ℕ)) (gates gates' : List (Option G)) where
   -- the visits of so many cycles on the machine of `large`, by so many workers
   abbrev pub AreLargeVisits : ℕ → ℕ → Type 0
   AreLargeVisits cycles workers = AreVisitsOf p (ports_of large_machine) cycles workers gates gates'
 
-  -- the visits of all turns of all ports of the machine of the files, by the workers of the words
-  pub record AreVisitsOfFiles (words : RunWords) : Type 0 where
+  -- the visits of a run on the machine of the files, by the workers of the words
+  pub record AreVisitsOfFiles (words : RunWords) (wrote : Result (Unit {0}) WriteNo) : Type 0 where
     pub machine : Machine
     pub machine_is : IsMachineOfFile bytes words.machine machine
     pub net : Netlist
     pub stimulus : Stimulus
     pub are : AreOfFiles bytes words net stimulus
-    pub visits : AreVisitsOf p (ports_of machine) (turn_count words.timing stimulus) words.workers gates gates'
+    pub visits : AreRunVisits p gates gates' wrote machine words.timing net stimulus words.workers
 
-  -- after a run its visits are made, where its output may have been written, and a run that is refused tells the
-  -- gates nothing, but that `large` may want memory after its visits; other commands tell no gate anything
+  -- after a run the visits of all turns are made, and after a fault of writing those of a whole number of blocks;
+  -- a run that is refused tells the gates nothing. `large` writes after its visits, and may want memory after
+  -- them. Other commands tell no gate anything.
   abbrev pub TellsGates : Status → Option Command → Type 0
-  TellsGates result (Some (command.Run words)) = AreTold result (AreVisitsOfFiles words) (gates' ≡ gates)
+  TellsGates result (Some (command.Run words)) =
+      AreTold result (AreVisitsOfFiles words (Ok tt)) (AreVisitsOfFiles words (Err Failed)) (gates' ≡ gates)
   TellsGates result (Some (command.Large count cycles workers)) =
-      AreTold result (AreLargeVisits cycles workers) ((gates' ≡ gates) ⊎ AreLargeVisits cycles workers)
+      AreTold result (AreLargeVisits cycles workers) (AreLargeVisits cycles workers) ((gates' ≡ gates) ⊎ AreLargeVisits cycles workers)
   TellsGates result _ = gates' ≡ gates
 
 -- ---- runs at a pace
@@ -74,19 +97,27 @@ order_in pace.Workers = None
 order_in pace.Rounds = None
 order_in (pace.Order file) = Some file.now
 
+-- whether the cells are limited: a run by workers keeps those of one block and no more
+abbrev pub has_limit : Pace → Bool
+has_limit pace.Workers = false
+has_limit pace.Rounds = true
+has_limit (pace.Order file) = true
+
 abbrev pub HasWorkers : Pace → Type 0
 HasWorkers pace.Workers = ⊤
 HasWorkers _ = ⊥
 
 module _ {G : Type 0} (p : gate.Ghosts G) (gates gates' : List (Option G)) where
-  -- the end of a run; where workers stepped the ports to the end, they told the gates
-  pub record EndsTelling (pace : Pace) (words : RunWords) (machine : Machine) (timing : Timing) (net : Netlist) (stimulus : Stimulus) (readings : List Reading) (outcome : Outcome) : Type 0 where
-    pub ends : EndsBy (order_in pace) words machine timing net stimulus readings outcome
-    pub visits : HasWorkers pace → outcome.status ≡ status.Done → AreVisitsOf p (ports_of machine) (turn_count timing stimulus) words.workers gates gates'
+  -- the end of a run; where workers stepped the ports, they told the gates
+  pub record EndsTelling (wrote : Result (Unit {0}) WriteNo) (pace : Pace) (words : RunWords) (machine : Machine) (timing : Timing) (net : Netlist) (stimulus : Stimulus) (readings : List Reading) (outcome : Outcome) : Type 0 where
+    pub ends : EndsWithin (has_limit pace) (order_in pace) words machine timing net stimulus readings outcome
+    pub visits : HasWorkers pace → outcome.status ≡ status.Done → AreRunVisits p gates gates' wrote machine timing net stimulus words.workers
 
 -- where workers stepped the ports, the gates are told as by a run
 abbrev pub TellsOfRun : {G : Type 0} → gate.Ghosts G → Option (List ℕ → List ℕ) → List (Option G) → List (Option G) → Pace → RunWords → Result Output Refusal → Type 0
-TellsOfRun p bytes gates gates' pace words result = HasWorkers pace → AreTold (outcome_of result).status (AreVisitsOfFiles p bytes gates gates' words) (gates' ≡ gates)
+TellsOfRun p bytes gates gates' pace words result =
+    HasWorkers pace
+    → AreTold (status_told result) (AreVisitsOfFiles p bytes gates gates' words (Ok tt)) (AreVisitsOfFiles p bytes gates gates' words (Err Failed)) (gates' ≡ gates)
 
 -- the gates are in their places, and were told nothing before a refusal, nor where no workers stepped the ports;
 -- where workers did, the run is whole

@@ -1,13 +1,13 @@
 //! What a command comes to before anything is written: one module for each command.
 
-ghost use Rattle.std.specs.Prelude.{◌≡◌, ◌≤◌, Some, IfOk, length};
+ghost use Rattle.std.specs.Prelude.{◌≡◌, ◌≤◌, Some, IfOk, length, true};
 ghost use Rattle.cmd_words.specs.Forms.{IsInRange};
 ghost use Rattle.limits.specs.declared.TheConstants.{MAX_WORKERS};
 ghost use Rattle.machine_run.specs.Visits.{AreInPlace};
 ghost use Rattle.yse_top.specs.Expected.{ExpectedOf};
-ghost use Rattle.yse_top.specs.Outputs.{CanWrite};
-ghost use Rattle.yse_top.specs.Refusals.{Follows, outcome_of};
-ghost use Rattle.yse_top.specs.Visited.{AllCanTell, HasWorkers, TellsGates, order_in};
+ghost use Rattle.yse_top.specs.Outputs.{CanEnd};
+ghost use Rattle.yse_top.specs.Refusals.{Follows, MayTake, status_told};
+ghost use Rattle.yse_top.specs.Visited.{AllCanTell, HasWorkers, TellsGates, has_limit, order_in};
 
 mod large;
 mod plan;
@@ -21,19 +21,20 @@ use crate::output::Output;
 use crate::refusal::Refusal;
 use cmd_words::{Command, RunWords};
 use crew_run::Gate;
-use edge_io::Files;
+use edge_io::{Files, Sink};
 use std::alloc::Global;
 use std::marker::{Send, Sync};
 use std::sync::Wait;
 use std::thread::Threads;
 
-/// The output of a command, and else the refusal.
+/// The output of a command, and else the refusal. A run has written its output to `out`; else `out` is not called.
 #[tactic(auto, using(crate::proofs::GateLemmas::stay_in_place))]
-pub fn prepare<'a, R: Threads + Wait + Sync, F: Files, G: Gate + Send>(
+pub fn prepare<'a, R: Threads + Wait + Sync, F: Files, O: Sink, G: Gate + Send>(
     rt: &R,
     alloc: Global,
     command: &'a Command,
     files: &mut F,
+    out: &mut O,
     gates: &mut [Option<G>],
 ) -> Result<Output, Refusal<'a>>
     requires range { IsInRange command.now }
@@ -41,14 +42,15 @@ pub fn prepare<'a, R: Threads + Wait + Sync, F: Files, G: Gate + Send>(
     requires tell { AllCanTell G.Gate.own gates.old }
     ensures expected { Follows (F.names files.old) (F.bytes files.old) (F.counts files.old) (F.counts files.new)
         result (ExpectedOf command.now) }
-    ensures writable { IfOk result CanWrite }
-    ensures visits { TellsGates G.Gate.own (F.bytes files.old) gates.old gates.new (outcome_of result).status (Some command.now) }
+    ensures writable { IfOk result CanEnd }
+    ensures visits { TellsGates G.Gate.own (F.bytes files.old) gates.old gates.new (status_told result) (Some command.now) }
+    ensures written { MayTake O.taken O.faults out.old out.new result }
     ensures in_place { AreInPlace gates.old gates.new }
 {
     match command {
-        Command::Run(words) => run::run(rt, alloc, files, words, Pace::Workers, gates),
+        Command::Run(words) => run::run(rt, alloc, files, words, Pace::Workers, out, gates),
         Command::Refer(words) => refer::refer(alloc, files, words),
-        Command::Order(words) => run::run(rt, alloc, files, words, pace_of(words), gates),
+        Command::Order(words) => run::run(rt, alloc, files, words, pace_of(words), out, gates),
         Command::Plan(words) => plan::plan(alloc, files, words),
         Command::Show { netlist } => show::show(alloc, files, netlist.as_bytes()),
         Command::Large {
@@ -62,6 +64,7 @@ pub fn prepare<'a, R: Threads + Wait + Sync, F: Files, G: Gate + Send>(
 /// The order of the named file, and else rounds.
 fn pace_of(words: &RunWords) -> Pace<'_>
     ensures order { order_in result ≡ words.now.order }
+    ensures limit { has_limit result ≡ true }
     ensures alone { HasWorkers result → ⊥ }
 {
     match &words.order {

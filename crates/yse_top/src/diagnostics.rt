@@ -5,7 +5,7 @@ ghost use Rattle.std.specs.List.{flat_map};
 ghost use Rattle.net_defs.specs.Canonical.{name_of};
 ghost use Rattle.yse_top.specs.Lines.{usage_line, read_fault_line, write_fault_line, memory_line, too_long_line, cells_line, loop_line, fault_line, byte_line, twice_line, undriven_line, many_words, text_line, netlist_line, row_line, width_line, cycles_line, stimulus_line};
 ghost use Rattle.yse_top.specs.Refusals.{line_of, status_of};
-ghost use Rattle.yse_top.specs.Writing.{Takes, TakesLine};
+ghost use Rattle.edge_io.specs.Writing.{Takes, TakesLine};
 
 use crate::list_lines::write_list_line;
 use crate::order_lines::write_order_line;

@@ -1,13 +1,13 @@
 //! The end of a call whose output is had.
 
-ghost use Rattle.std.specs.Prelude.{◌≡◌};
+ghost use Rattle.std.specs.Prelude.{◌≡◌, OnErr};
 ghost use Rattle.std.specs.Io.KnownBytes.{append_known};
 ghost use Rattle.yse_top.specs.Endings.{ending_in, status_after, IsTold};
 ghost use Rattle.yse_top.specs.Ends.{EndsAs, MayWrite};
 ghost use Rattle.yse_top.specs.Lines.{unfinished_line};
-ghost use Rattle.yse_top.specs.Outputs.{bytes_of, CanWrite};
+ghost use Rattle.yse_top.specs.Outputs.{bytes_of, CanEnd, HasTaken, wrote_in};
 ghost use Rattle.yse_top.specs.Refusals.{ended_with};
-ghost use Rattle.yse_top.specs.Writing.{Takes, TakesLine};
+ghost use Rattle.edge_io.specs.Writing.{Takes, TakesLine};
 
 use crate::diagnostics::{tell_write_fault, write_pieces};
 use crate::output::{Ending, Output, write_output};
@@ -15,13 +15,16 @@ use crate::status::Status;
 use edge_io::{Sink, WriteNo};
 use itoa::Buffer;
 
-/// Writes an output to `out`, and then a line to `err` where its run was not finished, and answers the
-/// status. A fault of `err` changes nothing.
+/// Writes an output to `out`, as far as it is not written, and then a line to `err` where its run was not
+/// finished, and answers the status. A fault of `err` changes nothing.
 pub fn end<O: Sink, E: Sink>(out: &mut O, err: &mut E, output: Output) -> Status
-    requires { CanWrite output }
-    ensures ends { EndsAs result (ended_with output) (O.taken out.old) (O.taken out.new) (O.faults out.old) (O.faults out.new)
+    requires { CanEnd output }
+    ensures ends { (before : O) → HasTaken O.taken O.faults before out.old output
+        → EndsAs result (ended_with output) (O.taken before) (O.taken out.new) (O.faults before) (O.faults out.new)
         (TakesLine (E.taken err.old) (E.taken err.new) (E.faults err.old) (E.faults err.new)) }
-    ensures whole { result ≡ Status.Done → (status_after (ending_in output) ≡ Status.Done) × (O.taken out.new ≡ append_known (O.taken out.old) (bytes_of output)) }
+    ensures whole { (before : O) → HasTaken O.taken O.faults before out.old output → result ≡ Status.Done
+        → (status_after (ending_in output) ≡ Status.Done) × (O.taken out.new ≡ append_known (O.taken before) (bytes_of output)) }
+    ensures failed { OnErr (wrote_in output) (result ≡ Status.WriteFault) }
     ensures silent { result ≡ Status.Done → err.new ≡ err.old }
     ensures may_write { MayWrite result }
 {
@@ -38,7 +41,7 @@ fn ending_of(output: &Output) -> Option<Ending>
 {
     match output {
         Output::Unfinished(_, ending) => Some(*ending),
-        Output::Text(_) | Output::Trace(_) => None,
+        Output::Text(_) | Output::Trace(_) | Output::Written(_) => None,
     }
 }
 

@@ -16,7 +16,7 @@ ghost use Rattle.yse_top.specs.Readings.{Reading, AreReadings};
 ghost use Rattle.yse_top.specs.Traced.{IsTraceOfFiles};
 ghost use Rattle.yse_top.specs.Visited.{AllCanTell, TellsGates};
 ghost use Rattle.yse_top.specs.Words.{files_named, traced_by};
-ghost use Rattle.yse_top.specs.Writing.{TakesLine};
+ghost use Rattle.edge_io.specs.Writing.{TakesLine};
 
 mod checks;
 mod commands;
@@ -58,9 +58,14 @@ use std::thread::Threads;
 ///
 /// `plan NETLIST [--machine FILE] [--mode rank|unit|mixed] [--last FILE]` writes the report of the netlist's plan on the machine
 /// as one piece, `show NETLIST` the netlist's canonical text, and `large GATES CYCLES [--workers N]` the
-/// summary of a run of a generated design. A file has at most 67,108,864 bytes, and a simulation at most
-/// 268,435,456 cells (this project's profile). A status other than `Done` writes its line to `err`, and a
-/// fault of `err` changes no status. All memory is taken before the first byte of output.
+/// summary of a run of a generated design. A file has at most 67,108,864 bytes, and a simulation by `refer` or
+/// `order` at most 268,435,456 cells (this project's profile). A status other than `Done` writes its line to
+/// `err`, and a fault of `err` changes no status. All memory is taken before the first byte of output.
+///
+/// `run` goes block after block: it keeps the printed cells of one block of cycles, and writes its lines before
+/// the next block is begun, so it has no limit on cells. Where inputs and printed names are `n` together, a
+/// block has 4,096 cycles, or `268,435,456 / n` where that is less, and one at least. A fault of writing ends
+/// the run: no later block is begun.
 ///
 /// Worker `w` tells the gate `w` of each turn that begins of the ports that it steps, which are the ports
 /// `p` with `p % N` equal to `w`. Workers wait for one another, so what is promised holds if the call returns.
@@ -97,8 +102,9 @@ pub fn yse<R: Threads + Wait + Sync, F: Files, O: Sink, E: Sink, G: Gate + Send>
         → (Rose (O.faults out.old) (O.faults out.new) → ⊥)
         → IsDoneOrMemory result }
 
-    // After a run the gate of each worker was told of all turns of each of its ports, and before a refusal of
-    // nothing; the other commands tell no gate anything.
+    // After a run the gate of each worker was told of all turns of each of its ports, after a fault of writing
+    // of those of a whole number of blocks, and before a refusal of nothing; the other commands tell no gate
+    // anything.
     ensures visits { TellsGates G.Gate.own (F.bytes files.old) gates.old gates.new result (asked (map string_bytes words.now)) }
 
     // Words are refused exactly where they are of no form, unless memory ran out.
@@ -120,7 +126,7 @@ pub fn yse<R: Threads + Wait + Sync, F: Files, O: Sink, E: Sink, G: Gate + Send>
 {
     calls_are_proper();
     match read_words(alloc, words) {
-        Ok(command) => match prepare(rt, alloc, &command, files, gates) {
+        Ok(command) => match prepare(rt, alloc, &command, files, out, gates) {
             Ok(output) => end(out, err, output),
             Err(refusal) => refuse(err, refusal),
         },

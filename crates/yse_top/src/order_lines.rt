@@ -2,7 +2,7 @@
 
 ghost use Rattle.std.specs.Prelude.{◌≡◌};
 ghost use Rattle.yse_top.specs.Lines.{order_line, step_line};
-ghost use Rattle.yse_top.specs.Writing.{Takes};
+ghost use Rattle.edge_io.specs.Writing.{Takes};
 
 use crate::diagnostics::{write_memory_line, write_pieces};
 use edge_io::{Sink, WriteNo};

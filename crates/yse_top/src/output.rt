@@ -1,14 +1,15 @@
 //! The output of a request, and how it is written.
 
-ghost use Rattle.std.specs.Prelude.{◌≡◌, ◌≤◌, ◌++◌, ℕ, Some, length, slice_get};
+ghost use Rattle.std.specs.Prelude.{◌≡◌, ◌≤◌, ◌++◌, ℕ, IsErr, OnErr, Some, length, slice_get};
 ghost use Rattle.limits.specs.declared.TheConstants.{MAX_CYCLES};
 ghost use Rattle.net_defs.specs.declared.trace.CellRow.{CellRow};
 ghost use Rattle.trace_text.specs.Line.{row_room};
-ghost use Rattle.yse_top.specs.Outputs.{bytes_of, trace_bytes, CanWrite, CanPrint, cycle_lines};
-ghost use Rattle.yse_top.specs.Writing.{Takes};
+ghost use Rattle.yse_top.specs.Outputs.{bytes_of, trace_bytes, CanEnd, CanPrint, HasTaken, cycle_lines, wrote_in};
+ghost use Rattle.edge_io.specs.Writing.{Takes};
 
 use edge_io::{Sink, WriteNo, write_whole};
-use net_defs::{CellRow, Netlist, Rows};
+use image_defs::Image;
+use net_defs::{CellRow, Netlist, Rows, Stimulus};
 use seen_list::Text;
 use trace_text::TraceLine;
 
@@ -20,6 +21,15 @@ pub struct Trace {
     pub line: TraceLine,
 }
 
+/// A run that wrote its trace itself, block after block, and what came of the writing.
+#[derive(Drop)]
+pub struct Written {
+    pub net: Netlist,
+    pub image: Image,
+    pub stimulus: Stimulus,
+    pub wrote: Result<(), WriteNo>,
+}
+
 /// What a request writes.
 #[derive(Drop)]
 pub enum Output {
@@ -29,6 +39,8 @@ pub enum Output {
     Trace(Trace),
     /// The same, of a run that was not finished.
     Unfinished(Trace, Ending),
+    /// Nothing more: the run wrote it.
+    Written(Written),
 }
 
 /// Where a run ended: the rows that are done, and those of a whole run.
@@ -38,16 +50,18 @@ pub struct Ending {
     pub cycles: u32,
 }
 
-/// Writes an output. It takes no memory.
+/// Writes an output, but for that of a run that wrote it itself. It takes no memory.
 pub fn write_output<O: Sink>(out: &mut O, output: Output) -> Result<(), WriteNo>
-    requires { CanWrite output }
-    ensures { Takes (O.taken out.old) (O.taken out.new) (O.faults out.old) (O.faults out.new)
-        result (bytes_of output) }
+    requires { CanEnd output }
+    ensures written { (before : O) → HasTaken O.taken O.faults before out.old output
+        → Takes (O.taken before) (O.taken out.new) (O.faults before) (O.faults out.new) result (bytes_of output) }
+    ensures failed { OnErr (wrote_in output) (IsErr result) }
 {
     match output {
         Output::Text(text) => write_piece(out, text.as_bytes()),
         Output::Trace(trace) => write_trace(out, trace),
         Output::Unfinished(trace, _) => write_trace(out, trace),
+        Output::Written(run) => run.wrote,
     }
 }
 
@@ -59,7 +73,7 @@ pub fn write_piece<S: Sink>(sink: &mut S, piece: &[u8]) -> Result<(), WriteNo>
     write_whole(sink, piece)
 }
 
-#[tactic(auto, using(crate::proofs::WritingLemmas::writes_then, crate::proofs::WritingLemmas::writes_stop))]
+#[tactic(auto, using(edge_io::proofs::WritingLemmas::writes_then, edge_io::proofs::WritingLemmas::writes_stop))]
 fn write_trace<O: Sink>(out: &mut O, trace: Trace) -> Result<(), WriteNo>
     requires { CanPrint trace }
     ensures { Takes (O.taken out.old) (O.taken out.new) (O.faults out.old) (O.faults out.new) result

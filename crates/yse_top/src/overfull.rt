@@ -1,8 +1,8 @@
 //! The lines of machine texts that are refused, and of designs that do not fit a machine.
 
 ghost use Rattle.std.specs.Prelude.{◌≡◌};
-ghost use Rattle.yse_top.specs.Lines.{machine_line, setting_line, ports_line, overfull_line, bits_line, nodes_line, slots_line, functions_line, memory_name as name_of_memory};
-ghost use Rattle.yse_top.specs.Writing.{Takes};
+ghost use Rattle.yse_top.specs.Lines.{machine_line, setting_line, ports_line, overfull_line, bits_line, needed_line, functions_line, memory_name as name_of_memory};
+ghost use Rattle.edge_io.specs.Writing.{Takes};
 
 use crate::diagnostics::{write_loop_line, write_memory_line, write_pieces};
 use edge_io::{Sink, WriteNo};
@@ -63,14 +63,14 @@ pub fn write_overfull_line<S: Sink>(sink: &mut S, net: &Netlist, no: &CompNo) ->
             needed,
             left,
         } => write_bits_line(sink, memory_name(net, *block), *needed, *left),
-        CompNo::Slots { needed, limit } => write_slots_line(sink, *needed, *limit),
+        CompNo::Slots { needed, limit } => write_needed_line(sink, b"slots", *needed, *limit),
         CompNo::Functions {
             port,
             needed,
             limit,
         } => write_functions_line(sink, *port, *needed, *limit),
         CompNo::Memory => write_memory_line(sink),
-        CompNo::Nodes { needed, limit } => write_nodes_line(sink, *needed, *limit),
+        CompNo::Nodes { needed, limit } => write_needed_line(sink, b"nodes", *needed, *limit),
     }
 }
 
@@ -117,10 +117,15 @@ fn write_bits_line<S: Sink>(
     )
 }
 
-#[tactic(auto, unfolding(crate::specs::Lines::nodes_line))]
-fn write_nodes_line<S: Sink>(sink: &mut S, needed: u32, limit: u32) -> Result<(), WriteNo>
+#[tactic(auto, unfolding(crate::specs::Lines::needed_line))]
+fn write_needed_line<S: Sink>(
+    sink: &mut S,
+    what: &[u8],
+    needed: u32,
+    limit: u32,
+) -> Result<(), WriteNo>
     ensures { Takes (S.taken sink.old) (S.taken sink.new) (S.faults sink.old) (S.faults sink.new)
-        result (nodes_line needed limit) }
+        result (needed_line what.now needed limit) }
 {
     let (mut first, mut second) = (Buffer::new(), Buffer::new());
     let needed = first.format(needed).as_bytes();
@@ -128,27 +133,9 @@ fn write_nodes_line<S: Sink>(sink: &mut S, needed: u32, limit: u32) -> Result<()
     write_pieces(
         sink,
         &[
-            b"overfull: nodes: ",
-            needed,
-            b" needed, limit is ",
-            limit,
-            b"\n",
-        ],
-    )
-}
-
-#[tactic(auto, unfolding(crate::specs::Lines::slots_line))]
-fn write_slots_line<S: Sink>(sink: &mut S, needed: u32, limit: u32) -> Result<(), WriteNo>
-    ensures { Takes (S.taken sink.old) (S.taken sink.new) (S.faults sink.old) (S.faults sink.new)
-        result (slots_line needed limit) }
-{
-    let (mut first, mut second) = (Buffer::new(), Buffer::new());
-    let needed = first.format(needed).as_bytes();
-    let limit = second.format(limit).as_bytes();
-    write_pieces(
-        sink,
-        &[
-            b"overfull: slots: ",
+            b"overfull: ",
+            what,
+            b": ",
             needed,
             b" needed, limit is ",
             limit,

@@ -1,5 +1,5 @@
 -- What was read, and the outcome that is expected of it, say the rest.
-use Rattle.std.proofs.Common.{◌∙◌, sym, subst, map, inl, inr, ◌≡◌, ◌≢◌, ◌↔◌, None, Some}
+use Rattle.std.proofs.Common.{◌∙◌, sym, ap, subst, map, inl, inr, ◌≡◌, ◌≢◌, ◌↔◌, None, Some}
 use Rattle.std.specs.Prelude.{IfSome}
 use Rattle.std.specs.String.{string_bytes}
 use Rattle.cmd_words.specs.declared.command.Command.{Command}
@@ -14,18 +14,18 @@ use Rattle.yse_top.specs.Refusals.{ended_with, refused_of}
 use Rattle.yse_top.specs.Traced.{IsTraceOfFiles}
 use Rattle.yse_top.specs.Visited.{TellsGates}
 use Rattle.yse_top.specs.Words.{traced_by}
-use Rattle.yse_top.proofs.CallLemmas.{follows_words, follows_usage, follows_no_memory, few_begun, ended_not_read}
+use Rattle.yse_top.proofs.CallLemmas.{follows_words, follows_usage, follows_no_memory, few_begun, ended_no_fault, ended_not_read}
 use Rattle.yse_top.proofs.EndLemmas.{absent_kept, fault_rose, completes}
 use Rattle.yse_top.proofs.TracedLemmas.{traced}
-use Rattle.yse_top.proofs.VisitedLemmas.{output_writes, tells_alike}
-use Rattle.yse_top.proofs.WritingLemmas.{append_known-nil}
+use Rattle.yse_top.proofs.VisitedLemmas.{told_fails, told_writes, tells_ended}
+use Rattle.edge_io.proofs.WritingLemmas.{append_known-nil}
 use Rattle.yse_top.proofs.yse.Goals as goal
 
 -- ---- an output
 
 pub returns-in-Ok-prepare-clause-trace : goal.returns-in-Ok-prepare-clause-trace
 returns-in-Ok-prepare-clause-trace g c is =
-    let whole = c.end.ensures.whole is in (
+    let whole = c.end.ensures.whole c.args.out.now c.in-Ok-prepare.ensures.written is in (
       bytes_of c.in-Ok-prepare.output,
       whole.1,
       subst (λ a. IfSome (traced_by a) (IsTraceOfFiles (g.F.Files.bytes c.args.files.now) (bytes_of c.in-Ok-prepare.output))) (sym c.in-Ok.ensures.asked)
@@ -35,12 +35,12 @@ returns-in-Ok-prepare-clause-trace g c is =
 pub returns-in-Ok-prepare-clause-expected : goal.returns-in-Ok-prepare-clause-expected
 returns-in-Ok-prepare-clause-expected g c =
     let follows = follows_words _ _ _ _ (map string_bytes c.args.words.now) c.in-Ok.command _ c.in-Ok.ensures.form c.in-Ok-prepare.ensures.expected in
-    (follows.readings, ended_with c.in-Ok-prepare.output, follows.are, follows.expected, c.end.ensures.ends)
+    (follows.readings, ended_with c.in-Ok-prepare.output, follows.are, follows.expected, c.end.ensures.ends c.args.out.now c.in-Ok-prepare.ensures.written)
 
 pub returns-in-Ok-prepare-clause-complete : goal.returns-in-Ok-prepare-clause-complete
 returns-in-Ok-prepare-clause-complete g c readings output expected told kept written =
     let follows = follows_words _ _ _ _ (map string_bytes c.args.words.now) c.in-Ok.command _ c.in-Ok.ensures.form c.in-Ok-prepare.ensures.expected in
-    let is : c.end.result ≡ (ended_with c.in-Ok-prepare.output).status = elim c.end.ensures.ends [ inl as_told ↦ as_told.0 | inr cut ↦ absurd (written cut.2) ] in
+    let is : c.end.result ≡ (ended_with c.in-Ok-prepare.output).status = elim (c.end.ensures.ends c.args.out.now c.in-Ok-prepare.ensures.written) [ inl as_told ↦ as_told.0 | inr cut ↦ absurd (written cut.2) ] in
     subst IsDoneOrMemory (sym is)
     (completes _ _ _ _ _ _ (c.calls_are_proper.ensures.proper (map string_bytes c.args.words.now)) _ follows readings output expected told kept)
 
@@ -57,7 +57,14 @@ returns-in-Ok-prepare-clause-absent g c other =
 pub returns-in-Ok-prepare-clause-visits : goal.returns-in-Ok-prepare-clause-visits
 returns-in-Ok-prepare-clause-visits g c =
     subst (TellsGates g.G.Gate (g.F.Files.bytes c.args.files.now) c.args.gates.now c.prepare.new.gates c.end.result) (sym c.in-Ok.ensures.asked)
-    (tells_alike g.G.Gate (g.F.Files.bytes c.args.files.now) c.args.gates.now c.prepare.new.gates _ _ c.in-Ok.command (output_writes c.in-Ok-prepare.output) c.end.ensures.may_write c.in-Ok-prepare.ensures.visits)
+    (tells_ended g.G.Gate (g.F.Files.bytes c.args.files.now) c.args.gates.now c.prepare.new.gates _ _ c.in-Ok.command (told_writes c.in-Ok-prepare.output) c.end.ensures.may_write
+    (told_fails c.in-Ok-prepare.output c.end.result c.end.ensures.failed) c.in-Ok-prepare.ensures.visits)
+
+pub returns-in-Ok-prepare-clause-write_fault : goal.returns-in-Ok-prepare-clause-write_fault
+returns-in-Ok-prepare-clause-write_fault g c is = elim (c.end.ensures.ends c.args.out.now c.in-Ok-prepare.ensures.written) [
+  | inl as_told ↦ absurd (ended_no_fault c.in-Ok-prepare.output (sym as_told.0 ∙ is))
+  | inr cut ↦ cut.2
+]
 
 -- ---- a refusal
 
@@ -69,7 +76,7 @@ returns-in-Ok-clause-visits g c =
 pub returns-in-Ok-clause-expected : goal.returns-in-Ok-clause-expected
 returns-in-Ok-clause-expected g c =
     let follows = follows_words _ _ _ _ (map string_bytes c.args.words.now) c.in-Ok.command _ c.in-Ok.ensures.form c.in-Err.ensures.expected in
-    (follows.readings, refused_of c.in-Err.refusal, follows.are, follows.expected, inl (c.refuse.ensures.status, sym (append_known-nil _), c.refuse.ensures.line))
+    (follows.readings, refused_of c.in-Err.refusal, follows.are, follows.expected, inl (c.refuse.ensures.status, ap (λ s. g.O.Sink.taken s) c.in-Err.ensures.written ∙ sym (append_known-nil _), c.refuse.ensures.line))
 
 pub returns-in-Ok-clause-complete : goal.returns-in-Ok-clause-complete
 returns-in-Ok-clause-complete g c readings output expected told kept written =

@@ -1,6 +1,7 @@
 -- `run`, `refer` and `order`: the trace of the reference simulation. A run and an order are runs of a
--- compiled machine, and a design that does not fit the machine is refused.
-use Rattle.std.specs.Prelude.{List, ℕ, Option, Some, None}
+-- compiled machine, and a design that does not fit the machine is refused. `refer` and `order` keep the cells of
+-- all cycles, and have a limit on them; a run has none.
+use Rattle.std.specs.Prelude.{Bool, true, false, List, ℕ, Option, Some, None}
 use Rattle.machine_text.specs.declared.machine.Machine.{Machine}
 use Rattle.machine_text.specs.Machines.{default_machine}
 use Rattle.net_defs.specs.declared.netlist.Netlist.{Netlist}
@@ -26,12 +27,16 @@ AfterList (Some file) net timing Next =
     AfterFile file (λ text.
     After (IsListOf text net) (λ listed. Next (listing timing listed)))
 
--- the stimulus file, its text and the cells
+-- the stimulus file and its text
 unfoldable pub AfterStimulus : List ℕ → Netlist → (Stimulus → List Reading → Outcome → Type 0) → List Reading → Outcome → Type 0
 AfterStimulus file net Next =
     AfterFile file (λ text.
-    After (IsStimulusOf text net) (λ stimulus.
-    After (HasFewCells net stimulus) (λ few. Next stimulus)))
+    After (IsStimulusOf text net) Next)
+
+-- the cells, where they are limited
+abbrev pub AfterCells : Bool → Netlist → Stimulus → (List Reading → Outcome → Type 0) → List Reading → Outcome → Type 0
+AfterCells false net stimulus Next = Next
+AfterCells true net stimulus Next = After (HasFewCells net stimulus) (λ few. Next)
 
 -- the loop, and whether the design fits the machine
 abbrev pub AfterFit : Netlist → Machine → Timing → (List Reading → Outcome → Type 0) → List Reading → Outcome → Type 0
@@ -50,6 +55,10 @@ AfterDesign words machine Next =
 abbrev pub WritesTrace : Netlist → Timing → Stimulus → List Reading → Outcome → Type 0
 WritesTrace net timing stimulus = Ends (Writes (IsTrace net timing stimulus))
 
+-- the cells, which are kept, and then the trace
+abbrev pub KeepsTrace : Netlist → Timing → Stimulus → List Reading → Outcome → Type 0
+KeepsTrace net timing stimulus = AfterCells true net stimulus (WritesTrace net timing stimulus)
+
 -- without an order file the trace is written; in the order of the named file, once its text is read, what
 -- is done by its end
 unfoldable pub EndsBy : Option (List ℕ) → RunWords → Machine → Timing → Netlist → Stimulus → List Reading → Outcome → Type 0
@@ -58,6 +67,11 @@ EndsBy (Some file) words machine timing net stimulus =
     AfterFile file (λ text.
     After (IsOrderOf text machine) (λ order.
     Ends (EndsInOrder order words.banks net machine timing stimulus)))
+
+-- the cells where they are limited, and then this end
+abbrev pub EndsWithin : Bool → Option (List ℕ) → RunWords → Machine → Timing → Netlist → Stimulus → List Reading → Outcome → Type 0
+EndsWithin limited order words machine timing net stimulus =
+    AfterCells limited net stimulus (EndsBy order words machine timing net stimulus)
 
 -- the design, the stimulus, and then this end of the run
 unfoldable pub ExpectedOn : RunWords → (Machine → Timing → Netlist → Stimulus → List Reading → Outcome → Type 0) → Machine → List Reading → Outcome → Type 0
@@ -70,15 +84,15 @@ OnTiming words End machine net timing =
     AfterFit net machine timing (AfterStimulus words.stimulus net (End machine timing net))
 
 -- the machine, and then a run on it, to its end or in the order of the named file
-unfoldable pub ExpectedRun : RunWords → Option (List ℕ) → List Reading → Outcome → Type 0
-ExpectedRun words order = AfterMachine words.machine (ExpectedOn words (EndsBy order words))
+unfoldable pub ExpectedRun : RunWords → Bool → Option (List ℕ) → List Reading → Outcome → Type 0
+ExpectedRun words limited order = AfterMachine words.machine (ExpectedOn words (EndsWithin limited order words))
 
--- the loop, the stimulus, and then the trace
+-- the loop, the stimulus, the cells, and then the trace
 abbrev pub AfterLoop : List ℕ → Netlist → Timing → List Reading → Outcome → Type 0
 AfterLoop stimulus net timing =
-    After (HasNoLoop net timing) (λ passed. AfterStimulus stimulus net (WritesTrace net timing))
+    After (HasNoLoop net timing) (λ passed. AfterStimulus stimulus net (KeepsTrace net timing))
 
--- the netlist file, its text, the list, the loop, the stimulus, and then the trace
+-- the netlist file, its text, the list, the loop, the stimulus, the cells, and then the trace
 unfoldable pub ExpectedRefer : RunWords → List Reading → Outcome → Type 0
 ExpectedRefer words =
     AfterFile words.netlist (λ text.

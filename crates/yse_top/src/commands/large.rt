@@ -6,7 +6,7 @@ ghost use Rattle.limits.specs.declared.TheConstants.{MAX_LARGE_CYCLES, MAX_LARGE
 ghost use Rattle.large_run.specs.Setting.{large_machine};
 ghost use Rattle.machine_run.specs.Visits.{AreInPlace, AreVisitsOf};
 ghost use Rattle.yse_top.specs.Outputs.{CanWrite};
-ghost use Rattle.yse_top.specs.Refusals.{outcome_of};
+ghost use Rattle.yse_top.specs.Refusals.{outcome_of, status_told};
 ghost use Rattle.yse_top.specs.Visited.{AllCanTell, AreTold};
 ghost use Rattle.yse_top.specs.commands.Large.{ExpectedLarge};
 
@@ -37,7 +37,8 @@ pub fn large<'a, R: Threads + Wait + Sync, G: Gate + Send>(
     requires tell { AllCanTell G.Gate.own gates.old }
     ensures expected { ExpectedLarge count cycles [] (outcome_of result) }
     ensures writable { IfOk result CanWrite }
-    ensures visits { AreTold (outcome_of result).status (AreVisitsOf G.Gate.own (ports_of large_machine) cycles workers gates.old gates.new)
+    ensures visits { AreTold (status_told result) (AreVisitsOf G.Gate.own (ports_of large_machine) cycles workers gates.old gates.new)
+        (AreVisitsOf G.Gate.own (ports_of large_machine) cycles workers gates.old gates.new)
         ((gates.new ≡ gates.old) ⊎ AreVisitsOf G.Gate.own (ports_of large_machine) cycles workers gates.old gates.new) }
     ensures in_place { AreInPlace gates.old gates.new }
 {

@@ -6,7 +6,7 @@ ghost use Rattle.net_defs.specs.Valid.{IsValid, IsValidStimulus, IsValidTiming};
 ghost use Rattle.cmd_words.specs.Forms.{IsRunInRange};
 ghost use Rattle.yse_top.specs.Outputs.{CanWrite, CanPrint, ArePrinted};
 ghost use Rattle.yse_top.specs.Refusals.{Follows};
-ghost use Rattle.yse_top.specs.commands.Run.{AfterList, AfterLoop, AfterStimulus, WritesTrace, ExpectedRefer};
+ghost use Rattle.yse_top.specs.commands.Run.{AfterList, AfterLoop, AfterStimulus, KeepsTrace, ExpectedRefer};
 
 use crate::checks::{Design, few_cells, list_of, netlist_of, ordered, stimulus_of};
 use crate::output::{Output, Trace};
@@ -121,7 +121,7 @@ fn simulate<'a, F: Files>(
     requires valid { IsValid design.net }
     requires order { IsOrder design.net timing.now design.order }
     ensures expected { Follows (F.names files.old) (F.bytes files.old) (F.counts files.old) (F.counts files.new)
-        result (AfterStimulus file.now design.net (WritesTrace design.net timing.now)) }
+        result (AfterStimulus file.now design.net (KeepsTrace design.net timing.now)) }
     ensures writable { IfOk result CanWrite }
 {
     match read_text(alloc, files, file) {

@@ -1,16 +1,16 @@
 //! `run` and `order`: the trace of the reference simulation, by the compiled machine.
 
-ghost use Rattle.std.specs.Prelude.{◌≡◌, ◌≤◌, IfOk, length};
+ghost use Rattle.std.specs.Prelude.{[], ◌≡◌, ◌≤◌, IfOk, Some, length, true};
 ghost use Rattle.machine_text.specs.Machines.{IsValid as IsValidMachine};
 ghost use Rattle.net_defs.specs.Valid.{IsValid, IsValidStimulus, IsValidTiming, input_count};
 ghost use Rattle.cmd_words.specs.Forms.{IsRunInRange};
 ghost use Rattle.limits.specs.declared.TheConstants.{MAX_WORKERS};
 ghost use Rattle.yse_top.specs.Images.{IsImageOf};
 ghost use Rattle.yse_top.specs.Orders.{IsMachineImage};
-ghost use Rattle.yse_top.specs.Outputs.{CanWrite};
-ghost use Rattle.yse_top.specs.Refusals.{Follows};
-ghost use Rattle.yse_top.specs.Visited.{AllCanTell, EndsTelling, KeepsGates, TellsOfRun, order_in};
-ghost use Rattle.yse_top.specs.commands.Run.{AfterList, AfterMachine, AfterStimulus, EndsBy, ExpectedOn, ExpectedRun, OnTiming};
+ghost use Rattle.yse_top.specs.Outputs.{CanEnd, CanWrite};
+ghost use Rattle.yse_top.specs.Refusals.{Follows, MayTake, outcome_of, written_by};
+ghost use Rattle.yse_top.specs.Visited.{AllCanTell, EndsTelling, KeepsGates, TellsOfRun, has_limit, order_in};
+ghost use Rattle.yse_top.specs.commands.Run.{AfterList, AfterMachine, AfterStimulus, EndsBy, EndsWithin, ExpectedOn, ExpectedRun, KeepsTrace, OnTiming};
 
 use crate::checks::{
     Built, compiled, few_cells, list_of, machine_of, netlist_of, order_of, stimulus_of,
@@ -21,7 +21,7 @@ use crate::reading::read_text;
 use crate::refusal::Refusal;
 use cmd_words::RunWords;
 use crew_run::Gate;
-use edge_io::Files;
+use edge_io::{Files, Sink};
 use machine_text::Machine;
 use net_defs::{Netlist, Stimulus, Timing};
 use seen_list::Memory;
@@ -31,42 +31,46 @@ use std::sync::Wait;
 use std::thread::Threads;
 
 /// The trace of a run at this pace on the machine of the named file, or on the default machine.
-pub fn run<'a, R: Threads + Wait + Sync, F: Files, G: Gate + Send>(
+pub fn run<'a, R: Threads + Wait + Sync, F: Files, O: Sink, G: Gate + Send>(
     rt: &R,
     alloc: Global,
     files: &mut F,
     words: &'a RunWords,
     pace: Pace<'a>,
+    out: &mut O,
     gates: &mut [Option<G>],
 ) -> Result<Output, Refusal<'a>>
     requires range { IsRunInRange words.now }
     requires gates { MAX_WORKERS ≤ length gates.old }
     requires tell { AllCanTell G.Gate.own gates.old }
     ensures expected { Follows (F.names files.old) (F.bytes files.old) (F.counts files.old) (F.counts files.new)
-        result (ExpectedRun words.now (order_in pace.entry)) }
-    ensures writable { IfOk result CanWrite }
+        result (ExpectedRun words.now (has_limit pace.entry) (order_in pace.entry)) }
+    ensures writable { IfOk result CanEnd }
     ensures visits { TellsOfRun G.Gate.own (F.bytes files.old) gates.old gates.new pace.entry words.now result }
+    ensures written { MayTake O.taken O.faults out.old out.new result }
     ensures kept { KeepsGates pace.entry gates.old gates.new result }
 {
-    run_telling(rt, alloc, files, words, pace, gates)
+    run_telling(rt, alloc, files, words, pace, out, gates)
 }
 
 /// The same, with what the gates are told.
 #[tactic(auto, unfolding(crate::specs::commands::Run::AfterMachine))]
-fn run_telling<'a, R: Threads + Wait + Sync, F: Files, G: Gate + Send>(
+fn run_telling<'a, R: Threads + Wait + Sync, F: Files, O: Sink, G: Gate + Send>(
     rt: &R,
     alloc: Global,
     files: &mut F,
     words: &'a RunWords,
     pace: Pace<'a>,
+    out: &mut O,
     gates: &mut [Option<G>],
 ) -> Result<Output, Refusal<'a>>
     requires range { IsRunInRange words.now }
     requires gates { MAX_WORKERS ≤ length gates.old }
     requires tell { AllCanTell G.Gate.own gates.old }
     ensures expected { Follows (F.names files.old) (F.bytes files.old) (F.counts files.old) (F.counts files.new)
-        result (AfterMachine words.now.machine (ExpectedOn words.now (EndsTelling G.Gate.own gates.old gates.new pace.entry words.now))) }
-    ensures writable { IfOk result CanWrite }
+        result (AfterMachine words.now.machine (ExpectedOn words.now (EndsTelling G.Gate.own gates.old gates.new (written_by result) pace.entry words.now))) }
+    ensures writable { IfOk result CanEnd }
+    ensures written { MayTake O.taken O.faults out.old out.new result }
     ensures kept { KeepsGates pace.entry gates.old gates.new result }
 {
     match &words.machine {
@@ -77,34 +81,37 @@ fn run_telling<'a, R: Threads + Wait + Sync, F: Files, G: Gate + Send>(
             words,
             pace,
             Machine::default_size(alloc),
+            out,
             gates,
         ),
-        Some(file) => run_by(rt, alloc, files, words, pace, file.as_bytes(), gates),
+        Some(file) => run_by(rt, alloc, files, words, pace, file.as_bytes(), out, gates),
     }
 }
 
 /// The trace of a run on the machine of the named file.
 #[tactic(auto, using(crate::proofs::ChainLemmas::follows_refused, crate::proofs::GateLemmas::gates_kept), unfolding(crate::specs::commands::Run::AfterMachine))]
-fn run_by<'a, R: Threads + Wait + Sync, F: Files, G: Gate + Send>(
+fn run_by<'a, R: Threads + Wait + Sync, F: Files, O: Sink, G: Gate + Send>(
     rt: &R,
     alloc: Global,
     files: &mut F,
     words: &'a RunWords,
     pace: Pace<'a>,
     file: &'a [u8],
+    out: &mut O,
     gates: &mut [Option<G>],
 ) -> Result<Output, Refusal<'a>>
     requires range { IsRunInRange words.now }
     requires gates { MAX_WORKERS ≤ length gates.old }
     requires tell { AllCanTell G.Gate.own gates.old }
     ensures expected { Follows (F.names files.old) (F.bytes files.old) (F.counts files.old) (F.counts files.new)
-        result (AfterMachine (Some file.now) (ExpectedOn words.now (EndsTelling G.Gate.own gates.old gates.new pace.entry words.now))) }
-    ensures writable { IfOk result CanWrite }
+        result (AfterMachine (Some file.now) (ExpectedOn words.now (EndsTelling G.Gate.own gates.old gates.new (written_by result) pace.entry words.now))) }
+    ensures writable { IfOk result CanEnd }
+    ensures written { MayTake O.taken O.faults out.old out.new result }
     ensures kept { KeepsGates pace.entry gates.old gates.new result }
 {
     match read_text(alloc, files, file) {
         Ok(text) => match machine_of(alloc, text) {
-            Ok(machine) => run_on(rt, alloc, files, words, pace, machine, gates),
+            Ok(machine) => run_on(rt, alloc, files, words, pace, machine, out, gates),
             Err(no) => Err(no),
         },
         Err(no) => Err(no),
@@ -113,13 +120,14 @@ fn run_by<'a, R: Threads + Wait + Sync, F: Files, G: Gate + Send>(
 
 /// The trace of a run on a machine.
 #[tactic(auto, using(crate::proofs::ChainLemmas::follows_refused, crate::proofs::GateLemmas::gates_kept), unfolding(crate::specs::commands::Run::ExpectedOn, crate::specs::commands::Run::AfterDesign))]
-fn run_on<'a, R: Threads + Wait + Sync, F: Files, G: Gate + Send>(
+fn run_on<'a, R: Threads + Wait + Sync, F: Files, O: Sink, G: Gate + Send>(
     rt: &R,
     alloc: Global,
     files: &mut F,
     words: &'a RunWords,
     pace: Pace<'a>,
     machine: Machine,
+    out: &mut O,
     gates: &mut [Option<G>],
 ) -> Result<Output, Refusal<'a>>
     requires range { IsRunInRange words.now }
@@ -127,13 +135,14 @@ fn run_on<'a, R: Threads + Wait + Sync, F: Files, G: Gate + Send>(
     requires gates { MAX_WORKERS ≤ length gates.old }
     requires tell { AllCanTell G.Gate.own gates.old }
     ensures expected { Follows (F.names files.old) (F.bytes files.old) (F.counts files.old) (F.counts files.new)
-        result (ExpectedOn words.now (EndsTelling G.Gate.own gates.old gates.new pace.entry words.now) machine) }
-    ensures writable { IfOk result CanWrite }
+        result (ExpectedOn words.now (EndsTelling G.Gate.own gates.old gates.new (written_by result) pace.entry words.now) machine) }
+    ensures writable { IfOk result CanEnd }
+    ensures written { MayTake O.taken O.faults out.old out.new result }
     ensures kept { KeepsGates pace.entry gates.old gates.new result }
 {
     match read_text(alloc, files, words.netlist.as_bytes()) {
         Ok(text) => match netlist_of(alloc, text) {
-            Ok(net) => run_netlist(rt, alloc, files, words, pace, &machine, net, gates),
+            Ok(net) => run_netlist(rt, alloc, files, words, pace, &machine, net, out, gates),
             Err(no) => Err(no),
         },
         Err(no) => Err(no),
@@ -141,7 +150,7 @@ fn run_on<'a, R: Threads + Wait + Sync, F: Files, G: Gate + Send>(
 }
 
 /// The trace of a netlist on a machine, where the gates of the named list read the last turn.
-fn run_netlist<'a, R: Threads + Wait + Sync, F: Files, G: Gate + Send>(
+fn run_netlist<'a, R: Threads + Wait + Sync, F: Files, O: Sink, G: Gate + Send>(
     rt: &R,
     alloc: Global,
     files: &mut F,
@@ -149,6 +158,7 @@ fn run_netlist<'a, R: Threads + Wait + Sync, F: Files, G: Gate + Send>(
     pace: Pace<'a>,
     machine: &Machine,
     net: Netlist,
+    out: &mut O,
     gates: &mut [Option<G>],
 ) -> Result<Output, Refusal<'a>>
     requires range { IsRunInRange words.now }
@@ -158,25 +168,30 @@ fn run_netlist<'a, R: Threads + Wait + Sync, F: Files, G: Gate + Send>(
     requires tell { AllCanTell G.Gate.own gates.old }
     ensures expected { Follows (F.names files.old) (F.bytes files.old) (F.counts files.old) (F.counts files.new)
         result (AfterList words.now.last net words.now.timing
-        (OnTiming words.now (EndsTelling G.Gate.own gates.old gates.new pace.entry words.now) machine.now net)) }
-    ensures writable { IfOk result CanWrite }
+        (OnTiming words.now (EndsTelling G.Gate.own gates.old gates.new (written_by result) pace.entry words.now) machine.now net)) }
+    ensures writable { IfOk result CanEnd }
+    ensures written { MayTake O.taken O.faults out.old out.new result }
     ensures kept { KeepsGates pace.entry gates.old gates.new result }
 {
     match &words.last {
         None => {
             let timing = &words.timing;
-            run_in_timing(rt, alloc, files, words, pace, machine, timing, net, gates)
+            run_in_timing(
+                rt, alloc, files, words, pace, machine, timing, net, out, gates,
+            )
         }
         Some(file) => {
             let file = file.as_bytes();
-            run_listed(rt, alloc, files, words, pace, machine, net, file, gates)
+            run_listed(
+                rt, alloc, files, words, pace, machine, net, file, out, gates,
+            )
         }
     }
 }
 
 /// The trace of a netlist on a machine, where the gates of the list in this file read the last turn.
 #[tactic(auto, using(crate::proofs::ChainLemmas::follows_refused, crate::proofs::GateLemmas::gates_kept), unfolding(crate::specs::commands::Run::AfterList))]
-fn run_listed<'a, R: Threads + Wait + Sync, F: Files, G: Gate + Send>(
+fn run_listed<'a, R: Threads + Wait + Sync, F: Files, O: Sink, G: Gate + Send>(
     rt: &R,
     alloc: Global,
     files: &mut F,
@@ -185,6 +200,7 @@ fn run_listed<'a, R: Threads + Wait + Sync, F: Files, G: Gate + Send>(
     machine: &Machine,
     net: Netlist,
     file: &'a [u8],
+    out: &mut O,
     gates: &mut [Option<G>],
 ) -> Result<Output, Refusal<'a>>
     requires range { IsRunInRange words.now }
@@ -194,15 +210,18 @@ fn run_listed<'a, R: Threads + Wait + Sync, F: Files, G: Gate + Send>(
     requires tell { AllCanTell G.Gate.own gates.old }
     ensures expected { Follows (F.names files.old) (F.bytes files.old) (F.counts files.old) (F.counts files.new)
         result (AfterList (Some file.now) net words.now.timing
-        (OnTiming words.now (EndsTelling G.Gate.own gates.old gates.new pace.entry words.now) machine.now net)) }
-    ensures writable { IfOk result CanWrite }
+        (OnTiming words.now (EndsTelling G.Gate.own gates.old gates.new (written_by result) pace.entry words.now) machine.now net)) }
+    ensures writable { IfOk result CanEnd }
+    ensures written { MayTake O.taken O.faults out.old out.new result }
     ensures kept { KeepsGates pace.entry gates.old gates.new result }
 {
     match read_text(alloc, files, file) {
         Ok(text) => match list_of(alloc, text, &net) {
             Ok(listed) => {
                 let timing = words.timing.listing(listed);
-                run_in_timing(rt, alloc, files, words, pace, machine, &timing, net, gates)
+                run_in_timing(
+                    rt, alloc, files, words, pace, machine, &timing, net, out, gates,
+                )
             }
             Err(no) => Err(no),
         },
@@ -212,7 +231,7 @@ fn run_listed<'a, R: Threads + Wait + Sync, F: Files, G: Gate + Send>(
 
 /// The trace of a netlist on a machine in a timing.
 #[tactic(auto, using(crate::proofs::GateLemmas::gates_kept))]
-fn run_in_timing<'a, R: Threads + Wait + Sync, F: Files, G: Gate + Send>(
+fn run_in_timing<'a, R: Threads + Wait + Sync, F: Files, O: Sink, G: Gate + Send>(
     rt: &R,
     alloc: Global,
     files: &mut F,
@@ -221,6 +240,7 @@ fn run_in_timing<'a, R: Threads + Wait + Sync, F: Files, G: Gate + Send>(
     machine: &Machine,
     timing: &Timing,
     net: Netlist,
+    out: &mut O,
     gates: &mut [Option<G>],
 ) -> Result<Output, Refusal<'a>>
     requires range { IsRunInRange words.now }
@@ -230,19 +250,22 @@ fn run_in_timing<'a, R: Threads + Wait + Sync, F: Files, G: Gate + Send>(
     requires gates { MAX_WORKERS ≤ length gates.old }
     requires tell { AllCanTell G.Gate.own gates.old }
     ensures expected { Follows (F.names files.old) (F.bytes files.old) (F.counts files.old) (F.counts files.new)
-        result (OnTiming words.now (EndsTelling G.Gate.own gates.old gates.new pace.entry words.now) machine.now net timing.now) }
-    ensures writable { IfOk result CanWrite }
+        result (OnTiming words.now (EndsTelling G.Gate.own gates.old gates.new (written_by result) pace.entry words.now) machine.now net timing.now) }
+    ensures writable { IfOk result CanEnd }
+    ensures written { MayTake O.taken O.faults out.old out.new result }
     ensures kept { KeepsGates pace.entry gates.old gates.new result }
 {
     match compiled(alloc, net, machine, timing) {
-        Ok(built) => execute(rt, alloc, files, words, pace, machine, timing, built, gates),
+        Ok(built) => execute(
+            rt, alloc, files, words, pace, machine, timing, built, out, gates,
+        ),
         Err(no) => Err(no),
     }
 }
 
 /// The trace of an image under the stimulus of the named file.
 #[tactic(auto, using(crate::proofs::ChainLemmas::follows_refused, crate::proofs::GateLemmas::gates_kept), unfolding(crate::specs::commands::Run::AfterStimulus))]
-fn execute<'a, R: Threads + Wait + Sync, F: Files, G: Gate + Send>(
+fn execute<'a, R: Threads + Wait + Sync, F: Files, O: Sink, G: Gate + Send>(
     rt: &R,
     alloc: Global,
     files: &mut F,
@@ -251,6 +274,7 @@ fn execute<'a, R: Threads + Wait + Sync, F: Files, G: Gate + Send>(
     machine: &Machine,
     timing: &Timing,
     built: Built,
+    out: &mut O,
     gates: &mut [Option<G>],
 ) -> Result<Output, Refusal<'a>>
     requires range { IsRunInRange words.now }
@@ -261,27 +285,25 @@ fn execute<'a, R: Threads + Wait + Sync, F: Files, G: Gate + Send>(
     requires gates { MAX_WORKERS ≤ length gates.old }
     requires tell { AllCanTell G.Gate.own gates.old }
     ensures expected { Follows (F.names files.old) (F.bytes files.old) (F.counts files.old) (F.counts files.new)
-        result (AfterStimulus words.now.stimulus built.net (EndsTelling G.Gate.own gates.old gates.new pace.entry words.now machine.now timing.now built.net)) }
-    ensures writable { IfOk result CanWrite }
+        result (AfterStimulus words.now.stimulus built.net (EndsTelling G.Gate.own gates.old gates.new (written_by result) pace.entry words.now machine.now timing.now built.net)) }
+    ensures writable { IfOk result CanEnd }
+    ensures written { MayTake O.taken O.faults out.old out.new result }
     ensures kept { KeepsGates pace.entry gates.old gates.new result }
 {
     match read_text(alloc, files, words.stimulus.as_bytes()) {
         Ok(text) => match stimulus_of(alloc, text, &built.net) {
-            Ok(stimulus) => match few_cells(&built.net, &stimulus) {
-                Ok(()) => finish(
-                    rt, alloc, files, words, pace, machine, timing, built, &stimulus, gates,
-                ),
-                Err(no) => Err(no),
-            },
+            Ok(stimulus) => finish(
+                rt, alloc, files, words, pace, machine, timing, built, stimulus, out, gates,
+            ),
             Err(no) => Err(no),
         },
         Err(no) => Err(no),
     }
 }
 
-/// The trace of an image under a stimulus.
+/// The trace of an image under a stimulus. By workers it is written, and else it is kept.
 #[tactic(auto, using(crate::proofs::GateLemmas::gates_kept), unfolding(crate::specs::commands::Run::EndsBy))]
-fn finish<'a, R: Threads + Wait + Sync, F: Files, G: Gate + Send>(
+fn finish<'a, R: Threads + Wait + Sync, F: Files, O: Sink, G: Gate + Send>(
     rt: &R,
     alloc: Global,
     files: &mut F,
@@ -290,8 +312,75 @@ fn finish<'a, R: Threads + Wait + Sync, F: Files, G: Gate + Send>(
     machine: &Machine,
     timing: &Timing,
     built: Built,
-    stimulus: &Stimulus,
+    stimulus: Stimulus,
+    out: &mut O,
     gates: &mut [Option<G>],
+) -> Result<Output, Refusal<'a>>
+    requires range { IsRunInRange words.now }
+    requires machine { IsValidMachine machine.now }
+    requires valid { IsValid built.net }
+    requires image { IsImageOf built.net timing.now built.image }
+    requires made { IsMachineImage built.net machine.now timing.now built.image }
+    requires stimulus { IsValidStimulus stimulus }
+    requires columns { stimulus.columns ≡ input_count built.net }
+    requires gates { MAX_WORKERS ≤ length gates.old }
+    requires tell { AllCanTell G.Gate.own gates.old }
+    ensures expected { Follows (F.names files.old) (F.bytes files.old) (F.counts files.old) (F.counts files.new)
+        result (EndsTelling G.Gate.own gates.old gates.new (written_by result) pace.entry words.now machine.now timing.now built.net stimulus) }
+    ensures writable { IfOk result CanEnd }
+    ensures written { MayTake O.taken O.faults out.old out.new result }
+    ensures kept { KeepsGates pace.entry gates.old gates.new result }
+{
+    match pace {
+        Pace::Workers => {
+            match by_workers(
+                rt, alloc, words, machine, timing, built, stimulus, out, gates,
+            ) {
+                Ok(written) => Ok(Output::Written(written)),
+                Err(Memory) => Err(Refusal::Memory),
+            }
+        }
+        Pace::Rounds => in_rounds(alloc, words, timing, built, &stimulus),
+        Pace::Order(file) => in_order(alloc, files, words, file, machine, timing, built, &stimulus),
+    }
+}
+
+/// The trace of an image, all ports of which step round after round.
+fn in_rounds<'a>(
+    alloc: Global,
+    words: &'a RunWords,
+    timing: &Timing,
+    built: Built,
+    stimulus: &Stimulus,
+) -> Result<Output, Refusal<'a>>
+    requires range { IsRunInRange words.now }
+    requires valid { IsValid built.net }
+    requires image { IsImageOf built.net timing.now built.image }
+    requires stimulus { IsValidStimulus stimulus.now }
+    requires columns { stimulus.now.columns ≡ input_count built.net }
+    ensures expected { KeepsTrace built.net timing.now stimulus.now [] (outcome_of result) }
+    ensures writable { IfOk result CanWrite }
+{
+    match few_cells(&built.net, stimulus) {
+        Ok(()) => match by_rounds(alloc, words, timing, built, stimulus) {
+            Ok(trace) => Ok(Output::Trace(trace)),
+            Err(Memory) => Err(Refusal::Memory),
+        },
+        Err(no) => Err(no),
+    }
+}
+
+/// What is done of the trace of an image by the end of the order of the named file.
+#[tactic(auto, using(crate::proofs::ChainLemmas::follows_refused), unfolding(crate::specs::commands::Run::EndsBy))]
+fn in_order<'a, F: Files>(
+    alloc: Global,
+    files: &mut F,
+    words: &'a RunWords,
+    file: &'a [u8],
+    machine: &Machine,
+    timing: &Timing,
+    built: Built,
+    stimulus: &Stimulus,
 ) -> Result<Output, Refusal<'a>>
     requires range { IsRunInRange words.now }
     requires machine { IsValidMachine machine.now }
@@ -300,31 +389,19 @@ fn finish<'a, R: Threads + Wait + Sync, F: Files, G: Gate + Send>(
     requires made { IsMachineImage built.net machine.now timing.now built.image }
     requires stimulus { IsValidStimulus stimulus.now }
     requires columns { stimulus.now.columns ≡ input_count built.net }
-    requires gates { MAX_WORKERS ≤ length gates.old }
-    requires tell { AllCanTell G.Gate.own gates.old }
     ensures expected { Follows (F.names files.old) (F.bytes files.old) (F.counts files.old) (F.counts files.new)
-        result (EndsTelling G.Gate.own gates.old gates.new pace.entry words.now machine.now timing.now built.net stimulus.now) }
+        result (EndsWithin true (Some file.now) words.now machine.now timing.now built.net stimulus.now) }
     ensures writable { IfOk result CanWrite }
-    ensures kept { KeepsGates pace.entry gates.old gates.new result }
 {
-    match pace {
-        Pace::Workers => {
-            match by_workers(rt, alloc, words, machine, timing, built, stimulus, gates) {
-                Ok(trace) => Ok(Output::Trace(trace)),
-                Err(Memory) => Err(Refusal::Memory),
-            }
-        }
-        Pace::Rounds => match by_rounds(alloc, words, timing, built, stimulus) {
-            Ok(trace) => Ok(Output::Trace(trace)),
-            Err(Memory) => Err(Refusal::Memory),
-        },
-        Pace::Order(file) => in_order(alloc, files, words, file, machine, timing, built, stimulus),
+    match few_cells(&built.net, stimulus) {
+        Ok(()) => in_order_of_file(alloc, files, words, file, machine, timing, built, stimulus),
+        Err(no) => Err(no),
     }
 }
 
-/// What is done of the trace of an image by the end of the order of the named file.
+/// The same, once the cells are few enough.
 #[tactic(auto, using(crate::proofs::ChainLemmas::follows_refused), unfolding(crate::specs::commands::Run::EndsBy))]
-fn in_order<'a, F: Files>(
+fn in_order_of_file<'a, F: Files>(
     alloc: Global,
     files: &mut F,
     words: &'a RunWords,

@@ -1,11 +1,12 @@
 //! Runs of the machine: by workers, by rounds, and in a given order.
 
 ghost use Rattle.machine_text.specs.Machines.{ports_of};
-ghost use Rattle.std.specs.Prelude.{◌≡◌, ◌<◌, ◌≤◌, ℕ, Some, IfOk, OnErr, OnOk, length, replicate, slice_get};
+ghost use Rattle.std.specs.Prelude.{◌≡◌, ◌<◌, ◌≤◌, ℕ, Some, IfOk, OnErr, length, replicate, slice_get};
 ghost use Rattle.std.specs.List.{flat_map};
+ghost use Rattle.edge_io.specs.Writing.{Takes};
 ghost use Rattle.machine_run.specs.Shown.{AreShown};
-ghost use Rattle.machine_run.specs.Visits.{AreInPlace, AreVisitsOf};
-ghost use Rattle.net_defs.specs.Time.{cycle_count, turn_count};
+ghost use Rattle.machine_run.specs.Visits.{AreInPlace};
+ghost use Rattle.net_defs.specs.Time.{cycle_count};
 ghost use Rattle.net_defs.specs.Trace.{IsTrace};
 ghost use Rattle.net_defs.specs.Valid.{IsValid, IsValidStimulus, input_count};
 ghost use Rattle.stim_text.specs.declared.order.OrderLine.{OrderLine};
@@ -16,17 +17,18 @@ ghost use Rattle.limits.specs.declared.TheConstants.{MAX_WORKERS};
 ghost use Rattle.yse_top.specs.Images.{IsImageOf};
 ghost use Rattle.yse_top.specs.Orders.{AreRowsInOrder, EndsInOrder, IsEndingOf, IsMachineImage};
 ghost use Rattle.yse_top.specs.Stepped.{HasStepped};
-ghost use Rattle.yse_top.specs.Outputs.{trace_bytes, CanPrint, CanWrite};
+ghost use Rattle.yse_top.specs.Outputs.{trace_bytes, run_bytes, CanPrint, CanWrite};
 ghost use Rattle.yse_top.specs.Refusals.{ended_with};
-ghost use Rattle.yse_top.specs.Visited.{AllCanTell};
+ghost use Rattle.yse_top.specs.Visited.{AllCanTell, AreRunVisits};
 
 use crate::checks::Built;
-use crate::output::{Ending, Output, Trace};
+use crate::output::{Ending, Output, Trace, Written};
+use block_run::run_blocks;
 use cmd_words::RunWords;
 use crew_run::Gate;
+use edge_io::Sink;
 use event_core::{Core, CoreStep};
 use event_defs::law::steps_are_sound;
-use machine_run::run_machine;
 use machine_text::Machine;
 use net_defs::{CellRow, Rows, Stimulus, Timing};
 use seen_list::{List, Memory};
@@ -48,43 +50,52 @@ pub enum Pace<'a> {
     Order(&'a [u8]),
 }
 
-/// The trace of an image under a stimulus: workers step the ports until they are done, and tell the gates.
-pub fn by_workers<R: Threads + Wait + Sync, G: Gate + Send>(
+/// The run of an image under a stimulus, which writes its trace: workers step the ports, block after block, until
+/// they are done, and tell the gates.
+pub fn by_workers<R: Threads + Wait + Sync, O: Sink, G: Gate + Send>(
     rt: &R,
     alloc: Global,
     words: &RunWords,
     _machine: &Machine,
     _timing: &Timing,
     built: Built,
-    stimulus: &Stimulus,
+    stimulus: Stimulus,
+    out: &mut O,
     gates: &mut [Option<G>],
-) -> Result<Trace, Memory>
+) -> Result<Written, Memory>
     requires range { IsRunInRange words.now }
     requires valid { IsValid built.net }
     requires image { IsImageOf built.net _timing.now built.image }
     requires made { IsMachineImage built.net _machine.now _timing.now built.image }
-    requires stimulus { IsValidStimulus stimulus.now }
-    requires columns { stimulus.now.columns ≡ input_count built.net }
+    requires stimulus { IsValidStimulus stimulus }
+    requires columns { stimulus.columns ≡ input_count built.net }
     requires gates { MAX_WORKERS ≤ length gates.old }
     requires tell { AllCanTell G.Gate.own gates.old }
-    ensures printed { IfOk result (λ trace. IsTrace built.net _timing.now stimulus.now (trace_bytes trace)) }
-    ensures writable { IfOk result CanPrint }
-    ensures visits { OnOk result (AreVisitsOf G.Gate.own (ports_of _machine.now) (turn_count _timing.now stimulus.now) words.now.workers gates.old gates.new) }
+    ensures printed { IfOk result (λ run. IsTrace built.net _timing.now stimulus (run_bytes run)) }
+    ensures written { IfOk result (λ run. Takes (O.taken out.old) (O.taken out.new) (O.faults out.old) (O.faults out.new) run.wrote (run_bytes run)) }
+    ensures visits { IfOk result (λ run. AreRunVisits G.Gate.own gates.old gates.new run.wrote _machine.now _timing.now built.net stimulus words.now.workers) }
+    ensures unwritten { OnErr result (out.new ≡ out.old) }
     ensures refused { OnErr result (gates.new ≡ gates.old) }
     ensures in_place { AreInPlace gates.old gates.new }
 {
     let Built { net, image } = built;
-    let line = TraceLine::new(alloc, &net)?;
-    let rows = run_machine(
+    let wrote = run_blocks(
         rt,
         alloc,
+        &net,
         &image,
-        stimulus,
+        &stimulus,
         words.banks,
         words.workers,
         gates,
+        out,
     )?;
-    Ok(Trace { net, rows, line })
+    Ok(Written {
+        net,
+        image,
+        stimulus,
+        wrote,
+    })
 }
 
 /// The trace of an image under a stimulus: all ports step, round after round, until they are done.

@@ -1,5 +1,5 @@
 -- What is written of the line is told of it.
-use Rattle.yse_top.proofs.WritingLemmas.{tells_written}
+use Rattle.edge_io.proofs.WritingLemmas.{tells_written}
 use Rattle.yse_top.proofs.diagnostics.tell_write_fault.Goals as goal
 
 pub returns-clause-line : goal.returns-clause-line

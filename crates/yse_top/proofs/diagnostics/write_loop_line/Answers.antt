@@ -1,7 +1,7 @@
 -- The names are written, and then the end of the line.
 use Rattle.std.proofs.Common.{refl}
 use Rattle.yse_top.specs.Lines.{loop_line}
-use Rattle.yse_top.proofs.WritingLemmas.{writes_then, writes_stop}
+use Rattle.edge_io.proofs.WritingLemmas.{writes_then, writes_stop}
 use Rattle.yse_top.proofs.diagnostics.write_loop_line.Goals as goal
 
 pub returns-in-Ok : goal.returns-in-Ok

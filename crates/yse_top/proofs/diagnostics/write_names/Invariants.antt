@@ -2,7 +2,7 @@ use Rattle.std.proofs.Common.{take, ◌++◌, Ok}
 use Rattle.std.specs.Prelude.{codes}
 use Rattle.std.specs.List.{flat_map}
 use Rattle.net_defs.specs.Canonical.{name_of}
-use Rattle.yse_top.specs.Writing.{Takes}
+use Rattle.edge_io.specs.Writing.{Takes}
 use Rattle.yse_top.proofs.diagnostics.write_names.Given as goal
 
 abbrev pub invariant-members : goal.invariant-members

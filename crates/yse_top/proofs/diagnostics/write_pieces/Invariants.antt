@@ -1,6 +1,6 @@
 use Rattle.std.proofs.Common.{take, Ok}
 use Rattle.std.specs.List.{flat_map}
-use Rattle.yse_top.specs.Writing.{Takes}
+use Rattle.edge_io.specs.Writing.{Takes}
 use Rattle.yse_top.proofs.diagnostics.write_pieces.Given as goal
 
 abbrev pub invariant-pieces : goal.invariant-pieces

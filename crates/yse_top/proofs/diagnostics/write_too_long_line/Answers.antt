@@ -2,8 +2,8 @@
 use Rattle.std.proofs.Common.{◌∙◌, ap, [], ◌∷◌, List, ℕ}
 use Rattle.std.specs.Prelude.{codes}
 use Rattle.yse_top.specs.Lines.{too_long_line}
-use Rattle.yse_top.specs.Writing.{joined}
-use Rattle.yse_top.proofs.WritingLemmas.{writes_same}
+use Rattle.edge_io.specs.Writing.{joined}
+use Rattle.edge_io.proofs.WritingLemmas.{writes_same}
 use Rattle.yse_top.proofs.diagnostics.write_too_long_line.Goals as goal
 
 pub returns : goal.returns

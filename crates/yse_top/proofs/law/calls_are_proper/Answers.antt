@@ -1,5 +1,5 @@
 -- The chain of each command, link by link.
-use Rattle.std.proofs.Common.{◌≡◌, ◌∙◌, ◌↔◌, ◌⊎◌, inl, inr, ◌≢◌, ◌≤◌, sym, ap, refl, subst, ℕ, List, [], ◌∷◌, ◌++◌, length, Option, Some, None, Ok, Err, arith}
+use Rattle.std.proofs.Common.{◌≡◌, ◌∙◌, ◌↔◌, ◌⊎◌, inl, inr, ◌≢◌, ◌≤◌, sym, ap, refl, subst, ℕ, Bool, true, false, List, [], ◌∷◌, ◌++◌, length, Option, Some, None, Ok, Err, arith}
 use Rattle.std.specs.Option.{option_to_list}
 use Rattle.std.proofs.lemmas.List.{append-nil}
 use Rattle.limits.specs.declared.TheConstants.{MAX_LARGE_GATES, MAX_TEXT_BYTES}
@@ -47,8 +47,8 @@ use Rattle.yse_top.specs.Readings.{Reading}
 use Rattle.yse_top.specs.Orders.{EndsInOrder}
 use Rattle.yse_top.specs.Words.{files_of, files_named, order_named}
 use Rattle.yse_top.specs.commands.Large.{ExpectedLarge}
-use Rattle.yse_top.specs.commands.Plan.{ExpectedPlan, ExpectedPlanOn, IsReportOf, PlansIn}
-use Rattle.yse_top.specs.commands.Run.{AfterDesign, AfterFit, AfterList, AfterLoop, AfterMachine, AfterStimulus, WritesTrace, EndsBy, ExpectedRun, ExpectedOn, ExpectedRefer}
+use Rattle.yse_top.specs.commands.Plan.{ExpectedPlan, ExpectedPlanOn, IsReportOf}
+use Rattle.yse_top.specs.commands.Run.{AfterCells, AfterDesign, AfterFit, AfterList, AfterLoop, AfterMachine, AfterStimulus, WritesTrace, EndsBy, EndsWithin, ExpectedRun, ExpectedOn, ExpectedRefer, KeepsTrace}
 use Rattle.yse_top.specs.commands.Show.{ExpectedShow}
 use Rattle.yse_top.proofs.CommandLemmas.{IsCommand, command_after, command_file, command_ends, not_words}
 use Rattle.yse_top.proofs.OrderLemmas.{DecidesOrder, done_alike, order_ending}
@@ -123,9 +123,13 @@ module _ (laws : Laws) where
     stimulus_proper : (file : List ℕ) (files : List (List ℕ)) (net : Netlist) (Next : Stimulus → List Reading → Outcome → Type 0) → ((stimulus : Stimulus) → IsCommand Settled files (Next stimulus)) → IsCommand Settled (file ∷ files) (AfterStimulus file net Next)
     unfolding AfterStimulus
     stimulus_proper file files net Next on =
-        command_file Settled file files (λ text. After (IsStimulusOf text net) (λ stimulus. After (HasFewCells net stimulus) (λ few. Next stimulus))) (λ text short.
-        command_after Settled files (IsStimulusOf text net) (λ stimulus. After (HasFewCells net stimulus) (λ few. Next stimulus)) (stimulus_check text net) (λ stimulus is.
-        command_after Settled files (HasFewCells net stimulus) (λ few. Next stimulus) (cells_check net stimulus) (λ few cells. on stimulus)))
+        command_file Settled file files (λ text. After (IsStimulusOf text net) Next) (λ text short.
+        command_after Settled files (IsStimulusOf text net) Next (stimulus_check text net) (λ stimulus is. on stimulus))
+
+    cells_proper : (limited : Bool) (files : List (List ℕ)) (net : Netlist) (stimulus : Stimulus) (Next : List Reading → Outcome → Type 0) → IsCommand Settled files Next → IsCommand Settled files (AfterCells limited net stimulus Next)
+    cells_proper false files net stimulus Next on = on
+    cells_proper true files net stimulus Next on =
+        command_after Settled files (HasFewCells net stimulus) (λ few. Next) (cells_check net stimulus) (λ few cells. on)
 
     machine_proper : (file : Option (List ℕ)) (files : List (List ℕ)) (Next : Machine → List Reading → Outcome → Type 0) → ((machine : Machine) → IsValidMachine machine → IsCommand Settled files (Next machine)) → IsCommand Settled (option_to_list file ++ files) (AfterMachine file Next)
     unfolding AfterMachine
@@ -143,8 +147,8 @@ module _ (laws : Laws) where
 
     loop_proper : (file : List ℕ) (net : Netlist) (timing : Timing) → IsCommand Settled (file ∷ []) (AfterLoop file net timing)
     loop_proper file net timing =
-        command_after Settled (file ∷ []) (HasNoLoop net timing) (λ passed. AfterStimulus file net (WritesTrace net timing)) (loop_check net timing (laws.order_or_loop net timing) (laws.never_both net timing)) (λ passed acyclic.
-        stimulus_proper file [] net (WritesTrace net timing) (λ stimulus. trace_proper net timing stimulus acyclic))
+        command_after Settled (file ∷ []) (HasNoLoop net timing) (λ passed. AfterStimulus file net (KeepsTrace net timing)) (loop_check net timing (laws.order_or_loop net timing) (laws.never_both net timing)) (λ passed acyclic.
+        stimulus_proper file [] net (KeepsTrace net timing) (λ stimulus. cells_proper true [] net stimulus (WritesTrace net timing stimulus) (trace_proper net timing stimulus acyclic)))
 
     refer_proper : (words : RunWords) → IsCommand Settled (words.netlist ∷ (option_to_list words.last ++ (words.stimulus ∷ []))) (ExpectedRefer words)
     unfolding ExpectedRefer
@@ -210,20 +214,21 @@ module _ (laws : Laws) where
       (order_ending net timing stimulus order words.banks machine (laws.one_simulation net timing stimulus acyclic) (laws.decides order words.banks net machine timing stimulus banks valid))
       (λ none. cc)))
 
-  on_proper : (words : RunWords) (order : Option (List ℕ)) → 1 ≤ words.banks → (machine : Machine) → IsValidMachine machine → IsCommand (order ≡ None) (words.netlist ∷ (option_to_list words.last ++ (words.stimulus ∷ option_to_list order))) (ExpectedOn words (EndsBy order words) machine)
+  on_proper : (words : RunWords) (limited : Bool) (order : Option (List ℕ)) → 1 ≤ words.banks → (machine : Machine) → IsValidMachine machine → IsCommand (order ≡ None) (words.netlist ∷ (option_to_list words.last ++ (words.stimulus ∷ option_to_list order))) (ExpectedOn words (EndsWithin limited order words) machine)
   unfolding ExpectedOn
-  on_proper words order banks machine machine_valid =
-      design_proper (order ≡ None) words (words.stimulus ∷ option_to_list order) machine machine_valid (λ timing net. AfterStimulus words.stimulus net (EndsBy order words machine timing net)) (λ timing net valid acyclic fits.
-      stimulus_proper (order ≡ None) words.stimulus (option_to_list order) net (EndsBy order words machine timing net) (λ stimulus. ends_proper order words machine timing net stimulus banks valid acyclic))
+  on_proper words limited order banks machine machine_valid =
+      design_proper (order ≡ None) words (words.stimulus ∷ option_to_list order) machine machine_valid (λ timing net. AfterStimulus words.stimulus net (EndsWithin limited order words machine timing net)) (λ timing net valid acyclic fits.
+      stimulus_proper (order ≡ None) words.stimulus (option_to_list order) net (EndsWithin limited order words machine timing net) (λ stimulus.
+      cells_proper (order ≡ None) limited (option_to_list order) net stimulus (EndsBy order words machine timing net stimulus) (ends_proper order words machine timing net stimulus banks valid acyclic)))
 
-  run_proper : (words : RunWords) (order : Option (List ℕ)) → 1 ≤ words.banks → IsCommand (order ≡ None) (option_to_list words.machine ++ (words.netlist ∷ (option_to_list words.last ++ (words.stimulus ∷ option_to_list order)))) (ExpectedRun words order)
+  run_proper : (words : RunWords) (limited : Bool) (order : Option (List ℕ)) → 1 ≤ words.banks → IsCommand (order ≡ None) (option_to_list words.machine ++ (words.netlist ∷ (option_to_list words.last ++ (words.stimulus ∷ option_to_list order)))) (ExpectedRun words limited order)
   unfolding ExpectedRun
-  run_proper words order banks = machine_proper (order ≡ None) words.machine (words.netlist ∷ (option_to_list words.last ++ (words.stimulus ∷ option_to_list order))) (ExpectedOn words (EndsBy order words)) (on_proper words order banks)
+  run_proper words limited order banks = machine_proper (order ≡ None) words.machine (words.netlist ∷ (option_to_list words.last ++ (words.stimulus ∷ option_to_list order))) (ExpectedOn words (EndsWithin limited order words)) (on_proper words limited order banks)
 
   command_proper : (asked : Command) → IsInRange asked → IsCommand (order_named (Some asked) ≡ None) (files_of asked) (ExpectedOf asked)
-  command_proper (command.Run words) range = run_proper words None range.banks_some
+  command_proper (command.Run words) range = run_proper words false None range.banks_some
   command_proper (command.Refer words) range = refer_proper (None ≡ None) words
-  command_proper (command.Order words) range = run_proper words words.order range.banks_some
+  command_proper (command.Order words) range = run_proper words true words.order range.banks_some
   command_proper (command.Plan words) range = plan_proper (None ≡ None) words
   command_proper (command.Show file) range = show_proper (None ≡ None) file
   command_proper (command.Large gates cycles workers) range = large_proper (None ≡ None) gates cycles range.gates_few

@@ -1,7 +1,7 @@
 use Rattle.std.proofs.Common.{◌≡◌, ◌+◌, take, Ok}
 use Rattle.std.specs.List.{enumerate_from, flat_map}
 use Rattle.net_defs.specs.Trace.{cycle_line}
-use Rattle.yse_top.specs.Writing.{Takes}
+use Rattle.edge_io.specs.Writing.{Takes}
 use Rattle.yse_top.proofs.output.write_rows.Given as goal
 
 abbrev pub invariant-rows : goal.invariant-rows

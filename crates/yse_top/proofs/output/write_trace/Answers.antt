@@ -1,6 +1,6 @@
 -- The header is written, and then the rows.
 use Rattle.std.proofs.Common.{◌∙◌, ap}
-use Rattle.yse_top.proofs.WritingLemmas.{writes_then}
+use Rattle.edge_io.proofs.WritingLemmas.{writes_then}
 use Rattle.yse_top.proofs.output.write_trace.Goals as goal
 
 pub returns-in-Ok : goal.returns-in-Ok

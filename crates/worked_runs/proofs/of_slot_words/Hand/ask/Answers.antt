@@ -6,4 +6,4 @@ use Rattle.worked_runs.proofs.of_slot_words.Hand.ask.Goals as goal
 pub ask-requires-clause-reader : goal.ask-requires-clause-reader
 ask-requires-clause-reader c =
     let a = c.args.self.now in
-    subst (λ (i : Image). c.args.reader < length i.ports) a.own.image (reader_there a.pass c.args.reader c.requires)
+    subst (λ (i : Image). c.args.reader < length i.ports) a.own.image (reader_there a.port.until a.pass c.args.reader c.requires)

@@ -1,27 +1,20 @@
 -- What was printed is the trace.
 use Rattle.std.proofs.Common.{List, ℕ, refl, inl, sym, subst, ◌++◌}
 use Rattle.net_defs.specs.declared.netlist.Netlist.{Netlist}
-use Rattle.net_defs.specs.declared.stimulus.Stimulus.{Stimulus}
 use Rattle.net_defs.specs.declared.timing.Timing.{Timing}
 use Rattle.net_defs.specs.Trace.{header_line, IsTrace}
-use Rattle.yse_top.specs.Checks.{After, Ends, Writes, IsStimulusOf, HasFewCells}
+use Rattle.yse_top.specs.Checks.{After, IsStimulusOf, HasFewCells}
 use Rattle.yse_top.specs.Outcome.{Outcome}
 use Rattle.yse_top.specs.Outputs.{cycle_lines}
 use Rattle.yse_top.specs.Readings.{Reading}
-use Rattle.yse_top.specs.commands.Run.{AfterStimulus}
+use Rattle.yse_top.specs.commands.Run.{AfterStimulus, KeepsTrace, WritesTrace}
 use Rattle.yse_top.proofs.ChainLemmas.{follows_file, follows_on, follows_here}
 use Rattle.yse_top.proofs.TraceLemmas.{printed_is_trace}
 use Rattle.yse_top.proofs.commands.refer.simulate.Goals as goal
 
 module _ (net : Netlist) (timing : Timing) where
-  abbrev of_cells : Stimulus → List Reading → Outcome → Type 0
-  of_cells stimulus = Ends (Writes (IsTrace net timing stimulus))
-
-  abbrev of_stimulus : Stimulus → List Reading → Outcome → Type 0
-  of_stimulus stimulus = After (HasFewCells net stimulus) (λ few. of_cells stimulus)
-
   abbrev of_text : List ℕ → List Reading → Outcome → Type 0
-  of_text text = After (IsStimulusOf text net) of_stimulus
+  of_text text = After (IsStimulusOf text net) (KeepsTrace net timing)
 
 pub returns-in-Ok-printed-clause-expected : goal.returns-in-Ok-printed-clause-expected
 unfolding AfterStimulus
@@ -35,6 +28,6 @@ returns-in-Ok-printed-clause-expected g c =
     let is_trace = subst (λ n. IsTrace net timing stimulus (header_line n ++ cycle_lines trace.rows.rows)) (sym c.in-Ok-printed.ensures.printed.0)
     (printed_is_trace net timing stimulus trace.rows c.in-Ok-printed.ensures.printed.1) in
     follows_file _ _ _ _ _ _ _ _ text _ (of_text net timing) c.in-Ok.ensures.same_names c.in-Ok.ensures.same_bytes c.in-Ok.ensures.text
-    (follows_on _ _ (IsStimulusOf text net) (of_stimulus net timing) stimulus _ _ _ e.checked
-    (follows_on _ _ (HasFewCells net stimulus) (λ few. of_cells net timing stimulus) tt _ _ _ c.in-Ok-few_cells.ensures
-    (follows_here _ _ _ _ (of_cells net timing stimulus) (refl, inl (_, is_trace, refl)))))
+    (follows_on _ _ (IsStimulusOf text net) (KeepsTrace net timing) stimulus _ _ _ e.checked
+    (follows_on _ _ (HasFewCells net stimulus) (λ few. WritesTrace net timing stimulus) tt _ _ _ c.in-Ok-few_cells.ensures
+    (follows_here _ _ _ _ (WritesTrace net timing stimulus) (refl, inl (_, is_trace, refl)))))

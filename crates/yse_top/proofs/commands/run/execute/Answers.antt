@@ -1,40 +1,37 @@
--- The run is expected after the stimulus and the cells.
-use Rattle.std.proofs.Common.{List, ℕ, refl, inr}
+-- The run is expected after the stimulus.
+use Rattle.std.proofs.Common.{Ok, List, ℕ, refl, inr}
 use Rattle.net_defs.specs.declared.netlist.Netlist.{Netlist}
 use Rattle.net_defs.specs.declared.stimulus.Stimulus.{Stimulus}
-use Rattle.yse_top.specs.Checks.{After, IsStimulusOf, HasFewCells}
+use Rattle.yse_top.specs.Checks.{After, IsStimulusOf}
 use Rattle.yse_top.specs.Outcome.{Outcome}
 use Rattle.yse_top.specs.Readings.{Reading}
+use Rattle.yse_top.specs.Refusals.{written_by}
 use Rattle.yse_top.specs.Visited.{EndsTelling}
 use Rattle.yse_top.specs.commands.Run.{AfterStimulus}
 use Rattle.yse_top.proofs.ChainLemmas.{follows_file, follows_on, follows_here}
 use Rattle.yse_top.proofs.commands.run.execute.Goals as goal
 
 module _ (net : Netlist) (Next : Stimulus → List Reading → Outcome → Type 0) where
-  abbrev of_stimulus : Stimulus → List Reading → Outcome → Type 0
-  of_stimulus stimulus = After (HasFewCells net stimulus) (λ few. Next stimulus)
-
   abbrev of_text : List ℕ → List Reading → Outcome → Type 0
-  of_text text = After (IsStimulusOf text net) of_stimulus
+  of_text text = After (IsStimulusOf text net) Next
 
-pub returns-in-Ok-few_cells-clause-expected : goal.returns-in-Ok-few_cells-clause-expected
+pub returns-in-Ok-stimulus_of-clause-expected : goal.returns-in-Ok-stimulus_of-clause-expected
 unfolding AfterStimulus
-returns-in-Ok-few_cells-clause-expected g c =
+returns-in-Ok-stimulus_of-clause-expected g c =
     let e = c.in-Ok-stimulus_of.ensures in
     let net = c.args.built.net in
-    let next = EndsTelling g.G.Gate c.args.gates.now c.finish.new.gates c.args.pace c.args.words.now c.args.machine.now c.args.timing.now net in
+    let next = EndsTelling g.G.Gate c.args.gates.now c.finish.new.gates (written_by c.finish.result) c.args.pace c.args.words.now c.args.machine.now c.args.timing.now net in
     let stimulus = c.in-Ok-stimulus_of.stimulus in
     let text = c.in-Ok.text in
     follows_file _ _ _ _ _ _ _ _ text _ (of_text net next) c.in-Ok.ensures.same_names c.in-Ok.ensures.same_bytes (rw c.as_bytes.ensures at c.in-Ok.ensures.text)
-    (follows_on _ _ (IsStimulusOf text net) (of_stimulus net next) stimulus _ _ _ e.checked
-    (follows_on _ _ (HasFewCells net stimulus) (λ few. next stimulus) tt _ _ _ c.in-Ok-few_cells.ensures c.finish.ensures.expected))
+    (follows_on _ _ (IsStimulusOf text net) next stimulus _ _ _ e.checked c.finish.ensures.expected)
 
 pub returns-in-Ok-clause-expected : goal.returns-in-Ok-clause-expected
 unfolding AfterStimulus
 returns-in-Ok-clause-expected g c =
     let e = c.in-Err-stimulus_of.ensures in
     let net = c.args.built.net in
-    let next = EndsTelling g.G.Gate c.args.gates.now c.args.gates.now c.args.pace c.args.words.now c.args.machine.now c.args.timing.now net in
+    let next = EndsTelling g.G.Gate c.args.gates.now c.args.gates.now (Ok tt) c.args.pace c.args.words.now c.args.machine.now c.args.timing.now net in
     let text = c.in-Ok.text in
     follows_file _ _ _ _ _ _ _ _ text _ (of_text net next) c.in-Ok.ensures.same_names c.in-Ok.ensures.same_bytes (rw c.as_bytes.ensures at c.in-Ok.ensures.text)
     (follows_here _ _ _ _ (of_text net next text) (inr (refl, e.checked)))

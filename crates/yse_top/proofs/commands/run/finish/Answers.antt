@@ -1,5 +1,5 @@
 -- Without an order file the trace is written, and workers tell the gates.
-use Rattle.std.proofs.Common.{refl, inl, inr}
+use Rattle.std.proofs.Common.{Ok, refl, inl, inr}
 use Rattle.yse_top.specs.Visited.{EndsTelling}
 use Rattle.yse_top.specs.commands.Run.{EndsBy}
 use Rattle.yse_top.proofs.ChainLemmas.{follows_here}
@@ -8,23 +8,17 @@ use Rattle.yse_top.proofs.commands.run.finish.Goals as goal
 pub returns-in-Ok-clause-expected : goal.returns-in-Ok-clause-expected
 unfolding EndsBy
 returns-in-Ok-clause-expected g c =
-    rw c.in-Workers.is (follows_here _ _ _ _ (EndsTelling g.G.Gate c.args.gates.now c.by_workers.new.gates _ c.args.words.now c.args.machine.now c.args.timing.now c.args.built.net c.args.stimulus.now)
+    rw c.in-Workers.is (follows_here _ _ _ _ (EndsTelling g.G.Gate c.args.gates.now c.by_workers.new.gates c.in-Ok.written.wrote _ c.args.words.now c.args.machine.now c.args.timing.now c.args.built.net c.args.stimulus)
     (record { ends = (refl, inl (_, c.in-Ok.ensures.printed, refl)); visits = λ has is. c.in-Ok.ensures.visits }))
 
-pub returns-in-Err-clause-expected : goal.returns-in-Err-clause-expected
+pub returns-in-Workers-clause-expected : goal.returns-in-Workers-clause-expected
 unfolding EndsBy
-returns-in-Err-clause-expected g c =
-    rw c.in-Workers.is (follows_here _ _ _ _ (EndsTelling g.G.Gate c.args.gates.now c.by_workers.new.gates _ c.args.words.now c.args.machine.now c.args.timing.now c.args.built.net c.args.stimulus.now)
+returns-in-Workers-clause-expected g c =
+    rw c.in-Workers.is (follows_here _ _ _ _ (EndsTelling g.G.Gate c.args.gates.now c.by_workers.new.gates (Ok tt) _ c.args.words.now c.args.machine.now c.args.timing.now c.args.built.net c.args.stimulus)
     (record { ends = (refl, inr refl); visits = λ has is. cc }))
 
-pub returns-in-Ok-by_rounds-clause-expected : goal.returns-in-Ok-by_rounds-clause-expected
+pub returns-in-Rounds-clause-expected : goal.returns-in-Rounds-clause-expected
 unfolding EndsBy
-returns-in-Ok-by_rounds-clause-expected g c =
-    rw c.in-Rounds.is (follows_here _ _ _ _ (EndsTelling g.G.Gate c.args.gates.now c.args.gates.now _ c.args.words.now c.args.machine.now c.args.timing.now c.args.built.net c.args.stimulus.now)
-    (record { ends = (refl, inl (_, c.in-Ok-by_rounds.ensures.printed, refl)); visits = λ has is. absurd has }))
-
-pub returns-in-Err-by_rounds-clause-expected : goal.returns-in-Err-by_rounds-clause-expected
-unfolding EndsBy
-returns-in-Err-by_rounds-clause-expected g c =
-    rw c.in-Rounds.is (follows_here _ _ _ _ (EndsTelling g.G.Gate c.args.gates.now c.args.gates.now _ c.args.words.now c.args.machine.now c.args.timing.now c.args.built.net c.args.stimulus.now)
-    (record { ends = (refl, inr refl); visits = λ has is. absurd has }))
+returns-in-Rounds-clause-expected g c =
+    rw c.in-Rounds.is (follows_here _ _ _ _ (EndsTelling g.G.Gate c.args.gates.now c.args.gates.now _ _ c.args.words.now c.args.machine.now c.args.timing.now c.args.built.net c.args.stimulus)
+    (record { ends = c.in_rounds.ensures.expected; visits = λ has is. absurd has }))

@@ -1,5 +1,7 @@
 -- The run is expected after the design.
+use Rattle.std.proofs.Common.{Ok}
 use Rattle.yse_top.specs.Checks.{After, HasNoLoop, HasRoom}
+use Rattle.yse_top.specs.Refusals.{written_by}
 use Rattle.yse_top.specs.Visited.{EndsTelling}
 use Rattle.yse_top.specs.commands.Run.{AfterFit, AfterStimulus}
 use Rattle.yse_top.proofs.ChainLemmas.{follows_on, follows_here, refused_design}
@@ -11,7 +13,7 @@ returns-in-Ok-clause-expected g c =
     let machine = c.args.machine.now in
     let timing = c.args.timing.now in
     let words = c.args.words.now in
-    let next = AfterStimulus words.stimulus net (EndsTelling g.G.Gate c.args.gates.now c.execute.new.gates c.args.pace words machine timing net) in
+    let next = AfterStimulus words.stimulus net (EndsTelling g.G.Gate c.args.gates.now c.execute.new.gates (written_by c.execute.result) c.args.pace words machine timing net) in
     let run = rw c.in-Ok.ensures.same at c.execute.ensures.expected in
     follows_on _ _ (HasNoLoop net timing) (λ passed. After (HasRoom net machine timing) (λ fits. next)) tt _ _ _ c.in-Ok.ensures.acyclic
     (follows_on _ _ (HasRoom net machine timing) (λ fits. next) tt _ _ _ c.in-Ok.ensures.fits run)
@@ -22,5 +24,5 @@ returns-in-Err-clause-expected g c =
     let machine = c.args.machine.now in
     let timing = c.args.timing.now in
     let words = c.args.words.now in
-    let next = AfterStimulus words.stimulus net (EndsTelling g.G.Gate c.args.gates.now c.args.gates.now c.args.pace words machine timing net) in
+    let next = AfterStimulus words.stimulus net (EndsTelling g.G.Gate c.args.gates.now c.args.gates.now (Ok tt) c.args.pace words machine timing net) in
     follows_here _ _ _ _ (AfterFit net machine timing next) (refused_design net machine timing next _ c.in-Err.ensures.refused)

@@ -1,4 +1,6 @@
 -- The timing of the list that was read.
+use Rattle.std.proofs.Common.{Ok}
+use Rattle.yse_top.specs.Refusals.{written_by}
 use Rattle.yse_top.specs.Visited.{EndsTelling}
 use Rattle.yse_top.specs.commands.Run.{OnTiming}
 use Rattle.yse_top.proofs.ChainLemmas.{follows_listed, follows_no_list}
@@ -7,12 +9,12 @@ use Rattle.yse_top.proofs.commands.run.run_listed.Goals as goal
 pub returns-in-Ok-list_of-clause-expected : goal.returns-in-Ok-list_of-clause-expected
 returns-in-Ok-list_of-clause-expected g c =
     let words = c.args.words.now in
-    let end = EndsTelling g.G.Gate c.args.gates.now c.run_in_timing.new.gates c.args.pace words in
+    let end = EndsTelling g.G.Gate c.args.gates.now c.run_in_timing.new.gates (written_by c.run_in_timing.result) c.args.pace words in
     follows_listed _ _ _ _ _ _ _ c.args.file.now c.in-Ok.text c.in-Ok-list_of.listed c.args.net words.timing (OnTiming words end c.args.machine.now c.args.net) _ c.in-Ok.ensures.same_names c.in-Ok.ensures.same_bytes c.in-Ok.ensures.text
     c.in-Ok-list_of.ensures.checked (rw c.listing-timing.ensures.is at c.run_in_timing.ensures.expected)
 
 pub returns-in-Ok-clause-expected : goal.returns-in-Ok-clause-expected
 returns-in-Ok-clause-expected g c =
     let words = c.args.words.now in
-    let end = EndsTelling g.G.Gate c.args.gates.now c.args.gates.now c.args.pace words in
+    let end = EndsTelling g.G.Gate c.args.gates.now c.args.gates.now (Ok tt) c.args.pace words in
     follows_no_list _ _ _ _ c.args.file.now c.in-Ok.text c.args.net words.timing (OnTiming words end c.args.machine.now c.args.net) _ c.in-Ok.ensures.text c.in-Err-list_of.ensures.checked

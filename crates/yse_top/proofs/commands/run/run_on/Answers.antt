@@ -8,6 +8,7 @@ use Rattle.net_defs.specs.declared.timing.Timing.{Timing}
 use Rattle.yse_top.specs.Checks.{After, IsNetlistOf}
 use Rattle.yse_top.specs.Outcome.{Outcome}
 use Rattle.yse_top.specs.Readings.{Reading}
+use Rattle.yse_top.specs.Refusals.{written_by}
 use Rattle.yse_top.specs.Visited.{EndsTelling}
 use Rattle.yse_top.specs.commands.Run.{AfterDesign, AfterList, ExpectedOn, OnTiming}
 use Rattle.yse_top.proofs.ChainLemmas.{follows_file, follows_on}
@@ -26,7 +27,7 @@ returns-in-Ok-netlist_of-clause-expected g c =
     let e = c.in-Ok-netlist_of.ensures in
     let machine = c.args.machine in
     let words = c.args.words.now in
-    let end = EndsTelling g.G.Gate c.args.gates.now c.run_netlist.new.gates c.args.pace words in
+    let end = EndsTelling g.G.Gate c.args.gates.now c.run_netlist.new.gates (written_by c.run_netlist.result) c.args.pace words in
     let net = c.in-Ok-netlist_of.net in
     let text = c.in-Ok.text in
     follows_file _ _ _ _ _ _ _ _ text _ (of_text words end machine) c.in-Ok.ensures.same_names c.in-Ok.ensures.same_bytes (rw c.as_bytes.ensures at c.in-Ok.ensures.text)

@@ -1,0 +1,239 @@
+//! Runs in blocks of cycles.
+
+ghost use Rattle.crew_run.specs.Crews.{CanTell};
+ghost use Rattle.std.specs.Prelude.{All, IfOk, Option, Some, length, slice_get, ℕ, ◌^◌, ◌≡◌, ◌≤◌};
+
+use super::{C17, Ended, FILES, GATES, end_of, status_of, two_files, words_of};
+use crew_run::{CountGate, Gate};
+use edge_io::{Failed, MemFiles, MemSink, NullSink, Sink};
+use machine_run::count_gates;
+use seen_list::{List, Memory, Text};
+use std::alloc::Global;
+use std::marker::Sync;
+use std::sync::Wait;
+use std::sync::atomic::{AtomicU64, Ordering};
+use std::test::Fail;
+use std::thread::Threads;
+
+/// Rows of 4,095 to 4,097 cycles and of 8,192 and 8,193. A block has 4,096.
+const ROWS: [&str; 5] = [
+    "0x1z0 * 4000\n11111 * 95\n",
+    "0x1z0 * 4000\n11111 * 95\n10101\n",
+    "0x1z0 * 4000\n11111 * 96\n10101\n",
+    "0x1z0 * 4000\n11111 * 97\n10101 * 4095\n",
+    "0x1z0 * 4000\n11111 * 97\n10101 * 4095\n00110\n",
+];
+
+/// The call of these words over c17 and these rows, with a sink whose call of this number fails (0: none).
+fn end_over<R: Threads + Wait + Sync>(
+    rt: &R,
+    alloc: Global,
+    lines: &[&str],
+    rows: &str,
+    failing: u64,
+) -> Result<Ended, Memory> {
+    let mut files = two_files(alloc, C17.as_bytes(), rows.as_bytes(), 0)?;
+    end_of(rt, alloc, lines, &mut files, failing)
+}
+
+/// Whether runs over these rows, with so many workers and banks, print what the reference does.
+fn agrees<R: Threads + Wait + Sync>(rt: &R, alloc: Global, rows: &str) -> Result<bool, Memory> {
+    let reference = end_over(rt, alloc, &["refer", FILES], rows, 0)?;
+    for workers in ["1", "2", "7"] {
+        for banks in ["1", "2", "8"] {
+            let lines = ["run", FILES, "--workers", workers, "--banks", banks];
+            let run = end_over(rt, alloc, &lines, rows, 0)?;
+            if run.status != 0 || run.out.taken() != reference.out.taken() {
+                return Ok(false);
+            }
+        }
+    }
+    Ok(reference.status == 0)
+}
+
+#[test]
+fn blocks_print_the_reference(rt: HostRuntime) -> Result<(), Fail> {
+    for rows in ROWS {
+        assert!(rt; agrees(&rt, rt.alloc(), rows)?);
+    }
+    Ok(())
+}
+
+/// A sink that fails at the first row of the second block has the header and the rows of the first one.
+#[test]
+fn fault_in_the_second_block(rt: HostRuntime) -> Result<(), Fail> {
+    let alloc = rt.alloc();
+    let lines = ["run", FILES];
+    let whole = end_over(&rt, alloc, &lines, "11111 * 4096\n", 0)?;
+    let cut = end_over(&rt, alloc, &lines, "11111 * 5000\n", 4098)?;
+    assert_eq!(rt; whole.status, 0);
+    assert_eq!(rt; cut.status, 4);
+    assert_eq!(rt; cut.out.taken(), whole.out.taken());
+    Ok(())
+}
+
+/// 268 inputs, of which the first is printed.
+fn many_inputs(alloc: Global) -> Result<Text, Memory> {
+    let mut text = Text::new(alloc);
+    for i in 1..269 {
+        let line = format!(in alloc; "INPUT(i{i})\n")?;
+        text.push_bytes(line.as_bytes())?;
+    }
+    text.push_bytes(b"OUTPUT(i1)\n")?;
+    Ok(text)
+}
+
+/// The files of these inputs, and of 1,000,000 cycles of zeros.
+fn many_files(alloc: Global) -> Result<MemFiles, Memory> {
+    let netlist = many_inputs(alloc)?;
+    let mut rows = List::filled(alloc, b'0', 268)?;
+    rows.extend_from_slice(b" * 1000000\n")?;
+    two_files(alloc, netlist.as_bytes(), rows.as_slice(), 0)
+}
+
+/// The run over these files, with a sink that keeps what it writes.
+fn run_of_many<R: Threads + Wait + Sync>(rt: &R, alloc: Global) -> Result<(u8, MemSink), Memory> {
+    let mut files = many_files(alloc)?;
+    let words = words_of(alloc, &["run", FILES, "--workers 1"])?;
+    let words = words.as_slice();
+    let mut gates = count_gates(alloc, GATES)?;
+    let gates = gates.as_mut_slice();
+    let mut out = MemSink::new(alloc, 16_777_216, 4096, List::new(alloc))?;
+    let mut err = NullSink::new();
+    let status = status_of(rt, alloc, words, &mut files, &mut out, &mut err, gates);
+    Ok((status, out))
+}
+
+/// A run has no limit on cells.
+#[test]
+fn many_cells_are_run(rt: HostRuntime) -> Result<(), Fail> {
+    let (status, out) = run_of_many(&rt, rt.alloc())?;
+    assert_eq!(rt; status, 0);
+    assert_eq!(rt; out.taken().len(), 8_888_905);
+    assert!(rt; out.taken().ends_with(b"\n1000000 0\n"));
+    Ok(())
+}
+
+/// The reference has one.
+#[test]
+fn many_cells_are_not_referred(rt: HostRuntime) -> Result<(), Fail> {
+    let mut files = many_files(rt.alloc())?;
+    let ended = end_of(&rt, rt.alloc(), &["refer", FILES], &mut files, 0)?;
+    assert_eq!(rt; ended.status, 10);
+    assert_eq!(rt;
+        ended.err.taken(),
+        b"limit: 269000000 cells, at most 268435456\n".as_slice()
+    );
+    Ok(())
+}
+
+/// Counts the turns that gates are told of, over all ports.
+#[derive(Drop)]
+struct TurnGate<'a> {
+    counts: CountGate,
+    told: &'a AtomicU64,
+}
+
+impl<'a> Gate for TurnGate<'a> {
+    ghost times = { λ g. ⟦<CountGate as Gate>⟧.times g.counts };
+
+    ghost latest = { λ g. ⟦<CountGate as Gate>⟧.latest g.counts };
+
+    fn at(&mut self, port: u32, turn: u64) {
+        self.counts.at(port, turn);
+        self.told.fetch_add(1, Ordering::SeqCst);
+    }
+}
+
+fn turn_gate<'a>(told: &'a AtomicU64) -> TurnGate<'a>
+    ensures { All (λ n. n ≤ 2 ^ 62) (⟦<TurnGate<'a> as Gate>⟧.times result) }
+{
+    TurnGate {
+        counts: CountGate::new(),
+        told,
+    }
+}
+
+/// The gates of a call.
+fn turn_gates<'a>(alloc: Global, told: &'a AtomicU64) -> Result<List<Option<TurnGate<'a>>>, Memory>
+    ensures count { IfOk result (λ gates. length gates ≡ 64) }
+    ensures tell { IfOk result (λ gates. (i : ℕ) (gate : Option TurnGate) → slice_get gates i ≡ Some gate → CanTell ⟦<TurnGate<'a> as Gate>⟧ gate) }
+{
+    let mut gates = List::new(alloc);
+    'gates: for _w in 0..GATES {
+        gates.push(Some(turn_gate(told)))?;
+    }
+    Ok(gates)
+}
+
+/// Notes at each piece of how many turns the gates were told.
+#[derive(Drop)]
+struct TurnSink<'a> {
+    sink: NullSink,
+    told: &'a AtomicU64,
+    header: Option<u64>,
+    first_row: Option<u64>,
+    last_row: u64,
+}
+
+impl<'a> TurnSink<'a> {
+    fn note(&mut self)
+        ensures { self.new.sink ≡ self.old.sink }
+    {
+        let told = self.told.load(Ordering::SeqCst);
+        if self.header.is_none() {
+            self.header = Some(told);
+        } else if self.first_row.is_none() {
+            self.first_row = Some(told);
+        }
+        self.last_row = told;
+    }
+}
+
+impl<'a> Sink for TurnSink<'a> {
+    ghost taken = { λ s. ⟦<NullSink as Sink>⟧.taken s.sink };
+
+    ghost faults = { λ s. ⟦<NullSink as Sink>⟧.faults s.sink };
+
+    ghost writes = { λ s. ⟦<NullSink as Sink>⟧.writes s.sink };
+
+    fn write(&mut self, piece: &[u8]) -> Result<usize, Failed> {
+        self.note();
+        self.sink.write(piece)
+    }
+}
+
+/// How many turns the gates were told of at the header, at the first row and at the last one.
+fn turns_at_pieces<R: Threads + Wait + Sync>(
+    rt: &R,
+    alloc: Global,
+    rows: &str,
+) -> Result<(Option<u64>, Option<u64>, u64), Memory> {
+    let told = AtomicU64::new(0);
+    let mut gates = turn_gates(alloc, &told)?;
+    let gates = gates.as_mut_slice();
+    let words = words_of(alloc, &["run", FILES])?;
+    let words = words.as_slice();
+    let mut files = two_files(alloc, C17.as_bytes(), rows.as_bytes(), 0)?;
+    let mut out = TurnSink {
+        sink: NullSink::new(),
+        told: &told,
+        header: None,
+        first_row: None,
+        last_row: 0,
+    };
+    let mut err = NullSink::new();
+    status_of(rt, alloc, words, &mut files, &mut out, &mut err, gates);
+    Ok((out.header, out.first_row, out.last_row))
+}
+
+/// The first row is written after the turns of one block, and before those of the last one. The header comes
+/// before any turn. Ports of 8,193 cycles are in three blocks.
+#[test]
+fn rows_come_before_the_last_block(rt: HostRuntime) -> Result<(), Fail> {
+    let (header, first, last) = turns_at_pieces(&rt, rt.alloc(), "11111 * 8193\n")?;
+    assert_eq!(rt; header, Some(0));
+    assert!(rt; last > 0);
+    assert_eq!(rt; first, Some(last / 8193 * 4096));
+    Ok(())
+}
