@@ -4,6 +4,7 @@
 #![tactic(auto)]
 
 mod canonical;
+mod homes;
 mod loops;
 mod netlist;
 mod ranks;
@@ -12,6 +13,7 @@ mod timing;
 mod trace;
 
 pub use canonical::{name_of, show};
+pub use homes::HomeChoice;
 pub use loops::{is_gate, is_late, waits_for};
 pub use netlist::{Block, Driver, Netlist, Signal};
 pub use ranks::Ranks;
