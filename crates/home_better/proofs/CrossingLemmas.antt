@@ -89,8 +89,8 @@ count_all nodes homes count n whole is = is ∙ ap (total (readers_at nodes home
 -- ---- what better homes are
 
 module _ (nodes : NodeNet) (machine : Machine) (start better : Homes) (formed : IsWellFormed nodes) (are : AreHomes nodes start) (is : IsBetter nodes machine start better) where
-  pub better_way : IsOnTheWay nodes (bound_of nodes start) start better
-  better_way = subst (IsOnTheWay nodes (bound_of nodes start) start) (sym is.reached) (passes_way nodes machine (bound_of nodes start) start is.count formed (start_way nodes start are))
+  pub better_way : IsOnTheWay nodes machine (bound_of nodes start) start better
+  better_way = subst (IsOnTheWay nodes machine (bound_of nodes start) start) (sym is.reached) (passes_way nodes machine (bound_of nodes start) start is.count formed (start_way nodes machine start are))
 
   pub better_fewer : crossings nodes better ≤ crossings nodes start
   better_fewer = let most = passes_most nodes machine (bound_of nodes start) is.count start in let at : crossings nodes better ≡ crossings nodes (passes nodes machine (bound_of nodes start) is.count start) = ap (crossings nodes) is.reached in omega (arith, most, at)

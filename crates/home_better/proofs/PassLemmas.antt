@@ -72,13 +72,13 @@ rests_each nodes machine bound homes (w ∷ items) v rests k low d is =
 
 -- ---- what stays on the way
 
-pub settled_way : (nodes : NodeNet) (machine : Machine) (bound : ℕ) (start homes : Homes) (v : ℕ) → IsWellFormed nodes → nodes.first_node ≤ v → v < length nodes.items → IsOnTheWay nodes bound start homes → IsOnTheWay nodes bound start (settled nodes machine bound homes v)
+pub settled_way : (nodes : NodeNet) (machine : Machine) (bound : ℕ) (start homes : Homes) (v : ℕ) → IsWellFormed nodes → nodes.first_node ≤ v → v < length nodes.items → IsOnTheWay nodes machine bound start homes → IsOnTheWay nodes machine bound start (settled nodes machine bound homes v)
 unfolding settled has_room
 settled_way nodes machine bound start homes v formed from low way = by_place (best_where nodes machine bound homes v) where
   port : ℕ
   port = best_port nodes machine bound homes v
 
-  moves : (has_room nodes machine bound homes port ≡ true) → port < homes.logic → IsOnTheWay nodes bound start (moved homes v port)
+  moves : (has_room nodes machine bound homes port ≡ true) → port < homes.logic → IsOnTheWay nodes machine bound start (moved homes v port)
   moves room inside = record {
     are = moved_homes nodes homes v port formed way.are from low inside;
     keeps = record {
@@ -98,27 +98,39 @@ settled_way nodes machine bound start homes v formed from low way = by_place (be
               omega (arith, load, one, less, at)
           | inr apart ↦ (let none : where_at port q 1 ≡ 0 = if_apart port q 1 0 apart in omega (arith, load, none, had))
         ];
+    filled = λ q below.
+        let load = load_moved nodes homes v port q way.are.items from low in
+        let had : load_at nodes homes q ≤ max (load_at nodes start q) (most_at machine bound q) = way.filled q below in
+        elim (cases_eq port q) [
+          | inl same ↦
+              let one : where_at port q 1 ≡ 1 = if_same port q 1 0 same in
+              let less = ltb-true (load_at nodes homes port) (most_at machine bound port) room in
+              let at : load_at nodes homes q ≡ load_at nodes homes port = ap (load_at nodes homes) (sym same) in
+              let most : most_at machine bound q ≡ most_at machine bound port = ap (most_at machine bound) (sym same) in
+              omega (arith, load, one, less, at, most)
+          | inr apart ↦ (let none : where_at port q 1 ≡ 0 = if_apart port q 1 0 apart in omega (arith, load, none, had))
+        ];
   }
 
-  by_place : (port ≡ home_of homes v) ⊎ ((has_room nodes machine bound homes port ≡ true) × (port < homes.logic)) → IsOnTheWay nodes bound start (moved homes v port)
-  by_place (inl same) = subst (IsOnTheWay nodes bound start) (sym (ap (moved homes v) same ∙ moved_own homes v)) way
+  by_place : (port ≡ home_of homes v) ⊎ ((has_room nodes machine bound homes port ≡ true) × (port < homes.logic)) → IsOnTheWay nodes machine bound start (moved homes v port)
+  by_place (inl same) = subst (IsOnTheWay nodes machine bound start) (sym (ap (moved homes v) same ∙ moved_own homes v)) way
   by_place (inr is) = moves is.0 is.1
 
 -- over nodes in a row
-pub from_way : (nodes : NodeNet) (machine : Machine) (bound : ℕ) (start homes : Homes) (a n : ℕ) → IsWellFormed nodes → nodes.first_node ≤ a → a + n ≤ length nodes.items → IsOnTheWay nodes bound start homes → IsOnTheWay nodes bound start (settled_from nodes machine bound homes (range_with_len a n))
+pub from_way : (nodes : NodeNet) (machine : Machine) (bound : ℕ) (start homes : Homes) (a n : ℕ) → IsWellFormed nodes → nodes.first_node ≤ a → a + n ≤ length nodes.items → IsOnTheWay nodes machine bound start homes → IsOnTheWay nodes machine bound start (settled_from nodes machine bound homes (range_with_len a n))
 from_way nodes machine bound start homes a zero formed from low way = way
 from_way nodes machine bound start homes a (suc n) formed from low way =
     from_way nodes machine bound start (settled nodes machine bound homes a) (a + 1) n formed (omega (arith, from)) (omega (arith, low)) (settled_way nodes machine bound start homes a formed from (omega (arith, low)) way)
 
 -- the first node is an item, or there is none
-pub pass_way : (nodes : NodeNet) (machine : Machine) (bound : ℕ) (start homes : Homes) → IsWellFormed nodes → IsOnTheWay nodes bound start homes → IsOnTheWay nodes bound start (pass nodes machine bound homes)
+pub pass_way : (nodes : NodeNet) (machine : Machine) (bound : ℕ) (start homes : Homes) → IsWellFormed nodes → IsOnTheWay nodes machine bound start homes → IsOnTheWay nodes machine bound start (pass nodes machine bound homes)
 unfolding pass
 pass_way nodes machine bound start homes formed way = elim (cases_lt nodes.first_node (length nodes.items)) [
   | inl some ↦ from_way nodes machine bound start homes nodes.first_node (node_count nodes) formed (omega arith) (omega (arith, some)) way
-  | inr none ↦ (let empty : node_count nodes ≡ 0 = omega (arith, none) in subst (λ n. IsOnTheWay nodes bound start (settled_from nodes machine bound homes (range_with_len nodes.first_node n))) (sym empty) way)
+  | inr none ↦ (let empty : node_count nodes ≡ 0 = omega (arith, none) in subst (λ n. IsOnTheWay nodes machine bound start (settled_from nodes machine bound homes (range_with_len nodes.first_node n))) (sym empty) way)
 ]
 
-pub passes_way : (nodes : NodeNet) (machine : Machine) (bound : ℕ) (start : Homes) (k : ℕ) → IsWellFormed nodes → IsOnTheWay nodes bound start start → IsOnTheWay nodes bound start (passes nodes machine bound k start)
+pub passes_way : (nodes : NodeNet) (machine : Machine) (bound : ℕ) (start : Homes) (k : ℕ) → IsWellFormed nodes → IsOnTheWay nodes machine bound start start → IsOnTheWay nodes machine bound start (passes nodes machine bound k start)
 unfolding passes
 passes_way nodes machine bound start zero formed way = way
 passes_way nodes machine bound start (suc k) formed way = pass_way nodes machine bound start (passes nodes machine bound k start) formed (passes_way nodes machine bound start k formed way)
@@ -135,15 +147,16 @@ most_each f m (x ∷ xs) zero d low = let rest = most_grows f (max m (f x)) xs i
 most_each f m (x ∷ xs) (suc k) d low = most_each f (max m (f x)) xs k d (omega (arith, low))
 
 -- no port is past the bound at the start
-pub start_way : (nodes : NodeNet) (start : Homes) → AreHomes nodes start → IsOnTheWay nodes (bound_of nodes start) start start
+pub start_way : (nodes : NodeNet) (machine : Machine) (start : Homes) → AreHomes nodes start → IsOnTheWay nodes machine (bound_of nodes start) start start
 unfolding bound_of most_load
-start_way nodes start are = record {
+start_way nodes machine start are = record {
   are = are;
   keeps = record { logic = refl; array = refl; blocks = refl; items = λ i before. refl };
   within = λ q below.
       let each = most_each (load_at nodes start) 0 (range_with_len 0 start.logic) q 0 (omega (arith, below, length-range_with_len 0 start.logic)) in
       let at : load_at nodes start (get_or (range_with_len 0 start.logic) q 0) ≡ load_at nodes start q = ap (load_at nodes start) (get_or-range_with_len 0 start.logic q 0 below ∙ (let plain : 0 + q ≡ q = omega arith in plain)) in
       omega (arith, each, at);
+  filled = λ q below. omega arith;
 }
 
 -- ---- a pass, and passes

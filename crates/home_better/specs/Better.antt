@@ -84,6 +84,10 @@ pub record KeepsOthers (nodes : NodeNet) (start better : Homes) : Type 0 where
 abbrev pub IsWithin : NodeNet → ℕ → Homes → Type 0
 IsWithin nodes bound homes = (port : ℕ) → port < homes.logic → load_at nodes homes port ≤ bound
 
+-- each logic port has no more nodes than it may have, or than it had at the start
+abbrev pub IsFilled : NodeNet → Machine → ℕ → Homes → Homes → Type 0
+IsFilled nodes machine bound start homes = (port : ℕ) → port < homes.logic → load_at nodes homes port ≤ max (load_at nodes start port) (most_at machine bound port)
+
 -- no single move of a node to a port with room lowers the crossings
 abbrev pub NoneLowers : NodeNet → Machine → ℕ → Homes → Type 0
 NoneLowers nodes machine bound homes = (v port : ℕ) → nodes.first_node ≤ v → v < length nodes.items → port < homes.logic

@@ -4,7 +4,7 @@ ghost use Rattle.std.specs.Prelude.{◌≡◌, ◌≤◌, ◌<◌, ℕ, IfOk, le
 ghost use Rattle.std.specs.List.{sum_by};
 ghost use Rattle.node_defs.specs.WellFormed.{IsWellFormed};
 ghost use Rattle.plan_defs.specs.Homes.{AreHomes, home_of};
-ghost use Rattle.home_better.specs.Better.{bound_of as bound_from, IsBetter, IsWithin, KeepsOthers, NoneLowers};
+ghost use Rattle.home_better.specs.Better.{bound_of as bound_from, IsBetter, IsFilled, IsWithin, KeepsOthers, NoneLowers};
 ghost use Rattle.home_better.specs.Crossings.{crossings, readers_at};
 ghost use Rattle.home_better.specs.Uses.{AreTakes, AreUses};
 ghost use Rattle.home_better.specs.Work.{away_by};
@@ -54,6 +54,7 @@ pub fn better(
     ensures homes { IfOk result (λ improved. AreHomes nodes.now improved.homes) }
     ensures others { IfOk result (λ improved. KeepsOthers nodes.now homes.now improved.homes) }
     ensures within { IfOk result (λ improved. IsWithin nodes.now (bound_from nodes.now homes.now) improved.homes) }
+    ensures filled { IfOk result (λ improved. IsFilled nodes.now machine.now (bound_from nodes.now homes.now) homes.now improved.homes) }
     ensures none_lowers { IfOk result (λ improved. NoneLowers nodes.now machine.now (bound_from nodes.now homes.now) improved.homes) }
 {
     let takes = takes_of(alloc, nodes)?;

@@ -22,6 +22,11 @@ returns-clause-within c =
     let is : IsBetter c.args.nodes.now c.args.machine.now c.args.homes.now c.settle_all.new.work.homes = subst (λ h. IsBetter c.args.nodes.now c.args.machine.now h c.settle_all.new.work.homes) c.in_ok-work.ensures.homes c.in_ok-settle_all.ensures.better in
     (better_way c.args.nodes.now c.args.machine.now c.args.homes.now c.settle_all.new.work.homes c.requires.nodes c.requires.homes is).within
 
+pub returns-clause-filled : goal.returns-clause-filled
+returns-clause-filled c =
+    let is : IsBetter c.args.nodes.now c.args.machine.now c.args.homes.now c.settle_all.new.work.homes = subst (λ h. IsBetter c.args.nodes.now c.args.machine.now h c.settle_all.new.work.homes) c.in_ok-work.ensures.homes c.in_ok-settle_all.ensures.better in
+    (better_way c.args.nodes.now c.args.machine.now c.args.homes.now c.settle_all.new.work.homes c.requires.nodes c.requires.homes is).filled
+
 pub returns-clause-none_lowers : goal.returns-clause-none_lowers
 returns-clause-none_lowers c =
     let is : IsBetter c.args.nodes.now c.args.machine.now c.args.homes.now c.settle_all.new.work.homes = subst (λ h. IsBetter c.args.nodes.now c.args.machine.now h c.settle_all.new.work.homes) c.in_ok-work.ensures.homes c.in_ok-settle_all.ensures.better in
