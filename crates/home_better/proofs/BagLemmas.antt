@@ -203,9 +203,9 @@ take_some bag ys k key count same is low here some =
     let of_key : times bag (entry_at bag k).key ≡ times bag key = ap (times bag) at in
     omega (arith, some, count_is, of_key)
 
-pub take_none : (bag ys : List Entry) (k key count : ℕ) → ys ≡ bag → length bag ≤ k → ((j : ℕ) → j < k → (entry_at ys j).key ≢ key) → count ≤ times bag key → (q : ℕ) → times bag q ≡ times bag q + (if key == q then count else 0)
-take_none bag ys k key count same past before some q =
-    let absent : times bag key ≡ 0 = times_absent bag key (λ j low. subst (λ xs. (entry_at xs j).key ≢ key) same (before j (omega (arith, low, past)))) in
+pub take_none : (bag ys : List Entry) (k key count : ℕ) → ys ≡ bag → length ys ≡ k → (k ≡ length ys → (j : ℕ) → j < length ys → (entry_at ys j).key ≢ key) → count ≤ times bag key → (q : ℕ) → times bag q ≡ times bag q + (if key == q then count else 0)
+take_none bag ys k key count same past none_there some q =
+    let absent : times bag key ≡ 0 = times_absent bag key (λ j low. subst (λ xs. j < length xs → (entry_at xs j).key ≢ key) same (none_there (sym past) j) low) in
     let none : count ≡ 0 = omega (arith, absent, some) in
     let no_more : (if key == q then count else 0) ≡ 0 = elim (cases_eq key q) [
       | inl is ↦ if_same key q count 0 is ∙ none

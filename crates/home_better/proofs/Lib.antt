@@ -9,4 +9,6 @@ pub mod PassLemmas
 pub mod PullLemmas
 pub mod ReaderLemmas
 pub mod UseLemmas
+pub mod SpreadLemmas
+pub mod TouchLemmas
 pub mod WorkLemmas

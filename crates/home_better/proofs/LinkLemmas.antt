@@ -1,9 +1,9 @@
 -- What items take and which ports use them, one item and memory after another.
-use Rattle.std.proofs.Common.{◌≡◌, ◌≢◌, ◌∙◌, ◌⊎◌, inl, inr, ℕ, zero, suc, ◌+◌, ◌<◌, ◌≤◌, List, [], ◌∷◌, ◌++◌, length, get_or, replicate, refl, sym, ap, subst, arith, if◌then◌else◌}
+use Rattle.std.proofs.Common.{◌≡◌, ◌≢◌, ◌∙◌, ◌⊎◌, inl, inr, ℕ, zero, suc, ◌+◌, ◌<◌, ◌≤◌, List, [], ◌∷◌, ◌++◌, length, get_or, refl, sym, ap, subst, arith, if◌then◌else◌}
 use Rattle.std.specs.Prelude.{◌==◌, Option, None, Some, slice_get}
 use Rattle.std.specs.List.{Contains}
 use Rattle.std.proofs.lemmas.Bool.{cases_lt, cases_eq}
-use Rattle.std.proofs.lemmas.List.{get_or-replicate, length-replicate, get_or_past, get_or_append_left, get_or_push, length_push}
+use Rattle.std.proofs.lemmas.List.{get_or_past, get_or_append_left, get_or_push, length_push}
 use Rattle.std.proofs.lemmas.Option.{get_or_from_slice_get, slice_get_read}
 use Rattle.std.proofs.lemmas.List.Elements.{Contains-get_or}
 use Rattle.node_defs.specs.declared.items.Feed.{Feed}
@@ -17,7 +17,7 @@ use Rattle.node_defs.specs.WellFormed.{IsWellFormed}
 use Rattle.plan_defs.specs.declared.plan.Homes.{Homes}
 use Rattle.plan_defs.specs.Homes.{home_of, block_home, host_of}
 use Rattle.home_better.specs.declared.bags.Entry.{Entry}
-use Rattle.home_better.specs.Bags.{times, where_at, IsBag}
+use Rattle.home_better.specs.Bags.{times, where_at}
 use Rattle.home_better.specs.Crossings.{times_in, feed_uses, item_uses, maybe_item_uses, memory_uses, block_uses, uses_by, uses_at}
 use Rattle.home_better.specs.Uses.{bag_at, AreBags, AreTakes, AreUses, Gives}
 use Rattle.home_better.proofs.SumLemmas.{total, total_more, if_apart}
@@ -104,29 +104,21 @@ gives_block block a b c d port we address word =
 
 -- ---- all of them
 
-pub empty_at : (n i : ℕ) → bag_at (replicate n []) i ≡ []
-empty_at n i = elim (cases_lt i n) [ inl low ↦ get_or-replicate n i [] [] low | inr past ↦ get_or_past (replicate n []) i [] (omega (arith, past, length-replicate {A = List Entry} n [])) ]
-
-pub empty_bags_are : (n : ℕ) → AreBags (replicate n [])
-empty_bags_are n = record { each = λ i. subst IsBag (sym (empty_at n i)) (record { once = λ j k before low. absurd (omega (arith, low)) }) }
-
-pub uses_are : (nodes : NodeNet) (homes : Homes) (a b c d : List (List Entry)) → a ≡ replicate (length nodes.items) [] → AreBags d
+pub uses_are : (nodes : NodeNet) (homes : Homes) (a b c d : List (List Entry)) → length a ≡ length nodes.items → ((i q : ℕ) → times (bag_at a i) q ≡ 0) → AreBags d
     → Gives a b (λ i port. total (λ u. where_at (home_of homes u) port (uses_by nodes u i)) (length nodes.items))
     → Gives b c (λ i port. total (λ m. where_at (block_home homes m) port (block_uses nodes m i)) (length nodes.blocks))
     → Gives c d (λ i port. where_at (host_of homes) port (times_in nodes.printed i)) → AreUses nodes homes d
 unfolding uses_at
-uses_are nodes homes a b c d empty bags items blocks printed = record {
+uses_are nodes homes a b c d long empty bags items blocks printed = record {
   size = printed.size ∙ (blocks.size ∙ (items.size ∙ long));
   bags = bags;
   times = λ i port low.
       let first = items.times i port (omega (arith, low, long)) in
       let second = blocks.times i port (omega (arith, low, long, items.size)) in
       let third = printed.times i port (omega (arith, low, long, items.size, blocks.size)) in
-      let none : times (bag_at a i) port ≡ 0 = ap (λ (bag : List Entry). times bag port) (ap (λ xs. bag_at xs i) empty ∙ empty_at (length nodes.items) i) in
+      let none = empty i port in
       omega (arith, first, second, third, none);
-} where
-  long : length a ≡ length nodes.items
-  long = ap (λ (xs : List (List Entry)). length xs) empty ∙ length-replicate {A = List Entry} (length nodes.items) []
+}
 
 -- ---- what loops ask
 

@@ -13,7 +13,7 @@ use Rattle.home_better.specs.Bags.{flag, times, entry_at, IsBag}
 use Rattle.home_better.specs.Crossings.{uses_by}
 use Rattle.home_better.specs.Moves.{others_at, pull_by, pull_at}
 use Rattle.home_better.specs.Uses.{bag_at, AreTakes}
-use Rattle.home_better.specs.Work.{hit, beside}
+use Rattle.home_better.specs.Work.{hit, beside, AddsEvenly}
 use Rattle.home_better.proofs.SumLemmas.{if_same, if_apart, flag_some, flag_most}
 use Rattle.home_better.proofs.BagLemmas.{times_absent, times_here, hits_flag, total_members}
 use Rattle.home_better.proofs.LinkLemmas.{uses_low}
@@ -78,6 +78,13 @@ module _ (nodes : NodeNet) (homes : Homes) (v port : ℕ) where
     | inl same ↦ if_same e.key v 0 (pull_by nodes homes v port e.key) same
     | inr apart ↦ if_apart e.key v 0 (pull_by nodes homes v port e.key) apart ∙ no_pull e.key apart none
   ]
+
+-- nothing is added, since nothing is asked, or the same at each port
+pub nothing_added : (at : List ℕ) (more : ℕ → ℕ) → ((port : ℕ) → port < length at → more port ≡ 0) → AddsEvenly at at more
+nothing_added at more none = record { size = refl; even = 0; each = λ port low. (let is = none port low in omega (arith, is)) }
+
+pub one_added : (at : List ℕ) (more : ℕ → ℕ) → ((port : ℕ) → port < length at → more port ≡ 1) → AddsEvenly at at more
+one_added at more one = record { size = refl; even = 1; each = λ port low. (let is = one port low in omega (arith, is)) }
 
 -- what an entry of a node's bag says
 pub taken_count : (nodes : NodeNet) (takes : List (List Entry)) (v k : ℕ) (taken : List Entry) → AreTakes nodes takes → taken ≡ bag_at takes v → v < length nodes.items → k < length taken → uses_by nodes v (entry_at taken k).key ≡ (entry_at taken k).count

@@ -59,7 +59,7 @@ lifted_uses nodes homes takes old new v own taken are takes_are uses_are low is 
 -- ---- the choice
 
 pub choice_is : (nodes : NodeNet) (machine : Machine) (bound : ℕ) (work : Work) (pulls loads most : List ℕ) (v own port : ℕ) → IsWellFormed nodes → IsLifted nodes v work → AreMost machine bound work.homes.logic most → nodes.first_node ≤ v → v < length nodes.items
-    → pulls ≡ work.pulls → loads ≡ work.loads → own ≡ home_of work.homes v → port ≡ first_most (slice_index pulls) own (filter (room_in loads most) (range_with_len 0 (length pulls))) → port ≡ best_port nodes machine bound work.homes v
+    → pulls ≡ work.pulls.at → loads ≡ work.loads → own ≡ home_of work.homes v → port ≡ first_most (slice_index pulls) own (filter (room_in loads most) (range_with_len 0 (length pulls))) → port ≡ best_port nodes machine bound work.homes v
 unfolding best_port has_room
 choice_is nodes machine bound work pulls loads most v own port formed lifted mosts from low same_pulls same_loads own_is is =
     let logic : length pulls ≡ work.homes.logic = ap (λ (xs : List ℕ). length xs) same_pulls ∙ lifted.size in
@@ -67,14 +67,18 @@ choice_is nodes machine bound work pulls loads most v own port formed lifted mos
     is ∙ (ap (λ n. first_most (slice_index pulls) own (filter (room_in loads most) (range_with_len 0 n))) logic
     ∙ (ap (λ o. first_most (slice_index pulls) o (filter (room_in loads most) (range_with_len 0 work.homes.logic))) own_is
     ∙ sym (least_is_most (λ p. crossings nodes (moved work.homes v p)) (slice_index pulls) (has_room nodes machine bound work.homes) (room_in loads most) (home_of work.homes v) work.homes.logic work.homes.logic
-    (crossings nodes (moved work.homes v (home_of work.homes v)) + pull_at nodes work.homes v (home_of work.homes v)) (omega arith) home sum rooms)))
+    (crossings nodes (moved work.homes v (home_of work.homes v)) + slice_index pulls (home_of work.homes v)) (omega arith) home sum rooms)))
   where
-    sum : (p : ℕ) → p < work.homes.logic → crossings nodes (moved work.homes v p) + slice_index pulls p ≡ crossings nodes (moved work.homes v (home_of work.homes v)) + pull_at nodes work.homes v (home_of work.homes v)
+    lowered : (p : ℕ) → p < work.homes.logic → slice_index pulls p + lifted.pulls.even ≡ pull_at nodes work.homes v p
+    lowered p inside = ap (λ xs. slice_index xs p + lifted.pulls.even) same_pulls ∙ lifted.pulls.each p (omega (arith, inside, lifted.size))
+
+    sum : (p : ℕ) → p < work.homes.logic → crossings nodes (moved work.homes v p) + slice_index pulls p ≡ crossings nodes (moved work.homes v (home_of work.homes v)) + slice_index pulls (home_of work.homes v)
     sum p inside =
-        let at : slice_index pulls p ≡ pull_at nodes work.homes v p = ap (λ xs. slice_index xs p) same_pulls ∙ lifted.pulls p inside in
         let home = node_home nodes work.homes v formed lifted.are from low in
+        let at = lowered p inside in
+        let own_at = lowered (home_of work.homes v) home in
         let all = same_total nodes work.homes v p (home_of work.homes v) (omega (arith, low, lifted.are.items)) lifted.are.items (omega (arith, inside)) (omega (arith, home)) in
-        omega (arith, at, all)
+        omega (arith, at, own_at, all)
 
     rooms : (p : ℕ) → p < work.homes.logic → has_room nodes machine bound work.homes p ≡ room_in loads most p
     rooms p inside =
@@ -128,9 +132,9 @@ pub load_few : (nodes : NodeNet) (homes : Homes) (port : ℕ) → IsWellFormed n
 unfolding load_at
 load_few nodes homes port formed = let few = few_before nodes homes.items (node_count nodes) port in let all = formed.few in omega (arith, few, all)
 
-pub put_count : (nodes : NodeNet) (homes : Homes) (v port count pulled pulls new : ℕ) → IsWellFormed nodes → AreHomes nodes homes → nodes.first_node ≤ v → v < length nodes.items → port < homes.logic → count ≡ crossings nodes homes → pulled ≡ pull_at nodes homes v (home_of homes v) → pulls ≡ pull_at nodes homes v port
+pub put_count : (nodes : NodeNet) (homes : Homes) (v port count pulled pulls even : ℕ) → IsWellFormed nodes → AreHomes nodes homes → nodes.first_node ≤ v → v < length nodes.items → port < homes.logic → count ≡ crossings nodes homes → pulled + even ≡ pull_at nodes homes v (home_of homes v) → pulls + even ≡ pull_at nodes homes v port
     → crossings nodes (moved homes v port) + pulls ≡ count + pulled
-put_count nodes homes v port count pulled pulls new formed are from low inside is was will =
+put_count nodes homes v port count pulled pulls even formed are from low inside is was will =
     let home = node_home nodes homes v formed are from low in
     let all = moved_total nodes homes v port (omega (arith, low, are.items)) are.items (omega (arith, inside)) (omega (arith, home)) in
     omega (arith, all, is, was, will)

@@ -2,6 +2,8 @@ pub mod Bags
 pub mod Better
 pub mod Crossings
 pub mod Moves
+pub mod Spread
+pub mod Touched
 pub mod Uses
 pub mod Ways
 pub mod Work

@@ -1,5 +1,5 @@
 -- What pulls a node to a port.
-use Rattle.std.specs.Prelude.{◌≡◌, ℕ, ◌+◌, ◌<◌, ◌==◌, nat_lt, if◌then◌else◌, List, length}
+use Rattle.std.specs.Prelude.{◌≡◌, ℕ, ◌+◌, ◌<◌, ◌==◌, nat_lt, if◌then◌else◌, List, length, slice_index}
 use Rattle.std.specs.List.{fold, sum_by, range_with_len}
 use Rattle.node_defs.specs.declared.items.NodeNet.{NodeNet}
 use Rattle.plan_defs.specs.declared.plan.Homes.{Homes}
@@ -28,6 +28,11 @@ pull_by nodes homes v port i =
 -- what all items pull it there
 unfoldable pub pull_at : NodeNet → Homes → ℕ → ℕ → ℕ
 pull_at nodes homes v port = sum_by (pull_by nodes homes v port) (range_with_len 0 (length nodes.items))
+
+-- at each port as much as `all` says, but for a number that is left out at all of them
+pub record AreLowered (pulls : List ℕ) (all : ℕ → ℕ) : Type 0 where
+  pub even : ℕ
+  pub each : (port : ℕ) → port < length pulls → slice_index pulls port + even ≡ all port
 
 -- bag i has the ports that use item i but for its uses by node v
 pub record AreUsesWithout (nodes : NodeNet) (homes : Homes) (v : ℕ) (uses : List (List Entry)) : Type 0 where

@@ -30,6 +30,12 @@ pub record Adds (old new : List ℕ) (more : ℕ → ℕ) : Type 0 where
   pub size : length new ≡ length old
   pub each : (port : ℕ) → port < length old → slice_index new port ≡ slice_index old port + more port
 
+-- the same, but for a number that is left out at all of them
+pub record AddsEvenly (old new : List ℕ) (more : ℕ → ℕ) : Type 0 where
+  pub size : length new ≡ length old
+  pub even : ℕ
+  pub each : (port : ℕ) → port < length old → slice_index new port + even ≡ slice_index old port + more port
+
 -- whether the port has room
 abbrev pub room_in : List ℕ → List ℕ → ℕ → Bool
 room_in loads most port = nat_lt (slice_index loads port) (slice_index most port)

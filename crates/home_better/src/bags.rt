@@ -12,8 +12,23 @@ pub(crate) struct Entry {
     pub(crate) count: u32,
 }
 
-/// The place of a number's entry, or the number of entries where it has none.
+/// The place of a number's entry, or the number of entries where it has none. A long bag has its entries
+/// at the places of their numbers, and is not searched.
 fn place_of(bag: &[Entry], key: u32) -> usize
+    ensures within { result ≤ length bag.now }
+    ensures none { result ≡ length bag.now → (k : ℕ) → k < length bag.now → (entry_at bag.now k).key ≢ key }
+    ensures here { result < length bag.now → (entry_at bag.now result).key ≡ key }
+{
+    let place = key as usize;
+    if place < bag.len() && bag[place].key == key {
+        place
+    } else {
+        first_place(bag, key)
+    }
+}
+
+/// The same by a search.
+fn first_place(bag: &[Entry], key: u32) -> usize
     ensures within { result ≤ length bag.now }
     ensures before { (k : ℕ) → k < result → (entry_at bag.now k).key ≢ key }
     ensures here { result < length bag.now → (entry_at bag.now result).key ≡ key }
@@ -26,17 +41,27 @@ fn place_of(bag: &[Entry], key: u32) -> usize
     bag.len()
 }
 
-/// The place of an entry that counts nothing, or the number of entries where there is none.
+/// The place of an entry that counts nothing, or the number of entries where there is none. Entries at
+/// the places of their numbers are left there.
 fn free_place(bag: &[Entry]) -> usize
     ensures within { result ≤ length bag.now }
     ensures here { result < length bag.now → (entry_at bag.now result).count ≡ 0 }
 {
     'entries: for k in 0..bag.len() {
-        if bag[k].count == 0 {
+        if bag[k].count == 0 && bag[k].key as usize != k {
             return k;
         }
     }
     bag.len()
+}
+
+/// How often a number stands in a bag.
+pub(crate) fn times_of(bag: &[Entry], key: u32) -> u32
+    requires { IsBag bag.now }
+    ensures { result ≡ times bag.now key }
+{
+    let k = place_of(bag, key);
+    if k < bag.len() { bag[k].count } else { 0 }
 }
 
 /// Puts a number so many times more into a bag. An entry that counts nothing is used again.

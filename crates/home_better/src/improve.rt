@@ -14,6 +14,7 @@ use crate::bags::Entry;
 use crate::links::{takes_of, uses_of};
 use crate::loads::{bound_of, loads_of, most_each};
 use crate::moves::{Work, settle_all};
+use crate::pulls::Pulls;
 use machine_text::Machine;
 use node_defs::NodeNet;
 use plan_defs::Homes;
@@ -86,13 +87,16 @@ fn begin(
     let copied = copy_of(homes)?;
     let uses = uses_of(alloc, nodes, homes, takes)?;
     let loads = loads_of(alloc, nodes, homes)?;
-    let pulls = List::filled(alloc, 0, homes.logic as usize)?;
+    let spread = List::filled(alloc, false, nodes.items.len())?;
+    let at = List::filled(alloc, 0, homes.logic as usize)?;
+    let touched = List::new(alloc);
     let count = count_crossings(nodes, homes, &uses);
     Ok(Work {
         homes: copied,
         uses,
         loads,
-        pulls,
+        spread,
+        pulls: Pulls { at, touched },
         count,
     })
 }

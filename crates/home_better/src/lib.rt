@@ -9,6 +9,7 @@ mod links;
 mod loads;
 mod moves;
 mod pulls;
+mod spread;
 mod uses;
 
 pub use improve::{Improved, better};

@@ -9,7 +9,7 @@ ghost use Rattle.home_better.specs.Crossings.{block_uses, feed_uses, item_uses, 
 ghost use Rattle.home_better.specs.Uses.{AreBags, AreTakes, AreUses, Gives, IsTaken};
 
 use crate::bags::{Entry, give};
-use crate::uses::{empty_bags, give_all, give_bag};
+use crate::uses::{empty_bags, give_all, give_bag, places_of};
 use node_defs::{Feed, Feeds, Item, NodeBlock, NodeNet};
 use plan_defs::Homes;
 use seen_list::{List, Memory};
@@ -82,7 +82,8 @@ pub(crate) fn uses_of(
     requires takes { AreTakes nodes.now takes.now }
     ensures { IfOk result (AreUses nodes.now homes.now) }
 {
-    let mut uses = empty_bags(alloc, nodes.items.len())?;
+    let places = places_of(alloc, takes)?;
+    let mut uses = empty_bags(alloc, places.as_slice(), homes.logic)?;
     add_items(&mut uses, nodes, homes, takes)?;
     add_blocks(&mut uses, nodes, homes)?;
     give_all(

@@ -11,7 +11,8 @@ ghost use Rattle.home_better.specs.Working.{IsLifted, IsWork};
 
 use crate::bags::Entry;
 use crate::loads::node_count;
-use crate::pulls::{strongest, weigh};
+use crate::pulls::{Pulls, strongest, weigh};
+use crate::spread::{mark_all, unmark_all};
 use crate::uses::{give_bag, take_bag};
 use machine_text::Machine;
 use node_defs::NodeNet;
@@ -26,25 +27,37 @@ pub(crate) struct Work {
     pub(crate) uses: List<List<Entry>>,
     /// The nodes at each logic port.
     pub(crate) loads: List<u32>,
+    /// Items that are marked are used at each logic port.
+    pub(crate) spread: List<bool>,
     /// Room for what pulls a node to each logic port.
-    pub(crate) pulls: List<u32>,
+    pub(crate) pulls: Pulls,
     /// The crossings.
     pub(crate) count: u64,
 }
 
 /// Takes the uses by node v away, and weighs what pulls it.
-fn lift(work: &mut Work, nodes: &NodeNet, takes: &List<List<Entry>>, v: usize)
+fn lift(work: &mut Work, nodes: &NodeNet, takes: &List<List<Entry>>, v: usize) -> Result<(), Memory>
     requires nodes { IsWellFormed nodes.now }
     requires work { IsWork nodes.now work.old }
     requires takes { AreTakes nodes.now takes.now }
     requires node { v < length nodes.now.items }
-    ensures lifted { IsLifted nodes.now v work.new }
-    ensures homes { work.new.homes ≡ work.old.homes }
+    ensures lifted { OnOk result (IsLifted nodes.now v work.new) }
+    ensures homes { OnOk result (work.new.homes ≡ work.old.homes) }
 {
     let own = work.homes.items.as_slice()[v];
     let taken = takes.as_slice()[v].as_slice();
     take_bag(&mut work.uses, taken, own);
-    weigh(&mut work.pulls, nodes, &work.homes, takes, &work.uses, v);
+    unmark_all(&mut work.spread, &work.uses, taken, own);
+    weigh(
+        &mut work.pulls,
+        nodes,
+        &work.homes,
+        takes,
+        &work.uses,
+        work.spread.as_slice(),
+        v,
+    )?;
+    Ok(())
 }
 
 /// The best port for node v.
@@ -64,7 +77,7 @@ fn choice(
     ensures within { result < work.now.homes.logic }
 {
     let own = work.homes.items.as_slice()[v] as usize;
-    strongest(work.pulls.as_slice(), work.loads.as_slice(), most, own)
+    strongest(&work.pulls, work.loads.as_slice(), most, own)
 }
 
 /// Puts node v at a port.
@@ -86,8 +99,8 @@ fn put(
     let own = work.homes.items.as_slice()[v];
     let taken = takes.as_slice()[v].as_slice();
     give_bag(&mut work.uses, taken, port as u32)?;
-    let pulled = work.pulls.as_slice()[own as usize];
-    let pulls = work.pulls.as_slice()[port];
+    let pulled = work.pulls.at.as_slice()[own as usize];
+    let pulls = work.pulls.at.as_slice()[port];
     work.count = recount(work.count, pulled, pulls);
     shift(&mut work.loads, own as usize, port);
     work.homes.items.set(v, port as u32);
@@ -140,7 +153,7 @@ fn settle(
     ensures homes { OnOk result (work.new.homes ≡ settled nodes.now machine.now bound work.old.homes v) }
     ensures logic { OnOk result (work.new.homes.logic ≡ work.old.homes.logic) }
 {
-    lift(work, nodes, takes, v);
+    lift(work, nodes, takes, v)?;
     let port = choice(work, nodes, machine, bound, most, v);
     put(work, nodes, takes, v, port)?;
     Ok(())
@@ -163,6 +176,7 @@ fn one_pass(
     ensures homes { OnOk result (work.new.homes ≡ pass nodes.now machine.now bound work.old.homes) }
     ensures logic { OnOk result (work.new.homes.logic ≡ work.old.homes.logic) }
 {
+    mark_all(&mut work.spread, nodes, &work.homes, &work.uses);
     'nodes: for k in 0..node_count(nodes) {
         let v = (nodes.first_node + k) as usize;
         settle(work, nodes, machine, takes, bound, most, v)?;

@@ -1,7 +1,7 @@
 //! Bags in a list that get and lose numbers.
 
-ghost use Rattle.std.specs.Prelude.{◌≡◌, ◌≢◌, ℕ, ◌<◌, ◌≤◌, IfOk, OnOk, [], length, replicate, slice_index};
-ghost use Rattle.home_better.specs.Bags.{counted, times, where_at};
+ghost use Rattle.std.specs.Prelude.{◌≡◌, ◌≢◌, ℕ, ◌<◌, ◌≤◌, IfOk, OnOk, length, slice_index};
+ghost use Rattle.home_better.specs.Bags.{counted, times, where_at, IsBag};
 ghost use Rattle.home_better.specs.Crossings.{times_in};
 ghost use Rattle.home_better.specs.Uses.{bag_at, AreBags, Gives};
 
@@ -9,15 +9,59 @@ use crate::bags::{Entry, give, take};
 use seen_list::{List, Memory};
 use std::alloc::Global;
 
-/// So many bags in which nothing stands.
-pub(crate) fn empty_bags(alloc: Global, count: usize) -> Result<List<List<Entry>>, Memory>
-    ensures { IfOk result (λ bags. bags ≡ replicate count []) }
+/// A bag for each item, in which nothing stands. One of an item that is used at as many places as there
+/// are ports begins with an entry for each port.
+pub(crate) fn empty_bags(
+    alloc: Global,
+    places: &[u32],
+    ports: u32,
+) -> Result<List<List<Entry>>, Memory>
+    ensures size { IfOk result (λ bags. length bags ≡ length places.now) }
+    ensures bags { IfOk result AreBags }
+    ensures none { IfOk result (λ bags. (i q : ℕ) → times (bag_at bags i) q ≡ 0) }
 {
     let mut bags = List::new(alloc);
-    'bags: for _bag in 0..count {
-        bags.push(List::new(alloc))?;
+    'bags: for i in 0..places.len() {
+        let bag = empty_bag(alloc, if places[i] < ports { 0 } else { ports })?;
+        bags.push(bag)?;
     }
     Ok(bags)
+}
+
+/// A bag in which nothing stands, with an entry for each of so many numbers, at the number's place.
+fn empty_bag(alloc: Global, numbers: u32) -> Result<List<Entry>, Memory>
+    ensures bag { IfOk result IsBag }
+    ensures none { IfOk result (λ bag. (q : ℕ) → times bag q ≡ 0) }
+{
+    let mut bag = List::new(alloc);
+    'numbers: for key in 0..numbers {
+        bag.push(Entry { key, count: 0 })?;
+    }
+    Ok(bag)
+}
+
+/// At how many places items take each item. It tells how a bag begins, and nothing of what it holds.
+pub(crate) fn places_of(alloc: Global, takes: &List<List<Entry>>) -> Result<List<u32>, Memory>
+    ensures { IfOk result (λ places. length places ≡ length takes.now) }
+{
+    let mut places = List::filled(alloc, 0, takes.len())?;
+    'items: for u in 0..takes.len() {
+        count_places(&mut places, takes.as_slice()[u].as_slice());
+    }
+    Ok(places)
+}
+
+/// The same of what one item takes.
+fn count_places(places: &mut List<u32>, taken: &[Entry])
+    ensures { length places.new ≡ length places.old }
+{
+    'taken: for k in 0..taken.len() {
+        let item = taken[k].key as usize;
+        if item < places.len() {
+            let had = places.as_slice()[item];
+            places.set(item, had.saturating_add(taken[k].count));
+        }
+    }
 }
 
 /// Puts a number so many times more into the bag at a place.

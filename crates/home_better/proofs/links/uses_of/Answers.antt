@@ -1,6 +1,5 @@
-use Rattle.std.proofs.Common.{◌∙◌, List, ℕ, [], ap, subst, replicate}
+use Rattle.std.proofs.Common.{◌∙◌, List, ℕ, length, ap, subst}
 use Rattle.plan_defs.specs.Homes.{host_of}
-use Rattle.home_better.specs.declared.bags.Entry.{Entry}
 use Rattle.home_better.specs.Bags.{where_at}
 use Rattle.home_better.specs.Crossings.{times_in}
 use Rattle.home_better.specs.Uses.{Gives}
@@ -10,6 +9,6 @@ use Rattle.home_better.proofs.links.uses_of.Goals as goal
 pub returns : goal.returns
 returns c =
     uses_are c.args.nodes.now c.args.homes.now c.in_ok-uses.uses c.add_items.new.uses c.add_blocks.new.uses c.give_all.new.bags
-    (c.in_ok-uses.ensures ∙ ap (λ n. replicate {A = List Entry} n []) c.len.ensures)
+    (c.in_ok-uses.ensures.size ∙ (ap (λ (xs : List ℕ). length xs) c.as_slice.ensures ∙ (c.in_ok-places.ensures ∙ c.requires.takes.size))) c.in_ok-uses.ensures.none
     c.in_ok-give_all.ensures.bags c.in_ok-add_items.ensures.gives c.in_ok-add_blocks.ensures.gives
-    (subst (λ (xs : List ℕ). Gives c.add_blocks.new.uses c.give_all.new.bags (λ i port. where_at (host_of c.args.homes.now) port (times_in xs i))) c.as_slice.ensures c.in_ok-give_all.ensures.gives)
+    (subst (λ (xs : List ℕ). Gives c.add_blocks.new.uses c.give_all.new.bags (λ i port. where_at (host_of c.args.homes.now) port (times_in xs i))) c.as_slice-2.ensures c.in_ok-give_all.ensures.gives)

@@ -1,8 +1,12 @@
-use Rattle.std.proofs.Common.{◌≡◌, ℕ, ◌<◌, length, get_or}
+use Rattle.std.proofs.Common.{◌≡◌, length}
+use Rattle.home_better.specs.Touched.{AreTouched}
 use Rattle.home_better.proofs.pulls.clear.Given as goal
 
-abbrev pub invariant-ports : goal.invariant-ports
-invariant-ports l = record {
-  size : length l.pulls ≡ length l.fn.pulls;
-  each : (p : ℕ) → p < l.p → get_or l.pulls p 0 ≡ 0;
+abbrev pub invariant-touched : goal.invariant-touched
+invariant-touched l = record {
+  touched : AreTouched l.pulls;
+  size : length l.pulls.at ≡ length l.fn.pulls.at;
 }
+
+abbrev pub decreases-touched : goal.decreases-touched
+decreases-touched l = length l.pulls.touched

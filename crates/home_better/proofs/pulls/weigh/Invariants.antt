@@ -1,6 +1,7 @@
 use Rattle.std.proofs.Common.{◌≡◌, ℕ, ◌+◌, ◌<◌, ◌≤◌, length, get_or, take}
 use Rattle.std.specs.List.{sum_by}
-use Rattle.home_better.specs.Moves.{pull_by}
+use Rattle.home_better.specs.Moves.{pull_by, AreLowered}
+use Rattle.home_better.specs.Touched.{AreTouched}
 use Rattle.home_better.specs.Uses.{bag_at}
 use Rattle.home_better.specs.Work.{beside}
 use Rattle.home_better.proofs.pulls.weigh.Given as goal
@@ -8,7 +9,8 @@ use Rattle.home_better.proofs.pulls.weigh.Given as goal
 abbrev pub invariant-taken : goal.invariant-taken
 invariant-taken l = record {
   taken : l.taken ≡ bag_at l.takes l.v;
-  size : length l.pulls ≡ length l.fn.pulls;
-  small : (p : ℕ) → p < length l.pulls → get_or l.pulls p 0 ≤ l.k + 1;
-  each : (p : ℕ) → p < length l.pulls → get_or l.pulls p 0 ≡ pull_by l.nodes l.homes l.v p l.v + sum_by (beside (pull_by l.nodes l.homes l.v p) l.v) (take l.k l.taken);
+  size : length l.pulls.at ≡ length l.fn.pulls.at;
+  touched : AreTouched l.pulls;
+  small : (p : ℕ) → p < length l.pulls.at → get_or l.pulls.at p 0 ≤ l.k + 1;
+  lowered : AreLowered l.pulls.at (λ p. pull_by l.nodes l.homes l.v p l.v + sum_by (beside (pull_by l.nodes l.homes l.v p) l.v) (take l.k l.taken));
 }

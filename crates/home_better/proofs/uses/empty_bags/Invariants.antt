@@ -1,5 +1,11 @@
-use Rattle.std.proofs.Common.{◌≡◌, replicate, []}
+use Rattle.std.proofs.Common.{◌≡◌, ℕ, length}
+use Rattle.home_better.specs.Bags.{times}
+use Rattle.home_better.specs.Uses.{bag_at, AreBags}
 use Rattle.home_better.proofs.uses.empty_bags.Given as goal
 
 abbrev pub invariant-bags : goal.invariant-bags
-invariant-bags l = l.bags ≡ replicate l._bag []
+invariant-bags l = record {
+  size : length l.bags ≡ l.i;
+  bags : AreBags l.bags;
+  none : (i q : ℕ) → times (bag_at l.bags i) q ≡ 0;
+}

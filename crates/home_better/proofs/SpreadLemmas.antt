@@ -1,0 +1,102 @@
+-- Items that are used at each logic port.
+use Rattle.std.proofs.Common.{◌≡◌, ◌≢◌, ◌∙◌, inl, inr, ℕ, ◌+◌, ◌<◌, Bool, true, false, List, length, get_or, set, replicate, sym, ap, subst, arith}
+use Rattle.std.proofs.lemmas.Bool.{cases_lt, cases_eq, both_ways}
+use Rattle.std.proofs.lemmas.List.{get_or-set_same, get_or-set_other, length-set, get_or-replicate, get_or_past, length-replicate}
+use Rattle.node_defs.specs.declared.items.NodeNet.{NodeNet}
+use Rattle.node_defs.specs.WellFormed.{IsWellFormed}
+use Rattle.plan_defs.specs.declared.plan.Homes.{Homes}
+use Rattle.plan_defs.specs.Homes.{AreHomes, home_of}
+use Rattle.home_better.specs.declared.bags.Entry.{Entry}
+use Rattle.home_better.specs.Bags.{flag, times}
+use Rattle.home_better.specs.Crossings.{uses_by, uses_at, moved}
+use Rattle.home_better.specs.Moves.{others_at, pull_by, AreUsesWithout}
+use Rattle.home_better.specs.Spread.{AreSpread, AreSpreadWithout, Unmarks}
+use Rattle.home_better.specs.Uses.{bag_at, AreTakes}
+use Rattle.home_better.specs.Work.{beside}
+use Rattle.home_better.proofs.SumLemmas.{if_same, if_apart, flag_some}
+use Rattle.home_better.proofs.LinkLemmas.{uses_low}
+use Rattle.home_better.proofs.MoveLemmas.{uses_home, uses_moved}
+use Rattle.home_better.proofs.PullLemmas.{used_pull}
+
+-- nothing is marked
+pub none_marked : (n i : ℕ) → get_or (replicate n false) i false ≡ false
+none_marked n i = elim (cases_lt i n) [ inl low ↦ get_or-replicate n i false false low | inr past ↦ get_or_past (replicate n false) i false (omega (arith, past, length-replicate n false)) ]
+
+pub spread_none : (nodes : NodeNet) (homes : Homes) (n : ℕ) → n ≡ length nodes.items → AreSpread nodes homes (replicate n false)
+spread_none nodes homes n size = record {
+  size = length-replicate n false ∙ size;
+  each = λ i port is low. absurd (both_ways (get_or (replicate n false) i false) (none_marked n i) is);
+}
+
+-- one item more is marked or not
+pub marks_more : (nodes : NodeNet) (homes : Homes) (spread : List Bool) (k : ℕ) (bag : List Entry) (marked : Bool) → k < length spread → (marked ≡ true → (q : ℕ) → q < homes.logic → times bag q ≢ 0) → ((q : ℕ) → times bag q ≡ uses_at nodes homes k q)
+    → ((i port : ℕ) → i < k → get_or spread i false ≡ true → port < homes.logic → uses_at nodes homes i port ≢ 0) → (i port : ℕ) → i < k + 1 → get_or (set spread k marked) i false ≡ true → port < homes.logic → uses_at nodes homes i port ≢ 0
+marks_more nodes homes spread k bag marked inside covers times_are before i port low is within = elim (cases_eq i k) [
+  | inl same ↦
+      let here : marked ≡ true = sym (ap (λ j. get_or (set spread k marked) j false) same ∙ get_or-set_same spread k marked false inside) ∙ is in
+      subst (λ j. uses_at nodes homes j port ≢ 0) (sym same) (λ none. covers here port within (times_are port ∙ none))
+  | inr apart ↦ before i port (omega (arith, low, apart)) (sym (get_or-set_other spread k i marked false apart) ∙ is) within
+]
+
+-- all of them
+pub marks_all : (nodes : NodeNet) (homes : Homes) (spread : List Bool) (n : ℕ) → n ≡ length spread → length spread ≡ length nodes.items → ((i port : ℕ) → i < n → get_or spread i false ≡ true → port < homes.logic → uses_at nodes homes i port ≢ 0) → AreSpread nodes homes spread
+marks_all nodes homes spread n whole size each = record {
+  size = size;
+  each = λ i port is low. elim (cases_lt i n) [
+    | inl inside ↦ each i port inside is low
+    | inr past ↦ absurd (both_ways (get_or spread i false) (get_or_past spread i false (omega (arith, past, whole))) is)
+  ];
+}
+
+-- one mark is taken away, or stays
+pub unmark_one : (old : List Bool) (P : ℕ → Type 0) (item : ℕ) (stays : Bool) → item < length old → (stays ≡ true → P item) → get_or old item false ≡ true → ((i : ℕ) → i ≢ item → P i) → Unmarks old (set old item stays) P
+unmark_one old P item stays low holds marked others = record {
+  size = length-set old item stays;
+  had = λ i is. elim (cases_eq i item) [
+    | inl same ↦ ap (λ j. get_or old j false) same ∙ marked
+    | inr apart ↦ sym (get_or-set_other old item i stays false apart) ∙ is
+  ];
+  holds = λ i is. elim (cases_eq i item) [
+    | inl same ↦ subst P (sym same) (holds (sym (ap (λ j. get_or (set old item stays) j false) same ∙ get_or-set_same old item stays false low) ∙ is))
+    | inr apart ↦ others i apart
+  ];
+}
+
+-- node v is lifted
+pub lifted_spread : (nodes : NodeNet) (homes : Homes) (takes uses : List (List Entry)) (old new : List Bool) (v own : ℕ) (taken : List Entry) → IsWellFormed nodes → AreHomes nodes homes → AreTakes nodes takes → AreSpread nodes homes old → AreUsesWithout nodes homes v uses → v < length nodes.items
+    → bag_at takes v ≡ taken → own ≡ home_of homes v → Unmarks old new (λ i. times taken i ≢ 0 → times (bag_at uses i) own ≢ 0) → AreSpreadWithout nodes homes v new
+lifted_spread nodes homes takes uses old new v own taken formed are takes_are spread without low is home unmarks = record {
+  size = unmarks.size ∙ spread.size;
+  each = λ i port marked within.
+      let some = spread.each i port (unmarks.had i marked) within in
+      let split = uses_home nodes homes v i port (omega (arith, low, are.items)) are.items in
+      elim (cases_eq (home_of homes v) port) [
+        | inr apart ↦ (λ none. some (let nothing = if_apart (home_of homes v) port (uses_by nodes v i) 0 apart in omega (arith, split, nothing, none)))
+        | inl same ↦ elim (cases_eq (uses_by nodes v i) 0) [
+          | inl unused ↦ (λ none. some (let nothing = if_same (home_of homes v) port (uses_by nodes v i) 0 same in omega (arith, split, nothing, none, unused)))
+          | inr used ↦
+              let count : times taken i ≡ uses_by nodes v i = ap (λ (b : List Entry). times b i) (sym is) ∙ takes_are.times v i low in
+              let holds = unmarks.holds i marked (λ none. used (sym count ∙ none)) in
+              let there : times (bag_at uses i) own ≡ others_at nodes homes v i port = without.times i own (uses_low nodes v i formed used) ∙ ap (others_at nodes homes v i) (home ∙ same) in
+              (λ none. holds (there ∙ none))
+        ]
+      ];
+}
+
+-- node v is put
+pub put_spread : (nodes : NodeNet) (homes : Homes) (spread : List Bool) (v port : ℕ) → AreHomes nodes homes → v < length nodes.items → AreSpreadWithout nodes homes v spread → AreSpread nodes (moved homes v port) spread
+put_spread nodes homes spread v port are low without = record {
+  size = without.size;
+  each = λ i q marked within none. without.each i q marked within (let all = uses_moved nodes homes v port i q (omega (arith, low, are.items)) are.items in omega (arith, all, none));
+}
+
+-- what is used everywhere pulls equally everywhere
+pub even_pull : (nodes : NodeNet) (homes : Homes) (v port : ℕ) (spread : List Bool) (e : Entry) → AreSpreadWithout nodes homes v spread → e.key ≢ v → uses_by nodes v e.key ≢ 0 → get_or spread e.key false ≡ true → port < homes.logic → beside (pull_by nodes homes v port) v e ≡ 1
+even_pull nodes homes v port spread e without apart some marked within =
+    let others : flag (others_at nodes homes v e.key port) ≡ 1 = flag_some (others_at nodes homes v e.key port) (let is = without.each e.key port marked within in omega (arith, is)) in
+    let used = used_pull nodes homes v port e.key apart some in
+    let first = if_apart e.key v 0 (pull_by nodes homes v port e.key) apart in
+    elim (cases_eq (home_of homes e.key) port) [
+      | inl here ↦ (let at = if_same (home_of homes e.key) port 1 (flag (others_at nodes homes v e.key port)) here in omega (arith, used, first, at))
+      | inr away ↦ (let at = if_apart (home_of homes e.key) port 1 (flag (others_at nodes homes v e.key port)) away in omega (arith, used, first, at, others))
+    ]
