@@ -18,6 +18,8 @@ mod of_cmd_words;
 #[cfg(test)]
 mod of_func_table;
 #[cfg(test)]
+mod of_home_better;
+#[cfg(test)]
 mod of_logic_four;
 #[cfg(test)]
 mod of_machine_text;
