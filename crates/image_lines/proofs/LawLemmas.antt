@@ -20,7 +20,7 @@ use Rattle.image_lines.specs.declared.line.Line.TheVariants.{Version, Head, Port
 use Rattle.image_lines.specs.declared.word.Word.{Word}
 use Rattle.image_lines.specs.declared.word.Word.TheVariants as word
 use Rattle.image_lines.specs.Forms as forms
-use Rattle.image_lines.specs.Forms.{named, form, form_behind, line_in, line_read, finished, finished_by, ranged, is_within, table_of}
+use Rattle.image_lines.specs.Forms.{named, form, form_behind, line_in, line_read, finished, finished_by, is_within, table_of}
 use Rattle.image_lines.specs.Tokens.{Left, is_space, tokens_of, is_hex, behind}
 use Rattle.image_lines.specs.Words.{line_words, line_bytes, source_word, init_word, kind_word, hex_digits}
 use Rattle.image_lines.specs.Ranges.{IsSmall, IsSmallSource, IsSmallLine, IsInRange}
@@ -247,27 +247,24 @@ tokens_again line small =
     let some = some_words line in
     pieces_of (line_words line) some.0 some.1.0 some.1.1 (words_plain line small)
 
-pub read_again : (line : Line) → IsInRange line → line_read (line_bytes line) ≡ Ok line
+pub read_again : (line : Line) → IsInRange line → line_read (line_bytes line) ≡ Ok (line, true)
 unfolding line_read
 read_again line is = rw (tokens_again line is.small, line_again line is.small, is.within) refl
 
-ranged_ok : (large : Bool) (made line : Line) → ranged (not large && is_within made) made ≡ Ok line
-    → (large ≡ false) × ((made ≡ line) × (is_within made ≡ true))
-ranged_ok true made line e = cc
-ranged_ok false made line e = of (is_within made) refl e
-  where
-    of : (b : Bool) → is_within made ≡ b → ranged b made ≡ Ok line → (◌≡◌ {A = Bool} false false) × ((made ≡ line) × (is_within made ≡ true))
-    of true is e = (refl, (cc, is))
-    of false is e = cc
-
-finished_ok : (o : Option (Line × Left)) (line : Line) → finished o ≡ Ok line → (o ≡ Some (line, ([], false))) × (is_within line ≡ true)
+finished_ok : (o : Option (Line × Left)) (line : Line) → finished o ≡ Ok (line, true) → (o ≡ Some (line, ([], false))) × (is_within line ≡ true)
 finished_ok None line e = cc
 finished_ok (Some (made, (token ∷ rest, large))) line e = cc
 finished_ok (Some (made, ([], large))) line e =
-    let ok = ranged_ok large made line e in
-    (rw (ok.0, ok.1.0) refl, rw ok.1.0 at ok.1.1)
+    let same : ◌≡◌ {A = Line × Bool} (made, not large && is_within made) (line, true) = cc in
+    let both = both_true (not large) (is_within made) (ap (λ (p : Line × Bool). p.1) same) in
+    let is : made ≡ line = ap (λ (p : Line × Bool). p.0) same in
+    (rw (is, low large both.0) refl, rw is at both.1)
+  where
+    low : (b : Bool) → not b ≡ true → b ≡ false
+    low true e = cc
+    low false e = refl
 
-pub read_only : (bytes : List ℕ) (line : Line) → line_read bytes ≡ Ok line → (bytes ≡ line_bytes line) × IsInRange line
+pub read_only : (bytes : List ℕ) (line : Line) → line_read bytes ≡ Ok (line, true) → (bytes ≡ line_bytes line) × IsInRange line
 unfolding line_read line_bytes
 read_only bytes line e =
     let ok = finished_ok (line_in (tokens_of bytes)) line e in

@@ -8,7 +8,7 @@ use Rattle.image_defs.specs.declared.image.Task.TheVariants.{Eval, Hold}
 use Rattle.image_lines.specs.declared.line.Line.{Line}
 use Rattle.image_lines.specs.declared.line.Line.TheVariants.{Version, Head, Port, Table, Work, Block, Bit, Input, Print, Send, Take, End}
 use Rattle.image_lines.specs.declared.line.LineNo.{LineNo}
-use Rattle.image_lines.specs.declared.line.LineNo.TheVariants.{Syntax, Range}
+use Rattle.image_lines.specs.declared.line.LineNo.TheVariants.{Syntax}
 use Rattle.image_lines.specs.declared.word.Word.{Word}
 use Rattle.image_lines.specs.declared.word.Word.TheVariants as word
 use Rattle.image_lines.specs.Tokens.{Left, Reader, field, both, behind, all_of, number_token, source_token, init_token, kind_token, hex_token, tokens_of}
@@ -191,18 +191,16 @@ is_within (Head sizes) =
 is_within (Block block) = is_from 1 MAX_ADDRESS_BITS (length block.address) && is_from 1 MAX_WORD_BITS (length block.word)
 is_within other = true
 
-abbrev pub ranged : Bool → Line → Result Line LineNo
-ranged true line = Ok line
-ranged false line = Err Range
-
-abbrev pub finished_by : Line → List (List ℕ) → Bool → Result Line LineNo
-finished_by line [] large = ranged (not large && is_within line) line
+-- a line without further tokens, and whether each number in it is in its range
+abbrev pub finished_by : Line → List (List ℕ) → Bool → Result (Line × Bool) LineNo
+finished_by line [] large = Ok (line, not large && is_within line)
 finished_by line (token ∷ rest) large = Err Syntax
 
-abbrev pub finished : Option (Line × Left) → Result Line LineNo
+abbrev pub finished : Option (Line × Left) → Result (Line × Bool) LineNo
 finished None = Err Syntax
 finished (Some read) = finished_by read.0 read.1.0 read.1.1
 
--- what a line says, or why it is refused: it has none of the forms, or else a number is out of range
-unfoldable pub line_read : List ℕ → Result Line LineNo
+-- what a line says, and whether each number in it is in its range; it is refused where it has none of
+-- the forms
+unfoldable pub line_read : List ℕ → Result (Line × Bool) LineNo
 line_read line = finished (line_in (tokens_of line))

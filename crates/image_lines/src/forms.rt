@@ -1,6 +1,6 @@
 //! The forms of lines.
 
-ghost use Rattle.std.specs.Prelude.{◌≡◌, IfOk, false};
+ghost use Rattle.std.specs.Prelude.{◌≡◌, IfOk, true, false};
 ghost use Rattle.text_lines.specs.Answers.{AnswersAs};
 ghost use Rattle.image_lines.specs.declared.line.LineNo.TheVariants.{Memory as NoMemory};
 ghost use Rattle.image_lines.specs.Tokens.{Gives, tokens_of};
@@ -16,11 +16,12 @@ use limits::{MAX_ADDRESS_BITS, MAX_PORTS, MAX_SIGNALS, MAX_SLOTS, MAX_UNITS, MAX
 use seen_list::Memory;
 use std::alloc::Global;
 
-/// What a line says, the LF that ends it not counted. `Syntax`: it has none of the forms. `Range`: it has
-/// one, and a number in it is out of its range.
+/// What a line says, the LF that ends it not counted, and whether each number in it is in its range. One
+/// that is too large is read as the greatest one. `Syntax`: the line has none of the forms.
 #[tactic(auto, unfolding(crate::specs::Forms::line_read))]
-pub fn read_line(alloc: Global, bytes: &[u8]) -> Result<Line, LineNo>
-    ensures { AnswersAs NoMemory result (line_read bytes.now) }
+pub fn read_line(alloc: Global, bytes: &[u8]) -> Result<(Line, bool), LineNo>
+    ensures read { AnswersAs NoMemory result (line_read bytes.now) }
+    ensures within { IfOk result (λ read. read.1 ≡ true → is_within read.0 ≡ true) }
 {
     let mut fields = Fields::new(bytes);
     match any_form(alloc, &mut fields) {
@@ -30,18 +31,17 @@ pub fn read_line(alloc: Global, bytes: &[u8]) -> Result<Line, LineNo>
     }
 }
 
-/// The line, unless there are more fields or a number is out of its range.
-fn finished(line: Line, mut fields: Fields) -> Result<Line, LineNo>
-    ensures { result ≡ finished_by line fields.entry.0 fields.entry.1 }
+/// The line, unless there are more fields, and whether its numbers are in their ranges.
+fn finished(line: Line, mut fields: Fields) -> Result<(Line, bool), LineNo>
+    ensures read { result ≡ finished_by line fields.entry.0 fields.entry.1 }
+    ensures within { IfOk result (λ read. read.1 ≡ true → is_within read.0 ≡ true) }
 {
     let large = fields.is_large();
     if fields.next().is_some() {
         return Err(LineNo::Syntax);
     }
-    if large || !is_within(&line) {
-        return Err(LineNo::Range);
-    }
-    Ok(line)
+    let within = !large && is_within(&line);
+    Ok((line, within))
 }
 
 /// Whether the numbers of a head, and the lengths of a memory, are in their ranges.

@@ -1,17 +1,17 @@
 //! Laws of lines: functions that do nothing, whose clauses hold of all lines.
 
-ghost use Rattle.std.specs.Prelude.{◌≡◌, ℕ, false, List, Ok, All};
+ghost use Rattle.std.specs.Prelude.{◌≡◌, ℕ, true, false, List, Ok, All};
 ghost use Rattle.text_lines.specs.Bytes.{is_line_feed};
 ghost use Rattle.image_lines.specs.declared.line.Line.{Line};
 ghost use Rattle.image_lines.specs.Forms.{line_read};
 ghost use Rattle.image_lines.specs.Ranges.{IsInRange};
 ghost use Rattle.image_lines.specs.Words.{line_bytes};
 
-/// A law: each line in its ranges is read back from the bytes that spell it, and what is read is in its
-/// ranges and was spelled so. So each line has one spelling. It does nothing.
+/// A law: each line in its ranges is read back from the bytes that spell it, and what is read as one in
+/// its ranges is, and was spelled so. So each line has one spelling. It does nothing.
 pub fn lines_read_back()
-    ensures again { (line : Line) → IsInRange line → line_read (line_bytes line) ≡ Ok line }
-    ensures only { (bytes : List ℕ) (line : Line) → line_read bytes ≡ Ok line → (bytes ≡ line_bytes line) × IsInRange line }
+    ensures again { (line : Line) → IsInRange line → line_read (line_bytes line) ≡ Ok (line, true) }
+    ensures only { (bytes : List ℕ) (line : Line) → line_read bytes ≡ Ok (line, true) → (bytes ≡ line_bytes line) × IsInRange line }
 {}
 
 /// A law: no line has a LF in it. It does nothing.

@@ -2,7 +2,7 @@
 //!
 //! A line has tokens with exactly one space between, and numbers have no leading zeros. Its first token
 //! says what it is: a head of the text or of a port, a part of a port, or the end. A line with a number
-//! that is too large has its form all the same, and is out of range.
+//! that is too large has its form all the same, and is told to be out of range.
 #![tactic(auto)]
 
 mod fields;

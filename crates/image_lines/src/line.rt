@@ -58,8 +58,6 @@ pub enum Line {
 pub enum LineNo {
     /// It has none of the forms.
     Syntax,
-    /// It has a form, and a number that is out of its range.
-    Range,
     Memory,
 }
 
