@@ -1,0 +1,4 @@
+pub mod Drafts
+pub mod Files
+pub mod Ranges
+pub mod Reading
