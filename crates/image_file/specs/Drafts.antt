@@ -1,6 +1,6 @@
 -- An image text as far as it has been read: which lines may stand there, which of them are within the
 -- limits, and what each adds.
-use Rattle.std.specs.Prelude.{◌≡◌, ℕ, ◌+◌, ◌-◌, ◌==◌, ◌&&◌, Bool, true, false, List, [], ◌∷◌, ◌++◌, length, nat_lt, nat_le}
+use Rattle.std.specs.Prelude.{ℕ, ◌+◌, ◌-◌, ◌==◌, ◌&&◌, Bool, true, false, List, [], ◌∷◌, ◌++◌, length, nat_lt, nat_le}
 use Rattle.std.specs.List.{count_by}
 use Rattle.limits.specs.declared.TheConstants.{MAX_ARRAY, MAX_FUNCTIONS, MAX_ARRAY_BITS}
 use Rattle.image_defs.specs.declared.image.Work.{Work}
@@ -10,7 +10,6 @@ use Rattle.image_check.specs.declared.file.PortClaims.{PortClaims}
 use Rattle.image_check.specs.declared.file.ImageFile.{ImageFile}
 use Rattle.image_lines.specs.declared.line.PortKind.{PortKind}
 use Rattle.image_lines.specs.declared.line.PortKind.TheVariants as kinds
-use Rattle.image_lines.specs.declared.line.Sizes.{Sizes}
 use Rattle.image_lines.specs.declared.line.Line.{Line}
 use Rattle.image_lines.specs.declared.line.Line.TheVariants as line
 use Rattle.image_file.specs.declared.draft.OpenPort.{OpenPort}
@@ -60,11 +59,14 @@ ports_of body = body.ports ++ body.current.port ∷ []
 abbrev pub array_count : Body → ℕ
 array_count body = count_by is_array_port (ports_of body)
 
+abbrev pub work_holds : Work → ℕ → Line → Bool
+work_holds work bits (line.Table table) = nat_lt (length (tables_of work)) MAX_FUNCTIONS
+work_holds work bits (line.Block block) = nat_le (bits + block_bits block) MAX_ARRAY_BITS
+work_holds work bits other = true
+
 abbrev pub body_holds : Body → Line → Bool
 body_holds body (line.Port kinds.Array) = nat_lt (array_count body) MAX_ARRAY
-body_holds body (line.Table table) = nat_lt (length (tables_of body.current.port.work)) MAX_FUNCTIONS
-body_holds body (line.Block block) = nat_le (body.current.bits + block_bits block) MAX_ARRAY_BITS
-body_holds body other = true
+body_holds body other = work_holds body.current.port.work body.current.bits other
 
 -- whether the limits on array ports, on the tables of a port and on its memories leave room for the line
 abbrev pub has_room : Draft → Line → Bool

@@ -5,9 +5,13 @@
 //! is no file's has a first fault, which names its line.
 #![tactic(auto)]
 
+mod adding;
 mod draft;
+pub mod law;
 mod reading;
 mod refusal;
+mod room;
+mod standing;
 mod writing;
 
 pub use reading::read_image;

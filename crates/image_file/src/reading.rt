@@ -1,23 +1,106 @@
 //! The reader of image texts.
 
-ghost use Rattle.std.specs.Prelude.{◌≡◌, ◌≤◌, length};
+ghost use Rattle.std.specs.Prelude.{◌≡◌, ◌≤◌, ◌<◌, ◌+◌, ◌^◌, true, None, MatchResult, length};
 ghost use Rattle.limits.specs.declared.TheConstants.{MAX_TEXT_BYTES};
-ghost use Rattle.text_lines.specs.Answers.{Answers};
+ghost use Rattle.text_lines.specs.Answers.{Answers, AnswersAs};
+ghost use Rattle.image_check.specs.declared.file.ImageFile.{ImageFile as File};
+ghost use Rattle.image_lines.specs.Forms.{is_within, line_read};
 ghost use Rattle.image_file.specs.declared.refusal.ImageNo.TheVariants.{Memory as NoMemory};
+ghost use Rattle.image_file.specs.declared.draft.Draft.TheVariants as draft;
 ghost use Rattle.image_file.specs.Ranges.{Reads};
-ghost use Rattle.image_file.specs.Reading.{first_fault};
+ghost use Rattle.image_file.specs.Reading.{first_fault, file_read, after_line, followed, at_end};
 
+use crate::adding::draft_with;
+use crate::draft::Draft;
 use crate::refusal::ImageNo;
+use crate::room::has_room;
+use crate::standing::may_stand;
 use image_check::ImageFile;
+use image_lines::{Line, LineNo, read_line};
 use std::alloc::Global;
+use text_lines::bytes::split_once;
 
 /// The file that the text reads as, or the text's first fault. Nothing is taken for what a line
 /// announces: the lists grow by what is there.
 pub fn read_image(alloc: Global, bytes: &[u8]) -> Result<ImageFile, ImageNo>
     requires { length bytes.now ≤ MAX_TEXT_BYTES }
-    ensures { Answers NoMemory result (first_fault bytes.now) (Reads bytes.now) }
+
+    // What is read is what the text reads as, a refusal is the first fault, or memory ran out.
+    ensures answers { Answers NoMemory result (first_fault bytes.now) (Reads bytes.now) }
+
+    // What the text reads as is read, unless memory ran out, and has no fault.
+    ensures only { (file : File) → Reads bytes.now file
+        → (first_fault bytes.now ≡ None) × MatchResult result (λ read. read ≡ file) (λ e. e ≡ NoMemory) }
 {
-    let _bytes = bytes;
-    let _alloc = alloc;
-    Err(ImageNo::Memory)
+    read_lines(alloc, bytes)
+}
+
+fn read_lines(alloc: Global, bytes: &[u8]) -> Result<ImageFile, ImageNo>
+    requires { length bytes.now ≤ MAX_TEXT_BYTES }
+    ensures { AnswersAs NoMemory result (file_read bytes.now) }
+{
+    let mut draft = Draft::Blank;
+    let mut rest = bytes;
+    let mut number = 1;
+    'lines: while let Some((line, behind)) = split_once(rest, b'\n') {
+        draft = match follow(alloc, number, draft, line) {
+            Ok(longer) => longer,
+            Err(no) => return Err(no),
+        };
+        rest = behind;
+        number += 1;
+    }
+    finished(number, draft, rest)
+}
+
+/// The text so far with the line of this number.
+fn follow(alloc: Global, number: u32, draft: Draft, bytes: &[u8]) -> Result<Draft, ImageNo>
+    ensures { AnswersAs NoMemory result (after_line number draft (line_read bytes.now)) }
+{
+    match read_line(alloc, bytes) {
+        Ok((line, within)) => placed(alloc, number, draft, line, within),
+        Err(LineNo::Syntax) => Err(ImageNo::Syntax { line: number }),
+        Err(LineNo::Memory) => Err(ImageNo::Memory),
+    }
+}
+
+fn placed(
+    alloc: Global,
+    number: u32,
+    draft: Draft,
+    line: Line,
+    within: bool,
+) -> Result<Draft, ImageNo>
+    requires { within ≡ true → is_within line ≡ true }
+    ensures { AnswersAs NoMemory result (followed number draft line within) }
+{
+    if !may_stand(&draft, &line) {
+        return Err(ImageNo::Syntax { line: number });
+    }
+    if !within || !has_room(&draft, &line) {
+        return Err(ImageNo::Range { line: number });
+    }
+    match draft_with(alloc, draft, line) {
+        Ok(longer) => Ok(longer),
+        Err(_memory) => Err(ImageNo::Memory),
+    }
+}
+
+/// The file, if the text ends behind its line `end`.
+fn finished(number: u32, draft: Draft, rest: &[u8]) -> Result<ImageFile, ImageNo>
+    ensures { result ≡ at_end number draft rest.now }
+{
+    match draft {
+        Draft::Ended(file) => ended(number, file, rest),
+        _ => Err(ImageNo::Syntax { line: number }),
+    }
+}
+
+fn ended(number: u32, file: ImageFile, rest: &[u8]) -> Result<ImageFile, ImageNo>
+    ensures { result ≡ at_end number (draft.Ended file) rest.now }
+{
+    match rest {
+        [] => Ok(file),
+        _ => Err(ImageNo::Syntax { line: number }),
+    }
 }
