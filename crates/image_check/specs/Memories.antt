@@ -4,6 +4,7 @@ use Rattle.node_defs.specs.declared.items.NodeBlock.{NodeBlock}
 use Rattle.image_defs.specs.declared.image.BlockWork.{BlockWork}
 use Rattle.image_match.specs.Matches.{MemoryImplements}
 use Rattle.image_check.specs.declared.claims.OnePort.{OnePort}
+use Rattle.image_check.specs.declared.memories.Pair.{Pair}
 use Rattle.image_check.specs.Claimed.{lists_of}
 
 -- the memory of this number is there, and has the operands of the port's
@@ -17,3 +18,7 @@ pub record IsMemoryAt (one : OnePort) (blocks : List BlockWork) (memories : List
   pub block : BlockWork
   pub is : slice_get blocks b ≡ Some block
   pub other : IsMemory one block memories m
+
+-- the memories of these numbers are there, and have the same operands
+abbrev pub AreSameMemories : OnePort → List BlockWork → List NodeBlock → Pair → Type 0
+AreSameMemories one blocks memories pair = IsMemoryAt one blocks memories pair.block pair.memory

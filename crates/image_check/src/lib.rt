@@ -8,6 +8,7 @@ mod claims;
 mod file;
 mod form;
 mod links;
+mod memories;
 mod nodes;
 mod places;
 mod ports;

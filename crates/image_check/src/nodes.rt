@@ -1,19 +1,21 @@
 //! Whether what stands at a place is as the item that it claims.
 
-ghost use Rattle.std.specs.Prelude.{◌≡◌, ◌↔◌, IsTrue, List as Items};
+ghost use Rattle.std.specs.Prelude.{◌≡◌, ◌↔◌, IsTrue, IfSome, List as Items};
 ghost use Rattle.func_table.specs.declared.table.Table.{Table};
 ghost use Rattle.node_defs.specs.declared.items.Item.TheVariants.{Node, Latch};
 ghost use Rattle.node_defs.specs.declared.items.NodeNet.{NodeNet};
 ghost use Rattle.func_table.specs.Entries.{AreAlike};
-ghost use Rattle.image_match.specs.Matches.{Implements, ImplementsClaim, TaskImplements, BitImplements, InputImplements, MemoryImplements};
+ghost use Rattle.image_defs.specs.Places.{blocks_of};
+ghost use Rattle.image_match.specs.Matches.{Implements, ImplementsClaim, TaskImplements, InputImplements};
 ghost use Rattle.image_check.specs.Claimed.{lists_of};
-ghost use Rattle.image_check.specs.Memories.{IsMemory, IsMemoryAt};
+ghost use Rattle.image_check.specs.Memories.{AreSameMemories};
 ghost use Rattle.image_check.specs.OnePorts.{IsOnePort, IsLike, AreSame, CarryFour};
 
-use crate::claims::{OnePort, carries, carries_item, carry_all};
+use crate::claims::{OnePort, carries, carries_item};
+use crate::memories::{Pair, bit_implements};
 use func_table::{Table, entries_decide};
-use image_defs::{BlockWork, InColumn, OutBit, Source, Task, Work};
-use node_defs::{Feeds, Item, NodeBlock, NodeNet, Tag};
+use image_defs::{InColumn, Source, Task, Work};
+use node_defs::{Feeds, Item, NodeNet, Tag};
 use seen_list::List;
 
 /// The four operands of a task.
@@ -26,19 +28,27 @@ pub(crate) struct Operands {
 }
 
 /// Whether item number `k` of the port is as the item that it claims.
-pub(crate) fn is_as_claimed(one: &OnePort, nodes: &NodeNet, k: usize, claimed: u32) -> bool
-    requires { IsOnePort one.now }
+pub(crate) fn is_as_claimed(
+    one: &OnePort,
+    nodes: &NodeNet,
+    k: usize,
+    claimed: u32,
+    known: Option<Pair>,
+) -> bool
+    requires one { IsOnePort one.now }
+    requires known { IfSome known (AreSameMemories one.now (blocks_of one.now.port.now.work) nodes.now.blocks) }
     ensures { IsTrue result ↔ ImplementsClaim one.now.file.now.image (lists_of one.now.file.now.claims)
         nodes.now one.now.number k claimed one.now.port.now }
 {
     match nodes.items.get(claimed as usize) {
-        Some(item) => implements(one, nodes, k, item),
+        Some(item) => implements(one, nodes, k, item, known),
         None => false,
     }
 }
 
-fn implements(one: &OnePort, nodes: &NodeNet, k: usize, item: &Item) -> bool
-    requires { IsOnePort one.now }
+fn implements(one: &OnePort, nodes: &NodeNet, k: usize, item: &Item, known: Option<Pair>) -> bool
+    requires one { IsOnePort one.now }
+    requires known { IfSome known (AreSameMemories one.now (blocks_of one.now.port.now.work) nodes.now.blocks) }
     ensures { IsTrue result ↔ Implements one.now.file.now.image (lists_of one.now.file.now.claims)
         nodes.now one.now.number one.now.port.now.ins one.now.port.now.work k item.now }
 {
@@ -48,7 +58,7 @@ fn implements(one: &OnePort, nodes: &NodeNet, k: usize, item: &Item) -> bool
             None => false,
         },
         Work::Array { blocks, outs } => match outs.get(k) {
-            Some(out) => bit_implements(one, nodes, blocks, out, item),
+            Some(out) => bit_implements(one, nodes, blocks, out, item, known),
             None => false,
         },
         Work::Host { inputs, .. } => match inputs.get(k) {
@@ -192,69 +202,4 @@ fn input_implements(input: &InColumn, item: &Item) -> bool
         Item::Node { .. } => false,
         Item::Latch { .. } => false,
     }
-}
-
-fn bit_implements(
-    one: &OnePort,
-    nodes: &NodeNet,
-    blocks: &List<BlockWork>,
-    out: &OutBit,
-    item: &Item,
-) -> bool
-    requires { IsOnePort one.now }
-    ensures { IsTrue result ↔ BitImplements one.now.file.now.image (lists_of one.now.file.now.claims)
-        nodes.now one.now.number one.now.port.now.ins blocks.now out.now item.now }
-{
-    match item {
-        Item::Input { .. } => false,
-        Item::BlockBit { block, bit } => {
-            if out.bit != *bit {
-                return false;
-            }
-            is_memory_at(one, blocks, out.block, &nodes.blocks, *block)
-        }
-        Item::Node { .. } => false,
-        Item::Latch { .. } => false,
-    }
-}
-
-/// Whether the memories of these numbers, each in its own list, have the same operands.
-fn is_memory_at(
-    one: &OnePort,
-    blocks: &List<BlockWork>,
-    block: u32,
-    memories: &List<NodeBlock>,
-    memory: u32,
-) -> bool
-    requires { IsOnePort one.now }
-    ensures { IsTrue result ↔ IsMemoryAt one.now blocks.now memories.now block memory }
-{
-    match blocks.get(block as usize) {
-        Some(found) => is_memory(one, found, memories, memory),
-        None => false,
-    }
-}
-
-fn is_memory(one: &OnePort, block: &BlockWork, memories: &List<NodeBlock>, memory: u32) -> bool
-    requires { IsOnePort one.now }
-    ensures { IsTrue result ↔ IsMemory one.now block.now memories.now memory }
-{
-    match memories.get(memory as usize) {
-        Some(found) => memory_implements(one, block, found),
-        None => false,
-    }
-}
-
-fn memory_implements(one: &OnePort, block: &BlockWork, memory: &NodeBlock) -> bool
-    requires { IsOnePort one.now }
-    ensures { IsTrue result ↔ MemoryImplements one.now.file.now.image (lists_of one.now.file.now.claims)
-        one.now.number one.now.port.now.ins block.now memory.now }
-{
-    if !carries_item(one, &block.we, memory.we, Tag::Last) {
-        return false;
-    }
-    if !carry_all(one, block.address.as_slice(), memory.address.as_slice()) {
-        return false;
-    }
-    carry_all(one, block.word.as_slice(), memory.word.as_slice())
 }

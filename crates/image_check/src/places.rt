@@ -10,6 +10,7 @@ ghost use Rattle.image_check.specs.OnePorts.{IsOnePort, AreLaidOut};
 
 use crate::claims::{OnePort, carries_item};
 use crate::file::ImageFile;
+use crate::memories::pair_at;
 use crate::nodes::is_as_claimed;
 use crate::shapes::Shape;
 use crate::timing::printed_sources;
@@ -82,10 +83,12 @@ fn first_other(one: &OnePort, nodes: &NodeNet, claims: &[u32]) -> Option<usize>
     requires { IsOnePort one.now }
     ensures { MatchOption result (AllAsClaimed one.now nodes.now claims.now) (IsFirstOther one.now nodes.now claims.now) }
 {
+    let mut known = None;
     'places: for k in 0..claims.len() {
-        if !is_as_claimed(one, nodes, k, claims[k]) {
+        if !is_as_claimed(one, nodes, k, claims[k], known) {
             return Some(k);
         }
+        known = pair_at(one, nodes, k, claims[k]);
     }
     None
 }

@@ -1,6 +1,6 @@
 use Rattle.std.proofs.Common.{rules}
 use Rattle.image_check.proofs.CarryLemmas.{memory_by_word, memory_no_address}
-use Rattle.image_check.proofs.nodes.memory_implements.Goals as goal
+use Rattle.image_check.proofs.memories.memory_implements.Goals as goal
 
 pub returns-then-not-carry_all : goal.returns-then-not-carry_all
 returns-then-not-carry_all c =
