@@ -4,8 +4,8 @@ use Rattle.std.specs.Prelude.{option_and_then}
 use Rattle.clap.specs.declared.parser.matches.ArgMatches.{ArgMatches}
 use Rattle.cmd_words.specs.declared.command.WordNo.{WordNo}
 use Rattle.cmd_words.specs.Arguments.{Word, value_given}
-use Rattle.cmd_words.specs.Asked.{IsRefusal, Values, of_large, of_plan, of_two_files, large_by, run_by, says}
-use Rattle.cmd_words.specs.Parses.{arguments_found, both_of, one_of, value_found, IsParsedAs}
+use Rattle.cmd_words.specs.Asked.{IsRefusal, Values, image_by, of_image, of_large, of_netlist, of_two_files, large_by, run_by, says}
+use Rattle.cmd_words.specs.Parses.{arguments_found, both_of, one_of, three_of, value_found, IsParsedAs}
 use Rattle.cmd_words.specs.Uses.{Found}
 use Rattle.cmd_words.proofs.TestLemmas.{same_some}
 
@@ -34,16 +34,31 @@ says_large names words matches gates cycles is both =
     says_found names words of_large matches is
     ∙ ap (λ arguments. of_large arguments (value_found matches)) (both_are (arguments_found matches) gates cycles (sym both))
 
--- one word is the file of a plan
-one_is : (arguments : List Word) (value : Values) (netlist : Word) → one_of arguments ≡ Some netlist → of_plan arguments value ≡ run_by netlist [] value
+-- the three words
+three_are : (arguments : List Word) (one other third : Word) → three_of arguments ≡ Some (one, other, third) → arguments ≡ one ∷ other ∷ third ∷ []
+three_are (first ∷ second ∷ last ∷ []) one other third e =
+    ap (λ (three : Word × Word × Word). three.0 ∷ three.1 ∷ three.2 ∷ []) (same_some (first, second, last) (one, other, third) e)
+three_are [] one other third e = cc
+three_are (first ∷ []) one other third e = cc
+three_are (first ∷ second ∷ []) one other third e = cc
+three_are (first ∷ second ∷ last ∷ more ∷ others) one other third e = cc
+
+pub says_image : (names words : List Word) (matches : ArgMatches) (netlist image stimulus : Word) → IsParsedAs names words matches
+    → Some (netlist, image, stimulus) ≡ three_of (arguments_found matches) → says names of_image words ≡ image_by netlist image stimulus (value_found matches)
+says_image names words matches netlist image stimulus is three =
+    says_found names words of_image matches is
+    ∙ ap (λ arguments. of_image arguments (value_found matches)) (three_are (arguments_found matches) netlist image stimulus (sym three))
+
+-- one word is the file of a netlist
+one_is : (arguments : List Word) (value : Values) (netlist : Word) → one_of arguments ≡ Some netlist → of_netlist arguments value ≡ run_by netlist [] value
 one_is (one ∷ []) value netlist e = ap (λ (file : Word). run_by file [] value) (same_some one netlist e)
 one_is [] value netlist e = cc
 one_is (one ∷ other ∷ others) value netlist e = cc
 
-pub says_plan : (names words : List Word) (matches : ArgMatches) (netlist : Word) → IsParsedAs names words matches
-    → Some netlist ≡ one_of (arguments_found matches) → says names of_plan words ≡ run_by netlist [] (value_found matches)
-says_plan names words matches netlist is one =
-    says_found names words of_plan matches is ∙ one_is (arguments_found matches) (value_found matches) netlist (sym one)
+pub says_netlist : (names words : List Word) (matches : ArgMatches) (netlist : Word) → IsParsedAs names words matches
+    → Some netlist ≡ one_of (arguments_found matches) → says names of_netlist words ≡ run_by netlist [] (value_found matches)
+says_netlist names words matches netlist is one =
+    says_found names words of_netlist matches is ∙ one_is (arguments_found matches) (value_found matches) netlist (sym one)
 
 -- what is refused asks for no command
 pub made_refused : {T U : Type 0} (make : T → U) (answer : Option T) (refusal : WordNo) → IsRefusal answer refusal → IsRefusal (option_map make answer) refusal

@@ -3,15 +3,16 @@ use Rattle.std.proofs.Common.{◌≡◌, inl, inr, ℕ, Bool, true, false, List,
 use Rattle.std.specs.Prelude.{bytes_eq, flat_map, if◌then◌else◌, option_and_then, Result, Ok, Err, MatchResult}
 use Rattle.std.specs.List.{AllByRecursion, list_all}
 use Rattle.std.proofs.lemmas.Slice.Eq.{bytes_eq-Decides}
+use Rattle.net_defs.specs.declared.homes.HomeChoice.{HomeChoice}
 use Rattle.net_defs.specs.declared.timing.Timing.{Timing}
 use Rattle.cmd_words.specs.declared.command.Command.{Command}
-use Rattle.cmd_words.specs.declared.command.Command.TheVariants.{Run, Refer, Order, Plan, Show, Large}
+use Rattle.cmd_words.specs.declared.command.Command.TheVariants.{Run, Refer, Order, Plan, Compile, Exec, Show, Large}
 use Rattle.cmd_words.specs.declared.command.RunWords.{RunWords}
 use Rattle.cmd_words.specs.declared.command.WordNo.{WordNo}
 use Rattle.cmd_words.specs.Arguments.{Word, Piece, alone, spaced, joined, options_of, IsPiece, AreArguments, value_given}
-use Rattle.cmd_words.specs.Asked.{Values, asked, of_large, of_one_file, of_plan, of_two_files, large_with, run_by, run_with, says, Answers}
+use Rattle.cmd_words.specs.Asked.{Values, asked, of_image, of_large, of_netlist, of_one_file, of_two_files, large_with, run_by, run_with, says, Answers}
 use Rattle.cmd_words.specs.Forms.{HasForm, HasNoForm, IsCall, IsLarge, IsRun}
-use Rattle.cmd_words.specs.Settings.{run_options, refer_options, order_options, plan_options, show_options, large_options, timing_by, banks_by, workers_by, gates_of, cycles_of}
+use Rattle.cmd_words.specs.Settings.{run_options, refer_options, order_options, plan_options, compile_options, exec_options, show_options, large_options, timing_by, banks_by, workers_by, homes_by, gates_of, cycles_of}
 use Rattle.cmd_words.specs.Uses.{Found, parsed}
 use Rattle.cmd_words.proofs.ArgumentLemmas.{arguments_from, parsed_from}
 use Rattle.cmd_words.proofs.LookLemmas.{is_proper}
@@ -27,25 +28,36 @@ call_says names proper reading name words arguments given call =
 
 -- the simulation of values
 run_is : (run : RunWords) (value : Values) → run.machine ≡ value (codes "machine") → run.order ≡ value (codes "order")
-    → run.last ≡ value (codes "last") → timing_by value ≡ Some run.timing → banks_by value ≡ Some run.banks → workers_by value ≡ Some run.workers → run_by run.netlist run.stimulus value ≡ Some run
-run_is run value machine order last timing banks workers =
-    ap₂ (λ timing banks. run_with run.netlist run.stimulus value timing banks (workers_by value)) timing banks
-    ∙ ap (run_with run.netlist run.stimulus value (Some run.timing) (Some run.banks)) workers
+    → run.last ≡ value (codes "last") → timing_by value ≡ Some run.timing → banks_by value ≡ Some run.banks → workers_by value ≡ Some run.workers → homes_by value ≡ Some run.homes → run_by run.netlist run.stimulus value ≡ Some run
+run_is run value machine order last timing banks workers homes =
+    ap₂ (λ timing banks. run_with run.netlist run.stimulus value timing banks (workers_by value) (homes_by value)) timing banks
+    ∙ ap₂ (run_with run.netlist run.stimulus value (Some run.timing) (Some run.banks)) workers homes
     ∙ ap₂ (λ machine order. Some (record run { machine = machine; order = order; last = value (codes "last") })) (sym machine) (sym order)
     ∙ ap (λ last. Some (record run { last = last })) (sym last)
+
+form_run : (name : Word) (names words arguments : List Word) (run : RunWords) → (form : IsRun name names words arguments run)
+    → run_by run.netlist run.stimulus (value_given form.given) ≡ Some run
+form_run name names words arguments run form =
+    run_is run (value_given form.given) form.machine form.order form.last form.timing form.banks form.workers form.homes
 
 run_says : (names : List Word) → list_all is_proper names ≡ true → (name : Word) (words : List Word) (run : RunWords) → (form : IsRun name names words (run.netlist ∷ run.stimulus ∷ []) run)
     → says names of_two_files form.call.others ≡ Some run
 run_says names proper name words run form =
     call_says names proper of_two_files name words (run.netlist ∷ run.stimulus ∷ []) form.given form.call
-    ∙ run_is run (value_given form.given) form.machine form.order form.last form.timing form.banks form.workers
+    ∙ form_run name names words (run.netlist ∷ run.stimulus ∷ []) run form
 
-plan_says : (words : List Word) (run : RunWords) → (form : IsRun (codes "plan") plan_options words (run.netlist ∷ []) run) → run.stimulus ≡ []
-    → says plan_options of_plan form.call.others ≡ Some run
-plan_says words run form none =
-    call_says plan_options refl of_plan (codes "plan") words (run.netlist ∷ []) form.given form.call
+layout_says : (names : List Word) → list_all is_proper names ≡ true → (name : Word) (words : List Word) (run : RunWords) → (form : IsRun name names words (run.netlist ∷ []) run) → run.stimulus ≡ []
+    → says names of_netlist form.call.others ≡ Some run
+layout_says names proper name words run form none =
+    call_says names proper of_netlist name words (run.netlist ∷ []) form.given form.call
     ∙ ap (λ stimulus. run_by run.netlist stimulus (value_given form.given)) (sym none)
-    ∙ run_is run (value_given form.given) form.machine form.order form.last form.timing form.banks form.workers
+    ∙ form_run name names words (run.netlist ∷ []) run form
+
+image_says : (words : List Word) (run : RunWords) (image : Word) → (form : IsRun (codes "exec") exec_options words (run.netlist ∷ image ∷ run.stimulus ∷ []) run)
+    → says exec_options of_image form.call.others ≡ Some (Exec run image)
+image_says words run image form =
+    call_says exec_options refl of_image (codes "exec") words (run.netlist ∷ image ∷ run.stimulus ∷ []) form.given form.call
+    ∙ ap (option_map (λ run. Exec run image)) (form_run (codes "exec") exec_options words (run.netlist ∷ image ∷ run.stimulus ∷ []) run form)
 
 large_says : (words : List Word) (gates cycles workers : ℕ) → (form : IsLarge words gates cycles workers)
     → says large_options of_large form.call.others ≡ Some (Large gates cycles workers)
@@ -59,7 +71,9 @@ unfolding asked
 asked_from words (Run run) form = rw (form.call.words_are) (ap (option_map Run) (run_says run_options refl (codes "run") words run form))
 asked_from words (Refer run) form = rw (form.call.words_are) (ap (option_map Refer) (run_says refer_options refl (codes "refer") words run form))
 asked_from words (Order run) form = rw (form.call.words_are) (ap (option_map Order) (run_says order_options refl (codes "order") words run form))
-asked_from words (Plan run) form = rw (form.0.call.words_are) (ap (option_map Plan) (plan_says words run form.0 form.1))
+asked_from words (Plan run) form = rw (form.0.call.words_are) (ap (option_map Plan) (layout_says plan_options refl (codes "plan") words run form.0 form.1))
+asked_from words (Compile run) form = rw (form.0.call.words_are) (ap (option_map Compile) (layout_says compile_options refl (codes "compile") words run form.0 form.1))
+asked_from words (Exec run image) form = rw (form.call.words_are) (image_says words run image form)
 asked_from words (Show netlist) form = rw (form.words_are) (ap (option_map Show) (call_says show_options refl of_one_file (codes "show") words (netlist ∷ []) [] form))
 asked_from words (Large gates cycles workers) form = rw (form.call.words_are) (large_says words gates cycles workers form)
 
@@ -96,13 +110,14 @@ record IsRunBy (arguments : List Word) (value : Values) (run : RunWords) : Type 
   pub timing : timing_by value ≡ Some run.timing
   pub banks : banks_by value ≡ Some run.banks
   pub workers : workers_by value ≡ Some run.workers
+  pub homes : homes_by value ≡ Some run.homes
 
 run_back : (netlist stimulus : Word) (value : Values) (run : RunWords) → run_by netlist stimulus value ≡ Some run → IsRunBy (netlist ∷ stimulus ∷ []) value run
-run_back netlist stimulus value run e = go (timing_by value) (banks_by value) (workers_by value) refl refl refl e
+run_back netlist stimulus value run e = go (timing_by value) (banks_by value) (workers_by value) (homes_by value) refl refl refl refl e
   where
-    go : (timing : Option Timing) (banks workers : Option ℕ) → timing_by value ≡ timing → banks_by value ≡ banks → workers_by value ≡ workers
-        → run_with netlist stimulus value timing banks workers ≡ Some run → IsRunBy (netlist ∷ stimulus ∷ []) value run
-    go (Some timing) (Some banks) (Some workers) t b w e =
+    go : (timing : Option Timing) (banks workers : Option ℕ) (homes : Option HomeChoice) → timing_by value ≡ timing → banks_by value ≡ banks → workers_by value ≡ workers → homes_by value ≡ homes
+        → run_with netlist stimulus value timing banks workers homes ≡ Some run → IsRunBy (netlist ∷ stimulus ∷ []) value run
+    go (Some timing) (Some banks) (Some workers) (Some homes) t b w h e =
         let is = same_some (record {
           netlist = netlist;
           stimulus = stimulus;
@@ -112,6 +127,7 @@ run_back netlist stimulus value run e = go (timing_by value) (banks_by value) (w
           timing = timing;
           banks = banks;
           workers = workers;
+          homes = homes;
         }) run e in
         record {
           arguments_are = ap (λ (run : RunWords). run.netlist ∷ run.stimulus ∷ []) is;
@@ -121,10 +137,12 @@ run_back netlist stimulus value run e = go (timing_by value) (banks_by value) (w
           timing = t ∙ ap (λ (run : RunWords). Some run.timing) is;
           banks = b ∙ ap (λ (run : RunWords). Some run.banks) is;
           workers = w ∙ ap (λ (run : RunWords). Some run.workers) is;
+          homes = h ∙ ap (λ (run : RunWords). Some run.homes) is;
         }
-    go (Some timing) (Some banks) None t b w e = cc
-    go (Some timing) None workers t b w e = cc
-    go None banks workers t b w e = cc
+    go (Some timing) (Some banks) (Some workers) None t b w h e = cc
+    go (Some timing) (Some banks) None homes t b w h e = cc
+    go (Some timing) None workers homes t b w h e = cc
+    go None banks workers homes t b w h e = cc
 
 two_back : (arguments : List Word) (value : Values) (run : RunWords) → of_two_files arguments value ≡ Some run → IsRunBy arguments value run
 two_back (netlist ∷ stimulus ∷ []) value run e = run_back netlist stimulus value run e
@@ -146,35 +164,36 @@ run_form names name words run e =
       timing = is.timing;
       banks = is.banks;
       workers = is.workers;
+      homes = is.homes;
     }
 
 -- two lists of two words
 both_same : (a b c d : Word) → a ∷ b ∷ [] ≡ c ∷ d ∷ [] → (a ≡ c) × (b ≡ d)
 both_same a b c d same = (cc, cc)
 
--- the one file of a plan, which has no stimulus
-record IsPlanBy (arguments : List Word) (value : Values) (run : RunWords) : Type 0 where
+-- the one file of a layout, which has no stimulus
+record IsLayoutBy (arguments : List Word) (value : Values) (run : RunWords) : Type 0 where
   pub arguments_are : arguments ≡ run.netlist ∷ []
   pub none : run.stimulus ≡ []
   pub is : IsRunBy (run.netlist ∷ run.stimulus ∷ []) value run
 
-plan_back : (arguments : List Word) (value : Values) (run : RunWords) → of_plan arguments value ≡ Some run → IsPlanBy arguments value run
-plan_back (netlist ∷ []) value run e =
+layout_back : (arguments : List Word) (value : Values) (run : RunWords) → of_netlist arguments value ≡ Some run → IsLayoutBy arguments value run
+layout_back (netlist ∷ []) value run e =
     let is = run_back netlist [] value run e in
     let same = both_same netlist [] run.netlist run.stimulus is.arguments_are in
     record {
       arguments_are = ap (λ (word : Word). word ∷ []) same.0;
       none = sym same.1;
-      is = record { arguments_are = refl; machine = is.machine; order = is.order; last = is.last; timing = is.timing; banks = is.banks; workers = is.workers };
+      is = record { arguments_are = refl; machine = is.machine; order = is.order; last = is.last; timing = is.timing; banks = is.banks; workers = is.workers; homes = is.homes };
     }
-plan_back [] value run e = cc
-plan_back (one ∷ other ∷ others) value run e = cc
+layout_back [] value run e = cc
+layout_back (one ∷ other ∷ others) value run e = cc
 
-plan_form : (words : List Word) (run : RunWords) → says plan_options of_plan words ≡ Some run
-    → IsRun (codes "plan") plan_options (codes "plan" ∷ words) (run.netlist ∷ []) run × (run.stimulus ≡ [])
-plan_form words run e =
-    let so = says_back plan_options of_plan words run e in
-    let by = plan_back so.found.arguments (value_given so.found.given) run so.answers in (
+layout_form : (names : List Word) (name : Word) (words : List Word) (run : RunWords) → says names of_netlist words ≡ Some run
+    → IsRun name names (name ∷ words) (run.netlist ∷ []) run × (run.stimulus ≡ [])
+layout_form names name words run e =
+    let so = says_back names of_netlist words run e in
+    let by = layout_back so.found.arguments (value_given so.found.given) run so.answers in (
       record {
         given = so.found.given;
         call = record { others = words; words_are = refl; arguments_are = rw (by.arguments_are) at so.arguments };
@@ -184,9 +203,55 @@ plan_form words run e =
         timing = by.is.timing;
         banks = by.is.banks;
         workers = by.is.workers;
+        homes = by.is.homes;
       },
       by.none,
     )
+
+-- a simulation by an image
+record IsImageMade (arguments : List Word) (value : Values) (command : Command) : Type 0 where
+  pub run : RunWords
+  pub image : Word
+  pub command_is : command ≡ Exec run image
+  pub arguments_are : arguments ≡ run.netlist ∷ image ∷ run.stimulus ∷ []
+  pub is : IsRunBy (run.netlist ∷ run.stimulus ∷ []) value run
+
+image_back : (arguments : List Word) (value : Values) (command : Command) → of_image arguments value ≡ Some command → IsImageMade arguments value command
+image_back (netlist ∷ image ∷ stimulus ∷ []) value command e = go (run_by netlist stimulus value) refl e
+  where
+    go : (run : Option RunWords) → run_by netlist stimulus value ≡ run → option_map (λ run. Exec run image) run ≡ Some command
+        → IsImageMade (netlist ∷ image ∷ stimulus ∷ []) value command
+    go None by e = cc
+    go (Some run) by e =
+        let is = run_back netlist stimulus value run by in
+        let same = both_same netlist stimulus run.netlist run.stimulus is.arguments_are in
+        record {
+          run = run;
+          image = image;
+          command_is = sym (same_some (Exec run image) command e);
+          arguments_are = ap₂ (λ (netlist stimulus : Word). netlist ∷ image ∷ stimulus ∷ []) same.0 same.1;
+          is = record { arguments_are = refl; machine = is.machine; order = is.order; last = is.last; timing = is.timing; banks = is.banks; workers = is.workers; homes = is.homes };
+        }
+image_back [] value command e = cc
+image_back (one ∷ []) value command e = cc
+image_back (one ∷ other ∷ []) value command e = cc
+image_back (one ∷ other ∷ third ∷ fourth ∷ others) value command e = cc
+
+image_form : (words : List Word) (command : Command) → says exec_options of_image words ≡ Some command → HasForm (codes "exec" ∷ words) command
+image_form words command e =
+    let so = says_back exec_options of_image words command e in
+    let made = image_back so.found.arguments (value_given so.found.given) command so.answers in
+    rw (made.command_is) (record {
+      given = so.found.given;
+      call = record { others = words; words_are = refl; arguments_are = rw (made.arguments_are) at so.arguments };
+      machine = made.is.machine;
+      order = made.is.order;
+      last = made.is.last;
+      timing = made.is.timing;
+      banks = made.is.banks;
+      workers = made.is.workers;
+      homes = made.is.homes;
+    })
 
 one_back : (arguments : List Word) (value : Values) (netlist : Word) → of_one_file arguments value ≡ Some netlist → arguments ≡ netlist ∷ []
 one_back (one ∷ []) value netlist e = let same : one ≡ netlist = cc in ap (λ word. word ∷ []) same
@@ -286,9 +351,11 @@ form_from (name ∷ words) command e =
     picked name (codes "run") words _ _ command e (made (codes "run" ∷ words) Run (says run_options of_two_files words) command (run_form run_options (codes "run") words)) (λ e.
     picked name (codes "refer") words _ _ command e (made (codes "refer" ∷ words) Refer (says refer_options of_two_files words) command (run_form refer_options (codes "refer") words)) (λ e.
     picked name (codes "order") words _ _ command e (made (codes "order" ∷ words) Order (says order_options of_two_files words) command (run_form order_options (codes "order") words)) (λ e.
-    picked name (codes "plan") words _ _ command e (made (codes "plan" ∷ words) Plan (says plan_options of_plan words) command (plan_form words)) (λ e.
+    picked name (codes "plan") words _ _ command e (made (codes "plan" ∷ words) Plan (says plan_options of_netlist words) command (layout_form plan_options (codes "plan") words)) (λ e.
+    picked name (codes "compile") words _ _ command e (made (codes "compile" ∷ words) Compile (says compile_options of_netlist words) command (layout_form compile_options (codes "compile") words)) (λ e.
+    picked name (codes "exec") words _ _ command e (image_form words command) (λ e.
     picked name (codes "show") words _ _ command e (made (codes "show" ∷ words) Show (says show_options of_one_file words) command (show_form words)) (λ e.
-    picked name (codes "large") words _ _ command e (large_form words command) (λ e. cc))))))
+    picked name (codes "large") words _ _ command e (large_form words command) (λ e. cc))))))))
 
 -- ---- the contract
 

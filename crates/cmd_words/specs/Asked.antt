@@ -1,21 +1,22 @@
 -- The command that words ask for, as a function.
 use Rattle.std.specs.Prelude.{◌≡◌, ◌⊎◌, ℕ, List, [], ◌∷◌, if◌then◌else◌, Option, Some, None, option_map, option_and_then, Result, MatchResult, codes, bytes_eq}
+use Rattle.net_defs.specs.declared.homes.HomeChoice.{HomeChoice}
 use Rattle.net_defs.specs.declared.timing.Timing.{Timing}
 use Rattle.cmd_words.specs.declared.command.Command.{Command}
-use Rattle.cmd_words.specs.declared.command.Command.TheVariants.{Run, Refer, Order, Plan, Show, Large}
+use Rattle.cmd_words.specs.declared.command.Command.TheVariants.{Run, Refer, Order, Plan, Compile, Exec, Show, Large}
 use Rattle.cmd_words.specs.declared.command.RunWords.{RunWords}
 use Rattle.cmd_words.specs.declared.command.WordNo.{WordNo}
 use Rattle.cmd_words.specs.declared.command.WordNo.TheVariants.{Usage, Memory}
 use Rattle.cmd_words.specs.Arguments.{Word, value_given}
-use Rattle.cmd_words.specs.Settings.{run_options, refer_options, order_options, plan_options, show_options, large_options, timing_by, banks_by, workers_by, gates_of, cycles_of}
+use Rattle.cmd_words.specs.Settings.{run_options, refer_options, order_options, plan_options, compile_options, exec_options, show_options, large_options, timing_by, banks_by, workers_by, homes_by, gates_of, cycles_of}
 use Rattle.cmd_words.specs.Uses.{parsed}
 
 -- the value of each option that is given
 abbrev pub Values : Type 0
 Values = Word → Option Word
 
-abbrev pub run_with : Word → Word → Values → Option Timing → Option ℕ → Option ℕ → Option RunWords
-run_with netlist stimulus value (Some timing) (Some banks) (Some workers) = Some (record {
+abbrev pub run_with : Word → Word → Values → Option Timing → Option ℕ → Option ℕ → Option HomeChoice → Option RunWords
+run_with netlist stimulus value (Some timing) (Some banks) (Some workers) (Some homes) = Some (record {
   netlist = netlist;
   stimulus = stimulus;
   machine = value (codes "machine");
@@ -24,22 +25,32 @@ run_with netlist stimulus value (Some timing) (Some banks) (Some workers) = Some
   timing = timing;
   banks = banks;
   workers = workers;
+  homes = homes;
 })
-run_with netlist stimulus value _ _ _ = None
+run_with netlist stimulus value _ _ _ _ = None
 
 -- a simulation, by its files and the values of its options
 abbrev pub run_by : Word → Word → Values → Option RunWords
-run_by netlist stimulus value = run_with netlist stimulus value (timing_by value) (banks_by value) (workers_by value)
+run_by netlist stimulus value = run_with netlist stimulus value (timing_by value) (banks_by value) (workers_by value) (homes_by value)
 
 -- a simulation, by its positional arguments
 abbrev pub of_two_files : List Word → Values → Option RunWords
 of_two_files (netlist ∷ stimulus ∷ []) value = run_by netlist stimulus value
 of_two_files _ value = None
 
--- a plan, by its positional argument
-abbrev pub of_plan : List Word → Values → Option RunWords
-of_plan (netlist ∷ []) value = run_by netlist [] value
-of_plan _ value = None
+-- a plan or an image to be, by its positional argument
+abbrev pub of_netlist : List Word → Values → Option RunWords
+of_netlist (netlist ∷ []) value = run_by netlist [] value
+of_netlist _ value = None
+
+-- a simulation by an image, by its files and the values of its options
+abbrev pub image_by : Word → Word → Word → Values → Option Command
+image_by netlist image stimulus value = option_map (λ run. Exec run image) (run_by netlist stimulus value)
+
+-- a simulation by an image, by its positional arguments
+abbrev pub of_image : List Word → Values → Option Command
+of_image (netlist ∷ image ∷ stimulus ∷ []) value = image_by netlist image stimulus value
+of_image _ value = None
 
 abbrev pub of_one_file : List Word → Values → Option Word
 of_one_file (netlist ∷ []) value = Some netlist
@@ -67,7 +78,9 @@ asked_by name words =
     if bytes_eq name (codes "run") then option_map Run (says run_options of_two_files words)
     else if bytes_eq name (codes "refer") then option_map Refer (says refer_options of_two_files words)
     else if bytes_eq name (codes "order") then option_map Order (says order_options of_two_files words)
-    else if bytes_eq name (codes "plan") then option_map Plan (says plan_options of_plan words)
+    else if bytes_eq name (codes "plan") then option_map Plan (says plan_options of_netlist words)
+    else if bytes_eq name (codes "compile") then option_map Compile (says compile_options of_netlist words)
+    else if bytes_eq name (codes "exec") then says exec_options of_image words
     else if bytes_eq name (codes "show") then option_map Show (says show_options of_one_file words)
     else if bytes_eq name (codes "large") then says large_options of_large words
     else None

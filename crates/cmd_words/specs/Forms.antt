@@ -2,14 +2,14 @@
 use Rattle.std.specs.Prelude.{◌≡◌, ◌↔◌, ◌⊎◌, ◌≤◌, ⊤, ℕ, List, [], ◌∷◌, Some, codes}
 use Rattle.net_defs.specs.Valid.{IsValidTiming}
 use Rattle.cmd_words.specs.declared.command.Command.{Command}
-use Rattle.cmd_words.specs.declared.command.Command.TheVariants.{Run, Refer, Order, Plan, Show, Large}
+use Rattle.cmd_words.specs.declared.command.Command.TheVariants.{Run, Refer, Order, Plan, Compile, Exec, Show, Large}
 use Rattle.cmd_words.specs.declared.command.RunWords.{RunWords}
 use Rattle.cmd_words.specs.declared.command.WordNo.{WordNo}
 use Rattle.cmd_words.specs.declared.command.WordNo.TheVariants.{Usage, Memory}
 use Rattle.limits.specs.declared.TheConstants.{MAX_LARGE_CYCLES, MAX_LARGE_GATES, MAX_BANKS, MAX_WORKERS}
 use Rattle.cmd_words.specs.Arguments.{Word, AreArguments, value_given}
 use Rattle.cmd_words.specs.Asked.{asked}
-use Rattle.cmd_words.specs.Settings.{run_options, refer_options, order_options, plan_options, show_options, large_options, timing_by, banks_by, workers_by, gates_of, cycles_of}
+use Rattle.cmd_words.specs.Settings.{run_options, refer_options, order_options, plan_options, compile_options, exec_options, show_options, large_options, timing_by, banks_by, workers_by, homes_by, gates_of, cycles_of}
 
 -- the name of a command, and behind it these positional arguments and options
 pub record IsCall (name : Word) (options words arguments : List Word) (given : List (Word × Word)) : Type 0 where
@@ -27,6 +27,7 @@ pub record IsRun (name : Word) (options words arguments : List Word) (run : RunW
   pub timing : timing_by (value_given given) ≡ Some run.timing
   pub banks : banks_by (value_given given) ≡ Some run.banks
   pub workers : workers_by (value_given given) ≡ Some run.workers
+  pub homes : homes_by (value_given given) ≡ Some run.homes
 
 -- the call of a generated design: two words that are numbers, and the workers
 pub record IsLarge (words : List Word) (gates cycles workers : ℕ) : Type 0 where
@@ -44,6 +45,8 @@ HasForm words (Run run) = IsRun (codes "run") run_options words (run.netlist ∷
 HasForm words (Refer run) = IsRun (codes "refer") refer_options words (run.netlist ∷ run.stimulus ∷ []) run
 HasForm words (Order run) = IsRun (codes "order") order_options words (run.netlist ∷ run.stimulus ∷ []) run
 HasForm words (Plan run) = IsRun (codes "plan") plan_options words (run.netlist ∷ []) run × (run.stimulus ≡ [])
+HasForm words (Compile run) = IsRun (codes "compile") compile_options words (run.netlist ∷ []) run × (run.stimulus ≡ [])
+HasForm words (Exec run image) = IsRun (codes "exec") exec_options words (run.netlist ∷ image ∷ run.stimulus ∷ []) run
 HasForm words (Show netlist) = IsCall (codes "show") show_options words (netlist ∷ []) []
 HasForm words (Large gates cycles workers) = IsLarge words gates cycles workers
 
@@ -74,6 +77,8 @@ IsInRange (Run run) = IsRunInRange run
 IsInRange (Refer run) = IsRunInRange run
 IsInRange (Order run) = IsRunInRange run
 IsInRange (Plan run) = IsRunInRange run
+IsInRange (Compile run) = IsRunInRange run
+IsInRange (Exec run image) = IsRunInRange run
 IsInRange (Show netlist) = ⊤
 IsInRange (Large gates cycles workers) = IsLargeInRange gates cycles workers
 

@@ -84,3 +84,8 @@ one_of _ = None
 abbrev pub both_of : List Word → Option (Word × Word)
 both_of (one ∷ other ∷ []) = Some (one, other)
 both_of _ = None
+
+-- three positional arguments, where there are so many
+abbrev pub three_of : List Word → Option (Word × Word × Word)
+three_of (one ∷ other ∷ third ∷ []) = Some (one, other, third)
+three_of _ = None

@@ -2,6 +2,8 @@
 use Rattle.std.specs.Prelude.{◌==◌, ◌&&◌, ℕ, Bool, true, not, is_some, List, [], ◌∷◌, length, nat_le, if◌then◌else◌, Option, Some, None, codes, bytes_eq}
 use Rattle.limits.specs.declared.TheConstants.{MAX_LARGE_CYCLES, MAX_LARGE_GATES, MAX_UNITS, MAX_BANKS, MAX_WORKERS}
 use Rattle.text_lines.specs.Numbers.{number_of, within}
+use Rattle.net_defs.specs.declared.homes.HomeChoice.{HomeChoice}
+use Rattle.net_defs.specs.declared.homes.HomeChoice.TheVariants.{Plain, Better}
 use Rattle.net_defs.specs.declared.timing.Timing.{Timing}
 use Rattle.net_defs.specs.declared.timing.Mode.{Mode}
 use Rattle.net_defs.specs.declared.timing.Mode.TheVariants.{Rank, Unit, Mixed}
@@ -12,7 +14,7 @@ use Rattle.cmd_words.specs.Arguments.{Word}
 -- ---- the options of each command
 
 abbrev pub run_options : List Word
-run_options = codes "machine" ∷ codes "mode" ∷ codes "last" ∷ codes "units" ∷ codes "init" ∷ codes "workers" ∷ codes "banks" ∷ []
+run_options = codes "machine" ∷ codes "mode" ∷ codes "last" ∷ codes "units" ∷ codes "init" ∷ codes "workers" ∷ codes "banks" ∷ codes "homes" ∷ []
 
 abbrev pub refer_options : List Word
 refer_options = codes "mode" ∷ codes "last" ∷ codes "units" ∷ codes "init" ∷ []
@@ -21,7 +23,13 @@ abbrev pub order_options : List Word
 order_options = codes "machine" ∷ codes "mode" ∷ codes "last" ∷ codes "units" ∷ codes "init" ∷ codes "order" ∷ codes "banks" ∷ []
 
 abbrev pub plan_options : List Word
-plan_options = codes "machine" ∷ codes "mode" ∷ codes "last" ∷ []
+plan_options = codes "machine" ∷ codes "mode" ∷ codes "last" ∷ codes "homes" ∷ []
+
+abbrev pub compile_options : List Word
+compile_options = codes "machine" ∷ codes "mode" ∷ codes "last" ∷ codes "units" ∷ codes "init" ∷ codes "homes" ∷ []
+
+abbrev pub exec_options : List Word
+exec_options = codes "mode" ∷ codes "last" ∷ codes "units" ∷ codes "init" ∷ codes "workers" ∷ codes "banks" ∷ []
 
 abbrev pub show_options : List Word
 show_options = []
@@ -65,6 +73,14 @@ init_of (Some value) =
     else if bytes_eq value (codes "0") then Some Zero
     else None
 
+-- the homes, and plain ones where none are named
+abbrev pub homes_of : Option Word → Option HomeChoice
+homes_of None = Some Plain
+homes_of (Some value) =
+    if bytes_eq value (codes "plain") then Some Plain
+    else if bytes_eq value (codes "better") then Some Better
+    else None
+
 -- ---- what the values say together
 
 -- in rank order a cycle is one turn
@@ -99,3 +115,7 @@ banks_by value = count_or MAX_BANKS 1 (value (codes "banks"))
 -- the workers: 1 to 64, and 4 where none are given
 abbrev pub workers_by : (Word → Option Word) → Option ℕ
 workers_by value = count_or MAX_WORKERS 4 (value (codes "workers"))
+
+-- the homes that the nodes get
+abbrev pub homes_by : (Word → Option Word) → Option HomeChoice
+homes_by value = homes_of (value (codes "homes"))

@@ -1,6 +1,6 @@
 //! Commands, and why words are no command.
 
-use net_defs::Timing;
+use net_defs::{HomeChoice, Timing};
 use seen_list::{Memory, Text};
 
 /// What a simulation is asked for: its files, and its options, each with its default where it is not
@@ -9,7 +9,7 @@ use seen_list::{Memory, Text};
 pub struct RunWords {
     /// The file of the netlist.
     pub netlist: Text,
-    /// The file of the stimulus; empty for a plan.
+    /// The file of the stimulus; empty for a plan and for an image.
     pub stimulus: Text,
     /// The file of the machine. `None` stands for the default machine.
     pub machine: Option<Text>,
@@ -24,6 +24,8 @@ pub struct RunWords {
     pub banks: u32,
     /// The workers that step the machine's ports, 1 to 64.
     pub workers: u32,
+    /// The homes that the nodes get.
+    pub homes: HomeChoice,
 }
 
 /// What words ask for.
@@ -37,6 +39,15 @@ pub enum Command {
     Order(RunWords),
     /// How a netlist is laid out on the machine. There is no file of a stimulus.
     Plan(RunWords),
+    /// The text of a netlist's compiled image. There is no file of a stimulus.
+    Compile(RunWords),
+    /// The same trace as `Run`, by an image that was compiled before.
+    Exec {
+        /// The simulation. There is no file of a machine.
+        words: RunWords,
+        /// The file of the image.
+        image: Text,
+    },
     /// The canonical text of a netlist.
     Show {
         /// The file of the netlist.

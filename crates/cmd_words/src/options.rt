@@ -1,8 +1,8 @@
 //! The options of each command. A command that is to have a further option gets its name here.
 
 /// The options of `run`.
-pub static RUN: [&str; 7] = [
-    "machine", "mode", "last", "units", "init", "workers", "banks",
+pub static RUN: [&str; 8] = [
+    "machine", "mode", "last", "units", "init", "workers", "banks", "homes",
 ];
 
 /// The options of `refer`.
@@ -12,7 +12,13 @@ pub static REFER: [&str; 4] = ["mode", "last", "units", "init"];
 pub static ORDER: [&str; 7] = ["machine", "mode", "last", "units", "init", "order", "banks"];
 
 /// The options of `plan`.
-pub static PLAN: [&str; 3] = ["machine", "mode", "last"];
+pub static PLAN: [&str; 4] = ["machine", "mode", "last", "homes"];
+
+/// The options of `compile`.
+pub static COMPILE: [&str; 6] = ["machine", "mode", "last", "units", "init", "homes"];
+
+/// The options of `exec`.
+pub static EXEC: [&str; 6] = ["mode", "last", "units", "init", "workers", "banks"];
 
 /// The options of `show`: none.
 pub static SHOW: [&str; 0] = [];

@@ -5,7 +5,7 @@ ghost use Rattle.std.specs.String.{string_bytes};
 ghost use Rattle.clap.specs.Words.{app_of, kind_of, rule_of};
 ghost use Rattle.cmd_words.specs.Arguments.{has_name};
 ghost use Rattle.cmd_words.specs.Asked.{IsRefusal};
-ghost use Rattle.cmd_words.specs.Parses.{files_id, files_rule, option_rule, app_with, one_of, both_of, texts_in, has_no_short, is_short, arguments_found, value_found, IsParsedAs, refusal_of};
+ghost use Rattle.cmd_words.specs.Parses.{files_id, files_rule, option_rule, app_with, one_of, both_of, three_of, texts_in, has_no_short, is_short, arguments_found, value_found, IsParsedAs, refusal_of};
 ghost use Rattle.cmd_words.specs.Uses.{parsed};
 
 use crate::command::WordNo;
@@ -54,6 +54,16 @@ pub fn two_arguments<'b, 'a>(matches: &'b ArgMatches<'a>) -> Option<(&'a str, &'
 {
     match matches.get_strs(FILES) {
         Some([first, second]) => Some((*first, *second)),
+        _ => None,
+    }
+}
+
+/// The three positional arguments, where there are so many.
+pub fn three_arguments<'b, 'a>(matches: &'b ArgMatches<'a>) -> Option<(&'a str, &'a str, &'a str)>
+    ensures { option_map (λ three. (three.0.now, three.1.now, three.2.now)) result ≡ three_of (arguments_found matches.now) }
+{
+    match matches.get_strs(FILES) {
+        Some([first, second, third]) => Some((*first, *second, *third)),
         _ => None,
     }
 }

@@ -5,15 +5,15 @@ ghost use Rattle.std.specs.String.{string_bytes};
 ghost use Rattle.cmd_words.specs.declared.command.Command.TheVariants as command;
 ghost use Rattle.cmd_words.specs.declared.command.WordNo.TheVariants.{Memory as NoMemory};
 ghost use Rattle.cmd_words.specs.Arguments.{has_name};
-ghost use Rattle.cmd_words.specs.Asked.{Answers, asked, asked_by, says, of_two_files, of_plan, of_one_file, of_large, run_by, large_by};
+ghost use Rattle.cmd_words.specs.Asked.{Answers, asked, asked_by, says, image_by, of_two_files, of_netlist, of_one_file, of_image, of_large, run_by, large_by};
 ghost use Rattle.cmd_words.specs.Forms.{HasForm, HasNoForm, IsInRange};
 ghost use Rattle.cmd_words.specs.Parses.{files_id, texts_in, value_found};
-ghost use Rattle.cmd_words.specs.Settings.{run_options, refer_options, order_options, plan_options, show_options, large_options};
+ghost use Rattle.cmd_words.specs.Settings.{run_options, refer_options, order_options, plan_options, compile_options, exec_options, show_options, large_options};
 
 use crate::command::{Command, RunWords, WordNo};
-use crate::options::{LARGE, ORDER, PLAN, REFER, RUN, SHOW};
-use crate::parsing::{one_argument, parse, two_arguments, value};
-use crate::settings::{banks, cycles_of, gates_of, timing, workers};
+use crate::options::{COMPILE, EXEC, LARGE, ORDER, PLAN, REFER, RUN, SHOW};
+use crate::parsing::{one_argument, parse, three_arguments, two_arguments, value};
+use crate::settings::{banks, cycles_of, gates_of, homes, timing, workers};
 use clap::ArgMatches;
 use seen_list::Text;
 use std::alloc::Global;
@@ -52,6 +52,10 @@ fn read_command(alloc: Global, name: &[u8], words: &[String]) -> Result<Command,
         order(alloc, words)
     } else if name == b"plan".as_slice() {
         plan(alloc, words)
+    } else if name == b"compile".as_slice() {
+        compile(alloc, words)
+    } else if name == b"exec".as_slice() {
+        exec(alloc, words)
     } else if name == b"show".as_slice() {
         show(alloc, words)
     } else if name == b"large".as_slice() {
@@ -91,12 +95,27 @@ fn order(alloc: Global, words: &[String]) -> Result<Command, WordNo>
 }
 
 fn plan(alloc: Global, words: &[String]) -> Result<Command, WordNo>
-    ensures { Answers result (option_map command.Plan (says plan_options of_plan (map string_bytes words.now))) }
+    ensures { Answers result (option_map command.Plan (says plan_options of_netlist (map string_bytes words.now))) }
 {
     match layout(alloc, words, PLAN.as_slice()) {
         Ok(words) => Ok(Command::Plan(words)),
         Err(no) => Err(no),
     }
+}
+
+fn compile(alloc: Global, words: &[String]) -> Result<Command, WordNo>
+    ensures { Answers result (option_map command.Compile (says compile_options of_netlist (map string_bytes words.now))) }
+{
+    match layout(alloc, words, COMPILE.as_slice()) {
+        Ok(words) => Ok(Command::Compile(words)),
+        Err(no) => Err(no),
+    }
+}
+
+fn exec(alloc: Global, words: &[String]) -> Result<Command, WordNo>
+    ensures { Answers result (says exec_options of_image (map string_bytes words.now)) }
+{
+    accepted(alloc, words, EXEC.as_slice())
 }
 
 fn show(alloc: Global, words: &[String]) -> Result<Command, WordNo>
@@ -132,18 +151,34 @@ fn simulation<'a>(
     }
 }
 
-/// One file, the netlist's, and the options of a plan.
+/// One file, the netlist's, and the options of a layout.
 fn layout<'a>(
     alloc: Global,
     words: &'a [String],
     options: &'a [&'a str],
 ) -> Result<RunWords, WordNo>
     requires { has_name (texts_in options.now) files_id ≡ false }
-    ensures { Answers result (says (texts_in options.entry.now) of_plan (map string_bytes words.entry.now)) }
+    ensures { Answers result (says (texts_in options.entry.now) of_netlist (map string_bytes words.entry.now)) }
 {
     let matches = parse(alloc, words, options)?;
     match one_argument(&matches) {
         Some(netlist) => run_words(alloc, netlist, "", &matches),
+        None => Err(WordNo::Usage),
+    }
+}
+
+/// Three files, of which the second is an image, and the options of a simulation.
+fn accepted<'a>(
+    alloc: Global,
+    words: &'a [String],
+    options: &'a [&'a str],
+) -> Result<Command, WordNo>
+    requires { has_name (texts_in options.now) files_id ≡ false }
+    ensures { Answers result (says (texts_in options.entry.now) of_image (map string_bytes words.entry.now)) }
+{
+    let matches = parse(alloc, words, options)?;
+    match three_arguments(&matches) {
+        Some((netlist, image, stimulus)) => image_words(alloc, netlist, image, stimulus, &matches),
         None => Err(WordNo::Usage),
     }
 }
@@ -185,10 +220,11 @@ fn run_words(
 ) -> Result<RunWords, WordNo>
     ensures { Answers result (run_by netlist.now stimulus.now (value_found matches.now)) }
 {
-    let (Some(timing), Some(banks), Some(workers)) = (
+    let (Some(timing), Some(banks), Some(workers), Some(homes)) = (
         timing(alloc, matches),
         banks(matches),
         workers(matches),
+        homes(matches),
     ) else {
         return Err(WordNo::Usage);
     };
@@ -201,6 +237,24 @@ fn run_words(
         timing,
         banks,
         workers,
+        homes,
+    })
+}
+
+/// What three files and the values of options ask for.
+fn image_words(
+    alloc: Global,
+    netlist: &str,
+    image: &str,
+    stimulus: &str,
+    matches: &ArgMatches<'_>,
+) -> Result<Command, WordNo>
+    ensures { Answers result (image_by netlist.now image.now stimulus.now (value_found matches.now)) }
+{
+    let words = run_words(alloc, netlist, stimulus, matches)?;
+    Ok(Command::Exec {
+        words,
+        image: Text::from_bytes(alloc, image.as_bytes())?,
     })
 }
 

@@ -2,12 +2,12 @@
 
 ghost use Rattle.std.specs.Prelude.{◌≡◌, option_map};
 ghost use Rattle.cmd_words.specs.Parses.{value_found};
-ghost use Rattle.cmd_words.specs.Settings.{count_of, count_or, mode_of, init_of, allows_units, allows_list, timing_with, timing_by, banks_by, workers_by, gates_of, cycles_of};
+ghost use Rattle.cmd_words.specs.Settings.{count_of, count_or, mode_of, init_of, allows_units, allows_list, timing_with, timing_by, banks_by, workers_by, homes_of, homes_by, gates_of, cycles_of};
 
 use crate::parsing::value;
 use clap::ArgMatches;
 use limits::{MAX_BANKS, MAX_LARGE_CYCLES, MAX_LARGE_GATES, MAX_UNITS, MAX_WORKERS};
-use net_defs::{Init, Mode, Timing};
+use net_defs::{HomeChoice, Init, Mode, Timing};
 use std::alloc::Global;
 use text_lines::numbers::number_within;
 
@@ -36,6 +36,13 @@ pub fn workers(matches: &ArgMatches<'_>) -> Option<u32>
     ensures { result ≡ workers_by (value_found matches.now) }
 {
     count_or(value(matches, "workers"), MAX_WORKERS, 4)
+}
+
+/// The homes that the nodes are to get.
+pub fn homes(matches: &ArgMatches<'_>) -> Option<HomeChoice>
+    ensures { result ≡ homes_by (value_found matches.now) }
+{
+    homes_of(value(matches, "homes"))
 }
 
 /// The gates of a generated design.
@@ -118,6 +125,21 @@ fn init_of(value: Option<&str>) -> Option<Init>
         Some(Init::Undef)
     } else if value == "0" {
         Some(Init::Zero)
+    } else {
+        None
+    }
+}
+
+fn homes_of(value: Option<&str>) -> Option<HomeChoice>
+    ensures { result ≡ homes_of (option_map (λ text. text.now) value.entry) }
+{
+    let Some(value) = value else {
+        return Some(HomeChoice::Plain);
+    };
+    if value == "plain" {
+        Some(HomeChoice::Plain)
+    } else if value == "better" {
+        Some(HomeChoice::Better)
     } else {
         None
     }

@@ -2,10 +2,10 @@
 use Rattle.std.proofs.Common.{map}
 use Rattle.std.specs.String.{string_bytes}
 use Rattle.cmd_words.specs.Parses.{texts_in}
-use Rattle.cmd_words.proofs.AskLemmas.{says_plan}
+use Rattle.cmd_words.proofs.AskLemmas.{says_netlist}
 use Rattle.cmd_words.proofs.reading.layout.Goals as goal
 
 pub returns-in-Some : goal.returns-in-Some
 returns-in-Some c =
-    rw (says_plan (texts_in c.args.options.now) (map string_bytes c.args.words.now) c.in_ok-matches.matches c.in-Some.netlist.now c.in_ok-matches.ensures c.in-Some.ensures)
+    rw (says_netlist (texts_in c.args.options.now) (map string_bytes c.args.words.now) c.in_ok-matches.matches c.in-Some.netlist.now c.in_ok-matches.ensures c.in-Some.ensures)
     c.run_words.ensures

@@ -1,0 +1,11 @@
+-- What the three files ask for is what the words ask for.
+use Rattle.std.proofs.Common.{map}
+use Rattle.std.specs.String.{string_bytes}
+use Rattle.cmd_words.specs.Parses.{texts_in}
+use Rattle.cmd_words.proofs.AskLemmas.{says_image}
+use Rattle.cmd_words.proofs.reading.accepted.Goals as goal
+
+pub returns-in-Some : goal.returns-in-Some
+returns-in-Some c =
+    rw (says_image (texts_in c.args.options.now) (map string_bytes c.args.words.now) c.in_ok-matches.matches c.in-Some.netlist.now c.in-Some.image.now c.in-Some.stimulus.now c.in_ok-matches.ensures c.in-Some.ensures)
+    c.image_words.ensures
