@@ -11,6 +11,7 @@ use Rattle.logic_four.specs.Folds.{base_kind}
 use Rattle.logic_four.specs.Kinds.{AllowsOperands}
 use Rattle.logic_four.specs.Values.{code_of, value_of}
 use Rattle.logic_four.proofs.KindLemmas.{some_operands}
+use Rattle.logic_four.specs.declared.V4.{V4}
 use Rattle.func_table.specs.declared.table.Table.{Table}
 use Rattle.func_table.specs.Entries.{AreAlike, IsTableOf, entry_of, entry_for, place_of}
 use Rattle.net_defs.specs.declared.netlist.Driver.{Driver}
@@ -92,17 +93,21 @@ code_of_value (suc (suc zero)) low = refl
 code_of_value (suc (suc (suc zero))) low = refl
 code_of_value (suc (suc (suc (suc code)))) low = absurd (omega (arith, low))
 
--- tables of one kind and one number of operands are alike
-alike : (kind : Kind) (n : ℕ) (s t : Table) → IsTableOf kind n s → IsTableOf kind n t → AreAlike s t
+-- tables that answer alike have the same entries
+pub same_entries : (s t : Table) → ((a b c d : V4) → entry_for s a b c d ≡ entry_for t a b c d) → AreAlike s t
 unfolding entry_for
-alike kind n s t one other e low =
+same_entries s t same e low =
     let a = value_of (e % 4) in
     let b = value_of (e / 4 % 4) in
     let c = value_of (e / 16 % 4) in
     let d = value_of (e / 64 % 4) in
     let place : place_of a b c d ≡ e =
     rw (code_of_value (e % 4) (omega arith)) (rw (code_of_value (e / 4 % 4) (omega arith)) (rw (code_of_value (e / 16 % 4) (omega arith)) (rw (code_of_value (e / 64 % 4) (omega arith)) (omega (arith, low))))) in
-    ap (entry_of s) (sym place) ∙ (one a b c d ∙ (sym (other a b c d) ∙ ap (entry_of t) place))
+    ap (entry_of s) (sym place) ∙ (same a b c d ∙ ap (entry_of t) place)
+
+-- tables of one kind and one number of operands are alike
+alike : (kind : Kind) (n : ℕ) (s t : Table) → IsTableOf kind n s → IsTableOf kind n t → AreAlike s t
+alike kind n s t one other = same_entries s t (λ a b c d. one a b c d ∙ sym (other a b c d))
 
 -- ---- the table of a node
 

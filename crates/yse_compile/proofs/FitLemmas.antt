@@ -1,5 +1,5 @@
 -- A design fits, or there is a refusal; and refusals exclude each other.
-use Rattle.std.proofs.Common.{◌≡◌, ◌∙◌, ◌⊎◌, inl, inr, ℕ, ◌<◌, ◌≤◌, ap, subst, arith, sym, refl}
+use Rattle.std.proofs.Common.{◌≡◌, ◌∙◌, ◌⊎◌, inl, inr, ℕ, ◌<◌, ◌≤◌, length, ap, subst, arith, sym, refl}
 use Rattle.std.proofs.lemmas.Bool.{cases_lt, cases_order}
 use Rattle.machine_text.specs.declared.machine.Machine.{Machine}
 use Rattle.net_defs.specs.declared.netlist.Netlist.{Netlist}
@@ -11,14 +11,71 @@ use Rattle.plan_defs.specs.declared.plan.Homes.{Homes}
 use Rattle.plan_defs.specs.declared.plan.Plan.{Plan}
 use Rattle.plan_defs.specs.Picks.{ArePicked, FindsNoPort, HasTooManyNodes}
 use Rattle.plan_defs.specs.Slots.{IsFirstFitPlan}
-use Rattle.plan_defs.specs.Tables.{UsesTables, FitsTables, slot_limit, table_limit}
-use Rattle.slot_plan.specs.Refusals.{IsCrowded}
+use Rattle.plan_defs.specs.Tables.{UsesTable, UsesTables, FitsTables, slot_limit, table_limit}
+use Rattle.slot_plan.specs.Refusals.{IsCrowded, IsLong}
+use Rattle.switch_set.proofs.SameLemmas.{one_lists}
+use Rattle.yse_compile.specs.Chosen.{HomesFit}
 use Rattle.yse_compile.specs.declared.compiler.CompNo.{CompNo}
 use Rattle.yse_compile.specs.declared.compiler.CompNo.TheVariants.{Bits, Nodes, Slots, Functions}
 use Rattle.yse_compile.specs.Designs.{IsAcyclic, DesignFits}
 use Rattle.yse_compile.specs.Compiled.{IsRight, IsOverfull}
 use Rattle.yse_compile.proofs.KnownLemmas.{first_or_all}
+use Rattle.yse_compile.proofs.SamePlans.{plan_kept}
 use Rattle.yse_compile.proofs.SameTables.{tables_few}
+
+-- ---- items at their homes have a plan that fits, or are refused
+
+-- their first-fit plan has too many slots, or a port is the first whose tables are too many
+abbrev pub LacksPlan : NodeNet → Homes → Machine → Type 0
+LacksPlan nodes homes machine = ((needed limit : ℕ) × IsLong nodes homes machine needed limit) ⊎ ((port needed limit : ℕ) × IsCrowded nodes homes machine port needed limit)
+
+module _ (nodes : NodeNet) (homes : Homes) (machine : Machine) (counted : (port : ℕ) → (count : ℕ) × UsesTables nodes homes port count) (plan : Plan) (first_fit : IsFirstFitPlan nodes homes plan) where
+  port_fits : (port : ℕ) → FitsTables nodes homes machine port ⊎ ((count : ℕ) × UsesTables nodes homes port count × (table_limit machine port < count))
+  port_fits port = elim (cases_lt (table_limit machine port) (counted port).0) [
+    | inl past ↦ inr ((counted port).0, (counted port).1, past)
+    | inr few ↦ inl (record { count = (counted port).0; uses = (counted port).1; few = few })
+  ]
+
+  tables_fit : plan.needed ≤ slot_limit machine → HomesFit nodes machine homes ⊎ LacksPlan nodes homes machine
+  tables_fit short = elim (first_or_all (FitsTables nodes homes machine) (λ port. (count : ℕ) × UsesTables nodes homes port count × (table_limit machine port < count)) port_fits homes.logic) [
+    | inl found ↦ inr (inr (
+      found.0,
+      found.2.0,
+      table_limit machine found.0,
+      record { plan = plan; is = first_fit; short = short; logic = found.1; uses = found.2.1; most = refl; past = found.2.2; before = found.3 },
+    ))
+    | inr all ↦ inl (record { plan = plan; first_fit = first_fit; fits = record { slots = short; tables = all } })
+  ]
+
+  pub homes_fit : HomesFit nodes machine homes ⊎ LacksPlan nodes homes machine
+  homes_fit = elim (cases_lt (slot_limit machine) plan.needed) [
+    | inr short ↦ tables_fit short
+    | inl past ↦ inr (inl (plan.needed, slot_limit machine, record { plan = plan; is = first_fit; needs = refl; most = refl; past = past }))
+  ]
+
+-- not both: a port's tables have one number
+pub never_crowded : (nodes : NodeNet) (machine : Machine) (homes : Homes) → HomesFit nodes machine homes → (port needed limit : ℕ) → IsCrowded nodes homes machine port needed limit → ⊥
+never_crowded nodes machine homes fit port needed limit crowded =
+    let here = fit.fits.tables port crowded.logic in
+    let same : here.uses.numbers ≡ crowded.uses.numbers = one_lists (UsesTable nodes homes port) here.uses.numbers crowded.uses.numbers here.uses.lists crowded.uses.lists in
+    let long : length here.uses.numbers ≡ length crowded.uses.numbers = ap length same in
+    omega (arith, long, here.uses.are, crowded.uses.are, here.few, crowded.most, crowded.past)
+
+-- the same items fit at the same homes, whichever numbers their tables have
+pub fit_kept : (one other : NodeNet) (homes : Homes) (machine : Machine) → AreSameItems one other → AreSameItems other one
+    → ((port : ℕ) → (count : ℕ) × UsesTables other homes port count) → HomesFit one machine homes → HomesFit other machine homes
+fit_kept one other homes machine there back counted fit = record {
+  plan = fit.plan;
+  first_fit = plan_kept one other homes fit.plan there back fit.first_fit;
+  fits = record {
+    slots = fit.fits.slots;
+    tables = λ port low.
+        let had = fit.fits.tables port low in
+        let count = counted port in
+        let fewer = tables_few other one homes port count.0 had.count back count.1 had.uses in
+        record { count = count.0; uses = count.1; few = omega (arith, fewer, had.few) };
+  };
+}
 
 -- ---- a design fits or is refused
 
@@ -27,46 +84,10 @@ abbrev pub FitsOrNot : Netlist → Machine → Timing → Type 0
 FitsOrNot net machine timing = DesignFits net machine timing ⊎ ((refusal : CompNo) × IsRight net machine timing refusal × IsOverfull refusal)
 
 module _ (net : Netlist) (machine : Machine) (timing : Timing) (nodes : NodeNet) (acyclic : IsAcyclic net timing) (items : AreItems net timing nodes) where
-  module _ (homes : Homes) (picked : ArePicked nodes machine homes) (counted : (port : ℕ) → (count : ℕ) × UsesTables nodes homes port count) (plan : Plan) (first_fit : IsFirstFitPlan nodes homes plan) where
-    port_fits : (port : ℕ) → FitsTables nodes homes machine port ⊎ ((count : ℕ) × UsesTables nodes homes port count × (table_limit machine port < count))
-    port_fits port = elim (cases_lt (table_limit machine port) (counted port).0) [
-      | inl past ↦ inr ((counted port).0, (counted port).1, past)
-      | inr few ↦ inl (record { count = (counted port).0; uses = (counted port).1; few = few })
-    ]
-
-    tables_fit : plan.needed ≤ slot_limit machine → FitsOrNot net machine timing
-    tables_fit short = elim (first_or_all (FitsTables nodes homes machine) (λ port. (count : ℕ) × UsesTables nodes homes port count × (table_limit machine port < count)) port_fits homes.logic) [
-      | inl found ↦ inr (
-        Functions found.0 found.2.0 (table_limit machine found.0),
-        record {
-          acyclic = acyclic;
-          nodes = nodes;
-          items = items;
-          homes = homes;
-          picked = picked;
-          crowded = record { plan = plan; is = first_fit; short = short; logic = found.1; uses = found.2.1; most = refl; past = found.2.2; before = found.3 };
-        },
-        tt,
-      )
-      | inr all ↦ inl (record { acyclic = acyclic; nodes = nodes; items = items; homes = homes; picked = picked; plan = plan; first_fit = first_fit; fits = record { slots = short; tables = all } })
-    ]
-
-    pub plan_fits : FitsOrNot net machine timing
-    plan_fits = elim (cases_lt (slot_limit machine) plan.needed) [
-      | inr short ↦ tables_fit short
-      | inl past ↦ inr (
-        Slots plan.needed (slot_limit machine),
-        record {
-          acyclic = acyclic;
-          nodes = nodes;
-          items = items;
-          homes = homes;
-          picked = picked;
-          long = record { plan = plan; is = first_fit; needs = refl; most = refl; past = past };
-        },
-        tt,
-      )
-    ]
+  pub plan_fits : (homes : Homes) → ArePicked nodes machine homes → HomesFit nodes machine homes ⊎ LacksPlan nodes homes machine → FitsOrNot net machine timing
+  plan_fits homes picked (inl fit) = inl (record { acyclic = acyclic; nodes = nodes; items = items; homes = homes; picked = picked; plan = fit.plan; first_fit = fit.first_fit; fits = fit.fits })
+  plan_fits homes picked (inr (inl (needed, limit, long))) = inr (Slots needed limit, record { acyclic = acyclic; nodes = nodes; items = items; homes = homes; picked = picked; long = long }, tt)
+  plan_fits homes picked (inr (inr (port, needed, limit, crowded))) = inr (Functions port needed limit, record { acyclic = acyclic; nodes = nodes; items = items; homes = homes; picked = picked; crowded = crowded }, tt)
 
   pub none_fits : (block needed left : ℕ) → FindsNoPort nodes machine block needed left → FitsOrNot net machine timing
   none_fits block needed left none = inr (Bits block needed left, record { acyclic = acyclic; nodes = nodes; items = items; none = none }, tt)

@@ -24,12 +24,18 @@ use Rattle.yse_compile.specs.Compiled.{ShowsReference}
 no_state : State
 no_state = record { row = []; words = [] }
 
-pub shows_reference : (net : Netlist) (timing : Timing) (nodes : NodeNet) (homes : Homes) (plan : Plan) (image : Image) (stimulus : Stimulus) → AreItems net timing nodes → HaveOneRun nodes timing stimulus
+-- the cells of a cycle, counted from 1, are the printed items' values at its last turn
+abbrev pub ShowsPrinted : Timing → NodeNet → Image → Stimulus → List State → Type 0
+ShowsPrinted timing nodes image stimulus values =
+    (c j x : ℕ) (items : State) → slice_get values (c * timing.units) ≡ Some items → slice_get nodes.printed j ≡ Some x → shown image stimulus c j ≡ value_at items.row x
+
+-- an image whose cells are the printed items' values shows the reference
+pub cells_show : (net : Netlist) (timing : Timing) (nodes : NodeNet) (image : Image) (stimulus : Stimulus) → AreItems net timing nodes → HaveOneRun nodes timing stimulus
     → ((values : List State) → AreItemValues nodes timing stimulus values → AreReferenceValues net timing stimulus nodes values)
-    → ((values : List State) → AreItemValues nodes timing stimulus values → GivesItems nodes homes plan timing stimulus values image)
+    → ((values : List State) → AreItemValues nodes timing stimulus values → ShowsPrinted timing nodes image stimulus values)
     → ShowsReference net timing stimulus image
 unfolding no_state
-shows_reference net timing nodes homes plan image stimulus are run refers gives = record {
+cells_show net timing nodes image stimulus are run refers gives = record {
   states = reference.states;
   simulation = reference.simulation;
   cells = cells;
@@ -48,6 +54,13 @@ shows_reference net timing nodes homes plan image stimulus are run refers gives 
       let there : slice_get net.printed j ≡ Some (get_or net.printed j 0) = slice_get-get_or net.printed j 0 within in
       let number : slice_get nodes.printed j ≡ Some (get_or nodes.printed j 0) = slice_get-get_or nodes.printed j 0 (omega (arith, within, are.printed.each)) in
       let named : IsNamed nodes.names (get_or nodes.printed j 0) (own (get_or net.printed j 0)) = are.printed.named j (get_or net.printed j 0) there in
-      (gives run.states run.exist).cells c j (get_or nodes.printed j 0) (get_or run.states (c * timing.units) no_state) items number
+      gives run.states run.exist c j (get_or nodes.printed j 0) (get_or run.states (c * timing.units) no_state) items number
       ∙ reference.same (c * timing.units) (get_or run.states (c * timing.units) no_state) (get_or reference.states (c * timing.units) no_state) (get_or nodes.printed j 0) (get_or net.printed j 0) items signals named
       ∙ sym (get_or-map (value_at (get_or reference.states (c * timing.units) no_state).row) net.printed j 0 Undef within)
+
+pub shows_reference : (net : Netlist) (timing : Timing) (nodes : NodeNet) (homes : Homes) (plan : Plan) (image : Image) (stimulus : Stimulus) → AreItems net timing nodes → HaveOneRun nodes timing stimulus
+    → ((values : List State) → AreItemValues nodes timing stimulus values → AreReferenceValues net timing stimulus nodes values)
+    → ((values : List State) → AreItemValues nodes timing stimulus values → GivesItems nodes homes plan timing stimulus values image)
+    → ShowsReference net timing stimulus image
+shows_reference net timing nodes homes plan image stimulus are run refers gives =
+    cells_show net timing nodes image stimulus are run refers (λ values valued. (gives values valued).cells)

@@ -1,2 +1,5 @@
+pub mod Claims
+pub mod Chosen
 pub mod Compiled
 pub mod Designs
+pub mod Housing

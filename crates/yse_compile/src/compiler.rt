@@ -8,8 +8,8 @@ ghost use Rattle.yse_compile.specs.Designs.{DesignFits};
 ghost use Rattle.yse_compile.specs.Compiled.{IsCompiled, ShowsReference, IsRight};
 ghost use Rattle.yse_compile.specs.declared.compiler.CompNo.TheVariants as no;
 
-use crate::law::{fits_bits, fits_functions, fits_nodes, fits_slots};
-use crate::steps::{compile_items, items_of};
+use crate::law::either_fits;
+use crate::steps::{at_home, compile_at};
 use image_defs::Image;
 use machine_text::Machine;
 use net_defs::{Netlist, Timing};
@@ -65,7 +65,7 @@ impl From<Memory> for CompNo {
     }
 }
 
-/// Compiles a netlist for a machine, in a timing. The image shows, for every stimulus, the cells of
+/// Compiles a netlist for a machine, in a timing, at plain homes. The image shows, for every stimulus, the cells of
 /// the netlist's reference simulation. A design that fits is refused for want of memory alone, and
 /// one that is compiled fits.
 pub fn compile(
@@ -82,12 +82,9 @@ pub fn compile(
     ensures refused { IfErr result (IsRight net.now machine.now timing.now) }
     ensures fits { DesignFits net.now machine.now timing.now → IfErr result (λ refusal. refusal ≡ no.Memory) }
 {
-    fits_bits();
-    fits_nodes();
-    fits_slots();
-    fits_functions();
-    match items_of(alloc, net, machine, timing) {
-        Ok(nodes) => compile_items(alloc, net, machine, timing, nodes),
+    either_fits();
+    match at_home(alloc, net, machine, timing) {
+        Ok(housed) => compile_at(alloc, net, machine, timing, housed),
         Err(refusal) => Err(refusal),
     }
 }

@@ -4,6 +4,9 @@ ghost use Rattle.std.specs.Prelude.{◌≡◌, ◌⊎◌, ℕ};
 ghost use Rattle.event_defs.specs.Linked.{AreLinkedAlike};
 ghost use Rattle.machine_text.specs.declared.machine.Machine.{Machine};
 ghost use Rattle.machine_text.specs.Machines.{IsValid as IsValidMachine};
+ghost use Rattle.home_better.specs.Better.{IsBetter};
+ghost use Rattle.home_better.specs.Crossings.{crossings};
+ghost use Rattle.net_defs.specs.declared.homes.HomeChoice.{HomeChoice};
 ghost use Rattle.net_defs.specs.declared.netlist.Netlist.{Netlist};
 ghost use Rattle.net_defs.specs.declared.timing.Timing.{Timing};
 ghost use Rattle.net_defs.specs.Valid.{IsValid};
@@ -18,12 +21,16 @@ ghost use Rattle.plan_defs.specs.Picks.{ArePicked, FindsNoPort, HasTooManyNodes}
 ghost use Rattle.plan_defs.specs.Slots.{IsFirstFitPlan};
 ghost use Rattle.plan_defs.specs.Switches.{IsSwitch};
 ghost use Rattle.plan_defs.specs.Tables.{UsesTables};
+ghost use Rattle.slot_plan.specs.Refusals.{IsCrowded, IsLong};
+ghost use Rattle.yse_compile.specs.Chosen.{FitsBy, FitsEither, HomesFit, IsChosen, IsDesign};
+ghost use Rattle.yse_compile.specs.declared.choose.Chosen.{Chosen};
 ghost use Rattle.yse_compile.specs.declared.compiler.CompNo.{CompNo};
 ghost use Rattle.yse_compile.specs.declared.compiler.Compiled.{Compiled};
 ghost use Rattle.yse_compile.specs.Compiled.{IsCompiled, IsRight, IsOverfull};
 ghost use Rattle.yse_compile.specs.Designs.{IsAcyclic, DesignFits};
 ghost use Rattle.yse_compile.specs.Designs.{LacksBits, LacksNodes, LacksSlots, LacksFunctions};
 
+use home_better::law::{one_better, some_better};
 use home_pick::law::{housed_or_refused, one_housing};
 use node_defs::law::one_list;
 use plan_defs::law::{items_are_well_formed, one_plan};
@@ -82,6 +89,23 @@ pub fn tables_counted()
         → (port : ℕ) → (count : ℕ) × UsesTables nodes homes port count }
 {}
 
+/// A law: items at their homes have a first-fit plan that fits a machine, or one of the two refusals is
+/// right, and not both. It does nothing.
+pub fn planned_or_refused()
+    ensures some { (nodes : NodeNet) (machine : Machine) (homes : Homes) → IsWellFormed nodes → AreHomes nodes homes
+        → HomesFit nodes machine homes
+        ⊎ (((needed limit : ℕ) × IsLong nodes homes machine needed limit)
+        ⊎ ((port needed limit : ℕ) × IsCrowded nodes homes machine port needed limit)) }
+    ensures slots { (nodes : NodeNet) (machine : Machine) (homes : Homes) → IsWellFormed nodes → HomesFit nodes machine homes
+        → (needed limit : ℕ) → IsLong nodes homes machine needed limit → ⊥ }
+    ensures functions { (nodes : NodeNet) (machine : Machine) (homes : Homes) → HomesFit nodes machine homes
+        → (port needed limit : ℕ) → IsCrowded nodes homes machine port needed limit → ⊥ }
+{
+    one_plan();
+    plan_exists();
+    tables_counted();
+}
+
 /// A law: without a loop, a design fits a machine, or a refusal is right which says that the
 /// machine is too small. It does nothing.
 pub fn fits_or_refused()
@@ -92,8 +116,7 @@ pub fn fits_or_refused()
 {
     items_are_well_formed();
     homes_or_refusal();
-    plan_exists();
-    tables_counted();
+    planned_or_refused();
 }
 
 /// A law: where a memory finds no port, the items have no homes. It does nothing.
@@ -234,6 +257,85 @@ pub fn one_refusal()
     one_crowd();
 }
 
+/// A law: the compiled design of a netlist is a design. It does nothing.
+pub fn compiled_is_design()
+    ensures { (net : Netlist) (machine : Machine) (timing : Timing) (compiled : Compiled) → IsValid net
+        → IsValidMachine machine → IsCompiled net machine timing compiled → IsDesign net machine timing compiled }
+{
+    items_are_well_formed();
+}
+
+/// A law: from the same homes the items of a netlist have the same better homes on a machine, as many
+/// crossings at any homes, and they fit there or don't, whichever numbers their tables have. It does
+/// nothing.
+pub fn one_better_homes()
+    ensures better { (net : Netlist) (machine : Machine) (timing : Timing) (nodes others : NodeNet)
+        → AreItems net timing nodes → AreItems net timing others → (start one other : Homes)
+        → IsBetter nodes machine start one → IsBetter others machine start other → one ≡ other }
+    ensures crossings { (net : Netlist) (timing : Timing) (nodes others : NodeNet)
+        → AreItems net timing nodes → AreItems net timing others
+        → (homes : Homes) → crossings nodes homes ≡ crossings others homes }
+    ensures fit { (net : Netlist) (machine : Machine) (timing : Timing) (nodes others : NodeNet) → IsValid net
+        → AreItems net timing nodes → AreItems net timing others
+        → (homes : Homes) → HomesFit nodes machine homes → HomesFit others machine homes }
+{
+    one_list();
+    one_better();
+    items_are_well_formed();
+    tables_counted();
+}
+
+/// A law: where a design fits at plain homes or at better ones, its items have homes, and they fit at the
+/// plain homes that are picked for them or at better ones from there. It does nothing.
+pub fn either_fits()
+    ensures plain { (net : Netlist) (machine : Machine) (timing : Timing) → DesignFits net machine timing
+        → FitsEither net machine timing }
+    ensures bits { (net : Netlist) (machine : Machine) (timing : Timing) → FitsEither net machine timing
+        → (block needed left : ℕ) → LacksBits net machine timing block needed left → ⊥ }
+    ensures nodes { (net : Netlist) (machine : Machine) (timing : Timing) → FitsEither net machine timing
+        → (needed limit : ℕ) → LacksNodes net machine timing needed limit → ⊥ }
+    ensures fit { (net : Netlist) (machine : Machine) (timing : Timing) (nodes : NodeNet) (plain best : Homes)
+        → IsValid net → AreItems net timing nodes → ArePicked nodes machine plain
+        → IsBetter nodes machine plain best → FitsEither net machine timing
+        → HomesFit nodes machine plain ⊎ HomesFit nodes machine best }
+{
+    bits_first();
+    nodes_first();
+    one_homes();
+    one_better_homes();
+}
+
+/// A law: without a loop, a design fits a machine by a choice of homes, or it does not and a refusal is
+/// right which says that the machine is too small. It does nothing.
+pub fn fits_by_or_refused()
+    ensures { (choice : HomeChoice) (net : Netlist) (machine : Machine) (timing : Timing) (nodes : NodeNet)
+        → IsValid net → IsValidMachine machine → IsAcyclic net timing → AreItems net timing nodes
+        → FitsBy choice net machine timing
+        ⊎ ((refusal : CompNo) × IsRight net machine timing refusal × IsOverfull refusal × (FitsBy choice net machine timing → ⊥)) }
+{
+    items_are_well_formed();
+    fits_or_refused();
+    planned_or_refused();
+    fits_bits();
+    fits_nodes();
+    fits_slots();
+    fits_functions();
+    either_fits();
+    some_better();
+}
+
+/// A law: by a choice of homes a netlist has one design's homes on a machine, with one number of crossings
+/// before and after. It does nothing.
+pub fn one_choice()
+    ensures { (choice : HomeChoice) (net : Netlist) (machine : Machine) (timing : Timing) (one other : Chosen)
+        → IsValid net → IsChosen net machine timing choice one → IsChosen net machine timing choice other
+        → (one.compiled.homes ≡ other.compiled.homes) × (one.before ≡ other.before)
+        × (one.after ≡ other.after) × (one.better ≡ other.better) }
+{
+    one_homes();
+    one_better_homes();
+}
+
 /// A law: the ports of the compiled images of a netlist on a machine send and receive alike, whichever
 /// numbers their tables have. It does nothing.
 pub fn one_linking()
@@ -243,6 +345,19 @@ pub fn one_linking()
 {
     one_list();
     one_homes();
+    items_are_well_formed();
+    one_plan();
+}
+
+/// A law: the ports of the images that a netlist is compiled to by one choice of homes send and receive
+/// alike. It does nothing.
+pub fn one_linking_chosen()
+    ensures { (choice : HomeChoice) (net : Netlist) (machine : Machine) (timing : Timing) (one other : Chosen)
+        → IsValid net → IsChosen net machine timing choice one → IsChosen net machine timing choice other
+        → AreLinkedAlike one.compiled.image other.compiled.image }
+{
+    one_list();
+    one_choice();
     items_are_well_formed();
     one_plan();
 }

@@ -3,9 +3,15 @@
 //! `specs/`.
 #![tactic(auto)]
 
+mod choose;
+pub mod claimed;
 mod compiler;
 pub mod inputs;
 pub mod law;
+pub mod matching;
 mod steps;
+mod words;
 
+pub use choose::{Chosen, compile_with};
+pub use claimed::claims;
 pub use compiler::{CompNo, Compiled, compile};

@@ -1,6 +1,6 @@
 //! The steps of the compiler: items, homes, the plan, and the switch and image.
 
-ghost use Rattle.std.specs.Prelude.{◌≡◌, ◌≤◌, IfOk, IfErr, OnOk};
+ghost use Rattle.std.specs.Prelude.{◌≡◌, ◌≤◌, IfOk, IfErr, IfSome, IsNone, OnOk};
 ghost use Rattle.limits.specs.declared.TheConstants.{MAX_SLOTS};
 ghost use Rattle.machine_text.specs.Machines.{IsValid as IsValidMachine};
 ghost use Rattle.net_defs.specs.declared.stimulus.Stimulus.{Stimulus};
@@ -11,10 +11,16 @@ ghost use Rattle.plan_defs.specs.Homes.{AreHomes};
 ghost use Rattle.plan_defs.specs.Picks.{ArePicked};
 ghost use Rattle.plan_defs.specs.Slots.{IsFirstFitPlan};
 ghost use Rattle.plan_defs.specs.Tables.{Fits};
-ghost use Rattle.yse_compile.specs.Designs.{IsAcyclic};
+ghost use Rattle.yse_compile.specs.Chosen.{AreHomesOn, FitsEither, HomesFit, IsDesign};
+ghost use Rattle.yse_compile.specs.Designs.{IsAcyclic, DesignFits};
+ghost use Rattle.yse_compile.specs.Housing.{AreAtHome};
 ghost use Rattle.yse_compile.specs.Compiled.{IsCompiled, ShowsReference, IsRight};
+ghost use Rattle.yse_compile.specs.declared.compiler.CompNo.TheVariants as no;
 
 use crate::compiler::{CompNo, Compiled};
+use crate::law::{
+    either_fits, fits_bits, fits_functions, fits_nodes, fits_slots, planned_or_refused,
+};
 use home_pick::{HomeNo, homes};
 use image_build::build;
 use machine_text::Machine;
@@ -30,8 +36,40 @@ use slot_plan::{PlanNo, first_fit};
 use std::alloc::Global;
 use switch_set::settings;
 
+/// Items and their plain homes.
+#[derive(Drop)]
+pub(crate) struct Housed {
+    pub(crate) nodes: NodeNet,
+    pub(crate) homes: Homes,
+}
+
+/// The items of the netlist at their plain homes.
+pub(crate) fn at_home(
+    alloc: Global,
+    net: &Netlist,
+    machine: &Machine,
+    timing: &Timing,
+) -> Result<Housed, CompNo>
+    requires net { IsValid net.now }
+    requires machine { IsValidMachine machine.now }
+    requires timing { IsValidTiming timing.now }
+    ensures housed { IfOk result (AreAtHome net.now machine.now timing.now) }
+    ensures refused { IfErr result (IsRight net.now machine.now timing.now) }
+    ensures either { FitsEither net.now machine.now timing.now → IfErr result (λ refusal. refusal ≡ no.Memory) }
+{
+    items_are_well_formed();
+    let nodes = match items_of(alloc, net, machine, timing) {
+        Ok(nodes) => nodes,
+        Err(refusal) => return Err(refusal),
+    };
+    match homes_of(alloc, net, machine, timing, &nodes) {
+        Ok(homes) => Ok(Housed { nodes, homes }),
+        Err(refusal) => Err(refusal),
+    }
+}
+
 /// The items of the netlist.
-pub(crate) fn items_of(
+fn items_of(
     alloc: Global,
     net: &Netlist,
     _machine: &Machine,
@@ -42,6 +80,7 @@ pub(crate) fn items_of(
     ensures items { IfOk result (AreItems net.now timing.now) }
     ensures acyclic { OnOk result (IsAcyclic net.now timing.now) }
     ensures refused { IfErr result (IsRight net.now _machine.now timing.now) }
+    ensures either { FitsEither net.now _machine.now timing.now → IfErr result (λ refusal. refusal ≡ no.Memory) }
 {
     match rank(alloc, net, timing) {
         Ok(ranks) => match map_nodes(alloc, net, &ranks, timing) {
@@ -53,39 +92,8 @@ pub(crate) fn items_of(
     }
 }
 
-/// The design with these items.
-pub(crate) fn compile_items(
-    alloc: Global,
-    net: &Netlist,
-    machine: &Machine,
-    timing: &Timing,
-    nodes: NodeNet,
-) -> Result<Compiled, CompNo>
-    requires net { IsValid net.now }
-    requires machine { IsValidMachine machine.now }
-    requires timing { IsValidTiming timing.now }
-    requires acyclic { IsAcyclic net.now timing.now }
-    requires items { AreItems net.now timing.now nodes }
-    ensures shown { IfOk result (λ compiled. (stimulus : Stimulus) → ShowsReference net.now timing.now stimulus compiled.image) }
-    ensures compiled { IfOk result (IsCompiled net.now machine.now timing.now) }
-    ensures refused { IfErr result (IsRight net.now machine.now timing.now) }
-{
-    items_are_well_formed();
-    let homes = match homes_of(alloc, net, machine, timing, &nodes) {
-        Ok(homes) => homes,
-        Err(refusal) => return Err(refusal),
-    };
-    match plan_of(alloc, net, machine, timing, &nodes, &homes) {
-        Ok(plan) => match routed(alloc, net, machine, timing, nodes, homes, plan) {
-            Ok(compiled) => Ok(compiled),
-            Err(_) => Err(CompNo::Memory),
-        },
-        Err(refusal) => Err(refusal),
-    }
-}
-
-/// The homes of the items.
-fn homes_of(
+/// The plain homes of the items.
+pub(crate) fn homes_of(
     alloc: Global,
     _net: &Netlist,
     machine: &Machine,
@@ -99,7 +107,9 @@ fn homes_of(
     ensures picked { IfOk result (ArePicked nodes.now machine.now) }
     ensures homes { IfOk result (AreHomes nodes.now) }
     ensures refused { IfErr result (IsRight _net.now machine.now _timing.now) }
+    ensures either { FitsEither _net.now machine.now _timing.now → IfErr result (λ refusal. refusal ≡ no.Memory) }
 {
+    either_fits();
     match homes(alloc, nodes, machine) {
         Ok(homes) => Ok(homes),
         Err(
@@ -118,25 +128,55 @@ fn homes_of(
     }
 }
 
-/// The plan of the items, if it fits.
+/// The design with these items at their plain homes.
+pub(crate) fn compile_at(
+    alloc: Global,
+    net: &Netlist,
+    machine: &Machine,
+    timing: &Timing,
+    housed: Housed,
+) -> Result<Compiled, CompNo>
+    requires net { IsValid net.now }
+    requires machine { IsValidMachine machine.now }
+    requires timing { IsValidTiming timing.now }
+    requires housed { AreAtHome net.now machine.now timing.now housed }
+    ensures shown { IfOk result (λ compiled. (stimulus : Stimulus) → ShowsReference net.now timing.now stimulus compiled.image) }
+    ensures compiled { IfOk result (IsCompiled net.now machine.now timing.now) }
+    ensures nodes { IfOk result (λ compiled. compiled.nodes ≡ housed.nodes) }
+    ensures homes { IfOk result (λ compiled. compiled.homes ≡ housed.homes) }
+    ensures refused { IfErr result (IsRight net.now machine.now timing.now) }
+    ensures fits { DesignFits net.now machine.now timing.now → IfErr result (λ refusal. refusal ≡ no.Memory) }
+    ensures homes_fit { HomesFit housed.nodes machine.now housed.homes → IfErr result (λ refusal. refusal ≡ no.Memory) }
+{
+    fits_bits();
+    fits_nodes();
+    fits_slots();
+    fits_functions();
+    match plan_of(alloc, net, machine, timing, &housed) {
+        Ok(plan) => match routed(alloc, net, machine, timing, housed.nodes, housed.homes, plan) {
+            Ok(compiled) => Ok(compiled),
+            Err(_) => Err(CompNo::Memory),
+        },
+        Err(refusal) => Err(refusal),
+    }
+}
+
+/// The plan of the items at their plain homes, if it fits.
 fn plan_of(
     alloc: Global,
     _net: &Netlist,
     machine: &Machine,
     _timing: &Timing,
-    nodes: &NodeNet,
-    homes: &Homes,
+    housed: &Housed,
 ) -> Result<Plan, CompNo>
-    requires nodes { IsWellFormed nodes.now }
-    requires acyclic { IsAcyclic _net.now _timing.now }
-    requires items { AreItems _net.now _timing.now nodes.now }
-    requires picked { ArePicked nodes.now machine.now homes.now }
-    requires homes { AreHomes nodes.now homes.now }
-    ensures plan { IfOk result (IsFirstFitPlan nodes.now homes.now) }
-    ensures fits { IfOk result (Fits nodes.now homes.now machine.now) }
+    requires housed { AreAtHome _net.now machine.now _timing.now housed.now }
+    ensures plan { IfOk result (IsFirstFitPlan housed.now.nodes housed.now.homes) }
+    ensures fits { IfOk result (Fits housed.now.nodes housed.now.homes machine.now) }
     ensures refused { IfErr result (IsRight _net.now machine.now _timing.now) }
+    ensures never { HomesFit housed.now.nodes machine.now housed.now.homes → IfErr result (λ refusal. refusal ≡ no.Memory) }
 {
-    match first_fit(alloc, nodes, homes, machine) {
+    planned_or_refused();
+    match first_fit(alloc, &housed.nodes, &housed.homes, machine) {
         Ok(plan) => Ok(plan),
         Err(PlanNo::Slots { needed, limit }) => Err(CompNo::Slots { needed, limit }),
         Err(
@@ -154,28 +194,51 @@ fn plan_of(
     }
 }
 
+/// The plan of the items at these homes, or none where it does not fit.
+pub(crate) fn plan_if_fits(
+    alloc: Global,
+    machine: &Machine,
+    nodes: &NodeNet,
+    homes: &Homes,
+) -> Result<Option<Plan>, Memory>
+    requires nodes { IsWellFormed nodes.now }
+    requires homes { AreHomesOn nodes.now machine.now homes.now }
+    ensures plan { IfOk result (λ found. IfSome found (IsFirstFitPlan nodes.now homes.now)) }
+    ensures fits { IfOk result (λ found. IfSome found (Fits nodes.now homes.now machine.now)) }
+    ensures none { IfOk result (λ found. IsNone found → HomesFit nodes.now machine.now homes.now → ⊥) }
+{
+    planned_or_refused();
+    match first_fit(alloc, nodes, homes, machine) {
+        Ok(plan) => Ok(Some(plan)),
+        Err(PlanNo::Slots { .. }) => Ok(None),
+        Err(PlanNo::Functions { .. }) => Ok(None),
+        Err(PlanNo::Memory) => Err(Memory),
+    }
+}
+
 /// The compiled design of items at their homes in their slots: what is left is the switch and the image.
-fn routed(
+pub(crate) fn routed(
     alloc: Global,
     net: &Netlist,
-    machine: &Machine,
+    _machine: &Machine,
     timing: &Timing,
     nodes: NodeNet,
     homes: Homes,
     plan: Plan,
 ) -> Result<Compiled, Memory>
     requires net { IsValid net.now }
-    requires machine { IsValidMachine machine.now }
+    requires machine { IsValidMachine _machine.now }
     requires timing { IsValidTiming timing.now }
     requires nodes { IsWellFormed nodes }
     requires acyclic { IsAcyclic net.now timing.now }
     requires items { AreItems net.now timing.now nodes }
-    requires picked { ArePicked nodes machine.now homes }
-    requires homes { AreHomes nodes homes }
+    requires homes { AreHomesOn nodes _machine.now homes }
     requires plan { IsFirstFitPlan nodes homes plan }
-    requires fits { Fits nodes homes machine.now plan }
+    requires fits { Fits nodes homes _machine.now plan }
     ensures shown { IfOk result (λ compiled. (stimulus : Stimulus) → ShowsReference net.now timing.now stimulus compiled.image) }
-    ensures compiled { IfOk result (IsCompiled net.now machine.now timing.now) }
+    ensures design { IfOk result (IsDesign net.now _machine.now timing.now) }
+    ensures nodes { IfOk result (λ compiled. compiled.nodes ≡ nodes) }
+    ensures homes { IfOk result (λ compiled. compiled.homes ≡ homes) }
 {
     one_run();
     values_are_reference();

@@ -1,0 +1,6 @@
+use Rattle.image_check.proofs.EachLemmas.{EachBelow}
+use Rattle.yse_compile.specs.Claims.{HasWords}
+use Rattle.yse_compile.proofs.words.tables_words.Given as goal
+
+abbrev pub invariant-tables : goal.invariant-tables
+invariant-tables l = EachBelow HasWords l.k l.tables

@@ -1,0 +1,44 @@
+-- The claims of a compiled design: which item of the netlist stands at each place of its image.
+use Rattle.std.specs.Prelude.{◌≡◌, ℕ, ◌^◌, ◌<◌, length, map, All}
+use Rattle.func_table.specs.declared.table.Table.{Table}
+use Rattle.net_defs.specs.declared.timing.Timing.{Timing}
+use Rattle.node_defs.specs.WellFormed.{IsWellFormed}
+use Rattle.plan_defs.specs.Homes.{AreHomes}
+use Rattle.plan_defs.specs.Slots.{slot_of, IsFirstFitPlan}
+use Rattle.plan_defs.specs.Switches.{IsSwitch}
+use Rattle.image_defs.specs.declared.image.PortImage.{PortImage}
+use Rattle.image_defs.specs.Places.{Each, IsPort, item_slots}
+use Rattle.image_match.specs.Matches.{claims_of, Matches}
+use Rattle.image_check.specs.declared.file.Claims.{Claims}
+use Rattle.image_check.specs.Claimed.{lists_of, HasClaims}
+use Rattle.image_file.specs.Ranges.{tables_of}
+use Rattle.image_build.specs.PortItems.{ArePlanClaims}
+use Rattle.image_build.specs.Built.{IsBuilt}
+use Rattle.yse_compile.specs.declared.compiler.Compiled.{Compiled}
+
+-- well-formed items at their homes, in their first-fit plan, with the switch's settings and an image that is
+-- built for them in some timing
+pub record IsPlaced (compiled : Compiled) : Type 0 where
+  pub formed : IsWellFormed compiled.nodes
+  pub housed : AreHomes compiled.nodes compiled.homes
+  pub first_fit : IsFirstFitPlan compiled.nodes compiled.homes compiled.plan
+  pub routed : IsSwitch compiled.nodes compiled.homes compiled.plan.slots compiled.switch
+  pub timing : Timing
+  pub built : IsBuilt compiled.nodes compiled.homes compiled.plan compiled.switch timing compiled.image
+
+-- the table has eight words of 64 bits
+pub record HasWords (table : Table) : Type 0 where
+  pub eight : length table.words ≡ 8
+  pub words : All (λ word. word < 2 ^ 64) table.words
+
+-- each place of the image claims the item that the plan puts there
+pub record AreClaimsOf (compiled : Compiled) (claims : Claims) : Type 0 where
+  pub planned : ArePlanClaims compiled.nodes compiled.homes compiled.plan.slots (lists_of claims)
+  pub placed : (p : ℕ) (port : PortImage) → IsPort compiled.image p port → item_slots port.work ≡ map (slot_of compiled.plan.slots) (claims_of (lists_of claims) p)
+  -- its tables have words as all tables do
+  pub words : Each (λ port. Each HasWords (tables_of port.work)) compiled.image.ports
+  -- there is a claim for each place
+  pub whole : HasClaims (record { image = compiled.image; claims = claims })
+  -- through them the image matches the items, in each timing that it is built for
+  pub matches : (timing : Timing) → IsBuilt compiled.nodes compiled.homes compiled.plan compiled.switch timing compiled.image
+      → Matches compiled.image (lists_of claims) compiled.nodes timing
