@@ -7,7 +7,9 @@ ghost use Rattle.yse_top.specs.Visited.{AllCanTell};
 
 mod blocks;
 mod calls;
+mod homes;
 mod hostile;
+mod images;
 mod machines;
 mod mixed;
 mod orders;

@@ -5,8 +5,11 @@ ghost use Rattle.crew_run.specs.Crews.{CanTell};
 ghost use Rattle.std.specs.Prelude.{All, IfOk, Option, Some, length, slice_get, true, ℕ, ◌+◌, ◌<◌, ◌^◌, ◌≡◌, ◌≤◌};
 ghost use Rattle.yse_top.specs.Visited.{AllCanTell};
 
-use super::{C17, Ended, GATES, S27, end_of, end_with_gates, three_files, two_files, words_of};
+use super::{
+    C17, Ended, GATES, S27, end_of, end_with_gates, store, three_files, two_files, words_of,
+};
 use crew_run::{CountGate, Gate};
+use edge_io::MemFiles;
 use seen_list::{List, Memory};
 use std::alloc::Global;
 use std::hint;
@@ -203,6 +206,16 @@ fn watch_gates<'a>(
 /// them alone.
 const TWO_LOGIC: &str = "logic 2\narray 0\n";
 
+/// The files of a netlist, a stimulus and a machine.
+fn files_of(alloc: Global, design: (&str, &str, &str)) -> Result<MemFiles, Memory> {
+    three_files(
+        alloc,
+        design.0.as_bytes(),
+        design.1.as_bytes(),
+        design.2.as_bytes(),
+    )
+}
+
 /// A run by two workers, and whether the two were held, and found something.
 #[derive(Drop)]
 struct Watched {
@@ -211,24 +224,18 @@ struct Watched {
     second: (bool, bool),
 }
 
-/// The call of these words over a netlist, a stimulus and a machine, with these gates.
+/// The call of these words over these files, with these gates.
 fn end_with<'a, R: Threads + Wait + Sync>(
     rt: &R,
     alloc: Global,
     line: &str,
-    design: (&str, &str, &str),
+    mut files: MemFiles,
     gates: &mut [Option<WatchGate<'a>>],
 ) -> Result<Ended, Memory>
     requires gates { MAX_WORKERS ≤ length gates.old }
     requires tell { AllCanTell ⟦<WatchGate<'a> as Gate>⟧ gates.old }
 {
     let words = words_of(alloc, &[line])?;
-    let mut files = three_files(
-        alloc,
-        design.0.as_bytes(),
-        design.1.as_bytes(),
-        design.2.as_bytes(),
-    )?;
     end_with_gates(rt, alloc, words.as_slice(), &mut files, 0, gates)
 }
 
@@ -237,12 +244,12 @@ fn run_watched<R: Threads + Wait + Sync>(
     alloc: Global,
     watch: Watch,
     line: &str,
-    design: (&str, &str, &str),
+    files: MemFiles,
 ) -> Result<Watched, Memory> {
     let one = AtomicBool::new(false);
     let two = AtomicBool::new(false);
     let mut gates = watch_gates(alloc, watch, &one, &two)?;
-    let ended = end_with(rt, alloc, line, design, gates.as_mut_slice())?;
+    let ended = end_with(rt, alloc, line, files, gates.as_mut_slice())?;
     let gates = gates.as_slice();
     Ok(Watched {
         ended,
@@ -264,42 +271,72 @@ fn held(gate: Option<&Option<WatchGate<'_>>>) -> (bool, bool) {
 #[test]
 fn two_workers_meet(rt: HostRuntime) -> Result<(), Fail> {
     let line = "run net.bench net.stim --init 0 --workers 2";
-    let watched = run_watched(
-        &rt,
-        rt.alloc(),
-        Watch::Pair,
-        line,
-        (S27, S27_ROWS, TWO_LOGIC),
-    )?;
+    let files = files_of(rt.alloc(), (S27, S27_ROWS, TWO_LOGIC))?;
+    let watched = run_watched(&rt, rt.alloc(), Watch::Pair, line, files)?;
     assert_eq!(rt; watched.ended.out.taken(), S27_TRACE.as_bytes());
     assert_eq!(rt; watched.first, (true, true));
     assert_eq!(rt; watched.second, (true, true));
     Ok(())
 }
 
+/// Ten cycles of c17, and their trace.
+const C17_ROWS: &str = "11111 * 10\n";
+
+const C17_TRACE: &str =
+    "cycle 22 23\n1 10\n2 10\n3 10\n4 10\n5 10\n6 10\n7 10\n8 10\n9 10\n10 10\n";
+
+/// Whether a call of these words, by two workers, prints those cycles, with the first worker held at the host's third
+/// turn while the second one got no further.
+fn waits_for_the_host<R: Threads + Wait + Sync>(
+    rt: &R,
+    alloc: Global,
+    line: &str,
+    files: MemFiles,
+) -> Result<bool, Memory> {
+    let watched = run_watched(rt, alloc, Watch::Hold, line, files)?;
+    Ok(
+        watched.ended.status == 0
+            && watched.ended.out.taken() == C17_TRACE.as_bytes()
+            && watched.first == (true, false),
+    )
+}
+
 /// While the host is held at its third turn, the port that takes values from it does not get past that turn.
 #[test]
 fn a_worker_waits_for_the_host(rt: HostRuntime) -> Result<(), Fail> {
     let line = "run net.bench net.stim --machine net.machine --workers 2";
-    let watched = run_watched(
-        &rt,
-        rt.alloc(),
-        Watch::Hold,
-        line,
-        (C17, "11111 * 10\n", TWO_LOGIC),
-    )?;
-    let rows = "cycle 22 23\n1 10\n2 10\n3 10\n4 10\n5 10\n6 10\n7 10\n8 10\n9 10\n10 10\n";
-    assert_eq!(rt; watched.ended.status, 0);
-    assert_eq!(rt; watched.ended.out.taken(), rows.as_bytes());
-    assert_eq!(rt; watched.first, (true, false));
+    let files = files_of(rt.alloc(), (C17, C17_ROWS, TWO_LOGIC))?;
+    assert!(rt; waits_for_the_host(&rt, rt.alloc(), line, files)?);
+    Ok(())
+}
+
+/// The files of c17, of these rows, and of the image that `compile` writes for the two logic processors.
+fn files_with_image<R: Threads + Wait + Sync>(rt: &R, alloc: Global) -> Result<MemFiles, Memory> {
+    let mut files = files_of(alloc, (C17, "", TWO_LOGIC))?;
+    let line = "compile net.bench --machine net.machine";
+    let compiled = end_of(rt, alloc, &[line], &mut files, 0)?;
+    let files: [(&[u8], &[u8]); 3] = [
+        (b"net.bench", C17.as_bytes()),
+        (b"net.stim", C17_ROWS.as_bytes()),
+        (b"net.image", compiled.out.taken()),
+    ];
+    store(alloc, &files, 0)
+}
+
+/// The same where an image from a file is run.
+#[test]
+fn a_worker_waits_for_the_host_of_an_image(rt: HostRuntime) -> Result<(), Fail> {
+    let line = "exec net.bench net.image net.stim --workers 2";
+    let files = files_with_image(&rt, rt.alloc())?;
+    assert!(rt; waits_for_the_host(&rt, rt.alloc(), line, files)?);
     Ok(())
 }
 
 /// Whether the host, which takes no value of the buffer, is told of its fourth turn while the worker of the
 /// only logic processor is held before its first, with so many banks.
 fn runs_ahead<R: Threads + Wait + Sync>(rt: &R, alloc: Global, line: &str) -> Result<bool, Memory> {
-    let design = (BUFFER, "1 * 10\n", "logic 1\narray 0\n");
-    Ok(run_watched(rt, alloc, Watch::Ahead, line, design)?.first.1)
+    let files = files_of(alloc, (BUFFER, "1 * 10\n", "logic 1\narray 0\n"))?;
+    Ok(run_watched(rt, alloc, Watch::Ahead, line, files)?.first.1)
 }
 
 /// With eight banks a port runs ahead of its readers, with one it waits for them.
