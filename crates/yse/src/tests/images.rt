@@ -111,7 +111,7 @@ fn prints_trace<R: Threads + Wait + Sync>(
     alloc: Global,
     design: &Design,
     image: &[u8],
-    workers: &str,
+    workers: &'static str,
 ) -> Result<bool, Memory> {
     for banks in ["1", "2", "8"] {
         let lines = [EXEC, design.timing, "--workers", workers, "--banks", banks];
