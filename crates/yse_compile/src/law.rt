@@ -22,7 +22,7 @@ ghost use Rattle.plan_defs.specs.Slots.{IsFirstFitPlan};
 ghost use Rattle.plan_defs.specs.Switches.{IsSwitch};
 ghost use Rattle.plan_defs.specs.Tables.{UsesTables};
 ghost use Rattle.slot_plan.specs.Refusals.{IsCrowded, IsLong};
-ghost use Rattle.yse_compile.specs.Chosen.{FitsBy, FitsEither, HomesFit, IsChosen, IsDesign};
+ghost use Rattle.yse_compile.specs.Chosen.{FitsBy, FitsEither, HomesFit, IsChosen, IsDesign, IsUsed};
 ghost use Rattle.yse_compile.specs.declared.choose.Chosen.{Chosen};
 ghost use Rattle.yse_compile.specs.declared.compiler.CompNo.{CompNo};
 ghost use Rattle.yse_compile.specs.declared.compiler.Compiled.{Compiled};
@@ -329,6 +329,22 @@ pub fn fits_by_or_refused()
 pub fn one_choice()
     ensures { (choice : HomeChoice) (net : Netlist) (machine : Machine) (timing : Timing) (one other : Chosen)
         → IsValid net → IsChosen net machine timing choice one → IsChosen net machine timing choice other
+        → (one.compiled.homes ≡ other.compiled.homes) × (one.before ≡ other.before)
+        × (one.after ≡ other.after) × (one.better ≡ other.better) }
+{
+    one_use();
+}
+
+/// A law: the same of homes that a choice uses and that fit, whatever is built at them. It does nothing.
+pub fn one_use()
+    ensures { (choice : HomeChoice) (net : Netlist) (machine : Machine) (timing : Timing) (one other : Chosen)
+        (plain plain_too : Homes) → IsValid net
+        → AreItems net timing one.compiled.nodes → AreItems net timing other.compiled.nodes
+        → ArePicked one.compiled.nodes machine plain → ArePicked other.compiled.nodes machine plain_too
+        → IsUsed choice one.compiled.nodes machine plain one
+        → IsUsed choice other.compiled.nodes machine plain_too other
+        → HomesFit one.compiled.nodes machine one.compiled.homes
+        → HomesFit other.compiled.nodes machine other.compiled.homes
         → (one.compiled.homes ≡ other.compiled.homes) × (one.before ≡ other.before)
         × (one.after ≡ other.after) × (one.better ≡ other.better) }
 {
