@@ -1,8 +1,7 @@
 //! Whole calls over files and sinks in memory, with statuses, lines and output from outside.
 
 ghost use Rattle.std.specs.Prelude.{length, ◌≤◌};
-ghost use Rattle.limits.specs.declared.TheConstants.{MAX_TEXT_BYTES, MAX_WORKERS};
-ghost use Rattle.net_defs.specs.Valid.{IsValid};
+ghost use Rattle.limits.specs.declared.TheConstants.{MAX_WORKERS};
 ghost use Rattle.yse_top.specs.Visited.{AllCanTell};
 
 mod blocks;
@@ -16,21 +15,15 @@ mod orders;
 mod own_limits;
 mod threads;
 
-use bench_read::law::reads_as_valid;
-use bench_read::read_bench;
 use crew_run::Gate;
-use edge_io::{Files, MemFiles, MemSink, NamedBytes, NullSink, PlainFiles, PlainSink, Sink};
-use logic_four::V4;
+use edge_io::{Files, MemFiles, MemSink, NamedBytes, PlainFiles, Sink};
 use machine_run::count_gates;
-use net_defs::{Init, Mode, Netlist, Stimulus, Timing, show};
-use ref_sim::refer;
 use seen_list::{List, Memory, Text};
 use std::alloc::{AllocError, Global};
 use std::marker::{Send, Sync};
 use std::sync::Wait;
 use std::test::Fail;
 use std::thread::Threads;
-use stim_text::read_stim;
 use yse_top::yse;
 
 const C17: &str =
@@ -46,8 +39,6 @@ const RAM: &str =
 
 const WIDE: &str =
     "INPUT(a1)\nINPUT(a2)\nINPUT(a3)\nINPUT(a4)\nINPUT(a5)\nINPUT(a6)\nINPUT(a7)\nINPUT(a8)\nINPUT(a9)\nINPUT(a10)\nINPUT(a11)\nINPUT(a12)\nINPUT(a13)\nINPUT(a14)\nINPUT(a15)\nINPUT(a16)\nINPUT(a17)\nOUTPUT(z)\nz = AND(a1, a2, a3, a4, a5, a6, a7, a8, a9, a10, a11, a12, a13, a14, a15, a16, a17)\n";
-
-const CRLF: &[u8] = b"input(a)\r\noutput(z)\r\nz = not(y) # \xff\r\ny = buff(a)\r\n";
 
 const USAGE: &str =
     "usage: yse (run/refer/order) NETLIST STIMULUS [options], yse plan NETLIST [options], yse show NETLIST, yse large GATES CYCLES [options]\n";
@@ -186,35 +177,6 @@ fn end_with_gates<R: Threads + Wait + Sync, F: Files, G: Gate + Send>(
     Ok(Ended { status, out, err })
 }
 
-/// The end of a call over a netlist with line ends of two bytes, and with a byte in a comment that has no place
-/// elsewhere.
-fn end_of_crlf<R: Threads + Wait + Sync>(
-    rt: &R,
-    alloc: Global,
-    line: &str,
-) -> Result<Ended, Memory> {
-    let mut files = two_files(alloc, CRLF, b"0\n", 0)?;
-    end_of(rt, alloc, &[line], &mut files, 0)
-}
-
-#[test]
-fn comments_have_any_byte(rt: HostRuntime) -> Result<(), Fail> {
-    for (line, output) in [
-        ("run net.bench net.stim", "cycle z\n1 1\n"),
-        ("refer net.bench net.stim", "cycle z\n1 1\n"),
-        ("order net.bench net.stim", "cycle z\n1 1\n"),
-        (
-            "show net.bench",
-            "INPUT(a)\nOUTPUT(z)\nz = NOT(y)\ny = BUFF(a)\n",
-        ),
-    ] {
-        let ended = end_of_crlf(&rt, rt.alloc(), line)?;
-        assert_eq!(rt; ended.out.taken(), output.as_bytes());
-        assert_eq!(rt; ended.status, 0);
-    }
-    Ok(())
-}
-
 /// A netlist file that is one comment of so many bytes; the stimulus is an empty file.
 fn comment(alloc: Global, bytes: usize) -> Result<PlainFiles, Memory> {
     let mut files = List::new(alloc);
@@ -232,125 +194,22 @@ fn end_of_comment<R: Threads + Wait + Sync>(
     end_of(rt, alloc, &["refer", FILES], &mut files, 0)
 }
 
+/// A text of 67,108,864 bytes is read, and one of a byte more is refused.
 #[test]
-fn longest_file_is_read(rt: HostRuntime) -> Result<(), Fail> {
-    let ended = end_of_comment(&rt, rt.alloc(), 67_108_864)?;
-    assert_eq!(rt; ended.status, 0);
-    assert_eq!(rt; ended.out.taken(), b"cycle\n".as_slice());
-    Ok(())
-}
-
-#[test]
-fn longer_file_is_refused(rt: HostRuntime) -> Result<(), Fail> {
-    let ended = end_of_comment(&rt, rt.alloc(), 67_108_865)?;
-    assert_eq!(rt; ended.status, 10);
-    assert_eq!(rt;
-        ended.err.taken(),
-        b"limit: net.bench has more than 67108864 bytes\n".as_slice()
-    );
-    Ok(())
-}
-
-/// A million cycles are run by one worker.
-#[test]
-fn million_cycles_are_run(rt: HostRuntime) -> Result<(), Fail> {
-    let words = words_of(rt.alloc(), &["run", FILES, "--workers 1"])?;
-    let mut files = two_files(rt.alloc(), C17.as_bytes(), b"11111 * 1000000\n", 0)?;
-    let mut out = NullSink::new();
-    let mut err = NullSink::new();
-    let mut gates = count_gates(rt.alloc(), GATES)?;
-    let status = status_of(
-        &rt,
-        rt.alloc(),
-        words.as_slice(),
-        &mut files,
-        &mut out,
-        &mut err,
-        gates.as_mut_slice(),
-    );
-    assert_eq!(rt; status, 0);
-    Ok(())
-}
-
-/// A million cycles of a netlist that prints its input 300 times.
-fn end_of_many_cells<R: Threads + Wait + Sync>(rt: &R, alloc: Global) -> Result<Ended, Memory> {
-    let mut netlist = List::from_slice(alloc, b"INPUT(a)\n")?;
-    for _ in 0..300 {
-        netlist.extend_from_slice(b"OUTPUT(a)\n")?;
+fn texts_have_a_most(rt: HostRuntime) -> Result<(), Fail> {
+    for (bytes, status, output, line) in [
+        (67_108_864usize, 0u8, "cycle\n", ""),
+        (
+            67_108_865,
+            10,
+            "",
+            "limit: net.bench has more than 67108864 bytes\n",
+        ),
+    ] {
+        let ended = end_of_comment(&rt, rt.alloc(), bytes)?;
+        assert_eq!(rt; ended.out.taken(), output.as_bytes());
+        assert_eq!(rt; ended.err.taken(), line.as_bytes());
+        assert_eq!(rt; ended.status, status);
     }
-    let mut files = two_files(alloc, netlist.as_slice(), b"1 * 1000000\n", 0)?;
-    end_of(rt, alloc, &["refer", FILES], &mut files, 0)
-}
-
-/// Too many cells are refused.
-#[test]
-fn cells_are_limited(rt: HostRuntime) -> Result<(), Fail> {
-    let ended = end_of_many_cells(&rt, rt.alloc())?;
-    assert_eq!(rt; ended.status, 10);
-    assert_eq!(rt;
-        ended.err.taken(),
-        b"limit: 301000000 cells, at most 268435456\n".as_slice()
-    );
     Ok(())
-}
-
-/// A text of 31 bytes leaves room for one byte in a sink of 32.
-#[test]
-fn canonical_text_fits_its_room(rt: HostRuntime) -> Result<(), Fail> {
-    let alloc = rt.alloc();
-    let Ok(net) = read_bench(alloc, b"output(z)\nz=buf(a)\ninput(a)\n") else {
-        return Err(Fail::new("the text is a netlist"));
-    };
-    let text = show(alloc, &net)?;
-    let mut sink = PlainSink::new(alloc, 32)?;
-    if text.len() <= sink.room() {
-        sink.write(text.as_bytes());
-    }
-    assert_eq!(rt;
-        sink.taken(),
-        b"INPUT(a)\nOUTPUT(z)\nz = BUFF(a)\n".as_slice()
-    );
-    assert_eq!(rt; sink.room(), 1);
-    Ok(())
-}
-
-/// The values that c17 prints for one cycle of ones.
-fn printed(alloc: Global, net: &Netlist, stimulus: &Stimulus) -> Option<(V4, V4)>
-    requires { IsValid net.now }
-{
-    let timing = Timing::unlisted(alloc, Mode::Rank, 1, Init::Undef);
-    match refer(alloc, net, &timing, stimulus) {
-        Ok(rows) => match rows.rows.as_slice() {
-            [row] => match row.cells.as_slice() {
-                [a, b] => Some((*a, *b)),
-                _ => None,
-            },
-            _ => None,
-        },
-        Err(_) => None,
-    }
-}
-
-/// The same of a netlist and a stimulus by their texts.
-fn referred(alloc: Global, netlist: &[u8], stimulus: &[u8]) -> Option<(V4, V4)>
-    requires netlist { length netlist.now ≤ MAX_TEXT_BYTES }
-    requires stimulus { length stimulus.now ≤ MAX_TEXT_BYTES }
-{
-    let Ok(net) = read_bench(alloc, netlist) else {
-        return None;
-    };
-    reads_as_valid(netlist, &net);
-    match read_stim(alloc, stimulus, net.inputs()) {
-        Ok(stimulus) => printed(alloc, &net, &stimulus),
-        Err(_) => None,
-    }
-}
-
-/// The reference simulation by itself, with ample memory.
-#[test]
-fn c17_is_referred(rt: HostRuntime) {
-    assert_eq!(rt;
-        referred(rt.alloc(), C17.as_bytes(), b"11111\n"),
-        Some((V4::One, V4::Zero))
-    );
 }

@@ -15,13 +15,14 @@ use std::sync::atomic::{AtomicU64, Ordering};
 use std::test::Fail;
 use std::thread::Threads;
 
-/// Rows of 4,095 to 4,097 cycles and of 8,192 and 8,193. A block has 4,096.
-const ROWS: [&str; 5] = [
+/// Rows of 4,095 to 4,097 cycles, of 8,192 and 8,193, and of 10,000. A block has 4,096.
+const ROWS: [&str; 6] = [
     "0x1z0 * 4000\n11111 * 95\n",
     "0x1z0 * 4000\n11111 * 95\n10101\n",
     "0x1z0 * 4000\n11111 * 96\n10101\n",
     "0x1z0 * 4000\n11111 * 97\n10101 * 4095\n",
     "0x1z0 * 4000\n11111 * 97\n10101 * 4095\n00110\n",
+    "10101 * 3000\n0x1z0 * 2000\n11111\n00110 * 4999\n",
 ];
 
 /// The call of these words over c17 and these rows, with a sink whose call of this number fails (0: none).
@@ -72,12 +73,17 @@ fn fault_in_the_second_block(rt: HostRuntime) -> Result<(), Fail> {
     Ok(())
 }
 
+/// Adds an input of a number.
+fn push_input(alloc: Global, text: &mut Text, i: u32) -> Result<(), Memory> {
+    let line = format!(in alloc; "INPUT(i{i})\n")?;
+    text.push_bytes(line.as_bytes())
+}
+
 /// 268 inputs, of which the first is printed.
 fn many_inputs(alloc: Global) -> Result<Text, Memory> {
     let mut text = Text::new(alloc);
     for i in 1..269 {
-        let line = format!(in alloc; "INPUT(i{i})\n")?;
-        text.push_bytes(line.as_bytes())?;
+        push_input(alloc, &mut text, i)?;
     }
     text.push_bytes(b"OUTPUT(i1)\n")?;
     Ok(text)

@@ -270,11 +270,17 @@ fn gate_of(alloc: Global, operands: u32) -> Result<Text, Memory> {
     Ok(text)
 }
 
+fn push_bit(alloc: Global, text: &mut Text, bit: u32) -> Result<(), Fail> {
+    let output = format!(in alloc; ", q{bit}")?;
+    text.push_bytes(output.as_bytes())?;
+    Ok(())
+}
+
 /// An input, and a memory of so many address bits and 64 data bits.
 fn memory_of(alloc: Global, address: u32) -> Result<Text, Fail> {
     let mut text = Text::from_bytes(alloc, b"INPUT(a)\n[q")?;
     for bit in 1u32..64 {
-        text.push_bytes(format!(in alloc; ", q{bit}")?.as_bytes())?;
+        push_bit(alloc, &mut text, bit)?;
     }
     text.push_bytes(b"] = RAM(a; a")?;
     for _ in 1..address {
@@ -288,31 +294,65 @@ fn memory_of(alloc: Global, address: u32) -> Result<Text, Fail> {
     Ok(text)
 }
 
+/// What a text has as much of as it may have: a name's bytes, a gate's operands, a memory's address bits.
+#[derive(Clone, Copy)]
+enum Much {
+    Name,
+    Gate,
+    Memory,
+}
+
+fn text_with(alloc: Global, much: Much, size: u32) -> Result<Text, Fail> {
+    match much {
+        Much::Name => Ok(name_of(alloc, size as usize)?),
+        Much::Gate => Ok(gate_of(alloc, size)?),
+        Much::Memory => memory_of(alloc, size),
+    }
+}
+
 #[test]
 fn texts_at_the_limits(rt: HostRuntime) -> Result<(), Fail> {
-    let alloc = rt.alloc();
     let operands = "netlist: line 2: wrong number of operands\n";
-    for (text, status, line) in [
-        (
-            Text::from_bytes(alloc, b"INPUT(1")?,
-            5u8,
-            "netlist: line 1: syntax\n",
-        ),
-        (
-            Text::from_bytes(alloc, &C17.as_bytes()[..56])?,
-            5,
-            "netlist: line 6: 22 has no driver\n",
-        ),
-        (name_of(alloc, 255)?, 0, ""),
-        (gate_of(alloc, 1024)?, 0, ""),
-        (gate_of(alloc, 1025)?, 5, operands),
-        (memory_of(alloc, 16)?, 0, ""),
-        (memory_of(alloc, 17)?, 5, operands),
+    for (much, size, status, line) in [
+        (Much::Name, 255u32, 0u8, ""),
+        (Much::Gate, 1024, 0, ""),
+        (Much::Gate, 1025, 5, operands),
+        (Much::Memory, 16, 0, ""),
+        (Much::Memory, 17, 5, operands),
     ] {
-        let ended = end_of_show(&rt, alloc, text.as_bytes())?;
+        let text = text_with(rt.alloc(), much, size)?;
+        let ended = end_of_show(&rt, rt.alloc(), text.as_bytes())?;
         assert_eq!(rt; ended.err.taken(), line.as_bytes());
         assert_eq!(rt; ended.status, status);
     }
+    Ok(())
+}
+
+/// Line ends of two bytes, and a byte in a comment that has no place elsewhere.
+#[test]
+fn comments_have_any_byte(rt: HostRuntime) -> Result<(), Fail> {
+    let netlist = b"input(a)\r\noutput(z)\r\nz = not(y) # \xff\r\ny = buff(a)\r\n";
+    let ended = end_of_show(&rt, rt.alloc(), netlist)?;
+    assert_eq!(rt;
+        ended.out.taken(),
+        b"INPUT(a)\nOUTPUT(z)\nz = NOT(y)\ny = BUFF(a)\n".as_slice()
+    );
+    assert_eq!(rt; ended.status, 0);
+    Ok(())
+}
+
+/// Adds a gate, and its name to the line.
+fn push_inverter(
+    alloc: Global,
+    netlist: &mut Text,
+    line: &mut Text,
+    gate: u32,
+    before: u32,
+) -> Result<(), Fail> {
+    let driver = format!(in alloc; "g{gate} = NOT(g{before})\n")?;
+    netlist.push_bytes(driver.as_bytes())?;
+    let name = format!(in alloc; " g{gate}")?;
+    line.push_bytes(name.as_bytes())?;
     Ok(())
 }
 
@@ -322,8 +362,7 @@ fn ring(alloc: Global, size: u32) -> Result<(Text, Text), Fail> {
     let mut line = Text::from_bytes(alloc, b"loop:")?;
     let mut before = size.saturating_sub(1);
     for gate in 0..size {
-        netlist.push_bytes(format!(in alloc; "g{gate} = NOT(g{before})\n")?.as_bytes())?;
-        line.push_bytes(format!(in alloc; " g{gate}")?.as_bytes())?;
+        push_inverter(alloc, &mut netlist, &mut line, gate, before)?;
         before = gate;
     }
     line.push_bytes(b"\n")?;

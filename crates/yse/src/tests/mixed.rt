@@ -1,7 +1,7 @@
 //! Calls in mixed mode: lists of gates that are read and lists that are refused, and what a listed
 //! gate and the others read.
 
-use super::{C17, Ended, LATCH, RAM, S27, USAGE, WIDE, end_of, store};
+use super::{C17, Ended, LATCH, RAM, S27, WIDE, end_of, store};
 use seen_list::Memory;
 use std::alloc::Global;
 use std::marker::Sync;
@@ -180,27 +180,6 @@ const CASES: &[Case] = &[
         status: 3,
         output: "",
         line: "read fault: other\n",
-    },
-    // Mixed mode and a list come together.
-    Case {
-        calls: ALL,
-        words: "net.bench net.stim --mode mixed",
-        netlist: LATCH,
-        stimulus: LATCH_ROWS,
-        list: "q\n",
-        status: 2,
-        output: "",
-        line: USAGE,
-    },
-    Case {
-        calls: ALL,
-        words: "net.bench net.stim --mode unit --last net.last",
-        netlist: LATCH,
-        stimulus: LATCH_ROWS,
-        list: "q\n",
-        status: 2,
-        output: "",
-        line: USAGE,
     },
     // A gate of 17 operands that is listed is one unit, and one that is not takes no time.
     Case {

@@ -54,45 +54,6 @@ fn workers_print_the_reference(rt: HostRuntime) -> Result<(), Fail> {
     Ok(())
 }
 
-/// The same bytes by an order of the ports, and by the reference.
-#[test]
-fn other_commands_print_the_same(rt: HostRuntime) -> Result<(), Fail> {
-    for command in ["order", "refer"] {
-        let lines = [command, "net.bench net.stim --init 0"];
-        assert!(rt; prints_s27(&rt, rt.alloc(), &lines)?);
-    }
-    Ok(())
-}
-
-/// The call of these words over c17 and 10,000 cycles.
-fn long_run<R: Threads + Wait + Sync>(rt: &R, alloc: Global, line: &str) -> Result<Ended, Memory> {
-    let rows = "10101 * 3000\n0x1z0 * 2000\n11111\n00110 * 4999\n";
-    let mut files = two_files(alloc, C17.as_bytes(), rows.as_bytes(), 0)?;
-    end_of(rt, alloc, &[line], &mut files, 0)
-}
-
-/// Whether the two calls have the same output.
-fn agree<R: Threads + Wait + Sync>(
-    rt: &R,
-    alloc: Global,
-    one: &str,
-    other: &str,
-) -> Result<bool, Memory> {
-    let one = long_run(rt, alloc, one)?;
-    let other = long_run(rt, alloc, other)?;
-    Ok(one.out.taken() == other.out.taken())
-}
-
-/// Each row of a run by two workers is that of the reference.
-#[test]
-fn ten_thousand_turns_are_those_of_the_reference(rt: HostRuntime) -> Result<(), Fail> {
-    let line = "run net.bench net.stim --workers 2";
-    assert!(rt; agree(&rt, rt.alloc(), line, "refer net.bench net.stim")?);
-    let reference = long_run(&rt, rt.alloc(), "refer net.bench net.stim")?;
-    assert_eq!(rt; reference.out.taken().len(), 78_906);
-    Ok(())
-}
-
 /// What a gate does beside counting.
 #[derive(Clone, Copy)]
 enum Watch {
