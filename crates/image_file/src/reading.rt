@@ -2,7 +2,9 @@
 
 ghost use Rattle.std.specs.Prelude.{◌≡◌, ◌≤◌, ◌<◌, ◌+◌, ◌^◌, true, None, MatchResult, length};
 ghost use Rattle.limits.specs.declared.TheConstants.{MAX_TEXT_BYTES};
+ghost use Rattle.std.specs.Option.{option_map};
 ghost use Rattle.text_lines.specs.Answers.{Answers, AnswersAs};
+ghost use Rattle.text_lines.specs.Bytes.{cut_at};
 ghost use Rattle.image_check.specs.declared.file.ImageFile.{ImageFile as File};
 ghost use Rattle.image_lines.specs.Forms.{is_within, line_read};
 ghost use Rattle.image_file.specs.declared.refusal.ImageNo.TheVariants.{Memory as NoMemory};
@@ -42,7 +44,7 @@ fn read_lines(alloc: Global, bytes: &[u8]) -> Result<ImageFile, ImageNo>
     let mut draft = Draft::Blank;
     let mut rest = bytes;
     let mut number = 1;
-    'lines: while let Some((line, behind)) = split_once(rest, b'\n') {
+    'lines: while let Some((line, behind)) = first_line(rest) {
         draft = match follow(alloc, number, draft, line) {
             Ok(longer) => longer,
             Err(no) => return Err(no),
@@ -51,6 +53,13 @@ fn read_lines(alloc: Global, bytes: &[u8]) -> Result<ImageFile, ImageNo>
         number += 1;
     }
     finished(number, draft, rest)
+}
+
+/// The first line, without its LF, and what stands behind it; `None` where the text has no LF.
+fn first_line(text: &[u8]) -> Option<(&[u8], &[u8])>
+    ensures { option_map (λ parts. (parts.0.now, parts.1.now)) result ≡ cut_at 10 text.now }
+{
+    split_once(text, b'\n')
 }
 
 /// The text so far with the line of this number.
