@@ -1,12 +1,11 @@
 //! The writer of image texts.
 
-ghost use Rattle.std.specs.Prelude.{◌≡◌, ◌++◌, ◌∷◌, [], IfOk, OnOk, length, map};
+ghost use Rattle.std.specs.Prelude.{◌≡◌, ◌++◌, IfOk, OnOk};
 ghost use Rattle.std.specs.List.{flat_map, zip};
-ghost use Rattle.image_defs.specs.Places.{item_slots};
 ghost use Rattle.image_lines.specs.Words.{line_text};
 ghost use Rattle.image_lines.specs.declared.line.Line.TheVariants as line;
 ghost use Rattle.image_check.specs.Claimed.{HasClaims};
-ghost use Rattle.image_file.specs.Files.{image_text, claimed, work_lines, port_lines, all_port_lines, kind_of};
+ghost use Rattle.image_file.specs.Files.{image_text, work_lines, port_lines, kind_of};
 
 use func_table::Table;
 use image_check::{ImageFile, PortClaims};
