@@ -19,6 +19,7 @@ mod of_cmd_words;
 mod of_func_table;
 #[cfg(test)]
 mod of_home_better;
+#[cfg(test)]
 mod of_image_file;
 #[cfg(test)]
 mod of_logic_four;
