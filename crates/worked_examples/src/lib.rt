@@ -22,6 +22,8 @@ mod of_home_better;
 #[cfg(test)]
 mod of_image_file;
 #[cfg(test)]
+mod of_image_lines;
+#[cfg(test)]
 mod of_logic_four;
 #[cfg(test)]
 mod of_machine_text;
