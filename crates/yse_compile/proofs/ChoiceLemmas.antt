@@ -26,7 +26,7 @@ use Rattle.yse_compile.proofs.FitLemmas.{FitsOrNot, LacksPlan}
 -- better homes are homes
 pub better_are : (nodes : NodeNet) (machine : Machine) (start better : Homes) → IsWellFormed nodes → AreHomes nodes start → IsBetter nodes machine start better → AreHomes nodes better
 better_are nodes machine start better formed are is =
-    subst (AreHomes nodes) (sym is.reached) (passes_way nodes machine (bound_of nodes start) start is.count formed (start_way nodes start are)).are
+    subst (AreHomes nodes) (sym is.reached) (passes_way nodes machine (bound_of nodes start) start is.count formed (start_way nodes machine start are)).are
 
 -- what fits at its plain homes fits at them or at better ones
 pub plain_either : (net : Netlist) (machine : Machine) (timing : Timing) → DesignFits net machine timing → FitsEither net machine timing
