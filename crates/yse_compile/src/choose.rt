@@ -182,7 +182,15 @@ fn use_better(
     ensures fitted { OnOk result (FitsEither net.now machine.now timing.now) }
 {
     drop(housed.homes);
-    match routed(alloc, net, machine, timing, housed.nodes, improved.homes, plan) {
+    match routed(
+        alloc,
+        net,
+        machine,
+        timing,
+        housed.nodes,
+        improved.homes,
+        plan,
+    ) {
         Ok(compiled) => Ok(Chosen {
             compiled,
             before: improved.before,

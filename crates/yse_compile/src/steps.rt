@@ -153,7 +153,15 @@ pub(crate) fn compile_at(
     fits_slots();
     fits_functions();
     match plan_of(alloc, net, machine, timing, &housed) {
-        Ok(plan) => match routed(alloc, net, machine, timing, housed.nodes, housed.homes, plan) {
+        Ok(plan) => match routed(
+            alloc,
+            net,
+            machine,
+            timing,
+            housed.nodes,
+            housed.homes,
+            plan,
+        ) {
             Ok(compiled) => Ok(compiled),
             Err(_) => Err(CompNo::Memory),
         },

@@ -34,7 +34,7 @@ module _ (names : Option (List ℕ → Bool)) (bytes : Option (List ℕ → List
   follows_no_memory words = follows_here names bytes old (Err refusal.Memory) (Expected words) (inr (refl, inr refl))
 
   -- no more files are begun than the command has
-  pub few_begun : (files : List (List ℕ)) (Chain : List Reading → Outcome → Type 0) (result : Result Output Refusal) → IsProper files Chain → Follows names bytes old new result Chain → new.starts ≤ raised old.starts (length files)
+  pub few_begun : {Same : List ℕ → List ℕ → Type 0} (files : List (List ℕ)) (Chain : List Reading → Outcome → Type 0) (result : Result Output Refusal) → IsProper Same files Chain → Follows names bytes old new result Chain → new.starts ≤ raised old.starts (length files)
   few_begun files Chain result proper follows =
       let begun = proper.begun follows.readings _ follows.expected in
       let many : length follows.readings ≤ length files = few (sym (length-map follows.readings (λ reading. reading.file)) ∙ ap length begun) in

@@ -8,6 +8,7 @@ use Rattle.edge_io.specs.declared.counts.FileCounts.{FileCounts}
 use Rattle.yse_top.specs.declared.output.Output.{Output}
 use Rattle.yse_top.specs.declared.refusal.Refusal.{Refusal}
 use Rattle.machine_text.specs.declared.machine.Machine.{Machine}
+use Rattle.net_defs.specs.declared.homes.HomeChoice.{HomeChoice}
 use Rattle.net_defs.specs.declared.netlist.Netlist.{Netlist}
 use Rattle.net_defs.specs.declared.timing.Timing.{Timing}
 use Rattle.yse_top.specs.Checks.{After, AfterFile, Refuses, RefusesDesign, IsListOf, listing}
@@ -29,9 +30,9 @@ raised_cond true count = refl
 raised_cond false count = raised_none count
 
 -- a design that is refused ends the chain
-pub refused_design : (net : Netlist) (machine : Machine) (timing : Timing) (Next : List Reading → Outcome → Type 0) (outcome : Outcome) → RefusesDesign net machine timing outcome → AfterFit net machine timing Next [] outcome
-refused_design net machine timing Next outcome (inl looped) = inr (refl, looped)
-refused_design net machine timing Next outcome (inr (acyclic, crowded)) = inl (tt, acyclic, inr (refl, crowded))
+pub refused_design : (choice : HomeChoice) (net : Netlist) (machine : Machine) (timing : Timing) (Next : List Reading → Outcome → Type 0) (outcome : Outcome) → RefusesDesign choice net machine timing outcome → AfterFit choice net machine timing Next [] outcome
+refused_design choice net machine timing Next outcome (inl looped) = inr (refl, looped)
+refused_design choice net machine timing Next outcome (inr (acyclic, crowded)) = inl (tt, acyclic, inr (refl, crowded))
 
 module _ (names : Option (List ℕ → Bool)) (bytes : Option (List ℕ → List ℕ)) where
   -- 1 for a reading of an absent name

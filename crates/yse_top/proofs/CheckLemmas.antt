@@ -3,6 +3,7 @@ use Rattle.std.proofs.Common.{◌≡◌, ◌∙◌, sym, ap, refl, subst, ◌⊎
 use Rattle.std.proofs.lemmas.Bool.{cases_lt}
 use Rattle.limits.specs.declared.TheConstants.{MAX_CELLS}
 use Rattle.text_lines.specs.Answers.{IsReader}
+use Rattle.net_defs.specs.declared.homes.HomeChoice.{HomeChoice}
 use Rattle.net_defs.specs.declared.netlist.Netlist.{Netlist}
 use Rattle.net_defs.specs.declared.timing.Timing.{Timing}
 use Rattle.net_defs.specs.declared.stimulus.Stimulus.{Stimulus}
@@ -12,12 +13,12 @@ use Rattle.net_defs.specs.Time.{cycle_count}
 use Rattle.net_defs.specs.Trace.{IsTrace, trace_to}
 use Rattle.machine_text.specs.declared.machine.Machine.{Machine}
 use Rattle.yse_compile.specs.declared.compiler.CompNo.{CompNo}
+use Rattle.yse_compile.specs.Chosen.{FitsBy}
 use Rattle.yse_compile.specs.Compiled.{IsRight, IsOverfull}
-use Rattle.yse_compile.specs.Designs.{DesignFits}
 use Rattle.yse_top.specs.declared.status.Status.{Status}
 use Rattle.yse_top.specs.declared.status.Status.TheVariants as status
 use Rattle.yse_top.specs.Checks.{ReadsAs, HasNoLoop, HasRoom, HasFewCells, cell_count}
-use Rattle.yse_top.specs.Law.{AreAlike}
+use Rattle.yse_top.specs.Law.{AreAlike, Equal}
 use Rattle.yse_top.specs.Lines.{loop_line, overfull_line, cells_line}
 use Rattle.yse_top.specs.Outcome.{Outcome, refusal}
 use Rattle.yse_top.proofs.ProperLemmas.{IsCheck, IsOfText, alike}
@@ -47,7 +48,7 @@ reads_check {X} {E} Reads fault reader text s line of_text = record {
 -- ---- loops
 
 -- two refusals for a loop
-loops_alike : (o p : Outcome) (l k : List ℕ) → o ≡ refusal status.Loop l → p ≡ refusal status.Loop k → AreAlike o p
+loops_alike : (o p : Outcome) (l k : List ℕ) → o ≡ refusal status.Loop l → p ≡ refusal status.Loop k → AreAlike Equal o p
 loops_alike o p l k e f = record {
   status = ap (λ (x : Outcome). x.status) e ∙ sym (ap (λ (x : Outcome). x.status) f);
   output = ap (λ (x : Outcome). x.output) e ∙ sym (ap (λ (x : Outcome). x.output) f);
@@ -70,24 +71,23 @@ loop_check net timing order_or_loop never_both = record {
 -- ---- whether a design fits
 
 -- a design fits or doesn't, for one reason
-pub record IsRoomLaw (net : Netlist) (machine : Machine) (timing : Timing) : Type 0 where
-  pub some : DesignFits net machine timing ⊎ ((why : CompNo) × IsOverfull why × IsRight net machine timing why)
-  pub never_both : (why : CompNo) → DesignFits net machine timing → IsOverfull why → IsRight net machine timing why → ⊥
+pub record IsRoomLaw (choice : HomeChoice) (net : Netlist) (machine : Machine) (timing : Timing) : Type 0 where
+  pub some : FitsBy choice net machine timing ⊎ ((why : CompNo) × IsRight net machine timing why × IsOverfull why × (FitsBy choice net machine timing → ⊥))
   pub one : (why other : CompNo) → IsOverfull why → IsOverfull other → IsRight net machine timing why → IsRight net machine timing other → why ≡ other
 
-pub room_check : (net : Netlist) (machine : Machine) (timing : Timing) → IsRoomLaw net machine timing → IsCheck (HasRoom net machine timing)
-room_check net machine timing law = record {
+pub room_check : (choice : HomeChoice) (net : Netlist) (machine : Machine) (timing : Timing) → IsRoomLaw choice net machine timing → IsCheck (HasRoom choice net machine timing)
+room_check choice net machine timing law = record {
   values = λ x y passed passed_too. refl;
-  either = λ x o passed refused. law.never_both refused.0 passed refused.1 refused.2;
+  either = λ x o passed refused. refused.3 passed;
   refusals = λ o p refused refused_too.
-      alike o p (refused.3 ∙ ap (λ why. refusal status.Overfull (overfull_line net why)) (law.one refused.0 refused_too.0 refused.1 refused_too.1 refused.2 refused_too.2) ∙ sym refused_too.3);
+      alike o p (refused.4 ∙ ap (λ why. refusal status.Overfull (overfull_line net why)) (law.one refused.0 refused_too.0 refused.1 refused_too.1 refused.2 refused_too.2) ∙ sym refused_too.4);
   some = some law.some;
-  of_text = λ o refused. subst (λ (p : Outcome). IsOfText p.status) (sym refused.3) tt;
+  of_text = λ o refused. subst (λ (p : Outcome). IsOfText p.status) (sym refused.4) tt;
 }
   where
-    some : DesignFits net machine timing ⊎ ((why : CompNo) × IsOverfull why × IsRight net machine timing why) → ((x : Unit {0}) × HasRoom net machine timing (Ok x)) ⊎ ((o : Outcome) × HasRoom net machine timing (Err o))
+    some : FitsBy choice net machine timing ⊎ ((why : CompNo) × IsRight net machine timing why × IsOverfull why × (FitsBy choice net machine timing → ⊥)) → ((x : Unit {0}) × HasRoom choice net machine timing (Ok x)) ⊎ ((o : Outcome) × HasRoom choice net machine timing (Err o))
     some (inl fits) = inl (tt, fits)
-    some (inr (why, is, right)) = inr (refusal status.Overfull (overfull_line net why), (why, is, right, refl))
+    some (inr (why, right, is, none)) = inr (refusal status.Overfull (overfull_line net why), (why, is, right, none, refl))
 
 -- ---- cells
 

@@ -10,7 +10,7 @@ use Rattle.yse_top.specs.Law.{IsProper, HasOutcome}
 use Rattle.yse_top.specs.Outcome.{Outcome}
 use Rattle.yse_top.specs.Readings.{Reading}
 use Rattle.yse_top.proofs.OutcomeLemmas.{outcome_after, outcome_file}
-use Rattle.yse_top.proofs.ProperLemmas.{IsOfText, IsOfEnd, IsCheck, answered, IsEnding, memory_status, text_check, passed_short, proper_after, proper_file, proper_ends}
+use Rattle.yse_top.proofs.ProperLemmas.{IsOfText, IsOfEnd, IsCheck, IsSingle, answered, at_most_once, single, IsEnding, memory_status, text_check, passed_short, proper_after, proper_file, proper_ends}
 
 -- the statuses that a command may have
 abbrev pub IsOfCommand : Status → Type 0
@@ -27,6 +27,8 @@ text_is_command status.Stimulus is = tt
 text_is_command status.Limit is = tt
 text_is_command status.OrderText is = tt
 text_is_command status.LastList is = tt
+text_is_command status.ImageText is = tt
+text_is_command status.ImageMatch is = tt
 text_is_command _ is = absurd is
 
 end_is_command : (s : Status) → IsOfEnd s → IsOfCommand s
@@ -38,29 +40,38 @@ pub not_words : (s : Status) → IsOfCommand s → s ≢ status.Words
 not_words s is same = subst IsOfCommand same is
 
 -- the chain of a command that reads these files
-pub record IsCommand (Settled : Type 0) (files : List (List ℕ)) (Chain : List Reading → Outcome → Type 0) : Type 0 where
-  pub proper : IsProper files Chain
+pub record IsCommand (Settled : Type 0) (Same : List ℕ → List ℕ → Type 0) (files : List (List ℕ)) (Chain : List Reading → Outcome → Type 0) : Type 0 where
+  pub proper : IsProper Same files Chain
   pub statuses : (readings : List Reading) (outcome : Outcome) → Chain readings outcome → IsOfCommand outcome.status
   pub some : Settled → HasOutcome Chain
 
-module _ (Settled : Type 0) where
+module _ (Settled : Type 0) (Same : List ℕ → List ℕ → Type 0) (same : (output : List ℕ) → Same output output) where
+  statuses_after : {X : Type 0} (files : List (List ℕ)) (Checked : Result X Outcome → Type 0) (Next : X → List Reading → Outcome → Type 0) → IsSingle Checked → ((x : X) → Checked (Ok x) → IsCommand Settled Same files (Next x))
+      → (readings : List Reading) (o : Outcome) → After Checked Next readings o → IsOfCommand o.status
+  statuses_after files Checked Next check on readings o (inl (x, passed, next)) = (on x passed).statuses readings o next
+  statuses_after files Checked Next check on readings o (inr (none, inl refused)) = text_is_command o.status (check.of_text o refused)
+  statuses_after files Checked Next check on readings o (inr (none, inr memory)) = subst IsOfCommand (sym (memory_status o memory)) tt
+
   -- a check
-  pub command_after : {X : Type 0} (files : List (List ℕ)) (Checked : Result X Outcome → Type 0) (Next : X → List Reading → Outcome → Type 0) → IsCheck Checked → ((x : X) → Checked (Ok x) → IsCommand Settled files (Next x)) → IsCommand Settled files (After Checked Next)
-  command_after {X} files Checked Next check on = record {
-    proper = proper_after files Checked Next (answered Checked check) (λ x passed. (on x passed).proper);
-    statuses = statuses;
+  pub command_after : {X : Type 0} (files : List (List ℕ)) (Checked : Result X Outcome → Type 0) (Next : X → List Reading → Outcome → Type 0) → IsCheck Checked → ((x : X) → Checked (Ok x) → IsCommand Settled Same files (Next x)) → IsCommand Settled Same files (After Checked Next)
+  command_after files Checked Next check on = record {
+    proper = proper_after Same same files Checked Next (answered Checked check).once (λ x passed. (on x passed).proper);
+    statuses = statuses_after files Checked Next (single Checked check) on;
     some = λ settled. outcome_after Checked Next (answered Checked check) (λ x passed. (on x passed).some settled);
   }
-    where
-      statuses : (readings : List Reading) (o : Outcome) → After Checked Next readings o → IsOfCommand o.status
-      statuses readings o (inl (x, passed, next)) = (on x passed).statuses readings o next
-      statuses readings o (inr (none, inl refused)) = text_is_command o.status (check.of_text o refused)
-      statuses readings o (inr (none, inr memory)) = subst IsOfCommand (sym (memory_status o memory)) tt
+
+  -- a check that is not known to answer
+  pub command_single : {X : Type 0} (files : List (List ℕ)) (Checked : Result X Outcome → Type 0) (Next : X → List Reading → Outcome → Type 0) → IsSingle Checked → (Settled → ⊥) → ((x : X) → Checked (Ok x) → IsCommand Settled Same files (Next x)) → IsCommand Settled Same files (After Checked Next)
+  command_single files Checked Next check never on = record {
+    proper = proper_after Same same files Checked Next (at_most_once Checked check) (λ x passed. (on x passed).proper);
+    statuses = statuses_after files Checked Next check on;
+    some = λ settled. absurd (never settled);
+  }
 
   -- a file
-  pub command_file : (file : List ℕ) (files : List (List ℕ)) (Next : List ℕ → List Reading → Outcome → Type 0) → ((text : List ℕ) → length text ≤ MAX_TEXT_BYTES → IsCommand Settled files (Next text)) → IsCommand Settled (file ∷ files) (AfterFile file Next)
+  pub command_file : (file : List ℕ) (files : List (List ℕ)) (Next : List ℕ → List Reading → Outcome → Type 0) → ((text : List ℕ) → length text ≤ MAX_TEXT_BYTES → IsCommand Settled Same files (Next text)) → IsCommand Settled Same (file ∷ files) (AfterFile file Next)
   command_file file files Next on = record {
-    proper = proper_file file files Next (λ text short. (on text short).proper);
+    proper = proper_file Same same file files Next (λ text short. (on text short).proper);
     statuses = statuses;
     some = λ settled. outcome_file file Next (λ text short. (on text short).some settled);
   }
@@ -74,8 +85,8 @@ module _ (Settled : Type 0) where
           by (Some bytes) here = (command_after files (λ result. text_of file bytes ≡ result) Next (text_check file bytes) (λ text passed. on text (passed_short file bytes text passed))).statuses readings o here
 
   -- an end
-  pub command_ends : (IsEnd : Outcome → Type 0) → IsEnding IsEnd → (Settled → HasOutcome (Ends IsEnd)) → IsCommand Settled [] (Ends IsEnd)
-  command_ends IsEnd end some = record { proper = proper_ends IsEnd end; statuses = statuses; some = some }
+  pub command_ends : (IsEnd : Outcome → Type 0) → IsEnding Same IsEnd → (Settled → HasOutcome (Ends IsEnd)) → IsCommand Settled Same [] (Ends IsEnd)
+  command_ends IsEnd end some = record { proper = proper_ends Same IsEnd end; statuses = statuses; some = some }
     where
       statuses : (readings : List Reading) (o : Outcome) → Ends IsEnd readings o → IsOfCommand o.status
       statuses readings o (none, inl is) = end_is_command o.status (end.ends o is)

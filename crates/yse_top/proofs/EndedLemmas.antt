@@ -1,6 +1,7 @@
 -- What a run of the core comes to: the trace after its last row, and else the rows that are done.
 use Rattle.std.proofs.Common.{None, Option, Some, ◌≡◌, ◌∙◌, sym, ap, subst, inl, inr, ℕ, ◌*◌, arith}
 use Rattle.std.proofs.lemmas.Option.{none-some, same_Some}
+use Rattle.net_defs.specs.declared.homes.HomeChoice.{HomeChoice}
 use Rattle.net_defs.specs.declared.netlist.Netlist.{Netlist}
 use Rattle.net_defs.specs.declared.timing.Timing.{Timing}
 use Rattle.net_defs.specs.declared.stimulus.Stimulus.{Stimulus}
@@ -67,11 +68,11 @@ module _ (net : Netlist) (timing : Timing) (stimulus : Stimulus) (image : Image)
   }
 
 -- the rows that are done by the end of an order, with a netlist and a line of its trace
-module _ (order : Order) (banks : ℕ) (net : Netlist) (machine : Machine) (timing : Timing) (stimulus : Stimulus) (image : Image) (of : IsImageOf net timing image) (made : IsMachineImage net machine timing image) (rows : Rows) (ending : Option Ending) (are : AreRowsInOrder order banks timing stimulus image rows ending) (line : Filling) where
+module _ (order : Order) (banks : ℕ) (choice : HomeChoice) (net : Netlist) (machine : Machine) (timing : Timing) (stimulus : Stimulus) (image : Image) (of : IsImageOf net timing image) (made : IsMachineImage choice net machine timing image) (rows : Rows) (ending : Option Ending) (are : AreRowsInOrder order banks timing stimulus image rows ending) (line : Filling) where
   pub order_prints : IsValidStimulus stimulus → HasRoom net line → CanPrint (record { net = net; rows = rows; line = line })
   order_prints valid room = shown_prints net timing stimulus image (rows_done image are.state) rows line room valid of are.shown are.few
 
-  ended : (outcome : Outcome) → EndsIn net timing stimulus (of.shows stimulus).states image are.state outcome → EndsInOrder order banks net machine timing stimulus outcome
+  ended : (outcome : Outcome) → EndsIn net timing stimulus (of.shows stimulus).states image are.state outcome → EndsInOrder order banks choice net machine timing stimulus outcome
   ended outcome ends = record {
     image = image;
     made = made;
@@ -82,7 +83,7 @@ module _ (order : Order) (banks : ℕ) (net : Netlist) (machine : Machine) (timi
     ends = ends;
   }
 
-  pub order_done : ending ≡ None → EndsInOrder order banks net machine timing stimulus (done (trace_bytes (record { net = net; rows = rows; line = line })))
+  pub order_done : ending ≡ None → EndsInOrder order banks choice net machine timing stimulus (done (trace_bytes (record { net = net; rows = rows; line = line })))
   order_done none = ended (done (trace_bytes (record { net = net; rows = rows; line = line }))) (elim are.done_or_ended [
     | inl (all, _) ↦ inl (
       all,
@@ -91,7 +92,7 @@ module _ (order : Order) (banks : ℕ) (net : Netlist) (machine : Machine) (timi
     | inr (_, some) ↦ absurd (none-some _ (sym none ∙ some))
   ])
 
-  pub order_unfinished : (place : Ending) → ending ≡ Some place → EndsInOrder order banks net machine timing stimulus (unfinished place.rows place.cycles (trace_bytes (record { net = net; rows = rows; line = line })))
+  pub order_unfinished : (place : Ending) → ending ≡ Some place → EndsInOrder order banks choice net machine timing stimulus (unfinished place.rows place.cycles (trace_bytes (record { net = net; rows = rows; line = line })))
   order_unfinished place is = ended (unfinished place.rows place.cycles (trace_bytes (record { net = net; rows = rows; line = line }))) (elim are.done_or_ended [
     | inl (_, none) ↦ absurd (none-some _ (sym none ∙ is))
     | inr (some, at) ↦ (let same = same_Some _ _ (sym is ∙ at) in inr (

@@ -1,6 +1,8 @@
+mod AcceptedLemmas
 mod CallLemmas
 mod ChainLemmas
 mod CheckLemmas
+mod ChoiceLemmas
 mod CommandLemmas
 mod EndLemmas
 mod EndedLemmas

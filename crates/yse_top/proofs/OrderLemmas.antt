@@ -2,6 +2,7 @@
 use Rattle.std.proofs.Common.{◌≡◌, ◌∙◌, sym, ap, subst, inl, inr, ℕ, List, arith}
 use Rattle.std.proofs.lemmas.Option.{slice_get_within}
 use Rattle.machine_text.specs.declared.machine.Machine.{Machine}
+use Rattle.net_defs.specs.declared.homes.HomeChoice.{HomeChoice}
 use Rattle.net_defs.specs.declared.netlist.Netlist.{Netlist}
 use Rattle.net_defs.specs.declared.stimulus.Stimulus.{Stimulus}
 use Rattle.net_defs.specs.declared.timing.Timing.{Timing}
@@ -15,6 +16,7 @@ use Rattle.event_defs.specs.Linked.{AreLinkedAlike}
 use Rattle.event_defs.specs.declared.place.Place.{Place}
 use Rattle.event_defs.specs.Steps.{CoreState, AllDone, rows_done}
 use Rattle.stim_text.specs.declared.order.Order.{Order}
+use Rattle.yse_top.specs.Law.{Equal}
 use Rattle.yse_top.specs.Orders.{IsMachineImage, IsAfterOrder, EndsIn, EndsInOrder}
 use Rattle.yse_top.specs.Outcome.{Outcome, done, unfinished}
 use Rattle.yse_top.proofs.ProperLemmas.{IsEnding, IsOfEnd, alike}
@@ -42,9 +44,9 @@ done_alike until image other one two linked places rows = record {
 }
 
 -- the state after an order decides, for all images of the netlist, what is done
-abbrev pub DecidesOrder : Order → ℕ → Netlist → Machine → Timing → Stimulus → Type 0
-DecidesOrder order banks net machine timing stimulus =
-    (image other : Image) (one two : CoreState) → IsMachineImage net machine timing image → IsMachineImage net machine timing other
+abbrev pub DecidesOrder : Order → ℕ → HomeChoice → Netlist → Machine → Timing → Stimulus → Type 0
+DecidesOrder order banks choice net machine timing stimulus =
+    (image other : Image) (one two : CoreState) → IsMachineImage choice net machine timing image → IsMachineImage choice net machine timing other
     → IsAfterOrder order banks timing stimulus image one → IsAfterOrder order banks timing stimulus other two
     → AreDoneAlike (turn_count timing stimulus) image other one two
 
@@ -67,8 +69,8 @@ module _ (net : Netlist) (timing : Timing) (stimulus : Stimulus) where
   ends_status states image state o (inl (all, is)) = subst (λ (p : Outcome). IsOfEnd p.status) (sym is) tt
   ends_status states image state o (inr (some, is)) = subst (λ (p : Outcome). IsOfEnd p.status) (sym is) tt
 
-  pub order_ending : (order : Order) (banks : ℕ) (machine : Machine) → HasOneSimulation net timing stimulus → DecidesOrder order banks net machine timing stimulus → IsEnding (EndsInOrder order banks net machine timing stimulus)
-  order_ending order banks machine simulation decides = record {
+  pub order_ending : (order : Order) (banks : ℕ) (choice : HomeChoice) (machine : Machine) → HasOneSimulation net timing stimulus → DecidesOrder order banks choice net machine timing stimulus → IsEnding Equal (EndsInOrder order banks choice net machine timing stimulus)
+  order_ending order banks choice machine simulation decides = record {
     one = λ o p is is_too. alike o p (ends_one is.states is_too.states is.image is_too.image is.state is_too.state o p
         (simulation.only is.states is.simulation ∙ sym (simulation.only is_too.states is_too.simulation))
         (decides is.image is_too.image is.state is_too.state is.made is_too.made is.after is_too.after) is.ends is_too.ends);

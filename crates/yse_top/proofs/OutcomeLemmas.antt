@@ -26,7 +26,7 @@ outcome_after {X} Checked Next check on = record { some = λ give. by give check
     by give (inl (x, passed)) =
         let s = (on x passed).some give in
         (s.0, s.1, inl (x, passed, s.2), s.3, s.4)
-    by give (inr (o, refused)) = ([], o, inr (refl, inl refused), given_none give, check.not_memory o refused)
+    by give (inr (o, refused)) = ([], o, inr (refl, inl refused), given_none give, check.once.not_memory o refused)
 
 -- a file
 pub outcome_file : (file : List ℕ) (Next : List ℕ → List Reading → Outcome → Type 0) → ((text : List ℕ) → length text ≤ MAX_TEXT_BYTES → HasOutcome (Next text)) → HasOutcome (AfterFile file Next)

@@ -5,7 +5,8 @@ use Rattle.std.specs.List.{flat_map, range_with_len}
 use Rattle.std.proofs.lemmas.Bool.{cases_eq}
 use Rattle.std.proofs.lemmas.List.FromFn.{get_or-map-range_with_len}
 use Rattle.machine_text.specs.declared.machine.Machine.{Machine}
-use Rattle.machine_text.specs.Machines.{IsValid as IsValidMachine}
+use Rattle.net_defs.specs.declared.homes.HomeChoice.{HomeChoice}
+use Rattle.net_defs.specs.declared.homes.HomeChoice.TheVariants.{Plain, Better}
 use Rattle.net_defs.specs.declared.netlist.Netlist.{Netlist}
 use Rattle.net_defs.specs.declared.timing.Timing.{Timing}
 use Rattle.node_defs.specs.declared.items.ItemName.{ItemName}
@@ -24,20 +25,21 @@ use Rattle.plan_defs.specs.Tables.{UsesTables}
 use Rattle.plan_defs.proofs.ListLemmas.{listed_all}
 use Rattle.plan_defs.proofs.PlanLemmas.{plans_agree}
 use Rattle.plan_defs.proofs.PortLemmas.{reader_port}
-use Rattle.home_pick.proofs.HomeLemmas.{homes_are}
 use Rattle.plan_text.specs.declared.figures.Figures.{Figures}
 use Rattle.plan_text.specs.Counted.{AreFigures, Receives, bits_at, items_at}
 use Rattle.plan_text.specs.Lines.{item_line, item_name, port_line, report_text}
 use Rattle.plan_text.specs.Reports.{IsReport}
 use Rattle.plan_text.proofs.OneLemmas.{flat_below, reports_agree}
-use Rattle.yse_compile.specs.Designs.{DesignFits}
+use Rattle.yse_compile.specs.declared.choose.Chosen.{Chosen}
+use Rattle.yse_compile.specs.Chosen.{HomesFit, IsUsed}
 use Rattle.yse_compile.proofs.KnownLemmas.{IsKnown, known_below, known_both, known_same, listed_to}
 use Rattle.yse_compile.proofs.KnownUses.{reader_known}
 use Rattle.yse_compile.proofs.PlanExists.{slots_end, tables_counted}
 use Rattle.yse_compile.proofs.SameHomes.{before_kept}
 use Rattle.yse_compile.proofs.SamePlans.{plan_kept, reader_kept}
 use Rattle.yse_compile.proofs.SameTables.{tables_few}
-use Rattle.yse_top.specs.commands.Plan.{IsReportOf}
+use Rattle.yse_top.specs.commands.Plan.{IsReportOf, crossings_line, told_of_homes}
+use Rattle.yse_top.proofs.ChoiceLemmas.{HasHomes}
 
 -- ---- the figures of the same items
 
@@ -168,37 +170,59 @@ module _ (nodes : NodeNet) (homes : Homes) (formed : IsWellFormed nodes) (are : 
 
 -- ---- reports
 
--- what is known of the items of a netlist and of their homes
-pub record AreOnce (net : Netlist) (machine : Machine) (timing : Timing) : Type 0 where
+-- what is known of the items of a netlist and of the homes that a choice gives them
+pub record AreOnce (choice : HomeChoice) (net : Netlist) (machine : Machine) (timing : Timing) : Type 0 where
   pub formed : (nodes : NodeNet) → AreItems net timing nodes → IsWellFormed nodes
   pub items : (nodes others : NodeNet) → AreItems net timing nodes → AreItems net timing others → AreSameItems nodes others
-  pub homes : (nodes others : NodeNet) → AreItems net timing nodes → AreItems net timing others
-      → (homes other_homes : Homes) → ArePicked nodes machine homes → ArePicked others machine other_homes → homes ≡ other_homes
+  pub one : (a b : Chosen) (plain other : Homes) → AreItems net timing a.compiled.nodes → AreItems net timing b.compiled.nodes
+      → ArePicked a.compiled.nodes machine plain → ArePicked b.compiled.nodes machine other
+      → IsUsed choice a.compiled.nodes machine plain a → IsUsed choice b.compiled.nodes machine other b
+      → HomesFit a.compiled.nodes machine a.compiled.homes → HomesFit b.compiled.nodes machine b.compiled.homes
+      → (a.compiled.homes ≡ b.compiled.homes) × (a.before ≡ b.before) × (a.after ≡ b.after) × (a.better ≡ b.better)
 
-module _ (net : Netlist) (machine : Machine) (timing : Timing) (once : AreOnce net machine timing) where
-  pub one_report : (s t : List ℕ) → IsReportOf net machine timing s → IsReportOf net machine timing t → s ≡ t
+-- the same counts are told in the same words
+told_same : (choice : HomeChoice) (a b : Chosen) → a.before ≡ b.before → a.after ≡ b.after → a.better ≡ b.better → told_of_homes choice a ≡ told_of_homes choice b
+told_same Plain a b before after better = refl
+told_same Better a b before after better =
+    ap₂ (λ before after. crossings_line before after a.better) before after ∙ ap (crossings_line b.before b.after) better
+
+module _ (choice : HomeChoice) (net : Netlist) (machine : Machine) (timing : Timing) (once : AreOnce choice net machine timing) where
+  pub one_report : (s t : List ℕ) → IsReportOf choice net machine timing s → IsReportOf choice net machine timing t → s ≡ t
   one_report s t a b =
-      let there = once.items a.nodes b.nodes a.items b.items in
-      let back = once.items b.nodes a.nodes b.items a.items in
-      let homes : a.homes ≡ b.homes = once.homes a.nodes b.nodes a.items b.items a.homes b.homes a.picked b.picked in
-      let kept = plan_kept a.nodes b.nodes b.homes a.plan there back (subst (λ h. IsFirstFitPlan a.nodes h a.plan) homes a.first_fit) in
-      let plans = plans_agree b.nodes b.homes a.plan b.plan (once.formed b.nodes b.items) kept b.first_fit in
-      let plan : a.plan ≡ b.plan = ap₂ {A = List ℕ} {B = ℕ} {C = Plan} (λ (s : List ℕ) (n : ℕ). record { slots = s; needed = n }) plans.0 plans.1 in
-      let here : IsReport net a.nodes b.homes b.plan s = subst (λ (p : Plan). IsReport net a.nodes b.homes p s) plan (subst (λ h. IsReport net a.nodes h a.plan s) homes a.report) in
-      reports_agree net b.nodes b.homes b.plan s t (report_kept a.nodes b.nodes there back b.homes (once.formed b.nodes b.items) net b.plan s here) b.report
+      let nodes = a.chosen.compiled.nodes in
+      let others = b.chosen.compiled.nodes in
+      let plan = a.chosen.compiled.plan in
+      let other_plan = b.chosen.compiled.plan in
+      let at_home = b.chosen.compiled.homes in
+      let there = once.items nodes others a.items b.items in
+      let back = once.items others nodes b.items a.items in
+      let same = once.one a.chosen b.chosen a.plain b.plain a.items b.items a.picked b.picked a.used b.used
+      (record { plan = plan; first_fit = a.first_fit; fits = a.fits }) (record { plan = other_plan; first_fit = b.first_fit; fits = b.fits }) in
+      let kept = plan_kept nodes others at_home plan there back (subst (λ h. IsFirstFitPlan nodes h plan) same.0 a.first_fit) in
+      let plans = plans_agree others at_home plan other_plan (once.formed others b.items) kept b.first_fit in
+      let one_plan : plan ≡ other_plan = ap₂ {A = List ℕ} {B = ℕ} {C = Plan} (λ (s : List ℕ) (n : ℕ). record { slots = s; needed = n }) plans.0 plans.1 in
+      let here : IsReport net nodes at_home other_plan a.report = subst (λ (p : Plan). IsReport net nodes at_home p a.report) one_plan (subst (λ h. IsReport net nodes h plan a.report) same.0 a.is) in
+      let report : a.report ≡ b.report = reports_agree net others at_home other_plan a.report b.report (report_kept nodes others there back at_home (once.formed others b.items) net other_plan a.report here) b.is in
+      a.told ∙ ap₂ (λ (report told : List ℕ). report ++ told) report (told_same choice a.chosen b.chosen same.1 same.2 same.3) ∙ sym b.told
 
-  pub some_report : IsValidMachine machine → DesignFits net machine timing → (s : List ℕ) × IsReportOf net machine timing s
-  some_report valid fits =
-      let formed = once.formed fits.nodes fits.items in
-      let are = homes_are fits.nodes machine fits.homes formed valid fits.picked in (
-        report_text net fits.nodes fits.homes fits.plan (figures fits.nodes fits.homes formed are fits.plan.slots),
+  pub some_report : HasHomes choice net machine timing → (s : List ℕ) × IsReportOf choice net machine timing s
+  some_report has =
+      let nodes = has.chosen.compiled.nodes in
+      let homes = has.chosen.compiled.homes in
+      let plan = has.chosen.compiled.plan in
+      let formed = once.formed nodes has.items in
+      let text = report_text net nodes homes plan (figures nodes homes formed has.housed plan.slots) in (
+        text ++ told_of_homes choice has.chosen,
         record {
-          nodes = fits.nodes;
-          items = fits.items;
-          homes = fits.homes;
-          picked = fits.picked;
-          plan = fits.plan;
-          first_fit = fits.first_fit;
-          report = record { figures = figures fits.nodes fits.homes formed are fits.plan.slots; are = figures_are fits.nodes fits.homes formed are fits.plan.slots; is = refl };
+          chosen = has.chosen;
+          items = has.items;
+          plain = has.plain;
+          picked = has.picked;
+          used = has.used;
+          first_fit = has.first_fit;
+          fits = has.fits;
+          report = text;
+          is = record { figures = figures nodes homes formed has.housed plan.slots; are = figures_are nodes homes formed has.housed plan.slots; is = refl };
+          told = refl;
         },
       )

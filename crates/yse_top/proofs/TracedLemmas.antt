@@ -15,6 +15,8 @@ use Rattle.cmd_words.specs.declared.command.RunWords.{RunWords}
 use Rattle.net_defs.specs.Valid.{input_count}
 use Rattle.stim_text.specs.declared.order.Order.{Order}
 use Rattle.stim_text.specs.Stimuli as stim
+use Rattle.image_defs.specs.declared.image.Image.{Image}
+use Rattle.image_check.specs.declared.file.ImageFile.{ImageFile}
 use Rattle.machine_text.specs.declared.machine.Machine.{Machine}
 use Rattle.machine_text.specs.Machines.{default_machine}
 use Rattle.yse_top.specs.declared.output.Output.{Output}
@@ -30,8 +32,9 @@ use Rattle.yse_top.specs.Refusals.{Follows}
 use Rattle.yse_top.specs.Traced.{AreOfFiles, IsTimingOfFile, IsTraceOfFiles}
 use Rattle.yse_top.specs.Orders.{EndsIn, EndsInOrder}
 use Rattle.yse_top.specs.Endings.{ending_in, status_after}
-use Rattle.yse_top.specs.Visited.{IsMachineOfFile}
+use Rattle.yse_top.specs.Visited.{IsImageOfFile, IsMachineOfFile}
 use Rattle.yse_top.specs.Words.{traced_by}
+use Rattle.yse_top.specs.commands.Exec.{AfterImage, AfterMatch, ExecutesBy, ExpectedExec, IsAccepted, IsImageFileOf, OnImage, RunsImage, WritesTraceOf}
 use Rattle.yse_top.specs.commands.Run.{AfterCells, AfterDesign, AfterList, AfterLoop, AfterMachine, AfterStimulus, WritesTrace, EndsBy, EndsWithin, ExpectedRun, ExpectedOn, ExpectedRefer, KeepsTrace, OnTiming}
 use Rattle.yse_top.proofs.EndingLemmas.{whole_output}
 use Rattle.yse_top.proofs.ProperLemmas.{passes, refuses, refused_once, never_both}
@@ -48,7 +51,7 @@ passed Checked Next readings output never (inr (none, inl refused)) = absurd (ne
 passed Checked Next readings output never (inr (none, inr memory)) = absurd (not_done _ status.Memory output memory refl (λ e. cc))
 
 -- the text of a file that passes is its bytes
-whole_text : (file bytes text : List ℕ) → text_of file bytes ≡ Ok text → bytes ≡ text
+pub whole_text : (file bytes text : List ℕ) → text_of file bytes ≡ Ok text → bytes ≡ text
 whole_text file bytes text = by (nat_le (length bytes) MAX_TEXT_BYTES)
   where
     by : (b : Bool) → (if b then Ok bytes else Err (refusal status.Limit (too_long_line file))) ≡ Ok text → bytes ≡ text
@@ -191,8 +194,8 @@ module _ (bytes : Option (List ℕ → List ℕ)) where
       let net = netlist.0 in
       let list = reached_timing words net (OnTiming words End machine net) first.others output first.are netlist.2 in
       let Then : List Reading → Outcome → Type 0 = AfterStimulus words.stimulus net (End machine list.timing net) in
-      let order = passed (HasNoLoop net list.timing) (λ passed. After (HasRoom net machine list.timing) (λ fits. Then)) list.others output (λ e. not_done _ status.Loop output e.2 refl (λ e. cc)) list.next in
-      let room = passed (HasRoom net machine list.timing) (λ fits. Then) list.others output (λ e. not_done _ status.Overfull output e.3 refl (λ e. cc)) order.2 in
+      let order = passed (HasNoLoop net list.timing) (λ passed. After (HasRoom words.homes net machine list.timing) (λ fits. Then)) list.others output (λ e. not_done _ status.Loop output e.2 refl (λ e. cc)) list.next in
+      let room = passed (HasRoom words.homes net machine list.timing) (λ fits. Then) list.others output (λ e. not_done _ status.Overfull output e.4 refl (λ e. cc)) order.2 in
       let end = reached_stimulus words net (End machine list.timing net) list.others output list.are room.2 in
       record {
         machine = machine;
@@ -218,13 +221,52 @@ module _ (bytes : Option (List ℕ → List ℕ)) where
           let machine = passed (IsMachineOf first.text) (ExpectedOn words End) first.others output (λ e. not_done _ status.Machine output e.2 refl (λ e. cc)) first.next in
           reached_on words End machine.0 (subst (λ f. IsMachineOfFile bytes f machine.0) (sym is) (first.text, first.told, machine.1)) first.others output first.are machine.2
 
+  -- a run of an image came to its end over the image, the netlist and the stimulus of its files
+  pub record ReachedImage (words : RunWords) (name : List ℕ) (End : Image → Timing → Netlist → Stimulus → List Reading → Outcome → Type 0) (output : List ℕ) : Type 0 where
+    pub file : ImageFile
+    pub file_is : IsImageOfFile bytes name file
+    pub net : Netlist
+    pub timing : Timing
+    pub timing_is : IsTimingOfFile bytes words.last net words.timing timing
+    pub stimulus : Stimulus
+    pub are : AreOfFiles bytes words net stimulus
+    pub others : List Reading
+    pub ends : End file.image timing net stimulus others (done output)
+
+  pub reached_image : (words : RunWords) (name : List ℕ) (End : Image → Timing → Netlist → Stimulus → List Reading → Outcome → Type 0) (readings : List Reading) (output : List ℕ) → AreTold readings → ExecutesBy words name End readings (done output) → ReachedImage words name End output
+  unfolding ExecutesBy AfterImage
+  reached_image words name End readings output are expected =
+      let Next : Netlist → List Reading → Outcome → Type 0 = λ net. AfterList words.last net words.timing (OnImage words name End net) in
+      let first = gave words.netlist (λ text. After (IsNetlistOf text) Next) readings output are expected in
+      let netlist = passed (IsNetlistOf first.text) Next first.others output (λ e. not_done _ status.Netlist output e.2 refl (λ e. cc)) first.next in
+      let net = netlist.0 in
+      let list = reached_timing words net (OnImage words name End net) first.others output first.are netlist.2 in
+      let timing = list.timing in
+      let Run : Image → List Reading → Outcome → Type 0 = RunsImage words End net timing in
+      let order = passed (HasNoLoop net timing) (λ passed. AfterImage name net timing Run) list.others output (λ e. not_done _ status.Loop output e.2 refl (λ e. cc)) list.next in
+      let second = gave name (λ text. After (IsImageFileOf text) (λ file. AfterMatch net timing file Run)) list.others output list.are order.2 in
+      let file = passed (IsImageFileOf second.text) (λ file. AfterMatch net timing file Run) second.others output (λ e. not_done _ status.ImageText output e.2 refl (λ e. cc)) second.next in
+      let accepted = passed (IsAccepted net timing file.0) (λ accepted. Run file.0.image) second.others output (λ e. not_done _ status.ImageMatch output e.5 refl (λ e. cc)) file.2 in
+      let end = reached_stimulus words net (End file.0.image timing net) second.others output second.are accepted.2 in
+      record {
+        file = file.0;
+        file_is = (second.text, second.told, file.1);
+        net = net;
+        timing = timing;
+        timing_is = list.timing_is;
+        stimulus = end.stimulus;
+        are = of_files words first.text first.told net netlist.1 (End file.0.image timing net) output end;
+        others = end.others;
+        ends = end.ends;
+      }
+
   -- ---- the trace
 
   written : (net : Netlist) (timing : Timing) (stimulus : Stimulus) (readings : List Reading) (output : List ℕ) → WritesTrace net timing stimulus readings (done output) → IsTrace net timing stimulus output
   written net timing stimulus readings output (none, inl (text, is, same)) = subst (IsTrace net timing stimulus) (sym (ap (λ (o : Outcome). o.output) same)) is
   written net timing stimulus readings output (none, inr memory) = absurd (not_done _ status.Memory output memory refl (λ e. cc))
 
-  ordered : (net : Netlist) (words : RunWords) (machine : Machine) (timing : Timing) (stimulus : Stimulus) (order : Order) (readings : List Reading) (output : List ℕ) → Ends (EndsInOrder order words.banks net machine timing stimulus) readings (done output) → IsTrace net timing stimulus output
+  ordered : (net : Netlist) (words : RunWords) (machine : Machine) (timing : Timing) (stimulus : Stimulus) (order : Order) (readings : List Reading) (output : List ℕ) → Ends (EndsInOrder order words.banks words.homes net machine timing stimulus) readings (done output) → IsTrace net timing stimulus output
   ordered net words machine timing stimulus order readings output (none, inr memory) = absurd (not_done _ status.Memory output memory refl (λ e. cc))
   ordered net words machine timing stimulus order readings output (none, inl is) = by is.ends
     where
@@ -236,8 +278,8 @@ module _ (bytes : Option (List ℕ → List ℕ)) where
   unfolding EndsBy
   ends_traced None words machine timing net stimulus readings output are expected = written net timing stimulus readings output expected
   ends_traced (Some file) words machine timing net stimulus readings output are expected =
-      let first = gave file (λ text. After (IsOrderOf text machine) (λ order. Ends (EndsInOrder order words.banks net machine timing stimulus))) readings output are expected in
-      let order = passed (IsOrderOf first.text machine) (λ order. Ends (EndsInOrder order words.banks net machine timing stimulus)) first.others output (λ e. not_done _ status.OrderText output e.2 refl (λ e. cc)) first.next in
+      let first = gave file (λ text. After (IsOrderOf text machine) (λ order. Ends (EndsInOrder order words.banks words.homes net machine timing stimulus))) readings output are expected in
+      let order = passed (IsOrderOf first.text machine) (λ order. Ends (EndsInOrder order words.banks words.homes net machine timing stimulus)) first.others output (λ e. not_done _ status.OrderText output e.2 refl (λ e. cc)) first.next in
       ordered net words machine timing stimulus order.0 first.others output order.2
 
   -- ---- commands
@@ -276,11 +318,25 @@ module _ (bytes : Option (List ℕ → List ℕ)) where
         trace = ends_traced by words end.machine end.timing end.net end.stimulus end.others output end.told ends;
       }
 
+  exec_traced : (words : RunWords) (name : List ℕ) (readings : List Reading) (output : List ℕ) → AreTold readings → ExpectedExec words name readings (done output) → IsTraceOfFiles bytes output words
+  exec_traced words name readings output are expected =
+      let end = reached_image words name WritesTraceOf readings output are expected in
+      record {
+        net = end.net;
+        stimulus = end.stimulus;
+        are = end.are;
+        timing = end.timing;
+        timing_is = end.timing_is;
+        trace = written end.net end.timing end.stimulus end.others output end.ends;
+      }
+
   command_traced : (command : Command) (readings : List Reading) (output : List ℕ) → AreTold readings → ExpectedOf command readings (done output) → IfSome (traced_by (Some command)) (IsTraceOfFiles bytes output)
   command_traced (command.Run words) readings output are expected = run_traced words false None readings output are expected
   command_traced (command.Refer words) readings output are expected = refer_traced words readings output are expected
   command_traced (command.Order words) readings output are expected = run_traced words true words.order readings output are expected
   command_traced (command.Plan words) readings output are expected = tt
+  command_traced (command.Compile words) readings output are expected = tt
+  command_traced (command.Exec words image) readings output are expected = exec_traced words image readings output are expected
   command_traced (command.Show file) readings output are expected = tt
   command_traced (command.Large gates cycles workers) readings output are expected = tt
 

@@ -1,11 +1,14 @@
 -- A run whose end tells the gates: what is expected of it, and its visits.
 use Rattle.std.proofs.Common.{◌≡◌, ◌∙◌, sym, ap, refl, subst, inl, inr, ℕ, ◌*◌, List, [], ◌∷◌, Option, Some, None, Result, Ok, Err, Bool}
-use Rattle.std.specs.Prelude.{IfOk, OnErr, min}
+use Rattle.std.specs.Prelude.{IfOk, OnErr, length, min}
 use Rattle.crew_run.specs.declared.gate.Gate as gate
 use Rattle.edge_io.specs.declared.counts.FileCounts.{FileCounts}
 use Rattle.edge_io.specs.declared.writing.WriteNo.{WriteNo}
 use Rattle.edge_io.specs.declared.writing.WriteNo.TheVariants.{Failed}
+use Rattle.image_defs.specs.declared.image.Image.{Image}
 use Rattle.machine_text.specs.declared.machine.Machine.{Machine}
+use Rattle.machine_text.specs.Machines.{ports_of}
+use Rattle.net_defs.specs.declared.homes.HomeChoice.{HomeChoice}
 use Rattle.net_defs.specs.declared.netlist.Netlist.{Netlist}
 use Rattle.net_defs.specs.declared.stimulus.Stimulus.{Stimulus}
 use Rattle.net_defs.specs.declared.timing.Timing.{Timing}
@@ -14,6 +17,7 @@ use Rattle.cmd_words.specs.declared.command.Command.{Command}
 use Rattle.cmd_words.specs.declared.command.Command.TheVariants as command
 use Rattle.cmd_words.specs.declared.command.RunWords.{RunWords}
 use Rattle.yse_top.specs.declared.commands.steps.Pace.{Pace}
+use Rattle.yse_top.specs.declared.commands.steps.Pace.TheVariants.{Workers}
 use Rattle.yse_top.specs.declared.output.Output.{Output}
 use Rattle.yse_top.specs.declared.output.Output.TheVariants as output
 use Rattle.yse_top.specs.declared.refusal.Refusal.{Refusal}
@@ -27,11 +31,12 @@ use Rattle.yse_top.specs.Readings.{Reading}
 use Rattle.yse_top.specs.Endings.{ending_in}
 use Rattle.yse_top.specs.Ends.{IsWhole, MayWrite}
 use Rattle.yse_top.specs.Refusals.{Follows, ended_with, outcome_of, refused_of, status_so_far, status_told, written_by}
-use Rattle.yse_top.specs.Visited.{AreRunVisits, AreTold, AreTurnsOf, AreVisitsOfFiles, EndsTelling, HasWorkers, KeepsGates, TellsGates, TellsOfRun, block_of, has_limit, order_in}
+use Rattle.yse_top.specs.Visited.{AreRunVisits, AreTold, AreTurnsOf, AreVisitsOfFiles, AreVisitsOfImage, EndsTelling, ExecTelling, HasWorkers, KeepsGates, TellsGates, TellsOfExec, TellsOfRun, block_of, has_limit, order_in}
+use Rattle.yse_top.specs.commands.Exec.{AfterImage, AfterMatch, ExecutesBy, ExpectedExec, IsAccepted, IsImageFileOf, OnImage, RunsImage, WritesTraceOf}
 use Rattle.yse_top.specs.commands.Run.{AfterDesign, AfterFit, AfterList, AfterMachine, AfterStimulus, EndsWithin, ExpectedOn, ExpectedRun}
 use Rattle.yse_top.proofs.CallLemmas.{ended_no_fault}
 use Rattle.yse_top.proofs.GateLemmas.{all_blocks}
-use Rattle.yse_top.proofs.TracedLemmas.{reached, same_units}
+use Rattle.yse_top.proofs.TracedLemmas.{reached, reached_image, same_units}
 
 -- ---- a chain that ends otherwise
 
@@ -64,18 +69,18 @@ list_so (Some file) net timing One Other so =
     file_so file (λ text. After (IsListOf text net) (λ listed. One (listing timing listed))) (λ text. After (IsListOf text net) (λ listed. Other (listing timing listed))) (λ text.
     after_so (IsListOf text net) (λ listed. One (listing timing listed)) (λ listed. Other (listing timing listed)) (λ listed. so (listing timing listed)))
 
-fit_so : (net : Netlist) (machine : Machine) (timing : Timing) (One Other : List Reading → Outcome → Type 0) → Implies One Other → Implies (AfterFit net machine timing One) (AfterFit net machine timing Other)
-fit_so net machine timing One Other so =
-    after_so (HasNoLoop net timing) (λ passed. After (HasRoom net machine timing) (λ fits. One)) (λ passed. After (HasRoom net machine timing) (λ fits. Other)) (λ passed.
-    after_so (HasRoom net machine timing) (λ fits. One) (λ fits. Other) (λ fits. so))
+fit_so : (choice : HomeChoice) (net : Netlist) (machine : Machine) (timing : Timing) (One Other : List Reading → Outcome → Type 0) → Implies One Other → Implies (AfterFit choice net machine timing One) (AfterFit choice net machine timing Other)
+fit_so choice net machine timing One Other so =
+    after_so (HasNoLoop net timing) (λ passed. After (HasRoom choice net machine timing) (λ fits. One)) (λ passed. After (HasRoom choice net machine timing) (λ fits. Other)) (λ passed.
+    after_so (HasRoom choice net machine timing) (λ fits. One) (λ fits. Other) (λ fits. so))
 
 design_so : (words : RunWords) (machine : Machine) (One Other : Timing → Netlist → List Reading → Outcome → Type 0) → ((timing : Timing) (net : Netlist) → Implies (One timing net) (Other timing net)) → Implies (AfterDesign words machine One) (AfterDesign words machine Other)
 unfolding AfterDesign
 design_so words machine One Other so =
-    file_so words.netlist (λ text. After (IsNetlistOf text) (λ net. AfterList words.last net words.timing (λ timing. AfterFit net machine timing (One timing net)))) (λ text. After (IsNetlistOf text) (λ net. AfterList words.last net words.timing (λ timing. AfterFit net machine timing (Other timing net)))) (λ text.
-    after_so (IsNetlistOf text) (λ net. AfterList words.last net words.timing (λ timing. AfterFit net machine timing (One timing net))) (λ net. AfterList words.last net words.timing (λ timing. AfterFit net machine timing (Other timing net))) (λ net.
-    list_so words.last net words.timing (λ timing. AfterFit net machine timing (One timing net)) (λ timing. AfterFit net machine timing (Other timing net)) (λ timing.
-    fit_so net machine timing (One timing net) (Other timing net) (so timing net))))
+    file_so words.netlist (λ text. After (IsNetlistOf text) (λ net. AfterList words.last net words.timing (λ timing. AfterFit words.homes net machine timing (One timing net)))) (λ text. After (IsNetlistOf text) (λ net. AfterList words.last net words.timing (λ timing. AfterFit words.homes net machine timing (Other timing net)))) (λ text.
+    after_so (IsNetlistOf text) (λ net. AfterList words.last net words.timing (λ timing. AfterFit words.homes net machine timing (One timing net))) (λ net. AfterList words.last net words.timing (λ timing. AfterFit words.homes net machine timing (Other timing net))) (λ net.
+    list_so words.last net words.timing (λ timing. AfterFit words.homes net machine timing (One timing net)) (λ timing. AfterFit words.homes net machine timing (Other timing net)) (λ timing.
+    fit_so words.homes net machine timing (One timing net) (Other timing net) (so timing net))))
 
 on_so : (words : RunWords) (One Other : Machine → Timing → Netlist → Stimulus → List Reading → Outcome → Type 0) → ((machine : Machine) (timing : Timing) (net : Netlist) (stimulus : Stimulus) → Implies (One machine timing net stimulus) (Other machine timing net stimulus)) → (machine : Machine) → Implies (ExpectedOn words One machine) (ExpectedOn words Other machine)
 unfolding ExpectedOn
@@ -88,6 +93,24 @@ unfolding AfterMachine
 machine_so None One Other so = so _
 machine_so (Some file) One Other so =
     file_so file (λ text. After (IsMachineOf text) One) (λ text. After (IsMachineOf text) Other) (λ text. after_so (IsMachineOf text) One Other so)
+
+image_so : (name : List ℕ) (net : Netlist) (timing : Timing) (One Other : Image → List Reading → Outcome → Type 0) → ((image : Image) → Implies (One image) (Other image)) → Implies (AfterImage name net timing One) (AfterImage name net timing Other)
+unfolding AfterImage
+image_so name net timing One Other so =
+    file_so name (λ text. After (IsImageFileOf text) (λ file. AfterMatch net timing file One)) (λ text. After (IsImageFileOf text) (λ file. AfterMatch net timing file Other)) (λ text.
+    after_so (IsImageFileOf text) (λ file. AfterMatch net timing file One) (λ file. AfterMatch net timing file Other) (λ file.
+    after_so (IsAccepted net timing file) (λ accepted. One file.image) (λ accepted. Other file.image) (λ accepted. so file.image)))
+
+exec_so : (words : RunWords) (name : List ℕ) (One Other : Image → Timing → Netlist → Stimulus → List Reading → Outcome → Type 0) → ((image : Image) (timing : Timing) (net : Netlist) (stimulus : Stimulus) → Implies (One image timing net stimulus) (Other image timing net stimulus))
+    → Implies (ExecutesBy words name One) (ExecutesBy words name Other)
+unfolding ExecutesBy
+exec_so words name One Other so =
+    file_so words.netlist (λ text. After (IsNetlistOf text) (λ net. AfterList words.last net words.timing (OnImage words name One net))) (λ text. After (IsNetlistOf text) (λ net. AfterList words.last net words.timing (OnImage words name Other net))) (λ text.
+    after_so (IsNetlistOf text) (λ net. AfterList words.last net words.timing (OnImage words name One net)) (λ net. AfterList words.last net words.timing (OnImage words name Other net)) (λ net.
+    list_so words.last net words.timing (OnImage words name One net) (OnImage words name Other net) (λ timing.
+    after_so (HasNoLoop net timing) (λ passed. AfterImage name net timing (RunsImage words One net timing)) (λ passed. AfterImage name net timing (RunsImage words Other net timing)) (λ passed.
+    image_so name net timing (RunsImage words One net timing) (RunsImage words Other net timing) (λ image.
+    stimulus_so words.stimulus net (One image timing net) (Other image timing net) (so image timing net))))))
 
 -- ---- outcomes at which something may be written
 
@@ -104,6 +127,8 @@ refused_writes (refusal.Stimulus why) may = may
 refused_writes (refusal.Cells cells) may = may
 refused_writes (refusal.OrderText why) may = may
 refused_writes (refusal.LastList why) may = may
+refused_writes (refusal.ImageText why) may = may
+refused_writes (refusal.ImageMatch why) may = may
 refused_writes refusal.Memory may = may
 
 -- an output may be written
@@ -144,10 +169,26 @@ is_done (Err why) whole may = absurd (refused_writes why may)
 
 -- ---- a run that tells the gates
 
+-- the visits, which go with what came of the writing, and what is left where nothing is written
+module _ (Visits : Result (Unit {0}) WriteNo → Type 0) (Left : Type 0) where
+  told_so : (wrote : Result (Unit {0}) WriteNo) (outcome : Outcome) → MayWrite outcome.status → (outcome.status ≡ status.WriteFault → ⊥) → Visits wrote
+      → AreTold (status_so_far wrote outcome) (Visits (Ok tt)) (Visits (Err Failed)) Left
+  told_so (Ok done) outcome may other visits = record { written = λ whole. visits; cut = λ is. absurd (other is); refused = λ none. absurd (none may) }
+  told_so (Err Failed) outcome may other visits = record { written = λ whole. absurd whole; cut = λ is. visits; refused = λ none. absurd (none tt) }
+
+  told_as : (r : Result Output Refusal) → (MayWrite (outcome_of r).status → Visits (written_by r)) → OnErr r Left → AreTold (status_told r) (Visits (Ok tt)) (Visits (Err Failed)) Left
+  told_as (Ok output) visits kept =
+      told_so (wrote_in output) (ended_with output) (output_writes output) (ended_no_fault output) (visits (output_writes output))
+  told_as (Err why) visits kept = record {
+    written = λ whole. absurd (refused_writes why (whole_writes (refused_of why).status whole));
+    cut = λ is. absurd (refused_writes why (subst MayWrite (sym is) tt));
+    refused = λ none. kept;
+  }
+
 -- the visits of a timing whose cycles have as many turns
-same_visits : {G : Type 0} (p : gate.Ghosts G) (gates gates' : List (Option G)) (wrote : Result (Unit {0}) WriteNo) (machine : Machine) (timing given : Timing) (net : Netlist) (stimulus : Stimulus) (workers : ℕ) → timing.units ≡ given.units
-    → AreRunVisits p gates gates' wrote machine timing net stimulus workers → AreRunVisits p gates gates' wrote machine given net stimulus workers
-same_visits p gates gates' wrote machine timing given net stimulus workers same visits = record {
+same_visits : {G : Type 0} (p : gate.Ghosts G) (gates gates' : List (Option G)) (wrote : Result (Unit {0}) WriteNo) (ports : ℕ) (timing given : Timing) (net : Netlist) (stimulus : Stimulus) (workers : ℕ) → timing.units ≡ given.units
+    → AreRunVisits p gates gates' wrote ports timing net stimulus workers → AreRunVisits p gates gates' wrote ports given net stimulus workers
+same_visits p gates gates' wrote ports timing given net stimulus workers same visits = record {
   turns = visits.turns;
   are = turns_are wrote visits.are;
   visits = visits.visits;
@@ -181,27 +222,41 @@ module _ {G : Type 0} (p : gate.Ghosts G) (gates gates' : List (Option G)) (name
         net = end.net;
         stimulus = end.stimulus;
         are = end.are;
-        visits = same_visits p gates gates' (written_by result) end.machine end.timing words.timing end.net end.stimulus words.workers (same_units bytes words.last end.net words.timing end.timing end.timing_is) (end.ends.visits has refl);
+        visits = same_visits p gates gates' (written_by result) (ports_of end.machine) end.timing words.timing end.net end.stimulus words.workers (same_units bytes words.last end.net words.timing end.timing end.timing_is) (end.ends.visits has refl);
       }
 
-  -- the visits go with what came of the writing
-  told_so : (wrote : Result (Unit {0}) WriteNo) (outcome : Outcome) → MayWrite outcome.status → (outcome.status ≡ status.WriteFault → ⊥) → AreVisitsOfFiles p bytes gates gates' words wrote
-      → AreTold (status_so_far wrote outcome) (AreVisitsOfFiles p bytes gates gates' words (Ok tt)) (AreVisitsOfFiles p bytes gates gates' words (Err Failed)) (gates' ≡ gates)
-  told_so (Ok done) outcome may other visits = record { written = λ whole. visits; cut = λ is. absurd (other is); refused = λ none. absurd (none may) }
-  told_so (Err Failed) outcome may other visits = record { written = λ whole. absurd whole; cut = λ is. visits; refused = λ none. absurd (none tt) }
+  pub tells : Follows names bytes old new result Telling → KeepsGates pace gates gates' result → TellsOfRun p bytes gates gates' pace words result
+  tells follows kept has = told_as (AreVisitsOfFiles p bytes gates gates' words) (gates' ≡ gates) result (visits follows has (kept.whole has)) kept.refused
 
-  told_as : (r : Result Output Refusal) → (MayWrite (outcome_of r).status → AreVisitsOfFiles p bytes gates gates' words (written_by r)) → OnErr r (gates' ≡ gates)
-      → AreTold (status_told r) (AreVisitsOfFiles p bytes gates gates' words (Ok tt)) (AreVisitsOfFiles p bytes gates gates' words (Err Failed)) (gates' ≡ gates)
-  told_as (Ok output) visits kept =
-      told_so (wrote_in output) (ended_with output) (output_writes output) (ended_no_fault output) (visits (output_writes output))
-  told_as (Err why) visits kept = record {
-    written = λ whole. absurd (refused_writes why (whole_writes (refused_of why).status whole));
-    cut = λ is. absurd (refused_writes why (subst MayWrite (sym is) tt));
-    refused = λ none. kept;
+-- ---- a run of an image that tells the gates
+
+module _ {G : Type 0} (p : gate.Ghosts G) (gates gates' : List (Option G)) (names : Option (List ℕ → Bool)) (bytes : Option (List ℕ → List ℕ)) (old new : FileCounts) (words : RunWords) (name : List ℕ) (result : Result Output Refusal) where
+  -- what a run of the image of the named file comes to with what it tells
+  abbrev pub Executing : List Reading → Outcome → Type 0
+  Executing = ExecutesBy words name (ExecTelling p gates gates' (written_by result) words)
+
+  pub exec_expects : Follows names bytes old new result Executing → Follows names bytes old new result (ExpectedExec words name)
+  exec_expects follows = record {
+    readings = follows.readings;
+    are = follows.are;
+    expected = exec_so words name (ExecTelling p gates gates' (written_by result) words) WritesTraceOf (λ image timing net stimulus readings outcome telling. telling.ends) follows.readings (outcome_of result) follows.expected;
   }
 
-  pub tells : Follows names bytes old new result Telling → KeepsGates pace gates gates' result → TellsOfRun p bytes gates gates' pace words result
-  tells follows kept has = told_as result (visits follows has (kept.whole has)) kept.refused
+  exec_visits : Follows names bytes old new result Executing → IfOk result (λ output. ending_in output ≡ None) → MayWrite (outcome_of result).status → AreVisitsOfImage p bytes gates gates' words name (written_by result)
+  exec_visits follows whole may =
+      let (text, same) = is_done result whole may in
+      let end = reached_image bytes words name (ExecTelling p gates gates' (written_by result) words) follows.readings text (λ place reading at. (follows.are.each place reading at).whole) (subst (λ (o : Outcome). Executing follows.readings o) same follows.expected) in
+      record {
+        image = end.file;
+        image_is = end.file_is;
+        net = end.net;
+        stimulus = end.stimulus;
+        are = end.are;
+        visits = same_visits p gates gates' (written_by result) (length end.file.image.ports) end.timing words.timing end.net end.stimulus words.workers (same_units bytes words.last end.net words.timing end.timing end.timing_is) (end.ends.visits refl);
+      }
+
+  pub exec_tells : Follows names bytes old new result Executing → KeepsGates Workers gates gates' result → TellsOfExec p bytes gates gates' words name result
+  exec_tells follows kept = told_as (AreVisitsOfImage p bytes gates gates' words name) (gates' ≡ gates) result (exec_visits follows (kept.whole tt)) kept.refused
 
 -- ---- the end of a call
 
@@ -220,7 +275,17 @@ module _ {G : Type 0} (p : gate.Ghosts G) (bytes : Option (List ℕ → List ℕ
     net = visits.net;
     stimulus = visits.stimulus;
     are = visits.are;
-    visits = all_blocks p gates gates' Failed visits.machine words.timing visits.net visits.stimulus words.workers visits.visits;
+    visits = all_blocks p gates gates' Failed (ports_of visits.machine) words.timing visits.net visits.stimulus words.workers visits.visits;
+  }
+
+  image_cut : (words : RunWords) (name : List ℕ) → AreVisitsOfImage p bytes gates gates' words name (Ok tt) → AreVisitsOfImage p bytes gates gates' words name (Err Failed)
+  image_cut words name visits = record {
+    image = visits.image;
+    image_is = visits.image_is;
+    net = visits.net;
+    stimulus = visits.stimulus;
+    are = visits.are;
+    visits = all_blocks p gates gates' Failed (length visits.image.image.ports) words.timing visits.net visits.stimulus words.workers visits.visits;
   }
 
   pub tells_ended : (told ended : Status) (command : Command) → MayWrite told → MayWrite ended → (told ≡ status.WriteFault → ended ≡ status.WriteFault) → TellsGates p bytes gates gates' told (Some command) → TellsGates p bytes gates gates' ended (Some command)
@@ -229,4 +294,6 @@ module _ {G : Type 0} (p : gate.Ghosts G) (bytes : Option (List ℕ → List ℕ
   tells_ended told ended (command.Refer words) may may_too fails tells = tells
   tells_ended told ended (command.Order words) may may_too fails tells = tells
   tells_ended told ended (command.Plan words) may may_too fails tells = tells
+  tells_ended told ended (command.Compile words) may may_too fails tells = tells
+  tells_ended told ended (command.Exec words image) may may_too fails tells = ended_told told ended may may_too fails (image_cut words image) tells
   tells_ended told ended (command.Show file) may may_too fails tells = tells

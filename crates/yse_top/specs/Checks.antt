@@ -3,6 +3,7 @@
 -- outcome of the call.
 use Rattle.std.specs.Prelude.{◌≡◌, ◌⊎◌, ℕ, ◌+◌, ◌*◌, ◌<◌, ◌≤◌, nat_le, if◌then◌else◌, List, [], ◌∷◌, length, Option, Some, None, Result, Ok, Err}
 use Rattle.limits.specs.declared.TheConstants.{MAX_CELLS, MAX_TEXT_BYTES}
+use Rattle.net_defs.specs.declared.homes.HomeChoice.{HomeChoice}
 use Rattle.net_defs.specs.declared.netlist.Netlist.{Netlist}
 use Rattle.net_defs.specs.declared.timing.Timing.{Timing}
 use Rattle.net_defs.specs.declared.stimulus.Stimulus.{Stimulus}
@@ -18,8 +19,8 @@ use Rattle.stim_text.specs.Stimuli as stim
 use Rattle.stim_text.specs.declared.order.Order.{Order}
 use Rattle.stim_text.specs.Orders as orders
 use Rattle.yse_compile.specs.declared.compiler.CompNo.{CompNo}
+use Rattle.yse_compile.specs.Chosen.{FitsBy}
 use Rattle.yse_compile.specs.Compiled.{IsRight, IsOverfull}
-use Rattle.yse_compile.specs.Designs.{DesignFits}
 use Rattle.yse_top.specs.declared.status.Status.TheVariants as status
 use Rattle.yse_top.specs.Lines.{read_fault_line, too_long_line, machine_line, netlist_line, loop_line, overfull_line, stimulus_line, cells_line, order_line, list_line}
 use Rattle.yse_top.specs.Outcome.{Outcome, done, refusal, out_of_memory}
@@ -100,16 +101,16 @@ abbrev pub HasNoLoop : Netlist → Timing → Result (Unit {0}) Outcome → Type
 HasNoLoop net timing (Ok passed) = (circle : List ℕ) → IsCircle net timing circle → ⊥
 HasNoLoop net timing (Err outcome) = (loop : List ℕ) × IsLoop net timing loop × (outcome ≡ refusal status.Loop (loop_line net loop))
 
--- the design fits the machine; where it doesn't, the refusal says why
-abbrev pub HasRoom : Netlist → Machine → Timing → Result (Unit {0}) Outcome → Type 0
-HasRoom net machine timing (Ok passed) = DesignFits net machine timing
-HasRoom net machine timing (Err outcome) =
-    (why : CompNo) × IsOverfull why × IsRight net machine timing why × (outcome ≡ refusal status.Overfull (overfull_line net why))
+-- the design fits the machine by the choice of homes; where it doesn't, the refusal says why
+abbrev pub HasRoom : HomeChoice → Netlist → Machine → Timing → Result (Unit {0}) Outcome → Type 0
+HasRoom choice net machine timing (Ok passed) = FitsBy choice net machine timing
+HasRoom choice net machine timing (Err outcome) =
+    (why : CompNo) × IsOverfull why × IsRight net machine timing why × (FitsBy choice net machine timing → ⊥) × (outcome ≡ refusal status.Overfull (overfull_line net why))
 
 -- a loop refuses the design, or else that it does not fit
-abbrev pub RefusesDesign : Netlist → Machine → Timing → Outcome → Type 0
-RefusesDesign net machine timing outcome =
-    Refuses (HasNoLoop net timing) outcome ⊎ (HasNoLoop net timing (Ok tt) × Refuses (HasRoom net machine timing) outcome)
+abbrev pub RefusesDesign : HomeChoice → Netlist → Machine → Timing → Outcome → Type 0
+RefusesDesign choice net machine timing outcome =
+    Refuses (HasNoLoop net timing) outcome ⊎ (HasNoLoop net timing (Ok tt) × Refuses (HasRoom choice net machine timing) outcome)
 
 -- a cell for each input and each printed name in each cycle
 abbrev pub cell_count : Netlist → Stimulus → ℕ

@@ -3,13 +3,15 @@ use Rattle.std.specs.Prelude.{◌≡◌, true, false, ℕ, List, None, Result, O
 use Rattle.cmd_words.specs.declared.command.Command.{Command}
 use Rattle.cmd_words.specs.declared.command.Command.TheVariants as command
 use Rattle.cmd_words.specs.Forms.{HasForm}
+use Rattle.yse_top.specs.declared.commands.layout.Sheet.TheVariants as sheet
 use Rattle.yse_top.specs.declared.status.Status.TheVariants as status
 use Rattle.yse_top.specs.Checks.{After}
 use Rattle.yse_top.specs.Lines.{usage_line}
 use Rattle.yse_top.specs.Outcome.{Outcome, refusal}
 use Rattle.yse_top.specs.Readings.{Reading}
+use Rattle.yse_top.specs.commands.Exec.{ExpectedExec}
 use Rattle.yse_top.specs.commands.Large.{ExpectedLarge}
-use Rattle.yse_top.specs.commands.Plan.{ExpectedPlan}
+use Rattle.yse_top.specs.commands.Layout.{ExpectedLayout}
 use Rattle.yse_top.specs.commands.Run.{ExpectedRun, ExpectedRefer}
 use Rattle.yse_top.specs.commands.Show.{ExpectedShow}
 
@@ -17,7 +19,9 @@ abbrev pub ExpectedOf : Command → List Reading → Outcome → Type 0
 ExpectedOf (command.Run words) readings outcome = ExpectedRun words false None readings outcome
 ExpectedOf (command.Refer words) readings outcome = ExpectedRefer words readings outcome
 ExpectedOf (command.Order words) readings outcome = ExpectedRun words true words.order readings outcome
-ExpectedOf (command.Plan words) readings outcome = ExpectedPlan words readings outcome
+ExpectedOf (command.Plan words) readings outcome = ExpectedLayout sheet.Report words readings outcome
+ExpectedOf (command.Compile words) readings outcome = ExpectedLayout sheet.Image words readings outcome
+ExpectedOf (command.Exec words image) readings outcome = ExpectedExec words image readings outcome
 ExpectedOf (command.Show netlist) readings outcome = ExpectedShow netlist readings outcome
 ExpectedOf (command.Large gates cycles workers) readings outcome = ExpectedLarge gates cycles readings outcome
 

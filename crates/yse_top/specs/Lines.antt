@@ -18,6 +18,10 @@ use Rattle.stim_text.specs.declared.refusal.StimNo.{StimNo}
 use Rattle.stim_text.specs.declared.refusal.StimNo.TheVariants as stim_no
 use Rattle.stim_text.specs.declared.refusal.OrderNo.{OrderNo}
 use Rattle.stim_text.specs.declared.refusal.OrderNo.TheVariants as order_no
+use Rattle.image_file.specs.declared.refusal.ImageNo.{ImageNo}
+use Rattle.image_file.specs.declared.refusal.ImageNo.TheVariants as image_no
+use Rattle.image_check.specs.declared.check.CheckNo.{CheckNo}
+use Rattle.image_check.specs.declared.check.CheckNo.TheVariants as check_no
 use Rattle.net_defs.specs.declared.netlist.Netlist.{Netlist}
 use Rattle.net_defs.specs.declared.netlist.Block.{Block}
 use Rattle.net_defs.specs.Canonical.{name_of}
@@ -172,3 +176,36 @@ list_line (last_no.Syntax line) = gate_line line (codes "syntax")
 list_line (last_no.NoGate line) = gate_line line (codes "no such gate")
 list_line (last_no.Twice line) = gate_line line (codes "given twice")
 list_line last_no.Memory = memory_line
+
+-- ---- images
+
+-- a fault of a line of an image text
+unfoldable pub image_fault_line : ℕ → List ℕ → List ℕ
+image_fault_line line fault = joined (codes "image: line " ∷ decimal line ∷ codes ": " ∷ fault ∷ codes "\n" ∷ [])
+
+abbrev pub image_line : ImageNo → List ℕ
+image_line (image_no.Syntax line) = image_fault_line line (codes "syntax")
+image_line (image_no.Range line) = image_fault_line line (codes "out of range")
+image_line image_no.Memory = memory_line
+
+unfoldable pub form_line : List ℕ
+form_line = codes "image: not well formed\n"
+
+unfoldable pub timing_line : List ℕ
+timing_line = codes "image: timing differs\n"
+
+-- a place of an image
+unfoldable pub place_line : ℕ → ℕ → List ℕ
+place_line port slot = joined (codes "image: port " ∷ decimal port ∷ codes " slot " ∷ decimal slot ∷ codes " does not match\n" ∷ [])
+
+-- a printed column, counted from 0
+unfoldable pub column_line : ℕ → List ℕ
+column_line column = joined (codes "image: column " ∷ decimal column ∷ codes " does not match\n" ∷ [])
+
+-- an image that a netlist does not accept
+abbrev pub match_line : CheckNo → List ℕ
+match_line check_no.Form = form_line
+match_line check_no.Timing = timing_line
+match_line (check_no.Place port slot) = place_line port slot
+match_line (check_no.Column column) = column_line column
+match_line check_no.Memory = memory_line

@@ -1,6 +1,7 @@
 -- Where a run in a given order ends.
 use Rattle.std.specs.Prelude.{◌≡◌, ◌≤◌, ◌⊎◌, ℕ, List, None, Option, Some}
 use Rattle.machine_text.specs.declared.machine.Machine.{Machine}
+use Rattle.net_defs.specs.declared.homes.HomeChoice.{HomeChoice}
 use Rattle.net_defs.specs.declared.netlist.Netlist.{Netlist}
 use Rattle.net_defs.specs.declared.stimulus.Stimulus.{Stimulus}
 use Rattle.net_defs.specs.declared.timing.Timing.{Timing}
@@ -16,16 +17,16 @@ use Rattle.event_defs.specs.Steps.{CoreState, AreFirstSteps, AllDone, rows_done}
 use Rattle.stim_text.specs.declared.order.Order.{Order}
 use Rattle.stim_text.specs.Orders.{steps_of}
 use Rattle.machine_run.specs.Shown.{AreShown}
-use Rattle.yse_compile.specs.declared.compiler.Compiled.{Compiled}
-use Rattle.yse_compile.specs.Compiled.{IsCompiled}
+use Rattle.yse_compile.specs.declared.choose.Chosen.{Chosen}
+use Rattle.yse_compile.specs.Chosen.{IsChosen}
 use Rattle.yse_top.specs.declared.output.Ending.{Ending}
 use Rattle.yse_top.specs.Outcome.{Outcome, done, unfinished}
 
--- the image that a netlist is compiled to for a machine
-pub record IsMachineImage (net : Netlist) (machine : Machine) (timing : Timing) (image : Image) : Type 0 where
-  pub compiled : Compiled
-  pub is : IsCompiled net machine timing compiled
-  pub image_is : compiled.image ≡ image
+-- the image that a netlist is compiled to for a machine, at the homes of the choice
+pub record IsMachineImage (choice : HomeChoice) (net : Netlist) (machine : Machine) (timing : Timing) (image : Image) : Type 0 where
+  pub chosen : Chosen
+  pub is : IsChosen net machine timing choice chosen
+  pub image_is : chosen.compiled.image ≡ image
 
 -- the state after the steps of an order, one by one from the start, with so many banks
 pub record IsAfterOrder (order : Order) (banks : ℕ) (timing : Timing) (stimulus : Stimulus) (image : Image) (state : CoreState) : Type 0 where
@@ -40,9 +41,9 @@ EndsIn net timing stimulus states image state outcome =
     × (outcome ≡ unfinished (rows_done image state) (cycle_count stimulus) (trace_to net timing states (rows_done image state))))
 
 -- the machine's ports have made the steps of the order, and what is done by then is written
-pub record EndsInOrder (order : Order) (banks : ℕ) (net : Netlist) (machine : Machine) (timing : Timing) (stimulus : Stimulus) (outcome : Outcome) : Type 0 where
+pub record EndsInOrder (order : Order) (banks : ℕ) (choice : HomeChoice) (net : Netlist) (machine : Machine) (timing : Timing) (stimulus : Stimulus) (outcome : Outcome) : Type 0 where
   pub image : Image
-  pub made : IsMachineImage net machine timing image
+  pub made : IsMachineImage choice net machine timing image
   pub state : CoreState
   pub after : IsAfterOrder order banks timing stimulus image state
   pub states : List State

@@ -12,6 +12,10 @@ use Rattle.stim_text.specs.declared.refusal.StimNo.{StimNo}
 use Rattle.stim_text.specs.declared.refusal.StimNo.TheVariants as stim_no
 use Rattle.stim_text.specs.declared.refusal.OrderNo.{OrderNo}
 use Rattle.stim_text.specs.declared.refusal.OrderNo.TheVariants as order_no
+use Rattle.image_file.specs.declared.refusal.ImageNo.{ImageNo}
+use Rattle.image_file.specs.declared.refusal.ImageNo.TheVariants as image_no
+use Rattle.image_check.specs.declared.check.CheckNo.{CheckNo}
+use Rattle.image_check.specs.declared.check.CheckNo.TheVariants as check_no
 use Rattle.yse_top.specs.declared.output.Output.{Output}
 use Rattle.yse_top.specs.declared.output.Output.TheVariants as output
 use Rattle.yse_top.specs.declared.refusal.Refusal.{Refusal}
@@ -19,7 +23,7 @@ use Rattle.yse_top.specs.declared.refusal.Refusal.TheVariants as refusal
 use Rattle.yse_top.specs.declared.status.Status.{Status}
 use Rattle.yse_top.specs.declared.status.Status.TheVariants as status
 use Rattle.yse_top.specs.Checks.{Refuses, text_of, read_fault}
-use Rattle.yse_top.specs.Lines.{usage_line, read_fault_line, memory_line, too_long_line, machine_line, netlist_line, loop_line, overfull_line, stimulus_line, cells_line, order_line, list_line}
+use Rattle.yse_top.specs.Lines.{usage_line, read_fault_line, memory_line, too_long_line, machine_line, netlist_line, loop_line, overfull_line, stimulus_line, cells_line, order_line, list_line, image_line, match_line}
 use Rattle.yse_top.specs.Outcome.{Outcome, done, unfinished, refusal as refused}
 use Rattle.yse_top.specs.Outputs.{HasTaken, run_bytes, trace_bytes, wrote_in}
 use Rattle.yse_top.specs.Readings.{Reading, AreReadings}
@@ -36,6 +40,8 @@ line_of (refusal.Stimulus why) = stimulus_line why
 line_of (refusal.Cells cells) = cells_line cells
 line_of (refusal.OrderText why) = order_line why
 line_of (refusal.LastList why) = list_line why
+line_of (refusal.ImageText why) = image_line why
+line_of (refusal.ImageMatch why) = match_line why
 line_of refusal.Memory = memory_line
 
 abbrev pub status_of : Refusal → Status
@@ -50,6 +56,8 @@ status_of (refusal.Stimulus why) = status.Stimulus
 status_of (refusal.Cells cells) = status.Limit
 status_of (refusal.OrderText why) = status.OrderText
 status_of (refusal.LastList why) = status.LastList
+status_of (refusal.ImageText why) = status.ImageText
+status_of (refusal.ImageMatch why) = status.ImageMatch
 status_of refusal.Memory = status.Memory
 
 -- the refusal of a machine text
@@ -76,6 +84,16 @@ of_order why = refusal.OrderText why
 abbrev pub of_list : LastNo → Refusal
 of_list last_no.Memory = refusal.Memory
 of_list why = refusal.LastList why
+
+-- the refusal of an image text
+abbrev pub of_image : ImageNo → Refusal
+of_image image_no.Memory = refusal.Memory
+of_image why = refusal.ImageText why
+
+-- the refusal of an image that the netlist does not accept
+abbrev pub of_match : CheckNo → Refusal
+of_match check_no.Memory = refusal.Memory
+of_match why = refusal.ImageMatch why
 
 -- ---- outcomes
 

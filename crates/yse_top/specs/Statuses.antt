@@ -17,4 +17,6 @@ status_number status.Limit = 10
 status_number status.Unfinished = 11
 status_number status.OrderText = 12
 status_number status.LastList = 13
+status_number status.ImageText = 14
+status_number status.ImageMatch = 15
 status_number status.Memory = 70

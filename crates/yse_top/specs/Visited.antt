@@ -19,6 +19,9 @@ use Rattle.net_defs.specs.Valid.{input_count}
 use Rattle.cmd_words.specs.declared.command.Command.{Command}
 use Rattle.cmd_words.specs.declared.command.Command.TheVariants as command
 use Rattle.cmd_words.specs.declared.command.RunWords.{RunWords}
+use Rattle.image_check.specs.declared.file.ImageFile.{ImageFile}
+use Rattle.image_defs.specs.declared.image.Image.{Image}
+use Rattle.image_file.specs.Ranges as image_file
 use Rattle.limits.specs.declared.TheConstants.{MAX_WORKERS}
 use Rattle.yse_top.specs.declared.commands.steps.Pace.{Pace}
 use Rattle.yse_top.specs.declared.commands.steps.Pace.TheVariants as pace
@@ -32,7 +35,7 @@ use Rattle.yse_top.specs.Outcome.{Outcome}
 use Rattle.yse_top.specs.Readings.{Reading}
 use Rattle.yse_top.specs.Refusals.{status_told}
 use Rattle.yse_top.specs.Traced.{AreOfFiles}
-use Rattle.yse_top.specs.commands.Run.{EndsWithin}
+use Rattle.yse_top.specs.commands.Run.{EndsWithin, WritesTrace}
 
 -- each gate that a worker may use is there, and can be told of all turns
 abbrev pub AllCanTell : {G : Type 0} → gate.Ghosts G → List (Option G) → Type 0
@@ -42,6 +45,10 @@ AllCanTell p gates = (w : ℕ) (gate : Option _) → w < MAX_WORKERS → slice_g
 abbrev pub IsMachineOfFile : Option (List ℕ → List ℕ) → Option (List ℕ) → Machine → Type 0
 IsMachineOfFile bytes None machine = machine ≡ default_machine
 IsMachineOfFile bytes (Some file) machine = (text : List ℕ) × OfTold bytes file (λ told. text ≡ told) × machine_text.Reads text machine
+
+-- the image that the text of the named file reads as
+abbrev pub IsImageOfFile : Option (List ℕ → List ℕ) → List ℕ → ImageFile → Type 0
+IsImageOfFile bytes file image = (text : List ℕ) × OfTold bytes file (λ told. text ≡ told) × image_file.Reads text image
 
 -- the visits of a call where its whole output was written, where a fault of writing cut it, and else what is left
 pub record AreTold (result : Status) (Visits Cut Left : Type 0) : Type 0 where
@@ -59,11 +66,11 @@ AreTurnsOf (Ok written) timing net stimulus turns = turns ≡ turn_count timing 
 AreTurnsOf (Err why) timing net stimulus turns =
     (blocks : ℕ) × (turns ≡ timing.units * min (blocks * block_of net) (cycle_count stimulus))
 
--- the visits of the turns of a run, of all ports of the machine, by so many workers
-pub record AreRunVisits {G : Type 0} (p : gate.Ghosts G) (gates gates' : List (Option G)) (wrote : Result (Unit {0}) WriteNo) (machine : Machine) (timing : Timing) (net : Netlist) (stimulus : Stimulus) (workers : ℕ) : Type 0 where
+-- the visits of the turns of a run, of so many ports, by so many workers
+pub record AreRunVisits {G : Type 0} (p : gate.Ghosts G) (gates gates' : List (Option G)) (wrote : Result (Unit {0}) WriteNo) (ports : ℕ) (timing : Timing) (net : Netlist) (stimulus : Stimulus) (workers : ℕ) : Type 0 where
   pub turns : ℕ
   pub are : AreTurnsOf wrote timing net stimulus turns
-  pub visits : AreVisitsOf p (ports_of machine) turns workers gates gates'
+  pub visits : AreVisitsOf p ports turns workers gates gates'
 
 module _ {G : Type 0} (p : gate.Ghosts G) (bytes : Option (List ℕ → List ℕ)) (gates gates' : List (Option G)) where
   -- the visits of so many cycles on the machine of `large`, by so many workers
@@ -77,7 +84,16 @@ module _ {G : Type 0} (p : gate.Ghosts G) (bytes : Option (List ℕ → List ℕ
     pub net : Netlist
     pub stimulus : Stimulus
     pub are : AreOfFiles bytes words net stimulus
-    pub visits : AreRunVisits p gates gates' wrote machine words.timing net stimulus words.workers
+    pub visits : AreRunVisits p gates gates' wrote (ports_of machine) words.timing net stimulus words.workers
+
+  -- the visits of a run of the image of the named file, by the workers of the words
+  pub record AreVisitsOfImage (words : RunWords) (file : List ℕ) (wrote : Result (Unit {0}) WriteNo) : Type 0 where
+    pub image : ImageFile
+    pub image_is : IsImageOfFile bytes file image
+    pub net : Netlist
+    pub stimulus : Stimulus
+    pub are : AreOfFiles bytes words net stimulus
+    pub visits : AreRunVisits p gates gates' wrote (length image.image.ports) words.timing net stimulus words.workers
 
   -- after a run the visits of all turns are made, and after a fault of writing those of a whole number of blocks;
   -- a run that is refused tells the gates nothing. `large` writes after its visits, and may want memory after
@@ -85,6 +101,8 @@ module _ {G : Type 0} (p : gate.Ghosts G) (bytes : Option (List ℕ → List ℕ
   abbrev pub TellsGates : Status → Option Command → Type 0
   TellsGates result (Some (command.Run words)) =
       AreTold result (AreVisitsOfFiles words (Ok tt)) (AreVisitsOfFiles words (Err Failed)) (gates' ≡ gates)
+  TellsGates result (Some (command.Exec words image)) =
+      AreTold result (AreVisitsOfImage words image (Ok tt)) (AreVisitsOfImage words image (Err Failed)) (gates' ≡ gates)
   TellsGates result (Some (command.Large count cycles workers)) =
       AreTold result (AreLargeVisits cycles workers) (AreLargeVisits cycles workers) ((gates' ≡ gates) ⊎ AreLargeVisits cycles workers)
   TellsGates result _ = gates' ≡ gates
@@ -111,13 +129,23 @@ module _ {G : Type 0} (p : gate.Ghosts G) (gates gates' : List (Option G)) where
   -- the end of a run; where workers stepped the ports, they told the gates
   pub record EndsTelling (wrote : Result (Unit {0}) WriteNo) (pace : Pace) (words : RunWords) (machine : Machine) (timing : Timing) (net : Netlist) (stimulus : Stimulus) (readings : List Reading) (outcome : Outcome) : Type 0 where
     pub ends : EndsWithin (has_limit pace) (order_in pace) words machine timing net stimulus readings outcome
-    pub visits : HasWorkers pace → outcome.status ≡ status.Done → AreRunVisits p gates gates' wrote machine timing net stimulus words.workers
+    pub visits : HasWorkers pace → outcome.status ≡ status.Done → AreRunVisits p gates gates' wrote (ports_of machine) timing net stimulus words.workers
+
+  -- the end of a run of an image, which told the gates
+  pub record ExecTelling (wrote : Result (Unit {0}) WriteNo) (words : RunWords) (image : Image) (timing : Timing) (net : Netlist) (stimulus : Stimulus) (readings : List Reading) (outcome : Outcome) : Type 0 where
+    pub ends : WritesTrace net timing stimulus readings outcome
+    pub visits : outcome.status ≡ status.Done → AreRunVisits p gates gates' wrote (length image.ports) timing net stimulus words.workers
 
 -- where workers stepped the ports, the gates are told as by a run
 abbrev pub TellsOfRun : {G : Type 0} → gate.Ghosts G → Option (List ℕ → List ℕ) → List (Option G) → List (Option G) → Pace → RunWords → Result Output Refusal → Type 0
 TellsOfRun p bytes gates gates' pace words result =
     HasWorkers pace
     → AreTold (status_told result) (AreVisitsOfFiles p bytes gates gates' words (Ok tt)) (AreVisitsOfFiles p bytes gates gates' words (Err Failed)) (gates' ≡ gates)
+
+-- the gates are told as by a run of the image of this file
+abbrev pub TellsOfExec : {G : Type 0} → gate.Ghosts G → Option (List ℕ → List ℕ) → List (Option G) → List (Option G) → RunWords → List ℕ → Result Output Refusal → Type 0
+TellsOfExec p bytes gates gates' words file result =
+    AreTold (status_told result) (AreVisitsOfImage p bytes gates gates' words file (Ok tt)) (AreVisitsOfImage p bytes gates gates' words file (Err Failed)) (gates' ≡ gates)
 
 -- the gates are in their places, and were told nothing before a refusal, nor where no workers stepped the ports;
 -- where workers did, the run is whole

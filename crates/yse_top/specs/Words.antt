@@ -1,5 +1,5 @@
 -- What the words of a call ask for, as far as the clauses of a whole call speak of it.
-use Rattle.std.specs.Prelude.{ℕ, List, [], ◌∷◌, ◌++◌, Option, Some, None}
+use Rattle.std.specs.Prelude.{◌≡◌, ℕ, List, [], ◌∷◌, ◌++◌, Option, Some, None}
 use Rattle.std.specs.Option.{option_to_list}
 use Rattle.cmd_words.specs.declared.command.Command.{Command}
 use Rattle.cmd_words.specs.declared.command.Command.TheVariants as command
@@ -11,6 +11,8 @@ files_of (command.Run words) = option_to_list words.machine ++ (words.netlist �
 files_of (command.Refer words) = words.netlist ∷ (option_to_list words.last ++ (words.stimulus ∷ []))
 files_of (command.Order words) = option_to_list words.machine ++ (words.netlist ∷ (option_to_list words.last ++ (words.stimulus ∷ option_to_list words.order)))
 files_of (command.Plan words) = option_to_list words.machine ++ (words.netlist ∷ option_to_list words.last)
+files_of (command.Compile words) = option_to_list words.machine ++ (words.netlist ∷ option_to_list words.last)
+files_of (command.Exec words image) = words.netlist ∷ (option_to_list words.last ++ (image ∷ words.stimulus ∷ []))
 files_of (command.Show netlist) = netlist ∷ []
 files_of (command.Large gates cycles workers) = []
 
@@ -25,6 +27,8 @@ traced_by (Some (command.Run words)) = Some words
 traced_by (Some (command.Refer words)) = Some words
 traced_by (Some (command.Order words)) = Some words
 traced_by (Some (command.Plan words)) = None
+traced_by (Some (command.Compile words)) = None
+traced_by (Some (command.Exec words image)) = Some words
 traced_by (Some (command.Show netlist)) = None
 traced_by (Some (command.Large gates cycles workers)) = None
 
@@ -35,5 +39,13 @@ order_named (Some (command.Run words)) = None
 order_named (Some (command.Refer words)) = None
 order_named (Some (command.Order words)) = words.order
 order_named (Some (command.Plan words)) = None
+order_named (Some (command.Compile words)) = None
+order_named (Some (command.Exec words image)) = None
 order_named (Some (command.Show netlist)) = None
 order_named (Some (command.Large gates cycles workers)) = None
+
+-- what is read settles what a command comes to: it names no file of an order, makes no image and checks none
+abbrev pub IsSettled : Option Command → Type 0
+IsSettled (Some (command.Compile words)) = ⊥
+IsSettled (Some (command.Exec words image)) = ⊥
+IsSettled asked = order_named asked ≡ None

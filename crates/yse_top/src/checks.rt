@@ -6,7 +6,8 @@ ghost use Rattle.net_defs.specs.Loops.{IsOrder};
 ghost use Rattle.machine_text.specs.Machines.{IsValid as IsValidMachine, ports_of};
 ghost use Rattle.net_defs.specs.declared.stimulus.Stimulus.{Stimulus};
 ghost use Rattle.net_defs.specs.Valid.{Ascends, IsValid, IsValidStimulus, IsValidTiming};
-ghost use Rattle.yse_compile.specs.Compiled.{IsCompiled, ShowsReference, IsRight};
+ghost use Rattle.yse_compile.specs.Chosen.{IsChosen, FitsBy};
+ghost use Rattle.yse_compile.specs.Compiled.{ShowsReference, IsOverfull, IsRight};
 ghost use Rattle.yse_top.specs.Checks.{Refuses, RefusesDesign, IsListOf, IsMachineOf, IsNetlistOf, IsOrderOf, IsStimulusOf, HasNoLoop, HasRoom, HasFewCells, cell_count};
 ghost use Rattle.stim_text.specs.Orders.{IsValidOrder};
 ghost use Rattle.yse_top.specs.Images.{IsImageOf};
@@ -19,13 +20,13 @@ use bench_read::{read_bench, read_last};
 use image_defs::Image;
 use limits::MAX_CELLS;
 use machine_text::{Machine, read_machine};
-use net_defs::{Netlist, Stimulus, Timing};
+use net_defs::{HomeChoice, Netlist, Stimulus, Timing};
 use rank_find::{RankNo, order};
 use seen_list::List;
 use std::alloc::Global;
 use stim_text::{Order, read_order, read_stim};
 use yse_compile::inputs::same_inputs;
-use yse_compile::{CompNo, Compiled, compile};
+use yse_compile::{Chosen, CompNo, compile_with};
 
 /// A netlist, and an order of its gates.
 #[derive(Drop)]
@@ -38,7 +39,7 @@ pub struct Design {
 #[derive(Drop)]
 pub struct Planned {
     pub net: Netlist,
-    pub compiled: Compiled,
+    pub chosen: Chosen,
 }
 
 /// A netlist, and the image of it that a machine runs.
@@ -128,28 +129,36 @@ pub fn designed<'a>(
     net: Netlist,
     machine: &Machine,
     timing: &Timing,
+    choice: HomeChoice,
 ) -> Result<Planned, Refusal<'a>>
     requires net { IsValid net }
     requires machine { IsValidMachine machine.now }
     requires timing { IsValidTiming timing.now }
     ensures same { IfOk result (λ planned. planned.net ≡ net) }
     ensures acyclic { OnOk result (HasNoLoop net timing.now (Ok tt)) }
-    ensures fits { OnOk result (HasRoom net machine.now timing.now (Ok tt)) }
-    ensures compiled { IfOk result (λ planned. IsCompiled net machine.now timing.now planned.compiled) }
+    ensures fits { OnOk result (HasRoom choice net machine.now timing.now (Ok tt)) }
+    ensures chosen { IfOk result (λ planned. IsChosen net machine.now timing.now choice planned.chosen) }
     ensures shown { IfOk result (λ planned. (stimulus : Stimulus)
-        → ShowsReference net timing.now stimulus planned.compiled.image) }
-    ensures refused { IfErr result (λ no. RefusesDesign net machine.now timing.now (refused_of no)) }
+        → ShowsReference net timing.now stimulus planned.chosen.compiled.image) }
+    ensures refused { IfErr result (λ no. RefusesDesign choice net machine.now timing.now (refused_of no)) }
 {
-    match compile(alloc, &net, machine, timing) {
-        Ok(compiled) => Ok(Planned { net, compiled }),
-        Err(no) => Err(of_design(net, machine, timing, no)),
+    match compile_with(alloc, &net, machine, timing, choice) {
+        Ok(chosen) => Ok(Planned { net, chosen }),
+        Err(no) => Err(of_design(net, machine, timing, choice, no)),
     }
 }
 
 /// The refusal of a netlist that is not compiled, which a loop comes before.
-fn of_design<'a>(net: Netlist, _machine: &Machine, _timing: &Timing, no: CompNo) -> Refusal<'a>
-    requires { IsRight net _machine.now _timing.now no }
-    ensures { RefusesDesign net _machine.now _timing.now (refused_of result) }
+fn of_design<'a>(
+    net: Netlist,
+    _machine: &Machine,
+    _timing: &Timing,
+    _choice: HomeChoice,
+    no: CompNo,
+) -> Refusal<'a>
+    requires right { IsRight net _machine.now _timing.now no }
+    requires none { IsOverfull no → FitsBy _choice net _machine.now _timing.now → ⊥ }
+    ensures { RefusesDesign _choice net _machine.now _timing.now (refused_of result) }
 {
     match no {
         CompNo::Loop(members) => Refusal::Loop(net, members),
@@ -189,23 +198,28 @@ pub fn compiled<'a>(
     net: Netlist,
     machine: &Machine,
     timing: &Timing,
+    choice: HomeChoice,
 ) -> Result<Built, Refusal<'a>>
     requires net { IsValid net }
     requires machine { IsValidMachine machine.now }
     requires timing { IsValidTiming timing.now }
     ensures same { IfOk result (λ built. built.net ≡ net) }
     ensures acyclic { OnOk result (HasNoLoop net timing.now (Ok tt)) }
-    ensures fits { OnOk result (HasRoom net machine.now timing.now (Ok tt)) }
+    ensures fits { OnOk result (HasRoom choice net machine.now timing.now (Ok tt)) }
     ensures image { IfOk result (λ built. IsImageOf net timing.now built.image) }
-    ensures made { IfOk result (λ built. IsMachineImage net machine.now timing.now built.image) }
-    ensures refused { IfErr result (λ no. RefusesDesign net machine.now timing.now (refused_of no)) }
+    ensures made { IfOk result (λ built. IsMachineImage choice net machine.now timing.now built.image) }
+    ensures refused { IfErr result (λ no. RefusesDesign choice net machine.now timing.now (refused_of no)) }
 {
     same_inputs();
-    match designed(alloc, net, machine, timing) {
-        Ok(planned) => Ok(Built {
-            net: planned.net,
-            image: planned.compiled.image,
-        }),
+    match designed(alloc, net, machine, timing, choice) {
+        Ok(planned) => {
+            let Planned { net, chosen } = planned;
+            let compiled = chosen.compiled;
+            Ok(Built {
+                net,
+                image: compiled.image,
+            })
+        }
         Err(no) => Err(no),
     }
 }

@@ -9,13 +9,17 @@ ghost use Rattle.yse_top.specs.Outputs.{CanEnd};
 ghost use Rattle.yse_top.specs.Refusals.{Follows, MayTake, status_told};
 ghost use Rattle.yse_top.specs.Visited.{AllCanTell, HasWorkers, TellsGates, has_limit, order_in};
 
+mod compile;
+mod exec;
 mod large;
+mod layout;
 mod plan;
 mod refer;
 mod run;
 mod show;
 mod steps;
 
+use crate::commands::layout::Sheet;
 use crate::commands::steps::Pace;
 use crate::output::Output;
 use crate::refusal::Refusal;
@@ -51,7 +55,11 @@ pub fn prepare<'a, R: Threads + Wait + Sync, F: Files, O: Sink, G: Gate + Send>(
         Command::Run(words) => run::run(rt, alloc, files, words, Pace::Workers, out, gates),
         Command::Refer(words) => refer::refer(alloc, files, words),
         Command::Order(words) => run::run(rt, alloc, files, words, pace_of(words), out, gates),
-        Command::Plan(words) => plan::plan(alloc, files, words),
+        Command::Plan(words) => layout::lay_out(alloc, files, words, Sheet::Report),
+        Command::Compile(words) => layout::lay_out(alloc, files, words, Sheet::Image),
+        Command::Exec { words, image } => {
+            exec::exec(rt, alloc, files, words, image.as_bytes(), out, gates)
+        }
         Command::Show { netlist } => show::show(alloc, files, netlist.as_bytes()),
         Command::Large {
             gates: count,

@@ -8,6 +8,7 @@ ghost use Rattle.yse_top.specs.Refusals.{line_of, status_of};
 ghost use Rattle.edge_io.specs.Writing.{Takes, TakesLine};
 
 use crate::list_lines::write_list_line;
+use crate::match_lines::{write_image_line, write_match_line};
 use crate::order_lines::write_order_line;
 use crate::output::write_piece;
 use crate::overfull::{write_machine_line, write_overfull_line};
@@ -55,6 +56,8 @@ fn status_of(refusal: &Refusal<'_>) -> Status
         Refusal::TooLong(_) | Refusal::Cells(_) => Status::Limit,
         Refusal::OrderText(_) => Status::OrderText,
         Refusal::LastList(_) => Status::LastList,
+        Refusal::ImageText(_) => Status::ImageText,
+        Refusal::ImageMatch(_) => Status::ImageMatch,
         Refusal::Memory => Status::Memory,
     }
 }
@@ -95,6 +98,8 @@ fn write_line<S: Sink>(sink: &mut S, refusal: &Refusal<'_>) -> Result<(), WriteN
         Refusal::Cells(cells) => write_cells_line(sink, *cells),
         Refusal::OrderText(no) => write_order_line(sink, no),
         Refusal::LastList(no) => write_list_line(sink, no),
+        Refusal::ImageText(no) => write_image_line(sink, no),
+        Refusal::ImageMatch(no) => write_match_line(sink, no),
         Refusal::Memory => write_memory_line(sink),
     }
 }

@@ -1,11 +1,23 @@
 //! What holds of every whole call. The functions do nothing: their clauses are the laws.
 
+ghost use Rattle.image_check.specs.declared.file.Claims.{Claims};
+ghost use Rattle.machine_text.specs.declared.machine.Machine.{Machine};
+ghost use Rattle.machine_text.specs.Machines.{IsValid as IsValidMachine};
+ghost use Rattle.net_defs.specs.declared.netlist.Netlist.{Netlist};
+ghost use Rattle.net_defs.specs.declared.timing.Timing.{Timing};
+ghost use Rattle.net_defs.specs.Valid.{IsValid};
+ghost use Rattle.yse_compile.specs.declared.compiler.Compiled.{Compiled};
+ghost use Rattle.yse_compile.specs.Claims.{AreClaimsOf};
+ghost use Rattle.yse_compile.specs.Chosen.{IsDesign};
 ghost use Rattle.yse_top.specs.Law.{AreProper, HaveOutcomes, TellsWords};
+ghost use Rattle.yse_top.specs.commands.Exec.{IsTaken};
 
 use bench_read::law::{reads_or_faults as netlists_or_faults, texts_read_as_valid};
 use bench_read::list_law::reads_or_faults as lists_or_faults;
 use cmd_words::law::{forms_are_asked, forms_are_in_range};
 use event_defs::law::links_decide;
+use home_better::law::{one_better, some_better};
+use image_file::law::reads_or_faults as images_or_faults;
 use large_run::law::one_summary;
 use machine_text::law::{
     reads_as_valid as machines_are_valid, reads_or_faults as machines_or_faults,
@@ -17,15 +29,17 @@ use rank_find::order_or_loop;
 use ref_sim::one_simulation;
 use stim_text::law::reads_or_faults as stimuli_or_faults;
 use stim_text::order_law::reads_or_faults as orders_or_faults;
+use yse_compile::inputs::same_inputs;
 use yse_compile::law::{
-    fits_bits, fits_functions, fits_nodes, fits_or_refused, fits_slots, one_homes, one_linking,
-    one_refusal,
+    fits_by_or_refused, one_linking_chosen, one_refusal, one_use, planned_or_refused,
 };
+use yse_compile::matching::designs_are_in_range;
 
-/// Words come to one outcome over what is read, but that any loop may be named where there are several,
-/// and that want of memory may come in its place; and, unless they name an order, to some outcome,
-/// whatever the files hold. The files of the command are begun in their order, no other is, and none
-/// after one that can't be read. Words ask for a command exactly where they are of its form.
+/// Words come to one outcome over what is read, but that any loop may be named where there are several, that
+/// what is written of an image is a text of it, and that want of memory may come in its place; and, unless they
+/// name an order, or ask for an image or name one, to some outcome, whatever the files hold. The files of the
+/// command are begun in their order, no other is, and none after one that can't be read. Words ask for a
+/// command exactly where they are of its form.
 pub fn calls_are_proper()
     ensures proper { AreProper }
     ensures outcomes { HaveOutcomes }
@@ -36,23 +50,38 @@ pub fn calls_are_proper()
     machines_or_faults();
     orders_or_faults();
     lists_or_faults();
+    images_or_faults();
+    same_inputs();
     machines_are_valid();
     texts_read_as_valid();
     order_or_loop();
     one_simulation();
     items_exist();
-    fits_or_refused();
-    fits_bits();
-    fits_nodes();
-    fits_slots();
-    fits_functions();
+    fits_by_or_refused();
     one_refusal();
-    one_linking();
+    one_linking_chosen();
+    one_use();
+    some_better();
+    one_better();
+    planned_or_refused();
     one_list();
-    one_homes();
     items_are_well_formed();
     links_decide();
     one_summary();
     forms_are_asked();
     forms_are_in_range();
+}
+
+/// A law: what is compiled is taken. Where `exec` reads the text of a compiled image with its claims, over the same
+/// netlist in the same timing, it refuses neither the text nor the image. It does nothing.
+pub fn compiled_images_are_taken()
+    ensures { (net : Netlist) (machine : Machine) (timing : Timing) (compiled : Compiled) (claims : Claims)
+        → IsValid net → IsValidMachine machine → IsDesign net machine timing compiled
+        → AreClaimsOf compiled claims → IsTaken net timing (record { image = compiled.image; claims = claims }) }
+{
+    images_or_faults();
+    designs_are_in_range();
+    one_list();
+    items_are_well_formed();
+    same_inputs();
 }

@@ -22,8 +22,10 @@ mod checks;
 mod commands;
 mod diagnostics;
 mod ending;
+mod images;
 pub mod law;
 mod list_lines;
+mod match_lines;
 mod order_lines;
 mod output;
 mod overfull;
@@ -62,8 +64,21 @@ use std::thread::Threads;
 /// `order` at most 268,435,456 cells (this project's profile). A status other than `Done` writes its line to
 /// `err`, and a fault of `err` changes no status. All memory is taken before the first byte of output.
 ///
-/// `run` goes block after block: it keeps the printed cells of one block of cycles, and writes its lines before
-/// the next block is begun, so it has no limit on cells. Where inputs and printed names are `n` together, a
+/// `compile NETLIST [--machine FILE] [--mode rank|unit|mixed] [--last FILE] [--units K] [--init x|0]` writes the text
+/// of the netlist's compiled image as one piece, each place with the item of the netlist that stands there, after
+/// the checks of `plan`.
+///
+/// `run`, `plan` and `compile` take `--homes plain|better`: with `better` nodes move to processors where fewer values
+/// cross, and where the design does not fit there, the plain homes are used. `plan --homes better` ends with a line
+/// on the crossings of both and on the homes that are used.
+///
+/// `exec NETLIST IMAGE STIMULUS [--mode rank|unit|mixed] [--last FILE] [--units K] [--init x|0] [--workers N]
+/// [--banks B]` reads an image from a file, checks it against the netlist, and runs it as `run` does. Whoever made
+/// the image, what is written is the trace of the netlist, since an image that is not well formed, or does not match
+/// the netlist's items, is refused. The machine is the image's own: the gates are told of the image's ports.
+///
+/// `run` and `exec` go block after block: they keep the printed cells of one block of cycles, and write its lines
+/// before the next block is begun, so they have no limit on cells. Where inputs and printed names are `n` together, a
 /// block has 4,096 cycles, or `268,435,456 / n` where that is less, and one at least. A fault of writing ends
 /// the run: no later block is begun.
 ///

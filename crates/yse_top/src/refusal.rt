@@ -1,9 +1,11 @@
 //! Why a call ends before its output. A fault of writing is no refusal.
 
 ghost use Rattle.std.specs.Prelude.{◌≡◌};
-ghost use Rattle.yse_top.specs.Refusals.{of_list, of_machine, of_netlist, of_order, of_stimulus};
+ghost use Rattle.yse_top.specs.Refusals.{of_image, of_list, of_machine, of_match, of_netlist, of_order, of_stimulus};
 
 use bench_read::{BenchNo, LastNo};
+use image_check::CheckNo;
+use image_file::ImageNo;
 use machine_text::MachNo;
 use net_defs::Netlist;
 use seen_list::List;
@@ -35,6 +37,10 @@ pub enum Refusal<'a> {
     OrderText(OrderNo),
     /// The text is no list of the netlist's gates.
     LastList(LastNo),
+    /// The text is no image.
+    ImageText(ImageNo),
+    /// The image does not match the netlist.
+    ImageMatch(CheckNo),
     /// Want of memory.
     Memory,
 }
@@ -86,5 +92,25 @@ pub fn of_list<'a>(no: LastNo) -> Refusal<'a>
     match no {
         LastNo::Memory => Refusal::Memory,
         other => Refusal::LastList(other),
+    }
+}
+
+/// The refusal of an image text.
+pub fn of_image<'a>(no: ImageNo) -> Refusal<'a>
+    ensures { result ≡ of_image no }
+{
+    match no {
+        ImageNo::Memory => Refusal::Memory,
+        other => Refusal::ImageText(other),
+    }
+}
+
+/// The refusal of an image that does not match the netlist.
+pub fn of_match<'a>(no: CheckNo) -> Refusal<'a>
+    ensures { result ≡ of_match no }
+{
+    match no {
+        CheckNo::Memory => Refusal::Memory,
+        other => Refusal::ImageMatch(other),
     }
 }

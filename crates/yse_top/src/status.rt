@@ -32,12 +32,16 @@ pub enum Status {
     OrderText,
     /// The text of a list of gates is refused.
     LastList,
+    /// An image text is refused.
+    ImageText,
+    /// An image does not match the netlist.
+    ImageMatch,
     /// Want of memory.
     Memory,
 }
 
 impl Status {
-    /// The exit status: 0, 2 to 13, or 70.
+    /// The exit status: 0, 2 to 15, or 70.
     pub fn number(&self) -> u8
         ensures { result ≡ status_number self.now }
     {
@@ -55,6 +59,8 @@ impl Status {
             Status::Unfinished => 11,
             Status::OrderText => 12,
             Status::LastList => 13,
+            Status::ImageText => 14,
+            Status::ImageMatch => 15,
             Status::Memory => 70,
         }
     }

@@ -1,40 +1,43 @@
 -- `plan`: the report of the plan of the design on the machine.
-use Rattle.std.specs.Prelude.{List, ℕ}
+use Rattle.std.specs.Prelude.{◌≡◌, ℕ, Bool, true, false, List, [], ◌++◌, codes, decimal}
 use Rattle.machine_text.specs.declared.machine.Machine.{Machine}
+use Rattle.net_defs.specs.declared.homes.HomeChoice.{HomeChoice}
+use Rattle.net_defs.specs.declared.homes.HomeChoice.TheVariants.{Plain, Better}
 use Rattle.net_defs.specs.declared.netlist.Netlist.{Netlist}
 use Rattle.net_defs.specs.declared.timing.Timing.{Timing}
-use Rattle.node_defs.specs.declared.items.NodeNet.{NodeNet}
 use Rattle.node_defs.specs.Order.{AreItems}
 use Rattle.plan_defs.specs.declared.plan.Homes.{Homes}
-use Rattle.plan_defs.specs.declared.plan.Plan.{Plan}
 use Rattle.plan_defs.specs.Picks.{ArePicked}
 use Rattle.plan_defs.specs.Slots.{IsFirstFitPlan}
+use Rattle.plan_defs.specs.Tables.{Fits}
 use Rattle.plan_text.specs.Reports.{IsReport}
-use Rattle.cmd_words.specs.declared.command.RunWords.{RunWords}
-use Rattle.yse_top.specs.Checks.{Ends, Writes}
-use Rattle.yse_top.specs.Outcome.{Outcome}
-use Rattle.yse_top.specs.Readings.{Reading}
-use Rattle.yse_top.specs.commands.Run.{AfterDesign, AfterFit, AfterMachine}
+use Rattle.yse_compile.specs.declared.choose.Chosen.{Chosen}
+use Rattle.yse_compile.specs.Chosen.{IsUsed}
 
--- the output is the report of the first-fit plan of the netlist's items at their homes on the machine
-pub record IsReportOf (net : Netlist) (machine : Machine) (timing : Timing) (output : List ℕ) : Type 0 where
-  pub nodes : NodeNet
-  pub items : AreItems net timing nodes
-  pub homes : Homes
-  pub picked : ArePicked nodes machine homes
-  pub plan : Plan
-  pub first_fit : IsFirstFitPlan nodes homes plan
-  pub report : IsReport net nodes homes plan output
+abbrev pub homes_word : Bool → List ℕ
+homes_word false = codes "plain"
+homes_word true = codes "better"
 
--- the design of a netlist in a timing, and then its report
-abbrev pub PlansIn : Netlist → Machine → Timing → List Reading → Outcome → Type 0
-PlansIn net machine timing = AfterFit net machine timing (Ends (Writes (IsReportOf net machine timing)))
+-- the crossings of the plain homes and of the better ones, and which of them are used
+unfoldable pub crossings_line : ℕ → ℕ → Bool → List ℕ
+crossings_line before after better =
+    codes "crossings " ++ decimal before ++ codes " better " ++ decimal after ++ codes " used " ++ homes_word better ++ codes "\n"
 
--- the design, and then its report
-unfoldable pub ExpectedPlanOn : RunWords → Machine → List Reading → Outcome → Type 0
-ExpectedPlanOn words machine =
-    AfterDesign words machine (λ timing net. Ends (Writes (IsReportOf net machine timing)))
+-- what is told of the homes: nothing, unless better ones were asked for
+abbrev pub told_of_homes : HomeChoice → Chosen → List ℕ
+told_of_homes Plain chosen = []
+told_of_homes Better chosen = crossings_line chosen.before chosen.after chosen.better
 
--- the machine, and then a plan on it
-unfoldable pub ExpectedPlan : RunWords → List Reading → Outcome → Type 0
-ExpectedPlan words = AfterMachine words.machine (ExpectedPlanOn words)
+-- the output is the report of the first-fit plan, which fits the machine, of the netlist's items at the homes that
+-- are used, and then what is told of the homes
+pub record IsReportOf (choice : HomeChoice) (net : Netlist) (machine : Machine) (timing : Timing) (output : List ℕ) : Type 0 where
+  pub chosen : Chosen
+  pub items : AreItems net timing chosen.compiled.nodes
+  pub plain : Homes
+  pub picked : ArePicked chosen.compiled.nodes machine plain
+  pub used : IsUsed choice chosen.compiled.nodes machine plain chosen
+  pub first_fit : IsFirstFitPlan chosen.compiled.nodes chosen.compiled.homes chosen.compiled.plan
+  pub fits : Fits chosen.compiled.nodes chosen.compiled.homes machine chosen.compiled.plan
+  pub report : List ℕ
+  pub is : IsReport net chosen.compiled.nodes chosen.compiled.homes chosen.compiled.plan report
+  pub told : output ≡ report ++ told_of_homes choice chosen

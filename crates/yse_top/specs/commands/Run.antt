@@ -4,6 +4,7 @@
 use Rattle.std.specs.Prelude.{Bool, true, false, List, ℕ, Option, Some, None}
 use Rattle.machine_text.specs.declared.machine.Machine.{Machine}
 use Rattle.machine_text.specs.Machines.{default_machine}
+use Rattle.net_defs.specs.declared.homes.HomeChoice.{HomeChoice}
 use Rattle.net_defs.specs.declared.netlist.Netlist.{Netlist}
 use Rattle.net_defs.specs.declared.stimulus.Stimulus.{Stimulus}
 use Rattle.net_defs.specs.declared.timing.Timing.{Timing}
@@ -38,18 +39,18 @@ abbrev pub AfterCells : Bool → Netlist → Stimulus → (List Reading → Outc
 AfterCells false net stimulus Next = Next
 AfterCells true net stimulus Next = After (HasFewCells net stimulus) (λ few. Next)
 
--- the loop, and whether the design fits the machine
-abbrev pub AfterFit : Netlist → Machine → Timing → (List Reading → Outcome → Type 0) → List Reading → Outcome → Type 0
-AfterFit net machine timing Next =
+-- the loop, and whether the design fits the machine by the choice of homes
+abbrev pub AfterFit : HomeChoice → Netlist → Machine → Timing → (List Reading → Outcome → Type 0) → List Reading → Outcome → Type 0
+AfterFit choice net machine timing Next =
     After (HasNoLoop net timing) (λ passed.
-    After (HasRoom net machine timing) (λ fits. Next))
+    After (HasRoom choice net machine timing) (λ fits. Next))
 
 -- the netlist file, its text, the list, and the design on the machine in the timing
 unfoldable pub AfterDesign : RunWords → Machine → (Timing → Netlist → List Reading → Outcome → Type 0) → List Reading → Outcome → Type 0
 AfterDesign words machine Next =
     AfterFile words.netlist (λ text.
     After (IsNetlistOf text) (λ net.
-    AfterList words.last net words.timing (λ timing. AfterFit net machine timing (Next timing net))))
+    AfterList words.last net words.timing (λ timing. AfterFit words.homes net machine timing (Next timing net))))
 
 -- the trace is written
 abbrev pub WritesTrace : Netlist → Timing → Stimulus → List Reading → Outcome → Type 0
@@ -66,7 +67,7 @@ EndsBy None words machine timing net stimulus = WritesTrace net timing stimulus
 EndsBy (Some file) words machine timing net stimulus =
     AfterFile file (λ text.
     After (IsOrderOf text machine) (λ order.
-    Ends (EndsInOrder order words.banks net machine timing stimulus)))
+    Ends (EndsInOrder order words.banks words.homes net machine timing stimulus)))
 
 -- the cells where they are limited, and then this end
 abbrev pub EndsWithin : Bool → Option (List ℕ) → RunWords → Machine → Timing → Netlist → Stimulus → List Reading → Outcome → Type 0
@@ -81,7 +82,7 @@ ExpectedOn words End machine =
 -- the same once the netlist and the timing are known
 abbrev pub OnTiming : RunWords → (Machine → Timing → Netlist → Stimulus → List Reading → Outcome → Type 0) → Machine → Netlist → Timing → List Reading → Outcome → Type 0
 OnTiming words End machine net timing =
-    AfterFit net machine timing (AfterStimulus words.stimulus net (End machine timing net))
+    AfterFit words.homes net machine timing (AfterStimulus words.stimulus net (End machine timing net))
 
 -- the machine, and then a run on it, to its end or in the order of the named file
 unfoldable pub ExpectedRun : RunWords → Bool → Option (List ℕ) → List Reading → Outcome → Type 0

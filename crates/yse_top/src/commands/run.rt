@@ -255,7 +255,7 @@ fn run_in_timing<'a, R: Threads + Wait + Sync, F: Files, O: Sink, G: Gate + Send
     ensures written { MayTake O.taken O.faults out.old out.new result }
     ensures kept { KeepsGates pace.entry gates.old gates.new result }
 {
-    match compiled(alloc, net, machine, timing) {
+    match compiled(alloc, net, machine, timing, words.homes) {
         Ok(built) => execute(
             rt, alloc, files, words, pace, machine, timing, built, out, gates,
         ),
@@ -281,7 +281,7 @@ fn execute<'a, R: Threads + Wait + Sync, F: Files, O: Sink, G: Gate + Send>(
     requires machine { IsValidMachine machine.now }
     requires valid { IsValid built.net }
     requires image { IsImageOf built.net timing.now built.image }
-    requires made { IsMachineImage built.net machine.now timing.now built.image }
+    requires made { IsMachineImage words.now.homes built.net machine.now timing.now built.image }
     requires gates { MAX_WORKERS ≤ length gates.old }
     requires tell { AllCanTell G.Gate.own gates.old }
     ensures expected { Follows (F.names files.old) (F.bytes files.old) (F.counts files.old) (F.counts files.new)
@@ -320,7 +320,7 @@ fn finish<'a, R: Threads + Wait + Sync, F: Files, O: Sink, G: Gate + Send>(
     requires machine { IsValidMachine machine.now }
     requires valid { IsValid built.net }
     requires image { IsImageOf built.net timing.now built.image }
-    requires made { IsMachineImage built.net machine.now timing.now built.image }
+    requires made { IsMachineImage words.now.homes built.net machine.now timing.now built.image }
     requires stimulus { IsValidStimulus stimulus }
     requires columns { stimulus.columns ≡ input_count built.net }
     requires gates { MAX_WORKERS ≤ length gates.old }
@@ -333,9 +333,7 @@ fn finish<'a, R: Threads + Wait + Sync, F: Files, O: Sink, G: Gate + Send>(
 {
     match pace {
         Pace::Workers => {
-            match by_workers(
-                rt, alloc, words, machine, timing, built, stimulus, out, gates,
-            ) {
+            match by_workers(rt, alloc, words, timing, built, stimulus, out, gates) {
                 Ok(written) => Ok(Output::Written(written)),
                 Err(Memory) => Err(Refusal::Memory),
             }
@@ -386,7 +384,7 @@ fn in_order<'a, F: Files>(
     requires machine { IsValidMachine machine.now }
     requires valid { IsValid built.net }
     requires image { IsImageOf built.net timing.now built.image }
-    requires made { IsMachineImage built.net machine.now timing.now built.image }
+    requires made { IsMachineImage words.now.homes built.net machine.now timing.now built.image }
     requires stimulus { IsValidStimulus stimulus.now }
     requires columns { stimulus.now.columns ≡ input_count built.net }
     ensures expected { Follows (F.names files.old) (F.bytes files.old) (F.counts files.old) (F.counts files.new)
@@ -415,7 +413,7 @@ fn in_order_of_file<'a, F: Files>(
     requires machine { IsValidMachine machine.now }
     requires valid { IsValid built.net }
     requires image { IsImageOf built.net timing.now built.image }
-    requires made { IsMachineImage built.net machine.now timing.now built.image }
+    requires made { IsMachineImage words.now.homes built.net machine.now timing.now built.image }
     requires stimulus { IsValidStimulus stimulus.now }
     requires columns { stimulus.now.columns ≡ input_count built.net }
     ensures expected { Follows (F.names files.old) (F.bytes files.old) (F.counts files.old) (F.counts files.new)

@@ -56,7 +56,6 @@ pub fn by_workers<R: Threads + Wait + Sync, O: Sink, G: Gate + Send>(
     rt: &R,
     alloc: Global,
     words: &RunWords,
-    _machine: &Machine,
     _timing: &Timing,
     built: Built,
     stimulus: Stimulus,
@@ -66,14 +65,13 @@ pub fn by_workers<R: Threads + Wait + Sync, O: Sink, G: Gate + Send>(
     requires range { IsRunInRange words.now }
     requires valid { IsValid built.net }
     requires image { IsImageOf built.net _timing.now built.image }
-    requires made { IsMachineImage built.net _machine.now _timing.now built.image }
     requires stimulus { IsValidStimulus stimulus }
     requires columns { stimulus.columns ≡ input_count built.net }
     requires gates { MAX_WORKERS ≤ length gates.old }
     requires tell { AllCanTell G.Gate.own gates.old }
     ensures printed { IfOk result (λ run. IsTrace built.net _timing.now stimulus (run_bytes run)) }
     ensures written { IfOk result (λ run. Takes (O.taken out.old) (O.taken out.new) (O.faults out.old) (O.faults out.new) run.wrote (run_bytes run)) }
-    ensures visits { IfOk result (λ run. AreRunVisits G.Gate.own gates.old gates.new run.wrote _machine.now _timing.now built.net stimulus words.now.workers) }
+    ensures visits { IfOk result (λ run. AreRunVisits G.Gate.own gates.old gates.new run.wrote (length built.image.ports) _timing.now built.net stimulus words.now.workers) }
     ensures unwritten { OnErr result (out.new ≡ out.old) }
     ensures refused { OnErr result (gates.new ≡ gates.old) }
     ensures in_place { AreInPlace gates.old gates.new }
@@ -155,11 +153,11 @@ pub fn by_order(
     requires range { IsRunInRange words.now }
     requires valid { IsValid built.net }
     requires image { IsImageOf built.net timing.now built.image }
-    requires made { IsMachineImage built.net _machine.now timing.now built.image }
+    requires made { IsMachineImage words.now.homes built.net _machine.now timing.now built.image }
     requires stimulus { IsValidStimulus stimulus.now }
     requires columns { stimulus.now.columns ≡ input_count built.net }
     requires order { IsValidOrder (ports_of _machine.now) order.now }
-    ensures ended { IfOk result (λ output. EndsInOrder order.now words.now.banks built.net _machine.now timing.now stimulus.now (ended_with output)) }
+    ensures ended { IfOk result (λ output. EndsInOrder order.now words.now.banks words.now.homes built.net _machine.now timing.now stimulus.now (ended_with output)) }
     ensures writable { IfOk result CanWrite }
 {
     let line = TraceLine::new(alloc, &built.net)?;

@@ -7,9 +7,14 @@ use Rattle.yse_compile.proofs.law.fits_by_or_refused.Goals as goal
 pub returns : goal.returns
 returns c Plain net machine timing nodes valid machine_valid acyclic items = elim (c.fits_or_refused.ensures net machine timing nodes valid machine_valid acyclic items) [
   | inl fits ↦ inl fits
-  | inr refused ↦ inr (refused.0, refused.1, refused.2, λ fits.
-      subst IsOverfull (only_memory net machine timing acyclic (c.fits_bits.ensures net machine timing fits) (c.fits_nodes.ensures net machine timing fits)
-      (c.fits_slots.ensures net machine timing valid fits) (c.fits_functions.ensures net machine timing fits) refused.0 refused.1) refused.2)
+  | inr refused ↦ inr (
+    refused.0,
+    refused.1,
+    refused.2,
+    λ fits.
+        subst IsOverfull (only_memory net machine timing acyclic (c.fits_bits.ensures net machine timing fits) (c.fits_nodes.ensures net machine timing fits)
+        (c.fits_slots.ensures net machine timing valid fits) (c.fits_functions.ensures net machine timing fits) refused.0 refused.1) refused.2,
+  )
 ]
 returns c Better net machine timing nodes valid machine_valid acyclic items =
     either_or_refused net machine timing machine_valid

@@ -4,8 +4,10 @@ use Rattle.yse_top.proofs.checks.compiled.Goals as goal
 
 pub returns-in-Ok-clause-image : goal.returns-in-Ok-clause-image
 returns-in-Ok-clause-image c =
-    image_of c.args.net c.args.machine.now c.args.timing.now c.in-Ok.planned.compiled c.in-Ok.ensures.compiled
-    (c.same_inputs.ensures c.args.net c.args.timing.now c.in-Ok.planned.compiled.nodes c.requires.net c.in-Ok.ensures.compiled.items) c.in-Ok.ensures.shown
+    let design = c.in-Ok.ensures.chosen.design in
+    let compiled = c.in-Ok.planned.chosen.compiled in
+    image_of c.args.net c.args.timing.now compiled.nodes compiled.image _ design.items
+    design.built.fits design.built.matches (c.same_inputs.ensures c.args.net c.args.timing.now compiled.nodes c.requires.net design.items) c.in-Ok.ensures.shown
 
 pub returns-in-Ok-clause-made : goal.returns-in-Ok-clause-made
-returns-in-Ok-clause-made c = record { compiled = c.in-Ok.planned.compiled; is = c.in-Ok.ensures.compiled; image_is = refl }
+returns-in-Ok-clause-made c = record { chosen = c.in-Ok.planned.chosen; is = c.in-Ok.ensures.chosen; image_is = refl }

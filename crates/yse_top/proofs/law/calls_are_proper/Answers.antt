@@ -7,11 +7,10 @@ use Rattle.machine_text.specs.declared.machine.Machine.{Machine}
 use Rattle.machine_text.specs.Machines as machine_text
 use Rattle.machine_text.specs.Machines.{IsValid as IsValidMachine, default_machine, ports_of}
 use Rattle.net_defs.specs.Valid.{IsValid}
-use Rattle.yse_compile.specs.declared.compiler.CompNo.{CompNo}
-use Rattle.yse_compile.specs.declared.compiler.CompNo.TheVariants as comp_no
-use Rattle.yse_compile.specs.Compiled.{IsRight, IsOverfull}
-use Rattle.yse_compile.specs.Designs.{DesignFits, IsAcyclic, LacksBits, LacksNodes, LacksSlots, LacksFunctions}
+use Rattle.yse_compile.specs.Chosen.{FitsBy}
+use Rattle.yse_compile.specs.Designs.{IsAcyclic}
 use Rattle.text_lines.specs.Answers.{IsReader}
+use Rattle.net_defs.specs.declared.homes.HomeChoice.{HomeChoice}
 use Rattle.net_defs.specs.declared.netlist.Netlist.{Netlist}
 use Rattle.net_defs.specs.declared.stimulus.Stimulus.{Stimulus}
 use Rattle.net_defs.specs.declared.timing.Timing.{Timing}
@@ -20,7 +19,11 @@ use Rattle.net_defs.specs.Loops.{IsCircle, IsOrder, OrderOrLoop}
 use Rattle.net_defs.specs.Reference.{HasOneSimulation}
 use Rattle.net_defs.specs.Time.{turn_count}
 use Rattle.net_defs.specs.Trace.{IsTrace}
+use Rattle.image_defs.specs.declared.image.Image.{Image}
 use Rattle.image_defs.specs.WellFormed.{IsWellFormed}
+use Rattle.image_check.specs.declared.file.ImageFile.{ImageFile}
+use Rattle.image_file.specs.Ranges as image_file
+use Rattle.image_file.specs.Reading as image_faults
 use Rattle.event_defs.specs.Linked.{AreLinkedAlike}
 use Rattle.stim_text.specs.Orders.{steps_of}
 use Rattle.net_defs.specs.Valid.{input_count}
@@ -40,20 +43,27 @@ use Rattle.yse_top.specs.Checks.{After, Ends, Writes, IsMachineOf, IsNetlistOf, 
 use Rattle.cmd_words.specs.Forms.{HasForm, IsInRange}
 use Rattle.yse_top.specs.declared.status.Status.{Status}
 use Rattle.yse_top.specs.Expected.{Expected, ExpectedOf, Asks}
-use Rattle.yse_top.specs.Law.{IsProper, HasOutcome}
-use Rattle.yse_top.specs.Lines.{usage_line, machine_line, netlist_line, stimulus_line, order_line, list_line}
+use Rattle.yse_top.specs.Law.{AreImageTexts, Equal, IsProper, HasOutcome, SameOutput}
+use Rattle.yse_top.specs.Lines.{usage_line, machine_line, netlist_line, stimulus_line, order_line, list_line, image_line}
 use Rattle.yse_top.specs.Outcome.{Outcome, refusal}
 use Rattle.yse_top.specs.Readings.{Reading}
 use Rattle.yse_top.specs.Orders.{EndsInOrder}
-use Rattle.yse_top.specs.Words.{files_of, files_named, order_named}
+use Rattle.yse_top.specs.Words.{files_of, files_named, IsSettled}
+use Rattle.yse_top.specs.commands.Exec.{AfterImage, AfterMatch, ExecutesBy, ExpectedExec, IsAccepted, IsImageFileOf, OnImage, RunsImage, WritesTraceOf}
 use Rattle.yse_top.specs.commands.Large.{ExpectedLarge}
-use Rattle.yse_top.specs.commands.Plan.{ExpectedPlan, ExpectedPlanOn, IsReportOf}
+use Rattle.yse_top.specs.commands.Compile.{IsImageTextOf}
+use Rattle.yse_top.specs.commands.Layout.{ExpectedLayout, ExpectedLayoutOn, IsSheetOf}
+use Rattle.yse_top.specs.commands.Plan.{IsReportOf}
+use Rattle.yse_top.specs.declared.commands.layout.Sheet.{Sheet}
+use Rattle.yse_top.specs.declared.commands.layout.Sheet.TheVariants as sheet
 use Rattle.yse_top.specs.commands.Run.{AfterCells, AfterDesign, AfterFit, AfterList, AfterLoop, AfterMachine, AfterStimulus, WritesTrace, EndsBy, EndsWithin, ExpectedRun, ExpectedOn, ExpectedRefer, KeepsTrace}
 use Rattle.yse_top.specs.commands.Show.{ExpectedShow}
-use Rattle.yse_top.proofs.CommandLemmas.{IsCommand, command_after, command_file, command_ends, not_words}
+use Rattle.yse_top.proofs.AcceptedLemmas.{accepted_single, interchangeable}
+use Rattle.yse_top.proofs.CommandLemmas.{IsCommand, command_after, command_single, command_file, command_ends, not_words}
 use Rattle.yse_top.proofs.OrderLemmas.{DecidesOrder, done_alike, order_ending}
 use Rattle.yse_top.proofs.OutcomeLemmas.{outcome_after, outcome_writes}
-use Rattle.yse_top.proofs.ProperLemmas.{IsCheck, IsAnswered, alike, memory_status, proper_after, writes_ending}
+use Rattle.yse_top.proofs.ProperLemmas.{IsCheck, IsSingle, IsAnswered, alike, memory_status, proper_after, writes_ending}
+use Rattle.yse_top.proofs.ChoiceLemmas.{HasHomes, has_homes}
 use Rattle.yse_top.proofs.ReportLemmas.{AreOnce, one_report, some_report}
 use Rattle.yse_top.proofs.CheckLemmas.{reads_check, loop_check, IsRoomLaw, room_check, cells_check, trace_only, trace_some}
 use Rattle.yse_top.proofs.law.calls_are_proper.Goals as goal
@@ -65,16 +75,19 @@ record Laws : Type 0 where
   valid_machines : (text : List ℕ) (machine : Machine) → machine_text.Reads text machine → IsValidMachine machine
   default_valid : IsValidMachine default_machine
   valid_netlists : (text : List ℕ) (net : Netlist) → length text ≤ MAX_TEXT_BYTES → bench_reads.Reads text net → IsValid net
-  room : (net : Netlist) (machine : Machine) (timing : Timing) → IsValid net → IsValidMachine machine → ((circle : List ℕ) → IsCircle net timing circle → ⊥) → IsRoomLaw net machine timing
+  room : (choice : HomeChoice) (net : Netlist) (machine : Machine) (timing : Timing) → IsValid net → IsValidMachine machine → ((circle : List ℕ) → IsCircle net timing circle → ⊥) → IsRoomLaw choice net machine timing
   stimuli : (inputs : ℕ) → IsReader (stim.Reads inputs) (stim.first_fault inputs)
   orders : (ports : ℕ) → IsReader (orders.Reads ports) (orders.first_fault ports)
   lists : (net : Netlist) → IsReader (gate_lists.Reads net) (gate_lists.first_fault net)
   forms : (words : List (List ℕ)) (command : Command) → (asked words ≡ Some command) ↔ HasForm words command
   in_range : (words : List (List ℕ)) (command : Command) → HasForm words command → IsInRange command
-  decides : (order : Order) (banks : ℕ) (net : Netlist) (machine : Machine) (timing : Timing) (stimulus : Stimulus) → 1 ≤ banks → IsValid net → DecidesOrder order banks net machine timing stimulus
+  decides : (order : Order) (banks : ℕ) (choice : HomeChoice) (net : Netlist) (machine : Machine) (timing : Timing) (stimulus : Stimulus) → 1 ≤ banks → IsValid net → DecidesOrder order banks choice net machine timing stimulus
   summaries : (gates cycles : ℕ) → gates ≤ MAX_LARGE_GATES → (output : List ℕ) × IsSummaryOf gates cycles output
   one_summary : (gates cycles : ℕ) (one other : List ℕ) → gates ≤ MAX_LARGE_GATES → IsSummaryOf gates cycles one → IsSummaryOf gates cycles other → one ≡ other
-  once : (net : Netlist) (machine : Machine) (timing : Timing) → IsValid net → AreOnce net machine timing
+  once : (choice : HomeChoice) (net : Netlist) (machine : Machine) (timing : Timing) → IsValid net → AreOnce choice net machine timing
+  homes : (choice : HomeChoice) (net : Netlist) (machine : Machine) (timing : Timing) → IsValid net → IsValidMachine machine → FitsBy choice net machine timing → HasHomes choice net machine timing
+  images : IsReader image_file.Reads image_faults.first_fault
+  accepted : (net : Netlist) (timing : Timing) (file : ImageFile) → IsValid net → IsSingle (IsAccepted net timing file)
   order_or_loop : (net : Netlist) (timing : Timing) → OrderOrLoop net timing
   never_both : (net : Netlist) (timing : Timing) (order circle : List ℕ) → IsOrder net timing order → IsCircle net timing circle → ⊥
   one_simulation : (net : Netlist) (timing : Timing) (stimulus : Stimulus) → ((circle : List ℕ) → IsCircle net timing circle → ⊥) → HasOneSimulation net timing stimulus
@@ -90,6 +103,24 @@ not_read a b = cc
 
 not_written : {s : Status} → s ≡ status.Words → s ≡ status.WriteFault → ⊥
 not_written a b = cc
+
+-- an image is no report
+no_report : sheet.Image ≡ sheet.Report → ⊥
+no_report e = cc
+
+equal : (output : List ℕ) → Equal output output
+equal output = refl
+
+same_output : (asked : Option Command) (output : List ℕ) → SameOutput asked output output
+same_output None output = refl
+same_output (Some (command.Run words)) output = refl
+same_output (Some (command.Refer words)) output = refl
+same_output (Some (command.Order words)) output = refl
+same_output (Some (command.Plan words)) output = refl
+same_output (Some (command.Compile words)) output = inl refl
+same_output (Some (command.Exec words image)) output = refl
+same_output (Some (command.Show netlist)) output = refl
+same_output (Some (command.Large gates cycles workers)) output = refl
 
 none_some : {c : Command} → None ≡ Some c → ⊥
 none_some e = cc
@@ -112,126 +143,162 @@ module _ (laws : Laws) where
   list_check : (text : List ℕ) (net : Netlist) → IsCheck (IsListOf text net)
   list_check text net = reads_check (gate_lists.Reads net) (gate_lists.first_fault net) (laws.lists net) text status.LastList list_line tt
 
-  module _ (Settled : Type 0) where
-    trace_proper : (net : Netlist) (timing : Timing) (stimulus : Stimulus) → IsAcyclic net timing → IsCommand Settled [] (WritesTrace net timing stimulus)
+  image_check : (text : List ℕ) → IsCheck (IsImageFileOf text)
+  image_check text = reads_check image_file.Reads image_faults.first_fault laws.images text status.ImageText image_line tt
+
+  module _ (Settled : Type 0) (Same : List ℕ → List ℕ → Type 0) (same : (output : List ℕ) → Same output output) where
+    equal_same : {s t : List ℕ} → s ≡ t → Same s t
+    equal_same {s} e = subst (Same s) e (same s)
+
+    trace_proper : (net : Netlist) (timing : Timing) (stimulus : Stimulus) → IsAcyclic net timing → IsCommand Settled Same [] (WritesTrace net timing stimulus)
     trace_proper net timing stimulus acyclic =
         let simulation = laws.one_simulation net timing stimulus acyclic in
         let trace = trace_some net timing stimulus simulation in
-        command_ends Settled (Writes (IsTrace net timing stimulus)) (writes_ending (IsTrace net timing stimulus) (trace_only net timing stimulus simulation))
+        command_ends Settled Same same (Writes (IsTrace net timing stimulus)) (writes_ending Same (IsTrace net timing stimulus) (λ s t is is_too. equal_same (trace_only net timing stimulus simulation s t is is_too)))
         (λ settled. outcome_writes (IsTrace net timing stimulus) trace.0 trace.1)
 
-    stimulus_proper : (file : List ℕ) (files : List (List ℕ)) (net : Netlist) (Next : Stimulus → List Reading → Outcome → Type 0) → ((stimulus : Stimulus) → IsCommand Settled files (Next stimulus)) → IsCommand Settled (file ∷ files) (AfterStimulus file net Next)
+    stimulus_proper : (file : List ℕ) (files : List (List ℕ)) (net : Netlist) (Next : Stimulus → List Reading → Outcome → Type 0) → ((stimulus : Stimulus) → IsCommand Settled Same files (Next stimulus)) → IsCommand Settled Same (file ∷ files) (AfterStimulus file net Next)
     unfolding AfterStimulus
     stimulus_proper file files net Next on =
-        command_file Settled file files (λ text. After (IsStimulusOf text net) Next) (λ text short.
-        command_after Settled files (IsStimulusOf text net) Next (stimulus_check text net) (λ stimulus is. on stimulus))
+        command_file Settled Same same file files (λ text. After (IsStimulusOf text net) Next) (λ text short.
+        command_after Settled Same same files (IsStimulusOf text net) Next (stimulus_check text net) (λ stimulus is. on stimulus))
 
-    cells_proper : (limited : Bool) (files : List (List ℕ)) (net : Netlist) (stimulus : Stimulus) (Next : List Reading → Outcome → Type 0) → IsCommand Settled files Next → IsCommand Settled files (AfterCells limited net stimulus Next)
+    cells_proper : (limited : Bool) (files : List (List ℕ)) (net : Netlist) (stimulus : Stimulus) (Next : List Reading → Outcome → Type 0) → IsCommand Settled Same files Next → IsCommand Settled Same files (AfterCells limited net stimulus Next)
     cells_proper false files net stimulus Next on = on
     cells_proper true files net stimulus Next on =
-        command_after Settled files (HasFewCells net stimulus) (λ few. Next) (cells_check net stimulus) (λ few cells. on)
+        command_after Settled Same same files (HasFewCells net stimulus) (λ few. Next) (cells_check net stimulus) (λ few cells. on)
 
-    machine_proper : (file : Option (List ℕ)) (files : List (List ℕ)) (Next : Machine → List Reading → Outcome → Type 0) → ((machine : Machine) → IsValidMachine machine → IsCommand Settled files (Next machine)) → IsCommand Settled (option_to_list file ++ files) (AfterMachine file Next)
+    machine_proper : (file : Option (List ℕ)) (files : List (List ℕ)) (Next : Machine → List Reading → Outcome → Type 0) → ((machine : Machine) → IsValidMachine machine → IsCommand Settled Same files (Next machine)) → IsCommand Settled Same (option_to_list file ++ files) (AfterMachine file Next)
     unfolding AfterMachine
     machine_proper None files Next on = on default_machine laws.default_valid
     machine_proper (Some file) files Next on =
-        command_file Settled file files (λ text. After (IsMachineOf text) Next) (λ text short.
-        command_after Settled files (IsMachineOf text) Next (machine_check text) (λ machine is. on machine (laws.valid_machines text machine is)))
+        command_file Settled Same same file files (λ text. After (IsMachineOf text) Next) (λ text short.
+        command_after Settled Same same files (IsMachineOf text) Next (machine_check text) (λ machine is. on machine (laws.valid_machines text machine is)))
 
-    list_proper : (last : Option (List ℕ)) (files : List (List ℕ)) (net : Netlist) (timing : Timing) (Next : Timing → List Reading → Outcome → Type 0) → ((t : Timing) → IsCommand Settled files (Next t)) → IsCommand Settled (option_to_list last ++ files) (AfterList last net timing Next)
+    list_proper : (last : Option (List ℕ)) (files : List (List ℕ)) (net : Netlist) (timing : Timing) (Next : Timing → List Reading → Outcome → Type 0) → ((t : Timing) → IsCommand Settled Same files (Next t)) → IsCommand Settled Same (option_to_list last ++ files) (AfterList last net timing Next)
     unfolding AfterList
     list_proper None files net timing Next on = on timing
     list_proper (Some file) files net timing Next on =
-        command_file Settled file files (λ text. After (IsListOf text net) (λ listed. Next (listing timing listed))) (λ text short.
-        command_after Settled files (IsListOf text net) (λ listed. Next (listing timing listed)) (list_check text net) (λ listed is. on (listing timing listed)))
+        command_file Settled Same same file files (λ text. After (IsListOf text net) (λ listed. Next (listing timing listed))) (λ text short.
+        command_after Settled Same same files (IsListOf text net) (λ listed. Next (listing timing listed)) (list_check text net) (λ listed is. on (listing timing listed)))
 
-    loop_proper : (file : List ℕ) (net : Netlist) (timing : Timing) → IsCommand Settled (file ∷ []) (AfterLoop file net timing)
+    loop_proper : (file : List ℕ) (net : Netlist) (timing : Timing) → IsCommand Settled Same (file ∷ []) (AfterLoop file net timing)
     loop_proper file net timing =
-        command_after Settled (file ∷ []) (HasNoLoop net timing) (λ passed. AfterStimulus file net (KeepsTrace net timing)) (loop_check net timing (laws.order_or_loop net timing) (laws.never_both net timing)) (λ passed acyclic.
+        command_after Settled Same same (file ∷ []) (HasNoLoop net timing) (λ passed. AfterStimulus file net (KeepsTrace net timing)) (loop_check net timing (laws.order_or_loop net timing) (laws.never_both net timing)) (λ passed acyclic.
         stimulus_proper file [] net (KeepsTrace net timing) (λ stimulus. cells_proper true [] net stimulus (WritesTrace net timing stimulus) (trace_proper net timing stimulus acyclic)))
 
-    refer_proper : (words : RunWords) → IsCommand Settled (words.netlist ∷ (option_to_list words.last ++ (words.stimulus ∷ []))) (ExpectedRefer words)
+    refer_proper : (words : RunWords) → IsCommand Settled Same (words.netlist ∷ (option_to_list words.last ++ (words.stimulus ∷ []))) (ExpectedRefer words)
     unfolding ExpectedRefer
     refer_proper words =
         let Next : Netlist → List Reading → Outcome → Type 0 = λ net. AfterList words.last net words.timing (AfterLoop words.stimulus net) in
         let files : List (List ℕ) = option_to_list words.last ++ (words.stimulus ∷ []) in
-        command_file Settled words.netlist files (λ text. After (IsNetlistOf text) Next) (λ text short.
-        command_after Settled files (IsNetlistOf text) Next (netlist_check text) (λ net is.
+        command_file Settled Same same words.netlist files (λ text. After (IsNetlistOf text) Next) (λ text short.
+        command_after Settled Same same files (IsNetlistOf text) Next (netlist_check text) (λ net is.
         list_proper words.last (words.stimulus ∷ []) net words.timing (AfterLoop words.stimulus net) (loop_proper words.stimulus net)))
 
-    fit_proper : (files : List (List ℕ)) (net : Netlist) (machine : Machine) → IsValid net → IsValidMachine machine → (timing : Timing) (Next : List Reading → Outcome → Type 0)
-        → (IsAcyclic net timing → DesignFits net machine timing → IsCommand Settled files Next) → IsCommand Settled files (AfterFit net machine timing Next)
-    fit_proper files net machine valid machine_valid timing Next on =
-        command_after Settled files (HasNoLoop net timing) (λ passed. After (HasRoom net machine timing) (λ fits. Next)) (loop_check net timing (laws.order_or_loop net timing) (laws.never_both net timing)) (λ passed acyclic.
-        command_after Settled files (HasRoom net machine timing) (λ fits. Next) (room_check net machine timing (laws.room net machine timing valid machine_valid acyclic)) (λ fits has. on acyclic has))
+    fit_proper : (choice : HomeChoice) (files : List (List ℕ)) (net : Netlist) (machine : Machine) → IsValid net → IsValidMachine machine → (timing : Timing) (Next : List Reading → Outcome → Type 0)
+        → (IsAcyclic net timing → FitsBy choice net machine timing → IsCommand Settled Same files Next) → IsCommand Settled Same files (AfterFit choice net machine timing Next)
+    fit_proper choice files net machine valid machine_valid timing Next on =
+        command_after Settled Same same files (HasNoLoop net timing) (λ passed. After (HasRoom choice net machine timing) (λ fits. Next)) (loop_check net timing (laws.order_or_loop net timing) (laws.never_both net timing)) (λ passed acyclic.
+        command_after Settled Same same files (HasRoom choice net machine timing) (λ fits. Next) (room_check choice net machine timing (laws.room choice net machine timing valid machine_valid acyclic)) (λ fits has. on acyclic has))
 
     design_proper : (words : RunWords) (files : List (List ℕ)) (machine : Machine) → IsValidMachine machine → (Next : Timing → Netlist → List Reading → Outcome → Type 0)
-        → ((timing : Timing) (net : Netlist) → IsValid net → IsAcyclic net timing → DesignFits net machine timing → IsCommand Settled files (Next timing net))
-        → IsCommand Settled (words.netlist ∷ (option_to_list words.last ++ files)) (AfterDesign words machine Next)
+        → ((timing : Timing) (net : Netlist) → IsValid net → IsAcyclic net timing → FitsBy words.homes net machine timing → IsCommand Settled Same files (Next timing net))
+        → IsCommand Settled Same (words.netlist ∷ (option_to_list words.last ++ files)) (AfterDesign words machine Next)
     unfolding AfterDesign
     design_proper words files machine machine_valid Next on =
-        let Listed : Netlist → List Reading → Outcome → Type 0 = λ net. AfterList words.last net words.timing (λ timing. AfterFit net machine timing (Next timing net)) in
+        let Listed : Netlist → List Reading → Outcome → Type 0 = λ net. AfterList words.last net words.timing (λ timing. AfterFit words.homes net machine timing (Next timing net)) in
         let all : List (List ℕ) = option_to_list words.last ++ files in
-        command_file Settled words.netlist all (λ text. After (IsNetlistOf text) Listed) (λ text short.
-        command_after Settled all (IsNetlistOf text) Listed (netlist_check text) (λ net is.
+        command_file Settled Same same words.netlist all (λ text. After (IsNetlistOf text) Listed) (λ text short.
+        command_after Settled Same same all (IsNetlistOf text) Listed (netlist_check text) (λ net is.
         let valid = laws.valid_netlists text net short is in
-        list_proper words.last files net words.timing (λ timing. AfterFit net machine timing (Next timing net)) (λ timing.
-        fit_proper files net machine valid machine_valid timing (Next timing net) (on timing net valid))))
+        list_proper words.last files net words.timing (λ timing. AfterFit words.homes net machine timing (Next timing net)) (λ timing.
+        fit_proper words.homes files net machine valid machine_valid timing (Next timing net) (on timing net valid))))
 
-    plan_proper : (words : RunWords) → IsCommand Settled (option_to_list words.machine ++ (words.netlist ∷ option_to_list words.last)) (ExpectedPlan words)
-    unfolding ExpectedPlan ExpectedPlanOn
-    plan_proper words =
-        machine_proper words.machine (words.netlist ∷ option_to_list words.last) (ExpectedPlanOn words) (λ machine machine_valid.
-        subst (λ (files : List (List ℕ)). IsCommand Settled (words.netlist ∷ files) (ExpectedPlanOn words machine)) (append-nil (option_to_list words.last))
-        (design_proper words [] machine machine_valid (λ timing net. Ends (Writes (IsReportOf net machine timing))) (λ timing net valid acyclic fits.
-        let once = laws.once net machine timing valid in
-        let report = some_report net machine timing once machine_valid fits in
-        command_ends Settled (Writes (IsReportOf net machine timing)) (writes_ending (IsReportOf net machine timing) (one_report net machine timing once))
-        (λ settled. outcome_writes (IsReportOf net machine timing) report.0 report.1))))
+    sheet_proper : (asked : Sheet) (choice : HomeChoice) (net : Netlist) (machine : Machine) (timing : Timing) → IsValid net → IsValidMachine machine → FitsBy choice net machine timing
+        → (Settled → asked ≡ sheet.Report) → (asked ≡ sheet.Image → (s t : List ℕ) → AreImageTexts s t → Same s t) → IsCommand Settled Same [] (Ends (Writes (IsSheetOf asked choice net machine timing)))
+    sheet_proper sheet.Report choice net machine timing valid machine_valid fits can texts =
+        let once = laws.once choice net machine timing valid in
+        let report = some_report choice net machine timing once (laws.homes choice net machine timing valid machine_valid fits) in
+        command_ends Settled Same same (Writes (IsReportOf choice net machine timing)) (writes_ending Same (IsReportOf choice net machine timing) (λ s t is is_too. equal_same (one_report choice net machine timing once s t is is_too)))
+        (λ settled. outcome_writes (IsReportOf choice net machine timing) report.0 report.1)
+    sheet_proper sheet.Image choice net machine timing valid machine_valid fits can texts =
+        command_ends Settled Same same (Writes (IsImageTextOf choice net machine timing)) (writes_ending Same (IsImageTextOf choice net machine timing) (λ s t is is_too. texts refl s t (record { choice = choice; net = net; machine = machine; timing = timing; one_is = is; other_is = is_too })))
+        (λ settled. absurd (no_report (can settled)))
 
-    large_proper : (gates cycles : ℕ) → gates ≤ MAX_LARGE_GATES → IsCommand Settled [] (ExpectedLarge gates cycles)
+    layout_proper : (asked : Sheet) (words : RunWords) → (Settled → asked ≡ sheet.Report) → (asked ≡ sheet.Image → (s t : List ℕ) → AreImageTexts s t → Same s t) → IsCommand Settled Same (option_to_list words.machine ++ (words.netlist ∷ option_to_list words.last)) (ExpectedLayout asked words)
+    unfolding ExpectedLayout ExpectedLayoutOn
+    layout_proper asked words can texts =
+        machine_proper words.machine (words.netlist ∷ option_to_list words.last) (ExpectedLayoutOn asked words) (λ machine machine_valid.
+        subst (λ (files : List (List ℕ)). IsCommand Settled Same (words.netlist ∷ files) (ExpectedLayoutOn asked words machine)) (append-nil (option_to_list words.last))
+        (design_proper words [] machine machine_valid (λ timing net. Ends (Writes (IsSheetOf asked words.homes net machine timing))) (λ timing net valid acyclic fits.
+        sheet_proper asked words.homes net machine timing valid machine_valid fits can texts)))
+
+    large_proper : (gates cycles : ℕ) → gates ≤ MAX_LARGE_GATES → IsCommand Settled Same [] (ExpectedLarge gates cycles)
     large_proper gates cycles few =
         let summary = laws.summaries gates cycles few in
-        command_ends Settled (Writes (IsSummaryOf gates cycles)) (writes_ending (IsSummaryOf gates cycles) (λ s t is is_too. laws.one_summary gates cycles s t few is is_too))
+        command_ends Settled Same same (Writes (IsSummaryOf gates cycles)) (writes_ending Same (IsSummaryOf gates cycles) (λ s t is is_too. equal_same (laws.one_summary gates cycles s t few is is_too)))
         (λ settled. outcome_writes (IsSummaryOf gates cycles) summary.0 summary.1)
 
-    show_proper : (file : List ℕ) → IsCommand Settled (file ∷ []) (ExpectedShow file)
+    show_proper : (file : List ℕ) → IsCommand Settled Same (file ∷ []) (ExpectedShow file)
     unfolding ExpectedShow
     show_proper file =
-        command_file Settled file [] (λ text. After (IsNetlistOf text) (λ net. Ends (Writes (λ output. output ≡ canonical_text net)))) (λ text short.
-        command_after Settled [] (IsNetlistOf text) (λ net. Ends (Writes (λ output. output ≡ canonical_text net))) (netlist_check text) (λ net is.
-        command_ends Settled (Writes (λ output. output ≡ canonical_text net)) (writes_ending (λ output. output ≡ canonical_text net) (λ s t e f. e ∙ sym f))
+        command_file Settled Same same file [] (λ text. After (IsNetlistOf text) (λ net. Ends (Writes (λ output. output ≡ canonical_text net)))) (λ text short.
+        command_after Settled Same same [] (IsNetlistOf text) (λ net. Ends (Writes (λ output. output ≡ canonical_text net))) (netlist_check text) (λ net is.
+        command_ends Settled Same same (Writes (λ output. output ≡ canonical_text net)) (writes_ending Same (λ output. output ≡ canonical_text net) (λ s t e f. equal_same (e ∙ sym f)))
         (λ settled. outcome_writes (λ output. output ≡ canonical_text net) (canonical_text net) refl)))
 
+  -- whether an image is accepted is shown by a call
+  image_proper : (words : RunWords) (name : List ℕ) (net : Netlist) → IsValid net → (timing : Timing) → IsCommand ⊥ Equal (name ∷ words.stimulus ∷ []) (OnImage words name WritesTraceOf net timing)
+  unfolding AfterImage
+  image_proper words name net valid timing =
+      let Run : Image → List Reading → Outcome → Type 0 = RunsImage words WritesTraceOf net timing in
+      command_after ⊥ Equal equal (name ∷ words.stimulus ∷ []) (HasNoLoop net timing) (λ passed. AfterImage name net timing Run) (loop_check net timing (laws.order_or_loop net timing) (laws.never_both net timing)) (λ passed acyclic.
+      command_file ⊥ Equal equal name (words.stimulus ∷ []) (λ text. After (IsImageFileOf text) (λ file. AfterMatch net timing file Run)) (λ text short.
+      command_after ⊥ Equal equal (words.stimulus ∷ []) (IsImageFileOf text) (λ file. AfterMatch net timing file Run) (image_check text) (λ file is.
+      command_single ⊥ Equal equal (words.stimulus ∷ []) (IsAccepted net timing file) (λ accepted. Run file.image) (laws.accepted net timing file valid) (λ never. never) (λ accepted matches.
+      stimulus_proper ⊥ Equal equal words.stimulus [] net (WritesTraceOf file.image timing net) (λ stimulus. trace_proper ⊥ Equal equal net timing stimulus acyclic)))))
+
+  exec_proper : (words : RunWords) (name : List ℕ) → IsCommand ⊥ Equal (words.netlist ∷ (option_to_list words.last ++ (name ∷ words.stimulus ∷ []))) (ExpectedExec words name)
+  unfolding ExecutesBy
+  exec_proper words name =
+      let Next : Netlist → List Reading → Outcome → Type 0 = λ net. AfterList words.last net words.timing (OnImage words name WritesTraceOf net) in
+      let files : List (List ℕ) = option_to_list words.last ++ (name ∷ words.stimulus ∷ []) in
+      command_file ⊥ Equal equal words.netlist files (λ text. After (IsNetlistOf text) Next) (λ text short.
+      command_after ⊥ Equal equal files (IsNetlistOf text) Next (netlist_check text) (λ net is.
+      list_proper ⊥ Equal equal words.last (name ∷ words.stimulus ∷ []) net words.timing (OnImage words name WritesTraceOf net) (image_proper words name net (laws.valid_netlists text net short is))))
+
   -- without an order file there is an outcome
-  ends_proper : (file : Option (List ℕ)) (words : RunWords) (machine : Machine) (timing : Timing) (net : Netlist) (stimulus : Stimulus) → 1 ≤ words.banks → IsValid net → IsAcyclic net timing → IsCommand (file ≡ None) (option_to_list file) (EndsBy file words machine timing net stimulus)
+  ends_proper : (file : Option (List ℕ)) (words : RunWords) (machine : Machine) (timing : Timing) (net : Netlist) (stimulus : Stimulus) → 1 ≤ words.banks → IsValid net → IsAcyclic net timing → IsCommand (file ≡ None) Equal (option_to_list file) (EndsBy file words machine timing net stimulus)
   unfolding EndsBy
-  ends_proper None words machine timing net stimulus banks valid acyclic = trace_proper (None ≡ None) net timing stimulus acyclic
+  ends_proper None words machine timing net stimulus banks valid acyclic = trace_proper (None ≡ None) Equal equal net timing stimulus acyclic
   ends_proper (Some file) words machine timing net stimulus banks valid acyclic =
-      command_file (Some file ≡ None) file [] (λ text. After (IsOrderOf text machine) (λ order. Ends (EndsInOrder order words.banks net machine timing stimulus))) (λ text short.
-      command_after (Some file ≡ None) [] (IsOrderOf text machine) (λ order. Ends (EndsInOrder order words.banks net machine timing stimulus)) (order_check text machine) (λ order is.
-      command_ends (Some file ≡ None) (EndsInOrder order words.banks net machine timing stimulus)
-      (order_ending net timing stimulus order words.banks machine (laws.one_simulation net timing stimulus acyclic) (laws.decides order words.banks net machine timing stimulus banks valid))
+      command_file (Some file ≡ None) Equal equal file [] (λ text. After (IsOrderOf text machine) (λ order. Ends (EndsInOrder order words.banks words.homes net machine timing stimulus))) (λ text short.
+      command_after (Some file ≡ None) Equal equal [] (IsOrderOf text machine) (λ order. Ends (EndsInOrder order words.banks words.homes net machine timing stimulus)) (order_check text machine) (λ order is.
+      command_ends (Some file ≡ None) Equal equal (EndsInOrder order words.banks words.homes net machine timing stimulus)
+      (order_ending net timing stimulus order words.banks words.homes machine (laws.one_simulation net timing stimulus acyclic) (laws.decides order words.banks words.homes net machine timing stimulus banks valid))
       (λ none. cc)))
 
-  on_proper : (words : RunWords) (limited : Bool) (order : Option (List ℕ)) → 1 ≤ words.banks → (machine : Machine) → IsValidMachine machine → IsCommand (order ≡ None) (words.netlist ∷ (option_to_list words.last ++ (words.stimulus ∷ option_to_list order))) (ExpectedOn words (EndsWithin limited order words) machine)
+  on_proper : (words : RunWords) (limited : Bool) (order : Option (List ℕ)) → 1 ≤ words.banks → (machine : Machine) → IsValidMachine machine → IsCommand (order ≡ None) Equal (words.netlist ∷ (option_to_list words.last ++ (words.stimulus ∷ option_to_list order))) (ExpectedOn words (EndsWithin limited order words) machine)
   unfolding ExpectedOn
   on_proper words limited order banks machine machine_valid =
-      design_proper (order ≡ None) words (words.stimulus ∷ option_to_list order) machine machine_valid (λ timing net. AfterStimulus words.stimulus net (EndsWithin limited order words machine timing net)) (λ timing net valid acyclic fits.
-      stimulus_proper (order ≡ None) words.stimulus (option_to_list order) net (EndsWithin limited order words machine timing net) (λ stimulus.
-      cells_proper (order ≡ None) limited (option_to_list order) net stimulus (EndsBy order words machine timing net stimulus) (ends_proper order words machine timing net stimulus banks valid acyclic)))
+      design_proper (order ≡ None) Equal equal words (words.stimulus ∷ option_to_list order) machine machine_valid (λ timing net. AfterStimulus words.stimulus net (EndsWithin limited order words machine timing net)) (λ timing net valid acyclic fits.
+      stimulus_proper (order ≡ None) Equal equal words.stimulus (option_to_list order) net (EndsWithin limited order words machine timing net) (λ stimulus.
+      cells_proper (order ≡ None) Equal equal limited (option_to_list order) net stimulus (EndsBy order words machine timing net stimulus) (ends_proper order words machine timing net stimulus banks valid acyclic)))
 
-  run_proper : (words : RunWords) (limited : Bool) (order : Option (List ℕ)) → 1 ≤ words.banks → IsCommand (order ≡ None) (option_to_list words.machine ++ (words.netlist ∷ (option_to_list words.last ++ (words.stimulus ∷ option_to_list order)))) (ExpectedRun words limited order)
+  run_proper : (words : RunWords) (limited : Bool) (order : Option (List ℕ)) → 1 ≤ words.banks → IsCommand (order ≡ None) Equal (option_to_list words.machine ++ (words.netlist ∷ (option_to_list words.last ++ (words.stimulus ∷ option_to_list order)))) (ExpectedRun words limited order)
   unfolding ExpectedRun
-  run_proper words limited order banks = machine_proper (order ≡ None) words.machine (words.netlist ∷ (option_to_list words.last ++ (words.stimulus ∷ option_to_list order))) (ExpectedOn words (EndsWithin limited order words)) (on_proper words limited order banks)
+  run_proper words limited order banks = machine_proper (order ≡ None) Equal equal words.machine (words.netlist ∷ (option_to_list words.last ++ (words.stimulus ∷ option_to_list order))) (ExpectedOn words (EndsWithin limited order words)) (on_proper words limited order banks)
 
-  command_proper : (asked : Command) → IsInRange asked → IsCommand (order_named (Some asked) ≡ None) (files_of asked) (ExpectedOf asked)
+  command_proper : (asked : Command) → IsInRange asked → IsCommand (IsSettled (Some asked)) (SameOutput (Some asked)) (files_of asked) (ExpectedOf asked)
   command_proper (command.Run words) range = run_proper words false None range.banks_some
-  command_proper (command.Refer words) range = refer_proper (None ≡ None) words
+  command_proper (command.Refer words) range = refer_proper (None ≡ None) Equal equal words
   command_proper (command.Order words) range = run_proper words true words.order range.banks_some
-  command_proper (command.Plan words) range = plan_proper (None ≡ None) words
-  command_proper (command.Show file) range = show_proper (None ≡ None) file
-  command_proper (command.Large gates cycles workers) range = large_proper (None ≡ None) gates cycles range.gates_few
+  command_proper (command.Plan words) range = layout_proper (None ≡ None) Equal equal sheet.Report words (λ settled. refl) (λ image. absurd (no_report (sym image)))
+  command_proper (command.Compile words) range = layout_proper ⊥ (SameOutput (Some (command.Compile words))) (λ output. inl refl) sheet.Image words (λ never. absurd never) (λ image s t texts. inr texts)
+  command_proper (command.Exec words image) range = exec_proper words image
+  command_proper (command.Show file) range = show_proper (None ≡ None) Equal equal file
+  command_proper (command.Large gates cycles workers) range = large_proper (None ≡ None) Equal equal gates cycles range.gates_few
 
   -- ---- words
 
@@ -240,13 +307,15 @@ module _ (laws : Laws) where
 
   words_check : (words : List (List ℕ)) → IsAnswered (Asks words)
   words_check words = record {
-    values = λ x y has has_too. same x y (sym (asked_as words x has) ∙ asked_as words y has_too);
-    either = λ x o has refused. refused.0 x has;
-    refusals = λ o p refused refused_too. alike o p (refused.1 ∙ sym refused_too.1);
+    once = record {
+      values = λ x y has has_too. same x y (sym (asked_as words x has) ∙ asked_as words y has_too);
+      either = λ x o has refused. refused.0 x has;
+      refusals = λ o p refused refused_too. alike o p (refused.1 ∙ sym refused_too.1);
+      not_memory = λ o refused memory. not_memory (words_status o refused.1) memory;
+      not_read = λ o refused read. not_read (words_status o refused.1) read;
+      not_written = λ o refused written. not_written (words_status o refused.1) written;
+    };
     some = some (asked words) refl;
-    not_memory = λ o refused memory. not_memory (words_status o refused.1) memory;
-    not_read = λ o refused read. not_read (words_status o refused.1) read;
-    not_written = λ o refused written. not_written (words_status o refused.1) written;
   }
     where
       same : (x y : Command) → Some x ≡ Some y → x ≡ y
@@ -256,15 +325,15 @@ module _ (laws : Laws) where
       some None is = inr (refusal status.Words usage_line, ((λ command has. none_some (sym is ∙ asked_as words command has)), refl))
       some (Some command) is = inl (command, (laws.forms words command).0 is)
 
-  asked_proper : (words : List (List ℕ)) → IsProper (files_named (asked words)) (After (Asks words) ExpectedOf)
+  asked_proper : (words : List (List ℕ)) → IsProper (SameOutput (asked words)) (files_named (asked words)) (After (Asks words) ExpectedOf)
   asked_proper words =
-      proper_after (files_named (asked words)) (Asks words) ExpectedOf (words_check words)
-      (λ command has. subst (λ a. IsProper (files_named a) (ExpectedOf command)) (sym (asked_as words command has)) (command_proper command (laws.in_range words command has)).proper)
+      proper_after (SameOutput (asked words)) (same_output (asked words)) (files_named (asked words)) (Asks words) ExpectedOf (words_check words).once
+      (λ command has. subst (λ a. IsProper (SameOutput a) (files_named a) (ExpectedOf command)) (sym (asked_as words command has)) (command_proper command (laws.in_range words command has)).proper)
 
-  asked_some : (words : List (List ℕ)) → order_named (asked words) ≡ None → HasOutcome (After (Asks words) ExpectedOf)
+  asked_some : (words : List (List ℕ)) → IsSettled (asked words) → HasOutcome (After (Asks words) ExpectedOf)
   asked_some words none =
       outcome_after (Asks words) ExpectedOf (words_check words)
-      (λ command has. (command_proper command (laws.in_range words command has)).some (subst (λ a. order_named a ≡ None) (asked_as words command has) none))
+      (λ command has. (command_proper command (laws.in_range words command has)).some (subst IsSettled (asked_as words command has) none))
 
   asked_words : (words : List (List ℕ)) (readings : List Reading) (outcome : Outcome) → After (Asks words) ExpectedOf readings outcome → outcome.status ≢ status.Memory → (outcome.status ≡ status.Words) ↔ (asked words ≡ None)
   asked_words words readings outcome (inl (command, has, next)) other =
@@ -275,24 +344,6 @@ module _ (laws : Laws) where
       no_command None is = is
       no_command (Some command) is = absurd (refused.0 command ((laws.forms words command).0 is))
   asked_words words readings outcome (inr (none, inr memory)) other = absurd (other (memory_status outcome memory))
-
-module _ {net : Netlist} {machine : Machine} {timing : Timing} where
-  some_room : DesignFits net machine timing ⊎ ((why : CompNo) × IsRight net machine timing why × IsOverfull why) → DesignFits net machine timing ⊎ ((why : CompNo) × IsOverfull why × IsRight net machine timing why)
-  some_room (inl fits) = inl fits
-  some_room (inr (why, right, is)) = inr (why, is, right)
-
-  -- a refusal is one of the four
-  never_room : (why : CompNo) → IsOverfull why → IsRight net machine timing why
-      → ((block needed left : ℕ) → LacksBits net machine timing block needed left → ⊥)
-      → ((needed limit : ℕ) → LacksNodes net machine timing needed limit → ⊥)
-      → ((needed limit : ℕ) → LacksSlots net machine timing needed limit → ⊥)
-      → ((port needed limit : ℕ) → LacksFunctions net machine timing port needed limit → ⊥) → ⊥
-  never_room (comp_no.Loop members) is right bits nodes slots functions = is
-  never_room (comp_no.Bits block needed left) is right bits nodes slots functions = bits block needed left right
-  never_room (comp_no.Slots needed limit) is right bits nodes slots functions = slots needed limit right
-  never_room (comp_no.Functions port needed limit) is right bits nodes slots functions = functions port needed limit right
-  never_room (comp_no.Nodes needed limit) is right bits nodes slots functions = nodes needed limit right
-  never_room comp_no.Memory is right bits nodes slots functions = is
 
 default_is_valid : IsValidMachine default_machine
 default_is_valid = record {
@@ -323,35 +374,47 @@ returns c =
       lists = c.reads_or_faults-5.ensures.reader;
       forms = c.forms_are_asked.ensures;
       in_range = c.forms_are_in_range.ensures;
-      decides = λ order banks net machine timing stimulus some valid image other one two made made_too after after_too.
-          let linked = subst (λ i. AreLinkedAlike i other) made.image_is (subst (AreLinkedAlike made.compiled.image) made_too.image_is
-          (c.one_linking.ensures net machine timing made.compiled made_too.compiled valid made.is made_too.is)) in
+      decides = λ order banks choice net machine timing stimulus some valid image other one two made made_too after after_too.
+          let linked = subst (λ i. AreLinkedAlike i other) made.image_is (subst (AreLinkedAlike made.chosen.compiled.image) made_too.image_is
+          (c.one_linking_chosen.ensures choice net machine timing made.chosen made_too.chosen valid made.is made_too.is)) in
           let same =
           c.links_decide.ensures image other stimulus stimulus banks (turn_count timing stimulus) (steps_of order) after.answers after_too.answers one two
-          (subst IsWellFormed made.image_is made.is.built.fits) (subst IsWellFormed made_too.image_is made_too.is.built.fits) linked some after.steps after_too.steps in
+          (subst IsWellFormed made.image_is made.is.design.built.fits) (subst IsWellFormed made_too.image_is made_too.is.design.built.fits) linked some after.steps after_too.steps in
           done_alike (turn_count timing stimulus) image other one two linked same.1 same.2;
+      images = c.reads_or_faults-6.ensures.reader;
+      accepted = λ net timing file valid. accepted_single net timing file (λ one other items items_too.
+          interchangeable file timing one other (c.one_list.ensures net timing one other items items_too) (c.items_are_well_formed.ensures net timing other valid items_too)
+          (c.same_inputs.ensures net timing one valid items ∙ sym (c.same_inputs.ensures net timing other valid items_too)));
       valid_machines = c.reads_as_valid.ensures;
       default_valid = default_is_valid;
       valid_netlists = c.texts_read_as_valid.ensures;
-      room = λ net machine timing valid machine_valid acyclic. record {
+      room = λ choice net machine timing valid machine_valid acyclic. record {
         some = elim (c.order_or_loop.ensures.one net timing) [
-          | inl (order, is) ↦ some_room (c.fits_or_refused.ensures net machine timing (c.items_exist.ensures net timing order valid is).0 valid machine_valid acyclic (c.items_exist.ensures net timing order valid is).1)
+          | inl (order, is) ↦
+              let items = c.items_exist.ensures net timing order valid is in
+              c.fits_by_or_refused.ensures choice net machine timing items.0 valid machine_valid acyclic items.1
           | inr (loop, is) ↦ absurd (acyclic loop is.circle)
         ];
-        never_both = λ why fits is right. never_room why is right
-            (λ block needed left lacks. c.fits_bits.ensures net machine timing fits block needed left lacks)
-            (λ needed limit lacks. c.fits_nodes.ensures net machine timing fits needed limit lacks)
-            (λ needed limit lacks. c.fits_slots.ensures net machine timing valid fits needed limit lacks)
-            (λ port needed limit lacks. c.fits_functions.ensures net machine timing fits port needed limit lacks);
         one = λ why other is is_too right right_too. c.one_refusal.ensures net machine timing valid why other right right_too is is_too;
       };
       summaries = c.one_summary.ensures.some;
       one_summary = c.one_summary.ensures.one;
-      once = λ net machine timing valid. record {
+      once = λ choice net machine timing valid. record {
         formed = λ nodes items. c.items_are_well_formed.ensures net timing nodes valid items;
         items = c.one_list.ensures net timing;
-        homes = c.one_homes.ensures net machine timing;
+        one = λ a b plain other items items_too picked picked_too used used_too fit fit_too.
+            c.one_use.ensures choice net machine timing a b plain other valid items items_too picked picked_too used used_too fit fit_too;
       };
+      homes = λ choice net machine timing valid machine_valid fits.
+          has_homes net machine timing machine_valid (λ nodes items. c.items_are_well_formed.ensures net timing nodes valid items)
+          (λ nodes start. c.some_better.ensures nodes machine start) (λ nodes start. c.one_better.ensures nodes machine start)
+          (λ nodes homes formed housed. elim (c.planned_or_refused.ensures.some nodes machine homes formed housed) [
+            | inl fit ↦ inl fit
+            | inr none ↦ inr (λ fit. elim none [
+              | inl long ↦ c.planned_or_refused.ensures.slots nodes machine homes formed fit long.0 long.1 long.2
+              | inr crowded ↦ c.planned_or_refused.ensures.functions nodes machine homes fit crowded.0 crowded.1 crowded.2 crowded.3
+            ])
+          ]) choice fits;
       order_or_loop = c.order_or_loop.ensures.one;
       never_both = c.order_or_loop.ensures.never_both;
       one_simulation = c.one_simulation.ensures.without_loop;

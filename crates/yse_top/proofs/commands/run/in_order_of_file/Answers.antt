@@ -16,7 +16,7 @@ use Rattle.yse_top.proofs.commands.run.in_order_of_file.Goals as goal
 
 module _ (words : RunWords) (machine : Machine) (timing : Timing) (net : Netlist) (stimulus : Stimulus) where
   abbrev of_order : Order → List Reading → Outcome → Type 0
-  of_order order = Ends (EndsInOrder order words.banks net machine timing stimulus)
+  of_order order = Ends (EndsInOrder order words.banks words.homes net machine timing stimulus)
 
   abbrev of_text : List ℕ → List Reading → Outcome → Type 0
   of_text text = After (IsOrderOf text machine) of_order

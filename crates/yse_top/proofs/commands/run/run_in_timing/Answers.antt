@@ -15,8 +15,8 @@ returns-in-Ok-clause-expected g c =
     let words = c.args.words.now in
     let next = AfterStimulus words.stimulus net (EndsTelling g.G.Gate c.args.gates.now c.execute.new.gates (written_by c.execute.result) c.args.pace words machine timing net) in
     let run = rw c.in-Ok.ensures.same at c.execute.ensures.expected in
-    follows_on _ _ (HasNoLoop net timing) (λ passed. After (HasRoom net machine timing) (λ fits. next)) tt _ _ _ c.in-Ok.ensures.acyclic
-    (follows_on _ _ (HasRoom net machine timing) (λ fits. next) tt _ _ _ c.in-Ok.ensures.fits run)
+    follows_on _ _ (HasNoLoop net timing) (λ passed. After (HasRoom words.homes net machine timing) (λ fits. next)) tt _ _ _ c.in-Ok.ensures.acyclic
+    (follows_on _ _ (HasRoom words.homes net machine timing) (λ fits. next) tt _ _ _ c.in-Ok.ensures.fits run)
 
 pub returns-in-Err-clause-expected : goal.returns-in-Err-clause-expected
 returns-in-Err-clause-expected g c =
@@ -25,4 +25,4 @@ returns-in-Err-clause-expected g c =
     let timing = c.args.timing.now in
     let words = c.args.words.now in
     let next = AfterStimulus words.stimulus net (EndsTelling g.G.Gate c.args.gates.now c.args.gates.now (Ok tt) c.args.pace words machine timing net) in
-    follows_here _ _ _ _ (AfterFit net machine timing next) (refused_design net machine timing next _ c.in-Err.ensures.refused)
+    follows_here _ _ _ _ (AfterFit words.homes net machine timing next) (refused_design words.homes net machine timing next _ c.in-Err.ensures.refused)

@@ -1,5 +1,5 @@
--- What the run writes is the trace, and its visits are those of the machine.
-use Rattle.yse_top.proofs.GateLemmas.{machine_visits}
+-- What the run writes is the trace, and its visits are those of the netlist's turns.
+use Rattle.yse_top.proofs.GateLemmas.{image_visits}
 use Rattle.yse_top.proofs.ShownLemmas.{run_trace}
 use Rattle.yse_top.proofs.commands.steps.by_workers.Goals as goal
 
@@ -9,5 +9,5 @@ returns-clause-printed g c =
 
 pub returns-clause-visits : goal.returns-clause-visits
 returns-clause-visits g c =
-    machine_visits g.G.Gate c.args.built.net c.args._machine.now c.args._timing.now c.args.stimulus c.args.built.image c.requires.image c.requires.made
+    image_visits g.G.Gate c.args.built.net c.args._timing.now c.args.stimulus c.args.built.image c.requires.image
     c.args.words.now.workers c.args.gates.now _ _ c.in_ok-wrote.ensures.visits

@@ -1,0 +1,243 @@
+-- An image is accepted or refused once, whichever numbers the tables of the netlist's items have.
+use Rattle.std.proofs.Common.{◌≡◌, ◌≢◌, ◌∙◌, sym, ap, refl, subst, ◌⊎◌, inl, inr, ℕ, ◌<◌, ◌≤◌, List, length, Some, None, Ok, Err, arith}
+use Rattle.std.specs.Prelude.{slice_get}
+use Rattle.std.proofs.lemmas.Bool.{cases_lt}
+use Rattle.net_defs.specs.declared.netlist.Netlist.{Netlist}
+use Rattle.net_defs.specs.declared.timing.Timing.{Timing}
+use Rattle.func_table.specs.declared.table.Table.{Table}
+use Rattle.func_table.specs.Entries.{AreAlike, looked_up}
+use Rattle.node_defs.specs.declared.items.Item.{Item}
+use Rattle.node_defs.specs.declared.items.Item.TheVariants as item
+use Rattle.node_defs.specs.declared.items.Feeds.{Feeds}
+use Rattle.node_defs.specs.declared.items.NodeNet.{NodeNet}
+use Rattle.node_defs.specs.Order.{AreItems}
+use Rattle.node_defs.specs.Same.{AreSameItem, AreSameItems, IsSameTable}
+use Rattle.node_defs.specs.WellFormed.{IsWellFormed as IsWellFormedNet, NamesParts, column_count}
+use Rattle.node_defs.specs.declared.items.NodeBlock.{NodeBlock}
+use Rattle.node_defs.proofs.MemberLemmas.{member_at}
+use Rattle.yse_compile.proofs.SameItems.{carried, partner}
+use Rattle.large_run.proofs.TableLemmas.{same_entries}
+use Rattle.image_defs.specs.declared.image.Image.{Image}
+use Rattle.image_defs.specs.declared.image.BlockWork.{BlockWork}
+use Rattle.image_defs.specs.declared.image.LinkIn.{LinkIn}
+use Rattle.image_defs.specs.declared.image.OutBit.{OutBit}
+use Rattle.image_defs.specs.declared.image.PortImage.{PortImage}
+use Rattle.image_defs.specs.declared.image.Task.{Task}
+use Rattle.image_defs.specs.declared.image.Task.TheVariants.{Eval, Hold}
+use Rattle.image_defs.specs.declared.image.Work.{Work}
+use Rattle.image_defs.specs.declared.image.Work.TheVariants.{Logic, Array, Host}
+use Rattle.image_match.specs.Matches.{BitImplements, ImplementsClaim, Implements, InputImplements, Matches, TaskImplements}
+use Rattle.image_check.specs.declared.check.CheckNo.{CheckNo}
+use Rattle.image_check.specs.declared.check.CheckNo.TheVariants as no
+use Rattle.image_check.specs.declared.file.ImageFile.{ImageFile}
+use Rattle.image_check.specs.Check.{Says}
+use Rattle.image_file.specs.Files.{image_text}
+use Rattle.image_file.specs.Ranges.{IsInRanges, Reads}
+use Rattle.image_file.specs.Reading.{first_fault}
+use Rattle.image_file.specs.declared.refusal.ImageNo.{ImageNo}
+use Rattle.text_lines.specs.Answers.{IsReader}
+use Rattle.image_check.specs.Claimed.{lists_of, HasTiming, PlaceMatches, ColumnMatches, IsFirstPlace, IsFirstColumn}
+use Rattle.yse_top.specs.declared.status.Status.TheVariants as status
+use Rattle.yse_top.specs.Lines.{match_line}
+use Rattle.yse_top.specs.Checks.{After}
+use Rattle.yse_top.specs.Outcome.{Outcome, refusal, out_of_memory}
+use Rattle.yse_top.specs.Readings.{Reading}
+use Rattle.yse_top.specs.commands.Exec.{AfterImage, AfterMatch, IsAccepted, IsImageFileOf, IsTaken, RunsImage, WritesTraceOf}
+use Rattle.yse_top.proofs.ProperLemmas.{IsOfText, IsSingle, alike, short_passes}
+use Rattle.yse_top.proofs.TracedLemmas.{whole_text}
+
+-- ---- what holds of an item of one list holds of that item of the other
+
+alike_then : (r s t : Table) → AreAlike r s → AreAlike s t → AreAlike r t
+alike_then r s t one other e low = one e low ∙ other e low
+
+module _ (image : Image) (claims : List (List ℕ)) (one other : NodeNet) (same : AreSameItems one other) (formed : IsWellFormedNet other) where
+  -- the table of a node of the other list
+  table_too : (t u : ℕ) (table : Table) → IsSameTable one.tables other.tables t u → u < length other.tables → slice_get one.tables t ≡ Some table → (twin : Table) × (slice_get other.tables u ≡ Some twin) × AreAlike table twin
+  table_too t u table are low at =
+      let twin = member_at other.tables u low in
+      (twin.0, twin.1, same_entries table twin.0 (λ a b c d. ap (λ o. looked_up o a b c d) (sym at) ∙ (are a b c d ∙ ap (λ o. looked_up o a b c d) twin.1)))
+
+  task_too : (p : ℕ) (ins : List LinkIn) (tables : List Table) (task : Task) (i j : Item) → AreSameItem one.tables other.tables i j → NamesParts other j
+      → TaskImplements image claims one p ins tables task i → TaskImplements image claims other p ins tables task j
+  task_too p ins tables (Eval slot table a b c d) (item.Node t feeds) (item.Node u others) (are, like) low (first, second, at, there, entries, from_a, from_b, from_c, from_d) =
+      let twin = table_too t u second like low there in
+      subst (λ (f : Feeds). TaskImplements image claims other p ins tables (Eval slot table a b c d) (item.Node u f)) are
+      (first, twin.0, at, twin.1, alike_then first second twin.0 entries twin.2, from_a, from_b, from_c, from_d)
+  task_too p ins tables (Hold slot from) (item.Latch op) j is parts implements =
+      subst (TaskImplements image claims other p ins tables (Hold slot from)) is implements
+  task_too p ins tables (Eval slot table a b c d) (item.Node t feeds) (item.Input column) is parts implements = let none : ⊥ = cc in absurd none
+  task_too p ins tables (Eval slot table a b c d) (item.Node t feeds) (item.BlockBit m bit) is parts implements = let none : ⊥ = cc in absurd none
+  task_too p ins tables (Eval slot table a b c d) (item.Node t feeds) (item.Latch op) is parts implements = let none : ⊥ = cc in absurd none
+  task_too p ins tables (Eval slot table a b c d) (item.Input column) j is parts implements = absurd implements
+  task_too p ins tables (Eval slot table a b c d) (item.BlockBit m bit) j is parts implements = absurd implements
+  task_too p ins tables (Eval slot table a b c d) (item.Latch op) j is parts implements = absurd implements
+  task_too p ins tables (Hold slot from) (item.Input column) j is parts implements = absurd implements
+  task_too p ins tables (Hold slot from) (item.BlockBit m bit) j is parts implements = absurd implements
+  task_too p ins tables (Hold slot from) (item.Node t feeds) j is parts implements = absurd implements
+
+  bit_there : (p : ℕ) (ins : List LinkIn) (blocks : List BlockWork) (out : OutBit) (i : Item) → BitImplements image claims one p ins blocks out i → BitImplements image claims other p ins blocks out i
+  bit_there p ins blocks out (item.BlockBit m bit) (is, block, memory, at, there, implements) =
+      (is, block, memory, at, ap (λ (bs : List NodeBlock). slice_get bs m) (sym same.blocks) ∙ there, implements)
+  bit_there p ins blocks out (item.Input column) implements = absurd implements
+  bit_there p ins blocks out (item.Node t feeds) implements = absurd implements
+  bit_there p ins blocks out (item.Latch op) implements = absurd implements
+
+  item_too : (p k : ℕ) (ins : List LinkIn) (work : Work) (i j : Item) → AreSameItem one.tables other.tables i j → NamesParts other j
+      → Implements image claims one p ins work k i → Implements image claims other p ins work k j
+  item_too p k ins (Logic tables tasks) i j is parts (task, at, implements) = (task, at, task_too p ins tables task i j is parts implements)
+  item_too p k ins (Array blocks outs) i j is parts (out, at, implements) =
+      (out, at, carried (BitImplements image claims other p ins blocks out) (λ t u feeds none. none) one.tables other.tables i j is (bit_there p ins blocks out i implements))
+  item_too p k ins (Host inputs printed) i j is parts (input, at, implements) =
+      (input, at, carried (InputImplements input) (λ t u feeds none. none) one.tables other.tables i j is implements)
+
+  claim_too : (p k x : ℕ) (port : PortImage) → ImplementsClaim image claims one p k x port → ImplementsClaim image claims other p k x port
+  claim_too p k x port implements =
+      let twin = partner one other same x implements.item implements.is in
+      record {
+        item = twin.0;
+        is = twin.1;
+        same = item_too p k port.ins port.work implements.item twin.0 twin.2 (formed.parts x twin.0 twin.1) implements.same;
+      }
+
+  place_too : (p slot : ℕ) → PlaceMatches image claims one p slot → PlaceMatches image claims other p slot
+  place_too p slot matches k x port is stands claimed = claim_too p k x port (matches k x port is stands claimed)
+
+  column_too : (j : ℕ) → ColumnMatches image claims one j → ColumnMatches image claims other j
+  column_too j matches x host source is stands item = matches x host source is stands (ap (λ (xs : List ℕ). slice_get xs j) same.printed ∙ item)
+
+  timing_too : (timing : Timing) → column_count one ≡ column_count other → HasTiming image one timing → HasTiming image other timing
+  timing_too timing columns has = record {
+    units = has.units;
+    init = has.init;
+    columns = has.columns ∙ columns;
+    printed = λ host is. has.printed host is ∙ ap length same.printed;
+  }
+
+-- ---- one answer of the check
+
+-- what an accepted image has
+module _ (image : Image) (claims : List (List ℕ)) (nodes : NodeNet) (timing : Timing) (matches : Matches image claims nodes timing) where
+  matched_timing : HasTiming image nodes timing
+  matched_timing = record {
+    units = matches.units;
+    init = matches.init;
+    columns = matches.columns;
+    printed = λ host is. (matches.printed host is).as_many;
+  }
+
+  matched_place : (p slot : ℕ) → PlaceMatches image claims nodes p slot
+  matched_place p slot k x port is stands claimed = matches.items p k x port is claimed
+
+  matched_column : (j : ℕ) → ColumnMatches image claims nodes j
+  matched_column j x host source is stands item = (matches.printed host is).each j x source stands item
+
+-- two lists of the items of a netlist, in which what holds of one holds of the other
+pub record AreInterchangeable (file : ImageFile) (timing : Timing) (one other : NodeNet) : Type 0 where
+  pub timing_too : HasTiming file.image one timing → HasTiming file.image other timing
+  pub place_too : (p slot : ℕ) → PlaceMatches file.image (lists_of file.claims) one p slot → PlaceMatches file.image (lists_of file.claims) other p slot
+  pub column_too : (j : ℕ) → ColumnMatches file.image (lists_of file.claims) one j → ColumnMatches file.image (lists_of file.claims) other j
+
+pub interchangeable : (file : ImageFile) (timing : Timing) (one other : NodeNet) → AreSameItems one other → IsWellFormedNet other → column_count one ≡ column_count other → AreInterchangeable file timing one other
+interchangeable file timing one other same formed columns = record {
+  timing_too = timing_too file.image (lists_of file.claims) one other same formed timing columns;
+  place_too = place_too file.image (lists_of file.claims) one other same formed;
+  column_too = column_too file.image (lists_of file.claims) one other same formed;
+}
+
+module _ (file : ImageFile) (timing : Timing) (one other : NodeNet) (there : AreInterchangeable file timing one other) (back : AreInterchangeable file timing other one) where
+  -- an image is not both accepted and refused
+  never_both : (why : CheckNo) → why ≢ no.Memory → Says file one timing (Ok tt) → Says file other timing (Err why) → ⊥
+  never_both no.Form known (formed, matches) refused = refused formed
+  never_both no.Timing known (formed, matches) refused = refused.1 (there.timing_too (matched_timing file.image (lists_of file.claims) one timing matches))
+  never_both (no.Place p slot) known (formed, matches) refused = refused.2.differs (there.place_too p slot (matched_place file.image (lists_of file.claims) one timing matches p slot))
+  never_both (no.Column j) known (formed, matches) refused = refused.3.differs (there.column_too j (matched_column file.image (lists_of file.claims) one timing matches j))
+  never_both no.Memory known says refused = known refl
+
+  -- one place is the first that differs, and one column
+  one_place : (p slot q at : ℕ) → IsFirstPlace file.image (lists_of file.claims) one p slot → IsFirstPlace file.image (lists_of file.claims) other q at → no.Place p slot ≡ no.Place q at
+  one_place p slot q at first second = by_port (cases_lt p q) (cases_lt q p)
+    where
+      by_slot : p ≡ q → (slot < at) ⊎ (at ≤ slot) → (at < slot) ⊎ (slot ≤ at) → no.Place p slot ≡ no.Place q at
+      by_slot same (inl before) next = absurd (first.differs (back.place_too p slot (second.before p slot (inr (same, before)))))
+      by_slot same (inr most) (inl before) = absurd (second.differs (there.place_too q at (first.before q at (inr (sym same, before)))))
+      by_slot same (inr most) (inr least) = let at_same : slot ≡ at = omega (arith, most, least) in ap (λ x. no.Place x slot) same ∙ ap (no.Place q) at_same
+
+      by_port : (p < q) ⊎ (q ≤ p) → (q < p) ⊎ (p ≤ q) → no.Place p slot ≡ no.Place q at
+      by_port (inl before) next = absurd (first.differs (back.place_too p slot (second.before p slot (inl before))))
+      by_port (inr most) (inl before) = absurd (second.differs (there.place_too q at (first.before q at (inl before))))
+      by_port (inr most) (inr least) = by_slot (omega (arith, most, least)) (cases_lt slot at) (cases_lt at slot)
+
+  one_column : (j k : ℕ) → IsFirstColumn file.image (lists_of file.claims) one j → IsFirstColumn file.image (lists_of file.claims) other k → no.Column j ≡ no.Column k
+  one_column j k first second = by (cases_lt j k) (cases_lt k j)
+    where
+      by : (j < k) ⊎ (k ≤ j) → (k < j) ⊎ (j ≤ k) → no.Column j ≡ no.Column k
+      by (inl before) next = absurd (first.differs (back.column_too j (second.before j before)))
+      by (inr most) (inl before) = absurd (second.differs (there.column_too k (first.before k before)))
+      by (inr most) (inr least) = let same : j ≡ k = omega (arith, most, least) in ap no.Column same
+
+  one_refusal : (why also : CheckNo) → why ≢ no.Memory → also ≢ no.Memory → Says file one timing (Err why) → Says file other timing (Err also) → why ≡ also
+  one_refusal no.Memory also known known_too says says_too = absurd (known refl)
+  one_refusal why no.Memory known known_too says says_too = absurd (known_too refl)
+  one_refusal no.Form no.Form known known_too says says_too = refl
+  one_refusal no.Form no.Timing known known_too says says_too = absurd (says says_too.0)
+  one_refusal no.Form (no.Place q at) known known_too says says_too = absurd (says says_too.0)
+  one_refusal no.Form (no.Column k) known known_too says says_too = absurd (says says_too.0)
+  one_refusal no.Timing no.Form known known_too says says_too = absurd (says_too says.0)
+  one_refusal no.Timing no.Timing known known_too says says_too = refl
+  one_refusal no.Timing (no.Place q at) known known_too says says_too = absurd (says.1 (back.timing_too says_too.1))
+  one_refusal no.Timing (no.Column k) known known_too says says_too = absurd (says.1 (back.timing_too says_too.1))
+  one_refusal (no.Place p slot) no.Form known known_too says says_too = absurd (says_too says.0)
+  one_refusal (no.Place p slot) no.Timing known known_too says says_too = absurd (says_too.1 (there.timing_too says.1))
+  one_refusal (no.Place p slot) (no.Place q at) known known_too says says_too = one_place p slot q at says.2 says_too.2
+  one_refusal (no.Place p slot) (no.Column k) known known_too says says_too = absurd (says.2.differs (back.place_too p slot (says_too.2 p slot)))
+  one_refusal (no.Column j) no.Form known known_too says says_too = absurd (says_too says.0)
+  one_refusal (no.Column j) no.Timing known known_too says says_too = absurd (says_too.1 (there.timing_too says.1))
+  one_refusal (no.Column j) (no.Place q at) known known_too says says_too = absurd (says_too.2.differs (there.place_too q at (says.2 q at)))
+  one_refusal (no.Column j) (no.Column k) known known_too says says_too = one_column j k says.3 says_too.3
+
+-- the check of an image answers at most once
+pub accepted_single : (net : Netlist) (timing : Timing) (file : ImageFile) → ((one other : NodeNet) → AreItems net timing one → AreItems net timing other → AreInterchangeable file timing one other) → IsSingle (IsAccepted net timing file)
+accepted_single net timing file same = record {
+  values = λ x y passed passed_too. refl;
+  either = λ x o passed refused.
+      never_both file timing passed.0 refused.0 (same passed.0 refused.0 passed.1 refused.1) (same refused.0 passed.0 refused.1 passed.1) refused.2 refused.3 passed.2 refused.4;
+  refusals = λ o p refused refused_too.
+      alike o p (refused.5
+      ∙ ap (λ why. refusal status.ImageMatch (match_line why))
+      (one_refusal file timing refused.0 refused_too.0 (same refused.0 refused_too.0 refused.1 refused_too.1) (same refused_too.0 refused.0 refused_too.1 refused.1) refused.2 refused_too.2 refused.3 refused_too.3 refused.4 refused_too.4)
+      ∙ sym refused_too.5);
+  of_text = λ o refused. subst (λ (p : Outcome). IsOfText p.status) (sym refused.5) tt;
+}
+
+-- ---- an image that is known to match
+
+-- it is taken, where its text is what is read
+module _ (net : Netlist) (timing : Timing) (nodes : NodeNet) (file : ImageFile) (reader : IsReader Reads first_fault) (same : (one other : NodeNet) → AreItems net timing one → AreItems net timing other → AreInterchangeable file timing one other)
+    (items : AreItems net timing nodes) (ranges : IsInRanges file) (says : Says file nodes timing (Ok tt)) where
+  reads : Reads (image_text file) file
+  reads = record { is = refl; ranges = ranges }
+
+  -- no answer of the check but that it is accepted
+  goes_on : (Next : Image → List Reading → Outcome → Type 0) (readings : List Reading) (outcome : Outcome) → AfterMatch net timing file Next readings outcome → Next file.image readings outcome ⊎ (outcome ≡ out_of_memory)
+  goes_on Next readings outcome (inl (passed, accepted, next)) = inl next
+  goes_on Next readings outcome (inr (none, inl refused)) =
+      absurd (never_both file timing nodes refused.0 (same nodes refused.0 items refused.1) (same refused.0 nodes refused.1 items) refused.2 refused.3 says refused.4)
+  goes_on Next readings outcome (inr (none, inr memory)) = inr memory
+
+  -- no answer of the reader but the file
+  reads_on : (Next : Image → List Reading → Outcome → Type 0) (readings : List Reading) (outcome : Outcome) → After (IsImageFileOf (image_text file)) (λ other. AfterMatch net timing other Next) readings outcome → Next file.image readings outcome ⊎ (outcome ≡ out_of_memory)
+  reads_on Next readings outcome (inl (other, is, next)) =
+      goes_on Next readings outcome (subst (λ (f : ImageFile). AfterMatch net timing f Next readings outcome) (reader.one (image_text file) other file is reads) next)
+  reads_on Next readings outcome (inr (none, inl refused)) = absurd (clash (reader.no_fault (image_text file) file reads) refused.1) where
+    clash : {why : ImageNo} → first_fault (image_text file) ≡ None → first_fault (image_text file) ≡ Some why → ⊥
+    clash e f = cc
+  reads_on Next readings outcome (inr (none, inr memory)) = inr memory
+
+  pub image_taken : IsTaken net timing file
+  unfolding AfterImage
+  image_taken words name readings outcome short (is, inl (text, whole, next)) =
+      let Next : Image → List Reading → Outcome → Type 0 = RunsImage words WritesTraceOf net timing in
+      reads_on Next readings outcome (subst (λ (t : List ℕ). After (IsImageFileOf t) (λ other. AfterMatch net timing other Next) readings outcome) (sym (whole_text name (image_text file) text whole)) next)
+  image_taken words name readings outcome short (is, inr (none, inl refused)) = absurd (short_passes name (image_text file) outcome short refused)
+  image_taken words name readings outcome short (is, inr (none, inr memory)) = inr memory
