@@ -49,6 +49,14 @@ const REGISTERS: Design = Design {
     trace: "cycle G17\n1 1\n2 0\n3 0\n4 1\n5 1\n",
 };
 
+const TOGGLE: Design = Design {
+    netlist: "OUTPUT(q)\nn = NOT(q)\nq = DFF(n)\n",
+    machine: "logic 2\n",
+    stimulus: "- * 4\n",
+    timing: "--init 0",
+    trace: "cycle q\n1 0\n2 1\n3 0\n4 1\n",
+};
+
 const MEMORY: Design = Design {
     netlist: RAM,
     machine: "",
@@ -464,7 +472,7 @@ fn with_moved(
 /// No number of an image that is moved by one makes `exec` print anything but the trace.
 #[test]
 fn moved_numbers_print_no_other_trace(rt: HostRuntime) -> Result<(), Fail> {
-    for design in [GATES_ALONE, REGISTERS, MEMORY] {
+    for design in [GATES_ALONE, TOGGLE, MEMORY] {
         let compiled = compile_of(&rt, rt.alloc(), &design)?;
         assert_eq!(rt; compiled.status, 0);
         let image = compiled.out.taken();
