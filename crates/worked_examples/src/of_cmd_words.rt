@@ -1,7 +1,7 @@
 //! A table of words, and what is read of each.
 
 use cmd_words::{Command, RunWords, WordNo, read_words};
-use net_defs::{Init, Mode};
+use net_defs::{HomeChoice, Init, Mode};
 use seen_list::Text;
 use std::alloc::{AllocError, Global};
 use std::test::Fail;
@@ -46,6 +46,19 @@ const CASES: &[(&str, &str)] = &[
     ),
     ("show a", "show a"),
     (
+        "compile a --homes better --units 3 --mode unit --init 0",
+        "compile a  unit 3 0 banks 1 workers 4 better",
+    ),
+    ("exec a i b", "exec a b rank 1 x banks 1 workers 4 image i"),
+    (
+        "run a b --homes plain",
+        "run a b rank 1 x banks 1 workers 4",
+    ),
+    (
+        "plan a --homes=better",
+        "plan a  rank 1 x banks 1 workers 4 better",
+    ),
+    (
         "run a b --workers 64 --banks 8",
         "run a b rank 1 x banks 8 workers 64",
     ),
@@ -63,6 +76,15 @@ const CASES: &[(&str, &str)] = &[
     ("order a b --workers 2", "usage"),
     ("large 2 2 --banks 1", "usage"),
     ("plan a b", "usage"),
+    ("compile a b", "usage"),
+    ("compile a --workers 2", "usage"),
+    ("exec a b", "usage"),
+    ("exec a i b c", "usage"),
+    ("exec a i b --machine m", "usage"),
+    ("exec a i b --homes plain", "usage"),
+    ("refer a b --homes plain", "usage"),
+    ("order a b --homes plain", "usage"),
+    ("run a b --homes best", "usage"),
     ("plan a --units 1", "usage"),
     ("plan a --mode", "usage"),
     ("plan a --mode ''", "usage"),
@@ -178,10 +200,21 @@ fn told_run(alloc: Global, command: &str, words: &RunWords) -> Result<String, Fa
     push_option(&mut told, " machine ", &words.machine)?;
     push_option(&mut told, " order ", &words.order)?;
     push_option(&mut told, " last ", &words.last)?;
+    if words.homes == HomeChoice::Better {
+        told.push_str(" better")?;
+    }
     Ok(told)
 }
 
-/// All but the machine, the order and the list.
+/// A simulation by an image.
+fn told_exec(alloc: Global, words: &RunWords, image: &Text) -> Result<String, Fail> {
+    let mut told = told_run(alloc, "exec", words)?;
+    told.push_str(" image ")?;
+    told.push_str(name_of(image))?;
+    Ok(told)
+}
+
+/// All but the files that need not be named, and the homes.
 fn told_files(alloc: Global, command: &str, words: &RunWords) -> Result<String, Fail> {
     let mode = match words.timing.mode {
         Mode::Rank => "rank",
@@ -224,6 +257,8 @@ fn told(alloc: Global, answer: &Result<Command, WordNo>) -> Result<String, Fail>
         Ok(Command::Refer(words)) => told_run(alloc, "refer", words),
         Ok(Command::Order(words)) => told_run(alloc, "order", words),
         Ok(Command::Plan(words)) => told_run(alloc, "plan", words),
+        Ok(Command::Compile(words)) => told_run(alloc, "compile", words),
+        Ok(Command::Exec { words, image }) => told_exec(alloc, words, image),
         Ok(Command::Show { netlist }) => Ok(format!(in alloc; "show {}", name_of(netlist))?),
         Ok(
             Command::Large {
