@@ -117,9 +117,9 @@ pub fn yse<R: Threads + Wait + Sync, F: Files, O: Sink, E: Sink, G: Gate + Send>
         → (Rose (O.faults out.old) (O.faults out.new) → ⊥)
         → IsDoneOrMemory result }
 
-    // After a run the gate of each worker was told of all turns of each of its ports, after a fault of writing
-    // of those of a whole number of blocks, and before a refusal of nothing; the other commands tell no gate
-    // anything.
+    // After a run, by an image of a file or not, the gate of each worker was told of all turns of each of its ports,
+    // after a fault of writing of those of a whole number of blocks, and before a refusal of nothing; `large` tells
+    // the gates of its turns, and the other commands tell no gate anything.
     ensures visits { TellsGates G.Gate.own (F.bytes files.old) gates.old gates.new result (asked (map string_bytes words.now)) }
 
     // Words are refused exactly where they are of no form, unless memory ran out.
