@@ -35,7 +35,7 @@ fn blank_row(alloc: Global, width: usize) -> Result<CellRow, Memory>
 }
 
 /// Room for the rows of so many cycles of the image.
-pub(crate) fn blank_rows(alloc: Global, image: &Image, cycles: u32) -> Result<Rows, Memory>
+pub fn blank_rows(alloc: Global, image: &Image, cycles: u32) -> Result<Rows, Memory>
     requires { IsWellFormed image.now }
     ensures { IfOk result (λ rows. AreWide cycles (length (printed_sources image.now)) rows.rows) }
 {

@@ -27,7 +27,10 @@ fn idle<S: Stepper, G: Gate>(alloc: Global) -> Worker<S, G>
 }
 
 /// So many workers without members.
-fn idle_crew<S: Stepper, G: Gate>(alloc: Global, workers: u32) -> Result<List<Worker<S, G>>, Memory>
+pub fn idle_crew<S: Stepper, G: Gate>(
+    alloc: Global,
+    workers: u32,
+) -> Result<List<Worker<S, G>>, Memory>
     ensures { IfOk result (AreIdle workers) }
 {
     let mut crew = List::new(alloc);
@@ -45,7 +48,7 @@ fn give<S: Stepper, G: Gate>(worker: &mut Worker<S, G>, member: S) -> Result<(),
 }
 
 /// Gives the worker at a place one member more.
-fn give_to<S: Stepper, G: Gate>(
+pub fn give_to<S: Stepper, G: Gate>(
     crew: &mut [Worker<S, G>],
     place: usize,
     member: S,
@@ -82,7 +85,7 @@ fn seat<'a>(
 }
 
 /// Which of so many workers a port is dealt to.
-pub(crate) fn worker_of(port: usize, workers: usize) -> usize
+pub fn worker_of(port: usize, workers: usize) -> usize
     requires { 1 ≤ workers }
     ensures is { result ≡ port % workers }
     ensures within { result < workers }

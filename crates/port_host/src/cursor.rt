@@ -10,18 +10,18 @@ use net_defs::Stimulus;
 
 /// A row of the stimulus, and for how many cycles it still serves, this one among them.
 #[derive(Clone, Copy, Debug, PartialEq, Eq)]
-pub(crate) struct RowCursor {
-    pub(crate) row: usize,
-    pub(crate) rest: u32,
+pub struct RowCursor {
+    pub row: usize,
+    pub rest: u32,
 }
 
 /// How far a run has come: the cycles that are over, the turns of this cycle that are over, and the
 /// row of this cycle.
 #[derive(Clone, Copy, Debug, PartialEq, Eq)]
-pub(crate) struct Progress {
-    pub(crate) rows: u32,
-    pub(crate) unit: u32,
-    pub(crate) cursor: RowCursor,
+pub struct Progress {
+    pub rows: u32,
+    pub unit: u32,
+    pub cursor: RowCursor,
 }
 
 fn times(stim: &Stimulus, row: usize) -> u32
@@ -34,7 +34,7 @@ fn times(stim: &Stimulus, row: usize) -> u32
 }
 
 /// At the first cycle.
-pub(crate) fn first(stim: &Stimulus) -> RowCursor
+pub fn first(stim: &Stimulus) -> RowCursor
     ensures { IsValidStimulus stim.now → IsAt stim.now 0 result }
 {
     RowCursor {
@@ -44,7 +44,7 @@ pub(crate) fn first(stim: &Stimulus) -> RowCursor
 }
 
 /// At the next cycle.
-pub(crate) fn next(stim: &Stimulus, cursor: RowCursor) -> RowCursor
+pub fn next(stim: &Stimulus, cursor: RowCursor) -> RowCursor
     requires { cursor.row < length stim.now.rows }
     ensures { (n : ℕ) → IsValidStimulus stim.now → IsAt stim.now n cursor
         → IsAt stim.now (n + 1) result }
@@ -65,7 +65,7 @@ pub(crate) fn next(stim: &Stimulus, cursor: RowCursor) -> RowCursor
 
 /// The value of a column in the cursor's row.
 #[inline]
-pub(crate) fn input_value(stim: &Stimulus, cursor: RowCursor, column: u32) -> V4
+pub fn input_value(stim: &Stimulus, cursor: RowCursor, column: u32) -> V4
     requires stimulus { IsValidStimulus stim.now }
     requires row { cursor.row < length stim.now.rows }
     requires column { column < stim.now.columns }
@@ -75,7 +75,7 @@ pub(crate) fn input_value(stim: &Stimulus, cursor: RowCursor, column: u32) -> V4
 }
 
 /// Before the first turn.
-pub(crate) fn begin(stim: &Stimulus) -> Progress
+pub fn begin(stim: &Stimulus) -> Progress
     requires { IsValidStimulus stim.now }
     ensures on { (units : ℕ) → 0 < units → IsOn stim.now units result }
     ensures turn { (units : ℕ) → turn_of units result ≡ 1 }
@@ -88,7 +88,7 @@ pub(crate) fn begin(stim: &Stimulus) -> Progress
 }
 
 /// After one turn more, where a cycle has so many.
-pub(crate) fn turn_over(stim: &Stimulus, units: u32, progress: Progress) -> Progress
+pub fn turn_over(stim: &Stimulus, units: u32, progress: Progress) -> Progress
     requires stimulus { IsValidStimulus stim.now }
     requires on { IsOn stim.now units progress }
     requires more { progress.rows < cycle_count stim.now }

@@ -3,7 +3,7 @@
 #![tactic(auto)]
 
 mod cells;
-mod cursor;
+pub mod cursor;
 pub mod law;
 mod port;
 

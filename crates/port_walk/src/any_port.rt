@@ -1,15 +1,15 @@
 //! A port of any kind with its place in the turn.
 
-ghost use Rattle.std.specs.Prelude.{◌≡◌, ◌≢◌, ◌↔◌, ◌+◌, ◌-◌, ◌*◌, ◌<◌, ◌≤◌, min, length, slice_index_or, IsTrue, IfOk, MatchOption};
+ghost use Rattle.std.specs.Prelude.{◌≡◌, ◌≢◌, ◌+◌, ◌*◌, ◌<◌, ◌≤◌, min, length, IfOk, MatchOption};
 ghost use Rattle.net_defs.specs.Valid.{IsValidStimulus};
 ghost use Rattle.std.specs.List.Sorted.{IsStrictlyIncreasing};
 ghost use Rattle.image_defs.specs.Places.{Each, host_of};
 ghost use Rattle.image_defs.specs.WellFormed.{IsWellFormed};
-ghost use Rattle.port_walk.specs.Readers.{NoneLags, IsFirstLagging, IsSendAction};
+ghost use Rattle.port_walk.specs.Readers.{IsSendAction};
 ghost use Rattle.port_walk.specs.Placed.{at_start, in_next_block, in_next_turn, IsNextOf, CanGoOn, CanPut, CanTake, CanTakeValue, IsEnding, HasPut, HasTaken, IsNextSend, IsNextReceipt, IsHostIn};
 
 use crate::kind::Kind;
-use crate::readers::{Readers, readers_at, readers_of};
+use crate::readers::{Readers, first_lagging, readers_at, readers_of, turns_wanted};
 use crate::stops::{Stop, StopKind, slots_of, stops_of};
 use event_defs::Action;
 use image_defs::{Image, PortImage};
@@ -65,38 +65,6 @@ fn last_turn(units: u32, cycles: u32, first_row: u32, window: u32) -> u64
 {
     let end = first_row as u64 + window as u64;
     units as u64 * end.min(cycles as u64)
-}
-
-/// How many turns a port in this turn wants its readers to have finished, with so many banks.
-fn turns_wanted(turn: u64, banks: u32) -> u64
-    ensures { result ≡ turn - banks }
-{
-    turn.saturating_sub(banks as u64)
-}
-
-/// Whether the reader isn't known to have finished so many turns.
-#[inline]
-fn lags(known: &[u64], reader: u32, turns: u64) -> bool
-    requires { reader < length known.now }
-    ensures { IsTrue result ↔ (slice_index_or known.now reader 0 < turns) }
-{
-    known[reader as usize] < turns
-}
-
-/// The first of the readers that isn't known to have finished so many turns.
-fn first_lagging(readers: &[u32], known: &[u64], turns: u64) -> Option<u32>
-    requires there { Each (λ r. r < length known.now) readers.now }
-    requires rising { IsStrictlyIncreasing readers.now }
-    ensures { MatchOption result
-        (NoneLags readers.now known.now turns)
-        (IsFirstLagging readers.now known.now turns) }
-{
-    'readers: for reader in readers {
-        if lags(known, *reader, turns) {
-            return Some(*reader);
-        }
-    }
-    None
 }
 
 /// What comes next where a Put is missing: an Ask of a reader that isn't known to have finished so

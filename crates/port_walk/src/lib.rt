@@ -4,8 +4,8 @@
 
 mod any_port;
 mod kind;
-mod readers;
-mod stops;
+pub mod readers;
+pub mod stops;
 
 pub use any_port::AnyPort;
 pub use event_defs::Action;

@@ -12,7 +12,7 @@ use std::alloc::Global;
 
 /// What a port does at a stop.
 #[derive(Clone, Copy, Debug, PartialEq, Eq)]
-pub(crate) enum StopKind {
+pub enum StopKind {
     Send,
     Receive,
     End,
@@ -21,10 +21,10 @@ pub(crate) enum StopKind {
 /// A stop: what the port does there, in which slot, and how many of its items stand in the slots up
 /// to that one. The end of a turn has the number of slots for its slot.
 #[derive(Clone, Copy, Debug, PartialEq, Eq)]
-pub(crate) struct Stop {
-    pub(crate) kind: StopKind,
-    pub(crate) slot: u32,
-    pub(crate) items: u32,
+pub struct Stop {
+    pub kind: StopKind,
+    pub slot: u32,
+    pub items: u32,
 }
 
 /// The slots of tasks, in their order.
@@ -63,7 +63,7 @@ fn input_slots(alloc: Global, inputs: &[InColumn]) -> Result<List<u32>, Memory>
 }
 
 /// The slots of a port's items, in their order.
-pub(crate) fn slots_of(alloc: Global, work: &Work) -> Result<List<u32>, Memory>
+pub fn slots_of(alloc: Global, work: &Work) -> Result<List<u32>, Memory>
     ensures { IfOk result (λ slots. slots ≡ item_slots work.now) }
 {
     match work {
@@ -156,7 +156,7 @@ fn stop_at(slots: u32, items: &[u32], from: u32, out: Option<u32>, receipt: Opti
 }
 
 /// The stops of a turn, where the port's items stand in these slots.
-pub(crate) fn stops_of(
+pub fn stops_of(
     alloc: Global,
     slots: u32,
     items: &[u32],

@@ -52,7 +52,8 @@ pub(crate) fn initial_value(init: Init) -> V4
     }
 }
 
-fn initial_memories(alloc: Global, net: &Netlist, v: V4) -> Result<List<Cells>, Memory>
+/// The words of all memories, with this value in every bit.
+pub fn initial_memories(alloc: Global, net: &Netlist, v: V4) -> Result<List<Cells>, Memory>
     requires { IsValid net.now }
     ensures { IfOk result (λ words. words ≡ initial_memories net.now v) }
 {

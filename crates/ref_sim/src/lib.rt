@@ -23,13 +23,16 @@ mod trace_rows;
 mod turn;
 mod values;
 
+pub use initial::initial_memories;
 use net_defs::{Netlist, Rows, Stimulus, Timing};
+pub use ram::{RamPort, make_ports};
 use rank_find::order;
 /// Why there is no simulation: the gates of a loop, or want of memory.
 pub use rank_find::RankNo as RefNo;
 pub use run::refer_in_order;
 use seen_list::Memory;
 use std::alloc::Global;
+pub use turn::edge_memories;
 
 /// The printed values of each cycle of the reference simulation: those that the signals have at the
 /// cycle's last turn.

@@ -16,14 +16,14 @@ use std::alloc::Global;
 
 /// Room for what a memory takes at an edge, and for the bits that it answers.
 #[derive(Drop)]
-pub(crate) struct RamPort {
+pub struct RamPort {
     pub(crate) address: List<V4>,
     pub(crate) word: List<V4>,
     pub(crate) outs: List<V4>,
 }
 
 /// A port for each memory.
-pub(crate) fn make_ports(alloc: Global, net: &Netlist) -> Result<List<RamPort>, Memory>
+pub fn make_ports(alloc: Global, net: &Netlist) -> Result<List<RamPort>, Memory>
     ensures { IfOk result (ArePorts net.now) }
 {
     let mut ports = List::new(alloc);

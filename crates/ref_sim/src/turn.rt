@@ -102,8 +102,9 @@ fn set_outputs(
     }
 }
 
-/// Takes each memory through an edge.
-fn edge_memories(
+/// Takes each memory through an edge. The values of this turn come first, then those of the last turn,
+/// from which the memories read, and then a spare place. The ports are those of `make_ports`.
+pub fn edge_memories(
     values: &mut List<V4>,
     memories: &mut List<Cells>,
     ports: &mut List<RamPort>,

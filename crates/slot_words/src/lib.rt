@@ -26,7 +26,7 @@
 
 mod crossbar;
 pub mod law;
-mod links;
+pub mod links;
 mod opening;
 mod pass;
 mod rule;
@@ -34,3 +34,4 @@ mod steps;
 
 pub use crossbar::{Crossbar, Taken};
 pub use pass::Pass;
+pub use rule::UNCLAIMED;

@@ -21,7 +21,7 @@ pub struct Link {
 /// The number of the link of a slot. Slots come mostly in their order, so the link of the hint is tried
 /// before the others. A hint may be any number.
 #[inline]
-pub(crate) fn find(links: &[Link], hint: usize, slot: u32) -> usize
+pub fn find(links: &[Link], hint: usize, slot: u32) -> usize
     requires { (k : ℕ) × HasSlot links.now slot k }
     ensures { HasSlot links.now slot result }
 {
@@ -34,7 +34,7 @@ pub(crate) fn find(links: &[Link], hint: usize, slot: u32) -> usize
 
 /// The hint for the next receipt after one that passed, or has to be tried again.
 #[inline]
-pub(crate) fn next_hint(k: usize, passed: bool) -> usize {
+pub fn next_hint(k: usize, passed: bool) -> usize {
     if passed { k.saturating_add(1) } else { k }
 }
 
@@ -52,7 +52,7 @@ fn search(links: &[Link], slot: u32) -> usize
 }
 
 /// The word of a turn's bank, by the word of bank 0.
-pub(crate) fn word_in_turn(word: u32, turn: u64, banks: u32) -> usize
+pub fn word_in_turn(word: u32, turn: u64, banks: u32) -> usize
     requires some { 1 ≤ banks }
     ensures { result ≡ word + turn % banks }
 {
@@ -74,7 +74,7 @@ fn word_of(ports: usize, send: u32, banks: u32) -> u32
 }
 
 /// For each send of a port its slot and word.
-pub(crate) fn send_links(
+pub fn send_links(
     alloc: Global,
     image: &Image,
     firsts: &[u32],
@@ -101,7 +101,7 @@ pub(crate) fn send_links(
 }
 
 /// For each receipt of a port its slot, and the word of the send that it comes from.
-pub(crate) fn receipt_links(
+pub fn receipt_links(
     alloc: Global,
     image: &Image,
     firsts: &[u32],

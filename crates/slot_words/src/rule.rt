@@ -9,7 +9,7 @@ use net_defs::Stimulus;
 use std::snapshot::Snapshot;
 
 /// What a progress word holds while no pass is its port's. Turns never come near it.
-pub(crate) const UNCLAIMED: u64 = u64::MAX;
+pub const UNCLAIMED: u64 = u64::MAX;
 
 /// A word of the crossbar, by its place, and the number that a step found or left there.
 pub struct Look {

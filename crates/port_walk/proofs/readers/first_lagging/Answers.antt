@@ -4,7 +4,7 @@ use Rattle.std.proofs.lemmas.Option.{slice_get-get_or, slice_get_within, get_or_
 use Rattle.list_laws.proofs.Ranges.{last_or}
 use Rattle.image_defs.proofs.PlaceLemmas.{rises}
 use Rattle.port_walk.proofs.CursorLemmas.{from_next}
-use Rattle.port_walk.proofs.any_port.first_lagging.Goals as goal
+use Rattle.port_walk.proofs.readers.first_lagging.Goals as goal
 
 pub returns-then-lags : goal.returns-then-lags
 returns-then-lags c =
