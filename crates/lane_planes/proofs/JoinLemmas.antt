@@ -1,0 +1,119 @@
+-- Operands joined one after the other make what the gate makes of all.
+use Rattle.std.proofs.Common.{◌≡◌, ◌∙◌, ◌≤◌, ℕ, zero, suc, ◌+◌, ◌-◌, List, [], ◌∷◌, length, map, take, drop, get_or, eqb-true, refl, sym, ap, arith}
+use Rattle.std.specs.Prelude.{◌<◌, IsTrue, All}
+use Rattle.std.specs.List.{fold}
+use Rattle.std.proofs.lemmas.List.{length-map, get_or-map}
+use Rattle.std.proofs.Math.Seq.{take-length}
+use Rattle.logic_four.specs.declared.V4.{V4}
+use Rattle.logic_four.specs.declared.V4.TheVariants.{Undef}
+use Rattle.logic_four.specs.declared.Kind.{Kind}
+use Rattle.logic_four.specs.declared.Kind.TheVariants.{And, Nand, Or, Nor, Xor, Xnor, Not, Buf, Tri, Bus}
+use Rattle.logic_four.specs.Values.{value_at}
+use Rattle.logic_four.specs.Gates.{gate_value}
+use Rattle.logic_four.specs.Kinds.{AllowsOperands}
+use Rattle.logic_four.specs.Folds.{takes_many, base_kind}
+use Rattle.logic_four.proofs.FoldLemmas.{front}
+use Rattle.logic_four.proofs.KindLemmas.{some_operands}
+use Rattle.lane_planes.specs.declared.planes.Planes.{Planes}
+use Rattle.lane_planes.specs.Lanes.{lane_of, lane_row}
+use Rattle.lane_planes.specs.Joins.{first_of, join_of, answer_of, JoinsOneByOne}
+
+-- a gate of one operand
+alone : (kind : Kind) (a : V4) → IsTrue (takes_many kind) → gate_value kind (a ∷ []) ≡ answer_of kind (first_of kind a)
+alone And a many = grind arith
+alone Nand a many = grind arith
+alone Or a many = grind arith
+alone Nor a many = grind arith
+alone Xor a many = grind arith
+alone Xnor a many = grind arith
+alone Not a many = cc
+alone Buf a many = cc
+alone Tri a many = cc
+alone Bus a many = grind arith
+
+-- two operands joined are the first one and one more
+two : (kind : Kind) (a b : V4) → IsTrue (takes_many kind)
+    → first_of kind (gate_value (base_kind kind) (a ∷ b ∷ [])) ≡ join_of kind (first_of kind a) b
+two And a b many = grind arith
+two Nand a b many = grind arith
+two Or a b many = grind arith
+two Nor a b many = grind arith
+two Xor a b many = grind arith
+two Xnor a b many = grind arith
+two Not a b many = cc
+two Buf a b many = cc
+two Tri a b many = cc
+two Bus a b many = grind arith
+
+many_joined : (kind : Kind) (a : V4) (rest : List V4) → IsTrue (takes_many kind)
+    → gate_value kind (a ∷ rest) ≡ answer_of kind (fold (join_of kind) (first_of kind a) rest)
+many_joined kind a [] many = alone kind a many
+many_joined kind a (b ∷ rest) many =
+    front kind (a ∷ b ∷ []) rest many
+    ∙ many_joined kind (gate_value (base_kind kind) (a ∷ b ∷ [])) rest many
+    ∙ ap (λ v. answer_of kind (fold (join_of kind) v rest)) (two kind a b many)
+
+-- a kind that takes one operand or two
+one_joined : (kind : Kind) (a : V4) (rest : List V4) → length rest + 1 ≡ 1
+    → gate_value kind (a ∷ []) ≡ answer_of kind (first_of kind a)
+    → gate_value kind (a ∷ rest) ≡ answer_of kind (fold (join_of kind) (first_of kind a) rest)
+one_joined kind a [] few is = is
+one_joined kind a (b ∷ rest) few is = absurd (omega (arith, few))
+
+two_joined : (a : V4) (rest : List V4) → length rest + 1 ≡ 2
+    → gate_value Tri (a ∷ rest) ≡ answer_of Tri (fold (join_of Tri) (first_of Tri a) rest)
+two_joined a [] few = absurd (omega (arith, few))
+two_joined a (b ∷ []) few = refl
+two_joined a (b ∷ c ∷ rest) few = absurd (omega (arith, few))
+
+pub one_by_one : JoinsOneByOne
+one_by_one And a rest allowed = many_joined And a rest refl
+one_by_one Nand a rest allowed = many_joined Nand a rest refl
+one_by_one Or a rest allowed = many_joined Or a rest refl
+one_by_one Nor a rest allowed = many_joined Nor a rest refl
+one_by_one Xor a rest allowed = many_joined Xor a rest refl
+one_by_one Xnor a rest allowed = many_joined Xnor a rest refl
+one_by_one Not a rest allowed = one_joined Not a rest (eqb-true (length rest + 1) 1 allowed) refl
+one_by_one Buf a rest allowed = one_joined Buf a rest (eqb-true (length rest + 1) 1 allowed) refl
+one_by_one Tri a rest allowed = two_joined a rest (eqb-true (length rest + 1) 2 allowed)
+one_by_one Bus a rest allowed = many_joined Bus a rest refl
+
+-- so many of four operands
+pub four_joined : (kind : Kind) (n : ℕ) (a b c d : V4) → n ≤ 4 → AllowsOperands kind n
+    → gate_value kind (take n (a ∷ b ∷ c ∷ d ∷ []))
+    ≡ answer_of kind (fold (join_of kind) (first_of kind a) (take (n - 1) (b ∷ c ∷ d ∷ [])))
+four_joined kind zero a b c d few allowed = absurd (omega (arith, some_operands kind 0 allowed))
+four_joined kind (suc zero) a b c d few allowed = one_by_one kind a [] allowed
+four_joined kind (suc (suc zero)) a b c d few allowed = one_by_one kind a (b ∷ []) allowed
+four_joined kind (suc (suc (suc zero))) a b c d few allowed = one_by_one kind a (b ∷ c ∷ []) allowed
+four_joined kind (suc (suc (suc (suc zero)))) a b c d few allowed = one_by_one kind a (b ∷ c ∷ d ∷ []) allowed
+four_joined kind (suc (suc (suc (suc (suc n))))) a b c d few allowed = absurd (omega (arith, few))
+
+-- all operands of a list, in one lane
+pub all_joined : (kind : Kind) (k : ℕ) (operands : List Planes) (first : Planes) → first ≡ get_or operands 0 first
+    → AllowsOperands kind (length operands)
+    → answer_of kind (fold (join_of kind) (first_of kind (lane_of first k)) (lane_row k (take (length operands - 1) (drop 1 operands))))
+    ≡ gate_value kind (lane_row k operands)
+all_joined kind k [] first is allowed = absurd (omega (arith, some_operands kind 0 allowed))
+all_joined kind k (p ∷ rest) first is allowed =
+    let less : suc (length rest) - 1 ≡ length rest = omega arith in
+    let whole : take (suc (length rest) - 1) rest ≡ rest = rw less (take-length rest) in
+    let long : length (lane_row k rest) + 1 ≡ suc (length rest) = omega (arith, length-map rest (λ p. lane_of p k)) in
+    rw (is, whole) (sym (one_by_one kind (lane_of p k) (lane_row k rest) (rw long allowed)))
+
+-- the operands at some places of a row, in one lane
+pub all_over : (kind : Kind) (k : ℕ) (row : List Planes) (operands : List ℕ) (first : Planes) → first ≡ get_or row (get_or operands 0 0) first
+    → AllowsOperands kind (length operands) → All (λ o. o < length row) operands
+    → answer_of kind (fold (join_of kind) (first_of kind (lane_of first k)) (map (value_at (lane_row k row)) (take (length operands - 1) (drop 1 operands))))
+    ≡ gate_value kind (map (value_at (lane_row k row)) operands)
+all_over kind k row [] first is allowed within = absurd (omega (arith, some_operands kind 0 allowed))
+all_over kind k row (o ∷ rest) first is allowed within =
+    let less : suc (length rest) - 1 ≡ length rest = omega arith in
+    let whole : take (suc (length rest) - 1) rest ≡ rest = rw less (take-length rest) in
+    let long : length (map (value_at (lane_row k row)) rest) + 1 ≡ suc (length rest) = omega (arith, length-map rest (value_at (lane_row k row))) in
+    let inside : o < length row = within 0 0 (omega arith) in
+    let value : value_at (lane_row k row) o ≡ lane_of first k =
+    get_or-map (λ p. lane_of p k) row o first Undef inside ∙ ap (λ p. lane_of p k) (sym is) in
+    rw whole
+    (ap (λ v. answer_of kind (fold (join_of kind) (first_of kind v) (map (value_at (lane_row k row)) rest))) (sym value)
+    ∙ sym (one_by_one kind (value_at (lane_row k row) o) (map (value_at (lane_row k row)) rest) (rw long allowed)))

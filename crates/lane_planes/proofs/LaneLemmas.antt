@@ -1,0 +1,118 @@
+-- A claim on the lanes of planes holds where it holds for every choice of their bits.
+use Rattle.std.proofs.Common.{◌≡◌, ◌∙◌, ℕ, zero, suc, ◌+◌, ◌*◌, ◌/◌, ◌%◌, ◌^◌, ◌<◌, bit_and, Bool, true, false, ◌&&◌, eqb, eqb-true, refl, sym, ap, ap₂, subst, arith}
+use Rattle.std.specs.Int.{bit_at}
+use Rattle.std.proofs.lemmas.Nat.Bits.{bit_at-lt, shr_and_one, same_from_bits_below}
+use Rattle.std.proofs.Math.Bridge.{le_prop}
+use Rattle.logic_four.specs.declared.V4.{V4}
+use Rattle.logic_four.specs.Values.{value_of, code_of}
+use Rattle.logic_four.proofs.CodeLemmas.{value_of-code_of}
+use Rattle.logic_four.proofs.PackedLemmas.{code_from_value}
+use Rattle.lane_planes.specs.declared.planes.Planes.{Planes}
+use Rattle.lane_planes.specs.Lanes.{lane_of, AreAlike}
+use Rattle.lane_planes.proofs.BitLemmas.{value_of_bits}
+use Rattle.lane_planes.proofs.WordLemmas.{Word}
+
+-- the value of two bits
+abbrev pub bits : ℕ → ℕ → V4
+bits x y = value_of (x + 2 * y)
+
+-- planes whose words have these bits at a lane have the value of the bits there
+pub lane_is : (p : Planes) {k x y : ℕ} → Word k p.low x → Word k p.high y → lane_of p k ≡ bits x y
+unfolding lane_of
+lane_is p low high = ap₂ bits low.bit high.bit
+
+-- planes whose bits at a lane are those of a code have its value there
+pub lane_put : (p : Planes) (k : ℕ) (v : V4) → bit_at p.low k ≡ code_of v % 2 → bit_at p.high k ≡ code_of v / 2 → lane_of p k ≡ v
+unfolding lane_of
+lane_put p k v low high = ap₂ bits low high ∙ value_of_bits v
+
+pub lane_kept : (p q : Planes) (k : ℕ) → bit_at p.low k ≡ bit_at q.low k → bit_at p.high k ≡ bit_at q.high k → lane_of p k ≡ lane_of q k
+unfolding lane_of
+lane_kept p q k low high = ap₂ bits low high
+
+-- the bits of a lane, moved down
+pub lane_read : (p : Planes) (k : ℕ) → value_of ((bit_and (p.low / 2 ^ k) 1 + 2 * bit_and (p.high / 2 ^ k) 1) % 4) ≡ lane_of p k
+unfolding lane_of
+lane_read p k =
+    let few : (bit_at p.low k + 2 * bit_at p.high k) % 4 ≡ bit_at p.low k + 2 * bit_at p.high k =
+    omega (arith, bit_at-lt p.low k, bit_at-lt p.high k) in
+    rw (shr_and_one p.low k, shr_and_one p.high k) (ap value_of few)
+
+-- ---- a test of each choice of bits
+
+abbrev same : V4 → V4 → Bool
+same v w = eqb (code_of v) (code_of w)
+
+same_true : (v w : V4) → same v w ≡ true → v ≡ w
+same_true v w e = sym (value_of-code_of v) ∙ ap value_of (eqb-true (code_of v) (code_of w) e) ∙ value_of-code_of w
+
+abbrev for_both : (ℕ → Bool) → Bool
+for_both test = test 0 && test 1
+
+at_bit : (test : ℕ → Bool) (x : ℕ) → x < 2 → for_both test ≡ true → test x ≡ true
+at_bit test zero low e = and_first (test 0) (test 1) e where
+  and_first : (a b : Bool) → (a && b) ≡ true → a ≡ true
+  and_first true b e = refl
+  and_first false b e = e
+at_bit test (suc zero) low e = and_second (test 0) (test 1) e where
+  and_second : (a b : Bool) → (a && b) ≡ true → b ≡ true
+  and_second true b e = e
+  and_second false b e = cc
+at_bit test (suc (suc x)) low e = absurd (omega (arith, low))
+
+-- of one lane, and of a lane of two planes
+pub in_lane : (p : Planes) (k : ℕ) (f : ℕ → ℕ → V4) (g : V4 → V4)
+    → for_both (λ x. for_both (λ y. same (f x y) (g (bits x y)))) ≡ true
+    → f (bit_at p.low k) (bit_at p.high k) ≡ g (lane_of p k)
+unfolding lane_of
+in_lane p k f g test =
+    let x = bit_at p.low k in
+    let y = bit_at p.high k in
+    same_true (f x y) (g (bits x y))
+    (at_bit (λ y. same (f x y) (g (bits x y))) y (bit_at-lt p.high k)
+    (at_bit (λ x. for_both (λ y. same (f x y) (g (bits x y)))) x (bit_at-lt p.low k) test))
+
+pub in_lanes : (p q : Planes) (k : ℕ) (f : ℕ → ℕ → ℕ → ℕ → V4) (g : V4 → V4 → V4)
+    → for_both (λ x. for_both (λ y. for_both (λ z. for_both (λ w. same (f x y z w) (g (bits x y) (bits z w)))))) ≡ true
+    → f (bit_at p.low k) (bit_at p.high k) (bit_at q.low k) (bit_at q.high k) ≡ g (lane_of p k) (lane_of q k)
+unfolding lane_of
+in_lanes p q k f g test =
+    let x = bit_at p.low k in
+    let y = bit_at p.high k in
+    let z = bit_at q.low k in
+    let w = bit_at q.high k in
+    same_true (f x y z w) (g (bits x y) (bits z w))
+    (at_bit (λ w. same (f x y z w) (g (bits x y) (bits z w))) w (bit_at-lt q.high k)
+    (at_bit (λ z. for_both (λ w. same (f x y z w) (g (bits x y) (bits z w)))) z (bit_at-lt q.low k)
+    (at_bit (λ y. for_both (λ z. for_both (λ w. same (f x y z w) (g (bits x y) (bits z w))))) y (bit_at-lt p.high k)
+    (at_bit (λ x. for_both (λ y. for_both (λ z. for_both (λ w. same (f x y z w) (g (bits x y) (bits z w)))))) x (bit_at-lt p.low k) test))))
+
+-- ---- planes are their values
+
+same_bits : (x y z w : ℕ) → x < 2 → y < 2 → z < 2 → w < 2 → bits x y ≡ bits z w → (x ≡ z) × (y ≡ w)
+same_bits x y z w h i j m e =
+    let code : x + 2 * y ≡ z + 2 * w = code_from_value (x + 2 * y) (z + 2 * w) (omega arith) (omega arith) e in
+    (omega arith, omega arith)
+
+-- planes with the same words
+abbrev made : (a b : ℕ) → a < 2 ^ 30 → b < 2 ^ 30 → Planes
+made a b h i = record { low = a; high = b; low_small = h; high_small = i }
+
+same_made : (a b : ℕ) (h h' : a < 2 ^ 30) (i i' : b < 2 ^ 30) → made a b h i ≡ made a b h' i'
+same_made a b h h' i i' = ap₂ (made a b) (le_prop h h') (le_prop i i')
+
+pub same_words : (p q : Planes) → p.low ≡ q.low → p.high ≡ q.high → p ≡ q
+same_words p q low high =
+    subst (λ a. (h : a < 2 ^ 30) → p ≡ made a q.high h q.high_small) low
+    (λ h. subst (λ b. (i : b < 2 ^ 30) → p ≡ made p.low b h i) high
+    (λ i. same_made p.low p.high p.low_small h p.high_small i) q.high_small) q.low_small
+
+pub same_planes : (p q : Planes) → AreAlike p q → p ≡ q
+unfolding lane_of
+same_planes p q alike =
+    let parts : (k : ℕ) → k < 30 → (bit_at p.low k ≡ bit_at q.low k) × (bit_at p.high k ≡ bit_at q.high k) =
+    λ k low.
+    same_bits (bit_at p.low k) (bit_at p.high k) (bit_at q.low k) (bit_at q.high k) (bit_at-lt p.low k) (bit_at-lt p.high k) (bit_at-lt q.low k) (bit_at-lt q.high k)
+    (alike k low) in
+    same_words p q (same_from_bits_below 30 p.low q.low p.low_small q.low_small (λ k low. (parts k low).0))
+    (same_from_bits_below 30 p.high q.high p.high_small q.high_small (λ k low. (parts k low).1))

@@ -1,0 +1,4 @@
+pub mod WordLemmas
+pub mod LaneLemmas
+pub mod JoinLemmas
+pub mod BitLemmas
