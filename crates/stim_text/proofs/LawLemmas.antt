@@ -12,7 +12,7 @@ use Rattle.net_defs.specs.Time.{cycle_count}
 use Rattle.net_defs.specs.Valid.{IsValidStimulus}
 use Rattle.stim_text.specs.declared.refusal.StimNo.{StimNo}
 use Rattle.stim_text.specs.Rows.{IsAllowed, row_of, fault_of}
-use Rattle.stim_text.specs.Stimuli.{Reads, rows_of, cycles_of, first_fault}
+use Rattle.stim_text.specs.Stimuli.{LinesRead, Reads, rows_of, cycles_of, first_fault}
 use Rattle.stim_text.proofs.ReadingLemmas.{all_from_none, none_from_all, few_from_none, items_hold, value_or_fault}
 use Rattle.stim_text.proofs.RowLemmas.{IsGood, allowed_from_none, none_from_allowed, good_from_allowed, fits_from_none}
 
@@ -38,19 +38,23 @@ one_stimulus inputs text stimulus other reads reads_other =
 cycle_count-sum : (stimulus : Stimulus) → cycle_count stimulus ≡ cycles_of stimulus.rows
 cycle_count-sum stimulus = length-flat_map (λ (row : StimRow). replicate row.times row.values) stimulus.rows ∙ simp length-replicate
 
--- what a text reads as is valid
-pub valid_from_reads : (inputs : ℕ) (text : List ℕ) (stimulus : Stimulus) → Reads inputs text stimulus → IsValidStimulus stimulus
-valid_from_reads inputs text stimulus reads = record {
+-- what lines read as is valid
+pub valid_from_lines : (inputs : ℕ) (parts : List (List ℕ)) (stimulus : Stimulus) → LinesRead inputs parts stimulus → IsValidStimulus stimulus
+valid_from_lines inputs parts stimulus reads = record {
   columns = λ r row is. (good r row is).values ∙ sym reads.columns;
   times = λ r row is. ((good r row is).some, (good r row is).few);
   cycles = omega (arith, cycle_count-sum stimulus, reads.cycles);
 }
   where
     all : All (IsGood inputs) stimulus.rows
-    all = subst (All (IsGood inputs)) (sym reads.rows) (items_hold row_of (IsAllowed inputs) (IsGood inputs) (parts_of text) (good_from_allowed inputs) reads.lines)
+    all = subst (All (IsGood inputs)) (sym reads.rows) (items_hold row_of (IsAllowed inputs) (IsGood inputs) parts (good_from_allowed inputs) reads.lines)
 
     good : (r : ℕ) (row : StimRow) → slice_get stimulus.rows r ≡ Some row → IsGood inputs row
     good r row is = each (IsGood inputs) stimulus.rows r row all is
+
+-- and so what a text reads as
+pub valid_from_reads : (inputs : ℕ) (text : List ℕ) (stimulus : Stimulus) → Reads inputs text stimulus → IsValidStimulus stimulus
+valid_from_reads inputs text stimulus reads = valid_from_lines inputs (parts_of text) stimulus reads
 
 -- each text reads as a stimulus, or it has a first fault
 pub reads_or_fault : (inputs : ℕ) (text : List ℕ) → ((stimulus : Stimulus) × Reads inputs text stimulus) ⊎ ((why : StimNo) × (first_fault inputs text ≡ Some why))

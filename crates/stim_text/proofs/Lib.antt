@@ -1,3 +1,7 @@
+mod CutLemmas
+pub mod LaneLemmas
+mod LaneLoopLemmas
+mod LaneTextLemmas
 mod LawLemmas
 mod OrderLemmas
 mod ReadingLemmas

@@ -85,7 +85,7 @@ some_of : (o : Option ℕ) → is_some o ≡ true → (n : ℕ) × (o ≡ Some n
 some_of None some = cc
 some_of (Some n) some = (n, refl)
 
-row_of-blank : (part : List ℕ) → is_blank_part part ≡ true → row_of part ≡ None
+pub row_of-blank : (part : List ℕ) → is_blank_part part ≡ true → row_of part ≡ None
 unfolding row_of
 row_of-blank part blank = cond-true _ _ _ blank
 

@@ -1,3 +1,5 @@
+pub mod LaneTexts
+pub mod Lanes
 pub mod OrderLines
 pub mod Orders
 pub mod Repeats

@@ -17,13 +17,17 @@ rows_of parts = filter_map row_of parts
 abbrev pub cycles_of : List StimRow → ℕ
 cycles_of rows = sum_by (λ row. row.times) rows
 
--- The text reads as the stimulus: each line is blank or a row for so many inputs, the rows are those
--- of the lines, and there are at most 1,000,000 cycles.
-pub record Reads (inputs : ℕ) (text : List ℕ) (stimulus : Stimulus) : Type 0 where
+-- These lines read as the stimulus: each is blank or a row for so many inputs, the rows are those of the
+-- lines, and there are at most 1,000,000 cycles.
+pub record LinesRead (inputs : ℕ) (parts : List (List ℕ)) (stimulus : Stimulus) : Type 0 where
   pub columns : stimulus.columns ≡ inputs
-  pub lines : All (IsAllowed inputs) (parts_of text)
-  pub rows : stimulus.rows ≡ rows_of (parts_of text)
+  pub lines : All (IsAllowed inputs) parts
+  pub rows : stimulus.rows ≡ rows_of parts
   pub cycles : cycles_of stimulus.rows ≤ MAX_CYCLES
+
+-- the text reads as the stimulus: its lines do
+abbrev pub Reads : ℕ → List ℕ → Stimulus → Type 0
+Reads inputs text stimulus = LinesRead inputs (parts_of text) stimulus
 
 -- the fault of the first line that has one, each being asked after the cycles of the rows before it
 abbrev pub first_fault : ℕ → List ℕ → Option StimNo

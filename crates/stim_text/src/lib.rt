@@ -11,9 +11,17 @@
 //! and then, where it stands for several steps of the port, `*` and their number, as in a row. All
 //! lines together stand for at most 1,000,000,000 steps.
 //!
-//! Both formats are this project's profile.
+//! Text of lanes: a line that has outside its comment the word `lane` alone, with blanks around, begins
+//! a lane, and the lines from there to the next such line are a stimulus text. Before the first lane
+//! each line is blank outside its comment. There are at most 30 lanes, each with cycles of its own.
+//!
+//! All three formats are this project's profile.
 #![tactic(auto)]
 
+pub mod lane_law;
+mod lane_line;
+mod lane_reading;
+mod lanes;
 pub mod law;
 mod order;
 pub mod order_law;
@@ -24,7 +32,9 @@ mod refusal;
 mod repeat;
 mod row;
 
+pub use lane_reading::read_lanes;
+pub use lanes::{Lanes, MAX_LANES};
 pub use order::{Order, OrderLine};
 pub use order_reading::read_order;
 pub use reading::read_stim;
-pub use refusal::{OrderNo, StimNo};
+pub use refusal::{LaneNo, OrderNo, StimNo};

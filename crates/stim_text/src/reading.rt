@@ -58,7 +58,7 @@ fn read_rows(alloc: Global, bytes: &[u8], inputs: u32) -> Result<List<StimRow>, 
 }
 
 /// The cycles of rows and of one row more.
-fn cycles_with(cycles: u32, row: &StimRow) -> u32
+pub fn cycles_with(cycles: u32, row: &StimRow) -> u32
     requires { cycles + row.now.times ≤ MAX_CYCLES }
     ensures { result ≡ cycles + row.now.times }
 {

@@ -1,4 +1,4 @@
-//! Why a stimulus text or an order text is refused.
+//! Why a stimulus text, a text of lanes or an order text is refused.
 
 use seen_list::Memory;
 
@@ -27,6 +27,31 @@ impl From<Memory> for StimNo {
 
     fn from(_refused: Memory) -> StimNo {
         StimNo::Memory
+    }
+}
+
+/// Why a text of lanes is refused. Lines are counted from 1, in the whole text.
+#[derive(Clone, Copy, Debug, PartialEq, Eq)]
+pub enum LaneNo {
+    /// The line is not blank, and no lane has begun.
+    NoLane { line: u32 },
+    /// The line begins a lane where 30 have begun.
+    TooMany { line: u32 },
+    /// A line of a lane has this fault, which is never that of the memory. The cycles are those of
+    /// the lane.
+    Stim(StimNo),
+    /// There was not enough memory to read the text.
+    Memory,
+}
+
+impl From<Memory> for LaneNo {
+    ghost use Rattle.std.specs.Prelude.{◌≡◌};
+    ghost use Rattle.stim_text.specs.declared.refusal.LaneNo.TheVariants.{Memory as NoMemory};
+
+    ghost from_gives = { λ _ e. e ≡ NoMemory };
+
+    fn from(_refused: Memory) -> LaneNo {
+        LaneNo::Memory
     }
 }
 

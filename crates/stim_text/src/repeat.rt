@@ -55,7 +55,7 @@ fn repeat_in(text: &[u8]) -> Option<u32>
 }
 
 /// The word of a text that has just one.
-fn only_word(text: &[u8]) -> Option<&[u8]>
+pub fn only_word(text: &[u8]) -> Option<&[u8]>
     ensures { option_map (λ word. word.now) result ≡ only_word (words_of text.now) }
 {
     let mut words = Words::new(text);
