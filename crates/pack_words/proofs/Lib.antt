@@ -1,0 +1,8 @@
+pub mod AllowLemmas
+pub mod HeldLemmas
+pub mod OpeningLemmas
+pub mod SentLemmas
+pub mod SoundLemmas
+pub mod StepLemmas
+pub mod TimeLemmas
+pub mod WordLemmas

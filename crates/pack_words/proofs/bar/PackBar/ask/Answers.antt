@@ -1,0 +1,33 @@
+use Rattle.std.proofs.Common.{arith, length, subst, sym, ℕ, ◌<◌, ◌≡◌}
+use Rattle.image_defs.specs.declared.image.Image.{Image}
+use Rattle.pack_words.proofs.HeldLemmas.{own_fields, progress_room}
+use Rattle.pack_words.proofs.AllowLemmas.{ask_allowed}
+use Rattle.pack_words.specs.declared.bar.PackBar.TheInside as bar
+use Rattle.pack_words.specs.declared.pass.PackPass.TheInside.{Inside}
+use Rattle.pack_words.specs.Held.{bar_of, pass_of}
+use Rattle.pack_words.specs.Passes.{BarView, IsOf}
+use Rattle.pack_words.proofs.bar.PackBar.ask.Goals as goal
+
+pub ask-requires-clause-own : goal.ask-requires-clause-own
+ask-requires-clause-own c = (own_fields c.self.inside c.pass.inside c.args.self.now c.args.pass.now c.self.view_is c.pass.view_is c.requires.own).table
+
+-- the reader is a port of the pass's image
+reader_in : (b : bar.Inside) (a : Inside) (bar_is : BarView) (r : ℕ) → bar_of b ≡ bar_is → IsOf (bar_of b) (pass_of a) → r < length bar_is.image.ports → r < length a.seat.me.0.image.ports
+reader_in b a bar_is r view_is own inside =
+    subst (λ (i : Image). r < length i.ports) (sym own.image) (subst (λ (x : BarView). r < length x.image.ports) (sym view_is) inside)
+
+pub ask-requires-clause-inside : goal.ask-requires-clause-inside
+ask-requires-clause-inside c =
+    let b = c.self.inside in
+    let a = c.pass.inside in
+    let own = own_fields b a c.args.self.now c.args.pass.now c.self.view_is c.pass.view_is c.requires.own in
+    let low = reader_in b a c.args.self.now c.args.reader c.self.view_is own c.requires.reader in
+    progress_room b a c.self.invariant own _ (omega arith)
+
+pub ask-requires-clause-may : goal.ask-requires-clause-may
+ask-requires-clause-may c =
+    let b = c.self.inside in
+    let a = c.pass.inside in
+    let own = own_fields b a c.args.self.now c.args.pass.now c.self.view_is c.pass.view_is c.requires.own in
+    let low = reader_in b a c.args.self.now c.args.reader c.self.view_is own c.requires.reader in
+    ask_allowed b.table.shared.key b.table.shared.table_id.slots a.seat.id a.seat.me a.port _ c.pass.invariant.port (omega arith)

@@ -1,0 +1,71 @@
+use Rattle.std.proofs.Common.{ap, false, subst, sym, ◌∙◌, ◌≡◌}
+use Rattle.event_defs.proofs.PaceLemmas.{source}
+use Rattle.event_defs.specs.Places.{is_in}
+use Rattle.slot_words.specs.Layout.{send_word}
+use Rattle.pack_words.proofs.AllowLemmas.{take_allowed}
+use Rattle.pack_words.proofs.HeldLemmas.{gives, held_found, own_fields, reseated, take_finds, take_word, word_read, word_room}
+use Rattle.pack_words.specs.Held.{pass_of}
+use Rattle.pack_words.specs.Passes.{CanTake, IsFound, IsRunning, IsTake, PackPassView}
+use Rattle.pack_words.proofs.bar.PackBar.take.Goals as goal
+
+-- what the caller may do, by the fields
+can_take : (c : goal.After-take-arg-1) → CanTake (pass_of c.pass.inside) c.args.slot
+can_take c = subst (λ (o : PackPassView). CanTake o c.args.slot) (sym c.pass.view_is) c.requires.can
+
+pub take-number-requires-clause-inside : goal.take-number-requires-clause-inside
+take-number-requires-clause-inside c =
+    let b = c.self.inside in
+    let a = c.pass.inside in
+    let held = c.pass.invariant in
+    let own = own_fields b a c.args.self.now c.args.pass.now c.self.view_is c.pass.view_is c.requires.own in
+    let can = can_take c in
+    let from = source a.seat.me.0.image held.runs.image_fits a.port can.port can.j can.link can.is can.receives in
+    let word = take_word a held c.as_slice.result.now c.as_slice-2.result.now c.find-k.result c.args.slot c.find-k.ensures c.as_slice.ensures c.as_slice-2.ensures
+    can.port can.j from.0 can.link from.1 can.is can.receives can.slot_is from.2 (from.3 ∙ can.slot_is) in
+    word_room b a c.self.invariant own held can.link.sender from.0 from.1 from.2 _ word
+
+pub take-number-requires-clause-may : goal.take-number-requires-clause-may
+take-number-requires-clause-may c =
+    let b = c.self.inside in
+    let a = c.pass.inside in
+    let v = a.seat.me.0 in
+    let held = c.pass.invariant in
+    let can = can_take c in
+    let running = subst IsRunning (sym c.pass.view_is) c.requires.running in
+    let from = source v.image held.runs.image_fits a.port can.port can.j can.link can.is can.receives in
+    let word = take_word a held c.as_slice.result.now c.as_slice-2.result.now c.find-k.result c.args.slot c.find-k.ensures c.as_slice.ensures c.as_slice-2.ensures
+    can.port can.j from.0 can.link from.1 can.is can.receives can.slot_is from.2 (from.3 ∙ can.slot_is) in
+    let missing : is_in can.link.slot v.place.takes ≡ false = ap (λ s. is_in s v.place.takes) can.slot_is ∙ can.missing in
+    take_allowed b.table.shared.key b.table.shared.table_id.slots a.seat.id a.seat.me a.port can.port can.j from.0 can.link from.1 held.port can.is can.receives from.2 from.3 missing running (word_read c.as_slice-2.result.now c.find-k.result) word
+
+pub invariant_of-pass : goal.invariant_of-pass
+invariant_of-pass c =
+    let a = c.pass.inside in
+    let held = c.pass.invariant in
+    let can : CanTake (pass_of a) c.args.slot = subst (λ (o : PackPassView). CanTake o c.args.slot) (sym c.pass.view_is) c.requires.can in
+    let from = source a.seat.me.0.image held.runs.image_fits a.port can.port can.j can.link can.is can.receives in
+    held_found a held c.take-number.new.seat can.link.sender c.args.slot (word_read c.as_slice-2.result.now c.find-k.result) c.take-number.result a.last_send c.next_hint-pass-inside.result
+    (take_finds a held c.as_slice.result.now c.as_slice-2.result.now c.find-k.result c.args.slot c.find-k.ensures _ c.take-number.result c.take-number.new.seat.me c.as_slice.ensures c.as_slice-2.ensures c.take-number.ensures.reads
+    can.port can.j from.0 can.link from.1 can.is can.receives can.slot_is from.2 (from.3 ∙ can.slot_is)).1
+
+pub returns : goal.returns
+returns c =
+    let a = c.pass.inside in
+    let v = a.seat.me.0 in
+    let held = c.pass.invariant in
+    let new = reseated a c.take-number.new.seat a.last_send c.next_hint-pass-inside.result in
+    subst (λ (o : PackPassView). IsTake o c.args.slot c.read_packed.result (pass_of new)) c.pass.view_is (record {
+      each = λ port j link is at slot_is.
+          let from = source v.image held.runs.image_fits a.port port j link is at in
+          let found = take_finds a held c.as_slice.result.now c.as_slice-2.result.now c.find-k.result c.args.slot c.find-k.ensures _ c.take-number.result c.take-number.new.seat.me c.as_slice.ensures c.as_slice-2.ensures c.take-number.ensures.reads
+          port j from.0 link from.1 is at slot_is from.2 (from.3 ∙ slot_is) in
+          let at_word = send_word v.image 1 link.sender from.0 0 in
+          record {
+            i = from.0;
+            sent = from.1;
+            send = from.2;
+            same_slot = from.3;
+            found = subst (λ s. IsFound (pass_of a) link.sender s at_word (pass_of new).last.number c.read_packed.result (pass_of new)) (sym slot_is)
+                (gives a held c.take-number.new.seat link.sender c.args.slot (word_read c.as_slice-2.result.now c.find-k.result) c.take-number.result a.last_send c.next_hint-pass-inside.result found.1 at_word found.0 c.take-number.ensures.table c.read_packed.result c.read_packed.ensures);
+          };
+    })

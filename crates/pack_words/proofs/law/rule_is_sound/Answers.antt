@@ -1,0 +1,8 @@
+use Rattle.pack_words.proofs.SoundLemmas.{rule_distinct, rule_sound}
+use Rattle.pack_words.proofs.law.rule_is_sound.Goals as goal
+
+pub returns-clause-sound : goal.returns-clause-sound
+returns-clause-sound c = rule_sound
+
+pub returns-clause-distinct : goal.returns-clause-distinct
+returns-clause-distinct c = rule_distinct
