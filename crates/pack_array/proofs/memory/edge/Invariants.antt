@@ -1,0 +1,8 @@
+use Rattle.pack_array.specs.Acts.{IsWhole, HasActed}
+use Rattle.pack_array.proofs.memory.edge.Given as goal
+
+abbrev pub invariant-lanes : goal.invariant-lanes
+invariant-lanes l = record {
+  acted : HasActed l.bank l.block l.k l.initial.memory l.memory;
+  whole : IsWhole l.block l.memory;
+}

@@ -1,0 +1,11 @@
+use Rattle.std.proofs.Common.{◌≡◌, ℕ, length, slice_get, Some}
+use Rattle.image_defs.specs.declared.image.BlockWork.{BlockWork}
+use Rattle.pack_array.specs.declared.memory.PackMemory.{PackMemory}
+use Rattle.pack_array.specs.Acts.{IsFirst}
+use Rattle.pack_array.proofs.memory.make_memories.Given as goal
+
+abbrev pub invariant-each : goal.invariant-each
+invariant-each l = record {
+  long : length l.memories ≡ l.block-index;
+  first : (b : ℕ) (block : BlockWork) (memory : PackMemory) → slice_get l.blocks b ≡ Some block → slice_get l.memories b ≡ Some memory → IsFirst l.v block memory;
+}

@@ -1,0 +1,12 @@
+use Rattle.std.proofs.Common.{◌∙◌, ap, length}
+use Rattle.std.proofs.lemmas.List.{length-replicate}
+use Rattle.pack_array.proofs.MemoryLemmas.{first_of}
+use Rattle.pack_array.proofs.memory.make_memory.Goals as goal
+
+pub returns : goal.returns
+returns c =
+    first_of c.args.v c.args.block.now _ c.in_ok-make_cells.ensures
+    (ap length c.in_ok-filled.ensures ∙ length-replicate _ _ ∙ c.len.ensures)
+    (ap length c.in_ok-filled-2.ensures ∙ length-replicate _ _ ∙ c.len-word_bits.ensures)
+    (ap length c.in_ok-filled-3.ensures ∙ length-replicate _ _ ∙ c.len-word_bits.ensures)
+    (ap length c.in_ok-filled-4.ensures ∙ length-replicate _ _ ∙ c.len-word_bits.ensures)

@@ -1,0 +1,15 @@
+use Rattle.std.proofs.Common.{◌∙◌, sym, ap}
+use Rattle.image_defs.specs.Steps.{value_of_member, past_value}
+use Rattle.port_bank.specs.Reads.{past_in}
+use Rattle.port_bank.proofs.TurnLemmas.{past_at_hand, past_taken}
+use Rattle.pack_bank.specs.Views.{lane_port}
+use Rattle.pack_array.proofs.memory.take_past.Goals as goal
+
+pub returns : goal.returns
+returns c =
+    let view = lane_port c.args.k c.args.bank.now in
+    let at = c.requires.past in
+    c.lane.ensures
+    ∙ c.take.ensures c.args.k c.requires.lane at.port at.is (past_at_hand view at.port c.args.source at.past)
+    ∙ past_taken view at.port c.args.source at.past
+    ∙ ap (value_of_member (λ port. past_value view.port port.ins (past_in view).value c.args.source)) (sym at.is)

@@ -1,0 +1,4 @@
+pub mod CellLemmas
+pub mod CursorLemmas
+pub mod FeedLemmas
+pub mod HostLemmas

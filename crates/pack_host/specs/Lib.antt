@@ -1,0 +1,4 @@
+pub mod Cells
+pub mod Feeds
+pub mod Kept
+pub mod Turns

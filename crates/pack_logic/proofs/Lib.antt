@@ -1,0 +1,2 @@
+mod OpLemmas
+mod TaskLemmas

@@ -1,0 +1,119 @@
+use Rattle.std.proofs.Common.{◌≡◌, ◌↔◌, ◌∙◌, ◌+◌, ◌*◌, ◌≤◌, min, true, nat_le, if◌then◌else◌, length, get_or, Some, slice_get, ap, subst, sym, refl, arith}
+use Rattle.std.proofs.lemmas.Bool.{leb-true}
+use Rattle.std.proofs.lemmas.Option.{slice_get-get_or}
+use Rattle.stim_text.specs.Lanes.{longest}
+use Rattle.limits.specs.declared.TheConstants.{MAX_SLOTS}
+use Rattle.image_defs.specs.Places.{Each, item_slots, in_slots, out_slots}
+use Rattle.pack_bank.specs.Views.{PackPortView}
+use Rattle.pack_walk.specs.Kinds.{view_in}
+use Rattle.port_walk.specs.Rows.{HasFewReaders, AreReaders}
+use Rattle.port_walk.specs.Stops.{ArePlaces, AreStops}
+use Rattle.port_walk.proofs.KindLemmas.{seat_there}
+use Rattle.port_walk.proofs.KeptLemmas.{no_stop, out_places, in_places, few_sends, few_readers}
+use Rattle.port_walk.proofs.MoveLemmas.{first_within}
+use Rattle.pack_walk.proofs.MoveLemmas.{can_enter, kept_fresh}
+use Rattle.pack_walk.proofs.placed.PackPlaced.new.Goals as goal
+
+pub stops_of-requires-clause-outs : goal.stops_of-requires-clause-outs
+stops_of-requires-clause-outs c =
+    let image = c.args.image.now in
+    let seat = c.index-as_slice-port.result in
+    let is = seat_there image c.args.port seat c.as_slice.result.now c.requires.there c.as_slice.ensures c.index-as_slice-port.is in
+    let good = c.requires.image.ports c.args.port seat is in
+    subst (λ xs. ArePlaces image.slots (out_slots xs)) (sym c.as_slice-3.ensures) (out_places image c.args.port seat good)
+
+pub stops_of-requires-clause-ins : goal.stops_of-requires-clause-ins
+stops_of-requires-clause-ins c =
+    let image = c.args.image.now in
+    let seat = c.index-as_slice-port.result in
+    let is = seat_there image c.args.port seat c.as_slice.result.now c.requires.there c.as_slice.ensures c.index-as_slice-port.is in
+    let good = c.requires.image.ports c.args.port seat is in
+    subst (λ xs. ArePlaces image.slots (in_slots xs)) (sym c.as_slice-4.ensures) (in_places image c.args.port seat good)
+
+pub enter-value-requires : goal.enter-value-requires
+enter-value-requires c =
+    let image = c.args.image.now in
+    let seat = c.index-as_slice-port.result in
+    let is = seat_there image c.args.port seat c.as_slice.result.now c.requires.there c.as_slice.ensures c.index-as_slice-port.is in
+    let good = c.requires.image.ports c.args.port seat is in
+    let slots = c.in_ok-slots.slots in
+    let stops = c.in_ok-stops.stops in
+    let slots_are : slots ≡ item_slots seat.work = c.in_ok-slots.ensures in
+    let stops_are : AreStops (out_slots seat.outs) (in_slots seat.ins) image.slots slots stops =
+    subst (λ xs. AreStops (out_slots seat.outs) (in_slots seat.ins) image.slots xs stops) c.as_slice-2.ensures
+    (subst (λ xs. AreStops (out_slots xs) (in_slots seat.ins) image.slots c.as_slice-2.result.now stops) c.as_slice-3.ensures
+    (subst (λ xs. AreStops (out_slots c.as_slice-3.result.now) (in_slots xs) image.slots c.as_slice-2.result.now stops) c.as_slice-4.ensures c.in_ok-stops.ensures)) in
+    let first = get_or c.as_slice-7.result.now 0 no_stop in
+    let there : slice_get stops 0 ≡ Some first =
+    slice_get-get_or stops 0 no_stop (first_within image c.args.port seat good is slots stops slots_are stops_are) ∙ ap (λ xs. Some (get_or xs 0 no_stop)) (sym c.as_slice-7.ensures) in
+    let view : PackPortView = view_in c.in_ok-kind.kind in
+    let until = image.units * c.cycles.result in
+    let until_is : until ≡ image.units * longest c.args.lanes.now = ap (λ n. image.units * n) c.cycles.ensures in
+    let begins = c.in_ok-kind.ensures.view in
+    can_enter image c.args.port seat good is slots stops slots_are stops_are view c.as_slice-6.result.now first (nat_le 1 until)
+    (ap (λ (v : PackPortView). v.image) begins) (ap (λ (v : PackPortView). v.port) begins) (ap (λ (v : PackPortView). v.begun) begins) (ap (λ (v : PackPortView). v.executed) begins)
+    (λ runs. subst (λ (v : PackPortView). v.turn ≤ v.image.units * longest v.lanes) (sym begins) (omega (arith, leb-true 1 until runs, until_is)))
+    c.as_slice-6.ensures there
+
+pub invariant_of-result : goal.invariant_of-result
+invariant_of-result c =
+    let image = c.args.image.now in
+    let seat = c.index-as_slice-port.result in
+    let is = seat_there image c.args.port seat c.as_slice.result.now c.requires.there c.as_slice.ensures c.index-as_slice-port.is in
+    let good = c.requires.image.ports c.args.port seat is in
+    let slots = c.in_ok-slots.slots in
+    let stops = c.in_ok-stops.stops in
+    let slots_are : slots ≡ item_slots seat.work = c.in_ok-slots.ensures in
+    let stops_are : AreStops (out_slots seat.outs) (in_slots seat.ins) image.slots slots stops =
+    subst (λ xs. AreStops (out_slots seat.outs) (in_slots seat.ins) image.slots xs stops) c.as_slice-2.ensures
+    (subst (λ xs. AreStops (out_slots xs) (in_slots seat.ins) image.slots c.as_slice-2.result.now stops) c.as_slice-3.ensures
+    (subst (λ xs. AreStops (out_slots c.as_slice-3.result.now) (in_slots xs) image.slots c.as_slice-2.result.now stops) c.as_slice-4.ensures c.in_ok-stops.ensures)) in
+    let first = get_or c.as_slice-7.result.now 0 no_stop in
+    let there : slice_get stops 0 ≡ Some first =
+    slice_get-get_or stops 0 no_stop (first_within image c.args.port seat good is slots stops slots_are stops_are) ∙ ap (λ xs. Some (get_or xs 0 no_stop)) (sym c.as_slice-7.ensures) in
+    let until = image.units * c.cycles.result in
+    let until_is : until ≡ image.units * longest c.args.lanes.now = ap (λ n. image.units * n) c.cycles.ensures in
+    kept_fresh _ (record {
+      image = c.requires.image;
+      lanes = c.requires.lanes;
+      seat = is;
+      kind = subst (λ b. (b ≡ true) ↔ (c.args.port + 1 ≡ length image.ports)) (sym c.enter-value.ensures.kind) c.in_ok-kind.ensures.fits;
+      until_is = until_is;
+      first = omega arith;
+      last = omega arith;
+      slots = slots_are;
+      stops = stops_are;
+      readers = subst (λ xs. AreReaders (length xs) xs c.in_ok-readers.readers) c.as_slice-5.ensures c.in_ok-readers.ensures;
+      at = refl;
+      sent = refl;
+      took = refl;
+      stop = first;
+      there = there;
+      entered = c.enter-value.ensures.entered
+          ∙ ap (λ (view : PackPortView). record view { begun = nat_le 1 until; executed = if nat_le 1 until then first.items else 0 }) c.in_ok-kind.ensures.view;
+      value = c.enter-value.ensures.last;
+    })
+
+pub stops_of-requires-clause-items : goal.stops_of-requires-clause-items
+stops_of-requires-clause-items c =
+    let image = c.args.image.now in
+    let seat = c.index-as_slice-port.result in
+    let is = seat_there image c.args.port seat c.as_slice.result.now c.requires.there c.as_slice.ensures c.index-as_slice-port.is in
+    let good = c.requires.image.ports c.args.port seat is in
+    let slots_are : c.as_slice-2.result.now ≡ item_slots seat.work = c.as_slice-2.ensures ∙ c.in_ok-slots.ensures in
+    subst (ArePlaces image.slots) (sym slots_are) (record { rising = good.items; low = good.item_slots_within })
+
+pub readers_of-requires-clause-few : goal.readers_of-requires-clause-few
+readers_of-requires-clause-few c =
+    let image = c.args.image.now in
+    let seat = c.index-as_slice-port.result in
+    let is = seat_there image c.args.port seat c.as_slice.result.now c.requires.there c.as_slice.ensures c.index-as_slice-port.is in
+    let few = few_sends image c.requires.image c.args.port seat is in
+    subst (λ xs. length xs ≤ MAX_SLOTS) (sym c.as_slice-5.ensures) few
+
+pub readers_of-requires-clause-readers : goal.readers_of-requires-clause-readers
+readers_of-requires-clause-readers c =
+    let image = c.args.image.now in
+    let seat = c.index-as_slice-port.result in
+    let is = seat_there image c.args.port seat c.as_slice.result.now c.requires.there c.as_slice.ensures c.index-as_slice-port.is in
+    subst (Each HasFewReaders) (sym c.as_slice-5.ensures) (few_readers image c.requires.image c.args.port seat is)

@@ -1,0 +1,129 @@
+-- A packed port with its place in the turn, as contracts see it, and what comes next. It is as many plain
+-- ports as there are lanes, which go event by event together: their values alone differ.
+use Rattle.std.specs.Prelude.{◌≡◌, ℕ, ◌+◌, ◌*◌, ◌<◌, ◌≤◌, List, [], ◌∷◌, ◌++◌}
+use Rattle.logic_four.specs.declared.V4.{V4}
+use Rattle.lane_planes.specs.declared.planes.Planes.{Planes}
+use Rattle.lane_planes.specs.Lanes.{lane_of}
+use Rattle.stim_text.specs.declared.lanes.Lanes.{Lanes}
+use Rattle.stim_text.specs.Lanes.{lane_stimulus, longest}
+use Rattle.image_defs.specs.declared.image.LinkIn.{LinkIn}
+use Rattle.image_defs.specs.declared.image.LinkOut.{LinkOut}
+use Rattle.image_defs.specs.declared.image.PortImage.{PortImage}
+use Rattle.image_defs.specs.declared.image.Image.{Image}
+use Rattle.image_defs.specs.Places.{IsPort, host_of}
+use Rattle.image_defs.specs.Frames.{image_value}
+use Rattle.event_defs.specs.declared.place.Place.{Place}
+use Rattle.event_defs.specs.declared.place.Action.{Action}
+use Rattle.event_defs.specs.declared.place.Action.TheVariants.{Ask, Put, Take, Tell, Done}
+use Rattle.event_defs.specs.Next.{SendsNext, ReceivesNext, EndsNext, IsNext}
+use Rattle.pack_bank.specs.Views.{PackPortView}
+use Rattle.pack_walk.specs.declared.action.PackAction.{PackAction}
+use Rattle.pack_walk.specs.declared.action.PackAction.TheVariants as pack
+
+-- a packed port of an image with lanes: its turn, the slots whose items it has sent in this turn, and those in
+-- which it has received
+pub record PlacedPack : Type 0 where
+  pub image : Image
+  pub lanes : Lanes
+  pub port : ℕ
+  pub turn : ℕ
+  pub puts : List ℕ
+  pub takes : List ℕ
+
+-- the last turn of the longest lane
+abbrev pub last_turn : PlacedPack → ℕ
+last_turn view = view.image.units * longest view.lanes
+
+-- what a port has in a slot at its turn, in the lane of this number, counted from 0
+abbrev pub value_in : PlacedPack → ℕ → ℕ → ℕ → V4
+value_in view l p slot = image_value view.image (lane_stimulus view.image.columns view.lanes l) view.turn p slot
+
+-- in each lane these are the values that this port has in this slot
+abbrev pub AreValuesOf : PlacedPack → ℕ → ℕ → Planes → Type 0
+AreValuesOf view p slot values = (l : ℕ) → l < 30 → lane_of values l ≡ value_in view l p slot
+
+-- its place, where it knows each port to have finished so many turns
+abbrev pub place_of : PlacedPack → List ℕ → Place
+place_of view known = record { turn = view.turn; puts = view.puts; takes = view.takes; known = known }
+
+-- the port before its first event
+abbrev pub at_start : Image → Lanes → ℕ → PlacedPack
+at_start image lanes port = record { image = image; lanes = lanes; port = port; turn = 1; puts = []; takes = [] }
+
+-- ---- what comes next
+
+-- the next thing that is missing is the Put of this link, number i of what the port sends
+pub record IsSending (view : PlacedPack) (i : ℕ) (link : LinkOut) : Type 0 where
+  pub early : view.turn ≤ last_turn view
+  pub seat : PortImage
+  pub is : IsPort view.image view.port seat
+  pub next : SendsNext seat view.puts view.takes i link
+
+-- it is the Take of this link, number j of what the port receives
+pub record IsReceiving (view : PlacedPack) (j : ℕ) (link : LinkIn) : Type 0 where
+  pub early : view.turn ≤ last_turn view
+  pub seat : PortImage
+  pub is : IsPort view.image view.port seat
+  pub next : ReceivesNext seat view.puts view.takes j link
+
+-- nothing is missing in the turn
+pub record IsEnding (view : PlacedPack) : Type 0 where
+  pub early : view.turn ≤ last_turn view
+  pub seat : PortImage
+  pub is : IsPort view.image view.port seat
+  pub next : EndsNext seat view.puts view.takes
+
+-- the action in a lane, where a Put has the value of that lane
+abbrev pub lane_action : (ℕ → V4) → PackAction → Action
+lane_action value (pack.Ask reader) = Ask reader
+lane_action value (pack.Put slot) = Put slot (value slot)
+lane_action value (pack.Take slot) = Take slot
+lane_action value pack.Tell = Tell
+lane_action value pack.Done = Done
+
+-- this is its next event by what it knows, in each lane; there is one bank
+pub record IsNextOf (view : PlacedPack) (known : List ℕ) (action : PackAction) : Type 0 where
+  pub each : (l : ℕ) → l < 30 → (seat : PortImage) → IsPort view.image view.port seat
+      → IsNext seat (place_of view known) 1 (last_turn view) (value_in view l view.port) (lane_action (value_in view l view.port) action)
+
+-- these are the values of what it sends next
+pub record IsNextValue (view : PlacedPack) (values : Planes) : Type 0 where
+  pub each : (i : ℕ) (link : LinkOut) → IsSending view i link → AreValuesOf view view.port link.slot values
+
+-- ---- what a call may do
+
+pub record CanPut (view : PlacedPack) : Type 0 where
+  pub i : ℕ
+  pub link : LinkOut
+  pub sending : IsSending view i link
+
+-- and these are the values that the sender has there
+pub record CanTake (view : PlacedPack) (values : Planes) : Type 0 where
+  pub j : ℕ
+  pub link : LinkIn
+  pub receiving : IsReceiving view j link
+  pub values_are : AreValuesOf view link.sender link.slot values
+
+-- ---- what it did
+
+-- the Put that was next is made
+pub record HasPut (old new : PlacedPack) : Type 0 where
+  pub each : (i : ℕ) (link : LinkOut) → IsSending old i link → new ≡ record old { puts = old.puts ++ link.slot ∷ [] }
+
+-- the Take that was next is made
+pub record HasTaken (old new : PlacedPack) : Type 0 where
+  pub each : (j : ℕ) (link : LinkIn) → IsReceiving old j link → new ≡ record old { takes = old.takes ++ link.slot ∷ [] }
+
+-- the turn is over, and the next one has begun
+abbrev pub in_next_turn : PlacedPack → PlacedPack
+in_next_turn view = record view { turn = view.turn + 1; puts = []; takes = [] }
+
+-- ---- the host
+
+-- this is the host of the same image and lanes, in the same turn
+pub record IsHostIn (view : PlacedPack) (host : PackPortView) : Type 0 where
+  pub is_host : view.port ≡ host_of view.image
+  pub image : host.image ≡ view.image
+  pub lanes : host.lanes ≡ view.lanes
+  pub port : host.port ≡ view.port
+  pub turn : host.turn ≡ view.turn
