@@ -1,0 +1,4 @@
+mod DealtLemmas
+mod FrameLemmas
+mod RowLemmas
+mod RunLemmas
