@@ -1,0 +1,127 @@
+-- Verdicts of several groups of faults, and all faults in groups.
+use Rattle.std.proofs.Common.{◌≡◌, ◌∙◌, ◌⊎◌, inl, inr, ℕ, zero, suc, ◌+◌, ◌-◌, ◌<◌, ◌≤◌, true, List, [], ◌∷◌, ◌++◌, length, take, get_or, append-nil, append_assoc, length-append, drop, refl, sym, ap, ap₂, subst, arith, Some}
+use Rattle.std.specs.List.{slice_get, All, flat_map, range_with_len, refill}
+use Rattle.std.proofs.lemmas.List.{take_all, drop_all}
+use Rattle.std.proofs.lemmas.Bool.{cases_lt}
+use Rattle.std.proofs.lemmas.Option.{slice_get_within, slice_get-get_or, get_or_from_slice_get}
+use Rattle.std.proofs.lemmas.List.Elements.{All-nil, All-cons, All-append}
+use Rattle.std.proofs.lemmas.List.Concat.{flat_map-append}
+use Rattle.list_laws.proofs.Maps.{flat_map_grown}
+use Rattle.list_laws.proofs.Places.{at_front, slice_past}
+use Rattle.net_defs.specs.declared.netlist.Netlist.{Netlist}
+use Rattle.net_defs.specs.declared.timing.Timing.{Timing}
+use Rattle.net_defs.specs.declared.stimulus.Stimulus.{Stimulus}
+use Rattle.logic_four.specs.declared.V4.TheVariants.{Zero, One}
+use Rattle.fault_sim.specs.declared.faults.Fault.{Fault}
+use Rattle.fault_sim.specs.declared.faults.Verdict.{Verdict}
+use Rattle.fault_sim.specs.declared.faults.Verdict.TheVariants.{Seen, Unseen}
+use Rattle.fault_sim.specs.declared.all.Group.{Group}
+use Rattle.fault_sim.specs.Faults.{IsFault, faults_at, faults_from}
+use Rattle.fault_sim.specs.Verdicts.{IsVerdict, AreVerdicts, IsNamed}
+use Rattle.fault_sim.specs.Groups.{IsGroup, group_faults, AreGroups, IsDone, AreRun}
+
+module _ (net : Netlist) (timing : Timing) (stimulus : Stimulus) where
+  pub verdicts_none : AreVerdicts net timing stimulus [] []
+  verdicts_none = record { count = refl; each = λ k fault verdict at there. absurd (omega (arith, slice_get_within [] k fault at)) }
+
+  -- the verdicts on more faults after those on some
+  pub verdicts_more : (faults others : List Fault) (verdicts more : List Verdict) → AreVerdicts net timing stimulus faults verdicts → AreVerdicts net timing stimulus others more → AreVerdicts net timing stimulus (faults ++ others) (verdicts ++ more)
+  verdicts_more faults others verdicts more first second = record {
+    count = length-append verdicts more ∙ (ap₂ (λ a b. a + b) first.count second.count ∙ sym (length-append faults others));
+    each = λ k fault verdict at there. elim (cases_lt k (length faults)) [
+      | inl h ↦ first.each k fault verdict (sym (at_front faults others k h) ∙ at) (sym (at_front verdicts more k (omega (arith, h, first.count))) ∙ there)
+      | inr h ↦
+          let past : length faults + (k - length faults) ≡ k = omega (arith, h) in
+          let past_too : length verdicts + (k - length faults) ≡ k = omega (arith, h, first.count) in
+          second.each (k - length faults) fault verdict
+          (sym (slice_past faults others (k - length faults)) ∙ (ap (slice_get (faults ++ others)) past ∙ at))
+          (sym (slice_past verdicts more (k - length faults)) ∙ (ap (slice_get (verdicts ++ more)) past_too ∙ there))
+    ];
+  }
+
+  -- what verdicts name is there
+  named_one : (fault : Fault) (verdict : Verdict) → IsVerdict net timing stimulus fault verdict → IsNamed net stimulus verdict
+  named_one fault (Seen cycle column) is = (is.judges.counted, is.judges.within, is.judges.printed)
+  named_one fault Unseen is = tt
+
+  pub verdicts_named : (faults : List Fault) (verdicts : List Verdict) → AreVerdicts net timing stimulus faults verdicts → All (IsNamed net stimulus) verdicts
+  verdicts_named faults verdicts are k d within =
+      let at = slice_get-get_or verdicts k d within in
+      let fault : Fault = get_or faults k (record { signal = 0; value = Zero }) in
+      named_one fault (get_or verdicts k d) (are.each k fault (get_or verdicts k d) (slice_get-get_or faults k (record { signal = 0; value = Zero }) (omega (arith, within, are.count))) at)
+
+  -- the groups' faults stay as they run
+  pub faults_stay : (before after : List Group) → AreRun net timing stimulus before after → group_faults after ≡ group_faults before
+  faults_stay [] [] run = refl
+  faults_stay [] (y ∷ ys) run = absurd (omega (arith, run.count))
+  faults_stay (x ∷ xs) [] run = absurd (omega (arith, run.count))
+  faults_stay (x ∷ xs) (y ∷ ys) run =
+      ap₂ (λ a b. a ++ b) ((run.each 0 x y refl refl).faults)
+      (faults_stay xs ys (record { count = omega (arith, run.count); each = λ k one other at there. run.each (suc k) one other at there }))
+
+  pub all_done : (before after : List Group) → AreRun net timing stimulus before after → All (IsDone net timing stimulus) after
+  all_done before after run k d within =
+      (run.each k (get_or before k d) (get_or after k d) (slice_get-get_or before k d (omega (arith, within, run.count))) (slice_get-get_or after k d within)).done
+
+  -- the verdicts of one group more
+  pub gather_more : (groups : List Group) (i : ℕ) (group : Group) (verdicts more new : List Verdict) → AreVerdicts net timing stimulus (group_faults (take i groups)) verdicts → i < length groups → group ≡ get_or groups i group
+      → All (IsDone net timing stimulus) groups → group.is_done ≡ true → more ≡ group.verdicts → new ≡ verdicts ++ more → AreVerdicts net timing stimulus (group_faults (take (i + 1) groups)) new
+  gather_more groups i group verdicts more new so_far within is all done same grown =
+      let here : AreVerdicts net timing stimulus group.faults group.verdicts = subst (IsDone net timing stimulus) (sym is) (all i group within) done in
+      let list : new ≡ verdicts ++ group.verdicts = grown ∙ ap (λ xs. verdicts ++ xs) same in
+      subst (λ faults. AreVerdicts net timing stimulus faults new) (sym (flat_map_grown (λ g. g.faults) groups i group is within))
+      (subst (AreVerdicts net timing stimulus (group_faults (take i groups) ++ group.faults)) (sym list) (verdicts_more (group_faults (take i groups)) group.faults verdicts group.verdicts so_far here))
+
+  pub gather_all : (groups : List Group) (i : ℕ) (verdicts : List Verdict) → length groups ≤ i → AreVerdicts net timing stimulus (group_faults (take i groups)) verdicts → AreVerdicts net timing stimulus (group_faults groups) verdicts
+  gather_all groups i verdicts all so_far = subst (λ list. AreVerdicts net timing stimulus (group_faults list) verdicts) (take_all i groups all) so_far
+
+-- a list whose loan ends with as many members
+pub refill_all : {X : Type 0} (xs now : List X) → length now ≡ length xs → refill (length xs) xs now ≡ now
+refill_all xs now long =
+    ap (λ rest. take (length xs) (now ++ rest)) (drop_all (length now) xs (omega (arith, long)))
+    ∙ (ap (λ list. take (length xs) list) (append-nil now) ∙ take_all (length xs) now (omega (arith, long)))
+
+-- two ranges that follow one another
+pub range_append : (a n m : ℕ) → range_with_len a (n + m) ≡ range_with_len a n ++ range_with_len (a + n) m
+range_append a zero m = let e : zero + m ≡ m = omega arith in let f : a + zero ≡ a = omega arith in rw (e, f) refl
+range_append a (suc n) m =
+    let e : suc n + m ≡ suc (n + m) = omega arith in
+    let f : a + suc n ≡ a + 1 + n = omega arith in
+    rw (e, f) (ap (λ xs. a ∷ xs) (range_append (a + 1) n m))
+
+pub faults_append : (a n m : ℕ) → faults_from a (n + m) ≡ faults_from a n ++ faults_from (a + n) m
+faults_append a n m = ap (flat_map faults_at) (range_append a n m) ∙ flat_map-append faults_at (range_with_len a n) (range_with_len (a + n) m)
+
+-- the faults of one signal more
+pub faults_more : (begun k : ℕ) (faults once twice : List Fault) → faults ≡ faults_from begun k → once ≡ faults ++ record { signal = begun + k; value = Zero } ∷ [] → twice ≡ once ++ record { signal = begun + k; value = One } ∷ [] → twice ≡ faults_from begun (k + 1)
+faults_more begun k faults once twice is first second =
+    second ∙ (ap (λ xs. xs ++ record { signal = begun + k; value = One } ∷ []) (first ∙ ap (λ xs. xs ++ record { signal = begun + k; value = Zero } ∷ []) is)
+    ∙ (append_assoc (faults_from begun k) (record { signal = begun + k; value = Zero } ∷ []) (record { signal = begun + k; value = One } ∷ []) ∙ sym (faults_append begun k 1)))
+
+pub faults_long : (a n : ℕ) → length (faults_from a n) ≡ n + n
+faults_long a zero = refl
+faults_long a (suc n) = let rest = faults_long (a + 1) n in omega (arith, rest)
+
+-- each of them is a fault of the netlist
+pub faults_are : (net : Netlist) (a n : ℕ) → a + n ≤ length net.signals → All (IsFault net) (faults_from a n)
+faults_are net a zero within = All-nil (IsFault net)
+faults_are net a (suc n) within =
+    All-cons (IsFault net) (record { signal = a; value = Zero }) (record { signal = a; value = One } ∷ faults_from (a + 1) n) (record { signal = omega (arith, within); value = inl refl })
+    (All-cons (IsFault net) (record { signal = a; value = One }) (faults_from (a + 1) n) (record { signal = omega (arith, within); value = inr refl }) (faults_are net (a + 1) n (omega (arith, within))))
+
+-- one group more
+pub groups_more : (net : Netlist) (begun more : ℕ) (groups : List Group) (group : Group) → AreGroups net begun groups → group.faults ≡ faults_from begun more → more ≤ 14 → begun + more ≤ length net.signals → AreGroups net (begun + more) (groups ++ group ∷ [])
+groups_more net begun more groups group are is few within = record {
+  faults =
+      flat_map-append (λ g. g.faults) groups (group ∷ [])
+      ∙ (ap₂ (λ a b. a ++ b) are.faults (append-nil group.faults ∙ is)
+      ∙ sym (faults_append 0 begun more ∙ ap (λ n. faults_from 0 begun ++ faults_from n more) (omega arith)));
+  each = All-append (IsGroup net) groups (group ∷ []) are.each
+      (All-cons (IsGroup net) group [] (record {
+        few = omega (arith, ap length is, faults_long begun more, few);
+        faults = subst (All (IsFault net)) (sym is) (faults_are net begun more within);
+      }) (All-nil (IsGroup net)));
+}
+
+pub groups_none : (net : Netlist) → AreGroups net 0 []
+groups_none net = record { faults = refl; each = All-nil (IsGroup net) }

@@ -1,0 +1,13 @@
+pub mod Stuck
+pub mod Orders
+pub mod Looking
+pub mod Judging
+pub mod Gathering
+pub mod Starts
+pub mod OneList
+pub mod AlongLemmas
+pub mod BaseLemmas
+pub mod EdgeLemmas
+pub mod ForceLemmas
+pub mod StepLemmas
+pub mod TurnLemmas

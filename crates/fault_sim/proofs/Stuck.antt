@@ -1,0 +1,85 @@
+-- The faulty netlist, signal by signal, and its steps.
+use Rattle.std.proofs.Common.{◌≡◌, ◌≢◌, ◌∙◌, ◌⊎◌, inl, inr, ℕ, zero, suc, ◌<◌, List, [], ◌∷◌, length, set, refl, sym, ap, arith, Option, Some, None}
+use Rattle.std.specs.List.{slice_get}
+use Rattle.std.proofs.lemmas.Bool.Decides.{eqb_tells}
+use Rattle.std.proofs.lemmas.Option.{slice_get-get_or}
+use Rattle.std.proofs.lemmas.List.{length-set, get_or-set_same}
+use Rattle.list_laws.proofs.Places.{one_there}
+use Rattle.logic_four.specs.declared.V4.{V4}
+use Rattle.logic_four.specs.declared.V4.TheVariants.{Zero, One, Undef, HighZ}
+use Rattle.net_defs.specs.declared.netlist.Netlist.{Netlist}
+use Rattle.net_defs.specs.declared.netlist.Signal.{Signal}
+use Rattle.net_defs.specs.declared.netlist.Driver.{Driver}
+use Rattle.net_defs.specs.declared.netlist.Driver.TheVariants.{Input, Gate, Dff, BlockBit}
+use Rattle.net_defs.specs.declared.timing.Timing.{Timing}
+use Rattle.net_defs.specs.declared.stimulus.Stimulus.{Stimulus}
+use Rattle.net_defs.specs.Time.{value_at}
+use Rattle.net_defs.specs.Canonical.{name_of}
+use Rattle.net_defs.specs.Steps.{State, driven, IsRightStep}
+use Rattle.fault_sim.specs.declared.faults.Fault.{Fault}
+use Rattle.fault_sim.specs.Faults.{constant, stuck, IsFault, IsStuckStep}
+
+-- a list after a place of it was set
+pub set_there : {X : Type 0} (xs : List X) (i : ℕ) (x : X) → i < length xs → slice_get (set xs i x) i ≡ Some x
+set_there xs i x within =
+    let room : i < length (set xs i x) = omega (arith, length-set xs i x) in
+    slice_get-get_or (set xs i x) i x room ∙ ap Some (get_or-set_same xs i x x within)
+
+pub set_else : {X : Type 0} (xs : List X) (i j : ℕ) (x : X) → j ≢ i → slice_get (set xs i x) j ≡ slice_get xs j
+set_else [] i j x other = refl
+set_else (w ∷ xs) zero zero x other = absurd (other refl)
+set_else (w ∷ xs) zero (suc j) x other = refl
+set_else (w ∷ xs) (suc i) zero x other = refl
+set_else (w ∷ xs) (suc i) (suc j) x other = set_else xs i j x (λ same. other (ap suc same))
+
+-- the signal with its new driver
+abbrev pub stuck_signal : Netlist → Fault → Signal
+stuck_signal net fault = record { name = name_of net fault.signal; driver = constant fault.value }
+
+-- what a constant gives
+pub constant_gives : (net : Netlist) (timing : Timing) (stimulus : Stimulus) (turn : ℕ) (old new : State) (s : ℕ) (v : V4) → (v ≡ Zero) ⊎ (v ≡ One) → driven net timing stimulus turn old new s (constant v) ≡ v
+constant_gives net timing stimulus turn old new s Zero known = refl
+constant_gives net timing stimulus turn old new s One known = refl
+constant_gives net timing stimulus turn old new s Undef known = elim known [ inl h ↦ cc | inr h ↦ cc ]
+constant_gives net timing stimulus turn old new s HighZ known = elim known [ inl h ↦ cc | inr h ↦ cc ]
+
+module _ (net : Netlist) (fault : Fault) (is : IsFault net fault) where
+  pub stuck_here : slice_get (stuck net fault).signals fault.signal ≡ Some (stuck_signal net fault)
+  stuck_here = set_there net.signals fault.signal (stuck_signal net fault) is.signal
+
+  pub stuck_else : (s : ℕ) → s ≢ fault.signal → slice_get (stuck net fault).signals s ≡ slice_get net.signals s
+  stuck_else s other = set_else net.signals fault.signal s (stuck_signal net fault) other
+
+  pub stuck_long : length (stuck net fault).signals ≡ length net.signals
+  stuck_long = length-set net.signals fault.signal (stuck_signal net fault)
+
+  module _ (timing : Timing) (stimulus : Stimulus) (turn : ℕ) (old new : State) where
+    -- every other driver gives what it gave
+    same_driven : (s : ℕ) (driver : Driver) → driven (stuck net fault) timing stimulus turn old new s driver ≡ driven net timing stimulus turn old new s driver
+    same_driven s Input = refl
+    same_driven s (Gate kind ops) = refl
+    same_driven s (Dff op) = refl
+    same_driven s (BlockBit memory bit) = refl
+
+    pub step_stuck : IsRightStep (stuck net fault) timing stimulus turn old new → IsStuckStep net timing stimulus fault turn old new
+    step_stuck right = record {
+      signals = right.signals ∙ stuck_long;
+      stuck = right.values fault.signal (stuck_signal net fault) stuck_here ∙ constant_gives (stuck net fault) timing stimulus turn old new fault.signal fault.value is.value;
+      others = λ s signal other at. right.values s signal (stuck_else s other ∙ at) ∙ same_driven s signal.driver;
+      memories = right.memories;
+      words = right.words;
+    }
+
+    pub stuck_step : IsStuckStep net timing stimulus fault turn old new → IsRightStep (stuck net fault) timing stimulus turn old new
+    stuck_step step = record {
+      signals = step.signals ∙ sym stuck_long;
+      values = λ s signal at. elim (eqb_tells s fault.signal) [
+        | inl h ↦
+            let same : signal ≡ stuck_signal net fault = one_there (stuck net fault).signals s fault.signal signal (stuck_signal net fault) h.1 at stuck_here in
+            ap (value_at new.row) h.1 ∙ (step.stuck ∙ (sym (constant_gives (stuck net fault) timing stimulus turn old new s fault.value is.value)
+            ∙ ap (λ it. driven (stuck net fault) timing stimulus turn old new s it.driver) (sym same)))
+        | inr h ↦ step.others s signal h.1 (sym (stuck_else s h.1) ∙ at) ∙ sym (same_driven s signal.driver)
+      ];
+      memories = step.memories;
+      words = step.words;
+    }

@@ -1,0 +1,5 @@
+use Rattle.fault_sim.specs.Lanes.{AreFree}
+use Rattle.fault_sim.proofs.force.free.Given as goal
+
+abbrev pub invariant-signals : goal.invariant-signals
+invariant-signals l = AreFree l._k l.forces

@@ -1,0 +1,5 @@
+use Rattle.fault_sim.proofs.OneList as lists
+use Rattle.fault_sim.proofs.one_list.Goals as goal
+
+pub returns : goal.returns
+returns c = lists.one_list

@@ -1,0 +1,18 @@
+use Rattle.std.proofs.Common.{◌≡◌, ℕ, ◌+◌, ◌<◌, [], length, get_or}
+use Rattle.net_defs.specs.declared.stimulus.Stimulus.{Stimulus}
+use Rattle.net_defs.specs.Time.{cycle_rows, cycle_count}
+use Rattle.fault_sim.specs.Lanes.{IsReady}
+use Rattle.fault_sim.specs.Turns.{IsRoom}
+use Rattle.fault_sim.specs.Runs.{RunsTo}
+use Rattle.fault_sim.proofs.run.run_row.Given as goal
+
+abbrev pub invariant-times : goal.invariant-times
+invariant-times l = record {
+  ready : IsReady l.net l.faults l.state;
+  room : IsRoom l.net l.room;
+  count : length l.verdicts ≡ length l.faults;
+  runs : (stimulus : Stimulus)
+      → ((t : ℕ) → t < l.row.times → (l.begun + t < cycle_count stimulus) × (get_or (cycle_rows stimulus) (l.begun + t) [] ≡ l.row.values))
+      → RunsTo l.net l.faults l.timing stimulus l.begun l.fn.state l.fn.verdicts
+      → RunsTo l.net l.faults l.timing stimulus (l.begun + l.time) l.state l.verdicts;
+}

@@ -1,0 +1,6 @@
+pub mod Faults
+pub mod Verdicts
+pub mod Lanes
+pub mod Runs
+pub mod Turns
+pub mod Groups

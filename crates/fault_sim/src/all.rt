@@ -1,0 +1,193 @@
+//! All faults of a netlist, in groups that are dealt to threads.
+
+ghost use Rattle.std.specs.Prelude.{◌≡◌, ◌+◌, ◌<◌, ◌≤◌, ◌^◌, length, All, IfOk};
+ghost use Rattle.net_defs.specs.Valid.{IsValid, IsValidTiming, IsValidStimulus};
+ghost use Rattle.net_defs.specs.Loops.{AreRanks};
+ghost use Rattle.fault_sim.specs.Faults.{faults_from};
+ghost use Rattle.fault_sim.specs.Verdicts.{AreAllVerdicts, AreVerdicts, IsNamed};
+ghost use Rattle.fault_sim.specs.Groups.{group_faults, IsGroup, AreGroups, IsDone, IsRun, AreRun};
+
+use crate::group::fault_group;
+use crate::{Fault, Verdict};
+use logic_four::V4;
+use net_defs::{Netlist, Ranks, Stimulus, Timing};
+use seen_list::{List, Memory};
+use std::alloc::Global;
+use std::thread::{self, Threads};
+
+/// The signals of a group. Each has two faults, and there is room for 29.
+const SIGNALS: usize = 14;
+
+/// Faults that run side by side, and the verdicts on them once they are made.
+#[derive(Drop)]
+pub(crate) struct Group {
+    pub(crate) faults: List<Fault>,
+    pub(crate) verdicts: List<Verdict>,
+    pub(crate) is_done: bool,
+}
+
+/// The verdicts on all stuck faults of a netlist: two for each signal in signal order, that on stuck at 0
+/// first. They are the same for every number of workers.
+pub fn fault_all<R: Threads + Sync>(
+    rt: &R,
+    alloc: Global,
+    net: &Netlist,
+    ranks: &Ranks,
+    timing: &Timing,
+    stim: &Stimulus,
+    workers: u32,
+) -> Result<List<Verdict>, Memory>
+    requires valid { IsValid net.now }
+    requires timing { IsValidTiming timing.now }
+    requires ranks { AreRanks net.now timing.now ranks.now }
+    requires stimulus { IsValidStimulus stim.now }
+    requires workers { (1 ≤ workers) × (workers ≤ 64) }
+    ensures verdicts { IfOk result (AreAllVerdicts net.now timing.now stim.now) }
+    ensures named { IfOk result (All (IsNamed net.now stim.now)) }
+{
+    let mut groups = make_groups(alloc, net)?;
+    run_groups(
+        rt,
+        alloc,
+        groups.as_mut_slice(),
+        net,
+        ranks,
+        timing,
+        stim,
+        workers,
+    );
+    gather(alloc, groups.as_slice(), net, timing, stim)
+}
+
+/// Runs all groups, each in one of the threads.
+fn run_groups<R: Threads + Sync>(
+    rt: &R,
+    alloc: Global,
+    groups: &mut [Group],
+    net: &Netlist,
+    ranks: &Ranks,
+    timing: &Timing,
+    stim: &Stimulus,
+    workers: u32,
+)
+    requires valid { IsValid net.now }
+    requires timing { IsValidTiming timing.now }
+    requires ranks { AreRanks net.now timing.now ranks.now }
+    requires stimulus { IsValidStimulus stim.now }
+    requires workers { 1 ≤ workers }
+    requires groups { All (IsGroup net.now) groups.old }
+    ensures { AreRun net.now timing.now stim.now groups.old groups.new }
+{
+    thread::for_each_mut(
+        rt,
+        groups,
+        workers as usize,
+        &|_, group| { run_group(alloc, net, ranks, timing, stim, group) },
+    );
+}
+
+/// Makes the verdicts of a group.
+fn run_group(
+    alloc: Global,
+    net: &Netlist,
+    ranks: &Ranks,
+    timing: &Timing,
+    stim: &Stimulus,
+    group: &mut Group,
+)
+    requires valid { IsValid net.now }
+    requires timing { IsValidTiming timing.now }
+    requires ranks { AreRanks net.now timing.now ranks.now }
+    requires stimulus { IsValidStimulus stim.now }
+    requires group { IsGroup net.now group.old }
+    ensures { IsRun net.now timing.now stim.now group.old group.new }
+{
+    match fault_group(alloc, net, ranks, timing, stim, group.faults.as_slice()) {
+        Ok(verdicts) => {
+            group.verdicts = verdicts;
+            group.is_done = true;
+        }
+        Err(Memory) => {
+            group.is_done = false;
+        }
+    }
+}
+
+/// The groups of all faults, without verdicts.
+fn make_groups(alloc: Global, net: &Netlist) -> Result<List<Group>, Memory>
+    requires { IsValid net.now }
+    ensures { IfOk result (AreGroups net.now (length net.now.signals)) }
+{
+    let mut groups = List::new(alloc);
+    let count = net.signals.len();
+    let mut begun = 0;
+    'groups: for _group in 0..count.div_ceil(SIGNALS) {
+        let signals = group_size(count - begun);
+        groups.push(make_group(alloc, begun, signals)?)?;
+        begun += signals;
+    }
+    Ok(groups)
+}
+
+/// How many of the signals that are left make a group.
+fn group_size(left: usize) -> usize
+    ensures few { result ≤ 14 }
+    ensures within { result ≤ left }
+    ensures whole { result < left → result ≡ 14 }
+{
+    if left < SIGNALS { left } else { SIGNALS }
+}
+
+/// The group of the faults of so many signals.
+fn make_group(alloc: Global, begun: usize, signals: usize) -> Result<Group, Memory>
+    requires few { begun + signals < 2 ^ 32 }
+    ensures faults { IfOk result (λ group. group.faults ≡ faults_from begun signals) }
+{
+    Ok(Group {
+        faults: faults_of(alloc, begun, signals)?,
+        verdicts: List::new(alloc),
+        is_done: false,
+    })
+}
+
+/// The faults of so many signals from one on.
+fn faults_of(alloc: Global, begun: usize, signals: usize) -> Result<List<Fault>, Memory>
+    requires few { begun + signals < 2 ^ 32 }
+    ensures { IfOk result (λ faults. faults ≡ faults_from begun signals) }
+{
+    let mut faults = List::new(alloc);
+    'signals: for k in 0..signals {
+        let signal = (begun + k) as u32;
+        faults.push(Fault {
+            signal,
+            value: V4::Zero,
+        })?;
+        faults.push(Fault {
+            signal,
+            value: V4::One,
+        })?;
+    }
+    Ok(faults)
+}
+
+/// The verdicts of all groups, one group after the other.
+fn gather(
+    alloc: Global,
+    groups: &[Group],
+    net: &Netlist,
+    timing: &Timing,
+    stim: &Stimulus,
+) -> Result<List<Verdict>, Memory>
+    requires { All (IsDone net.now timing.now stim.now) groups.now }
+    ensures verdicts { IfOk result (AreVerdicts net.now timing.now stim.now (group_faults groups.now)) }
+    ensures named { IfOk result (All (IsNamed net.now stim.now)) }
+{
+    let mut verdicts = List::new(alloc);
+    'groups: for group in groups {
+        if !group.is_done {
+            return Err(Memory);
+        }
+        verdicts.extend_from_slice(group.verdicts.as_slice())?;
+    }
+    Ok(verdicts)
+}

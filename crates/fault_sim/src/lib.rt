@@ -1,0 +1,36 @@
+//! Stuck faults: where a stimulus shows that a signal has the same value at every turn. Many faulty
+//! designs run side by side with the good one, in groups that are dealt to threads.
+#![tactic(auto)]
+
+ghost use Rattle.fault_sim.specs.Faults.{StepsAsStuck, StuckStepsRight, HasOneFaulty};
+ghost use Rattle.fault_sim.specs.Verdicts.{HaveOneList};
+
+mod all;
+mod base;
+mod edge;
+mod faults;
+mod force;
+mod group;
+mod look;
+mod run;
+mod start;
+mod state;
+mod turn;
+
+pub use all::fault_all;
+pub use faults::{Fault, Verdict};
+pub use group::fault_group;
+
+/// A law: where the netlist has no loop, each fault has exactly one faulty simulation, and its steps are
+/// those in which the stuck signal has its value and all else is as ever. It does nothing.
+pub fn one_faulty()
+    ensures steps { StepsAsStuck }
+    ensures right { StuckStepsRight }
+    ensures one { HasOneFaulty }
+{}
+
+/// A law: where the netlist has no loop, there is exactly one list of the verdicts on all its faults. It
+/// does nothing.
+pub fn one_list()
+    ensures { HaveOneList }
+{}
