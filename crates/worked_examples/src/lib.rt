@@ -24,6 +24,8 @@ mod of_image_file;
 #[cfg(test)]
 mod of_image_lines;
 #[cfg(test)]
+mod of_lane_planes;
+#[cfg(test)]
 mod of_logic_four;
 #[cfg(test)]
 mod of_machine_text;

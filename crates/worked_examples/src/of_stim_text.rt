@@ -1,4 +1,4 @@
-//! `read_stim` and `read_order` with ample memory, against values and refusals from outside.
+//! `read_stim`, `read_lanes` and `read_order` with ample memory, against values and refusals from outside.
 
 use logic_four::to_char;
 use net_defs::Stimulus;
@@ -10,11 +10,26 @@ use stim_text::*;
 /// The rows as a text: the values, `*`, the repeat, and a line end.
 fn shown_rows(alloc: Global, stimulus: &Stimulus) -> Result<Text, Memory> {
     let mut text = Text::new(alloc);
+    add_rows(alloc, &mut text, stimulus)?;
+    Ok(text)
+}
+
+fn add_rows(alloc: Global, text: &mut Text, stimulus: &Stimulus) -> Result<(), Memory> {
     for row in stimulus.rows.as_slice() {
         for value in row.values.as_slice() {
             text.push_bytes(&[to_char(*value)])?;
         }
         text.push_bytes(format!(in alloc; "*{}\n", row.times)?.as_bytes())?;
+    }
+    Ok(())
+}
+
+/// The lanes as a text: for each the line `lane`, and its rows.
+fn shown_lanes(alloc: Global, lanes: &Lanes) -> Result<Text, Memory> {
+    let mut text = Text::new(alloc);
+    for stimulus in lanes.lanes.as_slice() {
+        text.push_bytes(b"lane\n")?;
+        add_rows(alloc, &mut text, stimulus)?;
     }
     Ok(text)
 }
@@ -75,6 +90,87 @@ fn refuses_texts(rt: HostRuntime) {
 
 fn width(line: u32, got: u32, want: u32) -> StimNo {
     StimNo::Width { line, got, want }
+}
+
+/// The texts of lanes that are read, for so many inputs, and their lanes.
+#[test]
+fn reads_lanes(rt: HostRuntime) -> Result<(), Fail> {
+    let texts: [(&str, u32, &str); 5] = [
+        (
+            "lane\n11111\n00000\nlane\nxxxxx\n",
+            5,
+            "lane\n11111*1\n00000*1\nlane\nxxxxx*1\n",
+        ),
+        ("", 5, ""),
+        ("# none\n\n \t\r\n", 5, ""),
+        (
+            "# two\n \tlane # one\r\n\nlane\n- * 2\n# lane\n",
+            0,
+            "lane\nlane\n*2\n",
+        ),
+        (
+            "lane\n1 * 1000000\nlane\n0 * 1000000",
+            1,
+            "lane\n1*1000000\nlane\n0*1000000\n",
+        ),
+    ];
+    for (text, inputs, want) in texts {
+        let lanes = read_lanes(rt.alloc(), text.as_bytes(), inputs)?;
+        assert_eq!(rt;
+            shown_lanes(rt.alloc(), &lanes)?.as_bytes(),
+            want.as_bytes()
+        );
+    }
+    Ok(())
+}
+
+/// Thirty lines that begin a lane, and one more.
+const LANES_31: &str =
+    "lane\nlane\nlane\nlane\nlane\nlane\nlane\nlane\nlane\nlane\nlane\nlane\nlane\nlane\nlane\nlane\nlane\nlane\nlane\nlane\nlane\nlane\nlane\nlane\nlane\nlane\nlane\nlane\nlane\nlane\n\nlane\n2\n";
+
+/// The texts of lanes that are refused, with their lines.
+#[test]
+fn refuses_lanes(rt: HostRuntime) {
+    let texts: [(&str, u32, LaneNo); 12] = [
+        ("11111", 5, LaneNo::NoLane { line: 1 }),
+        ("# 1\n\n112\nlane\n", 5, LaneNo::NoLane { line: 3 }),
+        ("lane * 2\n", 1, LaneNo::NoLane { line: 1 }),
+        ("Lane\n", 1, LaneNo::NoLane { line: 1 }),
+        ("lanes\n", 1, LaneNo::NoLane { line: 1 }),
+        (
+            "lane\n1\nLANE\n",
+            1,
+            LaneNo::Stim(StimNo::BadChar { line: 3 }),
+        ),
+        (
+            "lane\n1\nlane * 2\n",
+            1,
+            LaneNo::Stim(StimNo::BadChar { line: 3 }),
+        ),
+        (
+            "lane\n1\nlane\n# 1\n1 * 0\n",
+            1,
+            LaneNo::Stim(StimNo::Repeat { line: 5 }),
+        ),
+        ("lane\n11111\nlane\n1\n2", 5, LaneNo::Stim(width(4, 1, 5))),
+        (
+            "lane\n1\nlane\n1 * 1000000\n1\n",
+            1,
+            LaneNo::Stim(StimNo::TooManyCycles),
+        ),
+        (LANES_31, 1, LaneNo::TooMany { line: 32 }),
+        (
+            "lane\nlane\n1\n0 0\nlane\n",
+            1,
+            LaneNo::Stim(width(4, 2, 1)),
+        ),
+    ];
+    for (text, inputs, want) in texts {
+        assert_eq!(rt;
+            read_lanes(rt.alloc(), text.as_bytes(), inputs).err(),
+            Some(want)
+        );
+    }
 }
 
 /// The lines as a text: the port, `*`, the repeat, and a line end.
