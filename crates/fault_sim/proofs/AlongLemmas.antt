@@ -1,12 +1,11 @@
 -- The gates of a lane one after the other make the row that those of its netlist make.
-use Rattle.std.proofs.Common.{◌≡◌, ◌≢◌, ◌∙◌, ◌⊎◌, inl, inr, ℕ, ◌<◌, Bool, true, false, if◌then◌else◌, List, [], ◌∷◌, length, get_or, set, refl, sym, ap, ap₂, subst, arith, Option, Some, None}
+use Rattle.std.proofs.Common.{◌≡◌, ◌≢◌, ◌∙◌, ◌⊎◌, inl, inr, ℕ, Bool, true, false, if◌then◌else◌, List, [], ◌∷◌, set, refl, sym, ap, Option, Some, None}
 use Rattle.std.specs.List.{slice_get}
 use Rattle.std.proofs.lemmas.Bool.Decides.{eqb_tells}
-use Rattle.std.proofs.lemmas.List.{map-set, set-get_or}
+use Rattle.std.proofs.lemmas.List.{set-get_or}
 use Rattle.logic_four.specs.declared.V4.{V4}
 use Rattle.logic_four.specs.declared.V4.TheVariants.{Zero, One, Undef, HighZ}
-use Rattle.lane_planes.specs.declared.planes.Planes.{Planes}
-use Rattle.lane_planes.specs.Lanes.{lane_of, lane_row, forced_value}
+use Rattle.lane_planes.specs.Lanes.{forced_value}
 use Rattle.net_defs.specs.declared.netlist.Netlist.{Netlist}
 use Rattle.net_defs.specs.declared.netlist.Signal.{Signal}
 use Rattle.net_defs.specs.declared.netlist.Driver.{Driver}
@@ -18,20 +17,8 @@ use Rattle.net_defs.specs.Loops.{is_gate}
 use Rattle.ref_sim.proofs.Along.{gate_driven as gate_answers, gate_at, settle_gate, along, settle_late, settle_early, late_or}
 use Rattle.fault_sim.specs.declared.faults.Fault.{Fault}
 use Rattle.fault_sim.specs.Faults.{constant, stuck, IsFault, order_for}
-use Rattle.fault_sim.specs.Turns.{gate_driven, gate_of, settle_forced, forced_along}
-use Rattle.fault_sim.proofs.Stuck.{stuck_signal, stuck_here, stuck_else}
-use Rattle.fault_sim.proofs.BaseLemmas.{lane_at}
-
--- one gate set in all lanes
-pub gate_set : (net : Netlist) (timing : Timing) (g k : ℕ) (now forces new : List Planes) (answer force p : Planes)
-    → is_late net timing g ≡ false → g < length forces → force ≡ get_or forces g force
-    → lane_of p k ≡ forced_value (lane_of answer k) (lane_of force k) → lane_of answer k ≡ gate_of net (lane_row k now) g → new ≡ set now g p
-    → lane_row k new ≡ settle_forced net timing (lane_row k forces) (lane_row k now) g
-gate_set net timing g k now forces new answer force p early within is forced answered changed =
-    ap (lane_row k) changed
-    ∙ (map-set (λ p. lane_of p k) now g p
-    ∙ (ap (set (lane_row k now) g) (forced ∙ ap₂ forced_value answered (lane_at forces g k force is within))
-    ∙ sym (ap (λ late. if late then lane_row k now else set (lane_row k now) g (forced_value (gate_of net (lane_row k now) g) (value_at (lane_row k forces) g))) early)))
+use Rattle.fault_sim.specs.Turns.{gate_driven, gate_of, forced_along}
+use Rattle.fault_sim.proofs.Stuck.{stuck_here, stuck_else}
 
 -- a gate answers the same where its signal is the same
 gate_same : (net lane : Netlist) (row : List V4) (g : ℕ) → slice_get lane.signals g ≡ slice_get net.signals g → gate_of net row g ≡ gate_at lane row g
@@ -96,10 +83,11 @@ module _ (net : Netlist) (fault : Fault) (is : IsFault net fault) (timing : Timi
           ∙ (ap (set base fault.signal) (stuck_at base ∙ sym stuck_there) ∙ set-get_or base fault.signal Undef)
     ]
 
-    pub along_stuck : (order : List ℕ) (base : List V4) → value_at base fault.signal ≡ fault.value
+    pub along_stuck : (order : List ℕ) (base : List V4) → (is_gate net fault.signal ≡ false → value_at base fault.signal ≡ fault.value)
         → forced_along net timing forces order base ≡ along (stuck net fault) timing (order_for net fault order) base
     along_stuck order base stuck_there =
-        along_same net (stuck net fault) timing forces step_same order base ∙ by_test (is_gate net fault.signal) where
-          by_test : (test : Bool) → along (stuck net fault) timing order base ≡ along (stuck net fault) timing (if test then order else fault.signal ∷ order) base
-          by_test true = refl
-          by_test false = ap (along (stuck net fault) timing order) (sym (settled_before base stuck_there))
+        along_same net (stuck net fault) timing forces step_same order base ∙ by_test (is_gate net fault.signal) refl where
+          by_test : (test : Bool) → is_gate net fault.signal ≡ test
+              → along (stuck net fault) timing order base ≡ along (stuck net fault) timing (if test then order else fault.signal ∷ order) base
+          by_test true gate = refl
+          by_test false none = ap (along (stuck net fault) timing order) (sym (settled_before base (stuck_there none)))

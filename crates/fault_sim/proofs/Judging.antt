@@ -1,5 +1,5 @@
 -- A group of runs from one cycle to the next.
-use Rattle.std.proofs.Common.{◌≡◌, ◌≢◌, ◌∙◌, ◌⊎◌, inl, inr, ℕ, zero, suc, ◌+◌, ◌-◌, ◌*◌, ◌/◌, ◌%◌, ◌<◌, ◌≤◌, Bool, true, false, ◌&&◌, List, [], ◌∷◌, length, replicate, get_or, refl, sym, ap, ap₂, subst, arith, Option, Some, None}
+use Rattle.std.proofs.Common.{◌≡◌, ◌∙◌, inl, inr, ℕ, zero, suc, ◌+◌, ◌-◌, ◌*◌, ◌/◌, ◌<◌, ◌≤◌, Bool, true, false, ◌&&◌, List, [], ◌∷◌, length, replicate, get_or, refl, sym, ap, ap₂, subst, arith, Option, Some, None}
 use Rattle.std.specs.List.{slice_get, All, list_all}
 use Rattle.std.proofs.Math.Nat.{mul-le-mul_left}
 use Rattle.std.proofs.lemmas.Nat.{div-mul-add}
@@ -8,13 +8,12 @@ use Rattle.std.proofs.lemmas.Option.{slice_get_within, slice_get-get_or, get_or_
 use Rattle.std.proofs.lemmas.List.{get_or-replicate, length-replicate}
 use Rattle.list_laws.proofs.Members.{each}
 use Rattle.ref_sim.proofs.Simulations.{one_along}
-use Rattle.lane_planes.specs.declared.planes.Planes.{Planes}
 use Rattle.lane_planes.specs.Lanes.{lane_row}
 use Rattle.logic_four.specs.declared.V4.{V4}
 use Rattle.net_defs.specs.declared.netlist.Netlist.{Netlist}
 use Rattle.net_defs.specs.declared.timing.Timing.{Timing}
 use Rattle.net_defs.specs.declared.stimulus.Stimulus.{Stimulus}
-use Rattle.net_defs.specs.Time.{value_at, cycle_of, cycle_rows, cycle_count, turn_count, input_at}
+use Rattle.net_defs.specs.Time.{value_at, cycle_of, cycle_rows, cycle_count, turn_count}
 use Rattle.net_defs.specs.Steps.{State, values_of, IsRightStep}
 use Rattle.net_defs.specs.Loops.{IsOrder}
 use Rattle.net_defs.specs.Trace.{cells_of}
@@ -27,8 +26,8 @@ use Rattle.fault_sim.specs.declared.faults.Verdict.TheVariants.{Seen, Unseen}
 use Rattle.fault_sim.specs.declared.state.LaneState.{LaneState}
 use Rattle.fault_sim.specs.Faults.{stuck, IsFault, order_for}
 use Rattle.fault_sim.specs.Verdicts.{differs, is_seen, IsFirstSeen, Judges, AreVerdicts}
-use Rattle.fault_sim.specs.Lanes.{lane_fault, lane_net, lane_state, HasInputs}
-use Rattle.fault_sim.specs.Runs.{HasOrder, differs_in, IsFirstColumn, IsLooked, AreLooked, is_decided, are_decided, StandsInLanes, RunsTo}
+use Rattle.fault_sim.specs.Lanes.{lane_net, lane_state, HasInputs}
+use Rattle.fault_sim.specs.Runs.{HasOrder, differs_in, IsLooked, AreLooked, is_decided, are_decided, StandsInLanes, RunsTo}
 use Rattle.fault_sim.proofs.Orders.{order_serves, one_stuck}
 
 -- ---- the netlist of a lane

@@ -11,3 +11,5 @@ pub mod EdgeLemmas
 pub mod ForceLemmas
 pub mod StepLemmas
 pub mod TurnLemmas
+pub mod ProgramLemmas
+pub mod SourceLemmas

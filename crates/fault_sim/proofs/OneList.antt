@@ -1,12 +1,10 @@
 -- There is exactly one verdict on each fault.
-use Rattle.std.proofs.Common.{◌≡◌, ◌∙◌, ◌⊎◌, inl, inr, ℕ, zero, suc, ◌+◌, ◌*◌, ◌<◌, ◌≤◌, Bool, true, false, List, [], ◌∷◌, ◌++◌, length, get_or, refl, sym, ap, ap₂, subst, arith, Some}
+use Rattle.std.proofs.Common.{◌≡◌, ◌∙◌, ◌⊎◌, inl, inr, ℕ, zero, suc, ◌+◌, ◌*◌, ◌<◌, ◌≤◌, Bool, true, false, List, [], ◌∷◌, length, get_or, refl, sym, ap, ap₂, subst, arith, Some}
 use Rattle.std.specs.List.{slice_get, slice_index_or, All}
 use Rattle.std.proofs.lemmas.Bool.{cases_lt}
-use Rattle.std.proofs.lemmas.Bool.Decides.{eqb_tells}
 use Rattle.std.proofs.lemmas.Option.{slice_get_within, slice_get-get_or}
 use Rattle.std.proofs.lemmas.List.{ext_get_or}
 use Rattle.std.proofs.lemmas.List.Elements.{All-head, All-tail}
-use Rattle.list_laws.proofs.Members.{each}
 use Rattle.list_laws.proofs.Ranges.{last_or}
 use Rattle.logic_four.specs.declared.V4.{V4}
 use Rattle.logic_four.specs.declared.V4.TheVariants.{Zero}
@@ -16,14 +14,13 @@ use Rattle.net_defs.specs.declared.stimulus.Stimulus.{Stimulus}
 use Rattle.net_defs.specs.Time.{cycle_count}
 use Rattle.net_defs.specs.Steps.{State}
 use Rattle.net_defs.specs.Loops.{IsOrder, IsCircle}
-use Rattle.net_defs.specs.Reference.{IsSimulation, HasOneSimulation}
 use Rattle.rank_find.proofs.Existence.{order_or_loop}
 use Rattle.ref_sim.proofs.Simulations.{one_along}
 use Rattle.fault_sim.specs.declared.faults.Fault.{Fault}
 use Rattle.fault_sim.specs.declared.faults.Verdict.{Verdict}
 use Rattle.fault_sim.specs.declared.faults.Verdict.TheVariants.{Seen, Unseen}
-use Rattle.fault_sim.specs.Faults.{stuck, IsFault, all_faults}
-use Rattle.fault_sim.specs.Verdicts.{is_seen, IsFirstSeen, Judges, IsVerdict, AreVerdicts, AreAllVerdicts, HasOneList}
+use Rattle.fault_sim.specs.Faults.{IsFault, all_faults}
+use Rattle.fault_sim.specs.Verdicts.{is_seen, Judges, IsVerdict, AreVerdicts, HasOneList}
 use Rattle.fault_sim.specs.Runs.{differs_in, IsFirstColumn, IsLooked}
 use Rattle.fault_sim.proofs.Orders.{one_stuck}
 use Rattle.fault_sim.proofs.Looking.{differs_past}

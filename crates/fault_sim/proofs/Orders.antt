@@ -1,6 +1,6 @@
 -- An order of the netlist serves the faulty one, where the stuck signal waits for nothing.
-use Rattle.std.proofs.Common.{◌≡◌, ◌≢◌, ◌∙◌, ◌⊎◌, inl, inr, ℕ, zero, suc, ◌<◌, Bool, true, false, if◌then◌else◌, List, [], ◌∷◌, length, take, get_or, refl, sym, ap, subst, arith, Option, Some, None}
-use Rattle.std.specs.List.{slice_get, Contains, All}
+use Rattle.std.proofs.Common.{◌≡◌, ◌≢◌, ◌∙◌, ◌⊎◌, inl, inr, ℕ, zero, suc, ◌<◌, Bool, true, false, if◌then◌else◌, List, [], ◌∷◌, length, take, get_or, refl, sym, ap, subst, arith}
+use Rattle.std.specs.List.{Contains}
 use Rattle.std.proofs.lemmas.Bool.Decides.{eqb_tells}
 use Rattle.std.proofs.lemmas.List.Kept.{AllPairs-cons}
 use Rattle.std.proofs.lemmas.List.Elements.{All-cons}
@@ -13,11 +13,10 @@ use Rattle.net_defs.specs.Steps.{is_late}
 use Rattle.net_defs.specs.Loops.{is_gate, IsGate, is_gate_driver, gate_operands, waits_for, IsOrder, IsCircle}
 use Rattle.net_defs.specs.Reference.{HasOneSimulation}
 use Rattle.rank_find.proofs.Existence.{order_or_loop}
-use Rattle.ref_sim.proofs.Along.{late_or}
 use Rattle.ref_sim.proofs.Simulations.{one_along}
 use Rattle.fault_sim.specs.declared.faults.Fault.{Fault}
 use Rattle.fault_sim.specs.Faults.{constant, stuck, IsFault, order_for}
-use Rattle.fault_sim.proofs.Stuck.{stuck_signal, stuck_here, stuck_else}
+use Rattle.fault_sim.proofs.Stuck.{stuck_here, stuck_else}
 
 constant_is_gate : (v : V4) → is_gate_driver (constant v) ≡ true
 constant_is_gate Zero = refl

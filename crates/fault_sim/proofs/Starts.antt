@@ -1,23 +1,20 @@
 -- The state before the first turn, lane by lane.
-use Rattle.std.proofs.Common.{◌≡◌, ◌∙◌, ℕ, zero, suc, ◌+◌, ◌<◌, ◌≤◌, List, [], length, map, replicate, get_or, refl, sym, ap, ap₂, subst, arith, Option, Some, None}
+use Rattle.std.proofs.Common.{◌≡◌, ◌∙◌, ℕ, zero, suc, ◌<◌, ◌≤◌, List, [], length, map, replicate, get_or, refl, sym, ap, ap₂, subst, arith, Option, Some, None}
 use Rattle.std.specs.List.{slice_get}
 use Rattle.std.proofs.lemmas.Option.{slice_get_within, get_or_from_slice_get}
 use Rattle.std.proofs.lemmas.List.{length-map, length-replicate, length-set, get_or-map, get_or-replicate, ext_get_or}
 use Rattle.logic_four.specs.declared.V4.{V4}
 use Rattle.logic_four.specs.declared.V4.TheVariants.{Undef}
-use Rattle.logic_four.specs.Memory.{initial_words, HasShape}
+use Rattle.logic_four.specs.Memory.{initial_words}
 use Rattle.logic_four.proofs.MemoryLemmas.{first_shape}
 use Rattle.lane_planes.specs.declared.planes.Planes.{Planes}
 use Rattle.lane_planes.specs.Lanes.{lane_of, lane_row}
 use Rattle.net_defs.specs.declared.netlist.Netlist.{Netlist}
-use Rattle.net_defs.specs.declared.netlist.Block.{Block}
 use Rattle.net_defs.specs.declared.timing.Timing.{Timing}
 use Rattle.net_defs.specs.declared.stimulus.Stimulus.{Stimulus}
 use Rattle.net_defs.specs.Time.{initial_value}
 use Rattle.net_defs.specs.Steps.{State, first_state}
-use Rattle.net_defs.specs.Reference.{IsSimulation}
 use Rattle.ref_sim.specs.States.{initial_memories, AreShaped}
-use Rattle.ref_sim.specs.Runs.{StandsAt}
 use Rattle.fault_sim.specs.declared.faults.Fault.{Fault}
 use Rattle.fault_sim.specs.declared.state.LaneState.{LaneState}
 use Rattle.fault_sim.specs.Lanes.{lane_net, lane_state}

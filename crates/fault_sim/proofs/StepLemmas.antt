@@ -1,9 +1,9 @@
 -- The row of a lane after a turn is that of a right step of the lane's netlist.
-use Rattle.std.proofs.Common.{◌≡◌, ◌≢◌, ◌∙◌, ◌⊎◌, inl, inr, ℕ, ◌<◌, Bool, true, false, ◌==◌, if◌then◌else◌, List, [], ◌∷◌, length, refl, sym, ap, subst, arith, Some}
+use Rattle.std.proofs.Common.{◌≡◌, ◌≢◌, ◌∙◌, ◌⊎◌, inl, inr, ℕ, Bool, true, false, ◌==◌, if◌then◌else◌, List, [], length, refl, sym, ap, subst, Some}
 use Rattle.std.specs.List.{slice_get}
 use Rattle.std.proofs.lemmas.Bool.Decides.{eqb_tells}
 use Rattle.std.proofs.lemmas.Option.{slice_get_within}
-use Rattle.list_laws.proofs.Places.{one_there}
+use Rattle.list_laws.proofs.Places.{one_there, place_of}
 use Rattle.logic_four.specs.declared.V4.{V4}
 use Rattle.logic_four.specs.declared.V4.TheVariants.{Zero, One, Undef, HighZ}
 use Rattle.logic_four.specs.declared.Kind.TheVariants.{And, Or}
@@ -24,18 +24,21 @@ use Rattle.fault_sim.specs.declared.faults.Fault.{Fault}
 use Rattle.fault_sim.specs.Faults.{constant, stuck, IsFault, order_for}
 use Rattle.fault_sim.specs.Lanes.{HasInputs}
 use Rattle.fault_sim.specs.Turns.{base_value, AreBases, forced_along}
+use Rattle.fault_sim.specs.Programs.{AreSources}
 use Rattle.fault_sim.proofs.Stuck.{stuck_signal, stuck_here, stuck_else, stuck_long, constant_gives}
-use Rattle.fault_sim.proofs.Orders.{order_serves}
+use Rattle.fault_sim.proofs.Orders.{gate_else, order_serves}
+use Rattle.fault_sim.proofs.SourceLemmas.{source_is}
 use Rattle.fault_sim.proofs.AlongLemmas.{along_free, forced_known, along_stuck}
 
 -- a signal that isn't stuck, in the netlist of a lane
 module _ (net : Netlist) (timing : Timing) (stimulus : Stimulus) (turn : ℕ) (inputs : List V4) (given : HasInputs timing stimulus turn inputs) (old new : State)
     (order : List ℕ) (is_order : IsOrder net timing order) (base : List V4) (long : length base ≡ length net.signals) (row_is : new.row ≡ along net timing order base)
-    (s : ℕ) (signal : Signal) (is : slice_get net.signals s ≡ Some signal) (here : V4) (base_is : value_at base s ≡ base_value timing turn inputs old.row here s signal.driver)
+    (s : ℕ) (signal : Signal) (is : slice_get net.signals s ≡ Some signal) (here : V4)
+    (base_is : (IsGate net s → is_late net timing s ≡ true) → value_at base s ≡ base_value timing turn inputs old.row here s signal.driver)
     (answered : (memory bit : ℕ) → signal.driver ≡ BlockBit memory bit → is_edge timing.units turn ≡ true → here ≡ output_bit net old memory bit) where
   kept : (driver : Driver) → signal.driver ≡ driver → (IsGate net s → is_late net timing s ≡ true) → value_at new.row s ≡ base_value timing turn inputs old.row here s driver
   kept driver at other =
-      ap (λ r. value_at r s) row_is ∙ (along_keeps net timing order is_order base long s other ∙ (base_is ∙ ap (base_value timing turn inputs old.row here s) at))
+      ap (λ r. value_at r s) row_is ∙ (along_keeps net timing order is_order base long s other ∙ (base_is other ∙ ap (base_value timing turn inputs old.row here s) at))
 
   no_gate : (driver : Driver) → signal.driver ≡ driver → is_gate_driver driver ≡ false → IsGate net s → is_late net timing s ≡ true
   no_gate driver at none gate = let is_none : is_gate net s ≡ is_gate_driver driver = rw (is, at) refl in cc
@@ -73,17 +76,25 @@ module _ (net : Netlist) (timing : Timing) (stimulus : Stimulus) (turn : ℕ) (i
 -- a lane after a turn: `here` is what stood there before the bases
 module _ (net : Netlist) (timing : Timing) (stimulus : Stimulus) (turn : ℕ) (inputs : List V4) (given : HasInputs timing stimulus turn inputs) (old new : State)
     (order : List ℕ) (is_order : IsOrder net timing order) (here forces base : List V4) (long : length here ≡ length net.signals)
-    (bases : AreBases net timing turn inputs old.row here forces (length net.signals) base) (row_is : new.row ≡ forced_along net timing forces order base)
+    (sources : List ℕ) (are_sources : AreSources net timing (length net.signals) sources)
+    (bases : AreBases net timing turn inputs old.row here forces sources (length sources) base) (row_is : new.row ≡ forced_along net timing forces order base)
     (answered : is_edge timing.units turn ≡ true → (s memory bit : ℕ) (signal : Signal) → slice_get net.signals s ≡ Some signal → signal.driver ≡ BlockBit memory bit → value_at here s ≡ output_bit net old memory bit)
     (memories : length new.words ≡ length net.blocks)
     (words : (m : ℕ) (memory : Block) → slice_get net.blocks m ≡ Some memory → words_of new m ≡ words_after timing turn old memory (words_of old m)) where
+  -- what a source has
+  base_at : (s : ℕ) (signal : Signal) → (IsGate net s → is_late net timing s ≡ true) → slice_get net.signals s ≡ Some signal
+      → value_at base s ≡ forced_value (base_value timing turn inputs old.row (value_at here s) s signal.driver) (value_at forces s)
+  base_at s signal other is =
+      let at = place_of sources s (are_sources.whole s (slice_get_within net.signals s signal is) (source_is net timing s other)) in
+      subst (λ t. slice_get net.signals t ≡ Some signal → value_at base t ≡ forced_value (base_value timing turn inputs old.row (value_at here t) t signal.driver) (value_at forces t)) at.2 (bases.made at.0 signal at.1) is
+
   -- the good design
   pub good_step : ((g : ℕ) → value_at forces g ≡ Undef) → IsRightStep net timing stimulus turn old new
   good_step free = record {
     signals = ap length row ∙ (along_length net timing order is_order base base_long ∙ base_long);
     values = λ s signal is.
         plain net timing stimulus turn inputs given old new order is_order base base_long row s signal is (value_at here s)
-        (bases.made s signal (slice_get_within net.signals s signal is) is ∙ ap (forced_value (base_value timing turn inputs old.row (value_at here s) s signal.driver)) (free s))
+        (λ other. base_at s signal other is ∙ ap (forced_value (base_value timing turn inputs old.row (value_at here s) s signal.driver)) (free s))
         (λ memory bit at edge. answered edge s memory bit signal is at);
     memories = memories;
     words = words;
@@ -106,9 +117,9 @@ module _ (net : Netlist) (timing : Timing) (stimulus : Stimulus) (turn : ℕ) (i
     base_long : length base ≡ length lane.signals
     base_long = bases.long ∙ (long ∙ sym (stuck_long net fault is))
 
-    base_stuck : value_at base fault.signal ≡ fault.value
-    base_stuck =
-        bases.made fault.signal signal is.signal there
+    base_stuck : (IsGate net fault.signal → is_late net timing fault.signal ≡ true) → value_at base fault.signal ≡ fault.value
+    base_stuck other =
+        base_at fault.signal signal other there
         ∙ (ap (forced_value (base_value timing turn inputs old.row (value_at here fault.signal) fault.signal signal.driver)) stuck_there
         ∙ forced_known (base_value timing turn inputs old.row (value_at here fault.signal) fault.signal signal.driver) fault.value is.value)
 
@@ -116,7 +127,7 @@ module _ (net : Netlist) (timing : Timing) (stimulus : Stimulus) (turn : ℕ) (i
     serves = order_serves net fault is timing order is_order
 
     row : new.row ≡ along lane timing lane_order base
-    row = row_is ∙ along_stuck net fault is timing forces stuck_there free order base base_stuck
+    row = row_is ∙ along_stuck net fault is timing forces stuck_there free order base (λ none. base_stuck (λ gate. let there : is_gate net fault.signal ≡ true = gate in cc))
 
     gives : (v : V4) → fault.value ≡ v → (v ≡ Zero) ⊎ (v ≡ One) → is_late lane timing fault.signal ≡ false → value_at (along lane timing lane_order base) fault.signal ≡ v
     gives Zero at known early = along_gate lane timing lane_order serves base base_long fault.signal (stuck_signal net fault) Or [] (stuck_here net fault is) (ap constant at) early
@@ -126,7 +137,7 @@ module _ (net : Netlist) (timing : Timing) (stimulus : Stimulus) (turn : ℕ) (i
 
     stays : value_at new.row fault.signal ≡ fault.value
     stays = ap (λ r. value_at r fault.signal) row ∙ elim (late_or lane timing fault.signal) [
-      | inl late ↦ along_keeps lane timing lane_order serves base base_long fault.signal (λ _. late) ∙ base_stuck
+      | inl late ↦ along_keeps lane timing lane_order serves base base_long fault.signal (λ _. late) ∙ base_stuck (λ _. late)
       | inr early ↦ gives fault.value refl is.value early
     ]
 
@@ -139,7 +150,7 @@ module _ (net : Netlist) (timing : Timing) (stimulus : Stimulus) (turn : ℕ) (i
       | inr h ↦
           let at_net : slice_get net.signals s ≡ Some one = sym (stuck_else net fault is s h.1) ∙ at in
           plain lane timing stimulus turn inputs given old new lane_order serves base base_long row s one at (value_at here s)
-          (bases.made s one (slice_get_within net.signals s one at_net) at_net ∙ ap (forced_value (base_value timing turn inputs old.row (value_at here s) s one.driver)) (free s h.1))
+          (λ other. base_at s one (λ gate. other (gate_else net fault is s h.1 ∙ gate)) at_net ∙ ap (forced_value (base_value timing turn inputs old.row (value_at here s) s one.driver)) (free s h.1))
           (λ memory bit driver edge. answered edge s memory bit one at_net driver)
     ]
 

@@ -1,5 +1,5 @@
 -- A turn of all lanes, lane by lane.
-use Rattle.std.proofs.Common.{◌≡◌, ◌≢◌, ◌∙◌, inl, inr, ℕ, zero, suc, ◌+◌, ◌<◌, ◌≤◌, Bool, true, false, ◌==◌, if◌then◌else◌, slice_index_or, List, [], length, refl, sym, ap, subst, arith, Option, Some, None}
+use Rattle.std.proofs.Common.{◌≡◌, ◌≢◌, ◌∙◌, inl, inr, ℕ, zero, suc, ◌≤◌, Bool, true, false, ◌==◌, if◌then◌else◌, slice_index_or, List, [], length, refl, sym, ap, arith, Option, Some, None}
 use Rattle.std.specs.List.{slice_get, All}
 use Rattle.std.proofs.lemmas.Bool.Decides.{eqb_tells}
 use Rattle.std.proofs.lemmas.Option.{slice_get_within}
@@ -17,14 +17,14 @@ use Rattle.net_defs.specs.declared.timing.Timing.{Timing}
 use Rattle.net_defs.specs.declared.stimulus.Stimulus.{Stimulus}
 use Rattle.net_defs.specs.Time.{value_at, is_edge}
 use Rattle.net_defs.specs.Steps.{State, output_bit, act_of, words_of, words_after, IsRightStep}
-use Rattle.net_defs.specs.Valid.{IsValid, IsDrivable}
 use Rattle.net_defs.specs.Loops.{IsOrder}
 use Rattle.ref_sim.specs.States.{AreShaped}
 use Rattle.fault_sim.specs.declared.faults.Fault.{Fault}
 use Rattle.fault_sim.specs.declared.state.LaneState.{LaneState}
 use Rattle.fault_sim.specs.Faults.{IsFault}
 use Rattle.fault_sim.specs.Lanes.{lane_net, force_at, HasInputs, AreForces}
-use Rattle.fault_sim.specs.Turns.{AreBases, forced_along, HasAnswered, AreActed}
+use Rattle.fault_sim.specs.Turns.{AreBases, forced_along, AreActed}
+use Rattle.fault_sim.specs.Programs.{AreSources}
 use Rattle.fault_sim.proofs.EdgeLemmas.{shaped_after}
 use Rattle.fault_sim.proofs.StepLemmas.{good_step, faulty_step}
 
@@ -49,20 +49,21 @@ module _ (faults : List Fault) (k : ℕ) (fault : Fault) (found : slice_get faul
 pub lane_step : (net : Netlist) (timing : Timing) (stimulus : Stimulus) (turn : ℕ) (inputs : List V4) (given : HasInputs timing stimulus turn inputs) (old new : State)
     (order : List ℕ) (is_order : IsOrder net timing order) (faults : List Fault) (are : All (IsFault net) faults) (forces : List Planes) (are_forces : AreForces net faults forces) (l : ℕ) (low : l ≤ length faults)
     (here base : List V4) (long : length here ≡ length net.signals)
-    (bases : AreBases net timing turn inputs old.row here (lane_row l forces) (length net.signals) base) (row_is : new.row ≡ forced_along net timing (lane_row l forces) order base)
+    (sources : List ℕ) (are_sources : AreSources net timing (length net.signals) sources)
+    (bases : AreBases net timing turn inputs old.row here (lane_row l forces) sources (length sources) base) (row_is : new.row ≡ forced_along net timing (lane_row l forces) order base)
     (answered : is_edge timing.units turn ≡ true → (s memory bit : ℕ) (signal : Signal) → slice_get net.signals s ≡ Some signal → signal.driver ≡ BlockBit memory bit → value_at here s ≡ output_bit net old memory bit)
     (memories : length new.words ≡ length net.blocks)
     (words : (m : ℕ) (memory : Block) → slice_get net.blocks m ≡ Some memory → words_of new m ≡ words_after timing turn old memory (words_of old m))
     → IsRightStep (lane_net net faults l) timing stimulus turn old new
-lane_step net timing stimulus turn inputs given old new order is_order faults are forces are_forces zero low here base long bases row_is answered memories words =
-    good_step net timing stimulus turn inputs given old new order is_order here (lane_row 0 forces) base long bases row_is answered memories words (are_forces.each 0 low)
-lane_step net timing stimulus turn inputs given old new order is_order faults are forces are_forces (suc k) low here base long bases row_is answered memories words =
+lane_step net timing stimulus turn inputs given old new order is_order faults are forces are_forces zero low here base long sources are_sources bases row_is answered memories words =
+    good_step net timing stimulus turn inputs given old new order is_order here (lane_row 0 forces) base long sources are_sources bases row_is answered memories words (are_forces.each 0 low)
+lane_step net timing stimulus turn inputs given old new order is_order faults are forces are_forces (suc k) low here base long sources are_sources bases row_is answered memories words =
     by_fault (slice_get faults k) refl where
       by_signal : (fault : Fault) → slice_get faults k ≡ Some fault → IsFault net fault → (signal : Option Signal) → slice_get net.signals fault.signal ≡ signal → IsRightStep (lane_net net faults (suc k)) timing stimulus turn old new
       by_signal fault at is None none = absurd (within_some net.signals fault.signal is.signal none)
       by_signal fault at is (Some signal) there =
           rw at
-          (faulty_step net timing stimulus turn inputs given old new order is_order here (lane_row (suc k) forces) base long bases row_is answered memories words fault is
+          (faulty_step net timing stimulus turn inputs given old new order is_order here (lane_row (suc k) forces) base long sources are_sources bases row_is answered memories words fault is
           (are_forces.each (suc k) low fault.signal ∙ forced_there faults k fault at) (λ g other. are_forces.each (suc k) low g ∙ forced_free faults k fault at g other) signal there)
 
       by_fault : (found : Option Fault) → slice_get faults k ≡ found → IsRightStep (lane_net net faults (suc k)) timing stimulus turn old new

@@ -4,3 +4,4 @@ pub mod Lanes
 pub mod Runs
 pub mod Turns
 pub mod Groups
+pub mod Programs

@@ -1,5 +1,5 @@
 -- A group of runs side by side, cycle by cycle.
-use Rattle.std.specs.Prelude.{◌≡◌, ◌≢◌, ℕ, ◌+◌, ◌*◌, ◌<◌, ◌≤◌, Bool, true, false, List, [], length, Option, Some, None, slice_get, slice_index_or}
+use Rattle.std.specs.Prelude.{◌≡◌, ℕ, ◌+◌, ◌*◌, ◌<◌, ◌≤◌, Bool, true, false, List, length, Option, Some, None, slice_get}
 use Rattle.std.specs.List.{list_all}
 use Rattle.logic_four.specs.declared.V4.{V4}
 use Rattle.lane_planes.specs.declared.planes.Planes.{Planes}

@@ -1,13 +1,14 @@
 -- One turn of many runs side by side: what each signal has before the gates take their values, and the
 -- gates one after the other, where a stuck signal keeps its value.
-use Rattle.std.specs.Prelude.{◌≡◌, ℕ, ◌+◌, ◌<◌, ◌≤◌, true, false, if◌then◌else◌, List, [], length, Option, Some, None, slice_get, slice_set, slice_index_or, fold}
+use Rattle.std.specs.Prelude.{◌≡◌, ℕ, ◌<◌, ◌≤◌, true, false, if◌then◌else◌, List, [], ◌∷◌, ◌++◌, length, Option, Some, None, slice_get, slice_set, slice_index, slice_index_or, fold}
+use Rattle.std.specs.List.{flat_map}
 use Rattle.logic_four.specs.declared.V4.{V4}
 use Rattle.logic_four.specs.Values.{settled}
 use Rattle.logic_four.specs.Gates.{gate_value}
-use Rattle.lane_planes.specs.declared.planes.Planes.{Planes}
 use Rattle.lane_planes.specs.Lanes.{lane_row, forced_value}
 use Rattle.net_defs.specs.declared.netlist.Netlist.{Netlist}
 use Rattle.net_defs.specs.declared.netlist.Signal.{Signal}
+use Rattle.net_defs.specs.declared.netlist.Block.{Block}
 use Rattle.net_defs.specs.declared.netlist.Driver.{Driver}
 use Rattle.net_defs.specs.declared.netlist.Driver.TheVariants.{Input, Gate, Dff, BlockBit}
 use Rattle.net_defs.specs.declared.timing.Timing.{Timing}
@@ -29,13 +30,13 @@ base_value timing turn inputs last here s (Gate kind ops) =
 base_value timing turn inputs last here s (Dff op) = registered timing turn (settled (value_at last op)) (value_at last s)
 base_value timing turn inputs last here s (BlockBit memory bit) = registered timing turn here (value_at last s)
 
--- the first so many signals have that, or what they are stuck at, in one lane
-pub record AreBases (net : Netlist) (timing : Timing) (turn : ℕ) (inputs last here forces : List V4) (n : ℕ) (row : List V4) : Type 0 where
+-- the first so many signals of a list have that, or what they are stuck at, in one lane
+pub record AreBases (net : Netlist) (timing : Timing) (turn : ℕ) (inputs last here forces : List V4) (list : List ℕ) (n : ℕ) (row : List V4) : Type 0 where
   pub long : length row ≡ length here
   pub made :
-      (s : ℕ) (signal : Signal) → s < n → slice_get net.signals s ≡ Some signal
-      → value_at row s ≡ forced_value (base_value timing turn inputs last (value_at here s) s signal.driver) (value_at forces s)
-  pub left : (s : ℕ) → n ≤ s → value_at row s ≡ value_at here s
+      (k : ℕ) (signal : Signal) → k < n → slice_get net.signals (slice_index list k) ≡ Some signal
+      → value_at row (slice_index list k) ≡ forced_value (base_value timing turn inputs last (value_at here (slice_index list k)) (slice_index list k) signal.driver) (value_at forces (slice_index list k))
+  pub left : (s : ℕ) → ((k : ℕ) → k < n → slice_index list k ≡ s → ⊥) → value_at row s ≡ value_at here s
 
 -- what a gate answers over a row; what is no gate keeps its value
 abbrev pub gate_driven : List V4 → ℕ → Driver → V4
@@ -59,10 +60,23 @@ settle_forced net timing forces row g =
 abbrev pub forced_along : Netlist → Timing → List V4 → List ℕ → List V4 → List V4
 forced_along net timing forces order row = fold (settle_forced net timing forces) row order
 
+-- what a memory reads
+abbrev pub reads_of : Block → List ℕ
+reads_of memory = memory.we ∷ memory.address ++ memory.word
+
+-- what all memories read, and what they drive
+abbrev pub memory_reads : Netlist → List ℕ
+memory_reads net = flat_map reads_of net.blocks
+
+abbrev pub memory_outs : Netlist → List ℕ
+memory_outs net = flat_map (λ memory. memory.outs) net.blocks
+
 -- room for what the memories of one lane take at an edge
 pub record IsRoom (net : Netlist) (room : EdgeRoom) : Type 0 where
   pub values : length room.values ≡ place_count net
   pub ports : ArePorts net room.ports
+  pub reads : room.reads ≡ memory_reads net
+  pub outs : room.outs ≡ memory_outs net
 
 -- the outputs and the words of the memories of one lane after an edge
 pub record HasAnswered (net : Netlist) (old : State) (row : List V4) (memories : List (List (List V4))) : Type 0 where

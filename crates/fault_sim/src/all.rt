@@ -5,9 +5,11 @@ ghost use Rattle.net_defs.specs.Valid.{IsValid, IsValidTiming, IsValidStimulus};
 ghost use Rattle.net_defs.specs.Loops.{AreRanks};
 ghost use Rattle.fault_sim.specs.Faults.{faults_from};
 ghost use Rattle.fault_sim.specs.Verdicts.{AreAllVerdicts, AreVerdicts, IsNamed};
+ghost use Rattle.fault_sim.specs.Programs.{IsSchedule};
 ghost use Rattle.fault_sim.specs.Groups.{group_faults, IsGroup, AreGroups, IsDone, IsRun, AreRun};
 
-use crate::group::fault_group;
+use crate::group::scheduled_group;
+use crate::schedule::{Schedule, make_schedule};
 use crate::{Fault, Verdict};
 use logic_four::V4;
 use net_defs::{Netlist, Ranks, Stimulus, Timing};
@@ -45,13 +47,14 @@ pub fn fault_all<R: Threads + Sync>(
     ensures verdicts { IfOk result (AreAllVerdicts net.now timing.now stim.now) }
     ensures named { IfOk result (All (IsNamed net.now stim.now)) }
 {
+    let schedule = make_schedule(alloc, net, timing, ranks.order.as_slice())?;
     let mut groups = make_groups(alloc, net)?;
     run_groups(
         rt,
         alloc,
         groups.as_mut_slice(),
         net,
-        ranks,
+        &schedule,
         timing,
         stim,
         workers,
@@ -65,14 +68,14 @@ fn run_groups<R: Threads + Sync>(
     alloc: Global,
     groups: &mut [Group],
     net: &Netlist,
-    ranks: &Ranks,
+    schedule: &Schedule,
     timing: &Timing,
     stim: &Stimulus,
     workers: u32,
 )
     requires valid { IsValid net.now }
     requires timing { IsValidTiming timing.now }
-    requires ranks { AreRanks net.now timing.now ranks.now }
+    requires schedule { IsSchedule net.now timing.now schedule.now }
     requires stimulus { IsValidStimulus stim.now }
     requires workers { 1 ≤ workers }
     requires groups { All (IsGroup net.now) groups.old }
@@ -82,7 +85,7 @@ fn run_groups<R: Threads + Sync>(
         rt,
         groups,
         workers as usize,
-        &|_, group| { run_group(alloc, net, ranks, timing, stim, group) },
+        &|_, group| { run_group(alloc, net, schedule, timing, stim, group) },
     );
 }
 
@@ -90,19 +93,19 @@ fn run_groups<R: Threads + Sync>(
 fn run_group(
     alloc: Global,
     net: &Netlist,
-    ranks: &Ranks,
+    schedule: &Schedule,
     timing: &Timing,
     stim: &Stimulus,
     group: &mut Group,
 )
     requires valid { IsValid net.now }
     requires timing { IsValidTiming timing.now }
-    requires ranks { AreRanks net.now timing.now ranks.now }
+    requires schedule { IsSchedule net.now timing.now schedule.now }
     requires stimulus { IsValidStimulus stim.now }
     requires group { IsGroup net.now group.old }
     ensures { IsRun net.now timing.now stim.now group.old group.new }
 {
-    match fault_group(alloc, net, ranks, timing, stim, group.faults.as_slice()) {
+    match scheduled_group(alloc, net, timing, stim, schedule, group.faults.as_slice()) {
         Ok(verdicts) => {
             group.verdicts = verdicts;
             group.is_done = true;

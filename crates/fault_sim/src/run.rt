@@ -4,15 +4,16 @@ ghost use Rattle.std.specs.Prelude.{◌≡◌, ◌+◌, ◌*◌, ◌<◌, ◌≤
 ghost use Rattle.limits.specs.declared.TheConstants.{MAX_CYCLES};
 ghost use Rattle.net_defs.specs.declared.stimulus.Stimulus.{Stimulus};
 ghost use Rattle.net_defs.specs.Time.{cycle_rows, cycle_count};
-ghost use Rattle.net_defs.specs.Loops.{IsOrder};
 ghost use Rattle.net_defs.specs.Valid.{IsValid, IsValidTiming, IsValidStimulus};
 ghost use Rattle.fault_sim.specs.Faults.{IsFault};
 ghost use Rattle.fault_sim.specs.Lanes.{IsReady, AreForces};
 ghost use Rattle.fault_sim.specs.Turns.{IsRoom};
+ghost use Rattle.fault_sim.specs.Programs.{IsSchedule};
 ghost use Rattle.fault_sim.specs.Runs.{StandsInLanes, RunsTo};
 
 use crate::edge::EdgeRoom;
 use crate::look::{are_decided, look};
+use crate::schedule::Schedule;
 use crate::state::LaneState;
 use crate::turn::turn;
 use crate::{Fault, Verdict};
@@ -29,13 +30,13 @@ pub(crate) fn run(
     net: &Netlist,
     timing: &Timing,
     stim: &Stimulus,
-    order: &[u32],
+    schedule: &Schedule,
     faults: &[Fault],
     forces: &[Planes],
 )
     requires valid { IsValid net.now }
     requires timing { IsValidTiming timing.now }
-    requires order { IsOrder net.now timing.now order.now }
+    requires schedule { IsSchedule net.now timing.now schedule.now }
     requires stimulus { IsValidStimulus stim.now }
     requires few { length faults.now ≤ 29 }
     requires faults { All (IsFault net.now) faults.now }
@@ -50,7 +51,7 @@ pub(crate) fn run(
     let mut begun = 0;
     'rows: for row in stim.rows.as_slice() {
         run_row(
-            verdicts, state, room, net, timing, order, faults, forces, row, begun,
+            verdicts, state, room, net, timing, schedule, faults, forces, row, begun,
         );
         begun += row.times;
     }
@@ -63,7 +64,7 @@ fn run_row(
     room: &mut EdgeRoom,
     net: &Netlist,
     timing: &Timing,
-    order: &[u32],
+    schedule: &Schedule,
     faults: &[Fault],
     forces: &[Planes],
     row: &StimRow,
@@ -71,7 +72,7 @@ fn run_row(
 )
     requires valid { IsValid net.now }
     requires timing { IsValidTiming timing.now }
-    requires order { IsOrder net.now timing.now order.now }
+    requires schedule { IsSchedule net.now timing.now schedule.now }
     requires few { length faults.now ≤ 29 }
     requires faults { All (IsFault net.now) faults.now }
     requires forces { AreForces net.now faults.now forces.now }
@@ -98,7 +99,7 @@ fn run_row(
             room,
             net,
             timing,
-            order,
+            schedule,
             faults,
             forces,
             row.values.as_slice(),
@@ -114,7 +115,7 @@ fn run_cycle(
     room: &mut EdgeRoom,
     net: &Netlist,
     timing: &Timing,
-    order: &[u32],
+    schedule: &Schedule,
     faults: &[Fault],
     forces: &[Planes],
     inputs: &[V4],
@@ -122,7 +123,7 @@ fn run_cycle(
 )
     requires valid { IsValid net.now }
     requires timing { IsValidTiming timing.now }
-    requires order { IsOrder net.now timing.now order.now }
+    requires schedule { IsSchedule net.now timing.now schedule.now }
     requires few { length faults.now ≤ 29 }
     requires faults { All (IsFault net.now) faults.now }
     requires forces { AreForces net.now faults.now forces.now }
@@ -143,7 +144,7 @@ fn run_cycle(
             room,
             net,
             timing,
-            order,
+            schedule,
             faults,
             forces,
             begun + place + 1,

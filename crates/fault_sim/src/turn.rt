@@ -2,21 +2,23 @@
 
 ghost use Rattle.std.specs.Prelude.{◌≡◌, ◌<◌, ◌≤◌, ℕ, length, All};
 ghost use Rattle.net_defs.specs.declared.stimulus.Stimulus.{Stimulus};
-ghost use Rattle.net_defs.specs.Loops.{IsGate, IsOrder};
 ghost use Rattle.net_defs.specs.Steps.{IsRightStep};
-ghost use Rattle.net_defs.specs.Valid.{IsValid, IsValidTiming, IsDrivable, IsSignal};
-ghost use Rattle.lane_planes.specs.Lanes.{lane_of, lane_row};
+ghost use Rattle.net_defs.specs.Valid.{IsValid, IsValidTiming};
+ghost use Rattle.lane_planes.specs.Lanes.{lane_row};
 ghost use Rattle.fault_sim.specs.Faults.{IsFault};
 ghost use Rattle.fault_sim.specs.Lanes.{lane_net, lane_state, IsReady, AreForces, HasInputs};
-ghost use Rattle.fault_sim.specs.Turns.{gate_of, settle_forced, forced_along, IsRoom, AreActed};
+ghost use Rattle.fault_sim.specs.Turns.{IsRoom, AreActed};
+ghost use Rattle.fault_sim.specs.Programs.{follow_forced, IsWithin, IsSchedule};
 
 use crate::Fault;
 use crate::base::set_bases;
 use crate::edge::{EdgeRoom, edge_lanes};
+use crate::program::do_ops;
+use crate::schedule::Schedule;
 use crate::state::LaneState;
-use lane_planes::{Planes, forced, gate_over};
+use lane_planes::Planes;
 use logic_four::V4;
-use net_defs::{Driver, Netlist, Timing, is_edge, is_late};
+use net_defs::{Netlist, Timing, is_edge};
 use seen_list::List;
 
 /// Takes each lane through a turn, counted from 1. `forces` says what each signal is stuck at, lane by
@@ -26,7 +28,7 @@ pub(crate) fn turn(
     room: &mut EdgeRoom,
     net: &Netlist,
     timing: &Timing,
-    order: &[u32],
+    schedule: &Schedule,
     faults: &[Fault],
     forces: &[Planes],
     turn: u32,
@@ -34,7 +36,7 @@ pub(crate) fn turn(
 )
     requires valid { IsValid net.now }
     requires timing { IsValidTiming timing.now }
-    requires order { IsOrder net.now timing.now order.now }
+    requires schedule { IsSchedule net.now timing.now schedule.now }
     requires few { length faults.now ≤ 29 }
     requires faults { All (IsFault net.now) faults.now }
     requires forces { AreForces net.now faults.now forces.now }
@@ -53,11 +55,12 @@ pub(crate) fn turn(
         state.last.as_slice(),
         net,
         timing,
+        schedule.sources.as_slice(),
         forces,
         turn,
         inputs,
     );
-    set_gates(&mut state.now, net, timing, order, forces);
+    set_gates(&mut state.now, schedule, forces);
 }
 
 /// Keeps the values as those of the last turn.
@@ -100,51 +103,11 @@ fn if_edge(
 }
 
 /// Gives the gates that are not late their values, each after its operands.
-fn set_gates(
-    now: &mut List<Planes>,
-    net: &Netlist,
-    timing: &Timing,
-    order: &[u32],
-    forces: &[Planes],
-)
-    requires valid { IsValid net.now }
-    requires timing { IsValidTiming timing.now }
-    requires gates { All (IsGate net.now) order.now }
-    requires now { length now.old ≡ length net.now.signals }
-    requires forces { length forces.now ≡ length net.now.signals }
+fn set_gates(now: &mut List<Planes>, schedule: &Schedule, forces: &[Planes])
+    requires within { All (IsWithin (length now.old)) schedule.now.program }
+    requires forces { length forces.now ≡ length now.old }
     ensures long { length now.new ≡ length now.old }
-    ensures lanes { (k : ℕ) → k < 30 → lane_row k now.new ≡ forced_along net.now timing.now (lane_row k forces.now) order.now (lane_row k now.old) }
+    ensures lanes { (k : ℕ) → k < 30 → lane_row k now.new ≡ follow_forced (lane_row k forces.now) schedule.now.program (lane_row k now.old) }
 {
-    'gates: for g in order {
-        set_gate(now, net, timing, *g, forces);
-    }
-}
-
-/// Gives a gate that is not late its value.
-fn set_gate(now: &mut List<Planes>, net: &Netlist, timing: &Timing, g: u32, forces: &[Planes])
-    requires valid { IsValid net.now }
-    requires timing { IsValidTiming timing.now }
-    requires signal { IsSignal net.now g }
-    requires now { length now.old ≡ length net.now.signals }
-    requires forces { length forces.now ≡ length net.now.signals }
-    ensures long { length now.new ≡ length now.old }
-    ensures lanes { (k : ℕ) → k < 30 → lane_row k now.new ≡ settle_forced net.now timing.now (lane_row k forces.now) (lane_row k now.old) g }
-{
-    if !is_late(net, timing, g) {
-        let answer = answer_of(now.as_slice(), net, g);
-        now.set(g as usize, forced(answer, forces[g as usize]));
-    }
-}
-
-/// What a gate answers over a row. What is no gate keeps its value.
-fn answer_of(row: &[Planes], net: &Netlist, g: u32) -> Planes
-    requires valid { IsValid net.now }
-    requires signal { IsSignal net.now g }
-    requires row { length row.now ≡ length net.now.signals }
-    ensures { (k : ℕ) → k < 30 → lane_of result k ≡ gate_of net.now (lane_row k row.now) g }
-{
-    match &net.signals.as_slice()[g as usize].driver {
-        Driver::Gate { kind, ops } => gate_over(*kind, row, ops.as_slice()),
-        _ => row[g as usize],
-    }
+    do_ops(now.as_mut_slice(), forces, schedule.program.as_slice());
 }

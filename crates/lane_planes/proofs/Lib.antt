@@ -1,4 +1,5 @@
 pub mod WordLemmas
 pub mod LaneLemmas
 pub mod JoinLemmas
+pub mod FormulaLemmas
 pub mod BitLemmas

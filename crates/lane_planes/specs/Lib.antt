@@ -1,3 +1,4 @@
+pub mod Formula
 pub mod Forms
 pub mod Joins
 pub mod Lanes

@@ -9,6 +9,7 @@ ghost use Rattle.lane_planes.specs.Lanes.{lane_of, lane_row};
 ghost use Rattle.lane_planes.specs.Joins.{first_of, join_of, answer_of};
 
 use crate::Planes;
+use crate::formula::{gate_two, pair_form};
 use crate::pairs::{and_two, bus_two, inverted, or_two, settle_planes, tri_two, xor_two};
 use logic_four::Kind;
 
@@ -71,6 +72,9 @@ pub fn gate_planes(kind: Kind, operands: u32, a: Planes, b: Planes, c: Planes, d
     requires allowed { AllowsOperands kind operands }
     ensures { (k : ℕ) → k < 30 → lane_of result k ≡ gate_value kind (take operands (lane_of a k ∷ lane_of b k ∷ lane_of c k ∷ lane_of d k ∷ [])) }
 {
+    if operands == 2 {
+        return gate_two(pair_form(kind), a, b);
+    }
     let base = joined_four(kind, operands, first_operand(kind, a), b, c, d);
     answered(kind, base)
 }

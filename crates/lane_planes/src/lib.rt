@@ -1,6 +1,7 @@
 //! Thirty values in two words, and the gates and tables that work on all of them at once.
 #![tactic(auto)]
 
+mod formula;
 mod gates;
 mod lanes;
 mod laws;
@@ -8,6 +9,7 @@ mod pairs;
 mod planes;
 mod tables;
 
+pub use formula::{PairForm, gate_two, pair_form};
 pub use gates::{answered, first_operand, gate_all, gate_over, gate_planes, joined};
 pub use lanes::{in_all_lanes, in_each_lane, lane, with_lane};
 pub use laws::{join_laws, lanes_decide};

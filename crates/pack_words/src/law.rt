@@ -1,7 +1,7 @@
 //! Laws of packed words and their rule: functions that do nothing, whose clauses hold of all words, and of all
 //! states that meet the rule.
 
-ghost use Rattle.std.specs.Prelude.{List, ℕ, Some, slice_set, ◌+◌, ◌<◌, ◌≡◌, ◌≤◌};
+ghost use Rattle.std.specs.Prelude.{List, ℕ, Some, map, slice_set, ◌+◌, ◌<◌, ◌≡◌, ◌≤◌};
 ghost use mathlib.Core.Option.{some};
 ghost use lib.ListN.{get_elem?};
 ghost use Rattle.lane_planes.specs.declared.planes.Planes.{Planes};
@@ -10,7 +10,8 @@ ghost use Rattle.image_defs.specs.declared.image.LinkOut.{LinkOut};
 ghost use Rattle.event_defs.specs.Places.{IsSend, known_of};
 ghost use Rattle.atomic_table.specs.Table.{Act, State, stepped};
 ghost use Rattle.slot_words.specs.Layout.{progress_in, told_in, turns_told};
-ghost use Rattle.pack_words.specs.Rule.{Kept};
+ghost use Rattle.slot_words.specs.Rule.{AreLooks};
+ghost use Rattle.pack_words.specs.Rule.{Kept, plain_view};
 ghost use Rattle.pack_words.specs.Sound.{AreDistinct, ArePassesSound};
 ghost use Rattle.pack_words.specs.Words.{IsReadIn, packed};
 ghost use Rattle.pack_words.specs.declared.rule.PackKey.{PackKey};
@@ -37,10 +38,12 @@ pub fn rule_is_kept()
 
 /// A law: between any two steps, all seats have the key's image and lanes; in each lane the places of the passes
 /// and the words that a crossbar of one bank has for the lane's stimulus are sound, where the word of each send
-/// has the planes of those; and no two seats have one port's pass.
+/// has the planes of those; no two seats have one port's pass; and the word that the last step of all saw tells what
+/// that step saw there.
 pub fn rule_is_sound()
     ensures sound { (key : PackKey) (s : State (Unit {0}) PackView) → ⟦<PackLaw as TableRule<(), PackView, PackKey>>⟧.holds key s → ArePassesSound key s }
     ensures distinct { (key : PackKey) (s : State (Unit {0}) PackView) → ⟦<PackLaw as TableRule<(), PackView, PackKey>>⟧.holds key s → AreDistinct s.views }
+    ensures looks { (key : PackKey) (s : State (Unit {0}) PackView) → ⟦<PackLaw as TableRule<(), PackView, PackKey>>⟧.holds key s → AreLooks key.image.value s.words (map plain_view s.views) }
 {}
 
 /// A law: looks are looks. Whatever a step of a seat reads or writes, and whatever is told of it: where the rule

@@ -9,14 +9,14 @@ use Rattle.fault_sim.proofs.all.fault_all.Goals as goal
 
 pub gather-requires : goal.gather-requires
 gather-requires g c =
-    let now_are = c.as_slice.ensures ∙ refill_all c.in_ok-groups.groups c.run_groups.new.groups (c.run_groups.ensures.count ∙ ap length c.as_mut_slice.ensures.value) in
+    let now_are = c.as_slice-2.ensures ∙ refill_all c.in_ok-groups.groups c.run_groups.new.groups (c.run_groups.ensures.count ∙ ap length c.as_mut_slice.ensures.value) in
     subst (All (IsDone c.args.net.now c.args.timing.now c.args.stim.now)) (sym now_are)
     (all_done c.args.net.now c.args.timing.now c.args.stim.now c.as_mut_slice.result.now c.run_groups.new.groups c.run_groups.ensures)
 
 pub returns-clause-verdicts : goal.returns-clause-verdicts
 returns-clause-verdicts g c =
-    let now_are = c.as_slice.ensures ∙ refill_all c.in_ok-groups.groups c.run_groups.new.groups (c.run_groups.ensures.count ∙ ap length c.as_mut_slice.ensures.value) in
-    let faults_are : group_faults c.as_slice.result.now ≡ all_faults c.args.net.now =
+    let now_are = c.as_slice-2.ensures ∙ refill_all c.in_ok-groups.groups c.run_groups.new.groups (c.run_groups.ensures.count ∙ ap length c.as_mut_slice.ensures.value) in
+    let faults_are : group_faults c.as_slice-2.result.now ≡ all_faults c.args.net.now =
     ap group_faults now_are
     ∙ (faults_stay c.args.net.now c.args.timing.now c.args.stim.now c.as_mut_slice.result.now c.run_groups.new.groups c.run_groups.ensures
     ∙ (ap group_faults c.as_mut_slice.ensures.value ∙ c.in_ok-groups.ensures.faults)) in

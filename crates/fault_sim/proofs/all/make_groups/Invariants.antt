@@ -1,4 +1,4 @@
-use Rattle.std.proofs.Common.{◌≡◌, ◌+◌, ◌*◌, ◌≤◌, ◌<◌, length}
+use Rattle.std.proofs.Common.{◌≡◌, ◌*◌, ◌≤◌, ◌<◌, length}
 use Rattle.fault_sim.specs.Groups.{AreGroups}
 use Rattle.fault_sim.proofs.all.make_groups.Given as goal
 

@@ -3,7 +3,7 @@ use Rattle.lane_planes.specs.Lanes.{lane_row}
 use Rattle.fault_sim.specs.Turns.{AreBases}
 use Rattle.fault_sim.proofs.base.set_bases.Given as goal
 
-abbrev pub invariant-signals : goal.invariant-signals
-invariant-signals l =
+abbrev pub invariant-sources : goal.invariant-sources
+invariant-sources l =
     (k : ℕ) → k < 30
-    → AreBases l.net l.timing l.turn l.inputs (lane_row k l.last) (lane_row k l.fn.now) (lane_row k l.forces) l.s (lane_row k l.now)
+    → AreBases l.net l.timing l.turn l.inputs (lane_row k l.last) (lane_row k l.fn.now) (lane_row k l.forces) l.sources l.s-index (lane_row k l.now)

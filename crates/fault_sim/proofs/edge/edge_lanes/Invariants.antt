@@ -1,5 +1,4 @@
 use Rattle.std.proofs.Common.{◌≡◌, ◌<◌, ◌≤◌, ℕ, [], length, slice_index_or}
-use Rattle.net_defs.specs.Steps.{State}
 use Rattle.lane_planes.specs.Lanes.{lane_row}
 use Rattle.fault_sim.specs.Turns.{IsRoom, HasAnswered}
 use Rattle.fault_sim.proofs.edge.edge_lanes.Given as goal

@@ -1,4 +1,4 @@
-use Rattle.std.proofs.Common.{◌∙◌, ◌≡◌, ◌<◌, ap, get_or, arith, length}
+use Rattle.std.proofs.Common.{◌∙◌, ◌<◌, ap, get_or, arith, length}
 use Rattle.std.proofs.lemmas.List.{length-set, get_or_default}
 use Rattle.logic_four.specs.declared.V4.TheVariants.{Zero}
 use Rattle.fault_sim.specs.declared.faults.Fault.{Fault}

@@ -1,6 +1,4 @@
-use Rattle.std.proofs.Common.{◌≡◌, ◌∙◌, ◌+◌, ap, subst, arith, length, get_or}
-use Rattle.lane_planes.specs.Lanes.{lane_row}
-use Rattle.fault_sim.specs.Runs.{IsLooked}
+use Rattle.std.proofs.Common.{ap, arith, length}
 use Rattle.fault_sim.proofs.Looking.{looked_none, looked_more, looked_all}
 use Rattle.fault_sim.proofs.look.look.Goals as goal
 

@@ -10,7 +10,7 @@ places-preserved c = record {
   room = c.turn.ensures.room;
   stands = λ stimulus within row before l low.
       turn_stands (lane_net c.args.net.now c.args.faults.now l) c.args.timing.now stimulus
-      (lane_order c.args.net.now c.args.faults.now c.args.timing.now l c.requires.faults (c.args.order.now, c.requires.order))
+      (lane_order c.args.net.now c.args.faults.now c.args.timing.now l c.requires.faults (c.requires.schedule.order, c.requires.schedule.is_order))
       c.args.cycle c.places.place (c.args.cycle * c.args.timing.now.units + c.places.place + 1) (lane_state l c.places.state) (lane_state l c.turn.new.state) c.places-test.true refl within
       (c.turn.ensures.steps l low stimulus (given_inputs c.args.timing.now stimulus c.args.cycle c.places.place (c.args.cycle * c.args.timing.now.units + c.places.place + 1) c.args.inputs.now c.places-test.true refl row))
       (c.places.invariant.stands stimulus within row before l low);

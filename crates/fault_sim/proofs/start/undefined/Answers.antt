@@ -1,5 +1,4 @@
-use Rattle.std.proofs.Common.{◌∙◌, sym, ap, subst, replicate, ◌≡◌}
-use Rattle.logic_four.specs.declared.V4.TheVariants.{Undef}
+use Rattle.std.proofs.Common.{◌∙◌, ap}
 use Rattle.lane_planes.specs.Lanes.{lane_row}
 use Rattle.fault_sim.proofs.Starts.{undefined_row}
 use Rattle.fault_sim.proofs.start.undefined.Goals as goal

@@ -6,3 +6,6 @@ returns-clause-sound c = rule_sound
 
 pub returns-clause-distinct : goal.returns-clause-distinct
 returns-clause-distinct c = rule_distinct
+
+pub returns-clause-looks : goal.returns-clause-looks
+returns-clause-looks c key s kept = kept.looks
