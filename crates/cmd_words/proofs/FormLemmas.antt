@@ -6,13 +6,13 @@ use Rattle.std.proofs.lemmas.Slice.Eq.{bytes_eq-Decides}
 use Rattle.net_defs.specs.declared.homes.HomeChoice.{HomeChoice}
 use Rattle.net_defs.specs.declared.timing.Timing.{Timing}
 use Rattle.cmd_words.specs.declared.command.Command.{Command}
-use Rattle.cmd_words.specs.declared.command.Command.TheVariants.{Run, Refer, Order, Plan, Compile, Exec, Show, Large}
+use Rattle.cmd_words.specs.declared.command.Command.TheVariants.{Run, Refer, Order, Plan, Compile, Exec, Pack, Fault, Show, Large}
 use Rattle.cmd_words.specs.declared.command.RunWords.{RunWords}
 use Rattle.cmd_words.specs.declared.command.WordNo.{WordNo}
 use Rattle.cmd_words.specs.Arguments.{Word, Piece, alone, spaced, joined, options_of, IsPiece, AreArguments, value_given}
 use Rattle.cmd_words.specs.Asked.{Values, asked, of_image, of_large, of_netlist, of_one_file, of_two_files, large_with, run_by, run_with, says, Answers}
 use Rattle.cmd_words.specs.Forms.{HasForm, HasNoForm, IsCall, IsLarge, IsRun}
-use Rattle.cmd_words.specs.Settings.{run_options, refer_options, order_options, plan_options, compile_options, exec_options, show_options, large_options, timing_by, banks_by, workers_by, homes_by, gates_of, cycles_of}
+use Rattle.cmd_words.specs.Settings.{run_options, refer_options, order_options, plan_options, compile_options, exec_options, pack_options, fault_options, show_options, large_options, timing_by, banks_by, workers_by, homes_by, gates_of, cycles_of}
 use Rattle.cmd_words.specs.Uses.{Found, parsed}
 use Rattle.cmd_words.proofs.ArgumentLemmas.{arguments_from, parsed_from}
 use Rattle.cmd_words.proofs.LookLemmas.{is_proper}
@@ -74,6 +74,8 @@ asked_from words (Order run) form = rw (form.call.words_are) (ap (option_map Ord
 asked_from words (Plan run) form = rw (form.0.call.words_are) (ap (option_map Plan) (layout_says plan_options refl (codes "plan") words run form.0 form.1))
 asked_from words (Compile run) form = rw (form.0.call.words_are) (ap (option_map Compile) (layout_says compile_options refl (codes "compile") words run form.0 form.1))
 asked_from words (Exec run image) form = rw (form.call.words_are) (image_says words run image form)
+asked_from words (Pack run) form = rw (form.call.words_are) (ap (option_map Pack) (run_says pack_options refl (codes "pack") words run form))
+asked_from words (Fault run) form = rw (form.call.words_are) (ap (option_map Fault) (run_says fault_options refl (codes "fault") words run form))
 asked_from words (Show netlist) form = rw (form.words_are) (ap (option_map Show) (call_says show_options refl of_one_file (codes "show") words (netlist ∷ []) [] form))
 asked_from words (Large gates cycles workers) form = rw (form.call.words_are) (large_says words gates cycles workers form)
 
@@ -354,8 +356,10 @@ form_from (name ∷ words) command e =
     picked name (codes "plan") words _ _ command e (made (codes "plan" ∷ words) Plan (says plan_options of_netlist words) command (layout_form plan_options (codes "plan") words)) (λ e.
     picked name (codes "compile") words _ _ command e (made (codes "compile" ∷ words) Compile (says compile_options of_netlist words) command (layout_form compile_options (codes "compile") words)) (λ e.
     picked name (codes "exec") words _ _ command e (image_form words command) (λ e.
+    picked name (codes "pack") words _ _ command e (made (codes "pack" ∷ words) Pack (says pack_options of_two_files words) command (run_form pack_options (codes "pack") words)) (λ e.
+    picked name (codes "fault") words _ _ command e (made (codes "fault" ∷ words) Fault (says fault_options of_two_files words) command (run_form fault_options (codes "fault") words)) (λ e.
     picked name (codes "show") words _ _ command e (made (codes "show" ∷ words) Show (says show_options of_one_file words) command (show_form words)) (λ e.
-    picked name (codes "large") words _ _ command e (large_form words command) (λ e. cc))))))))
+    picked name (codes "large") words _ _ command e (large_form words command) (λ e. cc))))))))))
 
 -- ---- the contract
 

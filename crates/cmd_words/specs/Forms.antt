@@ -2,14 +2,14 @@
 use Rattle.std.specs.Prelude.{◌≡◌, ◌↔◌, ◌⊎◌, ◌≤◌, ⊤, ℕ, List, [], ◌∷◌, Some, codes}
 use Rattle.net_defs.specs.Valid.{IsValidTiming}
 use Rattle.cmd_words.specs.declared.command.Command.{Command}
-use Rattle.cmd_words.specs.declared.command.Command.TheVariants.{Run, Refer, Order, Plan, Compile, Exec, Show, Large}
+use Rattle.cmd_words.specs.declared.command.Command.TheVariants.{Run, Refer, Order, Plan, Compile, Exec, Pack, Fault, Show, Large}
 use Rattle.cmd_words.specs.declared.command.RunWords.{RunWords}
 use Rattle.cmd_words.specs.declared.command.WordNo.{WordNo}
 use Rattle.cmd_words.specs.declared.command.WordNo.TheVariants.{Usage, Memory}
 use Rattle.limits.specs.declared.TheConstants.{MAX_LARGE_CYCLES, MAX_LARGE_GATES, MAX_BANKS, MAX_WORKERS}
 use Rattle.cmd_words.specs.Arguments.{Word, AreArguments, value_given}
 use Rattle.cmd_words.specs.Asked.{asked}
-use Rattle.cmd_words.specs.Settings.{run_options, refer_options, order_options, plan_options, compile_options, exec_options, show_options, large_options, timing_by, banks_by, workers_by, homes_by, gates_of, cycles_of}
+use Rattle.cmd_words.specs.Settings.{run_options, refer_options, order_options, plan_options, compile_options, exec_options, pack_options, fault_options, show_options, large_options, timing_by, banks_by, workers_by, homes_by, gates_of, cycles_of}
 
 -- the name of a command, and behind it these positional arguments and options
 pub record IsCall (name : Word) (options words arguments : List Word) (given : List (Word × Word)) : Type 0 where
@@ -47,6 +47,8 @@ HasForm words (Order run) = IsRun (codes "order") order_options words (run.netli
 HasForm words (Plan run) = IsRun (codes "plan") plan_options words (run.netlist ∷ []) run × (run.stimulus ≡ [])
 HasForm words (Compile run) = IsRun (codes "compile") compile_options words (run.netlist ∷ []) run × (run.stimulus ≡ [])
 HasForm words (Exec run image) = IsRun (codes "exec") exec_options words (run.netlist ∷ image ∷ run.stimulus ∷ []) run
+HasForm words (Pack run) = IsRun (codes "pack") pack_options words (run.netlist ∷ run.stimulus ∷ []) run
+HasForm words (Fault run) = IsRun (codes "fault") fault_options words (run.netlist ∷ run.stimulus ∷ []) run
 HasForm words (Show netlist) = IsCall (codes "show") show_options words (netlist ∷ []) []
 HasForm words (Large gates cycles workers) = IsLarge words gates cycles workers
 
@@ -79,6 +81,8 @@ IsInRange (Order run) = IsRunInRange run
 IsInRange (Plan run) = IsRunInRange run
 IsInRange (Compile run) = IsRunInRange run
 IsInRange (Exec run image) = IsRunInRange run
+IsInRange (Pack run) = IsRunInRange run
+IsInRange (Fault run) = IsRunInRange run
 IsInRange (Show netlist) = ⊤
 IsInRange (Large gates cycles workers) = IsLargeInRange gates cycles workers
 

@@ -31,6 +31,12 @@ compile_options = codes "machine" ∷ codes "mode" ∷ codes "last" ∷ codes "u
 abbrev pub exec_options : List Word
 exec_options = codes "mode" ∷ codes "last" ∷ codes "units" ∷ codes "init" ∷ codes "workers" ∷ codes "banks" ∷ []
 
+abbrev pub pack_options : List Word
+pack_options = codes "machine" ∷ codes "mode" ∷ codes "last" ∷ codes "units" ∷ codes "init" ∷ codes "workers" ∷ []
+
+abbrev pub fault_options : List Word
+fault_options = codes "mode" ∷ codes "last" ∷ codes "units" ∷ codes "init" ∷ codes "workers" ∷ []
+
 abbrev pub show_options : List Word
 show_options = []
 

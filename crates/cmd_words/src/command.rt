@@ -48,6 +48,10 @@ pub enum Command {
         /// The file of the image.
         image: Text,
     },
+    /// The traces of up to 30 simulations at once, by the compiled machine. The file of the stimulus is one of lanes.
+    Pack(RunWords),
+    /// Where each stuck fault of a netlist is first seen.
+    Fault(RunWords),
     /// The canonical text of a netlist.
     Show {
         /// The file of the netlist.

@@ -20,6 +20,12 @@ pub static COMPILE: [&str; 6] = ["machine", "mode", "last", "units", "init", "ho
 /// The options of `exec`.
 pub static EXEC: [&str; 6] = ["mode", "last", "units", "init", "workers", "banks"];
 
+/// The options of `pack`.
+pub static PACK: [&str; 6] = ["machine", "mode", "last", "units", "init", "workers"];
+
+/// The options of `fault`.
+pub static FAULT: [&str; 5] = ["mode", "last", "units", "init", "workers"];
+
 /// The options of `show`: none.
 pub static SHOW: [&str; 0] = [];
 

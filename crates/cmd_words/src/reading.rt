@@ -8,10 +8,10 @@ ghost use Rattle.cmd_words.specs.Arguments.{has_name};
 ghost use Rattle.cmd_words.specs.Asked.{Answers, asked, asked_by, says, image_by, of_two_files, of_netlist, of_one_file, of_image, of_large, run_by, large_by};
 ghost use Rattle.cmd_words.specs.Forms.{HasForm, HasNoForm, IsInRange};
 ghost use Rattle.cmd_words.specs.Parses.{files_id, texts_in, value_found};
-ghost use Rattle.cmd_words.specs.Settings.{run_options, refer_options, order_options, plan_options, compile_options, exec_options, show_options, large_options};
+ghost use Rattle.cmd_words.specs.Settings.{run_options, refer_options, order_options, plan_options, compile_options, exec_options, pack_options, fault_options, show_options, large_options};
 
 use crate::command::{Command, RunWords, WordNo};
-use crate::options::{COMPILE, EXEC, LARGE, ORDER, PLAN, REFER, RUN, SHOW};
+use crate::options::{COMPILE, EXEC, FAULT, LARGE, ORDER, PACK, PLAN, REFER, RUN, SHOW};
 use crate::parsing::{one_argument, parse, three_arguments, two_arguments, value};
 use crate::settings::{banks, cycles_of, gates_of, homes, timing, workers};
 use clap::ArgMatches;
@@ -56,6 +56,10 @@ fn read_command(alloc: Global, name: &[u8], words: &[String]) -> Result<Command,
         compile(alloc, words)
     } else if name == b"exec".as_slice() {
         exec(alloc, words)
+    } else if name == b"pack".as_slice() {
+        pack(alloc, words)
+    } else if name == b"fault".as_slice() {
+        fault(alloc, words)
     } else if name == b"show".as_slice() {
         show(alloc, words)
     } else if name == b"large".as_slice() {
@@ -116,6 +120,24 @@ fn exec(alloc: Global, words: &[String]) -> Result<Command, WordNo>
     ensures { Answers result (says exec_options of_image (map string_bytes words.now)) }
 {
     accepted(alloc, words, EXEC.as_slice())
+}
+
+fn pack(alloc: Global, words: &[String]) -> Result<Command, WordNo>
+    ensures { Answers result (option_map command.Pack (says pack_options of_two_files (map string_bytes words.now))) }
+{
+    match simulation(alloc, words, PACK.as_slice()) {
+        Ok(words) => Ok(Command::Pack(words)),
+        Err(no) => Err(no),
+    }
+}
+
+fn fault(alloc: Global, words: &[String]) -> Result<Command, WordNo>
+    ensures { Answers result (option_map command.Fault (says fault_options of_two_files (map string_bytes words.now))) }
+{
+    match simulation(alloc, words, FAULT.as_slice()) {
+        Ok(words) => Ok(Command::Fault(words)),
+        Err(no) => Err(no),
+    }
 }
 
 fn show(alloc: Global, words: &[String]) -> Result<Command, WordNo>

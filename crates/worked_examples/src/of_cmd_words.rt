@@ -62,6 +62,16 @@ const CASES: &[(&str, &str)] = &[
         "run a b --workers 64 --banks 8",
         "run a b rank 1 x banks 8 workers 64",
     ),
+    ("pack a b", "pack a b rank 1 x banks 1 workers 4"),
+    (
+        "pack a b --workers 7 --machine m --init 0",
+        "pack a b rank 1 0 banks 1 workers 7 machine m",
+    ),
+    ("fault a b", "fault a b rank 1 x banks 1 workers 4"),
+    (
+        "fault --mode mixed a --last l b --units 3",
+        "fault a b mixed 3 x banks 1 workers 4 last l",
+    ),
     ("large 2 2", "large 2 2 workers 4"),
     (
         "large 30000 10000 --workers 64",
@@ -82,6 +92,13 @@ const CASES: &[(&str, &str)] = &[
     ("exec a i b c", "usage"),
     ("exec a i b --machine m", "usage"),
     ("exec a i b --homes plain", "usage"),
+    ("pack a", "usage"),
+    ("pack a b --banks 1", "usage"),
+    ("pack a b --homes plain", "usage"),
+    ("pack a b --order o", "usage"),
+    ("fault a", "usage"),
+    ("fault a b --machine m", "usage"),
+    ("fault a b --banks 1", "usage"),
     ("refer a b --homes plain", "usage"),
     ("order a b --homes plain", "usage"),
     ("run a b --homes best", "usage"),
@@ -259,6 +276,8 @@ fn told(alloc: Global, answer: &Result<Command, WordNo>) -> Result<String, Fail>
         Ok(Command::Plan(words)) => told_run(alloc, "plan", words),
         Ok(Command::Compile(words)) => told_run(alloc, "compile", words),
         Ok(Command::Exec { words, image }) => told_exec(alloc, words, image),
+        Ok(Command::Pack(words)) => told_run(alloc, "pack", words),
+        Ok(Command::Fault(words)) => told_run(alloc, "fault", words),
         Ok(Command::Show { netlist }) => Ok(format!(in alloc; "show {}", name_of(netlist))?),
         Ok(
             Command::Large {

@@ -12,4 +12,6 @@ mod of_large_gen;
 #[cfg(test)]
 mod of_limits;
 #[cfg(test)]
+mod of_pack_words;
+#[cfg(test)]
 mod of_slot_words;

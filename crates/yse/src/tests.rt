@@ -6,13 +6,16 @@ ghost use Rattle.yse_top.specs.Visited.{AllCanTell};
 
 mod blocks;
 mod calls;
+mod faults;
 mod homes;
 mod hostile;
 mod images;
+mod lanes;
 mod machines;
 mod mixed;
 mod orders;
 mod own_limits;
+mod packs;
 mod threads;
 
 use crew_run::Gate;

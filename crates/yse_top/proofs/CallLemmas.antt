@@ -49,6 +49,8 @@ ended_not_read (output.Text text) = λ e. cc
 ended_not_read (output.Trace trace) = λ e. cc
 ended_not_read (output.Unfinished trace ending) = λ e. cc
 ended_not_read (output.Written run) = λ e. cc
+ended_not_read (output.Lanes traces) = λ e. cc
+ended_not_read (output.Lines lines) = λ e. cc
 
 -- and is no fault of writing by itself
 pub ended_no_fault : (output : Output) → (ended_with output).status ≡ status.WriteFault → ⊥
@@ -56,3 +58,5 @@ ended_no_fault (output.Text text) is = cc
 ended_no_fault (output.Trace trace) is = cc
 ended_no_fault (output.Unfinished trace ending) is = cc
 ended_no_fault (output.Written run) is = cc
+ended_no_fault (output.Lanes traces) is = cc
+ended_no_fault (output.Lines lines) is = cc

@@ -1,7 +1,6 @@
 -- Each check answers once, and answers; and there is one trace.
 use Rattle.std.proofs.Common.{◌≡◌, ◌∙◌, sym, ap, refl, subst, ◌⊎◌, inl, inr, ℕ, ◌<◌, ◌≤◌, List, Option, Some, None, Ok, Err, arith}
 use Rattle.std.proofs.lemmas.Bool.{cases_lt}
-use Rattle.limits.specs.declared.TheConstants.{MAX_CELLS}
 use Rattle.text_lines.specs.Answers.{IsReader}
 use Rattle.net_defs.specs.declared.homes.HomeChoice.{HomeChoice}
 use Rattle.net_defs.specs.declared.netlist.Netlist.{Netlist}
@@ -17,9 +16,9 @@ use Rattle.yse_compile.specs.Chosen.{FitsBy}
 use Rattle.yse_compile.specs.Compiled.{IsRight, IsOverfull}
 use Rattle.yse_top.specs.declared.status.Status.{Status}
 use Rattle.yse_top.specs.declared.status.Status.TheVariants as status
-use Rattle.yse_top.specs.Checks.{ReadsAs, HasNoLoop, HasRoom, HasFewCells, cell_count}
+use Rattle.yse_top.specs.Checks.{ReadsAs, HasNoLoop, HasRoom, IsWithin}
 use Rattle.yse_top.specs.Law.{AreAlike, Equal}
-use Rattle.yse_top.specs.Lines.{loop_line, overfull_line, cells_line}
+use Rattle.yse_top.specs.Lines.{loop_line, overfull_line}
 use Rattle.yse_top.specs.Outcome.{Outcome, refusal}
 use Rattle.yse_top.proofs.ProperLemmas.{IsCheck, IsOfText, alike}
 
@@ -89,19 +88,19 @@ room_check choice net machine timing law = record {
     some (inl fits) = inl (tt, fits)
     some (inr (why, right, is, none)) = inr (refusal status.Overfull (overfull_line net why), (why, is, right, none, refl))
 
--- ---- cells
+-- ---- sizes
 
-pub cells_check : (net : Netlist) (stimulus : Stimulus) → IsCheck (HasFewCells net stimulus)
-cells_check net stimulus = record {
+pub size_check : (most size : ℕ) (line : ℕ → List ℕ) → IsCheck (IsWithin most size line)
+size_check most size line = record {
   values = λ x y passed passed_too. refl;
   either = λ x o passed refused. omega (arith, passed, refused.0);
   refusals = λ o p refused refused_too. alike o p (refused.1 ∙ sym refused_too.1);
-  some = some (cases_lt MAX_CELLS (cell_count net stimulus));
+  some = some (cases_lt most size);
   of_text = λ o refused. subst (λ (p : Outcome). IsOfText p.status) (sym refused.1) tt;
 }
   where
-    some : (MAX_CELLS < cell_count net stimulus) ⊎ (cell_count net stimulus ≤ MAX_CELLS) → ((x : Unit {0}) × HasFewCells net stimulus (Ok x)) ⊎ ((o : Outcome) × HasFewCells net stimulus (Err o))
-    some (inl many) = inr (refusal status.Limit (cells_line (cell_count net stimulus)), (many, refl))
+    some : (most < size) ⊎ (size ≤ most) → ((x : Unit {0}) × IsWithin most size line (Ok x)) ⊎ ((o : Outcome) × IsWithin most size line (Err o))
+    some (inl many) = inr (refusal status.Limit (line size), (many, refl))
     some (inr few) = inl (tt, few)
 
 -- ---- the trace

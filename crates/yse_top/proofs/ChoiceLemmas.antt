@@ -1,6 +1,5 @@
 -- A design that fits by a choice has homes that the choice gives it.
 use Rattle.std.proofs.Common.{◌≡◌, ◌⊎◌, inl, inr, ℕ, Bool, true, false, [], refl, subst}
-use Rattle.logic_four.specs.declared.V4.TheVariants.{Undef}
 use Rattle.machine_text.specs.declared.machine.Machine.{Machine}
 use Rattle.machine_text.specs.Machines.{IsValid as IsValidMachine}
 use Rattle.net_defs.specs.declared.homes.HomeChoice.{HomeChoice}

@@ -17,12 +17,16 @@ ended_status (output.Text text) = refl
 ended_status (output.Trace trace) = refl
 ended_status (output.Unfinished trace ending) = refl
 ended_status (output.Written run) = refl
+ended_status (output.Lanes traces) = refl
+ended_status (output.Lines lines) = refl
 
 pub ended_output : (output : Output) → bytes_of output ≡ (ended_with output).output
 ended_output (output.Text text) = refl
 ended_output (output.Trace trace) = refl
 ended_output (output.Unfinished trace ending) = refl
 ended_output (output.Written run) = refl
+ended_output (output.Lanes traces) = refl
+ended_output (output.Lines lines) = refl
 
 -- an output after which nothing is told is the whole one
 pub whole_output : (output : Output) → status_after (ending_in output) ≡ status.Done → ended_with output ≡ done (bytes_of output)
@@ -30,6 +34,8 @@ whole_output (output.Text text) is = refl
 whole_output (output.Trace trace) is = refl
 whole_output (output.Unfinished trace ending) is = cc
 whole_output (output.Written run) is = refl
+whole_output (output.Lanes traces) is = refl
+whole_output (output.Lines lines) is = refl
 
 module _ {E : Type 0} (taken : E → Option (List ℕ)) (faults : E → ℕ) where
   -- nothing is told where nothing is to be told
@@ -41,6 +47,8 @@ module _ {E : Type 0} (taken : E → Option (List ℕ)) (faults : E → ℕ) whe
   told_line (output.Trace trace) old new told = quiet old new told
   told_line (output.Unfinished trace ending) old new told = told
   told_line (output.Written run) old new told = quiet old new told
+  told_line (output.Lanes traces) old new told = quiet old new told
+  told_line (output.Lines lines) old new told = quiet old new told
 
   pub told_nothing : (ending : Option Ending) (old new : E) → status_after ending ≡ status.Done → IsTold old new (taken old) (taken new) (faults old) (faults new) ending → new ≡ old
   told_nothing None old new is told = told

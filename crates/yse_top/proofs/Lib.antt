@@ -8,11 +8,13 @@ mod EndLemmas
 mod EndedLemmas
 mod EndingLemmas
 mod GateLemmas
+mod LaneLemmas
 mod OrderLemmas
 mod OutcomeLemmas
 mod ProperLemmas
 mod ReportLemmas
 mod ShownLemmas
+mod SizeLemmas
 mod StepLemmas
 mod TextLemmas
 mod TraceLemmas

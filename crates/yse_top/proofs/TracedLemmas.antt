@@ -22,20 +22,22 @@ use Rattle.machine_text.specs.Machines.{default_machine}
 use Rattle.yse_top.specs.declared.output.Output.{Output}
 use Rattle.yse_top.specs.declared.status.Status.{Status}
 use Rattle.yse_top.specs.declared.status.Status.TheVariants as status
-use Rattle.yse_top.specs.Checks.{After, AfterRead, AfterFile, Ends, text_of, IsMachineOf, IsNetlistOf, HasNoLoop, HasRoom, IsStimulusOf, HasFewCells, IsListOf, IsOrderOf, listing}
+use Rattle.yse_top.specs.Checks.{After, AfterRead, AfterFile, Ends, Writes, text_of, IsLanesOf, HasFewBits, HasFewLaneCells, HasFewSignals, IsMachineOf, IsNetlistOf, HasNoLoop, HasRoom, IsStimulusOf, HasFewCells, IsListOf, IsOrderOf, listing}
 use Rattle.yse_top.specs.Expected.{ExpectedOf}
 use Rattle.yse_top.specs.Outcome.{Outcome, done, refusal}
 use Rattle.yse_top.specs.Lines.{too_long_line}
 use Rattle.yse_top.specs.Outputs.{bytes_of}
 use Rattle.yse_top.specs.Readings.{Reading}
 use Rattle.yse_top.specs.Refusals.{Follows}
-use Rattle.yse_top.specs.Traced.{AreOfFiles, IsTimingOfFile, IsTraceOfFiles}
+use Rattle.stim_text.specs.declared.lanes.Lanes.{Lanes}
+use Rattle.yse_top.specs.Traced.{AreLanesOfFiles, AreOfFiles, AreTracesOfFiles, IsFaultListOfFiles, IsOutputOfFiles, IsTimingOfFile, IsTraceOfFiles}
 use Rattle.yse_top.specs.Orders.{EndsIn, EndsInOrder}
 use Rattle.yse_top.specs.Endings.{ending_in, status_after}
 use Rattle.yse_top.specs.Visited.{IsImageOfFile, IsMachineOfFile}
-use Rattle.yse_top.specs.Words.{traced_by}
+use Rattle.yse_top.specs.commands.Fault.{ExpectedFault, FaultsIn, IsFaultList, ListsFaults}
+use Rattle.yse_top.specs.commands.Pack.{AfterLanes, AreLaneTraces, ExpectedPack, KeepsLanesOn, PacksIn, PacksOn}
 use Rattle.yse_top.specs.commands.Exec.{AfterImage, AfterMatch, ExecutesBy, ExpectedExec, IsAccepted, IsImageFileOf, OnImage, RunsImage, WritesTraceOf}
-use Rattle.yse_top.specs.commands.Run.{AfterCells, AfterDesign, AfterList, AfterLoop, AfterMachine, AfterStimulus, WritesTrace, EndsBy, EndsWithin, ExpectedRun, ExpectedOn, ExpectedRefer, KeepsTrace, OnTiming}
+use Rattle.yse_top.specs.commands.Run.{AfterCells, AfterDesign, AfterList, AfterLoop, AfterMachine, AfterNetlist, AfterStimulus, WritesTrace, EndsBy, EndsWithin, ExpectedRun, ExpectedOn, ExpectedRefer, KeepsTrace, OnTiming}
 use Rattle.yse_top.proofs.EndingLemmas.{whole_output}
 use Rattle.yse_top.proofs.ProperLemmas.{passes, refuses, refused_once, never_both}
 use Rattle.std.specs.Prelude.{nat_le, length, if◌then◌else◌}
@@ -221,6 +223,92 @@ module _ (bytes : Option (List ℕ → List ℕ)) where
           let machine = passed (IsMachineOf first.text) (ExpectedOn words End) first.others output (λ e. not_done _ status.Machine output e.2 refl (λ e. cc)) first.next in
           reached_on words End machine.0 (subst (λ f. IsMachineOfFile bytes f machine.0) (sym is) (first.text, first.told, machine.1)) first.others output first.are machine.2
 
+  -- the netlist and its timing
+  record ReachedNetlist (words : RunWords) (End : Netlist → Timing → List Reading → Outcome → Type 0) (output : List ℕ) : Type 0 where
+    text : List ℕ
+    text_told : OfTold bytes words.netlist (λ told. text ≡ told)
+    net : Netlist
+    reads : bench.Reads text net
+    timing : Timing
+    timing_is : IsTimingOfFile bytes words.last net words.timing timing
+    others : List Reading
+    told : AreTold others
+    ends : End net timing others (done output)
+
+  reached_netlist : (words : RunWords) (End : Netlist → Timing → List Reading → Outcome → Type 0) (readings : List Reading) (output : List ℕ) → AreTold readings → AfterNetlist words End readings (done output) → ReachedNetlist words End output
+  unfolding AfterNetlist
+  reached_netlist words End readings output are expected =
+      let Next : Netlist → List Reading → Outcome → Type 0 = λ net. AfterList words.last net words.timing (End net) in
+      let first = gave words.netlist (λ text. After (IsNetlistOf text) Next) readings output are expected in
+      let netlist = passed (IsNetlistOf first.text) Next first.others output (λ e. not_done _ status.Netlist output e.2 refl (λ e. cc)) first.next in
+      let list = reached_timing words netlist.0 (End netlist.0) first.others output first.are netlist.2 in
+      record {
+        text = first.text;
+        text_told = first.told;
+        net = netlist.0;
+        reads = netlist.1;
+        timing = list.timing;
+        timing_is = list.timing_is;
+        others = list.others;
+        told = list.are;
+        ends = list.next;
+      }
+
+  -- a run of lanes came to its end over the machine, the netlist and the lanes of its files
+  pub record ReachedLanes (words : RunWords) (End : Machine → Timing → Netlist → Lanes → List Reading → Outcome → Type 0) (output : List ℕ) : Type 0 where
+    pub machine : Machine
+    pub machine_is : IsMachineOfFile bytes words.machine machine
+    pub net : Netlist
+    pub timing : Timing
+    pub timing_is : IsTimingOfFile bytes words.last net words.timing timing
+    pub lanes : Lanes
+    pub are : AreLanesOfFiles bytes words net lanes
+    pub others : List Reading
+    pub ends : End machine timing net lanes others (done output)
+
+  packed_on : (words : RunWords) (End : Machine → Timing → Netlist → Lanes → List Reading → Outcome → Type 0) (machine : Machine) → IsMachineOfFile bytes words.machine machine → (readings : List Reading) (output : List ℕ) → AreTold readings → PacksOn words End machine readings (done output) → ReachedLanes words End output
+  unfolding AfterLanes
+  packed_on words End machine is readings output are expected =
+      let on = reached_netlist words (PacksIn words End machine) readings output are expected in
+      let net = on.net in
+      let timing = on.timing in
+      let Then : List Reading → Outcome → Type 0 = AfterLanes words.stimulus net (End machine timing net) in
+      let Bits : List Reading → Outcome → Type 0 = After (HasFewBits net) (λ few. Then) in
+      let order = passed (HasNoLoop net timing) (λ passed. After (HasRoom words.homes net machine timing) (λ fits. Bits)) on.others output (λ e. not_done _ status.Loop output e.2 refl (λ e. cc)) on.ends in
+      let room = passed (HasRoom words.homes net machine timing) (λ fits. Bits) on.others output (λ e. not_done _ status.Overfull output e.4 refl (λ e. cc)) order.2 in
+      let bits = passed (HasFewBits net) (λ few. Then) on.others output (λ e. not_done _ status.Limit output e.1 refl (λ e. cc)) room.2 in
+      let second = gave words.stimulus (λ text. After (IsLanesOf text net) (End machine timing net)) on.others output on.told bits.2 in
+      let lanes = passed (IsLanesOf second.text net) (End machine timing net) second.others output (λ e. not_done _ status.Stimulus output e.2 refl (λ e. cc)) second.next in
+      record {
+        machine = machine;
+        machine_is = is;
+        net = net;
+        timing = timing;
+        timing_is = on.timing_is;
+        lanes = lanes.0;
+        are = record {
+          netlist_text = on.text;
+          netlist_told = on.text_told;
+          netlist_reads = on.reads;
+          lanes_text = second.text;
+          lanes_told = second.told;
+          lanes_read = lanes.1;
+        };
+        others = second.others;
+        ends = lanes.2;
+      }
+
+  pub reached_lanes : (words : RunWords) (End : Machine → Timing → Netlist → Lanes → List Reading → Outcome → Type 0) (readings : List Reading) (output : List ℕ) → AreTold readings → AfterMachine words.machine (PacksOn words End) readings (done output) → ReachedLanes words End output
+  unfolding AfterMachine
+  reached_lanes words End readings output are expected = by words.machine refl readings are expected
+    where
+      by : (file : Option (List ℕ)) → words.machine ≡ file → (readings : List Reading) → AreTold readings → AfterMachine file (PacksOn words End) readings (done output) → ReachedLanes words End output
+      by None is readings are expected = packed_on words End default_machine (subst (λ f. IsMachineOfFile bytes f default_machine) (sym is) refl) readings output are expected
+      by (Some file) is readings are expected =
+          let first = gave file (λ text. After (IsMachineOf text) (PacksOn words End)) readings output are expected in
+          let machine = passed (IsMachineOf first.text) (PacksOn words End) first.others output (λ e. not_done _ status.Machine output e.2 refl (λ e. cc)) first.next in
+          packed_on words End machine.0 (subst (λ f. IsMachineOfFile bytes f machine.0) (sym is) (first.text, first.told, machine.1)) first.others output first.are machine.2
+
   -- a run of an image came to its end over the image, the netlist and the stimulus of its files
   pub record ReachedImage (words : RunWords) (name : List ℕ) (End : Image → Timing → Netlist → Stimulus → List Reading → Outcome → Type 0) (output : List ℕ) : Type 0 where
     pub file : ImageFile
@@ -330,17 +418,55 @@ module _ (bytes : Option (List ℕ → List ℕ)) where
         trace = written end.net end.timing end.stimulus end.others output end.ends;
       }
 
-  command_traced : (command : Command) (readings : List Reading) (output : List ℕ) → AreTold readings → ExpectedOf command readings (done output) → IfSome (traced_by (Some command)) (IsTraceOfFiles bytes output)
+  -- what is written of a check that ends here is what it says
+  wrote_so : (IsOutput : List ℕ → Type 0) (readings : List Reading) (output : List ℕ) → Ends (Writes IsOutput) readings (done output) → IsOutput output
+  wrote_so IsOutput readings output (none, inl (text, is, same)) = subst IsOutput (sym (ap (λ (o : Outcome). o.output) same)) is
+  wrote_so IsOutput readings output (none, inr memory) = absurd (not_done _ status.Memory output memory refl (λ e. cc))
+
+  pack_traced : (words : RunWords) (readings : List Reading) (output : List ℕ) → AreTold readings → ExpectedPack words readings (done output) → AreTracesOfFiles bytes output words
+  pack_traced words readings output are expected =
+      let end = reached_lanes words KeepsLanesOn readings output are expected in
+      let few = passed (HasFewLaneCells end.net end.lanes) (λ few. Ends (Writes (AreLaneTraces end.net end.timing end.lanes))) end.others output (λ e. not_done _ status.Limit output e.1 refl (λ e. cc)) end.ends in
+      record {
+        net = end.net;
+        lanes = end.lanes;
+        are = end.are;
+        timing = end.timing;
+        timing_is = end.timing_is;
+        traces = wrote_so (AreLaneTraces end.net end.timing end.lanes) end.others output few.2;
+      }
+
+  fault_traced : (words : RunWords) (readings : List Reading) (output : List ℕ) → AreTold readings → ExpectedFault words readings (done output) → IsFaultListOfFiles bytes output words
+  fault_traced words readings output are expected =
+      let on = reached_netlist words (FaultsIn words.stimulus) readings output are expected in
+      let net = on.net in
+      let timing = on.timing in
+      let Then : List Reading → Outcome → Type 0 = AfterStimulus words.stimulus net (ListsFaults net timing) in
+      let order = passed (HasNoLoop net timing) (λ passed. After (HasFewSignals net) (λ few. Then)) on.others output (λ e. not_done _ status.Loop output e.2 refl (λ e. cc)) on.ends in
+      let few = passed (HasFewSignals net) (λ few. Then) on.others output (λ e. not_done _ status.Limit output e.1 refl (λ e. cc)) order.2 in
+      let end = reached_stimulus words net (ListsFaults net timing) on.others output on.told few.2 in
+      record {
+        net = net;
+        stimulus = end.stimulus;
+        are = of_files words on.text on.text_told net on.reads (ListsFaults net timing) output end;
+        timing = timing;
+        timing_is = on.timing_is;
+        list = wrote_so (IsFaultList net timing end.stimulus) end.others output end.ends;
+      }
+
+  command_traced : (command : Command) (readings : List Reading) (output : List ℕ) → AreTold readings → ExpectedOf command readings (done output) → IsOutputOfFiles bytes output (Some command)
   command_traced (command.Run words) readings output are expected = run_traced words false None readings output are expected
   command_traced (command.Refer words) readings output are expected = refer_traced words readings output are expected
   command_traced (command.Order words) readings output are expected = run_traced words true words.order readings output are expected
   command_traced (command.Plan words) readings output are expected = tt
   command_traced (command.Compile words) readings output are expected = tt
   command_traced (command.Exec words image) readings output are expected = exec_traced words image readings output are expected
+  command_traced (command.Pack words) readings output are expected = pack_traced words readings output are expected
+  command_traced (command.Fault words) readings output are expected = fault_traced words readings output are expected
   command_traced (command.Show file) readings output are expected = tt
   command_traced (command.Large gates cycles workers) readings output are expected = tt
 
-  pub traced : (names : Option (List ℕ → Bool)) (old new : FileCounts) (command : Command) (output : Output) → status_after (ending_in output) ≡ status.Done → Follows names bytes old new (Ok output) (ExpectedOf command) → IfSome (traced_by (Some command)) (IsTraceOfFiles bytes (bytes_of output))
+  pub traced : (names : Option (List ℕ → Bool)) (old new : FileCounts) (command : Command) (output : Output) → status_after (ending_in output) ≡ status.Done → Follows names bytes old new (Ok output) (ExpectedOf command) → IsOutputOfFiles bytes (bytes_of output) (Some command)
   traced names old new command output whole follows =
       command_traced command follows.readings (bytes_of output) (λ place reading at. (follows.are.each place reading at).whole)
       (subst (λ (o : Outcome). ExpectedOf command follows.readings o) (whole_output output whole) follows.expected)

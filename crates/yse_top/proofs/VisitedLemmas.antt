@@ -24,16 +24,19 @@ use Rattle.yse_top.specs.declared.refusal.Refusal.{Refusal}
 use Rattle.yse_top.specs.declared.refusal.Refusal.TheVariants as refusal
 use Rattle.yse_top.specs.declared.status.Status.{Status}
 use Rattle.yse_top.specs.declared.status.Status.TheVariants as status
-use Rattle.yse_top.specs.Checks.{After, AfterFile, AfterRead, IsMachineOf, IsNetlistOf, HasNoLoop, HasRoom, IsStimulusOf, IsListOf, listing, text_of}
+use Rattle.yse_top.specs.Checks.{After, AfterFile, AfterRead, IsLanesOf, IsMachineOf, IsNetlistOf, HasNoLoop, HasRoom, IsStimulusOf, IsListOf, listing, text_of}
 use Rattle.yse_top.specs.Outcome.{Outcome, done}
-use Rattle.yse_top.specs.Outputs.{run_bytes, trace_bytes, wrote_in}
+use Rattle.edge_io.specs.Writing.{joined}
+use Rattle.stim_text.specs.declared.lanes.Lanes.{Lanes}
+use Rattle.yse_top.specs.commands.Pack.{AfterLanes}
+use Rattle.yse_top.specs.Outputs.{lanes_bytes, run_bytes, trace_bytes, wrote_in}
 use Rattle.yse_top.specs.Readings.{Reading}
 use Rattle.yse_top.specs.Endings.{ending_in}
 use Rattle.yse_top.specs.Ends.{IsWhole, MayWrite}
 use Rattle.yse_top.specs.Refusals.{Follows, ended_with, outcome_of, refused_of, status_so_far, status_told, written_by}
 use Rattle.yse_top.specs.Visited.{AreRunVisits, AreTold, AreTurnsOf, AreVisitsOfFiles, AreVisitsOfImage, EndsTelling, ExecTelling, HasWorkers, KeepsGates, TellsGates, TellsOfExec, TellsOfRun, block_of, has_limit, order_in}
 use Rattle.yse_top.specs.commands.Exec.{AfterImage, AfterMatch, ExecutesBy, ExpectedExec, IsAccepted, IsImageFileOf, OnImage, RunsImage, WritesTraceOf}
-use Rattle.yse_top.specs.commands.Run.{AfterDesign, AfterFit, AfterList, AfterMachine, AfterStimulus, EndsWithin, ExpectedOn, ExpectedRun}
+use Rattle.yse_top.specs.commands.Run.{AfterDesign, AfterFit, AfterList, AfterMachine, AfterNetlist, AfterStimulus, EndsWithin, ExpectedOn, ExpectedRun}
 use Rattle.yse_top.proofs.CallLemmas.{ended_no_fault}
 use Rattle.yse_top.proofs.GateLemmas.{all_blocks}
 use Rattle.yse_top.proofs.TracedLemmas.{reached, reached_image, same_units}
@@ -44,7 +47,7 @@ use Rattle.yse_top.proofs.TracedLemmas.{reached, reached_image, same_units}
 abbrev Implies : (List Reading → Outcome → Type 0) → (List Reading → Outcome → Type 0) → Type 0
 Implies One Other = (readings : List Reading) (outcome : Outcome) → One readings outcome → Other readings outcome
 
-after_so : {X : Type 0} (Checked : Result X Outcome → Type 0) (One Other : X → List Reading → Outcome → Type 0) → ((x : X) → Implies (One x) (Other x)) → Implies (After Checked One) (After Checked Other)
+pub after_so : {X : Type 0} (Checked : Result X Outcome → Type 0) (One Other : X → List Reading → Outcome → Type 0) → ((x : X) → Implies (One x) (Other x)) → Implies (After Checked One) (After Checked Other)
 after_so Checked One Other so readings outcome (inl (x, passed, next)) = inl (x, passed, so x readings outcome next)
 after_so Checked One Other so readings outcome (inr refused) = inr refused
 
@@ -69,7 +72,7 @@ list_so (Some file) net timing One Other so =
     file_so file (λ text. After (IsListOf text net) (λ listed. One (listing timing listed))) (λ text. After (IsListOf text net) (λ listed. Other (listing timing listed))) (λ text.
     after_so (IsListOf text net) (λ listed. One (listing timing listed)) (λ listed. Other (listing timing listed)) (λ listed. so (listing timing listed)))
 
-fit_so : (choice : HomeChoice) (net : Netlist) (machine : Machine) (timing : Timing) (One Other : List Reading → Outcome → Type 0) → Implies One Other → Implies (AfterFit choice net machine timing One) (AfterFit choice net machine timing Other)
+pub fit_so : (choice : HomeChoice) (net : Netlist) (machine : Machine) (timing : Timing) (One Other : List Reading → Outcome → Type 0) → Implies One Other → Implies (AfterFit choice net machine timing One) (AfterFit choice net machine timing Other)
 fit_so choice net machine timing One Other so =
     after_so (HasNoLoop net timing) (λ passed. After (HasRoom choice net machine timing) (λ fits. One)) (λ passed. After (HasRoom choice net machine timing) (λ fits. Other)) (λ passed.
     after_so (HasRoom choice net machine timing) (λ fits. One) (λ fits. Other) (λ fits. so))
@@ -88,11 +91,26 @@ on_so words One Other so machine =
     design_so words machine (λ timing net. AfterStimulus words.stimulus net (One machine timing net)) (λ timing net. AfterStimulus words.stimulus net (Other machine timing net)) (λ timing net.
     stimulus_so words.stimulus net (One machine timing net) (Other machine timing net) (so machine timing net))
 
-machine_so : (file : Option (List ℕ)) (One Other : Machine → List Reading → Outcome → Type 0) → ((machine : Machine) → Implies (One machine) (Other machine)) → Implies (AfterMachine file One) (AfterMachine file Other)
+pub machine_so : (file : Option (List ℕ)) (One Other : Machine → List Reading → Outcome → Type 0) → ((machine : Machine) → Implies (One machine) (Other machine)) → Implies (AfterMachine file One) (AfterMachine file Other)
 unfolding AfterMachine
 machine_so None One Other so = so _
 machine_so (Some file) One Other so =
     file_so file (λ text. After (IsMachineOf text) One) (λ text. After (IsMachineOf text) Other) (λ text. after_so (IsMachineOf text) One Other so)
+
+-- the netlist and its timing
+pub netlist_so : (words : RunWords) (One Other : Netlist → Timing → List Reading → Outcome → Type 0) → ((net : Netlist) (timing : Timing) → Implies (One net timing) (Other net timing)) → Implies (AfterNetlist words One) (AfterNetlist words Other)
+unfolding AfterNetlist
+netlist_so words One Other so =
+    file_so words.netlist (λ text. After (IsNetlistOf text) (λ net. AfterList words.last net words.timing (One net))) (λ text. After (IsNetlistOf text) (λ net. AfterList words.last net words.timing (Other net))) (λ text.
+    after_so (IsNetlistOf text) (λ net. AfterList words.last net words.timing (One net)) (λ net. AfterList words.last net words.timing (Other net)) (λ net.
+    list_so words.last net words.timing (One net) (Other net) (so net)))
+
+-- the lanes
+pub lanes_so : (file : List ℕ) (net : Netlist) (One Other : Lanes → List Reading → Outcome → Type 0) → ((lanes : Lanes) → Implies (One lanes) (Other lanes)) → Implies (AfterLanes file net One) (AfterLanes file net Other)
+unfolding AfterLanes
+lanes_so file net One Other so =
+    file_so file (λ text. After (IsLanesOf text net) One) (λ text. After (IsLanesOf text net) Other) (λ text.
+    after_so (IsLanesOf text net) One Other so)
 
 image_so : (name : List ℕ) (net : Netlist) (timing : Timing) (One Other : Image → List Reading → Outcome → Type 0) → ((image : Image) → Implies (One image) (Other image)) → Implies (AfterImage name net timing One) (AfterImage name net timing Other)
 unfolding AfterImage
@@ -129,6 +147,9 @@ refused_writes (refusal.OrderText why) may = may
 refused_writes (refusal.LastList why) may = may
 refused_writes (refusal.ImageText why) may = may
 refused_writes (refusal.ImageMatch why) may = may
+refused_writes (refusal.Lanes why) may = may
+refused_writes (refusal.MemoryBits bits) may = may
+refused_writes (refusal.Signals signals) may = may
 refused_writes refusal.Memory may = may
 
 -- an output may be written
@@ -137,6 +158,8 @@ output_writes (output.Text text) = tt
 output_writes (output.Trace trace) = tt
 output_writes (output.Unfinished trace ending) = tt
 output_writes (output.Written run) = tt
+output_writes (output.Lanes traces) = tt
+output_writes (output.Lines lines) = tt
 
 -- where the whole output was written, something was
 whole_writes : (s : Status) → IsWhole s → MayWrite s
@@ -160,11 +183,13 @@ told_fails output ended failed = by (wrote_in output) failed
     by (Err why) failed is = failed
 
 -- a whole run is an end with its output
-is_done : (result : Result Output Refusal) → IfOk result (λ output. ending_in output ≡ None) → MayWrite (outcome_of result).status → (text : List ℕ) × (outcome_of result ≡ done text)
+pub is_done : (result : Result Output Refusal) → IfOk result (λ output. ending_in output ≡ None) → MayWrite (outcome_of result).status → (text : List ℕ) × (outcome_of result ≡ done text)
 is_done (Ok (output.Text text)) whole may = (text, refl)
 is_done (Ok (output.Trace trace)) whole may = (trace_bytes trace, refl)
 is_done (Ok (output.Unfinished trace ending)) whole may = cc
 is_done (Ok (output.Written run)) whole may = (run_bytes run, refl)
+is_done (Ok (output.Lanes traces)) whole may = (lanes_bytes traces, refl)
+is_done (Ok (output.Lines lines)) whole may = (joined lines, refl)
 is_done (Err why) whole may = absurd (refused_writes why may)
 
 -- ---- a run that tells the gates
@@ -176,7 +201,7 @@ module _ (Visits : Result (Unit {0}) WriteNo → Type 0) (Left : Type 0) where
   told_so (Ok done) outcome may other visits = record { written = λ whole. visits; cut = λ is. absurd (other is); refused = λ none. absurd (none may) }
   told_so (Err Failed) outcome may other visits = record { written = λ whole. absurd whole; cut = λ is. visits; refused = λ none. absurd (none tt) }
 
-  told_as : (r : Result Output Refusal) → (MayWrite (outcome_of r).status → Visits (written_by r)) → OnErr r Left → AreTold (status_told r) (Visits (Ok tt)) (Visits (Err Failed)) Left
+  pub told_as : (r : Result Output Refusal) → (MayWrite (outcome_of r).status → Visits (written_by r)) → OnErr r Left → AreTold (status_told r) (Visits (Ok tt)) (Visits (Err Failed)) Left
   told_as (Ok output) visits kept =
       told_so (wrote_in output) (ended_with output) (output_writes output) (ended_no_fault output) (visits (output_writes output))
   told_as (Err why) visits kept = record {
@@ -296,4 +321,6 @@ module _ {G : Type 0} (p : gate.Ghosts G) (bytes : Option (List ℕ → List ℕ
   tells_ended told ended (command.Plan words) may may_too fails tells = tells
   tells_ended told ended (command.Compile words) may may_too fails tells = tells
   tells_ended told ended (command.Exec words image) may may_too fails tells = ended_told told ended may may_too fails (image_cut words image) tells
+  tells_ended told ended (command.Pack words) may may_too fails tells = ended_told told ended may may_too fails (λ visits. visits) tells
+  tells_ended told ended (command.Fault words) may may_too fails tells = tells
   tells_ended told ended (command.Show file) may may_too fails tells = tells

@@ -1,8 +1,11 @@
 -- The checks of a call, one after the other: each lets a value pass, with which the next ones go on, or
 -- ends the call. A chain of checks is a relation between the files that are begun from here on and the
 -- outcome of the call.
-use Rattle.std.specs.Prelude.{◌≡◌, ◌⊎◌, ℕ, ◌+◌, ◌*◌, ◌<◌, ◌≤◌, nat_le, if◌then◌else◌, List, [], ◌∷◌, length, Option, Some, None, Result, Ok, Err}
+use Rattle.std.specs.Prelude.{◌≡◌, ◌⊎◌, ℕ, ◌+◌, ◌*◌, ◌^◌, ◌<◌, ◌≤◌, nat_le, if◌then◌else◌, List, [], ◌∷◌, length, Option, Some, None, Result, Ok, Err}
+use Rattle.std.specs.List.{sum_by}
 use Rattle.limits.specs.declared.TheConstants.{MAX_CELLS, MAX_TEXT_BYTES}
+use Rattle.yse_top.specs.declared.TheConstants.{MAX_FAULT_SIGNALS, MAX_PACK_BITS}
+use Rattle.net_defs.specs.declared.netlist.Block.{Block}
 use Rattle.net_defs.specs.declared.homes.HomeChoice.{HomeChoice}
 use Rattle.net_defs.specs.declared.netlist.Netlist.{Netlist}
 use Rattle.net_defs.specs.declared.timing.Timing.{Timing}
@@ -16,13 +19,17 @@ use Rattle.bench_read.specs.Faults as bench
 use Rattle.bench_read.specs.GateLists as gate_lists
 use Rattle.bench_read.specs.Reads as bench_reads
 use Rattle.stim_text.specs.Stimuli as stim
+use Rattle.stim_text.specs.declared.lanes.Lanes.{Lanes}
+use Rattle.stim_text.specs.declared.lanes.TheConstants.{MAX_LANES}
+use Rattle.stim_text.specs.Lanes.{longest}
+use Rattle.stim_text.specs.LaneTexts as lane_texts
 use Rattle.stim_text.specs.declared.order.Order.{Order}
 use Rattle.stim_text.specs.Orders as orders
 use Rattle.yse_compile.specs.declared.compiler.CompNo.{CompNo}
 use Rattle.yse_compile.specs.Chosen.{FitsBy}
 use Rattle.yse_compile.specs.Compiled.{IsRight, IsOverfull}
 use Rattle.yse_top.specs.declared.status.Status.TheVariants as status
-use Rattle.yse_top.specs.Lines.{read_fault_line, too_long_line, machine_line, netlist_line, loop_line, overfull_line, stimulus_line, cells_line, order_line, list_line}
+use Rattle.yse_top.specs.Lines.{read_fault_line, too_long_line, machine_line, netlist_line, loop_line, overfull_line, stimulus_line, cells_line, bits_limit_line, signals_line, lanes_line, order_line, list_line}
 use Rattle.yse_top.specs.Outcome.{Outcome, done, refusal, out_of_memory}
 use Rattle.yse_top.specs.Readings.{Reading}
 
@@ -82,6 +89,11 @@ abbrev pub IsStimulusOf : List ℕ → Netlist → Result Stimulus Outcome → T
 IsStimulusOf text net =
     ReadsAs (stim.Reads (input_count net) text) (stim.first_fault (input_count net) text) (λ why. refusal status.Stimulus (stimulus_line why))
 
+-- the lanes of a text for the inputs of a netlist
+abbrev pub IsLanesOf : List ℕ → Netlist → Result Lanes Outcome → Type 0
+IsLanesOf text net =
+    ReadsAs (lane_texts.ReadsAsLanes (input_count net) text) (lane_texts.first_lanes_fault (input_count net) text) (λ why. refusal status.Stimulus (lanes_line why))
+
 -- the order of a text for the ports of a machine
 abbrev pub IsOrderOf : List ℕ → Machine → Result Order Outcome → Type 0
 IsOrderOf text machine =
@@ -112,12 +124,41 @@ abbrev pub RefusesDesign : HomeChoice → Netlist → Machine → Timing → Out
 RefusesDesign choice net machine timing outcome =
     Refuses (HasNoLoop net timing) outcome ⊎ (HasNoLoop net timing (Ok tt) × Refuses (HasRoom choice net machine timing) outcome)
 
+-- ---- sizes
+
+-- a size is within its limit; where it is not, the refusal says so
+abbrev pub IsWithin : ℕ → ℕ → (ℕ → List ℕ) → Result (Unit {0}) Outcome → Type 0
+IsWithin most size line (Ok passed) = size ≤ most
+IsWithin most size line (Err outcome) = (most < size) × (outcome ≡ refusal status.Limit (line size))
+
 -- a cell for each input and each printed name in each cycle
 abbrev pub cell_count : Netlist → Stimulus → ℕ
 cell_count net stimulus = cycle_count stimulus * (input_count net + length net.printed)
 
 -- there are not too many cells
 abbrev pub HasFewCells : Netlist → Stimulus → Result (Unit {0}) Outcome → Type 0
-HasFewCells net stimulus (Ok passed) = cell_count net stimulus ≤ MAX_CELLS
-HasFewCells net stimulus (Err outcome) =
-    (MAX_CELLS < cell_count net stimulus) × (outcome ≡ refusal status.Limit (cells_line (cell_count net stimulus)))
+HasFewCells net stimulus = IsWithin MAX_CELLS (cell_count net stimulus) cells_line
+
+-- a cell for each of 30 lanes, each input and each printed name in each cycle of the longest lane
+abbrev pub lane_cell_count : Netlist → Lanes → ℕ
+lane_cell_count net lanes = MAX_LANES * longest lanes * (input_count net + length net.printed)
+
+-- there are not too many cells of lanes
+abbrev pub HasFewLaneCells : Netlist → Lanes → Result (Unit {0}) Outcome → Type 0
+HasFewLaneCells net lanes = IsWithin MAX_CELLS (lane_cell_count net lanes) cells_line
+
+-- the bits of a memory: a word for each address
+abbrev pub block_bits : Block → ℕ
+block_bits memory = 2 ^ length memory.address * length memory.word
+
+-- the bits of all memories
+abbrev pub memory_bits : Netlist → ℕ
+memory_bits net = sum_by block_bits net.blocks
+
+-- there are not too many bits of memories, of which each lane has its own content
+abbrev pub HasFewBits : Netlist → Result (Unit {0}) Outcome → Type 0
+HasFewBits net = IsWithin MAX_PACK_BITS (memory_bits net) bits_limit_line
+
+-- there are not too many signals, each of which may be stuck
+abbrev pub HasFewSignals : Netlist → Result (Unit {0}) Outcome → Type 0
+HasFewSignals net = IsWithin MAX_FAULT_SIGNALS (length net.signals) signals_line

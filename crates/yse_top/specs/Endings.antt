@@ -14,6 +14,8 @@ ending_in (output.Text text) = None
 ending_in (output.Trace trace) = None
 ending_in (output.Unfinished trace ending) = Some ending
 ending_in (output.Written run) = None
+ending_in (output.Lanes traces) = None
+ending_in (output.Lines lines) = None
 
 abbrev pub status_after : Option Ending → Status
 status_after None = status.Done

@@ -10,8 +10,10 @@ use Rattle.yse_top.specs.Lines.{usage_line}
 use Rattle.yse_top.specs.Outcome.{Outcome, refusal}
 use Rattle.yse_top.specs.Readings.{Reading}
 use Rattle.yse_top.specs.commands.Exec.{ExpectedExec}
+use Rattle.yse_top.specs.commands.Fault.{ExpectedFault}
 use Rattle.yse_top.specs.commands.Large.{ExpectedLarge}
 use Rattle.yse_top.specs.commands.Layout.{ExpectedLayout}
+use Rattle.yse_top.specs.commands.Pack.{ExpectedPack}
 use Rattle.yse_top.specs.commands.Run.{ExpectedRun, ExpectedRefer}
 use Rattle.yse_top.specs.commands.Show.{ExpectedShow}
 
@@ -22,6 +24,8 @@ ExpectedOf (command.Order words) readings outcome = ExpectedRun words true words
 ExpectedOf (command.Plan words) readings outcome = ExpectedLayout sheet.Report words readings outcome
 ExpectedOf (command.Compile words) readings outcome = ExpectedLayout sheet.Image words readings outcome
 ExpectedOf (command.Exec words image) readings outcome = ExpectedExec words image readings outcome
+ExpectedOf (command.Pack words) readings outcome = ExpectedPack words readings outcome
+ExpectedOf (command.Fault words) readings outcome = ExpectedFault words readings outcome
 ExpectedOf (command.Show netlist) readings outcome = ExpectedShow netlist readings outcome
 ExpectedOf (command.Large gates cycles workers) readings outcome = ExpectedLarge gates cycles readings outcome
 

@@ -2,6 +2,7 @@
 use Rattle.std.specs.Prelude.{ℕ, List, [], ◌∷◌, ◌++◌, Option, Some, None, slice_get, slice_index, codes, decimal}
 use Rattle.std.specs.List.{flat_map}
 use Rattle.limits.specs.declared.TheConstants.{MAX_CELLS, MAX_PORTS, MAX_TEXT_BYTES}
+use Rattle.yse_top.specs.declared.TheConstants.{MAX_FAULT_SIGNALS, MAX_PACK_BITS}
 use Rattle.bench_text.specs.declared.token.TextNo.{TextNo}
 use Rattle.bench_text.specs.declared.token.TextNo.TheVariants as text_no
 use Rattle.bench_read.specs.declared.refusal.Many.{Many}
@@ -16,6 +17,8 @@ use Rattle.yse_compile.specs.declared.compiler.CompNo.{CompNo}
 use Rattle.yse_compile.specs.declared.compiler.CompNo.TheVariants as comp_no
 use Rattle.stim_text.specs.declared.refusal.StimNo.{StimNo}
 use Rattle.stim_text.specs.declared.refusal.StimNo.TheVariants as stim_no
+use Rattle.stim_text.specs.declared.refusal.LaneNo.{LaneNo}
+use Rattle.stim_text.specs.declared.refusal.LaneNo.TheVariants as lane_no
 use Rattle.stim_text.specs.declared.refusal.OrderNo.{OrderNo}
 use Rattle.stim_text.specs.declared.refusal.OrderNo.TheVariants as order_no
 use Rattle.image_file.specs.declared.refusal.ImageNo.{ImageNo}
@@ -42,8 +45,18 @@ memory_line = codes "out of memory\n"
 unfoldable pub too_long_line : List ℕ → List ℕ
 too_long_line file = joined (codes "limit: " ∷ file ∷ codes " has more than " ∷ decimal MAX_TEXT_BYTES ∷ codes " bytes\n" ∷ [])
 
-unfoldable pub cells_line : ℕ → List ℕ
-cells_line cells = joined (codes "limit: " ∷ decimal cells ∷ codes " cells, at most " ∷ decimal MAX_CELLS ∷ codes "\n" ∷ [])
+-- a size past its limit
+unfoldable pub limit_line : List ℕ → ℕ → ℕ → List ℕ
+limit_line what size most = joined (codes "limit: " ∷ decimal size ∷ what ∷ codes ", at most " ∷ decimal most ∷ codes "\n" ∷ [])
+
+abbrev pub cells_line : ℕ → List ℕ
+cells_line cells = limit_line (codes " cells") cells MAX_CELLS
+
+abbrev pub bits_limit_line : ℕ → List ℕ
+bits_limit_line bits = limit_line (codes " memory bits") bits MAX_PACK_BITS
+
+abbrev pub signals_line : ℕ → List ℕ
+signals_line signals = limit_line (codes " signals") signals MAX_FAULT_SIGNALS
 
 -- the names of a loop, each after a space
 unfoldable pub loop_line : Netlist → List ℕ → List ℕ
@@ -148,6 +161,13 @@ stimulus_line (stim_no.Width line got want) = width_line line got want
 stimulus_line (stim_no.Repeat line) = row_line line (codes "bad repeat")
 stimulus_line stim_no.TooManyCycles = cycles_line
 stimulus_line stim_no.Memory = memory_line
+
+-- a fault of a text of lanes
+abbrev pub lanes_line : LaneNo → List ℕ
+lanes_line (lane_no.NoLane line) = row_line line (codes "no lane")
+lanes_line (lane_no.TooMany line) = row_line line (codes "more than 30 lanes")
+lanes_line (lane_no.Stim why) = stimulus_line why
+lanes_line lane_no.Memory = memory_line
 
 -- ---- orders
 

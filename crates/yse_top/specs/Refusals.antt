@@ -10,6 +10,8 @@ use Rattle.bench_read.specs.declared.refusal.LastNo.{LastNo}
 use Rattle.bench_read.specs.declared.refusal.LastNo.TheVariants as last_no
 use Rattle.stim_text.specs.declared.refusal.StimNo.{StimNo}
 use Rattle.stim_text.specs.declared.refusal.StimNo.TheVariants as stim_no
+use Rattle.stim_text.specs.declared.refusal.LaneNo.{LaneNo}
+use Rattle.stim_text.specs.declared.refusal.LaneNo.TheVariants as lane_no
 use Rattle.stim_text.specs.declared.refusal.OrderNo.{OrderNo}
 use Rattle.stim_text.specs.declared.refusal.OrderNo.TheVariants as order_no
 use Rattle.image_file.specs.declared.refusal.ImageNo.{ImageNo}
@@ -23,9 +25,10 @@ use Rattle.yse_top.specs.declared.refusal.Refusal.TheVariants as refusal
 use Rattle.yse_top.specs.declared.status.Status.{Status}
 use Rattle.yse_top.specs.declared.status.Status.TheVariants as status
 use Rattle.yse_top.specs.Checks.{Refuses, text_of, read_fault}
-use Rattle.yse_top.specs.Lines.{usage_line, read_fault_line, memory_line, too_long_line, machine_line, netlist_line, loop_line, overfull_line, stimulus_line, cells_line, order_line, list_line, image_line, match_line}
+use Rattle.yse_top.specs.Lines.{usage_line, read_fault_line, memory_line, too_long_line, machine_line, netlist_line, loop_line, overfull_line, stimulus_line, cells_line, bits_limit_line, signals_line, lanes_line, order_line, list_line, image_line, match_line}
 use Rattle.yse_top.specs.Outcome.{Outcome, done, unfinished, refusal as refused}
-use Rattle.yse_top.specs.Outputs.{HasTaken, run_bytes, trace_bytes, wrote_in}
+use Rattle.edge_io.specs.Writing.{joined}
+use Rattle.yse_top.specs.Outputs.{HasTaken, lanes_bytes, run_bytes, trace_bytes, wrote_in}
 use Rattle.yse_top.specs.Readings.{Reading, AreReadings}
 
 abbrev pub line_of : Refusal → List ℕ
@@ -42,6 +45,9 @@ line_of (refusal.OrderText why) = order_line why
 line_of (refusal.LastList why) = list_line why
 line_of (refusal.ImageText why) = image_line why
 line_of (refusal.ImageMatch why) = match_line why
+line_of (refusal.Lanes why) = lanes_line why
+line_of (refusal.MemoryBits bits) = bits_limit_line bits
+line_of (refusal.Signals signals) = signals_line signals
 line_of refusal.Memory = memory_line
 
 abbrev pub status_of : Refusal → Status
@@ -58,6 +64,9 @@ status_of (refusal.OrderText why) = status.OrderText
 status_of (refusal.LastList why) = status.LastList
 status_of (refusal.ImageText why) = status.ImageText
 status_of (refusal.ImageMatch why) = status.ImageMatch
+status_of (refusal.Lanes why) = status.Stimulus
+status_of (refusal.MemoryBits bits) = status.Limit
+status_of (refusal.Signals signals) = status.Limit
 status_of refusal.Memory = status.Memory
 
 -- the refusal of a machine text
@@ -95,6 +104,11 @@ abbrev pub of_match : CheckNo → Refusal
 of_match check_no.Memory = refusal.Memory
 of_match why = refusal.ImageMatch why
 
+-- the refusal of a text of lanes
+abbrev pub of_lanes : LaneNo → Refusal
+of_lanes lane_no.Memory = refusal.Memory
+of_lanes why = refusal.Lanes why
+
 -- ---- outcomes
 
 -- an end with the output, which may be that of a run that was not finished
@@ -103,6 +117,8 @@ ended_with (output.Text text) = done text
 ended_with (output.Trace trace) = done (trace_bytes trace)
 ended_with (output.Unfinished trace ending) = unfinished ending.rows ending.cycles (trace_bytes trace)
 ended_with (output.Written run) = done (run_bytes run)
+ended_with (output.Lanes traces) = done (lanes_bytes traces)
+ended_with (output.Lines lines) = done (joined lines)
 
 abbrev pub refused_of : Refusal → Outcome
 refused_of why = refused (status_of why) (line_of why)

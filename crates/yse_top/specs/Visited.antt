@@ -34,7 +34,13 @@ use Rattle.yse_top.specs.Ends.{IsWhole, MayWrite}
 use Rattle.yse_top.specs.Outcome.{Outcome}
 use Rattle.yse_top.specs.Readings.{Reading}
 use Rattle.yse_top.specs.Refusals.{status_told}
-use Rattle.yse_top.specs.Traced.{AreOfFiles}
+use Rattle.stim_text.specs.declared.lanes.Lanes.{Lanes}
+use Rattle.stim_text.specs.Lanes.{longest}
+use Rattle.yse_top.specs.declared.commands.task.Task.{Task}
+use Rattle.yse_top.specs.declared.commands.task.Task.TheVariants as task
+use Rattle.yse_top.specs.Traced.{AreLanesOfFiles, AreOfFiles}
+use Rattle.yse_top.specs.commands.Fault.{FaultsIn}
+use Rattle.yse_top.specs.commands.Pack.{KeepsLanes, PacksIn}
 use Rattle.yse_top.specs.commands.Run.{EndsWithin, WritesTrace}
 
 -- each gate that a worker may use is there, and can be told of all turns
@@ -95,6 +101,16 @@ module _ {G : Type 0} (p : gate.Ghosts G) (bytes : Option (List ℕ → List ℕ
     pub are : AreOfFiles bytes words net stimulus
     pub visits : AreRunVisits p gates gates' wrote (length image.image.ports) words.timing net stimulus words.workers
 
+  -- the visits of a run of all lanes on the machine of the files, by the workers of the words: as many turns as the
+  -- longest lane has
+  pub record AreVisitsOfLanes (words : RunWords) : Type 0 where
+    pub machine : Machine
+    pub machine_is : IsMachineOfFile bytes words.machine machine
+    pub net : Netlist
+    pub lanes : Lanes
+    pub are : AreLanesOfFiles bytes words net lanes
+    pub visits : AreVisitsOf p (ports_of machine) (words.timing.units * longest lanes) words.workers gates gates'
+
   -- after a run the visits of all turns are made, and after a fault of writing those of a whole number of blocks;
   -- a run that is refused tells the gates nothing. `large` writes after its visits, and may want memory after
   -- them. Other commands tell no gate anything.
@@ -103,6 +119,7 @@ module _ {G : Type 0} (p : gate.Ghosts G) (bytes : Option (List ℕ → List ℕ
       AreTold result (AreVisitsOfFiles words (Ok tt)) (AreVisitsOfFiles words (Err Failed)) (gates' ≡ gates)
   TellsGates result (Some (command.Exec words image)) =
       AreTold result (AreVisitsOfImage words image (Ok tt)) (AreVisitsOfImage words image (Err Failed)) (gates' ≡ gates)
+  TellsGates result (Some (command.Pack words)) = AreTold result (AreVisitsOfLanes words) (AreVisitsOfLanes words) (gates' ≡ gates)
   TellsGates result (Some (command.Large count cycles workers)) =
       AreTold result (AreLargeVisits cycles workers) (AreLargeVisits cycles workers) ((gates' ≡ gates) ⊎ AreLargeVisits cycles workers)
   TellsGates result _ = gates' ≡ gates
@@ -135,6 +152,34 @@ module _ {G : Type 0} (p : gate.Ghosts G) (gates gates' : List (Option G)) where
   pub record ExecTelling (wrote : Result (Unit {0}) WriteNo) (words : RunWords) (image : Image) (timing : Timing) (net : Netlist) (stimulus : Stimulus) (readings : List Reading) (outcome : Outcome) : Type 0 where
     pub ends : WritesTrace net timing stimulus readings outcome
     pub visits : outcome.status ≡ status.Done → AreRunVisits p gates gates' wrote (length image.ports) timing net stimulus words.workers
+
+-- ---- what is asked of a netlist
+
+-- the pace of a run that a task is: of lanes by workers, and of faults none
+abbrev pub pace_of : Task → Pace
+pace_of (task.Lanes machine) = pace.Workers
+pace_of task.Faults = pace.Rounds
+
+-- the machine of a task is valid
+abbrev pub HasMachine : Task → Type 0
+HasMachine (task.Lanes machine) = machine_text.IsValid machine.now
+HasMachine task.Faults = ⊤
+
+module _ {G : Type 0} (p : gate.Ghosts G) (gates gates' : List (Option G)) where
+  -- the end of a run of lanes, which told the gates
+  pub record LanesTelling (words : RunWords) (machine : Machine) (timing : Timing) (net : Netlist) (lanes : Lanes) (readings : List Reading) (outcome : Outcome) : Type 0 where
+    pub ends : KeepsLanes net timing lanes readings outcome
+    pub visits : outcome.status ≡ status.Done → AreVisitsOf p (ports_of machine) (timing.units * longest lanes) words.workers gates gates'
+
+  -- the end of a task once the netlist and its timing are known, with what the gates are told
+  abbrev pub TaskEnd : Task → RunWords → Netlist → Timing → List Reading → Outcome → Type 0
+  TaskEnd (task.Lanes machine) words net timing = PacksIn words (LanesTelling words) machine.now net timing
+  TaskEnd task.Faults words net timing = FaultsIn words.stimulus net timing
+
+-- the gates are told as by a run of lanes
+abbrev pub TellsOfLanes : {G : Type 0} → gate.Ghosts G → Option (List ℕ → List ℕ) → List (Option G) → List (Option G) → RunWords → Result Output Refusal → Type 0
+TellsOfLanes p bytes gates gates' words result =
+    AreTold (status_told result) (AreVisitsOfLanes p bytes gates gates' words) (AreVisitsOfLanes p bytes gates gates' words) (gates' ≡ gates)
 
 -- where workers stepped the ports, the gates are told as by a run
 abbrev pub TellsOfRun : {G : Type 0} → gate.Ghosts G → Option (List ℕ → List ℕ) → List (Option G) → List (Option G) → Pace → RunWords → Result Output Refusal → Type 0

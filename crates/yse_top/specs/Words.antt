@@ -13,6 +13,8 @@ files_of (command.Order words) = option_to_list words.machine ++ (words.netlist 
 files_of (command.Plan words) = option_to_list words.machine ++ (words.netlist ∷ option_to_list words.last)
 files_of (command.Compile words) = option_to_list words.machine ++ (words.netlist ∷ option_to_list words.last)
 files_of (command.Exec words image) = words.netlist ∷ (option_to_list words.last ++ (image ∷ words.stimulus ∷ []))
+files_of (command.Pack words) = option_to_list words.machine ++ (words.netlist ∷ (option_to_list words.last ++ (words.stimulus ∷ [])))
+files_of (command.Fault words) = words.netlist ∷ (option_to_list words.last ++ (words.stimulus ∷ []))
 files_of (command.Show netlist) = netlist ∷ []
 files_of (command.Large gates cycles workers) = []
 
@@ -29,6 +31,8 @@ traced_by (Some (command.Order words)) = Some words
 traced_by (Some (command.Plan words)) = None
 traced_by (Some (command.Compile words)) = None
 traced_by (Some (command.Exec words image)) = Some words
+traced_by (Some (command.Pack words)) = None
+traced_by (Some (command.Fault words)) = None
 traced_by (Some (command.Show netlist)) = None
 traced_by (Some (command.Large gates cycles workers)) = None
 
@@ -41,6 +45,8 @@ order_named (Some (command.Order words)) = words.order
 order_named (Some (command.Plan words)) = None
 order_named (Some (command.Compile words)) = None
 order_named (Some (command.Exec words image)) = None
+order_named (Some (command.Pack words)) = None
+order_named (Some (command.Fault words)) = None
 order_named (Some (command.Show netlist)) = None
 order_named (Some (command.Large gates cycles workers)) = None
 

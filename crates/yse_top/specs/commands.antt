@@ -1,7 +1,9 @@
 pub mod Compile
 pub mod Exec
+pub mod Fault
 pub mod Large
 pub mod Layout
+pub mod Pack
 pub mod Plan
 pub mod Run
 pub mod Show

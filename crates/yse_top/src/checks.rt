@@ -2,29 +2,30 @@
 
 ghost use Rattle.std.specs.Prelude.{◌≡◌, ◌≤◌, Ok, Err, length, IfOk, IfErr, OnOk};
 ghost use Rattle.limits.specs.declared.TheConstants.{MAX_TEXT_BYTES};
-ghost use Rattle.net_defs.specs.Loops.{IsOrder};
+ghost use Rattle.net_defs.specs.Loops.{AreRanks, IsOrder};
 ghost use Rattle.machine_text.specs.Machines.{IsValid as IsValidMachine, ports_of};
 ghost use Rattle.net_defs.specs.declared.stimulus.Stimulus.{Stimulus};
-ghost use Rattle.net_defs.specs.Valid.{Ascends, IsValid, IsValidStimulus, IsValidTiming};
+ghost use Rattle.net_defs.specs.Valid.{Ascends, IsValid, IsValidStimulus, IsValidTiming, input_count};
 ghost use Rattle.yse_compile.specs.Chosen.{IsChosen, FitsBy};
 ghost use Rattle.yse_compile.specs.Compiled.{ShowsReference, IsOverfull, IsRight};
-ghost use Rattle.yse_top.specs.Checks.{Refuses, RefusesDesign, IsListOf, IsMachineOf, IsNetlistOf, IsOrderOf, IsStimulusOf, HasNoLoop, HasRoom, HasFewCells, cell_count};
+ghost use Rattle.yse_top.specs.Checks.{Refuses, RefusesDesign, IsLanesOf, IsListOf, IsMachineOf, IsNetlistOf, IsOrderOf, IsStimulusOf, HasNoLoop, HasRoom, HasFewCells, cell_count};
+ghost use Rattle.stim_text.specs.Lanes.{AreLanes};
 ghost use Rattle.stim_text.specs.Orders.{IsValidOrder};
 ghost use Rattle.yse_top.specs.Images.{IsImageOf};
 ghost use Rattle.yse_top.specs.Orders.{IsMachineImage};
 ghost use Rattle.yse_top.specs.Refusals.{Satisfies, refused_of};
 
-use crate::refusal::{Refusal, of_list, of_machine, of_netlist, of_order, of_stimulus};
+use crate::refusal::{Refusal, of_lanes, of_list, of_machine, of_netlist, of_order, of_stimulus};
 use bench_read::law::reads_as_valid;
 use bench_read::{read_bench, read_last};
 use image_defs::Image;
 use limits::MAX_CELLS;
 use machine_text::{Machine, read_machine};
-use net_defs::{HomeChoice, Netlist, Stimulus, Timing};
-use rank_find::{RankNo, order};
+use net_defs::{HomeChoice, Netlist, Ranks, Stimulus, Timing};
+use rank_find::{RankNo, order, rank};
 use seen_list::List;
 use std::alloc::Global;
-use stim_text::{Order, read_order, read_stim};
+use stim_text::{Lanes, Order, read_lanes, read_order, read_stim};
 use yse_compile::inputs::same_inputs;
 use yse_compile::{Chosen, CompNo, compile_with};
 
@@ -33,6 +34,13 @@ use yse_compile::{Chosen, CompNo, compile_with};
 pub struct Design {
     pub net: Netlist,
     pub order: List<u32>,
+}
+
+/// A netlist, and the ranks of its gates.
+#[derive(Drop)]
+pub struct WithRanks {
+    pub net: Netlist,
+    pub ranks: Ranks,
 }
 
 /// A netlist, and its design as it is compiled for a machine.
@@ -246,6 +254,35 @@ fn cell_count(net: &Netlist, stimulus: &Stimulus) -> u64
 {
     let columns = u64::from(net.inputs()) + net.printed.len() as u64;
     u64::from(stimulus.cycles()) * columns
+}
+
+/// The lanes of a text, which is given up once it is read, for the inputs of a netlist.
+pub fn lanes_of<'a>(alloc: Global, text: List<u8>, net: &Netlist) -> Result<Lanes, Refusal<'a>>
+    requires valid { IsValid net.now }
+    requires short { length text ≤ MAX_TEXT_BYTES }
+    ensures checked { Satisfies result (IsLanesOf text net.now) }
+    ensures lanes { IfOk result (AreLanes (input_count net.now)) }
+{
+    match read_lanes(alloc, text.as_slice(), net.inputs()) {
+        Ok(lanes) => Ok(lanes),
+        Err(no) => Err(of_lanes(no)),
+    }
+}
+
+/// The netlist with the ranks of its gates, and else a loop.
+pub fn ranked<'a>(alloc: Global, net: Netlist, timing: &Timing) -> Result<WithRanks, Refusal<'a>>
+    requires net { IsValid net }
+    requires timing { IsValidTiming timing.now }
+    ensures same { IfOk result (λ design. design.net ≡ net) }
+    ensures ranks { IfOk result (λ design. AreRanks net timing.now design.ranks) }
+    ensures acyclic { OnOk result (HasNoLoop net timing.now (Ok tt)) }
+    ensures looped { IfErr result (λ no. Refuses (HasNoLoop net timing.now) (refused_of no)) }
+{
+    match rank(alloc, &net, timing) {
+        Ok(ranks) => Ok(WithRanks { net, ranks }),
+        Err(RankNo::Loop(members)) => Err(Refusal::Loop(net, members)),
+        Err(RankNo::Memory) => Err(Refusal::Memory),
+    }
 }
 
 /// The order of a text for the ports of a machine.

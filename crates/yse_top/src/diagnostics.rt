@@ -3,10 +3,11 @@
 ghost use Rattle.std.specs.Prelude.{◌≡◌, ◌<◌, ◌++◌, length, slice_get, IfSome, codes, decimal};
 ghost use Rattle.std.specs.List.{flat_map};
 ghost use Rattle.net_defs.specs.Canonical.{name_of};
-ghost use Rattle.yse_top.specs.Lines.{usage_line, read_fault_line, write_fault_line, memory_line, too_long_line, cells_line, loop_line, fault_line, byte_line, twice_line, undriven_line, many_words, text_line, netlist_line, row_line, width_line, cycles_line, stimulus_line};
+ghost use Rattle.yse_top.specs.Lines.{usage_line, read_fault_line, write_fault_line, memory_line, too_long_line, limit_line, loop_line, fault_line, byte_line, twice_line, undriven_line, many_words, text_line, netlist_line, row_line, width_line, cycles_line, stimulus_line};
 ghost use Rattle.yse_top.specs.Refusals.{line_of, status_of};
 ghost use Rattle.edge_io.specs.Writing.{Takes, TakesLine};
 
+use crate::lane_lines::write_lanes_line;
 use crate::list_lines::write_list_line;
 use crate::match_lines::{write_image_line, write_match_line};
 use crate::order_lines::write_order_line;
@@ -14,6 +15,7 @@ use crate::output::write_piece;
 use crate::overfull::{write_machine_line, write_overfull_line};
 use crate::refusal::Refusal;
 use crate::status::Status;
+use crate::{MAX_FAULT_SIGNALS, MAX_PACK_BITS};
 use bench_read::{BenchNo, Many};
 use bench_text::TextNo;
 use edge_io::{Sink, WriteNo};
@@ -52,8 +54,9 @@ fn status_of(refusal: &Refusal<'_>) -> Status
         Refusal::Netlist(_) => Status::Netlist,
         Refusal::Loop(..) => Status::Loop,
         Refusal::Overfull(..) => Status::Overfull,
-        Refusal::Stimulus(_) => Status::Stimulus,
-        Refusal::TooLong(_) | Refusal::Cells(_) => Status::Limit,
+        Refusal::Stimulus(_) | Refusal::Lanes(_) => Status::Stimulus,
+        Refusal::TooLong(_) | Refusal::Cells(_) | Refusal::MemoryBits(_) | Refusal::Signals(_) =>
+            Status::Limit,
         Refusal::OrderText(_) => Status::OrderText,
         Refusal::LastList(_) => Status::LastList,
         Refusal::ImageText(_) => Status::ImageText,
@@ -95,11 +98,18 @@ fn write_line<S: Sink>(sink: &mut S, refusal: &Refusal<'_>) -> Result<(), WriteN
         Refusal::Loop(net, members) => write_loop_line(sink, net, members.as_slice()),
         Refusal::Overfull(net, no) => write_overfull_line(sink, net, no),
         Refusal::Stimulus(no) => write_stimulus_line(sink, no),
-        Refusal::Cells(cells) => write_cells_line(sink, *cells),
+        Refusal::Cells(cells) => write_limit_line(sink, b" cells", *cells, MAX_CELLS),
         Refusal::OrderText(no) => write_order_line(sink, no),
         Refusal::LastList(no) => write_list_line(sink, no),
         Refusal::ImageText(no) => write_image_line(sink, no),
         Refusal::ImageMatch(no) => write_match_line(sink, no),
+        Refusal::Lanes(no) => write_lanes_line(sink, no),
+        Refusal::MemoryBits(bits) => {
+            write_limit_line(sink, b" memory bits", *bits, MAX_PACK_BITS)
+        }
+        Refusal::Signals(signals) => {
+            write_limit_line(sink, b" signals", *signals, MAX_FAULT_SIGNALS)
+        }
         Refusal::Memory => write_memory_line(sink),
     }
 }
@@ -140,15 +150,15 @@ fn write_too_long_line<S: Sink>(sink: &mut S, file: &[u8]) -> Result<(), WriteNo
     )
 }
 
-#[tactic(auto, unfolding(crate::specs::Lines::cells_line))]
-fn write_cells_line<S: Sink>(sink: &mut S, cells: u64) -> Result<(), WriteNo>
+#[tactic(auto, unfolding(crate::specs::Lines::limit_line))]
+fn write_limit_line<S: Sink>(sink: &mut S, what: &[u8], size: u64, most: u64) -> Result<(), WriteNo>
     ensures { Takes (S.taken sink.old) (S.taken sink.new) (S.faults sink.old) (S.faults sink.new)
-        result (cells_line cells) }
+        result (limit_line what.now size most) }
 {
     let (mut first, mut second) = (Buffer::new(), Buffer::new());
-    let cells = first.format(cells).as_bytes();
-    let most = second.format(MAX_CELLS).as_bytes();
-    write_pieces(sink, &[b"limit: ", cells, b" cells, at most ", most, b"\n"])
+    let size = first.format(size).as_bytes();
+    let most = second.format(most).as_bytes();
+    write_pieces(sink, &[b"limit: ", size, what, b", at most ", most, b"\n"])
 }
 
 #[tactic(auto, unfolding(crate::specs::Lines::write_fault_line))]
@@ -275,7 +285,7 @@ fn write_undriven_line<S: Sink>(sink: &mut S, line: u32, name: &[u8]) -> Result<
     )
 }
 
-fn write_stimulus_line<S: Sink>(sink: &mut S, no: &StimNo) -> Result<(), WriteNo>
+pub fn write_stimulus_line<S: Sink>(sink: &mut S, no: &StimNo) -> Result<(), WriteNo>
     ensures { Takes (S.taken sink.old) (S.taken sink.new) (S.faults sink.old) (S.faults sink.new)
         result (stimulus_line no.now) }
 {
@@ -289,7 +299,7 @@ fn write_stimulus_line<S: Sink>(sink: &mut S, no: &StimNo) -> Result<(), WriteNo
 }
 
 #[tactic(auto, unfolding(crate::specs::Lines::row_line))]
-fn write_row_line<S: Sink>(sink: &mut S, line: u32, fault: &[u8]) -> Result<(), WriteNo>
+pub fn write_row_line<S: Sink>(sink: &mut S, line: u32, fault: &[u8]) -> Result<(), WriteNo>
     ensures { Takes (S.taken sink.old) (S.taken sink.new) (S.faults sink.old) (S.faults sink.new)
         result (row_line line fault.now) }
 {

@@ -41,7 +41,11 @@ fn ending_of(output: &Output) -> Option<Ending>
 {
     match output {
         Output::Unfinished(_, ending) => Some(*ending),
-        Output::Text(_) | Output::Trace(_) | Output::Written(_) => None,
+        Output::Text(_)
+        | Output::Trace(_)
+        | Output::Written(_)
+        | Output::Lanes(_)
+        | Output::Lines(_) => None,
     }
 }
 

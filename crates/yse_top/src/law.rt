@@ -16,6 +16,7 @@ use bench_read::law::{reads_or_faults as netlists_or_faults, texts_read_as_valid
 use bench_read::list_law::reads_or_faults as lists_or_faults;
 use cmd_words::law::{forms_are_asked, forms_are_in_range};
 use event_defs::law::links_decide;
+use fault_sim::one_list as one_list_of_verdicts;
 use home_better::law::{one_better, some_better};
 use image_file::law::reads_or_faults as images_or_faults;
 use large_run::law::one_summary;
@@ -27,6 +28,7 @@ use node_map::law::items_exist;
 use plan_defs::law::items_are_well_formed;
 use rank_find::order_or_loop;
 use ref_sim::one_simulation;
+use stim_text::lane_law::reads_or_faults as lanes_or_faults;
 use stim_text::law::reads_or_faults as stimuli_or_faults;
 use stim_text::order_law::reads_or_faults as orders_or_faults;
 use yse_compile::inputs::same_inputs;
@@ -51,6 +53,7 @@ pub fn calls_are_proper()
     orders_or_faults();
     lists_or_faults();
     images_or_faults();
+    lanes_or_faults();
     same_inputs();
     machines_are_valid();
     texts_read_as_valid();
@@ -65,6 +68,7 @@ pub fn calls_are_proper()
     one_better();
     planned_or_refused();
     one_list();
+    one_list_of_verdicts();
     items_are_well_formed();
     links_decide();
     one_summary();

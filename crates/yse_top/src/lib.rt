@@ -1,7 +1,7 @@
 //! The whole program over any store of files and any sinks.
 #![tactic(auto)]
 
-ghost use Rattle.std.specs.Prelude.{◌≡◌, ◌≢◌, ◌≤◌, ◌↔◌, ℕ, List, None, IfSome, map, length};
+ghost use Rattle.std.specs.Prelude.{◌≡◌, ◌≢◌, ◌≤◌, ◌↔◌, ℕ, List, None, map, length};
 ghost use Rattle.std.specs.Io.KnownBytes.{append_known};
 ghost use Rattle.std.specs.String.{string_bytes};
 ghost use Rattle.edge_io.specs.Counts.{raised, Rose};
@@ -13,9 +13,9 @@ ghost use Rattle.yse_top.specs.Expected.{Expected};
 ghost use Rattle.yse_top.specs.Lines.{memory_line};
 ghost use Rattle.yse_top.specs.Outcome.{Outcome, done};
 ghost use Rattle.yse_top.specs.Readings.{Reading, AreReadings};
-ghost use Rattle.yse_top.specs.Traced.{IsTraceOfFiles};
+ghost use Rattle.yse_top.specs.Traced.{IsOutputOfFiles};
 ghost use Rattle.yse_top.specs.Visited.{AllCanTell, TellsGates};
-ghost use Rattle.yse_top.specs.Words.{files_named, traced_by};
+ghost use Rattle.yse_top.specs.Words.{files_named};
 ghost use Rattle.edge_io.specs.Writing.{TakesLine};
 
 mod checks;
@@ -23,6 +23,7 @@ mod commands;
 mod diagnostics;
 mod ending;
 mod images;
+mod lane_lines;
 pub mod law;
 mod list_lines;
 mod match_lines;
@@ -31,6 +32,7 @@ mod output;
 mod overfull;
 mod reading;
 mod refusal;
+mod sizes;
 mod status;
 
 use cmd_words::law::forms_are_asked;
@@ -47,6 +49,12 @@ use std::alloc::Global;
 use std::marker::{Send, Sync};
 use std::sync::Wait;
 use std::thread::Threads;
+
+/// The most bits of all memories of a design whose lanes run at once: each lane has its own content.
+pub const MAX_PACK_BITS: u64 = 16_777_216;
+
+/// The most signals of a netlist whose stuck faults are listed.
+pub const MAX_FAULT_SIGNALS: u64 = 65_536;
 
 /// Does what the words say. `run`, `refer` and `order` with `NETLIST STIMULUS [--mode rank|unit|mixed]
 /// [--last FILE] [--units K] [--init x|0]` simulate the netlist of the one file with the stimulus of the
@@ -82,6 +90,15 @@ use std::thread::Threads;
 /// block has 4,096 cycles, or `268,435,456 / n` where that is less, and one at least. A fault of writing ends
 /// the run: no later block is begun.
 ///
+/// `pack NETLIST STIMULI [--machine FILE] [--mode rank|unit|mixed] [--last FILE] [--units K] [--init x|0]
+/// [--workers N]` runs up to 30 stimuli at once on the compiled machine, and writes for each the line `lane N` and then
+/// its trace. A lane past its own cycles has X at every input. The cells of 30 lanes of as many cycles as the longest
+/// are at most 268,435,456, and the memories of the design have at most 16,777,216 bits in all.
+///
+/// `fault NETLIST STIMULUS [--mode rank|unit|mixed] [--last FILE] [--units K] [--init x|0] [--workers N]` lists for
+/// each signal and each of 0 and 1 in which cycle and at which printed name it is first seen that the signal is stuck
+/// there, and ends with how many of these faults are seen. It takes netlists of at most 65,536 signals.
+///
 /// Worker `w` tells the gate `w` of each turn that begins of the ports that it steps, which are the ports
 /// `p` with `p % N` equal to `w`. Workers wait for one another, so what is promised holds if the call returns.
 pub fn yse<R: Threads + Wait + Sync, F: Files, O: Sink, E: Sink, G: Gate + Send>(
@@ -96,10 +113,11 @@ pub fn yse<R: Threads + Wait + Sync, F: Files, O: Sink, E: Sink, G: Gate + Send>
     requires gates { MAX_WORKERS ≤ length gates.old }
     requires tell { AllCanTell G.Gate.own gates.old }
 
-    // After a simulation the output is the trace of the netlist and the stimulus that its files read as.
+    // After a simulation the output is the trace of the netlist and the stimulus that its files read as; after one of
+    // lanes the trace of each; after one of stuck faults where each is first seen.
     ensures trace { result ≡ Status.Done → (output : List ℕ)
         × (O.taken out.new ≡ append_known (O.taken out.old) output)
-        × IfSome (traced_by (asked (map string_bytes words.now))) (IsTraceOfFiles (F.bytes files.old) output) }
+        × IsOutputOfFiles (F.bytes files.old) output (asked (map string_bytes words.now)) }
 
     // The call comes to an outcome that is expected of the words and of what was read.
     ensures expected { (readings : List Reading) × (outcome : Outcome)
@@ -118,8 +136,9 @@ pub fn yse<R: Threads + Wait + Sync, F: Files, O: Sink, E: Sink, G: Gate + Send>
         → IsDoneOrMemory result }
 
     // After a run, by an image of a file or not, the gate of each worker was told of all turns of each of its ports,
-    // after a fault of writing of those of a whole number of blocks, and before a refusal of nothing; `large` tells
-    // the gates of its turns, and the other commands tell no gate anything.
+    // after a fault of writing of those of a whole number of blocks, and before a refusal of nothing; a run of lanes
+    // tells of the turns of the longest lane, `large` tells the gates of its turns, and the other commands tell no gate
+    // anything.
     ensures visits { TellsGates G.Gate.own (F.bytes files.old) gates.old gates.new result (asked (map string_bytes words.now)) }
 
     // Words are refused exactly where they are of no form, unless memory ran out.

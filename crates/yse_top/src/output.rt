@@ -1,16 +1,14 @@
 //! The output of a request, and how it is written.
 
-ghost use Rattle.std.specs.Prelude.{◌≡◌, ◌≤◌, ◌++◌, ℕ, IsErr, OnErr, Some, length, slice_get};
-ghost use Rattle.limits.specs.declared.TheConstants.{MAX_CYCLES};
-ghost use Rattle.net_defs.specs.declared.trace.CellRow.{CellRow};
-ghost use Rattle.trace_text.specs.Line.{row_room};
-ghost use Rattle.yse_top.specs.Outputs.{bytes_of, trace_bytes, CanEnd, CanPrint, HasTaken, cycle_lines, wrote_in};
+ghost use Rattle.std.specs.Prelude.{IsErr, OnErr};
+ghost use Rattle.yse_top.specs.Outputs.{bytes_of, lanes_bytes, trace_bytes, CanEnd, CanPrint, CanPrintLanes, HasTaken, wrote_in};
 ghost use Rattle.edge_io.specs.Writing.{Takes};
 
 use edge_io::{Sink, WriteNo, write_whole};
 use image_defs::Image;
-use net_defs::{CellRow, Netlist, Rows, Stimulus};
-use seen_list::Text;
+use kept_lines::{LaneMark, write_lanes, write_texts, write_trace};
+use net_defs::{Netlist, Rows, Stimulus};
+use seen_list::{List, Text};
 use trace_text::TraceLine;
 
 /// The printed values of a netlist, and room for a line of its trace.
@@ -19,6 +17,15 @@ pub struct Trace {
     pub net: Netlist,
     pub rows: Rows,
     pub line: TraceLine,
+}
+
+/// The printed values of the lanes of a netlist, and room for the line of a lane and for a line of a trace.
+#[derive(Drop)]
+pub struct LaneTraces {
+    pub net: Netlist,
+    pub lanes: List<Rows>,
+    pub line: TraceLine,
+    pub mark: LaneMark,
 }
 
 /// A run that wrote its trace itself, block after block, and what came of the writing.
@@ -41,6 +48,10 @@ pub enum Output {
     Unfinished(Trace, Ending),
     /// Nothing more: the run wrote it.
     Written(Written),
+    /// One piece for each line of each lane.
+    Lanes(LaneTraces),
+    /// One piece for each of these lines.
+    Lines(List<Text>),
 }
 
 /// Where a run ended: the rows that are done, and those of a whole run.
@@ -59,9 +70,11 @@ pub fn write_output<O: Sink>(out: &mut O, output: Output) -> Result<(), WriteNo>
 {
     match output {
         Output::Text(text) => write_piece(out, text.as_bytes()),
-        Output::Trace(trace) => write_trace(out, trace),
-        Output::Unfinished(trace, _) => write_trace(out, trace),
+        Output::Trace(trace) => write_rows(out, trace),
+        Output::Unfinished(trace, _) => write_rows(out, trace),
         Output::Written(run) => run.wrote,
+        Output::Lanes(traces) => write_traces(out, traces),
+        Output::Lines(lines) => write_texts(out, lines.as_slice()),
     }
 }
 
@@ -73,36 +86,26 @@ pub fn write_piece<S: Sink>(sink: &mut S, piece: &[u8]) -> Result<(), WriteNo>
     write_whole(sink, piece)
 }
 
-#[tactic(auto, using(edge_io::proofs::WritingLemmas::writes_then, edge_io::proofs::WritingLemmas::writes_stop))]
-fn write_trace<O: Sink>(out: &mut O, trace: Trace) -> Result<(), WriteNo>
+fn write_rows<O: Sink>(out: &mut O, trace: Trace) -> Result<(), WriteNo>
     requires { CanPrint trace }
     ensures { Takes (O.taken out.old) (O.taken out.new) (O.faults out.old) (O.faults out.new) result
         (trace_bytes trace) }
 {
-    let Trace {
-        net,
-        rows,
-        mut line,
-    } = trace;
-    line.header(&net);
-    match write_piece(out, line.bytes()) {
-        Ok(()) => write_rows(out, &mut line, rows.rows.as_slice()),
-        Err(no) => Err(no),
-    }
+    let mut line = trace.line;
+    write_trace(out, &trace.net, &mut line, trace.rows.rows.as_slice())
 }
 
-/// Writes the line of each cycle, counted from 1.
-fn write_rows<O: Sink>(out: &mut O, line: &mut TraceLine, rows: &[CellRow]) -> Result<(), WriteNo>
-    requires room { (c : ℕ) (row : CellRow) → slice_get rows.now c ≡ Some row → row_room (length row.cells) ≤ line.old.room }
-    requires cycles { length rows.now ≤ MAX_CYCLES }
-    ensures { Takes (O.taken out.old) (O.taken out.new) (O.faults out.old) (O.faults out.new)
-        result (cycle_lines rows.now) }
+fn write_traces<O: Sink>(out: &mut O, traces: LaneTraces) -> Result<(), WriteNo>
+    requires { CanPrintLanes traces }
+    ensures { Takes (O.taken out.old) (O.taken out.new) (O.faults out.old) (O.faults out.new) result
+        (lanes_bytes traces) }
 {
-    'rows: for (i, row) in rows.iter().enumerate() {
-        line.row(i as u32 + 1, row.cells.as_slice());
-        if let Err(no) = write_piece(out, line.bytes()) {
-            return Err(no);
-        }
-    }
-    Ok(())
+    let (mut mark, mut line) = (traces.mark, traces.line);
+    write_lanes(
+        out,
+        &traces.net,
+        &mut mark,
+        &mut line,
+        traces.lanes.as_slice(),
+    )
 }

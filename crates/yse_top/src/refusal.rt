@@ -1,7 +1,7 @@
 //! Why a call ends before its output. A fault of writing is no refusal.
 
 ghost use Rattle.std.specs.Prelude.{◌≡◌};
-ghost use Rattle.yse_top.specs.Refusals.{of_image, of_list, of_machine, of_match, of_netlist, of_order, of_stimulus};
+ghost use Rattle.yse_top.specs.Refusals.{of_image, of_lanes, of_list, of_machine, of_match, of_netlist, of_order, of_stimulus};
 
 use bench_read::{BenchNo, LastNo};
 use image_check::CheckNo;
@@ -9,7 +9,7 @@ use image_file::ImageNo;
 use machine_text::MachNo;
 use net_defs::Netlist;
 use seen_list::List;
-use stim_text::{OrderNo, StimNo};
+use stim_text::{LaneNo, OrderNo, StimNo};
 use yse_compile::CompNo;
 
 /// A refusal, with what its line names.
@@ -41,6 +41,12 @@ pub enum Refusal<'a> {
     ImageText(ImageNo),
     /// The image does not match the netlist.
     ImageMatch(CheckNo),
+    /// The text is none of lanes for the netlist.
+    Lanes(LaneNo),
+    /// There are too many bits of memories.
+    MemoryBits(u64),
+    /// There are too many signals.
+    Signals(u64),
     /// Want of memory.
     Memory,
 }
@@ -72,6 +78,16 @@ pub fn of_stimulus<'a>(no: StimNo) -> Refusal<'a>
     match no {
         StimNo::Memory => Refusal::Memory,
         other => Refusal::Stimulus(other),
+    }
+}
+
+/// The refusal of a text of lanes.
+pub fn of_lanes<'a>(no: LaneNo) -> Refusal<'a>
+    ensures { result ≡ of_lanes no }
+{
+    match no {
+        LaneNo::Memory => Refusal::Memory,
+        other => Refusal::Lanes(other),
     }
 }
 

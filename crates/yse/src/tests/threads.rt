@@ -31,6 +31,11 @@ const S27_ROWS: &str = "0000\n0001\n0000\n1000\n0001\n";
 
 const S27_TRACE: &str = "cycle G17\n1 1\n2 0\n3 0\n4 1\n5 1\n";
 
+/// The same rows as a lane.
+const S27_LANE: &str = "lane\n0000\n0001\n0000\n1000\n0001\n";
+
+const S27_LANE_TRACE: &str = "lane 1\ncycle G17\n1 1\n2 0\n3 0\n4 1\n5 1\n";
+
 /// Whether a call over the files of S27, with these words, prints its trace.
 fn prints_s27<R: Threads + Wait + Sync>(
     rt: &R,
@@ -231,12 +236,24 @@ fn held(gate: Option<&Option<WatchGate<'_>>>) -> (bool, bool) {
 /// another.
 #[test]
 fn two_workers_meet(rt: HostRuntime) -> Result<(), Fail> {
-    let line = "run net.bench net.stim --init 0 --workers 2";
-    let files = files_of(rt.alloc(), (S27, S27_ROWS, TWO_LOGIC))?;
-    let watched = run_watched(&rt, rt.alloc(), Watch::Pair, line, files)?;
-    assert_eq!(rt; watched.ended.out.taken(), S27_TRACE.as_bytes());
-    assert_eq!(rt; watched.first, (true, true));
-    assert_eq!(rt; watched.second, (true, true));
+    for (line, rows, trace) in [
+        (
+            "run net.bench net.stim --init 0 --workers 2",
+            S27_ROWS,
+            S27_TRACE,
+        ),
+        (
+            "pack net.bench net.stim --init 0 --workers 2",
+            S27_LANE,
+            S27_LANE_TRACE,
+        ),
+    ] {
+        let files = files_of(rt.alloc(), (S27, rows, TWO_LOGIC))?;
+        let watched = run_watched(&rt, rt.alloc(), Watch::Pair, line, files)?;
+        assert_eq!(rt; watched.ended.out.taken(), trace.as_bytes());
+        assert_eq!(rt; watched.first, (true, true));
+        assert_eq!(rt; watched.second, (true, true));
+    }
     Ok(())
 }
 
@@ -246,18 +263,25 @@ const C17_ROWS: &str = "11111 * 10\n";
 const C17_TRACE: &str =
     "cycle 22 23\n1 10\n2 10\n3 10\n4 10\n5 10\n6 10\n7 10\n8 10\n9 10\n10 10\n";
 
-/// Whether a call of these words, by two workers, prints those cycles, with the first worker held at the host's third
-/// turn while the second one got no further.
+/// The same cycles as a lane.
+const C17_LANE: &str = "lane\n11111 * 10\n";
+
+const C17_LANE_TRACE: &str =
+    "lane 1\ncycle 22 23\n1 10\n2 10\n3 10\n4 10\n5 10\n6 10\n7 10\n8 10\n9 10\n10 10\n";
+
+/// Whether a call of these words, by two workers, prints this, with the first worker held at the host's third turn
+/// while the second one got no further.
 fn waits_for_the_host<R: Threads + Wait + Sync>(
     rt: &R,
     alloc: Global,
     line: &str,
     files: MemFiles,
+    trace: &str,
 ) -> Result<bool, Memory> {
     let watched = run_watched(rt, alloc, Watch::Hold, line, files)?;
     Ok(
         watched.ended.status == 0
-            && watched.ended.out.taken() == C17_TRACE.as_bytes()
+            && watched.ended.out.taken() == trace.as_bytes()
             && watched.first == (true, false),
     )
 }
@@ -265,9 +289,21 @@ fn waits_for_the_host<R: Threads + Wait + Sync>(
 /// While the host is held at its third turn, the port that takes values from it does not get past that turn.
 #[test]
 fn a_worker_waits_for_the_host(rt: HostRuntime) -> Result<(), Fail> {
-    let line = "run net.bench net.stim --machine net.machine --workers 2";
-    let files = files_of(rt.alloc(), (C17, C17_ROWS, TWO_LOGIC))?;
-    assert!(rt; waits_for_the_host(&rt, rt.alloc(), line, files)?);
+    for (line, rows, trace) in [
+        (
+            "run net.bench net.stim --machine net.machine --workers 2",
+            C17_ROWS,
+            C17_TRACE,
+        ),
+        (
+            "pack net.bench net.stim --machine net.machine --workers 2",
+            C17_LANE,
+            C17_LANE_TRACE,
+        ),
+    ] {
+        let files = files_of(rt.alloc(), (C17, rows, TWO_LOGIC))?;
+        assert!(rt; waits_for_the_host(&rt, rt.alloc(), line, files, trace)?);
+    }
     Ok(())
 }
 
@@ -289,7 +325,7 @@ fn files_with_image<R: Threads + Wait + Sync>(rt: &R, alloc: Global) -> Result<M
 fn a_worker_waits_for_the_host_of_an_image(rt: HostRuntime) -> Result<(), Fail> {
     let line = "exec net.bench net.image net.stim --workers 2";
     let files = files_with_image(&rt, rt.alloc())?;
-    assert!(rt; waits_for_the_host(&rt, rt.alloc(), line, files)?);
+    assert!(rt; waits_for_the_host(&rt, rt.alloc(), line, files, C17_TRACE)?);
     Ok(())
 }
 

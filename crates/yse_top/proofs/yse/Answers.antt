@@ -1,6 +1,5 @@
 -- What was read, and the outcome that is expected of it, say the rest.
 use Rattle.std.proofs.Common.{◌∙◌, sym, ap, subst, map, inl, inr, ◌≡◌, ◌≢◌, ◌↔◌, None, Some}
-use Rattle.std.specs.Prelude.{IfSome}
 use Rattle.std.specs.String.{string_bytes}
 use Rattle.cmd_words.specs.declared.command.Command.{Command}
 use Rattle.cmd_words.specs.Forms.{HasForm}
@@ -11,9 +10,8 @@ use Rattle.yse_top.specs.declared.status.Status.TheVariants as status
 use Rattle.yse_top.specs.Ends.{IsDoneOrMemory}
 use Rattle.yse_top.specs.Outputs.{bytes_of}
 use Rattle.yse_top.specs.Refusals.{ended_with, refused_of}
-use Rattle.yse_top.specs.Traced.{IsTraceOfFiles}
+use Rattle.yse_top.specs.Traced.{IsOutputOfFiles}
 use Rattle.yse_top.specs.Visited.{TellsGates}
-use Rattle.yse_top.specs.Words.{traced_by}
 use Rattle.yse_top.proofs.CallLemmas.{follows_words, follows_usage, follows_no_memory, few_begun, ended_no_fault, ended_not_read}
 use Rattle.yse_top.proofs.EndLemmas.{absent_kept, fault_rose, completes}
 use Rattle.yse_top.proofs.TracedLemmas.{traced}
@@ -28,7 +26,7 @@ returns-in-Ok-prepare-clause-trace g c is =
     let whole = c.end.ensures.whole c.args.out.now c.in-Ok-prepare.ensures.written is in (
       bytes_of c.in-Ok-prepare.output,
       whole.1,
-      subst (λ a. IfSome (traced_by a) (IsTraceOfFiles (g.F.Files.bytes c.args.files.now) (bytes_of c.in-Ok-prepare.output))) (sym c.in-Ok.ensures.asked)
+      subst (IsOutputOfFiles (g.F.Files.bytes c.args.files.now) (bytes_of c.in-Ok-prepare.output)) (sym c.in-Ok.ensures.asked)
           (traced (g.F.Files.bytes c.args.files.now) _ _ _ c.in-Ok.command c.in-Ok-prepare.output whole.0 c.in-Ok-prepare.ensures.expected),
     )
 

@@ -45,6 +45,12 @@ AfterFit choice net machine timing Next =
     After (HasNoLoop net timing) (λ passed.
     After (HasRoom choice net machine timing) (λ fits. Next))
 
+-- the netlist file, its text, the list, and then this end of the netlist in its timing
+unfoldable pub AfterNetlist : RunWords → (Netlist → Timing → List Reading → Outcome → Type 0) → List Reading → Outcome → Type 0
+AfterNetlist words End =
+    AfterFile words.netlist (λ text.
+    After (IsNetlistOf text) (λ net. AfterList words.last net words.timing (End net)))
+
 -- the netlist file, its text, the list, and the design on the machine in the timing
 unfoldable pub AfterDesign : RunWords → Machine → (Timing → Netlist → List Reading → Outcome → Type 0) → List Reading → Outcome → Type 0
 AfterDesign words machine Next =

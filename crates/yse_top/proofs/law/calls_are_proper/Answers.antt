@@ -2,7 +2,7 @@
 use Rattle.std.proofs.Common.{◌≡◌, ◌∙◌, ◌↔◌, ◌⊎◌, inl, inr, ◌≢◌, ◌≤◌, sym, ap, refl, subst, ℕ, Bool, true, false, List, [], ◌∷◌, ◌++◌, length, Option, Some, None, Ok, Err, arith}
 use Rattle.std.specs.Option.{option_to_list}
 use Rattle.std.proofs.lemmas.List.{append-nil}
-use Rattle.limits.specs.declared.TheConstants.{MAX_LARGE_GATES, MAX_TEXT_BYTES}
+use Rattle.limits.specs.declared.TheConstants.{MAX_CELLS, MAX_LARGE_GATES, MAX_TEXT_BYTES}
 use Rattle.machine_text.specs.declared.machine.Machine.{Machine}
 use Rattle.machine_text.specs.Machines as machine_text
 use Rattle.machine_text.specs.Machines.{IsValid as IsValidMachine, default_machine, ports_of}
@@ -39,33 +39,42 @@ use Rattle.cmd_words.specs.declared.command.RunWords.{RunWords}
 use Rattle.cmd_words.specs.Asked.{asked}
 use Rattle.large_run.specs.Runs.{IsSummaryOf}
 use Rattle.yse_top.specs.declared.status.Status.TheVariants as status
-use Rattle.yse_top.specs.Checks.{After, Ends, Writes, IsMachineOf, IsNetlistOf, HasNoLoop, HasRoom, IsStimulusOf, HasFewCells, IsListOf, IsOrderOf, listing}
+use Rattle.stim_text.specs.LaneTexts as lane_texts
+use Rattle.stim_text.specs.declared.lanes.Lanes.{Lanes}
+use Rattle.edge_io.specs.Writing.{joined}
+use Rattle.fault_lines.specs.Lines.{fault_lines}
+use Rattle.fault_sim.specs.Verdicts.{HasOneList, HaveOneList}
+use Rattle.yse_top.specs.declared.TheConstants.{MAX_FAULT_SIGNALS, MAX_PACK_BITS}
+use Rattle.yse_top.specs.Checks.{After, Ends, Writes, IsLanesOf, HasFewBits, HasFewLaneCells, HasFewSignals, cell_count, lane_cell_count, memory_bits, IsMachineOf, IsNetlistOf, HasNoLoop, HasRoom, IsStimulusOf, HasFewCells, IsListOf, IsOrderOf, listing}
 use Rattle.cmd_words.specs.Forms.{HasForm, IsInRange}
 use Rattle.yse_top.specs.declared.status.Status.{Status}
 use Rattle.yse_top.specs.Expected.{Expected, ExpectedOf, Asks}
 use Rattle.yse_top.specs.Law.{AreImageTexts, Equal, IsProper, HasOutcome, SameOutput}
-use Rattle.yse_top.specs.Lines.{usage_line, machine_line, netlist_line, stimulus_line, order_line, list_line, image_line}
+use Rattle.yse_top.specs.Lines.{usage_line, machine_line, netlist_line, stimulus_line, cells_line, bits_limit_line, signals_line, lanes_line, order_line, list_line, image_line}
 use Rattle.yse_top.specs.Outcome.{Outcome, refusal}
 use Rattle.yse_top.specs.Readings.{Reading}
 use Rattle.yse_top.specs.Orders.{EndsInOrder}
 use Rattle.yse_top.specs.Words.{files_of, files_named, IsSettled}
 use Rattle.yse_top.specs.commands.Exec.{AfterImage, AfterMatch, ExecutesBy, ExpectedExec, IsAccepted, IsImageFileOf, OnImage, RunsImage, WritesTraceOf}
+use Rattle.yse_top.specs.commands.Fault.{ExpectedFault, FaultsIn, IsFaultList, ListsFaults}
 use Rattle.yse_top.specs.commands.Large.{ExpectedLarge}
+use Rattle.yse_top.specs.commands.Pack.{AfterLanes, AreLaneTraces, ExpectedPack, KeepsLanes, KeepsLanesOn, PacksIn, PacksOn}
 use Rattle.yse_top.specs.commands.Compile.{IsImageTextOf}
 use Rattle.yse_top.specs.commands.Layout.{ExpectedLayout, ExpectedLayoutOn, IsSheetOf}
 use Rattle.yse_top.specs.commands.Plan.{IsReportOf}
 use Rattle.yse_top.specs.declared.commands.layout.Sheet.{Sheet}
 use Rattle.yse_top.specs.declared.commands.layout.Sheet.TheVariants as sheet
-use Rattle.yse_top.specs.commands.Run.{AfterCells, AfterDesign, AfterFit, AfterList, AfterLoop, AfterMachine, AfterStimulus, WritesTrace, EndsBy, EndsWithin, ExpectedRun, ExpectedOn, ExpectedRefer, KeepsTrace}
+use Rattle.yse_top.specs.commands.Run.{AfterCells, AfterDesign, AfterFit, AfterList, AfterLoop, AfterMachine, AfterNetlist, AfterStimulus, WritesTrace, EndsBy, EndsWithin, ExpectedRun, ExpectedOn, ExpectedRefer, KeepsTrace}
 use Rattle.yse_top.specs.commands.Show.{ExpectedShow}
 use Rattle.yse_top.proofs.AcceptedLemmas.{accepted_single, interchangeable}
 use Rattle.yse_top.proofs.CommandLemmas.{IsCommand, command_after, command_single, command_file, command_ends, not_words}
+use Rattle.yse_top.proofs.LaneLemmas.{traces_only, traces_some}
 use Rattle.yse_top.proofs.OrderLemmas.{DecidesOrder, done_alike, order_ending}
 use Rattle.yse_top.proofs.OutcomeLemmas.{outcome_after, outcome_writes}
 use Rattle.yse_top.proofs.ProperLemmas.{IsCheck, IsSingle, IsAnswered, alike, memory_status, proper_after, writes_ending}
 use Rattle.yse_top.proofs.ChoiceLemmas.{HasHomes, has_homes}
 use Rattle.yse_top.proofs.ReportLemmas.{AreOnce, one_report, some_report}
-use Rattle.yse_top.proofs.CheckLemmas.{reads_check, loop_check, IsRoomLaw, room_check, cells_check, trace_only, trace_some}
+use Rattle.yse_top.proofs.CheckLemmas.{reads_check, loop_check, IsRoomLaw, room_check, size_check, trace_only, trace_some}
 use Rattle.yse_top.proofs.law.calls_are_proper.Goals as goal
 
 -- the laws of the layers below
@@ -78,6 +87,8 @@ record Laws : Type 0 where
   room : (choice : HomeChoice) (net : Netlist) (machine : Machine) (timing : Timing) → IsValid net → IsValidMachine machine → ((circle : List ℕ) → IsCircle net timing circle → ⊥) → IsRoomLaw choice net machine timing
   stimuli : (inputs : ℕ) → IsReader (stim.Reads inputs) (stim.first_fault inputs)
   orders : (ports : ℕ) → IsReader (orders.Reads ports) (orders.first_fault ports)
+  lanes : (inputs : ℕ) → IsReader (lane_texts.ReadsAsLanes inputs) (lane_texts.first_lanes_fault inputs)
+  verdicts : HaveOneList
   lists : (net : Netlist) → IsReader (gate_lists.Reads net) (gate_lists.first_fault net)
   forms : (words : List (List ℕ)) (command : Command) → (asked words ≡ Some command) ↔ HasForm words command
   in_range : (words : List (List ℕ)) (command : Command) → HasForm words command → IsInRange command
@@ -119,6 +130,8 @@ same_output (Some (command.Order words)) output = refl
 same_output (Some (command.Plan words)) output = refl
 same_output (Some (command.Compile words)) output = inl refl
 same_output (Some (command.Exec words image)) output = refl
+same_output (Some (command.Pack words)) output = refl
+same_output (Some (command.Fault words)) output = refl
 same_output (Some (command.Show netlist)) output = refl
 same_output (Some (command.Large gates cycles workers)) output = refl
 
@@ -139,6 +152,10 @@ module _ (laws : Laws) where
   order_check : (text : List ℕ) (machine : Machine) → IsCheck (IsOrderOf text machine)
   order_check text machine =
       reads_check (orders.Reads (ports_of machine)) (orders.first_fault (ports_of machine)) (laws.orders (ports_of machine)) text status.OrderText order_line tt
+
+  lanes_check : (text : List ℕ) (net : Netlist) → IsCheck (IsLanesOf text net)
+  lanes_check text net =
+      reads_check (lane_texts.ReadsAsLanes (input_count net)) (lane_texts.first_lanes_fault (input_count net)) (laws.lanes (input_count net)) text status.Stimulus lanes_line tt
 
   list_check : (text : List ℕ) (net : Netlist) → IsCheck (IsListOf text net)
   list_check text net = reads_check (gate_lists.Reads net) (gate_lists.first_fault net) (laws.lists net) text status.LastList list_line tt
@@ -166,7 +183,7 @@ module _ (laws : Laws) where
     cells_proper : (limited : Bool) (files : List (List ℕ)) (net : Netlist) (stimulus : Stimulus) (Next : List Reading → Outcome → Type 0) → IsCommand Settled Same files Next → IsCommand Settled Same files (AfterCells limited net stimulus Next)
     cells_proper false files net stimulus Next on = on
     cells_proper true files net stimulus Next on =
-        command_after Settled Same same files (HasFewCells net stimulus) (λ few. Next) (cells_check net stimulus) (λ few cells. on)
+        command_after Settled Same same files (HasFewCells net stimulus) (λ few. Next) (size_check MAX_CELLS (cell_count net stimulus) cells_line) (λ few cells. on)
 
     machine_proper : (file : Option (List ℕ)) (files : List (List ℕ)) (Next : Machine → List Reading → Outcome → Type 0) → ((machine : Machine) → IsValidMachine machine → IsCommand Settled Same files (Next machine)) → IsCommand Settled Same (option_to_list file ++ files) (AfterMachine file Next)
     unfolding AfterMachine
@@ -214,6 +231,57 @@ module _ (laws : Laws) where
         let valid = laws.valid_netlists text net short is in
         list_proper words.last files net words.timing (λ timing. AfterFit words.homes net machine timing (Next timing net)) (λ timing.
         fit_proper words.homes files net machine valid machine_valid timing (Next timing net) (on timing net valid))))
+
+    netlist_proper : (words : RunWords) (files : List (List ℕ)) (End : Netlist → Timing → List Reading → Outcome → Type 0) → ((net : Netlist) → IsValid net → (timing : Timing) → IsCommand Settled Same files (End net timing))
+        → IsCommand Settled Same (words.netlist ∷ (option_to_list words.last ++ files)) (AfterNetlist words End)
+    unfolding AfterNetlist
+    netlist_proper words files End on =
+        let Listed : Netlist → List Reading → Outcome → Type 0 = λ net. AfterList words.last net words.timing (End net) in
+        let all : List (List ℕ) = option_to_list words.last ++ files in
+        command_file Settled Same same words.netlist all (λ text. After (IsNetlistOf text) Listed) (λ text short.
+        command_after Settled Same same all (IsNetlistOf text) Listed (netlist_check text) (λ net is.
+        list_proper words.last files net words.timing (End net) (on net (laws.valid_netlists text net short is))))
+
+    lanes_proper : (net : Netlist) (timing : Timing) (lanes : Lanes) → IsAcyclic net timing → IsCommand Settled Same [] (KeepsLanes net timing lanes)
+    lanes_proper net timing lanes acyclic =
+        let one : (stimulus : Stimulus) → HasOneSimulation net timing stimulus = λ stimulus. laws.one_simulation net timing stimulus acyclic in
+        let traces = traces_some net timing one 0 lanes.lanes in
+        command_after Settled Same same [] (HasFewLaneCells net lanes) (λ few. Ends (Writes (AreLaneTraces net timing lanes))) (size_check MAX_CELLS (lane_cell_count net lanes) cells_line) (λ few cells.
+        command_ends Settled Same same (Writes (AreLaneTraces net timing lanes)) (writes_ending Same (AreLaneTraces net timing lanes) (λ s t is is_too. equal_same (traces_only net timing one 0 lanes.lanes s t is is_too)))
+        (λ settled. outcome_writes (AreLaneTraces net timing lanes) traces.0 traces.1))
+
+    packs_proper : (words : RunWords) (machine : Machine) → IsValidMachine machine → (net : Netlist) → IsValid net → (timing : Timing) → IsCommand Settled Same (words.stimulus ∷ []) (PacksIn words KeepsLanesOn machine net timing)
+    unfolding AfterLanes
+    packs_proper words machine machine_valid net valid timing =
+        let files : List (List ℕ) = words.stimulus ∷ [] in
+        let Then : List Reading → Outcome → Type 0 = AfterLanes words.stimulus net (KeepsLanesOn machine timing net) in
+        fit_proper words.homes files net machine valid machine_valid timing (After (HasFewBits net) (λ few. Then)) (λ acyclic fits.
+        command_after Settled Same same files (HasFewBits net) (λ few. Then) (size_check MAX_PACK_BITS (memory_bits net) bits_limit_line) (λ few bits.
+        command_file Settled Same same words.stimulus [] (λ text. After (IsLanesOf text net) (KeepsLanes net timing)) (λ text short.
+        command_after Settled Same same [] (IsLanesOf text net) (KeepsLanes net timing) (lanes_check text net) (λ lanes is. lanes_proper net timing lanes acyclic))))
+
+    pack_proper : (words : RunWords) → IsCommand Settled Same (option_to_list words.machine ++ (words.netlist ∷ (option_to_list words.last ++ (words.stimulus ∷ [])))) (ExpectedPack words)
+    pack_proper words =
+        machine_proper words.machine (words.netlist ∷ (option_to_list words.last ++ (words.stimulus ∷ []))) (PacksOn words KeepsLanesOn) (λ machine machine_valid.
+        netlist_proper words (words.stimulus ∷ []) (PacksIn words KeepsLanesOn machine) (packs_proper words machine machine_valid))
+
+    list_of_faults : (net : Netlist) (timing : Timing) (stimulus : Stimulus) → HasOneList net timing stimulus → IsCommand Settled Same [] (ListsFaults net timing stimulus)
+    list_of_faults net timing stimulus one =
+        command_ends Settled Same same (Writes (IsFaultList net timing stimulus)) (writes_ending Same (IsFaultList net timing stimulus) (λ s t is is_too. equal_same (only s t is is_too)))
+        (λ settled. outcome_writes (IsFaultList net timing stimulus) (joined (fault_lines net one.verdicts)) (record { verdicts = one.verdicts; are = one.exists; printed = refl }))
+      where
+        only : (s t : List ℕ) → IsFaultList net timing stimulus s → IsFaultList net timing stimulus t → s ≡ t
+        only s t is is_too = is.printed ∙ ap (λ verdicts. joined (fault_lines net verdicts)) (one.only is.verdicts is.are ∙ sym (one.only is_too.verdicts is_too.are)) ∙ sym is_too.printed
+
+    faults_proper : (file : List ℕ) (net : Netlist) (timing : Timing) → IsCommand Settled Same (file ∷ []) (FaultsIn file net timing)
+    faults_proper file net timing =
+        let Then : List Reading → Outcome → Type 0 = AfterStimulus file net (ListsFaults net timing) in
+        command_after Settled Same same (file ∷ []) (HasNoLoop net timing) (λ passed. After (HasFewSignals net) (λ few. Then)) (loop_check net timing (laws.order_or_loop net timing) (laws.never_both net timing)) (λ passed acyclic.
+        command_after Settled Same same (file ∷ []) (HasFewSignals net) (λ few. Then) (size_check MAX_FAULT_SIGNALS (length net.signals) signals_line) (λ few signals.
+        stimulus_proper file [] net (ListsFaults net timing) (λ stimulus. list_of_faults net timing stimulus (laws.verdicts net timing stimulus acyclic))))
+
+    fault_proper : (words : RunWords) → IsCommand Settled Same (words.netlist ∷ (option_to_list words.last ++ (words.stimulus ∷ []))) (ExpectedFault words)
+    fault_proper words = netlist_proper words (words.stimulus ∷ []) (FaultsIn words.stimulus) (λ net valid. faults_proper words.stimulus net)
 
     sheet_proper : (asked : Sheet) (choice : HomeChoice) (net : Netlist) (machine : Machine) (timing : Timing) → IsValid net → IsValidMachine machine → FitsBy choice net machine timing
         → (Settled → asked ≡ sheet.Report) → (asked ≡ sheet.Image → (s t : List ℕ) → AreImageTexts s t → Same s t) → IsCommand Settled Same [] (Ends (Writes (IsSheetOf asked choice net machine timing)))
@@ -297,6 +365,8 @@ module _ (laws : Laws) where
   command_proper (command.Plan words) range = layout_proper (None ≡ None) Equal equal sheet.Report words (λ settled. refl) (λ image. absurd (no_report (sym image)))
   command_proper (command.Compile words) range = layout_proper ⊥ (SameOutput (Some (command.Compile words))) (λ output. inl refl) sheet.Image words (λ never. absurd never) (λ image s t texts. inr texts)
   command_proper (command.Exec words image) range = exec_proper words image
+  command_proper (command.Pack words) range = pack_proper (None ≡ None) Equal equal words
+  command_proper (command.Fault words) range = fault_proper (None ≡ None) Equal equal words
   command_proper (command.Show file) range = show_proper (None ≡ None) Equal equal file
   command_proper (command.Large gates cycles workers) range = large_proper (None ≡ None) Equal equal gates cycles range.gates_few
 
@@ -382,6 +452,8 @@ returns c =
           (subst IsWellFormed made.image_is made.is.design.built.fits) (subst IsWellFormed made_too.image_is made_too.is.design.built.fits) linked some after.steps after_too.steps in
           done_alike (turn_count timing stimulus) image other one two linked same.1 same.2;
       images = c.reads_or_faults-6.ensures.reader;
+      lanes = c.reads_or_faults-7.ensures.reader;
+      verdicts = c.one_list-2.ensures;
       accepted = λ net timing file valid. accepted_single net timing file (λ one other items items_too.
           interchangeable file timing one other (c.one_list.ensures net timing one other items items_too) (c.items_are_well_formed.ensures net timing other valid items_too)
           (c.same_inputs.ensures net timing one valid items ∙ sym (c.same_inputs.ensures net timing other valid items_too)));

@@ -1,5 +1,3 @@
-use Rattle.std.proofs.Common.{◌≡◌, ◌++◌, refl, sym, subst}
-use Rattle.yse_top.specs.commands.Plan.{IsReportOf}
 use Rattle.yse_top.proofs.commands.plan.report_of.Goals as goal
 
 pub report-requires-clause-nodes : goal.report-requires-clause-nodes

@@ -11,7 +11,7 @@ use Rattle.yse_top.specs.Readings.{Reading}
 use Rattle.yse_top.specs.Refusals.{written_by}
 use Rattle.yse_top.specs.Visited.{EndsTelling}
 use Rattle.yse_top.specs.commands.Run.{AfterMachine, ExpectedOn}
-use Rattle.yse_top.proofs.ChainLemmas.{follows_file, follows_on, follows_here}
+use Rattle.yse_top.proofs.ChainLemmas.{follows_file, follows_on, follows_here, follows_refused}
 use Rattle.yse_top.proofs.commands.run.run_by.Goals as goal
 
 module _ (words : RunWords) (End : (Machine → Timing → Netlist → Stimulus → List Reading → Outcome → Type 0)) where
@@ -38,3 +38,9 @@ returns-in-Err-machine_of-clause-expected g c =
     let text = c.in-Ok.text in
     follows_file _ _ _ _ _ _ _ _ text _ (of_text words end) c.in-Ok.ensures.same_names c.in-Ok.ensures.same_bytes c.in-Ok.ensures.text
     (follows_here _ _ _ _ (of_text words end text) (inr (refl, e.checked)))
+
+pub returns-in-Err-clause-expected : goal.returns-in-Err-clause-expected
+unfolding AfterMachine
+returns-in-Err-clause-expected g c =
+    let end = EndsTelling g.G.Gate c.args.gates.now c.args.gates.now (Ok tt) c.args.pace c.args.words.now in
+    follows_refused _ _ _ _ _ _ (of_text c.args.words.now end) c.in-Err.ensures.text
