@@ -95,11 +95,11 @@ fn cases() -> &'static [Case] {
     CASES
 }
 
-/// The end of a call of these words over the files of a case.
+/// The end of a call of these lines of words over the files of a case.
 fn end_of_case<R: Threads + Wait + Sync>(
     rt: &R,
     alloc: Global,
-    words: &str,
+    lines: &[&str],
     case: &Case,
 ) -> Result<Ended, Memory> {
     let files: [(&[u8], &[u8]); 3] = [
@@ -108,13 +108,7 @@ fn end_of_case<R: Threads + Wait + Sync>(
         (b"net.last", case.list.as_bytes()),
     ];
     let mut files = store(alloc, &files, 0)?;
-    end_of(
-        rt,
-        alloc,
-        &[words, "net.bench net.stim", case.options],
-        &mut files,
-        0,
-    )
+    end_of(rt, alloc, lines, &mut files, 0)
 }
 
 #[test]
@@ -125,7 +119,8 @@ fn faults_are_seen_as_in_edited_netlists(rt: HostRuntime) -> Result<(), Fail> {
             "fault --workers 2",
             "fault --workers 7",
         ] {
-            let ended = end_of_case(&rt, rt.alloc(), words, case)?;
+            let lines = [words, "net.bench net.stim", case.options];
+            let ended = end_of_case(&rt, rt.alloc(), &lines, case)?;
             assert_eq!(rt; ended.out.taken(), case.output.as_bytes());
             assert_eq!(rt; ended.status, 0);
         }

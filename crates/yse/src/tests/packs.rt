@@ -129,11 +129,11 @@ fn cases() -> &'static [Case] {
     CASES
 }
 
-/// The end of a call of these words over the files of a case, with this stimulus.
+/// The end of a call of these lines of words over the files of a case, with this stimulus.
 fn end_of_case<R: Threads + Wait + Sync>(
     rt: &R,
     alloc: Global,
-    words: &str,
+    lines: &[&str],
     case: &Case,
     stimulus: &[u8],
 ) -> Result<Ended, Memory> {
@@ -144,13 +144,7 @@ fn end_of_case<R: Threads + Wait + Sync>(
         (b"net.machine", b"logic 3\n"),
     ];
     let mut files = store(alloc, &files, 0)?;
-    end_of(
-        rt,
-        alloc,
-        &[words, "net.bench net.stim", case.options],
-        &mut files,
-        0,
-    )
+    end_of(rt, alloc, lines, &mut files, 0)
 }
 
 /// The text of the lanes.
@@ -171,7 +165,8 @@ fn references<R: Threads + Wait + Sync>(
 ) -> Result<Text, Memory> {
     let mut text = Text::new(alloc);
     for n in 0..case.lanes.len() {
-        let ended = end_of_case(rt, alloc, "refer", case, case.lanes[n].as_bytes())?;
+        let lines = ["refer", "net.bench net.stim", case.options];
+        let ended = end_of_case(rt, alloc, &lines, case, case.lanes[n].as_bytes())?;
         text.push_bytes(format!(in alloc; "lane {}\n", n + 1)?.as_bytes())?;
         text.push_bytes(ended.out.taken())?;
     }
@@ -188,7 +183,8 @@ fn lanes_print_their_references(rt: HostRuntime) -> Result<(), Fail> {
             "pack --workers 7",
             "pack --workers 2 --machine net.machine",
         ] {
-            let ended = end_of_case(&rt, rt.alloc(), words, case, stimulus.as_bytes())?;
+            let lines = [words, "net.bench net.stim", case.options];
+            let ended = end_of_case(&rt, rt.alloc(), &lines, case, stimulus.as_bytes())?;
             assert_eq!(rt; ended.out.taken(), wanted.as_bytes());
             assert_eq!(rt; ended.status, 0);
         }
