@@ -52,17 +52,17 @@ one_turn Unit units allows is = cc
 one_turn Mixed units allows is = cc
 
 timed : (value file : Option Word) (mode : Option Mode) (units : Option ℕ) (init : Option Init) (timing : Timing) → count_or MAX_UNITS 1 value ≡ units
-    → timing_with mode units init file ≡ Some timing → IsValidTiming timing
+    → timing_with mode units init file ≡ Some timing → IsValidTiming timing × (timing ≡ record timing { listed = [] })
 timed value file None units init timing are is = cc
 timed value file (Some mode) None init timing are is = cc
 timed value file (Some mode) (Some units) None timing are is = cc
 timed value file (Some mode) (Some units) (Some init) timing are is = by (allows_units mode units) (allows_list mode file) refl is
   where
-    by : (a b : Bool) → allows_units mode units ≡ a → (if a && b then Some (record { mode = mode; units = units; init = init; listed = [] }) else None) ≡ Some timing → IsValidTiming timing
+    by : (a b : Bool) → allows_units mode units ≡ a → (if a && b then Some (record { mode = mode; units = units; init = init; listed = [] }) else None) ≡ Some timing → IsValidTiming timing × (timing ≡ record timing { listed = [] })
     by true true allows e =
         let same : record { mode = mode; units = units; init = init; listed = [] } ≡ timing = cc in
         let range = counted_or MAX_UNITS 1 value units (omega arith) (omega arith) are in
-        subst IsValidTiming same (record { some = range.0; few = range.1; rank = one_turn mode units allows; ascends = λ i j before within. absurd (omega arith) })
+        subst (λ (t : Timing). IsValidTiming t × (t ≡ record t { listed = [] })) same (record { some = range.0; few = range.1; rank = one_turn mode units allows; ascends = λ i j before within. absurd (omega arith) }, refl)
     by true false allows e = cc
     by false b allows e = cc
 
@@ -71,8 +71,10 @@ run_in_range name options words arguments run form =
     let value : Values = value_given form.given in
     let banks = counted_or MAX_BANKS 1 (value (codes "banks")) run.banks (omega arith) (omega arith) form.banks in
     let workers = counted_or MAX_WORKERS 4 (value (codes "workers")) run.workers (omega arith) (omega arith) form.workers in
+    let timing = timed (value (codes "units")) (value (codes "last")) (mode_of (value (codes "mode"))) (count_or MAX_UNITS 1 (value (codes "units"))) (init_of (value (codes "init"))) run.timing refl form.timing in
     record {
-      timing = timed (value (codes "units")) (value (codes "last")) (mode_of (value (codes "mode"))) (count_or MAX_UNITS 1 (value (codes "units"))) (init_of (value (codes "init"))) run.timing refl form.timing;
+      timing = timing.0;
+      unlisted = timing.1;
       banks_some = banks.0;
       banks_few = banks.1;
       workers_some = workers.0;

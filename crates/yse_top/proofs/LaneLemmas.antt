@@ -40,7 +40,8 @@ use Rattle.yse_top.specs.commands.Run.{AfterMachine}
 use Rattle.yse_top.proofs.CheckLemmas.{trace_only, trace_some}
 use Rattle.yse_top.proofs.ShownLemmas.{shown_prints, trace_shown}
 use Rattle.yse_top.proofs.TracedLemmas.{reached_lanes, same_units}
-use Rattle.yse_top.proofs.VisitedLemmas.{after_so, fit_so, is_done, lanes_so, machine_so, netlist_so, told_as}
+use Rattle.yse_top.proofs.VisitedLemmas.{is_done, told_as}
+use Rattle.yse_top.proofs.WeakerLemmas.{after_so, fit_so, lanes_so, machine_so, netlist_so}
 
 -- ---- the traces of lanes
 

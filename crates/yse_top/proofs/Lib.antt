@@ -11,6 +11,7 @@ mod GateLemmas
 mod LaneLemmas
 mod OrderLemmas
 mod OutcomeLemmas
+mod PassingLemmas
 mod ProperLemmas
 mod ReportLemmas
 mod ShownLemmas
@@ -20,3 +21,4 @@ mod TextLemmas
 mod TraceLemmas
 mod TracedLemmas
 mod VisitedLemmas
+mod WeakerLemmas

@@ -4,6 +4,7 @@ use Rattle.std.specs.Prelude.{slice_get, IfSome}
 use Rattle.limits.specs.declared.TheConstants.{MAX_TEXT_BYTES}
 use Rattle.edge_io.specs.Names.{OfTold}
 use Rattle.edge_io.specs.declared.counts.FileCounts.{FileCounts}
+use Rattle.net_defs.specs.declared.homes.HomeChoice.{HomeChoice}
 use Rattle.net_defs.specs.declared.netlist.Netlist.{Netlist}
 use Rattle.net_defs.specs.declared.stimulus.Stimulus.{Stimulus}
 use Rattle.net_defs.specs.declared.timing.Timing.{Timing}
@@ -37,7 +38,7 @@ use Rattle.yse_top.specs.Visited.{IsImageOfFile, IsMachineOfFile}
 use Rattle.yse_top.specs.commands.Fault.{ExpectedFault, FaultsIn, IsFaultList, ListsFaults}
 use Rattle.yse_top.specs.commands.Pack.{AfterLanes, AreLaneTraces, ExpectedPack, KeepsLanesOn, PacksIn, PacksOn}
 use Rattle.yse_top.specs.commands.Exec.{AfterImage, AfterMatch, ExecutesBy, ExpectedExec, IsAccepted, IsImageFileOf, OnImage, RunsImage, WritesTraceOf}
-use Rattle.yse_top.specs.commands.Run.{AfterCells, AfterDesign, AfterList, AfterLoop, AfterMachine, AfterNetlist, AfterStimulus, WritesTrace, EndsBy, EndsWithin, ExpectedRun, ExpectedOn, ExpectedRefer, KeepsTrace, OnTiming}
+use Rattle.yse_top.specs.commands.Run.{AfterCells, AfterFit, AfterList, AfterLoop, AfterMachine, AfterNetlist, AfterStimulus, WritesTrace, EndsBy, EndsWithin, ExpectedRun, ExpectedOn, ExpectedRefer, KeepsTrace, OnTiming}
 use Rattle.yse_top.proofs.EndingLemmas.{whole_output}
 use Rattle.yse_top.proofs.ProperLemmas.{passes, refuses, refused_once, never_both}
 use Rattle.std.specs.Prelude.{nat_le, length, if◌then◌else◌}
@@ -147,6 +148,12 @@ module _ (bytes : Option (List ℕ → List ℕ)) where
             next = list.2;
           }
 
+  -- a design that fits
+  reached_fit : (choice : HomeChoice) (net : Netlist) (machine : Machine) (timing : Timing) (Next : List Reading → Outcome → Type 0) (readings : List Reading) (output : List ℕ) → AfterFit choice net machine timing Next readings (done output) → Next readings (done output)
+  reached_fit choice net machine timing Next readings output expected =
+      let order = passed (HasNoLoop net timing) (λ passed. After (HasRoom choice net machine timing) (λ fits. Next)) readings output (λ e. not_done _ status.Loop output e.2 refl (λ e. cc)) expected in
+      (passed (HasRoom choice net machine timing) (λ fits. Next) readings output (λ e. not_done _ status.Overfull output e.4 refl (λ e. cc)) order.2).2
+
   -- the stimulus of a netlist
   record ReachedStimulus (words : RunWords) (net : Netlist) (End : Stimulus → List Reading → Outcome → Type 0) (output : List ℕ) : Type 0 where
     text : List ℕ
@@ -187,42 +194,6 @@ module _ (bytes : Option (List ℕ → List ℕ)) where
     stimulus_reads = end.reads;
   }
 
-  reached_on : (words : RunWords) (End : Machine → Timing → Netlist → Stimulus → List Reading → Outcome → Type 0) (machine : Machine) → IsMachineOfFile bytes words.machine machine → (readings : List Reading) (output : List ℕ) → AreTold readings → ExpectedOn words End machine readings (done output) → Reached words End output
-  unfolding ExpectedOn AfterDesign
-  reached_on words End machine is readings output are expected =
-      let Next : Netlist → List Reading → Outcome → Type 0 = λ net. AfterList words.last net words.timing (OnTiming words End machine net) in
-      let first = gave words.netlist (λ text. After (IsNetlistOf text) Next) readings output are expected in
-      let netlist = passed (IsNetlistOf first.text) Next first.others output (λ e. not_done _ status.Netlist output e.2 refl (λ e. cc)) first.next in
-      let net = netlist.0 in
-      let list = reached_timing words net (OnTiming words End machine net) first.others output first.are netlist.2 in
-      let Then : List Reading → Outcome → Type 0 = AfterStimulus words.stimulus net (End machine list.timing net) in
-      let order = passed (HasNoLoop net list.timing) (λ passed. After (HasRoom words.homes net machine list.timing) (λ fits. Then)) list.others output (λ e. not_done _ status.Loop output e.2 refl (λ e. cc)) list.next in
-      let room = passed (HasRoom words.homes net machine list.timing) (λ fits. Then) list.others output (λ e. not_done _ status.Overfull output e.4 refl (λ e. cc)) order.2 in
-      let end = reached_stimulus words net (End machine list.timing net) list.others output list.are room.2 in
-      record {
-        machine = machine;
-        machine_is = is;
-        net = net;
-        timing = list.timing;
-        timing_is = list.timing_is;
-        stimulus = end.stimulus;
-        are = of_files words first.text first.told net netlist.1 (End machine list.timing net) output end;
-        others = end.others;
-        told = end.told;
-        ends = end.ends;
-      }
-
-  pub reached : (words : RunWords) (End : Machine → Timing → Netlist → Stimulus → List Reading → Outcome → Type 0) (readings : List Reading) (output : List ℕ) → AreTold readings → AfterMachine words.machine (ExpectedOn words End) readings (done output) → Reached words End output
-  unfolding AfterMachine
-  reached words End readings output are expected = by words.machine refl readings are expected
-    where
-      by : (file : Option (List ℕ)) → words.machine ≡ file → (readings : List Reading) → AreTold readings → AfterMachine file (ExpectedOn words End) readings (done output) → Reached words End output
-      by None is readings are expected = reached_on words End default_machine (subst (λ f. IsMachineOfFile bytes f default_machine) (sym is) refl) readings output are expected
-      by (Some file) is readings are expected =
-          let first = gave file (λ text. After (IsMachineOf text) (ExpectedOn words End)) readings output are expected in
-          let machine = passed (IsMachineOf first.text) (ExpectedOn words End) first.others output (λ e. not_done _ status.Machine output e.2 refl (λ e. cc)) first.next in
-          reached_on words End machine.0 (subst (λ f. IsMachineOfFile bytes f machine.0) (sym is) (first.text, first.told, machine.1)) first.others output first.are machine.2
-
   -- the netlist and its timing
   record ReachedNetlist (words : RunWords) (End : Netlist → Timing → List Reading → Outcome → Type 0) (output : List ℕ) : Type 0 where
     text : List ℕ
@@ -254,6 +225,49 @@ module _ (bytes : Option (List ℕ → List ℕ)) where
         ends = list.next;
       }
 
+  reached_on : (words : RunWords) (End : Machine → Timing → Netlist → Stimulus → List Reading → Outcome → Type 0) (machine : Machine) → IsMachineOfFile bytes words.machine machine → (readings : List Reading) (output : List ℕ) → AreTold readings → ExpectedOn words End machine readings (done output) → Reached words End output
+  reached_on words End machine is readings output are expected =
+      let on = reached_netlist words (OnTiming words End machine) readings output are expected in
+      let net = on.net in
+      let timing = on.timing in
+      let end = reached_stimulus words net (End machine timing net) on.others output on.told (reached_fit words.homes net machine timing (AfterStimulus words.stimulus net (End machine timing net)) on.others output on.ends) in
+      record {
+        machine = machine;
+        machine_is = is;
+        net = net;
+        timing = timing;
+        timing_is = on.timing_is;
+        stimulus = end.stimulus;
+        are = of_files words on.text on.text_told net on.reads (End machine timing net) output end;
+        others = end.others;
+        told = end.told;
+        ends = end.ends;
+      }
+
+  -- the machine
+  record ReachedMachine (words : RunWords) (Next : Machine → List Reading → Outcome → Type 0) (output : List ℕ) : Type 0 where
+    machine : Machine
+    machine_is : IsMachineOfFile bytes words.machine machine
+    others : List Reading
+    told : AreTold others
+    next : Next machine others (done output)
+
+  reached_machine : (words : RunWords) (Next : Machine → List Reading → Outcome → Type 0) (readings : List Reading) (output : List ℕ) → AreTold readings → AfterMachine words.machine Next readings (done output) → ReachedMachine words Next output
+  unfolding AfterMachine
+  reached_machine words Next readings output are expected = by words.machine refl expected
+    where
+      by : (file : Option (List ℕ)) → words.machine ≡ file → AfterMachine file Next readings (done output) → ReachedMachine words Next output
+      by None is expected = record { machine = default_machine; machine_is = subst (λ f. IsMachineOfFile bytes f default_machine) (sym is) refl; others = readings; told = are; next = expected }
+      by (Some file) is expected =
+          let first = gave file (λ text. After (IsMachineOf text) Next) readings output are expected in
+          let machine = passed (IsMachineOf first.text) Next first.others output (λ e. not_done _ status.Machine output e.2 refl (λ e. cc)) first.next in
+          record { machine = machine.0; machine_is = subst (λ f. IsMachineOfFile bytes f machine.0) (sym is) (first.text, first.told, machine.1); others = first.others; told = first.are; next = machine.2 }
+
+  pub reached : (words : RunWords) (End : Machine → Timing → Netlist → Stimulus → List Reading → Outcome → Type 0) (readings : List Reading) (output : List ℕ) → AreTold readings → AfterMachine words.machine (ExpectedOn words End) readings (done output) → Reached words End output
+  reached words End readings output are expected =
+      let first = reached_machine words (ExpectedOn words End) readings output are expected in
+      reached_on words End first.machine first.machine_is first.others output first.told first.next
+
   -- a run of lanes came to its end over the machine, the netlist and the lanes of its files
   pub record ReachedLanes (words : RunWords) (End : Machine → Timing → Netlist → Lanes → List Reading → Outcome → Type 0) (output : List ℕ) : Type 0 where
     pub machine : Machine
@@ -274,9 +288,7 @@ module _ (bytes : Option (List ℕ → List ℕ)) where
       let timing = on.timing in
       let Then : List Reading → Outcome → Type 0 = AfterLanes words.stimulus net (End machine timing net) in
       let Bits : List Reading → Outcome → Type 0 = After (HasFewBits net) (λ few. Then) in
-      let order = passed (HasNoLoop net timing) (λ passed. After (HasRoom words.homes net machine timing) (λ fits. Bits)) on.others output (λ e. not_done _ status.Loop output e.2 refl (λ e. cc)) on.ends in
-      let room = passed (HasRoom words.homes net machine timing) (λ fits. Bits) on.others output (λ e. not_done _ status.Overfull output e.4 refl (λ e. cc)) order.2 in
-      let bits = passed (HasFewBits net) (λ few. Then) on.others output (λ e. not_done _ status.Limit output e.1 refl (λ e. cc)) room.2 in
+      let bits = passed (HasFewBits net) (λ few. Then) on.others output (λ e. not_done _ status.Limit output e.1 refl (λ e. cc)) (reached_fit words.homes net machine timing Bits on.others output on.ends) in
       let second = gave words.stimulus (λ text. After (IsLanesOf text net) (End machine timing net)) on.others output on.told bits.2 in
       let lanes = passed (IsLanesOf second.text net) (End machine timing net) second.others output (λ e. not_done _ status.Stimulus output e.2 refl (λ e. cc)) second.next in
       record {
@@ -299,15 +311,9 @@ module _ (bytes : Option (List ℕ → List ℕ)) where
       }
 
   pub reached_lanes : (words : RunWords) (End : Machine → Timing → Netlist → Lanes → List Reading → Outcome → Type 0) (readings : List Reading) (output : List ℕ) → AreTold readings → AfterMachine words.machine (PacksOn words End) readings (done output) → ReachedLanes words End output
-  unfolding AfterMachine
-  reached_lanes words End readings output are expected = by words.machine refl readings are expected
-    where
-      by : (file : Option (List ℕ)) → words.machine ≡ file → (readings : List Reading) → AreTold readings → AfterMachine file (PacksOn words End) readings (done output) → ReachedLanes words End output
-      by None is readings are expected = packed_on words End default_machine (subst (λ f. IsMachineOfFile bytes f default_machine) (sym is) refl) readings output are expected
-      by (Some file) is readings are expected =
-          let first = gave file (λ text. After (IsMachineOf text) (PacksOn words End)) readings output are expected in
-          let machine = passed (IsMachineOf first.text) (PacksOn words End) first.others output (λ e. not_done _ status.Machine output e.2 refl (λ e. cc)) first.next in
-          packed_on words End machine.0 (subst (λ f. IsMachineOfFile bytes f machine.0) (sym is) (first.text, first.told, machine.1)) first.others output first.are machine.2
+  reached_lanes words End readings output are expected =
+      let first = reached_machine words (PacksOn words End) readings output are expected in
+      packed_on words End first.machine first.machine_is first.others output first.told first.next
 
   -- a run of an image came to its end over the image, the netlist and the stimulus of its files
   pub record ReachedImage (words : RunWords) (name : List ℕ) (End : Image → Timing → Netlist → Stimulus → List Reading → Outcome → Type 0) (output : List ℕ) : Type 0 where
@@ -322,17 +328,14 @@ module _ (bytes : Option (List ℕ → List ℕ)) where
     pub ends : End file.image timing net stimulus others (done output)
 
   pub reached_image : (words : RunWords) (name : List ℕ) (End : Image → Timing → Netlist → Stimulus → List Reading → Outcome → Type 0) (readings : List Reading) (output : List ℕ) → AreTold readings → ExecutesBy words name End readings (done output) → ReachedImage words name End output
-  unfolding ExecutesBy AfterImage
+  unfolding AfterImage
   reached_image words name End readings output are expected =
-      let Next : Netlist → List Reading → Outcome → Type 0 = λ net. AfterList words.last net words.timing (OnImage words name End net) in
-      let first = gave words.netlist (λ text. After (IsNetlistOf text) Next) readings output are expected in
-      let netlist = passed (IsNetlistOf first.text) Next first.others output (λ e. not_done _ status.Netlist output e.2 refl (λ e. cc)) first.next in
-      let net = netlist.0 in
-      let list = reached_timing words net (OnImage words name End net) first.others output first.are netlist.2 in
-      let timing = list.timing in
+      let on = reached_netlist words (OnImage words name End) readings output are expected in
+      let net = on.net in
+      let timing = on.timing in
       let Run : Image → List Reading → Outcome → Type 0 = RunsImage words End net timing in
-      let order = passed (HasNoLoop net timing) (λ passed. AfterImage name net timing Run) list.others output (λ e. not_done _ status.Loop output e.2 refl (λ e. cc)) list.next in
-      let second = gave name (λ text. After (IsImageFileOf text) (λ file. AfterMatch net timing file Run)) list.others output list.are order.2 in
+      let order = passed (HasNoLoop net timing) (λ passed. AfterImage name net timing Run) on.others output (λ e. not_done _ status.Loop output e.2 refl (λ e. cc)) on.ends in
+      let second = gave name (λ text. After (IsImageFileOf text) (λ file. AfterMatch net timing file Run)) on.others output on.told order.2 in
       let file = passed (IsImageFileOf second.text) (λ file. AfterMatch net timing file Run) second.others output (λ e. not_done _ status.ImageText output e.2 refl (λ e. cc)) second.next in
       let accepted = passed (IsAccepted net timing file.0) (λ accepted. Run file.0.image) second.others output (λ e. not_done _ status.ImageMatch output e.5 refl (λ e. cc)) file.2 in
       let end = reached_stimulus words net (End file.0.image timing net) second.others output second.are accepted.2 in
@@ -341,9 +344,9 @@ module _ (bytes : Option (List ℕ → List ℕ)) where
         file_is = (second.text, second.told, file.1);
         net = net;
         timing = timing;
-        timing_is = list.timing_is;
+        timing_is = on.timing_is;
         stimulus = end.stimulus;
-        are = of_files words first.text first.told net netlist.1 (End file.0.image timing net) output end;
+        are = of_files words on.text on.text_told net on.reads (End file.0.image timing net) output end;
         others = end.others;
         ends = end.ends;
       }
@@ -373,27 +376,22 @@ module _ (bytes : Option (List ℕ → List ℕ)) where
   -- ---- commands
 
   refer_traced : (words : RunWords) (readings : List Reading) (output : List ℕ) → AreTold readings → ExpectedRefer words readings (done output) → IsTraceOfFiles bytes output words
-  unfolding ExpectedRefer
   refer_traced words readings output are expected =
-      let Next : Netlist → List Reading → Outcome → Type 0 = λ net. AfterList words.last net words.timing (AfterLoop words.stimulus net) in
-      let first = gave words.netlist (λ text. After (IsNetlistOf text) Next) readings output are expected in
-      let netlist = passed (IsNetlistOf first.text) Next first.others output (λ e. not_done _ status.Netlist output e.2 refl (λ e. cc)) first.next in
-      let net = netlist.0 in
-      let list = reached_timing words net (AfterLoop words.stimulus net) first.others output first.are netlist.2 in
-      let timing = list.timing in
-      let order = passed (HasNoLoop net timing) (λ passed. AfterStimulus words.stimulus net (KeepsTrace net timing)) list.others output (λ e. not_done _ status.Loop output e.2 refl (λ e. cc)) list.next in
-      let end = reached_stimulus words net (KeepsTrace net timing) list.others output list.are order.2 in
+      let on = reached_netlist words (AfterLoop words.stimulus) readings output are expected in
+      let net = on.net in
+      let timing = on.timing in
+      let order = passed (HasNoLoop net timing) (λ passed. AfterStimulus words.stimulus net (KeepsTrace net timing)) on.others output (λ e. not_done _ status.Loop output e.2 refl (λ e. cc)) on.ends in
+      let end = reached_stimulus words net (KeepsTrace net timing) on.others output on.told order.2 in
       record {
         net = net;
         stimulus = end.stimulus;
-        are = of_files words first.text first.told net netlist.1 (KeepsTrace net timing) output end;
+        are = of_files words on.text on.text_told net on.reads (KeepsTrace net timing) output end;
         timing = timing;
-        timing_is = list.timing_is;
+        timing_is = on.timing_is;
         trace = written net timing end.stimulus end.others output (within true net end.stimulus (WritesTrace net timing end.stimulus) end.others output end.ends);
       }
 
   run_traced : (words : RunWords) (limited : Bool) (by : Option (List ℕ)) (readings : List Reading) (output : List ℕ) → AreTold readings → ExpectedRun words limited by readings (done output) → IsTraceOfFiles bytes output words
-  unfolding ExpectedRun
   run_traced words limited by readings output are expected =
       let end = reached words (EndsWithin limited by words) readings output are expected in
       let ends = within limited end.net end.stimulus (EndsBy by words end.machine end.timing end.net end.stimulus) end.others output end.ends in
@@ -458,13 +456,10 @@ module _ (bytes : Option (List ℕ → List ℕ)) where
   command_traced (command.Run words) readings output are expected = run_traced words false None readings output are expected
   command_traced (command.Refer words) readings output are expected = refer_traced words readings output are expected
   command_traced (command.Order words) readings output are expected = run_traced words true words.order readings output are expected
-  command_traced (command.Plan words) readings output are expected = tt
-  command_traced (command.Compile words) readings output are expected = tt
   command_traced (command.Exec words image) readings output are expected = exec_traced words image readings output are expected
   command_traced (command.Pack words) readings output are expected = pack_traced words readings output are expected
   command_traced (command.Fault words) readings output are expected = fault_traced words readings output are expected
-  command_traced (command.Show file) readings output are expected = tt
-  command_traced (command.Large gates cycles workers) readings output are expected = tt
+  command_traced _ readings output are expected = tt
 
   pub traced : (names : Option (List ℕ → Bool)) (old new : FileCounts) (command : Command) (output : Output) → status_after (ending_in output) ≡ status.Done → Follows names bytes old new (Ok output) (ExpectedOf command) → IsOutputOfFiles bytes (bytes_of output) (Some command)
   traced names old new command output whole follows =

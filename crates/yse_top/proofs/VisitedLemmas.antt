@@ -36,99 +36,11 @@ use Rattle.yse_top.specs.Ends.{IsWhole, MayWrite}
 use Rattle.yse_top.specs.Refusals.{Follows, ended_with, outcome_of, refused_of, status_so_far, status_told, written_by}
 use Rattle.yse_top.specs.Visited.{AreRunVisits, AreTold, AreTurnsOf, AreVisitsOfFiles, AreVisitsOfImage, EndsTelling, ExecTelling, HasWorkers, KeepsGates, TellsGates, TellsOfExec, TellsOfRun, block_of, has_limit, order_in}
 use Rattle.yse_top.specs.commands.Exec.{AfterImage, AfterMatch, ExecutesBy, ExpectedExec, IsAccepted, IsImageFileOf, OnImage, RunsImage, WritesTraceOf}
-use Rattle.yse_top.specs.commands.Run.{AfterDesign, AfterFit, AfterList, AfterMachine, AfterNetlist, AfterStimulus, EndsWithin, ExpectedOn, ExpectedRun}
+use Rattle.yse_top.specs.commands.Run.{AfterMachine, EndsWithin, ExpectedOn, ExpectedRun}
 use Rattle.yse_top.proofs.CallLemmas.{ended_no_fault}
 use Rattle.yse_top.proofs.GateLemmas.{all_blocks}
 use Rattle.yse_top.proofs.TracedLemmas.{reached, reached_image, same_units}
-
--- ---- a chain that ends otherwise
-
--- what follows one end follows the other
-abbrev Implies : (List Reading → Outcome → Type 0) → (List Reading → Outcome → Type 0) → Type 0
-Implies One Other = (readings : List Reading) (outcome : Outcome) → One readings outcome → Other readings outcome
-
-pub after_so : {X : Type 0} (Checked : Result X Outcome → Type 0) (One Other : X → List Reading → Outcome → Type 0) → ((x : X) → Implies (One x) (Other x)) → Implies (After Checked One) (After Checked Other)
-after_so Checked One Other so readings outcome (inl (x, passed, next)) = inl (x, passed, so x readings outcome next)
-after_so Checked One Other so readings outcome (inr refused) = inr refused
-
-file_so : (file : List ℕ) (One Other : List ℕ → List Reading → Outcome → Type 0) → ((text : List ℕ) → Implies (One text) (Other text)) → Implies (AfterFile file One) (AfterFile file Other)
-file_so file One Other so [] outcome after = after
-file_so file One Other so (reading ∷ readings) outcome (is, after) = (is, by reading.bytes after)
-  where
-    by : (b : Option (List ℕ)) → AfterRead file b One readings outcome → AfterRead file b Other readings outcome
-    by None here = here
-    by (Some bytes) here = after_so (λ result. text_of file bytes ≡ result) One Other so readings outcome here
-
-stimulus_so : (file : List ℕ) (net : Netlist) (One Other : Stimulus → List Reading → Outcome → Type 0) → ((stimulus : Stimulus) → Implies (One stimulus) (Other stimulus)) → Implies (AfterStimulus file net One) (AfterStimulus file net Other)
-unfolding AfterStimulus
-stimulus_so file net One Other so =
-    file_so file (λ text. After (IsStimulusOf text net) One) (λ text. After (IsStimulusOf text net) Other) (λ text.
-    after_so (IsStimulusOf text net) One Other so)
-
-list_so : (last : Option (List ℕ)) (net : Netlist) (timing : Timing) (One Other : Timing → List Reading → Outcome → Type 0) → ((t : Timing) → Implies (One t) (Other t)) → Implies (AfterList last net timing One) (AfterList last net timing Other)
-unfolding AfterList
-list_so None net timing One Other so = so timing
-list_so (Some file) net timing One Other so =
-    file_so file (λ text. After (IsListOf text net) (λ listed. One (listing timing listed))) (λ text. After (IsListOf text net) (λ listed. Other (listing timing listed))) (λ text.
-    after_so (IsListOf text net) (λ listed. One (listing timing listed)) (λ listed. Other (listing timing listed)) (λ listed. so (listing timing listed)))
-
-pub fit_so : (choice : HomeChoice) (net : Netlist) (machine : Machine) (timing : Timing) (One Other : List Reading → Outcome → Type 0) → Implies One Other → Implies (AfterFit choice net machine timing One) (AfterFit choice net machine timing Other)
-fit_so choice net machine timing One Other so =
-    after_so (HasNoLoop net timing) (λ passed. After (HasRoom choice net machine timing) (λ fits. One)) (λ passed. After (HasRoom choice net machine timing) (λ fits. Other)) (λ passed.
-    after_so (HasRoom choice net machine timing) (λ fits. One) (λ fits. Other) (λ fits. so))
-
-design_so : (words : RunWords) (machine : Machine) (One Other : Timing → Netlist → List Reading → Outcome → Type 0) → ((timing : Timing) (net : Netlist) → Implies (One timing net) (Other timing net)) → Implies (AfterDesign words machine One) (AfterDesign words machine Other)
-unfolding AfterDesign
-design_so words machine One Other so =
-    file_so words.netlist (λ text. After (IsNetlistOf text) (λ net. AfterList words.last net words.timing (λ timing. AfterFit words.homes net machine timing (One timing net)))) (λ text. After (IsNetlistOf text) (λ net. AfterList words.last net words.timing (λ timing. AfterFit words.homes net machine timing (Other timing net)))) (λ text.
-    after_so (IsNetlistOf text) (λ net. AfterList words.last net words.timing (λ timing. AfterFit words.homes net machine timing (One timing net))) (λ net. AfterList words.last net words.timing (λ timing. AfterFit words.homes net machine timing (Other timing net))) (λ net.
-    list_so words.last net words.timing (λ timing. AfterFit words.homes net machine timing (One timing net)) (λ timing. AfterFit words.homes net machine timing (Other timing net)) (λ timing.
-    fit_so words.homes net machine timing (One timing net) (Other timing net) (so timing net))))
-
-on_so : (words : RunWords) (One Other : Machine → Timing → Netlist → Stimulus → List Reading → Outcome → Type 0) → ((machine : Machine) (timing : Timing) (net : Netlist) (stimulus : Stimulus) → Implies (One machine timing net stimulus) (Other machine timing net stimulus)) → (machine : Machine) → Implies (ExpectedOn words One machine) (ExpectedOn words Other machine)
-unfolding ExpectedOn
-on_so words One Other so machine =
-    design_so words machine (λ timing net. AfterStimulus words.stimulus net (One machine timing net)) (λ timing net. AfterStimulus words.stimulus net (Other machine timing net)) (λ timing net.
-    stimulus_so words.stimulus net (One machine timing net) (Other machine timing net) (so machine timing net))
-
-pub machine_so : (file : Option (List ℕ)) (One Other : Machine → List Reading → Outcome → Type 0) → ((machine : Machine) → Implies (One machine) (Other machine)) → Implies (AfterMachine file One) (AfterMachine file Other)
-unfolding AfterMachine
-machine_so None One Other so = so _
-machine_so (Some file) One Other so =
-    file_so file (λ text. After (IsMachineOf text) One) (λ text. After (IsMachineOf text) Other) (λ text. after_so (IsMachineOf text) One Other so)
-
--- the netlist and its timing
-pub netlist_so : (words : RunWords) (One Other : Netlist → Timing → List Reading → Outcome → Type 0) → ((net : Netlist) (timing : Timing) → Implies (One net timing) (Other net timing)) → Implies (AfterNetlist words One) (AfterNetlist words Other)
-unfolding AfterNetlist
-netlist_so words One Other so =
-    file_so words.netlist (λ text. After (IsNetlistOf text) (λ net. AfterList words.last net words.timing (One net))) (λ text. After (IsNetlistOf text) (λ net. AfterList words.last net words.timing (Other net))) (λ text.
-    after_so (IsNetlistOf text) (λ net. AfterList words.last net words.timing (One net)) (λ net. AfterList words.last net words.timing (Other net)) (λ net.
-    list_so words.last net words.timing (One net) (Other net) (so net)))
-
--- the lanes
-pub lanes_so : (file : List ℕ) (net : Netlist) (One Other : Lanes → List Reading → Outcome → Type 0) → ((lanes : Lanes) → Implies (One lanes) (Other lanes)) → Implies (AfterLanes file net One) (AfterLanes file net Other)
-unfolding AfterLanes
-lanes_so file net One Other so =
-    file_so file (λ text. After (IsLanesOf text net) One) (λ text. After (IsLanesOf text net) Other) (λ text.
-    after_so (IsLanesOf text net) One Other so)
-
-image_so : (name : List ℕ) (net : Netlist) (timing : Timing) (One Other : Image → List Reading → Outcome → Type 0) → ((image : Image) → Implies (One image) (Other image)) → Implies (AfterImage name net timing One) (AfterImage name net timing Other)
-unfolding AfterImage
-image_so name net timing One Other so =
-    file_so name (λ text. After (IsImageFileOf text) (λ file. AfterMatch net timing file One)) (λ text. After (IsImageFileOf text) (λ file. AfterMatch net timing file Other)) (λ text.
-    after_so (IsImageFileOf text) (λ file. AfterMatch net timing file One) (λ file. AfterMatch net timing file Other) (λ file.
-    after_so (IsAccepted net timing file) (λ accepted. One file.image) (λ accepted. Other file.image) (λ accepted. so file.image)))
-
-exec_so : (words : RunWords) (name : List ℕ) (One Other : Image → Timing → Netlist → Stimulus → List Reading → Outcome → Type 0) → ((image : Image) (timing : Timing) (net : Netlist) (stimulus : Stimulus) → Implies (One image timing net stimulus) (Other image timing net stimulus))
-    → Implies (ExecutesBy words name One) (ExecutesBy words name Other)
-unfolding ExecutesBy
-exec_so words name One Other so =
-    file_so words.netlist (λ text. After (IsNetlistOf text) (λ net. AfterList words.last net words.timing (OnImage words name One net))) (λ text. After (IsNetlistOf text) (λ net. AfterList words.last net words.timing (OnImage words name Other net))) (λ text.
-    after_so (IsNetlistOf text) (λ net. AfterList words.last net words.timing (OnImage words name One net)) (λ net. AfterList words.last net words.timing (OnImage words name Other net)) (λ net.
-    list_so words.last net words.timing (OnImage words name One net) (OnImage words name Other net) (λ timing.
-    after_so (HasNoLoop net timing) (λ passed. AfterImage name net timing (RunsImage words One net timing)) (λ passed. AfterImage name net timing (RunsImage words Other net timing)) (λ passed.
-    image_so name net timing (RunsImage words One net timing) (RunsImage words Other net timing) (λ image.
-    stimulus_so words.stimulus net (One image timing net) (Other image timing net) (so image timing net))))))
+use Rattle.yse_top.proofs.WeakerLemmas.{exec_so, machine_so, on_so}
 
 -- ---- outcomes at which something may be written
 
@@ -228,7 +140,6 @@ module _ {G : Type 0} (p : gate.Ghosts G) (gates gates' : List (Option G)) (name
   Telling = AfterMachine words.machine (ExpectedOn words (EndsTelling p gates gates' (written_by result) pace words))
 
   pub expects : Follows names bytes old new result Telling → Follows names bytes old new result (ExpectedRun words (has_limit pace) (order_in pace))
-  unfolding ExpectedRun
   expects follows = record {
     readings = follows.readings;
     are = follows.are;
@@ -316,11 +227,6 @@ module _ {G : Type 0} (p : gate.Ghosts G) (bytes : Option (List ℕ → List ℕ
   pub tells_ended : (told ended : Status) (command : Command) → MayWrite told → MayWrite ended → (told ≡ status.WriteFault → ended ≡ status.WriteFault) → TellsGates p bytes gates gates' told (Some command) → TellsGates p bytes gates gates' ended (Some command)
   tells_ended told ended (command.Run words) may may_too fails tells = ended_told told ended may may_too fails (files_cut words) tells
   tells_ended told ended (command.Large count cycles workers) may may_too fails tells = ended_told told ended may may_too fails (λ visits. visits) tells
-  tells_ended told ended (command.Refer words) may may_too fails tells = tells
-  tells_ended told ended (command.Order words) may may_too fails tells = tells
-  tells_ended told ended (command.Plan words) may may_too fails tells = tells
-  tells_ended told ended (command.Compile words) may may_too fails tells = tells
   tells_ended told ended (command.Exec words image) may may_too fails tells = ended_told told ended may may_too fails (image_cut words image) tells
   tells_ended told ended (command.Pack words) may may_too fails tells = ended_told told ended may may_too fails (λ visits. visits) tells
-  tells_ended told ended (command.Fault words) may may_too fails tells = tells
-  tells_ended told ended (command.Show file) may may_too fails tells = tells
+  tells_ended told ended _ may may_too fails tells = tells

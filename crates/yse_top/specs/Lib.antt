@@ -9,6 +9,7 @@ pub mod Lines
 pub mod Orders
 pub mod Outcome
 pub mod Outputs
+pub mod Passing
 pub mod Readings
 pub mod Refusals
 pub mod Statuses

@@ -36,11 +36,8 @@ use Rattle.yse_top.specs.Readings.{Reading}
 use Rattle.yse_top.specs.Refusals.{status_told}
 use Rattle.stim_text.specs.declared.lanes.Lanes.{Lanes}
 use Rattle.stim_text.specs.Lanes.{longest}
-use Rattle.yse_top.specs.declared.commands.task.Task.{Task}
-use Rattle.yse_top.specs.declared.commands.task.Task.TheVariants as task
 use Rattle.yse_top.specs.Traced.{AreLanesOfFiles, AreOfFiles}
-use Rattle.yse_top.specs.commands.Fault.{FaultsIn}
-use Rattle.yse_top.specs.commands.Pack.{KeepsLanes, PacksIn}
+use Rattle.yse_top.specs.commands.Pack.{KeepsLanes}
 use Rattle.yse_top.specs.commands.Run.{EndsWithin, WritesTrace}
 
 -- each gate that a worker may use is there, and can be told of all turns
@@ -153,28 +150,13 @@ module _ {G : Type 0} (p : gate.Ghosts G) (gates gates' : List (Option G)) where
     pub ends : WritesTrace net timing stimulus readings outcome
     pub visits : outcome.status ≡ status.Done → AreRunVisits p gates gates' wrote (length image.ports) timing net stimulus words.workers
 
--- ---- what is asked of a netlist
-
--- the pace of a run that a task is: of lanes by workers, and of faults none
-abbrev pub pace_of : Task → Pace
-pace_of (task.Lanes machine) = pace.Workers
-pace_of task.Faults = pace.Rounds
-
--- the machine of a task is valid
-abbrev pub HasMachine : Task → Type 0
-HasMachine (task.Lanes machine) = machine_text.IsValid machine.now
-HasMachine task.Faults = ⊤
+-- ---- runs of lanes
 
 module _ {G : Type 0} (p : gate.Ghosts G) (gates gates' : List (Option G)) where
   -- the end of a run of lanes, which told the gates
   pub record LanesTelling (words : RunWords) (machine : Machine) (timing : Timing) (net : Netlist) (lanes : Lanes) (readings : List Reading) (outcome : Outcome) : Type 0 where
     pub ends : KeepsLanes net timing lanes readings outcome
     pub visits : outcome.status ≡ status.Done → AreVisitsOf p (ports_of machine) (timing.units * longest lanes) words.workers gates gates'
-
-  -- the end of a task once the netlist and its timing are known, with what the gates are told
-  abbrev pub TaskEnd : Task → RunWords → Netlist → Timing → List Reading → Outcome → Type 0
-  TaskEnd (task.Lanes machine) words net timing = PacksIn words (LanesTelling words) machine.now net timing
-  TaskEnd task.Faults words net timing = FaultsIn words.stimulus net timing
 
 -- the gates are told as by a run of lanes
 abbrev pub TellsOfLanes : {G : Type 0} → gate.Ghosts G → Option (List ℕ → List ℕ) → List (Option G) → List (Option G) → RunWords → Result Output Refusal → Type 0

@@ -24,31 +24,16 @@ files_named (Some asked) = files_of asked
 
 -- the simulation whose trace a command writes
 abbrev pub traced_by : Option Command → Option RunWords
-traced_by None = None
 traced_by (Some (command.Run words)) = Some words
 traced_by (Some (command.Refer words)) = Some words
 traced_by (Some (command.Order words)) = Some words
-traced_by (Some (command.Plan words)) = None
-traced_by (Some (command.Compile words)) = None
 traced_by (Some (command.Exec words image)) = Some words
-traced_by (Some (command.Pack words)) = None
-traced_by (Some (command.Fault words)) = None
-traced_by (Some (command.Show netlist)) = None
-traced_by (Some (command.Large gates cycles workers)) = None
+traced_by _ = None
 
 -- the file of the order in which a command steps the ports
 abbrev pub order_named : Option Command → Option (List ℕ)
-order_named None = None
-order_named (Some (command.Run words)) = None
-order_named (Some (command.Refer words)) = None
 order_named (Some (command.Order words)) = words.order
-order_named (Some (command.Plan words)) = None
-order_named (Some (command.Compile words)) = None
-order_named (Some (command.Exec words image)) = None
-order_named (Some (command.Pack words)) = None
-order_named (Some (command.Fault words)) = None
-order_named (Some (command.Show netlist)) = None
-order_named (Some (command.Large gates cycles workers)) = None
+order_named _ = None
 
 -- what is read settles what a command comes to: it names no file of an order, makes no image and checks none
 abbrev pub IsSettled : Option Command → Type 0

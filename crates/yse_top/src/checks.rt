@@ -95,6 +95,7 @@ pub fn stimulus_of<'a>(
     requires short { length text ≤ MAX_TEXT_BYTES }
     ensures checked { Satisfies result (IsStimulusOf text net.now) }
     ensures valid { IfOk result IsValidStimulus }
+    ensures columns { IfOk result (λ stimulus. stimulus.columns ≡ input_count net.now) }
 {
     match read_stim(alloc, text.as_slice(), net.inputs()) {
         Ok(stimulus) => Ok(stimulus),

@@ -14,14 +14,12 @@ mod exec;
 mod fault;
 mod large;
 mod layout;
-mod netlist;
 mod pack;
 mod plan;
 mod refer;
 mod run;
 mod show;
 mod steps;
-mod task;
 
 use crate::commands::layout::Sheet;
 use crate::commands::steps::Pace;
@@ -65,7 +63,7 @@ pub fn prepare<'a, R: Threads + Wait + Sync, F: Files, O: Sink, G: Gate + Send>(
             exec::exec(rt, alloc, files, words, image.as_bytes(), out, gates)
         }
         Command::Pack(words) => pack::pack(rt, alloc, files, words, gates),
-        Command::Fault(words) => fault::fault(rt, alloc, files, words, gates),
+        Command::Fault(words) => fault::fault(rt, alloc, files, words),
         Command::Show { netlist } => show::show(alloc, files, netlist.as_bytes()),
         Command::Large {
             gates: count,

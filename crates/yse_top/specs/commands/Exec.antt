@@ -18,11 +18,11 @@ use Rattle.image_check.specs.declared.file.ImageFile.{ImageFile}
 use Rattle.image_check.specs.Check.{Says}
 use Rattle.cmd_words.specs.declared.command.RunWords.{RunWords}
 use Rattle.yse_top.specs.declared.status.Status.TheVariants as status
-use Rattle.yse_top.specs.Checks.{After, AfterFile, IsNetlistOf, HasNoLoop, ReadsAs}
+use Rattle.yse_top.specs.Checks.{After, AfterFile, HasNoLoop, ReadsAs}
 use Rattle.yse_top.specs.Lines.{image_line, match_line}
 use Rattle.yse_top.specs.Outcome.{Outcome, refusal, out_of_memory}
 use Rattle.yse_top.specs.Readings.{Reading}
-use Rattle.yse_top.specs.commands.Run.{AfterList, AfterStimulus, WritesTrace}
+use Rattle.yse_top.specs.commands.Run.{AfterNetlist, AfterStimulus, WritesTrace}
 
 -- the image of a text, with its claims
 abbrev pub IsImageFileOf : List ℕ → Result ImageFile Outcome → Type 0
@@ -55,11 +55,9 @@ abbrev pub OnImage : RunWords → List ℕ → (Image → Timing → Netlist →
 OnImage words name End net timing =
     After (HasNoLoop net timing) (λ passed. AfterImage name net timing (RunsImage words End net timing))
 
--- the netlist file, its text, the list, and then a run of the image
-unfoldable pub ExecutesBy : RunWords → List ℕ → (Image → Timing → Netlist → Stimulus → List Reading → Outcome → Type 0) → List Reading → Outcome → Type 0
-ExecutesBy words name End =
-    AfterFile words.netlist (λ text.
-    After (IsNetlistOf text) (λ net. AfterList words.last net words.timing (OnImage words name End net)))
+-- the netlist, and then a run of the image
+abbrev pub ExecutesBy : RunWords → List ℕ → (Image → Timing → Netlist → Stimulus → List Reading → Outcome → Type 0) → List Reading → Outcome → Type 0
+ExecutesBy words name End = AfterNetlist words (OnImage words name End)
 
 -- the end of a run of whatever image: the trace, which is that of the netlist
 abbrev pub WritesTraceOf : Image → Timing → Netlist → Stimulus → List Reading → Outcome → Type 0

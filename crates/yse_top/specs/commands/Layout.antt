@@ -12,22 +12,21 @@ use Rattle.yse_top.specs.Outcome.{Outcome}
 use Rattle.yse_top.specs.Readings.{Reading}
 use Rattle.yse_top.specs.commands.Compile.{IsImageTextOf}
 use Rattle.yse_top.specs.commands.Plan.{IsReportOf}
-use Rattle.yse_top.specs.commands.Run.{AfterDesign, AfterFit, AfterMachine}
+use Rattle.yse_top.specs.commands.Run.{AfterFit, AfterMachine, AfterNetlist}
 
 -- the output is what is asked of the design
 abbrev pub IsSheetOf : Sheet → HomeChoice → Netlist → Machine → Timing → List ℕ → Type 0
 IsSheetOf sheet.Report choice net machine timing output = IsReportOf choice net machine timing output
 IsSheetOf sheet.Image choice net machine timing output = IsImageTextOf choice net machine timing output
 
--- the design of a netlist in a timing, and then what is asked of it
-abbrev pub LaysOut : Sheet → HomeChoice → Netlist → Machine → Timing → List Reading → Outcome → Type 0
-LaysOut asked choice net machine timing = AfterFit choice net machine timing (Ends (Writes (IsSheetOf asked choice net machine timing)))
+-- the design on the machine, and then what is asked of it
+abbrev pub LaysOut : Sheet → HomeChoice → Machine → Netlist → Timing → List Reading → Outcome → Type 0
+LaysOut asked choice machine net timing = AfterFit choice net machine timing (Ends (Writes (IsSheetOf asked choice net machine timing)))
 
--- the design, and then what is asked of it
-unfoldable pub ExpectedLayoutOn : Sheet → RunWords → Machine → List Reading → Outcome → Type 0
-ExpectedLayoutOn asked words machine =
-    AfterDesign words machine (λ timing net. Ends (Writes (IsSheetOf asked words.homes net machine timing)))
+-- the netlist, and then a layout of it on the machine
+abbrev pub ExpectedLayoutOn : Sheet → RunWords → Machine → List Reading → Outcome → Type 0
+ExpectedLayoutOn asked words machine = AfterNetlist words (LaysOut asked words.homes machine)
 
 -- the machine, and then a layout on it
-unfoldable pub ExpectedLayout : Sheet → RunWords → List Reading → Outcome → Type 0
+abbrev pub ExpectedLayout : Sheet → RunWords → List Reading → Outcome → Type 0
 ExpectedLayout asked words = AfterMachine words.machine (ExpectedLayoutOn asked words)

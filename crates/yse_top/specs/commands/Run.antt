@@ -51,13 +51,6 @@ AfterNetlist words End =
     AfterFile words.netlist (λ text.
     After (IsNetlistOf text) (λ net. AfterList words.last net words.timing (End net)))
 
--- the netlist file, its text, the list, and the design on the machine in the timing
-unfoldable pub AfterDesign : RunWords → Machine → (Timing → Netlist → List Reading → Outcome → Type 0) → List Reading → Outcome → Type 0
-AfterDesign words machine Next =
-    AfterFile words.netlist (λ text.
-    After (IsNetlistOf text) (λ net.
-    AfterList words.last net words.timing (λ timing. AfterFit words.homes net machine timing (Next timing net))))
-
 -- the trace is written
 abbrev pub WritesTrace : Netlist → Timing → Stimulus → List Reading → Outcome → Type 0
 WritesTrace net timing stimulus = Ends (Writes (IsTrace net timing stimulus))
@@ -80,18 +73,17 @@ abbrev pub EndsWithin : Bool → Option (List ℕ) → RunWords → Machine → 
 EndsWithin limited order words machine timing net stimulus =
     AfterCells limited net stimulus (EndsBy order words machine timing net stimulus)
 
--- the design, the stimulus, and then this end of the run
-unfoldable pub ExpectedOn : RunWords → (Machine → Timing → Netlist → Stimulus → List Reading → Outcome → Type 0) → Machine → List Reading → Outcome → Type 0
-ExpectedOn words End machine =
-    AfterDesign words machine (λ timing net. AfterStimulus words.stimulus net (End machine timing net))
-
--- the same once the netlist and the timing are known
+-- the design on the machine, the stimulus, and then this end of the run
 abbrev pub OnTiming : RunWords → (Machine → Timing → Netlist → Stimulus → List Reading → Outcome → Type 0) → Machine → Netlist → Timing → List Reading → Outcome → Type 0
 OnTiming words End machine net timing =
     AfterFit words.homes net machine timing (AfterStimulus words.stimulus net (End machine timing net))
 
+-- the netlist, and then a run on the machine
+abbrev pub ExpectedOn : RunWords → (Machine → Timing → Netlist → Stimulus → List Reading → Outcome → Type 0) → Machine → List Reading → Outcome → Type 0
+ExpectedOn words End machine = AfterNetlist words (OnTiming words End machine)
+
 -- the machine, and then a run on it, to its end or in the order of the named file
-unfoldable pub ExpectedRun : RunWords → Bool → Option (List ℕ) → List Reading → Outcome → Type 0
+abbrev pub ExpectedRun : RunWords → Bool → Option (List ℕ) → List Reading → Outcome → Type 0
 ExpectedRun words limited order = AfterMachine words.machine (ExpectedOn words (EndsWithin limited order words))
 
 -- the loop, the stimulus, the cells, and then the trace
@@ -99,8 +91,6 @@ abbrev pub AfterLoop : List ℕ → Netlist → Timing → List Reading → Outc
 AfterLoop stimulus net timing =
     After (HasNoLoop net timing) (λ passed. AfterStimulus stimulus net (KeepsTrace net timing))
 
--- the netlist file, its text, the list, the loop, the stimulus, the cells, and then the trace
-unfoldable pub ExpectedRefer : RunWords → List Reading → Outcome → Type 0
-ExpectedRefer words =
-    AfterFile words.netlist (λ text.
-    After (IsNetlistOf text) (λ net. AfterList words.last net words.timing (AfterLoop words.stimulus net)))
+-- the netlist, the loop, the stimulus, the cells, and then the trace
+abbrev pub ExpectedRefer : RunWords → List Reading → Outcome → Type 0
+ExpectedRefer words = AfterNetlist words (AfterLoop words.stimulus)

@@ -1,25 +1,24 @@
 //! `plan` and `compile`: what a netlist is laid out as on the machine, after the same checks.
 
-ghost use Rattle.std.specs.Prelude.{[], Some, IfOk};
+ghost use Rattle.std.specs.Prelude.{IfOk};
 ghost use Rattle.machine_text.specs.Machines.{IsValid as IsValidMachine};
-ghost use Rattle.net_defs.specs.Valid.{IsValid, IsValidTiming};
+ghost use Rattle.net_defs.specs.Valid.{IsValid};
 ghost use Rattle.cmd_words.specs.Forms.{IsRunInRange};
 ghost use Rattle.yse_compile.specs.Chosen.{IsChosen};
 ghost use Rattle.yse_top.specs.Outputs.{CanWrite};
-ghost use Rattle.yse_top.specs.Refusals.{Follows, outcome_of};
-ghost use Rattle.yse_top.specs.commands.Layout.{ExpectedLayout, ExpectedLayoutOn, IsSheetOf, LaysOut};
-ghost use Rattle.yse_top.specs.commands.Run.{AfterList, AfterMachine};
+ghost use Rattle.yse_top.specs.Refusals.{Follows};
+ghost use Rattle.yse_top.specs.commands.Layout.{ExpectedLayout, IsSheetOf};
 
-use crate::checks::{Planned, designed, list_of, machine_of, netlist_of};
+use crate::checks::{Planned, designed};
 use crate::commands::compile::image_text_of;
 use crate::commands::plan::report_of;
 use crate::output::Output;
-use crate::reading::read_text;
+use crate::reading::{Timed, design_from, machine_from};
 use crate::refusal::Refusal;
 use cmd_words::RunWords;
 use edge_io::Files;
 use machine_text::Machine;
-use net_defs::{HomeChoice, Netlist, Timing};
+use net_defs::{HomeChoice, Timing};
 use seen_list::{Memory, Text};
 use std::alloc::Global;
 
@@ -33,7 +32,6 @@ pub enum Sheet {
 }
 
 /// What is asked of the design of a netlist on the machine of the named file, or on the default machine.
-#[tactic(auto, unfolding(crate::specs::commands::Layout::ExpectedLayout, crate::specs::commands::Run::AfterMachine))]
 pub fn lay_out<'a, F: Files>(
     alloc: Global,
     files: &mut F,
@@ -45,132 +43,22 @@ pub fn lay_out<'a, F: Files>(
         result (ExpectedLayout sheet words.now) }
     ensures writable { IfOk result CanWrite }
 {
-    match &words.machine {
-        None => lay_out_on(alloc, files, words, sheet, Machine::default_size(alloc)),
-        Some(file) => lay_out_by(alloc, files, words, sheet, file.as_bytes()),
-    }
-}
-
-/// What is asked of a design on the machine of the named file.
-#[tactic(auto, using(crate::proofs::ChainLemmas::follows_refused), unfolding(crate::specs::commands::Run::AfterMachine))]
-fn lay_out_by<'a, F: Files>(
-    alloc: Global,
-    files: &mut F,
-    words: &'a RunWords,
-    sheet: Sheet,
-    file: &'a [u8],
-) -> Result<Output, Refusal<'a>>
-    requires { IsRunInRange words.now }
-    ensures expected { Follows (F.names files.old) (F.bytes files.old) (F.counts files.old) (F.counts files.new)
-        result (AfterMachine (Some file.now) (ExpectedLayoutOn sheet words.now)) }
-    ensures writable { IfOk result CanWrite }
-{
-    match read_text(alloc, files, file) {
-        Ok(text) => match machine_of(alloc, text) {
-            Ok(machine) => lay_out_on(alloc, files, words, sheet, machine),
-            Err(no) => Err(no),
-        },
-        Err(no) => Err(no),
-    }
-}
-
-/// What is asked of a design on a machine.
-#[tactic(auto, using(crate::proofs::ChainLemmas::follows_refused), unfolding(crate::specs::commands::Layout::ExpectedLayoutOn, crate::specs::commands::Run::AfterDesign))]
-fn lay_out_on<'a, F: Files>(
-    alloc: Global,
-    files: &mut F,
-    words: &'a RunWords,
-    sheet: Sheet,
-    machine: Machine,
-) -> Result<Output, Refusal<'a>>
-    requires range { IsRunInRange words.now }
-    requires machine { IsValidMachine machine }
-    ensures expected { Follows (F.names files.old) (F.bytes files.old) (F.counts files.old) (F.counts files.new)
-        result (ExpectedLayoutOn sheet words.now machine) }
-    ensures writable { IfOk result CanWrite }
-{
-    match read_text(alloc, files, words.netlist.as_bytes()) {
-        Ok(text) => match netlist_of(alloc, text) {
-            Ok(net) => lay_out_netlist(alloc, files, words, sheet, &machine, net),
-            Err(no) => Err(no),
-        },
-        Err(no) => Err(no),
-    }
-}
-
-/// What is asked of the design of a netlist, where the gates of the named list read the last turn.
-fn lay_out_netlist<'a, F: Files>(
-    alloc: Global,
-    files: &mut F,
-    words: &'a RunWords,
-    sheet: Sheet,
-    machine: &Machine,
-    net: Netlist,
-) -> Result<Output, Refusal<'a>>
-    requires range { IsRunInRange words.now }
-    requires machine { IsValidMachine machine.now }
-    requires valid { IsValid net }
-    ensures expected { Follows (F.names files.old) (F.bytes files.old) (F.counts files.old) (F.counts files.new)
-        result (AfterList words.now.last net words.now.timing (LaysOut sheet words.now.homes net machine.now)) }
-    ensures writable { IfOk result CanWrite }
-{
-    match &words.last {
-        None => lay_out_in_timing(alloc, net, machine, &words.timing, words.homes, sheet),
-        Some(file) => lay_out_listed(alloc, files, words, sheet, machine, net, file.as_bytes()),
-    }
-}
-
-/// What is asked of the design of a netlist, where the gates of the list in this file read the last turn.
-#[tactic(auto, using(crate::proofs::ChainLemmas::follows_refused), unfolding(crate::specs::commands::Run::AfterList))]
-fn lay_out_listed<'a, F: Files>(
-    alloc: Global,
-    files: &mut F,
-    words: &'a RunWords,
-    sheet: Sheet,
-    machine: &Machine,
-    net: Netlist,
-    file: &'a [u8],
-) -> Result<Output, Refusal<'a>>
-    requires range { IsRunInRange words.now }
-    requires machine { IsValidMachine machine.now }
-    requires valid { IsValid net }
-    ensures expected { Follows (F.names files.old) (F.bytes files.old) (F.counts files.old) (F.counts files.new)
-        result (AfterList (Some file.now) net words.now.timing (LaysOut sheet words.now.homes net machine.now)) }
-    ensures writable { IfOk result CanWrite }
-{
-    match read_text(alloc, files, file) {
-        Ok(text) => match list_of(alloc, text, &net) {
-            Ok(listed) => {
-                let timing = words.timing.listing(listed);
-                lay_out_in_timing(alloc, net, machine, &timing, words.homes, sheet)
-            }
-            Err(no) => Err(no),
-        },
-        Err(no) => Err(no),
-    }
-}
-
-/// What is asked of the design of a netlist in a timing.
-fn lay_out_in_timing<'a>(
-    alloc: Global,
-    net: Netlist,
-    machine: &Machine,
-    timing: &Timing,
-    choice: HomeChoice,
-    sheet: Sheet,
-) -> Result<Output, Refusal<'a>>
-    requires valid { IsValid net }
-    requires machine { IsValidMachine machine.now }
-    requires timing { IsValidTiming timing.now }
-    ensures expected { LaysOut sheet choice net machine.now timing.now [] (outcome_of result) }
-    ensures writable { IfOk result CanWrite }
-{
-    match designed(alloc, net, machine, timing, choice) {
-        Ok(planned) => match sheet_of(alloc, planned, machine, timing, choice, sheet) {
-            Ok(text) => Ok(Output::Text(text)),
-            Err(Memory) => Err(Refusal::Memory),
-        },
-        Err(no) => Err(no),
+    let machine = match machine_from(alloc, files, &words.machine) {
+        Ok(machine) => machine,
+        Err(no) => return Err(no),
+    };
+    let design = match design_from(alloc, files, words) {
+        Ok(design) => design,
+        Err(no) => return Err(no),
+    };
+    let Timed { net, timing } = design;
+    let planned = match designed(alloc, net, &machine, &timing, words.homes) {
+        Ok(planned) => planned,
+        Err(no) => return Err(no),
+    };
+    match sheet_of(alloc, planned, &machine, &timing, words.homes, sheet) {
+        Ok(text) => Ok(Output::Text(text)),
+        Err(Memory) => Err(Refusal::Memory),
     }
 }
 

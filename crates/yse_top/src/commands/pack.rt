@@ -1,27 +1,23 @@
 //! `pack`: the traces of up to 30 simulations, by one run of the compiled machine.
 
 ghost use Rattle.std.specs.Prelude.{[], ◌≡◌, ◌≤◌, ◌*◌, IfOk, OnErr, OnOk, Some, length};
-ghost use Rattle.machine_text.specs.Machines.{IsValid as IsValidMachine};
-ghost use Rattle.net_defs.specs.Valid.{IsValid, IsValidTiming, input_count};
+ghost use Rattle.net_defs.specs.Valid.{IsValid, input_count};
 ghost use Rattle.cmd_words.specs.Forms.{IsRunInRange};
 ghost use Rattle.limits.specs.declared.TheConstants.{MAX_WORKERS};
 ghost use Rattle.machine_run.specs.Visits.{AreInPlace, AreVisitsOf};
 ghost use Rattle.stim_text.specs.Lanes.{AreLanes, longest};
 ghost use Rattle.yse_top.specs.declared.commands.steps.Pace.TheVariants.{Workers};
-ghost use Rattle.yse_top.specs.Checks.{After, HasFewBits};
 ghost use Rattle.yse_top.specs.Images.{IsImageOf};
 ghost use Rattle.yse_top.specs.Orders.{IsMachineImage};
 ghost use Rattle.yse_top.specs.Outputs.{CanPrintLanes, CanWrite, lanes_bytes};
 ghost use Rattle.yse_top.specs.Refusals.{Follows, outcome_of};
 ghost use Rattle.yse_top.specs.Visited.{AllCanTell, KeepsGates, LanesTelling, TellsOfLanes};
-ghost use Rattle.yse_top.specs.commands.Pack.{AfterLanes, AreLaneTraces, ExpectedPack, PacksIn, PacksOn};
+ghost use Rattle.yse_top.specs.commands.Pack.{AreLaneTraces, ExpectedPack, PacksOn};
 ghost use Rattle.yse_top.specs.commands.Run.{AfterMachine};
 
-use crate::checks::{Built, compiled, lanes_of, machine_of};
-use crate::commands::netlist::on_netlist;
-use crate::commands::task::Task;
+use crate::checks::{Built, compiled};
 use crate::output::{LaneTraces, Output};
-use crate::reading::read_text;
+use crate::reading::{Timed, design_from, lanes_in, machine_from};
 use crate::refusal::Refusal;
 use crate::sizes::{few_bits, few_lane_cells};
 use cmd_words::RunWords;
@@ -29,7 +25,7 @@ use crew_run::Gate;
 use edge_io::Files;
 use kept_lines::LaneMark;
 use machine_text::Machine;
-use net_defs::{Netlist, Timing};
+use net_defs::Timing;
 use pack_machine::run_pack;
 use seen_list::Memory;
 use std::alloc::Global;
@@ -61,7 +57,7 @@ pub fn pack<'a, R: Threads + Wait + Sync, F: Files, G: Gate + Send>(
 }
 
 /// The same, with what the gates are told.
-#[tactic(auto, unfolding(crate::specs::commands::Run::AfterMachine))]
+#[tactic(auto, using(crate::proofs::GateLemmas::gates_kept))]
 fn pack_telling<'a, R: Threads + Wait + Sync, F: Files, G: Gate + Send>(
     rt: &R,
     alloc: Global,
@@ -77,130 +73,28 @@ fn pack_telling<'a, R: Threads + Wait + Sync, F: Files, G: Gate + Send>(
     ensures writable { IfOk result CanWrite }
     ensures kept { KeepsGates Workers gates.old gates.new result }
 {
-    match &words.machine {
-        None => {
-            let machine = Machine::default_size(alloc);
-            on_netlist(rt, alloc, files, words, Task::Lanes(&machine), gates)
-        }
-        Some(file) => pack_by(rt, alloc, files, words, file.as_bytes(), gates),
-    }
-}
-
-/// The traces of all lanes, by one run on the machine of the named file.
-#[tactic(auto, using(crate::proofs::ChainLemmas::follows_refused, crate::proofs::GateLemmas::gates_kept), unfolding(crate::specs::commands::Run::AfterMachine))]
-fn pack_by<'a, R: Threads + Wait + Sync, F: Files, G: Gate + Send>(
-    rt: &R,
-    alloc: Global,
-    files: &mut F,
-    words: &'a RunWords,
-    file: &'a [u8],
-    gates: &mut [Option<G>],
-) -> Result<Output, Refusal<'a>>
-    requires range { IsRunInRange words.now }
-    requires gates { MAX_WORKERS ≤ length gates.old }
-    requires tell { AllCanTell G.Gate.own gates.old }
-    ensures expected { Follows (F.names files.old) (F.bytes files.old) (F.counts files.old) (F.counts files.new)
-        result (AfterMachine (Some file.now) (PacksOn words.now (LanesTelling G.Gate.own gates.old gates.new words.now))) }
-    ensures writable { IfOk result CanWrite }
-    ensures kept { KeepsGates Workers gates.old gates.new result }
-{
-    match read_text(alloc, files, file) {
-        Ok(text) => match machine_of(alloc, text) {
-            Ok(machine) => on_netlist(rt, alloc, files, words, Task::Lanes(&machine), gates),
-            Err(no) => Err(no),
-        },
-        Err(no) => Err(no),
-    }
-}
-
-/// The traces of all lanes of a netlist in a timing, by one run on a machine.
-#[tactic(auto, using(crate::proofs::GateLemmas::gates_kept))]
-pub fn pack_design<'a, R: Threads + Wait + Sync, F: Files, G: Gate + Send>(
-    rt: &R,
-    alloc: Global,
-    files: &mut F,
-    words: &'a RunWords,
-    machine: &Machine,
-    timing: &Timing,
-    net: Netlist,
-    gates: &mut [Option<G>],
-) -> Result<Output, Refusal<'a>>
-    requires range { IsRunInRange words.now }
-    requires machine { IsValidMachine machine.now }
-    requires timing { IsValidTiming timing.now }
-    requires valid { IsValid net }
-    requires gates { MAX_WORKERS ≤ length gates.old }
-    requires tell { AllCanTell G.Gate.own gates.old }
-    ensures expected { Follows (F.names files.old) (F.bytes files.old) (F.counts files.old) (F.counts files.new)
-        result (PacksIn words.now (LanesTelling G.Gate.own gates.old gates.new words.now) machine.now net timing.now) }
-    ensures writable { IfOk result CanWrite }
-    ensures kept { KeepsGates Workers gates.old gates.new result }
-{
-    match compiled(alloc, net, machine, timing, words.homes) {
-        Ok(built) => pack_built(rt, alloc, files, words, machine, timing, built, gates),
-        Err(no) => Err(no),
-    }
-}
-
-/// The traces of all lanes of an image.
-#[tactic(auto, using(crate::proofs::GateLemmas::gates_kept))]
-fn pack_built<'a, R: Threads + Wait + Sync, F: Files, G: Gate + Send>(
-    rt: &R,
-    alloc: Global,
-    files: &mut F,
-    words: &'a RunWords,
-    machine: &Machine,
-    timing: &Timing,
-    built: Built,
-    gates: &mut [Option<G>],
-) -> Result<Output, Refusal<'a>>
-    requires range { IsRunInRange words.now }
-    requires valid { IsValid built.net }
-    requires image { IsImageOf built.net timing.now built.image }
-    requires made { IsMachineImage words.now.homes built.net machine.now timing.now built.image }
-    requires gates { MAX_WORKERS ≤ length gates.old }
-    requires tell { AllCanTell G.Gate.own gates.old }
-    ensures expected { Follows (F.names files.old) (F.bytes files.old) (F.counts files.old) (F.counts files.new)
-        result (After (HasFewBits built.net) (λ few. AfterLanes words.now.stimulus built.net (LanesTelling G.Gate.own gates.old gates.new words.now machine.now timing.now built.net))) }
-    ensures writable { IfOk result CanWrite }
-    ensures kept { KeepsGates Workers gates.old gates.new result }
-{
+    let machine = match machine_from(alloc, files, &words.machine) {
+        Ok(machine) => machine,
+        Err(no) => return Err(no),
+    };
+    let design = match design_from(alloc, files, words) {
+        Ok(design) => design,
+        Err(no) => return Err(no),
+    };
+    let Timed { net, timing } = design;
+    let built = match compiled(alloc, net, &machine, &timing, words.homes) {
+        Ok(built) => built,
+        Err(no) => return Err(no),
+    };
     match few_bits(&built.net) {
-        Ok(()) => pack_lanes(rt, alloc, files, words, machine, timing, built, gates),
-        Err(no) => Err(no),
+        Ok(()) => {}
+        Err(no) => return Err(no),
     }
-}
-
-/// The traces of the lanes of the named file.
-#[tactic(auto, using(crate::proofs::ChainLemmas::follows_refused, crate::proofs::GateLemmas::gates_kept), unfolding(crate::specs::commands::Pack::AfterLanes))]
-fn pack_lanes<'a, R: Threads + Wait + Sync, F: Files, G: Gate + Send>(
-    rt: &R,
-    alloc: Global,
-    files: &mut F,
-    words: &'a RunWords,
-    machine: &Machine,
-    timing: &Timing,
-    built: Built,
-    gates: &mut [Option<G>],
-) -> Result<Output, Refusal<'a>>
-    requires range { IsRunInRange words.now }
-    requires valid { IsValid built.net }
-    requires image { IsImageOf built.net timing.now built.image }
-    requires made { IsMachineImage words.now.homes built.net machine.now timing.now built.image }
-    requires gates { MAX_WORKERS ≤ length gates.old }
-    requires tell { AllCanTell G.Gate.own gates.old }
-    ensures expected { Follows (F.names files.old) (F.bytes files.old) (F.counts files.old) (F.counts files.new)
-        result (AfterLanes words.now.stimulus built.net (LanesTelling G.Gate.own gates.old gates.new words.now machine.now timing.now built.net)) }
-    ensures writable { IfOk result CanWrite }
-    ensures kept { KeepsGates Workers gates.old gates.new result }
-{
-    match read_text(alloc, files, words.stimulus.as_bytes()) {
-        Ok(text) => match lanes_of(alloc, text, &built.net) {
-            Ok(lanes) => pack_kept(rt, alloc, words, machine, timing, built, &lanes, gates),
-            Err(no) => Err(no),
-        },
-        Err(no) => Err(no),
-    }
+    let lanes = match lanes_in(alloc, files, words.stimulus.as_bytes(), &built.net) {
+        Ok(lanes) => lanes,
+        Err(no) => return Err(no),
+    };
+    pack_kept(rt, alloc, words, &machine, &timing, built, &lanes, gates)
 }
 
 /// The traces of lanes, if their cells are few enough to be kept.

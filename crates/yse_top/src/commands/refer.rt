@@ -1,27 +1,26 @@
 //! `refer`: the trace of the reference simulation.
 
-ghost use Rattle.std.specs.Prelude.{◌≡◌, Some, IfOk};
+ghost use Rattle.std.specs.Prelude.{◌≡◌, IfOk};
 ghost use Rattle.net_defs.specs.Loops.{IsOrder};
 ghost use Rattle.net_defs.specs.Valid.{IsValid, IsValidStimulus, IsValidTiming};
 ghost use Rattle.cmd_words.specs.Forms.{IsRunInRange};
 ghost use Rattle.yse_top.specs.Outputs.{CanWrite, CanPrint, ArePrinted};
 ghost use Rattle.yse_top.specs.Refusals.{Follows};
-ghost use Rattle.yse_top.specs.commands.Run.{AfterList, AfterLoop, AfterStimulus, KeepsTrace, ExpectedRefer};
+ghost use Rattle.yse_top.specs.commands.Run.{ExpectedRefer};
 
-use crate::checks::{Design, few_cells, list_of, netlist_of, ordered, stimulus_of};
+use crate::checks::{Design, few_cells, ordered};
 use crate::output::{Output, Trace};
-use crate::reading::read_text;
+use crate::reading::{Timed, design_from, stimulus_in};
 use crate::refusal::Refusal;
 use cmd_words::RunWords;
 use edge_io::Files;
-use net_defs::{Netlist, Stimulus, Timing};
+use net_defs::{Stimulus, Timing};
 use ref_sim::refer_in_order;
 use seen_list::Memory;
 use std::alloc::Global;
 use trace_text::TraceLine;
 
 /// The trace of a simulation.
-#[tactic(auto, using(crate::proofs::ChainLemmas::follows_refused), unfolding(crate::specs::commands::Run::ExpectedRefer))]
 pub fn refer<'a, F: Files>(
     alloc: Global,
     files: &mut F,
@@ -32,108 +31,23 @@ pub fn refer<'a, F: Files>(
         result (ExpectedRefer words.now) }
     ensures writable { IfOk result CanWrite }
 {
-    match read_text(alloc, files, words.netlist.as_bytes()) {
-        Ok(text) => match netlist_of(alloc, text) {
-            Ok(net) => refer_netlist(alloc, files, words, net),
-            Err(no) => Err(no),
-        },
-        Err(no) => Err(no),
-    }
-}
-
-/// The trace of a netlist, where the gates of the named list read the last turn.
-#[tactic(auto, using(crate::proofs::ChainLemmas::follows_named), unfolding(crate::specs::commands::Run::AfterList))]
-fn refer_netlist<'a, F: Files>(
-    alloc: Global,
-    files: &mut F,
-    words: &'a RunWords,
-    net: Netlist,
-) -> Result<Output, Refusal<'a>>
-    requires range { IsRunInRange words.now }
-    requires valid { IsValid net }
-    ensures expected { Follows (F.names files.old) (F.bytes files.old) (F.counts files.old) (F.counts files.new)
-        result (AfterList words.now.last net words.now.timing (AfterLoop words.now.stimulus net)) }
-    ensures writable { IfOk result CanWrite }
-{
-    match &words.last {
-        None => refer_in_timing(alloc, files, words.stimulus.as_bytes(), &words.timing, net),
-        Some(file) => refer_listed(alloc, files, words, net, file.as_bytes()),
-    }
-}
-
-/// The trace of a netlist, where the gates of the list in this file read the last turn.
-#[tactic(auto, using(crate::proofs::ChainLemmas::follows_refused), unfolding(crate::specs::commands::Run::AfterList))]
-fn refer_listed<'a, F: Files>(
-    alloc: Global,
-    files: &mut F,
-    words: &'a RunWords,
-    net: Netlist,
-    file: &'a [u8],
-) -> Result<Output, Refusal<'a>>
-    requires range { IsRunInRange words.now }
-    requires valid { IsValid net }
-    ensures expected { Follows (F.names files.old) (F.bytes files.old) (F.counts files.old) (F.counts files.new)
-        result (AfterList (Some file.now) net words.now.timing (AfterLoop words.now.stimulus net)) }
-    ensures writable { IfOk result CanWrite }
-{
-    match read_text(alloc, files, file) {
-        Ok(text) => match list_of(alloc, text, &net) {
-            Ok(listed) => {
-                let timing = words.timing.listing(listed);
-                refer_in_timing(alloc, files, words.stimulus.as_bytes(), &timing, net)
-            }
-            Err(no) => Err(no),
-        },
-        Err(no) => Err(no),
-    }
-}
-
-/// The trace of a netlist in a timing, under the stimulus of the named file.
-fn refer_in_timing<'a, F: Files>(
-    alloc: Global,
-    files: &mut F,
-    file: &'a [u8],
-    timing: &Timing,
-    net: Netlist,
-) -> Result<Output, Refusal<'a>>
-    requires timing { IsValidTiming timing.now }
-    requires valid { IsValid net }
-    ensures expected { Follows (F.names files.old) (F.bytes files.old) (F.counts files.old) (F.counts files.new)
-        result (AfterLoop file.now net timing.now) }
-    ensures writable { IfOk result CanWrite }
-{
-    match ordered(alloc, net, timing) {
-        Ok(design) => simulate(alloc, files, file, timing, design),
-        Err(no) => Err(no),
-    }
-}
-
-/// The trace of a netlist under the stimulus of the named file.
-#[tactic(auto, using(crate::proofs::ChainLemmas::follows_refused), unfolding(crate::specs::commands::Run::AfterStimulus))]
-fn simulate<'a, F: Files>(
-    alloc: Global,
-    files: &mut F,
-    file: &'a [u8],
-    timing: &Timing,
-    design: Design,
-) -> Result<Output, Refusal<'a>>
-    requires timing { IsValidTiming timing.now }
-    requires valid { IsValid design.net }
-    requires order { IsOrder design.net timing.now design.order }
-    ensures expected { Follows (F.names files.old) (F.bytes files.old) (F.counts files.old) (F.counts files.new)
-        result (AfterStimulus file.now design.net (KeepsTrace design.net timing.now)) }
-    ensures writable { IfOk result CanWrite }
-{
-    match read_text(alloc, files, file) {
-        Ok(text) => match stimulus_of(alloc, text, &design.net) {
-            Ok(stimulus) => match few_cells(&design.net, &stimulus) {
-                Ok(()) => match printed(alloc, timing, design, &stimulus) {
-                    Ok(trace) => Ok(Output::Trace(trace)),
-                    Err(Memory) => Err(Refusal::Memory),
-                },
-                Err(no) => Err(no),
-            },
-            Err(no) => Err(no),
+    let design = match design_from(alloc, files, words) {
+        Ok(design) => design,
+        Err(no) => return Err(no),
+    };
+    let Timed { net, timing } = design;
+    let design = match ordered(alloc, net, &timing) {
+        Ok(design) => design,
+        Err(no) => return Err(no),
+    };
+    let stimulus = match stimulus_in(alloc, files, words.stimulus.as_bytes(), &design.net) {
+        Ok(stimulus) => stimulus,
+        Err(no) => return Err(no),
+    };
+    match few_cells(&design.net, &stimulus) {
+        Ok(()) => match printed(alloc, &timing, design, &stimulus) {
+            Ok(trace) => Ok(Output::Trace(trace)),
+            Err(Memory) => Err(Refusal::Memory),
         },
         Err(no) => Err(no),
     }

@@ -2,7 +2,7 @@
 
 ghost use Rattle.std.specs.Prelude.{[], ◌≡◌, ◌≤◌, IfOk, Some, length, true};
 ghost use Rattle.machine_text.specs.Machines.{IsValid as IsValidMachine};
-ghost use Rattle.net_defs.specs.Valid.{IsValid, IsValidStimulus, IsValidTiming, input_count};
+ghost use Rattle.net_defs.specs.Valid.{IsValid, IsValidStimulus, input_count};
 ghost use Rattle.cmd_words.specs.Forms.{IsRunInRange};
 ghost use Rattle.limits.specs.declared.TheConstants.{MAX_WORKERS};
 ghost use Rattle.yse_top.specs.Images.{IsImageOf};
@@ -10,20 +10,18 @@ ghost use Rattle.yse_top.specs.Orders.{IsMachineImage};
 ghost use Rattle.yse_top.specs.Outputs.{CanEnd, CanWrite};
 ghost use Rattle.yse_top.specs.Refusals.{Follows, MayTake, outcome_of, written_by};
 ghost use Rattle.yse_top.specs.Visited.{AllCanTell, EndsTelling, KeepsGates, TellsOfRun, has_limit, order_in};
-ghost use Rattle.yse_top.specs.commands.Run.{AfterList, AfterMachine, AfterStimulus, EndsBy, EndsWithin, ExpectedOn, ExpectedRun, KeepsTrace, OnTiming};
+ghost use Rattle.yse_top.specs.commands.Run.{AfterMachine, EndsWithin, ExpectedOn, ExpectedRun, KeepsTrace};
 
-use crate::checks::{
-    Built, compiled, few_cells, list_of, machine_of, netlist_of, order_of, stimulus_of,
-};
+use crate::checks::{Built, compiled, few_cells};
 use crate::commands::steps::{Pace, by_order, by_rounds, by_workers};
 use crate::output::Output;
-use crate::reading::read_text;
+use crate::reading::{Timed, design_from, machine_from, order_in, stimulus_in};
 use crate::refusal::Refusal;
 use cmd_words::RunWords;
 use crew_run::Gate;
 use edge_io::{Files, Sink};
 use machine_text::Machine;
-use net_defs::{Netlist, Stimulus, Timing};
+use net_defs::{Stimulus, Timing};
 use seen_list::Memory;
 use std::alloc::Global;
 use std::marker::{Send, Sync};
@@ -54,7 +52,7 @@ pub fn run<'a, R: Threads + Wait + Sync, F: Files, O: Sink, G: Gate + Send>(
 }
 
 /// The same, with what the gates are told.
-#[tactic(auto, unfolding(crate::specs::commands::Run::AfterMachine))]
+#[tactic(auto, using(crate::proofs::GateLemmas::gates_kept))]
 fn run_telling<'a, R: Threads + Wait + Sync, F: Files, O: Sink, G: Gate + Send>(
     rt: &R,
     alloc: Global,
@@ -73,232 +71,26 @@ fn run_telling<'a, R: Threads + Wait + Sync, F: Files, O: Sink, G: Gate + Send>(
     ensures written { MayTake O.taken O.faults out.old out.new result }
     ensures kept { KeepsGates pace.entry gates.old gates.new result }
 {
-    match &words.machine {
-        None => run_on(
-            rt,
-            alloc,
-            files,
-            words,
-            pace,
-            Machine::default_size(alloc),
-            out,
-            gates,
-        ),
-        Some(file) => run_by(rt, alloc, files, words, pace, file.as_bytes(), out, gates),
-    }
-}
-
-/// The trace of a run on the machine of the named file.
-#[tactic(auto, using(crate::proofs::ChainLemmas::follows_refused, crate::proofs::GateLemmas::gates_kept), unfolding(crate::specs::commands::Run::AfterMachine))]
-fn run_by<'a, R: Threads + Wait + Sync, F: Files, O: Sink, G: Gate + Send>(
-    rt: &R,
-    alloc: Global,
-    files: &mut F,
-    words: &'a RunWords,
-    pace: Pace<'a>,
-    file: &'a [u8],
-    out: &mut O,
-    gates: &mut [Option<G>],
-) -> Result<Output, Refusal<'a>>
-    requires range { IsRunInRange words.now }
-    requires gates { MAX_WORKERS ≤ length gates.old }
-    requires tell { AllCanTell G.Gate.own gates.old }
-    ensures expected { Follows (F.names files.old) (F.bytes files.old) (F.counts files.old) (F.counts files.new)
-        result (AfterMachine (Some file.now) (ExpectedOn words.now (EndsTelling G.Gate.own gates.old gates.new (written_by result) pace.entry words.now))) }
-    ensures writable { IfOk result CanEnd }
-    ensures written { MayTake O.taken O.faults out.old out.new result }
-    ensures kept { KeepsGates pace.entry gates.old gates.new result }
-{
-    match read_text(alloc, files, file) {
-        Ok(text) => match machine_of(alloc, text) {
-            Ok(machine) => run_on(rt, alloc, files, words, pace, machine, out, gates),
-            Err(no) => Err(no),
-        },
-        Err(no) => Err(no),
-    }
-}
-
-/// The trace of a run on a machine.
-#[tactic(auto, using(crate::proofs::ChainLemmas::follows_refused, crate::proofs::GateLemmas::gates_kept), unfolding(crate::specs::commands::Run::ExpectedOn, crate::specs::commands::Run::AfterDesign))]
-fn run_on<'a, R: Threads + Wait + Sync, F: Files, O: Sink, G: Gate + Send>(
-    rt: &R,
-    alloc: Global,
-    files: &mut F,
-    words: &'a RunWords,
-    pace: Pace<'a>,
-    machine: Machine,
-    out: &mut O,
-    gates: &mut [Option<G>],
-) -> Result<Output, Refusal<'a>>
-    requires range { IsRunInRange words.now }
-    requires machine { IsValidMachine machine }
-    requires gates { MAX_WORKERS ≤ length gates.old }
-    requires tell { AllCanTell G.Gate.own gates.old }
-    ensures expected { Follows (F.names files.old) (F.bytes files.old) (F.counts files.old) (F.counts files.new)
-        result (ExpectedOn words.now (EndsTelling G.Gate.own gates.old gates.new (written_by result) pace.entry words.now) machine) }
-    ensures writable { IfOk result CanEnd }
-    ensures written { MayTake O.taken O.faults out.old out.new result }
-    ensures kept { KeepsGates pace.entry gates.old gates.new result }
-{
-    match read_text(alloc, files, words.netlist.as_bytes()) {
-        Ok(text) => match netlist_of(alloc, text) {
-            Ok(net) => run_netlist(rt, alloc, files, words, pace, &machine, net, out, gates),
-            Err(no) => Err(no),
-        },
-        Err(no) => Err(no),
-    }
-}
-
-/// The trace of a netlist on a machine, where the gates of the named list read the last turn.
-fn run_netlist<'a, R: Threads + Wait + Sync, F: Files, O: Sink, G: Gate + Send>(
-    rt: &R,
-    alloc: Global,
-    files: &mut F,
-    words: &'a RunWords,
-    pace: Pace<'a>,
-    machine: &Machine,
-    net: Netlist,
-    out: &mut O,
-    gates: &mut [Option<G>],
-) -> Result<Output, Refusal<'a>>
-    requires range { IsRunInRange words.now }
-    requires machine { IsValidMachine machine.now }
-    requires valid { IsValid net }
-    requires gates { MAX_WORKERS ≤ length gates.old }
-    requires tell { AllCanTell G.Gate.own gates.old }
-    ensures expected { Follows (F.names files.old) (F.bytes files.old) (F.counts files.old) (F.counts files.new)
-        result (AfterList words.now.last net words.now.timing
-        (OnTiming words.now (EndsTelling G.Gate.own gates.old gates.new (written_by result) pace.entry words.now) machine.now net)) }
-    ensures writable { IfOk result CanEnd }
-    ensures written { MayTake O.taken O.faults out.old out.new result }
-    ensures kept { KeepsGates pace.entry gates.old gates.new result }
-{
-    match &words.last {
-        None => {
-            let timing = &words.timing;
-            run_in_timing(
-                rt, alloc, files, words, pace, machine, timing, net, out, gates,
-            )
-        }
-        Some(file) => {
-            let file = file.as_bytes();
-            run_listed(
-                rt, alloc, files, words, pace, machine, net, file, out, gates,
-            )
-        }
-    }
-}
-
-/// The trace of a netlist on a machine, where the gates of the list in this file read the last turn.
-#[tactic(auto, using(crate::proofs::ChainLemmas::follows_refused, crate::proofs::GateLemmas::gates_kept), unfolding(crate::specs::commands::Run::AfterList))]
-fn run_listed<'a, R: Threads + Wait + Sync, F: Files, O: Sink, G: Gate + Send>(
-    rt: &R,
-    alloc: Global,
-    files: &mut F,
-    words: &'a RunWords,
-    pace: Pace<'a>,
-    machine: &Machine,
-    net: Netlist,
-    file: &'a [u8],
-    out: &mut O,
-    gates: &mut [Option<G>],
-) -> Result<Output, Refusal<'a>>
-    requires range { IsRunInRange words.now }
-    requires machine { IsValidMachine machine.now }
-    requires valid { IsValid net }
-    requires gates { MAX_WORKERS ≤ length gates.old }
-    requires tell { AllCanTell G.Gate.own gates.old }
-    ensures expected { Follows (F.names files.old) (F.bytes files.old) (F.counts files.old) (F.counts files.new)
-        result (AfterList (Some file.now) net words.now.timing
-        (OnTiming words.now (EndsTelling G.Gate.own gates.old gates.new (written_by result) pace.entry words.now) machine.now net)) }
-    ensures writable { IfOk result CanEnd }
-    ensures written { MayTake O.taken O.faults out.old out.new result }
-    ensures kept { KeepsGates pace.entry gates.old gates.new result }
-{
-    match read_text(alloc, files, file) {
-        Ok(text) => match list_of(alloc, text, &net) {
-            Ok(listed) => {
-                let timing = words.timing.listing(listed);
-                run_in_timing(
-                    rt, alloc, files, words, pace, machine, &timing, net, out, gates,
-                )
-            }
-            Err(no) => Err(no),
-        },
-        Err(no) => Err(no),
-    }
-}
-
-/// The trace of a netlist on a machine in a timing.
-#[tactic(auto, using(crate::proofs::GateLemmas::gates_kept))]
-fn run_in_timing<'a, R: Threads + Wait + Sync, F: Files, O: Sink, G: Gate + Send>(
-    rt: &R,
-    alloc: Global,
-    files: &mut F,
-    words: &'a RunWords,
-    pace: Pace<'a>,
-    machine: &Machine,
-    timing: &Timing,
-    net: Netlist,
-    out: &mut O,
-    gates: &mut [Option<G>],
-) -> Result<Output, Refusal<'a>>
-    requires range { IsRunInRange words.now }
-    requires machine { IsValidMachine machine.now }
-    requires timing { IsValidTiming timing.now }
-    requires valid { IsValid net }
-    requires gates { MAX_WORKERS ≤ length gates.old }
-    requires tell { AllCanTell G.Gate.own gates.old }
-    ensures expected { Follows (F.names files.old) (F.bytes files.old) (F.counts files.old) (F.counts files.new)
-        result (OnTiming words.now (EndsTelling G.Gate.own gates.old gates.new (written_by result) pace.entry words.now) machine.now net timing.now) }
-    ensures writable { IfOk result CanEnd }
-    ensures written { MayTake O.taken O.faults out.old out.new result }
-    ensures kept { KeepsGates pace.entry gates.old gates.new result }
-{
-    match compiled(alloc, net, machine, timing, words.homes) {
-        Ok(built) => execute(
-            rt, alloc, files, words, pace, machine, timing, built, out, gates,
-        ),
-        Err(no) => Err(no),
-    }
-}
-
-/// The trace of an image under the stimulus of the named file.
-#[tactic(auto, using(crate::proofs::ChainLemmas::follows_refused, crate::proofs::GateLemmas::gates_kept), unfolding(crate::specs::commands::Run::AfterStimulus))]
-fn execute<'a, R: Threads + Wait + Sync, F: Files, O: Sink, G: Gate + Send>(
-    rt: &R,
-    alloc: Global,
-    files: &mut F,
-    words: &'a RunWords,
-    pace: Pace<'a>,
-    machine: &Machine,
-    timing: &Timing,
-    built: Built,
-    out: &mut O,
-    gates: &mut [Option<G>],
-) -> Result<Output, Refusal<'a>>
-    requires range { IsRunInRange words.now }
-    requires machine { IsValidMachine machine.now }
-    requires valid { IsValid built.net }
-    requires image { IsImageOf built.net timing.now built.image }
-    requires made { IsMachineImage words.now.homes built.net machine.now timing.now built.image }
-    requires gates { MAX_WORKERS ≤ length gates.old }
-    requires tell { AllCanTell G.Gate.own gates.old }
-    ensures expected { Follows (F.names files.old) (F.bytes files.old) (F.counts files.old) (F.counts files.new)
-        result (AfterStimulus words.now.stimulus built.net (EndsTelling G.Gate.own gates.old gates.new (written_by result) pace.entry words.now machine.now timing.now built.net)) }
-    ensures writable { IfOk result CanEnd }
-    ensures written { MayTake O.taken O.faults out.old out.new result }
-    ensures kept { KeepsGates pace.entry gates.old gates.new result }
-{
-    match read_text(alloc, files, words.stimulus.as_bytes()) {
-        Ok(text) => match stimulus_of(alloc, text, &built.net) {
-            Ok(stimulus) => finish(
-                rt, alloc, files, words, pace, machine, timing, built, stimulus, out, gates,
-            ),
-            Err(no) => Err(no),
-        },
-        Err(no) => Err(no),
-    }
+    let machine = match machine_from(alloc, files, &words.machine) {
+        Ok(machine) => machine,
+        Err(no) => return Err(no),
+    };
+    let design = match design_from(alloc, files, words) {
+        Ok(design) => design,
+        Err(no) => return Err(no),
+    };
+    let Timed { net, timing } = design;
+    let built = match compiled(alloc, net, &machine, &timing, words.homes) {
+        Ok(built) => built,
+        Err(no) => return Err(no),
+    };
+    let stimulus = match stimulus_in(alloc, files, words.stimulus.as_bytes(), &built.net) {
+        Ok(stimulus) => stimulus,
+        Err(no) => return Err(no),
+    };
+    finish(
+        rt, alloc, files, words, pace, &machine, &timing, built, stimulus, out, gates,
+    )
 }
 
 /// The trace of an image under a stimulus. By workers it is written, and else it is kept.
@@ -369,7 +161,6 @@ fn in_rounds<'a>(
 }
 
 /// What is done of the trace of an image by the end of the order of the named file.
-#[tactic(auto, using(crate::proofs::ChainLemmas::follows_refused), unfolding(crate::specs::commands::Run::EndsBy))]
 fn in_order<'a, F: Files>(
     alloc: Global,
     files: &mut F,
@@ -392,42 +183,15 @@ fn in_order<'a, F: Files>(
     ensures writable { IfOk result CanWrite }
 {
     match few_cells(&built.net, stimulus) {
-        Ok(()) => in_order_of_file(alloc, files, words, file, machine, timing, built, stimulus),
-        Err(no) => Err(no),
+        Ok(()) => {}
+        Err(no) => return Err(no),
     }
-}
-
-/// The same, once the cells are few enough.
-#[tactic(auto, using(crate::proofs::ChainLemmas::follows_refused), unfolding(crate::specs::commands::Run::EndsBy))]
-fn in_order_of_file<'a, F: Files>(
-    alloc: Global,
-    files: &mut F,
-    words: &'a RunWords,
-    file: &'a [u8],
-    machine: &Machine,
-    timing: &Timing,
-    built: Built,
-    stimulus: &Stimulus,
-) -> Result<Output, Refusal<'a>>
-    requires range { IsRunInRange words.now }
-    requires machine { IsValidMachine machine.now }
-    requires valid { IsValid built.net }
-    requires image { IsImageOf built.net timing.now built.image }
-    requires made { IsMachineImage words.now.homes built.net machine.now timing.now built.image }
-    requires stimulus { IsValidStimulus stimulus.now }
-    requires columns { stimulus.now.columns ≡ input_count built.net }
-    ensures expected { Follows (F.names files.old) (F.bytes files.old) (F.counts files.old) (F.counts files.new)
-        result (EndsBy (Some file.now) words.now machine.now timing.now built.net stimulus.now) }
-    ensures writable { IfOk result CanWrite }
-{
-    match read_text(alloc, files, file) {
-        Ok(text) => match order_of(alloc, text, machine) {
-            Ok(order) => match by_order(alloc, words, machine, timing, built, stimulus, &order) {
-                Ok(output) => Ok(output),
-                Err(Memory) => Err(Refusal::Memory),
-            },
-            Err(no) => Err(no),
-        },
-        Err(no) => Err(no),
+    let order = match order_in(alloc, files, file, machine) {
+        Ok(order) => order,
+        Err(no) => return Err(no),
+    };
+    match by_order(alloc, words, machine, timing, built, stimulus, &order) {
+        Ok(output) => Ok(output),
+        Err(Memory) => Err(Refusal::Memory),
     }
 }

@@ -5,9 +5,8 @@ ghost use Rattle.yse_top.specs.Outputs.{CanWrite};
 ghost use Rattle.yse_top.specs.Refusals.{Follows};
 ghost use Rattle.yse_top.specs.commands.Show.{ExpectedShow};
 
-use crate::checks::netlist_of;
 use crate::output::Output;
-use crate::reading::read_text;
+use crate::reading::netlist_in;
 use crate::refusal::Refusal;
 use edge_io::Files;
 use net_defs::show as canonical_text;
@@ -15,7 +14,6 @@ use seen_list::Memory;
 use std::alloc::Global;
 
 /// The canonical text of the netlist of a file.
-#[tactic(auto, using(crate::proofs::ChainLemmas::follows_refused), unfolding(crate::specs::commands::Show::ExpectedShow))]
 pub fn show<'a, F: Files>(
     alloc: Global,
     files: &mut F,
@@ -25,14 +23,12 @@ pub fn show<'a, F: Files>(
         result (ExpectedShow file.now) }
     ensures writable { IfOk result CanWrite }
 {
-    match read_text(alloc, files, file) {
-        Ok(text) => match netlist_of(alloc, text) {
-            Ok(net) => match canonical_text(alloc, &net) {
-                Ok(text) => Ok(Output::Text(text)),
-                Err(Memory) => Err(Refusal::Memory),
-            },
-            Err(no) => Err(no),
-        },
-        Err(no) => Err(no),
+    let net = match netlist_in(alloc, files, file) {
+        Ok(net) => net,
+        Err(no) => return Err(no),
+    };
+    match canonical_text(alloc, &net) {
+        Ok(text) => Ok(Output::Text(text)),
+        Err(Memory) => Err(Refusal::Memory),
     }
 }

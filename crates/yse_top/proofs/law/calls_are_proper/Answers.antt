@@ -55,16 +55,16 @@ use Rattle.yse_top.specs.Outcome.{Outcome, refusal}
 use Rattle.yse_top.specs.Readings.{Reading}
 use Rattle.yse_top.specs.Orders.{EndsInOrder}
 use Rattle.yse_top.specs.Words.{files_of, files_named, IsSettled}
-use Rattle.yse_top.specs.commands.Exec.{AfterImage, AfterMatch, ExecutesBy, ExpectedExec, IsAccepted, IsImageFileOf, OnImage, RunsImage, WritesTraceOf}
+use Rattle.yse_top.specs.commands.Exec.{AfterImage, AfterMatch, ExpectedExec, IsAccepted, IsImageFileOf, OnImage, RunsImage, WritesTraceOf}
 use Rattle.yse_top.specs.commands.Fault.{ExpectedFault, FaultsIn, IsFaultList, ListsFaults}
 use Rattle.yse_top.specs.commands.Large.{ExpectedLarge}
 use Rattle.yse_top.specs.commands.Pack.{AfterLanes, AreLaneTraces, ExpectedPack, KeepsLanes, KeepsLanesOn, PacksIn, PacksOn}
 use Rattle.yse_top.specs.commands.Compile.{IsImageTextOf}
-use Rattle.yse_top.specs.commands.Layout.{ExpectedLayout, ExpectedLayoutOn, IsSheetOf}
+use Rattle.yse_top.specs.commands.Layout.{ExpectedLayout, ExpectedLayoutOn, IsSheetOf, LaysOut}
 use Rattle.yse_top.specs.commands.Plan.{IsReportOf}
 use Rattle.yse_top.specs.declared.commands.layout.Sheet.{Sheet}
 use Rattle.yse_top.specs.declared.commands.layout.Sheet.TheVariants as sheet
-use Rattle.yse_top.specs.commands.Run.{AfterCells, AfterDesign, AfterFit, AfterList, AfterLoop, AfterMachine, AfterNetlist, AfterStimulus, WritesTrace, EndsBy, EndsWithin, ExpectedRun, ExpectedOn, ExpectedRefer, KeepsTrace}
+use Rattle.yse_top.specs.commands.Run.{AfterCells, AfterFit, AfterList, AfterLoop, AfterMachine, AfterNetlist, AfterStimulus, WritesTrace, EndsBy, EndsWithin, ExpectedRun, ExpectedOn, ExpectedRefer, KeepsTrace, OnTiming}
 use Rattle.yse_top.specs.commands.Show.{ExpectedShow}
 use Rattle.yse_top.proofs.AcceptedLemmas.{accepted_single, interchangeable}
 use Rattle.yse_top.proofs.CommandLemmas.{IsCommand, command_after, command_single, command_file, command_ends, not_words}
@@ -123,17 +123,8 @@ equal : (output : List ℕ) → Equal output output
 equal output = refl
 
 same_output : (asked : Option Command) (output : List ℕ) → SameOutput asked output output
-same_output None output = refl
-same_output (Some (command.Run words)) output = refl
-same_output (Some (command.Refer words)) output = refl
-same_output (Some (command.Order words)) output = refl
-same_output (Some (command.Plan words)) output = refl
 same_output (Some (command.Compile words)) output = inl refl
-same_output (Some (command.Exec words image)) output = refl
-same_output (Some (command.Pack words)) output = refl
-same_output (Some (command.Fault words)) output = refl
-same_output (Some (command.Show netlist)) output = refl
-same_output (Some (command.Large gates cycles workers)) output = refl
+same_output _ output = refl
 
 none_some : {c : Command} → None ≡ Some c → ⊥
 none_some e = cc
@@ -204,33 +195,11 @@ module _ (laws : Laws) where
         command_after Settled Same same (file ∷ []) (HasNoLoop net timing) (λ passed. AfterStimulus file net (KeepsTrace net timing)) (loop_check net timing (laws.order_or_loop net timing) (laws.never_both net timing)) (λ passed acyclic.
         stimulus_proper file [] net (KeepsTrace net timing) (λ stimulus. cells_proper true [] net stimulus (WritesTrace net timing stimulus) (trace_proper net timing stimulus acyclic)))
 
-    refer_proper : (words : RunWords) → IsCommand Settled Same (words.netlist ∷ (option_to_list words.last ++ (words.stimulus ∷ []))) (ExpectedRefer words)
-    unfolding ExpectedRefer
-    refer_proper words =
-        let Next : Netlist → List Reading → Outcome → Type 0 = λ net. AfterList words.last net words.timing (AfterLoop words.stimulus net) in
-        let files : List (List ℕ) = option_to_list words.last ++ (words.stimulus ∷ []) in
-        command_file Settled Same same words.netlist files (λ text. After (IsNetlistOf text) Next) (λ text short.
-        command_after Settled Same same files (IsNetlistOf text) Next (netlist_check text) (λ net is.
-        list_proper words.last (words.stimulus ∷ []) net words.timing (AfterLoop words.stimulus net) (loop_proper words.stimulus net)))
-
     fit_proper : (choice : HomeChoice) (files : List (List ℕ)) (net : Netlist) (machine : Machine) → IsValid net → IsValidMachine machine → (timing : Timing) (Next : List Reading → Outcome → Type 0)
         → (IsAcyclic net timing → FitsBy choice net machine timing → IsCommand Settled Same files Next) → IsCommand Settled Same files (AfterFit choice net machine timing Next)
     fit_proper choice files net machine valid machine_valid timing Next on =
         command_after Settled Same same files (HasNoLoop net timing) (λ passed. After (HasRoom choice net machine timing) (λ fits. Next)) (loop_check net timing (laws.order_or_loop net timing) (laws.never_both net timing)) (λ passed acyclic.
         command_after Settled Same same files (HasRoom choice net machine timing) (λ fits. Next) (room_check choice net machine timing (laws.room choice net machine timing valid machine_valid acyclic)) (λ fits has. on acyclic has))
-
-    design_proper : (words : RunWords) (files : List (List ℕ)) (machine : Machine) → IsValidMachine machine → (Next : Timing → Netlist → List Reading → Outcome → Type 0)
-        → ((timing : Timing) (net : Netlist) → IsValid net → IsAcyclic net timing → FitsBy words.homes net machine timing → IsCommand Settled Same files (Next timing net))
-        → IsCommand Settled Same (words.netlist ∷ (option_to_list words.last ++ files)) (AfterDesign words machine Next)
-    unfolding AfterDesign
-    design_proper words files machine machine_valid Next on =
-        let Listed : Netlist → List Reading → Outcome → Type 0 = λ net. AfterList words.last net words.timing (λ timing. AfterFit words.homes net machine timing (Next timing net)) in
-        let all : List (List ℕ) = option_to_list words.last ++ files in
-        command_file Settled Same same words.netlist all (λ text. After (IsNetlistOf text) Listed) (λ text short.
-        command_after Settled Same same all (IsNetlistOf text) Listed (netlist_check text) (λ net is.
-        let valid = laws.valid_netlists text net short is in
-        list_proper words.last files net words.timing (λ timing. AfterFit words.homes net machine timing (Next timing net)) (λ timing.
-        fit_proper words.homes files net machine valid machine_valid timing (Next timing net) (on timing net valid))))
 
     netlist_proper : (words : RunWords) (files : List (List ℕ)) (End : Netlist → Timing → List Reading → Outcome → Type 0) → ((net : Netlist) → IsValid net → (timing : Timing) → IsCommand Settled Same files (End net timing))
         → IsCommand Settled Same (words.netlist ∷ (option_to_list words.last ++ files)) (AfterNetlist words End)
@@ -241,6 +210,9 @@ module _ (laws : Laws) where
         command_file Settled Same same words.netlist all (λ text. After (IsNetlistOf text) Listed) (λ text short.
         command_after Settled Same same all (IsNetlistOf text) Listed (netlist_check text) (λ net is.
         list_proper words.last files net words.timing (End net) (on net (laws.valid_netlists text net short is))))
+
+    refer_proper : (words : RunWords) → IsCommand Settled Same (words.netlist ∷ (option_to_list words.last ++ (words.stimulus ∷ []))) (ExpectedRefer words)
+    refer_proper words = netlist_proper words (words.stimulus ∷ []) (AfterLoop words.stimulus) (λ net valid. loop_proper words.stimulus net)
 
     lanes_proper : (net : Netlist) (timing : Timing) (lanes : Lanes) → IsAcyclic net timing → IsCommand Settled Same [] (KeepsLanes net timing lanes)
     lanes_proper net timing lanes acyclic =
@@ -295,12 +267,12 @@ module _ (laws : Laws) where
         (λ settled. absurd (no_report (can settled)))
 
     layout_proper : (asked : Sheet) (words : RunWords) → (Settled → asked ≡ sheet.Report) → (asked ≡ sheet.Image → (s t : List ℕ) → AreImageTexts s t → Same s t) → IsCommand Settled Same (option_to_list words.machine ++ (words.netlist ∷ option_to_list words.last)) (ExpectedLayout asked words)
-    unfolding ExpectedLayout ExpectedLayoutOn
     layout_proper asked words can texts =
         machine_proper words.machine (words.netlist ∷ option_to_list words.last) (ExpectedLayoutOn asked words) (λ machine machine_valid.
         subst (λ (files : List (List ℕ)). IsCommand Settled Same (words.netlist ∷ files) (ExpectedLayoutOn asked words machine)) (append-nil (option_to_list words.last))
-        (design_proper words [] machine machine_valid (λ timing net. Ends (Writes (IsSheetOf asked words.homes net machine timing))) (λ timing net valid acyclic fits.
-        sheet_proper asked words.homes net machine timing valid machine_valid fits can texts)))
+        (netlist_proper words [] (LaysOut asked words.homes machine) (λ net valid timing.
+        fit_proper words.homes [] net machine valid machine_valid timing (Ends (Writes (IsSheetOf asked words.homes net machine timing))) (λ acyclic fits.
+        sheet_proper asked words.homes net machine timing valid machine_valid fits can texts))))
 
     large_proper : (gates cycles : ℕ) → gates ≤ MAX_LARGE_GATES → IsCommand Settled Same [] (ExpectedLarge gates cycles)
     large_proper gates cycles few =
@@ -328,13 +300,7 @@ module _ (laws : Laws) where
       stimulus_proper ⊥ Equal equal words.stimulus [] net (WritesTraceOf file.image timing net) (λ stimulus. trace_proper ⊥ Equal equal net timing stimulus acyclic)))))
 
   exec_proper : (words : RunWords) (name : List ℕ) → IsCommand ⊥ Equal (words.netlist ∷ (option_to_list words.last ++ (name ∷ words.stimulus ∷ []))) (ExpectedExec words name)
-  unfolding ExecutesBy
-  exec_proper words name =
-      let Next : Netlist → List Reading → Outcome → Type 0 = λ net. AfterList words.last net words.timing (OnImage words name WritesTraceOf net) in
-      let files : List (List ℕ) = option_to_list words.last ++ (name ∷ words.stimulus ∷ []) in
-      command_file ⊥ Equal equal words.netlist files (λ text. After (IsNetlistOf text) Next) (λ text short.
-      command_after ⊥ Equal equal files (IsNetlistOf text) Next (netlist_check text) (λ net is.
-      list_proper ⊥ Equal equal words.last (name ∷ words.stimulus ∷ []) net words.timing (OnImage words name WritesTraceOf net) (image_proper words name net (laws.valid_netlists text net short is))))
+  exec_proper words name = netlist_proper ⊥ Equal equal words (name ∷ words.stimulus ∷ []) (OnImage words name WritesTraceOf) (image_proper words name)
 
   -- without an order file there is an outcome
   ends_proper : (file : Option (List ℕ)) (words : RunWords) (machine : Machine) (timing : Timing) (net : Netlist) (stimulus : Stimulus) → 1 ≤ words.banks → IsValid net → IsAcyclic net timing → IsCommand (file ≡ None) Equal (option_to_list file) (EndsBy file words machine timing net stimulus)
@@ -348,14 +314,13 @@ module _ (laws : Laws) where
       (λ none. cc)))
 
   on_proper : (words : RunWords) (limited : Bool) (order : Option (List ℕ)) → 1 ≤ words.banks → (machine : Machine) → IsValidMachine machine → IsCommand (order ≡ None) Equal (words.netlist ∷ (option_to_list words.last ++ (words.stimulus ∷ option_to_list order))) (ExpectedOn words (EndsWithin limited order words) machine)
-  unfolding ExpectedOn
   on_proper words limited order banks machine machine_valid =
-      design_proper (order ≡ None) Equal equal words (words.stimulus ∷ option_to_list order) machine machine_valid (λ timing net. AfterStimulus words.stimulus net (EndsWithin limited order words machine timing net)) (λ timing net valid acyclic fits.
+      netlist_proper (order ≡ None) Equal equal words (words.stimulus ∷ option_to_list order) (OnTiming words (EndsWithin limited order words) machine) (λ net valid timing.
+      fit_proper (order ≡ None) Equal equal words.homes (words.stimulus ∷ option_to_list order) net machine valid machine_valid timing (AfterStimulus words.stimulus net (EndsWithin limited order words machine timing net)) (λ acyclic fits.
       stimulus_proper (order ≡ None) Equal equal words.stimulus (option_to_list order) net (EndsWithin limited order words machine timing net) (λ stimulus.
-      cells_proper (order ≡ None) Equal equal limited (option_to_list order) net stimulus (EndsBy order words machine timing net stimulus) (ends_proper order words machine timing net stimulus banks valid acyclic)))
+      cells_proper (order ≡ None) Equal equal limited (option_to_list order) net stimulus (EndsBy order words machine timing net stimulus) (ends_proper order words machine timing net stimulus banks valid acyclic))))
 
   run_proper : (words : RunWords) (limited : Bool) (order : Option (List ℕ)) → 1 ≤ words.banks → IsCommand (order ≡ None) Equal (option_to_list words.machine ++ (words.netlist ∷ (option_to_list words.last ++ (words.stimulus ∷ option_to_list order)))) (ExpectedRun words limited order)
-  unfolding ExpectedRun
   run_proper words limited order banks = machine_proper (order ≡ None) Equal equal words.machine (words.netlist ∷ (option_to_list words.last ++ (words.stimulus ∷ option_to_list order))) (ExpectedOn words (EndsWithin limited order words)) (on_proper words limited order banks)
 
   command_proper : (asked : Command) → IsInRange asked → IsCommand (IsSettled (Some asked)) (SameOutput (Some asked)) (files_of asked) (ExpectedOf asked)

@@ -1,40 +1,125 @@
--- The run is expected after the netlist.
-use Rattle.std.proofs.Common.{Ok, List, ℕ}
-use Rattle.cmd_words.specs.declared.command.RunWords.{RunWords}
+-- The design, its items, the image, whether it is accepted, the stimulus, and the run.
+use Rattle.std.proofs.Common.{Ok, refl, inl, inr}
+use Rattle.image_check.specs.declared.file.ImageFile.{ImageFile}
 use Rattle.image_defs.specs.declared.image.Image.{Image}
 use Rattle.net_defs.specs.declared.netlist.Netlist.{Netlist}
-use Rattle.net_defs.specs.declared.stimulus.Stimulus.{Stimulus}
 use Rattle.net_defs.specs.declared.timing.Timing.{Timing}
-use Rattle.yse_top.specs.Checks.{After, IsNetlistOf}
-use Rattle.yse_top.specs.Outcome.{Outcome}
-use Rattle.yse_top.specs.Readings.{Reading}
-use Rattle.yse_top.specs.Refusals.{written_by}
+use Rattle.yse_top.specs.Checks.{HasNoLoop}
+use Rattle.yse_top.specs.Passing.{AfterImageFile, Chain}
 use Rattle.yse_top.specs.Visited.{ExecTelling}
-use Rattle.yse_top.specs.commands.Exec.{ExecutesBy, OnImage}
-use Rattle.yse_top.specs.commands.Run.{AfterList}
-use Rattle.yse_top.proofs.ChainLemmas.{follows_file, follows_on, follows_refused}
+use Rattle.yse_top.specs.commands.Exec.{AfterImage, AfterMatch, IsAccepted, OnImage, RunsImage}
+use Rattle.yse_top.proofs.ChainLemmas.{follows_here, follows_on, follows_refusal}
+use Rattle.yse_top.proofs.PassingLemmas.{design_on, design_stops, passed_on, stimulus_on, stimulus_stops, stopped}
+use Rattle.yse_top.proofs.WeakerLemmas.{image_file_so}
 use Rattle.yse_top.proofs.commands.exec.exec_telling.Goals as goal
 
-module _ (words : RunWords) (name : List ℕ) (End : Image → Timing → Netlist → Stimulus → List Reading → Outcome → Type 0) where
-  abbrev of_netlist : Netlist → List Reading → Outcome → Type 0
-  of_netlist net = AfterList words.last net words.timing (OnImage words name End net)
-
-  abbrev of_text : List ℕ → List Reading → Outcome → Type 0
-  of_text text = After (IsNetlistOf text) of_netlist
-
-pub returns-in-Ok-netlist_of-clause-expected : goal.returns-in-Ok-netlist_of-clause-expected
-unfolding ExecutesBy
-returns-in-Ok-netlist_of-clause-expected g c =
-    let e = c.in-Ok-netlist_of.ensures in
-    let words = c.args.words.now in
-    let end = ExecTelling g.G.Gate c.args.gates.now c.exec_netlist.new.gates (written_by c.exec_netlist.result) words in
-    let net = c.in-Ok-netlist_of.net in
-    let text = c.in-Ok.text in
-    follows_file _ _ _ _ _ _ _ _ text _ (of_text words c.args.image.now end) c.in-Ok.ensures.same_names c.in-Ok.ensures.same_bytes (rw c.as_bytes.ensures at c.in-Ok.ensures.text)
-    (follows_on _ _ (IsNetlistOf text) (of_netlist words c.args.image.now end) net _ _ _ e.checked c.exec_netlist.ensures.expected)
+-- what comes after the image file
+abbrev file_then : Netlist → Timing → Chain Image → Chain ImageFile
+file_then net timing Next file = AfterMatch net timing file Next
 
 pub returns-in-Err-clause-expected : goal.returns-in-Err-clause-expected
-unfolding ExecutesBy
 returns-in-Err-clause-expected g c =
-    let end = ExecTelling g.G.Gate c.args.gates.now c.args.gates.now (Ok tt) c.args.words.now in
-    follows_refused _ _ _ _ _ _ (of_text c.args.words.now c.args.image.now end) (rw c.as_bytes.ensures at c.in-Err.ensures.text)
+    let words = c.args.words.now in
+    let end = ExecTelling g.G.Gate c.args.gates.now c.args.gates.now (Ok tt) words in
+    design_stops _ _ words (OnImage words c.args.image.now end) _ _ _ c.in-Err.ensures.step
+
+pub returns-in-Err-items_of-clause-expected : goal.returns-in-Err-items_of-clause-expected
+returns-in-Err-items_of-clause-expected g c =
+    let words = c.args.words.now in
+    let name = c.args.image.now in
+    let net = c.in-Ok.design.net in
+    let timing = c.in-Ok.design.timing in
+    let end = ExecTelling g.G.Gate c.args.gates.now c.args.gates.now (Ok tt) words in
+    design_on _ _ words (OnImage words name end) c.in-Ok.design _ _ _ _ _ _ c.in-Ok.ensures.same_names c.in-Ok.ensures.same_bytes c.in-Ok.ensures.step
+    (follows_refusal _ _ (HasNoLoop net timing) (λ passed. AfterImage name net timing (RunsImage words end net timing)) _ _ c.in-Err-items_of.ensures.looped)
+
+pub returns-in-Err-image_in-clause-expected : goal.returns-in-Err-image_in-clause-expected
+unfolding AfterImage
+returns-in-Err-image_in-clause-expected g c =
+    let words = c.args.words.now in
+    let name = c.args.image.now in
+    let net = c.in-Ok.design.net in
+    let timing = c.in-Ok.design.timing in
+    let end = ExecTelling g.G.Gate c.args.gates.now c.args.gates.now (Ok tt) words in
+    let then = file_then net timing (RunsImage words end net timing) in
+    design_on _ _ words (OnImage words name end) c.in-Ok.design _ _ _ _ _ _ c.in-Ok.ensures.same_names c.in-Ok.ensures.same_bytes c.in-Ok.ensures.step
+    (follows_on _ _ (HasNoLoop net timing) (λ passed. AfterImageFile name then) tt _ _ _ c.in-Ok-items_of.ensures.acyclic
+    (stopped _ _ (AfterImageFile name) (image_file_so name) then _ _ _ c.in-Err-image_in.ensures.step))
+
+pub returns-in-Err-accepted-clause-expected : goal.returns-in-Err-accepted-clause-expected
+unfolding AfterImage
+returns-in-Err-accepted-clause-expected g c =
+    let words = c.args.words.now in
+    let name = c.args.image.now in
+    let net = c.in-Ok.design.net in
+    let timing = c.in-Ok.design.timing in
+    let file = c.in-Ok-image_in.file in
+    let end = ExecTelling g.G.Gate c.args.gates.now c.args.gates.now (Ok tt) words in
+    let then = file_then net timing (RunsImage words end net timing) in
+    design_on _ _ words (OnImage words name end) c.in-Ok.design _ _ _ _ _ _ c.in-Ok.ensures.same_names c.in-Ok.ensures.same_bytes c.in-Ok.ensures.step
+    (follows_on _ _ (HasNoLoop net timing) (λ passed. AfterImageFile name then) tt _ _ _ c.in-Ok-items_of.ensures.acyclic
+    (passed_on _ _ (AfterImageFile name) (image_file_so name) file then _ _ _ _ _ _ c.in-Ok-image_in.ensures.same_names c.in-Ok-image_in.ensures.same_bytes c.in-Ok-image_in.ensures.step
+    (follows_refusal _ _ (IsAccepted net timing file) (λ accepted. RunsImage words end net timing file.image) _ _ (rw c.in-Ok-items_of.ensures.same at c.in-Err-accepted.ensures.refused))))
+
+pub returns-in-Err-stimulus_in-clause-expected : goal.returns-in-Err-stimulus_in-clause-expected
+unfolding AfterImage
+returns-in-Err-stimulus_in-clause-expected g c =
+    let words = c.args.words.now in
+    let name = c.args.image.now in
+    let net = c.in-Ok.design.net in
+    let timing = c.in-Ok.design.timing in
+    let file = c.in-Ok-image_in.file in
+    let of_net = c.in-Ok-items_of.ensures.same in
+    let of_built = c.in-Ok-accepted.ensures.same in
+    let end = ExecTelling g.G.Gate c.args.gates.now c.args.gates.now (Ok tt) words in
+    let then = file_then net timing (RunsImage words end net timing) in
+    design_on _ _ words (OnImage words name end) c.in-Ok.design _ _ _ _ _ _ c.in-Ok.ensures.same_names c.in-Ok.ensures.same_bytes c.in-Ok.ensures.step
+    (follows_on _ _ (HasNoLoop net timing) (λ passed. AfterImageFile name then) tt _ _ _ c.in-Ok-items_of.ensures.acyclic
+    (passed_on _ _ (AfterImageFile name) (image_file_so name) file then _ _ _ _ _ _ c.in-Ok-image_in.ensures.same_names c.in-Ok-image_in.ensures.same_bytes c.in-Ok-image_in.ensures.step
+    (follows_on _ _ (IsAccepted net timing file) (λ accepted. RunsImage words end net timing file.image) tt _ _ _ (rw of_net at c.in-Ok-accepted.ensures.matches)
+    (stimulus_stops _ _ words.stimulus net (end file.image timing net) _ _ _ (rw of_net at (rw of_built.0 at (rw c.as_bytes.ensures at c.in-Err-stimulus_in.ensures.step)))))))
+
+pub returns-in-Ok-by_workers-clause-expected : goal.returns-in-Ok-by_workers-clause-expected
+unfolding AfterImage
+returns-in-Ok-by_workers-clause-expected g c =
+    let words = c.args.words.now in
+    let name = c.args.image.now in
+    let net = c.in-Ok.design.net in
+    let timing = c.in-Ok.design.timing in
+    let file = c.in-Ok-image_in.file in
+    let stimulus = c.in-Ok-stimulus_in.stimulus in
+    let of_net = c.in-Ok-items_of.ensures.same in
+    let of_built = c.in-Ok-accepted.ensures.same in
+    let written = c.in-Ok-by_workers.written in
+    let end = ExecTelling g.G.Gate c.args.gates.now c.by_workers.new.gates written.wrote words in
+    let then = file_then net timing (RunsImage words end net timing) in
+    let printed = rw of_net at (rw of_built.0 at c.in-Ok-by_workers.ensures.printed) in
+    let visits = rw of_net at (rw of_built.1 at (rw of_built.0 at c.in-Ok-by_workers.ensures.visits)) in
+    design_on _ _ words (OnImage words name end) c.in-Ok.design _ _ _ _ _ _ c.in-Ok.ensures.same_names c.in-Ok.ensures.same_bytes c.in-Ok.ensures.step
+    (follows_on _ _ (HasNoLoop net timing) (λ passed. AfterImageFile name then) tt _ _ _ c.in-Ok-items_of.ensures.acyclic
+    (passed_on _ _ (AfterImageFile name) (image_file_so name) file then _ _ _ _ _ _ c.in-Ok-image_in.ensures.same_names c.in-Ok-image_in.ensures.same_bytes c.in-Ok-image_in.ensures.step
+    (follows_on _ _ (IsAccepted net timing file) (λ accepted. RunsImage words end net timing file.image) tt _ _ _ (rw of_net at c.in-Ok-accepted.ensures.matches)
+    (stimulus_on _ _ words.stimulus net (end file.image timing net) stimulus _ _ _ _ _ _ c.in-Ok-stimulus_in.ensures.same_names c.in-Ok-stimulus_in.ensures.same_bytes
+    (rw of_net at (rw of_built.0 at (rw c.as_bytes.ensures at c.in-Ok-stimulus_in.ensures.step)))
+    (follows_here _ _ _ _ (end file.image timing net stimulus) (record { ends = (refl, inl (_, printed, refl)); visits = λ is. visits }))))))
+
+pub returns-clause-expected : goal.returns-clause-expected
+unfolding AfterImage
+returns-clause-expected g c =
+    let words = c.args.words.now in
+    let name = c.args.image.now in
+    let net = c.in-Ok.design.net in
+    let timing = c.in-Ok.design.timing in
+    let file = c.in-Ok-image_in.file in
+    let stimulus = c.in-Ok-stimulus_in.stimulus in
+    let of_net = c.in-Ok-items_of.ensures.same in
+    let of_built = c.in-Ok-accepted.ensures.same in
+    let end = ExecTelling g.G.Gate c.args.gates.now c.by_workers.new.gates (Ok tt) words in
+    let then = file_then net timing (RunsImage words end net timing) in
+    design_on _ _ words (OnImage words name end) c.in-Ok.design _ _ _ _ _ _ c.in-Ok.ensures.same_names c.in-Ok.ensures.same_bytes c.in-Ok.ensures.step
+    (follows_on _ _ (HasNoLoop net timing) (λ passed. AfterImageFile name then) tt _ _ _ c.in-Ok-items_of.ensures.acyclic
+    (passed_on _ _ (AfterImageFile name) (image_file_so name) file then _ _ _ _ _ _ c.in-Ok-image_in.ensures.same_names c.in-Ok-image_in.ensures.same_bytes c.in-Ok-image_in.ensures.step
+    (follows_on _ _ (IsAccepted net timing file) (λ accepted. RunsImage words end net timing file.image) tt _ _ _ (rw of_net at c.in-Ok-accepted.ensures.matches)
+    (stimulus_on _ _ words.stimulus net (end file.image timing net) stimulus _ _ _ _ _ _ c.in-Ok-stimulus_in.ensures.same_names c.in-Ok-stimulus_in.ensures.same_bytes
+    (rw of_net at (rw of_built.0 at (rw c.as_bytes.ensures at c.in-Ok-stimulus_in.ensures.step)))
+    (follows_here _ _ _ _ (end file.image timing net stimulus) (record { ends = (refl, inr refl); visits = λ is. cc }))))))

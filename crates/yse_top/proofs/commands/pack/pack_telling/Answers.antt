@@ -1,26 +1,76 @@
--- The run is expected on the default machine where no file of a machine is named.
-use Rattle.std.proofs.Common.{◌≡◌, sym, subst, ℕ, Bool, List, Option, None, Result}
-use Rattle.edge_io.specs.declared.counts.FileCounts.{FileCounts}
-use Rattle.machine_text.specs.declared.machine.Machine.{Machine}
-use Rattle.machine_text.specs.Machines.{default_machine}
-use Rattle.yse_top.specs.declared.output.Output.{Output}
-use Rattle.yse_top.specs.declared.refusal.Refusal.{Refusal}
-use Rattle.yse_top.specs.Outcome.{Outcome}
-use Rattle.yse_top.specs.Readings.{Reading}
-use Rattle.yse_top.specs.Refusals.{Follows}
+-- The machine, the design, whether it fits, the bits of its memories, the lanes, and their end.
+use Rattle.yse_top.specs.Checks.{After, HasFewBits}
 use Rattle.yse_top.specs.Visited.{LanesTelling}
-use Rattle.yse_top.specs.commands.Pack.{PacksOn}
-use Rattle.yse_top.specs.commands.Run.{AfterMachine}
+use Rattle.yse_top.specs.commands.Pack.{AfterLanes, PacksIn, PacksOn}
+use Rattle.yse_top.proofs.ChainLemmas.{follows_fit, follows_here, follows_on, follows_refusal, follows_unfit}
+use Rattle.yse_top.proofs.PassingLemmas.{design_on, design_stops, machine_on, machine_stops, passed_on, stopped}
+use Rattle.yse_top.proofs.WeakerLemmas.{lanes_so}
 use Rattle.yse_top.proofs.commands.pack.pack_telling.Goals as goal
 
-module _ (names : Option (List ℕ → Bool)) (bytes : Option (List ℕ → List ℕ)) where
-  follows_default : (file : Option (List ℕ)) (machine : Machine) (Next : Machine → List Reading → Outcome → Type 0) (old new : FileCounts) (result : Result Output Refusal) → file ≡ None → machine ≡ default_machine → Follows names bytes old new result (Next machine) → Follows names bytes old new result (AfterMachine file Next)
-  unfolding AfterMachine
-  follows_default file machine Next old new result is default follows =
-      subst (λ f. Follows names bytes old new result (AfterMachine f Next)) (sym is) (subst (λ m. Follows names bytes old new result (Next m)) default follows)
-
-pub returns-in-None-clause-expected : goal.returns-in-None-clause-expected
-returns-in-None-clause-expected g c =
+pub returns-in-Err-clause-expected : goal.returns-in-Err-clause-expected
+returns-in-Err-clause-expected g c =
     let words = c.args.words.now in
-    let end = LanesTelling g.G.Gate c.args.gates.now c.on_netlist.new.gates words in
-    follows_default _ _ words.machine _ (PacksOn words end) _ _ _ c.in-None.is c.default_size-machine.ensures.default c.on_netlist.ensures.expected
+    let end = LanesTelling g.G.Gate c.args.gates.now c.args.gates.now words in
+    machine_stops _ _ words.machine (PacksOn words end) _ _ _ c.in-Err.ensures.step
+
+pub returns-in-Err-design_from-clause-expected : goal.returns-in-Err-design_from-clause-expected
+returns-in-Err-design_from-clause-expected g c =
+    let words = c.args.words.now in
+    let end = LanesTelling g.G.Gate c.args.gates.now c.args.gates.now words in
+    let machine = c.in-Ok.machine in
+    machine_on _ _ words.machine (PacksOn words end) machine _ _ _ _ _ _ c.in-Ok.ensures.same_names c.in-Ok.ensures.same_bytes c.in-Ok.ensures.step
+    (design_stops _ _ words (PacksIn words end machine) _ _ _ c.in-Err-design_from.ensures.step)
+
+pub returns-in-Err-compiled-clause-expected : goal.returns-in-Err-compiled-clause-expected
+returns-in-Err-compiled-clause-expected g c =
+    let words = c.args.words.now in
+    let end = LanesTelling g.G.Gate c.args.gates.now c.args.gates.now words in
+    let machine = c.in-Ok.machine in
+    let design = c.in-Ok-design_from.design in
+    let then = AfterLanes words.stimulus design.net (end machine design.timing design.net) in
+    machine_on _ _ words.machine (PacksOn words end) machine _ _ _ _ _ _ c.in-Ok.ensures.same_names c.in-Ok.ensures.same_bytes c.in-Ok.ensures.step
+    (design_on _ _ words (PacksIn words end machine) design _ _ _ _ _ _ c.in-Ok-design_from.ensures.same_names c.in-Ok-design_from.ensures.same_bytes c.in-Ok-design_from.ensures.step
+    (follows_unfit _ _ words.homes design.net machine design.timing (After (HasFewBits design.net) (λ few. then)) _ _ c.in-Err-compiled.ensures.refused))
+
+pub returns-in-Err-few_bits-clause-expected : goal.returns-in-Err-few_bits-clause-expected
+returns-in-Err-few_bits-clause-expected g c =
+    let words = c.args.words.now in
+    let end = LanesTelling g.G.Gate c.args.gates.now c.args.gates.now words in
+    let machine = c.in-Ok.machine in
+    let design = c.in-Ok-design_from.design in
+    let then = AfterLanes words.stimulus design.net (end machine design.timing design.net) in
+    let same = c.in-Ok-compiled.ensures.same in
+    machine_on _ _ words.machine (PacksOn words end) machine _ _ _ _ _ _ c.in-Ok.ensures.same_names c.in-Ok.ensures.same_bytes c.in-Ok.ensures.step
+    (design_on _ _ words (PacksIn words end machine) design _ _ _ _ _ _ c.in-Ok-design_from.ensures.same_names c.in-Ok-design_from.ensures.same_bytes c.in-Ok-design_from.ensures.step
+    (follows_fit _ _ words.homes design.net machine design.timing (After (HasFewBits design.net) (λ few. then)) _ _ _ c.in-Ok-compiled.ensures.acyclic c.in-Ok-compiled.ensures.fits
+    (follows_refusal _ _ (HasFewBits design.net) (λ few. then) _ _ (rw same at c.in-Err-few_bits.ensures))))
+
+pub returns-in-Err-lanes_in-clause-expected : goal.returns-in-Err-lanes_in-clause-expected
+returns-in-Err-lanes_in-clause-expected g c =
+    let words = c.args.words.now in
+    let end = LanesTelling g.G.Gate c.args.gates.now c.args.gates.now words in
+    let machine = c.in-Ok.machine in
+    let design = c.in-Ok-design_from.design in
+    let then = AfterLanes words.stimulus design.net (end machine design.timing design.net) in
+    let same = c.in-Ok-compiled.ensures.same in
+    machine_on _ _ words.machine (PacksOn words end) machine _ _ _ _ _ _ c.in-Ok.ensures.same_names c.in-Ok.ensures.same_bytes c.in-Ok.ensures.step
+    (design_on _ _ words (PacksIn words end machine) design _ _ _ _ _ _ c.in-Ok-design_from.ensures.same_names c.in-Ok-design_from.ensures.same_bytes c.in-Ok-design_from.ensures.step
+    (follows_fit _ _ words.homes design.net machine design.timing (After (HasFewBits design.net) (λ few. then)) _ _ _ c.in-Ok-compiled.ensures.acyclic c.in-Ok-compiled.ensures.fits
+    (follows_on _ _ (HasFewBits design.net) (λ few. then) tt _ _ _ (rw same at c.in-Ok-few_bits.ensures)
+    (stopped _ _ (AfterLanes words.stimulus design.net) (lanes_so words.stimulus design.net) (end machine design.timing design.net) _ _ _ (rw same at (rw c.as_bytes.ensures at c.in-Err-lanes_in.ensures.step))))))
+
+pub returns-clause-expected : goal.returns-clause-expected
+returns-clause-expected g c =
+    let words = c.args.words.now in
+    let end = LanesTelling g.G.Gate c.args.gates.now c.pack_kept.new.gates words in
+    let machine = c.in-Ok.machine in
+    let design = c.in-Ok-design_from.design in
+    let then = AfterLanes words.stimulus design.net (end machine design.timing design.net) in
+    let same = c.in-Ok-compiled.ensures.same in
+    let lanes = c.in-Ok-lanes_in.lanes in
+    machine_on _ _ words.machine (PacksOn words end) machine _ _ _ _ _ _ c.in-Ok.ensures.same_names c.in-Ok.ensures.same_bytes c.in-Ok.ensures.step
+    (design_on _ _ words (PacksIn words end machine) design _ _ _ _ _ _ c.in-Ok-design_from.ensures.same_names c.in-Ok-design_from.ensures.same_bytes c.in-Ok-design_from.ensures.step
+    (follows_fit _ _ words.homes design.net machine design.timing (After (HasFewBits design.net) (λ few. then)) _ _ _ c.in-Ok-compiled.ensures.acyclic c.in-Ok-compiled.ensures.fits
+    (follows_on _ _ (HasFewBits design.net) (λ few. then) tt _ _ _ (rw same at c.in-Ok-few_bits.ensures)
+    (passed_on _ _ (AfterLanes words.stimulus design.net) (lanes_so words.stimulus design.net) lanes (end machine design.timing design.net) _ _ _ _ _ _ c.in-Ok-lanes_in.ensures.same_names c.in-Ok-lanes_in.ensures.same_bytes
+    (rw same at (rw c.as_bytes.ensures at c.in-Ok-lanes_in.ensures.step)) (follows_here _ _ _ _ (end machine design.timing design.net lanes) (rw same at c.pack_kept.ensures.expected))))))

@@ -1,20 +1,63 @@
--- The order is read once the cells are few enough.
-use Rattle.std.proofs.Common.{Some, refl, inr}
-use Rattle.yse_top.specs.Checks.{After, HasFewCells}
+-- The cells, the order, and what is done by its end.
+use Rattle.std.proofs.Common.{Some, refl, inl, inr}
+use Rattle.cmd_words.specs.declared.command.RunWords.{RunWords}
+use Rattle.machine_text.specs.declared.machine.Machine.{Machine}
+use Rattle.net_defs.specs.declared.netlist.Netlist.{Netlist}
+use Rattle.net_defs.specs.declared.stimulus.Stimulus.{Stimulus}
+use Rattle.net_defs.specs.declared.timing.Timing.{Timing}
+use Rattle.stim_text.specs.declared.order.Order.{Order}
+use Rattle.yse_top.specs.Checks.{Ends, HasFewCells}
+use Rattle.yse_top.specs.Orders.{EndsInOrder}
+use Rattle.yse_top.specs.Passing.{AfterOrderFile, Chain}
 use Rattle.yse_top.specs.commands.Run.{EndsBy}
-use Rattle.yse_top.proofs.ChainLemmas.{follows_on, follows_here}
+use Rattle.yse_top.proofs.ChainLemmas.{follows_here, follows_on, follows_refusal}
+use Rattle.yse_top.proofs.PassingLemmas.{passed_on, stopped}
+use Rattle.yse_top.proofs.WeakerLemmas.{order_so}
 use Rattle.yse_top.proofs.commands.run.in_order.Goals as goal
 
-pub returns-in-Ok-clause-expected : goal.returns-in-Ok-clause-expected
-returns-in-Ok-clause-expected g c =
+-- what comes after the order
+abbrev order_then : RunWords → Machine → Timing → Netlist → Stimulus → Chain Order
+order_then words machine timing net stimulus order = Ends (EndsInOrder order words.banks words.homes net machine timing stimulus)
+
+pub returns-in-Err-clause-expected : goal.returns-in-Err-clause-expected
+returns-in-Err-clause-expected g c =
     let net = c.args.built.net in
     let stimulus = c.args.stimulus.now in
-    let next = EndsBy (Some c.args.file.now) c.args.words.now c.args.machine.now c.args.timing.now net stimulus in
-    follows_on _ _ (HasFewCells net stimulus) (λ few. next) tt _ _ _ c.in-Ok.ensures c.in_order_of_file.ensures.expected
+    follows_refusal _ _ (HasFewCells net stimulus) (λ few. EndsBy (Some c.args.file.now) c.args.words.now c.args.machine.now c.args.timing.now net stimulus) _ _ c.in-Err.ensures
+
+pub returns-in-Err-order_in-clause-expected : goal.returns-in-Err-order_in-clause-expected
+unfolding EndsBy
+returns-in-Err-order_in-clause-expected g c =
+    let file = c.args.file.now in
+    let machine = c.args.machine.now in
+    let net = c.args.built.net in
+    let stimulus = c.args.stimulus.now in
+    let then = order_then c.args.words.now machine c.args.timing.now net stimulus in
+    follows_on _ _ (HasFewCells net stimulus) (λ few. AfterOrderFile file machine then) tt _ _ _ c.in-Ok.ensures
+    (stopped _ _ (AfterOrderFile file machine) (order_so file machine) then _ _ _ c.in-Err-order_in.ensures.step)
+
+pub returns-in-Ok-by_order-clause-expected : goal.returns-in-Ok-by_order-clause-expected
+unfolding EndsBy
+returns-in-Ok-by_order-clause-expected g c =
+    let file = c.args.file.now in
+    let machine = c.args.machine.now in
+    let net = c.args.built.net in
+    let stimulus = c.args.stimulus.now in
+    let then = order_then c.args.words.now machine c.args.timing.now net stimulus in
+    let order = c.in-Ok-order_in.order in
+    follows_on _ _ (HasFewCells net stimulus) (λ few. AfterOrderFile file machine then) tt _ _ _ c.in-Ok.ensures
+    (passed_on _ _ (AfterOrderFile file machine) (order_so file machine) order then _ _ _ _ _ _ c.in-Ok-order_in.ensures.same_names c.in-Ok-order_in.ensures.same_bytes c.in-Ok-order_in.ensures.step
+    (follows_here _ _ _ _ (then order) (refl, inl c.in-Ok-by_order.ensures.ended)))
 
 pub returns-clause-expected : goal.returns-clause-expected
+unfolding EndsBy
 returns-clause-expected g c =
+    let file = c.args.file.now in
+    let machine = c.args.machine.now in
     let net = c.args.built.net in
     let stimulus = c.args.stimulus.now in
-    let next = EndsBy (Some c.args.file.now) c.args.words.now c.args.machine.now c.args.timing.now net stimulus in
-    follows_here _ _ _ _ (After (HasFewCells net stimulus) (λ few. next)) (inr (refl, c.in-Err.ensures))
+    let then = order_then c.args.words.now machine c.args.timing.now net stimulus in
+    let order = c.in-Ok-order_in.order in
+    follows_on _ _ (HasFewCells net stimulus) (λ few. AfterOrderFile file machine then) tt _ _ _ c.in-Ok.ensures
+    (passed_on _ _ (AfterOrderFile file machine) (order_so file machine) order then _ _ _ _ _ _ c.in-Ok-order_in.ensures.same_names c.in-Ok-order_in.ensures.same_bytes c.in-Ok-order_in.ensures.step
+    (follows_here _ _ _ _ (then order) (refl, inr refl)))

@@ -1,23 +1,37 @@
--- The canonical text of what was read.
-use Rattle.std.proofs.Common.{◌≡◌, List, refl, inl}
-use Rattle.net_defs.specs.declared.netlist.Netlist.{Netlist}
+-- The netlist, and its canonical text.
+use Rattle.std.proofs.Common.{◌≡◌, refl, inl, inr}
 use Rattle.net_defs.specs.Canonical.{canonical_text}
-use Rattle.yse_top.specs.Checks.{After, Ends, Writes, IsNetlistOf}
-use Rattle.yse_top.specs.Outcome.{Outcome}
-use Rattle.yse_top.specs.Readings.{Reading}
+use Rattle.net_defs.specs.declared.netlist.Netlist.{Netlist}
+use Rattle.yse_top.specs.Checks.{Ends, Writes}
+use Rattle.yse_top.specs.Passing.{AfterNetlistFile, Chain}
 use Rattle.yse_top.specs.commands.Show.{ExpectedShow}
-use Rattle.yse_top.proofs.ChainLemmas.{follows_file, follows_on, follows_here}
+use Rattle.yse_top.proofs.ChainLemmas.{follows_here}
+use Rattle.yse_top.proofs.PassingLemmas.{passed_on, stopped}
+use Rattle.yse_top.proofs.WeakerLemmas.{netlist_file_so}
 use Rattle.yse_top.proofs.commands.show.show.Goals as goal
 
-abbrev of_netlist : Netlist → List Reading → Outcome → Type 0
-of_netlist net = Ends (Writes (λ output. output ≡ canonical_text net))
+-- what comes after the netlist
+abbrev net_then : Chain Netlist
+net_then net = Ends (Writes (λ output. output ≡ canonical_text net))
+
+pub returns-in-Err-clause-expected : goal.returns-in-Err-clause-expected
+unfolding ExpectedShow
+returns-in-Err-clause-expected g c =
+    let file = c.args.file.now in
+    stopped _ _ (AfterNetlistFile file) (netlist_file_so file) net_then _ _ _ c.in-Err.ensures.step
 
 pub returns-in-Ok-canonical_text-clause-expected : goal.returns-in-Ok-canonical_text-clause-expected
 unfolding ExpectedShow
 returns-in-Ok-canonical_text-clause-expected g c =
-    let e = c.in-Ok-netlist_of.ensures in
-    let net = c.in-Ok-netlist_of.net in
-    let text = c.in-Ok.text in
-    follows_file _ _ _ _ _ _ _ _ text _ (λ text. After (IsNetlistOf text) of_netlist) c.in-Ok.ensures.same_names c.in-Ok.ensures.same_bytes c.in-Ok.ensures.text
-    (follows_on _ _ (IsNetlistOf text) of_netlist net _ _ _ e.checked
-    (follows_here _ _ _ _ (of_netlist net) (refl, inl (_, c.in-Ok-canonical_text.ensures, refl))))
+    let file = c.args.file.now in
+    let net = c.in-Ok.net in
+    passed_on _ _ (AfterNetlistFile file) (netlist_file_so file) net net_then _ _ _ _ _ _ c.in-Ok.ensures.same_names c.in-Ok.ensures.same_bytes c.in-Ok.ensures.step
+    (follows_here _ _ _ _ (net_then net) (refl, inl (_, c.in-Ok-canonical_text.ensures, refl)))
+
+pub returns-clause-expected : goal.returns-clause-expected
+unfolding ExpectedShow
+returns-clause-expected g c =
+    let file = c.args.file.now in
+    let net = c.in-Ok.net in
+    passed_on _ _ (AfterNetlistFile file) (netlist_file_so file) net net_then _ _ _ _ _ _ c.in-Ok.ensures.same_names c.in-Ok.ensures.same_bytes c.in-Ok.ensures.step
+    (follows_here _ _ _ _ (net_then net) (refl, inr refl))
