@@ -1,14 +1,11 @@
 -- A run whose end tells the gates: what is expected of it, and its visits.
-use Rattle.std.proofs.Common.{◌≡◌, ◌∙◌, sym, ap, refl, subst, inl, inr, ℕ, ◌*◌, List, [], ◌∷◌, Option, Some, None, Result, Ok, Err, Bool}
+use Rattle.std.proofs.Common.{◌≡◌, ◌∙◌, sym, ap, refl, subst, ℕ, ◌*◌, List, Option, Some, None, Result, Ok, Err, Bool}
 use Rattle.std.specs.Prelude.{IfOk, OnErr, length, min}
 use Rattle.crew_run.specs.declared.gate.Gate as gate
 use Rattle.edge_io.specs.declared.counts.FileCounts.{FileCounts}
 use Rattle.edge_io.specs.declared.writing.WriteNo.{WriteNo}
 use Rattle.edge_io.specs.declared.writing.WriteNo.TheVariants.{Failed}
-use Rattle.image_defs.specs.declared.image.Image.{Image}
-use Rattle.machine_text.specs.declared.machine.Machine.{Machine}
 use Rattle.machine_text.specs.Machines.{ports_of}
-use Rattle.net_defs.specs.declared.homes.HomeChoice.{HomeChoice}
 use Rattle.net_defs.specs.declared.netlist.Netlist.{Netlist}
 use Rattle.net_defs.specs.declared.stimulus.Stimulus.{Stimulus}
 use Rattle.net_defs.specs.declared.timing.Timing.{Timing}
@@ -24,18 +21,15 @@ use Rattle.yse_top.specs.declared.refusal.Refusal.{Refusal}
 use Rattle.yse_top.specs.declared.refusal.Refusal.TheVariants as refusal
 use Rattle.yse_top.specs.declared.status.Status.{Status}
 use Rattle.yse_top.specs.declared.status.Status.TheVariants as status
-use Rattle.yse_top.specs.Checks.{After, AfterFile, AfterRead, IsLanesOf, IsMachineOf, IsNetlistOf, HasNoLoop, HasRoom, IsStimulusOf, IsListOf, listing, text_of}
 use Rattle.yse_top.specs.Outcome.{Outcome, done}
 use Rattle.edge_io.specs.Writing.{joined}
-use Rattle.stim_text.specs.declared.lanes.Lanes.{Lanes}
-use Rattle.yse_top.specs.commands.Pack.{AfterLanes}
 use Rattle.yse_top.specs.Outputs.{lanes_bytes, run_bytes, trace_bytes, wrote_in}
 use Rattle.yse_top.specs.Readings.{Reading}
 use Rattle.yse_top.specs.Endings.{ending_in}
 use Rattle.yse_top.specs.Ends.{IsWhole, MayWrite}
 use Rattle.yse_top.specs.Refusals.{Follows, ended_with, outcome_of, refused_of, status_so_far, status_told, written_by}
 use Rattle.yse_top.specs.Visited.{AreRunVisits, AreTold, AreTurnsOf, AreVisitsOfFiles, AreVisitsOfImage, EndsTelling, ExecTelling, HasWorkers, KeepsGates, TellsGates, TellsOfExec, TellsOfRun, block_of, has_limit, order_in}
-use Rattle.yse_top.specs.commands.Exec.{AfterImage, AfterMatch, ExecutesBy, ExpectedExec, IsAccepted, IsImageFileOf, OnImage, RunsImage, WritesTraceOf}
+use Rattle.yse_top.specs.commands.Exec.{ExecutesBy, ExpectedExec, WritesTraceOf}
 use Rattle.yse_top.specs.commands.Run.{AfterMachine, EndsWithin, ExpectedOn, ExpectedRun}
 use Rattle.yse_top.proofs.CallLemmas.{ended_no_fault}
 use Rattle.yse_top.proofs.GateLemmas.{all_blocks}
