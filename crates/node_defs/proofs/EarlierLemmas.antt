@@ -3,6 +3,7 @@ use Rattle.std.proofs.Common.{◌≡◌, ◌∙◌, ◌⊎◌, inl, inr, ℕ, ze
 use Rattle.std.specs.Prelude.{Option, Some, None, slice_get}
 use Rattle.std.proofs.lemmas.Bool.{cases_lt, le-ltb}
 use Rattle.std.proofs.lemmas.Option.{slice_get_within}
+use Rattle.list_laws.proofs.Members.{member_at}
 use Rattle.logic_four.specs.declared.V4.TheVariants.{Zero}
 use Rattle.logic_four.specs.declared.Kind.{Kind}
 use Rattle.net_defs.specs.declared.netlist.Netlist.{Netlist}
@@ -17,20 +18,11 @@ use Rattle.node_defs.specs.declared.items.Tag.TheVariants.{This}
 use Rattle.node_defs.specs.declared.items.Feed.TheVariants.{From, Fixed}
 use Rattle.node_defs.specs.declared.items.Feeds.{Feeds}
 use Rattle.node_defs.specs.declared.items.Item.{Item}
-use Rattle.node_defs.specs.declared.items.Item.TheVariants.{Input, BlockBit, Node, Latch}
+use Rattle.node_defs.specs.declared.items.Item.TheVariants.{Input, BlockBit, Node}
 use Rattle.node_defs.specs.declared.items.ItemName.{ItemName}
 use Rattle.node_defs.specs.declared.items.NodeNet.{NodeNet}
 use Rattle.node_defs.specs.Items.{wire_name, wire_tag, feed_at, IsNode, IsItemOf, IsItem}
 use Rattle.node_defs.specs.Order.{class_of, rank_after_feed, rank_of, Key, key_of, Before, AreItems}
-use Rattle.node_defs.proofs.MemberLemmas.{member_at}
-
--- no more than four operands
-pub past_four : (feeds : Feeds) (i : ℕ) → 4 ≤ i → feed_at feeds i ≡ Fixed Zero
-past_four feeds zero past = absurd (omega (arith, past))
-past_four feeds (suc zero) past = absurd (omega (arith, past))
-past_four feeds (suc (suc zero)) past = absurd (omega (arith, past))
-past_four feeds (suc (suc (suc zero))) past = absurd (omega (arith, past))
-past_four feeds (suc (suc (suc (suc i)))) past = refl
 
 -- a node's rank is at least what each operand asks for
 pub rank_at_least : (first_node : ℕ) (ranks : List ℕ) (table : ℕ) (feeds : Feeds) (i : ℕ) → rank_after_feed first_node ranks (feed_at feeds i) ≤ rank_of first_node ranks (Node table feeds)
@@ -70,15 +62,9 @@ module _ (net : Netlist) (timing : Timing) (nodes : NodeNet) (are : AreItems net
 
   in_driver : (late : Bool) (s : ℕ) (d : Driver) (helper : Option ℕ) (table : ℕ) (feeds : Feeds) (i y : ℕ) (tag : Tag)
       → IsItemOf nodes.names nodes.tables late s d helper (Node table feeds) → feed_at feeds i ≡ From y tag → y < length nodes.items
-  in_driver late s driver.Input helper table feeds i y tag item from = absurd (clash item.1) where
-    clash : Node table feeds ≡ Input s → ⊥
-    clash same = cc
-  in_driver late s (driver.Dff op) helper table feeds i y tag item from = absurd (clash item.1 item.3) where
-    clash : (x : ℕ) → Node table feeds ≡ Latch x → ⊥
-    clash x same = cc
-  in_driver late s (driver.BlockBit block bit) helper table feeds i y tag item from = absurd (clash item.1) where
-    clash : Node table feeds ≡ BlockBit block bit → ⊥
-    clash same = cc
+  in_driver late s driver.Input helper table feeds i y tag item from = cc item.1
+  in_driver late s (driver.Dff op) helper table feeds i y tag item from = cc item.3
+  in_driver late s (driver.BlockBit block bit) helper table feeds i y tag item from = cc item.1
   in_driver late s (driver.Gate kind ops) None table feeds i y tag item from = in_node s late ops kind _ table feeds i y tag item from
   in_driver late s (driver.Gate kind ops) (Some h) table feeds i y tag item from = in_node s late ops _ _ table feeds i y tag item.1 from
 
@@ -106,15 +92,9 @@ module _ (net : Netlist) (timing : Timing) (nodes : NodeNet) (are : AreItems net
 
   table_in_driver : (late : Bool) (s : ℕ) (d : Driver) (helper : Option ℕ) (table : ℕ) (feeds : Feeds)
       → IsItemOf nodes.names nodes.tables late s d helper (Node table feeds) → table < length nodes.tables
-  table_in_driver late s driver.Input helper table feeds item = absurd (clash item.1) where
-    clash : Node table feeds ≡ Input s → ⊥
-    clash same = cc
-  table_in_driver late s (driver.Dff op) helper table feeds item = absurd (clash item.1 item.3) where
-    clash : (x : ℕ) → Node table feeds ≡ Latch x → ⊥
-    clash x same = cc
-  table_in_driver late s (driver.BlockBit block bit) helper table feeds item = absurd (clash item.1) where
-    clash : Node table feeds ≡ BlockBit block bit → ⊥
-    clash same = cc
+  table_in_driver late s driver.Input helper table feeds item = cc item.1
+  table_in_driver late s (driver.Dff op) helper table feeds item = cc item.3
+  table_in_driver late s (driver.BlockBit block bit) helper table feeds item = cc item.1
   table_in_driver late s (driver.Gate kind ops) None table feeds item = table_in_node late s ops kind _ table feeds item
   table_in_driver late s (driver.Gate kind ops) (Some h) table feeds item = table_in_node late s ops _ _ table feeds item.1
 
