@@ -1,5 +1,5 @@
 -- Bits that are added one after another.
-use Rattle.std.proofs.Common.{◌≡◌, ◌∙◌, ◌⊎◌, ◌↔◌, inl, inr, ℕ, refl}
+use Rattle.std.proofs.Common.{◌∙◌, ◌⊎◌, ◌↔◌, inl, inr, ℕ}
 use Rattle.bit_rows.specs.declared.BitRows.{BitRows}
 use Rattle.bit_rows.specs.Bits.{HasBit, Adds}
 
@@ -32,12 +32,4 @@ adds_same a b P Q first same = record {
     λ has. elim ((first.bits row bit).0 has) [ inl old ↦ inl old | inr p ↦ inr ((same row bit).1 p) ],
     λ is. elim is [ inl old ↦ (first.bits row bit).1 (inl old) | inr q ↦ (first.bits row bit).1 (inr ((same row bit).0 q)) ],
   );
-}
-
--- nothing is added
-pub adds_none : (a : BitRows) (P : ℕ → ℕ → Type 0) → ((row bit : ℕ) → P row bit → ⊥) → Adds a a P
-adds_none a P none = record {
-  words = refl;
-  stride = refl;
-  bits = λ row bit. (λ has. inl has, λ is. elim is [ inl old ↦ old | inr p ↦ absurd (none row bit p) ]);
 }

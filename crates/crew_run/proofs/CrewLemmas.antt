@@ -3,12 +3,13 @@ use Rattle.std.proofs.Common.{◌≡◌, ◌∙◌, ◌++◌, ◌+◌, ◌-◌, 
 use Rattle.std.proofs.lemmas.Bool.{cases_lt}
 use Rattle.std.proofs.lemmas.Option.{slice_get_within}
 use Rattle.list_laws.proofs.Places.{at_front, slice_past}
+use Rattle.list_laws.proofs.Members.{beside}
+use Rattle.list_laws.proofs.Options.{one_some}
 use Rattle.crew_run.specs.declared.gate.Gate as gate
 use Rattle.crew_run.specs.declared.stepper.Stepper as stepper
 use Rattle.crew_run.specs.declared.worker.Worker.{Worker}
 use Rattle.crew_run.specs.Crews.{AllCanRun, AllHaveRun, HasRun}
 use Rattle.crew_run.specs.Phases.{AreDone, CanResume, Each, HasBegun, IsResumed}
-use Rattle.crew_run.proofs.Places.{beside, one_some}
 use Rattle.crew_run.proofs.PhaseLemmas.{begun_resumed, can_resume, has_run}
 use Rattle.crew_run.proofs.StepLemmas.{untold_none}
 

@@ -1,27 +1,18 @@
 -- Gates go to the workers and come back.
-use Rattle.std.proofs.Common.{◌≡◌, ◌∙◌, ℕ, ◌+◌, ◌≤◌, List, Option, length, set, slice_get, Some, inl, inr, sym, ap, subst, refl, arith}
+use Rattle.std.proofs.Common.{◌≡◌, ◌∙◌, ℕ, ◌+◌, ◌≤◌, List, Option, length, set, slice_get, Some, inl, inr, sym, ap, subst, arith}
 use Rattle.std.proofs.lemmas.List.{length-set}
 use Rattle.std.proofs.lemmas.Option.{slice_get_within}
 use Rattle.list_laws.proofs.Places.{one_there}
 use Rattle.list_laws.proofs.Ranges.{last_or}
+use Rattle.list_laws.proofs.Members.{member_at, beside, set_same, set_other}
+use Rattle.list_laws.proofs.Options.{one_some}
 use Rattle.crew_run.specs.declared.gate.Gate as gate
 use Rattle.crew_run.specs.declared.stepper.Stepper as stepper
 use Rattle.crew_run.specs.declared.worker.Worker.{Worker}
 use Rattle.crew_run.specs.Crews.{AllCanRun, AllHaveRun, CanRun, HasRun}
 use Rattle.crew_run.specs.Lending.{AllCanRunWith, AllHaveRunWith, AreSwapped, lent}
-use Rattle.crew_run.proofs.Places.{beside, member_at, one_some, set_other, set_same}
 
 module _ {S G : Type 0} where
-  pub swapped_none : (ws : List (Worker S G)) (gates : List (Option G)) → AreSwapped 0 ws gates ws gates
-  swapped_none ws gates = record {
-    worker_count = refl;
-    gate_count = refl;
-    taken = λ i w gate low. absurd (omega (arith, low));
-    given = λ i w low. absurd (omega (arith, low));
-    other_workers = λ i high. refl;
-    other_gates = λ i high. refl;
-  }
-
   pub swapped_more : (n : ℕ) (ws : List (Worker S G)) (gates : List (Option G)) (ws' : List (Worker S G)) (gates' : List (Option G)) (w : Worker S G) (gate : Option G)
       → AreSwapped n ws gates ws' gates' → slice_get ws' n ≡ Some w → slice_get gates' n ≡ Some gate → AreSwapped (n + 1) ws gates (set ws' n (lent w gate)) (set gates' n w.gate)
   swapped_more n ws gates ws' gates' w gate h at gate_at = record {

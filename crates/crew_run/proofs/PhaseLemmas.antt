@@ -4,13 +4,14 @@ use Rattle.std.proofs.lemmas.Bool.{cases_lt}
 use Rattle.std.proofs.lemmas.Option.{slice_get_within}
 use Rattle.list_laws.proofs.Places.{one_there}
 use Rattle.list_laws.proofs.Ranges.{last_or}
+use Rattle.list_laws.proofs.Members.{beside}
+use Rattle.list_laws.proofs.Options.{one_some}
 use Rattle.crew_run.specs.declared.gate.Gate as gate
 use Rattle.crew_run.specs.declared.stepper.Stepper as stepper
 use Rattle.crew_run.specs.declared.worker.Worker.{Worker}
 use Rattle.crew_run.specs.Crews.{AreReady, CanRun, HasRoomToRun, HasRun}
 use Rattle.crew_run.specs.Phases.{AreBegun, AreDone, AreStepped, CanResume, CanStep, HasBegun, IsBegun, IsResumed, begun}
 use Rattle.crew_run.specs.Visits.{AreVisits, IsTold, IsUntold}
-use Rattle.crew_run.proofs.Places.{beside, one_some}
 use Rattle.crew_run.proofs.StepLemmas.{can_step_kept, stepped_more, untold_more, untold_none}
 
 module _ {S G : Type 0} (m : stepper.Ghosts S) (p : gate.Ghosts G) where

@@ -4,11 +4,12 @@ use Rattle.std.proofs.lemmas.Bool.{cases_eq}
 use Rattle.std.proofs.lemmas.List.{length-set}
 use Rattle.std.proofs.lemmas.Option.{slice_get_within}
 use Rattle.list_laws.proofs.Places.{one_there}
+use Rattle.list_laws.proofs.Members.{beside, set_same, set_other}
+use Rattle.list_laws.proofs.Options.{one_some}
 use Rattle.crew_run.specs.declared.gate.Gate as gate
 use Rattle.crew_run.specs.declared.stepper.Stepper as stepper
 use Rattle.crew_run.specs.declared.worker.Worker.{Worker}
 use Rattle.crew_run.specs.Phases.{AreStepped, CanResume, CanStep, Each, IsResumed}
-use Rattle.crew_run.proofs.Places.{beside, one_some, set_other, set_same}
 use Rattle.crew_run.proofs.StepLemmas.{can_step_kept, stepped_more, stepped_none}
 
 module _ {S G : Type 0} (m : stepper.Ghosts S) (p : gate.Ghosts G) where

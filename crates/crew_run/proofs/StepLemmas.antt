@@ -5,12 +5,12 @@ use Rattle.std.proofs.lemmas.List.{length-set}
 use Rattle.std.proofs.lemmas.Option.{slice_get_within}
 use Rattle.limits.specs.declared.TheConstants.{MAX_PORTS}
 use Rattle.list_laws.proofs.Places.{one_there}
+use Rattle.list_laws.proofs.Members.{beside, set_same, set_other}
 use Rattle.crew_run.specs.declared.gate.Gate as gate
 use Rattle.crew_run.specs.declared.stepper.Stepper as stepper
 use Rattle.crew_run.specs.Crews.{AreReady}
 use Rattle.crew_run.specs.Phases.{AreStepped, CanStep, Follows, HasRoomFor, IsStepped, Passes, begun}
 use Rattle.crew_run.specs.Visits.{IsElsewhere, IsUntold}
-use Rattle.crew_run.proofs.Places.{beside, set_other, set_same}
 
 module _ {G : Type 0} (p : gate.Ghosts G) where
   pub untold_none : (q : ℕ) (g : G) → IsUntold p q g g
@@ -127,13 +127,6 @@ module _ {S G : Type 0} (m : stepper.Ghosts S) (p : gate.Ghosts G) (transitive :
     last_turn = i.last_turn ∙ h.last_turn;
     later = omega (arith, h.later, i.later);
     within = λ low. let mid = i.within (omega (arith, h.within low, h.last_turn)) in omega (arith, mid, h.last_turn);
-  }
-
-  pub one_stepped_more : (a b c : S) (g g' g'' : G) → IsStepped m p a g b g' → IsStepped m p b g' c g'' → IsStepped m p a g c g''
-  one_stepped_more a b c g g' g'' h i = record {
-    follows = follows_more a b c h.follows i.follows;
-    passes = passes_more m p a b c g g' g'' h.follows i.follows h.passes i.passes;
-    others = λ q away. untold_more p q g g' g'' (h.others q away) (i.others q (λ is. away (is ∙ h.follows.port)));
   }
 
   pub stepped_more : (xs ys zs : List S) (g g' g'' : G) → AreStepped m p xs g ys g' → AreStepped m p ys g' zs g'' → AreStepped m p xs g zs g''

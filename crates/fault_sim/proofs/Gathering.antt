@@ -1,13 +1,14 @@
 -- Verdicts of several groups of faults, and all faults in groups.
 use Rattle.std.proofs.Common.{◌≡◌, ◌∙◌, inl, inr, ℕ, zero, suc, ◌+◌, ◌-◌, ◌<◌, ◌≤◌, true, List, [], ◌∷◌, ◌++◌, length, take, get_or, append-nil, append_assoc, length-append, refl, sym, ap, ap₂, subst, arith}
-use Rattle.std.specs.List.{slice_get, All, flat_map, range_with_len, refill}
-use Rattle.std.proofs.lemmas.List.{take_all, drop_all}
+use Rattle.std.specs.List.{slice_get, All, flat_map, range_with_len}
+use Rattle.std.proofs.lemmas.List.{take_all}
 use Rattle.std.proofs.lemmas.Bool.{cases_lt}
 use Rattle.std.proofs.lemmas.Option.{slice_get_within, slice_get-get_or}
 use Rattle.std.proofs.lemmas.List.Elements.{All-nil, All-cons, All-append}
 use Rattle.std.proofs.lemmas.List.Concat.{flat_map-append}
 use Rattle.list_laws.proofs.Maps.{flat_map_grown}
 use Rattle.list_laws.proofs.Places.{at_front, slice_past}
+use Rattle.list_laws.proofs.Ranges.{range_append}
 use Rattle.net_defs.specs.declared.netlist.Netlist.{Netlist}
 use Rattle.net_defs.specs.declared.timing.Timing.{Timing}
 use Rattle.net_defs.specs.declared.stimulus.Stimulus.{Stimulus}
@@ -75,20 +76,6 @@ module _ (net : Netlist) (timing : Timing) (stimulus : Stimulus) where
   pub gather_all : (groups : List Group) (i : ℕ) (verdicts : List Verdict) → length groups ≤ i → AreVerdicts net timing stimulus (group_faults (take i groups)) verdicts → AreVerdicts net timing stimulus (group_faults groups) verdicts
   gather_all groups i verdicts all so_far = subst (λ list. AreVerdicts net timing stimulus (group_faults list) verdicts) (take_all i groups all) so_far
 
--- a list whose loan ends with as many members
-pub refill_all : {X : Type 0} (xs now : List X) → length now ≡ length xs → refill (length xs) xs now ≡ now
-refill_all xs now long =
-    ap (λ rest. take (length xs) (now ++ rest)) (drop_all (length now) xs (omega (arith, long)))
-    ∙ (ap (λ list. take (length xs) list) (append-nil now) ∙ take_all (length xs) now (omega (arith, long)))
-
--- two ranges that follow one another
-pub range_append : (a n m : ℕ) → range_with_len a (n + m) ≡ range_with_len a n ++ range_with_len (a + n) m
-range_append a zero m = let e : zero + m ≡ m = omega arith in let f : a + zero ≡ a = omega arith in rw (e, f) refl
-range_append a (suc n) m =
-    let e : suc n + m ≡ suc (n + m) = omega arith in
-    let f : a + suc n ≡ a + 1 + n = omega arith in
-    rw (e, f) (ap (λ xs. a ∷ xs) (range_append (a + 1) n m))
-
 pub faults_append : (a n m : ℕ) → faults_from a (n + m) ≡ faults_from a n ++ faults_from (a + n) m
 faults_append a n m = ap (flat_map faults_at) (range_append a n m) ∙ flat_map-append faults_at (range_with_len a n) (range_with_len (a + n) m)
 
@@ -122,6 +109,3 @@ groups_more net begun more groups group are is few within = record {
         faults = subst (All (IsFault net)) (sym is) (faults_are net begun more within);
       }) (All-nil (IsGroup net)));
 }
-
-pub groups_none : (net : Netlist) → AreGroups net 0 []
-groups_none net = record { faults = refl; each = All-nil (IsGroup net) }

@@ -5,6 +5,7 @@ use Rattle.std.proofs.lemmas.Option.{slice_get_within, get_or_from_slice_get}
 use Rattle.std.proofs.lemmas.List.{length-set, length-map, get_or-map, get_or_past}
 use Rattle.list_laws.proofs.Places.{one_there}
 use Rattle.list_laws.proofs.Ranges.{last_or}
+use Rattle.list_laws.proofs.Members.{set_same, set_other}
 use Rattle.logic_four.specs.declared.V4.{V4}
 use Rattle.logic_four.specs.declared.V4.TheVariants.{Undef}
 use Rattle.lane_planes.specs.declared.planes.Planes.{Planes}
@@ -16,7 +17,6 @@ use Rattle.net_defs.specs.Valid.{IsSignal}
 use Rattle.fault_sim.specs.declared.faults.Verdict.{Verdict}
 use Rattle.fault_sim.specs.Verdicts.{differs}
 use Rattle.fault_sim.specs.Runs.{differs_in, IsLooked, AreLooked}
-use Rattle.fault_sim.proofs.Stuck.{set_there, set_else}
 
 -- a printed value of a lane
 column_is : (net : Netlist) (row : List Planes) (l j : ℕ) (p : Planes) (list : List ℕ) → list ≡ net.printed → All (IsSignal net) net.printed → length row ≡ length net.signals → j < length list → p ≡ get_or row (get_or list j 0) p
@@ -57,17 +57,17 @@ pub looked_more : (net : Netlist) (row : List Planes) (cycle n : ℕ) (old now l
 looked_more net row cycle n old now list new d v so_far within same looked changed = rw changed (record {
   count = length-set now n v ∙ so_far.count;
   done = λ k before after below at there. elim (last_or k n below) [
-    | inl h ↦ so_far.done k before after h at (sym (set_else now n k v (λ same. absurd (omega (arith, h, same)))) ∙ there)
+    | inl h ↦ so_far.done k before after h at (sym (set_other now n k v (λ same. absurd (omega (arith, h, same)))) ∙ there)
     | inr h ↦
         let at_n : slice_get old n ≡ Some before = subst (λ m. slice_get old m ≡ Some before) h at in
         let there_n : slice_get (set now n v) n ≡ Some after = subst (λ m. slice_get (set now n v) m ≡ Some after) h there in
         let was : get_or list n d ≡ before = ap (λ xs. get_or xs n d) same ∙ get_or_from_slice_get now n before d (so_far.rest n (omega arith) ∙ at_n) in
-        let is : v ≡ after = one_there (set now n v) n n v after refl (set_there now n v (omega (arith, within, so_far.count))) there_n in
+        let is : v ≡ after = one_there (set now n v) n n v after refl (set_same now n v (omega (arith, within, so_far.count))) there_n in
         subst (λ m. IsLooked net (lane_row 0 row) (lane_row (m + 1) row) cycle before after) (sym h)
         (subst (λ b. IsLooked net (lane_row 0 row) (lane_row (n + 1) row) cycle b after) was
         (subst (λ a. IsLooked net (lane_row 0 row) (lane_row (n + 1) row) cycle (get_or list n d) a) is looked))
   ];
-  rest = λ k above. set_else now n k v (λ same. absurd (omega (arith, above, same))) ∙ so_far.rest k (omega (arith, above));
+  rest = λ k above. set_other now n k v (λ same. absurd (omega (arith, above, same))) ∙ so_far.rest k (omega (arith, above));
 })
 
 pub looked_all : (net : Netlist) (row : List Planes) (cycle n : ℕ) (old new : List Verdict) → length old ≤ n → IsLookedTo net row cycle n old new → AreLooked net row cycle old new

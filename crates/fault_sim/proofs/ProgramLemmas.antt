@@ -1,7 +1,7 @@
 -- Gates as operations on two places, where a stuck place keeps its value.
-use Rattle.std.proofs.Common.{◌≡◌, ◌≢◌, ◌∙◌, ℕ, ◌+◌, ◌<◌, List, [], ◌∷◌, ◌++◌, length, map, take, get_or, set, refl, sym, ap, ap₂, subst, arith, append_assoc, IsTrue, true, false, if◌then◌else◌}
+use Rattle.std.proofs.Common.{◌≡◌, ◌≢◌, ◌∙◌, ℕ, ◌+◌, ◌<◌, List, [], ◌∷◌, ◌++◌, length, map, take, get_or, set, refl, sym, ap, ap₂, subst, arith, append_assoc, IsTrue}
 use Rattle.std.specs.List.{All, Contains}
-use Rattle.std.proofs.lemmas.List.{length-set, map-set, get_or-set_same, get_or-set_other, set-set, take_all, append-nil}
+use Rattle.std.proofs.lemmas.List.{length-set, map-set, get_or-set_same, get_or-set_other, set-set, take_all}
 use Rattle.std.proofs.lemmas.List.Elements.{All-append}
 use Rattle.std.proofs.lemmas.List.Sums.{fold_push, fold-append, fold_more}
 use Rattle.list_laws.proofs.Places.{Contains-at}
@@ -17,10 +17,9 @@ use Rattle.lane_planes.specs.Lanes.{lane_of, lane_row, forced_value}
 use Rattle.net_defs.specs.declared.netlist.Netlist.{Netlist}
 use Rattle.net_defs.specs.declared.timing.Timing.{Timing}
 use Rattle.net_defs.specs.Time.{value_at}
-use Rattle.net_defs.specs.Steps.{is_late}
 use Rattle.ref_sim.proofs.OpLemmas.{All-one, join_more, base_many, base_twice}
 use Rattle.fault_sim.specs.declared.program.PairOp.{PairOp}
-use Rattle.fault_sim.specs.Turns.{gate_of, settle_forced}
+use Rattle.fault_sim.specs.Turns.{settle_forced}
 use Rattle.lane_planes.specs.Formula.{pair_value, pair_form}
 use Rattle.fault_sim.specs.Programs.{put_forced, do_forced, follow_forced, pair_op, twice_kind, IsWithin, IsProgram, Adds}
 use Rattle.fault_sim.proofs.BaseLemmas.{lane_at}
@@ -171,12 +170,6 @@ lone_does signals g kind alone (x ∷ []) old new is one allowed low within grow
 
 -- ---- the gates of an order
 
-pub program_none : (net : Netlist) (timing : Timing) → IsProgram net timing [] []
-program_none net timing = record {
-  within = λ k d below. absurd (omega (arith, below));
-  does = λ forces row long. refl;
-}
-
 follow_length : (forces : List V4) (ops : List PairOp) (row : List V4) → length (follow_forced forces ops row) ≡ length row
 follow_length forces [] row = refl
 follow_length forces (op ∷ ops) row =
@@ -195,24 +188,6 @@ program_more net timing order i g old new within at so_far adds = record {
       ∙ (ap₂ (settle_forced net timing forces) (so_far.does forces row long) at
       ∙ sym (fold_more (settle_forced net timing forces) row order i 0 within))));
 }
-
--- a late gate takes no operation
-pub late_none : (net : Netlist) (timing : Timing) (g : ℕ) (old : List PairOp) → is_late net timing g ≡ true → Adds (length net.signals) (λ forces row. settle_forced net timing forces row g) old old
-late_none net timing g old late = record {
-  ops = [];
-  grown = sym (append-nil old);
-  within = λ k d below. absurd (omega (arith, below));
-  does = λ forces row long. sym (ap (λ b. if b then row else set row g (forced_value (gate_of net row g) (value_at forces g))) late);
-}
-
--- one that is not late
-pub early_adds : (net : Netlist) (timing : Timing) (g : ℕ) (f : List V4 → V4) (old new : List PairOp) → is_late net timing g ≡ false → ((row : List V4) → f row ≡ gate_of net row g)
-    → Adds (length net.signals) (puts g f) old new → Adds (length net.signals) (λ forces row. settle_forced net timing forces row g) old new
-early_adds net timing g f old new early same adds =
-    adds_as (length net.signals) _ _ old new adds
-    (λ forces row.
-    ap (λ v. put_forced g v forces row) (same row)
-    ∙ sym (ap (λ b. if b then row else set row g (forced_value (gate_of net row g) (value_at forces g))) early))
 
 -- ---- the operations in all lanes
 

@@ -19,14 +19,6 @@ source_is net timing s other = by_test (is_gate net s) refl where
   by_test true gate = other gate
   by_test false none = refl
 
-pub sources_none : (net : Netlist) (timing : Timing) → AreSources net timing 0 []
-sources_none net timing = record {
-  different = λ i j d low within. absurd (omega (arith, within));
-  below = λ k d within. absurd (omega (arith, within));
-  only = λ k d within. absurd (omega (arith, within));
-  whole = λ s low source. absurd (omega (arith, low));
-}
-
 -- a signal that is none
 pub sources_kept : (net : Netlist) (timing : Timing) (n : ℕ) (list : List ℕ) → AreSources net timing n list → is_source net timing n ≡ false → AreSources net timing (n + 1) list
 sources_kept net timing n list so_far none = record {

@@ -1,10 +1,10 @@
 -- The faulty netlist, signal by signal, and its steps.
-use Rattle.std.proofs.Common.{◌≡◌, ◌≢◌, ◌∙◌, ◌⊎◌, inl, inr, ℕ, zero, suc, ◌<◌, List, [], ◌∷◌, length, set, refl, sym, ap, arith, Some}
+use Rattle.std.proofs.Common.{◌≡◌, ◌≢◌, ◌∙◌, ◌⊎◌, inl, inr, ℕ, length, refl, sym, ap, Some}
 use Rattle.std.specs.List.{slice_get}
 use Rattle.std.proofs.lemmas.Bool.Decides.{eqb_tells}
-use Rattle.std.proofs.lemmas.Option.{slice_get-get_or}
-use Rattle.std.proofs.lemmas.List.{length-set, get_or-set_same}
+use Rattle.std.proofs.lemmas.List.{length-set}
 use Rattle.list_laws.proofs.Places.{one_there}
+use Rattle.list_laws.proofs.Members.{set_same, set_other}
 use Rattle.logic_four.specs.declared.V4.{V4}
 use Rattle.logic_four.specs.declared.V4.TheVariants.{Zero, One, Undef, HighZ}
 use Rattle.net_defs.specs.declared.netlist.Netlist.{Netlist}
@@ -19,19 +19,6 @@ use Rattle.net_defs.specs.Steps.{State, driven, IsRightStep}
 use Rattle.fault_sim.specs.declared.faults.Fault.{Fault}
 use Rattle.fault_sim.specs.Faults.{constant, stuck, IsFault, IsStuckStep}
 
--- a list after a place of it was set
-pub set_there : {X : Type 0} (xs : List X) (i : ℕ) (x : X) → i < length xs → slice_get (set xs i x) i ≡ Some x
-set_there xs i x within =
-    let room : i < length (set xs i x) = omega (arith, length-set xs i x) in
-    slice_get-get_or (set xs i x) i x room ∙ ap Some (get_or-set_same xs i x x within)
-
-pub set_else : {X : Type 0} (xs : List X) (i j : ℕ) (x : X) → j ≢ i → slice_get (set xs i x) j ≡ slice_get xs j
-set_else [] i j x other = refl
-set_else (w ∷ xs) zero zero x other = absurd (other refl)
-set_else (w ∷ xs) zero (suc j) x other = refl
-set_else (w ∷ xs) (suc i) zero x other = refl
-set_else (w ∷ xs) (suc i) (suc j) x other = set_else xs i j x (λ same. other (ap suc same))
-
 -- the signal with its new driver
 abbrev pub stuck_signal : Netlist → Fault → Signal
 stuck_signal net fault = record { name = name_of net fault.signal; driver = constant fault.value }
@@ -45,10 +32,10 @@ constant_gives net timing stimulus turn old new s HighZ known = elim known [ inl
 
 module _ (net : Netlist) (fault : Fault) (is : IsFault net fault) where
   pub stuck_here : slice_get (stuck net fault).signals fault.signal ≡ Some (stuck_signal net fault)
-  stuck_here = set_there net.signals fault.signal (stuck_signal net fault) is.signal
+  stuck_here = set_same net.signals fault.signal (stuck_signal net fault) is.signal
 
   pub stuck_else : (s : ℕ) → s ≢ fault.signal → slice_get (stuck net fault).signals s ≡ slice_get net.signals s
-  stuck_else s other = set_else net.signals fault.signal s (stuck_signal net fault) other
+  stuck_else s other = set_other net.signals fault.signal s (stuck_signal net fault) other
 
   pub stuck_long : length (stuck net fault).signals ≡ length net.signals
   stuck_long = length-set net.signals fault.signal (stuck_signal net fault)

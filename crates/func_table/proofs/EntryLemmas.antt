@@ -1,17 +1,17 @@
 -- A table as it is built, entry by entry, and as its entries.
-use Rattle.std.proofs.Common.{inl, inr, ◌≡◌, ◌≢◌, ℕ, ◌+◌, ◌*◌, ◌/◌, ◌%◌, ◌^◌, ◌<◌, List, [], ◌∷◌, length, take, ap, ◌∙◌, arith, Bool, true, false, refl}
+use Rattle.std.proofs.Common.{inl, inr, ◌≡◌, ◌≢◌, ℕ, ◌+◌, ◌*◌, ◌/◌, ◌%◌, ◌^◌, ◌<◌, List, [], ◌∷◌, length, take, ap, ◌∙◌, arith, Bool, true, false, refl, sym}
 use Rattle.std.specs.Prelude.{slice_index}
 use Rattle.std.specs.Bool.{Decides, MatchBool}
 use Rattle.std.proofs.lemmas.Bool.{cases_eq}
 use Rattle.logic_four.specs.declared.V4.{V4}
 use Rattle.logic_four.specs.declared.Kind.{Kind}
-use Rattle.logic_four.specs.Values.{code_of}
+use Rattle.logic_four.specs.Values.{code_of, value_of}
 use Rattle.logic_four.specs.Gates.{gate_value}
 use Rattle.logic_four.specs.Packed.{packed_value}
-use Rattle.logic_four.proofs.CodeLemmas.{value_of-code_of, code_of_small}
+use Rattle.logic_four.proofs.CodeLemmas.{value_of-code_of, code_of_small, code_of-value_of}
 use Rattle.logic_four.proofs.PackedLemmas.{same_words}
 use Rattle.func_table.specs.declared.table.Table.{Table}
-use Rattle.func_table.specs.Entries.{entry_of, place_of, operands_at, answer_at, AreAlike, AreOther}
+use Rattle.func_table.specs.Entries.{entry_of, place_of, operands_at, answer_at, AreAlike, AreOther, entry_for}
 
 -- the entry for four operands is below 256, and the operands are read from it
 first_code : (x y z w : ℕ) → x < 4 → (x + 4 * y + 16 * z + 64 * w) % 4 ≡ x
@@ -79,3 +79,15 @@ pub equal_or_other : (r : Bool) (s t : Table) → Decides r (s.words ≡ t.words
 equal_or_other true s t decides decided = same_from_words s t (decides.0 refl)
 equal_or_other false s t decides decided = λ alike.
     let equal : false ≡ true = decides.1 (ap (λ (t : Table). t.words) (decided alike)) in cc
+
+-- tables that answer alike have the same entries
+pub same_entries : (s t : Table) → ((a b c d : V4) → entry_for s a b c d ≡ entry_for t a b c d) → AreAlike s t
+unfolding entry_for
+same_entries s t same e low =
+    let a = value_of (e % 4) in
+    let b = value_of (e / 4 % 4) in
+    let c = value_of (e / 16 % 4) in
+    let d = value_of (e / 64 % 4) in
+    let place : place_of a b c d ≡ e =
+    rw (code_of-value_of (e % 4) (omega arith)) (rw (code_of-value_of (e / 4 % 4) (omega arith)) (rw (code_of-value_of (e / 16 % 4) (omega arith)) (rw (code_of-value_of (e / 64 % 4) (omega arith)) (omega (arith, low))))) in
+    ap (entry_of s) (sym place) ∙ (same a b c d ∙ ap (entry_of t) place)

@@ -1,17 +1,13 @@
 -- Bags that change at one entry.
-use Rattle.std.proofs.Common.{◌≡◌, ◌≢◌, ◌∙◌, ◌⊎◌, inl, inr, ℕ, zero, suc, ◌+◌, ◌<◌, ◌≤◌, List, [], ◌∷◌, ◌++◌, length, set, refl, sym, ap, subst, arith, if◌then◌else◌}
+use Rattle.std.proofs.Common.{◌≡◌, ◌≢◌, ◌∙◌, ◌⊎◌, inl, inr, ℕ, zero, suc, ◌+◌, ◌<◌, ◌≤◌, List, [], ◌∷◌, length, refl, sym, ap, subst, arith, if◌then◌else◌}
 use Rattle.std.specs.Prelude.{◌==◌}
 use Rattle.std.specs.List.{sum_by}
 use Rattle.std.proofs.lemmas.Bool.{cases_lt, cases_eq}
-use Rattle.std.proofs.lemmas.List.{get_or-set_same, get_or-set_other, length-set, get_or_append_left, length_push, get_or_push}
-use Rattle.std.proofs.lemmas.List.Sums.{sum_by-cons, sum_by-set, sum_by_push}
+use Rattle.std.proofs.lemmas.List.Sums.{sum_by-cons}
 use Rattle.home_better.specs.declared.bags.Entry.{Entry}
 use Rattle.home_better.specs.Bags.{flag, counted, times, entry_at, IsBag}
 use Rattle.home_better.specs.Work.{hit, beside}
 use Rattle.home_better.proofs.SumLemmas.{total, total_differ, total_none, if_same, if_apart}
-
-nobody : Entry
-nobody = record { key = 0; count = 0 }
 
 -- a number without entry
 pub times_absent : (bag : List Entry) (q : ℕ) → ((k : ℕ) → k < length bag → (entry_at bag k).key ≢ q) → times bag q ≡ 0
@@ -44,51 +40,6 @@ times_here (e ∷ bag) (suc k) is low =
     let first : counted q e ≡ 0 = if_apart e.key q e.count 0 (λ same. bag_head e bag is k inside (sym same)) in
     let all : times (e ∷ bag) q ≡ counted q e + times bag q = sum_by-cons (counted q) e bag in
     omega (arith, rest, first, all)
-
-pub times_set : (bag : List Entry) (k : ℕ) (e : Entry) (q : ℕ) → k < length bag → times (set bag k e) q + counted q (entry_at bag k) ≡ times bag q + counted q e
-times_set bag k e q low = sum_by-set (counted q) bag k e (record { key = 0; count = 0 }) low
-
-pub times_push : (bag : List Entry) (e : Entry) (q : ℕ) → times (bag ++ e ∷ []) q ≡ times bag q + counted q e
-times_push bag e q = sum_by_push (counted q) bag e
-
--- an entry is exchanged for one of a number that no other entry has
-pub bag_set : (bag : List Entry) (k : ℕ) (e : Entry) → IsBag bag → k < length bag → ((j : ℕ) → j < length bag → j ≢ k → (entry_at bag j).key ≢ e.key) → IsBag (set bag k e)
-bag_set bag k e is low new = record { once = once } where
-  same_at : (j : ℕ) → j ≡ k → (entry_at (set bag k e) j).key ≡ e.key
-  same_at j same = ap (λ (x : Entry). x.key) (ap (entry_at (set bag k e)) same ∙ get_or-set_same bag k e (record { key = 0; count = 0 }) low)
-
-  other_at : (j : ℕ) → j ≢ k → (entry_at (set bag k e) j).key ≡ (entry_at bag j).key
-  other_at j apart = ap (λ (x : Entry). x.key) (get_or-set_other bag k j e (record { key = 0; count = 0 }) apart)
-
-  once : (i j : ℕ) → i < j → j < length (set bag k e) → (entry_at (set bag k e) i).key ≢ (entry_at (set bag k e) j).key
-  once i j before inside =
-      let within : j < length bag = omega (arith, inside, length-set bag k e) in
-      by_place i j before within (cases_eq i k) (cases_eq j k)
-    where
-      by_place : (i j : ℕ) → i < j → j < length bag → (i ≡ k) ⊎ (i ≢ k) → (j ≡ k) ⊎ (j ≢ k) → (entry_at (set bag k e) i).key ≢ (entry_at (set bag k e) j).key
-      by_place i j first within (inl a) (inl b) = absurd (omega (arith, first, a, b))
-      by_place i j first within (inl a) (inr b) = λ same. new j within b (sym (other_at j b) ∙ (sym same ∙ same_at i a))
-      by_place i j first within (inr a) (inl b) = λ same. new i (omega (arith, first, within)) a (sym (other_at i a) ∙ (same ∙ same_at j b))
-      by_place i j first within (inr a) (inr b) = λ same. is.once i j first within (sym (other_at i a) ∙ (same ∙ other_at j b))
-
--- one entry more, of a number that no entry has
-pub bag_push : (bag : List Entry) (e : Entry) → IsBag bag → ((j : ℕ) → j < length bag → (entry_at bag j).key ≢ e.key) → IsBag (bag ++ e ∷ [])
-bag_push bag e is new = record { once = once } where
-  last_at : (j : ℕ) → j ≡ length bag → (entry_at (bag ++ e ∷ []) j).key ≡ e.key
-  last_at j same = ap (λ (x : Entry). x.key) (get_or_push bag e (record { key = 0; count = 0 }) j (sym same))
-
-  front_at : (j : ℕ) → j < length bag → (entry_at (bag ++ e ∷ []) j).key ≡ (entry_at bag j).key
-  front_at j low = ap (λ (x : Entry). x.key) (get_or_append_left bag (e ∷ []) (record { key = 0; count = 0 }) j low)
-
-  once : (i j : ℕ) → i < j → j < length (bag ++ e ∷ []) → (entry_at (bag ++ e ∷ []) i).key ≢ (entry_at (bag ++ e ∷ []) j).key
-  once i j before inside = elim (cases_lt j (length bag)) [
-    | inl within ↦ (λ same. is.once i j before within (sym (front_at i (omega (arith, before, within))) ∙ (same ∙ front_at j within)))
-    | inr from ↦
-        let long = length_push bag e in
-        let last : j ≡ length bag = omega (arith, from, inside, long) in
-        let front : i < length bag = omega (arith, before, last) in
-        (λ same. new i front (sym (front_at i front) ∙ (same ∙ last_at j last)))
-  ]
 
 -- ---- entries that count at all
 

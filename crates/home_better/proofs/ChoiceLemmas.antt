@@ -3,12 +3,12 @@ use Rattle.std.proofs.Common.{◌≡◌, ◌∙◌, ◌⊎◌, inl, inr, ℕ, ze
 use Rattle.std.specs.Prelude.{nat_lt}
 use Rattle.std.specs.List.{filter, fold, range_with_len}
 use Rattle.std.proofs.Math.Numerals.{add-one}
-use Rattle.std.proofs.lemmas.Bool.{cases_lt, cases_Bool, ltb-true, ltb-false, lt-ltb, le-ltb}
+use Rattle.std.proofs.lemmas.Bool.{cases_lt, cases_Bool, ltb-true, ltb-false, lt-ltb, le-ltb, cond-true, cond-false}
 use Rattle.std.proofs.lemmas.List.Elements.{filter-append}
 use Rattle.std.proofs.lemmas.List.Sums.{fold-append}
+use Rattle.list_laws.proofs.Ranges.{range_next}
 use Rattle.home_better.specs.Better.{first_least}
 use Rattle.home_better.specs.Moves.{first_most}
-use Rattle.home_better.proofs.SumLemmas.{if_yes, if_no, range_next}
 
 range_suc : (n : ℕ) → range_with_len 0 (suc n) ≡ range_with_len 0 n ++ n ∷ []
 range_suc n = subst (λ m. range_with_len 0 m ≡ range_with_len 0 n ++ n ∷ []) (add-one n) (range_next n)
@@ -38,17 +38,15 @@ least_cases f P own n = by_test (cases_Bool (P n)) (cases_Bool (nat_lt (f n) (f 
 
   by_test : (P n ≡ true) ⊎ (P n ≡ false) → (nat_lt (f n) (f (least_of f P own n)) ≡ true) ⊎ (nat_lt (f n) (f (least_of f P own n)) ≡ false)
       → ((P n ≡ true) × (f n < f (least_of f P own n)) × (least_of f P own (suc n) ≡ n)) ⊎ (((P n ≡ true → f (least_of f P own n) ≤ f n)) × (least_of f P own (suc n) ≡ least_of f P own n))
-  by_test (inr fails) test = inr ((λ is. absurd (both is fails)), next ∙ if_no (P n) (if nat_lt (f n) (f (least_of f P own n)) then n else least_of f P own n) (least_of f P own n) fails) where
-    both : {b : Bool} → b ≡ true → b ≡ false → ⊥
-    both first second = cc
+  by_test (inr fails) test = inr ((λ is. cc (is, fails)), next ∙ cond-false (P n) (if nat_lt (f n) (f (least_of f P own n)) then n else least_of f P own n) (least_of f P own n) fails)
   by_test (inl passes) (inl less) = inl (
     passes,
     ltb-true (f n) (f (least_of f P own n)) less,
-    next ∙ (if_yes (P n) (if nat_lt (f n) (f (least_of f P own n)) then n else least_of f P own n) (least_of f P own n) passes ∙ if_yes (nat_lt (f n) (f (least_of f P own n))) n (least_of f P own n) less),
+    next ∙ (cond-true (P n) (if nat_lt (f n) (f (least_of f P own n)) then n else least_of f P own n) (least_of f P own n) passes ∙ cond-true (nat_lt (f n) (f (least_of f P own n))) n (least_of f P own n) less),
   )
   by_test (inl passes) (inr more) = inr (
     (λ is. ltb-false (f n) (f (least_of f P own n)) more),
-    next ∙ (if_yes (P n) (if nat_lt (f n) (f (least_of f P own n)) then n else least_of f P own n) (least_of f P own n) passes ∙ if_no (nat_lt (f n) (f (least_of f P own n))) n (least_of f P own n) more),
+    next ∙ (cond-true (P n) (if nat_lt (f n) (f (least_of f P own n)) then n else least_of f P own n) (least_of f P own n) passes ∙ cond-false (nat_lt (f n) (f (least_of f P own n))) n (least_of f P own n) more),
   )
 
 -- it is the own one, or it has less

@@ -4,6 +4,7 @@ use Rattle.std.specs.Prelude.{◌==◌}
 use Rattle.std.specs.List.{sum_by}
 use Rattle.std.proofs.lemmas.Bool.{cases_eq}
 use Rattle.std.proofs.lemmas.List.Sums.{sum_by-cons}
+use Rattle.list_laws.proofs.Ranges.{sum_more, sum_alike}
 use Rattle.machine_text.specs.declared.machine.Machine.{Machine}
 use Rattle.node_defs.specs.declared.items.NodeNet.{NodeNet}
 use Rattle.node_defs.specs.WellFormed.{IsWellFormed}
@@ -16,7 +17,7 @@ use Rattle.home_better.specs.Better.{bound_of, passes, IsBetter, NoneLowers}
 use Rattle.home_better.specs.Crossings.{times_in, uses_by, block_uses, uses_at, reads_at, readers_at, crossings}
 use Rattle.home_better.specs.Ways.{IsOnTheWay}
 use Rattle.home_better.specs.Work.{beside, away_by}
-use Rattle.home_better.proofs.SumLemmas.{total, total_more, total_same, total_none, if_same, if_apart}
+use Rattle.home_better.proofs.SumLemmas.{total, total_none, if_same, if_apart}
 use Rattle.home_better.proofs.BagLemmas.{times_absent, times_here, total_members}
 use Rattle.home_better.proofs.MoveLemmas.{readers_most}
 use Rattle.home_better.proofs.PassLemmas.{passes_way, passes_most, start_way, none_lowers}
@@ -43,7 +44,7 @@ sum_agree f g (e ∷ bag) same =
 pub readers_are : (nodes : NodeNet) (homes : Homes) (i home : ℕ) (bag : List Entry) → IsWellFormed nodes → AreHomes nodes homes → i < length nodes.items → home ≡ home_of homes i → IsBag bag → ((q : ℕ) → times bag q ≡ uses_at nodes homes i q) → sum_by (away_by home) bag ≡ readers_at nodes homes i
 unfolding readers_at
 readers_are nodes homes i home bag formed are low is bag_is times_are =
-    let reads : total (reads_at nodes homes i) (ports_of homes) ≡ total read (ports_of homes) = total_same (reads_at nodes homes i) read (ports_of homes)
+    let reads : total (reads_at nodes homes i) (ports_of homes) ≡ total read (ports_of homes) = sum_alike (reads_at nodes homes i) read (ports_of homes)
     (λ q inside. ap (λ h. if h == q then 0 else flag (uses_at nodes homes i q)) (sym is) ∙ ap (λ n. if home == q then 0 else flag n) (sym (times_are q))) in
     let there : home < ports_of homes = (let port = home_port nodes homes i formed are low in omega (arith, port, is)) in
     let members : total read (ports_of homes) ≡ read home + sum_by (beside read home) bag = total_members read home (ports_of homes) bag bag_is there beyond absent in
@@ -76,7 +77,7 @@ readers_are nodes homes i home bag formed are low is bag_is times_are =
 
 -- one item more
 pub count_more : (nodes : NodeNet) (homes : Homes) (count i : ℕ) → count ≡ total (readers_at nodes homes) i → count + readers_at nodes homes i ≡ total (readers_at nodes homes) (i + 1)
-count_more nodes homes count i is = let more = total_more (readers_at nodes homes) i in omega (arith, is, more)
+count_more nodes homes count i is = let more = sum_more (readers_at nodes homes) i in omega (arith, is, more)
 
 pub readers_few : (nodes : NodeNet) (homes : Homes) (i : ℕ) → AreHomes nodes homes → readers_at nodes homes i ≤ 256
 unfolding readers_at

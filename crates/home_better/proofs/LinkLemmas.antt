@@ -1,11 +1,12 @@
 -- What items take and which ports use them, one item and memory after another.
-use Rattle.std.proofs.Common.{◌≡◌, ◌≢◌, ◌∙◌, ◌⊎◌, inl, inr, ℕ, zero, suc, ◌+◌, ◌<◌, ◌≤◌, List, [], ◌∷◌, ◌++◌, length, get_or, refl, sym, ap, subst, arith, if◌then◌else◌}
-use Rattle.std.specs.Prelude.{◌==◌, Option, None, Some, slice_get}
+use Rattle.std.proofs.Common.{◌≡◌, ◌≢◌, ◌∙◌, ◌⊎◌, inl, inr, ℕ, zero, suc, ◌+◌, ◌<◌, ◌≤◌, List, [], ◌∷◌, ◌++◌, length, get_or, refl, sym, ap, subst, arith}
+use Rattle.std.specs.Prelude.{Option, None, Some, slice_get}
 use Rattle.std.specs.List.{Contains}
 use Rattle.std.proofs.lemmas.Bool.{cases_lt, cases_eq}
 use Rattle.std.proofs.lemmas.List.{get_or_past, get_or_append_left, get_or_push, length_push}
 use Rattle.std.proofs.lemmas.Option.{get_or_from_slice_get, slice_get_read}
 use Rattle.std.proofs.lemmas.List.Elements.{Contains-get_or}
+use Rattle.list_laws.proofs.Ranges.{sum_more}
 use Rattle.node_defs.specs.declared.items.Feed.{Feed}
 use Rattle.node_defs.specs.declared.items.Feed.TheVariants.{From, Fixed}
 use Rattle.node_defs.specs.declared.items.Item.{Item}
@@ -20,8 +21,8 @@ use Rattle.home_better.specs.declared.bags.Entry.{Entry}
 use Rattle.home_better.specs.Bags.{times, where_at}
 use Rattle.home_better.specs.Crossings.{times_in, feed_uses, item_uses, maybe_item_uses, memory_uses, block_uses, uses_by, uses_at}
 use Rattle.home_better.specs.Uses.{bag_at, AreBags, AreTakes, AreUses, Gives}
-use Rattle.home_better.proofs.SumLemmas.{total, total_more, if_apart}
-use Rattle.home_better.proofs.UseLemmas.{gives_both, where_sum}
+use Rattle.home_better.proofs.SumLemmas.{total, if_apart}
+use Rattle.home_better.proofs.UseLemmas.{gives_both}
 
 -- ---- what an item takes
 
@@ -75,7 +76,7 @@ taken_low nodes takes u n formed are same low i some =
 -- a change by the first so many, and by one more
 pub gives_next : (a b c : List (List Entry)) (f : ℕ → ℕ → ℕ → ℕ) (k : ℕ) → Gives a b (λ i port. total (λ u. f u i port) k) → Gives b c (λ i port. f k i port) → Gives a c (λ i port. total (λ u. f u i port) (k + 1))
 gives_next a b c f k before now =
-    gives_both a b c (λ i port. total (λ u. f u i port) k) (λ i port. f k i port) (λ i port. total (λ u. f u i port) (k + 1)) before now (λ i port. sym (total_more (λ u. f u i port) k))
+    gives_both a b c (λ i port. total (λ u. f u i port) k) (λ i port. f k i port) (λ i port. total (λ u. f u i port) (k + 1)) before now (λ i port. sym (sum_more (λ u. f u i port) k))
 
 pub gives_taken : (nodes : NodeNet) (homes : Homes) (takes a b c : List (List Entry)) (k : ℕ) → AreTakes nodes takes → k < length nodes.items
     → Gives a b (λ i port. total (λ u. where_at (home_of homes u) port (uses_by nodes u i)) k) → Gives b c (λ i port. where_at (home_of homes k) port (times (bag_at takes k) i))
@@ -90,17 +91,6 @@ pub gives_read : (nodes : NodeNet) (homes : Homes) (a b c : List (List Entry)) (
 gives_read nodes homes a b c k block is before now =
     gives_next a b c (λ m i port. where_at (block_home homes m) port (block_uses nodes m i)) k before
     (record { size = now.size; times = λ i q inside. now.times i q inside ∙ ap (λ n. times (bag_at b i) q + where_at (block_home homes k) q n) (sym (block_is nodes k i block is)) })
-
-pub gives_block : (block : NodeBlock) (a b c d : List (List Entry)) (port : ℕ) → Gives a b (λ i p. where_at port p (times_in (block.we ∷ []) i)) → Gives b c (λ i p. where_at port p (times_in block.address i)) → Gives c d (λ i p. where_at port p (times_in block.word i))
-    → Gives a d (λ i p. where_at port p (memory_uses (Some block) i))
-gives_block block a b c d port we address word =
-    gives_both a c d (λ i p. where_at port p (times_in (block.we ∷ []) i + times_in block.address i)) (λ i p. where_at port p (times_in block.word i)) (λ i p. where_at port p (memory_uses (Some block) i))
-    (gives_both a b c (λ i p. where_at port p (times_in (block.we ∷ []) i)) (λ i p. where_at port p (times_in block.address i)) (λ i p. where_at port p (times_in (block.we ∷ []) i + times_in block.address i)) we address
-    (λ i p. where_sum port p (times_in (block.we ∷ []) i) (times_in block.address i)))
-    word (λ i p. where_sum port p (times_in (block.we ∷ []) i + times_in block.address i) (times_in block.word i) ∙ ap (where_at port p) (all i))
-  where
-    all : (i : ℕ) → times_in (block.we ∷ []) i + times_in block.address i + times_in block.word i ≡ memory_uses (Some block) i
-    all i = let one : times_in (block.we ∷ []) i ≡ (if block.we == i then 1 else 0) = omega arith in omega (arith, one)
 
 -- ---- all of them
 

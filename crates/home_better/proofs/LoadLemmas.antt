@@ -6,6 +6,7 @@ use Rattle.std.proofs.lemmas.Bool.{cases_eq}
 use Rattle.std.proofs.lemmas.List.{get_or-set_same, get_or-set_other}
 use Rattle.std.proofs.lemmas.List.Sums.{fold_push}
 use Rattle.std.proofs.lemmas.Option.{slice_get_cases}
+use Rattle.list_laws.proofs.Ranges.{range_next, sum_more}
 use Rattle.node_defs.specs.declared.items.Item.{Item}
 use Rattle.node_defs.specs.declared.items.Item.TheVariants.{Input, BlockBit, Node, Latch}
 use Rattle.node_defs.specs.declared.items.NodeNet.{NodeNet}
@@ -13,9 +14,10 @@ use Rattle.node_defs.specs.WellFormed.{IsComputed, IsWellFormed}
 use Rattle.plan_defs.specs.declared.plan.Homes.{Homes}
 use Rattle.plan_defs.specs.Homes.{AreHomes, MayHouse, home_of}
 use Rattle.plan_defs.specs.Picks.{node_count, nodes_before}
+use Rattle.plan_defs.proofs.CountLemmas.{few_before}
 use Rattle.home_better.specs.Bags.{where_at}
 use Rattle.home_better.specs.Better.{load_at}
-use Rattle.home_better.proofs.SumLemmas.{total_more, total_most, if_same, if_apart, range_next}
+use Rattle.home_better.proofs.SumLemmas.{if_same, if_apart}
 
 computed_home : (homes : Homes) (item : Item) (port : ℕ) → IsComputed item → MayHouse homes item port → port < homes.logic
 computed_home homes (Input column) port none may = absurd none
@@ -30,18 +32,12 @@ node_home nodes homes v formed are from low = elim (slice_get_cases nodes.items 
   | inr past ↦ (let out = past.0 in absurd (omega (arith, out, low)))
 ]
 
-where_most : (home port : ℕ) → where_at home port 1 ≤ 1
-where_most home port = elim (cases_eq home port) [ inl same ↦ omega (arith, if_same home port 1 0 same) | inr apart ↦ omega (arith, if_apart home port 1 0 apart) ]
-
-pub few_before : (nodes : NodeNet) (ports : List ℕ) (n port : ℕ) → nodes_before nodes ports n port ≤ n
-few_before nodes ports n port = let most = total_most (λ k. where_at (get_or ports (nodes.first_node + k) 0) port 1) n 1 (λ k low. where_most (get_or ports (nodes.first_node + k) 0) port) in omega (arith, most)
-
 -- one node more
 pub loads_more : (nodes : NodeNet) (ports loads : List ℕ) (k new : ℕ) → get_or ports (nodes.first_node + k) 0 < length loads → new ≡ get_or loads (get_or ports (nodes.first_node + k) 0) 0 + 1
     → ((p : ℕ) → p < length loads → get_or loads p 0 ≡ nodes_before nodes ports k p) → (p : ℕ) → p < length loads → get_or (set loads (get_or ports (nodes.first_node + k) 0) new) p 0 ≡ nodes_before nodes ports (k + 1) p
 loads_more nodes ports loads k new inside is before p low =
     let home = get_or ports (nodes.first_node + k) 0 in
-    let more : nodes_before nodes ports (k + 1) p ≡ nodes_before nodes ports k p + where_at home p 1 = total_more (λ j. where_at (get_or ports (nodes.first_node + j) 0) p 1) k in
+    let more : nodes_before nodes ports (k + 1) p ≡ nodes_before nodes ports k p + where_at home p 1 = sum_more (λ j. where_at (get_or ports (nodes.first_node + j) 0) p 1) k in
     let had = before p low in
     elim (cases_eq p home) [
       | inl same ↦

@@ -3,6 +3,7 @@ use Rattle.std.proofs.Common.{◌≡◌, ◌≢◌, ◌∙◌, inl, inr, ℕ, �
 use Rattle.std.specs.Prelude.{◌==◌}
 use Rattle.std.proofs.lemmas.Bool.{cases_eq}
 use Rattle.std.proofs.lemmas.List.{get_or-set_same, get_or-set_other, length-set, set-get_or}
+use Rattle.list_laws.proofs.Ranges.{sum_alike}
 use Rattle.node_defs.specs.declared.items.Item.{Item}
 use Rattle.node_defs.specs.declared.items.Item.TheVariants.{Input, BlockBit, Node, Latch}
 use Rattle.node_defs.specs.declared.items.NodeNet.{NodeNet}
@@ -14,7 +15,7 @@ use Rattle.home_better.specs.Bags.{flag, where_at}
 use Rattle.home_better.specs.Better.{load_at}
 use Rattle.home_better.specs.Crossings.{uses_by, uses_at, reads_at, readers_at, crossings, moved}
 use Rattle.home_better.specs.Moves.{others_at, pull_by, pull_at}
-use Rattle.home_better.proofs.SumLemmas.{total, total_at, total_both, total_same, total_most, if_same, if_apart, pull_one, pull_own, flag_most}
+use Rattle.home_better.proofs.SumLemmas.{total, total_at, total_both, total_most, if_same, if_apart, pull_one, pull_own, flag_most}
 
 -- a node that stays is where it was
 pub moved_own : (homes : Homes) (v : ℕ) → moved homes v (home_of homes v) ≡ homes
@@ -60,7 +61,7 @@ module _ (nodes : NodeNet) (homes : Homes) (v p : ℕ) (low : v < length homes.i
   fixed_own : total (reads_at nodes (moved homes v p) v) (ports_of homes) + pull_by nodes homes v p v ≡ fixed_by nodes homes v v
   unfolding pull_by fixed_by
   fixed_own =
-      let reads = total_same (reads_at nodes (moved homes v p) v) (λ q. if p == q then 0 else flag (others_at nodes homes v v q + (if p == q then uses_by nodes v v else 0))) (ports_of homes) (λ q inside. reads_moved v p (moved_here homes v p low) q) in
+      let reads = sum_alike (reads_at nodes (moved homes v p) v) (λ q. if p == q then 0 else flag (others_at nodes homes v v q + (if p == q then uses_by nodes v v else 0))) (ports_of homes) (λ q inside. reads_moved v p (moved_here homes v p low) q) in
       let own = pull_own (others_at nodes homes v v) (uses_by nodes v v) p (ports_of homes) port in
       let pull = if_same v v (flag (others_at nodes homes v v p)) (if uses_by nodes v v == 0 then 0 else if home_of homes v == p then 1 else flag (others_at nodes homes v v p)) refl in
       let fixed = if_same v v (total (λ q. flag (others_at nodes homes v v q)) (ports_of homes)) (if uses_by nodes v v == 0 then total (λ q. if home_of homes v == q then 0 else flag (others_at nodes homes v v q)) (ports_of homes) else total (λ q. if home_of homes v == q then 0 else flag (others_at nodes homes v v q)) (ports_of homes) + 1) refl in
@@ -69,7 +70,7 @@ module _ (nodes : NodeNet) (homes : Homes) (v p : ℕ) (low : v < length homes.i
   fixed_unused : (i : ℕ) → i ≢ v → uses_by nodes v i ≡ 0 → total (reads_at nodes (moved homes v p) i) (ports_of homes) + pull_by nodes homes v p i ≡ fixed_by nodes homes v i
   unfolding pull_by fixed_by
   fixed_unused i apart none =
-      let reads = total_same (reads_at nodes (moved homes v p) i) (λ q. if home_of homes i == q then 0 else flag (others_at nodes homes v i q)) (ports_of homes)
+      let reads = sum_alike (reads_at nodes (moved homes v p) i) (λ q. if home_of homes i == q then 0 else flag (others_at nodes homes v i q)) (ports_of homes)
       (λ q inside. reads_moved i (home_of homes i) (moved_away homes v p i apart) q ∙ ap (λ n. if home_of homes i == q then 0 else flag n) (nothing q)) in
       let pull = if_apart i v (flag (others_at nodes homes v i p)) (if uses_by nodes v i == 0 then 0 else if home_of homes i == p then 1 else flag (others_at nodes homes v i p)) apart in
       let no_pull = if_same (uses_by nodes v i) 0 0 (if home_of homes i == p then 1 else flag (others_at nodes homes v i p)) none in
@@ -85,7 +86,7 @@ module _ (nodes : NodeNet) (homes : Homes) (v p : ℕ) (low : v < length homes.i
   fixed_used : (i : ℕ) → i ≢ v → uses_by nodes v i ≢ 0 → total (reads_at nodes (moved homes v p) i) (ports_of homes) + pull_by nodes homes v p i ≡ fixed_by nodes homes v i
   unfolding pull_by fixed_by
   fixed_used i apart some =
-      let reads = total_same (reads_at nodes (moved homes v p) i) (λ q. if home_of homes i == q then 0 else flag (others_at nodes homes v i q + (if p == q then uses_by nodes v i else 0))) (ports_of homes)
+      let reads = sum_alike (reads_at nodes (moved homes v p) i) (λ q. if home_of homes i == q then 0 else flag (others_at nodes homes v i q + (if p == q then uses_by nodes v i else 0))) (ports_of homes)
       (λ q inside. reads_moved i (home_of homes i) (moved_away homes v p i apart) q) in
       let one = pull_one (others_at nodes homes v i) (home_of homes i) (uses_by nodes v i) p (ports_of homes) port (omega (arith, some)) in
       let pull = if_apart i v (flag (others_at nodes homes v i p)) (if uses_by nodes v i == 0 then 0 else if home_of homes i == p then 1 else flag (others_at nodes homes v i p)) apart in
@@ -104,7 +105,7 @@ module _ (nodes : NodeNet) (homes : Homes) (v p : ℕ) (low : v < length homes.i
   unfolding crossings readers_at pull_at
   fixed_all =
       let both = total_both (λ i. total (reads_at nodes (moved homes v p) i) (ports_of homes)) (pull_by nodes homes v p) (length nodes.items) in
-      let each = total_same (λ i. total (reads_at nodes (moved homes v p) i) (ports_of homes) + pull_by nodes homes v p i) (fixed_by nodes homes v) (length nodes.items) (λ i inside. fixed_each i) in
+      let each = sum_alike (λ i. total (reads_at nodes (moved homes v p) i) (ports_of homes) + pull_by nodes homes v p i) (fixed_by nodes homes v) (length nodes.items) (λ i inside. fixed_each i) in
       omega (arith, both, each)
 
 -- the crossings with node v at a port, and what pulls it there, come to the same for every port

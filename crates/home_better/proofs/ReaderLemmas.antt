@@ -8,6 +8,7 @@ use Rattle.std.proofs.lemmas.List.{get_or-map, length-map, get_or_default}
 use Rattle.std.proofs.lemmas.List.FromFn.{length-range_with_len, get_or-range_with_len}
 use Rattle.std.proofs.lemmas.List.Kept.{AllPairs-from_increasing}
 use Rattle.std.proofs.lemmas.List.Sums.{sum_by-cons, get_or-le-sum_by}
+use Rattle.list_laws.proofs.Ranges.{sum_more, sum_alike}
 use Rattle.node_defs.specs.declared.items.Feed.{Feed}
 use Rattle.node_defs.specs.declared.items.Feed.TheVariants.{From, Fixed}
 use Rattle.node_defs.specs.declared.items.Item.{Item}
@@ -24,7 +25,7 @@ use Rattle.home_better.specs.declared.bags.Entry.{Entry}
 use Rattle.home_better.specs.Bags.{flag, entry_at, where_at, IsBag}
 use Rattle.home_better.specs.Crossings.{times_in, feed_uses, item_uses, memory_uses, block_uses, uses_by, uses_at, reads_at, readers_at, crossings}
 use Rattle.home_better.specs.Work.{beside}
-use Rattle.home_better.proofs.SumLemmas.{total, total_more, total_same, if_same, if_apart, flag_some}
+use Rattle.home_better.proofs.SumLemmas.{total, if_same, if_apart, flag_some}
 use Rattle.home_better.proofs.BagLemmas.{total_members}
 use Rattle.home_better.proofs.LinkLemmas.{item_takes, uses_is, block_is}
 
@@ -36,7 +37,7 @@ total_some f (suc n) some = elim (cases_eq (f n) 0) [
   | inr here ↦ (n, omega arith, here)
   | inl none ↦
       let next : suc n ≡ n + 1 = omega arith in
-      let more : total f (suc n) ≡ total f n + f n = ap (total f) next ∙ total_more f n in
+      let more : total f (suc n) ≡ total f n + f n = ap (total f) next ∙ sum_more f n in
       let found = total_some f n (λ nothing. some (omega (arith, more, nothing, none))) in
       (found.0, (let low = found.1 in omega (arith, low)), found.2)
 ]
@@ -212,4 +213,4 @@ pub crossings_counted : (nodes : NodeNet) (homes : Homes) (readers : ℕ → Lis
     → crossings nodes homes ≡ sum_by (λ i. length (readers i)) (range_with_len 0 (length nodes.items))
 unfolding crossings
 crossings_counted nodes homes readers formed are lists =
-    total_same (readers_at nodes homes) (λ i. length (readers i)) (length nodes.items) (λ i low. readers_listed nodes homes i (readers i) formed are low (lists i low))
+    sum_alike (readers_at nodes homes) (λ i. length (readers i)) (length nodes.items) (λ i low. readers_listed nodes homes i (readers i) formed are low (lists i low))

@@ -1,14 +1,13 @@
 -- Items that are used at each logic port.
-use Rattle.std.proofs.Common.{◌≡◌, ◌≢◌, ◌∙◌, inl, inr, ℕ, ◌+◌, ◌<◌, Bool, true, false, List, length, get_or, set, replicate, sym, ap, subst, arith}
-use Rattle.std.proofs.lemmas.Bool.{cases_lt, cases_eq, both_ways}
-use Rattle.std.proofs.lemmas.List.{get_or-set_same, get_or-set_other, length-set, get_or-replicate, get_or_past, length-replicate}
+use Rattle.std.proofs.Common.{◌≡◌, ◌≢◌, ◌∙◌, inl, inr, ℕ, ◌<◌, Bool, true, false, List, length, get_or, sym, ap, arith}
+use Rattle.std.proofs.lemmas.Bool.{cases_eq}
 use Rattle.node_defs.specs.declared.items.NodeNet.{NodeNet}
 use Rattle.node_defs.specs.WellFormed.{IsWellFormed}
 use Rattle.plan_defs.specs.declared.plan.Homes.{Homes}
 use Rattle.plan_defs.specs.Homes.{AreHomes, home_of}
 use Rattle.home_better.specs.declared.bags.Entry.{Entry}
 use Rattle.home_better.specs.Bags.{flag, times}
-use Rattle.home_better.specs.Crossings.{uses_by, uses_at, moved}
+use Rattle.home_better.specs.Crossings.{uses_by, moved}
 use Rattle.home_better.specs.Moves.{others_at, pull_by, AreUsesWithout}
 use Rattle.home_better.specs.Spread.{AreSpread, AreSpreadWithout, Unmarks}
 use Rattle.home_better.specs.Uses.{bag_at, AreTakes}
@@ -17,50 +16,6 @@ use Rattle.home_better.proofs.SumLemmas.{if_same, if_apart, flag_some}
 use Rattle.home_better.proofs.LinkLemmas.{uses_low}
 use Rattle.home_better.proofs.MoveLemmas.{uses_home, uses_moved}
 use Rattle.home_better.proofs.PullLemmas.{used_pull}
-
--- nothing is marked
-pub none_marked : (n i : ℕ) → get_or (replicate n false) i false ≡ false
-none_marked n i = elim (cases_lt i n) [ inl low ↦ get_or-replicate n i false false low | inr past ↦ get_or_past (replicate n false) i false (omega (arith, past, length-replicate n false)) ]
-
-pub spread_none : (nodes : NodeNet) (homes : Homes) (n : ℕ) → n ≡ length nodes.items → AreSpread nodes homes (replicate n false)
-spread_none nodes homes n size = record {
-  size = length-replicate n false ∙ size;
-  each = λ i port is low. absurd (both_ways (get_or (replicate n false) i false) (none_marked n i) is);
-}
-
--- one item more is marked or not
-pub marks_more : (nodes : NodeNet) (homes : Homes) (spread : List Bool) (k : ℕ) (bag : List Entry) (marked : Bool) → k < length spread → (marked ≡ true → (q : ℕ) → q < homes.logic → times bag q ≢ 0) → ((q : ℕ) → times bag q ≡ uses_at nodes homes k q)
-    → ((i port : ℕ) → i < k → get_or spread i false ≡ true → port < homes.logic → uses_at nodes homes i port ≢ 0) → (i port : ℕ) → i < k + 1 → get_or (set spread k marked) i false ≡ true → port < homes.logic → uses_at nodes homes i port ≢ 0
-marks_more nodes homes spread k bag marked inside covers times_are before i port low is within = elim (cases_eq i k) [
-  | inl same ↦
-      let here : marked ≡ true = sym (ap (λ j. get_or (set spread k marked) j false) same ∙ get_or-set_same spread k marked false inside) ∙ is in
-      subst (λ j. uses_at nodes homes j port ≢ 0) (sym same) (λ none. covers here port within (times_are port ∙ none))
-  | inr apart ↦ before i port (omega (arith, low, apart)) (sym (get_or-set_other spread k i marked false apart) ∙ is) within
-]
-
--- all of them
-pub marks_all : (nodes : NodeNet) (homes : Homes) (spread : List Bool) (n : ℕ) → n ≡ length spread → length spread ≡ length nodes.items → ((i port : ℕ) → i < n → get_or spread i false ≡ true → port < homes.logic → uses_at nodes homes i port ≢ 0) → AreSpread nodes homes spread
-marks_all nodes homes spread n whole size each = record {
-  size = size;
-  each = λ i port is low. elim (cases_lt i n) [
-    | inl inside ↦ each i port inside is low
-    | inr past ↦ absurd (both_ways (get_or spread i false) (get_or_past spread i false (omega (arith, past, whole))) is)
-  ];
-}
-
--- one mark is taken away, or stays
-pub unmark_one : (old : List Bool) (P : ℕ → Type 0) (item : ℕ) (stays : Bool) → item < length old → (stays ≡ true → P item) → get_or old item false ≡ true → ((i : ℕ) → i ≢ item → P i) → Unmarks old (set old item stays) P
-unmark_one old P item stays low holds marked others = record {
-  size = length-set old item stays;
-  had = λ i is. elim (cases_eq i item) [
-    | inl same ↦ ap (λ j. get_or old j false) same ∙ marked
-    | inr apart ↦ sym (get_or-set_other old item i stays false apart) ∙ is
-  ];
-  holds = λ i is. elim (cases_eq i item) [
-    | inl same ↦ subst P (sym same) (holds (sym (ap (λ j. get_or (set old item stays) j false) same ∙ get_or-set_same old item stays false low) ∙ is))
-    | inr apart ↦ others i apart
-  ];
-}
 
 -- node v is lifted
 pub lifted_spread : (nodes : NodeNet) (homes : Homes) (takes uses : List (List Entry)) (old new : List Bool) (v own : ℕ) (taken : List Entry) → IsWellFormed nodes → AreHomes nodes homes → AreTakes nodes takes → AreSpread nodes homes old → AreUsesWithout nodes homes v uses → v < length nodes.items

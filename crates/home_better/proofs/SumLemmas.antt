@@ -1,30 +1,19 @@
 -- Sums over the first so many numbers.
-use Rattle.std.proofs.Common.{◌≡◌, ◌≢◌, ◌∙◌, inl, inr, ℕ, zero, suc, ◌+◌, ◌*◌, ◌<◌, ◌≤◌, Bool, true, false, [], ◌∷◌, ◌++◌, refl, sym, ap, subst, arith, if◌then◌else◌}
+use Rattle.std.proofs.Common.{◌≡◌, ◌≢◌, ◌∙◌, inl, inr, ℕ, zero, suc, ◌+◌, ◌*◌, ◌<◌, ◌≤◌, refl, sym, ap, subst, arith, if◌then◌else◌}
 use Rattle.std.specs.Prelude.{◌==◌}
 use Rattle.std.specs.List.{sum_by, range_with_len}
 use Rattle.std.proofs.Math.Numerals.{add-one}
-use Rattle.std.proofs.lemmas.Bool.{cases_eq, eqb-true, eq-eqb, false_from_ne_true}
-use Rattle.std.proofs.lemmas.List.Sums.{sum_by-append}
+use Rattle.std.proofs.lemmas.Bool.{cases_eq, eq-eqb, cond-true, cond-false, ne_eqb}
+use Rattle.list_laws.proofs.Ranges.{sum_more, sum_alike}
 use Rattle.home_better.specs.Bags.{flag}
 
 -- ---- choices
 
-pub if_yes : {A : Type 0} (b : Bool) (x y : A) → b ≡ true → (if b then x else y) ≡ x
-if_yes true x y is = refl
-if_yes false x y is = cc
-
-pub if_no : {A : Type 0} (b : Bool) (x y : A) → b ≡ false → (if b then x else y) ≡ y
-if_no true x y is = cc
-if_no false x y is = refl
-
-pub ne_test : (m n : ℕ) → m ≢ n → (m == n) ≡ false
-ne_test m n apart = false_from_ne_true (m == n) (λ is. apart (eqb-true m n is))
-
 pub if_same : (m n x y : ℕ) → m ≡ n → (if m == n then x else y) ≡ x
-if_same m n x y same = if_yes (m == n) x y (eq-eqb m n same)
+if_same m n x y same = cond-true (m == n) x y (eq-eqb m n same)
 
 pub if_apart : (m n x y : ℕ) → m ≢ n → (if m == n then x else y) ≡ y
-if_apart m n x y apart = if_no (m == n) x y (ne_test m n apart)
+if_apart m n x y apart = cond-false (m == n) x y (ne_eqb m n apart)
 
 pub flag_some : (n : ℕ) → 1 ≤ n → flag n ≡ 1
 flag_some zero some = absurd (omega arith)
@@ -40,36 +29,8 @@ flag_most (suc n) = omega arith
 abbrev pub total : (ℕ → ℕ) → ℕ → ℕ
 total f n = sum_by f (range_with_len 0 n)
 
-range_more : (a n : ℕ) → range_with_len a (n + 1) ≡ range_with_len a n ++ (a + n) ∷ []
-range_more a zero = ap (λ k. k ∷ []) (let same : a ≡ a + 0 = omega arith in same)
-range_more a (suc n) =
-    let long : suc n + 1 ≡ suc (suc n) = omega arith in
-    let short : suc n ≡ n + 1 = omega arith in
-    let last : a + 1 + n ≡ a + suc n = omega arith in
-    ap (range_with_len a) long ∙ ap (λ xs. a ∷ xs) (ap (range_with_len (a + 1)) short ∙ (range_more (a + 1) n ∙ ap (λ k. range_with_len (a + 1) n ++ k ∷ []) last))
-
-pub range_next : (n : ℕ) → range_with_len 0 (n + 1) ≡ range_with_len 0 n ++ n ∷ []
-range_next n = let first : 0 + n ≡ n = omega arith in range_more 0 n ∙ ap (λ k. range_with_len 0 n ++ k ∷ []) first
-
-pub range_from : (a n : ℕ) → range_with_len a (n + 1) ≡ range_with_len a n ++ (a + n) ∷ []
-range_from a n = range_more a n
-
-pub total_more : (f : ℕ → ℕ) (n : ℕ) → total f (n + 1) ≡ total f n + f n
-total_more f n =
-    let one : 0 + f n ≡ f n = omega arith in
-    ap (sum_by f) (range_next n) ∙ (sum_by-append f (range_with_len 0 n) (n ∷ []) ∙ ap (λ m. sum_by f (range_with_len 0 n) + m) one)
-
 total_next : (f : ℕ → ℕ) (n : ℕ) → total f (suc n) ≡ total f n + f n
-total_next f n = subst (λ m. total f m ≡ total f n + f n) (add-one n) (total_more f n)
-
-pub total_same : (f g : ℕ → ℕ) (n : ℕ) → ((k : ℕ) → k < n → f k ≡ g k) → total f n ≡ total g n
-total_same f g zero same = refl
-total_same f g (suc n) same =
-    let before = total_same f g n (λ k low. same k (omega (arith, low))) in
-    let last = same n (omega arith) in
-    let one = total_next f n in
-    let other = total_next g n in
-    omega (arith, one, other, before, last)
+total_next f n = subst (λ m. total f m ≡ total f n + f n) (add-one n) (sum_more f n)
 
 pub total_both : (f g : ℕ → ℕ) (n : ℕ) → total (λ k. f k + g k) n ≡ total f n + total g n
 total_both f g zero = omega arith
@@ -102,7 +63,7 @@ pub total_differ : (f g : ℕ → ℕ) (p n : ℕ) → p < n → ((q : ℕ) → 
 total_differ f g p zero low same = absurd (omega (arith, low))
 total_differ f g p (suc n) low same = elim (cases_eq p n) [
   | inl here ↦
-      let before : total f n ≡ total g n = total_same f g n (λ k below. same k (λ is. absurd (omega (arith, is, here, below)))) in
+      let before : total f n ≡ total g n = sum_alike f g n (λ k below. same k (λ is. absurd (omega (arith, is, here, below)))) in
       let one = total_next f n in
       let other = total_next g n in
       let at_f : f p ≡ f n = ap f here in

@@ -1,95 +1,17 @@
 -- Ports that are touched, and the best of them.
-use Rattle.std.proofs.Common.{◌≡◌, ◌≢◌, ◌∙◌, ◌⊎◌, inl, inr, ℕ, zero, suc, ◌+◌, ◌<◌, ◌≤◌, Bool, true, false, List, [], ◌∷◌, ◌++◌, length, get_or, set, take, refl, sym, ap, subst, arith, if◌then◌else◌}
+use Rattle.std.proofs.Common.{◌≡◌, ◌≢◌, ◌∙◌, ◌⊎◌, inl, inr, ℕ, zero, suc, ◌+◌, ◌<◌, ◌≤◌, Bool, true, false, List, length, get_or, take, refl, sym, ap, subst, arith, if◌then◌else◌}
 use Rattle.std.specs.Prelude.{◌==◌, nat_lt, slice_index}
 use Rattle.std.specs.List.{Contains}
 use Rattle.std.proofs.Math.Numerals.{add-one}
 use Rattle.std.proofs.Math.Seq.{take-suc}
-use Rattle.std.proofs.lemmas.Bool.{cases_lt, cases_eq, cases_Bool, lt-ltb, le-ltb, eq-eqb, ne_eqb, both_ways}
-use Rattle.std.proofs.lemmas.List.{get_or-set_same, get_or-set_other, length-set, get_or_append_left, get_or_push, length_push, take_all}
-use Rattle.std.proofs.lemmas.List.Elements.{Contains-append_left, Contains-push, Contains-push_cases}
+use Rattle.std.proofs.lemmas.Bool.{cases_lt, cases_eq, cases_Bool, lt-ltb, le-ltb, eq-eqb, ne_eqb, both_ways, cond-true, cond-false}
+use Rattle.std.proofs.lemmas.List.{take_all}
+use Rattle.std.proofs.lemmas.List.Elements.{Contains-push_cases}
 use Rattle.home_better.specs.declared.pulls.Pulls.{Pulls}
 use Rattle.home_better.specs.Touched.{AreTouched, is_better}
-use Rattle.home_better.proofs.SumLemmas.{if_yes, if_no}
 use Rattle.home_better.proofs.ChoiceLemmas.{most_of, most_more}
 
 -- ---- ports that are touched
-
-none_in : (x : ℕ) → Contains [] x → ⊥
-none_in x has = (let low = has.1 in omega (arith, low))
-
--- nothing is touched, so nothing pulls
-pub touched_none : (pulls : Pulls) (port : ℕ) → AreTouched pulls → pulls.touched ≡ [] → port < length pulls.at → get_or pulls.at port 0 ≡ 0
-touched_none pulls port are empty low = elim (cases_eq (get_or pulls.at port 0) 0) [
-  | inl none ↦ none
-  | inr some ↦ absurd (none_in port (subst (λ xs. Contains xs port) empty (are.whole port low some)))
-]
-
--- the last one is cleared
-pub touched_less : (pulls : Pulls) (rest : List ℕ) (port : ℕ) → AreTouched pulls → pulls.touched ≡ rest ++ port ∷ [] → AreTouched (record { at = set pulls.at port 0; touched = rest })
-touched_less pulls rest port are is = record {
-  within = λ k low.
-      let long : length pulls.touched ≡ length rest + 1 = ap (λ (xs : List ℕ). length xs) is ∙ length_push rest port in
-      let there : get_or pulls.touched k 0 ≡ get_or rest k 0 = ap (λ xs. get_or xs k 0) is ∙ get_or_append_left rest (port ∷ []) 0 k low in
-      let inside = are.within k (omega (arith, low, long)) in
-      omega (arith, inside, there, length-set pulls.at port 0);
-  whole = λ q low some. by_port q (omega (arith, low, length-set pulls.at port 0)) some (cases_eq q port);
-} where
-  last : port < length pulls.at
-  last =
-      let long : length pulls.touched ≡ length rest + 1 = ap (λ (xs : List ℕ). length xs) is ∙ length_push rest port in
-      let there : get_or pulls.touched (length rest) 0 ≡ port = ap (λ xs. get_or xs (length rest) 0) is ∙ get_or_push rest port 0 (length rest) refl in
-      let inside = are.within (length rest) (omega (arith, long)) in
-      omega (arith, inside, there)
-
-  by_port : (q : ℕ) → q < length pulls.at → get_or (set pulls.at port 0) q 0 ≢ 0 → (q ≡ port) ⊎ (q ≢ port) → Contains rest q
-  by_port q low some (inl same) = absurd (some (ap (λ p. get_or (set pulls.at port 0) p 0) same ∙ get_or-set_same pulls.at port 0 0 last))
-  by_port q low some (inr apart) =
-      let kept : get_or (set pulls.at port 0) q 0 ≡ get_or pulls.at q 0 = get_or-set_other pulls.at port q 0 0 apart in
-      let had : Contains pulls.touched q = are.whole q low (λ none. some (kept ∙ none)) in
-      elim (Contains-push_cases rest port q (subst (λ xs. Contains xs q) is had)) [
-        | inl before ↦ before
-        | inr here ↦ absurd (apart (sym here))
-      ]
-
--- one port more, where nothing pulled before
-pub touched_more : (pulls : Pulls) (port had new : ℕ) → AreTouched pulls → port < length pulls.at → had ≤ get_or pulls.at port 0 → AreTouched (record { at = set pulls.at port new; touched = if had == 0 then pulls.touched ++ port ∷ [] else pulls.touched })
-touched_more pulls port had new are low up = elim (cases_eq had 0) [
-  | inl none ↦ subst (λ xs. AreTouched (record { at = set pulls.at port new; touched = xs })) (sym (first none)) (record {
-    within = λ k inside. added k (omega (arith, inside, length_push pulls.touched port));
-    whole = λ q inside some. elim (cases_eq q port) [
-      | inl same ↦ subst (Contains (pulls.touched ++ port ∷ [])) (sym same) (Contains-push pulls.touched port)
-      | inr apart ↦ Contains-append_left pulls.touched (port ∷ []) q (other q inside some apart)
-    ];
-  })
-  | inr has ↦ subst (λ xs. AreTouched (record { at = set pulls.at port new; touched = xs })) (sym (second has)) (record {
-    within = λ k inside. (let there = are.within k inside in omega (arith, there, length-set pulls.at port new));
-    whole = λ q inside some. elim (cases_eq q port) [
-      | inl same ↦ subst (Contains pulls.touched) (sym same) (are.whole port low (λ none. omega (arith, none, up, has)))
-      | inr apart ↦ other q inside some apart
-    ];
-  })
-] where
-  first : had ≡ 0 → (if had == 0 then pulls.touched ++ port ∷ [] else pulls.touched) ≡ pulls.touched ++ port ∷ []
-  first none = if_yes (had == 0) (pulls.touched ++ port ∷ []) pulls.touched (eq-eqb had 0 none)
-
-  second : had ≢ 0 → (if had == 0 then pulls.touched ++ port ∷ [] else pulls.touched) ≡ pulls.touched
-  second has = if_no (had == 0) (pulls.touched ++ port ∷ []) pulls.touched (ne_eqb had 0 has)
-
-  added : (k : ℕ) → k < length pulls.touched + 1 → get_or (pulls.touched ++ port ∷ []) k 0 < length (set pulls.at port new)
-  added k inside = elim (cases_lt k (length pulls.touched)) [
-    | inl before ↦
-        let same = get_or_append_left pulls.touched (port ∷ []) 0 k before in
-        let there = are.within k before in
-        omega (arith, same, there, length-set pulls.at port new)
-    | inr from ↦
-        let same = get_or_push pulls.touched port 0 k (omega (arith, inside, from)) in
-        omega (arith, same, low, length-set pulls.at port new)
-  ]
-
-  other : (q : ℕ) → q < length (set pulls.at port new) → get_or (set pulls.at port new) q 0 ≢ 0 → q ≢ port → Contains pulls.touched q
-  other q inside some apart =
-      let kept : get_or (set pulls.at port new) q 0 ≡ get_or pulls.at q 0 = get_or-set_other pulls.at port q new 0 apart in
-      are.whole q (omega (arith, inside, length-set pulls.at port new)) (λ none. some (kept ∙ none))
 
 -- ---- the best port
 
@@ -137,16 +59,16 @@ best_next at P own best other In Then is cover = by_room (cases_Bool (P other)) 
   f = slice_index at
 
   equals : f best ≡ f other → is_better at own best other ≡ (if best == own then false else nat_lt other best)
-  equals same = if_yes (slice_index at best == slice_index at other) (if best == own then false else nat_lt other best) (nat_lt (slice_index at best) (slice_index at other)) (eq-eqb (slice_index at best) (slice_index at other) same)
+  equals same = cond-true (slice_index at best == slice_index at other) (if best == own then false else nat_lt other best) (nat_lt (slice_index at best) (slice_index at other)) (eq-eqb (slice_index at best) (slice_index at other) same)
 
   unlike : f best ≢ f other → is_better at own best other ≡ nat_lt (f best) (f other)
-  unlike apart = if_no (slice_index at best == slice_index at other) (if best == own then false else nat_lt other best) (nat_lt (slice_index at best) (slice_index at other)) (ne_eqb (slice_index at best) (slice_index at other) apart)
+  unlike apart = cond-false (slice_index at best == slice_index at other) (if best == own then false else nat_lt other best) (nat_lt (slice_index at best) (slice_index at other)) (ne_eqb (slice_index at best) (slice_index at other) apart)
 
   owns : best ≡ own → (if best == own then false else nat_lt other best) ≡ false
-  owns mine = if_yes (best == own) false (nat_lt other best) (eq-eqb best own mine)
+  owns mine = cond-true (best == own) false (nat_lt other best) (eq-eqb best own mine)
 
   differs : best ≢ own → (if best == own then false else nat_lt other best) ≡ nat_lt other best
-  differs away = if_no (best == own) false (nat_lt other best) (ne_eqb best own away)
+  differs away = cond-false (best == own) false (nat_lt other best) (ne_eqb best own away)
 
   above : best ≢ own → f best ≡ f other → f own < f other
   above away equal = elim is.place [ inl mine ↦ absurd (away mine) | inr more ↦ (let less = more.1 in omega (arith, less, equal)) ]
@@ -158,32 +80,24 @@ best_next at P own best other In Then is cover = by_room (cases_Bool (P other)) 
   by_test : P other ≡ true → (f best ≡ f other) ⊎ (f best ≢ f other) → (best ≡ own) ⊎ (best ≢ own) → (other < best) ⊎ (best ≤ other) → (f best < f other) ⊎ (f other ≤ f best) → IsBest f P own Then (if is_better at own best other then other else best)
   by_test room (inl equal) (inl mine) place more =
       let test : is_better at own best other ≡ false = equals equal ∙ owns mine in
-      subst (IsBest f P own Then) (sym (if_no (is_better at own best other) other best test)) (stays f P own In Then best other is cover (λ passes. omega (arith, equal)) (λ passes same. inl mine))
+      subst (IsBest f P own Then) (sym (cond-false (is_better at own best other) other best test)) (stays f P own In Then best other is cover (λ passes. omega (arith, equal)) (λ passes same. inl mine))
   by_test room (inl equal) (inr away) (inl less) more =
       let test : is_better at own best other ≡ true = equals equal ∙ (differs away ∙ lt-ltb other best less) in
-      subst (IsBest f P own Then) (sym (if_yes (is_better at own best other) other best test)) (goes f P own In Then best other is cover room (above away equal) (omega (arith, equal)) (λ p old passes same. first p away less (is.least p old passes (same ∙ sym equal))))
+      subst (IsBest f P own Then) (sym (cond-true (is_better at own best other) other best test)) (goes f P own In Then best other is cover room (above away equal) (omega (arith, equal)) (λ p old passes same. first p away less (is.least p old passes (same ∙ sym equal))))
   by_test room (inl equal) (inr away) (inr past) more =
       let test : is_better at own best other ≡ false = equals equal ∙ (differs away ∙ le-ltb other best past) in
-      subst (IsBest f P own Then) (sym (if_no (is_better at own best other) other best test)) (stays f P own In Then best other is cover (λ passes. omega (arith, equal)) (λ passes same. inr past))
+      subst (IsBest f P own Then) (sym (cond-false (is_better at own best other) other best test)) (stays f P own In Then best other is cover (λ passes. omega (arith, equal)) (λ passes same. inr past))
   by_test room (inr apart) mine place (inl more) =
       let test : is_better at own best other ≡ true = unlike apart ∙ lt-ltb (f best) (f other) more in
       let up = own_most f P own In Then best other is cover in
-      subst (IsBest f P own Then) (sym (if_yes (is_better at own best other) other best test)) (goes f P own In Then best other is cover room (omega (arith, up, more)) (omega (arith, more)) (λ p old passes same. absurd (let had = is.most p old passes in omega (arith, had, same, more))))
+      subst (IsBest f P own Then) (sym (cond-true (is_better at own best other) other best test)) (goes f P own In Then best other is cover room (omega (arith, up, more)) (omega (arith, more)) (λ p old passes same. absurd (let had = is.most p old passes in omega (arith, had, same, more))))
   by_test room (inr apart) mine place (inr less) =
       let test : is_better at own best other ≡ false = unlike apart ∙ le-ltb (f best) (f other) less in
-      subst (IsBest f P own Then) (sym (if_no (is_better at own best other) other best test)) (stays f P own In Then best other is cover (λ passes. less) (λ passes same. absurd (apart (sym same))))
+      subst (IsBest f P own Then) (sym (cond-false (is_better at own best other) other best test)) (stays f P own In Then best other is cover (λ passes. less) (λ passes same. absurd (apart (sym same))))
 
   by_room : (P other ≡ true) ⊎ (P other ≡ false) → IsBest f P own Then (if P other then (if is_better at own best other then other else best) else best)
-  by_room (inl room) = subst (IsBest f P own Then) (sym (if_yes (P other) (if is_better at own best other then other else best) best room)) (by_test room (cases_eq (f best) (f other)) (cases_eq best own) (cases_lt other best) (cases_lt (f best) (f other)))
-  by_room (inr none) = subst (IsBest f P own Then) (sym (if_no (P other) (if is_better at own best other then other else best) best none)) (stays f P own In Then best other is cover (λ passes. absurd (both_ways (P other) none passes)) (λ passes same. absurd (both_ways (P other) none passes)))
-
--- what is looked at first
-pub best_start : (f : ℕ → ℕ) (P : ℕ → Bool) (own : ℕ) (In : ℕ → Type 0) → ((p : ℕ) → In p → ⊥) → IsBest f P own In own
-best_start f P own In none = record {
-  place = inl refl;
-  most = λ p at passes. absurd (none p at);
-  least = λ p at passes equal. absurd (none p at);
-}
+  by_room (inl room) = subst (IsBest f P own Then) (sym (cond-true (P other) (if is_better at own best other then other else best) best room)) (by_test room (cases_eq (f best) (f other)) (cases_eq best own) (cases_lt other best) (cases_lt (f best) (f other)))
+  by_room (inr none) = subst (IsBest f P own Then) (sym (cond-false (P other) (if is_better at own best other then other else best) best none)) (stays f P own In Then best other is cover (λ passes. absurd (both_ways (P other) none passes)) (λ passes same. absurd (both_ways (P other) none passes)))
 
 -- what one port more does to the choice: it is chosen, or nothing changes
 most_cases : (f : ℕ → ℕ) (P : ℕ → Bool) (own m : ℕ) → ((P m ≡ true) × (f (most_of f P own m) < f m) × (most_of f P own (suc m) ≡ m)) ⊎ ((P m ≡ true → f m ≤ f (most_of f P own m)) × (most_of f P own (suc m) ≡ most_of f P own m))
@@ -193,15 +107,15 @@ most_cases f P own m = by_test (cases_Bool (P m)) (cases_lt (f (most_of f P own 
 
   by_test : (P m ≡ true) ⊎ (P m ≡ false) → (f (most_of f P own m) < f m) ⊎ (f m ≤ f (most_of f P own m))
       → ((P m ≡ true) × (f (most_of f P own m) < f m) × (most_of f P own (suc m) ≡ m)) ⊎ ((P m ≡ true → f m ≤ f (most_of f P own m)) × (most_of f P own (suc m) ≡ most_of f P own m))
-  by_test (inr fails) more = inr ((λ passes. absurd (both_ways (P m) fails passes)), next ∙ if_no (P m) (if nat_lt (f (most_of f P own m)) (f m) then m else most_of f P own m) (most_of f P own m) fails)
+  by_test (inr fails) more = inr ((λ passes. absurd (both_ways (P m) fails passes)), next ∙ cond-false (P m) (if nat_lt (f (most_of f P own m)) (f m) then m else most_of f P own m) (most_of f P own m) fails)
   by_test (inl passes) (inl less) = inl (
     passes,
     less,
-    next ∙ (if_yes (P m) (if nat_lt (f (most_of f P own m)) (f m) then m else most_of f P own m) (most_of f P own m) passes ∙ if_yes (nat_lt (f (most_of f P own m)) (f m)) m (most_of f P own m) (lt-ltb (f (most_of f P own m)) (f m) less)),
+    next ∙ (cond-true (P m) (if nat_lt (f (most_of f P own m)) (f m) then m else most_of f P own m) (most_of f P own m) passes ∙ cond-true (nat_lt (f (most_of f P own m)) (f m)) m (most_of f P own m) (lt-ltb (f (most_of f P own m)) (f m) less)),
   )
   by_test (inl passes) (inr up) = inr (
     (λ is. up),
-    next ∙ (if_yes (P m) (if nat_lt (f (most_of f P own m)) (f m) then m else most_of f P own m) (most_of f P own m) passes ∙ if_no (nat_lt (f (most_of f P own m)) (f m)) m (most_of f P own m) (le-ltb (f (most_of f P own m)) (f m) up)),
+    next ∙ (cond-true (P m) (if nat_lt (f (most_of f P own m)) (f m) then m else most_of f P own m) (most_of f P own m) passes ∙ cond-false (nat_lt (f (most_of f P own m)) (f m)) m (most_of f P own m) (le-ltb (f (most_of f P own m)) (f m) up)),
   )
 
 module _ (f : ℕ → ℕ) (P : ℕ → Bool) (own n best : ℕ) (is : IsBest f P own (λ p. p < n) best) where

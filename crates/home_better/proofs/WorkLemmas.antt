@@ -4,12 +4,14 @@ use Rattle.std.specs.Prelude.{nat_lt, slice_index}
 use Rattle.std.specs.List.{filter, range_with_len}
 use Rattle.std.proofs.lemmas.Bool.{cases_eq}
 use Rattle.std.proofs.lemmas.List.Sums.{fold-append}
+use Rattle.list_laws.proofs.Ranges.{range_more}
 use Rattle.machine_text.specs.declared.machine.Machine.{Machine}
 use Rattle.node_defs.specs.declared.items.NodeNet.{NodeNet}
 use Rattle.node_defs.specs.WellFormed.{IsWellFormed}
 use Rattle.plan_defs.specs.declared.plan.Homes.{Homes}
 use Rattle.plan_defs.specs.Homes.{AreHomes, home_of, ports_of}
 use Rattle.plan_defs.specs.Picks.{node_count}
+use Rattle.plan_defs.proofs.CountLemmas.{few_before}
 use Rattle.home_better.specs.declared.bags.Entry.{Entry}
 use Rattle.home_better.specs.declared.moves.Work.{Work}
 use Rattle.home_better.specs.Bags.{times, where_at}
@@ -19,10 +21,10 @@ use Rattle.home_better.specs.Moves.{pull_at, first_most, AreUsesWithout}
 use Rattle.home_better.specs.Uses.{bag_at, AreBags, AreTakes, AreUses, Gives}
 use Rattle.home_better.specs.Work.{AreLoads, AreMost, room_in}
 use Rattle.home_better.specs.Working.{IsLifted}
-use Rattle.home_better.proofs.SumLemmas.{total, total_most, if_same, if_apart, range_from}
+use Rattle.home_better.proofs.SumLemmas.{total, total_most, if_same, if_apart}
 use Rattle.home_better.proofs.ChoiceLemmas.{least_is_most}
 use Rattle.home_better.proofs.LinkLemmas.{uses_low}
-use Rattle.home_better.proofs.LoadLemmas.{node_home, few_before}
+use Rattle.home_better.proofs.LoadLemmas.{node_home}
 use Rattle.home_better.proofs.MoveLemmas.{uses_moved, uses_home, same_total, moved_total, readers_most, load_moved}
 use Rattle.home_better.proofs.PassLemmas.{pass_cases}
 
@@ -141,10 +143,6 @@ put_count nodes homes v port count pulled pulls even formed are from low inside 
 
 -- ---- passes
 
-pub settled_logic : (nodes : NodeNet) (machine : Machine) (bound : ℕ) (homes : Homes) (v : ℕ) → (settled nodes machine bound homes v).logic ≡ homes.logic
-unfolding settled
-settled_logic nodes machine bound homes v = refl
-
 pub settled_is : (nodes : NodeNet) (machine : Machine) (bound : ℕ) (homes : Homes) (v : ℕ) → moved homes v (best_port nodes machine bound homes v) ≡ settled nodes machine bound homes v
 unfolding settled
 settled_is nodes machine bound homes v = refl
@@ -152,7 +150,7 @@ settled_is nodes machine bound homes v = refl
 pub settled_next : (nodes : NodeNet) (machine : Machine) (bound : ℕ) (start homes : Homes) (a k : ℕ) → homes ≡ settled_from nodes machine bound start (range_with_len a k) → settled nodes machine bound homes (a + k) ≡ settled_from nodes machine bound start (range_with_len a (k + 1))
 settled_next nodes machine bound start homes a k is =
     ap (λ h. settled nodes machine bound h (a + k)) is
-    ∙ sym (ap (settled_from nodes machine bound start) (range_from a k) ∙ fold-append (settled nodes machine bound) start (range_with_len a k) ((a + k) ∷ []))
+    ∙ sym (ap (settled_from nodes machine bound start) (range_more a k) ∙ fold-append (settled nodes machine bound) start (range_with_len a k) ((a + k) ∷ []))
 
 pub pass_is : (nodes : NodeNet) (machine : Machine) (bound : ℕ) (start homes : Homes) (k : ℕ) → k ≡ node_count nodes → homes ≡ settled_from nodes machine bound start (range_with_len nodes.first_node k) → homes ≡ pass nodes machine bound start
 unfolding pass

@@ -1,15 +1,14 @@
 -- Memories that get their ports one after another.
 use Rattle.std.proofs.Common.{◌≡◌, ◌∙◌, ◌⊎◌, inl, inr, ℕ, zero, suc, ◌+◌, ◌-◌, ◌*◌, ◌^◌, ◌<◌, ◌≤◌, List, [], ◌∷◌, ◌++◌, length, map, get_or, set, refl, sym, ap, subst, arith, if◌then◌else◌, eq-eqb, Some, slice_get}
 use Rattle.std.specs.Prelude.{◌==◌}
-use Rattle.std.specs.List.{sum_by, range_with_len}
+use Rattle.std.specs.List.{range_with_len}
 use Rattle.std.proofs.Math.Nat.{mul-le-mul}
-use Rattle.std.proofs.Math.Numerals.{add-one}
 use Rattle.std.proofs.Math.Pow.{pow-lt}
 use Rattle.std.proofs.lemmas.Bool.{cases_lt, cases_eq, cases_Bool, eqb-true}
 use Rattle.std.proofs.lemmas.List.{get_or_append_left, length-append, get_or-set_same, get_or-set_other, length-set, map-append}
 use Rattle.std.proofs.lemmas.List.FromFn.{length-map-range_with_len, get_or-map-range_with_len}
-use Rattle.std.proofs.lemmas.List.Sums.{sum_by-append}
 use Rattle.std.proofs.Math.Seq.{get_or-append_seam}
+use Rattle.list_laws.proofs.Ranges.{last_or, range_more, sum_more, sum_alike}
 use Rattle.machine_text.specs.declared.machine.Limited.{Limited}
 use Rattle.machine_text.specs.declared.machine.Limited.TheVariants.{Bits}
 use Rattle.machine_text.specs.declared.machine.Machine.{Machine}
@@ -18,35 +17,11 @@ use Rattle.node_defs.specs.declared.items.NodeBlock.{NodeBlock}
 use Rattle.node_defs.specs.declared.items.NodeNet.{NodeNet}
 use Rattle.plan_defs.specs.Lists.{IsLeastFree}
 use Rattle.plan_defs.specs.Picks.{bits_of, bits_before, bit_limit, bits_left, LacksRoom, AreHoused, FindsNoPort}
-use Rattle.plan_defs.proofs.ListLemmas.{last_or}
 use Rattle.plan_defs.proofs.PlanLemmas.{least_same}
 use Rattle.home_pick.specs.declared.blocks.Filling.{Filling}
 use Rattle.home_pick.specs.Rooms.{limits_of, LacksBits, IsMostLeft, AreFilled}
 
 -- ---- the bits of one memory more
-
-pub range_more : (a n : ℕ) → range_with_len a (n + 1) ≡ range_with_len a n ++ (a + n) ∷ []
-range_more a zero = ap (λ k. k ∷ []) (let same : a ≡ a + 0 = omega arith in same)
-range_more a (suc n) =
-    let long : suc n + 1 ≡ suc (suc n) = omega arith in
-    let short : suc n ≡ n + 1 = omega arith in
-    let last : a + 1 + n ≡ a + suc n = omega arith in
-    ap (range_with_len a) long ∙ ap (λ xs. a ∷ xs) (ap (range_with_len (a + 1)) short ∙ (range_more (a + 1) n ∙ ap (λ k. range_with_len (a + 1) n ++ k ∷ []) last))
-
--- a sum over one number more, and sums of the same numbers
-pub sum_more : (f : ℕ → ℕ) (n : ℕ) → sum_by f (range_with_len 0 (n + 1)) ≡ sum_by f (range_with_len 0 n) + f n
-sum_more f n =
-    let first : 0 + n ≡ n = omega arith in
-    let range : range_with_len 0 (n + 1) ≡ range_with_len 0 n ++ n ∷ [] = range_more 0 n ∙ ap (λ k. range_with_len 0 n ++ k ∷ []) first in
-    let one : 0 + f n ≡ f n = omega arith in
-    ap (sum_by f) range ∙ (sum_by-append f (range_with_len 0 n) (n ∷ []) ∙ ap (λ m. sum_by f (range_with_len 0 n) + m) one)
-
-pub sum_alike : (f g : ℕ → ℕ) (n : ℕ) → ((k : ℕ) → k < n → f k ≡ g k) → sum_by f (range_with_len 0 n) ≡ sum_by g (range_with_len 0 n)
-sum_alike f g zero same = refl
-sum_alike f g (suc n) same =
-    let before = sum_alike f g n (λ k low. same k (omega (arith, low))) in
-    let last = same n (omega arith) in
-    subst (λ m. sum_by f (range_with_len 0 m) ≡ sum_by g (range_with_len 0 m)) (add-one n) (omega (arith, sum_more f n, sum_more g n, before, last))
 
 -- the bits of memory k where it is at the port
 abbrev pub bits_at : NodeNet → List ℕ → ℕ → ℕ → ℕ

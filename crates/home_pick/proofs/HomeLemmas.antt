@@ -6,6 +6,8 @@ use Rattle.std.proofs.lemmas.Bool.{cases_lt}
 use Rattle.std.proofs.lemmas.Nat.{mod_below}
 use Rattle.std.proofs.lemmas.Option.{slice_get_within}
 use Rattle.std.proofs.lemmas.List.{get_or_append_left, length-append}
+use Rattle.list_laws.proofs.Members.{member_at}
+use Rattle.list_laws.proofs.Ranges.{last_or}
 use Rattle.machine_text.specs.declared.machine.Limited.{Limited}
 use Rattle.machine_text.specs.declared.machine.Limited.TheVariants.{Functions, Nodes, Bits}
 use Rattle.machine_text.specs.declared.machine.Machine.{Machine}
@@ -17,11 +19,9 @@ use Rattle.node_defs.specs.declared.items.Item.{Item}
 use Rattle.node_defs.specs.declared.items.Item.TheVariants.{Input, BlockBit, Node, Latch}
 use Rattle.node_defs.specs.declared.items.NodeNet.{NodeNet}
 use Rattle.node_defs.specs.WellFormed.{IsWellFormed, IsComputed}
-use Rattle.node_defs.proofs.MemberLemmas.{member_at}
 use Rattle.plan_defs.specs.declared.plan.Homes.{Homes}
 use Rattle.plan_defs.specs.Homes.{AreHomes, MayHouse, home_of}
 use Rattle.plan_defs.specs.Picks.{node_count, node_limit, node_room, AreHoused, ArePicked, IsInTurn, HasPickedHome}
-use Rattle.plan_defs.proofs.ListLemmas.{last_or}
 use Rattle.home_pick.specs.Rooms.{homes_at, AreItemPorts}
 use Rattle.home_pick.proofs.TurnLemmas.{turn_same, turn_wide}
 

@@ -1,5 +1,5 @@
 -- Nodes that get their ports in turn.
-use Rattle.std.proofs.Common.{◌≡◌, ◌≢◌, ◌∙◌, ◌⊎◌, inl, inr, ℕ, suc, ◌+◌, ◌-◌, ◌%◌, ◌<◌, ◌≤◌, Bool, true, false, List, [], ◌∷◌, ◌++◌, length, get_or, set, replicate, refl, sym, ap, subst, arith, if◌then◌else◌}
+use Rattle.std.proofs.Common.{◌≡◌, ◌≢◌, ◌∙◌, ◌⊎◌, inl, inr, ℕ, suc, ◌+◌, ◌-◌, ◌%◌, ◌<◌, ◌≤◌, List, [], ◌∷◌, ◌++◌, length, get_or, set, replicate, refl, sym, ap, subst, arith, if◌then◌else◌}
 use Rattle.std.specs.Prelude.{◌==◌}
 use Rattle.std.specs.List.{sum, range_with_len}
 use Rattle.std.proofs.Math.Nat.{mod-add-mod, mod-eq_of_lt, add-mod_right}
@@ -7,8 +7,9 @@ use Rattle.std.proofs.lemmas.Bool.{cases_lt, cases_eq}
 use Rattle.std.proofs.lemmas.Nat.{mod_below}
 use Rattle.std.proofs.lemmas.List.{get_or_append_left, get_or-set_same, get_or-set_other, length-set, get_or-replicate, length-replicate}
 use Rattle.std.proofs.lemmas.List.FromFn.{length-range_with_len, get_or-range_with_len}
-use Rattle.std.proofs.lemmas.List.Sums.{sum-map, sum_by-set, sum_by-cons, sum_by-le, get_or-le-sum_by}
+use Rattle.std.proofs.lemmas.List.Sums.{sum-map, sum_by-set, sum_by-cons, get_or-le-sum_by}
 use Rattle.std.proofs.Math.Seq.{get_or-append_seam}
+use Rattle.list_laws.proofs.Ranges.{sum_more, sum_alike}
 use Rattle.machine_text.specs.declared.machine.Limited.TheVariants.{Nodes}
 use Rattle.machine_text.specs.declared.machine.Machine.{Machine}
 use Rattle.machine_text.specs.Limits.{limit_at}
@@ -16,8 +17,9 @@ use Rattle.node_defs.specs.declared.items.NodeNet.{NodeNet}
 use Rattle.plan_defs.specs.Lists.{IsLeastFree}
 use Rattle.plan_defs.specs.Picks.{node_limit, node_room, nodes_before, IsFull, IsInTurn}
 use Rattle.plan_defs.proofs.PlanLemmas.{least_one, least_same}
+use Rattle.plan_defs.proofs.CountLemmas.{few_before}
 use Rattle.home_pick.specs.Rooms.{limits_of, IsSpent, AreTurned}
-use Rattle.home_pick.proofs.FillLemmas.{sum_more, sum_alike, at_same, at_other, limits_at, limits_count}
+use Rattle.home_pick.proofs.FillLemmas.{at_same, at_other, limits_at, limits_count}
 
 -- ---- the nodes at a port
 
@@ -56,16 +58,6 @@ turn_one nodes machine xs ys n same one other =
     one.at ∙ (ap (λ e. (n + e) % machine.logic) past ∙ sym other.at)
 
 -- ---- ports that are never full
-
-one_most : (test : Bool) → (if test then 1 else 0) ≤ 1
-one_most true = omega arith
-one_most false = omega arith
-
--- no port has more nodes than there are
-few_before : (nodes : NodeNet) (ports : List ℕ) (n port : ℕ) → nodes_before nodes ports n port ≤ n
-few_before nodes ports n port =
-    let most = sum_by-le (node_at nodes ports port) 1 (range_with_len 0 n) (λ k d within. one_most (get_or ports (nodes.first_node + get_or (range_with_len 0 n) k d) 0 == port)) in
-    omega (arith, most, length-range_with_len 0 n)
 
 -- where each limit is past the node, it is at its first port
 pub turn_wide : (nodes : NodeNet) (machine : Machine) (ports : List ℕ) (n : ℕ) → 1 ≤ machine.logic → ((p : ℕ) → p < machine.logic → n < node_limit machine p) → IsInTurn nodes machine ports n → get_or ports (nodes.first_node + n) 0 ≡ n % machine.logic

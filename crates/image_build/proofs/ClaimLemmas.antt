@@ -1,12 +1,13 @@
 -- Where the items of a plan stand in an image that is laid out: each in its slot at its home.
 use Rattle.std.proofs.Common.{◌≡◌, ◌∙◌, ℕ, ◌<◌, List, length, map, Some, slice_get, refl, sym, ap, subst, arith}
 use Rattle.std.proofs.lemmas.Option.{slice_get_within}
+use Rattle.list_laws.proofs.Members.{member_at}
+use Rattle.list_laws.proofs.Options.{one_some}
 use Rattle.net_defs.specs.declared.timing.Timing.{Timing}
 use Rattle.func_table.specs.declared.table.Table.{Table}
 use Rattle.node_defs.specs.declared.items.Item.{Item}
 use Rattle.node_defs.specs.declared.items.Item.TheVariants.{Input, BlockBit, Node, Latch}
 use Rattle.node_defs.specs.declared.items.NodeNet.{NodeNet}
-use Rattle.node_defs.proofs.MemberLemmas.{member_at, some_only}
 use Rattle.image_defs.specs.declared.image.Task.{Task}
 use Rattle.image_defs.specs.declared.image.OutBit.{OutBit}
 use Rattle.image_defs.specs.declared.image.InColumn.{InColumn}
@@ -105,5 +106,5 @@ module _ {nodes : NodeNet} {homes : Homes} {plan : Plan} {switch : Switch} {timi
   pub item_there : (p o : ℕ) (port : PortImage) → IsPort image p port → IsAt nodes homes p o → Stands (item_slots port.work) (slot_of plan.slots o)
   item_there p o port at is_at =
       let claim : ClaimsIn image claims p (slot_of plan.slots o) o = claimed_at p o port at is_at in
-      let same : claim.port ≡ port = some_only claim.port port (sym claim.is ∙ at) in
+      let same : claim.port ≡ port = one_some claim.port port (sym claim.is ∙ at) in
       (claim.i, subst (λ (q : PortImage). slice_get (item_slots q.work) claim.i ≡ Some (slot_of plan.slots o)) same claim.stands)

@@ -1,5 +1,5 @@
 -- Lists of things that are made for items, one after another.
-use Rattle.std.proofs.Common.{◌≡◌, inl, inr, ℕ, ◌+◌, ◌<◌, ◌≤◌, List, [], ◌∷◌, ◌++◌, length, take, get_or, Some, slice_get, sym, ap, ◌∙◌, subst, refl, arith}
+use Rattle.std.proofs.Common.{◌≡◌, inl, inr, ℕ, ◌+◌, ◌<◌, ◌≤◌, List, [], ◌∷◌, ◌++◌, length, take, get_or, Some, slice_get, sym, ap, ◌∙◌, subst, arith}
 use Rattle.std.proofs.lemmas.Bool.{cases_lt}
 use Rattle.std.proofs.lemmas.List.{length_push, take_more, take_all}
 use Rattle.std.proofs.lemmas.Option.{slice_get_within}
@@ -20,13 +20,6 @@ pub one_more : (xs : List ℕ) (k d : ℕ) → k < length xs → take (k + 1) xs
 one_more xs k d within = take_more xs k d within
 
 module _ {T : Type 0} (nodes : NodeNet) where
-  -- nothing is made for no items
-  pub made_none : (IsFor : ℕ → Item → T → Type 0) → AreMadeFor nodes IsFor [] []
-  made_none IsFor = record {
-    as_many = refl;
-    each = λ i x one thing here there made. (let low = slice_get_within {A = T} [] i thing made in absurd (omega (arith, low)));
-  }
-
   -- one more item
   pub made_more : (IsFor : ℕ → Item → T → Type 0) (items : List ℕ) (made : List T) (x : ℕ) (one : Item) (y : T) → AreMadeFor nodes IsFor items made → slice_get nodes.items x ≡ Some one → IsFor x one y
       → AreMadeFor nodes IsFor (items ++ x ∷ []) (made ++ y ∷ [])

@@ -1,9 +1,9 @@
 -- The links of an image that is laid out: what a port sends its readers receive, and what it receives is sent.
 use Rattle.std.proofs.Common.{◌≡◌, ◌∙◌, ℕ, ◌<◌, List, [], ◌∷◌, length, map, Some, slice_get, refl, sym, ap, subst, arith}
 use Rattle.std.specs.List.Sorted.{IsStrictlyIncreasing}
+use Rattle.list_laws.proofs.Members.{mapped_at, listed}
 use Rattle.net_defs.specs.declared.timing.Timing.{Timing}
 use Rattle.node_defs.specs.declared.items.NodeNet.{NodeNet}
-use Rattle.node_defs.proofs.MemberLemmas.{mapped_at}
 use Rattle.image_defs.specs.declared.image.LinkIn.{LinkIn}
 use Rattle.image_defs.specs.declared.image.PortImage.{PortImage}
 use Rattle.image_defs.specs.declared.image.Image.{Image}
@@ -23,7 +23,7 @@ use Rattle.plan_defs.proofs.PortLemmas.{home_port, reader_port}
 use Rattle.image_build.specs.Plans.{IsPlanned}
 use Rattle.image_build.specs.Built.{link_out, link_in}
 use Rattle.image_build.specs.Layouts.{IsLaidOut}
-use Rattle.image_build.proofs.MemberLemmas.{listed, stands, made_there}
+use Rattle.image_build.proofs.MemberLemmas.{stands, made_there}
 use Rattle.image_build.proofs.ClaimLemmas.{port_low, port_at, item_there}
 use Rattle.image_build.proofs.SourceLemmas.{links_at, received}
 

@@ -2,12 +2,8 @@
 use Rattle.std.proofs.Common.{◌≡◌, ◌∙◌, ℕ, List, map, Some, slice_get, ap}
 use Rattle.std.specs.List.{Contains}
 use Rattle.std.specs.Option.{option_map}
-use Rattle.std.proofs.lemmas.Option.{slice_get_within, slice_get-map, slice_get-get_or, get_or_from_slice_get}
+use Rattle.std.proofs.lemmas.Option.{slice_get-map, slice_get-get_or}
 use Rattle.image_defs.specs.Places.{Stands}
-
--- a number at a place of a list stands in it
-pub listed : (xs : List ℕ) (k x : ℕ) → slice_get xs k ≡ Some x → Contains xs x
-listed xs k x at = (k, slice_get_within xs k x at, get_or_from_slice_get xs k x x at)
 
 pub stands : (xs : List ℕ) (x : ℕ) → Contains xs x → Stands xs x
 stands xs x (k, low, is) = (k, slice_get-get_or xs k x low ∙ ap Some is)

@@ -79,9 +79,6 @@ module _ (nodes : NodeNet) (homes : Homes) where
 
   -- ---- blocks
 
-  pub blocks_none : (slots : List ℕ) (p : ℕ) → AreBlocks nodes homes slots p [] []
-  blocks_none slots p = record { as_many = refl; each = λ k m memory here at. (let low = slice_get_within {A = ℕ} [] k m here in absurd (omega (arith, low))) }
-
   pub blocks_more : (slots : List ℕ) (p k d : ℕ) (numbers : List ℕ) (blocks : List BlockWork) (memory : NodeBlock) → k < length numbers → AreBlocks nodes homes slots p (take k numbers) blocks
       → slice_get nodes.blocks (get_or numbers k d) ≡ Some memory → AreBlocks nodes homes slots p (take (k + 1) numbers) (blocks ++ block_for homes slots p memory ∷ [])
   blocks_more slots p k d numbers blocks memory low so_far there =

@@ -50,12 +50,6 @@ reaches xs rising (suc k) low =
     omega (arith, before, up)
 
 module _ (nodes : NodeNet) (homes : Homes) (plan : Plan) (planned : IsPlanned nodes homes plan) where
-  pub homes_long : length homes.items ≡ length nodes.items
-  homes_long = planned.housed.items
-
-  pub slots_long : length plan.slots ≡ length nodes.items
-  slots_long = planned.first_fit.slots.items
-
   -- a logic port has nodes and latches
   pub computed_at : (p x : ℕ) (one : Item) → IsAt nodes homes p x → slice_get nodes.items x ≡ Some one → p < homes.logic → IsComputed one
   computed_at p x one (within, at) is low = by_kind one (planned.housed.housed x one is) (planned.formed.parts x one is) where

@@ -1,8 +1,9 @@
 -- Where a port takes items from: what it uses is at it or comes to it, and stands early enough.
-use Rattle.std.proofs.Common.{◌≡◌, ◌≢◌, ◌∙◌, ◌⊎◌, inl, inr, ℕ, ◌<◌, ◌==◌, Bool, true, false, if◌then◌else◌, List, [], ◌∷◌, length, map, Some, slice_get, refl, sym, ap, subst, arith, eq-eqb}
+use Rattle.std.proofs.Common.{◌≡◌, ◌≢◌, ◌∙◌, ◌⊎◌, inl, inr, ℕ, ◌<◌, ◌==◌, Bool, true, false, if◌then◌else◌, List, length, Some, slice_get, refl, sym, ap, subst, arith, eq-eqb, [], ◌∷◌, map}
 use Rattle.std.specs.List.Sorted.{IsStrictlyIncreasing}
 use Rattle.std.proofs.lemmas.Bool.{cases_eq, cases_lt, ne_eqb}
 use Rattle.std.proofs.lemmas.Option.{slice_get_within}
+use Rattle.list_laws.proofs.Members.{member_at}
 use Rattle.net_defs.specs.declared.timing.Timing.{Timing}
 use Rattle.node_defs.specs.declared.items.Tag.{Tag}
 use Rattle.node_defs.specs.declared.items.Tag.TheVariants.{This, Last}
@@ -11,7 +12,6 @@ use Rattle.node_defs.specs.declared.items.Feed.TheVariants.{From, Fixed}
 use Rattle.node_defs.specs.declared.items.Item.{Item}
 use Rattle.node_defs.specs.declared.items.NodeNet.{NodeNet}
 use Rattle.node_defs.specs.Takes.{FeedTakes, FeedAwaits, Awaits}
-use Rattle.node_defs.proofs.MemberLemmas.{member_at}
 use Rattle.image_defs.specs.declared.image.Source.{Source}
 use Rattle.image_defs.specs.declared.image.Source.TheVariants.{Own, Got}
 use Rattle.image_defs.specs.declared.image.LinkIn.{LinkIn}

@@ -16,7 +16,7 @@ use Rattle.plan_defs.specs.declared.plan.Homes.{Homes}
 use Rattle.image_build.specs.Built.{Evaluates, AreInOrderOfUse}
 use Rattle.image_build.specs.Layouts.{IsTaskFor}
 use Rattle.image_build.specs.Plans.{Shelves, AreFirstTasks}
-use Rattle.image_build.proofs.GrowLemmas.{last_place, made_none, made_kept, made_next}
+use Rattle.image_build.proofs.GrowLemmas.{last_place, made_kept, made_next}
 
 -- ---- tables
 
@@ -95,17 +95,6 @@ order_more old new tasks task so_far different shelf = record {
 }
 
 -- ---- the tasks so far
-
-pub tasks_none : (nodes : NodeNet) (homes : Homes) (slots : List ℕ) (p : ℕ) (items : List ℕ) → AreFirstTasks nodes homes slots p 0 items [] []
-tasks_none nodes homes slots p items = record {
-  tasks_are = made_none nodes (IsTaskFor nodes homes slots p []);
-  in_order = record {
-    different = λ i j d before low. absurd (omega (arith, low));
-    used = λ n low. absurd (omega (arith, low));
-    before = λ i m n e less. (let low = slice_get_within {A = Task} [] i _ e.is in absurd (omega (arith, low)));
-  };
-  few = omega arith;
-}
 
 pub tasks_more : (nodes : NodeNet) (homes : Homes) (slots : List ℕ) (p k d : ℕ) (items : List ℕ) (old new : List Table) (tasks : List Task) (one : Item) (task : Task)
     → AreFirstTasks nodes homes slots p k items old tasks → k < length items → slice_get nodes.items (get_or items k d) ≡ Some one → IsTaskFor nodes homes slots p new (get_or items k d) one task

@@ -3,6 +3,8 @@ use Rattle.std.proofs.Common.{◌≡◌, ◌∙◌, inl, inr, ℕ, ◌<◌, ◌�
 use Rattle.std.specs.List.{Contains}
 use Rattle.std.proofs.lemmas.List.{length-map}
 use Rattle.std.proofs.lemmas.Option.{slice_get_within}
+use Rattle.list_laws.proofs.Members.{member_at, mapped_at, listed}
+use Rattle.list_laws.proofs.Options.{one_some}
 use Rattle.net_defs.specs.declared.timing.Timing.{Timing}
 use Rattle.func_table.specs.declared.table.Table.{Table}
 use Rattle.node_defs.specs.declared.items.Tag.TheVariants.{This, Last}
@@ -14,7 +16,6 @@ use Rattle.node_defs.specs.declared.items.NodeBlock.{NodeBlock}
 use Rattle.node_defs.specs.declared.items.NodeNet.{NodeNet}
 use Rattle.node_defs.specs.Takes.{Takes, BlockTakes}
 use Rattle.node_defs.specs.WellFormed.{IsMemoryOf, column_count}
-use Rattle.node_defs.proofs.MemberLemmas.{member_at, mapped_at, some_only}
 use Rattle.image_defs.specs.declared.image.Source.{Source}
 use Rattle.image_defs.specs.declared.image.Task.{Task}
 use Rattle.image_defs.specs.declared.image.Task.TheVariants.{Eval, Hold}
@@ -39,7 +40,6 @@ use Rattle.image_build.specs.PortItems.{IsAt}
 use Rattle.image_build.specs.Plans.{IsPlanned}
 use Rattle.image_build.specs.Built.{AreInOrderOfUse, ArePortMemories, AreBlocksOf, IsOrdered}
 use Rattle.image_build.specs.Layouts.{source_of, feed_source, IsTaskFor, AreTasks, block_for, AreBlocks, IsBitFor, AreBits, IsInputFor, AreInputs, IsWorkFor, IsLaidOut}
-use Rattle.image_build.proofs.MemberLemmas.{listed}
 use Rattle.image_build.proofs.ClaimLemmas.{port_low, claim_at}
 use Rattle.image_build.proofs.SourceLemmas.{early, feed_right, past_right, present_right}
 
@@ -104,7 +104,7 @@ module _ {nodes : NodeNet} {homes : Homes} {plan : Plan} {switch : Switch} {timi
       as_many = length-map items (λ o. source_of homes plan.slots p o true);
       each = λ k x source source_at is.
           let made : (o : ℕ) × (slice_get items k ≡ Some o) × (source_of homes plan.slots p o true ≡ source) = mapped_at (λ o. source_of homes plan.slots p o true) items k source source_at in
-          let same : made.0 ≡ x = some_only made.0 x (sym made.1 ∙ is) in
+          let same : made.0 ≡ x = one_some made.0 x (sym made.1 ∙ is) in
           subst (λ s. Carries image claims p port.ins s (From x Last)) (ap (λ o. source_of homes plan.slots p o true) (sym same) ∙ made.2) (past_right planned routed laid p x port at (uses x (listed items k x is))).1;
     }
 
@@ -171,7 +171,7 @@ module _ {nodes : NodeNet} {homes : Homes} {plan : Plan} {switch : Switch} {timi
     blocks_right k block here =
         let m : (m : ℕ) × (slice_get numbers k ≡ Some m) = member_at numbers k (let within = slice_get_within blocks k block here in let count = are.as_many in omega (arith, within, count)) in
         let found = memory_at k m.0 m.1 in
-        subst (IsBlock port) (some_only (block_for homes plan.slots p found.0) block (sym found.2 ∙ here)) found.3
+        subst (IsBlock port) (one_some (block_for homes plan.slots p found.0) block (sym found.2 ∙ here)) found.3
 
     blocks_are : (outs : List OutBit) → AreBits nodes plan.slots (claims_of claims p) numbers outs → AreBlocksOf nodes homes image claims p port.ins blocks outs
     blocks_are outs made = record {
@@ -180,7 +180,7 @@ module _ {nodes : NodeNet} {homes : Homes} {plan : Plan} {switch : Switch} {timi
       as_many = are.as_many;
       each = λ k m block memory here is memory_is.
           let known : (m < length nodes.blocks) × (block_home homes m ≡ p) = (lists.exact m).0 (listed numbers k m is) in
-          subst (λ b. MemoryImplements image claims p port.ins b memory) (some_only (block_for homes plan.slots p memory) block (sym (are.each k m memory is memory_is) ∙ here)) (memory_right m memory memory_is known.1).1;
+          subst (λ b. MemoryImplements image claims p port.ins b memory) (one_some (block_for homes plan.slots p memory) block (sym (are.each k m memory is memory_is) ∙ here)) (memory_right m memory memory_is known.1).1;
       bits = λ i x m bit out here claim is.
           let for_it = made.each i x (BlockBit m bit) out claim is here in
           subst (λ (o : OutBit). slice_get numbers o.block ≡ Some m) (sym for_it.2) for_it.1;
@@ -263,7 +263,7 @@ module _ {nodes : NodeNet} {homes : Homes} {plan : Plan} {switch : Switch} {timi
     ap length prints ∙ length-map nodes.printed (λ o. source_of homes plan.slots p o false),
     λ j x source here printed_is.
         let made : (o : ℕ) × (slice_get nodes.printed j ≡ Some o) × (source_of homes plan.slots p o false ≡ source) = mapped_at (λ o. source_of homes plan.slots p o false) nodes.printed j source (ap (λ list. slice_get list j) (sym prints) ∙ here) in
-        let same : made.0 ≡ x = some_only made.0 x (sym made.1 ∙ printed_is) in
+        let same : made.0 ≡ x = one_some made.0 x (sym made.1 ∙ printed_is) in
         subst (λ s. Carries image claims p port.ins s (From x This)) (ap (λ o. source_of homes plan.slots p o false) (sym same) ∙ made.2) (printed_right host j x printed_is).1,
   )
 

@@ -3,21 +3,17 @@ use Rattle.std.proofs.Common.{◌≡◌, ◌↔◌, IsTrue, Bool, true, false, r
 use Rattle.std.proofs.lemmas.Option.{slice_get_within, slice_get-get_or}
 use Rattle.list_laws.proofs.Places.{one_there}
 use Rattle.list_laws.proofs.Ranges.{last_or}
-use Rattle.func_table.specs.declared.table.Table.{Table}
 use Rattle.node_defs.specs.declared.items.Feed.TheVariants.{From}
 use Rattle.node_defs.specs.declared.items.Feeds.{Feeds}
 use Rattle.node_defs.specs.declared.items.Tag.TheVariants.{Last}
-use Rattle.node_defs.specs.declared.items.Item.TheVariants.{Node}
-use Rattle.node_defs.specs.declared.items.NodeNet.{NodeNet}
 use Rattle.node_defs.specs.declared.items.NodeBlock.{NodeBlock}
 use Rattle.image_defs.specs.declared.image.Source.{Source}
 use Rattle.image_defs.specs.declared.image.BlockWork.{BlockWork}
-use Rattle.image_defs.specs.declared.image.Task.TheVariants.{Eval}
-use Rattle.image_match.specs.Matches.{CarryAll, MemoryImplements, TaskImplements}
+use Rattle.image_match.specs.Matches.{CarryAll, MemoryImplements}
 use Rattle.image_check.specs.declared.claims.OnePort.{OnePort}
 use Rattle.image_check.specs.declared.nodes.Operands.{Operands}
 use Rattle.image_check.specs.Claimed.{lists_of}
-use Rattle.image_check.specs.OnePorts.{CarriesAt, AreSame, CarryFour}
+use Rattle.image_check.specs.OnePorts.{CarriesAt, CarryFour}
 
 -- the first n sources carry the first n items
 abbrev pub CarryBelow : OnePort → List Source → List ℕ → ℕ → Type 0
@@ -47,13 +43,6 @@ carry_done one sources items k all as_many so_far =
 
 pub four_by_last : (one : OnePort) (sources : Operands) (feeds : Feeds) (r : Bool) → CarriesAt one sources.a feeds.a → CarriesAt one sources.b feeds.b → CarriesAt one sources.c feeds.c → IsTrue r ↔ CarriesAt one sources.d feeds.d → IsTrue r ↔ CarryFour one sources feeds
 four_by_last one sources feeds r a b c said = (λ is. record { a = a; b = b; c = c; d = said.0 is }, λ f. said.1 f.d)
-
-pub eval_by : (one : OnePort) (nodes : NodeNet) (tables : List Table) (slot table number : ℕ) (sources : Operands) (feeds : Feeds) (r : Bool) → IsTrue r ↔ (AreSame tables nodes.tables table number × CarryFour one sources feeds)
-    → IsTrue r ↔ TaskImplements one.file.now.image (lists_of one.file.now.claims) nodes one.number one.port.now.ins tables (Eval slot table sources.a sources.b sources.c sources.d) (Node number feeds)
-eval_by one nodes tables slot table number sources feeds r said = (
-  λ is. (let w = said.0 is in (w.0.table, w.0.like.other, w.0.is, w.0.like.is, w.0.like.alike, w.1.a, w.1.b, w.1.c, w.1.d)),
-  λ t. said.1 (record { table = t.0; is = t.2; like = record { other = t.1; is = t.3; alike = t.4 } }, record { a = t.5; b = t.6; c = t.7; d = t.8 }),
-)
 
 pub memory_by_word : (one : OnePort) (block : BlockWork) (memory : NodeBlock) (address word : List Source) (a w : List ℕ) (r : Bool) → address ≡ block.address → word ≡ block.word → a ≡ memory.address → w ≡ memory.word
     → CarriesAt one block.we (From memory.we Last) → CarryAllAt one address a → IsTrue r ↔ CarryAllAt one word w

@@ -36,9 +36,6 @@ claims_none claims p place x none = (λ f. cc, λ is. absurd (empty is)) where
       let low = slice_get_within {A = ℕ} [] place x e in
       omega (arith, low)
 
-pub claim_there : (claims : Claims) (p place x : ℕ) (port : PortClaims) (items : List ℕ) (r : Bool) → Some port ≡ slice_get claims.ports p → items ≡ port.items → IsTrue r ↔ (slice_get items place ≡ Some x) → IsTrue r ↔ IsClaim (lists_of claims) p place x
-claim_there claims p place x port items r there same said = subst (λ (xs : List ℕ). IsTrue r ↔ (slice_get xs place ≡ Some x)) (same ∙ sym (claims_there claims p port there)) said
-
 -- the place of a slot is the one that was found
 pub claimed_by_place : (claims : List (List ℕ)) (slots found : List ℕ) (p place slot x : ℕ) (r : Bool) → IsStrictlyIncreasing slots → found ≡ slots → slice_get found place ≡ Some slot → IsTrue r ↔ IsClaim claims p place x → IsTrue r ↔ ClaimedIn claims slots p slot x
 claimed_by_place claims slots found p place slot x r up same here said = (λ is. record { i = place; stands = at; claimed = said.0 is }, back) where

@@ -10,9 +10,6 @@ use Rattle.image_defs.specs.Places.{Each}
 abbrev pub EachBelow : {X : Type 0} → (X → Type 0) → ℕ → List X → Type 0
 EachBelow {X} P n xs = (i : ℕ) (x : X) → i < n → slice_get xs i ≡ Some x → P x
 
-pub each_none : {X : Type 0} (P : X → Type 0) (xs : List X) → EachBelow P 0 xs
-each_none P xs i x low here = absurd (omega (arith, low))
-
 pub each_more : {X : Type 0} (P : X → Type 0) (k : ℕ) (xs : List X) (here : X) → EachBelow P k xs → slice_get xs k ≡ Some here → P here → EachBelow P (k + 1) xs
 each_more P k xs here before at holds i x low there = elim (last_or i k low) [
   | inl less ↦ before i x less there
@@ -57,9 +54,6 @@ second_left r first said = (λ is. (first, said.0 is), λ both. said.1 both.1)
 -- it holds of the first n members and their places
 abbrev pub EachAtBelow : {X : Type 0} → (ℕ → X → Type 0) → ℕ → List X → Type 0
 EachAtBelow {X} P n xs = (i : ℕ) (x : X) → i < n → slice_get xs i ≡ Some x → P i x
-
-pub each_at_none : {X : Type 0} (P : ℕ → X → Type 0) (xs : List X) → EachAtBelow P 0 xs
-each_at_none P xs i x low here = absurd (omega (arith, low))
 
 pub each_at_more : {X : Type 0} (P : ℕ → X → Type 0) (k : ℕ) (xs : List X) (here : X) → EachAtBelow P k xs → slice_get xs k ≡ Some here → P k here → EachAtBelow P (k + 1) xs
 each_at_more P k xs here before at holds i x low there = elim (last_or i k low) [

@@ -6,9 +6,10 @@ use Rattle.std.specs.Option.{option_map, unwrap_or}
 use Rattle.std.proofs.lemmas.Bool.{cases_lt, cond-false}
 use Rattle.std.proofs.lemmas.List.Sorted.{searched}
 use Rattle.std.proofs.lemmas.Option.{slice_get_within, slice_get-get_or, get_or_from_slice_get}
+use Rattle.list_laws.proofs.Members.{mapped_at}
 use Rattle.image_defs.specs.declared.image.LinkIn.{LinkIn}
 use Rattle.image_defs.specs.Places.{Stands, in_slots, sender_in}
-use Rattle.image_defs.proofs.PlaceLemmas.{rises, at_map, sender_found}
+use Rattle.image_defs.proofs.PlaceLemmas.{rises, sender_found}
 
 -- numbers that rise don't fall from one place to a later one
 pub rises_far : (xs : List ℕ) → IsStrictlyIncreasing xs → (i j : ℕ) → i ≤ j → j < length xs → get_or xs i 0 ≤ get_or xs j 0
@@ -62,7 +63,7 @@ sender_absent links slots slot are none =
 pub sender_there : (links : List LinkIn) (slots : List ℕ) (slot place : ℕ) (d : LinkIn) → slots ≡ in_slots links → IsStrictlyIncreasing slots → slice_get slots place ≡ Some slot
     → (slice_index_or links place d).sender ≡ sender_in links slot
 sender_there links slots slot place d are up here =
-    let at = at_map (λ l. l.slot) links place slot (subst (λ xs. slice_get xs place ≡ Some slot) are here) in
+    let at = mapped_at (λ l. l.slot) links place slot (subst (λ xs. slice_get xs place ≡ Some slot) are here) in
     let link = at.0 in
     let found = sender_found links place link (subst IsStrictlyIncreasing are up) at.1 in
     let read : slice_index_or links place d ≡ link = get_or_from_slice_get links place link d at.1 in

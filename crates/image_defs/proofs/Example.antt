@@ -5,6 +5,7 @@
 use Rattle.std.proofs.Common.{◌≡◌, ◌≢◌, ◌↔◌, ℕ, zero, suc, ◌+◌, ◌<◌, true, false, List, [], ◌∷◌, slice_get, Some, subst, refl, arith}
 use Rattle.std.specs.List.{AllByRecursion}
 use Rattle.std.specs.List.Sorted.{IsStrictlyIncreasing}
+use Rattle.list_laws.proofs.Options.{one_some}
 use Rattle.logic_four.specs.declared.V4.TheVariants.{Zero}
 use Rattle.net_defs.specs.declared.timing.Init.TheVariants as init
 use Rattle.func_table.specs.declared.table.Table.{Table}
@@ -186,17 +187,14 @@ module _ (table : Table) where
     ports = ports;
     host = host;
   } where
-    port_is : (one other : PortImage) → Some one ≡ Some other → one ≡ other
-    port_is one other e = cc
-
     ports : (p : ℕ) (port : PortImage) → IsPort image p port → IsPortImage image p port
-    ports zero port is = subst (IsPortImage image 0) (port_is logic_port port is) logic_fits
-    ports (suc zero) port is = subst (IsPortImage image 1) (port_is array_port port is) array_fits
-    ports (suc (suc zero)) port is = subst (IsPortImage image 2) (port_is host_port port is) host_fits
+    ports zero port is = subst (IsPortImage image 0) (one_some logic_port port is) logic_fits
+    ports (suc zero) port is = subst (IsPortImage image 1) (one_some array_port port is) array_fits
+    ports (suc (suc zero)) port is = subst (IsPortImage image 2) (one_some host_port port is) host_fits
     ports (suc (suc (suc p))) port is = cc
 
     host : (p : ℕ) (port : PortImage) → IsPort image p port → IsHost port.work ↔ (p + 1 ≡ 3)
-    host zero port is = subst (λ q. IsHost q.work ↔ (0 + 1 ≡ 3)) (port_is logic_port port is) ((λ none. absurd none), (λ e. absurd (omega (arith, e))))
-    host (suc zero) port is = subst (λ q. IsHost q.work ↔ (1 + 1 ≡ 3)) (port_is array_port port is) ((λ none. absurd none), (λ e. absurd (omega (arith, e))))
-    host (suc (suc zero)) port is = subst (λ q. IsHost q.work ↔ (2 + 1 ≡ 3)) (port_is host_port port is) ((λ _. omega arith), (λ _. tt))
+    host zero port is = subst (λ q. IsHost q.work ↔ (0 + 1 ≡ 3)) (one_some logic_port port is) ((λ none. absurd none), (λ e. absurd (omega (arith, e))))
+    host (suc zero) port is = subst (λ q. IsHost q.work ↔ (1 + 1 ≡ 3)) (one_some array_port port is) ((λ none. absurd none), (λ e. absurd (omega (arith, e))))
+    host (suc (suc zero)) port is = subst (λ q. IsHost q.work ↔ (2 + 1 ≡ 3)) (one_some host_port port is) ((λ _. omega arith), (λ _. tt))
     host (suc (suc (suc p))) port is = cc

@@ -1,11 +1,12 @@
 -- Places in ascending lists.
-use Rattle.std.proofs.Common.{◌≡◌, ℕ, zero, suc, ◌<◌, ◌+◌, ◌==◌, false, true, List, [], ◌∷◌, map, not, slice_get, Option, Some, None, sym, ap, ◌∙◌, refl, arith, rules}
+use Rattle.std.proofs.Common.{◌≡◌, ℕ, zero, suc, ◌<◌, ◌+◌, ◌==◌, false, true, List, [], ◌∷◌, not, slice_get, Option, Some, ap, ◌∙◌, refl, arith, rules}
 use Rattle.std.specs.List.{find, position_or_len}
 use Rattle.std.specs.List.Sorted.{IsStrictlyIncreasing}
 use Rattle.std.specs.Option.{option_map, unwrap_or}
 use Rattle.std.proofs.lemmas.Bool.{cond-true, cond-false}
 use Rattle.std.proofs.lemmas.List.Kept.{AllPairs-from_increasing}
 use Rattle.std.proofs.lemmas.Option.{slice_get_within, get_or_from_slice_get, slice_get-map}
+pub use Rattle.list_laws.proofs.Members.{mapped_at as at_map}
 use Rattle.image_defs.specs.declared.image.LinkIn.{LinkIn}
 use Rattle.image_defs.specs.Places.{in_slots, sender_in}
 
@@ -17,13 +18,6 @@ pub rises : (xs : List ℕ) → IsStrictlyIncreasing xs → Rises xs
 rises xs up i j s t before here there =
     let pair = AllPairs-from_increasing xs up i j 0 before (slice_get_within xs j t there) in
     omega (arith, pair, get_or_from_slice_get xs i s 0 here, get_or_from_slice_get xs j t 0 there)
-
--- what stands in a mapped list comes from what stands there
-pub at_map : {X Y : Type 0} (f : X → Y) (xs : List X) (i : ℕ) (y : Y) → slice_get (map f xs) i ≡ Some y → (x : X) × (slice_get xs i ≡ Some x) × (f x ≡ y)
-at_map {X} {Y} f xs i y e = of_option (slice_get xs i) refl (sym (slice_get-map f xs i) ∙ e) where
-  of_option : (o : Option X) → slice_get xs i ≡ o → option_map f o ≡ Some y → (x : X) × (slice_get xs i ≡ Some x) × (f x ≡ y)
-  of_option None here e = cc
-  of_option (Some x) here e = (x, here, cc)
 
 -- a number is equal to itself and to no other
 pub same_number : (s : ℕ) → (s == s) ≡ true

@@ -2,6 +2,7 @@
 use Rattle.std.proofs.Common.{◌≡◌, ℕ, zero, suc, ◌<◌, ◌+◌, ◌==◌, false, true, List, [], length, slice_get, Some, sym, ap, ◌∙◌, subst, refl, arith, rules, inl, inr}
 use Rattle.std.specs.Option.{option_map, unwrap_or}
 use Rattle.std.proofs.lemmas.Bool.{cases_lt, cond-true, cond-false}
+use Rattle.list_laws.proofs.Members.{mapped_at}
 use Rattle.logic_four.specs.declared.V4.{V4}
 use Rattle.net_defs.specs.declared.stimulus.Stimulus.{Stimulus}
 use Rattle.func_table.specs.declared.table.Table.{Table}
@@ -19,7 +20,7 @@ use Rattle.image_defs.specs.Places.{item_slots, task_slot, IsPort, IsItemIn, IsB
 use Rattle.image_defs.specs.WellFormed.{IsWellFormed, IsPortImage, IsWork, IsBefore, IsTask}
 use Rattle.image_defs.specs.Steps.{Frame, Grid, value_of_member, source_value, task_value, item_value, IsImageStep, AreImageValues}
 use Rattle.image_defs.specs.Frames.{frame, filled, slot_value, words_by, next_frame}
-use Rattle.image_defs.proofs.PlaceLemmas.{rises, at_map, place_found, same_number}
+use Rattle.image_defs.proofs.PlaceLemmas.{rises, place_found, same_number}
 
 -- two grids agree in the slots before n
 abbrev AgreeBelow : ℕ → Grid → Grid → Type 0
@@ -42,7 +43,7 @@ module _ (image : Image) (stimulus : Stimulus) (turn : ℕ) (old : Frame) where
   -- an item's value is the same over grids that agree in the slots before
   same_item : (f g : Grid) (columns p : ℕ) (port : PortImage) (work : Work) (i slot : ℕ) → IsWork columns port work → IsItemIn work i slot → AgreeBelow slot f g
       → item_value image stimulus turn old f p port.ins work i ≡ item_value image stimulus turn old g p port.ins work i
-  same_item f g columns p port (Logic tables tasks) i slot right stands agree = of_task (at_map task_slot tasks i slot stands) where
+  same_item f g columns p port (Logic tables tasks) i slot right stands agree = of_task (mapped_at task_slot tasks i slot stands) where
     of_task : (task : Task) × (slice_get tasks i ≡ Some task) × (task_slot task ≡ slot) → value_of_member (task_value image turn p port.ins old f tables) (slice_get tasks i) ≡ value_of_member (task_value image turn p port.ins old g tables) (slice_get tasks i)
     of_task (task, here, at) = rw here (same_task f g p port tables task (subst (λ n. AgreeBelow n f g) (sym at) agree) (right i task here))
   same_item f g columns p port (Array blocks outs) i slot right stands agree = refl

@@ -2,6 +2,7 @@
 use Rattle.std.proofs.Common.{◌≡◌, ℕ, ◌+◌, ◌≤◌, ◌<◌, ◌==◌, ◌-◌, ◌&&◌, Bool, true, List, [], ◌∷◌, ◌++◌, length, map, refl, sym, ap, ◌∙◌, arith, cond, append-nil, append_assoc, length-append}
 use Rattle.std.specs.List.{count_by}
 use Rattle.std.proofs.lemmas.List.Sums.{sum_by-append}
+use Rattle.std.proofs.lemmas.Bool.{and_parts}
 use Rattle.limits.specs.declared.TheConstants.{MAX_FUNCTIONS, MAX_ARRAY_BITS, MAX_ARRAY}
 use Rattle.image_defs.specs.declared.image.Work.{Work}
 use Rattle.image_defs.specs.declared.image.Work.TheVariants.{Logic, Array, Host}
@@ -14,7 +15,6 @@ use Rattle.image_lines.specs.declared.line.Sizes.{Sizes}
 use Rattle.image_lines.specs.declared.line.Line.{Line}
 use Rattle.image_lines.specs.declared.line.Line.TheVariants as line
 use Rattle.image_lines.specs.Forms.{is_within}
-use Rattle.image_lines.proofs.TokenLemmas.{both_true}
 use Rattle.image_file.specs.declared.draft.OpenPort.{OpenPort}
 use Rattle.image_file.specs.declared.draft.Body.{Body}
 use Rattle.image_file.specs.declared.draft.Draft.{Draft}
@@ -42,8 +42,8 @@ by_work : (o : OpenPort) (said : Line) → IsHeld o.port.work o.items o.bits
     → (length o.port.ins == 0 && length o.port.outs == 0 && work_allows o.port.work said) ≡ true → work_holds o.port.work o.bits said ≡ true
     → PortStep o (record { port = record o.port { work = work_with o.port.work said }; items = items_with o.items said; bits = bits_with o.bits said }) said
 by_work o said held may room =
-    let all = both_true (length o.port.ins == 0 && length o.port.outs == 0) (work_allows o.port.work said) may in
-    let links = both_true (length o.port.ins == 0) (length o.port.outs == 0) all.0 in
+    let all = and_parts (length o.port.ins == 0 && length o.port.outs == 0) (work_allows o.port.work said) may in
+    let links = and_parts (length o.port.ins == 0) (length o.port.outs == 0) all.0 in
     let step = work_step o.port.work o.items o.bits said held all.1 room in
     let no_ins = nil_of o.port.ins links.0 in
     let no_outs = nil_of o.port.outs links.1 in record {

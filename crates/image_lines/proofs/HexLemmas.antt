@@ -1,10 +1,11 @@
 -- Hexadecimal digits and their value.
-use Rattle.std.proofs.Common.{◌≡◌, ℕ, zero, suc, ◌+◌, ◌-◌, ◌*◌, ◌/◌, ◌%◌, ◌^◌, ◌<◌, ◌≤◌, Bool, true, false, ◌&&◌, List, [], ◌∷◌, ◌++◌, length, take, get_or, min, refl, sym, ap, ◌∙◌, arith, take_all, pow-suc}
+use Rattle.std.proofs.Common.{◌≡◌, ℕ, zero, suc, ◌+◌, ◌-◌, ◌*◌, ◌/◌, ◌%◌, ◌^◌, ◌<◌, ◌≤◌, true, List, [], ◌∷◌, ◌++◌, length, take, get_or, min, refl, sym, ap, ◌∙◌, arith, take_all, pow-suc}
 use Rattle.std.specs.List.{list_all}
 use Rattle.std.proofs.lemmas.List.Folds.{list_all_more}
 use Rattle.std.proofs.lemmas.List.Sums.{fold_push}
 use Rattle.std.proofs.Math.Seq.{take-suc}
 use Rattle.std.proofs.lemmas.List.{length-append}
+use Rattle.std.proofs.lemmas.Bool.{and_parts}
 use Rattle.image_lines.specs.Tokens.{is_hex, hex_value, hex_value_of}
 use Rattle.image_lines.specs.Words.{hex_digit, hex_digits}
 
@@ -20,18 +21,14 @@ digit_is b is = grind arith
 hex_is_hex : (d : ℕ) → d < 16 → is_hex (hex_digit d) ≡ true
 hex_is_hex d small = grind arith
 
-both_true : (a b : Bool) → (a && b) ≡ true → (a ≡ true) × (b ≡ true)
-both_true true b e = (refl, e)
-both_true false b e = cc
-
 value_push : (ds : List ℕ) (d : ℕ) → hex_value (ds ++ d ∷ []) ≡ hex_value ds * 16 + hex_value_of d
 value_push ds d = fold_push (λ value digit. value * 16 + hex_value_of digit) 0 ds d
 
-digits_suc : (k n : ℕ) → hex_digits (suc k) n ≡ hex_digits k (n / 16) ++ hex_digit (n % 16) ∷ []
+pub digits_suc : (k n : ℕ) → hex_digits (suc k) n ≡ hex_digits k (n / 16) ++ hex_digit (n % 16) ∷ []
 unfolding hex_digits
 digits_suc k n = refl
 
-digits_zero : (n : ℕ) → hex_digits 0 n ≡ []
+pub digits_zero : (n : ℕ) → hex_digits 0 n ≡ []
 unfolding hex_digits
 digits_zero n = refl
 
@@ -40,7 +37,7 @@ one_more : (ds : List ℕ) (k : ℕ) → k < length ds → hex_value (take (suc 
 one_more ds k within = ap hex_value (take-suc ds k 0 within) ∙ value_push (take k ds) (get_or ds k 0)
 
 hex_more : (ds : List ℕ) (k : ℕ) → k < length ds → list_all is_hex (take (suc k) ds) ≡ true → (list_all is_hex (take k ds) ≡ true) × (is_hex (get_or ds k 0) ≡ true)
-hex_more ds k within all = both_true _ _ (sym (list_all_more is_hex ds k 0 within) ∙ ap (λ n. list_all is_hex (take n ds)) (one_up k) ∙ all)
+hex_more ds k within all = and_parts _ _ (sym (list_all_more is_hex ds k 0 within) ∙ ap (λ n. list_all is_hex (take n ds)) (one_up k) ∙ all)
   where
     one_up : (k : ℕ) → k + 1 ≡ suc k
     one_up k = omega arith
@@ -113,7 +110,7 @@ digits_hex (suc k) n =
     all_push : (xs : List ℕ) (x : ℕ) → list_all is_hex xs ≡ true → is_hex x ≡ true → list_all is_hex (xs ++ x ∷ []) ≡ true
     all_push [] x all one = rw one refl
     all_push (y ∷ xs) x all one =
-        let both = both_true (is_hex y) (list_all is_hex xs) all in
+        let both = and_parts (is_hex y) (list_all is_hex xs) all in
         rw (both.0, all_push xs x both.1 one) refl
 
 -- the greatest u64 is greater

@@ -7,6 +7,7 @@ use Rattle.std.proofs.lemmas.List.Folds.{list_all-append}
 use Rattle.std.proofs.lemmas.List.Splits.{slice_split_at, slice_split_none, join_with_byte-slice_split}
 use Rattle.std.proofs.lemmas.Fmt.{digits_decimal}
 use Rattle.std.proofs.lemmas.Slice.Eq.{bytes_eq-Decides}
+use Rattle.std.proofs.lemmas.Bool.{and_parts}
 use Rattle.logic_four.specs.declared.V4.TheVariants as v4
 use Rattle.net_defs.specs.declared.timing.Init.{Init}
 use Rattle.net_defs.specs.declared.timing.Init.TheVariants as inits
@@ -25,7 +26,7 @@ use Rattle.image_lines.specs.Tokens.{Left, is_space, tokens_of, is_hex, behind}
 use Rattle.image_lines.specs.Words.{line_words, line_bytes, source_word, init_word, kind_word, hex_digits}
 use Rattle.image_lines.specs.Ranges.{IsSmall, IsSmallSource, IsSmallLine, IsInRange}
 use Rattle.image_lines.proofs.HexLemmas.{digits_hex}
-use Rattle.image_lines.proofs.TokenLemmas.{own, both_true, if_or, hex_spells}
+use Rattle.image_lines.proofs.TokenLemmas.{own, if_or, hex_spells}
 use Rattle.image_lines.proofs.ReaderLemmas.{same_left}
 use Rattle.image_lines.proofs.LineLemmas.{word_of, named_again, named_found, lined_again, lined_found, source_fields, head_fields, kind_fields, numbers_fields, eval_fields, hold_fields, bit_fields, input_fields, end_again, table_is, send_again, block_again, Behind, moved, send_found, table_found, block_found}
 
@@ -122,7 +123,7 @@ all_plain bytes = list_all plain bytes
 weaker : (p q : ℕ → Bool) → ((b : ℕ) → p b ≡ true → q b ≡ true) → (xs : List ℕ) → list_all p xs ≡ true → list_all q xs ≡ true
 weaker p q implies [] all = refl
 weaker p q implies (x ∷ xs) all =
-    let both = both_true (p x) (list_all p xs) all in
+    let both = and_parts (p x) (list_all p xs) all in
     rw (implies x both.0, weaker p q implies xs both.1) refl
 
 number_plain : (n : ℕ) → IsSmall n → all_plain (decimal n) ≡ true
@@ -203,7 +204,7 @@ lacks : (byte : ℕ) → byte ≤ 32 → (word : List ℕ) → all_plain word �
 unfolding plain
 lacks byte low [] all = All-nil (λ b. (b == byte) ≡ false)
 lacks byte low (b ∷ bs) all =
-    let both = both_true (plain b) (list_all plain bs) all in
+    let both = and_parts (plain b) (list_all plain bs) all in
     All-cons (λ b. (b == byte) ≡ false) b bs (other b both.0) (lacks byte low bs both.1)
   where
     other : (b : ℕ) → nat_lt 32 b ≡ true → (b == byte) ≡ false
@@ -212,10 +213,10 @@ lacks byte low (b ∷ bs) all =
 -- words without spaces, joined by spaces, are the pieces
 pieces : (word : List ℕ) (words : List (List ℕ)) → are_plain (word ∷ words) ≡ true → slice_split is_space (join_with_byte 32 (word ∷ words)) ≡ word ∷ words
 pieces word [] all =
-    let both = both_true (all_plain word) true all in
+    let both = and_parts (all_plain word) true all in
     slice_split_none is_space word (lacks 32 (omega arith) word both.0)
 pieces word (next ∷ words) all =
-    let both = both_true (all_plain word) (are_plain (next ∷ words)) all in
+    let both = and_parts (all_plain word) (are_plain (next ∷ words)) all in
     slice_split_at is_space word 32 (join_with_byte 32 (next ∷ words)) (lacks 32 (omega arith) word both.0) refl
     ∙ ap (λ rest. word ∷ rest) (pieces next words both.1)
 
@@ -256,7 +257,7 @@ finished_ok None line e = cc
 finished_ok (Some (made, (token ∷ rest, large))) line e = cc
 finished_ok (Some (made, ([], large))) line e =
     let same : ◌≡◌ {A = Line × Bool} (made, not large && is_within made) (line, true) = cc in
-    let both = both_true (not large) (is_within made) (ap (λ (p : Line × Bool). p.1) same) in
+    let both = and_parts (not large) (is_within made) (ap (λ (p : Line × Bool). p.1) same) in
     let is : made ≡ line = ap (λ (p : Line × Bool). p.0) same in
     (rw (is, low large both.0) refl, rw is at both.1)
   where
@@ -275,9 +276,9 @@ read_only bytes line e =
 
 join_lacks : (byte : ℕ) → byte < 32 → (words : List (List ℕ)) → are_plain words ≡ true → All (λ b. (b == byte) ≡ false) (join_with_byte 32 words)
 join_lacks byte low [] all = All-nil (λ b. (b == byte) ≡ false)
-join_lacks byte low (word ∷ []) all = lacks byte (omega (arith, low)) word (both_true (all_plain word) true all).0
+join_lacks byte low (word ∷ []) all = lacks byte (omega (arith, low)) word (and_parts (all_plain word) true all).0
 join_lacks byte low (word ∷ next ∷ words) all =
-    let both = both_true (all_plain word) (are_plain (next ∷ words)) all in
+    let both = and_parts (all_plain word) (are_plain (next ∷ words)) all in
     All-append (λ b. (b == byte) ≡ false) word (32 ∷ join_with_byte 32 (next ∷ words)) (lacks byte (omega (arith, low)) word both.0)
     (All-cons (λ b. (b == byte) ≡ false) 32 (join_with_byte 32 (next ∷ words)) (other byte low) (join_lacks byte low (next ∷ words) both.1))
   where

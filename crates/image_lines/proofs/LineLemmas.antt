@@ -6,13 +6,15 @@ use Rattle.std.proofs.lemmas.Slice.Eq.{bytes_eq-Decides}
 use Rattle.std.proofs.lemmas.List.{length-append, length-drop, length-take-le, map-append, take-append-drop}
 use Rattle.std.proofs.lemmas.List.Elements.{All-nil, All-cons, All-head, All-tail, All-append}
 use Rattle.std.proofs.Math.Seq.{take-append_seam, drop-append_seam}
+use Rattle.list_laws.proofs.Options.{one_some}
 use Rattle.image_defs.specs.declared.image.Source.{Source}
+use Rattle.image_defs.proofs.PlaceLemmas.{same_number}
 use Rattle.image_lines.specs.declared.line.Line.{Line}
 use Rattle.image_lines.specs.declared.line.Line.TheVariants.{Table, Block, Send}
 use Rattle.image_lines.specs.declared.word.Word.{Word}
 use Rattle.image_lines.specs.declared.word.Word.TheVariants as word
 use Rattle.image_lines.specs.Forms as forms
-use Rattle.image_lines.specs.Forms.{named, line_of, lined, form, form_behind, line_in, to_end, ended, send_of, table_of, block_of}
+use Rattle.image_lines.specs.Forms.{named, line_of, lined, to_end, ended, send_of, table_of, block_of}
 use Rattle.image_lines.specs.Tokens.{Left, Reader, field, both, behind, all_of, number_token, source_token, kind_token}
 use Rattle.image_lines.specs.Words.{line_words, source_word, init_word, kind_word, hex_digits}
 use Rattle.image_lines.specs.Ranges.{IsSmall, IsSmallSource, IsSmallLine}
@@ -160,9 +162,6 @@ if_is : (b : Bool) (x y : Line) → (if b then Some x else None) ≡ Some y → 
 if_is true x y e = (refl, cc)
 if_is false x y e = cc
 
-same_eqb : (n : ℕ) → (n == n) ≡ true
-same_eqb n = grind arith
-
 length_last : {X : Type 0} (n : ℕ) (xs : List X) → length (drop n xs) ≡ length xs - n
 length_last n xs = length-drop n xs
 
@@ -190,9 +189,6 @@ Behind first rest line = (first ∷ rest ≡ line_words line) × IsSmallLine lin
 pub moved : (first : List ℕ) (rest words : List (List ℕ)) (made line : Line) → rest ≡ words → made ≡ line → Behind first words made → Behind first rest line
 moved first rest words made line is same behind = rw (is, ← same) behind
 
-same_some : (x y : Line) → Some x ≡ Some y → x ≡ y
-same_some x y e = cc
-
 same_rest : (a b : List (List ℕ)) (l m : Bool) → ◌≡◌ {A = Left} (a, l) (b, m) → a ≡ b
 same_rest a b l m e = ap (λ (p : Left). p.0) e
 
@@ -203,7 +199,7 @@ send_found rest line e = of (field number_token (rest, false)) refl e
     made : (slot : ℕ) (xs : List ℕ) (line : Line) → IsSmall slot → All IsSmall xs → send_of slot xs ≡ Some line → Behind (codes "send") (decimal slot ∷ map decimal xs) line
     made slot [] line small all e = cc
     made slot (x ∷ xs) line small all e =
-        moved (codes "send") (decimal slot ∷ map decimal (x ∷ xs)) (decimal slot ∷ map decimal (x ∷ xs)) _ line refl (same_some _ line e)
+        moved (codes "send") (decimal slot ∷ map decimal (x ∷ xs)) (decimal slot ∷ map decimal (x ∷ xs)) _ line refl (one_some _ line e)
         (refl, (small, (omega arith, all)))
 
     of : (o : Option (ℕ × Left)) → field number_token (rest, false) ≡ o → option_and_then (λ slot. to_end number_token (send_of slot.0) slot.1) o ≡ Some (line, ([], false))
@@ -232,7 +228,7 @@ table_found rest line e =
 block_is : (we : Source) (address word : List Source)
     → block_of (length address) (length word) (we ∷ address ++ word) ≡ Some (Block (record { we = we; address = address; word = word }))
 block_is we address word =
-    rw (length-append address word, same_eqb (length address + length word), take-append_seam address word, drop-append_seam address word) refl
+    rw (length-append address word, same_number (length address + length word), take-append_seam address word, drop-append_seam address word) refl
 
 pub block_again : (we : Source) (address word : List Source) → IsSmall (length address) → IsSmall (length word) → IsSmallSource we → All IsSmallSource address → All IsSmallSource word
     → forms.block (decimal (length address) ∷ decimal (length word) ∷ source_word we ∷ map source_word address ++ map source_word word, false)

@@ -3,7 +3,7 @@ use Rattle.std.proofs.Common.{◌≡◌, ◌⊎◌, ◌∙◌, inl, inr, ℕ, su
 use Rattle.std.specs.Option.{option_map}
 use Rattle.std.specs.List.{fold, list_all}
 use Rattle.std.specs.Char.{is_ascii_digit}
-use Rattle.std.proofs.lemmas.Bool.{cases_eq, eqb-true, ltb-true, ltb-false, lt-ltb}
+use Rattle.std.proofs.lemmas.Bool.{cases_eq, eqb-true, ltb-true, ltb-false, lt-ltb, and_parts}
 use Rattle.std.proofs.lemmas.Slice.Eq.{bytes_eq-Decides}
 use Rattle.std.proofs.lemmas.Str.Parse.{IsNumeralModel, numerals_by_fold}
 use Rattle.std.proofs.lemmas.Fmt.{digits_decimal, digits_value-decimal, decimal-digits_value, first_decimal, decimal_digit}
@@ -81,17 +81,13 @@ pub if_or : {X : Type 0} (b : Bool) (o others : Option X) (x : X) → (if b then
 if_or true o others x e = inl (refl, e)
 if_or false o others x e = inr e
 
-pub both_true : (a b : Bool) → (a && b) ≡ true → (a ≡ true) × (b ≡ true)
-both_true true b e = (refl, e)
-both_true false b e = cc
-
 -- a plain number is its decimal
 plain_decimal : (token : List ℕ) (n : ℕ) → n < 2 ^ 64 → plain_number token ≡ Some n → token ≡ decimal n
 unfolding plain_number number_of
 plain_decimal token n low is =
     let plain = if_not (nat_lt 1 (length token) && get_or token 0 0 == 48) _ n is in
     let digits = if_some (nat_lt 0 (length token) && list_all is_ascii_digit token) (digits_value token) n plain.1 in
-    let tests = both_true _ _ digits.0 in
+    let tests = and_parts _ _ digits.0 in
     let some = ltb-true 0 (length token) tests.0 in
     let same = decimal-digits_value own token tests.1 some (lead (length token) (get_or token 0 0) plain.0 some) (rw digits.1 low) in
     sym (rw digits.1 at same)
@@ -281,7 +277,7 @@ hex_spells = record { again = again; found = found }
     found : (token : List ℕ) (x : ℕ) → hex_token token ≡ Some (x, false) → (token ≡ hex_digits 16 x) × (x < 2 ^ 64)
     found token x e =
         let read = if_some (length token == 16 && list_all is_hex token) (hex_value token, false) (x, false) e in
-        let tests = both_true _ _ read.0 in
+        let tests = and_parts _ _ read.0 in
         let long = eqb-true (length token) 16 tests.0 in
         let value : hex_value token ≡ x = ap (λ (p : ℕ × Bool). p.0) read.1 in
         rw (← value) (sym (hex.sixteen_spelled token long tests.1), hex.sixteen token long tests.1)

@@ -11,6 +11,7 @@ use Rattle.image_defs.specs.declared.image.Task.TheVariants.{Eval, Hold}
 use Rattle.image_lines.specs.declared.line.Line.TheVariants as line
 use Rattle.net_defs.specs.declared.timing.Init.{Init}
 use Rattle.image_lines.specs.Words.{hex_digit, hex_digits, source_word, init_word, spaced, line_text, line_bytes, line_words}
+use Rattle.image_lines.proofs.HexLemmas.{digits_suc}
 
 -- the tokens behind the first, each with its space
 joined : (first : List ℕ) (words : List (List ℕ)) → join_with_byte 32 (first ∷ words) ≡ first ++ flat_map spaced words
@@ -96,14 +97,6 @@ hold_text old slot from item =
     line_by old (codes "hold") (codes "\n") (decimal slot ∷ source_word from ∷ decimal item ∷ [])
 
 -- ---- the digits of a word, from the last on
-
-digits_suc : (k n : ℕ) → hex_digits (suc k) n ≡ hex_digits k (n / 16) ++ hex_digit (n % 16) ∷ []
-unfolding hex_digits
-digits_suc k n = refl
-
-pub digits_none : (n : ℕ) → hex_digits 0 n ≡ []
-unfolding hex_digits
-digits_none n = refl
 
 -- one more digit is written in front of those that are
 pub one_more : (word : List ℕ) (ds : List ℕ) (rest k : ℕ) → k < 16 → length ds ≡ 16

@@ -59,7 +59,7 @@ fn push_hex(text: &mut Text, word: u64) -> Result<(), Memory>
 }
 
 /// The sixteen digits of a word.
-#[tactic(auto, using(crate::proofs::WritingLemmas::one_more, crate::proofs::WritingLemmas::digits_none))]
+#[tactic(auto, using(crate::proofs::WritingLemmas::one_more, crate::proofs::HexLemmas::digits_zero))]
 fn hex_word(word: u64) -> [u8; 16]
     ensures { result ≡ hex_digits 16 word }
 {

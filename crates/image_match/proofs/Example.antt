@@ -1,6 +1,7 @@
 -- A small image matches the items of a netlist with an input, a gate of it, a register of the gate, and
 -- a memory whose write enable, address bit and data bit are all the input.
 use Rattle.std.proofs.Common.{◌≡◌, ℕ, zero, suc, true, false, List, [], ◌∷◌, length, slice_get, Some, subst, refl, arith}
+use Rattle.list_laws.proofs.Options.{one_some}
 use Rattle.logic_four.specs.declared.V4.TheVariants.{Zero}
 use Rattle.net_defs.specs.declared.timing.Timing.{Timing}
 use Rattle.net_defs.specs.declared.timing.Init.TheVariants as init
@@ -117,21 +118,18 @@ module _ (table : Table) where
     ports = refl;
     as_many = as_many;
     items = each;
-    printed = λ host is. subst (PrintsItems (image table) claims nodes.printed) (port_is host_port host is) prints;
+    printed = λ host is. subst (PrintsItems (image table) claims nodes.printed) (one_some host_port host is) prints;
   } where
-    port_is : (one other : PortImage) → Some one ≡ Some other → one ≡ other
-    port_is one other e = cc
-
     as_many : (p : ℕ) (port : PortImage) → IsPort (image table) p port → length (claims_of claims p) ≡ length (item_slots port.work)
-    as_many zero port is = subst (λ q. 2 ≡ length (item_slots q.work)) (port_is (logic_port table) port is) refl
-    as_many (suc zero) port is = subst (λ q. 1 ≡ length (item_slots q.work)) (port_is array_port port is) refl
-    as_many (suc (suc zero)) port is = subst (λ q. 1 ≡ length (item_slots q.work)) (port_is host_port port is) refl
+    as_many zero port is = subst (λ q. 2 ≡ length (item_slots q.work)) (one_some (logic_port table) port is) refl
+    as_many (suc zero) port is = subst (λ q. 1 ≡ length (item_slots q.work)) (one_some array_port port is) refl
+    as_many (suc (suc zero)) port is = subst (λ q. 1 ≡ length (item_slots q.work)) (one_some host_port port is) refl
     as_many (suc (suc (suc p))) port is = cc
 
     claimed : (p i x y : ℕ) (one other : PortImage) → Some one ≡ Some other → Some x ≡ Some y → ImplementsClaim (image table) claims nodes p i x one → ImplementsClaim (image table) claims nodes p i y other
     claimed p i x y one other is claim as_item =
         let at : x ≡ y = cc in
-        subst (ImplementsClaim (image table) claims nodes p i y) (port_is one other is) (subst (λ z. ImplementsClaim (image table) claims nodes p i z one) at as_item)
+        subst (ImplementsClaim (image table) claims nodes p i y) (one_some one other is) (subst (λ z. ImplementsClaim (image table) claims nodes p i z one) at as_item)
 
     each : (p i x : ℕ) (port : PortImage) → IsPort (image table) p port → IsClaim claims p i x → ImplementsClaim (image table) claims nodes p i x port
     each zero zero x port is claim = claimed 0 0 2 x (logic_port table) port is claim node_as

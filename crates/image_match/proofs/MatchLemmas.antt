@@ -1,14 +1,13 @@
 -- An image that matches items has at each place the value of the item that the place claims: by the
 -- turn, and in a turn by the slot.
-use Rattle.std.proofs.Common.{◌≡◌, ℕ, zero, suc, ◌+◌, ◌*◌, ◌<◌, if◌then◌else◌, true, false, List, [], ◌∷◌, length, map, slice_get, Some, sym, ap, ◌∙◌, subst, refl, arith, inl, inr, replicate}
+use Rattle.std.proofs.Common.{◌≡◌, ℕ, zero, suc, ◌+◌, ◌*◌, ◌<◌, if◌then◌else◌, true, false, List, [], ◌∷◌, length, map, slice_get, Some, sym, ap, ◌∙◌, subst, refl, arith}
 use Rattle.std.specs.Option.{option_map}
-use Rattle.std.proofs.lemmas.Bool.{cases_lt}
-use Rattle.std.proofs.lemmas.List.{get_or-replicate, get_or_past, length-replicate}
 use Rattle.std.proofs.lemmas.Option.{slice_get_within, slice_get-map}
+use Rattle.list_laws.proofs.Members.{member_at, map_at}
+use Rattle.list_laws.proofs.Options.{one_some}
 use Rattle.logic_four.specs.declared.V4.{V4}
-use Rattle.logic_four.specs.declared.V4.TheVariants.{Undef}
 use Rattle.logic_four.specs.Values.{settled, value_at}
-use Rattle.logic_four.proofs.CodeLemmas.{code_of_small}
+use Rattle.logic_four.proofs.CodeLemmas.{code_of_small, undefined_at}
 use Rattle.net_defs.specs.declared.timing.Timing.{Timing}
 use Rattle.net_defs.specs.declared.stimulus.Stimulus.{Stimulus}
 use Rattle.net_defs.specs.Time.{is_edge}
@@ -25,7 +24,6 @@ use Rattle.node_defs.specs.declared.items.NodeBlock.{NodeBlock}
 use Rattle.node_defs.specs.declared.items.NodeNet.{NodeNet}
 use Rattle.node_defs.specs.Values as items
 use Rattle.node_defs.specs.Values.{feed_value, IsItemStep, AreItemValues, first_items}
-use Rattle.node_defs.proofs.MemberLemmas.{member_at, map_at, some_only}
 use Rattle.image_defs.specs.declared.image.Source.{Source}
 use Rattle.image_defs.specs.declared.image.Source.TheVariants.{Own, Got, Const}
 use Rattle.image_defs.specs.declared.image.Task.{Task}
@@ -65,14 +63,7 @@ maps_same f g (x ∷ xs) (y ∷ ys) long each =
 
 -- what stands at a place of a mapped list is made of what stands there
 made_of : {X Y : Type 0} (f : X → Y) (xs : List X) (i : ℕ) (x : X) (y : Y) → slice_get xs i ≡ Some x → slice_get (map f xs) i ≡ Some y → f x ≡ y
-made_of f xs i x y here made = some_only (f x) y (sym (slice_get-map f xs i ∙ ap (option_map f) here) ∙ made)
-
--- of undefined values each is undefined
-undefined_at : (n x : ℕ) → value_at (replicate n Undef) x ≡ Undef
-undefined_at n x = elim (cases_lt x n) as (λ _. value_at (replicate n Undef) x ≡ Undef) [
-  | inl within ↦ get_or-replicate n x Undef Undef within
-  | inr past ↦ get_or_past (replicate n Undef) x Undef (omega (arith, past, length-replicate n Undef))
-]
+made_of f xs i x y here made = one_some (f x) y (sym (slice_get-map f xs i ∙ ap (option_map f) here) ∙ made)
 
 module _ (image : Image) (claims : List (List ℕ)) where
   -- each place has the value of the item that it claims
@@ -233,7 +224,7 @@ module _ (image : Image) (claims : List (List ℕ)) where
         first_at : SameAt 0
         first_at state at = (same, same_words) where
           first_is : state ≡ first_items nodes timing
-          first_is = some_only state (first_items nodes timing) (sym at ∙ are.first)
+          first_is = one_some state (first_items nodes timing) (sym at ∙ are.first)
 
           same : Same (frame image stimulus 0).value state
           same p slot x claim =

@@ -1,47 +1,39 @@
 -- The formula for two operands answers as the gates do.
-use Rattle.std.proofs.Common.{◌≡◌, ◌∙◌, ℕ, ◌+◌, ◌-◌, ◌%◌, ◌<◌, bit_and, bit_or, Bool, true, false, ◌&&◌, eqb, eqb-true, if◌then◌else◌, [], ◌∷◌, refl, sym, ap, subst}
+use Rattle.std.proofs.Common.{◌≡◌, ℕ, ◌+◌, ◌-◌, ◌%◌, ◌<◌, bit_and, bit_or, Bool, true, false, ◌&&◌, if◌then◌else◌, [], ◌∷◌, refl, sym, subst}
 use Rattle.std.specs.Prelude.{min, max}
 use Rattle.std.specs.Int.{bit_at}
 use Rattle.std.specs.Int.RustNames.{bit_xor}
+use Rattle.std.proofs.lemmas.Bool.{and_parts}
 use Rattle.logic_four.specs.declared.V4.{V4}
 use Rattle.logic_four.specs.declared.V4.TheVariants.{Zero, One, Undef, HighZ}
 use Rattle.logic_four.specs.declared.Kind.{Kind}
 use Rattle.logic_four.specs.declared.Kind.TheVariants.{And, Nand, Or, Nor, Xor, Xnor, Not, Buf, Tri, Bus}
-use Rattle.logic_four.specs.Values.{settled, inverse, code_of, value_of}
+use Rattle.logic_four.specs.Values.{settled, inverse}
 use Rattle.logic_four.specs.Gates.{gate_value, and_value, xor_value}
-use Rattle.logic_four.proofs.CodeLemmas.{value_of-code_of}
 use Rattle.lane_planes.specs.declared.planes.Planes.{Planes}
 use Rattle.lane_planes.specs.Lanes.{lane_of}
 use Rattle.lane_planes.specs.Joins.{first_of, join_of, answer_of}
 use Rattle.lane_planes.proofs.WordLemmas.{Word, low_word, high_word, both, either, differ, apart, all_ones, no_ones}
-use Rattle.lane_planes.proofs.LaneLemmas.{bits, in_lane, in_lanes}
+use Rattle.lane_planes.proofs.LaneLemmas.{bits, in_lane, in_lanes, same, same_true}
 use Rattle.lane_planes.specs.Formula.{turned, paired, pair_value, pair_form}
 
 -- a test of all sixteen pairs of values
-abbrev same : V4 → V4 → Bool
-same v w = eqb (code_of v) (code_of w)
-
 abbrev for_each : (V4 → Bool) → Bool
 for_each test = test Zero && (test One && (test Undef && test HighZ))
 
-same_true : (v w : V4) → same v w ≡ true → v ≡ w
-same_true v w e = sym (value_of-code_of v) ∙ ap value_of (eqb-true (code_of v) (code_of w) e) ∙ value_of-code_of w
-
-and_first : (a b : Bool) → (a && b) ≡ true → a ≡ true
-and_first true b e = refl
-and_first false b e = e
-
-and_second : (a b : Bool) → (a && b) ≡ true → b ≡ true
-and_second true b e = e
-and_second false b e = cc
-
 at_value : (test : V4 → Bool) (v : V4) → for_each test ≡ true → test v ≡ true
-at_value test Zero e = and_first (test Zero) (test One && (test Undef && test HighZ)) e
-at_value test One e = and_first (test One) (test Undef && test HighZ) (and_second (test Zero) (test One && (test Undef && test HighZ)) e)
-at_value test Undef e =
-    and_first (test Undef) (test HighZ) (and_second (test One) (test Undef && test HighZ) (and_second (test Zero) (test One && (test Undef && test HighZ)) e))
-at_value test HighZ e =
-    and_second (test Undef) (test HighZ) (and_second (test One) (test Undef && test HighZ) (and_second (test Zero) (test One && (test Undef && test HighZ)) e))
+at_value test v e = by_value v where
+  one : (test One && (test Undef && test HighZ)) ≡ true
+  one = (and_parts (test Zero) (test One && (test Undef && test HighZ)) e).1
+
+  last : (test Undef && test HighZ) ≡ true
+  last = (and_parts (test One) (test Undef && test HighZ) one).1
+
+  by_value : (v : V4) → test v ≡ true
+  by_value Zero = (and_parts (test Zero) (test One && (test Undef && test HighZ)) e).0
+  by_value One = (and_parts (test One) (test Undef && test HighZ) one).0
+  by_value Undef = (and_parts (test Undef) (test HighZ) last).0
+  by_value HighZ = (and_parts (test Undef) (test HighZ) last).1
 
 two_same : (f g : V4 → V4 → V4) → for_each (λ v. for_each (λ w. same (f v w) (g v w))) ≡ true → (v w : V4) → f v w ≡ g v w
 two_same f g test v w =

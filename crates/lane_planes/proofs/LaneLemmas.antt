@@ -1,8 +1,9 @@
 -- A claim on the lanes of planes holds where it holds for every choice of their bits.
-use Rattle.std.proofs.Common.{◌≡◌, ◌∙◌, ℕ, zero, suc, ◌+◌, ◌*◌, ◌/◌, ◌%◌, ◌^◌, ◌<◌, bit_and, Bool, true, false, ◌&&◌, eqb, eqb-true, refl, sym, ap, ap₂, subst, arith}
+use Rattle.std.proofs.Common.{◌≡◌, ◌∙◌, ℕ, zero, suc, ◌+◌, ◌*◌, ◌/◌, ◌%◌, ◌^◌, ◌<◌, bit_and, Bool, true, ◌&&◌, eqb, eqb-true, sym, ap, ap₂, subst, arith}
 use Rattle.std.specs.Int.{bit_at}
 use Rattle.std.proofs.lemmas.Nat.Bits.{bit_at-lt, shr_and_one, same_from_bits_below}
 use Rattle.std.proofs.Math.Bridge.{le_prop}
+use Rattle.std.proofs.lemmas.Bool.{and_parts}
 use Rattle.logic_four.specs.declared.V4.{V4}
 use Rattle.logic_four.specs.Values.{value_of, code_of}
 use Rattle.logic_four.proofs.CodeLemmas.{value_of-code_of}
@@ -40,24 +41,19 @@ lane_read p k =
 
 -- ---- a test of each choice of bits
 
-abbrev same : V4 → V4 → Bool
+abbrev pub same : V4 → V4 → Bool
 same v w = eqb (code_of v) (code_of w)
 
-same_true : (v w : V4) → same v w ≡ true → v ≡ w
+-- values that pass the test are the same
+pub same_true : (v w : V4) → same v w ≡ true → v ≡ w
 same_true v w e = sym (value_of-code_of v) ∙ ap value_of (eqb-true (code_of v) (code_of w) e) ∙ value_of-code_of w
 
 abbrev for_both : (ℕ → Bool) → Bool
 for_both test = test 0 && test 1
 
 at_bit : (test : ℕ → Bool) (x : ℕ) → x < 2 → for_both test ≡ true → test x ≡ true
-at_bit test zero low e = and_first (test 0) (test 1) e where
-  and_first : (a b : Bool) → (a && b) ≡ true → a ≡ true
-  and_first true b e = refl
-  and_first false b e = e
-at_bit test (suc zero) low e = and_second (test 0) (test 1) e where
-  and_second : (a b : Bool) → (a && b) ≡ true → b ≡ true
-  and_second true b e = e
-  and_second false b e = cc
+at_bit test zero low e = (and_parts (test 0) (test 1) e).0
+at_bit test (suc zero) low e = (and_parts (test 0) (test 1) e).1
 at_bit test (suc (suc x)) low e = absurd (omega (arith, low))
 
 -- of one lane, and of a lane of two planes

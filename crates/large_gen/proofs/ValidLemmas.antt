@@ -1,8 +1,8 @@
 -- The large netlist is valid and has no loop, and its stimulus is valid.
-use Rattle.std.proofs.Common.{◌≡◌, ◌∙◌, ◌⊎◌, inl, inr, ℕ, zero, suc, ◌+◌, ◌-◌, ◌*◌, ◌%◌, ◌^◌, ◌<◌, ◌≤◌, nat_le, Bool, true, false, ◌&&◌, List, [], ◌∷◌, ◌++◌, length, map, min, get_or, decimal, replicate, refl, sym, ap, subst, arith, Option, Some, None, slice_get, IsTrue, mod-lt}
+use Rattle.std.proofs.Common.{◌≡◌, ◌∙◌, ◌⊎◌, inl, inr, ℕ, zero, suc, ◌+◌, ◌-◌, ◌*◌, ◌%◌, ◌^◌, ◌<◌, ◌≤◌, nat_le, true, false, List, [], ◌∷◌, ◌++◌, length, map, min, get_or, decimal, replicate, refl, sym, ap, subst, arith, Option, Some, None, slice_get, IsTrue, mod-lt}
 use Rattle.limits.specs.declared.TheConstants.{MAX_LARGE_CYCLES, MAX_LARGE_GATES}
 use Rattle.std.specs.List.{All, Contains, list_all, flat_map, sum_by, range_with_len}
-use Rattle.std.proofs.lemmas.Bool.{cases_Bool, cases_lt}
+use Rattle.std.proofs.lemmas.Bool.{cases_Bool, cases_lt, and_from}
 use Rattle.std.proofs.lemmas.Fmt.{decimal_by_steps, decimal_injective, length-decimal-le}
 use Rattle.std.proofs.lemmas.List.{get_or_append_left, get_or-append-add, length-append}
 use Rattle.std.proofs.lemmas.List.Concat.{flat_map-cons}
@@ -45,17 +45,14 @@ digit_byte (suc (suc (suc (suc (suc (suc (suc (suc zero)))))))) low = refl
 digit_byte (suc (suc (suc (suc (suc (suc (suc (suc (suc zero))))))))) low = refl
 digit_byte (suc (suc (suc (suc (suc (suc (suc (suc (suc (suc d)))))))))) low = absurd (omega (arith, low))
 
-and_true : (a b : Bool) → a ≡ true → b ≡ true → (a && b) ≡ true
-and_true a b one other = rw one other
-
 decimal_bytes : (n : ℕ) → n < 2 ^ 64 → list_all is_name_byte (decimal n) ≡ true
-decimal_bytes n low = decimal_by_steps (λ n ds. list_all is_name_byte ds ≡ true) (λ d small. and_true _ true (digit_byte d small) refl)
-    (λ m ds big before. list_all-append is_name_byte ds ((48 + m % 10) ∷ []) ∙ and_true _ _ before (and_true _ true (digit_byte (m % 10) (omega arith)) refl)) n low
+decimal_bytes n low = decimal_by_steps (λ n ds. list_all is_name_byte ds ≡ true) (λ d small. and_from _ true (digit_byte d small) refl)
+    (λ m ds big before. list_all-append is_name_byte ds ((48 + m % 10) ∷ []) ∙ and_from _ _ before (and_from _ true (digit_byte (m % 10) (omega arith)) refl)) n low
 
 named : (letter n : ℕ) → is_name_byte letter ≡ true → n ≤ MAX_LARGE_GATES → IsName (letter ∷ decimal n)
 named letter n is low =
     let few = length-decimal-le 5 n (omega arith) (omega (arith, low)) (omega (arith, low)) in
-    record { some = omega arith; short = omega (arith, few); bytes = and_true _ _ is (decimal_bytes n (omega (arith, low))) }
+    record { some = omega arith; short = omega (arith, few); bytes = and_from _ _ is (decimal_bytes n (omega (arith, low))) }
 
 letter_i : is_name_byte 105 ≡ true
 unfolding is_name_byte is_mark is_visible
@@ -76,7 +73,7 @@ same_name letter m n one other same = decimal_injective m n (omega (arith, one))
 abbrev Stands : ℕ → ℕ → Signal → Type 0
 Stands gates s signal = ((s < 8) × (signal ≡ input_signal s)) ⊎ ((j : ℕ) × (s ≡ 8 + j) × (j < gates) × (signal ≡ gate_signal j))
 
-length-large : (gates : ℕ) → length (large_signals gates) ≡ 8 + gates
+pub length-large : (gates : ℕ) → length (large_signals gates) ≡ 8 + gates
 unfolding large_signals
 length-large gates =
     length-append (map input_signal (range_with_len 0 8)) (map gate_signal (range_with_len 0 gates))
@@ -139,7 +136,8 @@ operands_low s j n i d within =
     let low : i < n = subst (λ k. i < k) (length-map-range_with_len (λ k. draw s (k + 1) % (8 + j)) 0 n) within in
     rw (get_or-map-range_with_len (λ k. draw s (k + 1) % (8 + j)) 0 n i i d low (omega arith)) (mod-lt (draw s (i + 1)) {m = 8 + j} (omega arith))
 
-not_input : (k : Option Kind) (ops : List ℕ) → is_input (driver_by k ops) ≡ false
+-- what is drawn drives no input
+pub not_input : (k : Option Kind) (ops : List ℕ) → is_input (driver_by k ops) ≡ false
 not_input (Some kind) ops = refl
 not_input None ops = refl
 
@@ -230,10 +228,8 @@ module _ (gates : ℕ) (few : gates ≤ MAX_LARGE_GATES) where
       | inl first ↦ rw first.1 refl
       | inr first ↦ (let place = first.1 in let up = second.0 in absurd (omega (arith, place, up, before)))
     ]
-    | inr second ↦ (let no : is_input other.driver ≡ false = ap (λ (z : Signal). is_input z.driver) second.3 ∙ gate_not_input (gate_state second.0) second.0 in absurd (differ no input))
-  ] where
-    differ : {b : Bool} → b ≡ false → b ≡ true → ⊥
-    differ first second = cc
+    | inr second ↦ (let no : is_input other.driver ≡ false = ap (λ (z : Signal). is_input z.driver) second.3 ∙ gate_not_input (gate_state second.0) second.0 in cc (no, input))
+  ]
 
   large_drivable : (s : ℕ) (signal : Signal) → slice_get (large_signals gates) s ≡ Some signal → IsDrivable (large_netlist gates) s signal.driver
   large_drivable s signal is = elim (signal_at gates s signal is) [

@@ -1,17 +1,16 @@
 -- The cells of a run: how many there are, and that they are those of the reference simulation.
-use Rattle.std.proofs.Common.{◌≡◌, ◌∙◌, ℕ, zero, suc, ◌+◌, ◌*◌, ◌<◌, ◌≤◌, Bool, List, [], ◌∷◌, ◌++◌, length, take, drop, get_or, cond, refl, sym, ap, arith}
+use Rattle.std.proofs.Common.{◌≡◌, ◌∙◌, ℕ, suc, ◌+◌, ◌*◌, ◌<◌, ◌≤◌, Bool, List, [], ◌∷◌, ◌++◌, length, take, drop, get_or, cond, refl, sym, ap, arith}
 use Rattle.std.specs.Prelude.{Some, slice_get}
 use Rattle.std.specs.List.{count_by, flat_map, range_with_len}
-use Rattle.std.proofs.lemmas.List.{length-append, length-map}
+use Rattle.std.proofs.lemmas.List.{length-append, length-map, ext_get_or}
 use Rattle.std.proofs.lemmas.List.Sums.{sum_by-cons}
 use Rattle.std.proofs.lemmas.Option.{slice_get_within}
 use Rattle.image_defs.specs.declared.image.Image.{Image}
 use Rattle.large_gen.specs.Summaries.{counts_of, is_zero, is_one, is_undefined, is_high_impedance}
 use Rattle.large_gen.proofs.SummaryLemmas.{total}
-use Rattle.list_laws.proofs.Maps.{flat_map_at, flat_map_grown}
+use Rattle.list_laws.proofs.Maps.{flat_map_at}
 use Rattle.logic_four.specs.declared.V4.{V4}
 use Rattle.logic_four.specs.declared.V4.TheVariants.{Zero, One, Undef, HighZ}
-use Rattle.logic_four.specs.Values.{value_at}
 use Rattle.machine_run.specs.Shown.{AreShown}
 use Rattle.net_defs.specs.declared.netlist.Netlist.{Netlist}
 use Rattle.net_defs.specs.declared.stimulus.Stimulus.{Stimulus}
@@ -55,19 +54,7 @@ cells_few (row ∷ rows) each =
     let all = length-append row.cells (cells_in rows) in
     omega (arith, rest, here, all)
 
--- the counts of the rows so far and of one row more
-pub counts_more : (rows : List CellRow) (i : ℕ) (row : CellRow) → row ≡ get_or rows i row → i < length rows → counts_of (cells_in (take i rows) ++ row.cells) ≡ counts_of (cells_in (take (i + 1) rows))
-counts_more rows i row is within = ap counts_of (sym (flat_map_grown (λ (r : CellRow). r.cells) rows i row is within))
-
 -- ---- which they are
-
-same_values : (xs ys : List V4) → length xs ≡ length ys → ((j : ℕ) → j < length xs → value_at xs j ≡ value_at ys j) → xs ≡ ys
-same_values [] [] long same = refl
-same_values [] (y ∷ ys) long same = absurd (omega (arith, long))
-same_values (x ∷ xs) [] long same = absurd (omega (arith, long))
-same_values (x ∷ xs) (y ∷ ys) long same =
-    let first : x ≡ y = same zero (omega arith) in
-    ap (λ v. v ∷ xs) first ∙ ap (λ vs. y ∷ vs) (same_values xs ys (omega (arith, long)) (λ j low. same (suc j) (omega (arith, low))))
 
 -- rows one by one
 cells_from : (f : ℕ → List V4) (rows : List CellRow) (a : ℕ) → ((c : ℕ) (row : CellRow) → slice_get rows c ≡ Some row → row.cells ≡ f (a + c)) → cells_in rows ≡ flat_map f (range_with_len a (length rows))
@@ -87,6 +74,6 @@ cells_shown net timing stimulus image rows shows printed are =
       each c row at =
           let low = slice_get_within rows c row at in
           let wide = are.width c row at ∙ printed in
-          same_values row.cells (cells_of net timing shows.states (c + 1)) (wide ∙ sym (length-map net.printed _)) (λ j inside.
+          ext_get_or Undef row.cells (cells_of net timing shows.states (c + 1)) (wide ∙ sym (length-map net.printed _)) (λ j inside.
           are.cells c j row at (omega (arith, inside, are.width c row at))
           ∙ shows.cells (c + 1) j (omega (arith, low, are.cycles_are)) (omega (arith, inside, wide)))

@@ -1,18 +1,19 @@
 -- What the run of a large design rests on.
-use Rattle.std.proofs.Common.{◌≡◌, ◌∙◌, ℕ, ◌+◌, ◌-◌, ◌^◌, ◌<◌, ◌≤◌, false, List, length, map, min, cond, refl, sym, ap, subst, arith}
+use Rattle.std.proofs.Common.{◌≡◌, ◌∙◌, ℕ, ◌+◌, ◌-◌, ◌^◌, ◌<◌, ◌≤◌, List, length, map, cond, sym, ap, subst, arith, min}
 use Rattle.limits.specs.declared.TheConstants.{MAX_LARGE_CYCLES}
-use Rattle.std.specs.Prelude.{Option, Some, None, slice_get}
+use Rattle.std.specs.Prelude.{Some, slice_get}
 use Rattle.std.specs.List.{range_with_len}
-use Rattle.std.proofs.lemmas.List.FromFn.{length-map-range_with_len}
 use Rattle.std.proofs.lemmas.List.Sums.{sum_by-append}
+use Rattle.std.proofs.lemmas.List.FromFn.{length-map-range_with_len}
 use Rattle.image_defs.specs.declared.image.PortImage.{PortImage}
 use Rattle.image_defs.specs.Places.{host_of}
 use Rattle.large_gen.specs.declared.summary.Summary.{Summary}
 use Rattle.large_gen.specs.Draws.{draw}
 use Rattle.large_gen.specs.Summaries.{counts_of, summary_text}
-use Rattle.large_gen.specs.Large.{driver_by, gate_driver, gate_signal, gate_state, head_count, input_signal, kind_at, kind_number, large_netlist, large_printed, large_signals, operands, operand_count}
+use Rattle.large_gen.specs.Large.{gate_driver, gate_signal, gate_state, head_count, input_signal, kind_at, kind_number, large_netlist, large_signals, operands, operand_count, large_printed}
+use Rattle.large_gen.proofs.ValidLemmas.{not_input}
 use Rattle.list_laws.proofs.Maps.{sum_none_of}
-use Rattle.logic_four.specs.declared.Kind.{Kind}
+use Rattle.list_laws.proofs.Members.{member_at}
 use Rattle.logic_four.specs.declared.V4.{V4}
 use Rattle.machine_run.specs.Shown.{AreShown}
 use Rattle.net_defs.specs.declared.netlist.Netlist.{Netlist}
@@ -23,7 +24,6 @@ use Rattle.net_defs.specs.Reference.{IsSimulation}
 use Rattle.net_defs.specs.Time.{cycle_count}
 use Rattle.net_defs.specs.Valid.{input_count, is_input}
 use Rattle.node_defs.specs.WellFormed.{column_count}
-use Rattle.node_defs.proofs.MemberLemmas.{member_at}
 use Rattle.port_host.specs.Rows.{printed_sources}
 use Rattle.yse_compile.specs.declared.compiler.Compiled.{Compiled}
 use Rattle.yse_compile.specs.Compiled.{IsCompiled, ShowsReference}
@@ -36,10 +36,6 @@ use Rattle.large_run.specs.Setting.{large_machine, large_timing}
 
 -- ---- the netlist
 
-gate_by : (k : Option Kind) (ops : List ℕ) → is_input (driver_by k ops) ≡ false
-gate_by (Some kind) ops = refl
-gate_by None ops = refl
-
 is_one : Signal → ℕ
 is_one signal = cond (is_input signal.driver) 1 0
 
@@ -47,7 +43,7 @@ drawn_no_input : (j : ℕ) → is_one (gate_signal j) ≡ 0
 unfolding is_one gate_driver
 drawn_no_input j =
     ap (λ b. cond b 1 0)
-    (gate_by (kind_at (kind_number (gate_state j))) (operands (draw_from (gate_state j)) j (operand_count (gate_state j)))) where
+    (not_input (kind_at (kind_number (gate_state j))) (operands (draw_from (gate_state j)) j (operand_count (gate_state j)))) where
       draw_from : ℕ → ℕ
       draw_from x = draw x (head_count x)
 
@@ -66,10 +62,6 @@ printed_few gates = let long = length-map-range_with_len (λ j. 8 + j) (gates - 
 -- ---- the image
 
 module _ (net : Netlist) (compiled : Compiled) (is : IsCompiled net large_machine large_timing compiled) where
-  -- the sixteen logic ports and the host
-  pub ports_large : length compiled.image.ports ≡ 17
-  ports_large = omega (arith, is.built.matches.ports, is.built.planned.ports, is.picked.logic, is.picked.array)
-
   pub printed_large : length (printed_sources compiled.image) ≡ length net.printed
   printed_large = rw host.1 ((is.built.matches.printed host.0 host.1).as_many ∙ is.items.printed.each) where
     host : (port : PortImage) × (slice_get compiled.image.ports (host_of compiled.image) ≡ Some port)

@@ -8,14 +8,11 @@ use Rattle.node_defs.specs.declared.items.NodeNet.{NodeNet}
 use Rattle.node_defs.specs.Same.{AreSameItems}
 use Rattle.node_defs.specs.WellFormed.{IsWellFormed}
 use Rattle.plan_defs.specs.declared.plan.Homes.{Homes}
-use Rattle.plan_defs.specs.Homes.{AreHomes, ports_of}
-use Rattle.plan_defs.specs.Readers.{IsReader, IsReaderList}
-use Rattle.plan_defs.proofs.ListLemmas.{listed_all}
-use Rattle.plan_defs.proofs.PortLemmas.{reader_port}
+use Rattle.plan_defs.specs.Homes.{AreHomes}
+use Rattle.plan_defs.specs.Readers.{IsReaderList}
 use Rattle.plan_text.specs.Counted.{AreCrossings}
-use Rattle.yse_compile.proofs.KnownLemmas.{listed_to}
-use Rattle.yse_compile.proofs.KnownUses.{reader_known}
 use Rattle.yse_compile.proofs.SamePlans.{reader_kept}
+use Rattle.yse_compile.proofs.SwitchExists.{readers_there}
 
 -- the same items have as many crossings
 pub crossings_kept : (one other : NodeNet) (homes : Homes) (count : ℕ) → AreSameItems one other → AreSameItems other one → AreCrossings one homes count → AreCrossings other homes count
@@ -36,13 +33,9 @@ crossings_kept one other homes count there back crossed = record {
 -- items at their homes have a number of crossings
 pub crossings_there : (nodes : NodeNet) (homes : Homes) → IsWellFormed nodes → AreHomes nodes homes → (count : ℕ) × AreCrossings nodes homes count
 crossings_there nodes homes formed are = (
-  sum_by (λ i. length (listed i).0) (range_with_len 0 (length nodes.items)),
-  record { readers = λ i. (listed i).0; are = λ i low. (listed i).1; is = refl },
-) where
-  listed : (i : ℕ) → (ports : List ℕ) × IsReaderList nodes homes i ports
-  listed i =
-      let found = listed_to (IsReader nodes homes i) (reader_known nodes homes i) (ports_of homes) in
-      (found.0, listed_all (IsReader nodes homes i) (ports_of homes) found.0 found.1 (λ port reads. (reader_port nodes homes i port formed are reads).1))
+  sum_by (λ i. length (readers_there nodes homes formed are i).0) (range_with_len 0 (length nodes.items)),
+  record { readers = λ i. (readers_there nodes homes formed are i).0; are = λ i low. (readers_there nodes homes formed are i).1; is = refl },
+)
 
 abbrev pub summary_with : ℕ → ℕ → ℕ → ℕ → List V4 → Summary
 summary_with gates nodes slots crossings cells = record { gates = gates; nodes = nodes; slots = slots; crossings = crossings; cells = counts_of cells }

@@ -1,9 +1,8 @@
 -- The machine of large netlists is a machine, and their timing a timing.
 use Rattle.std.proofs.Common.{◌≡◌, refl, arith}
 use Rattle.machine_text.specs.Machines.{IsValid}
-use Rattle.net_defs.specs.Valid.{IsValidTiming}
 use Rattle.plan_defs.specs.Picks.{node_room}
-use Rattle.large_run.specs.Setting.{large_machine, large_timing}
+use Rattle.large_run.specs.Setting.{large_machine}
 
 pub machine_valid : IsValid large_machine
 machine_valid = record {
@@ -26,6 +25,3 @@ machine_valid = record {
 -- the nodes that its logic ports hold together
 pub large_room : node_room large_machine ≡ 67108864
 large_room = refl
-
-pub timing_valid : IsValidTiming large_timing
-timing_valid = record { some = omega arith; few = omega arith; rank = λ is. refl; ascends = λ i j before within. absurd (omega arith) }

@@ -1,36 +1,35 @@
 -- The nodes of a netlist use no more tables than there are of one to four operands.
-use Rattle.std.proofs.Common.{◌≡◌, ◌≢◌, ◌∙◌, ◌⊎◌, inl, inr, ℕ, zero, suc, ◌+◌, ◌-◌, ◌/◌, ◌%◌, ◌<◌, ◌≤◌, Bool, List, [], ◌∷◌, length, get_or, refl, sym, ap, subst, arith}
+use Rattle.std.proofs.Common.{◌≡◌, ◌≢◌, ◌∙◌, ◌⊎◌, inl, inr, ℕ, zero, suc, ◌+◌, ◌-◌, ◌<◌, ◌≤◌, Bool, List, [], ◌∷◌, length, get_or, refl, sym, ap, subst, arith}
 use Rattle.std.specs.Prelude.{Option, Some, None, slice_get}
 use Rattle.std.proofs.lemmas.Bool.{cases_lt, le-ltb, lt-ltb, eqb-true}
 use Rattle.std.proofs.lemmas.List.Elements.{Contains-get_or}
 use Rattle.std.proofs.lemmas.List.Kept.{AllPairs-from_increasing}
 use Rattle.std.proofs.lemmas.Option.{slice_get_within, get_or_from_slice_get}
+use Rattle.list_laws.proofs.Options.{one_some}
 use Rattle.logic_four.specs.declared.Kind.{Kind}
 use Rattle.logic_four.specs.declared.Kind.TheVariants.{And, Nand, Or, Nor, Xor, Xnor, Not, Buf, Tri, Bus}
 use Rattle.logic_four.specs.Folds.{base_kind}
 use Rattle.logic_four.specs.Kinds.{AllowsOperands}
-use Rattle.logic_four.specs.Values.{code_of, value_of}
 use Rattle.logic_four.proofs.KindLemmas.{some_operands}
-use Rattle.logic_four.specs.declared.V4.{V4}
 use Rattle.func_table.specs.declared.table.Table.{Table}
-use Rattle.func_table.specs.Entries.{AreAlike, IsTableOf, entry_of, entry_for, place_of}
+use Rattle.func_table.specs.Entries.{AreAlike, IsTableOf}
+pub use Rattle.func_table.proofs.EntryLemmas.{same_entries}
 use Rattle.net_defs.specs.declared.netlist.Driver.{Driver}
 use Rattle.net_defs.specs.declared.netlist.Driver.TheVariants as driver
 use Rattle.net_defs.specs.declared.netlist.Netlist.{Netlist}
-use Rattle.net_defs.specs.declared.netlist.Signal.{Signal}
 use Rattle.net_defs.specs.declared.timing.Timing.{Timing}
 use Rattle.net_defs.specs.Steps.{is_late}
 use Rattle.net_defs.specs.Valid.{IsDrivable, IsValid}
 use Rattle.node_defs.specs.declared.groups.Group.{Group}
 use Rattle.node_defs.specs.declared.items.Feeds.{Feeds}
-use Rattle.node_defs.specs.declared.items.Item.TheVariants.{Input, BlockBit, Node, Latch}
+use Rattle.node_defs.specs.declared.items.Item.TheVariants.{Input, BlockBit, Node}
 use Rattle.node_defs.specs.declared.items.ItemName.{ItemName}
 use Rattle.node_defs.specs.declared.items.NodeNet.{NodeNet}
 use Rattle.node_defs.specs.Groups.{groups, group_at, helper_count}
-use Rattle.node_defs.specs.Items.{IsItem, IsItemOf, IsNode}
+use Rattle.node_defs.specs.Items.{IsItemOf, IsNode}
 use Rattle.node_defs.specs.Order.{AreItems}
 use Rattle.node_defs.proofs.EarlierLemmas.{table_there}
-use Rattle.node_defs.proofs.MemberLemmas.{member_at, some_only}
+use Rattle.node_defs.proofs.NameLemmas.{name_at, named_item}
 use Rattle.node_map.specs.Nodes.{node_kind}
 use Rattle.node_map.proofs.MadeNodeLemmas.{kind_allowed}
 use Rattle.node_map.proofs.ShapeLemmas.{group_few, some_groups}
@@ -84,26 +83,7 @@ stands_at Buf n allowed few = subst (StandsAt Buf) (sym (eqb-true n 1 allowed)) 
 stands_at Tri n allowed few = subst (StandsAt Tri) (sym (eqb-true n 2 allowed)) refl
 
 one_shape : (a b : Kind × ℕ) → Some a ≡ Some b → (a.0 ≡ b.0) × (a.1 ≡ b.1)
-one_shape a b same = let is : a ≡ b = some_only a b same in (ap (λ (p : Kind × ℕ). p.0) is, ap (λ (p : Kind × ℕ). p.1) is)
-
-code_of_value : (code : ℕ) → code < 4 → code_of (value_of code) ≡ code
-code_of_value zero low = refl
-code_of_value (suc zero) low = refl
-code_of_value (suc (suc zero)) low = refl
-code_of_value (suc (suc (suc zero))) low = refl
-code_of_value (suc (suc (suc (suc code)))) low = absurd (omega (arith, low))
-
--- tables that answer alike have the same entries
-pub same_entries : (s t : Table) → ((a b c d : V4) → entry_for s a b c d ≡ entry_for t a b c d) → AreAlike s t
-unfolding entry_for
-same_entries s t same e low =
-    let a = value_of (e % 4) in
-    let b = value_of (e / 4 % 4) in
-    let c = value_of (e / 16 % 4) in
-    let d = value_of (e / 64 % 4) in
-    let place : place_of a b c d ≡ e =
-    rw (code_of_value (e % 4) (omega arith)) (rw (code_of_value (e / 4 % 4) (omega arith)) (rw (code_of_value (e / 16 % 4) (omega arith)) (rw (code_of_value (e / 64 % 4) (omega arith)) (omega (arith, low))))) in
-    ap (entry_of s) (sym place) ∙ (same a b c d ∙ ap (entry_of t) place)
+one_shape a b same = let is : a ≡ b = one_some a b same in (ap (λ (p : Kind × ℕ). p.0) is, ap (λ (p : Kind × ℕ). p.1) is)
 
 -- tables of one kind and one number of operands are alike
 alike : (kind : Kind) (n : ℕ) (s t : Table) → IsTableOf kind n s → IsTableOf kind n t → AreAlike s t
@@ -143,15 +123,9 @@ helper_kind kind n h low = rw (lt-ltb h (helper_count n) low) refl
 
 told_by_driver : (net : Netlist) (names : List ItemName) (tables : List Table) (late : Bool) (s : ℕ) (d : Driver) (helper : Option ℕ) (t : ℕ) (feeds : Feeds)
     → IsDrivable net s d → IsItemOf names tables late s d helper (Node t feeds) → Told tables t
-told_by_driver net names tables late s driver.Input helper t feeds drivable item = absurd (clash item.1) where
-  clash : Node t feeds ≡ Input s → ⊥
-  clash same = cc
-told_by_driver net names tables late s (driver.Dff op) helper t feeds drivable item = absurd (clash item.1 item.3) where
-  clash : (x : ℕ) → Node t feeds ≡ Latch x → ⊥
-  clash x same = cc
-told_by_driver net names tables late s (driver.BlockBit block bit) helper t feeds drivable item = absurd (clash item.1) where
-  clash : Node t feeds ≡ BlockBit block bit → ⊥
-  clash same = cc
+told_by_driver net names tables late s driver.Input helper t feeds drivable item = cc item.1
+told_by_driver net names tables late s (driver.Dff op) helper t feeds drivable item = cc item.3
+told_by_driver net names tables late s (driver.BlockBit block bit) helper t feeds drivable item = cc item.1
 told_by_driver net names tables late s (driver.Gate kind ops) None t feeds drivable item =
     let n = length ops in
     let last : helper_count n < length (groups n) = omega (arith, some_groups n) in
@@ -169,18 +143,10 @@ told_by_driver net names tables late s (driver.Gate kind ops) (Some h) t feeds d
 
 module _ (net : Netlist) (timing : Timing) (nodes : NodeNet) (valid : IsValid net) (are : AreItems net timing nodes) where
   told_at : (x t : ℕ) (feeds : Feeds) → slice_get nodes.items x ≡ Some (Node t feeds) → Told nodes.tables t
-  told_at x t feeds at = by_signal (slice_get net.signals name.0.signal) refl where
-    name : (n : ItemName) × (slice_get nodes.names x ≡ Some n)
-    name = member_at nodes.names x (omega (arith, are.named, slice_get_within nodes.items x (Node t feeds) at))
-
-    right : IsItem net timing nodes.names nodes.tables name.0 (Node t feeds)
-    right = are.right x name.0 (Node t feeds) name.1 at
-
-    by_signal : (found : Option Signal) → slice_get net.signals name.0.signal ≡ found → Told nodes.tables t
-    by_signal None is = absurd (rw is at right)
-    by_signal (Some signal) is =
-        told_by_driver net nodes.names nodes.tables (is_late net timing name.0.signal) name.0.signal signal.driver name.0.helper t feeds
-        (valid.drivers name.0.signal signal is) (rw is at right)
+  told_at x t feeds at =
+      let named = named_item net timing nodes are x (Node t feeds) at in
+      told_by_driver net nodes.names nodes.tables (is_late net timing (name_at nodes x).signal) (name_at nodes x).signal named.signal.driver (name_at nodes x).helper t feeds
+      (valid.drivers (name_at nodes x).signal named.signal named.is_signal) named.is
 
   told : (t : ℕ) → t < length nodes.tables → Told nodes.tables t
   told t within = let used : _ = are.tables_used t within in told_at used.0 t used.1 used.2

@@ -3,14 +3,8 @@ use Rattle.list_laws.proofs.Places.{split_at}
 use Rattle.std.proofs.Common.{◌≡◌, ℕ, suc, List, [], ◌∷◌, ◌++◌, append-nil, length, take, get_or, sym, ap, ◌∙◌, refl, arith, map, ◌+◌, ◌<◌, drop}
 use Rattle.std.proofs.lemmas.List.{take_more}
 use Rattle.std.proofs.lemmas.List.Concat.{flat_map-append}
-use Rattle.std.proofs.lemmas.List.Elements.{All-head, All-tail}
 use Rattle.std.proofs.lemmas.List.Sums.{sum_by-cons}
-use Rattle.std.specs.List.{flat_map, enumerate_from, All, sum_by}
-
--- what a map takes to the empty list is empty
-pub nil_of : {X Y : Type 0} (f : X → Y) (xs : List X) → map f xs ≡ [] → xs ≡ []
-nil_of f [] e = refl
-nil_of f (x ∷ xs) e = cc
+use Rattle.std.specs.List.{flat_map, enumerate_from, sum_by}
 
 -- the number of one more item
 pub enumerate_push : {X : Type 0} (n : ℕ) (xs : List X) (y : X) → enumerate_from n (xs ++ y ∷ []) ≡ enumerate_from n xs ++ (n + length xs, y) ∷ []
@@ -18,27 +12,6 @@ enumerate_push n [] y = let e : n ≡ n + 0 = omega arith in ap (λ k. (k, y) �
 enumerate_push n (x ∷ xs) y =
     let e : n + 1 + length xs ≡ n + suc (length xs) = omega arith in
     ap (λ ps. (n, x) ∷ ps) (enumerate_push (n + 1) xs y ∙ ap (λ k. enumerate_from (n + 1) xs ++ (k, y) ∷ []) e)
-
--- a function that gives nothing of any line of a list
-pub flat_none : {X Y A : Type 0} (f : Y → List A) (g : X → Y) (xs : List X) → ((x : X) → f (g x) ≡ []) → flat_map f (map g xs) ≡ []
-flat_none f g [] none = refl
-flat_none f g (x ∷ xs) none = ap (λ ys. ys ++ flat_map f (map g xs)) (none x) ∙ flat_none f g xs none
-
--- a function that gives one thing of each line of a list
-pub flat_one : {X Y A : Type 0} (f : Y → List A) (g : X → Y) (h : X → A) (xs : List X) → ((x : X) → f (g x) ≡ h x ∷ []) → flat_map f (map g xs) ≡ map h xs
-flat_one f g h [] one = refl
-flat_one f g h (x ∷ xs) one = ap (λ ys. ys ++ flat_map f (map g xs)) (one x) ∙ ap (λ ys. h x ∷ ys) (flat_one f g h xs one)
-
--- two functions that agree on each member of a list
-pub flat_same : {Y A : Type 0} (f g : Y → List A) (ys : List Y) → All (λ y. f y ≡ g y) ys → flat_map f ys ≡ flat_map g ys
-flat_same f g [] all = refl
-flat_same f g (y ∷ ys) all =
-    ap (λ xs. xs ++ flat_map f ys) (All-head (λ y. f y ≡ g y) y ys all) ∙ ap (λ xs. g y ++ xs) (flat_same f g ys (All-tail (λ y. f y ≡ g y) y ys all))
-
--- a function that gives nothing of any member of a list
-pub flat_empty : {Y A : Type 0} (f : Y → List A) (ys : List Y) → All (λ y. f y ≡ []) ys → flat_map f ys ≡ []
-flat_empty f [] all = refl
-flat_empty f (y ∷ ys) all = ap (λ xs. xs ++ flat_map f ys) (All-head (λ y. f y ≡ []) y ys all) ∙ flat_empty f ys (All-tail (λ y. f y ≡ []) y ys all)
 
 -- what a list gives before a place, at it and after it
 pub flat_map_split : {X A : Type 0} (f : X → List A) (xs : List X) (i : ℕ) (d : X) → i < length xs → flat_map f xs ≡ flat_map f (take i xs) ++ (f (get_or xs i d) ++ flat_map f (drop (i + 1) xs))
@@ -63,8 +36,3 @@ flat_map_grown f xs i here is within = flat_map_more f xs i here within ∙ ap (
 pub sum_none_of : {X Y : Type 0} (f : Y → ℕ) (g : X → Y) (xs : List X) → ((x : X) → f (g x) ≡ 0) → sum_by f (map g xs) ≡ 0
 sum_none_of f g [] none = refl
 sum_none_of f g (x ∷ xs) none = omega (arith, sum_by-cons f (g x) (map g xs), none x, sum_none_of f g xs none)
-
--- a sum of zeros
-pub sum_none : {X : Type 0} (f : X → ℕ) (xs : List X) → All (λ x. f x ≡ 0) xs → sum_by f xs ≡ 0
-sum_none f [] a = refl
-sum_none f (x ∷ xs) a = omega (arith, sum_by-cons f x xs, All-head (λ x. f x ≡ 0) x xs a, sum_none f xs (All-tail (λ x. f x ≡ 0) x xs a))

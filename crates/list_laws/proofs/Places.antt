@@ -1,9 +1,10 @@
 -- Items by their places: what stands where in lists, and what is left of them.
-use Rattle.std.proofs.Common.{◌≡◌, ℕ, zero, suc, ◌≤◌, List, [], ◌∷◌, ◌++◌, length, take, get_or, slice_get, Some, None, sym, ap, ◌∙◌, subst, refl, arith, ◌+◌, ◌<◌, drop}
-use Rattle.std.proofs.lemmas.List.{drop_more, length-take-le, take-append-drop, get_or-take, get_or_append_left, get_or_push, get_or_default, take_at}
-use Rattle.std.proofs.lemmas.List.Elements.{Contains-get_or}
+use Rattle.std.proofs.Common.{◌≡◌, ℕ, zero, suc, ◌≤◌, List, [], ◌∷◌, ◌++◌, length, take, get_or, slice_get, Some, None, sym, ap, ◌∙◌, subst, refl, arith, ◌+◌, ◌<◌, drop, All, slice_index, inl, inr}
+use Rattle.std.proofs.lemmas.List.{drop_more, length-take-le, take-append-drop, get_or-take, get_or_append_left, get_or_push, get_or_default, take_at, get_or_past}
+use Rattle.std.proofs.lemmas.List.Elements.{Contains-get_or, All-get_or}
 use Rattle.std.proofs.lemmas.Option.{slice_get_within, get_or_from_slice_get}
 use Rattle.std.specs.List.{Contains}
+use Rattle.std.proofs.lemmas.Bool.{cases_lt}
 
 -- the items but the last stay when one is added
 pub read_before : (xs : List ℕ) (y i : ℕ) → i < length xs → get_or (xs ++ y ∷ []) i 0 ≡ get_or xs i 0
@@ -81,8 +82,9 @@ inside_at (w ∷ xs) ys zs k x e = let n : suc (length xs) + k ≡ suc (length x
 pub split_at : {X : Type 0} (xs : List X) (i : ℕ) (d : X) → i < length xs → xs ≡ take i xs ++ get_or xs i d ∷ drop (i + 1) xs
 split_at xs i d within = sym (take-append-drop i xs) ∙ ap (λ rest. take i xs ++ rest) (drop_more xs i d within)
 
--- no more items are taken than asked
-pub take_length : {X : Type 0} (n : ℕ) (xs : List X) → length (take n xs) ≤ n
-take_length zero xs = omega arith
-take_length (suc n) [] = omega arith
-take_length (suc n) (x ∷ xs) = omega (arith, take_length n xs)
+-- where no number is above n none is that is read, within the list or past its end
+pub read_below : (xs : List ℕ) (q n : ℕ) → All (λ x. x ≤ n) xs → slice_index xs q ≤ n
+read_below xs q n small = elim (cases_lt q (length xs)) [
+  | inl within ↦ All-get_or (λ x. x ≤ n) xs q 0 within small
+  | inr past ↦ let none : slice_index xs q ≡ 0 = get_or_past xs q 0 past in omega (arith, none)
+]

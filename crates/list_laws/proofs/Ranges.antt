@@ -1,8 +1,11 @@
 -- Numbers in a row.
-use Rattle.std.proofs.Common.{◌≡◌, ◌⊎◌, ℕ, zero, suc, ◌≤◌, List, get_or, slice_get, Some, sym, ap, ◌∙◌, inl, inr, arith, ◌+◌, ◌<◌, replicate}
+use Rattle.std.proofs.Common.{◌≡◌, ◌⊎◌, ℕ, zero, suc, ◌≤◌, List, get_or, slice_get, Some, sym, ap, ◌∙◌, inl, inr, arith, ◌+◌, ◌<◌, replicate, [], ◌∷◌, ◌++◌, refl, subst}
 use Rattle.std.proofs.lemmas.Bool.{cases_lt}
-use Rattle.std.proofs.lemmas.List.{get_or_past, get_or-replicate, length-replicate}
-use Rattle.std.specs.List.{range_with_len}
+use Rattle.std.proofs.lemmas.List.{get_or_past, get_or-replicate, length-replicate, map-id}
+use Rattle.std.specs.List.{range_with_len, sum_by}
+use Rattle.std.proofs.Math.Numerals.{add-one}
+use Rattle.std.proofs.lemmas.List.FromFn.{map-range_with_len_more}
+use Rattle.std.proofs.lemmas.List.Sums.{sum_by_push}
 
 -- a number up to another is below it, or is it
 pub last_or : (i n : ℕ) → i < n + 1 → (i < n) ⊎ (i ≡ n)
@@ -28,3 +31,31 @@ range_at a (suc n) (suc k) s e = let found = range_at (a + 1) n k s e in (omega 
 pub first_of_range : (a n : ℕ) (xs : List ℕ) → xs ≡ range_with_len a n → 1 ≤ n → a ≡ get_or xs 0 0
 first_of_range a zero xs e some = absurd (omega arith)
 first_of_range a (suc n) xs e some = sym (ap (λ ys. get_or ys 0 0) e)
+
+-- a range of one number more
+pub range_more : (a n : ℕ) → range_with_len a (n + 1) ≡ range_with_len a n ++ (a + n) ∷ []
+range_more a n = simp map-id at (map-range_with_len_more (λ (k : ℕ). k) a n (a + n) refl)
+
+-- the numbers below one more
+pub range_next : (n : ℕ) → range_with_len 0 (n + 1) ≡ range_with_len 0 n ++ n ∷ []
+range_next n = let first : 0 + n ≡ n = omega arith in range_more 0 n ∙ ap (λ k. range_with_len 0 n ++ k ∷ []) first
+
+-- two ranges that follow one another
+pub range_append : (a n m : ℕ) → range_with_len a (n + m) ≡ range_with_len a n ++ range_with_len (a + n) m
+range_append a zero m = let e : zero + m ≡ m = omega arith in let f : a + zero ≡ a = omega arith in rw (e, f) refl
+range_append a (suc n) m =
+    let e : suc n + m ≡ suc (n + m) = omega arith in
+    let f : a + suc n ≡ a + 1 + n = omega arith in
+    rw (e, f) (ap (λ xs. a ∷ xs) (range_append (a + 1) n m))
+
+-- a sum over the numbers below one more
+pub sum_more : (f : ℕ → ℕ) (n : ℕ) → sum_by f (range_with_len 0 (n + 1)) ≡ sum_by f (range_with_len 0 n) + f n
+sum_more f n = ap (sum_by f) (range_next n) ∙ sum_by_push f (range_with_len 0 n) n
+
+-- sums of functions that agree on the numbers below n
+pub sum_alike : (f g : ℕ → ℕ) (n : ℕ) → ((k : ℕ) → k < n → f k ≡ g k) → sum_by f (range_with_len 0 n) ≡ sum_by g (range_with_len 0 n)
+sum_alike f g zero same = refl
+sum_alike f g (suc n) same =
+    let before = sum_alike f g n (λ k low. same k (omega (arith, low))) in
+    let last = same n (omega arith) in
+    subst (λ m. sum_by f (range_with_len 0 m) ≡ sum_by g (range_with_len 0 m)) (add-one n) (omega (arith, sum_more f n, sum_more g n, before, last))

@@ -1,5 +1,5 @@
 -- Tests of the members of a list: whether one passes, the first that does, and how many do.
-use Rattle.std.proofs.Common.{◌≡◌, ℕ, zero, suc, ◌≤◌, false, List, [], ◌∷◌, ◌++◌, length, take, get_or, Option, Some, None, sym, ap, ◌∙◌, refl, arith, Bool, true, cond, map, ◌+◌, ◌<◌, not, ◌||◌}
+use Rattle.std.proofs.Common.{◌≡◌, ℕ, zero, suc, ◌≤◌, false, List, [], ◌∷◌, ◌++◌, length, take, get_or, Some, None, sym, ap, ◌∙◌, refl, arith, Bool, true, cond, map, ◌+◌, ◌<◌, not, ◌||◌}
 use Rattle.std.proofs.lemmas.Bool.{cond-false, or_parts, cond-true}
 use Rattle.std.proofs.lemmas.List.{length-map}
 use Rattle.std.proofs.lemmas.List.Folds.{list_any_more}
@@ -68,20 +68,6 @@ find_first p (x ∷ xs) (suc i) d within none here = by_test (p x) none (λ rest
 -- one more that fails
 pub none_more : {X : Type 0} (p : X → Bool) (xs : List X) (i : ℕ) (d : X) → i < length xs → list_any p (take i xs) ≡ false → p (get_or xs i d) ≡ false → list_any p (take (i + 1) xs) ≡ false
 none_more p xs i d within none here = list_any_more p xs i d within ∙ ap (λ b. b || p (get_or xs i d)) none ∙ here
-
--- tests that agree find the same
-pub find_same : {X : Type 0} (p q : X → Bool) (xs : List X) → ((x : X) → p x ≡ q x) → find p xs ≡ find q xs
-find_same p q [] same = refl
-find_same {X} p q (x ∷ xs) same =
-    ap (λ b. cond {A = Option X} b (Some x) (find p xs)) (same x) ∙ ap (cond (q x) (Some x)) (find_same p q xs same)
-
--- a first place before the end says that one passes
-pub any_within : {X : Type 0} (p : X → Bool) (xs : List X) → position_or_len p xs < length xs → list_any p xs ≡ true
-any_within p [] h = absurd (omega arith)
-any_within p (x ∷ xs) h = by_test (p x) (any_within p xs) h where
-  by_test : (b : Bool) → (position_or_len p xs < length xs → list_any p xs ≡ true) → cond (not b) (1 + position_or_len p xs) 0 < suc (length xs) → (b || list_any p xs) ≡ true
-  by_test true rest h = refl
-  by_test false rest h = rest (omega arith)
 
 -- a first place at the end says that none does
 pub none_past : {X : Type 0} (p : X → Bool) (xs : List X) → length xs ≤ position_or_len p xs → list_any p xs ≡ false

@@ -1,8 +1,8 @@
 -- Lemmas on the codes of values.
-use Rattle.std.proofs.Common.{◌≡◌, ◌<◌, refl, arith}
+use Rattle.std.proofs.Common.{◌≡◌, ◌<◌, refl, arith, ℕ, zero, suc, replicate}
 use Rattle.logic_four.specs.declared.V4.{V4}
 use Rattle.logic_four.specs.declared.V4.TheVariants.{Zero, One, Undef, HighZ}
-use Rattle.logic_four.specs.Values.{code_of, value_of}
+use Rattle.logic_four.specs.Values.{code_of, value_of, value_at}
 
 -- the value of a value's code is the value
 pub value_of-code_of : (v : V4) → value_of (code_of v) ≡ v
@@ -16,3 +16,17 @@ code_of_small Zero = omega arith
 code_of_small One = omega arith
 code_of_small Undef = omega arith
 code_of_small HighZ = omega arith
+
+-- the code of a code's value is the code
+pub code_of-value_of : (n : ℕ) → n < 4 → code_of (value_of n) ≡ n
+code_of-value_of zero h = refl
+code_of-value_of (suc zero) h = refl
+code_of-value_of (suc (suc zero)) h = refl
+code_of-value_of (suc (suc (suc zero))) h = refl
+code_of-value_of (suc (suc (suc (suc n)))) h = absurd (omega arith)
+
+-- of undefined values each is undefined
+pub undefined_at : (n k : ℕ) → value_at (replicate n Undef) k ≡ Undef
+undefined_at zero k = refl
+undefined_at (suc n) zero = refl
+undefined_at (suc n) (suc k) = undefined_at n k

@@ -10,7 +10,7 @@ use Rattle.logic_four.specs.declared.V4.{V4}
 use Rattle.logic_four.specs.declared.V4.TheVariants.{Zero, One, Undef, HighZ}
 use Rattle.logic_four.specs.Values.{code_of, value_of}
 use Rattle.logic_four.specs.Packed.{code_in, packed_value}
-use Rattle.logic_four.proofs.CodeLemmas.{value_of-code_of}
+use Rattle.logic_four.proofs.CodeLemmas.{value_of-code_of, code_of-value_of}
 
 -- a number is what stands above a place, the code there, and what stands below
 parted : (number s : ℕ) → number ≡ (number / 2 ^ s / 4 * 4 + number / 2 ^ s % 4) * 2 ^ s + number % 2 ^ s
@@ -169,14 +169,6 @@ pub value-replicate : (n word place : ℕ) (v : V4) → ((k : ℕ) → k < 32 �
 unfolding packed_value
 value-replicate n word place v codes within =
     rw (get_or-replicate n (place / 32) word 0 (omega arith)) (ap value_of (codes (place % 32) (omega arith)) ∙ value_of-code_of v)
-
--- words are their values
-code_of-value_of : (n : ℕ) → n < 4 → code_of (value_of n) ≡ n
-code_of-value_of zero h = refl
-code_of-value_of (suc zero) h = refl
-code_of-value_of (suc (suc zero)) h = refl
-code_of-value_of (suc (suc (suc zero))) h = refl
-code_of-value_of (suc (suc (suc (suc n)))) h = absurd (omega arith)
 
 pub code_from_value : (a b : ℕ) → a < 4 → b < 4 → value_of a ≡ value_of b → a ≡ b
 code_from_value a b small small' same = sym (code_of-value_of a small) ∙ ap code_of same ∙ code_of-value_of b small'

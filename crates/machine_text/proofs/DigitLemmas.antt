@@ -1,5 +1,5 @@
 -- Digits whose first is no zero are one list for each value.
-use Rattle.std.proofs.Common.{◌≡◌, ◌≢◌, ℕ, suc, ◌+◌, ◌-◌, ◌*◌, ◌<◌, ◌≤◌, ◌&&◌, Bor, not, Bool, true, false, cond, eqb, List, [], ◌∷◌, ◌++◌, length, map, take, drop, get_or, nat_lt, nat_eq, bytes_eq, Option, Some, None, sym, ap, ◌∙◌, subst, refl, arith, inl, inr}
+use Rattle.std.proofs.Common.{◌≡◌, ◌≢◌, ℕ, suc, ◌+◌, ◌-◌, ◌*◌, ◌<◌, ◌≤◌, ◌&&◌, Bor, not, Bool, true, false, cond, eqb, List, [], ◌∷◌, ◌++◌, length, map, take, drop, get_or, nat_lt, nat_eq, bytes_eq, Some, None, sym, ap, ◌∙◌, subst, refl, arith, inl, inr}
 use Rattle.std.specs.List.{All, AllByRecursion, fold, list_all, list_any, position_or_len}
 use Rattle.std.specs.Option.{is_some}
 use Rattle.std.specs.Char.{is_ascii_digit}
@@ -115,12 +115,6 @@ number_is bytes some = chosen (nat_lt 0 (length bytes) && are_digits bytes) some
   chosen : (b : Bool) → is_some (cond b (Some (digits_value bytes)) None) ≡ true → cond b (Some (digits_value bytes)) None ≡ Some (digits_value bytes)
   chosen true e = refl
   chosen false e = cc
-
-pub number_is_not : (bytes : List ℕ) → is_some (number_of bytes) ≡ false → number_of bytes ≡ None
-number_is_not bytes none = chosen (number_of bytes) none where
-  chosen : (o : Option ℕ) → is_some o ≡ false → o ≡ None
-  chosen None e = refl
-  chosen (Some n) e = cc
 
 -- the value of a number is kept
 pub significant_value : (bytes : List ℕ) → number_of bytes ≡ Some (digits_value bytes) → IsTrimmed bytes (without_zeros bytes)

@@ -157,9 +157,7 @@ there_from_none logic array line (Sets quantity n) none = tt
 there_from_none logic array line (Limits what port n) none = chosen (cases_lt port (processors logic array what)) where
   chosen : (port < processors logic array what) ⊎ (processors logic array what ≤ port) → port < processors logic array what
   chosen (inl below) = below
-  chosen (inr past) = absurd (some_is_not_none (sym (cond-false _ None (Some (NoPort line)) (le-ltb _ _ past)) ∙ none)) where
-    some_is_not_none : {x : MachNo} → Some x ≡ None → ⊥
-    some_is_not_none e = cc
+  chosen (inr past) = cc (sym (cond-false _ None (Some (NoPort line)) (le-ltb _ _ past)) ∙ none)
 
 none_from_there : (logic array line : ℕ) (said : Says) → IfSome (limit_of said) (IsThere logic array) → absent_fault logic array line said ≡ None
 none_from_there logic array line Nothing there = refl

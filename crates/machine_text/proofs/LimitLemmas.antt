@@ -1,7 +1,8 @@
 -- The limit that holds at a port of a valid machine is in its range.
 use Rattle.std.proofs.Common.{◌≡◌, ◌∙◌, ℕ, suc, ◌≤◌, Bool, true, false, List, [], ◌∷◌, Option, Some, None, refl, sym, subst, arith}
-use Rattle.std.specs.Prelude.{◌==◌, ◌&&◌, All}
+use Rattle.std.specs.Prelude.{◌==◌, All}
 use Rattle.std.specs.List.{find}
+use Rattle.std.proofs.lemmas.Bool.{and_parts}
 use Rattle.machine_text.specs.declared.machine.Limited.{Limited}
 use Rattle.machine_text.specs.declared.machine.Limited.TheVariants.{Functions, Nodes, Bits}
 use Rattle.machine_text.specs.declared.machine.Machine.{Machine}
@@ -11,9 +12,7 @@ use Rattle.machine_text.specs.Machines.{IsValid, IsOwnLimit}
 
 -- what is found passes the test, and is what all are
 pub found_is : {X : Type 0} (P : X → Type 0) (test : X → Bool) (xs : List X) (x : X) → All P xs → find test xs ≡ Some x → P x × (test x ≡ true)
-found_is P test [] x all found = absurd (none found) where
-  none : {Y : Type 0} {y : Y} → None ≡ Some y → ⊥
-  none is = cc
+found_is P test [] x all found = cc
 found_is {X} P test (y ∷ ys) x all found = by_test (test y) refl (found_is P test ys x (λ i d within. all (suc i) d (omega (arith, within)))) where
   one : {a b : X} → Some a ≡ Some b → a ≡ b
   one is = cc
@@ -36,10 +35,6 @@ limited_same Bits Functions is = cc
 limited_same Bits Nodes is = cc
 limited_same Bits Bits is = refl
 
-both_first : (a b : Bool) → (a && b) ≡ true → a ≡ true
-both_first true b is = refl
-both_first false b is = cc
-
 common_in_range : (machine : Machine) (what : Limited) → IsValid machine → (1 ≤ common_limit machine what) × (common_limit machine what ≤ limit_most what)
 common_in_range machine Functions valid = (valid.functions_least, valid.functions_most)
 common_in_range machine Nodes valid = (valid.nodes_least, valid.nodes_most)
@@ -51,5 +46,5 @@ limit_in_range machine what port valid = by_own (find (is_at what port) machine.
   by_own None missing = rw missing (common_in_range machine what valid)
   by_own (Some own) there =
       let is : IsOwnLimit machine own × (is_at what port own ≡ true) = found_is (IsOwnLimit machine) (is_at what port) machine.own own valid.own there in
-      let same : own.what ≡ what = limited_same own.what what (both_first (same_limited own.what what) (own.port == port) is.1) in
+      let same : own.what ≡ what = limited_same own.what what (and_parts (same_limited own.what what) (own.port == port) is.1).0 in
       rw there (is.0.least, subst (λ w. own.limit ≤ limit_most w) same is.0.most)

@@ -5,7 +5,8 @@ use Rattle.std.specs.List.{range_with_len}
 use Rattle.std.proofs.lemmas.Option.{slice_get-get_or, slice_get_within, get_or_from_slice_get}
 use Rattle.std.proofs.lemmas.List.{same_lists}
 use Rattle.std.proofs.lemmas.List.FromFn.{length-map-range_with_len, get_or-map-range_with_len}
-use Rattle.node_defs.proofs.MemberLemmas.{member_at, some_only}
+use Rattle.list_laws.proofs.Members.{member_at}
+use Rattle.list_laws.proofs.Options.{one_some}
 
 module _ {S : Type 0} (first : S) (Step : ℕ → S → S → Type 0) (next : ℕ → S → S)
     (right : (turn : ℕ) (old : S) → Step turn old (next turn old))
@@ -45,8 +46,8 @@ module _ {S : Type 0} (first : S) (Step : ℕ → S → S → Type 0) (next : �
   pub states_step : (turns turn : ℕ) (old new : S) → slice_get (states_to turns) turn ≡ Some old → slice_get (states_to turns) (turn + 1) ≡ Some new → Step (turn + 1) old new
   states_step turns turn old new was is =
       let within : turn + 1 < turns + 1 = rw (← states_count turns) (slice_get_within (states_to turns) (turn + 1) new is) in
-      let before : state_after turn ≡ old = some_only (state_after turn) old (sym (state_at turns turn (omega (arith, within))) ∙ was) in
-      let after : state_after (turn + 1) ≡ new = some_only (state_after (turn + 1)) new (sym (state_at turns (turn + 1) within) ∙ is) in
+      let before : state_after turn ≡ old = one_some (state_after turn) old (sym (state_at turns turn (omega (arith, within))) ∙ was) in
+      let after : state_after (turn + 1) ≡ new = one_some (state_after (turn + 1)) new (sym (state_at turns (turn + 1) within) ∙ is) in
       subst (λ o. Step (turn + 1) o new) before (subst (λ n. Step (turn + 1) (state_after turn) n) (sym (state_next turn) ∙ after) (right (turn + 1) (state_after turn)))
 
   module _ (turns : ℕ) (others : List S) (count : length others ≡ turns + 1) (begun : slice_get others 0 ≡ Some first)

@@ -3,10 +3,10 @@ use Rattle.std.proofs.Common.{◌≡◌, ◌∙◌, ◌⊎◌, inl, inr, ℕ, ze
 use Rattle.std.specs.Prelude.{Option, Some, None, slice_get}
 use Rattle.std.proofs.lemmas.Bool.{cases_lt, le-ltb}
 use Rattle.std.proofs.lemmas.Option.{slice_get_within}
+use Rattle.list_laws.proofs.Members.{member_at}
 use Rattle.logic_four.specs.declared.V4.TheVariants.{Zero}
 use Rattle.logic_four.specs.declared.Kind.{Kind}
 use Rattle.net_defs.specs.declared.netlist.Netlist.{Netlist}
-use Rattle.net_defs.specs.declared.netlist.Signal.{Signal}
 use Rattle.net_defs.specs.declared.netlist.Driver.{Driver}
 use Rattle.net_defs.specs.declared.netlist.Driver.TheVariants as driver
 use Rattle.net_defs.specs.declared.timing.Timing.{Timing}
@@ -17,20 +17,12 @@ use Rattle.node_defs.specs.declared.items.Tag.TheVariants.{This}
 use Rattle.node_defs.specs.declared.items.Feed.TheVariants.{From, Fixed}
 use Rattle.node_defs.specs.declared.items.Feeds.{Feeds}
 use Rattle.node_defs.specs.declared.items.Item.{Item}
-use Rattle.node_defs.specs.declared.items.Item.TheVariants.{Input, BlockBit, Node, Latch}
+use Rattle.node_defs.specs.declared.items.Item.TheVariants.{Input, BlockBit, Node}
 use Rattle.node_defs.specs.declared.items.ItemName.{ItemName}
 use Rattle.node_defs.specs.declared.items.NodeNet.{NodeNet}
-use Rattle.node_defs.specs.Items.{wire_name, wire_tag, feed_at, IsNode, IsItemOf, IsItem}
+use Rattle.node_defs.specs.Items.{wire_name, wire_tag, feed_at, IsNode, IsItemOf}
 use Rattle.node_defs.specs.Order.{class_of, rank_after_feed, rank_of, Key, key_of, Before, AreItems}
-use Rattle.node_defs.proofs.MemberLemmas.{member_at}
-
--- no more than four operands
-pub past_four : (feeds : Feeds) (i : ℕ) → 4 ≤ i → feed_at feeds i ≡ Fixed Zero
-past_four feeds zero past = absurd (omega (arith, past))
-past_four feeds (suc zero) past = absurd (omega (arith, past))
-past_four feeds (suc (suc zero)) past = absurd (omega (arith, past))
-past_four feeds (suc (suc (suc zero))) past = absurd (omega (arith, past))
-past_four feeds (suc (suc (suc (suc i)))) past = refl
+use Rattle.node_defs.proofs.NameLemmas.{name_at, named_item}
 
 -- a node's rank is at least what each operand asks for
 pub rank_at_least : (first_node : ℕ) (ranks : List ℕ) (table : ℕ) (feeds : Feeds) (i : ℕ) → rank_after_feed first_node ranks (feed_at feeds i) ≤ rank_of first_node ranks (Node table feeds)
@@ -70,31 +62,17 @@ module _ (net : Netlist) (timing : Timing) (nodes : NodeNet) (are : AreItems net
 
   in_driver : (late : Bool) (s : ℕ) (d : Driver) (helper : Option ℕ) (table : ℕ) (feeds : Feeds) (i y : ℕ) (tag : Tag)
       → IsItemOf nodes.names nodes.tables late s d helper (Node table feeds) → feed_at feeds i ≡ From y tag → y < length nodes.items
-  in_driver late s driver.Input helper table feeds i y tag item from = absurd (clash item.1) where
-    clash : Node table feeds ≡ Input s → ⊥
-    clash same = cc
-  in_driver late s (driver.Dff op) helper table feeds i y tag item from = absurd (clash item.1 item.3) where
-    clash : (x : ℕ) → Node table feeds ≡ Latch x → ⊥
-    clash x same = cc
-  in_driver late s (driver.BlockBit block bit) helper table feeds i y tag item from = absurd (clash item.1) where
-    clash : Node table feeds ≡ BlockBit block bit → ⊥
-    clash same = cc
+  in_driver late s driver.Input helper table feeds i y tag item from = cc item.1
+  in_driver late s (driver.Dff op) helper table feeds i y tag item from = cc item.3
+  in_driver late s (driver.BlockBit block bit) helper table feeds i y tag item from = cc item.1
   in_driver late s (driver.Gate kind ops) None table feeds i y tag item from = in_node s late ops kind _ table feeds i y tag item from
   in_driver late s (driver.Gate kind ops) (Some h) table feeds i y tag item from = in_node s late ops _ _ table feeds i y tag item.1 from
 
   -- an operand of a node is some item
   pub operand_there : (x table : ℕ) (feeds : Feeds) (i y : ℕ) (tag : Tag) → slice_get nodes.items x ≡ Some (Node table feeds) → feed_at feeds i ≡ From y tag → y < length nodes.items
-  operand_there x table feeds i y tag at from = by_signal (slice_get net.signals name.0.signal) refl where
-    name : (n : ItemName) × (slice_get nodes.names x ≡ Some n)
-    name = member_at nodes.names x (omega (arith, are.named, slice_get_within nodes.items x (Node table feeds) at))
-
-    right : IsItem net timing nodes.names nodes.tables name.0 (Node table feeds)
-    right = are.right x name.0 (Node table feeds) name.1 at
-
-    by_signal : (found : Option Signal) → slice_get net.signals name.0.signal ≡ found → y < length nodes.items
-    by_signal None is = absurd (rw is at right)
-    by_signal (Some signal) is =
-        in_driver (is_late net timing name.0.signal) name.0.signal signal.driver name.0.helper table feeds i y tag (rw is at right) from
+  operand_there x table feeds i y tag at from =
+      let named = named_item net timing nodes are x (Node table feeds) at in
+      in_driver (is_late net timing (name_at nodes x).signal) (name_at nodes x).signal named.signal.driver (name_at nodes x).helper table feeds i y tag named.is from
 
   -- the table of a node is there
   table_in_node : (late : Bool) (s : ℕ) (ops : List ℕ) (kind : Kind) (group : Group) (table : ℕ) (feeds : Feeds)
@@ -106,30 +84,16 @@ module _ (net : Netlist) (timing : Timing) (nodes : NodeNet) (are : AreItems net
 
   table_in_driver : (late : Bool) (s : ℕ) (d : Driver) (helper : Option ℕ) (table : ℕ) (feeds : Feeds)
       → IsItemOf nodes.names nodes.tables late s d helper (Node table feeds) → table < length nodes.tables
-  table_in_driver late s driver.Input helper table feeds item = absurd (clash item.1) where
-    clash : Node table feeds ≡ Input s → ⊥
-    clash same = cc
-  table_in_driver late s (driver.Dff op) helper table feeds item = absurd (clash item.1 item.3) where
-    clash : (x : ℕ) → Node table feeds ≡ Latch x → ⊥
-    clash x same = cc
-  table_in_driver late s (driver.BlockBit block bit) helper table feeds item = absurd (clash item.1) where
-    clash : Node table feeds ≡ BlockBit block bit → ⊥
-    clash same = cc
+  table_in_driver late s driver.Input helper table feeds item = cc item.1
+  table_in_driver late s (driver.Dff op) helper table feeds item = cc item.3
+  table_in_driver late s (driver.BlockBit block bit) helper table feeds item = cc item.1
   table_in_driver late s (driver.Gate kind ops) None table feeds item = table_in_node late s ops kind _ table feeds item
   table_in_driver late s (driver.Gate kind ops) (Some h) table feeds item = table_in_node late s ops _ _ table feeds item.1
 
   pub table_there : (x table : ℕ) (feeds : Feeds) → slice_get nodes.items x ≡ Some (Node table feeds) → table < length nodes.tables
-  table_there x table feeds at = by_signal (slice_get net.signals name.0.signal) refl where
-    name : (n : ItemName) × (slice_get nodes.names x ≡ Some n)
-    name = member_at nodes.names x (omega (arith, are.named, slice_get_within nodes.items x (Node table feeds) at))
-
-    right : IsItem net timing nodes.names nodes.tables name.0 (Node table feeds)
-    right = are.right x name.0 (Node table feeds) name.1 at
-
-    by_signal : (found : Option Signal) → slice_get net.signals name.0.signal ≡ found → table < length nodes.tables
-    by_signal None is = absurd (rw is at right)
-    by_signal (Some signal) is =
-        table_in_driver (is_late net timing name.0.signal) name.0.signal signal.driver name.0.helper table feeds (rw is at right)
+  table_there x table feeds at =
+      let named = named_item net timing nodes are x (Node table feeds) at in
+      table_in_driver (is_late net timing (name_at nodes x).signal) (name_at nodes x).signal named.signal.driver (name_at nodes x).helper table feeds named.is
 
   -- an operand that is taken at this turn stands before the node
   pub earlier : (x table : ℕ) (feeds : Feeds) (i y : ℕ) → slice_get nodes.items x ≡ Some (Node table feeds) → feed_at feeds i ≡ From y This → y < x

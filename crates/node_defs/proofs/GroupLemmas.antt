@@ -76,9 +76,6 @@ pub record AtLevel (operands place first count left : ℕ) : Type 0 where
   pub same : get_or (groups operands) place nowhere ≡ get_or (groups_from levels first count) left nowhere
   pub few : first + 2 * count ≤ 2 * operands
 
-pub at_first : (operands place : ℕ) → place < length (groups operands) → AtLevel operands place 0 operands place
-at_first operands place within = record { levels = operands; enough = omega arith; within = within; same = refl; few = omega arith }
-
 -- past the helpers of this level
 pub at_next : (operands place first count left : ℕ) → 4 < count → group_count count ≤ left → AtLevel operands place first count left
     → AtLevel operands place (first + count) (group_count count) (left - group_count count)

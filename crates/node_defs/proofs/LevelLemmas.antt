@@ -6,6 +6,7 @@ use Rattle.std.proofs.lemmas.Bool.{cases_lt}
 use Rattle.std.proofs.lemmas.List.{length-append, length-map, get_or_append_left, get_or-append-add, map-append, append-nil, same_lists, get_or-map}
 use Rattle.std.proofs.lemmas.List.Concat.{flat_map-cons}
 use Rattle.std.proofs.lemmas.List.FromFn.{length-map-range_with_len, get_or-map-range_with_len}
+use Rattle.list_laws.proofs.Ranges.{range_append}
 use Rattle.logic_four.specs.declared.V4.{V4}
 use Rattle.logic_four.specs.declared.Kind.{Kind}
 use Rattle.logic_four.specs.Gates.{gate_value}
@@ -14,14 +15,6 @@ use Rattle.logic_four.proofs.FoldLemmas.{groups}
 use Rattle.node_defs.specs.declared.groups.Group.{Group}
 use Rattle.node_defs.specs.Groups.{group_count, group_of, groups_from}
 use Rattle.node_defs.proofs.GroupLemmas.{nowhere, level_of, level_length, level_at, groups_narrow, groups_wide}
-
--- so many numbers are the first m and then the others
-pub range_split : (a m n : ℕ) → range_with_len a (m + n) ≡ range_with_len a m ++ range_with_len (a + m) n
-range_split a zero n = let here : a + zero ≡ a = omega arith in let all : zero + n ≡ n = omega arith in rw here (rw all refl)
-range_split a (suc m) n =
-    let more : suc m + n ≡ suc (m + n) = omega arith in
-    let next : (a + 1) + m ≡ a + suc m = omega arith in
-    rw more (rw (← next) (ap (λ xs. a ∷ xs) (range_split (a + 1) m n)))
 
 -- the values of these wires
 abbrev pub wires : (ℕ → V4) → Group → List V4
@@ -48,7 +41,7 @@ cut_whole value first count i (suc c) all =
           let others : count - 4 * i ≡ 4 + (count - 4 * (i + 1)) = omega (arith, many) in
           let next : first + 4 * (i + 1) ≡ (first + 4 * i) + 4 = omega arith in
           rw size (rw next (rw others (
-          sym (ap (map value) (range_split (first + 4 * i) 4 (count - 4 * (i + 1)))
+          sym (ap (map value) (range_append (first + 4 * i) 4 (count - 4 * (i + 1)))
           ∙ map-append value (range_with_len (first + 4 * i) 4) (range_with_len ((first + 4 * i) + 4) (count - 4 * (i + 1)))))))
 
 -- the groups of a level have all its wires

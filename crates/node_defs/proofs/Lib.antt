@@ -1,6 +1,7 @@
 pub mod GroupLemmas
 pub mod MemberLemmas
 pub mod LevelLemmas
+pub mod NameLemmas
 mod NodeLemmas
 pub mod SeenLemmas
 mod GateLemmas

@@ -3,7 +3,7 @@ use Rattle.std.proofs.Common.{◌≡◌, ◌∙◌, ◌⊎◌, inl, inr, ℕ, ze
 use Rattle.std.specs.List.{range_with_len}
 use Rattle.std.proofs.lemmas.Bool.{cases_lt, lt-ltb, le-ltb}
 use Rattle.logic_four.specs.declared.V4.{V4}
-use Rattle.logic_four.specs.declared.V4.TheVariants.{Undef, Zero}
+use Rattle.logic_four.specs.declared.V4.TheVariants.{Undef}
 use Rattle.logic_four.specs.declared.Kind.{Kind}
 use Rattle.logic_four.specs.Gates.{gate_value}
 use Rattle.net_defs.specs.Time.{value_at}
@@ -11,7 +11,7 @@ use Rattle.net_defs.specs.Steps.{State}
 use Rattle.func_table.specs.declared.table.Table.{Table}
 use Rattle.std.specs.Prelude.{slice_get}
 use Rattle.node_defs.specs.declared.groups.Group.{Group}
-use Rattle.node_defs.specs.declared.items.Feed.TheVariants.{From, Fixed}
+use Rattle.node_defs.specs.declared.items.Feed.TheVariants.{From}
 use Rattle.node_defs.specs.declared.items.Feeds.{Feeds}
 use Rattle.node_defs.specs.declared.items.Item.{Item}
 use Rattle.node_defs.specs.declared.items.ItemName.{ItemName}
@@ -61,9 +61,7 @@ module _ (names : List ItemName) (tables : List Table) (old new : State) (late :
   few_wires kind group item node = by_size (cases_lt 4 group.size) where
     by_size : (4 < group.size) ⊎ (group.size ≤ 4) → group.size ≤ 4
     by_size (inr few) = few
-    by_size (inl many) = absurd (fixed (node.used 4 many).2) where
-      fixed : {x : ℕ} → Fixed Zero ≡ From x (wire_tag late ops (group.first + 4)) → ⊥
-      fixed same = cc
+    by_size (inl many) = cc (node.used 4 many).2
 
   -- the operands of a node, as far as its group goes, have what the wires have
   feeds_are : (kind : Kind) (group : Group) (item : Item) → (node : IsNode names tables late s ops kind group item)

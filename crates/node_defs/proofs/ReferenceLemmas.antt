@@ -1,14 +1,16 @@
 -- The values of the items, as the signals see them, are the reference simulation.
-use Rattle.std.proofs.Common.{◌≡◌, ◌∙◌, inl, inr, ℕ, ◌+◌, ◌<◌, List, length, map, get_or, replicate, refl, sym, ap, subst, arith}
+use Rattle.std.proofs.Common.{◌≡◌, ◌∙◌, ℕ, ◌+◌, ◌<◌, List, length, map, get_or, replicate, refl, sym, ap, subst, arith}
 use Rattle.std.specs.Prelude.{Option, Some, None, slice_get, option_map}
 use Rattle.std.specs.List.{range_with_len}
-use Rattle.std.proofs.lemmas.Bool.{cases_lt}
 use Rattle.std.proofs.lemmas.Option.{slice_get_within, slice_get-map}
-use Rattle.std.proofs.lemmas.List.{same_lists, length-map, get_or-replicate, get_or_past, length-replicate}
+use Rattle.std.proofs.lemmas.List.{same_lists, length-map, get_or-replicate, length-replicate}
 use Rattle.std.proofs.lemmas.List.FromFn.{length-map-range_with_len, get_or-map-range_with_len}
+use Rattle.list_laws.proofs.Members.{member_at, map_at, mapped_at}
+use Rattle.list_laws.proofs.Options.{one_some}
 use Rattle.logic_four.specs.declared.V4.{V4}
 use Rattle.logic_four.specs.declared.V4.TheVariants.{Undef}
 use Rattle.logic_four.specs.Memory.{initial_words}
+use Rattle.logic_four.proofs.CodeLemmas.{undefined_at}
 use Rattle.net_defs.specs.declared.netlist.Netlist.{Netlist}
 use Rattle.net_defs.specs.declared.netlist.Signal.{Signal}
 use Rattle.net_defs.specs.declared.netlist.Block.{Block}
@@ -22,18 +24,10 @@ use Rattle.node_defs.specs.declared.items.Item.{Item}
 use Rattle.node_defs.specs.declared.items.NodeBlock.{NodeBlock}
 use Rattle.node_defs.specs.declared.items.NodeNet.{NodeNet}
 use Rattle.node_defs.specs.Items.{own, IsNamed, IsItem, IsNodeBlock}
-use Rattle.node_defs.proofs.MemberLemmas.{member_at, some_only, map_at, mapped_at}
 use Rattle.node_defs.specs.Order.{AreItems}
 use Rattle.node_defs.specs.Values.{first_items, AreItemValues, AreReferenceValues}
 use Rattle.node_defs.proofs.SeenLemmas.{item_named, number, seen, seen_value}
 use Rattle.node_defs.proofs.StepLemmas.{right_step}
-
--- a list of undefined values is undefined at and past each place
-undefined_at : (n k : ℕ) → get_or (replicate n Undef) k Undef ≡ Undef
-undefined_at n k = elim (cases_lt k n) [
-  | inl within ↦ get_or-replicate n k Undef Undef within
-  | inr past ↦ get_or_past (replicate n Undef) k Undef (omega (arith, past, length-replicate n Undef))
-]
 
 module _ (net : Netlist) (timing : Timing) (nodes : NodeNet) (valid : IsValid net) (are : AreItems net timing nodes) where
   first_row : (seen net timing nodes are (first_items nodes timing)).row ≡ (first_state net timing).row
@@ -110,6 +104,6 @@ module _ (net : Netlist) (timing : Timing) (nodes : NodeNet) (valid : IsValid ne
         let found : (o : State) × (slice_get values turn ≡ Some o) × (seen net timing nodes are o ≡ signals) = mapped_at (seen net timing nodes are) values turn signals seen_there in
         let item : _ = item_named net timing nodes are x (own s) named in
         let within : s < length net.signals = a_signal s item.0 (slice_get net.signals s) refl item.2 in
-        let it : items ≡ found.0 = some_only items found.0 (sym there ∙ found.1) in
+        let it : items ≡ found.0 = one_some items found.0 (sym there ∙ found.1) in
         seen_value net timing nodes are items x s within named
         ∙ ap (λ state. value_at state.row s) (ap (seen net timing nodes are) it ∙ found.2)

@@ -1,13 +1,14 @@
 -- Two lists of items of one netlist stand in the same order and hold the same items.
-use Rattle.std.proofs.Common.{◌≡◌, ◌∙◌, ◌⊎◌, inl, inr, ℕ, zero, suc, ◌+◌, ◌/◌, ◌%◌, ◌<◌, ◌≤◌, nat_lt, Bool, true, false, if◌then◌else◌, List, [], ◌∷◌, length, get_or, refl, sym, ap, subst, arith}
+use Rattle.std.proofs.Common.{◌≡◌, ◌∙◌, ◌⊎◌, inl, inr, ℕ, zero, suc, ◌+◌, ◌<◌, ◌≤◌, nat_lt, Bool, if◌then◌else◌, List, [], ◌∷◌, length, get_or, refl, sym, ap, subst, arith}
 use Rattle.std.specs.Prelude.{◌↔◌, Option, Some, None, slice_get}
 use Rattle.std.proofs.lemmas.Bool.{cases_lt, cases_order, lt-ltb, le-ltb}
-use Rattle.std.proofs.lemmas.Option.{slice_get-get_or, slice_get_within, get_or_from_slice_get}
+use Rattle.std.proofs.lemmas.Option.{slice_get-get_or, slice_get_within, get_or_from_slice_get, none-some}
 use Rattle.std.proofs.lemmas.List.{same_lists, get_or_default}
+use Rattle.list_laws.proofs.Members.{member_at}
+use Rattle.list_laws.proofs.Options.{one_some}
 use Rattle.logic_four.specs.declared.V4.{V4}
 use Rattle.logic_four.specs.declared.V4.TheVariants.{Zero}
 use Rattle.logic_four.specs.declared.Kind.{Kind}
-use Rattle.logic_four.specs.Values.{code_of, value_of}
 use Rattle.net_defs.specs.declared.netlist.Netlist.{Netlist}
 use Rattle.net_defs.specs.declared.netlist.Signal.{Signal}
 use Rattle.net_defs.specs.declared.netlist.Block.{Block}
@@ -30,18 +31,18 @@ use Rattle.node_defs.specs.declared.items.NodeNet.{NodeNet}
 use Rattle.node_defs.specs.Items.{own, IsNamed, wire_name, wire_tag, feed_at, IsNode, IsItemOf, IsItem, IsAmong, helpers_of, StandFor, IsNodeBlock}
 use Rattle.node_defs.specs.Order.{class_of, rank_after_feed, rank_of, Key, key_of, HelperBefore, Before, AreItems}
 use Rattle.node_defs.specs.Same.{IsSameTable, AreSameItem, AreSameItems}
-use Rattle.func_table.specs.Entries.{looked_up, entry_of, entry_for, place_of, AreAlike}
+use Rattle.func_table.specs.Entries.{looked_up, entry_for}
 use Rattle.func_table.specs.Shelf.{AreDifferent}
-use Rattle.node_defs.proofs.MemberLemmas.{member_at, some_only, none_some}
+use Rattle.func_table.proofs.EntryLemmas.{same_entries}
 use Rattle.node_defs.proofs.SeenLemmas.{item_named}
 use Rattle.node_defs.proofs.EarlierLemmas.{earlier, table_there}
 
 -- lists that hold the same at each place
 lists_same : {X : Type 0} (xs ys : List X) → ((k : ℕ) → slice_get xs k ≡ slice_get ys k) → xs ≡ ys
 lists_same [] [] same = refl
-lists_same [] (y ∷ ys) same = absurd (none_some y (same 0))
-lists_same (x ∷ xs) [] same = absurd (none_some x (sym (same 0)))
-lists_same (x ∷ xs) (y ∷ ys) same = rw (some_only x y (same 0)) (ap (λ zs. y ∷ zs) (lists_same xs ys (λ k. same (suc k))))
+lists_same [] (y ∷ ys) same = absurd (none-some y (same 0))
+lists_same (x ∷ xs) [] same = absurd (none-some x (sym (same 0)))
+lists_same (x ∷ xs) (y ∷ ys) same = rw (one_some x y (same 0)) (ap (λ zs. y ∷ zs) (lists_same xs ys (λ k. same (suc k))))
 
 abbrev four_feeds : Feed → Feed → Feed → Feed → Feeds
 four_feeds a b c d = record { a = a; b = b; c = c; d = d }
@@ -54,14 +55,6 @@ block_of we address word = record { we = we; address = address; word = word }
 
 three_same : (we we2 : ℕ) (address address2 word word2 : List ℕ) → we ≡ we2 → address ≡ address2 → word ≡ word2 → block_of we address word ≡ block_of we2 address2 word2
 three_same we we2 address address2 word word2 p q r = rw p (rw q (rw r refl))
-
--- the value of a code has that code
-code_of_value : (code : ℕ) → code < 4 → code_of (value_of code) ≡ code
-code_of_value zero low = refl
-code_of_value (suc zero) low = refl
-code_of_value (suc (suc zero)) low = refl
-code_of_value (suc (suc (suc zero))) low = refl
-code_of_value (suc (suc (suc (suc code)))) low = absurd (omega (arith, low))
 
 -- nothing comes both before and after another
 helper_apart : (one other : Option ℕ) → HelperBefore one other → HelperBefore other one → ⊥
@@ -133,7 +126,7 @@ module _ (net : Netlist) (timing : Timing) where
         let a : Said one name i = said one name i one_is in
         let b : Said other name j = said other name j other_is in
         class_by_driver one.names one.tables (is_late net timing name.signal) name.signal a.signal.driver name.helper i a.is
-        ∙ (ap (λ s. class_of_driver s.driver) (some_only a.signal b.signal (sym a.at ∙ b.at))
+        ∙ (ap (λ s. class_of_driver s.driver) (one_some a.signal b.signal (sym a.at ∙ b.at))
         ∙ sym (class_by_driver other.names other.tables (is_late net timing name.signal) name.signal b.signal.driver name.helper j b.is))
 
     -- where both are nodes of a gate, their operands have the same names and tags
@@ -256,7 +249,7 @@ module _ (net : Netlist) (timing : Timing) where
     name_same name i j one_is other_is =
         let a : Said one name i = said one name i one_is in
         let b : Said other name j = said other name j other_is in
-        let same : b.signal ≡ a.signal = some_only b.signal a.signal (sym b.at ∙ a.at) in
+        let same : b.signal ≡ a.signal = one_some b.signal a.signal (sym b.at ∙ a.at) in
         driver_same (is_late net timing name.signal) name.signal a.signal.driver name.helper i j a.is
         (subst (λ s. IsItemOf other.names other.tables (is_late net timing name.signal) name.signal s.driver name.helper j) same b.is)
 
@@ -321,7 +314,7 @@ module _ (net : Netlist) (timing : Timing) where
           (second.ordered w y high low l.0 j.0 past other_high other_low l.1 j.1))))
       by_place (inr after) (inr not_past) =
           let here : w ≡ y = omega (arith, after, not_past) in
-          let same : low ≡ high = some_only low high (sym other_low ∙ (ap (slice_get other.names) (sym here) ∙ other_high)) in
+          let same : low ≡ high = one_some low high (sym other_low ∙ (ap (slice_get other.names) (sym here) ∙ other_high)) in
           let one_place : x ≡ z = first.names.once x z high (one_low ∙ ap Some same) one_high in
           absurd (omega (arith, before, one_place))
 
@@ -354,7 +347,7 @@ module _ (net : Netlist) (timing : Timing) (one other : NodeNet) (first : AreIte
     by_name None is (Some name) other_is =
         let there : (y : ℕ) × IsNamed one.names y name = partner net timing other one second first k name other_is in
         let here : there.0 ≡ k = one_place there.0 k name there.1 other_is in
-        absurd (none_some name (sym is ∙ (ap (slice_get one.names) (sym here) ∙ there.1)))
+        absurd (none-some name (sym is ∙ (ap (slice_get one.names) (sym here) ∙ there.1)))
     by_name None is None other_is = is ∙ sym other_is
 
   names_same : one.names ≡ other.names
@@ -397,15 +390,6 @@ module _ (net : Netlist) (timing : Timing) (one other : NodeNet) (first : AreIte
       of_plain (inl (column, is)) = rw is (sym is ∙ plain.same)
       of_plain (inr (block, bit, is)) = rw is (sym is ∙ plain.same)
 
-  -- tables with the same entries are alike
-  alike : (s t : Table) → ((a b c d : V4) → entry_for s a b c d ≡ entry_for t a b c d) → AreAlike s t
-  unfolding entry_for
-  alike s t same e low =
-      let place : place_of (value_of (e % 4)) (value_of (e / 4 % 4)) (value_of (e / 16 % 4)) (value_of (e / 64 % 4)) ≡ e =
-      rw (code_of_value (e % 4) (omega arith)) (rw (code_of_value (e / 4 % 4) (omega arith)) (rw (code_of_value (e / 16 % 4) (omega arith)) (rw (code_of_value (e / 64 % 4) (omega arith)) (omega (arith, low))))) in
-      let entries : _ = same (value_of (e % 4)) (value_of (e / 4 % 4)) (value_of (e / 16 % 4)) (value_of (e / 64 % 4)) in
-      ap (entry_of s) (sym place) ∙ (entries ∙ ap (entry_of t) place)
-
   -- different tables of one list differ in an entry
   one_number : (tables : List Table) (t u : ℕ) → AreDifferent tables → t < length tables → u < length tables → IsSameTable tables tables t u → t ≡ u
   one_number tables t u different within inside same = by_order (cases_order t u) where
@@ -427,9 +411,9 @@ module _ (net : Netlist) (timing : Timing) (one other : NodeNet) (first : AreIte
     by_order : (t ≡ u) ⊎ ((t < u) ⊎ (u < t)) → t ≡ u
     by_order (inl one) = one
     by_order (inr (inl before)) =
-        absurd (different t u first_of.0 before inside (rw here (rw there (alike first_of.0 second_of.0 entries))))
+        absurd (different t u first_of.0 before inside (rw here (rw there (same_entries first_of.0 second_of.0 entries))))
     by_order (inr (inr after)) =
-        absurd (different u t first_of.0 after within (rw here (rw there (alike second_of.0 first_of.0 (λ a b c d. sym (entries a b c d))))))
+        absurd (different u t first_of.0 after within (rw here (rw there (same_entries second_of.0 first_of.0 (λ a b c d. sym (entries a b c d))))))
 
   table_of_node : (x t v : ℕ) (f h : Feeds) → slice_get one.items x ≡ Some (Node t f) → slice_get other.items x ≡ Some (Node v h) → IsSameTable one.tables other.tables t v
   table_of_node x t v f h one_at other_at = (items_same x (Node t f) (Node v h) one_at other_at).1
@@ -488,9 +472,7 @@ nodes_no_earlier net timing one other first second = by_place (cases_lt other.fi
       let name : (n : ItemName) × (slice_get one.names other.first_node ≡ Some n) = member_at one.names other.first_node inside in
       let same : nat_lt other.first_node one.first_node ≡ nat_lt other.first_node other.first_node =
       node_same net timing one other first second other.first_node other.first_node name.0 name.1 (sym (names_at net timing one other first second other.first_node) ∙ name.1) in
-      absurd (clash (sym (lt-ltb other.first_node one.first_node low) ∙ (same ∙ le-ltb other.first_node other.first_node (omega arith)))) where
-        clash : true ≡ false → ⊥
-        clash same = cc
+      cc (sym (lt-ltb other.first_node one.first_node low) ∙ (same ∙ le-ltb other.first_node other.first_node (omega arith)))
 
 pub one_list : (net : Netlist) (timing : Timing) (one other : NodeNet) → AreItems net timing one → AreItems net timing other → AreSameItems one other
 one_list net timing one other first second = record {

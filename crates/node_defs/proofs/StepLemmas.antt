@@ -4,6 +4,8 @@ use Rattle.std.proofs.Common.{◌≡◌, ◌∙◌, ℕ, ◌<◌, if◌then◌el
 use Rattle.std.specs.Prelude.{Option, Some, None, slice_get}
 use Rattle.std.proofs.lemmas.Option.{slice_get_within}
 use Rattle.std.proofs.lemmas.List.FromFn.{length-map-range_with_len}
+use Rattle.list_laws.proofs.Members.{member_at}
+use Rattle.list_laws.proofs.Places.{within_some}
 use Rattle.logic_four.specs.declared.V4.{V4}
 use Rattle.logic_four.specs.Values.{settled}
 use Rattle.logic_four.specs.Memory.{memory_act}
@@ -23,7 +25,6 @@ use Rattle.node_defs.specs.declared.items.NodeNet.{NodeNet}
 use Rattle.node_defs.specs.Items.{own, IsItemOf, IsNodeBlock}
 use Rattle.node_defs.specs.Order.{AreItems}
 use Rattle.node_defs.specs.Values.{block_act, block_bit, item_value, block_words_after, IsItemStep}
-use Rattle.node_defs.proofs.MemberLemmas.{member_at, no_member}
 use Rattle.node_defs.proofs.SeenLemmas.{item_named, item_of_signal, number, number_named, seen, seen_at, seen_value, seen_values}
 use Rattle.node_defs.proofs.GateLemmas.{gate_seen}
 
@@ -54,7 +55,7 @@ module _ (net : Netlist) (timing : Timing) (nodes : NodeNet) (valid : IsValid ne
     by_memory None is = none (slice_get nodes.blocks m) refl where
       none : (found : Option NodeBlock) → slice_get nodes.blocks m ≡ found → block_bit nodes state m bit ≡ output_bit net (seen net timing nodes are state) m bit
       none None there = rw is (rw there refl)
-      none (Some block) there = absurd (no_member net.blocks m (omega (arith, are.memories, slice_get_within nodes.blocks m block there)) is)
+      none (Some block) there = absurd (within_some net.blocks m (omega (arith, are.memories, slice_get_within nodes.blocks m block there)) is)
 
   module _ (stimulus : Stimulus) (turn : ℕ) (old new : State) (step : IsItemStep nodes timing stimulus turn old new) where
     -- each item that stands for a signal has what its driver gives the signal

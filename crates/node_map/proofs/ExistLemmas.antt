@@ -22,8 +22,9 @@ use Rattle.net_defs.specs.Loops.{gate_operands, IsOrder}
 use Rattle.net_defs.specs.Valid.{IsSignal, IsDrivable, IsValid}
 use Rattle.func_table.specs.declared.table.Table.{Table}
 use Rattle.func_table.specs.Shelf.{AreDifferent}
-use Rattle.list_laws.proofs.Members.{each}
+use Rattle.list_laws.proofs.Members.{each, member_at, map_at, mapped_at}
 use Rattle.list_laws.proofs.Places.{one_there}
+use Rattle.list_laws.proofs.Ranges.{last_or}
 use Rattle.node_defs.specs.declared.groups.Group.{Group}
 use Rattle.node_defs.specs.declared.items.Feed.{Feed}
 use Rattle.node_defs.specs.declared.items.Feed.TheVariants.{From, Fixed}
@@ -35,7 +36,6 @@ use Rattle.node_defs.specs.declared.items.NodeNet.{NodeNet}
 use Rattle.node_defs.specs.Groups.{group_at}
 use Rattle.node_defs.specs.Items.{own, IsNamed, wire_tag, StandFor, IsNodeBlock}
 use Rattle.node_defs.specs.Order.{AreItems}
-use Rattle.node_defs.proofs.MemberLemmas.{map_at, mapped_at, member_at}
 use Rattle.node_map.specs.declared.keys.Key.{Key}
 use Rattle.node_map.specs.declared.numbering.Numbering.{Numbering}
 use Rattle.node_map.specs.Wires.{operands_of, helpers_at, rank_at, AreOwnRanks}
@@ -44,7 +44,6 @@ use Rattle.node_map.specs.Tables.{Keeps}
 use Rattle.node_map.specs.Nodes.{IsFeed, AreFeeds, IsNodeAt, node_kind}
 use Rattle.node_map.specs.Made.{driver_at, IsMadeItem, AreMade, AreNodeBlocks}
 use Rattle.node_map.proofs.ShapeLemmas.{IsShaped, shaped, some_groups}
-use Rattle.node_map.proofs.PastLemmas.{last_or}
 use Rattle.node_map.proofs.RankLemmas.{OwnTo, own_begun, own_more, own_all}
 use Rattle.node_map.proofs.OrderLemmas.{key_total, made_keys, made_right}
 use Rattle.node_map.proofs.NumberLemmas.{NumbersTo, numbers_begun, numbers_more, numbers_all, are_flat, are_numbered, own_found, helper_found}
@@ -286,7 +285,7 @@ first_to keys (suc n) within = elim (first_to keys n (omega (arith, within))) [
       let key : _ = member_at keys n (omega (arith, within)) in
       elim (cases_eq key.0.class 2) [
         | inl is ↦ inl (n, key.0, key.1, is, none)
-        | inr differs ↦ inr (λ y other below at class. elim (last_or y n below) [
+        | inr differs ↦ inr (λ y other below at class. elim (last_or y n (omega (arith, below))) [
           | inl h ↦ none y other h at class
           | inr h ↦ (let same : other ≡ key.0 = one_there keys y n other key.0 h at key.1 in differs (ap (λ k. k.class) (sym same) ∙ class))
         ])

@@ -4,6 +4,7 @@ use Rattle.std.specs.Prelude.{Option, Some, None, slice_get}
 use Rattle.std.proofs.lemmas.Bool.{cases_lt, lt-ltb, le-ltb}
 use Rattle.std.proofs.lemmas.Option.{slice_get-get_or, slice_get_within, get_or_from_slice_get}
 use Rattle.std.proofs.lemmas.List.{length_push, get_or_append_left, get_or_push}
+use Rattle.list_laws.proofs.Options.{one_some}
 use Rattle.logic_four.specs.declared.Kind.{Kind}
 use Rattle.net_defs.specs.declared.netlist.Netlist.{Netlist}
 use Rattle.net_defs.specs.declared.netlist.Signal.{Signal}
@@ -36,9 +37,6 @@ use Rattle.node_map.proofs.ShapeLemmas.{no_groups}
 pub record StandTo (names : List ItemName) (signals : List ℕ) (n : ℕ) (numbers : List ℕ) : Type 0 where
   pub long : length numbers ≡ n
   pub named : (i s : ℕ) → i < n → slice_get signals i ≡ Some s → IsNamed names (get_or numbers i 0) (own s)
-
-pub stand_begun : (names : List ItemName) (signals : List ℕ) → StandTo names signals 0 []
-stand_begun names signals = record { long = refl; named = λ i s within at. absurd (omega (arith, within)) }
 
 pub stand_more : (names : List ItemName) (signals : List ℕ) (n : ℕ) (numbers : List ℕ) (number : ℕ) → StandTo names signals n numbers → IsNamed names number (own (get_or signals n 0))
     → StandTo names signals (n + 1) (numbers ++ number ∷ [])
@@ -128,7 +126,7 @@ made_more net timing names old new keys n items key item to at kept made = recor
     | inr h ↦
         let last : _ = get_last items item thing x h holds in
         let here : x ≡ n = omega (arith, last.0, to.long) in
-        let same : other ≡ key = only other key (sym there ∙ (ap (slice_get keys) here ∙ at)) in
+        let same : other ≡ key = one_some other key (sym there ∙ (ap (slice_get keys) here ∙ at)) in
         rw same (rw last.1 made.is)
   ];
   used = λ t within. elim (cases_lt t (length old)) [
@@ -137,9 +135,7 @@ made_more net timing names old new keys n items key item to at kept made = recor
         let one : _ = made.new t h within in
         (length items, one.0, slice_get-get_or (items ++ item ∷ []) (length items) item (omega (arith, length_push items item)) ∙ ap Some (get_or_push items item item (length items) refl ∙ one.1))
   ];
-} where
-  only : (one other : Key) → Some one ≡ Some other → one ≡ other
-  only one other same = cc
+}
 
 pub made_all : (net : Netlist) (timing : Timing) (names : List ItemName) (tables : List Table) (keys : List Key) (n : ℕ) (items : List Item) → n ≡ length keys
     → MadeTo net timing names tables keys n items → AreMade net timing names tables keys items
@@ -150,15 +146,9 @@ made_all net timing names tables keys n items whole to = record { long = to.long
 -- the signal that has this driver
 pub driver_there : (net : Netlist) (s : ℕ) (drives : Driver) → driver_at net s ≡ Some drives → (signal : Signal) × (slice_get net.signals s ≡ Some signal) × (signal.driver ≡ drives)
 driver_there net s drives is = by_signal (slice_get net.signals s) refl where
-  none_some : None ≡ Some drives → ⊥
-  none_some same = cc
-
-  some_only : (one : Driver) → Some one ≡ Some drives → one ≡ drives
-  some_only one same = cc
-
   by_signal : (found : Option Signal) → slice_get net.signals s ≡ found → (signal : Signal) × (slice_get net.signals s ≡ Some signal) × (signal.driver ≡ drives)
-  by_signal None at = absurd (none_some (rw at at is))
-  by_signal (Some signal) at = (signal, at, some_only signal.driver (rw at at is))
+  by_signal None at = cc (rw at at is)
+  by_signal (Some signal) at = (signal, at, one_some signal.driver drives (rw at at is))
 
 -- an item of a signal that is there
 item_from : (net : Netlist) (timing : Timing) (names : List ItemName) (tables : List Table) (name : ItemName) (item : Item) (signal : Signal) → slice_get net.signals name.signal ≡ Some signal
@@ -245,12 +235,10 @@ blocks_more names memories n blocks memory block to at is = record {
     | inr h ↦
         let last : _ = get_last blocks block one m h holds in
         let here : m ≡ n = omega (arith, last.0, to.long) in
-        let same : other ≡ memory = only other memory (sym there ∙ (ap (slice_get memories) here ∙ at)) in
+        let same : other ≡ memory = one_some other memory (sym there ∙ (ap (slice_get memories) here ∙ at)) in
         rw same (rw last.1 is)
   ];
-} where
-  only : (one other : Block) → Some one ≡ Some other → one ≡ other
-  only one other same = cc
+}
 
 -- what stands at a place of a list
 pub item_there : {X : Type 0} (xs ys : List X) (i : ℕ) (x : X) → xs ≡ ys → x ≡ get_or xs i x → i < length xs → slice_get ys i ≡ Some x

@@ -4,13 +4,13 @@ use Rattle.std.specs.List.{range_with_len}
 use Rattle.std.proofs.lemmas.Bool.{cases_lt}
 use Rattle.std.proofs.lemmas.List.{length-append, get_or_append_left, get_or-append_right}
 use Rattle.std.proofs.lemmas.List.FromFn.{length-map-range_with_len, get_or-map-range_with_len, map-range_with_len_more}
+use Rattle.list_laws.proofs.Ranges.{last_or}
 use Rattle.net_defs.specs.declared.netlist.Netlist.{Netlist}
 use Rattle.net_defs.specs.declared.timing.Timing.{Timing}
 use Rattle.node_map.specs.declared.keys.Key.{Key}
 use Rattle.node_map.specs.Wires.{operands_of, helpers_at}
 use Rattle.node_map.specs.Places.{start_of, key_at, keys_of, keys_to}
 use Rattle.node_map.proofs.ShapeLemmas.{few_groups}
-use Rattle.node_map.proofs.PastLemmas.{last_or}
 
 -- what place of what signal stands here
 pub record IsPlaced (net : Netlist) (n i : ℕ) : Type 0 where
@@ -31,7 +31,7 @@ placed net (suc n) i within = elim (cases_lt i (start_of net n)) [
 
 pub place_within : (net : Netlist) (n s place : ℕ) → s < n → place ≤ helpers_at net s → start_of net s + place < start_of net n
 place_within net zero s place low among = absurd (omega (arith, low))
-place_within net (suc n) s place low among = elim (last_or s n low) [
+place_within net (suc n) s place low among = elim (last_or s n (omega (arith, low))) [
   | inl h ↦ omega (arith, place_within net n s place h among)
   | inr h ↦
       let start : start_of net s ≡ start_of net n = ap (start_of net) h in
@@ -53,7 +53,7 @@ keys_length net timing own (suc n) =
 pub key_placed : (net : Netlist) (timing : Timing) (own : List ℕ) (n s place : ℕ) (d : Key) → s < n → place ≤ helpers_at net s
     → get_or (keys_to net timing own n) (start_of net s + place) d ≡ key_at net timing own s place
 key_placed net timing own zero s place d low among = absurd (omega (arith, low))
-key_placed net timing own (suc n) s place d low among = elim (last_or s n low) [
+key_placed net timing own (suc n) s place d low among = elim (last_or s n (omega (arith, low))) [
   | inl h ↦
       get_or_append_left (keys_to net timing own n) (keys_of net timing own n) d (start_of net s + place) (omega (arith, keys_length net timing own n, place_within net n s place h among))
       ∙ key_placed net timing own n s place d h among

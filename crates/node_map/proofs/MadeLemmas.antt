@@ -5,6 +5,8 @@ use Rattle.std.proofs.lemmas.Bool.{cases_lt, lt-ltb, le-ltb}
 use Rattle.std.proofs.lemmas.Bool.Decides.{eqb_tells}
 use Rattle.std.proofs.lemmas.Option.{slice_get-get_or, slice_get_within, slice_get-map, get_or_from_slice_get}
 use Rattle.std.proofs.lemmas.List.{length-map, get_or-map}
+use Rattle.list_laws.proofs.Members.{mapped_at}
+use Rattle.list_laws.proofs.Options.{one_some}
 use Rattle.logic_four.specs.declared.Kind.{Kind}
 use Rattle.net_defs.specs.declared.netlist.Netlist.{Netlist}
 use Rattle.net_defs.specs.declared.netlist.Signal.{Signal}
@@ -23,7 +25,6 @@ use Rattle.node_defs.specs.declared.items.NodeBlock.{NodeBlock}
 use Rattle.node_defs.specs.Groups.{groups, group_at, helper_count}
 use Rattle.node_defs.specs.Items.{own, IsNamed, wire_name, wire_tag, feed_at, IsNode, IsGateItem, IsItemOf, IsItem, helpers_of, IsAmong, StandFor}
 use Rattle.node_defs.specs.Order.{class_of, rank_after_feed, rank_of, key_of, HelperBefore, Before, AreItems}
-use Rattle.node_defs.proofs.MemberLemmas.{mapped_at, some_only}
 use Rattle.node_map.specs.declared.keys.Key.{Key}
 use Rattle.node_map.specs.Wires.{operands_of, helpers_at, class_of_driver, class_at, past_of, most_of, pasts_to, pasts_of, rank_at, AreOwnRanks}
 use Rattle.node_map.specs.Places.{name_at, name_of, IsKeyBefore, AreKeyed, AreRight}
@@ -355,7 +356,7 @@ classes_rise net keys keyed x y one other order at_one at_other is = elim (cases
   | inr past ↦
       let here : y ≡ x = omega (arith, past, order) in
       let same : Some one ≡ Some other = sym at_one ∙ (sym (ap (slice_get keys) here) ∙ at_other) in
-      sym (ap (λ k. k.class) (some_only one other same)) ∙ is
+      sym (ap (λ k. k.class) (one_some one other same)) ∙ is
 ] where
   over : class_at net other.signal ≤ 2 → other.class ≡ class_at net other.signal → one.class < other.class → ⊥
   over most class less = omega (arith, most, class, less, is)

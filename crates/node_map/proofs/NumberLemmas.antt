@@ -6,6 +6,7 @@ use Rattle.std.proofs.lemmas.Bool.{cases_lt, lt-ltb, le-ltb}
 use Rattle.std.proofs.lemmas.Option.{slice_get_within, slice_get-map}
 use Rattle.std.proofs.lemmas.List.{length-set, length-replicate, get_or-set_same, get_or-set_other}
 use Rattle.std.proofs.lemmas.List.FromFn.{length-map-range_with_len, get_or-map-range_with_len}
+use Rattle.list_laws.proofs.Options.{one_some}
 use Rattle.net_defs.specs.declared.netlist.Netlist.{Netlist}
 use Rattle.node_defs.specs.declared.items.ItemName.{ItemName}
 use Rattle.node_defs.specs.Items.{own, helper_of, IsNamed}
@@ -32,16 +33,13 @@ numbers_more starts keys n numbers key flat to at = record {
     | inr h ↦
         let here : x ≡ n = omega arith in
         let same : Some other ≡ Some key = sym there ∙ (ap (slice_get keys) here ∙ at) in
-        let is : other ≡ key = only other key same in
+        let is : other ≡ key = one_some other key same in
         ap (λ k. get_or (set numbers (flat_in starts key) n) (flat_in starts k) 0) is
         ∙ (get_or-set_same numbers (flat_in starts key) n 0 (omega (arith, flat.within n key at, to.long)) ∙ sym here)
   ];
 } where
   apart : (x : ℕ) → x < n → x ≡ n → ⊥
   apart x less same = omega arith
-
-  only : (one other : Key) → Some one ≡ Some other → one ≡ other
-  only one other same = cc
 
 pub numbers_all : (starts : List ℕ) (keys : List Key) (n : ℕ) (numbers : List ℕ) → length keys ≤ n → NumbersTo starts keys n numbers → AreNumbers starts keys numbers
 numbers_all starts keys n numbers whole to = record {

@@ -1,5 +1,5 @@
 -- The keys of the items in order.
-use Rattle.std.proofs.Common.{◌≡◌, ◌∙◌, ◌⊎◌, ℕ, ◌+◌, ◌==◌, ◌<◌, ◌≤◌, Bool, true, false, List, length, get_or, inl, inr, refl, sym, ap, subst, arith}
+use Rattle.std.proofs.Common.{◌≡◌, ◌∙◌, ◌⊎◌, ℕ, ◌+◌, ◌==◌, ◌<◌, ◌≤◌, Bool, false, List, length, get_or, inl, inr, refl, sym, ap, subst, arith}
 use Rattle.std.specs.Prelude.{Some, slice_get}
 use Rattle.std.specs.List.{Contains, IsDistinct}
 use Rattle.std.specs.List.Sorted.{IsPermutation, IsSorted}
@@ -131,11 +131,9 @@ module _ (net : Netlist) (timing : Timing) (own : List ℕ) (keys : List Key) (n
       let flat_same : flat net one ≡ flat net other = ap (λ s. start_of net s + one.place) signal ∙ ap (λ p. start_of net other.signal + p) place in
       let far : same_place net (get_or keys x one) (get_or keys y one) ≡ false = apart_from_distinct (same_place net) keys x y one apart before within in
       elim (eqb_tells (flat net (get_or keys x one)) (flat net (get_or keys y one))) [
-        | inl h ↦ absurd (both h.0 far)
+        | inl h ↦ cc (h.0, far)
         | inr h ↦ absurd (h.1 (ap (flat net) is_one ∙ (flat_same ∙ sym (ap (flat net) is_other))))
-      ] where
-        both : {b : Bool} → b ≡ true → b ≡ false → ⊥
-        both is not = cc
+      ]
 
   ordered : (x y : ℕ) (one other : Key) → x < y → slice_get keys x ≡ Some one → slice_get keys y ≡ Some other → IsKeyBefore one other
   ordered x y one other before at_one at_other =

@@ -1,12 +1,9 @@
 -- The least ranks of what takes the wires of a gate.
-use Rattle.std.proofs.Common.{◌≡◌, ◌∙◌, ℕ, zero, suc, ◌+◌, ◌<◌, ◌≤◌, max, List, [], ◌∷◌, ◌++◌, length, get_or, inl, inr, ◌⊎◌, refl, ap, arith}
+use Rattle.std.proofs.Common.{◌≡◌, ◌∙◌, ℕ, zero, suc, ◌+◌, ◌<◌, ◌≤◌, max, List, [], ◌∷◌, ◌++◌, length, get_or, inl, inr, refl, ap, arith}
 use Rattle.std.proofs.lemmas.Bool.{cases_lt}
 use Rattle.std.proofs.lemmas.List.{length_push, get_or_push, get_or_append_left, get_or_past}
 use Rattle.node_defs.specs.Groups.{group_at}
 use Rattle.node_map.specs.Wires.{most_of, pasts_to}
-
-pub last_or : (i n : ℕ) → i < suc n → (i < n) ⊎ (i ≡ n)
-last_or i n within = elim (cases_lt i n) [ inl h ↦ inl h | inr h ↦ inr (omega arith) ]
 
 -- the wire that a place adds
 pub added : ℕ → List ℕ → ℕ → ℕ

@@ -1,12 +1,12 @@
 -- The ranks of the own nodes along an order.
 use Rattle.std.proofs.Common.{◌≡◌, ◌≢◌, ◌∙◌, ℕ, zero, suc, ◌+◌, ◌-◌, ◌*◌, ◌^◌, ◌==◌, ◌<◌, ◌≤◌, Bool, true, false, if◌then◌else◌, List, [], ◌∷◌, length, map, replicate, get_or, set, inl, inr, refl, sym, ap, subst, arith, Option, Some, None}
 use Rattle.std.specs.List.{Contains, slice_get}
-use Rattle.std.proofs.lemmas.Bool.{cases_lt}
+use Rattle.std.proofs.lemmas.Bool.{cases_lt, eqb-true}
 use Rattle.std.proofs.lemmas.Bool.Decides.{eqb_tells, Decides-eqb}
 use Rattle.std.proofs.lemmas.Map.Made.{IsDistinct-from_AllPairs}
 use Rattle.std.proofs.lemmas.Map.Steps.{length-le_from_distinct_below}
 use Rattle.std.proofs.lemmas.Map.Views.{Contains-from_any}
-use Rattle.std.proofs.lemmas.List.{get_or_past, get_or-replicate, length-replicate, length-set, length-map, get_or-map, get_or-set_same, get_or-set_other}
+use Rattle.std.proofs.lemmas.List.{get_or_past, length-replicate, length-set, length-map, get_or-map, get_or-set_same, get_or-set_other}
 use Rattle.net_defs.specs.declared.netlist.Netlist.{Netlist}
 use Rattle.net_defs.specs.declared.netlist.Signal.{Signal}
 use Rattle.net_defs.specs.declared.netlist.Driver.{Driver}
@@ -15,10 +15,10 @@ use Rattle.net_defs.specs.declared.timing.Timing.{Timing}
 use Rattle.net_defs.specs.Steps.{is_late}
 use Rattle.net_defs.specs.Loops.{is_gate, is_gate_driver, gate_operands, IsGate, waits_for, IsOrder}
 use Rattle.list_laws.proofs.Differ.{differ_at}
-use Rattle.list_laws.proofs.Places.{place_of}
-use Rattle.list_laws.proofs.Ranges.{last_or}
+use Rattle.list_laws.proofs.Places.{place_of, place_below}
+use Rattle.list_laws.proofs.Ranges.{last_or, zeros_read}
 use Rattle.rank_find.proofs.WalkLemmas.{is_gate_or}
-use Rattle.rank_find.proofs.NumberLemmas.{gate_within, place_below}
+use Rattle.rank_find.proofs.NumberLemmas.{gate_within}
 use Rattle.node_defs.specs.Groups.{groups}
 use Rattle.node_map.specs.Wires.{operands_of, helpers_at, class_at, past_of, pasts_to, rank_at, AreOwnRanks}
 use Rattle.node_map.proofs.ShapeLemmas.{few_groups, no_groups}
@@ -47,9 +47,6 @@ rank_low net timing own s place bound few low =
     omega (arith, grown, few_groups (length (operands_of net s)), few)
 
 -- ---- what the ranks stand on
-
-no_operands : List ℕ
-no_operands = []
 
 -- what is no gate has no operands
 pub operands_none : (net : Netlist) (s : ℕ) → is_gate net s ≡ false → operands_of net s ≡ []
@@ -101,9 +98,6 @@ pub record OwnTo (net : Netlist) (timing : Timing) (order : List ℕ) (n : ℕ) 
   pub low : (s : ℕ) → get_or own s 0 ≤ 2050 * n
   pub ranked : (k : ℕ) → k < n → get_or own (get_or order k 0) 0 ≡ rank_at net timing own (get_or order k 0) (helpers_at net (get_or order k 0))
   pub others : (s : ℕ) → ((k : ℕ) → k < n → get_or order k 0 ≢ s) → get_or own s 0 ≡ 0
-
-zeros_read : (n s : ℕ) → get_or (replicate {A = ℕ} n 0) s 0 ≡ 0
-zeros_read n s = elim (cases_lt s n) [ inl h ↦ get_or-replicate n s 0 0 h | inr h ↦ get_or_past (replicate {A = ℕ} n 0) s 0 (omega (arith, length-replicate {A = ℕ} n 0)) ]
 
 pub own_begun : (net : Netlist) (timing : Timing) (order own : List ℕ) → own ≡ replicate (length net.signals) 0 → OwnTo net timing order 0 own
 own_begun net timing order own is = record {
@@ -180,15 +174,10 @@ own_all net timing order own is_order to = record {
 pub own_low : (net : Netlist) (timing : Timing) (order own : List ℕ) (n : ℕ) → n ≤ 1048576 → OwnTo net timing order n own → (s : ℕ) → get_or own s 0 + 2052 < 2 ^ 32
 own_low net timing order own n short to s = omega (arith, to.low s)
 
-eqb_same : (x y : ℕ) → (x == y) ≡ true → x ≡ y
-eqb_same x y is = elim (eqb_tells x y) [ inl h ↦ h.1 | inr h ↦ absurd (both h.0 is) ] where
-  both : {b : Bool} → b ≡ false → b ≡ true → ⊥
-  both first second = cc
-
 -- an order has at most as many gates as there are signals
 pub order_short : (net : Netlist) (timing : Timing) (order : List ℕ) → IsOrder net timing order → length order ≤ length net.signals
 order_short net timing order is_order =
     length-le_from_distinct_below order (length net.signals) (IsDistinct-from_AllPairs Decides-eqb order is_order.different)
-    (λ q any. within q (place_of order q (Contains-from_any eqb_same q order any))) where
+    (λ q any. within q (place_of order q (Contains-from_any eqb-true q order any))) where
       within : (q : ℕ) → (i : ℕ) × (i < length order) × (get_or order i 0 ≡ q) → q < length net.signals
       within q at = subst (λ s. s < length net.signals) at.2 (gate_within net (get_or order at.0 0) (is_order.gates at.0 0 at.1))

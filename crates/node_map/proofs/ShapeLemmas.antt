@@ -82,23 +82,19 @@ no_groups = groups_narrow 0 0 0 (omega arith)
 pub narrow_groups : (n : ℕ) → n ≤ 4 → groups n ≡ record { first = 0; size = n } ∷ []
 narrow_groups n few = groups_narrow n 0 n few
 
--- the wires of a group stand before its own helper
-pub group_within : (n place : ℕ) → place < length (groups n) → (group_at n place).first + (group_at n place).size ≤ n + place
-group_within n place within = elim (cases_lt 0 n) [
-  | inl some ↦ (shaped n place some within).ends
+-- the wires of a group stand before its own helper, and are few
+group_shape : (n place : ℕ) → place < length (groups n) → ((group_at n place).first + (group_at n place).size ≤ n + place) × ((group_at n place).size ≤ 4)
+group_shape n place within = elim (cases_lt 0 n) [
+  | inl some ↦ ((shaped n place some within).ends, (shaped n place some within).few)
   | inr none ↦
       let empty : n ≡ 0 = omega arith in
       let single : length (groups n) ≡ 1 = rw empty (rw no_groups refl) in
       let first : place ≡ 0 = omega (arith, within, single) in
-      rw empty (rw first (rw no_groups (omega arith)))
+      rw empty (rw first (rw no_groups (omega arith, omega arith)))
 ]
 
+pub group_within : (n place : ℕ) → place < length (groups n) → (group_at n place).first + (group_at n place).size ≤ n + place
+group_within n place within = (group_shape n place within).0
+
 pub group_few : (n place : ℕ) → place < length (groups n) → (group_at n place).size ≤ 4
-group_few n place within = elim (cases_lt 0 n) [
-  | inl some ↦ (shaped n place some within).few
-  | inr none ↦
-      let empty : n ≡ 0 = omega arith in
-      let single : length (groups n) ≡ 1 = rw empty (rw no_groups refl) in
-      let first : place ≡ 0 = omega (arith, within, single) in
-      rw empty (rw first (rw no_groups (omega arith)))
-]
+group_few n place within = (group_shape n place within).1

@@ -17,8 +17,8 @@ use Rattle.func_table.specs.Entries.{entry_of, entry_for, place_of, answer_at, A
 use Rattle.func_table.specs.Shelf.{AreDifferent, IsNumbered}
 use Rattle.func_table.proofs.EntryLemmas.{entries_more, entries_are_answers}
 use Rattle.list_laws.proofs.Places.{seam_at}
+use Rattle.list_laws.proofs.Ranges.{last_or}
 use Rattle.node_map.specs.Tables.{Keeps, AddsOnly, HasTable}
-use Rattle.node_map.proofs.PastLemmas.{last_or}
 use Rattle.node_map.proofs.TableLemmas.{numbered_keeps, numbered_adds}
 
 -- ---- tables
@@ -74,7 +74,7 @@ entries_or table other zero = inl (λ e below. absurd (omega (arith, below)))
 entries_or table other (suc n) = elim (entries_or table other n) [
   | inr found ↦ inr (found.0, omega (arith, found.1), found.2)
   | inl same ↦ elim (value_or (entry_of table n) (entry_of other n)) [
-    | inl alike ↦ inl (λ e below. elim (last_or e n below) [ inl h ↦ same e h | inr h ↦ rw h alike ])
+    | inl alike ↦ inl (λ e below. elim (last_or e n (omega (arith, below))) [ inl h ↦ same e h | inr h ↦ rw h alike ])
     | inr differs ↦ inr (n, omega arith, differs)
   ]
 ]

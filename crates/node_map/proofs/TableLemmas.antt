@@ -1,14 +1,11 @@
 -- Tables that keep their numbers while more are made.
 use Rattle.std.proofs.Common.{◌≡◌, ◌∙◌, ℕ, ◌<◌, ◌≤◌, inl, inr, List, [], ◌∷◌, ◌++◌, length, sym, ap, arith}
 use Rattle.std.specs.Prelude.{Some, slice_get}
-use Rattle.std.proofs.lemmas.Bool.{cases_lt}
 use Rattle.std.proofs.lemmas.Option.{slice_get-get_or, slice_get_within, get_or_from_slice_get}
 use Rattle.std.proofs.lemmas.List.{length_push, get_or_append_left, get_or_push}
-use Rattle.logic_four.specs.declared.Kind.{Kind}
 use Rattle.func_table.specs.declared.table.Table.{Table}
 use Rattle.func_table.specs.Shelf.{IsNumbered}
-use Rattle.node_map.specs.declared.palette.Made.{Made}
-use Rattle.node_map.specs.Tables.{Keeps, AddsOnly, HasTable, AreMadeIn}
+use Rattle.node_map.specs.Tables.{Keeps, AddsOnly}
 
 pub get_front : {X : Type 0} (xs : List X) (y x : X) (i : ℕ) → slice_get xs i ≡ Some x → slice_get (xs ++ y ∷ []) i ≡ Some x
 get_front xs y x i at =
@@ -35,17 +32,3 @@ module _ (table : Table) (old new : List Table) (number : ℕ) (is : IsNumbered 
   ] where
     none : new ≡ old → ⊥
     none same = omega (arith, ap length same, past, within)
-
-pub has_kept : (old new : List Table) (kind : Kind) (operands number : ℕ) → Keeps old new → HasTable old kind operands number → HasTable new kind operands number
-has_kept old new kind operands number kept has = (has.0, kept number has.0 has.1, has.2)
-
-pub made_kept : (old new : List Table) (made : List Made) → Keeps old new → AreMadeIn old made → AreMadeIn new made
-made_kept old new made kept are i one at = has_kept old new one.kind one.operands one.number kept (are i one at)
-
-pub made_more : (tables : List Table) (made : List Made) (kind : Kind) (operands number : ℕ) → AreMadeIn tables made → HasTable tables kind operands number → AreMadeIn tables (made ++ record { kind = kind; operands = operands; number = number } ∷ [])
-made_more tables made kind operands number are has i one at = elim (cases_lt i (length made)) [
-  | inl h ↦
-      let one_is : slice_get made i ≡ Some one = slice_get-get_or made i one h ∙ ap Some (sym (get_or_append_left made (record { kind = kind; operands = operands; number = number } ∷ []) one i h) ∙ get_or_from_slice_get (made ++ record { kind = kind; operands = operands; number = number } ∷ []) i one one at) in
-      are i one one_is
-  | inr h ↦ rw (get_last made (record { kind = kind; operands = operands; number = number }) one i h at).1 has
-]

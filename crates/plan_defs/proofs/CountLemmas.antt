@@ -1,29 +1,26 @@
 -- How many items, tables and memories there are.
-use Rattle.std.proofs.Common.{◌≡◌, ◌≢◌, ◌∙◌, ◌⊎◌, inl, inr, ℕ, zero, suc, ◌+◌, ◌<◌, ◌≤◌, ◌==◌, Bool, true, false, List, [], ◌∷◌, ◌++◌, length, take, map, get_or, cond, sym, ap, subst, arith}
+use Rattle.std.proofs.Common.{◌≡◌, ◌≢◌, ◌∙◌, ◌⊎◌, inl, inr, ℕ, zero, suc, ◌+◌, ◌<◌, ◌≤◌, Bool, List, [], ◌∷◌, ◌++◌, length, take, map, get_or, cond, sym, ap, subst, arith, true, false, if◌then◌else◌, ◌==◌}
 use Rattle.std.specs.Prelude.{Some, slice_get}
 use Rattle.std.specs.List.{All, AllPairs, Contains, sum_by, count_by, range_with_len}
-use Rattle.std.proofs.lemmas.Bool.{cases_lt}
-use Rattle.std.proofs.lemmas.Bool.Decides.{eqb_tells, Decides-eqb}
+use Rattle.std.proofs.lemmas.Bool.{cases_lt, eqb-true}
+use Rattle.std.proofs.lemmas.Bool.Decides.{Decides-eqb}
 use Rattle.std.proofs.lemmas.Map.Made.{IsDistinct-from_AllPairs}
 use Rattle.std.proofs.lemmas.Map.Steps.{length-le_from_distinct_below}
 use Rattle.std.proofs.lemmas.Map.Views.{Contains-from_any}
 use Rattle.std.proofs.lemmas.Option.{slice_get_within, get_or_from_slice_get}
 use Rattle.std.proofs.lemmas.List.{length-append, get_or_default}
-use Rattle.std.proofs.lemmas.List.FromFn.{length-map-range_with_len, get_or-map-range_with_len}
-use Rattle.std.proofs.lemmas.List.Sums.{sum_by-cons, sum_by_more, sum_by_more_le}
+use Rattle.std.proofs.lemmas.List.FromFn.{length-map-range_with_len, get_or-map-range_with_len, length-range_with_len}
+use Rattle.std.proofs.lemmas.List.Sums.{sum_by-cons, sum_by_more, sum_by_more_le, sum_by-le}
+use Rattle.plan_defs.specs.Picks.{nodes_before}
 use Rattle.node_defs.specs.Groups.{group_count, groups_from, groups, helper_count}
 use Rattle.node_defs.proofs.LevelLemmas.{groups_last}
 use Rattle.node_defs.proofs.GroupLemmas.{groups_narrow, groups_wide, level_of, level_length}
-
-eqb_same : (x y : ℕ) → (x == y) ≡ true → x ≡ y
-eqb_same x y is = elim (eqb_tells x y) [ inl h ↦ h.1 | inr h ↦ absurd (both h.0 is) ] where
-  both : {b : Bool} → b ≡ false → b ≡ true → ⊥
-  both first second = cc
+use Rattle.node_defs.specs.declared.items.NodeNet.{NodeNet}
 
 -- different numbers below a bound are no more than it
 pub few_below : (xs : List ℕ) (n : ℕ) → ((i j : ℕ) → i < j → j < length xs → get_or xs i 0 ≢ get_or xs j 0) → ((i : ℕ) → i < length xs → get_or xs i 0 < n) → length xs ≤ n
 few_below xs n different low =
-    length-le_from_distinct_below xs n (IsDistinct-from_AllPairs Decides-eqb xs pairs) (λ q any. within q (Contains-from_any eqb_same q xs any)) where
+    length-le_from_distinct_below xs n (IsDistinct-from_AllPairs Decides-eqb xs pairs) (λ q any. within q (Contains-from_any eqb-true q xs any)) where
       pairs : AllPairs (λ s t. s ≢ t) xs
       pairs i j d before inside =
           let one : get_or xs i d ≡ get_or xs i 0 = get_or_default xs i d 0 (omega (arith, before, inside)) in
@@ -90,3 +87,13 @@ groups_short levels first count some = by_size levels first count some (cases_lt
 
 pub helpers_few : (n : ℕ) → 1 ≤ n → helper_count n < n
 helpers_few n some = let short : length (groups n) ≤ n = groups_short n 0 n some in omega (arith, short, some)
+
+one_most : (test : Bool) → (if test then 1 else 0) ≤ 1
+one_most true = omega arith
+one_most false = omega arith
+
+-- no port has more nodes than there are
+pub few_before : (nodes : NodeNet) (ports : List ℕ) (n port : ℕ) → nodes_before nodes ports n port ≤ n
+few_before nodes ports n port =
+    let most = sum_by-le (λ k. if get_or ports (nodes.first_node + k) 0 == port then 1 else 0) 1 (range_with_len 0 n) (λ k d within. one_most (get_or ports (nodes.first_node + get_or (range_with_len 0 n) k d) 0 == port)) in
+    omega (arith, most, length-range_with_len 0 n)

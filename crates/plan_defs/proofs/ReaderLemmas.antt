@@ -5,6 +5,7 @@ use Rattle.std.proofs.lemmas.Nat.Bits.{bit_at-zero}
 use Rattle.std.proofs.lemmas.Option.{slice_get_within, get_or_from_slice_get, slice_get-get_or}
 use Rattle.std.proofs.lemmas.List.{get_or_append_left, length-append}
 use Rattle.std.proofs.Math.Seq.{get_or-append_seam}
+use Rattle.list_laws.proofs.Ranges.{last_or}
 use Rattle.bit_rows.specs.declared.BitRows.{BitRows}
 use Rattle.bit_rows.specs.Bits.{HasBit}
 use Rattle.node_defs.specs.declared.items.NodeNet.{NodeNet}
@@ -13,7 +14,6 @@ use Rattle.plan_defs.specs.Homes.{home_of}
 use Rattle.plan_defs.specs.Lists.{Lists}
 use Rattle.plan_defs.specs.Readers.{IsReaderList}
 use Rattle.plan_defs.specs.UserRows.{AreUsers}
-use Rattle.plan_defs.proofs.ListLemmas.{last_or}
 
 -- a word that is 0 has none of its bits
 pub word_none : (rows : BitRows) (row w word : ℕ) → word ≡ 0 → ((b : ℕ) → b < 64 → (bit_at word b ≡ 1) ↔ HasBit rows row (64 * w + b)) → (m : ℕ) → 64 * w ≤ m → m < 64 * w + 64 → HasBit rows row m → ⊥

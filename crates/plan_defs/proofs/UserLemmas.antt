@@ -1,11 +1,12 @@
 -- Users that are marked one after another.
-use Rattle.std.proofs.Common.{◌≡◌, ◌∙◌, ◌⊎◌, ◌↔◌, inl, inr, ℕ, ◌+◌, ◌<◌, List, length, get_or, sym, ap, subst, arith, Some, slice_get}
+use Rattle.std.proofs.Common.{◌≡◌, ◌∙◌, ◌⊎◌, inl, inr, ℕ, ◌+◌, ◌<◌, List, length, get_or, sym, ap, subst, arith, Some, slice_get}
 use Rattle.std.specs.List.{Contains}
 use Rattle.std.proofs.lemmas.Option.{slice_get_within, slice_get-get_or}
 use Rattle.std.proofs.lemmas.List.{get_or_default}
+use Rattle.list_laws.proofs.Ranges.{last_or}
 use Rattle.bit_rows.specs.declared.BitRows.{BitRows}
 use Rattle.bit_rows.specs.Bits.{HasBit, IsShaped, Adds}
-use Rattle.bit_rows.proofs.AddLemmas.{adds_both, adds_same, adds_none}
+use Rattle.bit_rows.proofs.AddLemmas.{adds_both, adds_same}
 use Rattle.node_defs.specs.declared.items.Item.{Item}
 use Rattle.node_defs.specs.declared.items.NodeBlock.{NodeBlock}
 use Rattle.node_defs.specs.declared.items.NodeNet.{NodeNet}
@@ -15,7 +16,6 @@ use Rattle.plan_defs.specs.declared.plan.Homes.{Homes}
 use Rattle.plan_defs.specs.Homes.{AreHomes, home_of, block_home, host_of}
 use Rattle.plan_defs.specs.Readers.{ItemTakes, MemoryTakes, IsUser}
 use Rattle.plan_defs.specs.UserRows.{HasPlace, AreUsers}
-use Rattle.plan_defs.proofs.ListLemmas.{last_or}
 use Rattle.plan_defs.proofs.PortLemmas.{user_port}
 
 pub place_kept : (a b : BitRows) (P : ℕ → ℕ → Type 0) (row bit : ℕ) → Adds a b P → HasPlace a row bit → HasPlace b row bit
@@ -40,13 +40,6 @@ adds_either a b c P Q port first second = adds_both a b c (λ o p. P o × (p ≡
   back : (o p : ℕ) → (P o × (p ≡ port)) ⊎ (Q o × (p ≡ port)) → (P o ⊎ Q o) × (p ≡ port)
   back o p (inl (is, at)) = (inl is, at)
   back o p (inr (is, at)) = (inr is, at)
-
--- the items of one number, told in other words
-pub adds_one : (a b : BitRows) (item port : ℕ) (P : ℕ → Type 0) → Adds a b (λ r k. (r ≡ item) × (k ≡ port)) → ((o : ℕ) → P o ↔ (o ≡ item)) → Adds a b (λ o p. P o × (p ≡ port))
-adds_one a b item port P adds same = adds_same a b (λ r k. (r ≡ item) × (k ≡ port)) (λ o p. P o × (p ≡ port)) adds (λ o p. (λ h. ((same o).0 h.0, h.1), λ h. ((same o).1 h.0, h.1)))
-
-pub adds_nobody : (a : BitRows) (port : ℕ) (P : ℕ → Type 0) → ((o : ℕ) → P o → ⊥) → Adds a a (λ o p. P o × (p ≡ port))
-adds_nobody a port P none = adds_none a (λ o p. P o × (p ≡ port)) (λ o p h. none o h.0)
 
 -- ---- lists
 

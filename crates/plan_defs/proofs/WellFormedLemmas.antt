@@ -1,5 +1,5 @@
 -- The items of a valid netlist are what planning asks of them.
-use Rattle.std.proofs.Common.{◌≡◌, ◌≢◌, ◌∙◌, ◌⊎◌, inl, inr, ℕ, zero, suc, ◌+◌, ◌*◌, ◌^◌, ◌<◌, ◌≤◌, Bool, true, false, List, length, take, get_or, cond, refl, sym, ap, subst, arith}
+use Rattle.std.proofs.Common.{◌≡◌, ◌≢◌, ◌∙◌, ◌⊎◌, inl, inr, ℕ, zero, suc, ◌+◌, ◌*◌, ◌^◌, ◌<◌, ◌≤◌, Bool, true, List, length, take, get_or, cond, refl, sym, ap, subst, arith}
 use Rattle.std.specs.Prelude.{◌↔◌, Option, Some, None, slice_get, All, Contains}
 use Rattle.std.specs.List.{sum_by, count_by}
 use Rattle.std.proofs.lemmas.Bool.{cases_lt, cases_order}
@@ -8,6 +8,8 @@ use Rattle.std.proofs.lemmas.List.{get_or_default}
 use Rattle.std.proofs.lemmas.List.Elements.{All-from_get_or}
 use Rattle.std.proofs.lemmas.List.FromFn.{length-range_with_len}
 use Rattle.std.proofs.lemmas.List.Sums.{count_by_more_yes, sum_by-take-le}
+use Rattle.func_table.specs.declared.table.Table.{Table}
+use Rattle.list_laws.proofs.Members.{member_at}
 use Rattle.limits.specs.declared.TheConstants.{MAX_NODES}
 use Rattle.logic_four.proofs.KindLemmas.{few_operands, some_operands}
 use Rattle.net_defs.specs.declared.netlist.Netlist.{Netlist}
@@ -31,35 +33,22 @@ use Rattle.node_defs.specs.Items.{own, IsNamed, feed_at, IsItem, IsItemOf, Stand
 use Rattle.node_defs.specs.Order.{class_of, key_of, Before, AreItems}
 use Rattle.node_defs.specs.Takes.{FeedTakes, FeedAwaits, Takes, Awaits}
 use Rattle.node_defs.specs.WellFormed.{IsComputed, NamesParts, is_input, column_count, IsMemoryOf, IsWellFormed}
-use Rattle.node_defs.proofs.MemberLemmas.{member_at}
 use Rattle.node_defs.proofs.EarlierLemmas.{earlier, operand_there, table_there}
+use Rattle.node_defs.proofs.NameLemmas.{name_at, name_there, name_same, NamedItem, named_item}
 use Rattle.plan_defs.specs.Picks.{node_count}
 use Rattle.plan_defs.proofs.CountLemmas.{few_partners, length-le-sum, count_later, place_low, place_before, helpers_few}
+
+-- what a signal that the stimulus drives has an item for is its input
+pub is_column : (names : List ItemName) (tables : List Table) (late : Bool) (s : ℕ) (d : Driver) (i : Item) → is_input_driver d ≡ true → IsItemOf names tables late s d None i → i ≡ Input s
+is_column names tables late s driver.Input i same is = is.1
+is_column names tables late s (driver.Gate kind ops) i same is = cc
+is_column names tables late s (driver.Dff o) i same is = cc
+is_column names tables late s (driver.BlockBit block bit) i same is = cc
 
 module _ (net : Netlist) (timing : Timing) (nodes : NodeNet) (valid : IsValid net) (are : AreItems net timing nodes) where
   -- a name is some item's
   named_within : (x : ℕ) (name : ItemName) → IsNamed nodes.names x name → x < length nodes.items
   named_within x name named = omega (arith, are.named, slice_get_within nodes.names x name named)
-
-  -- what an item's name says, by the driver of its signal
-  record Drives (x : ℕ) (item : Item) : Type 0 where
-    name : ItemName
-    is_named : IsNamed nodes.names x name
-    signal : Signal
-    is_signal : slice_get net.signals name.signal ≡ Some signal
-    is : IsItemOf nodes.names nodes.tables (is_late net timing name.signal) name.signal signal.driver name.helper item
-
-  drives : (x : ℕ) (item : Item) → slice_get nodes.items x ≡ Some item → Drives x item
-  drives x item at = by_signal (slice_get net.signals name.0.signal) refl where
-    name : (n : ItemName) × (slice_get nodes.names x ≡ Some n)
-    name = member_at nodes.names x (omega (arith, are.named, slice_get_within nodes.items x item at))
-
-    right : IsItem net timing nodes.names nodes.tables name.0 item
-    right = are.right x name.0 item name.1 at
-
-    by_signal : (found : Option Signal) → slice_get net.signals name.0.signal ≡ found → Drives x item
-    by_signal None missing = absurd (rw missing at right)
-    by_signal (Some signal) there = record { name = name.0; is_named = name.1; signal = signal; is_signal = there; is = rw there at right }
 
   -- ---- operands
 
@@ -74,18 +63,10 @@ module _ (net : Netlist) (timing : Timing) (nodes : NodeNet) (valid : IsValid ne
 
   -- the operand of a latch is some item
   latch_taken : (late : Bool) (s : ℕ) (d : Driver) (helper : Option ℕ) (op : ℕ) → IsItemOf nodes.names nodes.tables late s d helper (Latch op) → op < length nodes.items
-  latch_taken late s driver.Input helper op is = absurd (clash is.1) where
-    clash : Latch op ≡ Input s → ⊥
-    clash same = cc
-  latch_taken late s (driver.BlockBit block bit) helper op is = absurd (clash is.1) where
-    clash : Latch op ≡ BlockBit block bit → ⊥
-    clash same = cc
-  latch_taken late s (driver.Gate kind ops) None op is = absurd (clash is.is) where
-    clash : {table : ℕ} {feeds : Feeds} → Latch op ≡ Node table feeds → ⊥
-    clash same = cc
-  latch_taken late s (driver.Gate kind ops) (Some h) op is = absurd (clash is.1.is) where
-    clash : {table : ℕ} {feeds : Feeds} → Latch op ≡ Node table feeds → ⊥
-    clash same = cc
+  latch_taken late s driver.Input helper op is = cc is.1
+  latch_taken late s (driver.BlockBit block bit) helper op is = cc is.1
+  latch_taken late s (driver.Gate kind ops) None op is = cc is.is
+  latch_taken late s (driver.Gate kind ops) (Some h) op is = cc is.1.is
   latch_taken late s (driver.Dff o) helper op is = rw (one op is.1 is.3) (named_within is.1 (own o) is.2) where
     one : (a b : ℕ) → Latch a ≡ Latch b → a ≡ b
     one a b same = cc
@@ -94,8 +75,8 @@ module _ (net : Netlist) (timing : Timing) (nodes : NodeNet) (valid : IsValid ne
   taken i o (Input column) at takes = absurd takes
   taken i o (BlockBit block bit) at takes = absurd takes
   taken i o (Latch op) at takes =
-      let found : Drives i (Latch op) = drives i (Latch op) at in
-      rw takes (latch_taken (is_late net timing found.name.signal) found.name.signal found.signal.driver found.name.helper op found.is)
+      let found = named_item net timing nodes are i (Latch op) at in
+      rw takes (latch_taken (is_late net timing (name_at nodes i).signal) (name_at nodes i).signal found.signal.driver (name_at nodes i).helper op found.is)
   taken i o (Node table feeds) at (inl a) = feed_taken i table feeds 0 o feeds.a at refl a
   taken i o (Node table feeds) at (inr (inl b)) = feed_taken i table feeds 1 o feeds.b at refl b
   taken i o (Node table feeds) at (inr (inr (inl c))) = feed_taken i table feeds 2 o feeds.c at refl c
@@ -114,18 +95,10 @@ module _ (net : Netlist) (timing : Timing) (nodes : NodeNet) (valid : IsValid ne
 
   -- what drives the signal of a memory output
   bit_driver : (late : Bool) (s : ℕ) (d : Driver) (helper : Option ℕ) (block bit : ℕ) → IsItemOf nodes.names nodes.tables late s d helper (BlockBit block bit) → d ≡ driver.BlockBit block bit
-  bit_driver late s driver.Input helper block bit is = absurd (clash is.1) where
-    clash : BlockBit block bit ≡ Input s → ⊥
-    clash same = cc
-  bit_driver late s (driver.Dff o) helper block bit is = absurd (clash is.1 is.3) where
-    clash : (x : ℕ) → BlockBit block bit ≡ Latch x → ⊥
-    clash x same = cc
-  bit_driver late s (driver.Gate kind ops) None block bit is = absurd (clash is.is) where
-    clash : {table : ℕ} {feeds : Feeds} → BlockBit block bit ≡ Node table feeds → ⊥
-    clash same = cc
-  bit_driver late s (driver.Gate kind ops) (Some h) block bit is = absurd (clash is.1.is) where
-    clash : {table : ℕ} {feeds : Feeds} → BlockBit block bit ≡ Node table feeds → ⊥
-    clash same = cc
+  bit_driver late s driver.Input helper block bit is = cc is.1
+  bit_driver late s (driver.Dff o) helper block bit is = cc is.3
+  bit_driver late s (driver.Gate kind ops) None block bit is = cc is.is
+  bit_driver late s (driver.Gate kind ops) (Some h) block bit is = cc is.1.is
   bit_driver late s (driver.BlockBit m b) helper block bit is = one is.1 where
     one : BlockBit block bit ≡ BlockBit m b → driver.BlockBit m b ≡ driver.BlockBit block bit
     one same = cc
@@ -133,12 +106,12 @@ module _ (net : Netlist) (timing : Timing) (nodes : NodeNet) (valid : IsValid ne
   -- a memory output is at its bit of some memory
   bit_there : (i block bit : ℕ) → slice_get nodes.items i ≡ Some (BlockBit block bit) → (s : ℕ) × (memory : Block) × (slice_get net.blocks block ≡ Some memory) × (slice_get memory.outs bit ≡ Some s)
   bit_there i block bit at =
-      let found : Drives i (BlockBit block bit) = drives i (BlockBit block bit) at in
+      let found = named_item net timing nodes are i (BlockBit block bit) at in
       let it : found.signal.driver ≡ driver.BlockBit block bit =
-      bit_driver (is_late net timing found.name.signal) found.name.signal found.signal.driver found.name.helper block bit found.is in
-      let out : IsDrivable net found.name.signal (driver.BlockBit block bit) =
-      subst (IsDrivable net found.name.signal) it (valid.drivers found.name.signal found.signal found.is_signal) in
-      (found.name.signal, out.0, out.1, out.2)
+      bit_driver (is_late net timing (name_at nodes i).signal) (name_at nodes i).signal found.signal.driver (name_at nodes i).helper block bit found.is in
+      let out : IsDrivable net (name_at nodes i).signal (driver.BlockBit block bit) =
+      subst (IsDrivable net (name_at nodes i).signal) it (valid.drivers (name_at nodes i).signal found.signal found.is_signal) in
+      ((name_at nodes i).signal, out.0, out.1, out.2)
 
   parts : (i : ℕ) (item : Item) → slice_get nodes.items i ≡ Some item → NamesParts nodes item
   parts i (Input column) at = tt
@@ -204,18 +177,10 @@ module _ (net : Netlist) (timing : Timing) (nodes : NodeNet) (valid : IsValid ne
   input_driver late s driver.Input helper column is = (refl, one is.1) where
     one : Input column ≡ Input s → column ≡ s
     one same = cc
-  input_driver late s (driver.Dff o) helper column is = absurd (clash is.1 is.3) where
-    clash : (x : ℕ) → Input column ≡ Latch x → ⊥
-    clash x same = cc
-  input_driver late s (driver.Gate kind ops) None column is = absurd (clash is.is) where
-    clash : {table : ℕ} {feeds : Feeds} → Input column ≡ Node table feeds → ⊥
-    clash same = cc
-  input_driver late s (driver.Gate kind ops) (Some h) column is = absurd (clash is.1.is) where
-    clash : {table : ℕ} {feeds : Feeds} → Input column ≡ Node table feeds → ⊥
-    clash same = cc
-  input_driver late s (driver.BlockBit block bit) helper column is = absurd (clash is.1) where
-    clash : Input column ≡ BlockBit block bit → ⊥
-    clash same = cc
+  input_driver late s (driver.Dff o) helper column is = cc is.3
+  input_driver late s (driver.Gate kind ops) None column is = cc is.is
+  input_driver late s (driver.Gate kind ops) (Some h) column is = cc is.1.is
+  input_driver late s (driver.BlockBit block bit) helper column is = cc is.1
 
   -- the item of an input stands for the signal of its column
   record IsInputAt (x column : ℕ) : Type 0 where
@@ -228,12 +193,12 @@ module _ (net : Netlist) (timing : Timing) (nodes : NodeNet) (valid : IsValid ne
 
   input_at : (x column : ℕ) → slice_get nodes.items x ≡ Some (Input column) → IsInputAt x column
   input_at x column at =
-      let found : Drives x (Input column) = drives x (Input column) at in
-      let is : (found.signal.driver ≡ driver.Input) × (column ≡ found.name.signal) =
-      input_driver (is_late net timing found.name.signal) found.name.signal found.signal.driver found.name.helper column found.is in
+      let found = named_item net timing nodes are x (Input column) at in
+      let is : (found.signal.driver ≡ driver.Input) × (column ≡ (name_at nodes x).signal) =
+      input_driver (is_late net timing (name_at nodes x).signal) (name_at nodes x).signal found.signal.driver (name_at nodes x).helper column found.is in
       record {
-        name = found.name;
-        named = found.is_named;
+        name = name_at nodes x;
+        named = name_there net timing nodes are x (slice_get_within nodes.items x (Input column) at);
         signal_is = sym is.1;
         signal = found.signal;
         is_signal = ap (slice_get net.signals) is.1 ∙ found.is_signal;
@@ -246,15 +211,7 @@ module _ (net : Netlist) (timing : Timing) (nodes : NodeNet) (valid : IsValid ne
       let place : (y : ℕ) × IsNamed nodes.names y (own s) = are.names.whole s signal None there tt in
       let item : (i : Item) × (slice_get nodes.items place.0 ≡ Some i) = member_at nodes.items place.0 (named_within place.0 (own s) place.1) in
       let right : IsItem net timing nodes.names nodes.tables (own s) item.0 = are.right place.0 (own s) item.0 place.1 item.1 in
-      (place.0, place.1, item.1 ∙ ap Some (is_column signal.driver item.0 driven (rw there at right))) where
-        clash : false ≡ true → ⊥
-        clash same = cc
-
-        is_column : (d : Driver) (i : Item) → is_input_driver d ≡ true → IsItemOf nodes.names nodes.tables (is_late net timing s) s d None i → i ≡ Input s
-        is_column driver.Input i same is = is.1
-        is_column (driver.Gate kind ops) i same is = absurd (clash same)
-        is_column (driver.Dff o) i same is = absurd (clash same)
-        is_column (driver.BlockBit block bit) i same is = absurd (clash same)
+      (place.0, place.1, item.1 ∙ ap Some (is_column nodes.names nodes.tables (is_late net timing s) s signal.driver item.0 driven (rw there at right)))
 
   -- inputs stand in the order of their columns
   in_order : (x y s t : ℕ) → slice_get nodes.items x ≡ Some (Input s) → slice_get nodes.items y ≡ Some (Input t) → x < y → s ≤ t
@@ -319,28 +276,17 @@ module _ (net : Netlist) (timing : Timing) (nodes : NodeNet) (valid : IsValid ne
   helper_small late s (driver.Gate kind ops) (Some h) item drivable is =
       omega (arith, is.0, helpers_few (length ops) (some_operands kind (length ops) drivable.0), few_operands kind (length ops) drivable.0)
 
-  name_at : ℕ → ItemName
-  name_at x = get_or nodes.names x (own 0)
-
-  name_there : (x : ℕ) → x < length nodes.items → IsNamed nodes.names x (name_at x)
-  unfolding name_at
-  name_there x within = slice_get-get_or nodes.names x (own 0) (omega (arith, are.named, within))
-
   -- the name of an item is of a signal, and of one of not too many helpers
-  code_low : (x : ℕ) → x < length nodes.items → ((name_at x).signal < length net.signals) × (helper_code (name_at x).helper < 1026)
-  code_low x within = by_signal (slice_get net.signals (name_at x).signal) refl where
+  code_low : (x : ℕ) → x < length nodes.items → ((name_at nodes x).signal < length net.signals) × (helper_code (name_at nodes x).helper < 1026)
+  code_low x within = (
+    slice_get_within net.signals (name_at nodes x).signal named.signal named.is_signal,
+    helper_small (is_late net timing (name_at nodes x).signal) (name_at nodes x).signal named.signal.driver (name_at nodes x).helper item.0 (valid.drivers (name_at nodes x).signal named.signal named.is_signal) named.is,
+  ) where
     item : (i : Item) × (slice_get nodes.items x ≡ Some i)
     item = member_at nodes.items x within
 
-    right : IsItem net timing nodes.names nodes.tables (name_at x) item.0
-    right = are.right x (name_at x) item.0 (name_there x within) item.1
-
-    by_signal : (found : Option Signal) → slice_get net.signals (name_at x).signal ≡ found → ((name_at x).signal < length net.signals) × (helper_code (name_at x).helper < 1026)
-    by_signal None missing = absurd (rw missing at right)
-    by_signal (Some signal) there = (
-      slice_get_within net.signals (name_at x).signal signal there,
-      helper_small (is_late net timing (name_at x).signal) (name_at x).signal signal.driver (name_at x).helper item.0 (valid.drivers (name_at x).signal signal there) (rw there at right),
-    )
+    named : NamedItem net timing nodes x item.0
+    named = named_item net timing nodes are x item.0 item.1
 
   helper_one : (one other : Option ℕ) → helper_code one ≡ helper_code other → one ≡ other
   unfolding helper_code
@@ -349,30 +295,23 @@ module _ (net : Netlist) (timing : Timing) (nodes : NodeNet) (valid : IsValid ne
   helper_one (Some h) None same = absurd (omega (arith, same))
   helper_one (Some h) (Some i) same = ap Some (omega (arith, same))
 
-  named_by : ℕ → Option ℕ → ItemName
-  named_by s h = record { signal = s; helper = h }
-
-  name_same : (one other : ItemName) → one.signal ≡ other.signal → one.helper ≡ other.helper → one ≡ other
-  unfolding named_by
-  name_same one other signal helper = ap (λ s. named_by s one.helper) signal ∙ ap (λ h. named_by other.signal h) helper
-
   -- items of one name are one
-  names_apart : (x y : ℕ) → x < y → y < length nodes.items → (name_at x).signal ≡ (name_at y).signal → helper_code (name_at x).helper ≡ helper_code (name_at y).helper → ⊥
+  names_apart : (x y : ℕ) → x < y → y < length nodes.items → (name_at nodes x).signal ≡ (name_at nodes y).signal → helper_code (name_at nodes x).helper ≡ helper_code (name_at nodes y).helper → ⊥
   names_apart x y before within signal helper =
-      let names : name_at x ≡ name_at y = name_same (name_at x) (name_at y) signal (helper_one (name_at x).helper (name_at y).helper helper) in
-      let one : x ≡ y = are.names.once x y (name_at y) (name_there x (omega (arith, before, within)) ∙ ap Some names) (name_there y within) in
+      let names : name_at nodes x ≡ name_at nodes y = name_same (name_at nodes x) (name_at nodes y) signal (helper_one (name_at nodes x).helper (name_at nodes y).helper helper) in
+      let one : x ≡ y = are.names.once x y (name_at nodes y) (name_there net timing nodes are x (omega (arith, before, within)) ∙ ap Some names) (name_there net timing nodes are y within) in
       omega (arith, before, one)
 
   few : length nodes.items < 2 ^ 31
   unfolding name_code
   few =
       let below : length nodes.items ≤ length net.signals * 1026 =
-      few_partners (length nodes.items) (length net.signals * 1026) (λ x. name_code (name_at x)) different low in
+      few_partners (length nodes.items) (length net.signals * 1026) (λ x. name_code (name_at nodes x)) different low in
       omega (arith, below, valid.few_signals) where
-        low : (x : ℕ) → x < length nodes.items → name_code (name_at x) < length net.signals * 1026
+        low : (x : ℕ) → x < length nodes.items → name_code (name_at nodes x) < length net.signals * 1026
         low x within = omega (arith, (code_low x within).0, (code_low x within).1)
 
-        different : (x y : ℕ) → x < y → y < length nodes.items → name_code (name_at x) ≢ name_code (name_at y)
+        different : (x y : ℕ) → x < y → y < length nodes.items → name_code (name_at nodes x) ≢ name_code (name_at nodes y)
         different x y before within same =
             let one = (code_low x (omega (arith, before, within))).1 in
             let other = (code_low y within).1 in
@@ -395,45 +334,41 @@ module _ (net : Netlist) (timing : Timing) (nodes : NodeNet) (valid : IsValid ne
 
   record HasOperand (x : ℕ) : Type 0 where
     signal : Signal
-    is_signal : slice_get net.signals (name_at x).signal ≡ Some signal
-    fits : helper_code (name_at x).helper < operands_of signal
+    is_signal : slice_get net.signals (name_at nodes x).signal ≡ Some signal
+    fits : helper_code (name_at nodes x).helper < operands_of signal
 
   node_operand : (x : ℕ) → nodes.first_node ≤ x → x < length nodes.items → HasOperand x
   unfolding operands_of
-  node_operand x from within = by_signal (slice_get net.signals (name_at x).signal) refl where
+  node_operand x from within = record {
+    signal = named.signal;
+    is_signal = named.is_signal;
+    fits = helper_fits (is_late net timing (name_at nodes x).signal) (name_at nodes x).signal named.signal.driver (name_at nodes x).helper item.0 (valid.drivers (name_at nodes x).signal named.signal named.is_signal) named.is ((are.first_node x item.0 item.1).1 from);
+  } where
     item : (i : Item) × (slice_get nodes.items x ≡ Some i)
     item = member_at nodes.items x within
 
-    right : IsItem net timing nodes.names nodes.tables (name_at x) item.0
-    right = are.right x (name_at x) item.0 (name_there x within) item.1
-
-    by_signal : (found : Option Signal) → slice_get net.signals (name_at x).signal ≡ found → HasOperand x
-    by_signal None missing = absurd (rw missing at right)
-    by_signal (Some signal) there = record {
-      signal = signal;
-      is_signal = there;
-      fits = helper_fits (is_late net timing (name_at x).signal) (name_at x).signal signal.driver (name_at x).helper item.0 (valid.drivers (name_at x).signal signal there) (rw there at right) ((are.first_node x item.0 item.1).1 from);
-    }
+    named : NamedItem net timing nodes x item.0
+    named = named_item net timing nodes are x item.0 item.1
 
   -- the operand, of all of the netlist, that a node stands for
   operand_at : ℕ → ℕ
-  operand_at x = sum_by operands_of (take (name_at x).signal net.signals) + helper_code (name_at x).helper
+  operand_at x = sum_by operands_of (take (name_at nodes x).signal net.signals) + helper_code (name_at nodes x).helper
 
   operand_low : (x : ℕ) → HasOperand x → operand_at x < sum_by operands_of net.signals
   unfolding operand_at
-  operand_low x has = place_low operands_of net.signals (name_at x).signal (helper_code (name_at x).helper) has.signal has.is_signal has.fits
+  operand_low x has = place_low operands_of net.signals (name_at nodes x).signal (helper_code (name_at nodes x).helper) has.signal has.is_signal has.fits
 
   operands_apart : (x y : ℕ) → x < y → y < length nodes.items → HasOperand x → HasOperand y → operand_at x ≢ operand_at y
   unfolding operand_at
-  operands_apart x y before within one other same = by_order (cases_order (name_at x).signal (name_at y).signal) where
-    by_order : ((name_at x).signal ≡ (name_at y).signal) ⊎ (((name_at x).signal < (name_at y).signal) ⊎ ((name_at y).signal < (name_at x).signal)) → ⊥
+  operands_apart x y before within one other same = by_order (cases_order (name_at nodes x).signal (name_at nodes y).signal) where
+    by_order : ((name_at nodes x).signal ≡ (name_at nodes y).signal) ⊎ (((name_at nodes x).signal < (name_at nodes y).signal) ⊎ ((name_at nodes y).signal < (name_at nodes x).signal)) → ⊥
     by_order (inl signal) =
-        let sums : sum_by operands_of (take (name_at x).signal net.signals) ≡ sum_by operands_of (take (name_at y).signal net.signals) = ap (λ s. sum_by operands_of (take s net.signals)) signal in
+        let sums : sum_by operands_of (take (name_at nodes x).signal net.signals) ≡ sum_by operands_of (take (name_at nodes y).signal net.signals) = ap (λ s. sum_by operands_of (take s net.signals)) signal in
         names_apart x y before within signal (omega (arith, same, sums))
     by_order (inr (inl less)) =
-        omega (arith, same, place_before operands_of net.signals (name_at x).signal (name_at y).signal (helper_code (name_at x).helper) (helper_code (name_at y).helper) one.signal one.is_signal one.fits less)
+        omega (arith, same, place_before operands_of net.signals (name_at nodes x).signal (name_at nodes y).signal (helper_code (name_at nodes x).helper) (helper_code (name_at nodes y).helper) one.signal one.is_signal one.fits less)
     by_order (inr (inr more)) =
-        omega (arith, same, place_before operands_of net.signals (name_at y).signal (name_at x).signal (helper_code (name_at y).helper) (helper_code (name_at x).helper) other.signal other.is_signal other.fits more)
+        omega (arith, same, place_before operands_of net.signals (name_at nodes y).signal (name_at nodes x).signal (helper_code (name_at nodes y).helper) (helper_code (name_at nodes x).helper) other.signal other.is_signal other.fits more)
 
   -- nodes and latches are no more than the operands
   pub few_nodes : node_count nodes ≤ MAX_NODES

@@ -1,14 +1,15 @@
 -- What is counted over a plan, one item, memory and receipt after another.
-use Rattle.std.proofs.Common.{◌≡◌, ◌∙◌, inl, inr, ℕ, ◌+◌, ◌*◌, ◌<◌, ◌≤◌, List, [], ◌∷◌, ◌++◌, length, take, map, get_or, set, false, sym, ap, arith, eq-eqb, Some, slice_get}
+use Rattle.std.proofs.Common.{◌≡◌, ◌∙◌, inl, inr, ℕ, ◌+◌, ◌*◌, ◌<◌, ◌≤◌, List, [], ◌++◌, length, take, map, get_or, set, false, sym, ap, arith, eq-eqb, Some, slice_get}
 use Rattle.std.specs.Prelude.{◌==◌}
-use Rattle.std.specs.List.{Contains, count_by, sum_by, flat_map, range_with_len}
+use Rattle.std.specs.List.{Contains, count_by, flat_map, range_with_len}
 use Rattle.std.proofs.lemmas.Bool.{cases_eq, cases_Bool, eqb-true}
 use Rattle.std.proofs.lemmas.List.{get_or-set_same, get_or-set_other, length-map, get_or_default, flat_map_more}
 use Rattle.std.proofs.lemmas.List.Kept.{AllPairs-from_increasing}
-use Rattle.std.proofs.lemmas.List.Sums.{sum_by-append, count_by_more_yes, count_by_more_no}
+use Rattle.std.proofs.lemmas.List.Sums.{count_by_more_yes, count_by_more_no}
 use Rattle.std.proofs.lemmas.Option.{slice_get_within, slice_get-get_or}
 use Rattle.std.proofs.lemmas.Option.{slice_get_cases}
-use Rattle.node_defs.proofs.MemberLemmas.{map_at}
+use Rattle.list_laws.proofs.Members.{map_at}
+use Rattle.list_laws.proofs.Ranges.{range_next}
 use Rattle.node_defs.specs.declared.items.NodeNet.{NodeNet}
 use Rattle.node_defs.specs.WellFormed.{IsWellFormed}
 use Rattle.plan_defs.specs.declared.plan.Homes.{Homes}
@@ -24,7 +25,7 @@ use Rattle.plan_defs.specs.ReaderLists.{AreReaders}
 use Rattle.plan_defs.specs.Switches.{AreReceipts, IsSwitch}
 use Rattle.plan_defs.proofs.CountLemmas.{few_below}
 use Rattle.plan_defs.proofs.PortLemmas.{reader_port}
-use Rattle.home_pick.proofs.FillLemmas.{range_more, bits_at, bits_more, at_same, at_other}
+use Rattle.home_pick.proofs.FillLemmas.{bits_at, bits_more, at_same, at_other}
 use Rattle.plan_text.specs.Counted.{Receives}
 
 -- ---- how often each number stands in a list
@@ -125,18 +126,10 @@ read_lists nodes homes readers are i low =
 
 -- ---- numbers in a row
 
-range_one : (n : ℕ) → range_with_len 0 (n + 1) ≡ range_with_len 0 n ++ n ∷ []
-range_one n = let first : 0 + n ≡ n = omega arith in range_more 0 n ∙ ap (λ k. range_with_len 0 n ++ k ∷ []) first
-
 -- a text that has a line for each of the first n numbers gets that of number n
 pub text_more : {A : Type 0} (old now next : List A) (f : ℕ → List A) (n : ℕ) → now ≡ old ++ flat_map f (range_with_len 0 n) → next ≡ now ++ f n → next ≡ old ++ flat_map f (range_with_len 0 (n + 1))
 text_more old now next f n is grown =
-    grown ∙ (ap (λ xs. xs ++ f n) is ∙ (flat_map_more f old (range_with_len 0 n) n ∙ ap (λ xs. old ++ flat_map f xs) (sym (range_one n))))
-
-pub sum_range : (f : ℕ → ℕ) (n : ℕ) → sum_by f (range_with_len 0 (n + 1)) ≡ sum_by f (range_with_len 0 n) + f n
-sum_range f n =
-    let one : 0 + f n ≡ f n = omega arith in
-    ap (sum_by f) (range_one n) ∙ (sum_by-append f (range_with_len 0 n) (n ∷ []) ∙ ap (λ k. sum_by f (range_with_len 0 n) + k) one)
+    grown ∙ (ap (λ xs. xs ++ f n) is ∙ (flat_map_more f old (range_with_len 0 n) n ∙ ap (λ xs. old ++ flat_map f xs) (sym (range_next n))))
 
 -- ---- readers are few
 

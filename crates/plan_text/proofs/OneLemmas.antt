@@ -1,9 +1,9 @@
 -- There is one report.
 use Rattle.std.proofs.Common.{◌≡◌, ◌∙◌, inl, inr, ℕ, zero, suc, ◌+◌, ◌-◌, ◌<◌, ◌≤◌, List, [], ◌++◌, length, get_or, codes, decimal, refl, sym, ap, arith}
-use Rattle.std.specs.List.{flat_map, sum_by, range_with_len}
+use Rattle.std.specs.List.{flat_map, range_with_len}
 use Rattle.std.specs.Prelude.{nat_lt}
 use Rattle.std.proofs.lemmas.Bool.{cases_Bool, ltb-true, ltb-false}
-use Rattle.std.proofs.lemmas.List.Sums.{sum_by-cons}
+use Rattle.list_laws.proofs.Ranges.{sum_alike}
 use Rattle.net_defs.specs.declared.netlist.Netlist.{Netlist}
 use Rattle.node_defs.specs.declared.items.NodeNet.{NodeNet}
 use Rattle.plan_defs.specs.declared.plan.Homes.{Homes}
@@ -29,20 +29,8 @@ flat_agree f g a zero same = refl
 flat_agree f g a (suc n) same =
     ap (λ xs. xs ++ flat_map f (range_with_len (a + 1) n)) (same a (omega arith)) ∙ ap (λ xs. g a ++ xs) (flat_agree f g (a + 1) n (λ i low. same i (omega (arith, low))))
 
-sum_agree : (f g : ℕ → ℕ) (a n : ℕ) → ((i : ℕ) → i < a + n → f i ≡ g i) → sum_by f (range_with_len a n) ≡ sum_by g (range_with_len a n)
-sum_agree f g a zero same = refl
-sum_agree f g a (suc n) same =
-    let here = same a (omega arith) in
-    let rest = sum_agree f g (a + 1) n (λ i low. same i (omega (arith, low))) in
-    let one = sum_by-cons f a (range_with_len (a + 1) n) in
-    let other = sum_by-cons g a (range_with_len (a + 1) n) in
-    omega (arith, here, rest, one, other)
-
 pub flat_below : {A : Type 0} (f g : ℕ → List A) (n : ℕ) → ((i : ℕ) → i < n → f i ≡ g i) → flat_map f (range_with_len 0 n) ≡ flat_map g (range_with_len 0 n)
 flat_below f g n same = flat_agree f g 0 n (λ i low. same i (omega (arith, low)))
-
-sum_below : (f g : ℕ → ℕ) (n : ℕ) → ((i : ℕ) → i < n → f i ≡ g i) → sum_by f (range_with_len 0 n) ≡ sum_by g (range_with_len 0 n)
-sum_below f g n same = sum_agree f g 0 n (λ i low. same i (omega (arith, low)))
 
 -- ---- the lines
 
@@ -96,5 +84,5 @@ reports_agree net nodes homes plan one other first second = first.is ∙ (text_s
 
 pub crossings_agree : (nodes : NodeNet) (homes : Homes) (one other : ℕ) → AreCrossings nodes homes one → AreCrossings nodes homes other → one ≡ other
 crossings_agree nodes homes one other first second =
-    first.is ∙ (sum_below (λ i. length (first.readers i)) (λ i. length (second.readers i)) (length nodes.items)
+    first.is ∙ (sum_alike (λ i. length (first.readers i)) (λ i. length (second.readers i)) (length nodes.items)
     (λ i low. ap length (one_lists (IsReader nodes homes i) (first.readers i) (second.readers i) (first.are i low) (second.are i low))) ∙ sym second.is)

@@ -22,9 +22,6 @@ place_cases from least to i = elim (leb_tells (from + i) least) [
 module _ (net : Netlist) (timing : Timing) (marks : List Mark) (path order : List ℕ) (from least : ℕ) (loop : List ℕ)
     (walk : IsWalk net timing marks path order) (low : IsLeastPlace path from least) (circle : IsCircleOn path from least loop)
     (back : Contains (waits_for net timing (get_or path (length path - 1) 0)) (get_or path from 0)) where
-  place : ℕ → ℕ
-  place i = place_of_member from least (length path) i
-
   place_within : (i : ℕ) → i < length loop → (from ≤ place_of_member from least (length path) i) × (place_of_member from least (length path) i < length path)
   place_within i within = elim (place_cases from least (length path) i) [
     | inl h ↦ (omega (arith, low.after, low.within, circle.members), omega (arith, low.after, low.within, circle.members))

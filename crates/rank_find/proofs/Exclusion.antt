@@ -6,8 +6,7 @@ use Rattle.net_defs.specs.declared.netlist.Signal.{Signal}
 use Rattle.net_defs.specs.declared.timing.Timing.{Timing}
 use Rattle.net_defs.specs.declared.timing.Mode.TheVariants as mode
 use Rattle.net_defs.specs.Loops.{waits_for, IsOrder, IsCircle}
-use Rattle.list_laws.proofs.Places.{place_of}
-use Rattle.rank_find.proofs.NumberLemmas.{place_below}
+use Rattle.list_laws.proofs.Places.{place_of, place_below}
 
 module _ (net : Netlist) (timing : Timing) (order members : List ℕ) (is_order : IsOrder net timing order) (circle : IsCircle net timing members) where
   -- the member that a member waits for

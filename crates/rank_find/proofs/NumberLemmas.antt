@@ -1,10 +1,10 @@
 -- The rank numbers along an order: how far they have come after so many gates.
-use Rattle.std.proofs.Common.{◌≡◌, ◌≢◌, ◌∙◌, ℕ, zero, suc, ◌+◌, ◌<◌, ◌≤◌, inl, inr, max, Bool, true, false, if◌then◌else◌, List, [], ◌∷◌, length, take, replicate, get_or, set, refl, sym, ap, arith, Option, Some, None}
+use Rattle.std.proofs.Common.{◌≡◌, ◌≢◌, ◌∙◌, ℕ, zero, suc, ◌+◌, ◌<◌, ◌≤◌, inl, inr, max, Bool, true, false, if◌then◌else◌, List, [], ◌∷◌, length, get_or, set, refl, sym, ap, arith, Option, Some, None}
 use Rattle.std.specs.List.{Contains, fold, slice_get}
 use Rattle.std.proofs.lemmas.Bool.{cases_lt}
 use Rattle.std.proofs.lemmas.Bool.Decides.{eqb_tells}
 use Rattle.std.proofs.lemmas.Option.{slice_get_past}
-use Rattle.std.proofs.lemmas.List.{get_or_past, get_or-replicate, length-replicate, length-set, length-take-le, get_or-take, get_or-set_same, get_or-set_other}
+use Rattle.std.proofs.lemmas.List.{length-set, get_or-set_same, get_or-set_other}
 use Rattle.net_defs.specs.declared.netlist.Netlist.{Netlist}
 use Rattle.net_defs.specs.declared.netlist.Signal.{Signal}
 use Rattle.net_defs.specs.declared.netlist.Driver.{Driver}
@@ -13,7 +13,7 @@ use Rattle.net_defs.specs.declared.timing.Timing.{Timing}
 use Rattle.net_defs.specs.Steps.{is_late}
 use Rattle.net_defs.specs.Loops.{is_gate, is_gate_driver, gate_operands, IsGate, waits_for, IsOrder, rank_past, rank_above, IsRanking}
 use Rattle.list_laws.proofs.Differ.{differ_at}
-use Rattle.list_laws.proofs.Places.{place_of}
+use Rattle.list_laws.proofs.Places.{place_of, place_below}
 use Rattle.list_laws.proofs.Ranges.{last_or}
 use Rattle.rank_find.proofs.WalkLemmas.{is_gate_or}
 
@@ -46,13 +46,6 @@ waits_for_nothing net timing s none = by_signal (slice_get net.signals s) refl w
   by_signal : (found : Option Signal) → slice_get net.signals s ≡ found → waits_for net timing s ≡ []
   by_signal None is = rw is refl
   by_signal (Some signal) is = rw is (by_driver (is_late net timing s) signal.driver (rw is at none))
-
--- what stands in the first so many numbers of a list
-pub place_below : (xs : List ℕ) (k x : ℕ) → k ≤ length xs → Contains (take k xs) x → (j : ℕ) × (j < k) × (get_or xs j 0 ≡ x)
-place_below xs k x short held =
-    let at = place_of (take k xs) x held in
-    let within : at.0 < k = omega (arith, at.1, length-take-le k xs short) in
-    (at.0, within, sym (get_or-take k xs at.0 0 within) ∙ at.2)
 
 -- two folds that agree at each number of the list
 fold_same : (f g : ℕ → ℕ → ℕ) (a : ℕ) (xs : List ℕ) → ((b x : ℕ) → Contains xs x → f b x ≡ g b x) → fold f a xs ≡ fold g a xs
@@ -88,21 +81,7 @@ pub record IsRankedTo (net : Netlist) (timing : Timing) (order : List ℕ) (n : 
   pub ranked : (k : ℕ) → k < n → get_or rank (get_or order k 0) 0 ≡ rank_above net rank (waits_for net timing (get_or order k 0))
   pub others : (s : ℕ) → ((k : ℕ) → k < n → get_or order k 0 ≢ s) → get_or rank s 0 ≡ 0
 
-zeros_read : (n s : ℕ) → get_or (replicate {A = ℕ} n 0) s 0 ≡ 0
-zeros_read n s = elim (cases_lt s n) [ inl h ↦ get_or-replicate n s 0 0 h | inr h ↦ get_or_past (replicate {A = ℕ} n 0) s 0 (omega (arith, length-replicate {A = ℕ} n 0)) ]
-
-pub ranked_start : (net : Netlist) (timing : Timing) (order rank : List ℕ) → rank ≡ replicate (length net.signals) 0 → IsRankedTo net timing order 0 rank
-ranked_start net timing order rank is = record {
-  signals = ap length is ∙ length-replicate (length net.signals) 0;
-  low = λ s. omega (arith, ap (λ xs. get_or xs s 0) is, zeros_read (length net.signals) s);
-  ranked = λ k within. absurd (omega arith);
-  others = λ s none. ap (λ xs. get_or xs s 0) is ∙ zeros_read (length net.signals) s;
-}
-
 module _ (net : Netlist) (timing : Timing) (order : List ℕ) (i : ℕ) (rank : List ℕ) (is_order : IsOrder net timing order) (ranks : IsRankedTo net timing order i rank) (within : i < length order) (value : ℕ) (is : value ≡ rank_above net rank (waits_for net timing (get_or order i 0))) where
-  new_rank : List ℕ
-  new_rank = set rank (get_or order i 0) value
-
   gate_at : (k : ℕ) → k < length order → IsGate net (get_or order k 0)
   gate_at k k_within = is_order.gates k 0 k_within
 

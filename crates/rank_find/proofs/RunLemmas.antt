@@ -1,8 +1,7 @@
 -- The beginning and the end of a walk.
-use Rattle.std.proofs.Common.{◌≡◌, ◌≢◌, ◌∙◌, ℕ, zero, suc, ◌+◌, ◌<◌, ◌≤◌, inl, inr, Bool, true, false, if◌then◌else◌, List, [], ◌∷◌, ◌++◌, length, map, replicate, get_or, set, refl, sym, ap, arith, Option, Some, None}
+use Rattle.std.proofs.Common.{◌≡◌, ◌≢◌, ◌∙◌, ℕ, zero, suc, ◌+◌, ◌≤◌, inl, inr, Bool, true, false, if◌then◌else◌, List, [], ◌∷◌, ◌++◌, length, map, get_or, set, refl, sym, ap, arith, Option, Some, None}
 use Rattle.std.specs.List.{Contains, sum_by, slice_get}
-use Rattle.std.proofs.lemmas.Bool.{cases_lt}
-use Rattle.std.proofs.lemmas.List.{get_or_past, get_or-replicate, length-map, length-replicate}
+use Rattle.std.proofs.lemmas.List.{get_or_past, length-map, length-replicate}
 use Rattle.std.proofs.lemmas.List.Elements.{All-nil}
 use Rattle.std.proofs.lemmas.List.Sums.{sum_by-cons}
 use Rattle.net_defs.specs.declared.netlist.Netlist.{Netlist}
@@ -14,6 +13,7 @@ use Rattle.rank_find.specs.declared.walk.Mark.TheVariants.{Fresh, Open, Done}
 use Rattle.rank_find.specs.declared.walk.Walk.{Walk}
 use Rattle.rank_find.specs.Walk.{mark_at, first_mark, freshness, IsWalk, IsWalking, Reaches, IsStart, IsIdle, IsOver}
 use Rattle.list_laws.proofs.Places.{place_of}
+use Rattle.list_laws.proofs.Ranges.{zeros_read}
 use Rattle.rank_find.proofs.WalkLemmas.{fresh_within, set_mark, enter}
 
 -- the first mark of a signal that may be missing
@@ -45,9 +45,6 @@ freshness_le (Fresh ∷ marks) = let rest = freshness_le marks in omega (arith, 
 freshness_le (Open ∷ marks) = let rest = freshness_le marks in omega (arith, sum_by-cons freshness Open marks)
 freshness_le (Done ∷ marks) = let rest = freshness_le marks in omega (arith, sum_by-cons freshness Done marks)
 
-no_item : {X : Type 0} (i : ℕ) → i < 0 → X
-no_item i within = absurd (omega arith)
-
 pub start_lists : (net : Netlist) (timing : Timing) → IsWalk net timing (map first_mark net.signals) [] []
 start_lists net timing = record {
   signals = length-map net.signals first_mark;
@@ -64,15 +61,12 @@ start_lists net timing = record {
   count = omega (arith, freshness_le (map first_mark net.signals));
 }
 
-zero_read : (n s : ℕ) → get_or (replicate {A = ℕ} n 0) s 0 ≡ 0
-zero_read n s = elim (cases_lt s n) [ inl h ↦ get_or-replicate n s 0 0 h | inr h ↦ get_or_past (replicate {A = ℕ} n 0) s 0 (omega (arith, length-replicate {A = ℕ} n 0)) ]
-
 pub start_idle : (net : Netlist) (timing : Timing) (walk : Walk) → IsStart net walk → IsIdle net timing walk
 start_idle net timing walk start = record {
   walking = record {
     lists = rw (start.marks, start.path, start.order) (start_lists net timing);
     places = ap length start.places ∙ length-replicate (length net.signals) 0;
-    passed = λ s k below within. let none : get_or walk.places s 0 ≡ 0 = ap (λ xs. get_or xs s 0) start.places ∙ zero_read (length net.signals) s in absurd (omega arith);
+    passed = λ s k below within. let none : get_or walk.places s 0 ≡ 0 = ap (λ xs. get_or xs s 0) start.places ∙ zeros_read (length net.signals) s in absurd (omega arith);
   };
   path = start.path;
 }

@@ -17,8 +17,8 @@ use Rattle.net_defs.specs.Time.{value_at}
 use Rattle.net_defs.specs.Steps.{is_late, values_of}
 use Rattle.net_defs.specs.Loops.{IsGate, waits_for, IsOrder}
 use Rattle.list_laws.proofs.Differ.{differ_at}
-use Rattle.list_laws.proofs.Places.{place_of}
-use Rattle.rank_find.proofs.NumberLemmas.{gate_within, place_below}
+use Rattle.list_laws.proofs.Places.{place_of, place_below}
+use Rattle.rank_find.proofs.NumberLemmas.{gate_within}
 use Rattle.ref_sim.proofs.Rows.{put_value}
 
 -- what a gate answers over a row; what is no gate keeps its value

@@ -5,6 +5,7 @@ use Rattle.std.proofs.lemmas.Bool.Decides.{eqb_tells, nat_tests}
 use Rattle.std.proofs.lemmas.Option.{slice_get_within, slice_get-get_or, slice_get_past, get_or_from_slice_get}
 use Rattle.std.proofs.lemmas.List.{get_or-take, get_or-drop}
 use Rattle.std.proofs.lemmas.List.FromFn.{length-range_with_len}
+use Rattle.list_laws.proofs.Options.{one_some}
 use Rattle.logic_four.specs.declared.V4.{V4}
 use Rattle.logic_four.specs.declared.V4.TheVariants.{Undef}
 use Rattle.logic_four.specs.Memory.{memory_act}
@@ -110,7 +111,7 @@ module _ (net : Netlist) (valid : IsValid net) (old : State) (values : List V4) 
     by_driver p signal at (BlockBit memory_number bit) driver = elim (eqb_tells memory_number m) [
       | inl h ↦
           let drives : IsDrivable net p (BlockBit memory_number bit) = subst (IsDrivable net p) driver (valid.drivers p signal at) in
-          let same_block : drives.0 ≡ memory = some_same (sym drives.1 ∙ (ap (slice_get net.blocks) h.1 ∙ is)) in
+          let same_block : drives.0 ≡ memory = one_some drives.0 memory (sym drives.1 ∙ (ap (slice_get net.blocks) h.1 ∙ is)) in
           let there : slice_get memory.outs bit ≡ Some p = subst (λ block. slice_get block.outs bit ≡ Some p) same_block drives.2 in
           let below = slice_get_within memory.outs bit p there in
           let place : get_or memory.outs bit 0 ≡ p = get_or_from_slice_get memory.outs bit p 0 there in
@@ -122,9 +123,6 @@ module _ (net : Netlist) (valid : IsValid net) (old : State) (values : List V4) 
           let same_test : nat_lt memory_number (m + 1) ≡ nat_lt memory_number m = lt_more memory_number m h.1 in
           kept p (rw (at, driver) same_test) (λ b other other_at odd. h.1 (let same = sym at ∙ other_at in cc))
     ] where
-      some_same : {X : Type 0} {a b : X} → Some a ≡ Some b → a ≡ b
-      some_same same = cc
-
       lt_more : (a b : ℕ) → a ≢ b → nat_lt a (b + 1) ≡ nat_lt a b
       lt_more a b other = grind (arith, nat_tests)
 

@@ -1,13 +1,13 @@
 -- What is given to the signals of a role.
-use Rattle.std.proofs.Common.{◌≡◌, ◌∙◌, ℕ, ◌<◌, Bool, true, List, ◌++◌, length, take, get_or, sym, ap, subst, arith}
+use Rattle.std.proofs.Common.{◌≡◌, ◌∙◌, ℕ, ◌<◌, Bool, true, List, length, get_or, sym, ap, subst, arith}
 use Rattle.std.specs.List.{Contains, refill}
-use Rattle.std.proofs.lemmas.List.{drop_all, append-nil, take_all}
 use Rattle.logic_four.specs.declared.V4.{V4}
 use Rattle.net_defs.specs.declared.netlist.Netlist.{Netlist}
 use Rattle.net_defs.specs.declared.timing.Timing.{Timing}
 use Rattle.net_defs.specs.Time.{value_at}
 use Rattle.net_defs.specs.Loops.{is_gate, IsOrder}
 use Rattle.list_laws.proofs.Places.{place_of}
+use Rattle.list_laws.proofs.Members.{refill_whole}
 use Rattle.ref_sim.specs.declared.ops.GateOp.{GateOp}
 use Rattle.ref_sim.specs.declared.schedule.Role.{Role}
 use Rattle.ref_sim.specs.Ops.{follow}
@@ -16,12 +16,6 @@ use Rattle.ref_sim.specs.Sequences.{place_count, here_value, Settles}
 use Rattle.ref_sim.specs.Schedules.{has_role, ListsRole}
 use Rattle.ref_sim.specs.States.{Assigns}
 use Rattle.ref_sim.proofs.ScheduleLemmas.{role_within}
-
--- a list whose loan ends has what stands in it then
-pub refill_whole : {X : Type 0} (xs now : List X) → length now ≡ length xs → refill (length xs) xs now ≡ now
-refill_whole xs now long =
-    ap (λ rest. take (length xs) (now ++ rest)) (drop_all (length now) xs (omega arith))
-    ∙ (ap (λ list. take (length xs) list) (append-nil now) ∙ take_all (length xs) now (omega arith))
 
 -- what is given may be said in another way
 pub assigns_as : (net : Netlist) (which : ℕ → Bool) (f g : ℕ → V4) (old new : List V4) → ((s : ℕ) → which s ≡ true → f s ≡ g s) → Assigns net which f old new → Assigns net which g old new

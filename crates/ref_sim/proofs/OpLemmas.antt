@@ -1,7 +1,6 @@
 -- Operations that join two values, and gates made of them.
 use Rattle.std.proofs.Common.{◌≡◌, ◌≢◌, ◌∙◌, ℕ, zero, suc, ◌+◌, ◌<◌, ◌≤◌, List, [], ◌∷◌, ◌++◌, length, map, take, get_or, refl, sym, ap, subst, arith, IsTrue}
 use Rattle.std.specs.List.{All}
-use Rattle.std.proofs.lemmas.Bool.{eqb-true}
 use Rattle.std.proofs.lemmas.List.{length-set, get_or-set_same, get_or-set_other, map_more, take_all, append_assoc}
 use Rattle.std.proofs.lemmas.List.Elements.{All-append}
 use Rattle.std.proofs.lemmas.List.Sums.{fold_push}
@@ -137,19 +136,6 @@ wide_last spare base gate k last kind joining operands old mid new is many low s
     adds_as spare gate _ _ old new (wide_more spare base gate k kind joining operands old mid new is many low (omega arith) within first (subst (λ n. AddsPair kind gate spare (base + get_or operands n 0) mid new) same adds))
     (λ values. ap (λ xs. gate_value kind (map (λ o. value_at values (base + o)) xs)) (take_all (k + 1) operands (omega arith)))
 
--- what is allowed
-pub many_operands : (kind : Kind) (n : ℕ) → AllowsOperands kind n → n ≢ 1 → n ≢ 2 → IsTrue (takes_many kind)
-many_operands And n allowed more than = refl
-many_operands Nand n allowed more than = refl
-many_operands Or n allowed more than = refl
-many_operands Nor n allowed more than = refl
-many_operands Xor n allowed more than = refl
-many_operands Xnor n allowed more than = refl
-many_operands Not n allowed more than = absurd (more (eqb-true n 1 allowed))
-many_operands Buf n allowed more than = absurd (more (eqb-true n 1 allowed))
-many_operands Tri n allowed more than = absurd (than (eqb-true n 2 allowed))
-many_operands Bus n allowed more than = refl
-
 -- a gate of one operand reads it twice
 lone : (kind : Kind) (a : V4) → AllowsOperands kind 1 → gate_value (lone_kind kind) (a ∷ a ∷ []) ≡ gate_value kind (a ∷ [])
 lone Tri a allowed = cc
@@ -172,14 +158,3 @@ lone_does spare base gate kind alone (x ∷ []) old new is one allowed low withi
     let in_range : base + x < spare = within 0 0 (omega arith) in
     adds_as spare gate _ _ old new (pair_does spare gate (base + x) (base + x) alone low (omega arith) (omega arith) old new adds)
     (λ values. ap (λ k. gate_value k (value_at values (base + x) ∷ value_at values (base + x) ∷ [])) is ∙ lone kind (value_at values (base + x)) allowed)
-
-pub pair_gate_does : (spare base gate : ℕ) (kind : Kind) (operands : List ℕ) (old new : List GateOp) → length operands ≡ 2 → gate ≤ spare → All (λ o. base + o < spare) operands
-    → AddsPair kind gate (base + get_or operands 0 0) (base + get_or operands 1 0) old new
-    → Adds spare gate (λ values. gate_value kind (map (λ o. value_at values (base + o)) operands)) old new
-pair_gate_does spare base gate kind [] old new two low within adds = absurd (omega arith)
-pair_gate_does spare base gate kind (x ∷ []) old new two low within adds = absurd (omega arith)
-pair_gate_does spare base gate kind (x ∷ y ∷ z ∷ rest) old new two low within adds = absurd (omega arith)
-pair_gate_does spare base gate kind (x ∷ y ∷ []) old new two low within adds =
-    let one : base + x < spare = within 0 0 (omega arith) in
-    let other : base + y < spare = within 1 0 (omega arith) in
-    pair_does spare gate (base + x) (base + y) kind low (omega arith) (omega arith) old new adds

@@ -1,5 +1,5 @@
 -- Lists whose signals may be settled in their order.
-use Rattle.std.proofs.Common.{◌≡◌, ◌∙◌, ℕ, ◌<◌, inl, inr, Bool, true, false, if◌then◌else◌, List, [], length, get_or, refl, sym, subst, arith, Option, Some, None}
+use Rattle.std.proofs.Common.{◌≡◌, ◌∙◌, ℕ, ◌<◌, inl, inr, true, false, List, [], length, get_or, refl, sym, subst, arith, Option, Some, None}
 use Rattle.std.specs.List.{slice_get, Contains}
 use Rattle.std.proofs.lemmas.Option.{slice_get_past}
 use Rattle.std.proofs.lemmas.Bool.{cases_lt}
@@ -9,10 +9,10 @@ use Rattle.net_defs.specs.declared.netlist.Signal.{Signal}
 use Rattle.net_defs.specs.declared.netlist.Driver.{Driver}
 use Rattle.net_defs.specs.declared.netlist.Driver.TheVariants.{Input, Gate, Dff, BlockBit}
 use Rattle.net_defs.specs.declared.timing.Timing.{Timing}
-use Rattle.net_defs.specs.Steps.{is_late}
-use Rattle.net_defs.specs.Loops.{IsGate, waits_for, gate_operands, IsOrder}
+use Rattle.net_defs.specs.Loops.{IsGate, waits_for, IsOrder, is_gate, is_gate_driver}
 use Rattle.list_laws.proofs.Differ.{differ_at}
-use Rattle.rank_find.proofs.NumberLemmas.{gate_within, place_below}
+use Rattle.list_laws.proofs.Places.{place_below}
+use Rattle.rank_find.proofs.NumberLemmas.{gate_within, waits_for_nothing}
 use Rattle.ref_sim.specs.declared.schedule.Role.{Role}
 use Rattle.ref_sim.specs.declared.schedule.Role.TheVariants as role
 use Rattle.ref_sim.specs.Sequences.{IsSequence}
@@ -36,20 +36,16 @@ order_sequence net timing order is_order = record {
 
 -- registers wait for nothing
 none_waits : (net : Netlist) (timing : Timing) (s : ℕ) → has_role net role.Register s ≡ true → waits_for net timing s ≡ []
-none_waits net timing s plays = by_signal (slice_get net.signals s) refl where
-  either : (late : Bool) (none : List ℕ) → none ≡ [] → (if late then [] else none) ≡ []
-  either true none is = refl
-  either false none is = is
-
-  by_driver : (driver : Driver) → driver_has_role role.Register driver ≡ true → gate_operands driver ≡ []
+none_waits net timing s plays = waits_for_nothing net timing s (by_signal (slice_get net.signals s) refl) where
+  by_driver : (driver : Driver) → driver_has_role role.Register driver ≡ true → is_gate_driver driver ≡ false
   by_driver Input register = refl
   by_driver (Gate kind ops) register = cc
   by_driver (Dff op) register = refl
   by_driver (BlockBit memory bit) register = refl
 
-  by_signal : (found : Option Signal) → slice_get net.signals s ≡ found → waits_for net timing s ≡ []
+  by_signal : (found : Option Signal) → slice_get net.signals s ≡ found → is_gate net s ≡ false
   by_signal None is = rw is refl
-  by_signal (Some signal) is = rw is (either (is_late net timing s) (gate_operands signal.driver) (by_driver signal.driver (rw is at plays)))
+  by_signal (Some signal) is = rw is (by_driver signal.driver (rw is at plays))
 
 pub register_sequence : (net : Netlist) (timing : Timing) (list : List ℕ) → ListsRole net role.Register list → IsSequence net timing list
 register_sequence net timing list lists = record {

@@ -18,9 +18,8 @@ use Rattle.net_defs.specs.Time.{value_at, turn_count}
 use Rattle.net_defs.specs.Steps.{State, is_late, values_of, words_of, driven, IsRightStep, first_state}
 use Rattle.net_defs.specs.Loops.{is_gate, IsGate, is_gate_driver, waits_for, IsOrder}
 use Rattle.net_defs.specs.Reference.{IsSimulation}
-use Rattle.list_laws.proofs.Places.{place_of}
+use Rattle.list_laws.proofs.Places.{place_of, place_below}
 use Rattle.rank_find.proofs.WalkLemmas.{is_gate_or}
-use Rattle.rank_find.proofs.NumberLemmas.{place_below}
 use Rattle.ref_sim.proofs.Along.{map_same, late_or, waits_here}
 
 module _ (net : Netlist) (timing : Timing) (stimulus : Stimulus) (order : List ℕ) (is_order : IsOrder net timing order) (turn : ℕ) (old one other : State) (first : IsRightStep net timing stimulus turn old one) (second : IsRightStep net timing stimulus turn old other) where
@@ -108,10 +107,6 @@ module _ (net : Netlist) (timing : Timing) (stimulus : Stimulus) (order : List �
 
 -- two simulations stand in one state at each turn
 module _ (net : Netlist) (timing : Timing) (stimulus : Stimulus) (order : List ℕ) (is_order : IsOrder net timing order) where
-  -- the states of a simulation, read with the first state past the end
-  at_turn : List State → ℕ → State
-  at_turn states turn = get_or states turn (first_state net timing)
-
   pub read_state : (states : List State) → IsSimulation net timing stimulus states → (turn : ℕ) → turn ≤ turn_count timing stimulus → slice_get states turn ≡ Some (get_or states turn (first_state net timing))
   read_state states simulation turn within = slice_get-get_or states turn (first_state net timing) (omega (arith, simulation.turns))
 

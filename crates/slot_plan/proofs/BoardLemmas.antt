@@ -2,10 +2,10 @@
 use Rattle.std.proofs.Common.{◌≡◌, ◌∙◌, ◌⊎◌, ◌↔◌, inl, inr, ℕ, ◌+◌, ◌*◌, ◌/◌, ◌<◌, ◌≤◌, List, length, get_or, sym, ap, subst, arith}
 use Rattle.std.proofs.Math.Nat.{mul-le-mul_right}
 use Rattle.std.proofs.lemmas.List.{get_or_default}
+use Rattle.list_laws.proofs.Ranges.{last_or}
 use Rattle.bit_rows.specs.declared.BitRows.{BitRows}
 use Rattle.bit_rows.specs.Bits.{HasBit, Adds, IsShaped}
 use Rattle.bit_rows.proofs.AddLemmas.{adds_same}
-use Rattle.plan_defs.proofs.ListLemmas.{last_or}
 use Rattle.plan_defs.proofs.UserLemmas.{adds_either}
 use Rattle.slot_plan.specs.declared.board.Board.{Board}
 use Rattle.slot_plan.specs.Boards.{IsBoard, IsTaken, IsRuledOut, IsShut, IsRowFor}
@@ -15,17 +15,6 @@ pub row_room : (rows : BitRows) (count stride row : ℕ) → IsShaped rows count
 row_room rows count stride row shape low =
     let bound : (row + 1) * stride ≤ count * stride = mul-le-mul_right stride (omega (arith, low)) in
     rw (shape.stride_is, shape.words) (omega (arith, bound))
-
--- a board that gets slots is a board: what is full stays full
-pub board_more : (board : Board) (rows : BitRows) (P : ℕ → ℕ → Type 0) → IsBoard board → Adds board.rows rows P → IsBoard (record { rows = rows; full = board.full; ports = board.ports })
-board_more board rows P is adds = record {
-  few = is.few;
-  small = let small = is.small in let same = adds.stride in omega (arith, small, same);
-  room = λ row low. rw (adds.stride, adds.words) (is.room row low);
-  bits = adds.stride ∙ is.bits;
-  notes = is.notes;
-  full = λ row w b noted low. (adds.bits row (64 * w + b)).1 (inl (is.full row w b noted low));
-}
 
 -- so is one in which a full word is noted
 pub board_noted : (board : Board) (full : BitRows) (row w : ℕ) → IsBoard board → ((b : ℕ) → b < 64 → HasBit board.rows row (64 * w + b)) → Adds board.full full (λ r k. (r ≡ row) × (k ≡ w)) → IsBoard (record { rows = board.rows; full = full; ports = board.ports })
@@ -119,9 +108,3 @@ rows_all board home readers n slot a b whole adds =
       back row (inr (k, low, at)) =
           let inside : k < length readers = omega (arith, low, whole) in
           inr (get_or readers k 0, (k, inside, get_or_default readers k (get_or readers k 0) 0 inside), at)
-
--- past its last slot a board has nothing
-pub nothing_past : (board : Board) (home : ℕ) (readers : List ℕ) (from : ℕ) → from ≤ 64 * board.rows.stride → IsShut board home readers from (64 * board.rows.stride) → ⊥
-nothing_past board home readers from up (inl low) = omega (arith, up, low)
-nothing_past board home readers from up (inr (inl has)) = let within = has.within in omega (arith, within)
-nothing_past board home readers from up (inr (inr (r, among, has))) = let within = has.within in omega (arith, within)

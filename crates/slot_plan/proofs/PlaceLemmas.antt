@@ -5,6 +5,7 @@ use Rattle.std.proofs.lemmas.Bool.{cases_lt}
 use Rattle.std.proofs.lemmas.List.{get_or_append_left, length-append}
 use Rattle.std.proofs.lemmas.List.Sums.{fold-append}
 use Rattle.std.proofs.Math.Seq.{get_or-append_seam}
+use Rattle.list_laws.proofs.Ranges.{last_or}
 use Rattle.bit_rows.specs.Bits.{HasBit, Adds}
 use Rattle.node_defs.specs.declared.items.Item.{Item}
 use Rattle.node_defs.specs.declared.items.NodeNet.{NodeNet}
@@ -15,7 +16,6 @@ use Rattle.plan_defs.specs.Homes.{AreHomes, home_of, ports_of}
 use Rattle.plan_defs.specs.Lists.{IsLeastFree}
 use Rattle.plan_defs.specs.Readers.{IsReader, IsReaderList}
 use Rattle.plan_defs.specs.Slots.{slot_of, needed_of, IsBlocked, AreFirstFit}
-use Rattle.plan_defs.proofs.ListLemmas.{last_or}
 use Rattle.plan_defs.proofs.PortLemmas.{home_port, reader_port}
 use Rattle.plan_defs.proofs.PlanLemmas.{blocked_agree, least_same}
 use Rattle.slot_plan.specs.declared.board.Board.{Board}

@@ -3,6 +3,7 @@ use Rattle.std.proofs.Common.{◌≡◌, ◌∙◌, ◌⊎◌, ◌↔◌, inl, i
 use Rattle.std.proofs.lemmas.Option.{slice_get_within}
 use Rattle.std.proofs.lemmas.List.{length-append, get_or_append_left}
 use Rattle.std.proofs.Math.Seq.{get_or-append_seam}
+use Rattle.list_laws.proofs.Ranges.{last_or}
 use Rattle.bit_rows.specs.declared.BitRows.{BitRows}
 use Rattle.bit_rows.specs.Bits.{HasBit, IsShaped, Adds}
 use Rattle.bit_rows.proofs.AddLemmas.{adds_both, adds_same}
@@ -15,7 +16,7 @@ use Rattle.plan_defs.specs.declared.plan.Homes.{Homes}
 use Rattle.plan_defs.specs.Homes.{AreHomes, home_of}
 use Rattle.plan_defs.specs.Tables.{UsesTable, UsesTables}
 use Rattle.plan_defs.specs.UserRows.{HasPlace}
-use Rattle.plan_defs.proofs.ListLemmas.{last_or, listed_none, listed_more, listed_not}
+use Rattle.plan_defs.proofs.ListLemmas.{listed_none, listed_more, listed_not}
 use Rattle.slot_plan.specs.UsedTables.{HasTable, CountsBelow, AreUsed, AreTableCounts}
 use Rattle.slot_plan.proofs.BoardLemmas.{row_room}
 

@@ -9,6 +9,7 @@ use Rattle.limits.specs.declared.TheConstants.{MAX_CYCLES}
 use Rattle.logic_four.specs.declared.V4.{V4}
 use Rattle.logic_four.specs.declared.V4.TheVariants.{Undef}
 use Rattle.logic_four.specs.Values.{value_at}
+use Rattle.logic_four.proofs.CodeLemmas.{undefined_at}
 use Rattle.net_defs.specs.declared.timing.Timing.{Timing}
 use Rattle.net_defs.specs.declared.stimulus.StimRow.{StimRow}
 use Rattle.net_defs.specs.declared.stimulus.Stimulus.{Stimulus}
@@ -18,9 +19,6 @@ use Rattle.stim_text.specs.declared.lanes.Lanes.{Lanes}
 use Rattle.stim_text.specs.Lanes.{AreLanes, own_stimulus, longest, rest_rows, padded, lane_stimulus}
 
 -- ---- a lane's own stimulus
-
-empty : ℕ → Stimulus
-empty columns = record { columns = columns; rows = [] }
 
 -- what holds of each stimulus that is given, and of one without rows, holds of each lane's
 of_own : (P : Stimulus → Type 0) (columns : ℕ) (lanes : Lanes) (l : ℕ) → ((stimulus : Stimulus) → slice_get lanes.lanes l ≡ Some stimulus → P stimulus) → P (record { columns = columns; rows = [] }) → P (own_stimulus columns lanes l)
@@ -138,23 +136,11 @@ pub lane_cycles : (columns : ℕ) (lanes : Lanes) (l : ℕ) → cycle_count (lan
 unfolding lane_stimulus
 lane_cycles columns lanes l = padded_count (longest lanes) (own_stimulus columns lanes l) (own_cycles columns lanes l)
 
--- its rows are its own, and then X
-pub lane_rows : (columns : ℕ) (lanes : Lanes) (l : ℕ) → AreLanes columns lanes → cycle_rows (lane_stimulus columns lanes l) ≡ cycle_rows (own_stimulus columns lanes l) ++ replicate (longest lanes - cycle_count (own_stimulus columns lanes l)) (replicate columns Undef)
-unfolding lane_stimulus
-lane_rows columns lanes l are =
-    padded_rows (longest lanes) (own_stimulus columns lanes l)
-    ∙ ap (λ n. cycle_rows (own_stimulus columns lanes l) ++ replicate (longest lanes - cycle_count (own_stimulus columns lanes l)) (replicate n Undef)) (own_columns columns lanes l are)
-
 -- ---- what the inputs have
-
-all_undefined : (columns column : ℕ) → value_at (replicate columns Undef) column ≡ Undef
-all_undefined zero column = refl
-all_undefined (suc columns) zero = refl
-all_undefined (suc columns) (suc column) = all_undefined columns column
 
 undefined_past : (more columns cycle column : ℕ) → value_at (get_or (replicate more (replicate columns Undef)) cycle []) column ≡ Undef
 undefined_past zero columns cycle column = refl
-undefined_past (suc more) columns zero column = all_undefined columns column
+undefined_past (suc more) columns zero column = undefined_at columns column
 undefined_past (suc more) columns (suc cycle) column = undefined_past more columns cycle column
 
 padded_at : (rows : List (List V4)) (more columns cycle column : ℕ) → value_at (get_or (rows ++ replicate more (replicate columns Undef)) cycle []) column ≡ value_at (get_or rows cycle []) column

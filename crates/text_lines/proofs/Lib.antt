@@ -1,5 +1,4 @@
 pub mod AnswerLemmas
 pub mod LineLemmas
-pub mod NameLemmas
 pub mod PartLemmas
 pub mod WordLemmas

@@ -15,7 +15,6 @@ use Rattle.image_check.specs.Claimed.{lists_of, HasClaims}
 use Rattle.image_check.proofs.ClaimLemmas.{claims_there}
 use Rattle.image_file.specs.Ranges.{tables_of}
 use Rattle.image_build.specs.PortItems.{IsAt, ArePortItems, ArePlanClaims}
-use Rattle.image_build.specs.Plans.{IsPlanned}
 use Rattle.image_build.specs.Built.{IsBuilt}
 use Rattle.yse_compile.specs.declared.compiler.Compiled.{Compiled}
 use Rattle.yse_compile.specs.Claims.{IsPlaced, HasWords, AreClaimsOf}
@@ -31,15 +30,6 @@ module _ (nodes : NodeNet) (homes : Homes) (slots : List ℕ) where
       ext_get_or [] xs ys (one.ports ∙ sym other.ports) (λ p low.
       let within : p < ports_of homes = let count = one.ports in omega (arith, low, count) in
       one_port p (claims_of xs p) (claims_of ys p) (one.items p within) (other.items p within))
-
--- what a design is placed by is planned
-pub placed_is_planned : (compiled : Compiled) → IsPlaced compiled → IsPlanned compiled.nodes compiled.homes compiled.plan
-placed_is_planned compiled is = record {
-  formed = is.formed;
-  housed = is.housed;
-  first_fit = is.first_fit;
-  few = let slots = is.built.slots in let few = is.built.fits.slots in omega (arith, slots, few);
-}
 
 -- claims that are the plan's are those of the design
 pub plan_claims_are : (compiled : Compiled) (claims : Claims) → IsPlaced compiled

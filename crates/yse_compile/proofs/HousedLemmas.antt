@@ -6,6 +6,7 @@ use Rattle.std.proofs.lemmas.Bool.{cases_lt, cases_eq}
 use Rattle.std.proofs.lemmas.Nat.{mod_below}
 use Rattle.std.proofs.Math.Numerals.{add-one}
 use Rattle.std.proofs.Math.Seq.{get_or-append_seam}
+use Rattle.list_laws.proofs.Members.{member_at}
 use Rattle.machine_text.specs.declared.machine.Limited.TheVariants.{Nodes, Bits}
 use Rattle.machine_text.specs.declared.machine.Machine.{Machine}
 use Rattle.machine_text.specs.Machines.{IsValid}
@@ -14,7 +15,6 @@ use Rattle.node_defs.specs.declared.items.Item.TheVariants.{Input, BlockBit, Nod
 use Rattle.node_defs.specs.declared.items.NodeBlock.{NodeBlock}
 use Rattle.node_defs.specs.declared.items.NodeNet.{NodeNet}
 use Rattle.node_defs.specs.WellFormed.{IsWellFormed, IsComputed}
-use Rattle.node_defs.proofs.MemberLemmas.{member_at}
 use Rattle.plan_defs.specs.declared.plan.Homes.{Homes}
 use Rattle.plan_defs.specs.Lists.{IsLeastFree}
 use Rattle.plan_defs.specs.Picks.{bits_of, node_count, node_room, IsInTurn, HasPickedHome, ArePicked, FindsNoPort, HasTooManyNodes}

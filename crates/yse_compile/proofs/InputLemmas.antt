@@ -1,9 +1,11 @@
 -- The items of a valid netlist have as many inputs as the netlist.
-use Rattle.std.proofs.Common.{◌≡◌, ◌≢◌, ◌∙◌, inl, inr, ℕ, zero, suc, ◌+◌, ◌<◌, ◌≤◌, Bool, true, false, List, [], ◌∷◌, get_or, cond, refl, sym, ap, arith}
+use Rattle.std.proofs.Common.{◌≡◌, ◌≢◌, ◌∙◌, inl, inr, ℕ, zero, suc, ◌+◌, ◌<◌, ◌≤◌, Bool, true, false, List, [], ◌∷◌, get_or, cond, refl, sym, ap, arith, length}
 use Rattle.std.specs.Prelude.{Option, Some, None, slice_get}
 use Rattle.std.specs.List.{count_by}
 use Rattle.std.proofs.lemmas.Option.{slice_get_within, get_or_from_slice_get}
 use Rattle.std.proofs.lemmas.List.Sums.{count_by-le-length, sum_by-cons}
+use Rattle.std.proofs.lemmas.Bool.{false≢true}
+use Rattle.list_laws.proofs.Members.{member_at}
 use Rattle.net_defs.specs.declared.netlist.Netlist.{Netlist}
 use Rattle.net_defs.specs.declared.netlist.Signal.{Signal}
 use Rattle.net_defs.specs.declared.netlist.Driver.{Driver}
@@ -19,12 +21,9 @@ use Rattle.node_defs.specs.declared.items.NodeNet.{NodeNet}
 use Rattle.node_defs.specs.Items.{own, IsNamed, IsItem, IsItemOf}
 use Rattle.node_defs.specs.Order.{class_of, Key, key_of, Before, AreItems}
 use Rattle.node_defs.specs.WellFormed.{is_input, column_count}
-use Rattle.node_defs.proofs.MemberLemmas.{member_at}
+use Rattle.node_defs.proofs.NameLemmas.{name_at as name_of, name_there, NamedItem, named_item}
 use Rattle.plan_defs.proofs.CountLemmas.{few_partners}
-use Rattle.plan_defs.proofs.WellFormedLemmas.{well_formed}
-
-no_yes : false ≡ true → ⊥
-no_yes same = cc
+use Rattle.plan_defs.proofs.WellFormedLemmas.{well_formed, is_column}
 
 -- ---- lists whose members that pass come first
 
@@ -49,7 +48,7 @@ none_passes p (x ∷ xs) none = by_first (p x) refl (none_passes p xs (λ i y at
 -- where the first doesn't pass, none does
 none_after : {X : Type 0} (p : X → Bool) (x : X) (xs : List X) → Leads p (x ∷ xs) → p x ≡ false → count_by p (x ∷ xs) ≡ 0
 none_after p x xs lead is =
-    omega (arith, count_first p x xs false is, none_passes p xs (λ i y at passes. no_yes (sym is ∙ lead zero (suc i) x y refl at (omega arith) passes)))
+    omega (arith, count_first p x xs false is, none_passes p xs (λ i y at passes. false≢true (sym is ∙ lead zero (suc i) x y refl at (omega arith) passes)))
 
 -- a member that passes stands below their number
 passes_below : {X : Type 0} (p : X → Bool) (xs : List X) → Leads p xs → (i : ℕ) (x : X) → slice_get xs i ≡ Some x → p x ≡ true → i < count_by p xs
@@ -86,9 +85,9 @@ class_up a b (inr (same, later)) = omega (arith, same)
 -- the class of inputs is the least, and theirs alone
 input_before : (i j : Item) → class_of i ≤ class_of j → is_input j ≡ true → is_input i ≡ true
 input_before (Input column) j up input = refl
-input_before i (BlockBit block bit) up input = absurd (no_yes input)
-input_before i (Node table feeds) up input = absurd (no_yes input)
-input_before i (Latch op) up input = absurd (no_yes input)
+input_before i (BlockBit block bit) up input = absurd (false≢true input)
+input_before i (Node table feeds) up input = absurd (false≢true input)
+input_before i (Latch op) up input = absurd (false≢true input)
 input_before (BlockBit block bit) (Input column) up input = absurd (omega (arith, up))
 input_before (Node table feeds) (Input column) up input = absurd (omega (arith, up))
 input_before (Latch op) (Input column) up input = absurd (omega (arith, up))
@@ -96,10 +95,10 @@ input_before (Latch op) (Input column) up input = absurd (omega (arith, up))
 -- an item that is an input is named by a signal that the stimulus drives, and not by a helper
 is_driven : (names : List ItemName) (tables : List Table) (late : Bool) (s : ℕ) (d : Driver) (helper : Option ℕ) (item : Item) → IsItemOf names tables late s d helper item → is_input item ≡ true → (is_input_driver d ≡ true) × (helper ≡ None)
 is_driven names tables late s driver.Input helper item is input = (refl, is.0)
-is_driven names tables late s (driver.Dff op) helper item is input = absurd (no_yes (sym (ap is_input is.3) ∙ input))
-is_driven names tables late s (driver.Gate kind ops) None item is input = absurd (no_yes (sym (ap is_input is.is) ∙ input))
-is_driven names tables late s (driver.Gate kind ops) (Some h) item is input = absurd (no_yes (sym (ap is_input is.1.is) ∙ input))
-is_driven names tables late s (driver.BlockBit block bit) helper item is input = absurd (no_yes (sym (ap is_input is.1) ∙ input))
+is_driven names tables late s (driver.Dff op) helper item is input = absurd (false≢true (sym (ap is_input is.3) ∙ input))
+is_driven names tables late s (driver.Gate kind ops) None item is input = absurd (false≢true (sym (ap is_input is.is) ∙ input))
+is_driven names tables late s (driver.Gate kind ops) (Some h) item is input = absurd (false≢true (sym (ap is_input is.1.is) ∙ input))
+is_driven names tables late s (driver.BlockBit block bit) helper item is input = absurd (false≢true (sym (ap is_input is.1) ∙ input))
 
 module _ (net : Netlist) (timing : Timing) (nodes : NodeNet) (valid : IsValid net) (are : AreItems net timing nodes) where
   signals_lead : Leads (λ (signal : Signal). is_input_driver signal.driver) net.signals
@@ -121,28 +120,24 @@ module _ (net : Netlist) (timing : Timing) (nodes : NodeNet) (valid : IsValid ne
     below : s < input_count net
 
   input_at : (x : ℕ) → x < column_count nodes → IsInputAt x
-  input_at x low = by_signal (slice_get net.signals name.0.signal) refl where
+  input_at x low = record {
+    s = (name_of nodes x).signal;
+    named = name_there net timing nodes are x within ∙ ap (λ h. Some (record { signal = (name_of nodes x).signal; helper = h })) driven.1;
+    below = passes_below (λ (g : Signal). is_input_driver g.driver) net.signals signals_lead (name_of nodes x).signal named.signal named.is_signal driven.0;
+  } where
+    within : x < length nodes.items
+    within = omega (arith, low, count_by-le-length is_input nodes.items)
+
     item : (i : Item) × (slice_get nodes.items x ≡ Some i)
-    item = member_at nodes.items x (omega (arith, low, count_by-le-length is_input nodes.items))
+    item = member_at nodes.items x within
 
-    passes : is_input item.0 ≡ true
-    passes = below_passes is_input nodes.items items_lead x item.0 item.1 low
+    named : NamedItem net timing nodes x item.0
+    named = named_item net timing nodes are x item.0 item.1
 
-    name : (n : ItemName) × IsNamed nodes.names x n
-    name = name_at x item.0 item.1
-
-    right : IsItem net timing nodes.names nodes.tables name.0 item.0
-    right = are.right x name.0 item.0 name.1 item.1
-
-    by_signal : (found : Option Signal) → slice_get net.signals name.0.signal ≡ found → IsInputAt x
-    by_signal None missing = absurd (rw missing at right)
-    by_signal (Some signal) there =
-        let driven = is_driven nodes.names nodes.tables (is_late net timing name.0.signal) name.0.signal signal.driver name.0.helper item.0 (rw there at right) passes in
-        record {
-          s = name.0.signal;
-          named = name.1 ∙ ap (λ h. Some (record { signal = name.0.signal; helper = h })) driven.1;
-          below = passes_below (λ (g : Signal). is_input_driver g.driver) net.signals signals_lead name.0.signal signal there driven.0;
-        }
+    driven : (is_input_driver named.signal.driver ≡ true) × ((name_of nodes x).helper ≡ None)
+    driven =
+        is_driven nodes.names nodes.tables (is_late net timing (name_of nodes x).signal) (name_of nodes x).signal named.signal.driver (name_of nodes x).helper item.0 named.is
+        (below_passes is_input nodes.items items_lead x item.0 item.1 low)
 
   -- no more items than signals are inputs
   signal_of : ℕ → ℕ
@@ -173,16 +168,10 @@ module _ (net : Netlist) (timing : Timing) (nodes : NodeNet) (valid : IsValid ne
       let place : (y : ℕ) × IsNamed nodes.names y (own s) = are.names.whole s there.0 None there.1 tt in
       let item : (i : Item) × (slice_get nodes.items place.0 ≡ Some i) = member_at nodes.items place.0 (omega (arith, are.named, slice_get_within nodes.names place.0 (own s) place.1)) in
       let right : IsItem net timing nodes.names nodes.tables (own s) item.0 = are.right place.0 (own s) item.0 place.1 item.1 in
-      let input : item.0 ≡ Input s = is_column there.0.driver item.0 driven (rw there.1 at right) in
+      let input : item.0 ≡ Input s = is_column nodes.names nodes.tables (is_late net timing s) s there.0.driver item.0 driven (rw there.1 at right) in
       (well_formed net timing nodes valid are).columns place.0 s (known_input place.0 item.0 item.1 input) where
         known_input : (x : ℕ) (i : Item) → slice_get nodes.items x ≡ Some i → i ≡ Input s → slice_get nodes.items x ≡ Some (Input s)
         known_input x i at is = at ∙ ap Some is
-
-        is_column : (d : Driver) (i : Item) → is_input_driver d ≡ true → IsItemOf nodes.names nodes.tables (is_late net timing s) s d None i → i ≡ Input s
-        is_column driver.Input i same is = is.1
-        is_column (driver.Gate kind ops) i same is = absurd (no_yes same)
-        is_column (driver.Dff o) i same is = absurd (no_yes same)
-        is_column (driver.BlockBit block bit) i same is = absurd (no_yes same)
 
   no_fewer : input_count net ≤ column_count nodes
   no_fewer = by_last (input_count net) refl where

@@ -3,11 +3,12 @@ use Rattle.std.proofs.Common.{◌≡◌, ◌∙◌, ◌⊎◌, inl, inr, ℕ, ze
 use Rattle.std.specs.Prelude.{Option, Some, None, slice_get}
 use Rattle.std.specs.List.{Contains}
 use Rattle.std.proofs.lemmas.Bool.{cases_eq, cases_lt}
-use Rattle.std.proofs.lemmas.Option.{slice_get_within}
+use Rattle.std.proofs.lemmas.Option.{slice_get_within, none-some}
 use Rattle.std.proofs.Math.Numerals.{add-one}
-use Rattle.node_defs.proofs.MemberLemmas.{some_only, none_some}
+use Rattle.list_laws.proofs.Options.{one_some}
+use Rattle.list_laws.proofs.Ranges.{last_or}
 use Rattle.plan_defs.specs.Lists.{ListsBelow, IsLeastFree}
-use Rattle.plan_defs.proofs.ListLemmas.{last_or, listed_none, listed_more, listed_not}
+use Rattle.plan_defs.proofs.ListLemmas.{listed_none, listed_more, listed_not}
 
 -- it is so, or it is not
 abbrev pub IsKnown : Type 0 → Type 0
@@ -79,9 +80,9 @@ known_member {X} P each xs =
     (λ some. (some.0, some.2.0, some.2.1, some.2.2)) (λ some. (some.0, slice_get_within xs some.0 some.1 some.2, (some.1, some.2, some.3)))
     (known_below (λ k. (x : X) × (slice_get xs k ≡ Some x) × P k x) (λ k. at k (slice_get xs k) refl) (length xs)) where
       at : (k : ℕ) (found : Option X) → slice_get xs k ≡ found → IsKnown ((x : X) × (slice_get xs k ≡ Some x) × P k x)
-      at k None missing = inr (λ some. none_some some.0 (sym missing ∙ some.1))
+      at k None missing = inr (λ some. none-some some.0 (sym missing ∙ some.1))
       at k (Some x) there = known_same (P k x) ((y : X) × (slice_get xs k ≡ Some y) × P k y)
-          (λ is. (x, there, is)) (λ some. subst (P k) (some_only some.0 x (sym some.1 ∙ there)) some.2) (each k x)
+          (λ is. (x, there, is)) (λ some. subst (P k) (one_some some.0 x (sym some.1 ∙ there)) some.2) (each k x)
 
 -- the numbers below the end that have the property
 pub listed_to : (P : ℕ → Type 0) → ((k : ℕ) → IsKnown (P k)) → (n : ℕ) → (xs : List ℕ) × ListsBelow P n xs

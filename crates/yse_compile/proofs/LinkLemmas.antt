@@ -1,12 +1,12 @@
 -- Images of one netlist's items at the same homes send and receive alike.
 use Rattle.std.proofs.Common.{◌≡◌, ◌∙◌, ℕ, length, map, sym, ap, subst, arith}
 use Rattle.std.proofs.lemmas.Option.{slice_get_within}
+use Rattle.list_laws.proofs.Members.{member_at}
 use Rattle.event_defs.specs.Linked.{AreLinkedAlike}
 use Rattle.net_defs.specs.declared.netlist.Netlist.{Netlist}
 use Rattle.net_defs.specs.declared.timing.Timing.{Timing}
 use Rattle.node_defs.specs.Order.{AreItems}
 use Rattle.node_defs.specs.Same.{AreSameItems}
-use Rattle.node_defs.proofs.MemberLemmas.{member_at}
 use Rattle.plan_defs.specs.declared.plan.Plan.{Plan}
 use Rattle.plan_defs.specs.declared.switch.PortLinks.{PortLinks}
 use Rattle.plan_defs.specs.Homes.{ports_of}

@@ -3,6 +3,7 @@ use Rattle.std.proofs.Common.{◌≡◌, inl, inr, ℕ, zero, suc, ◌+◌, ◌<
 use Rattle.std.proofs.Math.Numerals.{add-one}
 use Rattle.std.proofs.lemmas.List.{length-append}
 use Rattle.list_laws.proofs.Places.{read_before, read_last}
+use Rattle.list_laws.proofs.Ranges.{last_or}
 use Rattle.node_defs.specs.declared.items.Item.TheVariants.{Node}
 use Rattle.node_defs.specs.declared.items.NodeNet.{NodeNet}
 use Rattle.node_defs.specs.WellFormed.{IsWellFormed}
@@ -12,7 +13,7 @@ use Rattle.plan_defs.specs.Homes.{AreHomes}
 use Rattle.plan_defs.specs.Lists.{IsLeastFree}
 use Rattle.plan_defs.specs.Slots.{slot_of, needed_of, IsBlocked, AreFirstFit, IsFirstFitPlan}
 use Rattle.plan_defs.specs.Tables.{UsesTable, UsesTables}
-use Rattle.plan_defs.proofs.ListLemmas.{last_or, listed_all}
+use Rattle.plan_defs.proofs.ListLemmas.{listed_all}
 use Rattle.plan_defs.proofs.PlanLemmas.{blocked_agree, least_same}
 use Rattle.yse_compile.proofs.KnownLemmas.{least_or_all, listed_to}
 use Rattle.yse_compile.proofs.KnownUses.{blocked_known, table_known}

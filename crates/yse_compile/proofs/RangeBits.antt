@@ -5,6 +5,7 @@ use Rattle.std.proofs.lemmas.Bool.{cases_lt, eqb-true, eqb-false}
 use Rattle.std.proofs.Math.Numerals.{add-one}
 use Rattle.std.proofs.lemmas.List.Sums.{sum_by-cons, sum_by_push}
 use Rattle.std.proofs.lemmas.Option.{slice_get_within, get_or_from_slice_get}
+use Rattle.list_laws.proofs.Members.{member_at}
 use Rattle.limits.specs.declared.TheConstants.{MAX_ARRAY_BITS}
 use Rattle.machine_text.specs.declared.machine.Limited.TheVariants.{Bits}
 use Rattle.machine_text.specs.declared.machine.Machine.{Machine}
@@ -12,7 +13,6 @@ use Rattle.machine_text.specs.Machines.{IsValid}
 use Rattle.machine_text.proofs.LimitLemmas.{limit_in_range}
 use Rattle.node_defs.specs.declared.items.NodeBlock.{NodeBlock}
 use Rattle.node_defs.specs.declared.items.NodeNet.{NodeNet}
-use Rattle.node_defs.proofs.MemberLemmas.{member_at}
 use Rattle.plan_defs.specs.declared.plan.Homes.{Homes}
 use Rattle.plan_defs.specs.Lists.{ListsBelow}
 use Rattle.plan_defs.specs.Picks.{bits_of, bits_before, bit_limit, AreHoused}

@@ -1,8 +1,8 @@
 -- The lines of a file are in their ranges, where its image is well formed and has few parts.
-use Rattle.std.proofs.Common.{◌≡◌, ◌∙◌, ℕ, suc, ◌^◌, ◌<◌, ◌≤◌, ◌&&◌, Bool, true, List, [], ◌∷◌, ◌++◌, length, map, get_or, Some, slice_get, refl, ap, All, arith, nat_le}
+use Rattle.std.proofs.Common.{◌≡◌, ◌∙◌, ℕ, suc, ◌^◌, ◌<◌, ◌≤◌, ◌&&◌, true, List, [], ◌∷◌, ◌++◌, length, map, get_or, Some, slice_get, refl, ap, All, arith, nat_le}
 use Rattle.std.specs.Prelude.{option_map}
 use Rattle.std.specs.List.{zip}
-use Rattle.std.proofs.lemmas.Bool.{le-leb}
+use Rattle.std.proofs.lemmas.Bool.{le-leb, and_from}
 use Rattle.std.proofs.lemmas.List.Elements.{All-nil, All-cons, All-append, All-map}
 use Rattle.std.proofs.lemmas.Option.{slice_get-map, slice_get_within, slice_get-get_or}
 use Rattle.limits.specs.declared.TheConstants.{MAX_SLOTS, MAX_UNITS, MAX_SIGNALS, MAX_PORTS, MAX_ADDRESS_BITS, MAX_WORD_BITS}
@@ -43,11 +43,8 @@ all_zip P (x ∷ xs) (y ∷ ys) holds = All-cons P (x, y) (zip xs ys) (holds 0 x
 all_claimed : {X : Type 0} (make : X → ℕ → Line) (xs : List X) (items : List ℕ) → ((i : ℕ) (x : X) (y : ℕ) → slice_get xs i ≡ Some x → slice_get items i ≡ Some y → IsInRange (make x y)) → All IsInRange (claimed make xs items)
 all_claimed {X} make xs items holds = All-map IsInRange (λ (x : X × ℕ). make x.0 x.1) (zip xs items) (all_zip (λ x. IsInRange (make x.0 x.1)) xs items holds)
 
-both_hold : (a b : Bool) → a ≡ true → b ≡ true → (a && b) ≡ true
-both_hold a b first second = rw (first, second) refl
-
 from_one : (most n : ℕ) → (1 ≤ n) × (n ≤ most) → (nat_le 1 n && nat_le n most) ≡ true
-from_one most n (some, few) = both_hold (nat_le 1 n) (nat_le n most) (le-leb 1 n some) (le-leb n most few)
+from_one most n (some, few) = and_from (nat_le 1 n) (nat_le n most) (le-leb 1 n some) (le-leb n most few)
 
 -- ---- what a port does
 
@@ -70,7 +67,7 @@ module _ (slots : ℕ) (few : slots ≤ MAX_SLOTS) (columns : ℕ) (few_columns 
         (all_of_each IsSmallSource block.address (λ i s at. there s (is.address i s at).there), all_of_each IsSmallSource block.word (λ i s at. there s (is.word i s at).there)),
       ),
     );
-    within = both_hold (nat_le 1 (length block.address) && nat_le (length block.address) MAX_ADDRESS_BITS) (nat_le 1 (length block.word) && nat_le (length block.word) MAX_WORD_BITS)
+    within = and_from (nat_le 1 (length block.address) && nat_le (length block.address) MAX_ADDRESS_BITS) (nat_le 1 (length block.word) && nat_le (length block.word) MAX_WORD_BITS)
         (from_one MAX_ADDRESS_BITS (length block.address) is.address_bits) (from_one MAX_WORD_BITS (length block.word) is.word_bits);
   }
 

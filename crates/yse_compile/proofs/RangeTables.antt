@@ -5,6 +5,8 @@ use Rattle.std.proofs.lemmas.List.{length-map}
 use Rattle.std.proofs.lemmas.Option.{slice_get_within, get_or_from_slice_get}
 use Rattle.limits.specs.declared.TheConstants.{MAX_FUNCTIONS}
 use Rattle.list_laws.proofs.Places.{place_of}
+use Rattle.list_laws.proofs.Members.{member_at}
+use Rattle.list_laws.proofs.Options.{one_some}
 use Rattle.machine_text.specs.declared.machine.Limited.TheVariants.{Functions}
 use Rattle.machine_text.specs.declared.machine.Machine.{Machine}
 use Rattle.machine_text.specs.Machines.{IsValid}
@@ -14,7 +16,6 @@ use Rattle.func_table.specs.Entries.{AreAlike, entry_of}
 use Rattle.node_defs.specs.declared.items.Item.{Item}
 use Rattle.node_defs.specs.declared.items.Item.TheVariants.{Input, BlockBit, Node, Latch}
 use Rattle.node_defs.specs.declared.items.NodeNet.{NodeNet}
-use Rattle.node_defs.proofs.MemberLemmas.{member_at, some_only}
 use Rattle.plan_defs.specs.declared.plan.Homes.{Homes}
 use Rattle.plan_defs.specs.Homes.{home_of}
 use Rattle.plan_defs.specs.Tables.{UsesTable, FitsTables}
@@ -68,7 +69,7 @@ module _ (nodes : NodeNet) (homes : Homes) (machine : Machine) (image : Image) (
         let claim : (x : ℕ) × IsClaim claims p used.0 x = member_at (claims_of claims p) used.0 (omega (arith, slice_get_within tasks used.0 (Eval used.1.slot n used.1.a used.1.b used.1.c used.1.d) used.1.is, as_many)) in
         let item : (item : Item) × (slice_get nodes.items claim.0 ≡ Some item) × Implements image claims nodes p ins (Logic tables tasks) used.0 item = items used.0 claim.0 claim.1 in
         let task : (task : Task) × (slice_get tasks used.0 ≡ Some task) × TaskImplements image claims nodes p ins tables task item.0 = item.2 in
-        let same : task.0 ≡ Eval used.1.slot n used.1.a used.1.b used.1.c used.1.d = some_only task.0 (Eval used.1.slot n used.1.a used.1.b used.1.c used.1.d) (sym task.1 ∙ used.1.is) in
+        let same : task.0 ≡ Eval used.1.slot n used.1.a used.1.b used.1.c used.1.d = one_some task.0 (Eval used.1.slot n used.1.a used.1.b used.1.c used.1.d) (sym task.1 ∙ used.1.is) in
         of_task nodes homes image claims p ins tables n claim.0 used.1.slot used.1.a used.1.b used.1.c used.1.d item.0 item.1 (at_home used.0 claim.0 claim.1)
         (subst (λ t. TaskImplements image claims nodes p ins tables t item.0) same task.2)
 
@@ -93,7 +94,7 @@ module _ (nodes : NodeNet) (homes : Homes) (machine : Machine) (image : Image) (
     apart m n (inl low) (inl last) before within one_place =
         let shared : (of_node m low).number ≡ (of_node n last).number = sym (found m low).2 ∙ (ap (λ i. get_or fits.uses.numbers i 0) one_place ∙ (found n last).2) in
         let equal : (of_node m low).other ≡ (of_node n last).other =
-        some_only (of_node m low).other (of_node n last).other (sym (of_node m low).there ∙ ap (λ t. slice_get nodes.tables t) shared ∙ (of_node n last).there) in
+        one_some (of_node m low).other (of_node n last).other (sym (of_node m low).there ∙ ap (λ t. slice_get nodes.tables t) shared ∙ (of_node n last).there) in
         let first : get_or tables m (of_node m low).one ≡ (of_node m low).one = get_or_from_slice_get tables m (of_node m low).one (of_node m low).one (of_node m low).here in
         let second : get_or tables n (of_node m low).one ≡ (of_node n last).one = get_or_from_slice_get tables n (of_node n last).one (of_node m low).one (of_node n last).here in
         let other : ¬ AreAlike (of_node m low).one (of_node n last).one = rw (← first, ← second) (order.different m n (of_node m low).one before within) in

@@ -3,6 +3,7 @@
 use Rattle.std.proofs.Common.{◌≡◌, ◌∙◌, ℕ, ◌+◌, ◌-◌, ◌%◌, ◌<◌, ◌≤◌, ◌==◌, if◌then◌else◌, List, length, get_or, refl, sym, ap, subst, arith}
 use Rattle.std.specs.Prelude.{◌↔◌, Option, Some, None, slice_get}
 use Rattle.std.specs.List.{sum_by, range_with_len}
+use Rattle.list_laws.proofs.Ranges.{sum_alike}
 use Rattle.machine_text.specs.declared.machine.Machine.{Machine}
 use Rattle.node_defs.specs.declared.items.Item.{Item}
 use Rattle.node_defs.specs.declared.items.Item.TheVariants.{Input, BlockBit, Node, Latch}
@@ -12,9 +13,9 @@ use Rattle.node_defs.specs.Order.{class_of}
 use Rattle.node_defs.specs.Same.{AreSameItems}
 use Rattle.node_defs.specs.WellFormed.{IsComputed}
 use Rattle.plan_defs.specs.declared.plan.Homes.{Homes}
-use Rattle.plan_defs.specs.Picks.{bits_of, bits_before, bit_limit, bits_left, LacksRoom, AreHoused, node_limit, nodes_before, IsFull, IsInTurn, HasPickedHome, ArePicked, FindsNoPort, HasTooManyNodes}
+use Rattle.plan_defs.specs.Picks.{bits_of, bits_before, bit_limit, bits_left, LacksRoom, AreHoused, node_limit, nodes_before, IsFull, IsInTurn, HasPickedHome, ArePicked, FindsNoPort}
 use Rattle.plan_defs.proofs.PlanLemmas.{least_same}
-use Rattle.home_pick.proofs.FillLemmas.{sum_alike, bits_at}
+use Rattle.home_pick.proofs.FillLemmas.{bits_at}
 use Rattle.home_pick.proofs.HousingLemmas.{homes_one}
 use Rattle.yse_compile.proofs.SameItems.{carried, partner}
 
@@ -70,16 +71,6 @@ refused_kept one other machine block needed left same none = record {
   past = none.past;
   most = λ a low. omega (arith, none.most a low, left_kept one other same machine none.ports block a);
   reached = (none.reached.0, λ some. (let at = none.reached.1 some in (at.0, at.1, sym (left_kept one other same machine none.ports block at.0) ∙ at.2)));
-}
-
--- the nodes are too many in both
-pub too_many_kept : (one other : NodeNet) (machine : Machine) (needed limit : ℕ) → AreSameItems one other → HasTooManyNodes one machine needed limit → HasTooManyNodes other machine needed limit
-too_many_kept one other machine needed limit same many = record {
-  ports = many.ports;
-  memories = all_housed one other machine many.ports same.blocks many.memories;
-  count = omega (arith, many.count, same.count, same.first_node);
-  room = many.room;
-  past = many.past;
 }
 
 -- ---- items

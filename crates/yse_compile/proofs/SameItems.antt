@@ -2,13 +2,13 @@
 use Rattle.std.proofs.Common.{◌≡◌, ◌∙◌, ℕ, List, refl, ap, subst, arith}
 use Rattle.std.specs.Prelude.{Some, slice_get}
 use Rattle.std.proofs.lemmas.Option.{slice_get_within}
+use Rattle.list_laws.proofs.Members.{member_at}
 use Rattle.func_table.specs.declared.table.Table.{Table}
 use Rattle.node_defs.specs.declared.items.Feeds.{Feeds}
 use Rattle.node_defs.specs.declared.items.Item.{Item}
 use Rattle.node_defs.specs.declared.items.Item.TheVariants.{Node}
 use Rattle.node_defs.specs.declared.items.NodeNet.{NodeNet}
 use Rattle.node_defs.specs.Same.{AreSameItem, AreSameItems}
-use Rattle.node_defs.proofs.MemberLemmas.{member_at}
 
 -- what doesn't ask for the number of a table holds of the same item of another list
 pub carried : (P : Item → Type 0) → ((t u : ℕ) (feeds : Feeds) → P (Node t feeds) → P (Node u feeds)) → (tables others : List Table) (i j : Item) → AreSameItem tables others i j → P i → P j

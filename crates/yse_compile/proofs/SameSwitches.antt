@@ -3,11 +3,11 @@ use Rattle.std.proofs.Common.{◌≡◌, ◌∙◌, ℕ, zero, suc, ◌<◌, Lis
 use Rattle.std.specs.Prelude.{Some, slice_get, option_map}
 use Rattle.std.specs.List.{Contains}
 use Rattle.std.specs.List.Sorted.{IsStrictlyIncreasing}
-use Rattle.std.proofs.lemmas.Option.{slice_get_within, slice_get-map, get_or_from_slice_get}
+use Rattle.std.proofs.lemmas.Option.{slice_get-map, get_or_from_slice_get}
+use Rattle.list_laws.proofs.Members.{member_at, listed}
 use Rattle.image_defs.proofs.PlaceLemmas.{rises}
 use Rattle.node_defs.specs.declared.items.NodeNet.{NodeNet}
 use Rattle.node_defs.specs.Same.{AreSameItems}
-use Rattle.node_defs.proofs.MemberLemmas.{member_at}
 use Rattle.plan_defs.specs.declared.plan.Homes.{Homes}
 use Rattle.plan_defs.specs.declared.switch.Sending.{Sending}
 use Rattle.plan_defs.specs.declared.switch.Receipt.{Receipt}
@@ -71,9 +71,6 @@ module _ {X : Type 0} (key : X → ℕ) where
 
 -- ---- readers
 
-contains_at : (xs : List ℕ) (k x : ℕ) → slice_get xs k ≡ Some x → Contains xs x
-contains_at xs k x at = (k, slice_get_within xs k x at, get_or_from_slice_get xs k x x at)
-
 place_in : (xs : List ℕ) (x : ℕ) → Contains xs x → (k : ℕ) × (slice_get xs k ≡ Some x)
 place_in xs x (k, low, is) =
     let there = member_at xs k low in
@@ -83,8 +80,8 @@ place_in xs x (k, low, is) =
 same_lists : (P Q : ℕ → Type 0) (xs ys : List ℕ) → ((n : ℕ) → P n → Q n) → ((n : ℕ) → Q n → P n) → Lists P xs → Lists Q ys → xs ≡ ys
 same_lists P Q xs ys there back one other =
     same_members (λ n. n) xs ys (rises xs one.rising) (rises ys other.rising)
-    (λ k n at. place_in ys n ((other.exact n).1 (there n ((one.exact n).0 (contains_at xs k n at)))))
-    (λ k n at. place_in xs n ((one.exact n).1 (back n ((other.exact n).0 (contains_at ys k n at)))))
+    (λ k n at. place_in ys n ((other.exact n).1 (there n ((one.exact n).0 (listed xs k n at)))))
+    (λ k n at. place_in xs n ((one.exact n).1 (back n ((other.exact n).0 (listed ys k n at)))))
 
 -- ---- links
 

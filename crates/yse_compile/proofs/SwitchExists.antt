@@ -79,12 +79,13 @@ module _ {T : Type 0} (slot : T → ℕ) (IsOf : ℕ → T → Type 0) (IsIn : �
       let listed = listed_below end.0 in
       (listed.0, listed_same slot IsOf (IsBelow end.0) IsIn listed.0 listed.1 (λ i h. h.0) (λ i h. (h, end.1 i (low i h))))
 
-module _ (nodes : NodeNet) (homes : Homes) (plan : Plan) (formed : IsWellFormed nodes) (are : AreHomes nodes homes) (fit : IsFirstFitPlan nodes homes plan) where
-  readers_there : (i : ℕ) → (ports : List ℕ) × IsReaderList nodes homes i ports
-  readers_there i =
-      let listed = listed_to (IsReader nodes homes i) (reader_known nodes homes i) (ports_of homes) in
-      (listed.0, listed_all (IsReader nodes homes i) (ports_of homes) listed.0 listed.1 (λ port reads. (reader_port nodes homes i port formed are reads).1))
+-- the ports that read an item, in a list
+pub readers_there : (nodes : NodeNet) (homes : Homes) → IsWellFormed nodes → AreHomes nodes homes → (i : ℕ) → (ports : List ℕ) × IsReaderList nodes homes i ports
+readers_there nodes homes formed are i =
+    let listed = listed_to (IsReader nodes homes i) (reader_known nodes homes i) (ports_of homes) in
+    (listed.0, listed_all (IsReader nodes homes i) (ports_of homes) listed.0 listed.1 (λ port reads. (reader_port nodes homes i port formed are reads).1))
 
+module _ (nodes : NodeNet) (homes : Homes) (plan : Plan) (formed : IsWellFormed nodes) (are : AreHomes nodes homes) (fit : IsFirstFitPlan nodes homes plan) where
   -- ---- sends
 
   sent_known : (port i : ℕ) → IsKnown (IsSent nodes homes port i)
@@ -100,7 +101,7 @@ module _ (nodes : NodeNet) (homes : Homes) (plan : Plan) (formed : IsWellFormed 
   sends_listed port =
       listed_by_slot (λ (sending : Sending). sending.slot) (IsSendingOf nodes homes plan.slots) (IsSent nodes homes port) plan.slots (length nodes.items)
       (sent_known port) (λ i sent. sent.within)
-      (λ i sent. (record { slot = slot_of plan.slots i; readers = (readers_there i).0 }, record { slot = refl; readers = (readers_there i).1 }))
+      (λ i sent. (record { slot = slot_of plan.slots i; readers = (readers_there nodes homes formed are i).0 }, record { slot = refl; readers = (readers_there nodes homes formed are i).1 }))
       (λ i sending of. of.slot)
       (λ i j sent other same. one_at_home nodes homes plan.slots (length nodes.items) fit.slots i j sent.within other.within (sent.home ∙ sym other.home) same)
 

@@ -1,7 +1,7 @@
 use Rattle.std.proofs.Common.{subst, sym}
 use Rattle.std.proofs.lemmas.Result.{on_ok_weaker}
+use Rattle.list_laws.proofs.Members.{each_push}
 use Rattle.crew_run.specs.Crews.{AllCanRun, CanRun}
-use Rattle.crew_run.proofs.Places.{each_push}
 use Rattle.crew_run.proofs.lend.add.Goals as goal
 
 pub returns-clause-can : goal.returns-clause-can

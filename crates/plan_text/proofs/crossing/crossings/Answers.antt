@@ -1,6 +1,7 @@
 use Rattle.std.proofs.Common.{◌≡◌, ◌∙◌, [], length, get_or, ap, arith}
 use Rattle.std.specs.List.{sum_by, range_with_len}
-use Rattle.plan_text.proofs.FigureLemmas.{sum_range, readers_few, read_lists}
+use Rattle.list_laws.proofs.Ranges.{sum_more}
+use Rattle.plan_text.proofs.FigureLemmas.{readers_few, read_lists}
 use Rattle.plan_text.proofs.crossing.crossings.Goals as goal
 
 pub overflow_add-count : goal.overflow_add-count
@@ -15,7 +16,7 @@ pub items-preserved : goal.items-preserved
 items-preserved c =
     let lists = read_lists c.args.nodes.now c.args.homes.now c.in_ok-readers.readers c.in_ok-readers.ensures c.items.i (omega arith) in
     let few = readers_few c.args.nodes.now c.args.homes.now c.items.i _ c.requires.nodes c.requires.homes lists in
-    let more = sum_range (λ i. length (get_or c.in_ok-readers.readers.lists i [])) c.items.i in
+    let more = sum_more (λ i. length (get_or c.in_ok-readers.readers.lists i [])) c.items.i in
     let so_far = c.items.invariant.so_far in
     let small = c.items.invariant.small in
     let count = c.reader_count.ensures in

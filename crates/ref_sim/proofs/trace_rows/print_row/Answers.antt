@@ -1,6 +1,6 @@
 use Rattle.std.proofs.Common.{◌≡◌, ◌∙◌, length, ap, sym}
 use Rattle.std.proofs.lemmas.List.{length-map}
-use Rattle.ref_sim.proofs.AssignLemmas.{refill_whole}
+use Rattle.list_laws.proofs.Members.{refill_whole}
 use Rattle.ref_sim.proofs.CycleLemmas.{printed_is}
 use Rattle.ref_sim.proofs.trace_rows.print_row.Goals as goal
 

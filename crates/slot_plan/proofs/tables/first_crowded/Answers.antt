@@ -1,6 +1,6 @@
 use Rattle.std.proofs.Common.{inl, inr, sym, subst, arith}
+use Rattle.list_laws.proofs.Ranges.{last_or}
 use Rattle.plan_defs.specs.Tables.{FitsTables}
-use Rattle.plan_defs.proofs.ListLemmas.{last_or}
 use Rattle.slot_plan.proofs.tables.first_crowded.Goals as goal
 
 pub returns-then-needed-table_limit-clause-some : goal.returns-then-needed-table_limit-clause-some
