@@ -13,7 +13,8 @@ use Rattle.image_defs.specs.declared.image.Image.{Image}
 use Rattle.image_defs.specs.declared.image.LinkIn.{LinkIn}
 use Rattle.image_defs.specs.declared.image.LinkOut.{LinkOut}
 use Rattle.image_defs.specs.declared.image.PortImage.{PortImage}
-use Rattle.event_defs.proofs.PaceLemmas.{latest_put, same_port}
+use Rattle.event_defs.proofs.PaceLemmas.{latest_put, send_at}
+use Rattle.event_defs.proofs.SlotLemmas.{updated_same}
 use Rattle.event_defs.specs.Next.{EndsNext}
 use Rattle.event_defs.specs.Places.{IsSend, after_ask, after_put, after_take, after_tell, is_in, known_of, latest}
 use Rattle.event_defs.specs.Row.{send_number, word_place}
@@ -23,7 +24,7 @@ use Rattle.slot_words.proofs.LinkLemmas.{member_at}
 use Rattle.slot_words.proofs.LookLemmas.{looks_claimed, looks_split, looks_stepped, told_progress, told_sent}
 use Rattle.slot_words.proofs.OwnLemmas.{SameClaims, owned_claimed, owned_split, owned_stepped}
 use Rattle.slot_words.proofs.SoundLemmas.{counts, told_some}
-use Rattle.slot_words.proofs.StepLemmas.{knows_told, near_sender, sent_read, told_claims, updated_same}
+use Rattle.slot_words.proofs.StepLemmas.{knows_told, near_sender, sent_read, told_claims}
 use Rattle.slot_words.proofs.TimeLemmas.{progress_kept, progress_set, send_room, sent_set, turns_ask, turns_claim, turns_put, turns_take, turns_tell}
 use Rattle.slot_words.specs.Layout.{progress_in, send_word, sent_in, told_in, turns_told}
 use Rattle.slot_words.specs.Rule.{AreInTurn, AreLooks, AreOwned, IsPassOf, steps_in}
@@ -93,9 +94,6 @@ module _ (words : List ℕ) (views : List PackView) (id p : ℕ) (v : PackView) 
   begun : 1 ≤ turn
   begun = subst (λ (a : Place). 1 ≤ a.turn) (sym mine.place_is) (kept.timed.paced.places p port_there.0 port_there.1).begun
 
-  fits_image : (i : ℕ) (link : LinkOut) → IsSend image p i link → slice_get port_there.0.outs i ≡ Some link
-  fits_image i link send = subst (λ (q : PortImage). slice_get q.outs i ≡ Some link) (same_port image p send.port port_there.0 send.is port_there.1) send.link_is
-
   -- the pass after one more step
   abbrev pub stepped_view : Place → ℕ → ℕ → PackView
   stepped_view x word number = after_step v (steps_in plain_views + 1) x word number
@@ -164,7 +162,7 @@ module _ (words : List ℕ) (views : List PackView) (id p : ℕ) (v : PackView) 
 
         timed : AreInTurn image 1 until (set words (send_word image 1 p i 0) x) (updated kept.place p (after_put v.place link.slot))
         timed = subst Stays (sym mine.place_is)
-            (turns_put image kept.runs.image_fits 1 until words kept.place kept.timed p port_there.0 port_there.1 i (word_place 1 (send_number image p i) 0) x link (fits_image i link send))
+            (turns_put image kept.runs.image_fits 1 until words kept.place kept.timed p port_there.0 port_there.1 i (word_place 1 (send_number image p i) 0) x link (send_at image p i link port_there.0 send port_there.1))
             missing early ready
 
         Sends : Place → Type 0
@@ -241,7 +239,7 @@ module _ (words : List ℕ) (views : List PackView) (id p : ℕ) (v : PackView) 
 
         same_latest : (i : ℕ) (link : LinkOut) → IsSend image p i link → latest (after_tell v.place) link.slot ≡ latest (kept.place p) link.slot
         same_latest i link send =
-            let all_put : is_in link.slot v.place.puts ≡ true = (next port_there.0 port_there.1).all_put i link (fits_image i link send) in
+            let all_put : is_in link.slot v.place.puts ≡ true = (next port_there.0 port_there.1).all_put i link (send_at image p i link port_there.0 send port_there.1) in
             let minus : turn + 1 - 1 ≡ turn = omega arith in
             minus ∙ (sym (latest_put v.place link.slot all_put) ∙ ap (λ (a : Place). latest a link.slot) mine.place_is)
 

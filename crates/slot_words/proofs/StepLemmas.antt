@@ -1,6 +1,5 @@
 -- Each of the six kinds of step keeps the rule.
 use Rattle.std.proofs.Common.{List, None, Some, [], ap, arith, drop, eq-eqb, eqb, false, get_or, get_or-set_other, get_or-set_same, inl, inr, length, length-set, mod-lt, mul-le-mul, ne_eqb, refl, set, slice_get, subst, sym, ℕ, ◌%◌, ◌*◌, ◌++◌, ◌+◌, ◌<◌, ◌^◌, ◌⊎◌, ◌∙◌, ◌∷◌, ◌≡◌, ◌≢◌, ◌≤◌}
-use Rattle.std.proofs.Math.Path.{fun_ext}
 use Rattle.std.proofs.lemmas.Bool.{cases_eq}
 use Rattle.std.proofs.lemmas.List.{get_or-drop, set-get_or}
 use mathlib.Core.Option.{none, some}
@@ -19,9 +18,9 @@ use Rattle.image_defs.specs.declared.image.Image.{Image}
 use Rattle.image_defs.specs.declared.image.LinkIn.{LinkIn}
 use Rattle.image_defs.specs.declared.image.LinkOut.{LinkOut}
 use Rattle.image_defs.specs.declared.image.PortImage.{PortImage}
-use Rattle.event_defs.proofs.PaceLemmas.{reader_in, same_port, same_send, source}
+use Rattle.event_defs.proofs.PaceLemmas.{one_send, reader_in, same_send, send_at, source}
 use Rattle.event_defs.proofs.RowLemmas.{same_number, same_place, send_within, word_at}
-use Rattle.event_defs.proofs.SlotLemmas.{updated_here, updated_there}
+use Rattle.event_defs.proofs.SlotLemmas.{updated_same}
 use Rattle.event_defs.proofs.StampLemmas.{coded_put}
 use Rattle.event_defs.proofs.WordLemmas.{coded_is, found_stamp, stamp_in}
 use Rattle.event_defs.specs.Next.{EndsNext}
@@ -41,13 +40,6 @@ use Rattle.slot_words.specs.declared.rule.View.{View}
 use Rattle.slot_words.specs.Layout.{progress_in, send_word, sent_in, told_in, turns_told}
 use Rattle.slot_words.specs.Plays.{Claims, Ends, FindsIn, Learns, Reads, Seated, Writes, after_step, claimed_by}
 use Rattle.slot_words.specs.Rule.{AreInTurn, AreOwned, AreTimed, IsKept, IsPassOf, Kept, steps_in, turns_of}
-
--- a changed function is the same where the new value is the old one
-pub updated_same : {X : Type 0} (f : ℕ → X) (p : ℕ) → updated f p (f p) ≡ f
-updated_same f p = fun_ext (λ q. elim (cases_eq q p) [
-  | inl same ↦ subst (λ q. updated f p (f p) q ≡ f q) (sym same) (updated_here f p (f p))
-  | inr other ↦ updated_there f p q (f p) other
-])
 
 -- turns are few
 pub turns_few : (image : Image) (stimulus : Stimulus) → IsWellFormed image → IsValidStimulus stimulus → turns_of image stimulus < 2 ^ 59
@@ -70,10 +62,7 @@ module _ (image : Image) (banks : ℕ) where
   pub same_word : (p i q k b c : ℕ) (link other : LinkOut) → IsSend image p i link → IsSend image q k other → b < banks → c < banks → send_word image banks p i b ≡ send_word image banks q k c → (p ≡ q) × (link ≡ other)
   same_word p i q k b c link other one two b_in c_in same =
       let pair = same_places p i q k b c link other one two b_in c_in same in
-      let at_q : IsPort image p two.port = subst (λ x. IsPort image x two.port) (sym pair.0) two.is in
-      let at_k : slice_get one.port.outs i ≡ Some other = subst (λ x. slice_get one.port.outs x ≡ Some other) (sym pair.1) (subst (λ (o : PortImage). slice_get o.outs k ≡ Some other) (sym (same_port image p one.port two.port one.is at_q)) two.link_is) in
-      let both : Some link ≡ Some other = sym one.link_is ∙ at_k in
-      (pair.0, cc)
+      (pair.0, one_send image p i k link other one (subst (λ x. IsSend image x k other) (sym pair.0) two) pair.1)
 
 -- ---- what a pass knows and reads
 
@@ -192,7 +181,7 @@ module _ (words : List ℕ) (views : List View) (id p : ℕ) (v : View) (kept : 
     stamp = ap stamp_of x_is ∙ stamp_in turn (image_value image v.stimulus turn p link.slot)
 
     at_link : slice_get port_there.0.outs i ≡ Some link
-    at_link = subst (λ (q : PortImage). slice_get q.outs i ≡ Some link) (same_port image p send.port port_there.0 send.is port_there.1) send.link_is
+    at_link = send_at image p i link port_there.0 send port_there.1
 
     Stays : Place → Type 0
     Stays a = is_in link.slot a.puts ≡ false → a.turn ≤ until → ((r : ℕ) → Stands link.readers r → a.turn ≤ known_of a r + v.banks) → stamp_of x ≡ a.turn

@@ -1,5 +1,5 @@
 -- The turns of places and words: each kind of step keeps them in pace. No value stands here.
-use Rattle.std.proofs.Common.{List, Some, ap, arith, false, get_or-set_other, get_or-set_same, inl, inr, length, mod-lt, refl, set, slice_get, subst, sym, true, ℕ, ◌%◌, ◌*◌, ◌+◌, ◌-◌, ◌<◌, ◌∙◌, ◌≡◌, ◌≢◌, ◌≤◌}
+use Rattle.std.proofs.Common.{List, Some, ap, arith, false, get_or-set_other, get_or-set_same, inl, inr, length, mod-lt, refl, set, slice_get, subst, sym, ℕ, ◌%◌, ◌*◌, ◌+◌, ◌-◌, ◌<◌, ◌∙◌, ◌≡◌, ◌≢◌, ◌≤◌}
 use Rattle.std.proofs.lemmas.Bool.{cases_eq}
 use Rattle.std.proofs.lemmas.List.{drop-set-add, drop-set-lt, length-drop}
 use Rattle.std.proofs.lemmas.Option.{slice_get_within}
@@ -9,7 +9,7 @@ use Rattle.image_defs.specs.declared.image.Image.{Image}
 use Rattle.image_defs.specs.declared.image.LinkIn.{LinkIn}
 use Rattle.image_defs.specs.declared.image.LinkOut.{LinkOut}
 use Rattle.image_defs.specs.declared.image.PortImage.{PortImage}
-use Rattle.event_defs.proofs.PaceLemmas.{CanStand, asks, latest_put, puts, same_port, stands, takes, tells}
+use Rattle.event_defs.proofs.PaceLemmas.{CanStand, asks, latest_put, puts, send_at, stands, takes, tells}
 use Rattle.event_defs.proofs.RowLemmas.{number_within, place_within, send_within, word_set}
 use Rattle.event_defs.proofs.SlotLemmas.{each_updated, updated_here, updated_there}
 use Rattle.event_defs.proofs.StampLemmas.{stamped_put, stamped_still}
@@ -159,10 +159,7 @@ module _ (image : Image) (fits : IsWellFormed image) (banks until : ℕ) (words 
         → AreTimed image banks until (set words p (place p).turn) (updated place p (after_tell (place p)))
     timed_tell room next early = with_stamps image banks until (set words p (place p).turn) (updated place p (after_tell (place p))) (turns_tell image fits banks until words place turns p port is room next early)
         (subst (AreStamped image banks (updated place p (after_tell (place p)))) (sym (progress_set image banks words p (place p).turn inside))
-        (stamped_still image fits banks place (sent_in image banks words) p (after_tell (place p)) timed.stamps (λ i link s. minus ∙ sym (latest_put (place p) link.slot (all_put i link s))))) where
-          all_put : (i : ℕ) (link : LinkOut) → IsSend image p i link → is_in link.slot (place p).puts ≡ true
-          all_put i link s = next.all_put i link (subst (λ (q : PortImage). slice_get q.outs i ≡ Some link) (same_port image p s.port port s.is is) s.link_is)
-
+        (stamped_still image fits banks place (sent_in image banks words) p (after_tell (place p)) timed.stamps (λ i link s. minus ∙ sym (latest_put (place p) link.slot (next.all_put i link (send_at image p i link port s is)))))) where
           minus : (place p).turn + 1 - 1 ≡ (place p).turn
           minus = omega arith
 
