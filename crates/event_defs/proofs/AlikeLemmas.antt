@@ -1,6 +1,5 @@
 -- Images that are linked alike make the same places and answers, whatever they compute.
 use Rattle.std.proofs.Common.{Bool, List, Some, ap, arith, eq-eqb, false, if◌then◌else◌, inl, inr, le-leb, nat_le, ne_eqb, refl, slice_get, subst, sym, true, ℕ, ◌%◌, ◌*◌, ◌+◌, ◌<◌, ◌==◌, ◌∙◌, ◌≡◌, ◌≤◌}
-use Rattle.std.proofs.Math.Path.{fun_ext}
 use Rattle.std.proofs.lemmas.Bool.{cases_eq, false≢true, lt-leb}
 use Rattle.logic_four.specs.Values.{code_of}
 use Rattle.logic_four.specs.declared.V4.{V4}
@@ -13,7 +12,7 @@ use Rattle.image_defs.specs.declared.image.Image.{Image}
 use Rattle.image_defs.specs.declared.image.LinkIn.{LinkIn}
 use Rattle.image_defs.specs.declared.image.LinkOut.{LinkOut}
 use Rattle.image_defs.specs.declared.image.PortImage.{PortImage}
-use Rattle.event_defs.proofs.SlotLemmas.{updated_here, updated_there}
+use Rattle.event_defs.proofs.SlotLemmas.{updated_here, updated_same, updated_there}
 use Rattle.event_defs.proofs.StampLemmas.{written_here, written_there}
 use Rattle.event_defs.proofs.WordLemmas.{stamp_in}
 use Rattle.event_defs.specs.Linked.{ArePortsAlike}
@@ -127,12 +126,6 @@ puts_test (Moved (event.Take slot)) = false
 puts_test (Moved event.Tell) = false
 puts_test NotYet = false
 puts_test Done = false
-
-updated_same : {X : Type 0} (f : ℕ → X) (p : ℕ) → updated f p (f p) ≡ f
-updated_same f p = fun_ext (λ q. elim (cases_eq q p) [
-  | inl same ↦ subst (λ q. updated f p (f p) q ≡ f q) (sym same) (updated_here f p (f p))
-  | inr other ↦ updated_there f p q (f p) other
-])
 
 module _ (image : Image) (stimulus : Stimulus) (banks until : ℕ) (fits : IsWellFormed image) (some : 1 ≤ banks) (old : CoreState) (sound : IsSound image stimulus banks until old) (p : ℕ) (port : PortImage) (is : IsPort image p port) where
   abbrev turn : ℕ

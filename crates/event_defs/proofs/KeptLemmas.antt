@@ -1,5 +1,5 @@
 -- Each step keeps soundness; a Take has its own turn's value; a Put comes when the readers are near enough.
-use Rattle.std.proofs.Common.{List, Some, [], ap, arith, inl, inr, length, mod-lt, refl, slice_get, subst, sym, true, ℕ, ◌%◌, ◌*◌, ◌+◌, ◌-◌, ◌<◌, ◌∙◌, ◌∷◌, ◌≡◌, ◌≤◌, ◌⊎◌}
+use Rattle.std.proofs.Common.{List, [], ap, arith, inl, inr, length, mod-lt, refl, subst, sym, ℕ, ◌%◌, ◌*◌, ◌+◌, ◌-◌, ◌<◌, ◌∙◌, ◌∷◌, ◌≡◌, ◌≤◌, ◌⊎◌}
 use Rattle.std.proofs.lemmas.Bool.{cases_eq}
 use Rattle.std.proofs.lemmas.Option.{slice_get_within}
 use Rattle.logic_four.specs.Values.{code_of}
@@ -10,12 +10,12 @@ use Rattle.image_defs.specs.WellFormed.{IsWellFormed}
 use Rattle.image_defs.specs.declared.image.Image.{Image}
 use Rattle.image_defs.specs.declared.image.LinkOut.{LinkOut}
 use Rattle.image_defs.specs.declared.image.PortImage.{PortImage}
-use Rattle.event_defs.proofs.PaceLemmas.{CanStand, asks, latest_put, puts, reader_in, same_port, same_send, source, stands, starts, takes, tells}
+use Rattle.event_defs.proofs.PaceLemmas.{CanStand, asks, latest_put, puts, reader_in, same_send, send_at, source, stands, starts, takes, tells}
 use Rattle.event_defs.proofs.SlotLemmas.{each_updated, updated_here, updated_there}
 use Rattle.event_defs.proofs.StampLemmas.{coded_put, stamped_put, stamped_still, starts_coded, starts_stamped}
 use Rattle.event_defs.proofs.WordLemmas.{coded_is, found_stamp, stamp_in}
 use Rattle.event_defs.specs.Next.{PutsNext}
-use Rattle.event_defs.specs.Places.{IsSend, after_ask, after_put, after_take, after_tell, is_in, latest}
+use Rattle.event_defs.specs.Places.{IsSend, after_ask, after_put, after_take, after_tell, latest}
 use Rattle.event_defs.specs.Sound.{IsCoded, IsSound}
 use Rattle.event_defs.specs.Steps.{AreSteps, Asks, CoreState, IsStep, Puts, Reads, Takes, Tells, first_state, stamp_of, updated, written}
 use Rattle.event_defs.specs.declared.place.CoreStep.{CoreStep}
@@ -116,12 +116,9 @@ module _ (image : Image) (stimulus : Stimulus) (banks until : ℕ) (fits : IsWel
         | inr other ↦ ap (λ n. n + 1) (updated_there old.finished p q here.turn other) ∙ (sound.finished q q_in ∙ sym (ap (λ (a : Place). a.turn) (updated_there old.place p q (after_tell here) other)))
       ];
       paced = stands image fits banks until old.place sound.paced p port is (after_tell here) (tells image fits banks until old.place sound.paced p port is t.next early);
-      stamps = stamped_still image fits banks old.place old.word p (after_tell here) sound.stamps (λ i link s. minus ∙ sym (latest_put here link.slot (all_put i link s)));
+      stamps = stamped_still image fits banks old.place old.word p (after_tell here) sound.stamps (λ i link s. minus ∙ sym (latest_put here link.slot (t.next.all_put i link (send_at image p i link port s is))));
       codes = sound.codes;
     }) where
-      all_put : (i : ℕ) (link : LinkOut) → IsSend image p i link → is_in link.slot here.puts ≡ true
-      all_put i link s = t.next.all_put i link (subst (λ (q : PortImage). slice_get q.outs i ≡ Some link) (same_port image p s.port port s.is is) s.link_is)
-
       minus : here.turn + 1 - 1 ≡ here.turn
       minus = omega arith
 

@@ -34,12 +34,21 @@ latest_put a slot there = ap (λ b. if b then a.turn else a.turn - 1) there
 pub same_port : (image : Image) (p : ℕ) (one other : PortImage) → IsPort image p one → IsPort image p other → one ≡ other
 same_port image p one other is_one is_other = let e : Some one ≡ Some other = sym is_one ∙ is_other in cc
 
+-- a send stands among those of its port
+pub send_at : (image : Image) (p i : ℕ) (link : LinkOut) (port : PortImage) → IsSend image p i link → IsPort image p port → slice_get port.outs i ≡ Some link
+send_at image p i link port send is = subst (λ (q : PortImage). slice_get q.outs i ≡ Some link) (same_port image p send.port port send.is is) send.link_is
+
+-- a number is that of one send
+pub one_send : (image : Image) (p i j : ℕ) (one other : LinkOut) → IsSend image p i one → IsSend image p j other → i ≡ j → one ≡ other
+one_send image p i j one other is_one is_other index =
+    let twice : Some one ≡ Some other = sym is_one.link_is ∙ (ap (slice_get is_one.port.outs) index ∙ send_at image p j other is_one.port is_other is_one.is) in
+    cc
+
 module _ (image : Image) (fits : IsWellFormed image) where
   -- a port sends once in a slot
   pub same_send : (p i j : ℕ) (one other : LinkOut) → IsSend image p i one → IsSend image p j other → one.slot ≡ other.slot → (i ≡ j) × (one ≡ other)
   same_send p i j one other is_one is_other slot_same =
-      let same = same_port image p is_one.port is_other.port is_one.is is_other.is in
-      let at_other : slice_get is_one.port.outs j ≡ Some other = subst (λ (q : PortImage). slice_get q.outs j ≡ Some other) (sym same) is_other.link_is in
+      let at_other = send_at image p j other is_one.port is_other is_one.is in
       let at_i : slice_get (out_slots is_one.port.outs) i ≡ Some one.slot = to_map (λ (l : LinkOut). l.slot) is_one.port.outs i one is_one.link_is in
       let at_j : slice_get (out_slots is_one.port.outs) j ≡ Some one.slot = to_map (λ (l : LinkOut). l.slot) is_one.port.outs j other at_other ∙ ap Some (sym slot_same) in
       let index : i ≡ j = same_index (out_slots is_one.port.outs) i j one.slot (rises (out_slots is_one.port.outs) (fits.ports p is_one.port is_one.is).outs) at_i at_j in
@@ -202,7 +211,7 @@ module _ (image : Image) (fits : IsWellFormed image) where
       known = λ q. paced.known p q inside;
       sends = λ i r link s reads.
           let k = paced.pace p i r link s reads in
-          let was : latest (place p) link.slot ≡ (place p).turn = latest_put (place p) link.slot (all_put i link s) in
+          let was : latest (place p) link.slot ≡ (place p).turn = latest_put (place p) link.slot (next.all_put i link (send_at image p i link port s is)) in
           let now : latest (after_tell (place p)) link.slot ≡ (place p).turn + 1 - 1 = refl in
           let behind = k.behind in
           let ahead = k.ahead in
@@ -213,9 +222,7 @@ module _ (image : Image) (fits : IsWellFormed image) where
           let took = k.took (next.all_taken got.0 (record { slot = link.slot; sender = q }) got.1) in
           let ahead = k.ahead in
           record { behind = omega arith; ahead = omega arith; took = λ t. absurd (false≢true t) };
-    } where
-      all_put : (i : ℕ) (link : LinkOut) → IsSend image p i link → is_in link.slot (place p).puts ≡ true
-      all_put i link s = next.all_put i link (subst (λ (q : PortImage). slice_get q.outs i ≡ Some link) (same_port image p s.port port s.is is) s.link_is)
+    }
 
   pub starts : (banks until : ℕ) → 1 ≤ banks → ArePaced image banks until (λ p. start (length image.ports))
   starts banks until some = record {

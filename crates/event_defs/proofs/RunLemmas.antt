@@ -16,7 +16,7 @@ use Rattle.image_defs.specs.declared.image.LinkOut.{LinkOut}
 use Rattle.image_defs.specs.declared.image.PortImage.{PortImage}
 use Rattle.event_defs.proofs.CountLemmas.{ask_falls, from_other, from_test, product, put_falls, take_falls, tell_falls}
 use Rattle.event_defs.proofs.KeptLemmas.{starts_sound, step_sound, steps_sound}
-use Rattle.event_defs.proofs.PaceLemmas.{latest_missing, reader_in, same_port, same_send, stands}
+use Rattle.event_defs.proofs.PaceLemmas.{latest_missing, reader_in, same_port, same_send, send_at, stands}
 use Rattle.event_defs.proofs.RowLemmas.{sum_grows}
 use Rattle.event_defs.proofs.SlotLemmas.{any_at, each_updated, in_at, in_other, updated_here, updated_there}
 use Rattle.event_defs.proofs.StuckLemmas.{all_done}
@@ -142,7 +142,7 @@ module _ (image : Image) (stimulus : Stimulus) (banks until : ℕ) (fits : IsWel
     moves_asked asked (Take slot) new t = asked_new (after_take here slot) new (ap (λ (s : CoreState). s.place) t.is) asked (record { before = λ i o link s reads. (asked p).before i o link s reads; put_ones = λ i o link s reads put. (asked p).put_ones i o link s reads put })
     moves_asked asked Tell new t = asked_new (after_tell here) new (ap (λ (s : CoreState). s.place) t.is) asked (record {
       before = λ i o link s reads.
-          let put : is_in link.slot here.puts ≡ true = t.next.all_put i link (subst (λ (q : PortImage). slice_get q.outs i ≡ Some link) (same_port image p s.port port s.is is) s.link_is) in
+          let put : is_in link.slot here.puts ≡ true = t.next.all_put i link (send_at image p i link port s is) in
           let was = (asked p).put_ones i o link s reads put in
           omega arith;
       put_ones = λ i o link s reads put. absurd (false≢true put);

@@ -1,5 +1,6 @@
 -- Slots among others, links by their slots, and functions that are changed at one number.
 use Rattle.std.proofs.Common.{AllPairs, Bool, List, Some, [], ap, arith, eq-eqb, false, get_or, if◌then◌else◌, inl, inr, map, ne_eqb, option_map, refl, slice_get, subst, suc, sym, true, zero, ℕ, ◌++◌, ◌<◌, ◌==◌, ◌∙◌, ◌∷◌, ◌≡◌, ◌≢◌}
+use Rattle.std.proofs.Math.Path.{fun_ext}
 use Rattle.std.proofs.lemmas.Bool.{cases_eq, cases_order, false≢true, or_cases}
 use Rattle.std.proofs.lemmas.List.Folds.{list_any-append, list_any_at}
 use Rattle.std.proofs.lemmas.Option.{get_or_from_slice_get, slice_get-map, slice_get_within}
@@ -15,6 +16,13 @@ updated_here f p x = ap (λ b. if b then x else f p) (eq-eqb p p refl)
 
 pub updated_there : {X : Type 0} (f : ℕ → X) (p q : ℕ) (x : X) → q ≢ p → updated f p x q ≡ f q
 updated_there f p q x other = ap (λ b. if b then x else f q) (ne_eqb q p other)
+
+-- a changed function is the same where the new value is the old one
+pub updated_same : {X : Type 0} (f : ℕ → X) (p : ℕ) → updated f p (f p) ≡ f
+updated_same f p = fun_ext (λ q. elim (cases_eq q p) [
+  | inl same ↦ subst (λ q. updated f p (f p) q ≡ f q) (sym same) (updated_here f p (f p))
+  | inr other ↦ updated_there f p q (f p) other
+])
 
 -- what holds of the new value, and of the others at other numbers, holds at all
 pub each_updated : {X : Type 0} (P : ℕ → X → Type 0) (f : ℕ → X) (p : ℕ) (x : X) → P p x → ((q : ℕ) → q ≢ p → P q (f q)) → (q : ℕ) → P q (updated f p x q)

@@ -1,6 +1,6 @@
 -- What each event makes of the words of all sends: first of the turns that they name, without a value, and then
 -- of their codes, without a place.
-use Rattle.std.proofs.Common.{Some, ap, arith, false, inl, inr, length, slice_get, subst, sym, ℕ, ◌%◌, ◌*◌, ◌+◌, ◌-◌, ◌<◌, ◌∙◌, ◌≡◌, ◌≤◌}
+use Rattle.std.proofs.Common.{ap, arith, false, inl, inr, length, refl, subst, sym, ℕ, ◌%◌, ◌*◌, ◌+◌, ◌-◌, ◌<◌, ◌∙◌, ◌≡◌, ◌≤◌}
 use Rattle.std.proofs.lemmas.Bool.{cases_eq}
 use Rattle.logic_four.specs.Values.{code_of}
 use Rattle.logic_four.specs.declared.V4.{V4}
@@ -9,8 +9,7 @@ use Rattle.image_defs.specs.Frames.{image_value}
 use Rattle.image_defs.specs.WellFormed.{IsWellFormed}
 use Rattle.image_defs.specs.declared.image.Image.{Image}
 use Rattle.image_defs.specs.declared.image.LinkOut.{LinkOut}
-use Rattle.image_defs.specs.declared.image.PortImage.{PortImage}
-use Rattle.event_defs.proofs.PaceLemmas.{latest_here, latest_missing, latest_there, same_port, same_send}
+use Rattle.event_defs.proofs.PaceLemmas.{latest_here, latest_missing, latest_there, one_send, same_send}
 use Rattle.event_defs.proofs.SlotLemmas.{each_updated, updated_here, updated_there}
 use Rattle.event_defs.proofs.WordLemmas.{first_coded, first_stamps, put_coded, put_stamps}
 use Rattle.event_defs.specs.Places.{IsSend, after_put, is_in, latest, start}
@@ -81,13 +80,8 @@ module _ (image : Image) (fits : IsWellFormed image) (banks : ℕ) where
           (subst (λ w. AreStamps banks (place p).turn w) (sym (written_here word p i ((place p).turn % banks) x)) words_now))
       | inr differs ↦
           subst (λ k. AreStamps banks k (written word p i ((place p).turn % banks) x p j)) (sym (latest_there (place p) link.slot other.slot differs))
-          (subst (λ w. AreStamps banks (latest (place p) other.slot) w) (sym (written_there word p i ((place p).turn % banks) x p j (λ e. differs (slot_same j other send e.1)))) (stamped.each p j other send))
-    ] where
-      slot_same : (j : ℕ) (other : LinkOut) → IsSend image p j other → j ≡ i → other.slot ≡ link.slot
-      slot_same j other s e =
-          let at : slice_get mine.port.outs i ≡ Some other = subst (λ (q : PortImage). slice_get q.outs i ≡ Some other) (same_port image p s.port mine.port s.is mine.is) (subst (λ k. slice_get s.port.outs k ≡ Some other) e s.link_is) in
-          let twice : Some other ≡ Some link = sym at ∙ mine.link_is in
-          cc
+          (subst (λ w. AreStamps banks (latest (place p) other.slot) w) (sym (written_there word p i ((place p).turn % banks) x p j (λ e. differs (ap (λ (l : LinkOut). l.slot) (one_send image p j i other link send mine e.1))))) (stamped.each p j other send))
+    ]
 
   pub starts_stamped : AreStamped image banks (λ p. start (length image.ports)) (λ p i b. 0)
   starts_stamped = record { each = λ p i link send. first_stamps banks }
@@ -117,9 +111,7 @@ module _ (image : Image) (fits : IsWellFormed image) (banks : ℕ) where
 
       at_here : (c : ℕ) (other : LinkOut) → IsSend image p i other → c < banks → IsCoded (value_of_send p other) (written word p i b (4 * k + code_of (image_value image stimulus k p link.slot)) p i c)
       at_here c other send within =
-          let at : slice_get mine.port.outs i ≡ Some other = subst (λ (q : PortImage). slice_get q.outs i ≡ Some other) (same_port image p send.port mine.port send.is mine.is) send.link_is in
-          let twice : Some link ≡ Some other = sym mine.link_is ∙ at in
-          let link_is : link ≡ other = cc in
+          let link_is = one_send image p i i link other mine send refl in
           let row = written_here word p i b (4 * k + code_of (image_value image stimulus k p link.slot)) in
           elim (cases_eq c b) [
             | inl same ↦ subst (λ (l : LinkOut). IsCoded (value_of_send p l) (written word p i b (4 * k + code_of (image_value image stimulus k p link.slot)) p i c)) link_is

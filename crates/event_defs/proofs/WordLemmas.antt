@@ -4,35 +4,24 @@ use Rattle.std.proofs.Common.{ap, ap₂, arith, div-add-mod', inl, inr, mul-le-m
 use Rattle.std.proofs.Math.Nat.{add-mod_right}
 use Rattle.std.proofs.lemmas.Bool.{cases_eq, cases_lt}
 use Rattle.std.proofs.lemmas.Nat.{div-mul-add, mod-mul-add}
+use Rattle.logic_four.proofs.CodeLemmas.{code_of_small, value_of-code_of}
 use Rattle.logic_four.specs.Values.{code_of, value_of}
 use Rattle.logic_four.specs.declared.V4.{V4}
-use Rattle.logic_four.specs.declared.V4.TheVariants.{HighZ, One, Undef, Zero}
 use Rattle.event_defs.proofs.SlotLemmas.{updated_here, updated_there}
 use Rattle.event_defs.specs.Sound.{AreStamps, IsCoded}
 use Rattle.event_defs.specs.Steps.{stamp_of, updated}
 
 -- ---- turns and codes of a word
 
-pub code_below : (v : V4) → code_of v < 4
-code_below Zero = omega arith
-code_below One = omega arith
-code_below Undef = omega arith
-code_below HighZ = omega arith
-
 pub stamp_in : (k : ℕ) (v : V4) → stamp_of (4 * k + code_of v) ≡ k
-stamp_in k v = let e : 4 * k + code_of v ≡ k * 4 + code_of v = omega arith in rw e (div-mul-add k 4 (code_of v) (code_below v))
+stamp_in k v = let e : 4 * k + code_of v ≡ k * 4 + code_of v = omega arith in rw e (div-mul-add k 4 (code_of v) (code_of_small v))
 
 pub code_in : (k : ℕ) (v : V4) → (4 * k + code_of v) % 4 ≡ code_of v
-code_in k v = let e : 4 * k + code_of v ≡ k * 4 + code_of v = omega arith in rw e (mod-mul-add k 4 (code_of v) (code_below v))
+code_in k v = let e : 4 * k + code_of v ≡ k * 4 + code_of v = omega arith in rw e (mod-mul-add k 4 (code_of v) (code_of_small v))
 
 -- a word's code gives its value back
 pub decoded : (x k : ℕ) (v : V4) → x ≡ 4 * k + code_of v → value_of (x % 4) ≡ v
-decoded x k v is = ap value_of (ap (λ n. n % 4) is ∙ code_in k v) ∙ back v where
-  back : (v : V4) → value_of (code_of v) ≡ v
-  back Zero = refl
-  back One = refl
-  back Undef = refl
-  back HighZ = refl
+decoded x k v is = ap value_of (ap (λ n. n % 4) is ∙ code_in k v) ∙ value_of-code_of v
 
 -- ---- turns
 

@@ -10,7 +10,7 @@ use Rattle.image_defs.specs.Places.{host_of}
 use Rattle.port_run.specs.declared.seated.Seated.{Seated}
 use Rattle.slot_words.specs.Passes.{AreFirstPasses, CrossbarView, IsFirstPass, PassView}
 use Rattle.machine_run.specs.Crews.{CrewView}
-use Rattle.machine_run.specs.Dealt.{AreDealt, AreIdle, HasGained, HasPort, IsDealtTo, IsMember, IsSeatOf}
+use Rattle.machine_run.specs.Dealt.{AreDealt, AreDealtFrom, AreIdle, HasGained, HasPortOf, IsDealtFrom, IsMember, IsSeatOf}
 
 module _ {S G : Type 0} where
   pub idle_more : (n : ℕ) (ws : List (Worker S G)) (worker : Worker S G) → AreIdle n ws → worker.members ≡ [] → AreIdle (n + 1) (ws ++ worker ∷ [])
@@ -19,14 +19,19 @@ module _ {S G : Type 0} where
     idle = each_push (λ (w : Worker S G). w.members ≡ []) ws worker so_far.idle idle;
   }
 
+-- a list without its last member
+pub each_less : {X : Type 0} (Holds : ℕ → X → Type 0) (n : ℕ) (xs front : List X) (last : X) → length xs ≡ n → ((p : ℕ) (x : X) → slice_get xs p ≡ Some x → Holds p x) → xs ≡ front ++ last ∷ []
+    → (n ≡ length front + 1) × ((p : ℕ) (x : X) → slice_get front p ≡ Some x → Holds p x) × Holds (length front) last
+each_less Holds n xs front last long each is = (
+  sym long ∙ (ap length is ∙ length_push front last),
+  λ p x at. each p x (ap (λ ys. slice_get ys p) is ∙ (at_front front (last ∷ []) p (slice_get_within front p x at) ∙ at)),
+  each (length front) last (ap (λ ys. slice_get ys (length front)) is ∙ seam_at front last []),
+)
+
 -- the last of some first passes is that of the next port
 pub passes_less : (bar : CrossbarView) (n : ℕ) (passes front : List PassView) (pass : PassView) → AreFirstPasses bar n passes → passes ≡ front ++ pass ∷ []
     → (n ≡ length front + 1) × AreFirstPasses bar (length front) front × IsFirstPass bar (length front) pass
-passes_less bar n passes front pass are is = (
-  sym are.long ∙ (ap length is ∙ length_push front pass),
-  record { long = refl; each = λ p one at. are.each p one (ap (λ xs. slice_get xs p) is ∙ (at_front front (pass ∷ []) p (slice_get_within front p one at) ∙ at)) },
-  are.each (length front) pass (ap (λ xs. slice_get xs (length front)) is ∙ seam_at front pass []),
-)
+passes_less bar n passes front pass are is = let less = each_less (IsFirstPass bar) n passes front pass are.long are.each is in (less.0, record { long = refl; each = less.1 }, less.2)
 
 -- ---- a worker gets one member more
 
@@ -70,29 +75,29 @@ module _ {S G : Type 0} (ws : List (Worker S G)) (w : ℕ) (worker worker' : Wor
 
 -- ---- dealing
 
-module _ {G : Type 0} (crew : CrewView) where
+module _ {S G : Type 0} (port_of : S → ℕ) (Fits : S → Type 0) (workers ports host_at : ℕ) (host_is : host_at + 1 ≡ ports) where
   -- no port is dealt to idle workers
-  pub dealt_none : (from : ℕ) (ws : List (Worker Seated G)) → AreIdle crew.workers ws → 1 ≤ length crew.image.ports → length crew.image.ports ≤ from → AreDealt crew from ws
-  dealt_none from ws idle some past = record {
+  pub none_dealt : (from : ℕ) (ws : List (Worker S G)) → AreIdle workers ws → ports ≤ from → AreDealtFrom port_of Fits workers ports host_at from ws
+  none_dealt from ws idle past = record {
     count = idle.count;
     each = λ w k seat is. absurd (none w k seat is);
     apart = λ w j k a b is other away. absurd (none w j a is);
     all = λ p above low. absurd (omega (arith, above, low, past));
-    host = λ above. absurd (omega (arith, above, some, past));
+    host = λ above. absurd (omega (arith, above, host_is, past));
   } where
-    none : (w k : ℕ) (seat : Seated) → IsMember ws w k seat → ⊥
+    none : (w k : ℕ) (seat : S) → IsMember ws w k seat → ⊥
     none w k seat is =
         let low = slice_get_within is.worker.members k seat is.member_is in
         omega (arith, low, ap length (idle.idle w is.worker is.worker_is))
 
-  module _ (p w : ℕ) (ws : List (Worker Seated G)) (worker worker' : Worker Seated G) (seat : Seated) where
-    with_more : AreDealt crew (p + 1) ws → IsSeatOf crew seat → seat.run.pass.port ≡ p → p < length crew.image.ports → w ≡ p % crew.workers → slice_get ws w ≡ Some worker → worker'.members ≡ worker.members ++ seat ∷ []
-        → AreDealt crew p (set ws w worker')
+  module _ (p w : ℕ) (ws : List (Worker S G)) (worker worker' : Worker S G) (seat : S) where
+    with_more : AreDealtFrom port_of Fits workers ports host_at (p + 1) ws → Fits seat → port_of seat ≡ p → p < ports → w ≡ p % workers → slice_get ws w ≡ Some worker → worker'.members ≡ worker.members ++ seat ∷ []
+        → AreDealtFrom port_of Fits workers ports host_at p (set ws w worker')
     with_more so_far seat_is port_is inside w_is at given = record {
       count = length-set ws w worker' ∙ so_far.count;
       each = λ v k one is. elim (after v k one is) [
         | inl old ↦ (let was = so_far.each v k one old in record { seat_is = was.seat_is; from_is = omega (arith, was.from_is); inside = was.inside; whose = was.whose })
-        | inr last ↦ subst (IsDealtTo crew p v) last.2 (subst (λ x. IsDealtTo crew p x seat) (sym last.0) newest)
+        | inr last ↦ subst (IsDealtFrom port_of Fits workers ports p v) last.2 (subst (λ x. IsDealtFrom port_of Fits workers ports p x seat) (sym last.0) newest)
       ];
       apart = λ v j k a b is is' away. elim (after v j a is) [
         | inl old ↦ elim (after v k b is') [
@@ -106,35 +111,35 @@ module _ {G : Type 0} (crew : CrewView) where
       ];
       all = λ q from low. elim (cases_lt p q) [
         | inl past ↦ (let old = so_far.all q (omega (arith, past)) low in (old.0, kept q old.0 old.1))
-        | inr here ↦ (length worker.members, subst (λ x. HasPort crew.workers (set ws w worker') x (length worker.members)) (omega (arith, from, here)) last_port)
+        | inr here ↦ (length worker.members, subst (λ x. HasPortOf port_of workers (set ws w worker') x (length worker.members)) (omega (arith, from, here)) last_port)
       ];
-      host = λ from. elim (cases_lt p (host_of crew.image)) [
-        | inl past ↦ kept (host_of crew.image) 0 (so_far.host (omega (arith, past)))
-        | inr here ↦ subst (λ x. HasPort crew.workers (set ws w worker') x 0) (omega (arith, from, here)) (subst (HasPort crew.workers (set ws w worker') p) (alone (omega (arith, from, here, inside))) last_port)
+      host = λ from. elim (cases_lt p host_at) [
+        | inl past ↦ kept host_at 0 (so_far.host (omega (arith, past)))
+        | inr here ↦ subst (λ x. HasPortOf port_of workers (set ws w worker') x 0) (omega (arith, from, here)) (subst (HasPortOf port_of workers (set ws w worker') p) (alone (omega (arith, from, here, inside, host_is))) last_port)
       ];
     } where
-      after : (v k : ℕ) (one : Seated) → IsMember (set ws w worker') v k one → IsMember ws v k one ⊎ ((v ≡ w) × (k ≡ length worker.members) × (seat ≡ one))
+      after : (v k : ℕ) (one : S) → IsMember (set ws w worker') v k one → IsMember ws v k one ⊎ ((v ≡ w) × (k ≡ length worker.members) × (seat ≡ one))
       after = member_after ws w worker worker' seat at given
 
-      kept : (q k : ℕ) → HasPort crew.workers ws q k → HasPort crew.workers (set ws w worker') q k
-      kept q k has = record { seat = has.seat; member = member_kept ws w worker worker' seat at given (q % crew.workers) k has.seat has.member; port_is = has.port_is }
+      kept : (q k : ℕ) → HasPortOf port_of workers ws q k → HasPortOf port_of workers (set ws w worker') q k
+      kept q k has = record { seat = has.seat; member = member_kept ws w worker worker' seat at given (q % workers) k has.seat has.member; port_is = has.port_is }
 
-      newest : IsDealtTo crew p w seat
+      newest : IsDealtFrom port_of Fits workers ports p w seat
       newest = record {
         seat_is = seat_is;
         from_is = omega (arith, port_is);
-        inside = subst (λ q. q < length crew.image.ports) (sym port_is) inside;
-        whose = ap (λ q. q % crew.workers) port_is ∙ sym w_is;
+        inside = subst (λ q. q < ports) (sym port_is) inside;
+        whose = ap (λ q. q % workers) port_is ∙ sym w_is;
       }
 
-      later : (a b : Seated) → p + 1 ≤ a.run.pass.port → seat ≡ b → a.run.pass.port ≢ b.run.pass.port
-      later a b above is same = let b_is : b.run.pass.port ≡ p = ap (λ (x : Seated). x.run.pass.port) (sym is) ∙ port_is in absurd (omega (arith, above, same, b_is))
+      later : (a b : S) → p + 1 ≤ port_of a → seat ≡ b → port_of a ≢ port_of b
+      later a b above is same = let b_is : port_of b ≡ p = ap (λ (x : S). port_of x) (sym is) ∙ port_is in absurd (omega (arith, above, same, b_is))
 
-      last_port : HasPort crew.workers (set ws w worker') p (length worker.members)
+      last_port : HasPortOf port_of workers (set ws w worker') p (length worker.members)
       last_port = record { seat = seat; member = subst (λ v. IsMember (set ws w worker') v (length worker.members) seat) w_is (member_new ws w worker worker' seat at given); port_is = port_is }
 
       -- the last port of all is the first that is dealt
-      alone : p + 1 ≡ length crew.image.ports → length worker.members ≡ 0
+      alone : p + 1 ≡ ports → length worker.members ≡ 0
       alone last = elim (cases_lt 0 (length worker.members)) [
         | inl some ↦
             let one = member_at worker.members 0 some in
@@ -144,5 +149,16 @@ module _ {G : Type 0} (crew : CrewView) where
       ]
 
   -- one port more is dealt
+  pub more_dealt : (p w : ℕ) (ws ws' : List (Worker S G)) (seat : S) → AreDealtFrom port_of Fits workers ports host_at (p + 1) ws → Fits seat → port_of seat ≡ p → p < ports → w ≡ p % workers → HasGained ws w seat ws' → AreDealtFrom port_of Fits workers ports host_at p ws'
+  more_dealt p w ws ws' seat so_far seat_is port_is inside w_is gain = subst (AreDealtFrom port_of Fits workers ports host_at p) (sym gain.is) (with_more p w ws gain.worker gain.worker' seat so_far seat_is port_is inside w_is gain.at gain.gained)
+
+-- ---- the ports of a crew
+
+module _ {G : Type 0} (crew : CrewView) where
+  pub dealt_none : (from : ℕ) (ws : List (Worker Seated G)) → AreIdle crew.workers ws → 1 ≤ length crew.image.ports → length crew.image.ports ≤ from → AreDealt crew from ws
+  dealt_none from ws idle some past = none_dealt (λ (s : Seated). s.run.pass.port) (IsSeatOf crew) crew.workers (length crew.image.ports) (host_of crew.image) (omega (arith, some)) from ws idle past
+
+  -- one port more is dealt
   pub dealt_more : (p w : ℕ) (ws ws' : List (Worker Seated G)) (seat : Seated) → AreDealt crew (p + 1) ws → IsSeatOf crew seat → seat.run.pass.port ≡ p → p < length crew.image.ports → w ≡ p % crew.workers → HasGained ws w seat ws' → AreDealt crew p ws'
-  dealt_more p w ws ws' seat so_far seat_is port_is inside w_is gain = subst (AreDealt crew p) (sym gain.is) (with_more p w ws gain.worker gain.worker' seat so_far seat_is port_is inside w_is gain.at gain.gained)
+  dealt_more p w ws ws' seat so_far seat_is port_is inside =
+      more_dealt (λ (s : Seated). s.run.pass.port) (IsSeatOf crew) crew.workers (length crew.image.ports) (host_of crew.image) (omega (arith, inside)) p w ws ws' seat so_far seat_is port_is inside

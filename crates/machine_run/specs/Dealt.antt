@@ -34,26 +34,42 @@ module _ {S G : Type 0} where
     pub gained : worker'.members ≡ worker.members ++ member ∷ []
     pub is : ws' ≡ slice_set ws w worker'
 
--- what is dealt to worker w of a crew: one of its ports, from this number on
-pub record IsDealtTo (crew : CrewView) (from w : ℕ) (seat : Seated) : Type 0 where
-  pub seat_is : IsSeatOf crew seat
-  pub from_is : from ≤ seat.run.pass.port
-  pub inside : seat.run.pass.port < length crew.image.ports
-  pub whose : seat.run.pass.port % crew.workers ≡ w
+-- ---- members that are dealt by their ports
 
-module _ {G : Type 0} (n : ℕ) where
+module _ {S : Type 0} (port_of : S → ℕ) (Fits : S → Type 0) (workers ports : ℕ) where
+  -- what is dealt to worker w of so many: a member that fits, for one of so many ports, from this number on
+  pub record IsDealtFrom (from w : ℕ) (seat : S) : Type 0 where
+    pub seat_is : Fits seat
+    pub from_is : from ≤ port_of seat
+    pub inside : port_of seat < ports
+    pub whose : port_of seat % workers ≡ w
+
+module _ {S G : Type 0} (port_of : S → ℕ) where
   -- port p is member number k of its worker
-  pub record HasPort (ws : List (Worker Seated G)) (p k : ℕ) : Type 0 where
-    pub seat : Seated
-    pub member : IsMember ws (p % n) k seat
-    pub port_is : seat.run.pass.port ≡ p
+  pub record HasPortOf (workers : ℕ) (ws : List (Worker S G)) (p k : ℕ) : Type 0 where
+    pub seat : S
+    pub member : IsMember ws (p % workers) k seat
+    pub port_is : port_of seat ≡ p
 
-module _ {G : Type 0} (crew : CrewView) where
-  -- the ports of the image from this number on are dealt to the workers, each once; the host is the first member of its
-  -- worker
-  pub record AreDealt (from : ℕ) (ws : List (Worker Seated G)) : Type 0 where
-    pub count : length ws ≡ crew.workers
-    pub each : (w k : ℕ) (seat : Seated) → IsMember ws w k seat → IsDealtTo crew from w seat
-    pub apart : (w j k : ℕ) (a b : Seated) → IsMember ws w j a → IsMember ws w k b → j ≢ k → a.run.pass.port ≢ b.run.pass.port
-    pub all : (p : ℕ) → from ≤ p → p < length crew.image.ports → (k : ℕ) × HasPort crew.workers ws p k
-    pub host : from ≤ host_of crew.image → HasPort crew.workers ws (host_of crew.image) 0
+  -- the ports from this number on are dealt to the workers, each once; the host is the first member of its worker
+  pub record AreDealtFrom (Fits : S → Type 0) (workers ports host_at from : ℕ) (ws : List (Worker S G)) : Type 0 where
+    pub count : length ws ≡ workers
+    pub each : (w k : ℕ) (seat : S) → IsMember ws w k seat → IsDealtFrom port_of Fits workers ports from w seat
+    pub apart : (w j k : ℕ) (a b : S) → IsMember ws w j a → IsMember ws w k b → j ≢ k → port_of a ≢ port_of b
+    pub all : (p : ℕ) → from ≤ p → p < ports → (k : ℕ) × HasPortOf workers ws p k
+    pub host : from ≤ host_at → HasPortOf workers ws host_at 0
+
+-- ---- the ports of a crew
+
+-- what is dealt to worker w of a crew: one of its ports, from this number on
+abbrev pub IsDealtTo : CrewView → ℕ → ℕ → Seated → Type 0
+IsDealtTo crew = IsDealtFrom (λ (s : Seated). s.run.pass.port) (IsSeatOf crew) crew.workers (length crew.image.ports)
+
+-- port p is member number k of its worker
+abbrev pub HasPort : {G : Type 0} → ℕ → List (Worker Seated G) → ℕ → ℕ → Type 0
+HasPort {G} n ws p k = HasPortOf (λ (s : Seated). s.run.pass.port) n ws p k
+
+-- the ports of the image from this number on are dealt to the workers, each once; the host is the first member of its
+-- worker
+abbrev pub AreDealt : {G : Type 0} → CrewView → ℕ → List (Worker Seated G) → Type 0
+AreDealt {G} crew from ws = AreDealtFrom (λ (s : Seated). s.run.pass.port) (IsSeatOf crew) crew.workers (length crew.image.ports) (host_of crew.image) from ws

@@ -1,30 +1,17 @@
--- A cursor of a lane stands at the row of the cycle, or behind all rows.
-use Rattle.std.proofs.Common.{◌≡◌, ◌≢◌, ◌∙◌, ◌⊎◌, inl, inr, ℕ, zero, suc, ◌+◌, ◌<◌, ◌≤◌, List, [], ◌∷◌, ◌++◌, length, replicate, drop, get_or, set, Some, slice_get, sym, ap, subst, refl, arith}
-use Rattle.std.specs.List.{flat_map}
-use Rattle.std.proofs.Math.ListN.{drop_of_length-le}
+-- The cursors of lanes stand at the row of the cycle, or behind all rows.
+use Rattle.std.proofs.Common.{◌≡◌, ◌≢◌, ◌∙◌, ◌⊎◌, inl, inr, ℕ, zero, suc, ◌+◌, ◌<◌, ◌≤◌, List, [], ◌∷◌, ◌++◌, length, drop, set, Some, slice_get, sym, ap, subst, refl, arith}
 use Rattle.std.proofs.lemmas.Bool.{cases_lt}
-use Rattle.std.proofs.lemmas.List.{drop-drop, get_or-drop}
-use Rattle.std.proofs.lemmas.Option.{slice_get_past, slice_get_within}
+use Rattle.std.proofs.lemmas.List.{drop-drop, length_push}
+use Rattle.std.proofs.lemmas.Option.{slice_get_within}
 use Rattle.list_laws.proofs.Places.{at_front, seam_at}
 use Rattle.list_laws.proofs.Ranges.{last_or}
-use Rattle.logic_four.specs.declared.V4.{V4}
-use Rattle.net_defs.specs.declared.stimulus.StimRow.{StimRow}
 use Rattle.net_defs.specs.declared.stimulus.Stimulus.{Stimulus}
 use Rattle.net_defs.specs.Time.{cycle_rows}
 use Rattle.net_defs.specs.Valid.{IsValidStimulus}
 use Rattle.port_host.specs.declared.cursor.RowCursor.{RowCursor}
-use Rattle.port_host.specs.Rows.{times_in, values_in, rows_left, IsAt}
-use Rattle.port_host.proofs.CursorLemmas.{at_row, row_stays, row_over}
+use Rattle.port_host.specs.Rows.{times_in, IsAt}
+use Rattle.port_host.proofs.CursorLemmas.{at_row, none_left, row_stays, row_over}
 use Rattle.pack_host.specs.Feeds.{AreAt, AreMoved}
-
--- the cycles of one row
-abbrev repeats : StimRow → List (List V4)
-repeats row = replicate row.times row.values
-
-none_left : (stimulus : Stimulus) (n : ℕ) (cursor : RowCursor) → IsAt stimulus n cursor → length stimulus.rows ≤ cursor.row → rows_left stimulus cursor ≡ []
-none_left stimulus n cursor at over =
-    ap (λ k. replicate k (values_in (slice_get stimulus.rows cursor.row)) ++ flat_map repeats (drop (cursor.row + 1) stimulus.rows)) (at.behind over)
-    ∙ ap (flat_map repeats) (drop_of_length-le stimulus.rows (omega (arith, over)))
 
 -- behind all rows it stays
 pub stays_behind : (stimulus : Stimulus) (n : ℕ) (cursor : RowCursor) → length stimulus.rows ≤ cursor.row → IsAt stimulus n cursor → IsAt stimulus (n + 1) cursor
@@ -34,28 +21,7 @@ stays_behind stimulus n cursor over at = record {
   behind = at.behind;
 }
 
--- the row of the cycle
-pub row_at : (stimulus : Stimulus) (n : ℕ) (cursor : RowCursor) → IsAt stimulus n cursor → get_or (cycle_rows stimulus) n [] ≡ values_in (slice_get stimulus.rows cursor.row)
-row_at stimulus n cursor at =
-    ap (λ k. get_or (cycle_rows stimulus) k []) same ∙ sym (get_or-drop n (cycle_rows stimulus) 0 []) ∙ of_place (cases_lt cursor.row (length stimulus.rows))
-  where
-    same : n ≡ n + 0
-    same = omega arith
-
-    head : (k : ℕ) → 1 ≤ k → get_or (replicate k (values_in (slice_get stimulus.rows cursor.row)) ++ flat_map repeats (drop (cursor.row + 1) stimulus.rows)) 0 [] ≡ values_in (slice_get stimulus.rows cursor.row)
-    head zero some = absurd (omega (arith, some))
-    head (suc k) some = refl
-
-    of_place : (cursor.row < length stimulus.rows) ⊎ (length stimulus.rows ≤ cursor.row) → get_or (drop n (cycle_rows stimulus)) 0 [] ≡ values_in (slice_get stimulus.rows cursor.row)
-    of_place (inl within) = ap (λ rows. get_or rows 0 []) at.left ∙ head cursor.rest (at.serves within)
-    of_place (inr over) =
-        ap (λ rows. get_or rows 0 []) (at.left ∙ none_left stimulus n cursor at over) ∙ sym (ap values_in (slice_get_past stimulus.rows cursor.row over))
-
 -- ---- the cursors of all lanes
-
-pub length_more : (cursors : List RowCursor) (first : RowCursor) → length (cursors ++ first ∷ []) ≡ length cursors + 1
-length_more [] first = refl
-length_more (x ∷ xs) first = let more = length_more xs first in omega (arith, more)
 
 -- one lane more at the first cycle
 pub one_more : (lanes : List Stimulus) (i n : ℕ) (stimulus : Stimulus) (first : RowCursor) (cursors : List RowCursor) → length cursors ≡ i → slice_get lanes i ≡ Some stimulus → IsAt stimulus n first
@@ -66,7 +32,7 @@ one_more lanes i n stimulus first cursors count here at each l s c lane cursor =
   of_place (inl before) = each l s c lane (sym (at_front cursors (first ∷ []) l (omega (arith, before, count))) ∙ cursor)
   of_place (inr after) =
       let within = slice_get_within (cursors ++ first ∷ []) l c cursor in
-      let place : l ≡ length cursors = omega (arith, after, count, within, length_more cursors first) in
+      let place : l ≡ length cursors = omega (arith, after, count, within, length_push cursors first) in
       let seam : slice_get (cursors ++ first ∷ []) l ≡ Some first = ap (slice_get (cursors ++ first ∷ [])) place ∙ seam_at cursors first [] in
       let same : Some first ≡ Some c = sym seam ∙ cursor in
       let lane_is : Some stimulus ≡ Some s = sym here ∙ (ap (slice_get lanes) (omega (arith, place, count)) ∙ lane) in

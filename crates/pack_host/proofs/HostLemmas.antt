@@ -32,7 +32,8 @@ use Rattle.pack_host.specs.Feeds.{FeedView, IsFed}
 use Rattle.pack_host.specs.Kept.{lane_host, IsReady}
 use Rattle.pack_host.specs.Turns.{cycles_done, turn_at}
 use Rattle.pack_host.specs.declared.port.PackHost.TheInside.{Inside}
-use Rattle.pack_host.proofs.CursorLemmas.{cursor_at, row_at}
+use Rattle.port_host.proofs.CursorLemmas.{row_at}
+use Rattle.pack_host.proofs.CursorLemmas.{cursor_at}
 use Rattle.pack_host.proofs.FeedLemmas.{fed_padded}
 
 -- ---- before the first turn

@@ -2,30 +2,25 @@
 use Rattle.std.proofs.Common.{◌≡◌, ◌∙◌, ℕ, ◌<◌, ◌≤◌, List, length, map, get_or, slice_get, Some, sym, ap, subst, refl, arith}
 use Rattle.std.specs.Option.{option_map}
 use Rattle.std.proofs.lemmas.Option.{slice_get-map, get_or_from_slice_get}
-use Rattle.logic_four.specs.declared.V4.{V4}
-use Rattle.func_table.specs.declared.table.Table.{Table}
 use Rattle.lane_planes.specs.declared.planes.Planes.{Planes}
 use Rattle.lane_planes.specs.declared.tables.TableForm.{TableForm}
 use Rattle.lane_planes.specs.Lanes.{lane_of}
 use Rattle.stim_text.specs.declared.lanes.Lanes.{Lanes}
-use Rattle.image_defs.specs.declared.image.Source.{Source}
 use Rattle.image_defs.specs.declared.image.Task.{Task}
-use Rattle.image_defs.specs.declared.image.Task.TheVariants.{Eval, Hold}
 use Rattle.image_defs.specs.declared.image.Work.TheVariants.{Logic}
 use Rattle.image_defs.specs.declared.image.PortImage.{PortImage}
 use Rattle.image_defs.specs.declared.image.Image.{Image}
 use Rattle.image_defs.specs.Places.{task_slot, IsPort}
-use Rattle.image_defs.specs.WellFormed.{IsWellFormed, IsOperand, IsTask}
+use Rattle.image_defs.specs.WellFormed.{IsWellFormed, IsTask}
 use Rattle.image_defs.specs.Steps.{task_value, item_value, value_of_member}
-use Rattle.image_defs.specs.Ports.{PortView, CanExecute, value_in}
+use Rattle.image_defs.specs.Ports.{CanExecute, value_in}
 use Rattle.port_bank.specs.Flat.{place_count}
-use Rattle.port_bank.specs.Reads.{IsAtHand, now_in, past_in}
+use Rattle.port_bank.specs.Reads.{now_in, past_in}
 use Rattle.port_bank.proofs.BankLemmas.{slot_low}
-use Rattle.port_bank.proofs.TurnLemmas.{item_meets, operand_at_hand}
+use Rattle.port_bank.proofs.TurnLemmas.{item_meets}
 use Rattle.port_logic.specs.declared.port.LogicPort.TheInside as plain
 use Rattle.port_logic.specs.Ops as plain_ops
 use Rattle.port_logic.specs.Tasks as plain_tasks
-use Rattle.port_logic.specs.Tasks.{IsTaskAtHand}
 use Rattle.port_logic.proofs.TaskLemmas as plain_lemmas
 use Rattle.pack_bank.specs.Views.{lane_port, at_first, InEachLane}
 use Rattle.pack_logic.specs.declared.port.PackLogic.TheInside.{Inside}
@@ -79,14 +74,6 @@ next_task l a slot ready can = of_plain (plain_lemmas.next_task (lane_logic l a)
 same_work : (a : Inside) (port : PortImage) → IsReady a → IsPort a.bank.image a.bank.port port → port.work ≡ Logic a.tables.now a.tasks.now
 same_work a port ready is = let same : ready.seat ≡ port = cc in subst (λ q. q.work ≡ Logic a.tables.now a.tasks.now) same ready.work
 
-task_at_hand : (view : PortView) (slot tables : ℕ) (task : Task) (can : CanExecute view slot) → IsWellFormed view.image → task_slot task ≡ slot → IsTask can.port tables task → IsTaskAtHand view can.port task
-task_at_hand view slot tables (Eval s table a b c d) can fits at right =
-    (right_here a right.1, right_here b right.2, right_here c right.3, right_here d right.4)
-  where
-    right_here : (source : Source) → IsOperand can.port s source → IsAtHand view can.port source
-    right_here source operand = operand_at_hand view slot source can fits (subst (λ t. IsOperand can.port t source) at operand)
-task_at_hand view slot tables (Hold s from) can fits at right = right
-
 -- the op that is executed next
 pub next_op : (a : Inside) (task : Task) (ready : IsReady a) → slice_get a.tasks.now a.bank.executed ≡ Some task
     → slice_get a.ops a.bank.executed ≡ Some (op_of a.bank.image.slots ready.forms task)
@@ -126,7 +113,7 @@ next_answers a slot op default v ready each is answers l low = of_next (next_tas
       let op_is : op ≡ op_of a.bank.image.slots ready.forms next.task = is ∙ get_or_from_slice_get a.ops a.bank.executed _ default (next_op a next.task ready next.there) in
       let view = lane_port l a.bank in
       answers l low can.port a.bank.executed next.task ready.forms can.is can.next next.at
-      (task_at_hand view slot (length a.tables.now) next.task can ready.image next.at next.right) op_is
+      (plain_lemmas.task_at_hand view slot (length a.tables.now) next.task can ready.image next.at next.right) op_is
       ∙ ap (value_of_member (task_value view.image view.turn view.port can.port.ins (past_in view) (now_in view).value a.tables.now)) (sym next.there)
       ∙ ap (λ work. item_value view.image view.stimulus view.turn (past_in view) (now_in view).value view.port can.port.ins work view.executed) (sym (same_work a can.port ready can.is))
       ∙ sym (item_meets view can.port view.executed slot ready.image ready.first can.is can.next)

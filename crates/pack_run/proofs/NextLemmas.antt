@@ -1,36 +1,25 @@
 -- Which events a step may have been, and what is short after it.
-use Rattle.std.proofs.Common.{ap, arith, get_or-set_other, get_or-set_same, inl, inr, length, refl, subst, sym, ℕ, ◌+◌, ◌<◌, ◌∙◌, ◌≡◌, ◌≤◌}
+use Rattle.std.proofs.Common.{ap, arith, inl, inr, length, refl, subst, sym, ℕ, ◌+◌, ◌<◌, ◌∙◌, ◌≡◌, ◌≤◌}
 use Rattle.logic_four.specs.declared.V4.{V4}
 use Rattle.image_defs.specs.Frames.{image_value}
 use Rattle.image_defs.specs.Places.{IsPort}
 use Rattle.image_defs.specs.declared.image.PortImage.{PortImage}
 use Rattle.event_defs.proofs.NextLemmas.{one_next}
-use Rattle.event_defs.proofs.PaceLemmas.{reader_in, same_port}
-use Rattle.event_defs.specs.Next.{AsksNext, IsNext}
+use Rattle.event_defs.proofs.PaceLemmas.{same_port}
+use Rattle.event_defs.specs.Next.{IsNext}
 use Rattle.event_defs.specs.Places.{after_ask, after_put, after_take, after_tell}
-use Rattle.event_defs.specs.Row.{send_number, word_place}
 use Rattle.event_defs.specs.declared.place.Action.{Action}
 use Rattle.event_defs.specs.declared.place.Action.TheVariants as action
 use Rattle.event_defs.specs.declared.place.Event.{Event}
 use Rattle.event_defs.specs.declared.place.Event.TheVariants.{Ask, Put, Take, Tell}
 use Rattle.event_defs.specs.declared.place.Place.{Place}
 use Rattle.slot_words.specs.Layout.{progress_word}
+use Rattle.port_run.proofs.NextLemmas.{asked_in, asks_again, past_ports}
 use Rattle.pack_words.proofs.WordLemmas.{packed_stamp}
 use Rattle.pack_words.specs.Passes.{IsFit, IsRunning, PackPassView, one_step}
 use Rattle.pack_words.specs.Rule.{stimulus_of, turns_of}
 use Rattle.pack_words.specs.Words.{packed, stamp_in, stamp_of}
 use Rattle.pack_run.specs.Steps.{AskWaits, IsEvent, IsShort, IsWait, Makes, TakeWaits, word_at}
-
--- the words of sends stand behind those of ports
-past_ports : (pass : PackPassView) (p i r : ℕ) → r < length pass.image.ports → word_at pass p i ≡ progress_word r → ⊥
-past_ports pass p i r inside same =
-    let n : ℕ = word_place 1 (send_number pass.image p i) 0 in
-    let e : length pass.image.ports + n ≡ r = same in
-    absurd (omega arith)
-
--- whoever a port asks is a port
-pub asked_in : (pass : PackPassView) → IsFit pass → (seat : PortImage) → IsPort pass.image pass.port seat → (place : Place) (reader : ℕ) → AsksNext seat place 1 reader → reader < length pass.image.ports
-asked_in pass fit seat is place reader asks = reader_in pass.image fit.runs.image_fits pass.port asks.i reader asks.link (record { port = seat; is = is; link_is = asks.sends.is }) asks.reads
 
 -- ---- one next event
 
@@ -81,25 +70,12 @@ module _ (old new : PackPassView) (fit : IsFit old) where
 -- ---- what is short after a look that has to wait
 
 module _ (old : PackPassView) (fit : IsFit old) (seat : PortImage) (is : IsPort old.image old.port seat) where
-  -- a reader that is known to have finished too few turns is asked again
-  asked_again : (reader n : ℕ) → AsksNext seat old.place 1 reader → n + 1 < old.place.turn → AsksNext seat (after_ask old.place reader n) 1 reader
-  asked_again reader n asks less = record {
-    i = asks.i;
-    link = asks.link;
-    sends = asks.sends;
-    reads = asks.reads;
-    lags = subst (λ k. k + 1 < old.place.turn) (sym (get_or-set_same old.place.known reader n 0 room)) less;
-    least = λ r reads low. subst (λ k. old.place.turn ≤ k + 1) (sym (get_or-set_other old.place.known reader r n 0 (λ e. absurd (omega arith)))) (asks.least r reads low);
-  } where
-    room : reader < length old.place.known
-    room = let wide = fit.wide in let low = asked_in old fit seat is old.place reader asks in omega arith
-
   ask_short : (new : PackPassView) → IsRunning old → AskWaits seat old new → IsShort new
   ask_short new early waits = subst IsShort (sym waits.asks.is) (record {
     seat = seat;
     is = is;
     early = early;
-    short = inl (record { reader = waits.reader; next = asked_again waits.reader new.last.number waits.asks.next waits.less; word = refl; less = waits.less });
+    short = inl (record { reader = waits.reader; next = asks_again seat old.place 1 waits.reader new.last.number (omega (arith, fit.wide, asked_in old.image fit.runs.image_fits old.port seat is old.place 1 waits.reader waits.asks.next)) waits.asks.next waits.less; word = refl; less = waits.less });
   })
 
   take_short : (new : PackPassView) → IsRunning old → TakeWaits seat old new → IsShort new
@@ -120,11 +96,9 @@ wait_short old new fit wait = elim wait.waits [
 
 module _ (old : PackPassView) (fit : IsFit old) where
   -- a step that looked at a word of a send, or wrote one
-  sent_not_short : (place : Place) (p i n : ℕ) → length place.known ≡ length old.place.known → place.turn ≡ old.place.turn → stamp_of n ≡ stamp_in old.place.turn → IsShort (one_step old place (word_at old p i) n) → ⊥
-  sent_not_short place p i n wide turn stamp short = elim short.short [
-    | inl ask ↦
-        let fits : IsFit (one_step old place (word_at old p i) n) = record { runs = fit.runs; inside = fit.inside; wide = wide ∙ fit.wide } in
-        past_ports old p i ask.reader (asked_in (one_step old place (word_at old p i) n) fits short.seat short.is place ask.reader ask.next) ask.word
+  sent_not_short : (place : Place) (p i n : ℕ) → place.turn ≡ old.place.turn → stamp_of n ≡ stamp_in old.place.turn → IsShort (one_step old place (word_at old p i) n) → ⊥
+  sent_not_short place p i n turn stamp short = elim short.short [
+    | inl ask ↦ past_ports old.image 1 p i 0 ask.reader (asked_in old.image fit.runs.image_fits old.port short.seat short.is place 1 ask.reader ask.next) ask.word
     | inr take ↦ take.other (stamp ∙ sym (ap stamp_in turn))
   ]
 
@@ -132,17 +106,17 @@ module _ (old : PackPassView) (fit : IsFit old) where
   told_not_short : (place : Place) (r n : ℕ) → r < length old.image.ports → place.turn ≤ n + 1 → IsShort (one_step old place (progress_word r) n) → ⊥
   told_not_short place r n inside enough short = elim short.short [
     | inl ask ↦ let less = ask.less in absurd (omega arith)
-    | inr take ↦ past_ports (one_step old place (progress_word r) n) take.next.link.sender take.i r inside (sym take.word)
+    | inr take ↦ past_ports old.image 1 take.next.link.sender take.i 0 r inside (sym take.word)
   ]
 
   module _ (new : PackPassView) (seat : PortImage) (is : IsPort old.image old.port seat) where
     makes_not_short : (e : Event) → Makes seat old new e → IsShort new → ⊥
     makes_not_short (Ask reader) makes short =
-        told_not_short (after_ask old.place reader new.last.number) reader new.last.number (asked_in old fit seat is old.place reader makes.asks.next) makes.enough (subst IsShort makes.asks.is short)
+        told_not_short (after_ask old.place reader new.last.number) reader new.last.number (asked_in old.image fit.runs.image_fits old.port seat is old.place 1 reader makes.asks.next) makes.enough (subst IsShort makes.asks.is short)
     makes_not_short (Put slot) makes short =
-        sent_not_short (after_put old.place slot) old.port makes.next.i (packed old.place.turn makes.planes) refl refl (packed_stamp old.place.turn makes.planes) (subst IsShort makes.is short)
+        sent_not_short (after_put old.place slot) old.port makes.next.i (packed old.place.turn makes.planes) refl (packed_stamp old.place.turn makes.planes) (subst IsShort makes.is short)
     makes_not_short (Take slot) makes short =
-        sent_not_short (after_take old.place slot) makes.looks.next.link.sender makes.looks.i new.last.number refl refl makes.now (subst IsShort makes.looks.is short)
+        sent_not_short (after_take old.place slot) makes.looks.next.link.sender makes.looks.i new.last.number refl makes.now (subst IsShort makes.looks.is short)
     makes_not_short Tell makes short =
         told_not_short (after_tell old.place) old.port old.place.turn fit.inside (omega arith) (subst IsShort makes.is short)
 

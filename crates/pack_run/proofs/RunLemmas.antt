@@ -1,18 +1,17 @@
 -- A running packed port and its next event.
-use Rattle.std.proofs.Common.{List, ap, arith, false, inl, inr, length, refl, subst, sym, ℕ, ◌+◌, ◌<◌, ◌∙◌, ◌≡◌}
+use Rattle.std.proofs.Common.{List, ap, arith, false, inl, inr, length, subst, sym, ℕ, ◌<◌, ◌∙◌, ◌≡◌}
 use Rattle.lane_planes.specs.declared.planes.Planes.{Planes}
-use Rattle.image_defs.specs.Places.{IsPort}
 use Rattle.image_defs.specs.declared.image.PortImage.{PortImage}
-use Rattle.event_defs.proofs.PaceLemmas.{reader_in}
 use Rattle.event_defs.specs.Next.{IsNext}
-use Rattle.event_defs.specs.Places.{after_ask, after_put, after_take, is_in, start}
+use Rattle.event_defs.specs.Places.{after_ask, after_put, after_take, is_in}
 use Rattle.event_defs.specs.declared.place.Event.TheVariants as event
 use Rattle.event_defs.specs.declared.place.Place.{Place}
 use Rattle.crew_run.specs.declared.stepper.Step.{Step}
 use Rattle.crew_run.specs.declared.stepper.Step.TheVariants.{Done, Moved, NotYet}
 use Rattle.slot_words.proofs.LinkLemmas.{member_at}
 use Rattle.slot_words.specs.Layout.{progress_word}
-use Rattle.pack_walk.specs.Placed.{CanPut, CanTake, HasPut, HasTaken, IsNextOf, IsNextValue, IsReceiving, IsSending, PlacedPack, at_start, lane_action, place_of, value_in}
+use Rattle.port_run.proofs.NextLemmas.{asked_in}
+use Rattle.pack_walk.specs.Placed.{CanPut, CanTake, HasPut, HasTaken, IsNextOf, IsNextValue, IsReceiving, IsSending, PlacedPack, at_start, lane_action, value_in}
 use Rattle.pack_walk.specs.declared.action.PackAction.{PackAction}
 use Rattle.pack_walk.specs.declared.action.PackAction.TheVariants as action
 use Rattle.pack_words.specs.Passes.{AreValues, HasLooked, IsFit, IsPut, IsTake, PackPassView, WasSentBefore, one_step}
@@ -21,10 +20,8 @@ use Rattle.pack_words.specs.Rule.{HasPlanes, turns_of}
 use Rattle.pack_words.specs.Words.{packed}
 use Rattle.pack_words.specs.declared.words.PackTaken.{PackTaken}
 use Rattle.pack_words.specs.declared.words.PackTaken.TheVariants as taken
-use Rattle.pack_run.specs.Kept.{IsKept}
 use Rattle.pack_run.specs.Pairs.{AreBegun, placed}
-use Rattle.pack_run.specs.Steps.{Asks, IsAnswer, IsEvent, IsNextAction, IsStepOf, IsUpcoming, IsWait, Looks, word_at}
-use Rattle.pack_run.specs.declared.running.PackRunning.TheInside.{Inside}
+use Rattle.pack_run.specs.Steps.{Asks, IsAnswer, IsNextAction, IsStepOf, IsUpcoming, Looks, word_at}
 
 -- before the first event the port is at the place of the pass
 pub placed_first : (old : PackPassView) (port : PlacedPack) → AreBegun old port → port ≡ placed old
@@ -49,9 +46,7 @@ upcoming old port known next port_is known_is fit is =
 
 module _ (old : PackPassView) (reader : ℕ) (next : IsUpcoming old (action.Ask reader)) where
   pub reader_there : reader < length old.image.ports
-  reader_there =
-      let asks = next.next.1 in
-      reader_in old.image next.fit.runs.image_fits old.port asks.i reader asks.link (record { port = next.seat; is = next.is; link_is = asks.sends.is }) asks.reads
+  reader_there = asked_in old.image next.fit.runs.image_fits old.port next.seat next.is old.place 1 reader next.next.1
 
   pub asked_step : (new : PackPassView) (finished turn : ℕ) → new ≡ one_step old (after_ask old.place reader finished) (progress_word reader) finished → turn ≡ new.place.turn
       → (answer : Step) → IsAnswer finished turn answer → IsStepOf old answer new

@@ -1,7 +1,5 @@
 -- What a step keeps, and what its answer says.
 use Rattle.std.proofs.Common.{Bool, ap, ap₂, arith, if◌then◌else◌, inl, inr, refl, subst, sym, ℕ, ◌+◌, ◌∙◌, ◌≡◌, ◌↔◌}
-use Rattle.stim_text.specs.declared.lanes.Lanes.{Lanes}
-use Rattle.image_defs.specs.declared.image.Image.{Image}
 use Rattle.event_defs.specs.declared.place.Event.{Event}
 use Rattle.event_defs.specs.declared.place.Event.TheVariants.{Ask, Put, Take, Tell}
 use Rattle.event_defs.specs.declared.place.Place.{Place}
@@ -14,7 +12,8 @@ use Rattle.pack_words.specs.Rule.{turns_of}
 use Rattle.pack_run.proofs.NextLemmas.{event_not_short, event_not_wait, wait_short}
 use Rattle.pack_run.specs.Pairs.{HasMadeAll}
 use Rattle.pack_run.specs.Same.{IsSame, Takes}
-use Rattle.pack_run.specs.Steps.{IsEvent, IsShort, IsStepOf, IsWait, ends_turn}
+use Rattle.port_run.specs.Steps.{ends_turn}
+use Rattle.pack_run.specs.Steps.{IsEvent, IsShort, IsStepOf, IsWait}
 
 -- what no step changes, and how many atomic steps it was
 pub record IsNext (old new : PackPassView) (made : ℕ) : Type 0 where

@@ -1,19 +1,19 @@
 -- What a step of a running packed port does: the next event of its place, by the number that it finds or leaves in
 -- one word. It is one event in all lanes.
-use Rattle.std.specs.Prelude.{Bool, false, true, ℕ, ◌+◌, ◌<◌, ◌≡◌, ◌≢◌, ◌≤◌, ◌⊎◌}
+use Rattle.std.specs.Prelude.{ℕ, ◌+◌, ◌<◌, ◌≡◌, ◌≢◌, ◌≤◌, ◌⊎◌}
 use Rattle.lane_planes.specs.declared.planes.Planes.{Planes}
 use Rattle.image_defs.specs.Places.{IsPort}
-use Rattle.image_defs.specs.declared.image.LinkIn.{LinkIn}
-use Rattle.image_defs.specs.declared.image.LinkOut.{LinkOut}
 use Rattle.image_defs.specs.declared.image.PortImage.{PortImage}
 use Rattle.event_defs.specs.Next.{AsksNext, PutsNext, TakesNext, TellsNext}
-use Rattle.event_defs.specs.Places.{IsSend, after_ask, after_put, after_take, after_tell}
+use Rattle.event_defs.specs.Places.{after_ask, after_put, after_take, after_tell}
 use Rattle.event_defs.specs.declared.place.Event.{Event}
 use Rattle.event_defs.specs.declared.place.Event.TheVariants.{Ask, Put, Take, Tell}
 use Rattle.event_defs.specs.declared.place.Place.{Place}
 use Rattle.crew_run.specs.declared.stepper.Step.{Step}
 use Rattle.crew_run.specs.declared.stepper.Step.TheVariants.{Done, Moved, NotYet}
 use Rattle.slot_words.specs.Layout.{progress_word, send_word}
+use Rattle.port_run.specs.Steps as plain
+use Rattle.port_run.specs.Steps.{IsSource}
 use Rattle.pack_walk.specs.declared.action.PackAction.{PackAction}
 use Rattle.pack_walk.specs.declared.action.PackAction.TheVariants as action
 use Rattle.pack_words.specs.Passes.{AreValues, IsFit, IsRunning, PackPassView, WasSentBefore, one_step}
@@ -24,12 +24,6 @@ use Rattle.pack_run.specs.Pairs.{HasMadeAll}
 -- the word of send number i of port p
 abbrev pub word_at : PackPassView → ℕ → ℕ → ℕ
 word_at pass p i = send_word pass.image 1 p i 0
-
--- the send that comes by a link to the pass's port
-pub record IsSource (pass : PackPassView) (link : LinkIn) (i : ℕ) : Type 0 where
-  pub sent : LinkOut
-  pub send : IsSend pass.image link.sender i sent
-  pub same_slot : sent.slot ≡ link.slot
 
 -- ---- one event
 
@@ -50,7 +44,7 @@ module _ (seat : PortImage) (old new : PackPassView) where
   pub record Looks (slot : ℕ) (place : Place) : Type 0 where
     pub next : TakesNext seat old.place slot
     pub i : ℕ
-    pub source : IsSource old next.link i
+    pub source : IsSource old.image next.link i
     pub is : new ≡ one_step old place (word_at old next.link.sender i) new.last.number
 
   -- it wrote the turn that it has finished, and began the next one
@@ -111,13 +105,6 @@ IsStepOf old Moved new = (event : Event) × IsEvent old event new
 IsStepOf old NotYet new = IsWait old new
 IsStepOf old Done new = HasMadeAll old × (new ≡ old)
 
--- the event ends the turn
-abbrev pub ends_turn : Event → Bool
-ends_turn (Ask reader) = false
-ends_turn (Put slot) = false
-ends_turn (Take slot) = false
-ends_turn Tell = true
-
 -- ---- what has to wait
 
 module _ (seat : PortImage) (pass : PackPassView) where
@@ -133,7 +120,7 @@ module _ (seat : PortImage) (pass : PackPassView) where
     pub slot : ℕ
     pub next : TakesNext seat pass.place slot
     pub i : ℕ
-    pub source : IsSource pass next.link i
+    pub source : IsSource pass.image next.link i
     pub word : pass.last.word ≡ word_at pass next.link.sender i
     pub other : stamp_of pass.last.number ≢ stamp_in pass.place.turn
 
@@ -163,6 +150,4 @@ pub record IsUpcoming (pass : PackPassView) (upcoming : PackAction) : Type 0 whe
 
 -- the answer of an Ask
 abbrev pub IsAnswer : ℕ → ℕ → Step → Type 0
-IsAnswer finished turn Moved = turn ≤ finished + 1
-IsAnswer finished turn NotYet = finished + 1 < turn
-IsAnswer finished turn Done = ⊥
+IsAnswer finished turn = plain.IsAnswer finished turn 1

@@ -16,9 +16,10 @@ use Rattle.image_defs.specs.declared.image.PortImage.{PortImage}
 use Rattle.event_defs.proofs.PaceLemmas.{reader_in}
 use Rattle.event_defs.specs.Next.{EndsNext}
 use Rattle.event_defs.specs.Places.{IsSend, after_ask, after_put, after_take, after_tell, is_in, known_of}
+use Rattle.slot_words.proofs.StepLemmas.{same_word}
 use Rattle.slot_words.specs.Layout.{progress_in, send_word, turns_told}
 use Rattle.slot_words.specs.declared.rule.TheConstants.{UNCLAIMED}
-use Rattle.pack_words.proofs.StepLemmas.{ask_kept, claim_kept, kept_here, kept_there, put_kept, same_word, split_kept, stepped_view, take_before, take_kept, take_sent, tell_kept, told_more, wait_kept}
+use Rattle.pack_words.proofs.StepLemmas.{ask_kept, claim_kept, kept_here, kept_there, put_kept, split_kept, stepped_view, take_before, take_kept, take_sent, tell_kept, told_more, wait_kept}
 use Rattle.pack_words.specs.Passes.{WasSentBefore}
 use Rattle.pack_words.specs.Plays.{Claims, Ends, FindsIn, Learns, Reads, Seated, Writes, after_step, claimed_by}
 use Rattle.pack_words.specs.Rule.{HasPlanes, IsKept, Kept, turns_of}
@@ -71,7 +72,7 @@ module _ (key : PackKey) (slots id : ℕ) (me : Seated) where
         record {
           at = (view word).at;
           each = λ q k other q_is word_of.
-              let twin = same_word v.image p i q k link other send word_of.send (sym word_is ∙ word_of.is) in
+              let twin = same_word v.image 1 p i q k 0 0 link other send word_of.send (omega arith) (omega arith) (sym word_is ∙ word_of.is) in
               ap (λ (l : LinkOut). after_step v (view word).at (after_put v.place l.slot) word x) twin.1;
         },
       )
@@ -137,7 +138,7 @@ module _ (key : PackKey) (slots id : ℕ) (me : Seated) where
           counted = counted;
           seen = seen;
           each = λ q k other word_of.
-              let twin = same_word v.image link.sender i q k sent other send word_of.send word_of.is in
+              let twin = same_word v.image 1 link.sender i q k 0 0 sent other send word_of.send (omega arith) (omega arith) word_of.is in
               subst (λ q. FindsIn v q other.slot sent_word found w) twin.0
               (subst (λ (l : LinkOut). FindsIn v link.sender l.slot sent_word found w) twin.1 finds);
         }

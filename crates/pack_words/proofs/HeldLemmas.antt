@@ -1,25 +1,21 @@
 -- A pass with its crossbar.
-use Rattle.std.proofs.Common.{List, Some, ap, ap₂, arith, get_or, inl, inr, length, refl, slice_get, subst, sym, ℕ, ◌*◌, ◌+◌, ◌<◌, ◌∙◌, ◌≡◌, ◌≢◌}
+use Rattle.std.proofs.Common.{List, Some, ap, ap₂, arith, get_or, inl, inr, length, refl, slice_get, subst, sym, ℕ, ◌<◌, ◌∙◌, ◌≡◌, ◌≢◌}
 use Rattle.std.proofs.lemmas.Bool.{cases_eq}
-use Rattle.std.proofs.lemmas.Option.{get_or_from_slice_get, slice_get_within}
 use Rattle.lane_planes.specs.declared.planes.Planes.{Planes}
 use Rattle.image_defs.specs.Places.{IsPort}
 use Rattle.image_defs.specs.declared.image.LinkIn.{LinkIn}
 use Rattle.image_defs.specs.declared.image.LinkOut.{LinkOut}
 use Rattle.image_defs.specs.declared.image.PortImage.{PortImage}
-use Rattle.image_defs.specs.declared.image.Image.{Image}
-use Rattle.event_defs.proofs.PaceLemmas.{same_receipt, same_send}
 use Rattle.event_defs.specs.Places.{IsSend, after_take}
-use Rattle.event_defs.specs.Row.{send_count}
 use Rattle.event_defs.specs.declared.place.Place.{Place}
 use mathlib.Core.Option.{none}
 use Rattle.atomic_table.specs.Table.{step}
 use Rattle.atomic_table.specs.Seated.{TableId}
 use Rattle.atomic_table.specs.declared.shared.Seat.{Seat}
-use Rattle.slot_words.proofs.LinkLemmas.{member_at}
-use Rattle.slot_words.proofs.TimeLemmas.{send_room}
+use Rattle.slot_words.proofs.LinkLemmas.{receipt_found, send_found}
+use Rattle.slot_words.proofs.TimeLemmas.{progress_within, send_room}
 use Rattle.slot_words.specs.Layout.{send_word, word_count}
-use Rattle.slot_words.specs.Links.{AreReceiptLinksOf, AreSendLinksOf, HasSlot, IsSourceWord}
+use Rattle.slot_words.specs.Links.{AreReceiptLinksOf, AreSendLinksOf, HasSlot}
 use Rattle.slot_words.specs.declared.links.Link.{Link}
 use Rattle.pack_words.proofs.WordLemmas.{read_back}
 use Rattle.pack_words.specs.declared.bar.PackBar.TheInside as bar
@@ -43,11 +39,7 @@ module _ (b : bar.Inside) (a : Inside) (has : HasWords b) (own : IsOf (bar_of b)
   words_are = subst (λ i. b.table.shared.table_id.words ≡ word_count i 1) (sym own.image) has.words
 
   pub progress_room : (p : ℕ) → p < length a.seat.me.0.image.ports → p < b.table.shared.table_id.words
-  progress_room p inside =
-      let e = words_are in
-      let row : ℕ = send_count a.seat.me.0.image * 1 in
-      let e' : b.table.shared.table_id.words ≡ length a.seat.me.0.image.ports + row = e in
-      omega arith
+  progress_room p inside = progress_within a.seat.me.0.image 1 b.table.shared.table_id.words p words_are inside
 
 -- the pass with another seat and other hints
 abbrev pub reseated : Inside → Seat (Unit {0}) PackView → ℕ → ℕ → Inside
@@ -73,43 +65,6 @@ module _ (a : Inside) (seat : Seat (Unit {0}) PackView) (stamp : ℕ) (x : Place
     receipts = subst (λ (v : PackView). AreReceiptLinksOf v.image 1 a.port a.receipts) (sym view_is) held.receipts;
   }
 
-module _ (a : Inside) (held : IsHeld a) where
-  abbrev image : Image
-  image = a.seat.me.0.image
-
-  same_link : (links : List Link) (k slot : ℕ) (d one : Link) → HasSlot links slot k → slice_get links k ≡ Some one → (get_or links k d ≡ one) × (one.slot ≡ slot)
-  same_link links k slot d one has is =
-      let both : Some has.link ≡ Some one = sym has.is ∙ is in
-      let e : has.link ≡ one = cc in
-      (get_or_from_slice_get links k one d is, ap (λ (l : Link). l.slot) (sym e) ∙ has.slot_is)
-
-  -- the word that is found for what the port sends in a slot
-  pub send_found : (k slot : ℕ) (d : Link) → HasSlot a.sends slot k → (i : ℕ) (link : LinkOut) → IsSend image a.port i link → link.slot ≡ slot → (get_or a.sends k d).word ≡ send_word image 1 a.port i 0
-  send_found k slot d has i link send slot_is =
-      let links = held.sends send.port send.is in
-      let low = slice_get_within a.sends k has.link has.is in
-      let long = links.long in
-      let out = member_at send.port.outs k (omega arith) in
-      let same = same_link a.sends k slot d (record { slot = out.0.slot; word = send_word image 1 a.port k 0 }) has (links.each k out.0 (omega arith) out.1) in
-      let here : IsSend image a.port k out.0 = record { port = send.port; is = send.is; link_is = out.1 } in
-      let index = (same_send image held.runs.image_fits a.port k i out.0 link here send (same.1 ∙ sym slot_is)).0 in
-      ap (λ (l : Link). l.word) same.0 ∙ ap (λ n. send_word image 1 a.port n 0) index
-
-  -- the word that is found for what it receives in a slot
-  pub receipt_found : (k slot : ℕ) (d : Link) → HasSlot a.receipts slot k → (port : PortImage) (j i : ℕ) (link : LinkIn) (sent : LinkOut) → IsPort image a.port port → slice_get port.ins j ≡ Some link → link.slot ≡ slot
-      → IsSend image link.sender i sent → sent.slot ≡ slot → (get_or a.receipts k d).word ≡ send_word image 1 link.sender i 0
-  receipt_found k slot d has port j i link sent is at slot_is send sent_slot =
-      let links = held.receipts port is in
-      let low = slice_get_within a.receipts k has.link has.is in
-      let long = links.long in
-      let other = member_at port.ins k (omega arith) in
-      let found = links.each k other.0 (omega arith) other.1 in
-      let same = same_link a.receipts k slot d (record { slot = other.0.slot; word = found.0 }) has found.1 in
-      let link_is : other.0 ≡ link = (same_receipt image held.runs.image_fits a.port port k j other.0 link is other.1 at (same.1 ∙ sym slot_is)).1 in
-      let source : IsSourceWord image 1 link found.0 = subst (λ (l : LinkIn). IsSourceWord image 1 l found.0) link_is found.2 in
-      let index = (same_send image held.runs.image_fits link.sender source.i i source.sent sent source.send send (source.same_slot ∙ (slot_is ∙ sym sent_slot))).0 in
-      ap (λ (l : Link). l.word) same.0 ∙ (source.is ∙ ap (λ n. send_word image 1 link.sender n 0) index)
-
 -- the word of the link of this number
 abbrev pub word_read : List Link → ℕ → ℕ
 word_read links k = (get_or links k (record { slot = 0; word = 0 })).word
@@ -118,12 +73,12 @@ word_read links k = (get_or links k (record { slot = 0; word = 0 })).word
 module _ (a : Inside) (held : IsHeld a) (searched read : List Link) (k slot : ℕ) (has : HasSlot searched slot k) where
   pub put_word : searched ≡ a.sends → read ≡ a.sends → (i : ℕ) (link : LinkOut) → IsSend a.seat.me.0.image a.port i link → link.slot ≡ slot → word_read read k ≡ send_word a.seat.me.0.image 1 a.port i 0
   put_word searched_is read_is i link send slot_is =
-      ap (λ (l : List Link). word_read l k) read_is ∙ send_found a held k slot (record { slot = 0; word = 0 }) (subst (λ l. HasSlot l slot k) searched_is has) i link send slot_is
+      ap (λ (l : List Link). word_read l k) read_is ∙ send_found a.seat.me.0.image held.runs.image_fits 1 a.port a.sends k slot (record { slot = 0; word = 0 }) (subst (λ l. HasSlot l slot k) searched_is has) held.sends i link send slot_is
 
   pub take_word : searched ≡ a.receipts → read ≡ a.receipts → (port : PortImage) (j i : ℕ) (link : LinkIn) (sent : LinkOut) → IsPort a.seat.me.0.image a.port port → slice_get port.ins j ≡ Some link → link.slot ≡ slot
       → IsSend a.seat.me.0.image link.sender i sent → sent.slot ≡ slot → word_read read k ≡ send_word a.seat.me.0.image 1 link.sender i 0
   take_word searched_is read_is port j i link sent is at slot_is send sent_slot =
-      ap (λ (l : List Link). word_read l k) read_is ∙ receipt_found a held k slot (record { slot = 0; word = 0 }) (subst (λ l. HasSlot l slot k) searched_is has) port j i link sent is at slot_is send sent_slot
+      ap (λ (l : List Link). word_read l k) read_is ∙ receipt_found a.seat.me.0.image held.runs.image_fits 1 a.port a.receipts k slot (record { slot = 0; word = 0 }) (subst (λ l. HasSlot l slot k) searched_is has) held.receipts port j i link sent is at slot_is send sent_slot
 
   -- what a Take found, for whatever link in and send have the slot
   pub take_finds : (slots found : ℕ) (new : Seated) → searched ≡ a.receipts → read ≡ a.receipts → Reads (step slots (word_read read k) 0 0 none) a.seat.me found new

@@ -4,5 +4,4 @@ pub mod OpeningLemmas
 pub mod SentLemmas
 pub mod SoundLemmas
 pub mod StepLemmas
-pub mod TimeLemmas
 pub mod WordLemmas

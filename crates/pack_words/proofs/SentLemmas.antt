@@ -1,12 +1,11 @@
 -- What each step makes of the words of sends, and what a reader finds in one.
-use Rattle.std.proofs.Common.{Some, ap, arith, inl, inr, length, refl, slice_get, subst, sym, ℕ, ◌%◌, ◌+◌, ◌<◌, ◌∙◌, ◌≡◌, ◌≢◌, ◌≤◌}
+use Rattle.std.proofs.Common.{ap, arith, inl, inr, length, refl, subst, sym, ℕ, ◌%◌, ◌+◌, ◌<◌, ◌∙◌, ◌≡◌, ◌≢◌, ◌≤◌}
 use Rattle.std.proofs.lemmas.Bool.{cases_eq}
 use Rattle.stim_text.specs.declared.lanes.Lanes.{Lanes}
 use Rattle.image_defs.specs.WellFormed.{IsWellFormed}
 use Rattle.image_defs.specs.declared.image.Image.{Image}
 use Rattle.image_defs.specs.declared.image.LinkOut.{LinkOut}
-use Rattle.image_defs.specs.declared.image.PortImage.{PortImage}
-use Rattle.event_defs.proofs.PaceLemmas.{latest_here, latest_there, same_port, same_send}
+use Rattle.event_defs.proofs.PaceLemmas.{latest_here, latest_there, one_send, same_send}
 use Rattle.event_defs.proofs.SlotLemmas.{each_updated, updated_here, updated_there}
 use Rattle.event_defs.proofs.StampLemmas.{written_here, written_there}
 use Rattle.event_defs.specs.Places.{IsSend, after_put, latest, start}
@@ -42,12 +41,6 @@ module _ (image : Image) (fits : IsWellFormed image) (lanes : Lanes) where
     now : Place
     now = after_put (place p) link.slot
 
-    slot_same : (j : ℕ) (other : LinkOut) → IsSend image p j other → j ≡ i → other.slot ≡ link.slot
-    slot_same j other s e =
-        let at : slice_get mine.port.outs i ≡ Some other = subst (λ (q : PortImage). slice_get q.outs i ≡ Some other) (same_port image p s.port mine.port s.is mine.is) (subst (λ k. slice_get s.port.outs k ≡ Some other) e s.link_is) in
-        let twice : Some other ≡ Some link = sym at ∙ mine.link_is in
-        cc
-
     own : written word p i 0 x p i 0 ≡ x
     own = ap (λ (w : ℕ → ℕ). w 0) (written_here word p i 0 x) ∙ updated_here (word p i) 0 x
 
@@ -61,7 +54,7 @@ module _ (image : Image) (fits : IsWellFormed image) (lanes : Lanes) where
           (subst (IsSentIn image lanes p link.slot (place p).turn) (sym own) put)))
       | inr differs ↦
           subst (λ k. IsSentIn image lanes p other.slot k (written word p i 0 x p j 0)) (sym (latest_there (place p) link.slot other.slot differs))
-          (subst (λ (w : ℕ → ℕ). IsSentIn image lanes p other.slot (latest (place p) other.slot) (w 0)) (sym (written_there word p i 0 x p j (λ e. differs (slot_same j other send e.1)))) (sent.each p j other send))
+          (subst (λ (w : ℕ → ℕ). IsSentIn image lanes p other.slot (latest (place p) other.slot) (w 0)) (sym (written_there word p i 0 x p j (λ e. differs (ap (λ (l : LinkOut). l.slot) (one_send image p j i other link send mine e.1))))) (sent.each p j other send))
     ]
 
   pub starts_sent : AreSent image lanes (λ p. start (length image.ports)) (λ p i b. 0)

@@ -1,5 +1,5 @@
 -- What the rule implies in each lane.
-use Rattle.std.proofs.Common.{List, None, Option, Some, [], ap, arith, eq-eqb, if◌then◌else◌, inl, inr, length, map, ne_eqb, refl, slice_get, subst, suc, sym, zero, ℕ, ◌*◌, ◌+◌, ◌<◌, ◌∙◌, ◌∷◌, ◌≡◌, ◌≤◌}
+use Rattle.std.proofs.Common.{List, None, Option, Some, [], ap, arith, eq-eqb, if◌then◌else◌, inl, inr, map, ne_eqb, refl, slice_get, subst, suc, sym, zero, ℕ, ◌*◌, ◌+◌, ◌∙◌, ◌∷◌, ◌≡◌, ◌≤◌}
 use Rattle.std.specs.Prelude.{◌==◌}
 use Rattle.std.proofs.lemmas.Bool.{cases_eq}
 use mathlib.Core.Option.{some, some-injective, some-ne-none}
@@ -15,14 +15,13 @@ use Rattle.event_defs.proofs.WordLemmas.{first_coded, put_coded, stamp_in}
 use Rattle.event_defs.specs.Places.{IsSend, latest}
 use Rattle.event_defs.specs.Sound.{AreCoded, AreStamped, AreStamps, IsCoded}
 use Rattle.event_defs.specs.Steps.{stamp_of}
-use Rattle.event_defs.specs.declared.place.Place.{Place}
 use Rattle.atomic_table.proofs.Lists.{at_map}
 use Rattle.atomic_table.specs.Table.{State}
-use Rattle.slot_words.proofs.SoundLemmas.{told_none, told_some}
-use Rattle.slot_words.specs.Layout.{progress_in, sent_in, turns_told}
+use Rattle.slot_words.proofs.SoundLemmas.{counts}
+use Rattle.slot_words.specs.Layout.{progress_in, sent_in}
 use Rattle.slot_words.specs.declared.rule.TheConstants.{UNCLAIMED}
 use Rattle.slot_words.specs.declared.rule.View.{View}
-use Rattle.pack_words.specs.Rule.{HasPlanes, IsKept, IsSentIn, Kept, plain_view, stimulus_of}
+use Rattle.pack_words.specs.Rule.{HasPlanes, IsKept, IsSentIn, Kept, plain_view, stimulus_of, turns_of}
 use Rattle.pack_words.specs.Sound.{AreDistinct, ArePassesSound, IsPackOf}
 use Rattle.pack_words.specs.declared.rule.PackKey.{PackKey}
 use Rattle.pack_words.specs.declared.rule.PackView.{PackView}
@@ -118,12 +117,6 @@ module _ (image : Image) (lanes : Lanes) (words : List ℕ) (views : List PackVi
   at_plain : (id : ℕ) (v : PackView) → get_elem? views id ≡ some v → get_elem? (map plain_view views) id ≡ some (plain_view v)
   at_plain id v at = at_map plain_view views id v at
 
-  pub told : (p : ℕ) → p < length image.ports → turns_told (progress_in words p) + 1 ≡ (kept.place p).turn
-  told p inside = elim (cases_eq (progress_in words p) UNCLAIMED) [
-    | inl free ↦ ap (λ n. n + 1) (told_none (progress_in words p) free) ∙ sym (ap (λ (a : Place). a.turn) (kept.owned.fresh p inside free))
-    | inr claimed ↦ ap (λ n. n + 1) (told_some (progress_in words p) claimed) ∙ kept.timed.progress p inside claimed
-  ]
-
 pub rule_sound : (key : PackKey) (s : State (Unit {0}) PackView) → Kept key s → ArePassesSound key s
 rule_sound key s kept = record {
   same = kept.same;
@@ -142,7 +135,7 @@ rule_sound key s kept = record {
   fresh = kept.owned.fresh;
   word = word image lanes s.words s.views kept;
   sound = λ l. record {
-    finished = λ p inside. told image lanes s.words s.views kept p inside;
+    finished = counts image (stimulus_of image lanes 0) 1 (turns_of image lanes) s.words (map plain_view s.views) kept.place kept.owner kept.owned kept.timed;
     paced = kept.timed.paced;
     stamps = lane_stamped image lanes s.words s.views kept l;
     codes = lane_coded image lanes s.words s.views kept l;

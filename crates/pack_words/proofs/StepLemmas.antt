@@ -1,7 +1,5 @@
 -- Each of the six kinds of step keeps the rule.
-use Rattle.std.proofs.Common.{List, None, Some, [], ap, arith, false, get_or, get_or-set_same, get_or-set_other, inl, inr, length, length-set, map, mul-le-mul, refl, set, slice_get, subst, sym, true, ℕ, ◌*◌, ◌++◌, ◌+◌, ◌-◌, ◌<◌, ◌^◌, ◌∙◌, ◌∷◌, ◌≡◌, ◌≢◌, ◌≤◌}
-use Rattle.std.proofs.Math.Path.{fun_ext}
-use Rattle.std.proofs.lemmas.Bool.{cases_eq}
+use Rattle.std.proofs.Common.{List, None, Some, [], ap, arith, false, get_or, get_or-set_same, inl, inr, length, length-set, map, mul-le-mul, refl, set, slice_get, subst, sym, true, ℕ, ◌*◌, ◌++◌, ◌+◌, ◌-◌, ◌<◌, ◌^◌, ◌∙◌, ◌∷◌, ◌≡◌, ◌≢◌, ◌≤◌}
 use Rattle.std.proofs.lemmas.List.{map-append, map-set}
 use mathlib.Core.Option.{some}
 use lib.ListN.{get_elem?}
@@ -15,8 +13,8 @@ use Rattle.image_defs.specs.declared.image.Image.{Image}
 use Rattle.image_defs.specs.declared.image.LinkIn.{LinkIn}
 use Rattle.image_defs.specs.declared.image.LinkOut.{LinkOut}
 use Rattle.image_defs.specs.declared.image.PortImage.{PortImage}
-use Rattle.event_defs.proofs.PaceLemmas.{latest_put, same_port, same_send, source}
-use Rattle.event_defs.proofs.SlotLemmas.{updated_here, updated_there}
+use Rattle.event_defs.proofs.PaceLemmas.{latest_put, send_at}
+use Rattle.event_defs.proofs.SlotLemmas.{updated_same}
 use Rattle.event_defs.specs.Next.{EndsNext}
 use Rattle.event_defs.specs.Places.{IsSend, after_ask, after_put, after_take, after_tell, is_in, known_of, latest}
 use Rattle.event_defs.specs.Row.{send_number, word_place}
@@ -25,43 +23,26 @@ use Rattle.event_defs.specs.declared.place.Place.{Place}
 use Rattle.slot_words.proofs.LinkLemmas.{member_at}
 use Rattle.slot_words.proofs.LookLemmas.{looks_claimed, looks_split, looks_stepped, told_progress, told_sent}
 use Rattle.slot_words.proofs.OwnLemmas.{SameClaims, owned_claimed, owned_split, owned_stepped}
-use Rattle.slot_words.proofs.SoundLemmas.{told_none, told_some}
-use Rattle.slot_words.proofs.StepLemmas.{same_places, sent_read}
-use Rattle.slot_words.proofs.TimeLemmas.{progress_kept, progress_set, send_room, sent_set}
+use Rattle.slot_words.proofs.SoundLemmas.{counts, told_some}
+use Rattle.slot_words.proofs.StepLemmas.{knows_told, near_sender, sent_read, told_claims}
+use Rattle.slot_words.proofs.TimeLemmas.{progress_kept, progress_set, send_room, sent_set, turns_ask, turns_claim, turns_put, turns_take, turns_tell}
 use Rattle.slot_words.specs.Layout.{progress_in, send_word, sent_in, told_in, turns_told}
-use Rattle.slot_words.specs.Rule.{AreLooks, AreOwned, IsPassOf, steps_in}
+use Rattle.slot_words.specs.Rule.{AreInTurn, AreLooks, AreOwned, IsPassOf, steps_in}
 use Rattle.slot_words.specs.declared.rule.TheConstants.{UNCLAIMED}
 use Rattle.slot_words.specs.declared.rule.View.{View}
 use Rattle.pack_words.proofs.SentLemmas.{found_before, found_now, is_now, sent_put, sent_still}
-use Rattle.pack_words.proofs.TimeLemmas.{timed_ask, timed_claim, timed_put, timed_take, timed_tell}
 use Rattle.pack_words.specs.Passes.{WasSentBefore}
 use Rattle.pack_words.specs.Plays.{after_step, claimed_by}
-use Rattle.pack_words.specs.Rule.{AreSent, AreTimed, HasPlanes, IsKept, IsRunnable, IsSentIn, plain_view, stimulus_of, turns_of}
+use Rattle.pack_words.specs.Rule.{AreSent, HasPlanes, IsKept, IsRunnable, IsSentIn, plain_view, stimulus_of, turns_of}
 use Rattle.pack_words.specs.Words.{stamp_in, stamp_of}
 use Rattle.pack_words.specs.declared.rule.PackKey.{PackKey}
 use Rattle.pack_words.specs.declared.rule.PackView.{PackView}
-
--- a changed function is the same where the new value is the old one
-updated_same : {X : Type 0} (f : ℕ → X) (p : ℕ) → updated f p (f p) ≡ f
-updated_same f p = fun_ext (λ q. elim (cases_eq q p) [
-  | inl same ↦ subst (λ q. updated f p (f p) q ≡ f q) (sym same) (updated_here f p (f p))
-  | inr other ↦ updated_there f p q (f p) other
-])
 
 -- turns are few
 pub turns_few : (image : Image) (lanes : Lanes) → IsRunnable image lanes → turns_of image lanes < 2 ^ 59
 turns_few image lanes runs =
     let most : image.units * longest lanes ≤ 4096 * 1000000 = mul-le-mul runs.image_fits.units.1 (longest_few image.columns lanes runs.lanes_fit) in
     omega arith
-
--- no two sends have one word
-pub same_word : (image : Image) (p i q k : ℕ) (link other : LinkOut) → IsSend image p i link → IsSend image q k other → send_word image 1 p i 0 ≡ send_word image 1 q k 0 → (p ≡ q) × (link ≡ other)
-same_word image p i q k link other one two same =
-    let places = same_places image 1 p i q k 0 0 link other one two (omega arith) (omega arith) same in
-    let at_q : IsPort image p two.port = subst (λ x. IsPort image x two.port) (sym places.0) two.is in
-    let at_k : slice_get one.port.outs i ≡ Some other = subst (λ x. slice_get one.port.outs x ≡ Some other) (sym places.1) (subst (λ (o : PortImage). slice_get o.outs k ≡ Some other) (sym (same_port image p one.port two.port one.is at_q)) two.link_is) in
-    let both : Some link ≡ Some other = sym one.link_is ∙ at_k in
-    (places.0, cc)
 
 -- ---- plain views
 
@@ -113,16 +94,13 @@ module _ (words : List ℕ) (views : List PackView) (id p : ℕ) (v : PackView) 
   begun : 1 ≤ turn
   begun = subst (λ (a : Place). 1 ≤ a.turn) (sym mine.place_is) (kept.timed.paced.places p port_there.0 port_there.1).begun
 
-  fits_image : (i : ℕ) (link : LinkOut) → IsSend image p i link → slice_get port_there.0.outs i ≡ Some link
-  fits_image i link send = subst (λ (q : PortImage). slice_get q.outs i ≡ Some link) (same_port image p send.port port_there.0 send.is port_there.1) send.link_is
-
   -- the pass after one more step
   abbrev pub stepped_view : Place → ℕ → ℕ → PackView
   stepped_view x word number = after_step v (steps_in plain_views + 1) x word number
 
   -- a step of the port keeps the rule where it keeps turns, claims and words of sends
   step_kept : (now : List ℕ) (x : Place) (word number : ℕ) → length now ≡ length words → SameClaims image first_stimulus 1 words now
-      → AreTimed image until now (updated kept.place p x) → AreSent image v.lanes (updated kept.place p x) (sent_in image 1 now) → told_in image now word ≡ number
+      → AreInTurn image 1 until now (updated kept.place p x) → AreSent image v.lanes (updated kept.place p x) (sent_in image 1 now) → told_in image now word ≡ number
       → IsKept image v.lanes now (set views id (stepped_view x word number))
   step_kept now x word number long claims timed sent told = record {
     place = updated kept.place p x;
@@ -142,32 +120,23 @@ module _ (words : List ℕ) (views : List PackView) (id p : ℕ) (v : PackView) 
   }
 
   -- the same words
-  same_words : (x : Place) (word number : ℕ) → told_in image words word ≡ number → AreTimed image until words (updated kept.place p x)
+  same_words : (x : Place) (word number : ℕ) → told_in image words word ≡ number → AreInTurn image 1 until words (updated kept.place p x)
       → ((i : ℕ) (link : LinkOut) → IsSend image p i link → latest x link.slot ≡ latest (kept.place p) link.slot) → IsKept image v.lanes words (set views id (stepped_view x word number))
   same_words x word number told timed same_latest = step_kept words x word number refl (λ q _. ((λ e. e), (λ e. e))) timed
       (sent_still image kept.runs.image_fits v.lanes kept.place (sent_in image 1 words) p x kept.sent same_latest) told
 
   -- Ask
-  counts : (r : ℕ) → r < length image.ports → turns_told (progress_in words r) + 1 ≡ (kept.place r).turn
-  counts r r_in = elim (cases_eq (progress_in words r) UNCLAIMED) [
-    | inl free ↦ ap (λ n. n + 1) (told_none (progress_in words r) free) ∙ sym (ap (λ (a : Place). a.turn) (kept.owned.fresh r r_in free))
-    | inr claimed ↦ ap (λ n. n + 1) (told_some (progress_in words r) claimed) ∙ kept.timed.progress r r_in claimed
-  ]
-
   pub told_more : (r : ℕ) → r < length image.ports → known_of v.place r ≤ turns_told (progress_in words r)
-  told_more r r_in =
-      let sees = counts r r_in in
-      let knows : known_of v.place r + 1 ≤ (kept.place r).turn = subst (λ (a : Place). known_of a r + 1 ≤ (kept.place r).turn) (sym mine.place_is) (kept.timed.paced.known p r mine.inside r_in) in
-      omega arith
+  told_more = knows_told image first_stimulus 1 until words plain_views kept.place kept.owner kept.owned kept.timed id p (plain_view v) at_plain port_is
 
   pub ask_kept : (r : ℕ) → r < length image.ports
       → IsKept image v.lanes words (set views id (stepped_view (after_ask v.place r (turns_told (progress_in words r))) r (turns_told (progress_in words r))))
   ask_kept r r_in =
       let x : ℕ = turns_told (progress_in words r) in
-      let sees = counts r r_in in
+      let sees = counts image first_stimulus 1 until words plain_views kept.place kept.owner kept.owned kept.timed r r_in in
       same_words (after_ask v.place r x) r x (told_progress image words r r_in)
-      (subst (λ (a : Place). AreTimed image until words (updated kept.place p (after_ask a r x))) (sym mine.place_is)
-      (timed_ask image kept.runs.image_fits until words kept.place kept.timed p port_there.0 port_there.1 r x r_in (omega arith)))
+      (subst (λ (a : Place). AreInTurn image 1 until words (updated kept.place p (after_ask a r x))) (sym mine.place_is)
+      (turns_ask image kept.runs.image_fits 1 until words kept.place kept.timed p port_there.0 port_there.1 r x r_in (omega arith)))
       (λ i link send. ap (λ (a : Place). latest a link.slot) mine.place_is)
 
   -- Put
@@ -189,11 +158,11 @@ module _ (words : List ℕ) (views : List PackView) (id p : ℕ) (v : PackView) 
         room = subst (λ n. send_word image 1 p i 0 < n) (sym kept.long) (send_room image 1 p i 0 link send (omega arith))
 
         Stays : Place → Type 0
-        Stays a = is_in link.slot a.puts ≡ false → a.turn ≤ until → ((r : ℕ) → Stands link.readers r → a.turn ≤ known_of a r + 1) → AreTimed image until (set words (send_word image 1 p i 0) x) (updated kept.place p (after_put a link.slot))
+        Stays a = is_in link.slot a.puts ≡ false → a.turn ≤ until → ((r : ℕ) → Stands link.readers r → a.turn ≤ known_of a r + 1) → AreInTurn image 1 until (set words (send_word image 1 p i 0) x) (updated kept.place p (after_put a link.slot))
 
-        timed : AreTimed image until (set words (send_word image 1 p i 0) x) (updated kept.place p (after_put v.place link.slot))
+        timed : AreInTurn image 1 until (set words (send_word image 1 p i 0) x) (updated kept.place p (after_put v.place link.slot))
         timed = subst Stays (sym mine.place_is)
-            (timed_put image kept.runs.image_fits until words kept.place kept.timed p port_there.0 port_there.1 i (word_place 1 (send_number image p i) 0) x link (fits_image i link send))
+            (turns_put image kept.runs.image_fits 1 until words kept.place kept.timed p port_there.0 port_there.1 i (word_place 1 (send_number image p i) 0) x link (send_at image p i link port_there.0 send port_there.1))
             missing early ready
 
         Sends : Place → Type 0
@@ -218,12 +187,6 @@ module _ (words : List ℕ) (views : List PackView) (id p : ℕ) (v : PackView) 
     found_is : found ≡ sent_in image 1 words link.sender i 0
     found_is = sent_read image 1 words link.sender i 0 sent send (omega arith)
 
-    reads : Stands sent.readers p
-    reads =
-        let from = source image kept.runs.image_fits p port j link is at_link in
-        let twin = same_send image kept.runs.image_fits link.sender i from.0 sent from.1 send from.2 (same_slot ∙ sym from.3) in
-        subst (λ (l : LinkOut). Stands l.readers p) (sym twin.1) from.4
-
     was_sent : IsSentIn image v.lanes link.sender link.slot put_in found
     was_sent = subst (λ s. IsSentIn image v.lanes link.sender s (latest (kept.place link.sender) s) found) same_slot
         (subst (IsSentIn image v.lanes link.sender sent.slot (latest (kept.place link.sender) sent.slot)) (sym found_is) (kept.sent.each link.sender i sent send))
@@ -231,10 +194,10 @@ module _ (words : List ℕ) (views : List PackView) (id p : ℕ) (v : PackView) 
     -- the sender is in pace
     near : (turn ≤ put_in + 1) × (put_in ≤ turn)
     near =
-        let k = kept.timed.paced.pace link.sender i p sent send reads in
-        let behind : turn ≤ latest (kept.place link.sender) sent.slot + 1 = subst (λ (a : Place). a.turn ≤ latest (kept.place link.sender) sent.slot + 1) (sym mine.place_is) k.behind in
-        let ahead : latest (kept.place link.sender) sent.slot + 1 ≤ turn + 1 = subst (λ (a : Place). latest (kept.place link.sender) sent.slot + 1 ≤ a.turn + 1) (sym mine.place_is) k.ahead in
-        subst (λ s. (turn ≤ latest (kept.place link.sender) s + 1) × (latest (kept.place link.sender) s ≤ turn)) same_slot (behind, omega arith)
+        let of_sent : (turn ≤ latest (kept.place link.sender) sent.slot + 1) × (latest (kept.place link.sender) sent.slot + 1 ≤ turn + 1) =
+        subst (λ (a : Place). (a.turn ≤ latest (kept.place link.sender) sent.slot + 1) × (latest (kept.place link.sender) sent.slot + 1 ≤ a.turn + 1)) (sym mine.place_is)
+        (near_sender image kept.runs.image_fits 1 until kept.place kept.timed.paced p port is j link i sent at_link send same_slot) in
+        subst (λ s. (turn ≤ latest (kept.place link.sender) s + 1) × (latest (kept.place link.sender) s ≤ turn)) same_slot (of_sent.0, omega (arith, of_sent.1))
 
     pub take_sent : stamp_of found ≡ stamp_in turn → HasPlanes image v.lanes link.sender link.slot turn found
     take_sent stamp = (found_now image v.lanes link.sender link.slot turn put_in found begun near.0 near.1 was_sent stamp).put begun
@@ -245,28 +208,28 @@ module _ (words : List ℕ) (views : List PackView) (id p : ℕ) (v : PackView) 
     pub take_kept : is_in link.slot v.place.takes ≡ false → turn ≤ until → stamp_of found ≡ stamp_in turn
         → IsKept image v.lanes words (set views id (stepped_view (after_take v.place link.slot) sent_word found))
     take_kept missing early stamp = same_words (after_take v.place link.slot) sent_word found (told_sent image 1 words link.sender i 0)
-        (subst Stays (sym mine.place_is) (timed_take image kept.runs.image_fits until words kept.place kept.timed p port is j link at_link) missing early
+        (subst Stays (sym mine.place_is) (turns_take image kept.runs.image_fits 1 until words kept.place kept.timed p port is j link at_link) missing early
         (is_now image v.lanes link.sender link.slot turn put_in found begun near.0 near.1 was_sent stamp))
         (λ k other s. ap (λ (a : Place). latest a other.slot) mine.place_is) where
           Stays : Place → Type 0
-          Stays a = is_in link.slot a.takes ≡ false → a.turn ≤ until → a.turn ≤ latest (kept.place link.sender) link.slot → AreTimed image until words (updated kept.place p (after_take a link.slot))
+          Stays a = is_in link.slot a.takes ≡ false → a.turn ≤ until → a.turn ≤ latest (kept.place link.sender) link.slot → AreInTurn image 1 until words (updated kept.place p (after_take a link.slot))
 
     pub wait_kept : IsKept image v.lanes words (set views id (stepped_view v.place sent_word found))
     wait_kept = same_words v.place sent_word found (told_sent image 1 words link.sender i 0)
-        (subst (λ (a : Place). AreTimed image until words (updated kept.place p a)) (sym mine.place_is) (subst (AreTimed image until words) (sym (updated_same kept.place p)) kept.timed))
+        (subst (λ (a : Place). AreInTurn image 1 until words (updated kept.place p a)) (sym mine.place_is) (subst (AreInTurn image 1 until words) (sym (updated_same kept.place p)) kept.timed))
         (λ k other s. ap (λ (a : Place). latest a other.slot) mine.place_is)
 
   -- Tell
   pub tell_kept : ((port : PortImage) → IsPort image p port → EndsNext port v.place.puts v.place.takes) → turn ≤ until
       → IsKept image v.lanes (set words p turn) (set views id (stepped_view (after_tell v.place) p turn))
   tell_kept next early =
-      step_kept (set words p turn) (after_tell v.place) p turn (length-set words p turn) claims
-      (subst Stays (sym mine.place_is) (timed_tell image kept.runs.image_fits until words kept.place kept.timed p port_there.0 port_there.1 room) (next port_there.0 port_there.1) early)
+      step_kept (set words p turn) (after_tell v.place) p turn (length-set words p turn) (told_claims image first_stimulus 1 words p turn room few mine.claimed)
+      (subst Stays (sym mine.place_is) (turns_tell image kept.runs.image_fits 1 until words kept.place kept.timed p port_there.0 port_there.1 room) (next port_there.0 port_there.1) early)
       (subst (AreSent image v.lanes (updated kept.place p (after_tell v.place))) (sym (progress_set image 1 words p turn mine.inside))
       (sent_still image kept.runs.image_fits v.lanes kept.place (sent_in image 1 words) p (after_tell v.place) kept.sent same_latest))
       (told_progress image (set words p turn) p mine.inside ∙ (ap turns_told (get_or-set_same words p turn 0 room) ∙ told_some turn few)) where
         Stays : Place → Type 0
-        Stays a = EndsNext port_there.0 a.puts a.takes → a.turn ≤ until → AreTimed image until (set words p a.turn) (updated kept.place p (after_tell a))
+        Stays a = EndsNext port_there.0 a.puts a.takes → a.turn ≤ until → AreInTurn image 1 until (set words p a.turn) (updated kept.place p (after_tell a))
 
         room : p < length words
         room = let long = kept.long in let inside = mine.inside in omega arith
@@ -276,18 +239,9 @@ module _ (words : List ℕ) (views : List PackView) (id p : ℕ) (v : PackView) 
 
         same_latest : (i : ℕ) (link : LinkOut) → IsSend image p i link → latest (after_tell v.place) link.slot ≡ latest (kept.place p) link.slot
         same_latest i link send =
-            let all_put : is_in link.slot v.place.puts ≡ true = (next port_there.0 port_there.1).all_put i link (fits_image i link send) in
+            let all_put : is_in link.slot v.place.puts ≡ true = (next port_there.0 port_there.1).all_put i link (send_at image p i link port_there.0 send port_there.1) in
             let minus : turn + 1 - 1 ≡ turn = omega arith in
             minus ∙ (sym (latest_put v.place link.slot all_put) ∙ ap (λ (a : Place). latest a link.slot) mine.place_is)
-
-        claims : SameClaims image first_stimulus 1 words (set words p turn)
-        claims q q_in = elim (cases_eq q p) [
-          | inl same ↦ (
-            (λ e. absurd (few (sym (get_or-set_same words p turn 0 room) ∙ subst (λ q. progress_in (set words p turn) q ≡ UNCLAIMED) same e))),
-            (λ e. absurd (mine.claimed (subst (λ q. progress_in words q ≡ UNCLAIMED) same e))),
-          )
-          | inr other ↦ let e = get_or-set_other words p q turn 0 other in ((λ free. sym e ∙ free), (λ free. e ∙ free))
-        ]
 
 module _ (words : List ℕ) (views : List PackView) (id : ℕ) (v : PackView) (kept : IsKept v.image v.lanes words views) (at : get_elem? views id ≡ some v) (port_is : v.port ≡ None) where
   abbrev stimulus : Stimulus
@@ -309,7 +263,7 @@ module _ (words : List ℕ) (views : List PackView) (id : ℕ) (v : PackView) (k
     ];
     owned = subst (λ vs. AreOwned v.image stimulus 1 (set words p 0) vs kept.place (updated kept.owner p id)) (sym (plain_set views id (claimed_by v p)))
         (owned_claimed v.image stimulus 1 words (map plain_view views) kept.place kept.owner kept.owned id p (plain_view v) at_view port_is inside room free);
-    timed = timed_claim v.image kept.runs.image_fits (turns_of v.image v.lanes) words kept.place kept.timed p room (kept.owned.fresh p inside free);
+    timed = turns_claim v.image kept.runs.image_fits 1 (turns_of v.image v.lanes) words kept.place kept.timed p room (kept.owned.fresh p inside free);
     sent = subst (AreSent v.image v.lanes kept.place) (sym (progress_set v.image 1 words p 0 inside)) kept.sent;
     looks = subst (AreLooks v.image (set words p 0)) (sym (plain_set views id (claimed_by v p)))
         (looks_claimed v.image words (map plain_view views) id p (plain_view v) kept.looks at_view inside room free);

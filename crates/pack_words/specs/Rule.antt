@@ -1,7 +1,7 @@
 -- The rule: what holds of the words and of all passes between any two steps. It is that of a crossbar with one
 -- bank, but for what the words of sends hold: each has the planes of all lanes in the turn of the last Put, which
 -- the sender's place gives, and beside them that turn's stamp alone.
-use Rattle.std.specs.Prelude.{◌≡◌, ◌≢◌, ℕ, ◌+◌, ◌*◌, ◌<◌, ◌≤◌, List, length, map, None}
+use Rattle.std.specs.Prelude.{◌≡◌, ℕ, ◌*◌, ◌<◌, ◌≤◌, List, length, map, None}
 use mathlib.Core.Option.{some}
 use lib.ListN.{get_elem?}
 use Rattle.lane_planes.specs.Lanes.{lane_of}
@@ -14,12 +14,10 @@ use Rattle.image_defs.specs.WellFormed.{IsWellFormed}
 use Rattle.image_defs.specs.declared.image.Image.{Image}
 use Rattle.image_defs.specs.declared.image.LinkOut.{LinkOut}
 use Rattle.event_defs.specs.Places.{IsSend, latest, start}
-use Rattle.event_defs.specs.Sound.{ArePaced}
 use Rattle.event_defs.specs.declared.place.Place.{Place}
 use Rattle.atomic_table.specs.Table.{State}
-use Rattle.slot_words.specs.Layout.{progress_in, sent_in, word_count}
-use Rattle.slot_words.specs.Rule.{AreLooks, AreOwned}
-use Rattle.slot_words.specs.declared.rule.TheConstants.{UNCLAIMED}
+use Rattle.slot_words.specs.Layout.{sent_in, word_count}
+use Rattle.slot_words.specs.Rule.{AreInTurn, AreLooks, AreOwned}
 use Rattle.slot_words.specs.declared.rule.View.{View}
 use Rattle.pack_words.specs.declared.rule.PackKey.{PackKey}
 use Rattle.pack_words.specs.declared.rule.PackView.{PackView}
@@ -83,11 +81,6 @@ pub record IsSentIn (image : Image) (lanes : Lanes) (p slot turn word : ℕ) : T
 pub record AreSent (image : Image) (lanes : Lanes) (place : ℕ → Place) (word : ℕ → ℕ → ℕ → ℕ) : Type 0 where
   pub each : (p i : ℕ) (link : LinkOut) → IsSend image p i link → IsSentIn image lanes p link.slot (latest (place p) link.slot) (word p i 0)
 
--- a claimed progress word holds the turns before its port's, and all places are in pace
-pub record AreTimed (image : Image) (until : ℕ) (words : List ℕ) (place : ℕ → Place) : Type 0 where
-  pub progress : (p : ℕ) → p < length image.ports → progress_in words p ≢ UNCLAIMED → progress_in words p + 1 ≡ (place p).turn
-  pub paced : ArePaced image 1 until place
-
 -- ---- the rule
 
 -- there are places and owners, and a word of a send has the planes of the last turn in which its sender put it
@@ -98,7 +91,7 @@ pub record IsKept (image : Image) (lanes : Lanes) (words : List ℕ) (views : Li
   pub long : length words ≡ word_count image 1
   pub same : (id : ℕ) (v : PackView) → get_elem? views id ≡ some v → (v.image ≡ image) × (v.lanes ≡ lanes)
   pub owned : AreOwned image (stimulus_of image lanes 0) 1 words (map plain_view views) place owner
-  pub timed : AreTimed image (turns_of image lanes) words place
+  pub timed : AreInTurn image 1 (turns_of image lanes) words place
   pub sent : AreSent image lanes place (sent_in image 1 words)
   pub looks : AreLooks image words (map plain_view views)
 

@@ -1,5 +1,5 @@
 -- The cursor stands at the row of its cycle.
-use Rattle.std.proofs.Common.{◌≡◌, ◌∙◌, inl, inr, ℕ, zero, suc, ◌+◌, ◌-◌, ◌<◌, ◌≤◌, List, [], ◌++◌, length, replicate, drop, get_or, Option, Some, None, slice_get, sym, ap, subst, refl, arith}
+use Rattle.std.proofs.Common.{◌≡◌, ◌∙◌, ◌⊎◌, inl, inr, ℕ, zero, suc, ◌+◌, ◌-◌, ◌<◌, ◌≤◌, List, [], ◌++◌, length, replicate, drop, get_or, Option, Some, None, slice_get, sym, ap, subst, refl, arith}
 use Rattle.std.specs.List.{flat_map}
 use Rattle.std.proofs.Math.ListN.{drop_of_length-le}
 use Rattle.std.proofs.lemmas.Bool.{cases_lt}
@@ -66,21 +66,25 @@ row_over stimulus n row rest times valid last within is at =
 
 -- ---- the row of the cycle
 
+-- behind all rows none is left
+pub none_left : (stimulus : Stimulus) (n : ℕ) (cursor : RowCursor) → IsAt stimulus n cursor → length stimulus.rows ≤ cursor.row → rows_left stimulus cursor ≡ []
+none_left stimulus n cursor at over =
+    ap (λ k. replicate k (values_in (slice_get stimulus.rows cursor.row)) ++ flat_map repeats (drop (cursor.row + 1) stimulus.rows)) (at.behind over)
+    ∙ ap (flat_map repeats) (drop_of_length-le stimulus.rows (omega (arith, over)))
+
 -- within the run there is a row
 pub still_within : (stimulus : Stimulus) (n : ℕ) (cursor : RowCursor) → IsAt stimulus n cursor → n < cycle_count stimulus → cursor.row < length stimulus.rows
 still_within stimulus n cursor at more = elim (cases_lt cursor.row (length stimulus.rows)) [
   | inl within ↦ within
-  | inr over ↦ absurd (omega (arith, more, length-drop n (cycle_rows stimulus), ap length at.left, none over))
-] where
-  none : length stimulus.rows ≤ cursor.row → length (rows_left stimulus cursor) ≡ 0
-  none over =
-      ap (λ k. length (replicate k (values_in (slice_get stimulus.rows cursor.row)) ++ flat_map repeats (drop (cursor.row + 1) stimulus.rows))) (at.behind over)
-      ∙ ap (λ rows. length (flat_map repeats rows)) (drop_of_length-le stimulus.rows (omega (arith, over)))
+  | inr over ↦
+      let none : length (drop n (cycle_rows stimulus)) ≡ 0 = ap length (at.left ∙ none_left stimulus n cursor at over) in
+      absurd (omega (arith, more, length-drop n (cycle_rows stimulus), none))
+]
 
--- and it is that of the cycle
-pub row_is : (stimulus : Stimulus) (n : ℕ) (cursor : RowCursor) → IsAt stimulus n cursor → n < cycle_count stimulus → get_or (cycle_rows stimulus) n [] ≡ values_in (slice_get stimulus.rows cursor.row)
-row_is stimulus n cursor at more =
-    ap (λ k. get_or (cycle_rows stimulus) k []) same ∙ sym (get_or-drop n (cycle_rows stimulus) 0 []) ∙ ap (λ rows. get_or rows 0 []) at.left ∙ head cursor.rest (at.serves (still_within stimulus n cursor at more))
+-- it is that of the cycle, within the run and behind it
+pub row_at : (stimulus : Stimulus) (n : ℕ) (cursor : RowCursor) → IsAt stimulus n cursor → get_or (cycle_rows stimulus) n [] ≡ values_in (slice_get stimulus.rows cursor.row)
+row_at stimulus n cursor at =
+    ap (λ k. get_or (cycle_rows stimulus) k []) same ∙ sym (get_or-drop n (cycle_rows stimulus) 0 []) ∙ of_place (cases_lt cursor.row (length stimulus.rows))
   where
     same : n ≡ n + 0
     same = omega arith
@@ -88,3 +92,8 @@ row_is stimulus n cursor at more =
     head : (k : ℕ) → 1 ≤ k → get_or (replicate k (values_in (slice_get stimulus.rows cursor.row)) ++ flat_map repeats (drop (cursor.row + 1) stimulus.rows)) 0 [] ≡ values_in (slice_get stimulus.rows cursor.row)
     head zero some = absurd (omega (arith, some))
     head (suc k) some = refl
+
+    of_place : (cursor.row < length stimulus.rows) ⊎ (length stimulus.rows ≤ cursor.row) → get_or (drop n (cycle_rows stimulus)) 0 [] ≡ values_in (slice_get stimulus.rows cursor.row)
+    of_place (inl within) = ap (λ rows. get_or rows 0 []) at.left ∙ head cursor.rest (at.serves within)
+    of_place (inr over) =
+        ap (λ rows. get_or rows 0 []) (at.left ∙ none_left stimulus n cursor at over) ∙ sym (ap values_in (slice_get_past stimulus.rows cursor.row over))

@@ -28,7 +28,7 @@ use Rattle.port_host.specs.declared.cursor.Progress.{Progress}
 use Rattle.port_host.specs.declared.port.HostPort.TheInside.{Inside}
 use Rattle.port_host.specs.Rows.{values_in, turn_of, rows_done, printed_sources, row_start, HasRoom, IsOn, HasPrinted, HasRows}
 use Rattle.port_host.specs.Kept.{IsReady, view_of}
-use Rattle.port_host.proofs.CursorLemmas.{still_within, row_is}
+use Rattle.port_host.proofs.CursorLemmas.{still_within, row_at}
 use Rattle.port_host.proofs.RowLemmas.{row_fits, cycles_over, cycle_runs, cycle_ends, cycle_goes_on, cycle_done, one_more, row_more}
 
 -- ---- the work of the host
@@ -120,7 +120,7 @@ pub next_answers : (a : Inside) (slot : ℕ) (input : InColumn) (v : V4) → IsR
     → v ≡ value_at (values_in (slice_get a.stim.now.rows a.progress.cursor.row)) input.column → v ≡ value_in a.bank slot
 next_answers a slot input v ready can next is =
     is
-    ∙ ap (λ row. value_at row input.column) (sym (row_is a.stim.now a.progress.rows a.progress.cursor ready.on.cursor (runs_here a ready can.begun)))
+    ∙ ap (λ row. value_at row input.column) (sym (row_at a.stim.now a.progress.rows a.progress.cursor ready.on.cursor))
     ∙ ap (λ s. value_at (get_or (cycle_rows s) a.progress.rows []) input.column) (sym ready.stimulus_is)
     ∙ ap (λ n. value_at (get_or (cycle_rows a.bank.stimulus) n []) input.column) cycle
     ∙ ap (value_of_member (column_value a.bank.image a.bank.stimulus a.bank.turn)) (sym next.there)

@@ -35,7 +35,7 @@ task_tabled : (port : PortImage) (tables : ℕ) (task : Task) → IsTask port ta
 task_tabled port tables (Eval slot table a b c d) right = right.0
 task_tabled port tables (Hold slot from) right = tt
 
-task_at_hand : (view : PortView) (slot tables : ℕ) (task : Task) (can : CanExecute view slot) → IsWellFormed view.image → task_slot task ≡ slot → IsTask can.port tables task → IsTaskAtHand view can.port task
+pub task_at_hand : (view : PortView) (slot tables : ℕ) (task : Task) (can : CanExecute view slot) → IsWellFormed view.image → task_slot task ≡ slot → IsTask can.port tables task → IsTaskAtHand view can.port task
 task_at_hand view slot tables (Eval s table a b c d) can fits at right =
     (right_here a right.1, right_here b right.2, right_here c right.3, right_here d right.4)
   where

@@ -54,7 +54,7 @@ module _ (old : PassView) (fit : IsFit old) (state : CoreState) (stands : Stands
 
     -- what the state has in the word that was looked at
     finished_is : (reader : ℕ) → AsksNext seat old.place old.banks reader → new.last.word ≡ progress_word reader → Shows old state new.last → state.finished reader ≡ new.last.number
-    finished_is reader next word shows = shows.progress reader (asked_in old fit seat is old.place old.banks reader next) word
+    finished_is reader next word shows = shows.progress reader (asked_in old.image fit.runs.image_fits old.port seat is old.place old.banks reader next) word
 
     word_is : (slot : ℕ) (place : Place) (looks : Looks seat old new slot place) → Shows old state new.last → state.word looks.next.link.sender looks.i ((state.place old.port).turn % old.banks) ≡ new.last.number
     word_is slot place looks shows =

@@ -1,7 +1,9 @@
 -- Which events a step may have been, and what is short after it.
-use Rattle.std.proofs.Common.{arith, get_or-set_other, get_or-set_same, inl, inr, length, refl, subst, sym, ℕ, ◌%◌, ◌*◌, ◌+◌, ◌<◌, ◌∙◌, ◌≡◌, ◌≤◌}
+use Rattle.std.proofs.Common.{arith, get_or-set_other, get_or-set_same, inl, inr, length, refl, subst, sym, ℕ, ◌%◌, ◌*◌, ◌+◌, ◌<◌, ◌≡◌, ◌≤◌}
 use Rattle.logic_four.specs.Values.{code_of}
 use Rattle.image_defs.specs.Places.{IsPort}
+use Rattle.image_defs.specs.WellFormed.{IsWellFormed}
+use Rattle.image_defs.specs.declared.image.Image.{Image}
 use Rattle.image_defs.specs.declared.image.PortImage.{PortImage}
 use Rattle.event_defs.proofs.NextLemmas.{one_next}
 use Rattle.event_defs.proofs.PaceLemmas.{reader_in, same_port}
@@ -15,20 +17,31 @@ use Rattle.event_defs.specs.declared.place.Action.TheVariants as action
 use Rattle.event_defs.specs.declared.place.Event.{Event}
 use Rattle.event_defs.specs.declared.place.Event.TheVariants.{Ask, Put, Take, Tell}
 use Rattle.event_defs.specs.declared.place.Place.{Place}
-use Rattle.slot_words.specs.Layout.{progress_word}
+use Rattle.slot_words.specs.Layout.{progress_word, send_word}
 use Rattle.slot_words.specs.Passes.{IsFit, PassView, one_step}
 use Rattle.port_run.specs.Steps.{AskWaits, IsEvent, IsShort, IsWait, Makes, TakeWaits, value_there, word_now}
 
 -- the words of sends stand behind those of ports
-past_ports : (pass : PassView) (p i r : ℕ) → r < length pass.image.ports → word_now pass p i ≡ progress_word r → ⊥
-past_ports pass p i r inside same =
-    let n : ℕ = word_place pass.banks (send_number pass.image p i) (pass.place.turn % pass.banks) in
-    let e : length pass.image.ports + n ≡ r = same in
+pub past_ports : (image : Image) (banks p i b r : ℕ) → r < length image.ports → send_word image banks p i b ≡ progress_word r → ⊥
+past_ports image banks p i b r inside same =
+    let n : ℕ = word_place banks (send_number image p i) b in
+    let e : length image.ports + n ≡ r = same in
     absurd (omega arith)
 
 -- whoever a port asks is a port
-pub asked_in : (pass : PassView) → IsFit pass → (seat : PortImage) → IsPort pass.image pass.port seat → (place : Place) (banks reader : ℕ) → AsksNext seat place banks reader → reader < length pass.image.ports
-asked_in pass fit seat is place banks reader asks = reader_in pass.image fit.runs.image_fits pass.port asks.i reader asks.link (record { port = seat; is = is; link_is = asks.sends.is }) asks.reads
+pub asked_in : (image : Image) → IsWellFormed image → (p : ℕ) (seat : PortImage) → IsPort image p seat → (place : Place) (banks reader : ℕ) → AsksNext seat place banks reader → reader < length image.ports
+asked_in image fits p seat is place banks reader asks = reader_in image fits p asks.i reader asks.link (record { port = seat; is = is; link_is = asks.sends.is }) asks.reads
+
+-- a reader that is known to have finished too few turns is asked again
+pub asks_again : (seat : PortImage) (place : Place) (banks reader n : ℕ) → reader < length place.known → AsksNext seat place banks reader → n + banks < place.turn → AsksNext seat (after_ask place reader n) banks reader
+asks_again seat place banks reader n room asks less = record {
+  i = asks.i;
+  link = asks.link;
+  sends = asks.sends;
+  reads = asks.reads;
+  lags = subst (λ k. k + banks < place.turn) (sym (get_or-set_same place.known reader n 0 room)) less;
+  least = λ r reads low. subst (λ k. place.turn ≤ k + banks) (sym (get_or-set_other place.known reader r n 0 (λ e. absurd (omega arith)))) (asks.least r reads low);
+}
 
 -- ---- one next event
 
@@ -75,18 +88,8 @@ module _ (until : ℕ) (old new : PassView) (fit : IsFit old) where
 -- ---- what is short after a look that has to wait
 
 module _ (old : PassView) (fit : IsFit old) (seat : PortImage) (is : IsPort old.image old.port seat) where
-  -- a reader that is known to have finished too few turns is asked again
   pub asked_again : (reader n : ℕ) → AsksNext seat old.place old.banks reader → n + old.banks < old.place.turn → AsksNext seat (after_ask old.place reader n) old.banks reader
-  asked_again reader n asks less = record {
-    i = asks.i;
-    link = asks.link;
-    sends = asks.sends;
-    reads = asks.reads;
-    lags = subst (λ k. k + old.banks < old.place.turn) (sym (get_or-set_same old.place.known reader n 0 room)) less;
-    least = λ r reads low. subst (λ k. old.place.turn ≤ k + old.banks) (sym (get_or-set_other old.place.known reader r n 0 (λ e. absurd (omega arith)))) (asks.least r reads low);
-  } where
-    room : reader < length old.place.known
-    room = let wide = fit.wide in let low = asked_in old fit seat is old.place old.banks reader asks in omega arith
+  asked_again reader n asks = asks_again seat old.place old.banks reader n (omega (arith, fit.wide, asked_in old.image fit.runs.image_fits old.port seat is old.place old.banks reader asks)) asks
 
   ask_short : (until : ℕ) (new : PassView) → old.place.turn ≤ until → AskWaits seat old new → IsShort until new
   ask_short until new early waits = subst (IsShort until) (sym waits.asks.is) (record {
@@ -114,11 +117,9 @@ wait_short until old new fit wait = elim wait.waits [
 
 module _ (until : ℕ) (old : PassView) (fit : IsFit old) where
   -- a step that looked at a word of a send, or wrote one
-  sent_not_short : (place : Place) (p i n : ℕ) → length place.known ≡ length old.place.known → place.turn ≡ old.place.turn → old.place.turn ≤ stamp_of n → IsShort until (one_step old place (word_now old p i) n) → ⊥
-  sent_not_short place p i n wide turn stamp short = elim short.short [
-    | inl ask ↦
-        let fits : IsFit (one_step old place (word_now old p i) n) = record { runs = fit.runs; inside = fit.inside; wide = wide ∙ fit.wide } in
-        past_ports old p i ask.reader (asked_in (one_step old place (word_now old p i) n) fits short.seat short.is place old.banks ask.reader ask.next) ask.word
+  sent_not_short : (place : Place) (p i n : ℕ) → place.turn ≡ old.place.turn → old.place.turn ≤ stamp_of n → IsShort until (one_step old place (word_now old p i) n) → ⊥
+  sent_not_short place p i n turn stamp short = elim short.short [
+    | inl ask ↦ past_ports old.image old.banks p i (old.place.turn % old.banks) ask.reader (asked_in old.image fit.runs.image_fits old.port short.seat short.is place old.banks ask.reader ask.next) ask.word
     | inr take ↦ let less = take.less in absurd (omega arith)
   ]
 
@@ -126,18 +127,18 @@ module _ (until : ℕ) (old : PassView) (fit : IsFit old) where
   told_not_short : (place : Place) (r n : ℕ) → r < length old.image.ports → place.turn ≤ n + old.banks → IsShort until (one_step old place (progress_word r) n) → ⊥
   told_not_short place r n inside enough short = elim short.short [
     | inl ask ↦ let less = ask.less in absurd (omega arith)
-    | inr take ↦ past_ports (one_step old place (progress_word r) n) take.next.link.sender take.i r inside (sym take.word)
+    | inr take ↦ past_ports old.image old.banks take.next.link.sender take.i (place.turn % old.banks) r inside (sym take.word)
   ]
 
   module _ (new : PassView) (seat : PortImage) (is : IsPort old.image old.port seat) where
     makes_not_short : (e : Event) → Makes seat old new e → IsShort until new → ⊥
     makes_not_short (Ask reader) makes short =
-        told_not_short (after_ask old.place reader new.last.number) reader new.last.number (asked_in old fit seat is old.place old.banks reader makes.asks.next) makes.enough (subst (IsShort until) makes.asks.is short)
+        told_not_short (after_ask old.place reader new.last.number) reader new.last.number (asked_in old.image fit.runs.image_fits old.port seat is old.place old.banks reader makes.asks.next) makes.enough (subst (IsShort until) makes.asks.is short)
     makes_not_short (Put slot) makes short =
         let stamp = stamp_in old.place.turn (value_there old slot) in
-        sent_not_short (after_put old.place slot) old.port makes.next.i (4 * old.place.turn + code_of (value_there old slot)) refl refl (subst (λ k. old.place.turn ≤ k) (sym stamp) (omega arith)) (subst (IsShort until) makes.is short)
+        sent_not_short (after_put old.place slot) old.port makes.next.i (4 * old.place.turn + code_of (value_there old slot)) refl (subst (λ k. old.place.turn ≤ k) (sym stamp) (omega arith)) (subst (IsShort until) makes.is short)
     makes_not_short (Take slot) makes short =
-        sent_not_short (after_take old.place slot) makes.looks.next.link.sender makes.looks.i new.last.number refl refl (subst (λ k. old.place.turn ≤ k) (sym makes.now) (omega arith)) (subst (IsShort until) makes.looks.is short)
+        sent_not_short (after_take old.place slot) makes.looks.next.link.sender makes.looks.i new.last.number refl (subst (λ k. old.place.turn ≤ k) (sym makes.now) (omega arith)) (subst (IsShort until) makes.looks.is short)
     makes_not_short Tell makes short =
         let some = fit.runs.some in
         told_not_short (after_tell old.place) old.port old.place.turn fit.inside (omega arith) (subst (IsShort until) makes.is short)

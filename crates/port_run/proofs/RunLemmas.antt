@@ -6,7 +6,6 @@ use Rattle.logic_four.specs.declared.V4.{V4}
 use Rattle.net_defs.specs.Time.{cycle_count}
 use Rattle.image_defs.specs.Places.{host_of}
 use Rattle.image_defs.specs.declared.image.Image.{Image}
-use Rattle.event_defs.proofs.PaceLemmas.{reader_in}
 use Rattle.event_defs.specs.Places.{after_ask, after_put, after_take, start}
 use Rattle.event_defs.specs.declared.place.Action.{Action}
 use Rattle.event_defs.specs.declared.place.Action.TheVariants as action
@@ -26,6 +25,7 @@ use Rattle.slot_words.specs.declared.crossbar.Taken.TheVariants as taken
 use Rattle.port_run.specs.Pairs.{AreBegun, IsHostOf, RunView, first_block, next_block, placed, with_pass}
 use Rattle.port_run.specs.Kept.{IsKept, view_of}
 use Rattle.port_run.specs.declared.running.Running.TheInside.{Inside}
+use Rattle.port_run.proofs.NextLemmas.{asked_in}
 use Rattle.port_run.proofs.StepLemmas.{step_next}
 use Rattle.port_run.specs.Steps.{Asks, IsAnswer, IsEvent, IsStepOf, IsUpcoming, IsWait, Looks, word_now}
 
@@ -90,9 +90,7 @@ upcoming run port known banks next port_is until known_is banks_are fit is =
 
 module _ (until : ℕ) (old : PassView) (reader : ℕ) (next : IsUpcoming until old (action.Ask reader)) where
   pub reader_there : reader < length old.image.ports
-  reader_there =
-      let asks = next.next.1 in
-      reader_in old.image next.fit.runs.image_fits old.port asks.i reader asks.link (record { port = next.seat; is = next.is; link_is = asks.sends.is }) asks.reads
+  reader_there = asked_in old.image next.fit.runs.image_fits old.port next.seat next.is old.place old.banks reader next.next.1
 
   pub asked_step : (new : PassView) (finished turn banks : ℕ) → new ≡ one_step old (after_ask old.place reader finished) (progress_word reader) finished → turn ≡ new.place.turn → banks ≡ new.banks
       → (answer : Step) → IsAnswer finished turn banks answer → IsStepOf until old answer new

@@ -5,6 +5,7 @@ use Rattle.logic_four.specs.Values.{code_of}
 use Rattle.logic_four.specs.declared.V4.{V4}
 use Rattle.image_defs.specs.Frames.{image_value}
 use Rattle.image_defs.specs.Places.{IsPort}
+use Rattle.image_defs.specs.declared.image.Image.{Image}
 use Rattle.image_defs.specs.declared.image.LinkIn.{LinkIn}
 use Rattle.image_defs.specs.declared.image.LinkOut.{LinkOut}
 use Rattle.image_defs.specs.declared.image.PortImage.{PortImage}
@@ -30,10 +31,10 @@ value_there pass slot = image_value pass.image pass.stimulus pass.place.turn pas
 abbrev pub word_now : PassView → ℕ → ℕ → ℕ
 word_now pass p i = send_word pass.image pass.banks p i (pass.place.turn % pass.banks)
 
--- the send that comes by a link to the pass's port
-pub record IsSource (pass : PassView) (link : LinkIn) (i : ℕ) : Type 0 where
+-- the send that comes by a link to a port of the image
+pub record IsSource (image : Image) (link : LinkIn) (i : ℕ) : Type 0 where
   pub sent : LinkOut
-  pub send : IsSend pass.image link.sender i sent
+  pub send : IsSend image link.sender i sent
   pub same_slot : sent.slot ≡ link.slot
 
 -- ---- one event
@@ -53,7 +54,7 @@ module _ (seat : PortImage) (old new : PassView) where
   pub record Looks (slot : ℕ) (place : Place) : Type 0 where
     pub next : TakesNext seat old.place slot
     pub i : ℕ
-    pub source : IsSource old next.link i
+    pub source : IsSource old.image next.link i
     pub is : new ≡ one_step old place (word_now old next.link.sender i) new.last.number
 
   -- it wrote the turn that it has finished, and began the next one
@@ -134,7 +135,7 @@ module _ (seat : PortImage) (pass : PassView) where
     pub slot : ℕ
     pub next : TakesNext seat pass.place slot
     pub i : ℕ
-    pub source : IsSource pass next.link i
+    pub source : IsSource pass.image next.link i
     pub word : pass.last.word ≡ word_now pass next.link.sender i
     pub less : stamp_of pass.last.number < pass.place.turn
 

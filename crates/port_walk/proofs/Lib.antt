@@ -5,3 +5,4 @@ pub mod KindLemmas
 pub mod MoveLemmas
 pub mod RowLemmas
 pub mod StopLemmas
+pub mod WalkLemmas

@@ -1,7 +1,6 @@
 -- A pass with its crossbar.
 use Rattle.std.proofs.Common.{List, Some, ap, ap₂, arith, get_or, inl, inr, length, mod-lt, refl, slice_get, subst, sym, ℕ, ◌%◌, ◌*◌, ◌+◌, ◌/◌, ◌<◌, ◌∙◌, ◌≡◌}
 use Rattle.std.proofs.lemmas.Bool.{cases_eq}
-use Rattle.std.proofs.lemmas.Option.{get_or_from_slice_get, slice_get_within}
 use Rattle.logic_four.specs.Values.{value_of}
 use Rattle.logic_four.specs.declared.V4.{V4}
 use Rattle.image_defs.specs.Frames.{image_value}
@@ -10,18 +9,17 @@ use Rattle.image_defs.specs.declared.image.LinkIn.{LinkIn}
 use Rattle.image_defs.specs.declared.image.LinkOut.{LinkOut}
 use Rattle.image_defs.specs.declared.image.PortImage.{PortImage}
 use Rattle.image_defs.specs.declared.image.Image.{Image}
-use Rattle.event_defs.proofs.PaceLemmas.{same_receipt, same_send}
 use Rattle.event_defs.proofs.WordLemmas.{decoded}
 use Rattle.event_defs.specs.Places.{IsSend, after_take}
-use Rattle.event_defs.specs.Row.{send_count, send_number}
+use Rattle.event_defs.specs.Row.{send_number}
 use Rattle.event_defs.specs.Steps.{stamp_of}
 use Rattle.event_defs.specs.declared.place.Place.{Place}
 use mathlib.Core.Option.{none}
 use Rattle.atomic_table.specs.Table.{step}
 use Rattle.atomic_table.specs.Seated.{TableId}
 use Rattle.atomic_table.specs.declared.shared.Seat.{Seat}
-use Rattle.slot_words.proofs.LinkLemmas.{member_at}
-use Rattle.slot_words.proofs.TimeLemmas.{send_room}
+use Rattle.slot_words.proofs.LinkLemmas.{receipt_found, send_found}
+use Rattle.slot_words.proofs.TimeLemmas.{progress_within, send_room}
 use Rattle.slot_words.specs.declared.crossbar.Crossbar.TheInside as bar
 use Rattle.slot_words.specs.declared.pass.Pass.TheInside.{Inside}
 use Rattle.slot_words.specs.declared.crossbar.Taken.{Taken}
@@ -30,7 +28,7 @@ use Rattle.slot_words.specs.declared.links.Link.{Link}
 use Rattle.slot_words.specs.declared.rule.View.{View}
 use Rattle.slot_words.specs.Held.{HasWords, IsHeld, crossbar_of, pass_of}
 use Rattle.slot_words.specs.Layout.{send_word, word_count}
-use Rattle.slot_words.specs.Links.{AreReceiptLinksOf, AreSendLinksOf, HasSlot, IsSourceWord}
+use Rattle.slot_words.specs.Links.{AreReceiptLinksOf, AreSendLinksOf, HasSlot}
 use Rattle.slot_words.specs.Passes.{CrossbarView, IsFound, IsOf, IsTakenIn, PassView, one_step}
 use Rattle.slot_words.specs.Plays.{FindsIn, Reads, Seated, after_step}
 use Rattle.slot_words.specs.Rule.{IsRunnable}
@@ -45,11 +43,7 @@ module _ (b : bar.Inside) (a : Inside) (has : HasWords b) (own : IsOf (crossbar_
   words_are = subst (λ n. b.table.shared.table_id.words ≡ word_count a.seat.me.0.image n) (sym own.banks) (subst (λ i. b.table.shared.table_id.words ≡ word_count i b.table.shared.key.banks) (sym own.image) has.words)
 
   pub progress_room : (p : ℕ) → p < length a.seat.me.0.image.ports → p < b.table.shared.table_id.words
-  progress_room p inside =
-      let e = words_are in
-      let row : ℕ = send_count a.seat.me.0.image * a.seat.me.0.banks in
-      let e' : b.table.shared.table_id.words ≡ length a.seat.me.0.image.ports + row = e in
-      omega arith
+  progress_room p inside = progress_within a.seat.me.0.image a.seat.me.0.banks b.table.shared.table_id.words p words_are inside
 
 -- a turn's bank stands behind bank 0
 pub bank_word : (image : Image) (banks p i word turn b n : ℕ) → word ≡ send_word image banks p i 0 → n ≡ word + turn % b → (place : Place) → turn ≡ place.turn → b ≡ banks → n ≡ send_word image banks p i (place.turn % banks)
@@ -84,52 +78,12 @@ module _ (a : Inside) (seat : Seat (Unit {0}) View) (stamp : ℕ) (x : Place) (w
     receipts = subst (λ (v : View). AreReceiptLinksOf v.image v.banks a.port a.receipts) (sym view_is) held.receipts;
   }
 
-module _ (a : Inside) (held : IsHeld a) where
-  abbrev image : Image
-  image = a.seat.me.0.image
-
-  abbrev banks : ℕ
-  banks = a.seat.me.0.banks
-
-  same_link : (links : List Link) (k slot : ℕ) (d one : Link) → HasSlot links slot k → slice_get links k ≡ Some one → (get_or links k d ≡ one) × (one.slot ≡ slot)
-  same_link links k slot d one has is =
-      let both : Some has.link ≡ Some one = sym has.is ∙ is in
-      let e : has.link ≡ one = cc in
-      (get_or_from_slice_get links k one d is, ap (λ (l : Link). l.slot) (sym e) ∙ has.slot_is)
-
-  -- the word that is found for what the port sends in a slot
-  pub send_found : (k slot : ℕ) (d : Link) → HasSlot a.sends slot k → (i : ℕ) (link : LinkOut) → IsSend image a.port i link → link.slot ≡ slot → (get_or a.sends k d).word ≡ send_word image banks a.port i 0
-  send_found k slot d has i link send slot_is =
-      let links = held.sends send.port send.is in
-      let low = slice_get_within a.sends k has.link has.is in
-      let long = links.long in
-      let out = member_at send.port.outs k (omega arith) in
-      let same = same_link a.sends k slot d (record { slot = out.0.slot; word = send_word image banks a.port k 0 }) has (links.each k out.0 (omega arith) out.1) in
-      let here : IsSend image a.port k out.0 = record { port = send.port; is = send.is; link_is = out.1 } in
-      let index = (same_send image held.runs.image_fits a.port k i out.0 link here send (same.1 ∙ sym slot_is)).0 in
-      ap (λ (l : Link). l.word) same.0 ∙ ap (λ n. send_word image banks a.port n 0) index
-
-  -- the word that is found for what it receives in a slot
-  pub receipt_found : (k slot : ℕ) (d : Link) → HasSlot a.receipts slot k → (port : PortImage) (j i : ℕ) (link : LinkIn) (sent : LinkOut) → IsPort image a.port port → slice_get port.ins j ≡ Some link → link.slot ≡ slot
-      → IsSend image link.sender i sent → sent.slot ≡ slot → (get_or a.receipts k d).word ≡ send_word image banks link.sender i 0
-  receipt_found k slot d has port j i link sent is at slot_is send sent_slot =
-      let links = held.receipts port is in
-      let low = slice_get_within a.receipts k has.link has.is in
-      let long = links.long in
-      let other = member_at port.ins k (omega arith) in
-      let found = links.each k other.0 (omega arith) other.1 in
-      let same = same_link a.receipts k slot d (record { slot = other.0.slot; word = found.0 }) has found.1 in
-      let link_is : other.0 ≡ link = (same_receipt image held.runs.image_fits a.port port k j other.0 link is other.1 at (same.1 ∙ sym slot_is)).1 in
-      let source : IsSourceWord image banks link found.0 = subst (λ (l : LinkIn). IsSourceWord image banks l found.0) link_is found.2 in
-      let index = (same_send image held.runs.image_fits link.sender source.i i source.sent sent source.send send (source.same_slot ∙ (slot_is ∙ sym sent_slot))).0 in
-      ap (λ (l : Link). l.word) same.0 ∙ (source.is ∙ ap (λ n. send_word image banks link.sender n 0) index)
-
 -- the word that a pass reckons, by the link that it found in one of its lists
 module _ (a : Inside) (held : IsHeld a) (searched read : List Link) (k slot n : ℕ) (has : HasSlot searched slot k) (n_is : n ≡ (get_or read k (record { slot = 0; word = 0 })).word + a.turn % a.banks) where
   pub put_word : searched ≡ a.sends → read ≡ a.sends → (i : ℕ) (link : LinkOut) → IsSend a.seat.me.0.image a.port i link → link.slot ≡ slot
       → n ≡ send_word a.seat.me.0.image a.seat.me.0.banks a.port i (a.seat.me.0.place.turn % a.seat.me.0.banks)
   put_word searched_is read_is i link send slot_is =
-      let first = send_found a held k slot (record { slot = 0; word = 0 }) (subst (λ l. HasSlot l slot k) searched_is has) i link send slot_is in
+      let first = send_found a.seat.me.0.image held.runs.image_fits a.seat.me.0.banks a.port a.sends k slot (record { slot = 0; word = 0 }) (subst (λ l. HasSlot l slot k) searched_is has) held.sends i link send slot_is in
       let word : ℕ = (get_or read k (record { slot = 0; word = 0 })).word in
       let at_first : word ≡ send_word a.seat.me.0.image a.seat.me.0.banks a.port i 0 = ap (λ (l : List Link). (get_or {A = Link} l k (record { slot = 0; word = 0 })).word) read_is ∙ first in
       bank_word a.seat.me.0.image a.seat.me.0.banks a.port i word a.turn a.banks n at_first n_is a.seat.me.0.place held.turn held.banks
@@ -138,7 +92,7 @@ module _ (a : Inside) (held : IsHeld a) (searched read : List Link) (k slot n : 
       → IsSend a.seat.me.0.image link.sender i sent → sent.slot ≡ slot
       → n ≡ send_word a.seat.me.0.image a.seat.me.0.banks link.sender i (a.seat.me.0.place.turn % a.seat.me.0.banks)
   take_word searched_is read_is port j i link sent is at slot_is send sent_slot =
-      let first = receipt_found a held k slot (record { slot = 0; word = 0 }) (subst (λ l. HasSlot l slot k) searched_is has) port j i link sent is at slot_is send sent_slot in
+      let first = receipt_found a.seat.me.0.image held.runs.image_fits a.seat.me.0.banks a.port a.receipts k slot (record { slot = 0; word = 0 }) (subst (λ l. HasSlot l slot k) searched_is has) held.receipts port j i link sent is at slot_is send sent_slot in
       let word : ℕ = (get_or read k (record { slot = 0; word = 0 })).word in
       let at_first : word ≡ send_word a.seat.me.0.image a.seat.me.0.banks link.sender i 0 = ap (λ (l : List Link). (get_or {A = Link} l k (record { slot = 0; word = 0 })).word) read_is ∙ first in
       bank_word a.seat.me.0.image a.seat.me.0.banks link.sender i word a.turn a.banks n at_first n_is a.seat.me.0.place held.turn held.banks

@@ -9,7 +9,7 @@ use Rattle.net_defs.specs.declared.stimulus.Stimulus.{Stimulus}
 use Rattle.image_defs.specs.declared.image.Image.{Image}
 use Rattle.event_defs.specs.Row.{send_number, word_place}
 use Rattle.event_defs.specs.declared.place.Place.{Place}
-use Rattle.slot_words.proofs.OwnLemmas.{within}
+use Rattle.slot_words.proofs.OwnLemmas.{only_one, within}
 use Rattle.slot_words.proofs.SoundLemmas.{told_none}
 use Rattle.slot_words.specs.declared.rule.TheConstants.{UNCLAIMED}
 use Rattle.slot_words.specs.declared.rule.View.{View}
@@ -129,14 +129,11 @@ module _ (image : Image) where
   -- before the first step
   pub looks_first : (stimulus : Stimulus) (banks : ℕ) (words : List ℕ) → AreLooks image words (unseated image stimulus banks ∷ [])
   looks_first stimulus banks words = record {
-    past = λ j u here. subst (λ (u : View). u.at ≤ 0) (only j u here) (omega arith);
-    idle = λ j u here free. subst (λ (u : View). u.steps ≡ 0) (only j u here) refl;
+    past = λ j u here. subst (λ (u : View). u.at ≤ 0) (only_one (unseated image stimulus banks) j u here) (omega arith);
+    idle = λ j u here free. subst (λ (u : View). u.steps ≡ 0) (only_one (unseated image stimulus banks) j u here) refl;
     last = λ some_step. absurd (omega arith);
     seen = λ j u here some_step is_last. absurd (omega arith);
-  } where
-    only : (j : ℕ) (u : View) → get_elem? (unseated image stimulus banks ∷ []) j ≡ some u → unseated image stimulus banks ≡ u
-    only zero u here = some-injective (unseated image stimulus banks) u here
-    only (suc j) u here = absurd (some-ne-none u (sym here))
+  }
 
 -- ---- a step that is counted
 

@@ -17,6 +17,7 @@ use Rattle.event_defs.specs.Sound.{AreCoded, AreStamped}
 use Rattle.send_row.proofs.SourceLemmas.{before_few}
 use Rattle.slot_words.proofs.LookLemmas.{looks_first}
 use Rattle.slot_words.proofs.OwnLemmas.{owned_first}
+use Rattle.slot_words.proofs.TimeLemmas.{progress_within}
 use Rattle.slot_words.specs.declared.crossbar.Crossbar.TheInside as bar
 use Rattle.slot_words.specs.declared.rule.TheConstants.{UNCLAIMED}
 use Rattle.slot_words.specs.declared.rule.View.{View}
@@ -34,74 +35,78 @@ few_words image banks fits few =
     let product : send_count image * banks ≤ 16777216 * 8 = mul-le-mul low few in
     omega arith
 
-module _ (image : Image) (stimulus : Stimulus) (banks : ℕ) (runs : IsRunnable image stimulus banks) where
-  abbrev first_words : List ℕ
+-- ---- the first words
+
+module _ (image : Image) (banks : ℕ) where
+  abbrev pub first_words : List ℕ
   first_words = replicate (length image.ports) UNCLAIMED ++ replicate (send_count image * banks) 0
 
-  long : length first_words ≡ word_count image banks
-  long = length-append (replicate (length image.ports) UNCLAIMED) (replicate (send_count image * banks) 0) ∙ ap₂ (λ x y. x + y) (length-replicate (length image.ports) UNCLAIMED) (length-replicate (send_count image * banks) 0)
+  pub first_long : length first_words ≡ word_count image banks
+  first_long = length-append (replicate (length image.ports) UNCLAIMED) (replicate (send_count image * banks) 0) ∙ ap₂ (λ x y. x + y) (length-replicate (length image.ports) UNCLAIMED) (length-replicate (send_count image * banks) 0)
 
-  free : (p : ℕ) → p < length image.ports → progress_in first_words p ≡ UNCLAIMED
-  free p inside =
+  pub first_free : (p : ℕ) → p < length image.ports → progress_in first_words p ≡ UNCLAIMED
+  first_free p inside =
       get_or_append_left (replicate (length image.ports) UNCLAIMED) (replicate (send_count image * banks) 0) 0 p (let e = length-replicate (length image.ports) UNCLAIMED in omega arith)
       ∙ get_or-replicate (length image.ports) p UNCLAIMED 0 inside
 
-  none_sent : sent_in image banks first_words ≡ (λ p i b. 0)
+  pub none_sent : sent_in image banks first_words ≡ (λ p i b. 0)
   none_sent =
       let ports = replicate (length image.ports) UNCLAIMED in
       let row = replicate (send_count image * banks) 0 in
       let seam : drop (length image.ports) (ports ++ row) ≡ row = ap (λ n. drop n (ports ++ row)) (sym (length-replicate (length image.ports) UNCLAIMED)) ∙ drop-append_seam ports row in
       ap (word_in image banks) seam ∙ words_zero image banks (send_count image * banks)
 
-  first_kept : IsKept image stimulus banks first_words (unseated image stimulus banks ∷ [])
+  pub first_made : (ports sent : ℕ) (words : List ℕ) → ports ≡ length image.ports → sent ≡ send_count image * banks → words ≡ replicate ports UNCLAIMED ++ replicate sent 0 → words ≡ first_words
+  first_made ports sent words ports_are sent_is words_are = words_are ∙ ap₂ (λ n m. replicate n UNCLAIMED ++ replicate {A = ℕ} m 0) ports_are sent_is
+
+module _ (image : Image) (stimulus : Stimulus) (banks : ℕ) (runs : IsRunnable image stimulus banks) where
+  first_kept : IsKept image stimulus banks (first_words image banks) (unseated image stimulus banks ∷ [])
   first_kept = record {
     place = λ p. start (length image.ports);
     owner = λ p. 0;
     runs = runs;
-    long = long;
-    owned = owned_first image stimulus banks first_words free;
+    long = first_long image banks;
+    owned = owned_first image stimulus banks (first_words image banks) (first_free image banks);
     timed = record {
-      progress = λ p inside claimed. absurd (claimed (free p inside));
+      progress = λ p inside claimed. absurd (claimed (first_free image banks p inside));
       paced = starts image runs.image_fits banks (turns_of image stimulus) runs.some;
-      stamps = subst (AreStamped image banks (λ p. start (length image.ports))) (sym none_sent) (starts_stamped image runs.image_fits banks);
+      stamps = subst (AreStamped image banks (λ p. start (length image.ports))) (sym (none_sent image banks)) (starts_stamped image runs.image_fits banks);
     };
-    coded = subst (AreCoded image stimulus banks) (sym none_sent) (starts_coded image runs.image_fits banks stimulus);
-    looks = looks_first image stimulus banks first_words;
+    coded = subst (AreCoded image stimulus banks) (sym (none_sent image banks)) (starts_coded image runs.image_fits banks stimulus);
+    looks = looks_first image stimulus banks (first_words image banks);
   }
 
   pub opened_kept : (ports sent : ℕ) (words : List ℕ) → ports ≡ length image.ports → sent ≡ send_count image * banks → words ≡ replicate ports UNCLAIMED ++ replicate sent 0
       → IsKept image stimulus banks words (unseated image stimulus banks ∷ [])
   opened_kept ports sent words ports_are sent_is words_are =
-      subst (λ ws. IsKept image stimulus banks ws (unseated image stimulus banks ∷ []))
-      (sym (words_are ∙ ap₂ (λ n m. replicate n UNCLAIMED ++ replicate {A = ℕ} m 0) ports_are sent_is)) first_kept
+      subst (λ ws. IsKept image stimulus banks ws (unseated image stimulus banks ∷ [])) (sym (first_made image banks ports sent words ports_are sent_is words_are)) first_kept
 
 -- the progress words are some of the crossbar's
 pub claim_room : (b : bar.Inside) → HasWords b → (p : ℕ) → p < length (crossbar_of b).image.ports → p < b.table.shared.table_id.words
-claim_room b has p inside =
-    let e = has.words in
-    let row : ℕ = send_count b.table.shared.key.image.value * b.table.shared.key.banks in
-    let e' : b.table.shared.table_id.words ≡ length b.table.shared.key.image.value.ports + row = e in
-    omega arith
+claim_room b has p inside = progress_within b.table.shared.key.image.value b.table.shared.key.banks b.table.shared.table_id.words p has.words inside
 
 pub no_port : (v : View) (image : Image) (stimulus : Stimulus) (banks : ℕ) → v ≡ unseated image stimulus banks → v.port ≡ None
 no_port v image stimulus banks e = ap (λ (u : View). u.port) e
 
+-- a list with one more
+pub each_more : {X : Type 0} (Holds : ℕ → X → Type 0) (n : ℕ) (xs next : List X) (one : X) → length xs ≡ n → ((p : ℕ) (x : X) → slice_get xs p ≡ Some x → Holds p x) → Holds n one → next ≡ xs ++ one ∷ []
+    → (length next ≡ n + 1) × ((p : ℕ) (x : X) → slice_get next p ≡ Some x → Holds p x)
+each_more Holds n xs next one long each is pushed = (
+  grown,
+  λ p x at. elim (cases_lt p n) [
+    | inl before ↦ each p x (sym (at_front xs (one ∷ []) p (omega (arith, long))) ∙ (sym (ap (λ ys. slice_get ys p) pushed) ∙ at))
+    | inr last ↦
+        let low = slice_get_within next p x at in
+        let here : p ≡ n = omega (arith, grown) in
+        let seam : p ≡ length xs = omega (arith, long) in
+        let twice : Some one ≡ Some x = sym (seam_at xs one []) ∙ (ap (λ k. slice_get (xs ++ one ∷ []) k) (sym seam) ∙ (sym (ap (λ ys. slice_get ys p) pushed) ∙ at)) in
+        let x_is : one ≡ x = cc in
+        subst (λ k. Holds k x) (sym here) (subst (Holds n) x_is is)
+  ],
+) where
+  grown : length next ≡ n + 1
+  grown = ap length pushed ∙ (length_push xs one ∙ omega (arith, long))
+
 -- one more pass
 pub passes_more : (made : CrossbarView) (n : ℕ) (passes next : List PassView) (one : PassView) → AreFirstPasses made n passes → IsFirstPass made n one → next ≡ passes ++ one ∷ [] → AreFirstPasses made (n + 1) next
-passes_more made n passes next one are is pushed = record {
-  long = grown;
-  each = λ p pass at. elim (cases_lt p n) [
-    | inl before ↦ are.each p pass (sym (at_front passes (one ∷ []) p (let e = are.long in omega arith)) ∙ (sym (ap (λ xs. slice_get xs p) pushed) ∙ at))
-    | inr last ↦
-        let low = slice_get_within next p pass at in
-        let e = are.long in
-        let long = grown in
-        let here : p ≡ n = omega arith in
-        let seam : p ≡ length passes = omega arith in
-        let twice : Some one ≡ Some pass = sym (seam_at passes one []) ∙ (ap (λ k. slice_get (passes ++ one ∷ []) k) (sym seam) ∙ (sym (ap (λ xs. slice_get xs p) pushed) ∙ at)) in
-        let pass_is : one ≡ pass = cc in
-        subst (λ k. IsFirstPass made k pass) (sym here) (subst (IsFirstPass made n) pass_is is)
-  ];
-} where
-  grown : length next ≡ n + 1
-  grown = ap length pushed ∙ (length_push passes one ∙ (let e = are.long in omega arith))
+passes_more made n passes next one are is pushed = let more = each_more (IsFirstPass made) n passes next one are.long are.each is pushed in record { long = more.0; each = more.1 }

@@ -21,6 +21,11 @@ within [] i a at = absurd (some-ne-none a (sym at))
 within (x ∷ xs) zero a at = omega arith
 within (x ∷ xs) (suc i) a at = let rest = within xs i a at in omega arith
 
+-- one seat alone
+pub only_one : {A : Type 0} (a : A) (i : ℕ) (b : A) → get_elem? (a ∷ []) i ≡ some b → a ≡ b
+only_one a zero b here = some-injective a b here
+only_one a (suc i) b here = absurd (some-ne-none b (sym here))
+
 pub same_some : {A : Type 0} (a b : A) (o : Option A) → o ≡ Some a → o ≡ Some b → a ≡ b
 same_some a b o one other = let e : Some a ≡ Some b = sym one ∙ other in cc
 
@@ -166,11 +171,8 @@ module _ (image : Image) (stimulus : Stimulus) (banks : ℕ) where
   pub owned_first : (words : List ℕ) → ((p : ℕ) → p < length image.ports → progress_in words p ≡ UNCLAIMED)
       → AreOwned image stimulus banks words (unseated image stimulus banks ∷ []) (λ p. start (length image.ports)) (λ p. 0)
   owned_first words free = record {
-    same = λ j u here. subst (λ (u : View). (u.image ≡ image) × (u.stimulus ≡ stimulus) × (u.banks ≡ banks)) (only j u here) (refl, refl, refl);
-    mine = λ j q u here port_u. absurd (not_both q None refl (ap (λ (u : View). u.port) (only j u here) ∙ port_u));
+    same = λ j u here. subst (λ (u : View). (u.image ≡ image) × (u.stimulus ≡ stimulus) × (u.banks ≡ banks)) (only_one (unseated image stimulus banks) j u here) (refl, refl, refl);
+    mine = λ j q u here port_u. absurd (not_both q None refl (ap (λ (u : View). u.port) (only_one (unseated image stimulus banks) j u here) ∙ port_u));
     seen = λ q inside claimed. absurd (claimed (free q inside));
     fresh = λ q inside free_now. refl;
-  } where
-    only : (j : ℕ) (u : View) → get_elem? (unseated image stimulus banks ∷ []) j ≡ some u → unseated image stimulus banks ≡ u
-    only zero u here = some-injective (unseated image stimulus banks) u here
-    only (suc j) u here = absurd (some-ne-none u (sym here))
+  }

@@ -9,7 +9,7 @@ use Rattle.slot_words.specs.declared.rule.Key.{Key}
 use Rattle.slot_words.specs.declared.rule.TheConstants.{UNCLAIMED}
 use Rattle.slot_words.specs.declared.rule.View.{View}
 use Rattle.slot_words.specs.Layout.{progress_in, turns_told}
-use Rattle.slot_words.specs.Rule.{AreDistinct, AreOwned, ArePassesSound, AreTimed, Kept}
+use Rattle.slot_words.specs.Rule.{AreDistinct, AreInTurn, AreOwned, ArePassesSound, Kept}
 
 pub told_none : (n : ℕ) → n ≡ UNCLAIMED → turns_told n ≡ 0
 told_none n e = ap (λ b. if b then 0 else n) (eq-eqb n UNCLAIMED e)
@@ -19,10 +19,10 @@ told_some n other = ap (λ b. if b then 0 else n) (ne_eqb n UNCLAIMED other)
 
 -- a progress word tells the turns before its port's, also where no seat has the port
 pub counts : (image : Image) (stimulus : Stimulus) (banks until : ℕ) (words : List ℕ) (views : List View) (place : ℕ → Place) (owner : ℕ → ℕ)
-    → AreOwned image stimulus banks words views place owner → AreTimed image banks until words place → (r : ℕ) → r < length image.ports → turns_told (progress_in words r) + 1 ≡ (place r).turn
-counts image stimulus banks until words views place owner owned timed r inside = elim (cases_eq (progress_in words r) UNCLAIMED) [
+    → AreOwned image stimulus banks words views place owner → AreInTurn image banks until words place → (r : ℕ) → r < length image.ports → turns_told (progress_in words r) + 1 ≡ (place r).turn
+counts image stimulus banks until words views place owner owned turns r inside = elim (cases_eq (progress_in words r) UNCLAIMED) [
   | inl free ↦ ap (λ n. n + 1) (told_none (progress_in words r) free) ∙ sym (ap (λ (a : Place). a.turn) (owned.fresh r inside free))
-  | inr claimed ↦ ap (λ n. n + 1) (told_some (progress_in words r) claimed) ∙ timed.progress r inside claimed
+  | inr claimed ↦ ap (λ n. n + 1) (told_some (progress_in words r) claimed) ∙ turns.progress r inside claimed
 ]
 
 pub rule_sound : (key : Key) (s : State (Unit {0}) View) → Kept key s → ArePassesSound key s
@@ -39,7 +39,7 @@ rule_sound key s kept = record {
   );
   fresh = kept.owned.fresh;
   sound = record {
-    finished = λ p inside. counts _ _ _ _ s.words s.views kept.place kept.owner kept.owned kept.timed p inside;
+    finished = λ p inside. counts _ _ _ _ s.words s.views kept.place kept.owner kept.owned (record { progress = kept.timed.progress; paced = kept.timed.paced }) p inside;
     paced = kept.timed.paced;
     stamps = kept.timed.stamps;
     codes = kept.coded;

@@ -1,6 +1,5 @@
 -- Each of the six kinds of step keeps the rule.
 use Rattle.std.proofs.Common.{List, None, Some, [], ap, arith, drop, eq-eqb, eqb, false, get_or, get_or-set_other, get_or-set_same, inl, inr, length, length-set, mod-lt, mul-le-mul, ne_eqb, refl, set, slice_get, subst, sym, ℕ, ◌%◌, ◌*◌, ◌++◌, ◌+◌, ◌<◌, ◌^◌, ◌⊎◌, ◌∙◌, ◌∷◌, ◌≡◌, ◌≢◌, ◌≤◌}
-use Rattle.std.proofs.Math.Path.{fun_ext}
 use Rattle.std.proofs.lemmas.Bool.{cases_eq}
 use Rattle.std.proofs.lemmas.List.{get_or-drop, set-get_or}
 use mathlib.Core.Option.{none, some}
@@ -19,35 +18,28 @@ use Rattle.image_defs.specs.declared.image.Image.{Image}
 use Rattle.image_defs.specs.declared.image.LinkIn.{LinkIn}
 use Rattle.image_defs.specs.declared.image.LinkOut.{LinkOut}
 use Rattle.image_defs.specs.declared.image.PortImage.{PortImage}
-use Rattle.event_defs.proofs.PaceLemmas.{reader_in, same_port, same_send, source}
+use Rattle.event_defs.proofs.PaceLemmas.{one_send, reader_in, same_send, send_at, source}
 use Rattle.event_defs.proofs.RowLemmas.{same_number, same_place, send_within, word_at}
-use Rattle.event_defs.proofs.SlotLemmas.{updated_here, updated_there}
+use Rattle.event_defs.proofs.SlotLemmas.{updated_same}
 use Rattle.event_defs.proofs.StampLemmas.{coded_put}
 use Rattle.event_defs.proofs.WordLemmas.{coded_is, found_stamp, stamp_in}
 use Rattle.event_defs.specs.Next.{EndsNext}
 use Rattle.event_defs.specs.Places.{IsSend, after_ask, after_put, after_take, after_tell, is_in, known_of, latest}
 use Rattle.event_defs.specs.Row.{send_number, word_place}
-use Rattle.event_defs.specs.Sound.{AreCoded, IsCoded}
+use Rattle.event_defs.specs.Sound.{AreCoded, ArePaced, IsCoded}
 use Rattle.event_defs.specs.Steps.{stamp_of, updated, written}
 use Rattle.event_defs.specs.declared.place.Place.{Place}
 use Rattle.slot_words.proofs.LinkLemmas.{member_at}
 use Rattle.slot_words.proofs.LookLemmas.{looks_claimed, looks_split, looks_stepped, told_progress, told_sent}
-use Rattle.slot_words.proofs.OwnLemmas.{owned_claimed, owned_split, owned_stepped}
+use Rattle.slot_words.proofs.OwnLemmas.{SameClaims, owned_claimed, owned_split, owned_stepped}
 use Rattle.slot_words.proofs.SoundLemmas.{counts, told_some}
-use Rattle.slot_words.proofs.TimeLemmas.{progress_kept, progress_set, send_room, sent_set, timed_ask, timed_claim, timed_put, timed_take, timed_tell}
+use Rattle.slot_words.proofs.TimeLemmas.{progress_kept, progress_set, send_room, sent_set, timed_ask, timed_claim, timed_put, timed_take, timed_tell, turns_in}
 use Rattle.slot_words.specs.declared.rule.Key.{Key}
 use Rattle.slot_words.specs.declared.rule.TheConstants.{UNCLAIMED}
 use Rattle.slot_words.specs.declared.rule.View.{View}
 use Rattle.slot_words.specs.Layout.{progress_in, send_word, sent_in, told_in, turns_told}
 use Rattle.slot_words.specs.Plays.{Claims, Ends, FindsIn, Learns, Reads, Seated, Writes, after_step, claimed_by}
-use Rattle.slot_words.specs.Rule.{AreTimed, IsKept, IsPassOf, Kept, steps_in, turns_of}
-
--- a changed function is the same where the new value is the old one
-updated_same : {X : Type 0} (f : ℕ → X) (p : ℕ) → updated f p (f p) ≡ f
-updated_same f p = fun_ext (λ q. elim (cases_eq q p) [
-  | inl same ↦ subst (λ q. updated f p (f p) q ≡ f q) (sym same) (updated_here f p (f p))
-  | inr other ↦ updated_there f p q (f p) other
-])
+use Rattle.slot_words.specs.Rule.{AreInTurn, AreOwned, AreTimed, IsKept, IsPassOf, Kept, steps_in, turns_of}
 
 -- turns are few
 pub turns_few : (image : Image) (stimulus : Stimulus) → IsWellFormed image → IsValidStimulus stimulus → turns_of image stimulus < 2 ^ 59
@@ -67,13 +59,42 @@ module _ (image : Image) (banks : ℕ) where
       let pair = same_number image p i q k (send_within image p i link one) (send_within image q k other two) numbers.0 in
       (pair.0, pair.1, numbers.1)
 
-  same_word : (p i q k b c : ℕ) (link other : LinkOut) → IsSend image p i link → IsSend image q k other → b < banks → c < banks → send_word image banks p i b ≡ send_word image banks q k c → (p ≡ q) × (link ≡ other)
+  pub same_word : (p i q k b c : ℕ) (link other : LinkOut) → IsSend image p i link → IsSend image q k other → b < banks → c < banks → send_word image banks p i b ≡ send_word image banks q k c → (p ≡ q) × (link ≡ other)
   same_word p i q k b c link other one two b_in c_in same =
       let pair = same_places p i q k b c link other one two b_in c_in same in
-      let at_q : IsPort image p two.port = subst (λ x. IsPort image x two.port) (sym pair.0) two.is in
-      let at_k : slice_get one.port.outs i ≡ Some other = subst (λ x. slice_get one.port.outs x ≡ Some other) (sym pair.1) (subst (λ (o : PortImage). slice_get o.outs k ≡ Some other) (sym (same_port image p one.port two.port one.is at_q)) two.link_is) in
-      let both : Some link ≡ Some other = sym one.link_is ∙ at_k in
-      (pair.0, cc)
+      (pair.0, one_send image p i k link other one (subst (λ x. IsSend image x k other) (sym pair.0) two) pair.1)
+
+-- ---- what a pass knows and reads
+
+-- what a pass knows of a reader is no more than the reader told
+pub knows_told : (image : Image) (stimulus : Stimulus) (banks until : ℕ) (words : List ℕ) (views : List View) (place : ℕ → Place) (owner : ℕ → ℕ) → AreOwned image stimulus banks words views place owner → AreInTurn image banks until words place
+    → (id p : ℕ) (v : View) → get_elem? views id ≡ some v → v.port ≡ Some p → (r : ℕ) → r < length image.ports → known_of v.place r ≤ turns_told (progress_in words r)
+knows_told image stimulus banks until words views place owner owned turns id p v at port_is r r_in =
+    let mine = owned.mine id p v at port_is in
+    let sees = counts image stimulus banks until words views place owner owned turns r r_in in
+    let knows : known_of v.place r + 1 ≤ (place r).turn = subst (λ (a : Place). known_of a r + 1 ≤ (place r).turn) (sym mine.place_is) (turns.paced.known p r mine.inside r_in) in
+    omega arith
+
+-- a port and the sender of what it receives are in pace
+pub near_sender : (image : Image) → IsWellFormed image → (banks until : ℕ) (place : ℕ → Place) → ArePaced image banks until place → (p : ℕ) (port : PortImage) → IsPort image p port
+    → (j : ℕ) (link : LinkIn) (i : ℕ) (sent : LinkOut) → slice_get port.ins j ≡ Some link → IsSend image link.sender i sent → sent.slot ≡ link.slot
+    → ((place p).turn ≤ latest (place link.sender) sent.slot + 1) × (latest (place link.sender) sent.slot + 1 ≤ (place p).turn + banks)
+near_sender image fits banks until place paced p port is j link i sent at_link send same_slot =
+    let from = source image fits p port j link is at_link in
+    let twin = same_send image fits link.sender i from.0 sent from.1 send from.2 (same_slot ∙ sym from.3) in
+    let reads : Stands sent.readers p = subst (λ (l : LinkOut). Stands l.readers p) (sym twin.1) from.4 in
+    let k = paced.pace link.sender i p sent send reads in
+    (k.behind, k.ahead)
+
+-- a progress word that gets the turn of its port is claimed as before
+pub told_claims : (image : Image) (stimulus : Stimulus) (banks : ℕ) (words : List ℕ) (p turn : ℕ) → p < length words → turn ≢ UNCLAIMED → progress_in words p ≢ UNCLAIMED → SameClaims image stimulus banks words (set words p turn)
+told_claims image stimulus banks words p turn room few claimed q q_in = elim (cases_eq q p) [
+  | inl same ↦ (
+    (λ e. absurd (few (sym (get_or-set_same words p turn 0 room) ∙ subst (λ q. progress_in (set words p turn) q ≡ UNCLAIMED) same e))),
+    (λ e. absurd (claimed (subst (λ q. progress_in words q ≡ UNCLAIMED) same e))),
+  )
+  | inr other ↦ let e = get_or-set_other words p q turn 0 other in ((λ free. sym e ∙ free), (λ free. e ∙ free))
+]
 
 -- ---- the rule by the image, stimulus and banks of a view
 
@@ -123,16 +144,13 @@ module _ (words : List ℕ) (views : List View) (id p : ℕ) (v : View) (kept : 
 
   -- Ask
   pub told_more : (r : ℕ) → r < length image.ports → known_of v.place r ≤ turns_told (progress_in words r)
-  told_more r r_in =
-      let sees = counts image v.stimulus v.banks until words views kept.place kept.owner kept.owned kept.timed r r_in in
-      let knows : known_of v.place r + 1 ≤ (kept.place r).turn = subst (λ (a : Place). known_of a r + 1 ≤ (kept.place r).turn) (sym mine.place_is) (kept.timed.paced.known p r mine.inside r_in) in
-      omega arith
+  told_more = knows_told image v.stimulus v.banks until words views kept.place kept.owner kept.owned (turns_in image v.banks until words kept.place kept.timed) id p v at port_is
 
   pub ask_kept : (r : ℕ) → r < length image.ports
       → IsKept image v.stimulus v.banks words (set views id (after_step v (steps_in views + 1) (after_ask v.place r (turns_told (progress_in words r))) r (turns_told (progress_in words r))))
   ask_kept r r_in =
       let x : ℕ = turns_told (progress_in words r) in
-      let sees = counts image v.stimulus v.banks until words views kept.place kept.owner kept.owned kept.timed r r_in in
+      let sees = counts image v.stimulus v.banks until words views kept.place kept.owner kept.owned (turns_in image v.banks until words kept.place kept.timed) r r_in in
       same_words (after_ask v.place r x) r x (told_progress image words r r_in)
       (subst (λ (a : Place). AreTimed image v.banks until words (updated kept.place p (after_ask a r x))) (sym mine.place_is)
       (timed_ask image kept.runs.image_fits v.banks until words kept.place kept.timed p port_there.0 port_there.1 r x r_in (omega arith)))
@@ -163,7 +181,7 @@ module _ (words : List ℕ) (views : List View) (id p : ℕ) (v : View) (kept : 
     stamp = ap stamp_of x_is ∙ stamp_in turn (image_value image v.stimulus turn p link.slot)
 
     at_link : slice_get port_there.0.outs i ≡ Some link
-    at_link = subst (λ (q : PortImage). slice_get q.outs i ≡ Some link) (same_port image p send.port port_there.0 send.is port_there.1) send.link_is
+    at_link = send_at image p i link port_there.0 send port_there.1
 
     Stays : Place → Type 0
     Stays a = is_in link.slot a.puts ≡ false → a.turn ≤ until → ((r : ℕ) → Stands link.readers r → a.turn ≤ known_of a r + v.banks) → stamp_of x ≡ a.turn
@@ -185,20 +203,14 @@ module _ (words : List ℕ) (views : List View) (id p : ℕ) (v : View) (kept : 
     found_is : found ≡ sent_in image v.banks words link.sender i (turn % v.banks)
     found_is = sent_read image v.banks words link.sender i (turn % v.banks) sent send (mod-lt turn kept.runs.some)
 
-    reads : Stands sent.readers p
-    reads =
-        let from = source image kept.runs.image_fits p port j link is at_link in
-        let twin = same_send image kept.runs.image_fits link.sender i from.0 sent from.1 send from.2 (same_slot ∙ sym from.3) in
-        subst (λ (l : LinkOut). Stands l.readers p) (sym twin.1) from.4
-
     -- the word is of this turn, which the sender has put, or of one before
     stamp_found : ((turn ≤ latest (kept.place link.sender) link.slot) × (stamp_of found ≡ turn)) ⊎ ((latest (kept.place link.sender) link.slot < turn) × (stamp_of found < turn))
     stamp_found =
-        let k = kept.timed.paced.pace link.sender i p sent send reads in
         let stamps = kept.timed.stamps.each link.sender i sent send in
-        let behind : turn ≤ latest (kept.place link.sender) sent.slot + 1 = subst (λ (a : Place). a.turn ≤ latest (kept.place link.sender) sent.slot + 1) (sym mine.place_is) k.behind in
-        let ahead : latest (kept.place link.sender) sent.slot + 1 ≤ turn + v.banks = subst (λ (a : Place). latest (kept.place link.sender) sent.slot + 1 ≤ a.turn + v.banks) (sym mine.place_is) k.ahead in
-        let of_sent = found_stamp v.banks (latest (kept.place link.sender) sent.slot) turn (sent_in image v.banks words link.sender i) kept.runs.some begun behind ahead stamps in
+        let near : (turn ≤ latest (kept.place link.sender) sent.slot + 1) × (latest (kept.place link.sender) sent.slot + 1 ≤ turn + v.banks) =
+        subst (λ (a : Place). (a.turn ≤ latest (kept.place link.sender) sent.slot + 1) × (latest (kept.place link.sender) sent.slot + 1 ≤ a.turn + v.banks)) (sym mine.place_is)
+        (near_sender image kept.runs.image_fits v.banks until kept.place kept.timed.paced p port is j link i sent at_link send same_slot) in
+        let of_sent = found_stamp v.banks (latest (kept.place link.sender) sent.slot) turn (sent_in image v.banks words link.sender i) kept.runs.some begun near.0 near.1 stamps in
         subst (λ s. ((turn ≤ latest (kept.place link.sender) s) × (stamp_of found ≡ turn)) ⊎ ((latest (kept.place link.sender) s < turn) × (stamp_of found < turn))) same_slot
         (subst (λ x. ((turn ≤ latest (kept.place link.sender) sent.slot) × (stamp_of x ≡ turn)) ⊎ ((latest (kept.place link.sender) sent.slot < turn) × (stamp_of x < turn))) (sym found_is) of_sent)
 
@@ -240,8 +252,8 @@ module _ (words : List ℕ) (views : List View) (id p : ℕ) (v : View) (kept : 
     owner = kept.owner;
     runs = kept.runs;
     long = length-set words p turn ∙ kept.long;
-    owned = owned_stepped image v.stimulus v.banks words views kept.place kept.owner kept.owned (set words p turn) id p v (steps_in views + 1) (after_tell v.place) p turn at port_is claims;
-    timed = subst Stays (sym mine.place_is) (timed_tell image kept.runs.image_fits v.banks until words kept.place kept.timed p port_there.0 port_there.1 room mine.claimed) (next port_there.0 port_there.1) early;
+    owned = owned_stepped image v.stimulus v.banks words views kept.place kept.owner kept.owned (set words p turn) id p v (steps_in views + 1) (after_tell v.place) p turn at port_is (told_claims image v.stimulus v.banks words p turn room few mine.claimed);
+    timed = subst Stays (sym mine.place_is) (timed_tell image kept.runs.image_fits v.banks until words kept.place kept.timed p port_there.0 port_there.1 room) (next port_there.0 port_there.1) early;
     coded = subst (AreCoded image v.stimulus v.banks) (sym (progress_set image v.banks words p turn mine.inside)) kept.coded;
     looks = looks_stepped image words (set words p turn) views id v (after_tell v.place) p turn kept.looks at p port_is
         (told_progress image (set words p turn) p mine.inside ∙ (ap turns_told (get_or-set_same words p turn 0 room) ∙ told_some turn few));
@@ -254,15 +266,6 @@ module _ (words : List ℕ) (views : List View) (id p : ℕ) (v : View) (kept : 
 
     few : turn ≢ UNCLAIMED
     few e = let small = turns_few image v.stimulus kept.runs.image_fits kept.runs.stimulus_fits in absurd (omega arith)
-
-    claims : (q : ℕ) → q < length image.ports → (progress_in (set words p turn) q ≡ UNCLAIMED → progress_in words q ≡ UNCLAIMED) × (progress_in words q ≡ UNCLAIMED → progress_in (set words p turn) q ≡ UNCLAIMED)
-    claims q q_in = elim (cases_eq q p) [
-      | inl same ↦ (
-        (λ e. absurd (few (sym (get_or-set_same words p turn 0 room) ∙ subst (λ q. progress_in (set words p turn) q ≡ UNCLAIMED) same e))),
-        (λ e. absurd (mine.claimed (subst (λ q. progress_in words q ≡ UNCLAIMED) same e))),
-      )
-      | inr other ↦ let e = get_or-set_other words p q turn 0 other in ((λ free. sym e ∙ free), (λ free. e ∙ free))
-    ]
 
 module _ (words : List ℕ) (views : List View) (id : ℕ) (v : View) (kept : IsKept v.image v.stimulus v.banks words views) (at : get_elem? views id ≡ some v) (port_is : v.port ≡ None) where
   -- Name

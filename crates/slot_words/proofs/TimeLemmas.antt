@@ -1,5 +1,5 @@
 -- The turns of places and words: each kind of step keeps them in pace. No value stands here.
-use Rattle.std.proofs.Common.{List, Some, ap, arith, false, get_or-set_other, get_or-set_same, inl, inr, length, mod-lt, refl, set, slice_get, subst, sym, true, ℕ, ◌%◌, ◌*◌, ◌+◌, ◌-◌, ◌<◌, ◌∙◌, ◌≡◌, ◌≢◌, ◌≤◌}
+use Rattle.std.proofs.Common.{List, Some, ap, arith, false, get_or-set_other, get_or-set_same, inl, inr, length, mod-lt, refl, set, slice_get, subst, sym, ℕ, ◌%◌, ◌*◌, ◌+◌, ◌-◌, ◌<◌, ◌∙◌, ◌≡◌, ◌≢◌, ◌≤◌}
 use Rattle.std.proofs.lemmas.Bool.{cases_eq}
 use Rattle.std.proofs.lemmas.List.{drop-set-add, drop-set-lt, length-drop}
 use Rattle.std.proofs.lemmas.Option.{slice_get_within}
@@ -9,7 +9,7 @@ use Rattle.image_defs.specs.declared.image.Image.{Image}
 use Rattle.image_defs.specs.declared.image.LinkIn.{LinkIn}
 use Rattle.image_defs.specs.declared.image.LinkOut.{LinkOut}
 use Rattle.image_defs.specs.declared.image.PortImage.{PortImage}
-use Rattle.event_defs.proofs.PaceLemmas.{CanStand, asks, latest_put, puts, same_port, stands, takes, tells}
+use Rattle.event_defs.proofs.PaceLemmas.{CanStand, asks, latest_put, puts, send_at, stands, takes, tells}
 use Rattle.event_defs.proofs.RowLemmas.{number_within, place_within, send_within, word_set}
 use Rattle.event_defs.proofs.SlotLemmas.{each_updated, updated_here, updated_there}
 use Rattle.event_defs.proofs.StampLemmas.{stamped_put, stamped_still}
@@ -21,7 +21,7 @@ use Rattle.event_defs.specs.Steps.{stamp_of, updated, written}
 use Rattle.event_defs.specs.declared.place.Place.{Place}
 use Rattle.slot_words.specs.declared.rule.TheConstants.{UNCLAIMED}
 use Rattle.slot_words.specs.Layout.{progress_in, send_word, sent_in, word_count}
-use Rattle.slot_words.specs.Rule.{AreTimed}
+use Rattle.slot_words.specs.Rule.{AreInTurn, AreTimed}
 
 module _ (image : Image) (banks : ℕ) (words : List ℕ) where
   -- a progress word written leaves the words of sends, and a word of a send the progress words
@@ -50,78 +50,119 @@ module _ (image : Image) (banks : ℕ) where
       let e' : at < row = e in
       omega arith
 
-module _ (image : Image) (fits : IsWellFormed image) (banks until : ℕ) (words : List ℕ) (place : ℕ → Place) (timed : AreTimed image banks until words place) where
-  module _ (p : ℕ) (port : PortImage) (is : IsPort image p port) where
-    inside : p < length image.ports
-    inside = slice_get_within image.ports p port is
+-- the progress words are some of the words
+pub progress_within : (image : Image) (banks n p : ℕ) → n ≡ word_count image banks → p < length image.ports → p < n
+progress_within image banks n p many inside =
+    let row : ℕ = send_count image * banks in
+    let e : n ≡ length image.ports + row = many in
+    omega arith
 
-    -- a new place of the same turn, in which nothing else was put
-    still : (x : Place) → x.turn ≡ (place p).turn → ((i : ℕ) (link : LinkOut) → IsSend image p i link → latest x link.slot ≡ latest (place p) link.slot)
-        → CanStand image fits banks until place timed.paced p port is x → AreTimed image banks until words (updated place p x)
-    still x turn_is same can = record {
-      progress = each_updated (λ q (a : Place). q < length image.ports → progress_in words q ≢ UNCLAIMED → progress_in words q + 1 ≡ a.turn) place p x
-          (λ within claimed. timed.progress p within claimed ∙ sym turn_is) (λ q _. timed.progress q);
-      paced = stands image fits banks until place timed.paced p port is x can;
-      stamps = stamped_still image fits banks place (sent_in image banks words) p x timed.stamps same;
+-- ---- places and progress words alone
+
+module _ (image : Image) (fits : IsWellFormed image) (banks until : ℕ) (words : List ℕ) (place : ℕ → Place) (turns : AreInTurn image banks until words place) where
+  -- what a claimed progress word says, with the place of a port
+  abbrev Counts : List ℕ → ℕ → Place → Type 0
+  Counts now q a = q < length image.ports → progress_in now q ≢ UNCLAIMED → progress_in now q + 1 ≡ a.turn
+
+  module _ (p : ℕ) (port : PortImage) (is : IsPort image p port) where
+    -- a new place of the same turn, beside words that have the same progress
+    still : (now : List ℕ) (x : Place) → ((q : ℕ) → q < length image.ports → progress_in now q ≡ progress_in words q) → x.turn ≡ (place p).turn
+        → CanStand image fits banks until place turns.paced p port is x → AreInTurn image banks until now (updated place p x)
+    still now x same turn_is can = record {
+      progress = λ q within. subst (λ n. n ≢ UNCLAIMED → n + 1 ≡ (updated place p x q).turn) (sym (same q within))
+          (each_updated (λ q (a : Place). Counts words q a) place p x (λ low claimed. turns.progress p low claimed ∙ sym turn_is) (λ q _. turns.progress q) q within);
+      paced = stands image fits banks until place turns.paced p port is x can;
     }
 
-    pub timed_ask : (r n : ℕ) → r < length image.ports → n + 1 ≤ (place r).turn → AreTimed image banks until words (updated place p (after_ask (place p) r n))
-    timed_ask r n r_in fresh = still (after_ask (place p) r n) refl (λ i link s. refl) (asks image fits banks until place timed.paced p port is r n r_in fresh)
+    pub turns_ask : (r n : ℕ) → r < length image.ports → n + 1 ≤ (place r).turn → AreInTurn image banks until words (updated place p (after_ask (place p) r n))
+    turns_ask r n r_in fresh = still words (after_ask (place p) r n) (λ q within. refl) refl (asks image fits banks until place turns.paced p port is r n r_in fresh)
 
-    pub timed_take : (j : ℕ) (link : LinkIn) → slice_get port.ins j ≡ Some link → is_in link.slot (place p).takes ≡ false → (place p).turn ≤ until → (place p).turn ≤ latest (place link.sender) link.slot
-        → AreTimed image banks until words (updated place p (after_take (place p) link.slot))
-    timed_take j link at missing early fresh = still (after_take (place p) link.slot) refl (λ i sent s. refl) (takes image fits banks until place timed.paced p port is j link at missing early fresh)
+    pub turns_take : (j : ℕ) (link : LinkIn) → slice_get port.ins j ≡ Some link → is_in link.slot (place p).takes ≡ false → (place p).turn ≤ until → (place p).turn ≤ latest (place link.sender) link.slot
+        → AreInTurn image banks until words (updated place p (after_take (place p) link.slot))
+    turns_take j link at missing early fresh = still words (after_take (place p) link.slot) (λ q within. refl) refl (takes image fits banks until place turns.paced p port is j link at missing early fresh)
 
-    -- the word of what is put has this turn
-    pub timed_put : (i x : ℕ) (link : LinkOut) → slice_get port.outs i ≡ Some link → 1 ≤ banks → length words ≡ word_count image banks → is_in link.slot (place p).puts ≡ false → (place p).turn ≤ until
-        → ((r : ℕ) → Stands link.readers r → (place p).turn ≤ known_of (place p) r + banks) → stamp_of x ≡ (place p).turn
-        → AreTimed image banks until (set words (send_word image banks p i ((place p).turn % banks)) x) (updated place p (after_put (place p) link.slot))
-    timed_put i x link at some long missing early ready stamp = record {
-      progress = λ q within.
-          let kept = progress_kept image banks words (word_place banks (send_number image p i) ((place p).turn % banks)) x q within in
-          subst (λ n. n ≢ UNCLAIMED → n + 1 ≡ (updated place p (after_put (place p) link.slot) q).turn) (sym kept)
-          (each_updated (λ q (a : Place). q < length image.ports → progress_in words q ≢ UNCLAIMED → progress_in words q + 1 ≡ a.turn) place p (after_put (place p) link.slot) (timed.progress p) (λ q _. timed.progress q) q within);
-      paced = stands image fits banks until place timed.paced p port is (after_put (place p) link.slot) (puts image fits banks until place timed.paced p port is i link at missing early ready);
-      stamps = subst (AreStamped image banks (updated place p (after_put (place p) link.slot)))
-          (sym (sent_set image banks words p i ((place p).turn % banks) x link send (mod-lt (place p).turn some) long))
-          (stamped_put image fits banks place (sent_in image banks words) p i x link timed.stamps send begun missing stamp);
-    } where
-      send : IsSend image p i link
-      send = record { port = port; is = is; link_is = at }
-
-      begun : 1 ≤ (place p).turn
-      begun = (timed.paced.places p port is).begun
+    pub turns_put : (i k x : ℕ) (link : LinkOut) → slice_get port.outs i ≡ Some link → is_in link.slot (place p).puts ≡ false → (place p).turn ≤ until
+        → ((r : ℕ) → Stands link.readers r → (place p).turn ≤ known_of (place p) r + banks)
+        → AreInTurn image banks until (set words (length image.ports + k) x) (updated place p (after_put (place p) link.slot))
+    turns_put i k x link at missing early ready = still (set words (length image.ports + k) x) (after_put (place p) link.slot) (progress_kept image banks words k x) refl
+        (puts image fits banks until place turns.paced p port is i link at missing early ready)
 
     -- the progress word has the turn that is over
-    pub timed_tell : p < length words → progress_in words p ≢ UNCLAIMED → EndsNext port (place p).puts (place p).takes → (place p).turn ≤ until
-        → AreTimed image banks until (set words p (place p).turn) (updated place p (after_tell (place p)))
-    timed_tell room claimed next early = record {
+    pub turns_tell : p < length words → EndsNext port (place p).puts (place p).takes → (place p).turn ≤ until
+        → AreInTurn image banks until (set words p (place p).turn) (updated place p (after_tell (place p)))
+    turns_tell room next early = record {
       progress = λ q within. elim (cases_eq q p) [
         | inl same ↦ λ _. subst (λ q. progress_in (set words p (place p).turn) q + 1 ≡ (updated place p (after_tell (place p)) q).turn) (sym same)
             (ap (λ n. n + 1) (get_or-set_same words p (place p).turn 0 room) ∙ sym (ap (λ (a : Place). a.turn) (updated_here place p (after_tell (place p)))))
         | inr other ↦
             let kept : progress_in (set words p (place p).turn) q ≡ progress_in words q = get_or-set_other words p q (place p).turn 0 other in
             subst (λ n. n ≢ UNCLAIMED → n + 1 ≡ (updated place p (after_tell (place p)) q).turn) (sym kept)
-            (subst (λ (a : Place). progress_in words q ≢ UNCLAIMED → progress_in words q + 1 ≡ a.turn) (sym (updated_there place p q (after_tell (place p)) other)) (timed.progress q within))
+            (subst (λ (a : Place). progress_in words q ≢ UNCLAIMED → progress_in words q + 1 ≡ a.turn) (sym (updated_there place p q (after_tell (place p)) other)) (turns.progress q within))
       ];
-      paced = stands image fits banks until place timed.paced p port is (after_tell (place p)) (tells image fits banks until place timed.paced p port is next early);
-      stamps = subst (AreStamped image banks (updated place p (after_tell (place p)))) (sym (progress_set image banks words p (place p).turn inside))
-          (stamped_still image fits banks place (sent_in image banks words) p (after_tell (place p)) timed.stamps (λ i link s. minus ∙ sym (latest_put (place p) link.slot (all_put i link s))));
-    } where
-      all_put : (i : ℕ) (link : LinkOut) → IsSend image p i link → is_in link.slot (place p).puts ≡ true
-      all_put i link s = next.all_put i link (subst (λ (q : PortImage). slice_get q.outs i ≡ Some link) (same_port image p s.port port s.is is) s.link_is)
-
-      minus : (place p).turn + 1 - 1 ≡ (place p).turn
-      minus = omega arith
+      paced = stands image fits banks until place turns.paced p port is (after_tell (place p)) (tells image fits banks until place turns.paced p port is next early);
+    }
 
   -- a port is claimed
-  pub timed_claim : (p : ℕ) → p < length image.ports → p < length words → place p ≡ start (length image.ports) → AreTimed image banks until (set words p 0) place
-  timed_claim p inside room fresh = record {
+  pub turns_claim : (p : ℕ) → p < length words → place p ≡ start (length image.ports) → AreInTurn image banks until (set words p 0) place
+  turns_claim p room fresh = record {
     progress = λ q within. elim (cases_eq q p) [
       | inl same ↦ λ _. subst (λ q. progress_in (set words p 0) q + 1 ≡ (place q).turn) (sym same)
           (ap (λ n. n + 1) (get_or-set_same words p 0 0 room) ∙ sym (ap (λ (a : Place). a.turn) fresh))
-      | inr other ↦ subst (λ n. n ≢ UNCLAIMED → n + 1 ≡ (place q).turn) (sym (get_or-set_other words p q 0 0 other)) (timed.progress q within)
+      | inr other ↦ subst (λ n. n ≢ UNCLAIMED → n + 1 ≡ (place q).turn) (sym (get_or-set_other words p q 0 0 other)) (turns.progress q within)
     ];
-    paced = timed.paced;
-    stamps = subst (AreStamped image banks place) (sym (progress_set image banks words p 0 inside)) timed.stamps;
+    paced = turns.paced;
   }
+
+-- ---- and the turns that words of sends name
+
+pub turns_in : (image : Image) (banks until : ℕ) (words : List ℕ) (place : ℕ → Place) → AreTimed image banks until words place → AreInTurn image banks until words place
+turns_in image banks until words place timed = record { progress = timed.progress; paced = timed.paced }
+
+-- with the turns of the words of sends
+pub with_stamps : (image : Image) (banks until : ℕ) (words : List ℕ) (place : ℕ → Place) → AreInTurn image banks until words place → AreStamped image banks place (sent_in image banks words) → AreTimed image banks until words place
+with_stamps image banks until words place turns stamps = record { progress = turns.progress; paced = turns.paced; stamps = stamps }
+
+module _ (image : Image) (fits : IsWellFormed image) (banks until : ℕ) (words : List ℕ) (place : ℕ → Place) (timed : AreTimed image banks until words place) where
+  turns : AreInTurn image banks until words place
+  turns = turns_in image banks until words place timed
+
+  module _ (p : ℕ) (port : PortImage) (is : IsPort image p port) where
+    inside : p < length image.ports
+    inside = slice_get_within image.ports p port is
+
+    pub timed_ask : (r n : ℕ) → r < length image.ports → n + 1 ≤ (place r).turn → AreTimed image banks until words (updated place p (after_ask (place p) r n))
+    timed_ask r n r_in fresh = with_stamps image banks until words (updated place p (after_ask (place p) r n)) (turns_ask image fits banks until words place turns p port is r n r_in fresh)
+        (stamped_still image fits banks place (sent_in image banks words) p (after_ask (place p) r n) timed.stamps (λ i link s. refl))
+
+    pub timed_take : (j : ℕ) (link : LinkIn) → slice_get port.ins j ≡ Some link → is_in link.slot (place p).takes ≡ false → (place p).turn ≤ until → (place p).turn ≤ latest (place link.sender) link.slot
+        → AreTimed image banks until words (updated place p (after_take (place p) link.slot))
+    timed_take j link at missing early fresh = with_stamps image banks until words (updated place p (after_take (place p) link.slot)) (turns_take image fits banks until words place turns p port is j link at missing early fresh)
+        (stamped_still image fits banks place (sent_in image banks words) p (after_take (place p) link.slot) timed.stamps (λ i sent s. refl))
+
+    -- the word of what is put has this turn
+    pub timed_put : (i x : ℕ) (link : LinkOut) → slice_get port.outs i ≡ Some link → 1 ≤ banks → length words ≡ word_count image banks → is_in link.slot (place p).puts ≡ false → (place p).turn ≤ until
+        → ((r : ℕ) → Stands link.readers r → (place p).turn ≤ known_of (place p) r + banks) → stamp_of x ≡ (place p).turn
+        → AreTimed image banks until (set words (send_word image banks p i ((place p).turn % banks)) x) (updated place p (after_put (place p) link.slot))
+    timed_put i x link at some long missing early ready stamp =
+        with_stamps image banks until (set words (send_word image banks p i ((place p).turn % banks)) x) (updated place p (after_put (place p) link.slot))
+        (turns_put image fits banks until words place turns p port is i (word_place banks (send_number image p i) ((place p).turn % banks)) x link at missing early ready)
+        (subst (AreStamped image banks (updated place p (after_put (place p) link.slot)))
+        (sym (sent_set image banks words p i ((place p).turn % banks) x link send (mod-lt (place p).turn some) long))
+        (stamped_put image fits banks place (sent_in image banks words) p i x link timed.stamps send begun missing stamp)) where
+          send : IsSend image p i link
+          send = record { port = port; is = is; link_is = at }
+
+          begun : 1 ≤ (place p).turn
+          begun = (timed.paced.places p port is).begun
+
+    pub timed_tell : p < length words → EndsNext port (place p).puts (place p).takes → (place p).turn ≤ until
+        → AreTimed image banks until (set words p (place p).turn) (updated place p (after_tell (place p)))
+    timed_tell room next early = with_stamps image banks until (set words p (place p).turn) (updated place p (after_tell (place p))) (turns_tell image fits banks until words place turns p port is room next early)
+        (subst (AreStamped image banks (updated place p (after_tell (place p)))) (sym (progress_set image banks words p (place p).turn inside))
+        (stamped_still image fits banks place (sent_in image banks words) p (after_tell (place p)) timed.stamps (λ i link s. minus ∙ sym (latest_put (place p) link.slot (next.all_put i link (send_at image p i link port s is)))))) where
+          minus : (place p).turn + 1 - 1 ≡ (place p).turn
+          minus = omega arith
+
+  pub timed_claim : (p : ℕ) → p < length image.ports → p < length words → place p ≡ start (length image.ports) → AreTimed image banks until (set words p 0) place
+  timed_claim p inside room fresh = with_stamps image banks until (set words p 0) place (turns_claim image fits banks until words place turns p room fresh)
+      (subst (AreStamped image banks place) (sym (progress_set image banks words p 0 inside)) timed.stamps)

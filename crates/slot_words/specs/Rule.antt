@@ -73,6 +73,11 @@ pub record AreOwned (image : Image) (stimulus : Stimulus) (banks : ℕ) (words :
 
 -- ---- stamps
 
+-- a claimed progress word holds the turns before its port's, and all places are in pace
+pub record AreInTurn (image : Image) (banks until : ℕ) (words : List ℕ) (place : ℕ → Place) : Type 0 where
+  pub progress : (p : ℕ) → p < length image.ports → progress_in words p ≢ UNCLAIMED → progress_in words p + 1 ≡ (place p).turn
+  pub paced : ArePaced image banks until place
+
 -- a claimed progress word holds the turns before its port's; all places are in pace; and the words of sends name
 -- the turns in which they were put
 pub record AreTimed (image : Image) (banks until : ℕ) (words : List ℕ) (place : ℕ → Place) : Type 0 where

@@ -1,17 +1,16 @@
-use Rattle.std.proofs.Common.{◌≡◌, ◌↔◌, ◌∙◌, ◌+◌, ◌*◌, ◌≤◌, min, true, nat_le, if◌then◌else◌, length, get_or, Some, slice_get, ap, subst, sym, refl, arith}
+use Rattle.std.proofs.Common.{◌≡◌, ◌↔◌, ◌∙◌, ◌+◌, ◌*◌, ◌≤◌, true, nat_le, if◌then◌else◌, length, get_or, ap, subst, sym, refl, arith}
 use Rattle.std.proofs.lemmas.Bool.{leb-true}
-use Rattle.std.proofs.lemmas.Option.{slice_get-get_or}
 use Rattle.stim_text.specs.Lanes.{longest}
 use Rattle.limits.specs.declared.TheConstants.{MAX_SLOTS}
 use Rattle.image_defs.specs.Places.{Each, item_slots, in_slots, out_slots}
 use Rattle.pack_bank.specs.Views.{PackPortView}
 use Rattle.pack_walk.specs.Kinds.{view_in}
 use Rattle.port_walk.specs.Rows.{HasFewReaders, AreReaders}
-use Rattle.port_walk.specs.Stops.{ArePlaces, AreStops}
+use Rattle.port_walk.specs.Stops.{ArePlaces}
 use Rattle.port_walk.proofs.KindLemmas.{seat_there}
-use Rattle.port_walk.proofs.KeptLemmas.{no_stop, out_places, in_places, few_sends, few_readers}
-use Rattle.port_walk.proofs.MoveLemmas.{first_within}
 use Rattle.pack_walk.proofs.MoveLemmas.{can_enter, kept_fresh}
+use Rattle.port_walk.proofs.MoveLemmas.{first_found}
+use Rattle.port_walk.proofs.WalkLemmas.{no_stop, out_places, in_places, few_sends, few_readers, stops_read}
 use Rattle.pack_walk.proofs.placed.PackPlaced.new.Goals as goal
 
 pub stops_of-requires-clause-outs : goal.stops_of-requires-clause-outs
@@ -39,13 +38,9 @@ enter-value-requires c =
     let slots = c.in_ok-slots.slots in
     let stops = c.in_ok-stops.stops in
     let slots_are : slots ≡ item_slots seat.work = c.in_ok-slots.ensures in
-    let stops_are : AreStops (out_slots seat.outs) (in_slots seat.ins) image.slots slots stops =
-    subst (λ xs. AreStops (out_slots seat.outs) (in_slots seat.ins) image.slots xs stops) c.as_slice-2.ensures
-    (subst (λ xs. AreStops (out_slots xs) (in_slots seat.ins) image.slots c.as_slice-2.result.now stops) c.as_slice-3.ensures
-    (subst (λ xs. AreStops (out_slots c.as_slice-3.result.now) (in_slots xs) image.slots c.as_slice-2.result.now stops) c.as_slice-4.ensures c.in_ok-stops.ensures)) in
+    let stops_are = stops_read image.slots slots c.as_slice-2.result.now seat.outs c.as_slice-3.result.now seat.ins c.as_slice-4.result.now stops c.as_slice-2.ensures c.as_slice-3.ensures c.as_slice-4.ensures c.in_ok-stops.ensures in
     let first = get_or c.as_slice-7.result.now 0 no_stop in
-    let there : slice_get stops 0 ≡ Some first =
-    slice_get-get_or stops 0 no_stop (first_within image c.args.port seat good is slots stops slots_are stops_are) ∙ ap (λ xs. Some (get_or xs 0 no_stop)) (sym c.as_slice-7.ensures) in
+    let there = first_found image c.args.port seat good is slots stops slots_are stops_are c.as_slice-7.result.now c.as_slice-7.ensures in
     let view : PackPortView = view_in c.in_ok-kind.kind in
     let until = image.units * c.cycles.result in
     let until_is : until ≡ image.units * longest c.args.lanes.now = ap (λ n. image.units * n) c.cycles.ensures in
@@ -64,13 +59,9 @@ invariant_of-result c =
     let slots = c.in_ok-slots.slots in
     let stops = c.in_ok-stops.stops in
     let slots_are : slots ≡ item_slots seat.work = c.in_ok-slots.ensures in
-    let stops_are : AreStops (out_slots seat.outs) (in_slots seat.ins) image.slots slots stops =
-    subst (λ xs. AreStops (out_slots seat.outs) (in_slots seat.ins) image.slots xs stops) c.as_slice-2.ensures
-    (subst (λ xs. AreStops (out_slots xs) (in_slots seat.ins) image.slots c.as_slice-2.result.now stops) c.as_slice-3.ensures
-    (subst (λ xs. AreStops (out_slots c.as_slice-3.result.now) (in_slots xs) image.slots c.as_slice-2.result.now stops) c.as_slice-4.ensures c.in_ok-stops.ensures)) in
+    let stops_are = stops_read image.slots slots c.as_slice-2.result.now seat.outs c.as_slice-3.result.now seat.ins c.as_slice-4.result.now stops c.as_slice-2.ensures c.as_slice-3.ensures c.as_slice-4.ensures c.in_ok-stops.ensures in
     let first = get_or c.as_slice-7.result.now 0 no_stop in
-    let there : slice_get stops 0 ≡ Some first =
-    slice_get-get_or stops 0 no_stop (first_within image c.args.port seat good is slots stops slots_are stops_are) ∙ ap (λ xs. Some (get_or xs 0 no_stop)) (sym c.as_slice-7.ensures) in
+    let there = first_found image c.args.port seat good is slots stops slots_are stops_are c.as_slice-7.result.now c.as_slice-7.ensures in
     let until = image.units * c.cycles.result in
     let until_is : until ≡ image.units * longest c.args.lanes.now = ap (λ n. image.units * n) c.cycles.ensures in
     kept_fresh _ (record {

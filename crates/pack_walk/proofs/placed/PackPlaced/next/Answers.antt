@@ -3,8 +3,8 @@ use Rattle.std.specs.List.Sorted.{IsStrictlyIncreasing}
 use Rattle.image_defs.specs.Places.{Each}
 use Rattle.pack_walk.specs.declared.action.PackAction.TheVariants.{Take, Tell}
 use Rattle.pack_walk.specs.Placed.{IsNextOf}
-use Rattle.port_walk.proofs.KeptLemmas.{no_stop}
-use Rattle.pack_walk.proofs.KeptLemmas.{good, found, link_here, readers_there, next_put, next_take, next_tell}
+use Rattle.pack_walk.proofs.KeptLemmas.{walk_of, walks, next_take, next_tell, next_put}
+use Rattle.port_walk.proofs.WalkLemmas.{no_stop, found, good, link_here, readers_there}
 use Rattle.pack_walk.proofs.placed.PackPlaced.next.Goals as goal
 
 pub readers_at-readers-requires : goal.readers_at-readers-requires
@@ -12,8 +12,8 @@ readers_at-readers-requires c =
     let a = c.self.inside in
     let kept = c.self.invariant in
     let stop = get_or c.as_slice.result.now a.at no_stop in
-    let at = found a kept c.as_slice.result.now c.as_slice.ensures in
-    let here = link_here a kept stop at c.in-Send.is in
+    let at = found (walk_of a) (walks a kept) c.as_slice.result.now c.as_slice.ensures in
+    let here = link_here (walk_of a) (walks a kept) stop at a.readers kept.readers c.in-Send.is in
     let within = here.1.within in
     record { there = omega (arith, kept.readers.count); order = here.1.row.order; within = here.1.row.within }
 
@@ -22,29 +22,29 @@ send_action-requires-clause-there c =
     let a = c.self.inside in
     let kept = c.self.invariant in
     let stop = get_or c.as_slice.result.now a.at no_stop in
-    let at = found a kept c.as_slice.result.now c.as_slice.ensures in
-    let here = link_here a kept stop at c.in-Send.is in
+    let at = found (walk_of a) (walks a kept) c.as_slice.result.now c.as_slice.ensures in
+    let here = link_here (walk_of a) (walks a kept) stop at a.readers kept.readers c.in-Send.is in
     let same : c.readers_at-readers.result.now ≡ here.0.readers = c.readers_at-readers.ensures ∙ here.1.row.is in
     subst (Each (λ r. r < length c.args.known.now)) (sym same)
-    (readers_there a kept here.0 c.args.known.now (c.requires ∙ ap (λ view. length view.image.ports) (sym c.self.view_is)) here.1.is)
+    (readers_there (walk_of a) (walks a kept) here.0 c.args.known.now (c.requires ∙ ap (λ view. length view.image.ports) (sym c.self.view_is)) here.1.is)
 
 pub send_action-requires-clause-rising : goal.send_action-requires-clause-rising
 send_action-requires-clause-rising c =
     let a = c.self.inside in
     let kept = c.self.invariant in
     let stop = get_or c.as_slice.result.now a.at no_stop in
-    let at = found a kept c.as_slice.result.now c.as_slice.ensures in
-    let here = link_here a kept stop at c.in-Send.is in
+    let at = found (walk_of a) (walks a kept) c.as_slice.result.now c.as_slice.ensures in
+    let here = link_here (walk_of a) (walks a kept) stop at a.readers kept.readers c.in-Send.is in
     let same : c.readers_at-readers.result.now ≡ here.0.readers = c.readers_at-readers.ensures ∙ here.1.row.is in
-    subst IsStrictlyIncreasing (sym same) ((good a kept).sends a.sent here.0 here.1.is).rising
+    subst IsStrictlyIncreasing (sym same) ((good (walk_of a) (walks a kept)).sends a.sent here.0 here.1.is).rising
 
 pub returns-in-Send : goal.returns-in-Send
 returns-in-Send c =
     let a = c.self.inside in
     let kept = c.self.invariant in
     let stop = get_or c.as_slice.result.now a.at no_stop in
-    let at = found a kept c.as_slice.result.now c.as_slice.ensures in
-    let here = link_here a kept stop at c.in-Send.is in
+    let at = found (walk_of a) (walks a kept) c.as_slice.result.now c.as_slice.ensures in
+    let here = link_here (walk_of a) (walks a kept) stop at a.readers kept.readers c.in-Send.is in
     let same : c.readers_at-readers.result.now ≡ here.0.readers = c.readers_at-readers.ensures ∙ here.1.row.is in
     subst (λ view. IsNextOf view c.args.known.now c.send_action.result) c.self.view_is
     (next_put a kept stop at c.args.known.now c.if-self.false c.readers_at-readers.result.now c.turns_wanted-turns.result here.0 c.send_action.result c.in-Send.is c.turns_wanted-turns.ensures here.1.is same c.send_action.ensures)
@@ -54,11 +54,11 @@ returns-in-Receive c =
     let a = c.self.inside in
     let kept = c.self.invariant in
     subst (λ view. IsNextOf view c.args.known.now (Take (get_or c.as_slice.result.now a.at no_stop).slot)) c.self.view_is
-    (next_take a kept (get_or c.as_slice.result.now a.at no_stop) (found a kept c.as_slice.result.now c.as_slice.ensures) c.args.known.now c.if-self.false c.in-Receive.is)
+    (next_take a kept (get_or c.as_slice.result.now a.at no_stop) (found (walk_of a) (walks a kept) c.as_slice.result.now c.as_slice.ensures) c.args.known.now c.if-self.false c.in-Receive.is)
 
 pub returns-in-End : goal.returns-in-End
 returns-in-End c =
     let a = c.self.inside in
     let kept = c.self.invariant in
     subst (λ view. IsNextOf view c.args.known.now Tell) c.self.view_is
-    (next_tell a kept (get_or c.as_slice.result.now a.at no_stop) (found a kept c.as_slice.result.now c.as_slice.ensures) c.args.known.now c.if-self.false c.in-End.is)
+    (next_tell a kept (get_or c.as_slice.result.now a.at no_stop) (found (walk_of a) (walks a kept) c.as_slice.result.now c.as_slice.ensures) c.args.known.now c.if-self.false c.in-End.is)

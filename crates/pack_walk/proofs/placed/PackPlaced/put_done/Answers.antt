@@ -5,9 +5,9 @@ use Rattle.pack_bank.specs.Views.{PackPortView}
 use Rattle.pack_walk.specs.Kinds.{view_in}
 use Rattle.pack_walk.specs.Kept.{view_of}
 use Rattle.pack_walk.specs.Placed.{CanPut, HasPut}
-use Rattle.port_walk.proofs.KeptLemmas.{no_stop}
-use Rattle.pack_walk.proofs.KeptLemmas.{found}
-use Rattle.pack_walk.proofs.MoveLemmas.{early_of, sending_here, after_send, inner_here, can_run, kept_after, has_put}
+use Rattle.pack_walk.proofs.KeptLemmas.{walk_of, walks}
+use Rattle.pack_walk.proofs.MoveLemmas.{early_of, sending_here, inner_here, can_run, kept_after, has_put}
+use Rattle.port_walk.proofs.WalkLemmas.{no_stop, found, after_send}
 use Rattle.pack_walk.proofs.placed.PackPlaced.put_done.Goals as goal
 
 pub bounds-stops-self-inside-2 : goal.bounds-stops-self-inside-2
@@ -16,10 +16,10 @@ bounds-stops-self-inside-2 c =
     let kept = c.self.invariant in
     let stops = c.as_slice-stops.result.now in
     let can : CanPut (view_of a) = subst CanPut (sym c.self.view_is) c.requires in
-    let at = found a kept stops c.as_slice-stops.ensures in
+    let at = found (walk_of a) (walks a kept) stops c.as_slice-stops.ensures in
     let here = sending_here a kept (get_or stops a.at no_stop) at can.i can.link can.sending in
     let early = early_of a kept (get_or stops a.at no_stop) at can.sending.early in
-    let next = after_send a kept (get_or stops a.at no_stop) at stops c.as_slice-stops.ensures here.kind in
+    let next = after_send (walk_of a) (walks a kept) (get_or stops a.at no_stop) at stops c.as_slice-stops.ensures here.kind in
     let within = slice_get_within a.stops (a.at + 1) _ next.there in
     omega (arith, ap length c.as_slice-stops.ensures)
 
@@ -29,10 +29,10 @@ run-self-inside-requires-clause-can c =
     let kept = c.self.invariant in
     let stops = c.as_slice-stops.result.now in
     let can : CanPut (view_of a) = subst CanPut (sym c.self.view_is) c.requires in
-    let at = found a kept stops c.as_slice-stops.ensures in
+    let at = found (walk_of a) (walks a kept) stops c.as_slice-stops.ensures in
     let here = sending_here a kept (get_or stops a.at no_stop) at can.i can.link can.sending in
     let early = early_of a kept (get_or stops a.at no_stop) at can.sending.early in
-    let next = after_send a kept (get_or stops a.at no_stop) at stops c.as_slice-stops.ensures here.kind in
+    let next = after_send (walk_of a) (walks a kept) (get_or stops a.at no_stop) at stops c.as_slice-stops.ensures here.kind in
     can_run a kept (get_or stops a.at no_stop) at (view_in a.kind) c.as_slice.result.now (a.sent + 1) a.took (get_or stops (a.at + 1) no_stop) early
     (inner_here a kept (get_or stops a.at no_stop) at early) c.as_slice.ensures next
 
@@ -42,10 +42,10 @@ invariant_of-self c =
     let kept = c.self.invariant in
     let stops = c.as_slice-stops.result.now in
     let can : CanPut (view_of a) = subst CanPut (sym c.self.view_is) c.requires in
-    let at = found a kept stops c.as_slice-stops.ensures in
+    let at = found (walk_of a) (walks a kept) stops c.as_slice-stops.ensures in
     let here = sending_here a kept (get_or stops a.at no_stop) at can.i can.link can.sending in
     let early = early_of a kept (get_or stops a.at no_stop) at can.sending.early in
-    let next = after_send a kept (get_or stops a.at no_stop) at stops c.as_slice-stops.ensures here.kind in
+    let next = after_send (walk_of a) (walks a kept) (get_or stops a.at no_stop) at stops c.as_slice-stops.ensures here.kind in
     kept_after a kept (get_or stops a.at no_stop) at c.run-self-inside.new.self c.run-self-inside.result (a.sent + 1) a.took (get_or stops (a.at + 1) no_stop) early next
     (c.run-self-inside.ensures.run ∙ ap (λ (view : PackPortView). record view { executed = (get_or stops (a.at + 1) no_stop).items }) (inner_here a kept (get_or stops a.at no_stop) at early))
     c.run-self-inside.ensures.kind c.run-self-inside.ensures.last
@@ -55,4 +55,4 @@ returns c =
     let a = c.self.inside in
     let kept = c.self.invariant in
     subst (λ view. HasPut view (record (view_of a) { puts = take (a.sent + 1) (out_slots a.seat.now.outs) })) c.self.view_is
-    (has_put a kept (get_or a.stops a.at no_stop) (found a kept a.stops refl))
+    (has_put a kept (get_or a.stops a.at no_stop) (found (walk_of a) (walks a kept) a.stops refl))

@@ -1,6 +1,5 @@
-use Rattle.std.proofs.Common.{◌≡◌, ◌↔◌, ◌∙◌, ◌+◌, ◌*◌, ◌≤◌, min, true, nat_le, if◌then◌else◌, length, get_or, Some, slice_get, ap, subst, sym, refl, arith}
+use Rattle.std.proofs.Common.{◌≡◌, ◌↔◌, ◌∙◌, ◌+◌, ◌*◌, ◌≤◌, true, nat_le, if◌then◌else◌, length, get_or, ap, subst, sym, refl, arith}
 use Rattle.std.proofs.lemmas.Bool.{leb-true}
-use Rattle.std.proofs.lemmas.Option.{slice_get-get_or}
 use Rattle.std.proofs.Math.Nat.{mul-le-mul}
 use Rattle.limits.specs.declared.TheConstants.{MAX_CYCLES, MAX_UNITS}
 use Rattle.stim_text.specs.Lanes.{longest}
@@ -9,30 +8,29 @@ use Rattle.pack_bank.specs.Views.{PackPortView, after_end}
 use Rattle.pack_walk.specs.Kinds.{view_in}
 use Rattle.pack_walk.specs.Kept.{view_of, inner}
 use Rattle.pack_walk.specs.Placed.{IsEnding}
-use Rattle.port_walk.proofs.KeptLemmas.{no_stop}
-use Rattle.pack_walk.proofs.KeptLemmas.{good, found}
+use Rattle.pack_walk.proofs.KeptLemmas.{walk_of, walks}
 use Rattle.pack_walk.proofs.MoveLemmas.{early_of, inner_here, can_end, can_enter, kept_fresh}
-use Rattle.port_walk.proofs.MoveLemmas.{first_within}
+use Rattle.port_walk.proofs.MoveLemmas.{first_found}
+use Rattle.port_walk.proofs.WalkLemmas.{no_stop, found, good}
 use Rattle.pack_walk.proofs.placed.PackPlaced.told.Goals as goal
 
 pub end_turn-requires : goal.end_turn-requires
 end_turn-requires c =
     let a = c.self.inside in
     let kept = c.self.invariant in
-    can_end a kept (get_or a.stops a.at no_stop) (found a kept a.stops refl) (subst IsEnding (sym c.self.view_is) c.requires)
+    can_end a kept (get_or a.stops a.at no_stop) (found (walk_of a) (walks a kept) a.stops refl) (subst IsEnding (sym c.self.view_is) c.requires)
 
 pub enter-self-inside-requires : goal.enter-self-inside-requires
 enter-self-inside-requires c =
     let a = c.self.inside in
     let kept = c.self.invariant in
     let ending : IsEnding (view_of a) = subst IsEnding (sym c.self.view_is) c.requires in
-    let early = early_of a kept (get_or a.stops a.at no_stop) (found a kept a.stops refl) ending.early in
+    let early = early_of a kept (get_or a.stops a.at no_stop) (found (walk_of a) (walks a kept) a.stops refl) ending.early in
     let first = get_or c.as_slice.result.now 0 no_stop in
-    let there : slice_get a.stops 0 ≡ Some first =
-    slice_get-get_or a.stops 0 no_stop (first_within a.image.now a.port a.seat.now (good a kept) kept.seat a.slots a.stops kept.slots kept.stops) ∙ ap (λ xs. Some (get_or xs 0 no_stop)) (sym c.as_slice.ensures) in
+    let there = first_found a.image.now a.port a.seat.now (good (walk_of a) (walks a kept)) kept.seat a.slots a.stops kept.slots kept.stops c.as_slice.result.now c.as_slice.ensures in
     let inside : view_in c.end_turn.new.self ≡ after_end (inner a (get_or a.stops a.at no_stop).items) =
-    c.end_turn.ensures.view ∙ ap after_end (inner_here a kept (get_or a.stops a.at no_stop) (found a kept a.stops refl) early) in
-    can_enter a.image.now a.port a.seat.now (good a kept) kept.seat a.slots a.stops kept.slots kept.stops (view_in c.end_turn.new.self) c.as_slice-2.result.now first (nat_le (a.turn + 1) a.until)
+    c.end_turn.ensures.view ∙ ap after_end (inner_here a kept (get_or a.stops a.at no_stop) (found (walk_of a) (walks a kept) a.stops refl) early) in
+    can_enter a.image.now a.port a.seat.now (good (walk_of a) (walks a kept)) kept.seat a.slots a.stops kept.slots kept.stops (view_in c.end_turn.new.self) c.as_slice-2.result.now first (nat_le (a.turn + 1) a.until)
     (ap (λ (v : PackPortView). v.image) inside) (ap (λ (v : PackPortView). v.port) inside) (ap (λ (v : PackPortView). v.begun) inside) (ap (λ (v : PackPortView). v.executed) inside)
     (λ runs. subst (λ (v : PackPortView). v.turn ≤ v.image.units * longest v.lanes) (sym inside) (let low = leb-true (a.turn + 1) a.until runs in let until = kept.until_is in omega arith))
     c.as_slice-2.ensures there
@@ -42,12 +40,11 @@ invariant_of-self c =
     let a = c.self.inside in
     let kept = c.self.invariant in
     let ending : IsEnding (view_of a) = subst IsEnding (sym c.self.view_is) c.requires in
-    let early = early_of a kept (get_or a.stops a.at no_stop) (found a kept a.stops refl) ending.early in
+    let early = early_of a kept (get_or a.stops a.at no_stop) (found (walk_of a) (walks a kept) a.stops refl) ending.early in
     let first = get_or c.as_slice.result.now 0 no_stop in
-    let there : slice_get a.stops 0 ≡ Some first =
-    slice_get-get_or a.stops 0 no_stop (first_within a.image.now a.port a.seat.now (good a kept) kept.seat a.slots a.stops kept.slots kept.stops) ∙ ap (λ xs. Some (get_or xs 0 no_stop)) (sym c.as_slice.ensures) in
+    let there = first_found a.image.now a.port a.seat.now (good (walk_of a) (walks a kept)) kept.seat a.slots a.stops kept.slots kept.stops c.as_slice.result.now c.as_slice.ensures in
     let inside : view_in c.end_turn.new.self ≡ after_end (inner a (get_or a.stops a.at no_stop).items) =
-    c.end_turn.ensures.view ∙ ap after_end (inner_here a kept (get_or a.stops a.at no_stop) (found a kept a.stops refl) early) in
+    c.end_turn.ensures.view ∙ ap after_end (inner_here a kept (get_or a.stops a.at no_stop) (found (walk_of a) (walks a kept) a.stops refl) early) in
     let host = c.enter-self-inside.ensures.kind ∙ c.end_turn.ensures.kind in
     kept_fresh _ (record {
       image = kept.image;

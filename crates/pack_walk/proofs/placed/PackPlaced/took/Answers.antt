@@ -5,9 +5,9 @@ use Rattle.pack_bank.specs.Views.{PackPortView, after_receive}
 use Rattle.pack_walk.specs.Kinds.{view_in}
 use Rattle.pack_walk.specs.Kept.{view_of}
 use Rattle.pack_walk.specs.Placed.{CanTake, HasTaken}
-use Rattle.port_walk.proofs.KeptLemmas.{no_stop}
-use Rattle.pack_walk.proofs.KeptLemmas.{found}
-use Rattle.pack_walk.proofs.MoveLemmas.{early_of, receiving_here, after_receipt, inner_at, inner_here, can_receive, can_run, kept_after, has_taken}
+use Rattle.pack_walk.proofs.KeptLemmas.{walk_of, walks}
+use Rattle.pack_walk.proofs.MoveLemmas.{early_of, receiving_here, inner_at, inner_here, can_run, kept_after, has_taken, can_receive}
+use Rattle.port_walk.proofs.WalkLemmas.{no_stop, found, after_receipt}
 use Rattle.pack_walk.proofs.placed.PackPlaced.took.Goals as goal
 
 pub bounds-stops-self-inside-2 : goal.bounds-stops-self-inside-2
@@ -16,10 +16,10 @@ bounds-stops-self-inside-2 c =
     let kept = c.self.invariant in
     let stops = c.as_slice-stops.result.now in
     let can : CanTake (view_of a) c.args.values = subst (λ view. CanTake view c.args.values) (sym c.self.view_is) c.requires in
-    let at = found a kept stops c.as_slice-stops.ensures in
+    let at = found (walk_of a) (walks a kept) stops c.as_slice-stops.ensures in
     let here = receiving_here a kept (get_or stops a.at no_stop) at can.j can.link can.receiving in
     let early = early_of a kept (get_or stops a.at no_stop) at can.receiving.early in
-    let next = after_receipt a kept (get_or stops a.at no_stop) at stops c.as_slice-stops.ensures here.kind in
+    let next = after_receipt (walk_of a) (walks a kept) (get_or stops a.at no_stop) at stops c.as_slice-stops.ensures here.kind in
     let within = slice_get_within a.stops (a.at + 1) _ next.there in
     omega (arith, ap length c.as_slice-stops.ensures)
 
@@ -28,7 +28,7 @@ receive-requires c =
     let a = c.self.inside in
     let kept = c.self.invariant in
     let stops = c.as_slice-stops.result.now in
-    can_receive a kept (get_or stops a.at no_stop) (found a kept stops c.as_slice-stops.ensures) c.args.values (subst (λ view. CanTake view c.args.values) (sym c.self.view_is) c.requires)
+    can_receive a kept (get_or stops a.at no_stop) (found (walk_of a) (walks a kept) stops c.as_slice-stops.ensures) c.args.values (subst (λ view. CanTake view c.args.values) (sym c.self.view_is) c.requires)
 
 pub run-self-inside-requires-clause-can : goal.run-self-inside-requires-clause-can
 run-self-inside-requires-clause-can c =
@@ -36,10 +36,10 @@ run-self-inside-requires-clause-can c =
     let kept = c.self.invariant in
     let stops = c.as_slice-stops.result.now in
     let can : CanTake (view_of a) c.args.values = subst (λ view. CanTake view c.args.values) (sym c.self.view_is) c.requires in
-    let at = found a kept stops c.as_slice-stops.ensures in
+    let at = found (walk_of a) (walks a kept) stops c.as_slice-stops.ensures in
     let here = receiving_here a kept (get_or stops a.at no_stop) at can.j can.link can.receiving in
     let early = early_of a kept (get_or stops a.at no_stop) at can.receiving.early in
-    let next = after_receipt a kept (get_or stops a.at no_stop) at stops c.as_slice-stops.ensures here.kind in
+    let next = after_receipt (walk_of a) (walks a kept) (get_or stops a.at no_stop) at stops c.as_slice-stops.ensures here.kind in
     let inside : view_in c.receive.new.self ≡ inner_at a kept (get_or stops a.at no_stop) at (get_or stops a.at no_stop) (a.took + 1) =
     c.receive.ensures.view ∙ ap after_receive (inner_here a kept (get_or stops a.at no_stop) at early) in
     can_run a kept (get_or stops a.at no_stop) at (view_in c.receive.new.self) c.as_slice.result.now a.sent (a.took + 1) (get_or stops (a.at + 1) no_stop) early inside c.as_slice.ensures next
@@ -50,10 +50,10 @@ invariant_of-self c =
     let kept = c.self.invariant in
     let stops = c.as_slice-stops.result.now in
     let can : CanTake (view_of a) c.args.values = subst (λ view. CanTake view c.args.values) (sym c.self.view_is) c.requires in
-    let at = found a kept stops c.as_slice-stops.ensures in
+    let at = found (walk_of a) (walks a kept) stops c.as_slice-stops.ensures in
     let here = receiving_here a kept (get_or stops a.at no_stop) at can.j can.link can.receiving in
     let early = early_of a kept (get_or stops a.at no_stop) at can.receiving.early in
-    let next = after_receipt a kept (get_or stops a.at no_stop) at stops c.as_slice-stops.ensures here.kind in
+    let next = after_receipt (walk_of a) (walks a kept) (get_or stops a.at no_stop) at stops c.as_slice-stops.ensures here.kind in
     let inside : view_in c.receive.new.self ≡ inner_at a kept (get_or stops a.at no_stop) at (get_or stops a.at no_stop) (a.took + 1) =
     c.receive.ensures.view ∙ ap after_receive (inner_here a kept (get_or stops a.at no_stop) at early) in
     kept_after a kept (get_or stops a.at no_stop) at c.run-self-inside.new.self c.run-self-inside.result a.sent (a.took + 1) (get_or stops (a.at + 1) no_stop) early next
@@ -65,4 +65,4 @@ returns c =
     let a = c.self.inside in
     let kept = c.self.invariant in
     subst (λ view. HasTaken view (record (view_of a) { takes = take (a.took + 1) (in_slots a.seat.now.ins) })) c.self.view_is
-    (has_taken a kept (get_or a.stops a.at no_stop) (found a kept a.stops refl))
+    (has_taken a kept (get_or a.stops a.at no_stop) (found (walk_of a) (walks a kept) a.stops refl))

@@ -1,13 +1,13 @@
-use Rattle.std.proofs.Common.{Bool, ◌≡◌, ◌↔◌, ◌∙◌, ◌+◌, ◌*◌, ◌≤◌, min, true, nat_le, if◌then◌else◌, length, get_or, Some, slice_get, ap, subst, sym, refl, arith}
+use Rattle.std.proofs.Common.{Bool, ◌≡◌, ◌↔◌, ◌∙◌, ◌+◌, ◌*◌, ◌≤◌, min, true, nat_le, if◌then◌else◌, length, get_or, ap, subst, sym, arith}
 use Rattle.std.proofs.lemmas.Bool.{le-leb}
-use Rattle.std.proofs.lemmas.Option.{slice_get-get_or}
 use Rattle.image_defs.specs.Ports.{PortView, last_turn}
 use Rattle.port_walk.specs.Kinds.{view_in, is_host, rows_in}
 use Rattle.port_walk.specs.Kept.{view_of, inner}
 use Rattle.port_walk.specs.Placed.{CanGoOn, block_end}
-use Rattle.port_walk.proofs.BlockLemmas.{block_below, end_low, ends_later, given_in, late, le_late, still_kind, still_view, turn_then}
-use Rattle.port_walk.proofs.KeptLemmas.{no_stop, good}
-use Rattle.port_walk.proofs.MoveLemmas.{can_enter, first_within, kept_fresh}
+use Rattle.port_walk.proofs.BlockLemmas.{end_low, ends_later, given_in, late, le_late, still_kind, still_view, turn_then}
+use Rattle.port_walk.proofs.KeptLemmas.{walk_of, walks}
+use Rattle.port_walk.proofs.MoveLemmas.{can_enter, kept_fresh, first_found}
+use Rattle.port_walk.proofs.WalkLemmas.{no_stop, good}
 use Rattle.port_walk.proofs.any_port.AnyPort.go_on.Goals as goal
 
 pub enter-self-inside-requires : goal.enter-self-inside-requires
@@ -17,11 +17,10 @@ enter-self-inside-requires c =
     let can : CanGoOn (view_of a) = subst CanGoOn (sym c.self.view_is) c.requires in
     let past = late a kept can in
     let first = get_or c.as_slice.result.now 0 no_stop in
-    let there : slice_get a.stops 0 ≡ Some first =
-    slice_get-get_or a.stops 0 no_stop (first_within a.image.now a.port a.seat.now (good a kept) kept.seat a.slots a.stops kept.slots kept.stops) ∙ ap (λ xs. Some (get_or xs 0 no_stop)) (sym c.as_slice.ensures) in
+    let there = first_found a.image.now a.port a.seat.now (good (walk_of a) (walks a kept)) kept.seat a.slots a.stops kept.slots kept.stops c.as_slice.result.now c.as_slice.ensures in
     let inside : view_in c.give_up.new.self ≡ inner a 0 =
     ap view_in c.give_up.ensures ∙ (still_view a.kind ∙ (kept.inner ∙ ap (inner a) (kept.rests past))) in
-    can_enter a.image.now a.port a.seat.now (good a kept) kept.seat a.slots a.stops kept.slots kept.stops (view_in c.give_up.new.self) c.as_slice-2.result.now first true
+    can_enter a.image.now a.port a.seat.now (good (walk_of a) (walks a kept)) kept.seat a.slots a.stops kept.slots kept.stops (view_in c.give_up.new.self) c.as_slice-2.result.now first true
     (ap (λ (v : PortView). v.image) inside) (ap (λ (v : PortView). v.port) inside) (ap (λ (v : PortView). v.begun) inside ∙ le_late a.turn a.until past) (ap (λ (v : PortView). v.executed) inside)
     (λ _. subst (λ (v : PortView). v.turn ≤ last_turn v) (sym inside) (omega (arith, can.rests, can.more)))
     c.as_slice-2.ensures there
@@ -33,8 +32,7 @@ invariant_of-self c =
     let can : CanGoOn (view_of a) = subst CanGoOn (sym c.self.view_is) c.requires in
     let past = late a kept can in
     let first = get_or c.as_slice.result.now 0 no_stop in
-    let there : slice_get a.stops 0 ≡ Some first =
-    slice_get-get_or a.stops 0 no_stop (first_within a.image.now a.port a.seat.now (good a kept) kept.seat a.slots a.stops kept.slots kept.stops) ∙ ap (λ xs. Some (get_or xs 0 no_stop)) (sym c.as_slice.ensures) in
+    let there = first_found a.image.now a.port a.seat.now (good (walk_of a) (walks a kept)) kept.seat a.slots a.stops kept.slots kept.stops c.as_slice.result.now c.as_slice.ensures in
     let inside : view_in c.give_up.new.self ≡ inner a 0 =
     ap view_in c.give_up.ensures ∙ (still_view a.kind ∙ (kept.inner ∙ ap (inner a) (kept.rests past))) in
     let host : is_host c.enter-self-inside.new.self ≡ is_host a.kind =

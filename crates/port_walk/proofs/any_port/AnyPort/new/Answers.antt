@@ -1,19 +1,16 @@
-use Rattle.std.proofs.Common.{◌≡◌, ◌↔◌, ◌∙◌, ◌+◌, ◌*◌, ◌≤◌, min, true, nat_le, if◌then◌else◌, length, get_or, Some, slice_get, ap, subst, sym, refl, arith}
+use Rattle.std.proofs.Common.{◌≡◌, ◌↔◌, ◌∙◌, ◌+◌, ◌*◌, ◌≤◌, min, true, nat_le, if◌then◌else◌, length, get_or, ap, subst, sym, refl, arith}
 use Rattle.std.proofs.lemmas.Bool.{leb-true}
-use Rattle.std.proofs.lemmas.Option.{slice_get-get_or}
-use Rattle.net_defs.specs.Time.{turn_count}
 use Rattle.limits.specs.declared.TheConstants.{MAX_SLOTS}
 use Rattle.image_defs.specs.Places.{Each, item_slots, in_slots, out_slots}
-use Rattle.image_defs.specs.Steps.{timing_of}
 use Rattle.image_defs.specs.Ports.{PortView, last_turn}
 use Rattle.port_walk.specs.Kinds.{view_in}
 use Rattle.port_walk.specs.Rows.{HasFewReaders, AreReaders}
-use Rattle.port_walk.specs.Stops.{ArePlaces, AreStops}
+use Rattle.port_walk.specs.Stops.{ArePlaces}
 use Rattle.port_walk.specs.Placed.{block_end}
 use Rattle.port_walk.proofs.BlockLemmas.{end_low}
 use Rattle.port_walk.proofs.KindLemmas.{seat_there}
-use Rattle.port_walk.proofs.KeptLemmas.{no_stop, out_places, in_places, few_sends, few_readers}
-use Rattle.port_walk.proofs.MoveLemmas.{can_enter, first_within, kept_fresh}
+use Rattle.port_walk.proofs.MoveLemmas.{can_enter, kept_fresh, first_found}
+use Rattle.port_walk.proofs.WalkLemmas.{no_stop, out_places, in_places, few_sends, few_readers, stops_read}
 use Rattle.port_walk.proofs.any_port.AnyPort.new.Goals as goal
 
 pub stops_of-requires-clause-outs : goal.stops_of-requires-clause-outs
@@ -41,13 +38,9 @@ enter-value-requires c =
     let slots = c.in_ok-slots.slots in
     let stops = c.in_ok-stops.stops in
     let slots_are : slots ≡ item_slots seat.work = c.in_ok-slots.ensures in
-    let stops_are : AreStops (out_slots seat.outs) (in_slots seat.ins) image.slots slots stops =
-    subst (λ xs. AreStops (out_slots seat.outs) (in_slots seat.ins) image.slots xs stops) c.as_slice-2.ensures
-    (subst (λ xs. AreStops (out_slots xs) (in_slots seat.ins) image.slots c.as_slice-2.result.now stops) c.as_slice-3.ensures
-    (subst (λ xs. AreStops (out_slots c.as_slice-3.result.now) (in_slots xs) image.slots c.as_slice-2.result.now stops) c.as_slice-4.ensures c.in_ok-stops.ensures)) in
+    let stops_are = stops_read image.slots slots c.as_slice-2.result.now seat.outs c.as_slice-3.result.now seat.ins c.as_slice-4.result.now stops c.as_slice-2.ensures c.as_slice-3.ensures c.as_slice-4.ensures c.in_ok-stops.ensures in
     let first = get_or c.as_slice-7.result.now 0 no_stop in
-    let there : slice_get stops 0 ≡ Some first =
-    slice_get-get_or stops 0 no_stop (first_within image c.args.port seat good is slots stops slots_are stops_are) ∙ ap (λ xs. Some (get_or xs 0 no_stop)) (sym c.as_slice-7.ensures) in
+    let there = first_found image c.args.port seat good is slots stops slots_are stops_are c.as_slice-7.result.now c.as_slice-7.ensures in
     let view : PortView = view_in c.in_ok-kind.kind in
     let until_is : c.last_turn-until.result ≡ block_end image c.args.stim.now 0 c.args.window = c.last_turn-until.ensures ∙ ap (λ n. image.units * min (0 + c.args.window) n) c.cycles-cycles.ensures in
     let begins = c.in_ok-kind.ensures.view in
@@ -65,13 +58,9 @@ invariant_of-result c =
     let slots = c.in_ok-slots.slots in
     let stops = c.in_ok-stops.stops in
     let slots_are : slots ≡ item_slots seat.work = c.in_ok-slots.ensures in
-    let stops_are : AreStops (out_slots seat.outs) (in_slots seat.ins) image.slots slots stops =
-    subst (λ xs. AreStops (out_slots seat.outs) (in_slots seat.ins) image.slots xs stops) c.as_slice-2.ensures
-    (subst (λ xs. AreStops (out_slots xs) (in_slots seat.ins) image.slots c.as_slice-2.result.now stops) c.as_slice-3.ensures
-    (subst (λ xs. AreStops (out_slots c.as_slice-3.result.now) (in_slots xs) image.slots c.as_slice-2.result.now stops) c.as_slice-4.ensures c.in_ok-stops.ensures)) in
+    let stops_are = stops_read image.slots slots c.as_slice-2.result.now seat.outs c.as_slice-3.result.now seat.ins c.as_slice-4.result.now stops c.as_slice-2.ensures c.as_slice-3.ensures c.as_slice-4.ensures c.in_ok-stops.ensures in
     let first = get_or c.as_slice-7.result.now 0 no_stop in
-    let there : slice_get stops 0 ≡ Some first =
-    slice_get-get_or stops 0 no_stop (first_within image c.args.port seat good is slots stops slots_are stops_are) ∙ ap (λ xs. Some (get_or xs 0 no_stop)) (sym c.as_slice-7.ensures) in
+    let there = first_found image c.args.port seat good is slots stops slots_are stops_are c.as_slice-7.result.now c.as_slice-7.ensures in
     let until = c.last_turn-until.result in
     let until_is : until ≡ block_end image c.args.stim.now 0 c.args.window = c.last_turn-until.ensures ∙ ap (λ n. image.units * min (0 + c.args.window) n) c.cycles-cycles.ensures in
     kept_fresh _ (record {

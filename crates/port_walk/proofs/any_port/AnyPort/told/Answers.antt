@@ -1,14 +1,14 @@
-use Rattle.std.proofs.Common.{◌≡◌, ◌↔◌, ◌∙◌, ◌+◌, ◌*◌, ◌≤◌, min, true, nat_le, if◌then◌else◌, length, get_or, Some, slice_get, ap, subst, sym, refl, arith}
+use Rattle.std.proofs.Common.{◌≡◌, ◌↔◌, ◌∙◌, ◌+◌, ◌≤◌, true, nat_le, if◌then◌else◌, length, get_or, ap, subst, sym, refl, arith}
 use Rattle.std.proofs.lemmas.Bool.{leb-true}
-use Rattle.std.proofs.lemmas.Option.{slice_get-get_or}
 use Rattle.net_defs.specs.Time.{cycle_count}
 use Rattle.image_defs.specs.Ports.{PortView, after_end, last_turn}
 use Rattle.port_walk.specs.Kinds.{view_in}
 use Rattle.port_walk.specs.Kept.{view_of, inner}
 use Rattle.port_walk.specs.Placed.{IsEnding}
 use Rattle.port_walk.proofs.BlockLemmas.{room_in}
-use Rattle.port_walk.proofs.KeptLemmas.{no_stop, good, found}
-use Rattle.port_walk.proofs.MoveLemmas.{inner_here, can_end, can_enter, first_within, kept_fresh}
+use Rattle.port_walk.proofs.KeptLemmas.{walk_of, walks}
+use Rattle.port_walk.proofs.MoveLemmas.{inner_here, can_end, can_enter, kept_fresh, first_found}
+use Rattle.port_walk.proofs.WalkLemmas.{no_stop, found, good}
 use Rattle.port_walk.proofs.any_port.AnyPort.told.Goals as goal
 
 pub end_turn-requires-clause-room : goal.end_turn-requires-clause-room
@@ -23,7 +23,7 @@ pub end_turn-requires-clause-end : goal.end_turn-requires-clause-end
 end_turn-requires-clause-end c =
     let a = c.self.inside in
     let kept = c.self.invariant in
-    can_end a kept (get_or a.stops a.at no_stop) (found a kept a.stops refl) (subst IsEnding (sym c.self.view_is) c.requires)
+    can_end a kept (get_or a.stops a.at no_stop) (found (walk_of a) (walks a kept) a.stops refl) (subst IsEnding (sym c.self.view_is) c.requires)
 
 pub enter-self-inside-requires : goal.enter-self-inside-requires
 enter-self-inside-requires c =
@@ -31,11 +31,10 @@ enter-self-inside-requires c =
     let kept = c.self.invariant in
     let ending : IsEnding (view_of a) = subst IsEnding (sym c.self.view_is) c.requires in
     let first = get_or c.as_slice.result.now 0 no_stop in
-    let there : slice_get a.stops 0 ≡ Some first =
-    slice_get-get_or a.stops 0 no_stop (first_within a.image.now a.port a.seat.now (good a kept) kept.seat a.slots a.stops kept.slots kept.stops) ∙ ap (λ xs. Some (get_or xs 0 no_stop)) (sym c.as_slice.ensures) in
+    let there = first_found a.image.now a.port a.seat.now (good (walk_of a) (walks a kept)) kept.seat a.slots a.stops kept.slots kept.stops c.as_slice.result.now c.as_slice.ensures in
     let inside : view_in c.end_turn.new.self ≡ after_end (inner a (get_or a.stops a.at no_stop).items) =
-    c.end_turn.ensures.view ∙ ap after_end (inner_here a kept (get_or a.stops a.at no_stop) (found a kept a.stops refl) ending.early) in
-    can_enter a.image.now a.port a.seat.now (good a kept) kept.seat a.slots a.stops kept.slots kept.stops (view_in c.end_turn.new.self) c.as_slice-2.result.now first (nat_le (a.turn + 1) a.until)
+    c.end_turn.ensures.view ∙ ap after_end (inner_here a kept (get_or a.stops a.at no_stop) (found (walk_of a) (walks a kept) a.stops refl) ending.early) in
+    can_enter a.image.now a.port a.seat.now (good (walk_of a) (walks a kept)) kept.seat a.slots a.stops kept.slots kept.stops (view_in c.end_turn.new.self) c.as_slice-2.result.now first (nat_le (a.turn + 1) a.until)
     (ap (λ (v : PortView). v.image) inside) (ap (λ (v : PortView). v.port) inside) (ap (λ (v : PortView). v.begun) inside) (ap (λ (v : PortView). v.executed) inside)
     (λ runs. subst (λ (v : PortView). v.turn ≤ last_turn v) (sym inside) (let low = leb-true (a.turn + 1) a.until runs in let few = kept.few in omega arith))
     c.as_slice-2.ensures there
@@ -46,10 +45,9 @@ invariant_of-self c =
     let kept = c.self.invariant in
     let ending : IsEnding (view_of a) = subst IsEnding (sym c.self.view_is) c.requires in
     let first = get_or c.as_slice.result.now 0 no_stop in
-    let there : slice_get a.stops 0 ≡ Some first =
-    slice_get-get_or a.stops 0 no_stop (first_within a.image.now a.port a.seat.now (good a kept) kept.seat a.slots a.stops kept.slots kept.stops) ∙ ap (λ xs. Some (get_or xs 0 no_stop)) (sym c.as_slice.ensures) in
+    let there = first_found a.image.now a.port a.seat.now (good (walk_of a) (walks a kept)) kept.seat a.slots a.stops kept.slots kept.stops c.as_slice.result.now c.as_slice.ensures in
     let inside : view_in c.end_turn.new.self ≡ after_end (inner a (get_or a.stops a.at no_stop).items) =
-    c.end_turn.ensures.view ∙ ap after_end (inner_here a kept (get_or a.stops a.at no_stop) (found a kept a.stops refl) ending.early) in
+    c.end_turn.ensures.view ∙ ap after_end (inner_here a kept (get_or a.stops a.at no_stop) (found (walk_of a) (walks a kept) a.stops refl) ending.early) in
     let host = c.enter-self-inside.ensures.kind ∙ c.end_turn.ensures.kind in
     kept_fresh _ (record {
       image = kept.image;

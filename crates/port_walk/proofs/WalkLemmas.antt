@@ -1,0 +1,413 @@
+-- A port at a stop of its turn: what comes next there, and which stop is after it, whatever values the port has.
+use Rattle.std.proofs.Common.{◌≡◌, inl, inr, ℕ, ◌+◌, ◌-◌, ◌<◌, ◌≤◌, true, List, [], ◌∷◌, ◌++◌, length, take, get_or, slice_get, Some, sym, ap, ◌∙◌, subst, refl, arith}
+use Rattle.std.proofs.lemmas.Bool.{cases_lt}
+use Rattle.std.proofs.lemmas.List.{length-map, take_more}
+use Rattle.std.proofs.lemmas.Option.{slice_get_within, slice_get-get_or, slice_get_cases, get_or_from_slice_get}
+use Rattle.list_laws.proofs.Places.{one_there, past_end}
+use Rattle.limits.specs.declared.TheConstants.{MAX_SLOTS}
+use Rattle.logic_four.specs.declared.V4.{V4}
+use Rattle.image_defs.specs.declared.image.Image.{Image}
+use Rattle.image_defs.specs.declared.image.LinkIn.{LinkIn}
+use Rattle.image_defs.specs.declared.image.LinkOut.{LinkOut}
+use Rattle.image_defs.specs.declared.image.PortImage.{PortImage}
+use Rattle.image_defs.specs.Places.{Each, IsPort, item_slots, in_slots, out_slots}
+use Rattle.image_defs.specs.WellFormed.{IsPortImage, IsWellFormed}
+use Rattle.image_defs.specs.Ports.{PortView}
+use Rattle.image_defs.proofs.PlaceLemmas.{Rises, rises, at_map}
+use Rattle.event_defs.specs.declared.place.Action.{Action}
+use Rattle.event_defs.specs.declared.place.Action.TheVariants.{Ask, Put, Take, Tell, Done}
+use Rattle.event_defs.specs.Next.{SendsNext, ReceivesNext, EndsNext, IsNext}
+use Rattle.event_defs.proofs.NextLemmas.{sends_one, receives_one, sends_not_receives, sends_not_ends, receives_not_ends}
+use Rattle.event_defs.proofs.PaceLemmas.{same_port}
+use Rattle.event_defs.proofs.SlotLemmas.{to_map}
+use Rattle.port_walk.specs.declared.readers.Readers.{Readers}
+use Rattle.port_walk.specs.declared.stops.Stop.{Stop}
+use Rattle.port_walk.specs.declared.stops.StopKind.{StopKind}
+use Rattle.port_walk.specs.declared.stops.StopKind.TheVariants.{Send, Receive, End}
+use Rattle.port_walk.specs.Kinds.{CanRun}
+use Rattle.port_walk.specs.Readers.{IsSendAction}
+use Rattle.port_walk.specs.Rows.{AreReaders, HasFewReaders, IsRow, start_of}
+use Rattle.port_walk.specs.Stops.{ArePlaces, AreStops, IsFront, IsStop, counts, kind_at, slot_at}
+use Rattle.port_walk.proofs.StopLemmas.{places_few, tells, counts_more, send_grows, receipt_grows}
+use Rattle.port_walk.proofs.CursorLemmas.{next_send, next_receipt, next_end, received_before}
+
+-- what the look past a list's end would give
+abbrev pub no_stop : Stop
+no_stop = record { kind = Send; slot = 0; items = 0 }
+
+-- ---- the places of a port's sends and receipts
+
+module _ (image : Image) (p : ℕ) (seat : PortImage) (good : IsPortImage image p seat) where
+  pub out_places : ArePlaces image.slots (out_slots seat.outs)
+  out_places = record {
+    rising = good.outs;
+    low = λ i slot at.
+        let link = at_map (λ (l : LinkOut). l.slot) seat.outs i slot at in
+        let item = (good.sends i link.0 link.1).item in
+        let low = good.item_slots_within item.0 link.0.slot item.1 in
+        let same : link.0.slot ≡ slot = link.2 in
+        omega arith;
+  }
+
+  pub in_places : ArePlaces image.slots (in_slots seat.ins)
+  in_places = record { rising = good.ins; low = good.in_slots_within }
+
+-- ---- and of their readers
+
+module _ (image : Image) (good : IsWellFormed image) (p : ℕ) (seat : PortImage) (is : IsPort image p seat) where
+  pub few_sends : length seat.outs ≤ MAX_SLOTS
+  few_sends =
+      let few = places_few image.slots (out_slots seat.outs) (out_places image p seat (good.ports p seat is)) in
+      let slots = good.slots in
+      omega (arith, length-map seat.outs (λ (l : LinkOut). l.slot))
+
+  pub few_readers : Each HasFewReaders seat.outs
+  few_readers i link at =
+      let sends = (good.ports p seat is).sends i link at in
+      let low : Each (λ r. r < length image.ports) link.readers = λ k r there. let reader = sends.received k r there in slice_get_within image.ports r reader.port reader.is in
+      let few = places_few (length image.ports) link.readers (record { rising = sends.rising; low = low }) in
+      let most = good.most_ports in
+      omega arith
+
+-- the number of an item in the last slot up to which the items are counted
+pub last_item : (items : List ℕ) (i n slot : ℕ) → Rises items → IsFront items (slot + 1) n → slice_get items i ≡ Some slot → i + 1 ≡ n
+last_item items i n slot up front at = elim (cases_lt i n) [
+  | inl before ↦ elim (cases_lt (i + 1) n) [
+    | inl less ↦ elim (slice_get_cases items (i + 1)).1 [
+      | inl h ↦ let later = up i (i + 1) slot h.0 (omega arith) at h.2 in let low = front.before (i + 1) h.0 h.2 less in absurd (omega arith)
+      | inr h ↦ let past = h.0 in let within = front.within in absurd (omega arith)
+    ]
+    | inr more ↦ omega arith
+  ]
+  | inr after ↦ let high = front.rest i slot at after in absurd (omega arith)
+]
+
+-- no fewer slots are before a bound that is no less
+pub front_grows : (slots : List ℕ) (bound later n m : ℕ) → IsFront slots bound n → IsFront slots later m → bound ≤ later → n ≤ m
+front_grows slots bound later n m one other more = elim (cases_lt m n) [
+  | inl less ↦ elim (slice_get_cases slots m).1 [
+    | inl h ↦ let low = one.before m h.0 h.2 less in let high = other.rest m h.0 h.2 (omega arith) in absurd (omega arith)
+    | inr h ↦ let past = h.0 in let within = one.within in absurd (omega arith)
+  ]
+  | inr more ↦ more
+]
+
+-- all of them, where all are before the bound
+pub front_all : (slots : List ℕ) (bound n : ℕ) → IsFront slots bound n → ((i s : ℕ) → slice_get slots i ≡ Some s → s < bound) → n ≡ length slots
+front_all slots bound n front low = elim (cases_lt n (length slots)) [
+  | inl less ↦ elim (slice_get_cases slots n).1 [
+    | inl h ↦ let high = front.rest n h.0 h.2 (omega arith) in let below = low n h.0 h.2 in absurd (omega arith)
+    | inr h ↦ let past = h.0 in absurd (omega arith)
+  ]
+  | inr more ↦ let within = front.within in omega arith
+]
+
+-- the stops of a turn, where they were made of the same slots
+pub stops_read : (slots : ℕ) (items items' : List ℕ) (outs outs' : List LinkOut) (ins ins' : List LinkIn) (stops : List Stop) → items' ≡ items → outs' ≡ outs → ins' ≡ ins
+    → AreStops (out_slots outs') (in_slots ins') slots items' stops → AreStops (out_slots outs) (in_slots ins) slots items stops
+stops_read slots items items' outs outs' ins ins' stops same_items same_outs same_ins are =
+    subst (λ xs. AreStops (out_slots outs) (in_slots ins) slots xs stops) same_items
+    (subst (λ xs. AreStops (out_slots xs) (in_slots ins) slots items' stops) same_outs
+    (subst (λ xs. AreStops (out_slots outs') (in_slots xs) slots items' stops) same_ins are))
+
+-- the first slots of a list with one more
+one_more : (xs : List ℕ) (n x : ℕ) → slice_get xs n ≡ Some x → take (n + 1) xs ≡ take n xs ++ x ∷ []
+one_more xs n x at = take_more xs n 0 (slice_get_within xs n x at) ∙ ap (λ s. take n xs ++ s ∷ []) (get_or_from_slice_get xs n x 0 at)
+
+-- ---- the walk of a port
+
+-- a port of an image with its items and its stops, at which of these it stands, and how often it has sent and
+-- received
+pub record Walk : Type 0 where
+  pub image : Image
+  pub port : ℕ
+  pub seat : PortImage
+  pub items : List ℕ
+  pub stops : List Stop
+  pub at : ℕ
+  pub sent : ℕ
+  pub took : ℕ
+
+module _ (w : Walk) where
+  abbrev pub outs : List ℕ
+  outs = out_slots w.seat.outs
+
+  abbrev pub ins : List ℕ
+  ins = in_slots w.seat.ins
+
+  abbrev pub puts : List ℕ
+  puts = take w.sent outs
+
+  abbrev pub takes : List ℕ
+  takes = take w.took ins
+
+  -- it is one of the image's, and has come to that stop
+  pub record IsWalk : Type 0 where
+    pub image : IsWellFormed w.image
+    pub seat : IsPort w.image w.port w.seat
+    pub items : w.items ≡ item_slots w.seat.work
+    pub stops : AreStops outs ins w.image.slots w.items w.stops
+    pub come : counts outs ins w.at ≡ (w.sent, w.took)
+    pub at : w.at ≡ w.sent + w.took
+    pub sent : w.sent ≤ length w.seat.outs
+    pub took : w.took ≤ length w.seat.ins
+
+module _ (w : Walk) (walks : IsWalk w) where
+  pub good : IsPortImage w.image w.port w.seat
+  good = walks.image.ports w.port w.seat walks.seat
+
+  out_up : Rises (outs w)
+  out_up = rises (outs w) good.outs
+
+  in_up : Rises (ins w)
+  in_up = rises (ins w) good.ins
+
+  out_length : length (outs w) ≡ length w.seat.outs
+  out_length = length-map w.seat.outs (λ (l : LinkOut). l.slot)
+
+  in_length : length (ins w) ≡ length w.seat.ins
+  in_length = length-map w.seat.ins (λ (l : LinkIn). l.slot)
+
+  pub same_seat : (seat : PortImage) → IsPort w.image w.port seat → w.seat ≡ seat
+  same_seat seat is = same_port w.image w.port w.seat seat walks.seat is
+
+  within_at : w.at < length w.stops
+  within_at = omega (arith, walks.stops.count, walks.at, walks.sent, walks.took, out_length, in_length)
+
+  -- the stop at which it stands
+  pub found : (stops : List Stop) → stops ≡ w.stops → slice_get w.stops w.at ≡ Some (get_or stops w.at no_stop)
+  found stops same = slice_get-get_or w.stops w.at no_stop within_at ∙ ap (λ xs. Some (get_or xs w.at no_stop)) (sym same)
+
+  pub readers_there : (link : LinkOut) (known : List ℕ) → length known ≡ length w.image.ports → slice_get w.seat.outs w.sent ≡ Some link → Each (λ r. r < length known) link.readers
+  readers_there link known wide is i r at =
+      let reader = (good.sends w.sent link is).received i r at in
+      let within = slice_get_within w.image.ports r reader.port reader.is in
+      omega arith
+
+  -- what is put with one send more, and what is taken with one receipt more
+  pub puts_more : (link : LinkOut) → slice_get w.seat.outs w.sent ≡ Some link → take (w.sent + 1) (outs w) ≡ puts w ++ link.slot ∷ []
+  puts_more link is = one_more (outs w) w.sent link.slot (to_map (λ (l : LinkOut). l.slot) w.seat.outs w.sent link is)
+
+  pub takes_more : (link : LinkIn) → slice_get w.seat.ins w.took ≡ Some link → take (w.took + 1) (ins w) ≡ takes w ++ link.slot ∷ []
+  takes_more link is = one_more (ins w) w.took link.slot (to_map (λ (l : LinkIn). l.slot) w.seat.ins w.took link is)
+
+  module _ (stop : Stop) (at : slice_get w.stops w.at ≡ Some stop) where
+    pub is_stop : IsStop (outs w) (ins w) w.image.slots w.items w.sent w.took stop
+    is_stop = let is = walks.stops.each w.at stop at in rw walks.come at is
+
+    pub send_here : stop.kind ≡ Send → (link : LinkOut) × SendsNext w.seat (puts w) (takes w) w.sent link × (link.slot ≡ stop.slot)
+    send_here kind =
+        let next = next_send w.seat w.image.slots w.sent w.took out_up in_up (sym is_stop.kind ∙ kind) in
+        (next.0, next.1, next.2 ∙ sym is_stop.slot)
+
+    pub receipt_here : stop.kind ≡ Receive → (link : LinkIn) × ReceivesNext w.seat (puts w) (takes w) w.took link × (link.slot ≡ stop.slot)
+    receipt_here kind =
+        let next = next_receipt w.seat w.image.slots w.sent w.took out_up in_up (sym is_stop.kind ∙ kind) in
+        (next.0, next.1, next.2 ∙ sym is_stop.slot)
+
+    pub end_here : stop.kind ≡ End → EndsNext w.seat (puts w) (takes w)
+    end_here kind = next_end w.seat w.image.slots w.sent w.took out_up in_up (sym is_stop.kind ∙ kind)
+
+    -- the link that is sent, and its readers
+    pub record IsLinkHere (readers : Readers) (link : LinkOut) : Type 0 where
+      pub is : slice_get w.seat.outs w.sent ≡ Some link
+      pub within : w.sent < length w.seat.outs
+      pub row : IsRow readers.all (start_of readers w.sent) (start_of readers (w.sent + 1)) link.readers
+
+    pub link_here : (readers : Readers) → AreReaders (length w.seat.outs) w.seat.outs readers → stop.kind ≡ Send → (link : LinkOut) × IsLinkHere readers link
+    link_here readers are kind =
+        let next = send_here kind in
+        let within = slice_get_within w.seat.outs w.sent next.0 next.1.is in
+        (next.0, record { is = next.1.is; within = within; row = are.each w.sent next.0 within next.1.is })
+
+    pub slot_sent : stop.kind ≡ Send → (link : LinkOut) → slice_get w.seat.outs w.sent ≡ Some link → link.slot ≡ stop.slot
+    slot_sent kind link is = let next = send_here kind in ap (λ (l : LinkOut). l.slot) (one_there w.seat.outs w.sent w.sent link next.0 refl is next.1.is) ∙ next.2
+
+    -- the last item up to the stop is the one that is sent
+    pub last_here : (link : LinkOut) → slice_get w.seat.outs w.sent ≡ Some link → link.slot ≡ stop.slot → (item : ℕ) × (item + 1 ≡ stop.items) × (slice_get (item_slots w.seat.work) item ≡ Some stop.slot)
+    last_here link is slot =
+        let item = (good.sends w.sent link is).item in
+        let there : slice_get (item_slots w.seat.work) item.0 ≡ Some stop.slot = item.1 ∙ ap Some slot in
+        let front : IsFront (item_slots w.seat.work) (stop.slot + 1) stop.items = subst (λ xs. IsFront xs (stop.slot + 1) stop.items) walks.items is_stop.front in
+        (item.0, last_item (item_slots w.seat.work) item.0 stop.items stop.slot (rises (item_slots w.seat.work) good.items) front there, there)
+
+    -- the next event where a Put is missing
+    module _ (known : List ℕ) (turn banks until : ℕ) (value : ℕ → V4) (early : turn ≤ until) where
+      pub next_sent : (readers : List ℕ) (turns : ℕ) (v : V4) (link : LinkOut) (action : Action) → stop.kind ≡ Send → turns ≡ turn - banks → slice_get w.seat.outs w.sent ≡ Some link → readers ≡ link.readers → v ≡ value stop.slot
+          → IsSendAction readers known turns stop.slot v action → IsNext w.seat (record { turn = turn; puts = puts w; takes = takes w; known = known }) banks until value action
+      next_sent readers turns v link action kind bar is same v_is = of_action action where
+        sends_link : SendsNext w.seat (puts w) (takes w) w.sent link
+        sends_link = let next = send_here kind in subst (λ (l : LinkOut). SendsNext w.seat (puts w) (takes w) w.sent l) (one_there w.seat.outs w.sent w.sent next.0 link refl next.1.is is) next.1
+
+        of_action : (action : Action) → IsSendAction readers known turns stop.slot v action → IsNext w.seat (record { turn = turn; puts = puts w; takes = takes w; known = known }) banks until value action
+        of_action (Ask reader) lagging = (
+          early,
+          record {
+            i = w.sent;
+            link = link;
+            sends = sends_link;
+            reads = (lagging.reads.0, ap (λ xs. slice_get xs lagging.reads.0) (sym same) ∙ lagging.reads.1);
+            lags = let lags = lagging.lags in omega arith;
+            least = λ r stands less. let far = lagging.least r (stands.0, ap (λ xs. slice_get xs stands.0) same ∙ stands.1) less in omega arith;
+          },
+        )
+        of_action (Put s v) (none, slot, is_v) = (
+          early,
+          record {
+            i = w.sent;
+            link = link;
+            slot_is = slot_sent kind link is ∙ sym slot;
+            sends = sends_link;
+            ready = λ r stands. let far = none.each r (stands.0, ap (λ xs. slice_get xs stands.0) same ∙ stands.1) in omega arith;
+          },
+          is_v ∙ (v_is ∙ ap value (sym slot)),
+        )
+        of_action (Take s) wrong = absurd wrong
+        of_action Tell wrong = absurd wrong
+        of_action Done wrong = absurd wrong
+
+    -- ---- which event it is
+
+    pub record IsSendHere (i : ℕ) (link : LinkOut) : Type 0 where
+      pub kind : stop.kind ≡ Send
+      pub number : i ≡ w.sent
+      pub is : slice_get w.seat.outs w.sent ≡ Some link
+      pub slot : link.slot ≡ stop.slot
+
+    pub sends_at : (seat : PortImage) → IsPort w.image w.port seat → (i : ℕ) (link : LinkOut) → SendsNext seat (puts w) (takes w) i link → IsSendHere i link
+    sends_at seat seat_is i link sends = of_kind stop.kind refl where
+      next : SendsNext w.seat (puts w) (takes w) i link
+      next = subst (λ (s : PortImage). SendsNext s (puts w) (takes w) i link) (sym (same_seat seat seat_is)) sends
+
+      of_kind : (kind : StopKind) → stop.kind ≡ kind → IsSendHere i link
+      of_kind Send is =
+          let here = send_here is in
+          let one = sends_one w.image walks.image w.port w.seat walks.seat (puts w) (takes w) i w.sent link here.0 next here.1 in
+          record {
+            kind = is;
+            number = one.0;
+            is = here.1.is ∙ ap Some (sym one.1);
+            slot = ap (λ (l : LinkOut). l.slot) one.1 ∙ here.2;
+          }
+      of_kind Receive is =
+          let here = receipt_here is in
+          absurd (sends_not_receives w.image walks.image w.port w.seat walks.seat (puts w) (takes w) i w.took link here.0 next here.1)
+      of_kind End is = absurd (sends_not_ends w.image walks.image w.port w.seat walks.seat (puts w) (takes w) i link next (end_here is))
+
+    pub record IsReceiptHere (j : ℕ) (link : LinkIn) : Type 0 where
+      pub kind : stop.kind ≡ Receive
+      pub number : j ≡ w.took
+      pub is : slice_get w.seat.ins w.took ≡ Some link
+      pub slot : link.slot ≡ stop.slot
+
+    pub receives_at : (seat : PortImage) → IsPort w.image w.port seat → (j : ℕ) (link : LinkIn) → ReceivesNext seat (puts w) (takes w) j link → IsReceiptHere j link
+    receives_at seat seat_is j link receives = of_kind stop.kind refl where
+      next : ReceivesNext w.seat (puts w) (takes w) j link
+      next = subst (λ (s : PortImage). ReceivesNext s (puts w) (takes w) j link) (sym (same_seat seat seat_is)) receives
+
+      of_kind : (kind : StopKind) → stop.kind ≡ kind → IsReceiptHere j link
+      of_kind Send is =
+          let here = send_here is in
+          absurd (sends_not_receives w.image walks.image w.port w.seat walks.seat (puts w) (takes w) w.sent j here.0 link here.1 next)
+      of_kind Receive is =
+          let here = receipt_here is in
+          let one = receives_one w.image walks.image w.port w.seat walks.seat (puts w) (takes w) j w.took link here.0 next here.1 in
+          record {
+            kind = is;
+            number = one.0;
+            is = here.1.is ∙ ap Some (sym one.1);
+            slot = ap (λ (l : LinkIn). l.slot) one.1 ∙ here.2;
+          }
+      of_kind End is = absurd (receives_not_ends w.image walks.image w.port w.seat walks.seat (puts w) (takes w) j link next (end_here is))
+
+    pub ends_at : (seat : PortImage) → IsPort w.image w.port seat → EndsNext seat (puts w) (takes w) → stop.kind ≡ End
+    ends_at seat seat_is ends = of_kind stop.kind refl where
+      next : EndsNext w.seat (puts w) (takes w)
+      next = subst (λ (s : PortImage). EndsNext s (puts w) (takes w)) (sym (same_seat seat seat_is)) ends
+
+      of_kind : (kind : StopKind) → stop.kind ≡ kind → stop.kind ≡ End
+      of_kind Send is = let here = send_here is in absurd (sends_not_ends w.image walks.image w.port w.seat walks.seat (puts w) (takes w) w.sent here.0 here.1 next)
+      of_kind Receive is = let here = receipt_here is in absurd (receives_not_ends w.image walks.image w.port w.seat walks.seat (puts w) (takes w) w.took here.0 here.1 next)
+      of_kind End is = is
+
+    -- ---- the stop after
+
+    -- the next stop, at which the port has sent and received so often
+    pub record IsAfter (sent took : ℕ) (next : Stop) : Type 0 where
+      pub come : counts (outs w) (ins w) (w.at + 1) ≡ (sent, took)
+      pub count : w.at + 1 ≡ sent + took
+      pub sent_within : sent ≤ length w.seat.outs
+      pub took_within : took ≤ length w.seat.ins
+      pub there : slice_get w.stops (w.at + 1) ≡ Some next
+      pub is : IsStop (outs w) (ins w) w.image.slots w.items sent took next
+      pub grows : stop.slot ≤ next.slot
+
+    after : (sent took : ℕ) (stops : List Stop) → stops ≡ w.stops → counts (outs w) (ins w) (w.at + 1) ≡ (sent, took) → w.at + 1 ≡ sent + took → sent ≤ length w.seat.outs → took ≤ length w.seat.ins
+        → stop.slot ≤ slot_at (outs w) (ins w) w.image.slots sent took → IsAfter sent took (get_or stops (w.at + 1) no_stop)
+    after sent took stops same come count sent_within took_within grows = record {
+      come = come;
+      count = count;
+      sent_within = sent_within;
+      took_within = took_within;
+      there = there;
+      is = is;
+      grows = let slot = is.slot in omega arith;
+    } where
+      there : slice_get w.stops (w.at + 1) ≡ Some (get_or stops (w.at + 1) no_stop)
+      there = slice_get-get_or w.stops (w.at + 1) no_stop (omega (arith, walks.stops.count, out_length, in_length)) ∙ ap (λ xs. Some (get_or xs (w.at + 1) no_stop)) (sym same)
+
+      is : IsStop (outs w) (ins w) w.image.slots w.items sent took (get_or stops (w.at + 1) no_stop)
+      is = let is = walks.stops.each (w.at + 1) (get_or stops (w.at + 1) no_stop) there in rw come at is
+
+    kind_here : (kind : StopKind) → stop.kind ≡ kind → kind_at (outs w) (ins w) w.sent w.took ≡ kind
+    kind_here kind is = sym is_stop.kind ∙ is
+
+    slot_here : stop.slot ≡ slot_at (outs w) (ins w) w.image.slots w.sent w.took
+    slot_here = is_stop.slot
+
+    pub after_send : (stops : List Stop) → stops ≡ w.stops → stop.kind ≡ Send → IsAfter (w.sent + 1) w.took (get_or stops (w.at + 1) no_stop)
+    after_send stops same kind =
+        let here = send_here kind in
+        let within = slice_get_within w.seat.outs w.sent here.0 here.1.is in
+        let grows = send_grows (outs w) (ins w) w.image.slots (out_places w.image w.port w.seat good) (in_places w.image w.port w.seat good) w.sent w.took (kind_here Send kind) in
+        let slot = slot_here in
+        after (w.sent + 1) w.took stops same (counts_more (outs w) (ins w) w.at w.sent w.took Send walks.come (kind_here Send kind)) (omega (arith, walks.at)) (omega arith) walks.took (omega arith)
+
+    pub after_receipt : (stops : List Stop) → stops ≡ w.stops → stop.kind ≡ Receive → IsAfter w.sent (w.took + 1) (get_or stops (w.at + 1) no_stop)
+    after_receipt stops same kind =
+        let here = receipt_here kind in
+        let within = slice_get_within w.seat.ins w.took here.0 here.1.is in
+        let grows = receipt_grows (outs w) (ins w) w.image.slots (out_places w.image w.port w.seat good) (in_places w.image w.port w.seat good) w.sent w.took (kind_here Receive kind) in
+        let slot = slot_here in
+        after w.sent (w.took + 1) stops same (counts_more (outs w) (ins w) w.at w.sent w.took Receive walks.come (kind_here Receive kind)) (omega (arith, walks.at)) walks.sent (omega arith) (omega arith)
+
+    -- ---- what the port within may do
+
+    -- the items up to the stop after
+    pub can_run_on : (view : PortView) (slots : List ℕ) (sent took : ℕ) (next : Stop) → view.begun ≡ true → IsPort view.image view.port w.seat → view.executed ≡ stop.items → view.received ≡ took → slots ≡ w.items → IsAfter sent took next
+        → CanRun view slots stop.items next.items
+    can_run_on view slots sent took next begun is from got_is same after = record {
+      begun = begun;
+      seat = w.seat;
+      is = is;
+      slots_are = same ∙ walks.items;
+      from_is = from;
+      order = let grows = after.grows in front_grows w.items (stop.slot + 1) (next.slot + 1) stop.items next.items is_stop.front after.is.front (omega arith);
+      within = let within = after.is.front.within in subst (λ xs. next.items ≤ length xs) (sym same) within;
+      received_before = λ k slot i link low at_k at_i less.
+          let below = after.is.front.before k slot (ap (λ xs. slice_get xs k) (sym same) ∙ at_k) low in
+          let place = after.is.slot in
+          let got : i < took = received_before w.seat w.image.slots sent took out_up in_up i link at_i (omega arith) in
+          subst (λ n. i < n) (sym got_is) got;
+    }
+
+    -- at the end of the turn it has executed and received all
+    pub all_done : stop.kind ≡ End → (stop.items ≡ length (item_slots w.seat.work)) × (w.took ≡ length w.seat.ins)
+    all_done kind =
+        let end = (tells (outs w) (ins w) w.image.slots w.sent w.took).end (kind_here End kind) in
+        let slot : stop.slot ≡ w.image.slots = slot_here ∙ end.slot in (
+          subst (λ xs. stop.items ≡ length xs) walks.items
+              (front_all w.items (stop.slot + 1) stop.items is_stop.front
+              (λ i s there. let low = good.item_slots_within i s (ap (λ xs. slice_get xs i) (sym walks.items) ∙ there) in omega arith)),
+          let past = past_end (ins w) w.took end.no_receipt in let long = in_length in let took = walks.took in omega arith,
+        )
