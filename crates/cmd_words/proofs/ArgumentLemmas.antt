@@ -5,11 +5,11 @@ use Rattle.std.specs.List.{AllByRecursion, list_all}
 use Rattle.std.proofs.Math.Bool.{and_assoc}
 use Rattle.std.proofs.lemmas.Bool.{and_from, and_parts, lt-ltb}
 use Rattle.std.proofs.lemmas.Slice.Eq.{bytes_eq-Decides}
+use Rattle.list_laws.proofs.Options.{one_some}
 use Rattle.cmd_words.specs.Arguments.{Word, dashes, begins_with_dash, has_name, names_given, Piece, alone, spaced, joined, words_of, arguments_of, options_of, IsPiece, tail_words, are_new, AreArguments}
 use Rattle.cmd_words.specs.Uses.{Use, argument, option, Look, the_end, an_option, a_dash, a_word, look, is_filled, fits, with_use, collects, Found, nothing_found, parsed, put_first, read_word, read_value, reads}
 use Rattle.cmd_words.proofs.LookLemmas.{is_proper, proper_name, look_plain, look_end, look_named, look_joined, long_is}
 use Rattle.cmd_words.proofs.ParseLemmas.{names_more}
-use Rattle.cmd_words.proofs.TestLemmas.{same_some}
 use Rattle.cmd_words.proofs.WalkLemmas.{IsLook, looks}
 
 -- ---- what uses give together
@@ -312,7 +312,7 @@ arguments_from names words found e = go (reads names words None) refl e
   where
     fitting : (uses : List Use) → reads names words None ≡ Some uses → (fit : Bool) → fit_all nothing_found uses ≡ fit
         → (if fit then Some (found_with nothing_found uses) else None) ≡ Some found → AreArguments names words found.arguments found.given
-    fitting uses read true fit is = found_from names words uses found ((all_spelled names words).rests uses read) fit (sym (same_some (found_with nothing_found uses) found is))
+    fitting uses read true fit is = found_from names words uses found ((all_spelled names words).rests uses read) fit (sym (one_some (found_with nothing_found uses) found is))
     fitting uses read false fit is = cc
 
     go : (rest : Option (List Use)) → reads names words None ≡ rest → option_and_then (collects nothing_found) rest ≡ Some found → AreArguments names words found.arguments found.given

@@ -1,13 +1,13 @@
 -- What arguments and values say, said of a parse.
 use Rattle.std.proofs.Common.{◌≡◌, inl, inr, List, [], ◌∷◌, Option, Some, option_map, sym, ap, ap₂, ◌∙◌}
 use Rattle.std.specs.Prelude.{option_and_then}
+use Rattle.list_laws.proofs.Options.{one_some}
 use Rattle.clap.specs.declared.parser.matches.ArgMatches.{ArgMatches}
 use Rattle.cmd_words.specs.declared.command.WordNo.{WordNo}
 use Rattle.cmd_words.specs.Arguments.{Word, value_given}
 use Rattle.cmd_words.specs.Asked.{IsRefusal, Values, image_by, of_image, of_large, of_netlist, of_two_files, large_by, run_by, says}
 use Rattle.cmd_words.specs.Parses.{arguments_found, both_of, one_of, three_of, value_found, IsParsedAs}
 use Rattle.cmd_words.specs.Uses.{Found}
-use Rattle.cmd_words.proofs.TestLemmas.{same_some}
 
 -- what words say is what a parse of them found says
 pub says_found : {T : Type 0} (names words : List Word) (reading : List Word → Values → Option T) (matches : ArgMatches) → IsParsedAs names words matches
@@ -17,7 +17,7 @@ says_found names words reading matches is =
 
 -- the two words
 both_are : (arguments : List Word) (one other : Word) → both_of arguments ≡ Some (one, other) → arguments ≡ one ∷ other ∷ []
-both_are (first ∷ second ∷ []) one other e = ap (λ (both : Word × Word). both.0 ∷ both.1 ∷ []) (same_some (first, second) (one, other) e)
+both_are (first ∷ second ∷ []) one other e = ap (λ (both : Word × Word). both.0 ∷ both.1 ∷ []) (one_some (first, second) (one, other) e)
 both_are [] one other e = cc
 both_are (first ∷ []) one other e = cc
 both_are (first ∷ second ∷ third ∷ others) one other e = cc
@@ -37,7 +37,7 @@ says_large names words matches gates cycles is both =
 -- the three words
 three_are : (arguments : List Word) (one other third : Word) → three_of arguments ≡ Some (one, other, third) → arguments ≡ one ∷ other ∷ third ∷ []
 three_are (first ∷ second ∷ last ∷ []) one other third e =
-    ap (λ (three : Word × Word × Word). three.0 ∷ three.1 ∷ three.2 ∷ []) (same_some (first, second, last) (one, other, third) e)
+    ap (λ (three : Word × Word × Word). three.0 ∷ three.1 ∷ three.2 ∷ []) (one_some (first, second, last) (one, other, third) e)
 three_are [] one other third e = cc
 three_are (first ∷ []) one other third e = cc
 three_are (first ∷ second ∷ []) one other third e = cc
@@ -51,7 +51,7 @@ says_image names words matches netlist image stimulus is three =
 
 -- one word is the file of a netlist
 one_is : (arguments : List Word) (value : Values) (netlist : Word) → one_of arguments ≡ Some netlist → of_netlist arguments value ≡ run_by netlist [] value
-one_is (one ∷ []) value netlist e = ap (λ (file : Word). run_by file [] value) (same_some one netlist e)
+one_is (one ∷ []) value netlist e = ap (λ (file : Word). run_by file [] value) (one_some one netlist e)
 one_is [] value netlist e = cc
 one_is (one ∷ other ∷ others) value netlist e = cc
 

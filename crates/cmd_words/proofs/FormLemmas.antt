@@ -3,6 +3,7 @@ use Rattle.std.proofs.Common.{◌≡◌, inl, inr, ℕ, Bool, true, false, List,
 use Rattle.std.specs.Prelude.{bytes_eq, flat_map, if◌then◌else◌, option_and_then, Result, Ok, Err, MatchResult}
 use Rattle.std.specs.List.{AllByRecursion, list_all}
 use Rattle.std.proofs.lemmas.Slice.Eq.{bytes_eq-Decides}
+use Rattle.list_laws.proofs.Options.{one_some}
 use Rattle.net_defs.specs.declared.homes.HomeChoice.{HomeChoice}
 use Rattle.net_defs.specs.declared.timing.Timing.{Timing}
 use Rattle.cmd_words.specs.declared.command.Command.{Command}
@@ -16,7 +17,6 @@ use Rattle.cmd_words.specs.Settings.{run_options, refer_options, order_options, 
 use Rattle.cmd_words.specs.Uses.{Found, parsed}
 use Rattle.cmd_words.proofs.ArgumentLemmas.{arguments_from, parsed_from}
 use Rattle.cmd_words.proofs.LookLemmas.{is_proper}
-use Rattle.cmd_words.proofs.TestLemmas.{same_some}
 
 -- ---- from the form to what is asked
 
@@ -120,7 +120,7 @@ run_back netlist stimulus value run e = go (timing_by value) (banks_by value) (w
     go : (timing : Option Timing) (banks workers : Option ℕ) (homes : Option HomeChoice) → timing_by value ≡ timing → banks_by value ≡ banks → workers_by value ≡ workers → homes_by value ≡ homes
         → run_with netlist stimulus value timing banks workers homes ≡ Some run → IsRunBy (netlist ∷ stimulus ∷ []) value run
     go (Some timing) (Some banks) (Some workers) (Some homes) t b w h e =
-        let is = same_some (record {
+        let is = one_some (record {
           netlist = netlist;
           stimulus = stimulus;
           machine = value (codes "machine");
@@ -230,7 +230,7 @@ image_back (netlist ∷ image ∷ stimulus ∷ []) value command e = go (run_by 
         record {
           run = run;
           image = image;
-          command_is = sym (same_some (Exec run image) command e);
+          command_is = sym (one_some (Exec run image) command e);
           arguments_are = ap₂ (λ (netlist stimulus : Word). netlist ∷ image ∷ stimulus ∷ []) same.0 same.1;
           is = record { arguments_are = refl; machine = is.machine; order = is.order; last = is.last; timing = is.timing; banks = is.banks; workers = is.workers; homes = is.homes };
         }
@@ -304,7 +304,7 @@ large_back (gates ∷ cycles ∷ []) value command e = go (gates_of gates) (cycl
           gates = g;
           cycles = c;
           workers = w;
-          command_is = sym (same_some (Large g c w) command e);
+          command_is = sym (one_some (Large g c w) command e);
           by = record { gates_word = gates; cycles_word = cycles; arguments_are = refl; gates_are = gs; cycles_are = cs; workers_are = ws };
         }
     go (Some g) (Some c) None gs cs ws e = cc
@@ -371,4 +371,4 @@ read_by_form words (Err refusal) (inr usage) = inr (usage.0, λ command form. le
 -- ---- laws
 
 pub one_form : (words : List Word) (one other : Command) → HasForm words one → HasForm words other → one ≡ other
-one_form words one other first second = same_some one other (sym (asked_from words one first) ∙ asked_from words other second)
+one_form words one other first second = one_some one other (sym (asked_from words one first) ∙ asked_from words other second)

@@ -6,12 +6,12 @@ use Rattle.std.proofs.Math.Numerals.{one-add}
 use Rattle.std.proofs.lemmas.Bool.{and_parts}
 use Rattle.std.proofs.lemmas.Bool.Decides.{nat_tests}
 use Rattle.std.proofs.lemmas.Slice.Eq.{bytes_eq-Decides}
+use Rattle.list_laws.proofs.Options.{one_some}
 use Rattle.clap.proofs.CutLemmas.{Lacks}
 use Rattle.clap.proofs.LexerLemmas.{name_and_value-at, name_and_value-without}
 use Rattle.clap.specs.Lexer.{has_byte, long_of, long_of_rest, name_and_value, strip_byte}
 use Rattle.cmd_words.specs.Arguments.{Word, dashes, has_name, IsPlain}
 use Rattle.cmd_words.specs.Uses.{the_end, an_option, a_word, look, is_filled}
-use Rattle.cmd_words.proofs.TestLemmas.{same_some}
 
 -- ---- names
 
@@ -107,7 +107,7 @@ long_is (first ∷ rest) name value long = go (first == 45) refl rest long
     third : (rest : Word) → long_of_rest rest ≡ Some (name, value) → rest ≡ spelled name value
     third [] long = cc
     third (byte ∷ rest) long =
-        let cut : name_and_value (byte ∷ rest) ≡ (name, value) = same_some (name_and_value (byte ∷ rest)) (name, value) long in
+        let cut : name_and_value (byte ∷ rest) ≡ (name, value) = one_some (name_and_value (byte ∷ rest)) (name, value) long in
         sym (cut_back (byte ∷ rest)) ∙ ap (λ (cut : Word × Option Word). spelled cut.0 cut.1) cut
 
     second : (b : Bool) (byte : ℕ) (rest : Word) → (byte == 45) ≡ b → option_and_then long_of_rest (if b then Some rest else None) ≡ Some (name, value)

@@ -1,9 +1,6 @@
 -- Tests and values that may be none.
-use Rattle.std.proofs.Common.{◌≡◌, Bool, true, false, Some, refl}
+use Rattle.std.proofs.Common.{◌≡◌, Bool, true, false, refl}
 use Rattle.std.specs.Prelude.{if◌then◌else◌}
-
-pub same_some : {X : Type 0} (x y : X) → Some x ≡ Some y → x ≡ y
-same_some x y e = cc
 
 pub same_either : {X : Type 0} (b : Bool) (x : X) → (if b then x else x) ≡ x
 same_either true x = refl
