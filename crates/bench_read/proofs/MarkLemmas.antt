@@ -7,9 +7,10 @@ use Rattle.std.proofs.lemmas.Bool.{or_right}
 use Rattle.std.proofs.lemmas.Bool.Decides.{eqb_tells}
 use Rattle.std.proofs.lemmas.List.{length-set, get_or-set_same, get_or-set_other, get_or-replicate, length-replicate, take_all}
 use Rattle.std.proofs.lemmas.List.Elements.{filter-append}
-use Rattle.std.proofs.lemmas.List.Folds.{list_any-append}
 use Rattle.std.proofs.lemmas.List.FromFn.{get_or-range_with_len, length-range_with_len}
 use Rattle.std.proofs.lemmas.List.Kept.{AllPairs-filter}
+use Rattle.std.proofs.lemmas.List.Folds.{list_any-append}
+use Rattle.list_laws.proofs.Ranges.{range_more}
 use Rattle.text_lines.specs.Answers.{first}
 use Rattle.text_lines.specs.Lines.{parts_of}
 use Rattle.text_lines.proofs.AnswerLemmas.{first-zero, first_none_more, first_some}
@@ -20,7 +21,6 @@ use Rattle.net_defs.specs.Valid.{Ascends}
 use Rattle.bench_read.specs.declared.refusal.LastNo.{LastNo}
 use Rattle.bench_read.specs.GateLists.{AreMarks, gate_of, gates_of, ascending, marked, fault_of, fault_at, first_fault, Reads}
 use Rattle.bench_read.proofs.ListLemmas.{gates_more}
-use Rattle.bench_read.proofs.NumberLemmas.{range_more}
 
 -- ---- marks
 

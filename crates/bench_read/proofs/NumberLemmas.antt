@@ -1,7 +1,6 @@
 -- The numbers of names, and names in signal order.
 use Rattle.std.proofs.Common.{◌≡◌, ℕ, ◌+◌, ◌<◌, ◌≤◌, true, false, cond, List, [], ◌∷◌, ◌++◌, append_assoc, append-nil, length, get_or, Bool, Some, None, sym, ap, ◌∙◌, subst, refl, arith, bytes_eq, length-append}
-use Rattle.bench_read.proofs.Common.{sum_by, list_any, flat_map, position, range_with_len, map-append, map-id, get_or-map, list_any_at, sum_by-append, common_steps, order_by, AreOnce}
-use Rattle.std.proofs.lemmas.List.FromFn.{map-range_with_len_more}
+use Rattle.bench_read.proofs.Common.{sum_by, list_any, flat_map, position, range_with_len, map-append, get_or-map, list_any_at, sum_by-append, common_steps, order_by, AreOnce}
 use Rattle.std.proofs.lemmas.List.Quantifiers.{position-Some}
 use Rattle.list_laws.proofs.Tests.{first_after, count_none, none_counted, none_past}
 use Rattle.bench_read.specs.Lines.{Line, Input, driven, all_driven}
@@ -69,10 +68,6 @@ order_numbers names inputs others input other (line ∷ lines) once is first sec
 pub order_is : (lines : List Line) (inputs : ℕ) → AreOnce (all_driven lines) → inputs ≡ length (flat_map input_names lines) → order_by 0 inputs lines ≡ numbers (names_of lines) (all_driven lines)
 unfolding names_of
 order_is lines inputs once is = order_numbers (names_of lines) [] [] 0 inputs lines (names_once lines once) refl refl (rw append-nil is)
-
--- one number more
-pub range_more : (a n : ℕ) → range_with_len a (n + 1) ≡ range_with_len a n ++ (a + n) ∷ []
-range_more a n = simp map-id at (map-range_with_len_more (λ (k : ℕ). k) a n (a + n) refl)
 
 -- ---- names that are found
 
