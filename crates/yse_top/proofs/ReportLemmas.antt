@@ -24,12 +24,12 @@ use Rattle.plan_defs.specs.Slots.{IsFirstFitPlan, slot_of}
 use Rattle.plan_defs.specs.Tables.{UsesTables}
 use Rattle.plan_defs.proofs.ListLemmas.{listed_all}
 use Rattle.plan_defs.proofs.PlanLemmas.{plans_agree}
-use Rattle.plan_defs.proofs.PortLemmas.{reader_port}
 use Rattle.plan_text.specs.declared.figures.Figures.{Figures}
 use Rattle.plan_text.specs.Counted.{AreFigures, Receives, bits_at, items_at}
 use Rattle.plan_text.specs.Lines.{item_line, item_name, port_line, report_text}
 use Rattle.plan_text.specs.Reports.{IsReport}
 use Rattle.plan_text.proofs.OneLemmas.{flat_below, reports_agree}
+use Rattle.yse_compile.proofs.SwitchExists.{readers_there}
 use Rattle.yse_compile.specs.declared.choose.Chosen.{Chosen}
 use Rattle.yse_compile.specs.Chosen.{HomesFit, IsUsed}
 use Rattle.yse_compile.proofs.KnownLemmas.{IsKnown, known_below, known_both, known_same, listed_to}
@@ -116,11 +116,6 @@ module _ (one other : NodeNet) (there : AreSameItems one other) (back : AreSameI
 -- ---- there are figures
 
 module _ (nodes : NodeNet) (homes : Homes) (formed : IsWellFormed nodes) (are : AreHomes nodes homes) (slots : List ℕ) where
-  readers_listed : (i : ℕ) → (ports : List ℕ) × IsReaderList nodes homes i ports
-  readers_listed i =
-      let found = listed_to (IsReader nodes homes i) (reader_known nodes homes i) (ports_of homes) in
-      (found.0, listed_all (IsReader nodes homes i) (ports_of homes) found.0 found.1 (λ port reads. (reader_port nodes homes i port formed are reads).1))
-
   receives_known : (port slot : ℕ) → IsKnown (Receives nodes homes slots port slot)
   receives_known port slot =
       known_same ((i : ℕ) × (i < length nodes.items) × (IsReader nodes homes i port × (slot_of slots i ≡ slot))) (Receives nodes homes slots port slot)
@@ -147,7 +142,7 @@ module _ (nodes : NodeNet) (homes : Homes) (formed : IsWellFormed nodes) (are : 
   receipts_of port = (receipts_counted port).0
 
   abbrev readers_of : ℕ → List ℕ
-  readers_of i = (readers_listed i).0
+  readers_of i = (readers_there nodes homes formed are i).0
 
   pub figures : Figures
   figures = record {
@@ -165,7 +160,7 @@ module _ (nodes : NodeNet) (homes : Homes) (formed : IsWellFormed nodes) (are : 
     tables = λ port low. subst (UsesTables nodes homes port) (sym (get_or-map-range_with_len tables_of 0 homes.logic port port 0 low (omega arith))) (tables_counted nodes homes formed port).1;
     bits = λ a low. get_or-map-range_with_len (λ a. bits_at nodes homes (homes.logic + a)) 0 homes.array a a 0 low (omega arith);
     takes = λ port low. subst (Counts (Receives nodes homes slots port)) (sym (get_or-map-range_with_len receipts_of 0 (ports_of homes) port port 0 low (omega arith))) (receipts_counted port).1;
-    readers = λ i low. subst (IsReaderList nodes homes i) (sym (get_or-map-range_with_len readers_of 0 (length nodes.items) i i [] low (omega arith))) (readers_listed i).1;
+    readers = λ i low. subst (IsReaderList nodes homes i) (sym (get_or-map-range_with_len readers_of 0 (length nodes.items) i i [] low (omega arith))) (readers_there nodes homes formed are i).1;
   }
 
 -- ---- reports

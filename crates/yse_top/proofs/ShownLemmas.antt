@@ -2,7 +2,7 @@
 use Rattle.std.proofs.Common.{◌≡◌, ◌∙◌, inl, inr, ℕ, zero, suc, ◌+◌, ◌-◌, ◌<◌, ◌≤◌, List, [], ◌∷◌, ◌++◌, length, Some, slice_get, sym, ap, subst, refl, arith}
 use Rattle.std.proofs.lemmas.Bool.{cases_lt}
 use Rattle.std.specs.List.{flat_map, range_with_len}
-use Rattle.std.proofs.lemmas.List.{length_push, length-map}
+use Rattle.std.proofs.lemmas.List.{ext_get_or, length_push, length-map}
 use Rattle.std.proofs.lemmas.List.FromFn.{get_or-map-range_with_len, length-map-range_with_len}
 use Rattle.std.proofs.lemmas.Option.{slice_get_within}
 use Rattle.block_run.specs.Lines.{bytes_of_run, cells_shown}
@@ -39,15 +39,6 @@ use Rattle.trace_text.specs.Line.{HasRoom}
 use Rattle.yse_top.specs.Outputs.{CanPrint, cycle_lines}
 use Rattle.yse_top.proofs.TraceLemmas.{printed_front}
 
--- lists of values that agree at each place
-same_values : (xs ys : List V4) → length xs ≡ length ys → ((j : ℕ) → j < length xs → value_at xs j ≡ value_at ys j) → xs ≡ ys
-same_values [] [] long same = refl
-same_values [] (y ∷ ys) long same = absurd (omega (arith, long))
-same_values (x ∷ xs) [] long same = absurd (omega (arith, long))
-same_values (x ∷ xs) (y ∷ ys) long same =
-    let first : x ≡ y = same zero (omega arith) in
-    ap (λ v. v ∷ xs) first ∙ ap (λ vs. y ∷ vs) (same_values xs ys (omega (arith, long)) (λ j low. same (suc j) (omega (arith, low))))
-
 pub shown_none : (image : Image) (stimulus : Stimulus) → AreShown image stimulus 0 []
 shown_none image stimulus = record {
   cycles_are = refl;
@@ -83,7 +74,7 @@ pub cells_are : (net : Netlist) (timing : Timing) (stimulus : Stimulus) (image :
 cells_are net timing stimulus image n rows of are few c row at =
     let low = slice_get_within rows c row at in
     let wide = are.width c row at ∙ of.printed in
-    same_values row.cells (cells_of net timing (of.shows stimulus).states (c + 1)) (wide ∙ sym (length-map net.printed _)) (λ j inside.
+    ext_get_or Undef row.cells (cells_of net timing (of.shows stimulus).states (c + 1)) (wide ∙ sym (length-map net.printed _)) (λ j inside.
     are.cells c j row at (omega (arith, inside, are.width c row at))
     ∙ (of.shows stimulus).cells (c + 1) j (omega (arith, low, are.cycles_are, few)) (omega (arith, inside, wide)))
 
@@ -128,7 +119,7 @@ run_trace net timing stimulus image of = record {
   same : (c : ℕ) → c < cycle_count stimulus → cells_shown image stimulus (c + 1) ≡ cells_of net timing states (c + 1)
   same c low =
       let many = length-map-range_with_len (λ j. shown image stimulus (c + 1) j) 0 (length (printed_sources image)) in
-      same_values (cells_shown image stimulus (c + 1)) (cells_of net timing states (c + 1)) (many ∙ of.printed ∙ sym (length-map net.printed _)) (λ j inside.
+      ext_get_or Undef (cells_shown image stimulus (c + 1)) (cells_of net timing states (c + 1)) (many ∙ of.printed ∙ sym (length-map net.printed _)) (λ j inside.
       get_or-map-range_with_len (λ j. shown image stimulus (c + 1) j) 0 (length (printed_sources image)) j j Undef (omega (arith, inside, many)) (omega arith)
       ∙ (of.shows stimulus).cells (c + 1) j (omega (arith, low)) (omega (arith, inside, many, of.printed)))
 
