@@ -1,5 +1,5 @@
 -- How a call ends, by what its words ask for and what came of the command.
-use Rattle.std.proofs.Common.{◌≡◌, ◌∙◌, sym, ap, refl, inl, inr, ℕ, ◌≤◌, Bool, List, length, take, Option, Result, Err, arith}
+use Rattle.std.proofs.Common.{◌≡◌, ◌∙◌, sym, ap, refl, inl, inr, ℕ, ◌≤◌, Bool, List, length, take, Option, Err, arith}
 use Rattle.std.proofs.lemmas.List.{length-map, length-take}
 use Rattle.edge_io.specs.Counts.{raised}
 use Rattle.edge_io.specs.declared.counts.FileCounts.{FileCounts}
@@ -7,22 +7,16 @@ use Rattle.cmd_words.specs.declared.command.Command.{Command}
 use Rattle.cmd_words.specs.Forms.{HasForm}
 use Rattle.yse_top.specs.declared.output.Output.{Output}
 use Rattle.yse_top.specs.declared.output.Output.TheVariants as output
-use Rattle.yse_top.specs.declared.refusal.Refusal.{Refusal}
 use Rattle.yse_top.specs.declared.refusal.Refusal.TheVariants as refusal
 use Rattle.yse_top.specs.declared.status.Status.TheVariants as status
-use Rattle.yse_top.specs.Expected.{Asks, ExpectedOf, Expected}
+use Rattle.yse_top.specs.Expected.{Expected}
 use Rattle.yse_top.specs.Law.{IsProper}
 use Rattle.yse_top.specs.Outcome.{Outcome}
 use Rattle.yse_top.specs.Readings.{Reading, AreReadings}
 use Rattle.yse_top.specs.Refusals.{Follows, ended_with}
-use Rattle.yse_top.proofs.ChainLemmas.{follows_on, follows_here}
+use Rattle.yse_top.proofs.ChainLemmas.{follows_here}
 
 module _ (names : Option (List ℕ → Bool)) (bytes : Option (List ℕ → List ℕ)) (old new : FileCounts) where
-  -- the words are of the form of the command
-  pub follows_words : (words : List (List ℕ)) (command : Command) (result : Result Output Refusal) → HasForm words command → Follows names bytes old new result (ExpectedOf command) → Follows names bytes old new result (Expected words)
-  unfolding Expected
-  follows_words words command result has follows = follows_on names bytes (Asks words) ExpectedOf command old new result has follows
-
   -- they are of no form
   pub follows_usage : (words : List (List ℕ)) → ((command : Command) → HasForm words command → ⊥) → Follows names bytes old old (Err refusal.Words) (Expected words)
   unfolding Expected

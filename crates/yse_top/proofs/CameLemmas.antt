@@ -22,7 +22,7 @@ no_fault e = cc
 
 module _ (names : Option (List ℕ → Bool)) (bytes : Option (List ℕ → List ℕ)) (counts counts' : FileCounts) (words : List (List ℕ)) (result : Status) (old new : Option (List ℕ)) (faults_old faults_new : ℕ) (TakesLine : List ℕ → Type 0) where
   abbrev Came : Type 0
-  Came = CameTo names bytes counts counts' words result old new faults_old faults_new TakesLine
+  Came = CameTo names bytes counts counts' (Expected words) result old new faults_old faults_new TakesLine
 
   -- words are refused exactly where they are of no form
   pub words_came : TellsWords → Came → result ≢ status.Memory → (result ≡ status.Words) ↔ (asked words ≡ None)
