@@ -60,6 +60,7 @@ HasNoForm words refusal = (refusal ≡ Memory) ⊎ ((refusal ≡ Usage) × ((com
 
 pub record IsRunInRange (run : RunWords) : Type 0 where
   pub timing : IsValidTiming run.timing
+  -- the timing lists no gate
   pub unlisted : run.timing ≡ record run.timing { listed = [] }
   pub banks_some : 1 ≤ run.banks
   pub banks_few : run.banks ≤ MAX_BANKS

@@ -1,5 +1,5 @@
 -- How a call ends, by what its words ask for and what came of the command.
-use Rattle.std.proofs.Common.{◌≡◌, ◌≢◌, ◌∙◌, sym, ap, refl, inl, inr, ℕ, ◌≤◌, Bool, List, length, take, Option, Result, Err, arith}
+use Rattle.std.proofs.Common.{◌≡◌, ◌∙◌, sym, ap, refl, inl, inr, ℕ, ◌≤◌, Bool, List, length, take, Option, Err, arith}
 use Rattle.std.proofs.lemmas.List.{length-map, length-take}
 use Rattle.edge_io.specs.Counts.{raised}
 use Rattle.edge_io.specs.declared.counts.FileCounts.{FileCounts}
@@ -7,22 +7,16 @@ use Rattle.cmd_words.specs.declared.command.Command.{Command}
 use Rattle.cmd_words.specs.Forms.{HasForm}
 use Rattle.yse_top.specs.declared.output.Output.{Output}
 use Rattle.yse_top.specs.declared.output.Output.TheVariants as output
-use Rattle.yse_top.specs.declared.refusal.Refusal.{Refusal}
 use Rattle.yse_top.specs.declared.refusal.Refusal.TheVariants as refusal
 use Rattle.yse_top.specs.declared.status.Status.TheVariants as status
-use Rattle.yse_top.specs.Expected.{Asks, ExpectedOf, Expected}
+use Rattle.yse_top.specs.Expected.{Expected}
 use Rattle.yse_top.specs.Law.{IsProper}
 use Rattle.yse_top.specs.Outcome.{Outcome}
-use Rattle.yse_top.specs.Readings.{Reading}
+use Rattle.yse_top.specs.Readings.{Reading, AreReadings}
 use Rattle.yse_top.specs.Refusals.{Follows, ended_with}
-use Rattle.yse_top.proofs.ChainLemmas.{follows_on, follows_here}
+use Rattle.yse_top.proofs.ChainLemmas.{follows_here}
 
 module _ (names : Option (List ℕ → Bool)) (bytes : Option (List ℕ → List ℕ)) (old new : FileCounts) where
-  -- the words are of the form of the command
-  pub follows_words : (words : List (List ℕ)) (command : Command) (result : Result Output Refusal) → HasForm words command → Follows names bytes old new result (ExpectedOf command) → Follows names bytes old new result (Expected words)
-  unfolding Expected
-  follows_words words command result has follows = follows_on names bytes (Asks words) ExpectedOf command old new result has follows
-
   -- they are of no form
   pub follows_usage : (words : List (List ℕ)) → ((command : Command) → HasForm words command → ⊥) → Follows names bytes old old (Err refusal.Words) (Expected words)
   unfolding Expected
@@ -34,25 +28,16 @@ module _ (names : Option (List ℕ → Bool)) (bytes : Option (List ℕ → List
   follows_no_memory words = follows_here names bytes old (Err refusal.Memory) (Expected words) (inr (refl, inr refl))
 
   -- no more files are begun than the command has
-  pub few_begun : {Same : List ℕ → List ℕ → Type 0} (files : List (List ℕ)) (Chain : List Reading → Outcome → Type 0) (result : Result Output Refusal) → IsProper Same files Chain → Follows names bytes old new result Chain → new.starts ≤ raised old.starts (length files)
-  few_begun files Chain result proper follows =
-      let begun = proper.begun follows.readings _ follows.expected in
-      let many : length follows.readings ≤ length files = few (sym (length-map follows.readings (λ reading. reading.file)) ∙ ap length begun) in
-      omega (arith, follows.are.starts, many)
+  pub few_begun : {Same : List ℕ → List ℕ → Type 0} (files : List (List ℕ)) (Chain : List Reading → Outcome → Type 0) (readings : List Reading) (outcome : Outcome) → IsProper Same files Chain → AreReadings names bytes old new readings → Chain readings outcome → new.starts ≤ raised old.starts (length files)
+  few_begun files Chain readings outcome proper are expected =
+      let begun = proper.begun readings outcome expected in
+      let many : length readings ≤ length files = few (sym (length-map readings (λ reading. reading.file)) ∙ ap length begun) in
+      omega (arith, are.starts, many)
     where
       few : {n : ℕ} → n ≡ length (take n files) → n ≤ length files
       few {n} e = omega (arith, e, length-take n files)
 
--- an output is written by no read that failed
-pub ended_not_read : (output : Output) → (ended_with output).status ≢ status.ReadFault
-ended_not_read (output.Text text) = λ e. cc
-ended_not_read (output.Trace trace) = λ e. cc
-ended_not_read (output.Unfinished trace ending) = λ e. cc
-ended_not_read (output.Written run) = λ e. cc
-ended_not_read (output.Lanes traces) = λ e. cc
-ended_not_read (output.Lines lines) = λ e. cc
-
--- and is no fault of writing by itself
+-- an output is no fault of writing by itself
 pub ended_no_fault : (output : Output) → (ended_with output).status ≡ status.WriteFault → ⊥
 ended_no_fault (output.Text text) is = cc
 ended_no_fault (output.Trace trace) is = cc

@@ -1,19 +1,16 @@
 -- What a call that comes to an expected outcome says of the counts of its store, and of its status.
-use Rattle.std.proofs.Common.{◌≡◌, ◌≢◌, ◌∙◌, sym, ap, refl, ℕ, zero, suc, Bool, false, List, [], ◌∷◌, ◌++◌, ◌+◌, length, Option, Some, None, Result, arith}
+use Rattle.std.proofs.Common.{◌≡◌, ◌≢◌, ◌∙◌, sym, ap, refl, ℕ, zero, suc, Bool, false, List, [], ◌∷◌, ◌++◌, ◌+◌, length, Option, Some, None, arith}
 use Rattle.std.specs.Prelude.{slice_get, cond, count_by, OnSome, IfSome}
 use Rattle.std.proofs.lemmas.List.Sums.{sum_by-cons}
 use Rattle.edge_io.specs.Counts.{raised, Rose}
 use Rattle.edge_io.specs.Names.{is_absent, OfTold}
 use Rattle.edge_io.specs.declared.counts.FileCounts.{FileCounts}
-use Rattle.yse_top.specs.declared.output.Output.{Output}
-use Rattle.yse_top.specs.declared.refusal.Refusal.{Refusal}
 use Rattle.yse_top.specs.declared.status.Status.{Status}
 use Rattle.yse_top.specs.declared.status.Status.TheVariants as status
 use Rattle.yse_top.specs.Ends.{AreToldBy, IsDoneOrMemory}
 use Rattle.yse_top.specs.Law.{IsProper, AgreeOn}
 use Rattle.yse_top.specs.Outcome.{Outcome, done}
-use Rattle.yse_top.specs.Readings.{Reading, IsReading}
-use Rattle.yse_top.specs.Refusals.{Follows, outcome_of}
+use Rattle.yse_top.specs.Readings.{Reading, IsReading, AreReadings}
 
 -- the member after a list
 last_at : (before : List Reading) (reading : Reading) → slice_get (before ++ reading ∷ []) (length before) ≡ Some reading
@@ -47,10 +44,10 @@ module _ {Same : List ℕ → List ℕ → Type 0} (names : Option (List ℕ →
       by None some there = absurd (some refl)
       by (Some read) some there = there
 
-  pub absent_kept : (result : Result Output Refusal) → Follows names bytes old new result Chain → (outcome_of result).status ≢ status.ReadFault → new.absent_starts ≡ old.absent_starts
-  absent_kept result follows other =
-      follows.are.absent_starts
-      ∙ ap (raised old.absent_starts) (none_among follows.readings (λ place reading at. there_of reading (follows.are.each place reading at) (λ none. other (((proper.cause follows.readings (outcome_of result) follows.expected).unread place reading at none).0))))
+  pub absent_kept : (readings : List Reading) (outcome : Outcome) → AreReadings names bytes old new readings → Chain readings outcome → outcome.status ≢ status.ReadFault → new.absent_starts ≡ old.absent_starts
+  absent_kept readings outcome are expected other =
+      are.absent_starts
+      ∙ ap (raised old.absent_starts) (none_among readings (λ place reading at. there_of reading (are.each place reading at) (λ none. other (((proper.cause readings outcome expected).unread place reading at none).0))))
       ∙ same old.absent_starts
     where
       same : (count : ℕ) → raised count 0 ≡ count
@@ -58,10 +55,10 @@ module _ {Same : List ℕ → List ℕ → Type 0} (names : Option (List ℕ →
 
   -- ---- faults
 
-  pub fault_rose : (result : Result Output Refusal) → Follows names bytes old new result Chain → (outcome_of result).status ≡ status.ReadFault → Rose old.faults new.faults
-  fault_rose result follows is =
-      let last = (proper.cause follows.readings (outcome_of result) follows.expected).read_fault is in
-      (follows.are.each (length last.0) (record { file = last.1; bytes = None }) (ap (λ (rs : List Reading). slice_get rs (length last.0)) last.2 ∙ last_at last.0 (record { file = last.1; bytes = None }))).fault refl
+  pub fault_rose : (readings : List Reading) (outcome : Outcome) → AreReadings names bytes old new readings → Chain readings outcome → outcome.status ≡ status.ReadFault → Rose old.faults new.faults
+  fault_rose readings outcome are expected is =
+      let last = (proper.cause readings outcome expected).read_fault is in
+      (are.each (length last.0) (record { file = last.1; bytes = None }) (ap (λ (rs : List Reading). slice_get rs (length last.0)) last.2 ∙ last_at last.0 (record { file = last.1; bytes = None }))).fault refl
 
   -- ---- completeness
 
@@ -74,10 +71,10 @@ module _ {Same : List ℕ → List ℕ → Type 0} (names : Option (List ℕ →
       by None whole some = absurd (some refl)
       by (Some read) whole some = ap Some (whole ∙ ap told same) ∙ sym (are place other at).1
 
-  pub completes : (result : Result Output Refusal) → Follows names bytes old new result Chain → (readings : List Reading) (output : List ℕ) → Chain readings (done output) → AreToldBy names bytes readings → (Rose old.faults new.faults → ⊥) → IsDoneOrMemory (outcome_of result).status
-  completes result follows readings output expected told kept =
-      done_or_memory (outcome_of result).status (λ other. (proper.one follows.readings readings (outcome_of result) (done output) follows.expected expected agree other (λ e. cc)).status)
+  pub completes : (read : List Reading) (outcome : Outcome) → AreReadings names bytes old new read → Chain read outcome → (readings : List Reading) (output : List ℕ) → Chain readings (done output) → AreToldBy names bytes readings → (Rose old.faults new.faults → ⊥) → IsDoneOrMemory outcome.status
+  completes read outcome are came readings output expected told kept =
+      done_or_memory outcome.status (λ other. (proper.one read readings outcome (done output) came expected agree other (λ e. cc)).status)
     where
-      agree : AgreeOn follows.readings readings
+      agree : AgreeOn read readings
       agree place one other at at_too same =
-          told_of bytes one other (follows.are.each place one at).whole (λ none. kept ((follows.are.each place one at).fault none)) readings place told at_too same
+          told_of bytes one other (are.each place one at).whole (λ none. kept ((are.each place one at).fault none)) readings place told at_too same

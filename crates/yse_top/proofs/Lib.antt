@@ -1,5 +1,6 @@
 mod AcceptedLemmas
 mod CallLemmas
+mod CameLemmas
 mod ChainLemmas
 mod CheckLemmas
 mod ChoiceLemmas

@@ -12,7 +12,7 @@ use Rattle.yse_top.specs.declared.reading.Timed.{Timed}
 use Rattle.yse_top.specs.declared.refusal.Refusal.{Refusal}
 use Rattle.yse_top.specs.Checks.{After, AfterFile}
 use Rattle.yse_top.specs.Outcome.{Outcome}
-use Rattle.yse_top.specs.Passing.{AfterTimed, Chain, Never, Only, Passes, Steps}
+use Rattle.yse_top.specs.Passing.{AfterTimed, Continuation, Never, Only, Passes, Steps}
 use Rattle.yse_top.specs.Readings.{Reading, AreReadings}
 use Rattle.yse_top.specs.Refusals.{AnswersText, Follows, GivesText, Satisfies, outcome_of, refused_of}
 use Rattle.yse_top.specs.commands.Run.{AfterMachine, AfterNetlist, AfterStimulus}
@@ -20,14 +20,14 @@ use Rattle.yse_top.proofs.ChainLemmas.{no_readings, readings_both}
 use Rattle.yse_top.proofs.WeakerLemmas.{Implies, machine_so, stimulus_so, timed_so}
 
 -- what is met after this value alone
-only_so : {X : Type 0} (x : X) (rest : List Reading) (outcome : Outcome) (Next : Chain X) → Next x rest outcome → (y : X) → Implies (Only x rest outcome y) (Next y)
+only_so : {X : Type 0} (x : X) (rest : List Reading) (outcome : Outcome) (Next : Continuation X) → Next x rest outcome → (y : X) → Implies (Only x rest outcome y) (Next y)
 only_so x rest outcome Next next y more other (value, readings, same) =
     subst (λ v. Next v more other) (sym value) (subst (λ r. Next x r other) (sym readings) (subst (λ o. Next x rest o) (sym same) next))
 
 module _ (names : Option (List ℕ → Bool)) (bytes : Option (List ℕ → List ℕ)) where
-  module _ {X : Type 0} (Step : Chain X → List Reading → Outcome → Type 0) (so : (One Other : Chain X) → ((x : X) → Implies (One x) (Other x)) → Implies (Step One) (Step Other)) where
+  module _ {X : Type 0} (Step : Continuation X → List Reading → Outcome → Type 0) (so : (One Other : Continuation X) → ((x : X) → Implies (One x) (Other x)) → Implies (Step One) (Step Other)) where
     -- a value passed
-    pub passed_on : (x : X) (Next : Chain X) (names-then : Option (List ℕ → Bool)) (bytes-then : Option (List ℕ → List ℕ)) (old mid new : FileCounts) (result : Result Output Refusal) → names-then ≡ names → bytes-then ≡ bytes
+    pub passed_on : (x : X) (Next : Continuation X) (names-then : Option (List ℕ → Bool)) (bytes-then : Option (List ℕ → List ℕ)) (old mid new : FileCounts) (result : Result Output Refusal) → names-then ≡ names → bytes-then ≡ bytes
         → Passes names bytes old mid Step (Ok x) → Follows names-then bytes-then mid new result (Next x) → Follows names bytes old new result (Step Next)
     passed_on x Next names-then bytes-then old mid new result same_names same_bytes first next = record {
       readings = first.readings ++ next.readings;
@@ -37,7 +37,7 @@ module _ (names : Option (List ℕ → Bool)) (bytes : Option (List ℕ → List
     }
 
     -- a refusal ends the chain
-    pub stopped : (Next : Chain X) (old new : FileCounts) (why : Refusal) → Passes names bytes old new Step (Err why) → Follows names bytes old new (Err why) (Step Next)
+    pub stopped : (Next : Continuation X) (old new : FileCounts) (why : Refusal) → Passes names bytes old new Step (Err why) → Follows names bytes old new (Err why) (Step Next)
     stopped Next old new why first = record {
       readings = first.readings;
       are = first.are;
@@ -45,7 +45,7 @@ module _ (names : Option (List ℕ → Bool)) (bytes : Option (List ℕ → List
     }
 
     -- two steps
-    pub both_pass : {Y : Type 0} (Then : X → Chain Y → List Reading → Outcome → Type 0) (x : X) (names-then : Option (List ℕ → Bool)) (bytes-then : Option (List ℕ → List ℕ)) (old mid new : FileCounts) (result : Result Y Refusal) → names-then ≡ names → bytes-then ≡ bytes
+    pub both_pass : {Y : Type 0} (Then : X → Continuation Y → List Reading → Outcome → Type 0) (x : X) (names-then : Option (List ℕ → Bool)) (bytes-then : Option (List ℕ → List ℕ)) (old mid new : FileCounts) (result : Result Y Refusal) → names-then ≡ names → bytes-then ≡ bytes
         → Passes names bytes old mid Step (Ok x) → Passes names-then bytes-then mid new (Then x) result → Passes names bytes old new (λ Next. Step (λ v. Then v Next)) result
     both_pass {Y} Then x names-then bytes-then old mid new result same_names same_bytes first next = record {
       readings = first.readings ++ next.readings;
@@ -62,7 +62,7 @@ module _ (names : Option (List ℕ → Bool)) (bytes : Option (List ℕ → List
             so (Only x next.readings (refused_of why)) (λ v. Then v Never) (only_so x next.readings (refused_of why) (λ v. Then v Never) steps)
             (first.readings ++ next.readings) (refused_of why) (first.steps next.readings (refused_of why))
 
-    pub first_stops : {Y : Type 0} (Then : X → Chain Y → List Reading → Outcome → Type 0) (old new : FileCounts) (why : Refusal) → Passes names bytes old new Step (Err why) → Passes {X = Y} names bytes old new (λ Next. Step (λ v. Then v Next)) (Err why)
+    pub first_stops : {Y : Type 0} (Then : X → Continuation Y → List Reading → Outcome → Type 0) (old new : FileCounts) (why : Refusal) → Passes names bytes old new Step (Err why) → Passes {X = Y} names bytes old new (λ Next. Step (λ v. Then v Next)) (Err why)
     first_stops Then old new why first = record {
       readings = first.readings;
       are = first.are;
@@ -71,7 +71,7 @@ module _ (names : Option (List ℕ → Bool)) (bytes : Option (List ℕ → List
 
   -- a file, and a check of its text
   module _ {X : Type 0} (Check : List ℕ → Result X Outcome → Type 0) (old new : FileCounts) (file : List ℕ) where
-    abbrev checked : Chain X → List Reading → Outcome → Type 0
+    abbrev checked : Continuation X → List Reading → Outcome → Type 0
     checked Next = AfterFile file (λ text. After (Check text) Next)
 
     pub file_passes : (text : List ℕ) (result : Result X Refusal) → GivesText names bytes old new file (Ok text) → Satisfies result (Check text) → Passes names bytes old new checked result
@@ -93,7 +93,7 @@ module _ (names : Option (List ℕ → Bool)) (bytes : Option (List ℕ → List
         by (Some read) reading answer = record { readings = record { file = file; bytes = Some read } ∷ []; are = reading; steps = (refl, inr (refl, answer)) }
 
   -- a value that needs no file
-  pub value_passes : {X : Type 0} (Step : Chain X → List Reading → Outcome → Type 0) (x : X) (counts : FileCounts) → ((rest : List Reading) (outcome : Outcome) → Step (Only x rest outcome) rest outcome) → Passes names bytes counts counts Step (Ok x)
+  pub value_passes : {X : Type 0} (Step : Continuation X → List Reading → Outcome → Type 0) (x : X) (counts : FileCounts) → ((rest : List Reading) (outcome : Outcome) → Step (Only x rest outcome) rest outcome) → Passes names bytes counts counts Step (Ok x)
   value_passes Step x counts steps = record { readings = []; are = no_readings names bytes counts; steps = steps }
 
   -- ---- the steps of commands
@@ -106,16 +106,16 @@ module _ (names : Option (List ℕ → Bool)) (bytes : Option (List ℕ → List
   pub design_stops : (words : RunWords) (End : Netlist → Timing → List Reading → Outcome → Type 0) (old new : FileCounts) (why : Refusal) → Passes names bytes old new (AfterTimed words) (Err why) → Follows names bytes old new (Err why) (AfterNetlist words End)
   design_stops words End = stopped (AfterTimed words) (timed_so words) (λ d. End d.net d.timing)
 
-  pub machine_on : (file : Option (List ℕ)) (Next : Chain Machine) (machine : Machine) (names-then : Option (List ℕ → Bool)) (bytes-then : Option (List ℕ → List ℕ)) (old mid new : FileCounts) (result : Result Output Refusal) → names-then ≡ names → bytes-then ≡ bytes
+  pub machine_on : (file : Option (List ℕ)) (Next : Continuation Machine) (machine : Machine) (names-then : Option (List ℕ → Bool)) (bytes-then : Option (List ℕ → List ℕ)) (old mid new : FileCounts) (result : Result Output Refusal) → names-then ≡ names → bytes-then ≡ bytes
       → Passes names bytes old mid (AfterMachine file) (Ok machine) → Follows names-then bytes-then mid new result (Next machine) → Follows names bytes old new result (AfterMachine file Next)
   machine_on file Next machine = passed_on (AfterMachine file) (machine_so file) machine Next
 
-  pub machine_stops : (file : Option (List ℕ)) (Next : Chain Machine) (old new : FileCounts) (why : Refusal) → Passes names bytes old new (AfterMachine file) (Err why) → Follows names bytes old new (Err why) (AfterMachine file Next)
+  pub machine_stops : (file : Option (List ℕ)) (Next : Continuation Machine) (old new : FileCounts) (why : Refusal) → Passes names bytes old new (AfterMachine file) (Err why) → Follows names bytes old new (Err why) (AfterMachine file Next)
   machine_stops file = stopped (AfterMachine file) (machine_so file)
 
-  pub stimulus_on : (file : List ℕ) (net : Netlist) (Next : Chain Stimulus) (stimulus : Stimulus) (names-then : Option (List ℕ → Bool)) (bytes-then : Option (List ℕ → List ℕ)) (old mid new : FileCounts) (result : Result Output Refusal) → names-then ≡ names → bytes-then ≡ bytes
+  pub stimulus_on : (file : List ℕ) (net : Netlist) (Next : Continuation Stimulus) (stimulus : Stimulus) (names-then : Option (List ℕ → Bool)) (bytes-then : Option (List ℕ → List ℕ)) (old mid new : FileCounts) (result : Result Output Refusal) → names-then ≡ names → bytes-then ≡ bytes
       → Passes names bytes old mid (AfterStimulus file net) (Ok stimulus) → Follows names-then bytes-then mid new result (Next stimulus) → Follows names bytes old new result (AfterStimulus file net Next)
   stimulus_on file net Next stimulus = passed_on (AfterStimulus file net) (stimulus_so file net) stimulus Next
 
-  pub stimulus_stops : (file : List ℕ) (net : Netlist) (Next : Chain Stimulus) (old new : FileCounts) (why : Refusal) → Passes names bytes old new (AfterStimulus file net) (Err why) → Follows names bytes old new (Err why) (AfterStimulus file net Next)
+  pub stimulus_stops : (file : List ℕ) (net : Netlist) (Next : Continuation Stimulus) (old new : FileCounts) (why : Refusal) → Passes names bytes old new (AfterStimulus file net) (Err why) → Follows names bytes old new (Err why) (AfterStimulus file net Next)
   stimulus_stops file net = stopped (AfterStimulus file net) (stimulus_so file net)

@@ -28,7 +28,7 @@ use Rattle.yse_top.specs.Readings.{Reading}
 use Rattle.yse_top.specs.Endings.{ending_in}
 use Rattle.yse_top.specs.Ends.{IsWhole, MayWrite}
 use Rattle.yse_top.specs.Refusals.{Follows, ended_with, outcome_of, refused_of, status_so_far, status_told, written_by}
-use Rattle.yse_top.specs.Visited.{AreRunVisits, AreTold, AreTurnsOf, AreVisitsOfFiles, AreVisitsOfImage, EndsTelling, ExecTelling, HasWorkers, KeepsGates, TellsGates, TellsOfExec, TellsOfRun, block_of, has_limit, order_in}
+use Rattle.yse_top.specs.Visited.{AreRunVisits, AreTold, AreTurnsOf, AreVisitsOfFiles, AreVisitsOfImage, EndsTelling, ExecTelling, HasWorkers, KeepsGates, TellsGates, TellsOfExec, TellsOfRun, block_of, has_limit, order_file}
 use Rattle.yse_top.specs.commands.Exec.{ExecutesBy, ExpectedExec, WritesTraceOf}
 use Rattle.yse_top.specs.commands.Run.{AfterMachine, EndsWithin, ExpectedOn, ExpectedRun}
 use Rattle.yse_top.proofs.CallLemmas.{ended_no_fault}
@@ -133,12 +133,12 @@ module _ {G : Type 0} (p : gate.Ghosts G) (gates gates' : List (Option G)) (name
   abbrev pub Telling : List Reading → Outcome → Type 0
   Telling = AfterMachine words.machine (ExpectedOn words (EndsTelling p gates gates' (written_by result) pace words))
 
-  pub expects : Follows names bytes old new result Telling → Follows names bytes old new result (ExpectedRun words (has_limit pace) (order_in pace))
+  pub expects : Follows names bytes old new result Telling → Follows names bytes old new result (ExpectedRun words (has_limit pace) (order_file pace))
   expects follows = record {
     readings = follows.readings;
     are = follows.are;
-    expected = machine_so words.machine (ExpectedOn words (EndsTelling p gates gates' (written_by result) pace words)) (ExpectedOn words (EndsWithin (has_limit pace) (order_in pace) words))
-        (on_so words (EndsTelling p gates gates' (written_by result) pace words) (EndsWithin (has_limit pace) (order_in pace) words) (λ machine timing net stimulus readings outcome telling. telling.ends))
+    expected = machine_so words.machine (ExpectedOn words (EndsTelling p gates gates' (written_by result) pace words)) (ExpectedOn words (EndsWithin (has_limit pace) (order_file pace) words))
+        (on_so words (EndsTelling p gates gates' (written_by result) pace words) (EndsWithin (has_limit pace) (order_file pace) words) (λ machine timing net stimulus readings outcome telling. telling.ends))
         follows.readings (outcome_of result) follows.expected;
   }
 

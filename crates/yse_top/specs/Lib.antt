@@ -1,3 +1,4 @@
+pub mod Came
 pub mod Checks
 pub mod commands
 pub mod Endings

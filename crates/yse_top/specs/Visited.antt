@@ -124,10 +124,10 @@ module _ {G : Type 0} (p : gate.Ghosts G) (bytes : Option (List ℕ → List ℕ
 -- ---- runs at a pace
 
 -- the order that the ports step in, where it is that of a file
-abbrev pub order_in : Pace → Option (List ℕ)
-order_in pace.Workers = None
-order_in pace.Rounds = None
-order_in (pace.Order file) = Some file.now
+abbrev pub order_file : Pace → Option (List ℕ)
+order_file pace.Workers = None
+order_file pace.Rounds = None
+order_file (pace.Order file) = Some file.now
 
 -- whether the cells are limited: a run by workers keeps those of one block and no more
 abbrev pub has_limit : Pace → Bool
@@ -142,7 +142,7 @@ HasWorkers _ = ⊥
 module _ {G : Type 0} (p : gate.Ghosts G) (gates gates' : List (Option G)) where
   -- the end of a run; where workers stepped the ports, they told the gates
   pub record EndsTelling (wrote : Result (Unit {0}) WriteNo) (pace : Pace) (words : RunWords) (machine : Machine) (timing : Timing) (net : Netlist) (stimulus : Stimulus) (readings : List Reading) (outcome : Outcome) : Type 0 where
-    pub ends : EndsWithin (has_limit pace) (order_in pace) words machine timing net stimulus readings outcome
+    pub ends : EndsWithin (has_limit pace) (order_file pace) words machine timing net stimulus readings outcome
     pub visits : HasWorkers pace → outcome.status ≡ status.Done → AreRunVisits p gates gates' wrote (ports_of machine) timing net stimulus words.workers
 
   -- the end of a run of an image, which told the gates

@@ -24,11 +24,17 @@ files_named (Some asked) = files_of asked
 
 -- the simulation whose trace a command writes
 abbrev pub traced_by : Option Command → Option RunWords
+traced_by None = None
 traced_by (Some (command.Run words)) = Some words
 traced_by (Some (command.Refer words)) = Some words
 traced_by (Some (command.Order words)) = Some words
+traced_by (Some (command.Plan words)) = None
+traced_by (Some (command.Compile words)) = None
 traced_by (Some (command.Exec words image)) = Some words
-traced_by _ = None
+traced_by (Some (command.Pack words)) = None
+traced_by (Some (command.Fault words)) = None
+traced_by (Some (command.Show netlist)) = None
+traced_by (Some (command.Large gates cycles workers)) = None
 
 -- the file of the order in which a command steps the ports
 abbrev pub order_named : Option Command → Option (List ℕ)

@@ -7,7 +7,7 @@ ghost use Rattle.machine_run.specs.Visits.{AreInPlace};
 ghost use Rattle.yse_top.specs.Expected.{ExpectedOf};
 ghost use Rattle.yse_top.specs.Outputs.{CanEnd};
 ghost use Rattle.yse_top.specs.Refusals.{Follows, MayTake, status_told};
-ghost use Rattle.yse_top.specs.Visited.{AllCanTell, HasWorkers, TellsGates, has_limit, order_in};
+ghost use Rattle.yse_top.specs.Visited.{AllCanTell, HasWorkers, TellsGates, has_limit, order_file};
 
 mod compile;
 mod exec;
@@ -75,7 +75,7 @@ pub fn prepare<'a, R: Threads + Wait + Sync, F: Files, O: Sink, G: Gate + Send>(
 
 /// The order of the named file, and else rounds.
 fn pace_of(words: &RunWords) -> Pace<'_>
-    ensures order { order_in result ≡ words.now.order }
+    ensures order { order_file result ≡ words.now.order }
     ensures limit { has_limit result ≡ true }
     ensures alone { HasWorkers result → ⊥ }
 {

@@ -18,6 +18,7 @@ ghost use Rattle.yse_top.specs.Visited.{AllCanTell, TellsGates};
 ghost use Rattle.yse_top.specs.Words.{files_named};
 ghost use Rattle.edge_io.specs.Writing.{TakesLine};
 
+mod call;
 mod checks;
 mod commands;
 mod diagnostics;
@@ -35,13 +36,10 @@ mod refusal;
 mod sizes;
 mod status;
 
-use cmd_words::law::forms_are_asked;
-use cmd_words::{WordNo, read_words};
-use commands::prepare;
+use call::call;
 use crew_run::Gate;
 use diagnostics::refuse;
 use edge_io::{Files, Sink};
-use ending::end;
 use law::calls_are_proper;
 use refusal::Refusal;
 pub use status::Status;
@@ -159,14 +157,7 @@ pub fn yse<R: Threads + Wait + Sync, F: Files, O: Sink, E: Sink, G: Gate + Send>
     ensures absent { result ≢ Status.ReadFault → (F.counts files.new).absent_starts ≡ (F.counts files.old).absent_starts }
 {
     calls_are_proper();
-    match read_words(alloc, words) {
-        Ok(command) => match prepare(rt, alloc, &command, files, out, gates) {
-            Ok(output) => end(out, err, output),
-            Err(refusal) => refuse(err, refusal),
-        },
-        Err(WordNo::Usage) => refuse(err, Refusal::Words),
-        Err(WordNo::Memory) => refuse(err, Refusal::Memory),
-    }
+    call(rt, alloc, words, files, out, err, gates)
 }
 
 /// Ends a call for want of memory before its words are read: writes the line to `err`, and answers the

@@ -5,10 +5,9 @@ ghost use Rattle.cmd_words.specs.Forms.{IsRunInRange};
 ghost use Rattle.image_check.specs.Claimed.{HasClaims};
 ghost use Rattle.limits.specs.declared.TheConstants.{MAX_TEXT_BYTES};
 ghost use Rattle.machine_text.specs.Machines.{IsValid as IsValidMachine, ports_of};
-ghost use Rattle.net_defs.specs.Valid.{Ascends, IsValid, IsValidStimulus, IsValidTiming, input_count};
+ghost use Rattle.net_defs.specs.Valid.{IsValid, IsValidStimulus, IsValidTiming, input_count};
 ghost use Rattle.stim_text.specs.Lanes.{AreLanes};
 ghost use Rattle.stim_text.specs.Orders.{IsValidOrder};
-ghost use Rattle.yse_top.specs.Checks.{};
 ghost use Rattle.yse_top.specs.Passing.{AfterImageFile, AfterNetlistFile, AfterOrderFile, AfterTimed, Passes};
 ghost use Rattle.yse_top.specs.Refusals.{GivesText};
 ghost use Rattle.yse_top.specs.commands.Pack.{AfterLanes};
@@ -100,8 +99,8 @@ pub fn design_from<'a, F: Files>(
     ensures same_bytes { F.bytes files.new ≡ F.bytes files.old }
     ensures step { Passes (F.names files.old) (F.bytes files.old) (F.counts files.old) (F.counts files.new)
         (AfterTimed words.now) result }
-    ensures valid { IfOk result (λ design. IsValid design.net) }
-    ensures timing { IfOk result (λ design. IsValidTiming design.timing) }
+    ensures valid { IfOk result (λ timed. IsValid timed.net) }
+    ensures timing { IfOk result (λ timed. IsValidTiming timed.timing) }
 {
     let net = match netlist_in(alloc, files, words.netlist.as_bytes()) {
         Ok(net) => net,
@@ -132,7 +131,7 @@ pub fn netlist_in<'a, F: Files>(
 }
 
 /// The timing of the words, with the gates listed that the file of a list names.
-pub fn timing_from<'a, F: Files>(
+fn timing_from<'a, F: Files>(
     alloc: Global,
     files: &mut F,
     words: &'a RunWords,
@@ -147,6 +146,7 @@ pub fn timing_from<'a, F: Files>(
     ensures timing { IfOk result IsValidTiming }
 {
     match &words.last {
+        // The timing of words lists no gate, so this is a copy of it.
         None => Ok(words.timing.listing(List::new(alloc))),
         Some(file) => timing_in(alloc, files, file.as_bytes(), net, &words.timing),
     }

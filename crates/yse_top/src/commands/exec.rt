@@ -66,11 +66,10 @@ fn exec_telling<'a, R: Threads + Wait + Sync, F: Files, O: Sink, G: Gate + Send>
     ensures written { MayTake O.taken O.faults out.old out.new result }
     ensures kept { KeepsGates Workers gates.old gates.new result }
 {
-    let design = match design_from(alloc, files, words) {
-        Ok(design) => design,
+    let Timed { net, timing } = match design_from(alloc, files, words) {
+        Ok(timed) => timed,
         Err(no) => return Err(no),
     };
-    let Timed { net, timing } = design;
     let mapped = match items_of(alloc, net, &timing) {
         Ok(mapped) => mapped,
         Err(no) => return Err(no),

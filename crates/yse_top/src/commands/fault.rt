@@ -24,7 +24,7 @@ use std::alloc::Global;
 use std::marker::Sync;
 use std::thread::Threads;
 
-/// The list of the stuck faults of a netlist. No gate is told anything.
+/// The list of the stuck faults of a netlist.
 pub fn fault<'a, R: Threads + Sync, F: Files>(
     rt: &R,
     alloc: Global,
@@ -36,11 +36,10 @@ pub fn fault<'a, R: Threads + Sync, F: Files>(
         result (ExpectedFault words.now) }
     ensures writable { IfOk result CanWrite }
 {
-    let design = match design_from(alloc, files, words) {
-        Ok(design) => design,
+    let Timed { net, timing } = match design_from(alloc, files, words) {
+        Ok(timed) => timed,
         Err(no) => return Err(no),
     };
-    let Timed { net, timing } = design;
     let design = match ranked(alloc, net, &timing) {
         Ok(design) => design,
         Err(no) => return Err(no),

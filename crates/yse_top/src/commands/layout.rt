@@ -47,11 +47,10 @@ pub fn lay_out<'a, F: Files>(
         Ok(machine) => machine,
         Err(no) => return Err(no),
     };
-    let design = match design_from(alloc, files, words) {
-        Ok(design) => design,
+    let Timed { net, timing } = match design_from(alloc, files, words) {
+        Ok(timed) => timed,
         Err(no) => return Err(no),
     };
-    let Timed { net, timing } = design;
     let planned = match designed(alloc, net, &machine, &timing, words.homes) {
         Ok(planned) => planned,
         Err(no) => return Err(no),

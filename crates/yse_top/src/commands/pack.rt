@@ -77,11 +77,10 @@ fn pack_telling<'a, R: Threads + Wait + Sync, F: Files, G: Gate + Send>(
         Ok(machine) => machine,
         Err(no) => return Err(no),
     };
-    let design = match design_from(alloc, files, words) {
-        Ok(design) => design,
+    let Timed { net, timing } = match design_from(alloc, files, words) {
+        Ok(timed) => timed,
         Err(no) => return Err(no),
     };
-    let Timed { net, timing } = design;
     let built = match compiled(alloc, net, &machine, &timing, words.homes) {
         Ok(built) => built,
         Err(no) => return Err(no),

@@ -31,11 +31,10 @@ pub fn refer<'a, F: Files>(
         result (ExpectedRefer words.now) }
     ensures writable { IfOk result CanWrite }
 {
-    let design = match design_from(alloc, files, words) {
-        Ok(design) => design,
+    let Timed { net, timing } = match design_from(alloc, files, words) {
+        Ok(timed) => timed,
         Err(no) => return Err(no),
     };
-    let Timed { net, timing } = design;
     let design = match ordered(alloc, net, &timing) {
         Ok(design) => design,
         Err(no) => return Err(no),

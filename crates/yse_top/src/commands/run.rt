@@ -9,7 +9,7 @@ ghost use Rattle.yse_top.specs.Images.{IsImageOf};
 ghost use Rattle.yse_top.specs.Orders.{IsMachineImage};
 ghost use Rattle.yse_top.specs.Outputs.{CanEnd, CanWrite};
 ghost use Rattle.yse_top.specs.Refusals.{Follows, MayTake, outcome_of, written_by};
-ghost use Rattle.yse_top.specs.Visited.{AllCanTell, EndsTelling, KeepsGates, TellsOfRun, has_limit, order_in};
+ghost use Rattle.yse_top.specs.Visited.{AllCanTell, EndsTelling, KeepsGates, TellsOfRun, has_limit, order_file};
 ghost use Rattle.yse_top.specs.commands.Run.{AfterMachine, EndsWithin, ExpectedOn, ExpectedRun, KeepsTrace};
 
 use crate::checks::{Built, compiled, few_cells};
@@ -42,7 +42,7 @@ pub fn run<'a, R: Threads + Wait + Sync, F: Files, O: Sink, G: Gate + Send>(
     requires gates { MAX_WORKERS ≤ length gates.old }
     requires tell { AllCanTell G.Gate.own gates.old }
     ensures expected { Follows (F.names files.old) (F.bytes files.old) (F.counts files.old) (F.counts files.new)
-        result (ExpectedRun words.now (has_limit pace.entry) (order_in pace.entry)) }
+        result (ExpectedRun words.now (has_limit pace.entry) (order_file pace.entry)) }
     ensures writable { IfOk result CanEnd }
     ensures visits { TellsOfRun G.Gate.own (F.bytes files.old) gates.old gates.new pace.entry words.now result }
     ensures written { MayTake O.taken O.faults out.old out.new result }
@@ -75,11 +75,10 @@ fn run_telling<'a, R: Threads + Wait + Sync, F: Files, O: Sink, G: Gate + Send>(
         Ok(machine) => machine,
         Err(no) => return Err(no),
     };
-    let design = match design_from(alloc, files, words) {
-        Ok(design) => design,
+    let Timed { net, timing } = match design_from(alloc, files, words) {
+        Ok(timed) => timed,
         Err(no) => return Err(no),
     };
-    let Timed { net, timing } = design;
     let built = match compiled(alloc, net, &machine, &timing, words.homes) {
         Ok(built) => built,
         Err(no) => return Err(no),

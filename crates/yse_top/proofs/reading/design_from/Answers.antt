@@ -5,7 +5,7 @@ use Rattle.net_defs.specs.declared.netlist.Netlist.{Netlist}
 use Rattle.net_defs.specs.declared.timing.Timing.{Timing}
 use Rattle.yse_top.specs.declared.reading.Timed.{Timed}
 use Rattle.yse_top.specs.Outcome.{Outcome}
-use Rattle.yse_top.specs.Passing.{AfterNetlistFile, Chain}
+use Rattle.yse_top.specs.Passing.{AfterNetlistFile, Continuation}
 use Rattle.yse_top.specs.Readings.{Reading}
 use Rattle.yse_top.specs.commands.Run.{AfterList, AfterNetlist}
 use Rattle.yse_top.proofs.PassingLemmas.{both_pass, first_stops, value_passes}
@@ -13,11 +13,11 @@ use Rattle.yse_top.proofs.WeakerLemmas.{list_so, netlist_file_so}
 use Rattle.yse_top.proofs.reading.design_from.Goals as goal
 
 -- what comes after the design
-abbrev design_then : Netlist → Timing → Chain Timed → List Reading → Outcome → Type 0
+abbrev design_then : Netlist → Timing → Continuation Timed → List Reading → Outcome → Type 0
 design_then net timing Next = Next (record { net = net; timing = timing })
 
 -- the timing, and then what comes after the design
-abbrev timing_then : RunWords → Netlist → Chain Timed → List Reading → Outcome → Type 0
+abbrev timing_then : RunWords → Netlist → Continuation Timed → List Reading → Outcome → Type 0
 timing_then words net Next = AfterList words.last net words.timing (λ timing. design_then net timing Next)
 
 pub returns-in-Ok-timing_from-clause-step : goal.returns-in-Ok-timing_from-clause-step

@@ -4,7 +4,7 @@ use Rattle.net_defs.specs.declared.timing.Timing.{Timing}
 use Rattle.net_defs.specs.declared.netlist.Netlist.{Netlist}
 use Rattle.yse_top.specs.Checks.{IsListOf, listing}
 use Rattle.yse_top.specs.Outcome.{Outcome}
-use Rattle.yse_top.specs.Passing.{Chain}
+use Rattle.yse_top.specs.Passing.{Continuation}
 use Rattle.yse_top.specs.Readings.{Reading}
 use Rattle.yse_top.specs.commands.Run.{AfterList}
 use Rattle.yse_top.proofs.PassingLemmas.{both_pass, file_passes, file_stops, first_stops, value_passes}
@@ -12,7 +12,7 @@ use Rattle.yse_top.proofs.WeakerLemmas.{checked_so}
 use Rattle.yse_top.proofs.reading.timing_in.Goals as goal
 
 -- what comes after the timing with these gates listed
-abbrev listing_then : Timing → List ℕ → Chain Timing → List Reading → Outcome → Type 0
+abbrev listing_then : Timing → List ℕ → Continuation Timing → List Reading → Outcome → Type 0
 listing_then timing listed Next = Next (listing timing listed)
 
 abbrev is_list : Netlist → List ℕ → Result (List ℕ) Outcome → Type 0

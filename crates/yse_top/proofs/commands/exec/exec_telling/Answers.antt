@@ -5,7 +5,7 @@ use Rattle.image_defs.specs.declared.image.Image.{Image}
 use Rattle.net_defs.specs.declared.netlist.Netlist.{Netlist}
 use Rattle.net_defs.specs.declared.timing.Timing.{Timing}
 use Rattle.yse_top.specs.Checks.{HasNoLoop}
-use Rattle.yse_top.specs.Passing.{AfterImageFile, Chain}
+use Rattle.yse_top.specs.Passing.{AfterImageFile, Continuation}
 use Rattle.yse_top.specs.Visited.{ExecTelling}
 use Rattle.yse_top.specs.commands.Exec.{AfterImage, AfterMatch, IsAccepted, OnImage, RunsImage}
 use Rattle.yse_top.proofs.ChainLemmas.{follows_here, follows_on, follows_refusal}
@@ -14,7 +14,7 @@ use Rattle.yse_top.proofs.WeakerLemmas.{image_file_so}
 use Rattle.yse_top.proofs.commands.exec.exec_telling.Goals as goal
 
 -- what comes after the image file
-abbrev file_then : Netlist → Timing → Chain Image → Chain ImageFile
+abbrev file_then : Netlist → Timing → Continuation Image → Continuation ImageFile
 file_then net timing Next file = AfterMatch net timing file Next
 
 pub returns-in-Err-clause-expected : goal.returns-in-Err-clause-expected
@@ -27,10 +27,10 @@ pub returns-in-Err-items_of-clause-expected : goal.returns-in-Err-items_of-claus
 returns-in-Err-items_of-clause-expected g c =
     let words = c.args.words.now in
     let name = c.args.image.now in
-    let net = c.in-Ok.design.net in
-    let timing = c.in-Ok.design.timing in
+    let net = c.in-Ok.timed.net in
+    let timing = c.in-Ok.timed.timing in
     let end = ExecTelling g.G.Gate c.args.gates.now c.args.gates.now (Ok tt) words in
-    design_on _ _ words (OnImage words name end) c.in-Ok.design _ _ _ _ _ _ c.in-Ok.ensures.same_names c.in-Ok.ensures.same_bytes c.in-Ok.ensures.step
+    design_on _ _ words (OnImage words name end) c.in-Ok.timed _ _ _ _ _ _ c.in-Ok.ensures.same_names c.in-Ok.ensures.same_bytes c.in-Ok.ensures.step
     (follows_refusal _ _ (HasNoLoop net timing) (λ passed. AfterImage name net timing (RunsImage words end net timing)) _ _ c.in-Err-items_of.ensures.looped)
 
 pub returns-in-Err-image_in-clause-expected : goal.returns-in-Err-image_in-clause-expected
@@ -38,11 +38,11 @@ unfolding AfterImage
 returns-in-Err-image_in-clause-expected g c =
     let words = c.args.words.now in
     let name = c.args.image.now in
-    let net = c.in-Ok.design.net in
-    let timing = c.in-Ok.design.timing in
+    let net = c.in-Ok.timed.net in
+    let timing = c.in-Ok.timed.timing in
     let end = ExecTelling g.G.Gate c.args.gates.now c.args.gates.now (Ok tt) words in
     let then = file_then net timing (RunsImage words end net timing) in
-    design_on _ _ words (OnImage words name end) c.in-Ok.design _ _ _ _ _ _ c.in-Ok.ensures.same_names c.in-Ok.ensures.same_bytes c.in-Ok.ensures.step
+    design_on _ _ words (OnImage words name end) c.in-Ok.timed _ _ _ _ _ _ c.in-Ok.ensures.same_names c.in-Ok.ensures.same_bytes c.in-Ok.ensures.step
     (follows_on _ _ (HasNoLoop net timing) (λ passed. AfterImageFile name then) tt _ _ _ c.in-Ok-items_of.ensures.acyclic
     (stopped _ _ (AfterImageFile name) (image_file_so name) then _ _ _ c.in-Err-image_in.ensures.step))
 
@@ -51,12 +51,12 @@ unfolding AfterImage
 returns-in-Err-accepted-clause-expected g c =
     let words = c.args.words.now in
     let name = c.args.image.now in
-    let net = c.in-Ok.design.net in
-    let timing = c.in-Ok.design.timing in
+    let net = c.in-Ok.timed.net in
+    let timing = c.in-Ok.timed.timing in
     let file = c.in-Ok-image_in.file in
     let end = ExecTelling g.G.Gate c.args.gates.now c.args.gates.now (Ok tt) words in
     let then = file_then net timing (RunsImage words end net timing) in
-    design_on _ _ words (OnImage words name end) c.in-Ok.design _ _ _ _ _ _ c.in-Ok.ensures.same_names c.in-Ok.ensures.same_bytes c.in-Ok.ensures.step
+    design_on _ _ words (OnImage words name end) c.in-Ok.timed _ _ _ _ _ _ c.in-Ok.ensures.same_names c.in-Ok.ensures.same_bytes c.in-Ok.ensures.step
     (follows_on _ _ (HasNoLoop net timing) (λ passed. AfterImageFile name then) tt _ _ _ c.in-Ok-items_of.ensures.acyclic
     (passed_on _ _ (AfterImageFile name) (image_file_so name) file then _ _ _ _ _ _ c.in-Ok-image_in.ensures.same_names c.in-Ok-image_in.ensures.same_bytes c.in-Ok-image_in.ensures.step
     (follows_refusal _ _ (IsAccepted net timing file) (λ accepted. RunsImage words end net timing file.image) _ _ (rw c.in-Ok-items_of.ensures.same at c.in-Err-accepted.ensures.refused))))
@@ -66,14 +66,14 @@ unfolding AfterImage
 returns-in-Err-stimulus_in-clause-expected g c =
     let words = c.args.words.now in
     let name = c.args.image.now in
-    let net = c.in-Ok.design.net in
-    let timing = c.in-Ok.design.timing in
+    let net = c.in-Ok.timed.net in
+    let timing = c.in-Ok.timed.timing in
     let file = c.in-Ok-image_in.file in
     let of_net = c.in-Ok-items_of.ensures.same in
     let of_built = c.in-Ok-accepted.ensures.same in
     let end = ExecTelling g.G.Gate c.args.gates.now c.args.gates.now (Ok tt) words in
     let then = file_then net timing (RunsImage words end net timing) in
-    design_on _ _ words (OnImage words name end) c.in-Ok.design _ _ _ _ _ _ c.in-Ok.ensures.same_names c.in-Ok.ensures.same_bytes c.in-Ok.ensures.step
+    design_on _ _ words (OnImage words name end) c.in-Ok.timed _ _ _ _ _ _ c.in-Ok.ensures.same_names c.in-Ok.ensures.same_bytes c.in-Ok.ensures.step
     (follows_on _ _ (HasNoLoop net timing) (λ passed. AfterImageFile name then) tt _ _ _ c.in-Ok-items_of.ensures.acyclic
     (passed_on _ _ (AfterImageFile name) (image_file_so name) file then _ _ _ _ _ _ c.in-Ok-image_in.ensures.same_names c.in-Ok-image_in.ensures.same_bytes c.in-Ok-image_in.ensures.step
     (follows_on _ _ (IsAccepted net timing file) (λ accepted. RunsImage words end net timing file.image) tt _ _ _ (rw of_net at c.in-Ok-accepted.ensures.matches)
@@ -84,8 +84,8 @@ unfolding AfterImage
 returns-in-Ok-by_workers-clause-expected g c =
     let words = c.args.words.now in
     let name = c.args.image.now in
-    let net = c.in-Ok.design.net in
-    let timing = c.in-Ok.design.timing in
+    let net = c.in-Ok.timed.net in
+    let timing = c.in-Ok.timed.timing in
     let file = c.in-Ok-image_in.file in
     let stimulus = c.in-Ok-stimulus_in.stimulus in
     let of_net = c.in-Ok-items_of.ensures.same in
@@ -95,7 +95,7 @@ returns-in-Ok-by_workers-clause-expected g c =
     let then = file_then net timing (RunsImage words end net timing) in
     let printed = rw of_net at (rw of_built.0 at c.in-Ok-by_workers.ensures.printed) in
     let visits = rw of_net at (rw of_built.1 at (rw of_built.0 at c.in-Ok-by_workers.ensures.visits)) in
-    design_on _ _ words (OnImage words name end) c.in-Ok.design _ _ _ _ _ _ c.in-Ok.ensures.same_names c.in-Ok.ensures.same_bytes c.in-Ok.ensures.step
+    design_on _ _ words (OnImage words name end) c.in-Ok.timed _ _ _ _ _ _ c.in-Ok.ensures.same_names c.in-Ok.ensures.same_bytes c.in-Ok.ensures.step
     (follows_on _ _ (HasNoLoop net timing) (λ passed. AfterImageFile name then) tt _ _ _ c.in-Ok-items_of.ensures.acyclic
     (passed_on _ _ (AfterImageFile name) (image_file_so name) file then _ _ _ _ _ _ c.in-Ok-image_in.ensures.same_names c.in-Ok-image_in.ensures.same_bytes c.in-Ok-image_in.ensures.step
     (follows_on _ _ (IsAccepted net timing file) (λ accepted. RunsImage words end net timing file.image) tt _ _ _ (rw of_net at c.in-Ok-accepted.ensures.matches)
@@ -108,15 +108,15 @@ unfolding AfterImage
 returns-clause-expected g c =
     let words = c.args.words.now in
     let name = c.args.image.now in
-    let net = c.in-Ok.design.net in
-    let timing = c.in-Ok.design.timing in
+    let net = c.in-Ok.timed.net in
+    let timing = c.in-Ok.timed.timing in
     let file = c.in-Ok-image_in.file in
     let stimulus = c.in-Ok-stimulus_in.stimulus in
     let of_net = c.in-Ok-items_of.ensures.same in
     let of_built = c.in-Ok-accepted.ensures.same in
     let end = ExecTelling g.G.Gate c.args.gates.now c.by_workers.new.gates (Ok tt) words in
     let then = file_then net timing (RunsImage words end net timing) in
-    design_on _ _ words (OnImage words name end) c.in-Ok.design _ _ _ _ _ _ c.in-Ok.ensures.same_names c.in-Ok.ensures.same_bytes c.in-Ok.ensures.step
+    design_on _ _ words (OnImage words name end) c.in-Ok.timed _ _ _ _ _ _ c.in-Ok.ensures.same_names c.in-Ok.ensures.same_bytes c.in-Ok.ensures.step
     (follows_on _ _ (HasNoLoop net timing) (λ passed. AfterImageFile name then) tt _ _ _ c.in-Ok-items_of.ensures.acyclic
     (passed_on _ _ (AfterImageFile name) (image_file_so name) file then _ _ _ _ _ _ c.in-Ok-image_in.ensures.same_names c.in-Ok-image_in.ensures.same_bytes c.in-Ok-image_in.ensures.step
     (follows_on _ _ (IsAccepted net timing file) (λ accepted. RunsImage words end net timing file.image) tt _ _ _ (rw of_net at c.in-Ok-accepted.ensures.matches)

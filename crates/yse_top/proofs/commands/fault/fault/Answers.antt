@@ -15,31 +15,31 @@ returns-in-Err-clause-expected g c =
 pub returns-in-Err-ranked-clause-expected : goal.returns-in-Err-ranked-clause-expected
 returns-in-Err-ranked-clause-expected g c =
     let words = c.args.words.now in
-    let net = c.in-Ok.design.net in
-    let timing = c.in-Ok.design.timing in
+    let net = c.in-Ok.timed.net in
+    let timing = c.in-Ok.timed.timing in
     let then = AfterStimulus words.stimulus net (ListsFaults net timing) in
-    design_on _ _ words (FaultsIn words.stimulus) c.in-Ok.design _ _ _ _ _ _ c.in-Ok.ensures.same_names c.in-Ok.ensures.same_bytes c.in-Ok.ensures.step
+    design_on _ _ words (FaultsIn words.stimulus) c.in-Ok.timed _ _ _ _ _ _ c.in-Ok.ensures.same_names c.in-Ok.ensures.same_bytes c.in-Ok.ensures.step
     (follows_refusal _ _ (HasNoLoop net timing) (λ passed. After (HasFewSignals net) (λ few. then)) _ _ c.in-Err-ranked.ensures.looped)
 
 pub returns-in-Err-few_signals-clause-expected : goal.returns-in-Err-few_signals-clause-expected
 returns-in-Err-few_signals-clause-expected g c =
     let words = c.args.words.now in
-    let net = c.in-Ok.design.net in
-    let timing = c.in-Ok.design.timing in
+    let net = c.in-Ok.timed.net in
+    let timing = c.in-Ok.timed.timing in
     let same = c.in-Ok-ranked.ensures.same in
     let then = AfterStimulus words.stimulus net (ListsFaults net timing) in
-    design_on _ _ words (FaultsIn words.stimulus) c.in-Ok.design _ _ _ _ _ _ c.in-Ok.ensures.same_names c.in-Ok.ensures.same_bytes c.in-Ok.ensures.step
+    design_on _ _ words (FaultsIn words.stimulus) c.in-Ok.timed _ _ _ _ _ _ c.in-Ok.ensures.same_names c.in-Ok.ensures.same_bytes c.in-Ok.ensures.step
     (follows_on _ _ (HasNoLoop net timing) (λ passed. After (HasFewSignals net) (λ few. then)) tt _ _ _ c.in-Ok-ranked.ensures.acyclic
     (follows_refusal _ _ (HasFewSignals net) (λ few. then) _ _ (rw same at c.in-Err-few_signals.ensures)))
 
 pub returns-in-Err-stimulus_in-clause-expected : goal.returns-in-Err-stimulus_in-clause-expected
 returns-in-Err-stimulus_in-clause-expected g c =
     let words = c.args.words.now in
-    let net = c.in-Ok.design.net in
-    let timing = c.in-Ok.design.timing in
+    let net = c.in-Ok.timed.net in
+    let timing = c.in-Ok.timed.timing in
     let same = c.in-Ok-ranked.ensures.same in
     let then = AfterStimulus words.stimulus net (ListsFaults net timing) in
-    design_on _ _ words (FaultsIn words.stimulus) c.in-Ok.design _ _ _ _ _ _ c.in-Ok.ensures.same_names c.in-Ok.ensures.same_bytes c.in-Ok.ensures.step
+    design_on _ _ words (FaultsIn words.stimulus) c.in-Ok.timed _ _ _ _ _ _ c.in-Ok.ensures.same_names c.in-Ok.ensures.same_bytes c.in-Ok.ensures.step
     (follows_on _ _ (HasNoLoop net timing) (λ passed. After (HasFewSignals net) (λ few. then)) tt _ _ _ c.in-Ok-ranked.ensures.acyclic
     (follows_on _ _ (HasFewSignals net) (λ few. then) tt _ _ _ (rw same at c.in-Ok-few_signals.ensures)
     (stimulus_stops _ _ words.stimulus net (ListsFaults net timing) _ _ _ (rw same at (rw c.as_bytes.ensures at c.in-Err-stimulus_in.ensures.step)))))
@@ -47,12 +47,12 @@ returns-in-Err-stimulus_in-clause-expected g c =
 pub returns-in-Ok-lines_of-clause-expected : goal.returns-in-Ok-lines_of-clause-expected
 returns-in-Ok-lines_of-clause-expected g c =
     let words = c.args.words.now in
-    let net = c.in-Ok.design.net in
-    let timing = c.in-Ok.design.timing in
+    let net = c.in-Ok.timed.net in
+    let timing = c.in-Ok.timed.timing in
     let same = c.in-Ok-ranked.ensures.same in
     let then = AfterStimulus words.stimulus net (ListsFaults net timing) in
     let stimulus = c.in-Ok-stimulus_in.stimulus in
-    design_on _ _ words (FaultsIn words.stimulus) c.in-Ok.design _ _ _ _ _ _ c.in-Ok.ensures.same_names c.in-Ok.ensures.same_bytes c.in-Ok.ensures.step
+    design_on _ _ words (FaultsIn words.stimulus) c.in-Ok.timed _ _ _ _ _ _ c.in-Ok.ensures.same_names c.in-Ok.ensures.same_bytes c.in-Ok.ensures.step
     (follows_on _ _ (HasNoLoop net timing) (λ passed. After (HasFewSignals net) (λ few. then)) tt _ _ _ c.in-Ok-ranked.ensures.acyclic
     (follows_on _ _ (HasFewSignals net) (λ few. then) tt _ _ _ (rw same at c.in-Ok-few_signals.ensures)
     (stimulus_on _ _ words.stimulus net (ListsFaults net timing) stimulus _ _ _ _ _ _ c.in-Ok-stimulus_in.ensures.same_names c.in-Ok-stimulus_in.ensures.same_bytes (rw same at (rw c.as_bytes.ensures at c.in-Ok-stimulus_in.ensures.step))
@@ -61,12 +61,12 @@ returns-in-Ok-lines_of-clause-expected g c =
 pub returns-clause-expected : goal.returns-clause-expected
 returns-clause-expected g c =
     let words = c.args.words.now in
-    let net = c.in-Ok.design.net in
-    let timing = c.in-Ok.design.timing in
+    let net = c.in-Ok.timed.net in
+    let timing = c.in-Ok.timed.timing in
     let same = c.in-Ok-ranked.ensures.same in
     let then = AfterStimulus words.stimulus net (ListsFaults net timing) in
     let stimulus = c.in-Ok-stimulus_in.stimulus in
-    design_on _ _ words (FaultsIn words.stimulus) c.in-Ok.design _ _ _ _ _ _ c.in-Ok.ensures.same_names c.in-Ok.ensures.same_bytes c.in-Ok.ensures.step
+    design_on _ _ words (FaultsIn words.stimulus) c.in-Ok.timed _ _ _ _ _ _ c.in-Ok.ensures.same_names c.in-Ok.ensures.same_bytes c.in-Ok.ensures.step
     (follows_on _ _ (HasNoLoop net timing) (λ passed. After (HasFewSignals net) (λ few. then)) tt _ _ _ c.in-Ok-ranked.ensures.acyclic
     (follows_on _ _ (HasFewSignals net) (λ few. then) tt _ _ _ (rw same at c.in-Ok-few_signals.ensures)
     (stimulus_on _ _ words.stimulus net (ListsFaults net timing) stimulus _ _ _ _ _ _ c.in-Ok-stimulus_in.ensures.same_names c.in-Ok-stimulus_in.ensures.same_bytes (rw same at (rw c.as_bytes.ensures at c.in-Ok-stimulus_in.ensures.step))

@@ -22,7 +22,7 @@ pub returns-in-Err-designed-clause-expected : goal.returns-in-Err-designed-claus
 returns-in-Err-designed-clause-expected g c =
     let words = c.args.words.now in
     let machine = c.in-Ok.machine in
-    let design = c.in-Ok-design_from.design in
+    let design = c.in-Ok-design_from.timed in
     let end = Ends (Writes (IsSheetOf c.args.sheet words.homes design.net machine design.timing)) in
     machine_on _ _ words.machine (ExpectedLayoutOn c.args.sheet words) machine _ _ _ _ _ _ c.in-Ok.ensures.same_names c.in-Ok.ensures.same_bytes c.in-Ok.ensures.step
     (design_on _ _ words (LaysOut c.args.sheet words.homes machine) design _ _ _ _ _ _ c.in-Ok-design_from.ensures.same_names c.in-Ok-design_from.ensures.same_bytes c.in-Ok-design_from.ensures.step
@@ -32,7 +32,7 @@ pub returns-in-Ok-sheet_of-clause-expected : goal.returns-in-Ok-sheet_of-clause-
 returns-in-Ok-sheet_of-clause-expected g c =
     let words = c.args.words.now in
     let machine = c.in-Ok.machine in
-    let design = c.in-Ok-design_from.design in
+    let design = c.in-Ok-design_from.timed in
     let end = Ends (Writes (IsSheetOf c.args.sheet words.homes design.net machine design.timing)) in
     machine_on _ _ words.machine (ExpectedLayoutOn c.args.sheet words) machine _ _ _ _ _ _ c.in-Ok.ensures.same_names c.in-Ok.ensures.same_bytes c.in-Ok.ensures.step
     (design_on _ _ words (LaysOut c.args.sheet words.homes machine) design _ _ _ _ _ _ c.in-Ok-design_from.ensures.same_names c.in-Ok-design_from.ensures.same_bytes c.in-Ok-design_from.ensures.step
@@ -43,7 +43,7 @@ pub returns-clause-expected : goal.returns-clause-expected
 returns-clause-expected g c =
     let words = c.args.words.now in
     let machine = c.in-Ok.machine in
-    let design = c.in-Ok-design_from.design in
+    let design = c.in-Ok-design_from.timed in
     let end = Ends (Writes (IsSheetOf c.args.sheet words.homes design.net machine design.timing)) in
     machine_on _ _ words.machine (ExpectedLayoutOn c.args.sheet words) machine _ _ _ _ _ _ c.in-Ok.ensures.same_names c.in-Ok.ensures.same_bytes c.in-Ok.ensures.step
     (design_on _ _ words (LaysOut c.args.sheet words.homes machine) design _ _ _ _ _ _ c.in-Ok-design_from.ensures.same_names c.in-Ok-design_from.ensures.same_bytes c.in-Ok-design_from.ensures.step

@@ -26,7 +26,7 @@ returns-in-Err-compiled-clause-expected g c =
     let words = c.args.words.now in
     let end = LanesTelling g.G.Gate c.args.gates.now c.args.gates.now words in
     let machine = c.in-Ok.machine in
-    let design = c.in-Ok-design_from.design in
+    let design = c.in-Ok-design_from.timed in
     let then = AfterLanes words.stimulus design.net (end machine design.timing design.net) in
     machine_on _ _ words.machine (PacksOn words end) machine _ _ _ _ _ _ c.in-Ok.ensures.same_names c.in-Ok.ensures.same_bytes c.in-Ok.ensures.step
     (design_on _ _ words (PacksIn words end machine) design _ _ _ _ _ _ c.in-Ok-design_from.ensures.same_names c.in-Ok-design_from.ensures.same_bytes c.in-Ok-design_from.ensures.step
@@ -37,7 +37,7 @@ returns-in-Err-few_bits-clause-expected g c =
     let words = c.args.words.now in
     let end = LanesTelling g.G.Gate c.args.gates.now c.args.gates.now words in
     let machine = c.in-Ok.machine in
-    let design = c.in-Ok-design_from.design in
+    let design = c.in-Ok-design_from.timed in
     let then = AfterLanes words.stimulus design.net (end machine design.timing design.net) in
     let same = c.in-Ok-compiled.ensures.same in
     machine_on _ _ words.machine (PacksOn words end) machine _ _ _ _ _ _ c.in-Ok.ensures.same_names c.in-Ok.ensures.same_bytes c.in-Ok.ensures.step
@@ -50,7 +50,7 @@ returns-in-Err-lanes_in-clause-expected g c =
     let words = c.args.words.now in
     let end = LanesTelling g.G.Gate c.args.gates.now c.args.gates.now words in
     let machine = c.in-Ok.machine in
-    let design = c.in-Ok-design_from.design in
+    let design = c.in-Ok-design_from.timed in
     let then = AfterLanes words.stimulus design.net (end machine design.timing design.net) in
     let same = c.in-Ok-compiled.ensures.same in
     machine_on _ _ words.machine (PacksOn words end) machine _ _ _ _ _ _ c.in-Ok.ensures.same_names c.in-Ok.ensures.same_bytes c.in-Ok.ensures.step
@@ -64,7 +64,7 @@ returns-clause-expected g c =
     let words = c.args.words.now in
     let end = LanesTelling g.G.Gate c.args.gates.now c.pack_kept.new.gates words in
     let machine = c.in-Ok.machine in
-    let design = c.in-Ok-design_from.design in
+    let design = c.in-Ok-design_from.timed in
     let then = AfterLanes words.stimulus design.net (end machine design.timing design.net) in
     let same = c.in-Ok-compiled.ensures.same in
     let lanes = c.in-Ok-lanes_in.lanes in

@@ -17,31 +17,31 @@ returns-in-Err-clause-expected g c =
 pub returns-in-Err-ordered-clause-expected : goal.returns-in-Err-ordered-clause-expected
 returns-in-Err-ordered-clause-expected g c =
     let words = c.args.words.now in
-    let net = c.in-Ok.design.net in
-    let timing = c.in-Ok.design.timing in
-    design_on _ _ words (AfterLoop words.stimulus) c.in-Ok.design _ _ _ _ _ _ c.in-Ok.ensures.same_names c.in-Ok.ensures.same_bytes c.in-Ok.ensures.step
+    let net = c.in-Ok.timed.net in
+    let timing = c.in-Ok.timed.timing in
+    design_on _ _ words (AfterLoop words.stimulus) c.in-Ok.timed _ _ _ _ _ _ c.in-Ok.ensures.same_names c.in-Ok.ensures.same_bytes c.in-Ok.ensures.step
     (follows_refusal _ _ (HasNoLoop net timing) (λ passed. AfterStimulus words.stimulus net (KeepsTrace net timing)) _ _ c.in-Err-ordered.ensures.looped)
 
 pub returns-in-Err-stimulus_in-clause-expected : goal.returns-in-Err-stimulus_in-clause-expected
 returns-in-Err-stimulus_in-clause-expected g c =
     let words = c.args.words.now in
-    let net = c.in-Ok.design.net in
-    let timing = c.in-Ok.design.timing in
-    design_on _ _ words (AfterLoop words.stimulus) c.in-Ok.design _ _ _ _ _ _ c.in-Ok.ensures.same_names c.in-Ok.ensures.same_bytes c.in-Ok.ensures.step
+    let net = c.in-Ok.timed.net in
+    let timing = c.in-Ok.timed.timing in
+    design_on _ _ words (AfterLoop words.stimulus) c.in-Ok.timed _ _ _ _ _ _ c.in-Ok.ensures.same_names c.in-Ok.ensures.same_bytes c.in-Ok.ensures.step
     (follows_on _ _ (HasNoLoop net timing) (λ passed. AfterStimulus words.stimulus net (KeepsTrace net timing)) tt _ _ _ c.in-Ok-ordered.ensures.acyclic
     (stimulus_stops _ _ words.stimulus net (KeepsTrace net timing) _ _ _ (rw c.in-Ok-ordered.ensures.same at (rw c.as_bytes.ensures at c.in-Err-stimulus_in.ensures.step))))
 
 pub returns-in-Ok-printed-clause-expected : goal.returns-in-Ok-printed-clause-expected
 returns-in-Ok-printed-clause-expected g c =
     let words = c.args.words.now in
-    let net = c.in-Ok.design.net in
-    let timing = c.in-Ok.design.timing in
+    let net = c.in-Ok.timed.net in
+    let timing = c.in-Ok.timed.timing in
     let stimulus = c.in-Ok-stimulus_in.stimulus in
     let trace = c.in-Ok-printed.trace in
     let same = c.in-Ok-ordered.ensures.same in
     let is_trace = subst (λ n. IsTrace net timing stimulus (header_line n ++ cycle_lines trace.rows.rows)) (sym (rw same at c.in-Ok-printed.ensures.printed.0))
     (printed_is_trace net timing stimulus trace.rows (rw same at c.in-Ok-printed.ensures.printed.1)) in
-    design_on _ _ words (AfterLoop words.stimulus) c.in-Ok.design _ _ _ _ _ _ c.in-Ok.ensures.same_names c.in-Ok.ensures.same_bytes c.in-Ok.ensures.step
+    design_on _ _ words (AfterLoop words.stimulus) c.in-Ok.timed _ _ _ _ _ _ c.in-Ok.ensures.same_names c.in-Ok.ensures.same_bytes c.in-Ok.ensures.step
     (follows_on _ _ (HasNoLoop net timing) (λ passed. AfterStimulus words.stimulus net (KeepsTrace net timing)) tt _ _ _ c.in-Ok-ordered.ensures.acyclic
     (stimulus_on _ _ words.stimulus net (KeepsTrace net timing) stimulus _ _ _ _ _ _ c.in-Ok-stimulus_in.ensures.same_names c.in-Ok-stimulus_in.ensures.same_bytes
     (rw same at (rw c.as_bytes.ensures at c.in-Ok-stimulus_in.ensures.step))
@@ -51,11 +51,11 @@ returns-in-Ok-printed-clause-expected g c =
 pub returns-in-Ok-few_cells-clause-expected : goal.returns-in-Ok-few_cells-clause-expected
 returns-in-Ok-few_cells-clause-expected g c =
     let words = c.args.words.now in
-    let net = c.in-Ok.design.net in
-    let timing = c.in-Ok.design.timing in
+    let net = c.in-Ok.timed.net in
+    let timing = c.in-Ok.timed.timing in
     let stimulus = c.in-Ok-stimulus_in.stimulus in
     let same = c.in-Ok-ordered.ensures.same in
-    design_on _ _ words (AfterLoop words.stimulus) c.in-Ok.design _ _ _ _ _ _ c.in-Ok.ensures.same_names c.in-Ok.ensures.same_bytes c.in-Ok.ensures.step
+    design_on _ _ words (AfterLoop words.stimulus) c.in-Ok.timed _ _ _ _ _ _ c.in-Ok.ensures.same_names c.in-Ok.ensures.same_bytes c.in-Ok.ensures.step
     (follows_on _ _ (HasNoLoop net timing) (λ passed. AfterStimulus words.stimulus net (KeepsTrace net timing)) tt _ _ _ c.in-Ok-ordered.ensures.acyclic
     (stimulus_on _ _ words.stimulus net (KeepsTrace net timing) stimulus _ _ _ _ _ _ c.in-Ok-stimulus_in.ensures.same_names c.in-Ok-stimulus_in.ensures.same_bytes
     (rw same at (rw c.as_bytes.ensures at c.in-Ok-stimulus_in.ensures.step))
@@ -65,11 +65,11 @@ returns-in-Ok-few_cells-clause-expected g c =
 pub returns-clause-expected : goal.returns-clause-expected
 returns-clause-expected g c =
     let words = c.args.words.now in
-    let net = c.in-Ok.design.net in
-    let timing = c.in-Ok.design.timing in
+    let net = c.in-Ok.timed.net in
+    let timing = c.in-Ok.timed.timing in
     let stimulus = c.in-Ok-stimulus_in.stimulus in
     let same = c.in-Ok-ordered.ensures.same in
-    design_on _ _ words (AfterLoop words.stimulus) c.in-Ok.design _ _ _ _ _ _ c.in-Ok.ensures.same_names c.in-Ok.ensures.same_bytes c.in-Ok.ensures.step
+    design_on _ _ words (AfterLoop words.stimulus) c.in-Ok.timed _ _ _ _ _ _ c.in-Ok.ensures.same_names c.in-Ok.ensures.same_bytes c.in-Ok.ensures.step
     (follows_on _ _ (HasNoLoop net timing) (λ passed. AfterStimulus words.stimulus net (KeepsTrace net timing)) tt _ _ _ c.in-Ok-ordered.ensures.acyclic
     (stimulus_on _ _ words.stimulus net (KeepsTrace net timing) stimulus _ _ _ _ _ _ c.in-Ok-stimulus_in.ensures.same_names c.in-Ok-stimulus_in.ensures.same_bytes
     (rw same at (rw c.as_bytes.ensures at c.in-Ok-stimulus_in.ensures.step))

@@ -8,7 +8,7 @@ use Rattle.net_defs.specs.declared.timing.Timing.{Timing}
 use Rattle.stim_text.specs.declared.order.Order.{Order}
 use Rattle.yse_top.specs.Checks.{Ends, HasFewCells}
 use Rattle.yse_top.specs.Orders.{EndsInOrder}
-use Rattle.yse_top.specs.Passing.{AfterOrderFile, Chain}
+use Rattle.yse_top.specs.Passing.{AfterOrderFile, Continuation}
 use Rattle.yse_top.specs.commands.Run.{EndsBy}
 use Rattle.yse_top.proofs.ChainLemmas.{follows_here, follows_on, follows_refusal}
 use Rattle.yse_top.proofs.PassingLemmas.{passed_on, stopped}
@@ -16,7 +16,7 @@ use Rattle.yse_top.proofs.WeakerLemmas.{order_so}
 use Rattle.yse_top.proofs.commands.run.in_order.Goals as goal
 
 -- what comes after the order
-abbrev order_then : RunWords → Machine → Timing → Netlist → Stimulus → Chain Order
+abbrev order_then : RunWords → Machine → Timing → Netlist → Stimulus → Continuation Order
 order_then words machine timing net stimulus order = Ends (EndsInOrder order words.banks words.homes net machine timing stimulus)
 
 pub returns-in-Err-clause-expected : goal.returns-in-Err-clause-expected

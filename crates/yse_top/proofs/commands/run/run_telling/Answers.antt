@@ -26,7 +26,7 @@ returns-in-Err-compiled-clause-expected g c =
     let words = c.args.words.now in
     let end = EndsTelling g.G.Gate c.args.gates.now c.args.gates.now (Ok tt) c.args.pace words in
     let machine = c.in-Ok.machine in
-    let design = c.in-Ok-design_from.design in
+    let design = c.in-Ok-design_from.timed in
     machine_on _ _ words.machine (ExpectedOn words end) machine _ _ _ _ _ _ c.in-Ok.ensures.same_names c.in-Ok.ensures.same_bytes c.in-Ok.ensures.step
     (design_on _ _ words (OnTiming words end machine) design _ _ _ _ _ _ c.in-Ok-design_from.ensures.same_names c.in-Ok-design_from.ensures.same_bytes c.in-Ok-design_from.ensures.step
     (follows_unfit _ _ words.homes design.net machine design.timing (AfterStimulus words.stimulus design.net (end machine design.timing design.net)) _ _ c.in-Err-compiled.ensures.refused))
@@ -36,7 +36,7 @@ returns-in-Err-stimulus_in-clause-expected g c =
     let words = c.args.words.now in
     let end = EndsTelling g.G.Gate c.args.gates.now c.args.gates.now (Ok tt) c.args.pace words in
     let machine = c.in-Ok.machine in
-    let design = c.in-Ok-design_from.design in
+    let design = c.in-Ok-design_from.timed in
     machine_on _ _ words.machine (ExpectedOn words end) machine _ _ _ _ _ _ c.in-Ok.ensures.same_names c.in-Ok.ensures.same_bytes c.in-Ok.ensures.step
     (design_on _ _ words (OnTiming words end machine) design _ _ _ _ _ _ c.in-Ok-design_from.ensures.same_names c.in-Ok-design_from.ensures.same_bytes c.in-Ok-design_from.ensures.step
     (follows_fit _ _ words.homes design.net machine design.timing (AfterStimulus words.stimulus design.net (end machine design.timing design.net)) _ _ _ c.in-Ok-compiled.ensures.acyclic c.in-Ok-compiled.ensures.fits
@@ -47,7 +47,7 @@ returns-clause-expected g c =
     let words = c.args.words.now in
     let end = EndsTelling g.G.Gate c.args.gates.now c.finish.new.gates (written_by c.finish.result) c.args.pace words in
     let machine = c.in-Ok.machine in
-    let design = c.in-Ok-design_from.design in
+    let design = c.in-Ok-design_from.timed in
     let stimulus = c.in-Ok-stimulus_in.stimulus in
     let same = c.in-Ok-compiled.ensures.same in
     machine_on _ _ words.machine (ExpectedOn words end) machine _ _ _ _ _ _ c.in-Ok.ensures.same_names c.in-Ok.ensures.same_bytes c.in-Ok.ensures.step

@@ -3,7 +3,7 @@ use Rattle.std.proofs.Common.{◌≡◌, refl, inl, inr}
 use Rattle.net_defs.specs.Canonical.{canonical_text}
 use Rattle.net_defs.specs.declared.netlist.Netlist.{Netlist}
 use Rattle.yse_top.specs.Checks.{Ends, Writes}
-use Rattle.yse_top.specs.Passing.{AfterNetlistFile, Chain}
+use Rattle.yse_top.specs.Passing.{AfterNetlistFile, Continuation}
 use Rattle.yse_top.specs.commands.Show.{ExpectedShow}
 use Rattle.yse_top.proofs.ChainLemmas.{follows_here}
 use Rattle.yse_top.proofs.PassingLemmas.{passed_on, stopped}
@@ -11,7 +11,7 @@ use Rattle.yse_top.proofs.WeakerLemmas.{netlist_file_so}
 use Rattle.yse_top.proofs.commands.show.show.Goals as goal
 
 -- what comes after the netlist
-abbrev net_then : Chain Netlist
+abbrev net_then : Continuation Netlist
 net_then net = Ends (Writes (λ output. output ≡ canonical_text net))
 
 pub returns-in-Err-clause-expected : goal.returns-in-Err-clause-expected

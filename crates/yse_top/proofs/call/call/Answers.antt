@@ -1,0 +1,70 @@
+-- What the command came to, or why there is none.
+use Rattle.std.proofs.Common.{◌≡◌, ◌∙◌, sym, subst, map, inl, inr}
+use Rattle.std.specs.String.{string_bytes}
+use Rattle.cmd_words.specs.declared.command.Command.{Command}
+use Rattle.cmd_words.specs.Forms.{HasForm}
+use Rattle.cmd_words.specs.declared.command.WordNo.TheVariants.{Usage, Memory}
+use Rattle.yse_top.specs.declared.refusal.Refusal.TheVariants as refusal
+use Rattle.yse_top.specs.Ends.{MayWrite}
+use Rattle.yse_top.specs.Expected.{Expected}
+use Rattle.yse_top.specs.Refusals.{refused_of}
+use Rattle.yse_top.specs.Traced.{IsOutputOfFiles}
+use Rattle.yse_top.specs.Visited.{TellsGates}
+use Rattle.yse_top.proofs.CallLemmas.{follows_usage, follows_no_memory}
+use Rattle.yse_top.proofs.VisitedLemmas.{refused_writes}
+use Rattle.edge_io.proofs.WritingLemmas.{append_known-nil}
+use Rattle.yse_top.proofs.call.call.Goals as goal
+
+-- ---- a command
+
+pub returns-in-Ok-clause-came : goal.returns-in-Ok-clause-came
+unfolding Expected
+returns-in-Ok-clause-came g c =
+    let came = c.obey-status.ensures.came in
+    record {
+      readings = came.readings;
+      outcome = came.outcome;
+      are = came.are;
+      expected = inl (c.in-Ok.command, c.in-Ok.ensures.form, came.expected);
+      ends = came.ends;
+      wrote = came.wrote;
+    }
+
+pub returns-in-Ok-clause-trace : goal.returns-in-Ok-clause-trace
+returns-in-Ok-clause-trace g c is =
+    let trace = c.obey-status.ensures.trace is in
+    (trace.0, trace.1, subst (IsOutputOfFiles (g.F.Files.bytes c.args.files.now) trace.0) (sym c.in-Ok.ensures.asked) trace.2)
+
+pub returns-in-Ok-clause-visits : goal.returns-in-Ok-clause-visits
+returns-in-Ok-clause-visits g c =
+    subst (TellsGates g.G.Gate (g.F.Files.bytes c.args.files.now) c.args.gates.now c.obey-status.new.gates c.obey-status.result) (sym c.in-Ok.ensures.asked) c.obey-status.ensures.visits
+
+-- ---- words of no form
+
+pub returns-in-Err-Usage-clause-came : goal.returns-in-Err-Usage-clause-came
+returns-in-Err-Usage-clause-came g c =
+    let none : (command : Command) → HasForm (map string_bytes c.args.words.now) command → ⊥ = elim c.in-Err-Usage.ensures.form [ inl memory ↦ absurd (usage_not_memory (sym c.in-Err-Usage.field-0-is ∙ memory)) | inr (usage, none) ↦ none ] in
+    let follows = follows_usage _ _ (g.F.Files.counts c.args.files.now) (g.F.Files.counts c.args.files.now) (map string_bytes c.args.words.now) none in
+    record {
+      readings = follows.readings;
+      outcome = refused_of refusal.Words;
+      are = follows.are;
+      expected = follows.expected;
+      ends = inl (c.refuse.ensures.status, sym (append_known-nil _), c.refuse.ensures.line);
+      wrote = λ is. absurd (refused_writes refusal.Words (subst MayWrite (sym (sym c.refuse.ensures.status ∙ is)) tt));
+    }
+  where
+    usage_not_memory : Usage ≡ Memory → ⊥
+    usage_not_memory e = cc
+
+pub returns-in-Err-Memory-clause-came : goal.returns-in-Err-Memory-clause-came
+returns-in-Err-Memory-clause-came g c =
+    let follows = follows_no_memory _ _ (g.F.Files.counts c.args.files.now) (g.F.Files.counts c.args.files.now) (map string_bytes c.args.words.now) in
+    record {
+      readings = follows.readings;
+      outcome = refused_of refusal.Memory;
+      are = follows.are;
+      expected = follows.expected;
+      ends = inl (c.refuse-in-Err-Memory.ensures.status, sym (append_known-nil _), c.refuse-in-Err-Memory.ensures.line);
+      wrote = λ is. absurd (refused_writes refusal.Memory (subst MayWrite (sym (sym c.refuse-in-Err-Memory.ensures.status ∙ is)) tt));
+    }
