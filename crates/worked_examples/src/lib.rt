@@ -18,10 +18,6 @@ mod of_cmd_words;
 #[cfg(test)]
 mod of_func_table;
 #[cfg(test)]
-mod of_home_better;
-#[cfg(test)]
-mod of_image_file;
-#[cfg(test)]
 mod of_image_lines;
 #[cfg(test)]
 mod of_lane_planes;
@@ -42,4 +38,4 @@ mod of_switch_set;
 #[cfg(test)]
 mod of_text_lines;
 #[cfg(test)]
-mod of_yse_compile;
+mod texts;

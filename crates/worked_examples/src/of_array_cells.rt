@@ -4,6 +4,8 @@ ghost use Rattle.logic_four.specs.Memory.{HasShape};
 
 use array_cells::Cells;
 use logic_four::V4::{self, HighZ, One, Undef, Zero};
+use seen_list::Memory;
+use std::alloc::Global;
 use std::test::Fail;
 
 /// The output of a memory of two address bits and one data bit at an edge.
@@ -77,37 +79,46 @@ fn stays_cleared(cells: &mut Cells, times: usize) -> bool
     all
 }
 
+/// Whether a memory that holds this value at first gives the outputs of these edges.
+fn agrees_from(alloc: Global, first: V4, edges: &[Edge]) -> Result<bool, Memory> {
+    let mut cells = Cells::new(alloc, 2, 1, first)?;
+    Ok(agrees(&mut cells, edges))
+}
+
+/// Whether a word stays undefined, however often every word was made so, and what is written then is read.
+fn survives_clearings(alloc: Global) -> Result<bool, Memory> {
+    let mut cells = Cells::new(alloc, 2, 1, One)?;
+    let before = stays_cleared(&mut cells, 600);
+    let read = agrees(&mut cells, FROM_UNDEFINED);
+    Ok(before && read && stays_cleared(&mut cells, 600))
+}
+
 /// Reads of old words, of what was written, and of words that are not known any more.
 #[test]
 fn edges_answer_as_tabled(rt: HostRuntime) -> Result<(), Fail> {
-    let mut cells = Cells::new(rt.alloc(), 2, 1, Undef)?;
-    assert!(rt; agrees(&mut cells, FROM_UNDEFINED));
-    let mut cells = Cells::new(rt.alloc(), 2, 1, Zero)?;
-    assert!(rt; agrees(&mut cells, FROM_ZERO));
+    assert!(rt; agrees_from(rt.alloc(), Undef, FROM_UNDEFINED)?);
+    assert!(rt; agrees_from(rt.alloc(), Zero, FROM_ZERO)?);
+    assert!(rt; survives_clearings(rt.alloc())?);
     Ok(())
 }
 
-/// A word stays undefined, however often every word was made so, and what is written then is read.
-#[test]
-fn many_clearings(rt: HostRuntime) -> Result<(), Fail> {
-    let mut cells = Cells::new(rt.alloc(), 2, 1, One)?;
-    assert!(rt; stays_cleared(&mut cells, 600));
-    assert!(rt; agrees(&mut cells, FROM_UNDEFINED));
-    assert!(rt; stays_cleared(&mut cells, 600));
-    Ok(())
+/// What the largest memory reads at its last word, before and after a write of this word.
+fn last_words(alloc: Global, word: &[V4; 64]) -> Result<([V4; 64], [V4; 64]), Memory> {
+    let mut cells = Cells::new(alloc, 16, 64, Zero)?;
+    let mut before = [HighZ; 64];
+    cells.edge(One, &[One; 16], word, &mut before);
+    let mut after = [HighZ; 64];
+    cells.edge(Zero, &[One; 16], word, &mut after);
+    Ok((before, after))
 }
 
 /// The largest memory, and its last word, whose bits stand in their order.
 #[test]
 fn largest_memory(rt: HostRuntime) -> Result<(), Fail> {
-    let mut cells = Cells::new(rt.alloc(), 16, 64, Zero)?;
     let mut word = [Zero; 64];
     word[0] = One;
     word[40] = Undef;
-    let mut outs = [HighZ; 64];
-    cells.edge(One, &[One; 16], &word, &mut outs);
-    assert_eq!(rt; outs, [Zero; 64]);
-    cells.edge(Zero, &[One; 16], &word, &mut outs);
-    assert_eq!(rt; outs, word);
+    let (before, after) = last_words(rt.alloc(), &word)?;
+    assert!(rt; before == [Zero; 64] && after == word);
     Ok(())
 }

@@ -1,15 +1,22 @@
 //! Calls of `bit_rows`.
 
-use bit_rows::*;
+use bit_rows::BitRows;
+use seen_list::Memory;
+use std::alloc::Global;
 use std::test::Fail;
 
-/// There is room where there is enough memory.
-#[test]
-fn fills(rt: HostRuntime) -> Result<(), Fail> {
-    let mut rows = BitRows::new(rt.alloc(), 2, 3)?;
+/// Whether the bit stands in its place among two rows of three words, for which there is room where there is enough
+/// memory.
+fn is_put(alloc: Global) -> Result<bool, Memory> {
+    let mut rows = BitRows::new(alloc, 2, 3)?;
     if rows.words.len() == 6 && rows.stride == 3 {
         rows.put(1, 100);
     }
-    assert_eq!(rt; rows.words.as_slice(), [0, 0, 0, 0, 1 << 36, 0].as_slice());
+    Ok(rows.words.as_slice() == [0, 0, 0, 0, 1 << 36, 0].as_slice())
+}
+
+#[test]
+fn fills(rt: HostRuntime) -> Result<(), Fail> {
+    assert!(rt; is_put(rt.alloc())?);
     Ok(())
 }

@@ -1,307 +1,319 @@
 //! A table of words, and what is read of each.
 
+use crate::texts::push_number;
 use cmd_words::{Command, RunWords, WordNo, read_words};
-use net_defs::{HomeChoice, Init, Mode};
-use seen_list::Text;
-use std::alloc::{AllocError, Global};
+use net_defs::{HomeChoice, Init, Mode, Timing};
+use seen_list::{List, Memory, Text};
+use std::alloc::Global;
 use std::test::Fail;
 
-const CASES: &[(&str, &str)] = &[
-    ("", "usage"),
-    ("run", "usage"),
-    ("run c17.bench", "usage"),
-    ("run a b", "run a b rank 1 x banks 1 workers 4"),
-    ("run a b c", "usage"),
-    ("Run a b", "usage"),
-    ("'' a b", "usage"),
-    ("--help", "usage"),
-    ("-h", "usage"),
-    ("run --help", "usage"),
-    ("run a b -h", "usage"),
-    // An option before, between and behind the files, as two words and as one.
-    (
-        "run --machine m a b",
-        "run a b rank 1 x banks 1 workers 4 machine m",
-    ),
-    (
-        "run a --machine=m b",
-        "run a b rank 1 x banks 1 workers 4 machine m",
-    ),
-    (
-        "run a b --init 0 --machine m",
-        "run a b rank 1 0 banks 1 workers 4 machine m",
-    ),
-    (
-        "refer --mode=unit a --units=4096 b --init=x",
-        "refer a b unit 4096 x banks 1 workers 4",
-    ),
-    (
-        "order a b --banks=8 --order o --machine m",
-        "order a b rank 1 x banks 8 workers 4 machine m order o",
-    ),
-    ("plan a", "plan a  rank 1 x banks 1 workers 4"),
-    (
-        "plan --mode unit a --machine=m",
-        "plan a  unit 1 x banks 1 workers 4 machine m",
-    ),
-    ("show a", "show a"),
-    (
-        "compile a --homes better --units 3 --mode unit --init 0",
-        "compile a  unit 3 0 banks 1 workers 4 better",
-    ),
-    ("exec a i b", "exec a b rank 1 x banks 1 workers 4 image i"),
-    (
-        "run a b --homes plain",
-        "run a b rank 1 x banks 1 workers 4",
-    ),
-    (
-        "plan a --homes=better",
-        "plan a  rank 1 x banks 1 workers 4 better",
-    ),
-    (
-        "run a b --workers 64 --banks 8",
-        "run a b rank 1 x banks 8 workers 64",
-    ),
-    ("pack a b", "pack a b rank 1 x banks 1 workers 4"),
-    (
-        "pack a b --workers 7 --machine m --init 0",
-        "pack a b rank 1 0 banks 1 workers 7 machine m",
-    ),
-    ("fault a b", "fault a b rank 1 x banks 1 workers 4"),
-    (
-        "fault --mode mixed a --last l b --units 3",
-        "fault a b mixed 3 x banks 1 workers 4 last l",
-    ),
-    ("large 2 2", "large 2 2 workers 4"),
-    (
-        "large 30000 10000 --workers 64",
-        "large 30000 10000 workers 64",
-    ),
-    ("large --workers 1 2 2", "large 2 2 workers 1"),
-    ("large -- 2 2", "large 2 2 workers 4"),
-    // Options that the command does not have, and names that are shortened or of another case.
-    ("refer a b --machine m", "usage"),
-    ("run a b --order o", "usage"),
-    ("refer a b --banks 1", "usage"),
-    ("order a b --workers 2", "usage"),
-    ("large 2 2 --banks 1", "usage"),
-    ("plan a b", "usage"),
-    ("compile a b", "usage"),
-    ("compile a --workers 2", "usage"),
-    ("exec a b", "usage"),
-    ("exec a i b c", "usage"),
-    ("exec a i b --machine m", "usage"),
-    ("exec a i b --homes plain", "usage"),
-    ("pack a", "usage"),
-    ("pack a b --banks 1", "usage"),
-    ("pack a b --homes plain", "usage"),
-    ("pack a b --order o", "usage"),
-    ("fault a", "usage"),
-    ("fault a b --machine m", "usage"),
-    ("fault a b --banks 1", "usage"),
-    ("refer a b --homes plain", "usage"),
-    ("order a b --homes plain", "usage"),
-    ("run a b --homes best", "usage"),
-    ("plan a --units 1", "usage"),
-    ("plan a --mode", "usage"),
-    ("plan a --mode ''", "usage"),
-    ("show a --mode rank", "usage"),
-    ("show a b", "usage"),
-    ("run a b --mac m", "usage"),
-    ("run a b --Machine m", "usage"),
-    ("run a b ---machine m", "usage"),
-    ("run a b -machine m", "usage"),
-    ("run a b --=m", "usage"),
-    // An option twice, without its value, and with an empty one.
-    ("run a b --workers 1 --workers 1", "usage"),
-    ("run a b --machine m --machine m", "usage"),
-    ("run a b --machine m --machine=n", "usage"),
-    ("run a b --machine", "usage"),
-    ("run a b --machine --init 0", "usage"),
-    ("run a b --machine=", "usage"),
-    ("run a b --machine ''", "usage"),
-    // A value that begins with `-`, and one with an `=` in it.
-    ("run a b --machine -m", "usage"),
-    ("run a b --machine -", "usage"),
-    (
-        "run a b --machine=-m",
-        "run a b rank 1 x banks 1 workers 4 machine -m",
-    ),
-    (
-        "run a b --machine=--",
-        "run a b rank 1 x banks 1 workers 4 machine --",
-    ),
-    (
-        "run a b --machine=m=n",
-        "run a b rank 1 x banks 1 workers 4 machine m=n",
-    ),
-    // `--`, of which the second is a file.
-    ("run a b --", "run a b rank 1 x banks 1 workers 4"),
-    ("run -- a b", "run a b rank 1 x banks 1 workers 4"),
-    (
-        "run a -- --machine",
-        "run a --machine rank 1 x banks 1 workers 4",
-    ),
-    ("run -- -- -", "run -- - rank 1 x banks 1 workers 4"),
-    ("run a -- b --init", "usage"),
-    ("run a b --machine -- m", "usage"),
-    ("run a b --machine --", "usage"),
-    // Empty files, and a lone `-`.
-    ("run a ''", "usage"),
-    ("run a -- ''", "usage"),
-    ("run a -", "usage"),
-    ("show ''", "usage"),
-    // Values of the other options.
-    ("run a b --units 1", "run a b rank 1 x banks 1 workers 4"),
-    ("run a b --units 2", "usage"),
-    ("run a b --units 2 --mode rank", "usage"),
-    (
-        "run a b --units 2 --mode unit",
-        "run a b unit 2 x banks 1 workers 4",
-    ),
-    (
-        "run a b --mode unit --units 0000000007",
-        "run a b unit 7 x banks 1 workers 4",
-    ),
-    ("run a b --mode unit --units 00000000007", "usage"),
-    ("run a b --mode unit --units 0", "usage"),
-    (
-        "run a b --mode mixed --last l --units 2",
-        "run a b mixed 2 x banks 1 workers 4 last l",
-    ),
-    (
-        "plan a --last l --mode mixed",
-        "plan a  mixed 1 x banks 1 workers 4 last l",
-    ),
-    ("refer a b --mode mixed", "usage"),
-    ("order a b --mode unit --last l", "usage"),
-    ("run a b --last l", "usage"),
-    ("show a --mode mixed --last l", "usage"),
-    ("run a b --mode unit --units 4097", "usage"),
-    ("run a b --mode unit --units +7", "usage"),
-    ("run a b --mode Unit", "usage"),
-    ("run a b --init 1", "usage"),
-    ("order a b --banks 0", "usage"),
-    ("order a b --banks 9", "usage"),
-    ("order a b --banks", "usage"),
-    ("run a b --workers 0", "usage"),
-    ("run a b --workers=65", "usage"),
-    // The numbers of a generated design.
-    ("large 2", "usage"),
-    ("large 2 2 2", "usage"),
-    ("large 0 1", "usage"),
-    ("large 30001 1", "usage"),
-    ("large 1 10001", "usage"),
-];
+/// A line of words, and what is read of it. Lines that begin with `#` tell what comes next.
+const CASES: &str = "\
+\x20=> usage\n\
+run => usage\n\
+run c17.bench => usage\n\
+run a b => run a b rank 1 x banks 1 workers 4\n\
+run a b c => usage\n\
+Run a b => usage\n\
+'' a b => usage\n\
+--help => usage\n\
+-h => usage\n\
+run --help => usage\n\
+run a b -h => usage\n\
+# An option before, between and behind the files, as two words and as one.\n\
+run --machine m a b => run a b rank 1 x banks 1 workers 4 machine m\n\
+run a --machine=m b => run a b rank 1 x banks 1 workers 4 machine m\n\
+run a b --init 0 --machine m => run a b rank 1 0 banks 1 workers 4 machine m\n\
+refer --mode=unit a --units=4096 b --init=x => refer a b unit 4096 x banks 1 workers 4\n\
+order a b --banks=8 --order o --machine m => order a b rank 1 x banks 8 workers 4 machine m order o\n\
+plan a => plan a  rank 1 x banks 1 workers 4\n\
+plan --mode unit a --machine=m => plan a  unit 1 x banks 1 workers 4 machine m\n\
+show a => show a\n\
+compile a --homes better --units 3 --mode unit --init 0 => compile a  unit 3 0 banks 1 workers 4 better\n\
+exec a i b => exec a b rank 1 x banks 1 workers 4 image i\n\
+run a b --homes plain => run a b rank 1 x banks 1 workers 4\n\
+plan a --homes=better => plan a  rank 1 x banks 1 workers 4 better\n\
+run a b --workers 64 --banks 8 => run a b rank 1 x banks 8 workers 64\n\
+pack a b => pack a b rank 1 x banks 1 workers 4\n\
+pack a b --workers 7 --machine m --init 0 => pack a b rank 1 0 banks 1 workers 7 machine m\n\
+fault a b => fault a b rank 1 x banks 1 workers 4\n\
+fault --mode mixed a --last l b --units 3 => fault a b mixed 3 x banks 1 workers 4 last l\n\
+large 2 2 => large 2 2 workers 4\n\
+large 30000 10000 --workers 64 => large 30000 10000 workers 64\n\
+large --workers 1 2 2 => large 2 2 workers 1\n\
+large -- 2 2 => large 2 2 workers 4\n\
+# Options that the command does not have, and names that are shortened or of another case.\n\
+refer a b --machine m => usage\n\
+run a b --order o => usage\n\
+refer a b --banks 1 => usage\n\
+order a b --workers 2 => usage\n\
+large 2 2 --banks 1 => usage\n\
+plan a b => usage\n\
+compile a b => usage\n\
+compile a --workers 2 => usage\n\
+exec a b => usage\n\
+exec a i b c => usage\n\
+exec a i b --machine m => usage\n\
+exec a i b --homes plain => usage\n\
+pack a => usage\n\
+pack a b --banks 1 => usage\n\
+pack a b --homes plain => usage\n\
+pack a b --order o => usage\n\
+fault a => usage\n\
+fault a b --machine m => usage\n\
+fault a b --banks 1 => usage\n\
+refer a b --homes plain => usage\n\
+order a b --homes plain => usage\n\
+run a b --homes best => usage\n\
+plan a --units 1 => usage\n\
+plan a --mode => usage\n\
+plan a --mode '' => usage\n\
+show a --mode rank => usage\n\
+show a b => usage\n\
+run a b --mac m => usage\n\
+run a b --Machine m => usage\n\
+run a b ---machine m => usage\n\
+run a b -machine m => usage\n\
+run a b --=m => usage\n\
+# An option twice, without its value, and with an empty one.\n\
+run a b --workers 1 --workers 1 => usage\n\
+run a b --machine m --machine m => usage\n\
+run a b --machine m --machine=n => usage\n\
+run a b --machine => usage\n\
+run a b --machine --init 0 => usage\n\
+run a b --machine= => usage\n\
+run a b --machine '' => usage\n\
+# A value that begins with `-`, and one with an `=` in it.\n\
+run a b --machine -m => usage\n\
+run a b --machine - => usage\n\
+run a b --machine=-m => run a b rank 1 x banks 1 workers 4 machine -m\n\
+run a b --machine=-- => run a b rank 1 x banks 1 workers 4 machine --\n\
+run a b --machine=m=n => run a b rank 1 x banks 1 workers 4 machine m=n\n\
+# `--`, of which the second is a file.\n\
+run a b -- => run a b rank 1 x banks 1 workers 4\n\
+run -- a b => run a b rank 1 x banks 1 workers 4\n\
+run a -- --machine => run a --machine rank 1 x banks 1 workers 4\n\
+run -- -- - => run -- - rank 1 x banks 1 workers 4\n\
+run a -- b --init => usage\n\
+run a b --machine -- m => usage\n\
+run a b --machine -- => usage\n\
+# Empty files, and a lone `-`.\n\
+run a '' => usage\n\
+run a -- '' => usage\n\
+run a - => usage\n\
+show '' => usage\n\
+# Values of the other options.\n\
+run a b --units 1 => run a b rank 1 x banks 1 workers 4\n\
+run a b --units 2 => usage\n\
+run a b --units 2 --mode rank => usage\n\
+run a b --units 2 --mode unit => run a b unit 2 x banks 1 workers 4\n\
+run a b --mode unit --units 0000000007 => run a b unit 7 x banks 1 workers 4\n\
+run a b --mode unit --units 00000000007 => usage\n\
+run a b --mode unit --units 0 => usage\n\
+run a b --mode mixed --last l --units 2 => run a b mixed 2 x banks 1 workers 4 last l\n\
+plan a --last l --mode mixed => plan a  mixed 1 x banks 1 workers 4 last l\n\
+refer a b --mode mixed => usage\n\
+order a b --mode unit --last l => usage\n\
+run a b --last l => usage\n\
+show a --mode mixed --last l => usage\n\
+run a b --mode unit --units 4097 => usage\n\
+run a b --mode unit --units +7 => usage\n\
+run a b --mode Unit => usage\n\
+run a b --init 1 => usage\n\
+order a b --banks 0 => usage\n\
+order a b --banks 9 => usage\n\
+order a b --banks => usage\n\
+run a b --workers 0 => usage\n\
+run a b --workers=65 => usage\n\
+# The numbers of a generated design.\n\
+large 2 => usage\n\
+large 2 2 2 => usage\n\
+large 0 1 => usage\n\
+large 30001 1 => usage\n\
+large 1 10001 => usage";
 
-fn cases() -> &'static [(&'static str, &'static str)] {
+fn cases() -> &'static str {
     CASES
 }
 
-/// The words of a line; `''` is the empty word.
-fn words_of(alloc: Global, line: &str) -> Result<Vec<String>, AllocError> {
+/// Adds a word; `''` is the empty word.
+fn push_word(alloc: Global, words: &mut Vec<String>, word: &str) -> Result<(), Memory> {
+    let word = if word == "''" { "" } else { word };
+    words.push(String::from_str(alloc, word)?)?;
+    Ok(())
+}
+
+/// The words of a line.
+fn words_of(alloc: Global, line: &str) -> Result<Vec<String>, Memory> {
     let mut words = Vec::new(alloc);
     for word in line.split(' ') {
-        if word == "''" {
-            words.push(String::new(alloc))?;
-        } else if !word.is_empty() {
-            words.push(String::from_str(alloc, word)?)?;
+        if !word.is_empty() {
+            push_word(alloc, &mut words, word)?;
         }
     }
     Ok(words)
 }
 
-/// A simulation, as the table writes it.
-fn told_run(alloc: Global, command: &str, words: &RunWords) -> Result<String, Fail> {
-    let mut told = told_files(alloc, command, words)?;
-    push_option(&mut told, " machine ", &words.machine)?;
-    push_option(&mut told, " order ", &words.order)?;
-    push_option(&mut told, " last ", &words.last)?;
-    if words.homes == HomeChoice::Better {
-        told.push_str(" better")?;
-    }
-    Ok(told)
-}
-
-/// A simulation by an image.
-fn told_exec(alloc: Global, words: &RunWords, image: &Text) -> Result<String, Fail> {
-    let mut told = told_run(alloc, "exec", words)?;
-    told.push_str(" image ")?;
-    told.push_str(name_of(image))?;
-    Ok(told)
-}
-
-/// All but the files that need not be named, and the homes.
-fn told_files(alloc: Global, command: &str, words: &RunWords) -> Result<String, Fail> {
-    let mode = match words.timing.mode {
+fn mode_word(mode: Mode) -> &'static str {
+    match mode {
         Mode::Rank => "rank",
         Mode::Unit => "unit",
         Mode::Mixed => "mixed",
-    };
-    let init = match words.timing.init {
+    }
+}
+
+fn init_word(init: Init) -> &'static str {
+    match init {
         Init::Undef => "x",
         Init::Zero => "0",
-    };
-    Ok(format!(in alloc;
-        "{command} {} {} {mode} {} {init} banks {} workers {}",
-        name_of(&words.netlist),
-        name_of(&words.stimulus),
-        words.timing.units,
-        words.banks,
-        words.workers
-    )?)
-}
-
-fn push_option(told: &mut String, word: &str, file: &Option<Text>) -> Result<(), AllocError> {
-    if let Some(name) = file {
-        told.push_str(word)?;
-        told.push_str(name_of(name))?;
-    }
-    Ok(())
-}
-
-fn name_of(text: &Text) -> &str {
-    match std::str::from_utf8(text.as_bytes()) {
-        Ok(name) => name,
-        Err(_) => "?",
     }
 }
 
-/// What was read, as the table writes it.
-fn told(alloc: Global, answer: &Result<Command, WordNo>) -> Result<String, Fail> {
+/// Adds a blank and a word.
+fn push_word_behind(text: &mut Text, word: &[u8]) -> Result<(), Memory> {
+    text.push_bytes(b" ")?;
+    text.push_bytes(word)
+}
+
+/// Adds a blank, a word and a number.
+fn push_count(alloc: Global, text: &mut Text, word: &[u8], count: u32) -> Result<(), Memory> {
+    push_word_behind(text, word)?;
+    push_number(alloc, text, count)
+}
+
+/// Adds how a netlist is run in time.
+fn push_timing(alloc: Global, text: &mut Text, timing: &Timing) -> Result<(), Memory> {
+    push_word_behind(text, mode_word(timing.mode).as_bytes())?;
+    push_count(alloc, text, b"", timing.units)?;
+    push_word_behind(text, init_word(timing.init).as_bytes())
+}
+
+/// Adds all but the files that need not be named, and the homes.
+fn push_files(alloc: Global, text: &mut Text, words: &RunWords) -> Result<(), Memory> {
+    push_word_behind(text, words.netlist.as_bytes())?;
+    push_word_behind(text, words.stimulus.as_bytes())?;
+    push_timing(alloc, text, &words.timing)?;
+    push_count(alloc, text, b"banks ", words.banks)?;
+    push_count(alloc, text, b"workers ", words.workers)
+}
+
+/// Adds a blank, a word and a file that need not be named.
+fn push_option(text: &mut Text, word: &[u8], file: &Option<Text>) -> Result<(), Memory> {
+    match file {
+        Some(name) => {
+            push_word_behind(text, word)?;
+            text.push_bytes(name.as_bytes())
+        }
+        None => Ok(()),
+    }
+}
+
+/// Adds a simulation, as the table writes it.
+fn push_run(alloc: Global, text: &mut Text, command: &str, words: &RunWords) -> Result<(), Memory> {
+    text.push_bytes(command.as_bytes())?;
+    push_files(alloc, text, words)?;
+    push_option(text, b"machine ", &words.machine)?;
+    push_option(text, b"order ", &words.order)?;
+    push_option(text, b"last ", &words.last)?;
+    text.push_bytes(if words.homes == HomeChoice::Better {
+        b" better"
+    } else {
+        b""
+    })
+}
+
+/// Adds a simulation by an image.
+fn push_exec(alloc: Global, text: &mut Text, words: &RunWords, image: &Text) -> Result<(), Memory> {
+    push_run(alloc, text, "exec", words)?;
+    push_word_behind(text, b"image ")?;
+    text.push_bytes(image.as_bytes())
+}
+
+/// Adds the numbers of a generated design.
+fn push_large(
+    alloc: Global,
+    text: &mut Text,
+    gates: u32,
+    cycles: u32,
+    workers: u32,
+) -> Result<(), Memory> {
+    text.push_bytes(b"large")?;
+    push_count(alloc, text, b"", gates)?;
+    push_count(alloc, text, b"", cycles)?;
+    push_count(alloc, text, b"workers ", workers)
+}
+
+fn push_show(text: &mut Text, netlist: &Text) -> Result<(), Memory> {
+    text.push_bytes(b"show")?;
+    push_word_behind(text, netlist.as_bytes())
+}
+
+/// Adds what was read, as the table writes it.
+fn push_answer(
+    alloc: Global,
+    text: &mut Text,
+    answer: &Result<Command, WordNo>,
+) -> Result<(), Memory> {
     match answer {
-        Ok(Command::Run(words)) => told_run(alloc, "run", words),
-        Ok(Command::Refer(words)) => told_run(alloc, "refer", words),
-        Ok(Command::Order(words)) => told_run(alloc, "order", words),
-        Ok(Command::Plan(words)) => told_run(alloc, "plan", words),
-        Ok(Command::Compile(words)) => told_run(alloc, "compile", words),
-        Ok(Command::Exec { words, image }) => told_exec(alloc, words, image),
-        Ok(Command::Pack(words)) => told_run(alloc, "pack", words),
-        Ok(Command::Fault(words)) => told_run(alloc, "fault", words),
-        Ok(Command::Show { netlist }) => Ok(format!(in alloc; "show {}", name_of(netlist))?),
+        Ok(Command::Run(words)) => push_run(alloc, text, "run", words),
+        Ok(Command::Refer(words)) => push_run(alloc, text, "refer", words),
+        Ok(Command::Order(words)) => push_run(alloc, text, "order", words),
+        Ok(Command::Plan(words)) => push_run(alloc, text, "plan", words),
+        Ok(Command::Compile(words)) => push_run(alloc, text, "compile", words),
+        Ok(Command::Exec { words, image }) => push_exec(alloc, text, words, image),
+        Ok(Command::Pack(words)) => push_run(alloc, text, "pack", words),
+        Ok(Command::Fault(words)) => push_run(alloc, text, "fault", words),
+        Ok(Command::Show { netlist }) => push_show(text, netlist),
         Ok(
             Command::Large {
                 gates,
                 cycles,
                 workers,
             },
-        ) => Ok(format!(in alloc; "large {gates} {cycles} workers {workers}")?),
-        Err(WordNo::Usage) => Ok(String::from_str(alloc, "usage")?),
-        Err(WordNo::Memory) => Ok(String::from_str(alloc, "memory")?),
+        ) => push_large(alloc, text, *gates, *cycles, *workers),
+        Err(WordNo::Usage) => text.push_bytes(b"usage"),
+        Err(WordNo::Memory) => text.push_bytes(b"memory"),
     }
 }
 
-/// What is read of a line.
-fn told_of(alloc: Global, line: &str) -> Result<String, Fail> {
+/// Adds what is read of a line.
+fn push_read(
+    alloc: Global,
+    answers: &mut List<Result<Command, WordNo>>,
+    line: &str,
+) -> Result<(), Memory> {
     let words = words_of(alloc, line)?;
-    told(alloc, &read_words(alloc, words.as_slice()))
+    answers.push(read_words(alloc, words.as_slice()))
 }
 
-/// Each line of the table is read as it says, where there is enough memory.
+/// What is read of a line.
+fn told_of(alloc: Global, line: &str) -> Result<Text, Memory> {
+    let mut answers = List::new(alloc);
+    push_read(alloc, &mut answers, line)?;
+    let mut text = Text::new(alloc);
+    for answer in answers.as_slice() {
+        push_answer(alloc, &mut text, answer)?;
+    }
+    Ok(text)
+}
+
+fn is_told(alloc: Global, line: &str, wanted: &str) -> Result<bool, Memory> {
+    let text = told_of(alloc, line)?;
+    Ok(text.as_bytes() == wanted.as_bytes())
+}
+
+/// Whether a line of the table is read as it says.
+fn is_case(alloc: Global, case: &str) -> Result<bool, Memory> {
+    match case.split_once(" => ") {
+        Some((line, wanted)) => is_told(alloc, line, wanted),
+        None => Ok(case.starts_with("#")),
+    }
+}
+
 #[test]
 fn reads_words(rt: HostRuntime) -> Result<(), Fail> {
-    for (line, want) in cases() {
-        assert_eq!(rt; told_of(rt.alloc(), line)?.as_bytes(), want.as_bytes());
+    for case in cases().split('\n') {
+        assert!(rt; is_case(rt.alloc(), case)?);
     }
     Ok(())
 }

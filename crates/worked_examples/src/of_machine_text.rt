@@ -4,7 +4,7 @@ use machine_text::*;
 use std::alloc::Global;
 
 /// The numbers of a machine, without the limits of single ports.
-#[derive(Clone, Copy, Debug, PartialEq, Eq)]
+#[derive(Clone, Copy, PartialEq, Eq)]
 struct Numbers {
     logic: u32,
     array: u32,
@@ -81,158 +81,160 @@ fn read(alloc: Global, text: &str) -> Result<Numbers, MachNo> {
     }
 }
 
-/// Whether a machine was read that has these limits of single ports.
-fn has_own(read: &Result<Machine, MachNo>, own: &[PortLimit]) -> bool {
+/// The texts that are refused, with their lines, and texts at the ends of the ranges; then the same of texts of version
+/// 2, and of texts whose first line names another version.
+const TEXTS: &[(&str, Result<Numbers, MachNo>)] = &[
+    ("", Ok(DEFAULTS)),
+    ("logic 0\n", Err(MachNo::Range { line: 1 })),
+    ("logic 254\narray 2\n", Err(MachNo::Ports { sum: 257 })),
+    ("slots 5\nslots 5\n", Err(MachNo::Twice { line: 2 })),
+    ("slots 5\nslots 0\n", Err(MachNo::Twice { line: 2 })),
+    ("wheels 4\n", Err(MachNo::Syntax { line: 1 })),
+    ("\n\nslots 5 6", Err(MachNo::Syntax { line: 3 })),
+    (
+        "logic 99999999999999999999\n",
+        Err(MachNo::Range { line: 1 }),
+    ),
+    ("slots 65537\nwheels 4\n", Err(MachNo::Range { line: 1 })),
+    ("logic 255\narray 0\n", Err(MachNo::Range { line: 1 })),
+    ("array 65\n", Err(MachNo::Range { line: 1 })),
+    ("functions 4097\n", Err(MachNo::Range { line: 1 })),
+    ("bits 16777217\n", Err(MachNo::Range { line: 1 })),
+    ("logic 254\nfunctions 4096\n", Ok(MOST_LOGIC)),
+    ("array 64\nbits 16777216\n", Ok(MOST_ARRAY)),
+    (
+        "LOGIC 1 # \u{ff}\r\n\tArray\t000\r\nslots 1\nfunctions 01\nbits 1\r",
+        Ok(SMALLEST),
+    ),
+    (
+        "bits 65536\nfunctions 256\nslots 65536\nARRAY 1\nlogic 00000000000000000000004",
+        Ok(DEFAULTS),
+    ),
+    ("nodes 5\n", Err(MachNo::Syntax { line: 1 })),
+    ("functions 0 5\n", Err(MachNo::Syntax { line: 1 })),
+    ("logic 4\nversion 2\n", Err(MachNo::Syntax { line: 2 })),
+    ("version 2\n", Ok(DEFAULTS)),
+    (
+        "\n# version 3\n\tVERSION 0002 # \u{ff}\r\nNODES 4194304\n",
+        Ok(DEFAULTS),
+    ),
+    ("version 2\nnodes 1\n", Ok(ONE_NODE)),
+    ("version 3\n", Err(MachNo::Syntax { line: 1 })),
+    ("version 1\n", Err(MachNo::Syntax { line: 1 })),
+    ("version 2 2\n", Err(MachNo::Syntax { line: 1 })),
+    ("version 2\nversion 2\n", Err(MachNo::Syntax { line: 2 })),
+    ("version 2\nlogic 0 5\n", Err(MachNo::Syntax { line: 2 })),
+    ("version 2\nnodes 0 1 5\n", Err(MachNo::Syntax { line: 2 })),
+    ("version 2\nnodes -1 5\n", Err(MachNo::Syntax { line: 2 })),
+    ("version 2\nnodes 0\n", Err(MachNo::Range { line: 2 })),
+    ("version 2\nnodes 4194305\n", Err(MachNo::Range { line: 2 })),
+    ("version 2\nnodes 0 0\n", Err(MachNo::Range { line: 2 })),
+    (
+        "version 2\nnodes 0 4194305\n",
+        Err(MachNo::Range { line: 2 }),
+    ),
+    (
+        "version 2\nfunctions 0 4097\n",
+        Err(MachNo::Range { line: 2 }),
+    ),
+    (
+        "version 2\nbits 0 16777217\n",
+        Err(MachNo::Range { line: 2 }),
+    ),
+    (
+        "version 2\nnodes 5\nnodes 0 5\nnodes 6\n",
+        Err(MachNo::Twice { line: 4 }),
+    ),
+    (
+        "version 2\nnodes 0 5\nnodes 00 6\n",
+        Err(MachNo::Twice { line: 3 }),
+    ),
+    (
+        "version 2\nnodes 1 5\nnodes 1 0\n",
+        Err(MachNo::Twice { line: 3 }),
+    ),
+    (
+        "version 2\nbits 18446744073709551616 5\nbits 018446744073709551616 5\n",
+        Err(MachNo::Twice { line: 3 }),
+    ),
+    (
+        "version 2\nbits 18446744073709551616 5\nbits 18446744073709551617 5\nlogic 0\n",
+        Err(MachNo::Range { line: 4 }),
+    ),
+    (
+        "version 2\nlogic 2\nnodes 2 5",
+        Err(MachNo::NoPort { line: 3 }),
+    ),
+    (
+        "version 2\nbits 0 5\nbits 1 5\nfunctions 4 5\n",
+        Err(MachNo::NoPort { line: 3 }),
+    ),
+    (
+        "version 2\nbits 18446744073709551616 5\n",
+        Err(MachNo::NoPort { line: 2 }),
+    ),
+    (
+        "version 2\nnodes 4 5\nwheels 4\n",
+        Err(MachNo::Syntax { line: 3 }),
+    ),
+    (
+        "version 2\nnodes 254 5\nlogic 254\narray 2\n",
+        Err(MachNo::Ports { sum: 257 }),
+    ),
+];
+
+fn texts() -> &'static [(&'static str, Result<Numbers, MachNo>)] {
+    TEXTS
+}
+
+#[test]
+fn reads_texts(rt: HostRuntime) {
+    for (text, want) in texts() {
+        assert!(rt; read(rt.alloc(), text) == *want);
+    }
+    assert!(rt; numbers_of(&Machine::default_size(rt.alloc())) == DEFAULTS);
+}
+
+/// Limits of single ports, and what they are: they stand in file order, and a port is there if a later line says so.
+const LIMITED: &[u8] =
+    b"version 2\nnodes 1 4194304\nFunctions 0 01\nbits 000 16777216\nnodes 4 1\nlogic 5\nnodes 9\n";
+
+const LIMITS: &[PortLimit] = &[
+    PortLimit {
+        what: Limited::Nodes,
+        port: 1,
+        limit: 4_194_304,
+    },
+    PortLimit {
+        what: Limited::Functions,
+        port: 0,
+        limit: 1,
+    },
+    PortLimit {
+        what: Limited::Bits,
+        port: 0,
+        limit: 16_777_216,
+    },
+    PortLimit {
+        what: Limited::Nodes,
+        port: 4,
+        limit: 1,
+    },
+];
+
+/// Whether a machine was read that has these limits of single ports, one node at port 4 and nine at port 0.
+fn has_limits(read: &Result<Machine, MachNo>) -> bool {
     match read {
-        Ok(machine) => machine.own.as_slice() == own,
+        Ok(machine) => {
+            machine.own.as_slice() == LIMITS
+                && machine.limit_at(Limited::Nodes, 4) == 1
+                && machine.limit_at(Limited::Nodes, 0) == 9
+        }
         Err(_) => false,
     }
 }
 
-/// The texts that are refused, with their lines, and texts at the ends of the ranges.
-#[test]
-fn reads_texts(rt: HostRuntime) {
-    let texts: [(&str, Result<Numbers, MachNo>); 20] = [
-        ("", Ok(DEFAULTS)),
-        ("logic 0\n", Err(MachNo::Range { line: 1 })),
-        ("logic 254\narray 2\n", Err(MachNo::Ports { sum: 257 })),
-        ("slots 5\nslots 5\n", Err(MachNo::Twice { line: 2 })),
-        ("slots 5\nslots 0\n", Err(MachNo::Twice { line: 2 })),
-        ("wheels 4\n", Err(MachNo::Syntax { line: 1 })),
-        ("\n\nslots 5 6", Err(MachNo::Syntax { line: 3 })),
-        (
-            "logic 99999999999999999999\n",
-            Err(MachNo::Range { line: 1 }),
-        ),
-        ("slots 65537\nwheels 4\n", Err(MachNo::Range { line: 1 })),
-        ("logic 255\narray 0\n", Err(MachNo::Range { line: 1 })),
-        ("array 65\n", Err(MachNo::Range { line: 1 })),
-        ("functions 4097\n", Err(MachNo::Range { line: 1 })),
-        ("bits 16777217\n", Err(MachNo::Range { line: 1 })),
-        ("logic 254\nfunctions 4096\n", Ok(MOST_LOGIC)),
-        ("array 64\nbits 16777216\n", Ok(MOST_ARRAY)),
-        (
-            "LOGIC 1 # \u{ff}\r\n\tArray\t000\r\nslots 1\nfunctions 01\nbits 1\r",
-            Ok(SMALLEST),
-        ),
-        (
-            "bits 65536\nfunctions 256\nslots 65536\nARRAY 1\nlogic 00000000000000000000004",
-            Ok(DEFAULTS),
-        ),
-        ("nodes 5\n", Err(MachNo::Syntax { line: 1 })),
-        ("functions 0 5\n", Err(MachNo::Syntax { line: 1 })),
-        ("logic 4\nversion 2\n", Err(MachNo::Syntax { line: 2 })),
-    ];
-    for (text, want) in texts {
-        assert_eq!(rt; read(rt.alloc(), text), want);
-    }
-    assert_eq!(rt; numbers_of(&Machine::default_size(rt.alloc())), DEFAULTS);
-}
-
-/// The same of texts of version 2, and of texts whose first line names another version.
-#[test]
-fn reads_version_two(rt: HostRuntime) {
-    let texts: [(&str, Result<Numbers, MachNo>); 26] = [
-        ("version 2\n", Ok(DEFAULTS)),
-        (
-            "\n# version 3\n\tVERSION 0002 # \u{ff}\r\nNODES 4194304\n",
-            Ok(DEFAULTS),
-        ),
-        ("version 2\nnodes 1\n", Ok(ONE_NODE)),
-        ("version 3\n", Err(MachNo::Syntax { line: 1 })),
-        ("version 1\n", Err(MachNo::Syntax { line: 1 })),
-        ("version 2 2\n", Err(MachNo::Syntax { line: 1 })),
-        ("version 2\nversion 2\n", Err(MachNo::Syntax { line: 2 })),
-        ("version 2\nlogic 0 5\n", Err(MachNo::Syntax { line: 2 })),
-        ("version 2\nnodes 0 1 5\n", Err(MachNo::Syntax { line: 2 })),
-        ("version 2\nnodes -1 5\n", Err(MachNo::Syntax { line: 2 })),
-        ("version 2\nnodes 0\n", Err(MachNo::Range { line: 2 })),
-        ("version 2\nnodes 4194305\n", Err(MachNo::Range { line: 2 })),
-        ("version 2\nnodes 0 0\n", Err(MachNo::Range { line: 2 })),
-        (
-            "version 2\nnodes 0 4194305\n",
-            Err(MachNo::Range { line: 2 }),
-        ),
-        (
-            "version 2\nfunctions 0 4097\n",
-            Err(MachNo::Range { line: 2 }),
-        ),
-        (
-            "version 2\nbits 0 16777217\n",
-            Err(MachNo::Range { line: 2 }),
-        ),
-        (
-            "version 2\nnodes 5\nnodes 0 5\nnodes 6\n",
-            Err(MachNo::Twice { line: 4 }),
-        ),
-        (
-            "version 2\nnodes 0 5\nnodes 00 6\n",
-            Err(MachNo::Twice { line: 3 }),
-        ),
-        (
-            "version 2\nnodes 1 5\nnodes 1 0\n",
-            Err(MachNo::Twice { line: 3 }),
-        ),
-        (
-            "version 2\nbits 18446744073709551616 5\nbits 018446744073709551616 5\n",
-            Err(MachNo::Twice { line: 3 }),
-        ),
-        (
-            "version 2\nbits 18446744073709551616 5\nbits 18446744073709551617 5\nlogic 0\n",
-            Err(MachNo::Range { line: 4 }),
-        ),
-        (
-            "version 2\nlogic 2\nnodes 2 5",
-            Err(MachNo::NoPort { line: 3 }),
-        ),
-        (
-            "version 2\nbits 0 5\nbits 1 5\nfunctions 4 5\n",
-            Err(MachNo::NoPort { line: 3 }),
-        ),
-        (
-            "version 2\nbits 18446744073709551616 5\n",
-            Err(MachNo::NoPort { line: 2 }),
-        ),
-        (
-            "version 2\nnodes 4 5\nwheels 4\n",
-            Err(MachNo::Syntax { line: 3 }),
-        ),
-        (
-            "version 2\nnodes 254 5\nlogic 254\narray 2\n",
-            Err(MachNo::Ports { sum: 257 }),
-        ),
-    ];
-    for (text, want) in texts {
-        assert_eq!(rt; read(rt.alloc(), text), want);
-    }
-}
-
-/// The limits of single ports stand in file order, and a port is there if a later line says so.
 #[test]
 fn reads_limits_of_ports(rt: HostRuntime) {
-    let read = read_machine(
-        rt.alloc(),
-        b"version 2\nnodes 1 4194304\nFunctions 0 01\nbits 000 16777216\nnodes 4 1\nlogic 5\nnodes 9\n",
-    );
-    let own = [
-        limit(Limited::Nodes, 1, 4_194_304),
-        limit(Limited::Functions, 0, 1),
-        limit(Limited::Bits, 0, 16_777_216),
-        limit(Limited::Nodes, 4, 1),
-    ];
-    assert!(rt; has_own(&read, own.as_slice()));
-    assert_eq!(rt; nodes_at(&read, 4), Some(1));
-    assert_eq!(rt; nodes_at(&read, 0), Some(9));
-}
-
-fn limit(what: Limited, port: u32, limit: u32) -> PortLimit {
-    PortLimit { what, port, limit }
-}
-
-/// The limit of nodes at a port of the machine that was read.
-fn nodes_at(read: &Result<Machine, MachNo>, port: u32) -> Option<u32> {
-    match read {
-        Ok(machine) => Some(machine.limit_at(Limited::Nodes, port)),
-        Err(_) => None,
-    }
+    assert!(rt; has_limits(&read_machine(rt.alloc(), LIMITED)));
 }

@@ -1,48 +1,52 @@
 //! `map_nodes` with ample memory, against items written out by hand.
 
 use crate::items::items_of;
+use crate::texts::push_number;
 use limits::MAX_UNITS;
 use net_defs::{Init, Mode, Timing};
-use node_defs::{Feed, Item, NodeNet, Tag};
+use node_defs::{Feed, Feeds, Item, ItemName, NodeNet, Tag};
 use seen_list::{Memory, Text};
 use std::alloc::Global;
 use std::test::Fail;
 
 /// Adds an operand: its item, with a `'` where its value is that of the last turn; nothing for a value that is
 /// always 0.
-fn push_feed(alloc: Global, text: &mut Text, feed: Feed) -> Result<(), Fail> {
+fn push_feed(alloc: Global, text: &mut Text, feed: &Feed) -> Result<(), Memory> {
     match feed {
-        Feed::From {
-            item,
-            tag: Tag::This,
-        } => text.push_bytes(format!(in alloc; " {item}")?.as_bytes())?,
-        Feed::From {
-            item,
-            tag: Tag::Last,
-        } => text.push_bytes(format!(in alloc; " {item}'")?.as_bytes())?,
-        Feed::Fixed(_) => {}
+        Feed::From { item, tag } => {
+            text.push_bytes(b" ")?;
+            push_number(alloc, text, *item)?;
+            text.push_bytes(if *tag == Tag::Last { b"'" } else { b"" })
+        }
+        Feed::Fixed(_) => Ok(()),
     }
-    Ok(())
+}
+
+fn push_feeds(alloc: Global, text: &mut Text, feeds: &Feeds) -> Result<(), Memory> {
+    push_feed(alloc, text, &feeds.a)?;
+    push_feed(alloc, text, &feeds.b)?;
+    push_feed(alloc, text, &feeds.c)?;
+    push_feed(alloc, text, &feeds.d)
 }
 
 /// Adds an item: a register by its operand, a node by its table and its operands.
-fn push_item(alloc: Global, text: &mut Text, item: &Item) -> Result<(), Fail> {
+fn push_item(alloc: Global, text: &mut Text, item: &Item) -> Result<(), Memory> {
     match item {
-        Item::Latch { op } => text.push_bytes(format!(in alloc; "register {op}")?.as_bytes())?,
-        Item::Node { table, feeds } => {
-            text.push_bytes(format!(in alloc; "{table} of")?.as_bytes())?;
-            for feed in [feeds.a, feeds.b, feeds.c, feeds.d] {
-                push_feed(alloc, text, feed)?;
-            }
+        Item::Latch { op } => {
+            text.push_bytes(b"register ")?;
+            push_number(alloc, text, *op)
         }
-        Item::Input { .. } | Item::BlockBit { .. } => text.push_bytes(b"no node")?,
+        Item::Node { table, feeds } => {
+            push_number(alloc, text, *table)?;
+            text.push_bytes(b" of")?;
+            push_feeds(alloc, text, feeds)
+        }
+        Item::Input { .. } | Item::BlockBit { .. } => text.push_bytes(b"no node"),
     }
-    text.push_bytes(b"\n")?;
-    Ok(())
 }
 
 /// The items from the first node on, a line each.
-fn told(alloc: Global, nodes: &NodeNet) -> Result<Text, Fail> {
+fn told(alloc: Global, nodes: &NodeNet) -> Result<Text, Memory> {
     let mut text = Text::new(alloc);
     for item in nodes
         .items
@@ -51,6 +55,7 @@ fn told(alloc: Global, nodes: &NodeNet) -> Result<Text, Fail> {
         .skip(nodes.first_node as usize)
     {
         push_item(alloc, &mut text, item)?;
+        text.push_bytes(b"\n")?;
     }
     Ok(text)
 }
@@ -59,9 +64,12 @@ fn told(alloc: Global, nodes: &NodeNet) -> Result<Text, Fail> {
 const WIDE_AND: &str =
     "INPUT(a)\nINPUT(b)\nINPUT(c)\nINPUT(d)\nINPUT(e)\nINPUT(f)\nINPUT(g)\nINPUT(h)\nINPUT(i)\nINPUT(j)\nINPUT(k)\nINPUT(l)\nINPUT(m)\nINPUT(n)\nINPUT(o)\nINPUT(p)\nINPUT(q)\nOUTPUT(z)\nz = AND(a, b, c, d, e, f, g, h, i, j, k, l, m, n, o, p, q)\n";
 
-/// A netlist, its mode and the turns of a cycle, its first node, its number of tables, and its items from the first node on: the tables of
-/// nodes with their operands. In unit delay only the first of three levels reads the last turn.
-const ROWS: &[(&str, (Mode, u32), u32, usize, &str)] = &[
+/// A netlist, its mode and the turns of a cycle, its first node, its number of tables, and its items from the first node
+/// on: the tables of nodes with their operands.
+type Row = (&'static str, (Mode, u32), u32, usize, &'static str);
+
+/// In unit delay only the first of three levels reads the last turn.
+const ROWS: &[Row] = &[
     (
         "INPUT(a)\nINPUT(b)\nINPUT(c)\nINPUT(d)\nINPUT(e)\nz = NAND(a, b, c, d, e)\n",
         (Mode::Rank, 1),
@@ -106,8 +114,12 @@ const ROWS: &[(&str, (Mode, u32), u32, usize, &str)] = &[
     ),
 ];
 
+fn rows() -> &'static [Row] {
+    ROWS
+}
+
 /// The items of a netlist in a mode in which no gate is listed.
-fn told_items(alloc: Global, text: &str, mode: Mode, units: u32) -> Option<NodeNet> {
+fn items_in(alloc: Global, text: &str, mode: Mode, units: u32) -> Option<NodeNet> {
     if units == 0 || units > MAX_UNITS || (mode == Mode::Rank && units != 1) {
         return None;
     }
@@ -115,29 +127,69 @@ fn told_items(alloc: Global, text: &str, mode: Mode, units: u32) -> Option<NodeN
     items_of(alloc, text.as_bytes(), &timing)
 }
 
-fn rows() -> &'static [(&'static str, (Mode, u32), u32, usize, &'static str)] {
-    ROWS
+/// Whether these are the items of a row.
+fn is_told(alloc: Global, nodes: &Option<NodeNet>, row: &Row) -> Result<bool, Memory> {
+    let Some(nodes) = nodes else {
+        return Ok(false);
+    };
+    let items = told(alloc, nodes)?;
+    Ok(
+        nodes.first_node == row.2
+            && nodes.tables.len() == row.3
+            && items.as_bytes() == row.4.as_bytes(),
+    )
+}
+
+/// Whether the netlist of a row has its items.
+fn has_items(alloc: Global, row: &Row) -> Result<bool, Memory> {
+    is_told(alloc, &items_in(alloc, row.0, row.1.0, row.1.1), row)
 }
 
 #[test]
 fn netlists_have_these_items(rt: HostRuntime) -> Result<(), Fail> {
-    for (text, (mode, units), first, tables, items) in rows() {
-        let nodes = told_items(rt.alloc(), text, *mode, *units).ok_or("no items")?;
-        assert_eq!(rt; (nodes.first_node, nodes.tables.len()), (*first, *tables));
-        assert_eq!(rt; told(rt.alloc(), &nodes)?.as_bytes(), items.as_bytes());
+    for row in rows() {
+        assert!(rt; has_items(rt.alloc(), row)?);
     }
     Ok(())
 }
 
-/// Seven helpers, and then the gate's own node.
-#[test]
-fn helpers_are_numbered(rt: HostRuntime) -> Result<(), Fail> {
-    let nodes = told_items(rt.alloc(), WIDE_AND, Mode::Unit, 9).ok_or("no items")?;
-    assert_eq!(rt; nodes.names.len(), 25);
-    for (i, name) in nodes.names.as_slice().iter().skip(17).enumerate() {
-        assert!(rt;
-            name.signal == 17 && name.helper == (if i < 7 { Some(i as u32) } else { None })
-        );
+/// What the items of a gate of 17 operands stand for, behind its inputs: seven helpers, and then the gate itself.
+const HELPERS: &[Option<u32>] = &[
+    Some(0),
+    Some(1),
+    Some(2),
+    Some(3),
+    Some(4),
+    Some(5),
+    Some(6),
+    None,
+];
+
+/// Whether the names are those of these helpers of signal 17.
+fn are_helpers(names: &[ItemName], helpers: &[Option<u32>]) -> bool {
+    if names.len() != helpers.len() {
+        return false;
     }
-    Ok(())
+    for i in 0..names.len() {
+        if names[i].signal != 17 || names[i].helper != helpers[i] {
+            return false;
+        }
+    }
+    true
+}
+
+/// Whether the names of the items behind the first 17 are those of the helpers.
+fn has_helpers(nodes: &Option<NodeNet>) -> bool {
+    let Some(nodes) = nodes else {
+        return false;
+    };
+    match nodes.names.as_slice().split_at_checked(17) {
+        Some((_, names)) => are_helpers(names, HELPERS),
+        None => false,
+    }
+}
+
+#[test]
+fn helpers_are_numbered(rt: HostRuntime) {
+    assert!(rt; has_helpers(&items_in(rt.alloc(), WIDE_AND, Mode::Unit, 9)));
 }

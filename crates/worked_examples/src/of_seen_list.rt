@@ -1,33 +1,39 @@
-//! Calls of `seen_list`.
+//! Calls of `seen_list`: each call that takes memory succeeds where there is enough of it.
 
-use seen_list::*;
+use seen_list::{List, Memory, Room, Text};
+use std::alloc::Global;
 use std::test::Fail;
 
-/// Each call that takes memory succeeds where there is enough of it.
-#[test]
-fn texts_grow(rt: HostRuntime) -> Result<(), Fail> {
-    let mut text = Text::from_bytes(rt.alloc(), b"ab")?;
+fn texts_grow(alloc: Global) -> Result<bool, Memory> {
+    let mut text = Text::from_bytes(alloc, b"ab")?;
     text.push_bytes(b"c")?;
-    assert_eq!(rt; text.as_bytes(), b"abc".as_slice());
-    Ok(())
+    Ok(text.as_bytes() == b"abc".as_slice())
 }
 
-#[test]
-fn lists_grow(rt: HostRuntime) -> Result<(), Fail> {
-    let mut list = List::from_slice(rt.alloc(), &[7u32])?;
+fn lists_grow(alloc: Global) -> Result<bool, Memory> {
+    let mut list = List::from_slice(alloc, &[7u32])?;
     list.push(9)?;
     list.extend_from_slice(&[9, 7])?;
-    assert_eq!(rt; list.copy()?.as_slice(), [7, 9, 9, 7].as_slice());
-    Ok(())
+    Ok(list.copy()?.as_slice() == [7, 9, 9, 7].as_slice())
+}
+
+fn lists_are_filled(alloc: Global) -> Result<bool, Memory> {
+    let list = List::filled(alloc, true, 3)?;
+    Ok(list.as_slice() == [true, true, true].as_slice())
+}
+
+fn rooms_are_filled(alloc: Global) -> Result<bool, Memory> {
+    let mut room = Room::new(alloc, 3)?;
+    room.push(b'a');
+    room.push_bytes(b"bc");
+    Ok(room.as_bytes() == b"abc".as_slice())
 }
 
 #[test]
-fn lists_and_rooms_are_filled(rt: HostRuntime) -> Result<(), Fail> {
-    let list = List::filled(rt.alloc(), true, 3)?;
-    assert_eq!(rt; list.as_slice(), [true, true, true].as_slice());
-    let mut room = Room::new(rt.alloc(), 3)?;
-    room.push(b'a');
-    room.push_bytes(b"bc");
-    assert_eq!(rt; room.as_bytes(), b"abc".as_slice());
+fn memory_is_taken(rt: HostRuntime) -> Result<(), Fail> {
+    assert!(rt; texts_grow(rt.alloc())?);
+    assert!(rt; lists_grow(rt.alloc())?);
+    assert!(rt; lists_are_filled(rt.alloc())?);
+    assert!(rt; rooms_are_filled(rt.alloc())?);
     Ok(())
 }

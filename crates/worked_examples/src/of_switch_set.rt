@@ -10,16 +10,13 @@ use node_defs::NodeNet;
 use plan_defs::{PortLinks, Switch};
 use slot_plan::first_fit;
 use std::alloc::Global;
-use std::test::Fail;
 use switch_set::settings;
 
-pub(crate) const C17: &[u8] =
+const C17: &[u8] =
     b"INPUT(1)\nINPUT(2)\nINPUT(3)\nINPUT(6)\nINPUT(7)\nOUTPUT(22)\nOUTPUT(23)\n10 = NAND(1, 3)\n11 = NAND(3, 6)\n16 = NAND(2, 11)\n19 = NAND(11, 7)\n22 = NAND(10, 16)\n23 = NAND(16, 19)\n";
 
 /// A memory of one address bit and one data bit.
 const MEMORY: &[u8] = b"INPUT(w)\nINPUT(a)\nINPUT(d)\nOUTPUT(q)\n[q] = RAM(w; a; d)\n";
-
-const TWICE: &[u8] = b"INPUT(a)\nOUTPUT(a)\nOUTPUT(a)\n";
 
 /// The settings of a netlist on a machine.
 fn switched(alloc: Global, text: &[u8], sizes: &[u8]) -> Option<Switch> {
@@ -49,8 +46,14 @@ fn planned(alloc: Global, nodes: &NodeNet, machine: &Machine) -> Option<Switch>
 type Row<'a> = (&'a [(u32, &'a [u32])], &'a [(u32, u32)]);
 
 /// Whether the ports send and receive these, and no others.
-fn agrees(switch: &Switch, rows: &[Row<'_>]) -> bool {
-    let ports = switch.ports.as_slice();
+fn agrees(switch: &Option<Switch>, rows: &[Row<'_>]) -> bool {
+    match switch {
+        Some(switch) => ports_agree(switch.ports.as_slice(), rows),
+        None => false,
+    }
+}
+
+fn ports_agree(ports: &[PortLinks], rows: &[Row<'_>]) -> bool {
     if ports.len() != rows.len() {
         return false;
     }
@@ -90,39 +93,35 @@ fn receipts_agree(port: &PortLinks, wanted: &[(u32, u32)]) -> bool {
 
 /// On two logic processors and an array processor the host is port 3. It has the inputs in slots 0
 /// to 4. The gates `11`, `16`, `22` and `23`, in slots 4 to 7, are read at other ports too.
-#[test]
-fn c17_on_two(rt: HostRuntime) -> Result<(), Fail> {
-    let switch = switched(rt.alloc(), C17, b"logic 2\narray 1\n").ok_or("no settings")?;
-    let rows: &[Row<'_>] = &[
-        (&[(5, &[1]), (6, &[3])], &[(0, 3), (1, 3), (2, 3), (4, 1)]),
-        (&[(4, &[0]), (7, &[3])], &[(2, 3), (3, 3), (4, 3), (5, 0)]),
-        (&[], &[]),
-        (
-            &[(0, &[0]), (1, &[0]), (2, &[0, 1]), (3, &[1]), (4, &[1])],
-            &[(6, 0), (7, 1)],
-        ),
-    ];
-    assert!(rt; agrees(&switch, rows));
-    Ok(())
-}
+const C17_ON_TWO: &[Row<'_>] = &[
+    (&[(5, &[1]), (6, &[3])], &[(0, 3), (1, 3), (2, 3), (4, 1)]),
+    (&[(4, &[0]), (7, &[3])], &[(2, 3), (3, 3), (4, 3), (5, 0)]),
+    (&[], &[]),
+    (
+        &[(0, &[0]), (1, &[0]), (2, &[0, 1]), (3, &[1]), (4, &[1])],
+        &[(6, 0), (7, 1)],
+    ),
+];
 
 /// The memory, at port 1, sends its output in slot 0, while it receives the first input.
-#[test]
-fn memory_on_one(rt: HostRuntime) -> Result<(), Fail> {
-    let switch = switched(rt.alloc(), MEMORY, b"logic 1\narray 1\n").ok_or("no settings")?;
-    let rows: &[Row<'_>] = &[
-        (&[], &[]),
-        (&[(0, &[2])], &[(0, 2), (1, 2), (2, 2)]),
-        (&[(0, &[1]), (1, &[1]), (2, &[1])], &[(0, 1)]),
-    ];
-    assert!(rt; agrees(&switch, rows));
-    Ok(())
-}
+const MEMORY_ON_ONE: &[Row<'_>] = &[
+    (&[], &[]),
+    (&[(0, &[2])], &[(0, 2), (1, 2), (2, 2)]),
+    (&[(0, &[1]), (1, &[1]), (2, &[1])], &[(0, 1)]),
+];
 
-/// An input that is printed is at the host already, however often it is printed.
 #[test]
-fn nothing_to_send(rt: HostRuntime) -> Result<(), Fail> {
-    let switch = switched(rt.alloc(), TWICE, b"logic 1\narray 0\n").ok_or("no settings")?;
-    assert!(rt; agrees(&switch, &[(&[], &[]), (&[], &[])]));
-    Ok(())
+fn links_are_set(rt: HostRuntime) {
+    assert!(rt;
+        agrees(
+            &switched(rt.alloc(), C17, b"logic 2\narray 1\n"),
+            C17_ON_TWO
+        )
+    );
+    assert!(rt;
+        agrees(
+            &switched(rt.alloc(), MEMORY, b"logic 1\narray 1\n"),
+            MEMORY_ON_ONE
+        )
+    );
 }
