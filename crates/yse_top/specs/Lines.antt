@@ -62,21 +62,24 @@ signals_line signals = limit_line (codes " signals") signals MAX_FAULT_SIGNALS
 unfoldable pub loop_line : Netlist → List ℕ → List ℕ
 loop_line net loop = codes "loop:" ++ flat_map (λ s. codes " " ++ name_of net s) loop ++ codes "\n"
 
--- ---- machines
+-- ---- texts
 
-unfoldable pub setting_line : ℕ → List ℕ → List ℕ
-setting_line line fault = joined (codes "machine: line " ∷ decimal line ∷ codes ": " ∷ fault ∷ codes "\n" ∷ [])
+-- a fault of a line of a text
+unfoldable pub line_fault : List ℕ → ℕ → List ℕ → List ℕ
+line_fault text line fault = joined (text ∷ codes ": line " ∷ decimal line ∷ codes ": " ∷ fault ∷ codes "\n" ∷ [])
+
+-- ---- machines
 
 unfoldable pub ports_line : ℕ → List ℕ
 ports_line ports = joined (codes "machine: " ∷ decimal ports ∷ codes " ports, limit is " ∷ decimal MAX_PORTS ∷ codes "\n" ∷ [])
 
 abbrev pub machine_line : MachNo → List ℕ
-machine_line (mach_no.Syntax line) = setting_line line (codes "syntax")
-machine_line (mach_no.Range line) = setting_line line (codes "out of range")
-machine_line (mach_no.Twice line) = setting_line line (codes "given twice")
+machine_line (mach_no.Syntax line) = line_fault (codes "machine") line (codes "syntax")
+machine_line (mach_no.Range line) = line_fault (codes "machine") line (codes "out of range")
+machine_line (mach_no.Twice line) = line_fault (codes "machine") line (codes "given twice")
 machine_line (mach_no.Ports sum) = ports_line sum
 machine_line mach_no.Memory = memory_line
-machine_line (mach_no.NoPort line) = setting_line line (codes "no such port")
+machine_line (mach_no.NoPort line) = line_fault (codes "machine") line (codes "no such port")
 
 -- ---- designs that don't fit
 
@@ -110,10 +113,6 @@ overfull_line net (comp_no.Nodes needed limit) = needed_line (codes "nodes") nee
 
 -- ---- netlists
 
--- a fault of a line
-unfoldable pub fault_line : ℕ → List ℕ → List ℕ
-fault_line line fault = joined (codes "netlist: line " ∷ decimal line ∷ codes ": " ∷ fault ∷ codes "\n" ∷ [])
-
 unfoldable pub byte_line : ℕ → ℕ → List ℕ
 byte_line line column = joined (codes "netlist: line " ∷ decimal line ∷ codes ", column " ∷ decimal column ∷ codes ": bad byte\n" ∷ [])
 
@@ -130,23 +129,20 @@ many_words Operands = codes "too many operands"
 
 abbrev pub text_line : TextNo → List ℕ
 text_line (text_no.BadByte line column) = byte_line line column
-text_line (text_no.LongName line) = fault_line line (codes "name too long")
+text_line (text_no.LongName line) = line_fault (codes "netlist") line (codes "name too long")
 text_line text_no.Memory = memory_line
 
 abbrev pub netlist_line : BenchNo → List ℕ
 netlist_line (bench_no.Text why) = text_line why
-netlist_line (bench_no.Syntax line) = fault_line line (codes "syntax")
-netlist_line (bench_no.UnknownKind line) = fault_line line (codes "unknown kind")
-netlist_line (bench_no.Arity line) = fault_line line (codes "wrong number of operands")
+netlist_line (bench_no.Syntax line) = line_fault (codes "netlist") line (codes "syntax")
+netlist_line (bench_no.UnknownKind line) = line_fault (codes "netlist") line (codes "unknown kind")
+netlist_line (bench_no.Arity line) = line_fault (codes "netlist") line (codes "wrong number of operands")
 netlist_line (bench_no.DrivenTwice name first line) = twice_line line name first
 netlist_line (bench_no.Undriven name line) = undriven_line line name
-netlist_line (bench_no.TooMany line what) = fault_line line (many_words what)
+netlist_line (bench_no.TooMany line what) = line_fault (codes "netlist") line (many_words what)
 netlist_line bench_no.Memory = memory_line
 
 -- ---- stimuli
-
-unfoldable pub row_line : ℕ → List ℕ → List ℕ
-row_line line fault = joined (codes "stimulus: line " ∷ decimal line ∷ codes ": " ∷ fault ∷ codes "\n" ∷ [])
 
 unfoldable pub width_line : ℕ → ℕ → ℕ → List ℕ
 width_line line got want =
@@ -156,29 +152,25 @@ unfoldable pub cycles_line : List ℕ
 cycles_line = codes "stimulus: too many cycles\n"
 
 abbrev pub stimulus_line : StimNo → List ℕ
-stimulus_line (stim_no.BadChar line) = row_line line (codes "bad character")
+stimulus_line (stim_no.BadChar line) = line_fault (codes "stimulus") line (codes "bad character")
 stimulus_line (stim_no.Width line got want) = width_line line got want
-stimulus_line (stim_no.Repeat line) = row_line line (codes "bad repeat")
+stimulus_line (stim_no.Repeat line) = line_fault (codes "stimulus") line (codes "bad repeat")
 stimulus_line stim_no.TooManyCycles = cycles_line
 stimulus_line stim_no.Memory = memory_line
 
 -- a fault of a text of lanes
 abbrev pub lanes_line : LaneNo → List ℕ
-lanes_line (lane_no.NoLane line) = row_line line (codes "no lane")
-lanes_line (lane_no.TooMany line) = row_line line (codes "more than 30 lanes")
+lanes_line (lane_no.NoLane line) = line_fault (codes "stimulus") line (codes "no lane")
+lanes_line (lane_no.TooMany line) = line_fault (codes "stimulus") line (codes "more than 30 lanes")
 lanes_line (lane_no.Stim why) = stimulus_line why
 lanes_line lane_no.Memory = memory_line
 
 -- ---- orders
 
--- a fault of a line of an order text
-unfoldable pub step_line : ℕ → List ℕ → List ℕ
-step_line line fault = joined (codes "order: line " ∷ decimal line ∷ codes ": " ∷ fault ∷ codes "\n" ∷ [])
-
 abbrev pub order_line : OrderNo → List ℕ
-order_line (order_no.Syntax line) = step_line line (codes "syntax")
-order_line (order_no.Port line) = step_line line (codes "no such port")
-order_line (order_no.TooLong line) = step_line line (codes "too long")
+order_line (order_no.Syntax line) = line_fault (codes "order") line (codes "syntax")
+order_line (order_no.Port line) = line_fault (codes "order") line (codes "no such port")
+order_line (order_no.TooLong line) = line_fault (codes "order") line (codes "too long")
 order_line order_no.Memory = memory_line
 
 -- an order that ended with so many of the rows done
@@ -187,25 +179,17 @@ unfinished_line rows total = joined (codes "order: ended with " ∷ decimal rows
 
 -- ---- lists of gates
 
--- a fault of a line of the text of a list
-unfoldable pub gate_line : ℕ → List ℕ → List ℕ
-gate_line line fault = joined (codes "last list: line " ∷ decimal line ∷ codes ": " ∷ fault ∷ codes "\n" ∷ [])
-
 abbrev pub list_line : LastNo → List ℕ
-list_line (last_no.Syntax line) = gate_line line (codes "syntax")
-list_line (last_no.NoGate line) = gate_line line (codes "no such gate")
-list_line (last_no.Twice line) = gate_line line (codes "given twice")
+list_line (last_no.Syntax line) = line_fault (codes "last list") line (codes "syntax")
+list_line (last_no.NoGate line) = line_fault (codes "last list") line (codes "no such gate")
+list_line (last_no.Twice line) = line_fault (codes "last list") line (codes "given twice")
 list_line last_no.Memory = memory_line
 
 -- ---- images
 
--- a fault of a line of an image text
-unfoldable pub image_fault_line : ℕ → List ℕ → List ℕ
-image_fault_line line fault = joined (codes "image: line " ∷ decimal line ∷ codes ": " ∷ fault ∷ codes "\n" ∷ [])
-
 abbrev pub image_line : ImageNo → List ℕ
-image_line (image_no.Syntax line) = image_fault_line line (codes "syntax")
-image_line (image_no.Range line) = image_fault_line line (codes "out of range")
+image_line (image_no.Syntax line) = line_fault (codes "image") line (codes "syntax")
+image_line (image_no.Range line) = line_fault (codes "image") line (codes "out of range")
 image_line image_no.Memory = memory_line
 
 unfoldable pub form_line : List ℕ

@@ -1,28 +1,25 @@
-//! The line that says why a call did not end well. It is written in pieces, without taking memory.
+//! The line and the status of a refusal.
 
-ghost use Rattle.std.specs.Prelude.{◌≡◌, ◌<◌, ◌++◌, length, slice_get, IfSome, codes, decimal};
-ghost use Rattle.std.specs.List.{flat_map};
-ghost use Rattle.net_defs.specs.Canonical.{name_of};
-ghost use Rattle.yse_top.specs.Lines.{usage_line, read_fault_line, write_fault_line, memory_line, too_long_line, limit_line, loop_line, fault_line, byte_line, twice_line, undriven_line, many_words, text_line, netlist_line, row_line, width_line, cycles_line, stimulus_line};
-ghost use Rattle.yse_top.specs.Refusals.{line_of, status_of};
+ghost use Rattle.std.specs.Prelude.{◌≡◌};
 ghost use Rattle.edge_io.specs.Writing.{Takes, TakesLine};
+ghost use Rattle.yse_top.specs.Lines.{limit_line, read_fault_line, too_long_line, usage_line, write_fault_line};
+ghost use Rattle.yse_top.specs.Refusals.{line_of, status_of};
 
-use crate::lane_lines::write_lanes_line;
-use crate::list_lines::write_list_line;
-use crate::match_lines::{write_image_line, write_match_line};
-use crate::order_lines::write_order_line;
+use crate::lines::image::{write_image_line, write_match_line};
+use crate::lines::list::write_list_line;
+use crate::lines::machine::write_machine_line;
+use crate::lines::netlist::{write_loop_line, write_netlist_line};
+use crate::lines::order::write_order_line;
+use crate::lines::overfull::write_overfull_line;
+use crate::lines::stimulus::{write_lanes_line, write_stimulus_line};
+use crate::lines::{write_memory_line, write_pieces};
 use crate::output::write_piece;
-use crate::overfull::{write_machine_line, write_overfull_line};
 use crate::refusal::Refusal;
 use crate::status::Status;
 use crate::{MAX_FAULT_SIGNALS, MAX_PACK_BITS};
-use bench_read::{BenchNo, Many};
-use bench_text::TextNo;
 use edge_io::{Sink, WriteNo};
 use itoa::Buffer;
 use limits::{MAX_CELLS, MAX_TEXT_BYTES};
-use net_defs::{Netlist, name_of};
-use stim_text::StimNo;
 
 /// Writes the line of a refusal to `err`, and answers its status. A fault of `err` changes nothing.
 pub fn refuse<E: Sink>(err: &mut E, refusal: Refusal<'_>) -> Status
@@ -63,26 +60,6 @@ fn status_of(refusal: &Refusal<'_>) -> Status
         Refusal::ImageMatch(_) => Status::ImageMatch,
         Refusal::Memory => Status::Memory,
     }
-}
-
-/// Writes pieces one after the other, up to the first fault.
-pub fn write_pieces<S: Sink>(sink: &mut S, pieces: &[&[u8]]) -> Result<(), WriteNo>
-    ensures { Takes (S.taken sink.old) (S.taken sink.new) (S.faults sink.old) (S.faults sink.new)
-        result (flat_map (λ piece. piece.now) pieces.now) }
-{
-    'pieces: for i in 0..pieces.len() {
-        if let Err(no) = write_piece(sink, piece_at(pieces, i)) {
-            return Err(no);
-        }
-    }
-    Ok(())
-}
-
-fn piece_at<'a>(pieces: &[&'a [u8]], i: usize) -> &'a [u8]
-    requires { i < length pieces.now }
-    ensures { IfSome (slice_get pieces.now i) (λ piece. result.now ≡ piece.now) }
-{
-    pieces[i]
 }
 
 fn write_line<S: Sink>(sink: &mut S, refusal: &Refusal<'_>) -> Result<(), WriteNo>
@@ -167,208 +144,4 @@ fn write_write_fault_line<S: Sink>(sink: &mut S) -> Result<(), WriteNo>
         result write_fault_line }
 {
     write_piece(sink, b"write fault\n")
-}
-
-fn write_netlist_line<S: Sink>(sink: &mut S, no: &BenchNo) -> Result<(), WriteNo>
-    ensures { Takes (S.taken sink.old) (S.taken sink.new) (S.faults sink.old) (S.faults sink.new)
-        result (netlist_line no.now) }
-{
-    match no {
-        BenchNo::Text(no) => write_text_line(sink, no),
-        BenchNo::Syntax { line } => write_netlist_fault(sink, *line, b"syntax"),
-        BenchNo::UnknownKind { line } => write_netlist_fault(sink, *line, b"unknown kind"),
-        BenchNo::Arity { line } => write_netlist_fault(sink, *line, b"wrong number of operands"),
-        BenchNo::DrivenTwice { name, first, line } => {
-            write_twice_line(sink, *line, name.as_bytes(), *first)
-        }
-        BenchNo::Undriven { name, line } => write_undriven_line(sink, *line, name.as_bytes()),
-        BenchNo::TooMany { line, what } => write_netlist_fault(sink, *line, many_words(*what)),
-        BenchNo::Memory => write_memory_line(sink),
-    }
-}
-
-fn write_text_line<S: Sink>(sink: &mut S, no: &TextNo) -> Result<(), WriteNo>
-    ensures { Takes (S.taken sink.old) (S.taken sink.new) (S.faults sink.old) (S.faults sink.new)
-        result (text_line no.now) }
-{
-    match no {
-        TextNo::BadByte { line, column } => write_byte_line(sink, *line, *column),
-        TextNo::LongName { line } => write_netlist_fault(sink, *line, b"name too long"),
-        TextNo::Memory => write_memory_line(sink),
-    }
-}
-
-fn many_words(what: Many) -> &'static [u8]
-    ensures { result.now ≡ many_words what }
-{
-    match what {
-        Many::Signals => b"too many signals",
-        Many::Operands => b"too many operands",
-    }
-}
-
-#[tactic(auto, unfolding(crate::specs::Lines::memory_line))]
-pub fn write_memory_line<S: Sink>(sink: &mut S) -> Result<(), WriteNo>
-    ensures { Takes (S.taken sink.old) (S.taken sink.new) (S.faults sink.old) (S.faults sink.new)
-        result memory_line }
-{
-    write_piece(sink, b"out of memory\n")
-}
-
-#[tactic(auto, unfolding(crate::specs::Lines::fault_line))]
-fn write_netlist_fault<S: Sink>(sink: &mut S, line: u32, fault: &[u8]) -> Result<(), WriteNo>
-    ensures { Takes (S.taken sink.old) (S.taken sink.new) (S.faults sink.old) (S.faults sink.new)
-        result (fault_line line fault.now) }
-{
-    let mut number = Buffer::new();
-    let line = number.format(line).as_bytes();
-    write_pieces(sink, &[b"netlist: line ", line, b": ", fault, b"\n"])
-}
-
-#[tactic(auto, unfolding(crate::specs::Lines::byte_line))]
-fn write_byte_line<S: Sink>(sink: &mut S, line: u32, column: u32) -> Result<(), WriteNo>
-    ensures { Takes (S.taken sink.old) (S.taken sink.new) (S.faults sink.old) (S.faults sink.new)
-        result (byte_line line column) }
-{
-    let (mut first, mut second) = (Buffer::new(), Buffer::new());
-    let line = first.format(line).as_bytes();
-    let column = second.format(column).as_bytes();
-    write_pieces(
-        sink,
-        &[
-            b"netlist: line ",
-            line,
-            b", column ",
-            column,
-            b": bad byte\n",
-        ],
-    )
-}
-
-#[tactic(auto, unfolding(crate::specs::Lines::twice_line))]
-fn write_twice_line<S: Sink>(
-    sink: &mut S,
-    line: u32,
-    name: &[u8],
-    first_line: u32,
-) -> Result<(), WriteNo>
-    ensures { Takes (S.taken sink.old) (S.taken sink.new) (S.faults sink.old) (S.faults sink.new)
-        result (twice_line line name.now first_line) }
-{
-    let (mut first, mut second) = (Buffer::new(), Buffer::new());
-    let line = first.format(line).as_bytes();
-    let first_line = second.format(first_line).as_bytes();
-    write_pieces(
-        sink,
-        &[
-            b"netlist: line ",
-            line,
-            b": ",
-            name,
-            b" driven twice, first at line ",
-            first_line,
-            b"\n",
-        ],
-    )
-}
-
-#[tactic(auto, unfolding(crate::specs::Lines::undriven_line))]
-fn write_undriven_line<S: Sink>(sink: &mut S, line: u32, name: &[u8]) -> Result<(), WriteNo>
-    ensures { Takes (S.taken sink.old) (S.taken sink.new) (S.faults sink.old) (S.faults sink.new)
-        result (undriven_line line name.now) }
-{
-    let mut number = Buffer::new();
-    let line = number.format(line).as_bytes();
-    write_pieces(
-        sink,
-        &[b"netlist: line ", line, b": ", name, b" has no driver\n"],
-    )
-}
-
-pub fn write_stimulus_line<S: Sink>(sink: &mut S, no: &StimNo) -> Result<(), WriteNo>
-    ensures { Takes (S.taken sink.old) (S.taken sink.new) (S.faults sink.old) (S.faults sink.new)
-        result (stimulus_line no.now) }
-{
-    match no {
-        StimNo::BadChar { line } => write_row_line(sink, *line, b"bad character"),
-        StimNo::Width { line, got, want } => write_width_line(sink, *line, *got, *want),
-        StimNo::Repeat { line } => write_row_line(sink, *line, b"bad repeat"),
-        StimNo::TooManyCycles => write_cycles_line(sink),
-        StimNo::Memory => write_memory_line(sink),
-    }
-}
-
-#[tactic(auto, unfolding(crate::specs::Lines::row_line))]
-pub fn write_row_line<S: Sink>(sink: &mut S, line: u32, fault: &[u8]) -> Result<(), WriteNo>
-    ensures { Takes (S.taken sink.old) (S.taken sink.new) (S.faults sink.old) (S.faults sink.new)
-        result (row_line line fault.now) }
-{
-    let mut number = Buffer::new();
-    let line = number.format(line).as_bytes();
-    write_pieces(sink, &[b"stimulus: line ", line, b": ", fault, b"\n"])
-}
-
-#[tactic(auto, unfolding(crate::specs::Lines::width_line))]
-fn write_width_line<S: Sink>(sink: &mut S, line: u32, got: u32, want: u32) -> Result<(), WriteNo>
-    ensures { Takes (S.taken sink.old) (S.taken sink.new) (S.faults sink.old) (S.faults sink.new)
-        result (width_line line got want) }
-{
-    let (mut first, mut second, mut third) = (Buffer::new(), Buffer::new(), Buffer::new());
-    let line = first.format(line).as_bytes();
-    let got = second.format(got).as_bytes();
-    let want = third.format(want).as_bytes();
-    write_pieces(
-        sink,
-        &[
-            b"stimulus: line ",
-            line,
-            b": ",
-            got,
-            b" values, ",
-            want,
-            b" wanted\n",
-        ],
-    )
-}
-
-#[tactic(auto, unfolding(crate::specs::Lines::cycles_line))]
-fn write_cycles_line<S: Sink>(sink: &mut S) -> Result<(), WriteNo>
-    ensures { Takes (S.taken sink.old) (S.taken sink.new) (S.faults sink.old) (S.faults sink.new)
-        result cycles_line }
-{
-    write_piece(sink, b"stimulus: too many cycles\n")
-}
-
-#[tactic(auto, unfolding(crate::specs::Lines::loop_line))]
-pub fn write_loop_line<S: Sink>(sink: &mut S, net: &Netlist, members: &[u32]) -> Result<(), WriteNo>
-    ensures { Takes (S.taken sink.old) (S.taken sink.new) (S.faults sink.old) (S.faults sink.new)
-        result (loop_line net.now members.now) }
-{
-    match write_members(sink, net, members) {
-        Ok(()) => write_piece(sink, b"\n"),
-        Err(no) => Err(no),
-    }
-}
-
-fn write_members<S: Sink>(sink: &mut S, net: &Netlist, members: &[u32]) -> Result<(), WriteNo>
-    ensures { Takes (S.taken sink.old) (S.taken sink.new) (S.faults sink.old) (S.faults sink.new) result
-        (codes "loop:" ++ flat_map (λ s. codes " " ++ name_of net.now s) members.now) }
-{
-    match write_piece(sink, b"loop:") {
-        Ok(()) => write_names(sink, net, members),
-        Err(no) => Err(no),
-    }
-}
-
-/// Writes the names, a space before each.
-fn write_names<S: Sink>(sink: &mut S, net: &Netlist, members: &[u32]) -> Result<(), WriteNo>
-    ensures { Takes (S.taken sink.old) (S.taken sink.new) (S.faults sink.old) (S.faults sink.new) result
-        (flat_map (λ s. codes " " ++ name_of net.now s) members.now) }
-{
-    'members: for member in members {
-        if let Err(no) = write_pieces(sink, &[b" ", name_of(net, *member)]) {
-            return Err(no);
-        }
-    }
-    Ok(())
 }

@@ -9,7 +9,8 @@ ghost use Rattle.yse_top.specs.Outputs.{bytes_of, CanEnd, HasTaken, wrote_in};
 ghost use Rattle.yse_top.specs.Refusals.{ended_with};
 ghost use Rattle.edge_io.specs.Writing.{Takes, TakesLine};
 
-use crate::diagnostics::{tell_write_fault, write_pieces};
+use crate::diagnostics::tell_write_fault;
+use crate::lines::write_pieces;
 use crate::output::{Ending, Output, write_output};
 use crate::status::Status;
 use edge_io::{Sink, WriteNo};

@@ -86,9 +86,7 @@ fn exec_telling<'a, R: Threads + Wait + Sync, F: Files, O: Sink, G: Gate + Send>
         Ok(stimulus) => stimulus,
         Err(no) => return Err(no),
     };
-    match by_workers(
-        rt, alloc, words, &timing, built, stimulus, out, gates,
-    ) {
+    match by_workers(rt, alloc, words, &timing, built, stimulus, out, gates) {
         Ok(written) => Ok(Output::Written(written)),
         Err(Memory) => Err(Refusal::Memory),
     }
