@@ -6,7 +6,8 @@ use Rattle.std.proofs.lemmas.List.FromFn.{length-map-range_with_len, get_or-map-
 use Rattle.logic_four.specs.declared.V4.{V4}
 use Rattle.logic_four.specs.declared.V4.TheVariants.{Undef}
 use Rattle.logic_four.specs.Packed.{packed_value}
-use Rattle.array_cells.specs.Places.{values_from, Writes}
+use Rattle.array_cells.specs.Places.{values_from}
+use Rattle.array_cells.specs.code.Places.{Writes}
 
 apart_before : (place base i : ℕ) → (place < base) ⊎ (base + (i + 1) ≤ place) → (place < base) ⊎ (base + i ≤ place)
 apart_before place base i (inl below) = inl below

@@ -6,7 +6,7 @@ use Rattle.std.proofs.lemmas.List.FromFn.{length-map-range_with_len, get_or-map-
 use Rattle.std.specs.Prelude.{slice_index}
 use Rattle.array_cells.specs.declared.sheet.Sheet.TheInside.{Inside}
 use Rattle.array_cells.specs.declared.sheet.TheConstants.{BLANK}
-use Rattle.array_cells.specs.Sheets.{word_after, words_after, IsDated}
+use Rattle.array_cells.specs.code.Sheets.{word_after, words_after, IsDated}
 
 pub length-words_after : (words seen : List ℕ) (clearings : ℕ) → length (words_after words seen clearings) ≡ length words
 unfolding words_after

@@ -11,7 +11,8 @@ use Rattle.logic_four.specs.declared.V4.TheVariants.{Zero, One, Undef, HighZ}
 use Rattle.logic_four.specs.Memory.{undefined_word, written_at}
 use Rattle.array_cells.specs.declared.cells.Cells.TheInside.{Inside}
 use Rattle.logic_four.specs.Packed.{packed_value}
-use Rattle.array_cells.specs.Places.{values_from, words_of, HasRoom, Writes, stored}
+use Rattle.array_cells.specs.Places.{values_from, words_of, HasRoom}
+use Rattle.array_cells.specs.code.Places.{Writes, stored}
 
 pub length-values_from : (packed : List ℕ) (base n : ℕ) → length (values_from packed base n) ≡ n
 unfolding values_from

@@ -1,10 +1,8 @@
 -- The words of a memory among the places of a list of packed words.
-use Rattle.std.specs.Prelude.{◌≡◌, ◌⊎◌, ℕ, ◌+◌, ◌*◌, ◌<◌, ◌≤◌, List, length, map}
+use Rattle.std.specs.Prelude.{ℕ, ◌+◌, ◌*◌, ◌≤◌, List, length, map}
 use Rattle.std.specs.List.{range_with_len}
 use Rattle.limits.specs.declared.TheConstants.{MAX_WORD_BITS}
 use Rattle.logic_four.specs.declared.V4.{V4}
-use Rattle.logic_four.specs.declared.V4.TheVariants.{Zero, One, Undef, HighZ}
-use Rattle.logic_four.specs.Values.{settled}
 use Rattle.logic_four.specs.Packed.{packed_value}
 
 -- the values in so many places, from a place on
@@ -20,16 +18,3 @@ pub record HasRoom (packed : List ℕ) (words word_bits : ℕ) : Type 0 where
   pub few_words : words ≤ 65536
   pub few_bits : word_bits ≤ MAX_WORD_BITS
   pub places : words * word_bits ≤ 32 * length packed
-
--- the places from base on have the values f 0 to f (count - 1), and all others are as they were
-pub record Writes (old new : List ℕ) (base count : ℕ) (f : ℕ → V4) : Type 0 where
-  pub as_long : length new ≡ length old
-  pub inside : (i : ℕ) → i < count → packed_value new (base + i) ≡ f i
-  pub outside : (place : ℕ) → (place < base) ⊎ (base + count ≤ place) → packed_value new place ≡ packed_value old place
-
--- what a write stores of a bit of data: the settled bit if the enable is 1, else undefined
-abbrev pub stored : V4 → V4 → V4
-stored One d = settled d
-stored Zero d = Undef
-stored Undef d = Undef
-stored HighZ d = Undef

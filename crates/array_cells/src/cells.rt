@@ -5,7 +5,7 @@ ghost use Rattle.std.specs.List.{list_all};
 ghost use Rattle.logic_four.specs.Gates.{is_known, is_one};
 ghost use Rattle.logic_four.specs.Memory.{HasShape, initial_words, memory_act, bits_number, address_of, word_at, written_at, undefined_word};
 ghost use Rattle.limits.specs.declared.TheConstants.{MAX_ADDRESS_BITS, MAX_WORD_BITS};
-ghost use Rattle.array_cells.specs.Places.{stored};
+ghost use Rattle.array_cells.specs.code.Places.{stored};
 
 use crate::places;
 use crate::sheet::Sheet;

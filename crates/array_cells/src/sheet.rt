@@ -23,7 +23,7 @@ pub struct Sheet {
 
 impl Model for Sheet {
     ghost use Rattle.std.specs.Prelude.{List, ℕ};
-    ghost use Rattle.array_cells.specs.Sheets.{words_after, IsDated};
+    ghost use Rattle.array_cells.specs.code.Sheets.{words_after, IsDated};
 
     ghost Value = { List ℕ };
 

@@ -12,7 +12,7 @@ use Rattle.bench_line.specs.Spelling.{Piece, Sign, Word}
 use Rattle.bench_line.specs.Rows.{goes_on, pieces_of}
 use Rattle.bench_text.specs.declared.token.Mark.{Mark}
 use Rattle.bench_line.specs.Decoding.{take_sign, take_word, no_more}
-use Rattle.bench_line.specs.Parts.{is_filler, without_filler, is_this}
+use Rattle.bench_line.specs.code.Parts.{is_filler, without_filler, is_this}
 
 -- a name at the front ends where the name bytes do
 pub no_name : (bytes : List ℕ) → goes_on bytes ≡ false → prefix_len is_name_byte bytes ≡ 0

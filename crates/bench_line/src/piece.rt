@@ -6,8 +6,8 @@ ghost use Rattle.std.specs.Option.{option_map};
 ghost use Rattle.text_lines.specs.Names.{is_name_byte as is_name};
 ghost use Rattle.bench_text.specs.Bytes as byte_specs;
 ghost use Rattle.bench_line.specs.Rows.{pieces_of};
-ghost use Rattle.bench_line.specs.Parts.{without_filler};
-ghost use Rattle.bench_line.specs.Parts as specs;
+ghost use Rattle.bench_line.specs.code.Parts.{without_filler};
+ghost use Rattle.bench_line.specs.code.Parts as specs;
 ghost use Rattle.bench_line.specs.Decoding as steps;
 
 use bench_text::{Class, Mark, class_of, is_name_byte};
@@ -70,7 +70,7 @@ fn name_len(part: &[u8]) -> usize
 }
 
 /// Whether the byte is no mark and of no name.
-#[tactic(auto, unfolding(crate::specs::Parts::is_filler, bench_text::specs::Bytes::class_of, bench_text::specs::Bytes::sign_of, text_lines::specs::Names::is_name_byte, text_lines::specs::Names::is_mark))]
+#[tactic(auto, unfolding(crate::specs::code::Parts::is_filler, bench_text::specs::Bytes::class_of, bench_text::specs::Bytes::sign_of, text_lines::specs::Names::is_name_byte, text_lines::specs::Names::is_mark))]
 fn is_filler(byte: u8) -> bool
     ensures { result ≡ specs.is_filler byte }
 {

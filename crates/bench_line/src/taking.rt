@@ -4,7 +4,7 @@ ghost use Rattle.std.specs.Prelude.{◌≡◌, ◌<◌, ◌∷◌, [], ◌++◌,
 ghost use Rattle.std.specs.Option.{option_map};
 ghost use Rattle.limits.specs.declared.TheConstants.{MAX_GATE_OPERANDS as MOST_NAMES};
 ghost use Rattle.bench_line.specs.Rows.{pieces_of};
-ghost use Rattle.bench_line.specs.Taking.{TookNames};
+ghost use Rattle.bench_line.specs.code.Taking.{TookNames};
 ghost use Rattle.bench_line.specs.Decoding as steps;
 
 use crate::piece::{take_sign, take_word};

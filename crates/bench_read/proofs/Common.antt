@@ -4,21 +4,22 @@ pub use Rattle.bench_line.specs.Forms.{Form, all_of}
 pub use Rattle.bench_line.specs.Rows.{Row, is_some, row_of, rows_in}
 unfoldable pub use Rattle.bench_line.specs.Rows.{rows_of}
 pub use Rattle.bench_line.specs.Spelling.{Piece, Sign, Word, commas, listed, spelled}
-pub use Rattle.bench_read.specs.Drafting.{driven_names, lines_in, placed_in, used_names}
-unfoldable pub use Rattle.bench_read.specs.Drafts.{lines_by}
+pub use Rattle.bench_read.specs.code.Drafting.{driven_names, lines_in, placed_in, used_names}
+unfoldable pub use Rattle.bench_read.specs.code.Drafts.{lines_by}
 pub use Rattle.bench_read.specs.Faults.{is_undriven, row_fault, said_fault}
 unfoldable pub use Rattle.bench_read.specs.Faults.{line_fault, many_fault, rows_fault, twice_fault, uses_fault}
 pub use Rattle.bench_read.specs.Lines.{Line, Output, driven, operands, used}
 unfoldable pub use Rattle.bench_read.specs.Lines.{all_driven, all_used, operand_count}
-unfoldable pub use Rattle.bench_read.specs.Making.{line_of_use, order_by}
+unfoldable pub use Rattle.bench_read.specs.code.Making.{line_of_use, order_by}
 pub use Rattle.bench_read.specs.Netlists.{bit_signals, input_names, input_signal, other_names, printed_names}
 unfoldable pub use Rattle.bench_read.specs.Netlists.{netlist_of}
-pub use Rattle.bench_read.specs.Placed.{Named, Placed, each_named, lines_at}
+pub use Rattle.bench_read.specs.Placed.{Named, Placed, each_named}
+pub use Rattle.bench_read.specs.code.Placed.{lines_at}
 unfoldable pub use Rattle.bench_read.specs.Placed.{drivers_of, placed_of, uses_of}
 pub use Rattle.bench_read.specs.Reads.{AreOnce, Reads}
 pub use Rattle.bench_read.specs.Saying.{Say, Says, allows_memory, is_word, said_by, said_by_form, said_by_gate, said_by_register}
 unfoldable pub use Rattle.bench_read.specs.Saying.{said}
-pub use Rattle.bench_read.specs.Storing.{named_by, names_by}
+pub use Rattle.bench_read.specs.code.Storing.{named_by, names_by}
 pub use Rattle.bench_read.specs.Written.{form_by, some_of, written_piece}
 unfoldable pub use Rattle.bench_read.specs.Written.{text_of_lines, written}
 pub use Rattle.bench_read.specs.declared.draft.Act.{Act}

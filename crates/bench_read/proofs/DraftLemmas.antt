@@ -7,8 +7,8 @@ use Rattle.bench_read.specs.declared.draft.Draft.{Draft}
 use Rattle.bench_read.specs.declared.draft.Statement.{Statement}
 use Rattle.bench_read.specs.Lines.{Line, Gate, Memory, driven, used, all_driven, all_used, operands}
 use Rattle.bench_read.specs.Faults.{rows_fault, twice_fault, limit_fault, many_fault, line_fault}
-use Rattle.bench_read.specs.Drafting.{driven_names, placed_in, IsDraftOf, used_names}
-use Rattle.bench_read.specs.Storing.{act_of, statement_of, Stores, operands_by, named_by, names_by, IsFound}
+use Rattle.bench_read.specs.code.Drafting.{driven_names, placed_in, IsDraftOf, used_names}
+use Rattle.bench_read.specs.code.Storing.{act_of, statement_of, Stores, operands_by, named_by, names_by, IsFound}
 use Rattle.bench_read.proofs.TwiceLemmas.{names_in, names_same}
 use Rattle.bench_read.proofs.RowLemmas.{names_driven, rows_none, drivers_push, operands_push, placed_push, rows_push}
 

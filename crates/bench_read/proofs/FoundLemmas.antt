@@ -11,7 +11,7 @@ use Rattle.bench_line.specs.declared.form.Head.TheVariants as head
 use Rattle.bench_line.specs.Heads.{HasHead, FoundForm}
 use Rattle.bench_read.specs.declared.draft.Act.TheVariants as act
 use Rattle.bench_read.specs.Lines as lines
-use Rattle.bench_read.specs.Storing.{act_by_kind, act_by_head, act_of, name_in, driven_by, printed_by, IsFound}
+use Rattle.bench_read.specs.code.Storing.{act_by_kind, act_by_head, act_of, name_in, driven_by, printed_by, IsFound}
 
 -- ---- numbers
 

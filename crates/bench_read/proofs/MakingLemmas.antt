@@ -4,7 +4,7 @@ use Rattle.bench_read.proofs.Common.{flat_map, range_with_len, map-append, lengt
 use Rattle.std.proofs.Math.Seq.{take-append_seam, drop-append_seam}
 use Rattle.bench_read.specs.Lines.{Line, Memory, used, all_driven, all_used, operand_count}
 use Rattle.bench_read.specs.Netlists.{other_names, names_of, number, numbers, memory_count, other_signals, printed_names, memories_by, netlist_of}
-use Rattle.bench_read.specs.Making.{with_line}
+use Rattle.bench_read.specs.code.Making.{with_line}
 use Rattle.bench_read.proofs.MadeLemmas.{names_from, others_names, signal_names, made_operands, memories-le}
 use Rattle.bench_read.proofs.NumberLemmas.{names_once, numbers_range}
 

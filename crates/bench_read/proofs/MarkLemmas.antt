@@ -19,7 +19,8 @@ use Rattle.net_defs.specs.declared.netlist.Netlist.{Netlist}
 use Rattle.net_defs.specs.Steps.{is_listed}
 use Rattle.net_defs.specs.Valid.{Ascends}
 use Rattle.bench_read.specs.declared.refusal.LastNo.{LastNo}
-use Rattle.bench_read.specs.GateLists.{AreMarks, gate_of, gates_of, ascending, marked, fault_of, fault_at, first_fault, Reads}
+use Rattle.bench_read.specs.GateLists.{gate_of, gates_of, ascending, fault_of, fault_at, first_fault, Reads}
+use Rattle.bench_read.specs.code.GateLists.{AreMarks, marked}
 use Rattle.bench_read.proofs.ListLemmas.{gates_more}
 
 -- ---- marks

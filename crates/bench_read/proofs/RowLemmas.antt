@@ -7,7 +7,8 @@ use Rattle.std.specs.Result.{result_ok}
 use Rattle.std.proofs.lemmas.Bool.Decides.{nat_tests}
 use Rattle.std.proofs.lemmas.List.Elements.{All-nil, All-push, All-pop, filter_map-append}
 use Rattle.limits.specs.declared.TheConstants.{MAX_OPERANDS, MAX_SIGNALS}
-use Rattle.bench_read.specs.Placed.{Placed, lines_at, said_at, placed_of, each_named, driven_in, drivers_of, uses_of}
+use Rattle.bench_read.specs.Placed.{Placed, said_at, placed_of, each_named, driven_in, drivers_of, uses_of}
+use Rattle.bench_read.specs.code.Placed.{lines_at}
 use Rattle.bench_read.proofs.SaidLemmas.{says_from_said, said_from_says}
 use Rattle.bench_read.proofs.FirstLemmas.{none_where, first_push}
 use Rattle.bench_read.proofs.NameLemmas.{once_front}

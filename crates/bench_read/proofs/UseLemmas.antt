@@ -5,7 +5,8 @@ use Rattle.std.proofs.lemmas.Bool.{cases_lt, lt-ltb, le-ltb}
 use Rattle.std.proofs.lemmas.List.{take_all, length-map, get_or-map, get_or_append_left, get_or-append_right}
 use Rattle.list_laws.proofs.Tests.{find_first, find_none, none_more, list_any-map}
 use Rattle.bench_read.proofs.RowLemmas.{names_driven, names_used}
-use Rattle.bench_read.specs.Placed.{lines_at, Placed, Named, drivers_of, used_in, uses_of}
+use Rattle.bench_read.specs.Placed.{Placed, Named, drivers_of, used_in, uses_of}
+use Rattle.bench_read.specs.code.Placed.{lines_at}
 
 -- ---- names with the numbers of their lines
 

@@ -1,5 +1,5 @@
 -- Which gates a list text names, and its first fault.
-use Rattle.std.specs.Prelude.{◌≡◌, ◌≢◌, ℕ, ◌+◌, ◌<◌, ◌&&◌, ◌⊎◌, Bool, false, List, [], ◌∷◌, length, take, map, filter, slice_index_or, Option, Some, None, if◌then◌else◌, nat_le, bytes_eq, All, AllPairs}
+use Rattle.std.specs.Prelude.{◌≡◌, ◌≢◌, ℕ, ◌+◌, ◌&&◌, ◌⊎◌, Bool, List, [], ◌∷◌, length, take, map, filter, slice_index_or, Option, Some, None, if◌then◌else◌, nat_le, bytes_eq, All, AllPairs}
 use Rattle.std.specs.List.{list_all, filter_map, position, range_with_len}
 use Rattle.limits.specs.declared.TheConstants.{MAX_NAME_BYTES}
 use Rattle.text_lines.specs.Answers.{first}
@@ -82,14 +82,3 @@ fault_at net parts i = fault_of net (gates_of net (take i parts)) (i + 1) (slice
 -- the fault of the first line that has one
 abbrev pub first_fault : Netlist → List ℕ → Option LastNo
 first_fault net text = first (fault_at net (parts_of text)) (length (parts_of text))
-
--- ---- marks
-
--- one mark for each signal, which is set where the signal is among these
-pub record AreMarks (net : Netlist) (named : List ℕ) (marks : List Bool) : Type 0 where
-  pub signals : length marks ≡ length net.signals
-  pub here : (s : ℕ) → s < length marks → slice_index_or marks s false ≡ is_listed named s
-
--- the places whose marks are set, in order
-abbrev pub marked : List Bool → List ℕ
-marked marks = filter (λ s. slice_index_or marks s false) (range_with_len 0 (length marks))

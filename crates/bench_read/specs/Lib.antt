@@ -1,12 +1,9 @@
-pub mod Drafting
-pub mod Drafts
+pub mod code
 pub mod Faults
 pub mod GateLists
 pub mod Lines
-pub mod Making
 pub mod Netlists
 pub mod Placed
 pub mod Reads
 pub mod Saying
-pub mod Storing
 pub mod Written

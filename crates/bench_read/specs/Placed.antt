@@ -12,10 +12,6 @@ pub record Placed : Type 0 where
   pub at : ℕ
   pub line : Line
 
--- the lines, without their numbers
-abbrev pub lines_at : List Placed → List Line
-lines_at placed = map (λ p. p.line) placed
-
 -- a name, with the number of the line that it stands in
 pub record Named : Type 0 where
   pub at : ℕ

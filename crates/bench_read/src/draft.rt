@@ -1,7 +1,7 @@
 //! What the lines of a text say, flat: the names that they drive and use stand in one list each.
 
 ghost use Rattle.std.specs.Prelude.{[]};
-ghost use Rattle.bench_read.specs.Storing.{Stores};
+ghost use Rattle.bench_read.specs.code.Storing.{Stores};
 
 use crate::names::Names;
 use logic_four::Kind;

@@ -2,9 +2,9 @@
 
 ghost use Rattle.std.specs.Prelude.{◌≡◌, map, length, take, drop, slice_index_or, []};
 ghost use Rattle.std.specs.Iterator.{YieldsFirstBy, item_count};
-ghost use Rattle.bench_read.specs.Drafts.{driven_count, used_count, line_by, first_name};
-ghost use Rattle.bench_read.specs.Drafting.{placed_in};
-ghost use Rattle.bench_read.specs.Making.{seen, seen_at};
+ghost use Rattle.bench_read.specs.code.Drafts.{driven_count, used_count, line_by, first_name};
+ghost use Rattle.bench_read.specs.code.Drafting.{placed_in};
+ghost use Rattle.bench_read.specs.code.Making.{seen, seen_at};
 
 use crate::draft::{Act, Draft, DrivenName, Statement};
 use logic_four::Kind;
@@ -47,7 +47,7 @@ pub struct DraftLines<'b, 'a> {
 
 impl<'b, 'a> Model for DraftLines<'b, 'a> {
     ghost use Rattle.std.specs.Prelude.{List as Items, map};
-    ghost use Rattle.bench_read.specs.Drafts.{lines_by};
+    ghost use Rattle.bench_read.specs.code.Drafts.{lines_by};
     ghost use Rattle.bench_read.specs.Placed.{Placed};
 
     ghost Value = { Items Placed };
@@ -75,7 +75,7 @@ impl<'b, 'a> Iterator for DraftLines<'b, 'a> {
 
     ghost remaining = { item_count (λ left. left) };
 
-    #[tactic(auto, unfolding(crate::specs::Drafts::lines_by))]
+    #[tactic(auto, unfolding(crate::specs::code::Drafts::lines_by))]
     fn next(&mut self) -> Option<(u32, DraftLine<'b, 'a>)> {
         let (statement, statements) = self.statements.split_first()?;
         let drivers = self.drivers;

@@ -6,7 +6,8 @@ ghost use Rattle.text_lines.specs.Answers.{Answers};
 ghost use Rattle.text_lines.specs.Lines.{parts_of};
 ghost use Rattle.net_defs.specs.Valid.{Ascends, IsValid, NamesDiffer};
 ghost use Rattle.bench_read.specs.declared.refusal.LastNo.TheVariants.{Memory as NoMemory};
-ghost use Rattle.bench_read.specs.GateLists.{AreMarks, Reads, first_fault, gates_of, marked, names_in};
+ghost use Rattle.bench_read.specs.GateLists.{Reads, first_fault, gates_of, names_in};
+ghost use Rattle.bench_read.specs.code.GateLists.{AreMarks, marked};
 
 use crate::list_line::read_line;
 use crate::names::Names;

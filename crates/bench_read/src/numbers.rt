@@ -5,10 +5,10 @@ ghost use Rattle.std.specs.List.{flat_map, range_with_len};
 ghost use Rattle.limits.specs.declared.TheConstants.{MAX_SIGNALS};
 ghost use Rattle.text_lines.specs.Answers.{Answers};
 ghost use Rattle.bench_read.specs.declared.refusal.BenchNo.TheVariants.{Memory as NoMemory, Undriven};
-ghost use Rattle.bench_read.specs.Drafting.{IsWhole, driven_names, used_names, placed_in, lines_in};
+ghost use Rattle.bench_read.specs.code.Drafting.{IsWhole, driven_names, used_names, placed_in, lines_in};
 ghost use Rattle.bench_read.specs.Faults.{uses_fault};
 ghost use Rattle.bench_read.specs.Lines.{used};
-ghost use Rattle.bench_read.specs.Making.{seen, order_by, line_of_use};
+ghost use Rattle.bench_read.specs.code.Making.{seen, order_by, line_of_use};
 ghost use Rattle.bench_read.specs.Netlists.{input_names, other_names, names_of, numbers};
 
 use crate::draft::Draft;
@@ -98,7 +98,7 @@ fn undriven(alloc: Global, draft: &Draft, name: &[u8], place: usize) -> BenchNo
 }
 
 /// The number of the line that the use in this place stands in.
-#[tactic(auto, unfolding(crate::specs::Making::line_of_use))]
+#[tactic(auto, unfolding(crate::specs::code::Making::line_of_use))]
 fn line_of_use(draft: &Draft, place: usize) -> u32
     ensures { result ≡ line_of_use (placed_in draft.now) place }
 {

@@ -8,9 +8,9 @@ ghost use Rattle.bench_read.specs.declared.refusal.BenchNo.TheVariants.{Memory a
 ghost use Rattle.bench_read.specs.Saying.{said};
 ghost use Rattle.bench_read.specs.Placed.{Placed, said_at, placed_of};
 ghost use Rattle.bench_read.specs.Faults.{said_fault, limit_fault, rows_fault};
-ghost use Rattle.bench_read.specs.Drafting.{IsDraftOf};
-ghost use Rattle.bench_read.specs.Storing.{name_in, names_by, printed_by, operands_by, IsFound, Stores};
-ghost use Rattle.bench_read.specs.Storing as storing;
+ghost use Rattle.bench_read.specs.code.Drafting.{IsDraftOf};
+ghost use Rattle.bench_read.specs.code.Storing.{name_in, names_by, printed_by, operands_by, IsFound, Stores};
+ghost use Rattle.bench_read.specs.code.Storing as storing;
 
 use crate::draft::{Act, Draft, Statement};
 use crate::drivers::drive;

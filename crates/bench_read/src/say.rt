@@ -2,7 +2,7 @@
 
 ghost use Rattle.std.specs.Prelude.{◌≡◌, Some};
 ghost use Rattle.bench_read.specs.Saying as saying;
-ghost use Rattle.bench_read.specs.Storing.{act_by_head, act_by_port, act_by_gate, act_by_kind, act_by_memory};
+ghost use Rattle.bench_read.specs.code.Storing.{act_by_head, act_by_port, act_by_gate, act_by_kind, act_by_memory};
 
 use crate::draft::Act;
 use crate::refusal::BenchNo;

@@ -10,7 +10,7 @@ use Rattle.bench_text.specs.declared.token.TextNo.{TextNo}
 use Rattle.bench_text.specs.declared.class.Class.TheVariants.{Name}
 use Rattle.bench_text.specs.Bytes.{class_of}
 use Rattle.bench_text.specs.Tokens.{follows_name, begins_name, name_length, token_at, is_bad, fault_at, first_fault}
-use Rattle.bench_text.specs.Scans.{HasPassed, follows_comment, scan_at, scan_after, fault_by, token_by}
+use Rattle.bench_text.specs.code.Scans.{HasPassed, follows_comment, scan_at, scan_after, fault_by, token_by}
 use Rattle.bench_text.proofs.ByteLemmas.{class_is, named_byte}
 
 pub is_comment_step : (text : List ℕ) (i : ℕ) → is_comment text i ≡ stays_in_comment (follows_comment text i) (get_or text i 0)

@@ -1,4 +1,4 @@
 pub mod Bytes
-pub mod Scans
+pub mod code
 pub mod Spans
 pub mod Tokens

@@ -10,7 +10,7 @@ ghost use Rattle.bench_text.specs.declared.class.Class.TheVariants.{Name as Name
 ghost use Rattle.bench_text.specs.Bytes as byte_specs;
 ghost use Rattle.bench_text.specs.Tokens.{tokens_of, first_fault, fault_at, name_length};
 ghost use Rattle.bench_text.specs.Spans.{StandsIn, IsBefore, IsCovered, IsRead};
-ghost use Rattle.bench_text.specs.Scans.{HasPassed, scan_at, scan_after, fault_of_name, fault_by, token_by, ends_line_after};
+ghost use Rattle.bench_text.specs.code.Scans.{HasPassed, scan_at, scan_after, fault_of_name, fault_by, token_by, ends_line_after};
 ghost use Rattle.bench_text.specs.declared.token.TextNo.TheVariants.{Memory as NoMemory};
 
 use crate::class::{Class, class_of, is_name_byte};

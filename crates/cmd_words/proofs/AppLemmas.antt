@@ -11,7 +11,7 @@ use Rattle.clap.specs.Simple.{Shape, built, filled_from, is_simple, new_shape, w
 use Rattle.clap.specs.Walk.{Rule, arg_by_id, arg_by_long, is_early_multiple}
 use Rattle.clap.specs.declared.builder.range.ValueRange.{ValueRange}
 use Rattle.cmd_words.specs.Arguments.{Word, has_name}
-use Rattle.cmd_words.specs.Parses.{files_id, files_rule, option_rule, app_with, texts_in}
+use Rattle.cmd_words.specs.code.Parses.{files_id, files_rule, option_rule, app_with, texts_in}
 
 abbrev one_value : Option ValueRange
 one_value = Some (record { start_inclusive = 1; end_inclusive = 1 })

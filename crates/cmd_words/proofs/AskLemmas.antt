@@ -6,7 +6,7 @@ use Rattle.clap.specs.declared.parser.matches.ArgMatches.{ArgMatches}
 use Rattle.cmd_words.specs.declared.command.WordNo.{WordNo}
 use Rattle.cmd_words.specs.Arguments.{Word, value_given}
 use Rattle.cmd_words.specs.Asked.{IsRefusal, Values, image_by, of_image, of_large, of_netlist, of_two_files, large_by, run_by, says}
-use Rattle.cmd_words.specs.Parses.{arguments_found, both_of, one_of, three_of, value_found, IsParsedAs}
+use Rattle.cmd_words.specs.code.Parses.{arguments_found, both_of, one_of, three_of, value_found, IsParsedAs}
 use Rattle.cmd_words.specs.Uses.{Found}
 
 -- what words say is what a parse of them found says

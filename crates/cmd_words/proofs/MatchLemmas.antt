@@ -20,7 +20,7 @@ use Rattle.clap.specs.declared.parser.matches.MatchedArg.{MatchedArg}
 use Rattle.cmd_words.specs.declared.command.WordNo.TheVariants.{Usage}
 use Rattle.cmd_words.specs.Arguments.{Word, has_name, value_given}
 use Rattle.cmd_words.specs.Asked.{IsRefusal}
-use Rattle.cmd_words.specs.Parses.{files_id, app_with, has_no_short, arguments_found, value_found, IsParsedAs, refusal_of}
+use Rattle.cmd_words.specs.code.Parses.{files_id, app_with, has_no_short, arguments_found, value_found, IsParsedAs, refusal_of}
 use Rattle.cmd_words.specs.Uses.{Found, parsed}
 use Rattle.cmd_words.proofs.AppLemmas.{is_simple_app, simple_and_free}
 use Rattle.cmd_words.proofs.ParseLemmas.{Shows, AreShown, listed, given_none, parse_shows, short_none}

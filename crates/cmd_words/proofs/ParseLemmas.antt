@@ -10,7 +10,7 @@ use Rattle.clap.specs.Walk.{Row, all_of, has_row, nothing_held, walk_from, with_
 use Rattle.clap.specs.declared.builder.value_parser.Reading.TheVariants.{AsWritten}
 use Rattle.clap.specs.declared.parser.matches.ValueSource.TheVariants.{CommandLine}
 use Rattle.cmd_words.specs.Arguments.{Word, dashes, begins_with_dash, has_name, names_given, value_given}
-use Rattle.cmd_words.specs.Parses.{files_id, has_no_short, is_short}
+use Rattle.cmd_words.specs.code.Parses.{files_id, has_no_short, is_short}
 use Rattle.cmd_words.specs.Uses.{Use, argument, option, Look, the_end, an_option, a_dash, a_word, look, is_filled, Found, nothing_found, fits, with_use, collects, read_word, read_value, reads, put_first, parsed}
 use Rattle.cmd_words.proofs.TestLemmas.{same_either}
 use Rattle.cmd_words.proofs.AppLemmas.{differs, same_name}

@@ -12,7 +12,7 @@ use Rattle.clap.specs.Walk.{Held, Row, all_of, finished, has_row, rows_after, no
 use Rattle.clap.specs.declared.builder.value_parser.Reading.{Reading}
 use Rattle.clap.specs.declared.parser.matches.ValueSource.{ValueSource}
 use Rattle.cmd_words.specs.Arguments.{Word}
-use Rattle.cmd_words.specs.Parses.{files_id, app_with}
+use Rattle.cmd_words.specs.code.Parses.{files_id, app_with}
 use Rattle.cmd_words.proofs.TestLemmas.{same_either}
 use Rattle.cmd_words.proofs.AppLemmas.{app_built, option_built, rules_with, shape_with}
 use Rattle.cmd_words.proofs.WalkLemmas.{fine, gate, outcome}

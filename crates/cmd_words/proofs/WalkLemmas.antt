@@ -11,7 +11,7 @@ use Rattle.clap.specs.declared.builder.value_parser.Reading.TheVariants.{AsWritt
 use Rattle.clap.specs.declared.error.kind.ErrorKind.{ErrorKind}
 use Rattle.clap.specs.declared.parser.matches.ValueSource.TheVariants.{CommandLine}
 use Rattle.cmd_words.specs.Arguments.{Word, dashes, begins_with_dash, has_name}
-use Rattle.cmd_words.specs.Parses.{files_id, has_no_short, is_short}
+use Rattle.cmd_words.specs.code.Parses.{files_id, has_no_short, is_short}
 use Rattle.cmd_words.specs.Uses.{Use, argument, option, Look, the_end, an_option, a_dash, a_word, look, look_of, is_filled, read_word, read_value, reads, put_first}
 use Rattle.cmd_words.proofs.AppLemmas.{files_built, option_built, rules_with, shape_with, by_id, by_long, same_name}
 

@@ -4,4 +4,4 @@ pub mod Settings
 pub mod Forms
 pub mod Uses
 pub mod Asked
-pub mod Parses
+pub mod code

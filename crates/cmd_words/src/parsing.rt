@@ -5,7 +5,7 @@ ghost use Rattle.std.specs.String.{string_bytes};
 ghost use Rattle.clap.specs.Words.{app_of, kind_of, rule_of};
 ghost use Rattle.cmd_words.specs.Arguments.{has_name};
 ghost use Rattle.cmd_words.specs.Asked.{IsRefusal};
-ghost use Rattle.cmd_words.specs.Parses.{files_id, files_rule, option_rule, app_with, one_of, both_of, three_of, texts_in, has_no_short, is_short, arguments_found, value_found, IsParsedAs, refusal_of};
+ghost use Rattle.cmd_words.specs.code.Parses.{files_id, files_rule, option_rule, app_with, one_of, both_of, three_of, texts_in, has_no_short, is_short, arguments_found, value_found, IsParsedAs, refusal_of};
 ghost use Rattle.cmd_words.specs.Uses.{parsed};
 
 use crate::command::WordNo;
@@ -124,7 +124,7 @@ fn option<'a>(alloc: Global, name: &'a str) -> Arg<'a>
 
 /// Whether no word before the first `--` begins with one `-` alone. `clap` takes a lone `-` for a
 /// positional argument, or for a value.
-#[tactic(auto, unfolding(crate::specs::Parses::has_no_short))]
+#[tactic(auto, unfolding(crate::specs::code::Parses::has_no_short))]
 fn has_no_short(words: &[String]) -> bool
     ensures { result ≡ has_no_short (map string_bytes words.now) }
 {

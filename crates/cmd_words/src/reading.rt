@@ -7,7 +7,7 @@ ghost use Rattle.cmd_words.specs.declared.command.WordNo.TheVariants.{Memory as 
 ghost use Rattle.cmd_words.specs.Arguments.{has_name};
 ghost use Rattle.cmd_words.specs.Asked.{Answers, asked, asked_by, says, image_by, of_two_files, of_netlist, of_one_file, of_image, of_large, run_by, large_by};
 ghost use Rattle.cmd_words.specs.Forms.{HasForm, HasNoForm, IsInRange};
-ghost use Rattle.cmd_words.specs.Parses.{files_id, texts_in, value_found};
+ghost use Rattle.cmd_words.specs.code.Parses.{files_id, texts_in, value_found};
 ghost use Rattle.cmd_words.specs.Settings.{run_options, refer_options, order_options, plan_options, compile_options, exec_options, pack_options, fault_options, show_options, large_options};
 
 use crate::command::{Command, RunWords, WordNo};

@@ -9,7 +9,7 @@ use Rattle.crew_run.specs.declared.gate.Gate as gate
 use Rattle.crew_run.specs.declared.stepper.Stepper as stepper
 use Rattle.crew_run.specs.declared.worker.Worker.{Worker}
 use Rattle.crew_run.specs.Crews.{AllCanRun, AllHaveRun, HasRun}
-use Rattle.crew_run.specs.Phases.{AreDone, CanResume, Each, HasBegun, IsResumed}
+use Rattle.crew_run.specs.code.Phases.{AreDone, CanResume, Each, HasBegun, IsResumed}
 use Rattle.crew_run.proofs.PhaseLemmas.{begun_resumed, can_resume, has_run}
 use Rattle.crew_run.proofs.StepLemmas.{untold_none}
 

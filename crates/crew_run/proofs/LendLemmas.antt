@@ -10,7 +10,8 @@ use Rattle.crew_run.specs.declared.gate.Gate as gate
 use Rattle.crew_run.specs.declared.stepper.Stepper as stepper
 use Rattle.crew_run.specs.declared.worker.Worker.{Worker}
 use Rattle.crew_run.specs.Crews.{AllCanRun, AllHaveRun, CanRun, HasRun}
-use Rattle.crew_run.specs.Lending.{AllCanRunWith, AllHaveRunWith, AreSwapped, lent}
+use Rattle.crew_run.specs.Lending.{AllCanRunWith, AllHaveRunWith, lent}
+use Rattle.crew_run.specs.code.Lending.{AreSwapped}
 
 module _ {S G : Type 0} where
   pub swapped_more : (n : ℕ) (ws : List (Worker S G)) (gates : List (Option G)) (ws' : List (Worker S G)) (gates' : List (Option G)) (w : Worker S G) (gate : Option G)

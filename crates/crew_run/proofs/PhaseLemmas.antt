@@ -10,7 +10,7 @@ use Rattle.crew_run.specs.declared.gate.Gate as gate
 use Rattle.crew_run.specs.declared.stepper.Stepper as stepper
 use Rattle.crew_run.specs.declared.worker.Worker.{Worker}
 use Rattle.crew_run.specs.Crews.{AreReady, CanRun, HasRoomToRun, HasRun}
-use Rattle.crew_run.specs.Phases.{AreBegun, AreDone, AreStepped, CanResume, CanStep, HasBegun, IsBegun, IsResumed, begun}
+use Rattle.crew_run.specs.code.Phases.{AreBegun, AreDone, AreStepped, CanResume, CanStep, HasBegun, IsBegun, IsResumed, begun}
 use Rattle.crew_run.specs.Visits.{AreVisits, IsTold, IsUntold}
 use Rattle.crew_run.proofs.StepLemmas.{can_step_kept, stepped_more, untold_more, untold_none}
 

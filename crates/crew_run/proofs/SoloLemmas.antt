@@ -9,7 +9,7 @@ use Rattle.list_laws.proofs.Options.{one_some}
 use Rattle.crew_run.specs.declared.gate.Gate as gate
 use Rattle.crew_run.specs.declared.stepper.Stepper as stepper
 use Rattle.crew_run.specs.declared.worker.Worker.{Worker}
-use Rattle.crew_run.specs.Phases.{AreStepped, CanResume, CanStep, Each, IsResumed}
+use Rattle.crew_run.specs.code.Phases.{AreStepped, CanResume, CanStep, Each, IsResumed}
 use Rattle.crew_run.proofs.StepLemmas.{can_step_kept, stepped_more, stepped_none}
 
 module _ {S G : Type 0} (m : stepper.Ghosts S) (p : gate.Ghosts G) where

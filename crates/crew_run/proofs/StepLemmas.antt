@@ -9,7 +9,7 @@ use Rattle.list_laws.proofs.Members.{beside, set_same, set_other}
 use Rattle.crew_run.specs.declared.gate.Gate as gate
 use Rattle.crew_run.specs.declared.stepper.Stepper as stepper
 use Rattle.crew_run.specs.Crews.{AreReady}
-use Rattle.crew_run.specs.Phases.{AreStepped, CanStep, Follows, HasRoomFor, IsStepped, Passes, begun}
+use Rattle.crew_run.specs.code.Phases.{AreStepped, CanStep, Follows, HasRoomFor, IsStepped, Passes, begun}
 use Rattle.crew_run.specs.Visits.{IsElsewhere, IsUntold}
 
 module _ {G : Type 0} (p : gate.Ghosts G) where

@@ -1,5 +1,5 @@
 -- Gates that are lent to workers for a run.
-use Rattle.std.specs.Prelude.{List, Option, Some, length, slice_get, ℕ, ◌<◌, ◌≡◌, ◌≤◌}
+use Rattle.std.specs.Prelude.{List, Option, Some, length, slice_get, ℕ, ◌≡◌, ◌≤◌}
 use Rattle.crew_run.specs.declared.gate.Gate as gate
 use Rattle.crew_run.specs.declared.stepper.Stepper as stepper
 use Rattle.crew_run.specs.declared.worker.Worker.{Worker}
@@ -28,13 +28,3 @@ module _ {S G : Type 0} (m : stepper.Ghosts S) (p : gate.Ghosts G) where
     pub ran : (i : ℕ) (w w' : Worker S G) (gate gate' : Option G) → slice_get ws i ≡ Some w → slice_get ws' i ≡ Some w' → slice_get gates i ≡ Some gate → slice_get gates' i ≡ Some gate' → HasRun m p (lent w gate) (lent w' gate')
     pub own : (i : ℕ) (w w' : Worker S G) → slice_get ws i ≡ Some w → slice_get ws' i ≡ Some w' → w'.gate ≡ w.gate
     pub others : (i : ℕ) → length ws ≤ i → slice_get gates' i ≡ slice_get gates i
-
-module _ {S G : Type 0} where
-  -- the first n workers have the gates in their places for their own, which stand there
-  pub record AreSwapped (n : ℕ) (ws : List (Worker S G)) (gates : List (Option G)) (ws' : List (Worker S G)) (gates' : List (Option G)) : Type 0 where
-    pub worker_count : length ws' ≡ length ws
-    pub gate_count : length gates' ≡ length gates
-    pub taken : (i : ℕ) (w : Worker S G) (gate : Option G) → i < n → slice_get ws i ≡ Some w → slice_get gates i ≡ Some gate → slice_get ws' i ≡ Some (lent w gate)
-    pub given : (i : ℕ) (w : Worker S G) → i < n → slice_get ws i ≡ Some w → slice_get gates' i ≡ Some w.gate
-    pub other_workers : (i : ℕ) → n ≤ i → slice_get ws' i ≡ slice_get ws i
-    pub other_gates : (i : ℕ) → n ≤ i → slice_get gates' i ≡ slice_get gates i

@@ -1,5 +1,5 @@
+pub mod code
 pub mod Crews
 pub mod Lending
-pub mod Phases
 pub mod Steps
 pub mod Visits

@@ -3,7 +3,7 @@
 ghost use Rattle.std.specs.Bool.{OnTrue};
 ghost use Rattle.std.specs.Prelude.{Some, [], length, slice_get, ℕ, ◌<◌, ◌^◌, ◌≡◌, ◌≤◌};
 ghost use Rattle.crew_run.specs.Crews.{AllCanRun, AllHaveRun, CanRun};
-ghost use Rattle.crew_run.specs.Phases.{AreDone, CanResume, Each, HasBegun, IsResumed};
+ghost use Rattle.crew_run.specs.code.Phases.{AreDone, CanResume, Each, HasBegun, IsResumed};
 
 use crate::gate::Gate;
 use crate::phase::{begin, resume};

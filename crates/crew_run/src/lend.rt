@@ -2,7 +2,8 @@
 
 ghost use Rattle.std.specs.Prelude.{OnErr, OnOk, [], length, ◌++◌, ◌∷◌, ◌≡◌, ◌≤◌};
 ghost use Rattle.crew_run.specs.Crews.{AllCanRun, AreReady, CanRun};
-ghost use Rattle.crew_run.specs.Lending.{AllAreReady, AllCanRunWith, AllHaveRunWith, AreSwapped, lent};
+ghost use Rattle.crew_run.specs.Lending.{AllAreReady, AllCanRunWith, AllHaveRunWith, lent};
+ghost use Rattle.crew_run.specs.code.Lending.{AreSwapped};
 
 use crate::crew::run_all;
 use crate::gate::Gate;

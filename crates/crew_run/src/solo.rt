@@ -1,7 +1,7 @@
 //! Phases in the calling thread alone, which goes round the members of all workers.
 
 ghost use Rattle.std.specs.Prelude.{Some, slice_get, ℕ, ◌≡◌};
-ghost use Rattle.crew_run.specs.Phases.{CanResume, Each, IsResumed};
+ghost use Rattle.crew_run.specs.code.Phases.{CanResume, Each, IsResumed};
 
 use crate::course::{Course, Visit};
 use crate::gate::Gate;

@@ -1,6 +1,6 @@
 //! The members of one worker, on their way to a turn.
 
-ghost use Rattle.crew_run.specs.Phases.{AreStepped, CanStep};
+ghost use Rattle.crew_run.specs.code.Phases.{AreStepped, CanStep};
 
 use crate::course::{Course, Visit};
 use crate::gate::Gate;

@@ -9,3 +9,4 @@ pub mod MemRoom
 pub mod SinkCounts
 pub mod PlainStore
 pub mod PlainRoom
+pub mod code

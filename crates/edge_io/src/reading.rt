@@ -2,7 +2,8 @@
 
 ghost use Rattle.std.specs.Prelude.{◌≡◌, ◌+◌, ◌-◌, ◌^◌, ◌<◌, ◌≤◌, ◌++◌, length, IfOk, IfSome, OnOk};
 ghost use Rattle.edge_io.specs.Names.{is_absent, IsAbsent, OfTold};
-ghost use Rattle.edge_io.specs.FileCounts.{CountsFile, CountsReads};
+ghost use Rattle.edge_io.specs.FileCounts.{CountsFile};
+ghost use Rattle.edge_io.specs.code.FileCounts.{CountsReads};
 
 use crate::{Failed, Files};
 use seen_list::{List, Memory};

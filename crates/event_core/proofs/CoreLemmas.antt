@@ -29,10 +29,12 @@ use Rattle.event_defs.specs.declared.place.Action.{Action}
 use Rattle.event_defs.specs.declared.place.CoreStep.{CoreStep}
 use Rattle.event_defs.specs.declared.place.Place.{Place}
 use Rattle.port_walk.specs.Placed.{IsEnding, IsNextOf, IsReceiving, IsSending, PlacedPort}
-use Rattle.event_core.specs.Core.{Applies, IsUpcoming, state_of}
+use Rattle.event_core.specs.Core.{Applies, state_of}
+use Rattle.event_core.specs.code.Core.{IsUpcoming}
 use Rattle.event_core.specs.Kept.{IsKept, IsSeat, view_of}
 use Rattle.send_row.specs.Sources.{IsSource}
-use Rattle.event_core.specs.Seats.{HasPutRoom, HasTakeRoom, IsNextIn, place_in}
+use Rattle.event_core.specs.Seats.{place_in}
+use Rattle.event_core.specs.code.Seats.{HasPutRoom, HasTakeRoom, IsNextIn}
 use Rattle.event_core.specs.declared.core_run.Core.TheInside.{Inside}
 use Rattle.event_core.specs.declared.seats.Seat.{Seat}
 

@@ -27,10 +27,12 @@ use Rattle.event_defs.specs.declared.place.CoreStep.TheVariants.{Moved, NotYet}
 use Rattle.event_defs.specs.declared.place.Place.{Place}
 use Rattle.port_walk.specs.Placed.{CanPut, CanTake, CanTakeValue, IsEnding, IsReceiving, IsSending, PlacedPort, in_next_turn}
 use Rattle.event_core.proofs.CoreLemmas.{ending_here, few_turns, here, here_turn, is_seat, known_wide, port_there, receiving_here, seat_there, sending_here, state_after, stepped}
-use Rattle.event_core.specs.Core.{Applies, IsUpcoming, state_of}
+use Rattle.event_core.specs.Core.{Applies, state_of}
+use Rattle.event_core.specs.code.Core.{IsUpcoming}
 use Rattle.event_core.specs.Kept.{IsKept, IsSeat, view_of}
 use Rattle.send_row.specs.Sources.{IsSource}
-use Rattle.event_core.specs.Seats.{HasWritten, IsWordRead, place_in, seat_asked, seat_put, seat_taken, seat_told}
+use Rattle.event_core.specs.Seats.{place_in}
+use Rattle.event_core.specs.code.Seats.{HasWritten, IsWordRead, seat_asked, seat_put, seat_taken, seat_told}
 use Rattle.event_core.specs.declared.core_run.Core.TheInside.{Inside}
 use Rattle.event_core.specs.declared.seats.Seat.{Seat}
 

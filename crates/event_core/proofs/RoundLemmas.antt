@@ -17,9 +17,10 @@ use Rattle.event_defs.specs.declared.place.CoreStep.{CoreStep}
 use Rattle.event_defs.specs.declared.place.CoreStep.TheVariants.{Moved}
 use Rattle.port_walk.specs.Placed.{PlacedPort}
 use Rattle.event_core.proofs.CoreLemmas.{here_turn, is_seat, member_at, same_seat, seat_in, seat_there}
-use Rattle.event_core.specs.Core.{Applies, AreDone, CoreView, HasStepped, IsReady, IsRoundOf, IsSoundCore, SparesReaders, TakesThisTurn, left_of, rows_of, state_of, turns_of}
+use Rattle.event_core.specs.Core.{Applies, AreDone, CoreView, IsRoundOf, IsSoundCore, SparesReaders, TakesThisTurn, left_of, rows_of, state_of, turns_of}
+use Rattle.event_core.specs.code.Core.{HasStepped, IsReady}
 use Rattle.event_core.specs.Kept.{IsKept, IsSeat, view_of}
-use Rattle.event_core.specs.Seats.{IsHostSeat, host_rows}
+use Rattle.event_core.specs.code.Seats.{IsHostSeat, host_rows}
 use Rattle.event_core.specs.declared.core_run.Core.TheInside.{Inside}
 use Rattle.event_core.specs.declared.seats.Seat.{Seat}
 

@@ -23,7 +23,7 @@ use Rattle.event_defs.specs.declared.place.Place.{Place}
 use Rattle.port_walk.specs.Placed.{PlacedPort, at_start, block_end, place_of}
 use Rattle.event_core.specs.Core.{IsSoundCore, IsStart, state_of}
 use Rattle.event_core.specs.Kept.{IsKept, IsSeat, view_of}
-use Rattle.event_core.specs.Made.{AreFirstSeats, IsFirstSeat, whole_run}
+use Rattle.event_core.specs.code.Made.{AreFirstSeats, IsFirstSeat, whole_run}
 use Rattle.event_core.specs.Seats.{place_in}
 use Rattle.event_core.specs.declared.core_run.Core.TheInside.{Inside}
 use Rattle.event_core.specs.declared.seats.Seat.{Seat}

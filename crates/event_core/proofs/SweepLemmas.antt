@@ -18,7 +18,8 @@ use Rattle.event_defs.specs.declared.place.CoreStep.{CoreStep}
 use Rattle.event_defs.specs.declared.place.CoreStep.TheVariants.{Done, Moved, NotYet}
 use Rattle.event_defs.specs.declared.place.Event.{Event}
 use Rattle.event_core.proofs.CoreLemmas.{member_at}
-use Rattle.event_core.specs.Core.{Applies, AreDone, CoreView, HasRun, HasSwept, IsIdle, IsReady, IsSameCore, IsSoundCore, left_of, state_of, turns_of}
+use Rattle.event_core.specs.Core.{Applies, AreDone, CoreView, HasRun, IsIdle, IsSameCore, IsSoundCore, left_of, state_of, turns_of}
+use Rattle.event_core.specs.code.Core.{HasSwept, IsReady}
 
 -- ---- some steps and then others
 

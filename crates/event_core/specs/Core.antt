@@ -1,22 +1,19 @@
 -- A core as contracts see it, and what its steps do.
-use Rattle.std.specs.Prelude.{Bool, List, false, length, slice_index_or, true, ℕ, ◌*◌, ◌+◌, ◌<◌, ◌↔◌, ◌≡◌, ◌≤◌, ◌⊎◌}
-use Rattle.std.specs.List.{range_with_len}
+use Rattle.std.specs.Prelude.{Bool, List, false, length, slice_index_or, true, ℕ, ◌*◌, ◌+◌, ◌↔◌, ◌≡◌, ◌≤◌, ◌⊎◌}
 use Rattle.logic_four.specs.Values.{code_of}
 use Rattle.net_defs.specs.Time.{turn_count}
 use Rattle.net_defs.specs.declared.stimulus.Stimulus.{Stimulus}
 use Rattle.image_defs.specs.Frames.{image_value}
 use Rattle.image_defs.specs.Places.{IsPort, Stands}
 use Rattle.image_defs.specs.Steps.{timing_of}
-use Rattle.image_defs.specs.WellFormed.{IsWellFormed}
 use Rattle.image_defs.specs.declared.image.Image.{Image}
 use Rattle.image_defs.specs.declared.image.PortImage.{PortImage}
 use Rattle.event_defs.specs.Counts.{events_left, moved_in, moves}
-use Rattle.event_defs.specs.Next.{IsNext, PutsNext}
+use Rattle.event_defs.specs.Next.{PutsNext}
 use Rattle.event_defs.specs.Places.{start}
 use Rattle.event_defs.specs.Row.{word_in}
 use Rattle.event_defs.specs.Sound.{IsSound}
 use Rattle.event_defs.specs.Steps.{AllDone, AreSteps, CoreState, IsRound, IsStep, Reads, Waits, first_state, rows_done}
-use Rattle.event_defs.specs.declared.place.Action.{Action}
 use Rattle.event_defs.specs.declared.place.CoreStep.{CoreStep}
 use Rattle.event_defs.specs.declared.place.CoreStep.TheVariants.{Moved}
 use Rattle.event_defs.specs.declared.place.Event.TheVariants.{Put, Take}
@@ -113,31 +110,3 @@ left_of view = events_left view.image view.banks (turns_of view) (state_of view)
 -- the rows that are done
 abbrev pub rows_of : CoreView → ℕ
 rows_of view = rows_done view.image (state_of view)
-
--- ---- between the steps
-
--- this is the next event of port p
-pub record IsUpcoming (view : CoreView) (p : ℕ) (action : Action) : Type 0 where
-  pub each : (port : PortImage) → IsPort view.image p port
-      → IsNext port ((state_of view).place p) view.banks (turns_of view) (image_value view.image view.stimulus ((state_of view).place p).turn p) action
-
--- its image is well formed, it has a bank, and its state is sound
-pub record IsReady (view : CoreView) : Type 0 where
-  pub image : IsWellFormed view.image
-  pub some : 1 ≤ view.banks
-  pub sound : IsSoundCore view
-
--- one step of each of the first n ports, in ascending order, of which so many moved
-pub record HasStepped (old : CoreView) (n moved : ℕ) (new : CoreView) : Type 0 where
-  pub same : IsSameCore old new
-  pub answers : List CoreStep
-  pub steps : AreSteps old.image old.stimulus old.banks (turns_of old) (range_with_len 0 n) (state_of old) answers (state_of new)
-  pub moved_are : moved_in answers ≡ moved
-  pub few : moved ≤ n
-  pub still : moved ≡ 0 → new ≡ old
-
--- each of the first n ports has run, and where none moved each of them is idle
-pub record HasSwept (old : CoreView) (n : ℕ) (moved : Bool) (new : CoreView) : Type 0 where
-  pub order : List ℕ
-  pub run : HasRun old order moved new
-  pub idle : moved ≡ false → (p : ℕ) → p < n → IsIdle old p

@@ -1,4 +1,4 @@
+pub mod code
 pub mod Core
 pub mod Kept
-pub mod Made
 pub mod Seats

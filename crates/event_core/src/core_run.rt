@@ -11,7 +11,8 @@ ghost use Rattle.event_defs.specs.declared.place.CoreStep.TheVariants.{Moved};
 ghost use Rattle.event_defs.specs.declared.place.Action.TheVariants as action;
 ghost use Rattle.event_defs.specs.declared.place.Event.TheVariants as event;
 ghost use Rattle.port_host.specs.Rows.{printed_sources};
-ghost use Rattle.event_core.specs.Core.{Applies, AreDone, HasRun, IsIdle, IsReady, IsRoundOf, IsSoundCore, IsStart, IsUpcoming, SparesReaders, TakesThisTurn, left_of, rows_of};
+ghost use Rattle.event_core.specs.Core.{Applies, AreDone, HasRun, IsIdle, IsRoundOf, IsSoundCore, IsStart, SparesReaders, TakesThisTurn, left_of, rows_of};
+ghost use Rattle.event_core.specs.code.Core.{IsReady, IsUpcoming};
 
 use crate::rows;
 use crate::seats::{self, Seat};

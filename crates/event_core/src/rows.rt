@@ -1,7 +1,7 @@
 //! The rows that the host has done.
 
 ghost use Rattle.std.specs.Prelude.{length, ◌<◌, ◌≡◌, ◌≤◌};
-ghost use Rattle.event_core.specs.Seats.{AtSeat, IsHostSeat, IsRowOf, host_rows};
+ghost use Rattle.event_core.specs.code.Seats.{AtSeat, IsHostSeat, IsRowOf, host_rows};
 
 use crate::seats::Seat;
 use logic_four::V4;

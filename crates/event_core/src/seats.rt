@@ -7,8 +7,8 @@ ghost use Rattle.image_defs.specs.declared.image.LinkIn.{LinkIn};
 ghost use Rattle.image_defs.specs.declared.image.LinkOut.{LinkOut};
 ghost use Rattle.port_walk.specs.Placed.{CanPut, CanTake, CanTakeValue, IsEnding, IsReceiving, IsSending};
 ghost use Rattle.send_row.specs.Sources.{AreFirsts};
-ghost use Rattle.event_core.specs.Made.{AreFirstSeats, IsFirstSeat, whole_run};
-ghost use Rattle.event_core.specs.Seats.{AtSeat, HasPutRoom, HasTakeRoom, HasWritten, IsNextIn, IsWordRead, seat_asked, seat_put, seat_taken, seat_told};
+ghost use Rattle.event_core.specs.code.Made.{AreFirstSeats, IsFirstSeat, whole_run};
+ghost use Rattle.event_core.specs.code.Seats.{AtSeat, HasPutRoom, HasTakeRoom, HasWritten, IsNextIn, IsWordRead, seat_asked, seat_put, seat_taken, seat_told};
 
 use crate::words::{first_bank, next_bank, place_of, word_of};
 use event_defs::Action;

@@ -14,7 +14,8 @@ use Rattle.event_defs.proofs.AlikeLemmas.{Summed, answered, next_alike, placed, 
 use Rattle.event_defs.proofs.KeptLemmas.{starts_sound, step_sound}
 use Rattle.event_defs.proofs.NextLemmas.{one_next, receives_one}
 use Rattle.event_defs.proofs.PaceLemmas.{same_send}
-use Rattle.event_defs.specs.Linked.{AreAlike, AreLinkedAlike, ArePortsAlike}
+use Rattle.event_defs.specs.Linked.{AreLinkedAlike, ArePortsAlike}
+use Rattle.event_defs.specs.code.Linked.{AreAlike}
 use Rattle.event_defs.specs.Next.{IsNext, ReceivesNext}
 use Rattle.event_defs.specs.Places.{IsSend, start}
 use Rattle.event_defs.specs.Sound.{IsSound}

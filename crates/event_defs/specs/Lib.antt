@@ -1,3 +1,4 @@
+pub mod code
 pub mod Counts
 pub mod Foremost
 pub mod Linked

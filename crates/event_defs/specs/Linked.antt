@@ -3,7 +3,6 @@ use Rattle.std.specs.Prelude.{◌≡◌, ℕ, length}
 use Rattle.image_defs.specs.declared.image.PortImage.{PortImage}
 use Rattle.image_defs.specs.declared.image.Image.{Image}
 use Rattle.image_defs.specs.Places.{IsPort}
-use Rattle.event_defs.specs.Steps.{CoreState, stamp_of}
 
 -- port p of both sends and receives the same
 pub record ArePortsAlike (one other : PortImage) : Type 0 where
@@ -14,9 +13,3 @@ pub record AreLinkedAlike (one other : Image) : Type 0 where
   pub units : one.units ≡ other.units
   pub count : length one.ports ≡ length other.ports
   pub ports : (p : ℕ) (port twin : PortImage) → IsPort one p port → IsPort other p twin → ArePortsAlike port twin
-
--- two states in which all ports stand at the same places, and the words name the same turns
-pub record AreAlike (one other : CoreState) : Type 0 where
-  pub place : one.place ≡ other.place
-  pub finished : one.finished ≡ other.finished
-  pub stamps : (p i b : ℕ) → stamp_of (one.word p i b) ≡ stamp_of (other.word p i b)

@@ -13,7 +13,7 @@ use Rattle.net_defs.specs.declared.netlist.Signal.{Signal}
 use Rattle.net_defs.specs.declared.timing.Timing.{Timing}
 use Rattle.net_defs.specs.Time.{value_at}
 use Rattle.ref_sim.proofs.Rows.{put_value}
-use Rattle.fault_sim.specs.Turns.{base_value, AreBases}
+use Rattle.fault_sim.specs.code.Turns.{base_value, AreBases}
 
 -- the value of a lane in a place of a row
 pub lane_at : (row : List Planes) (s k : ℕ) (p : Planes) → p ≡ get_or row s p → s < length row → lane_of p k ≡ value_at (lane_row k row) s

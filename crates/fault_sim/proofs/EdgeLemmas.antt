@@ -23,7 +23,7 @@ use Rattle.net_defs.specs.Valid.{IsValid, IsSignal, IsDrivable}
 use Rattle.ref_sim.specs.States.{last_row, output_value, Answers, AreShaped, WroteMemories}
 use Rattle.ref_sim.proofs.AnswerLemmas.{last_value, answers_assign}
 use Rattle.ref_sim.proofs.Rows.{put_value}
-use Rattle.fault_sim.specs.Turns.{reads_of, memory_reads, memory_outs, HasAnswered}
+use Rattle.fault_sim.specs.code.Turns.{reads_of, memory_reads, memory_outs, HasAnswered}
 
 -- a signal more was copied
 pub copy_more : (count i : ℕ) (list : List ℕ) (values last : List V4) (v : V4)

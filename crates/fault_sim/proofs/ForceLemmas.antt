@@ -12,7 +12,7 @@ use Rattle.lane_planes.specs.Lanes.{lane_of, lane_row}
 use Rattle.net_defs.specs.Time.{value_at}
 use Rattle.ref_sim.proofs.Rows.{put_value}
 use Rattle.fault_sim.specs.declared.faults.Fault.{Fault}
-use Rattle.fault_sim.specs.Lanes.{force_at, AreFree}
+use Rattle.fault_sim.specs.code.Lanes.{force_at, AreFree}
 
 -- a place more
 undefined_push : (row : List V4) (v : V4) → ((s : ℕ) → value_at row s ≡ Undef) → v ≡ Undef → (s : ℕ) → value_at (row ++ v ∷ []) s ≡ Undef

@@ -19,7 +19,7 @@ use Rattle.fault_sim.specs.declared.faults.Verdict.TheVariants.{Seen, Unseen}
 use Rattle.fault_sim.specs.declared.all.Group.{Group}
 use Rattle.fault_sim.specs.Faults.{IsFault, faults_at, faults_from}
 use Rattle.fault_sim.specs.Verdicts.{IsVerdict, AreVerdicts, IsNamed}
-use Rattle.fault_sim.specs.Groups.{IsGroup, group_faults, AreGroups, IsDone, AreRun}
+use Rattle.fault_sim.specs.code.Groups.{IsGroup, group_faults, AreGroups, IsDone, AreRun}
 
 module _ (net : Netlist) (timing : Timing) (stimulus : Stimulus) where
   pub verdicts_none : AreVerdicts net timing stimulus [] []

@@ -18,16 +18,17 @@ use Rattle.net_defs.specs.Steps.{State, values_of, IsRightStep}
 use Rattle.net_defs.specs.Loops.{IsOrder}
 use Rattle.net_defs.specs.Trace.{cells_of}
 use Rattle.net_defs.specs.Reference.{IsSimulation}
-use Rattle.ref_sim.specs.Runs.{StandsAt}
+use Rattle.ref_sim.specs.code.Runs.{StandsAt}
 use Rattle.ref_sim.proofs.Uniqueness.{next_state}
 use Rattle.fault_sim.specs.declared.faults.Fault.{Fault}
 use Rattle.fault_sim.specs.declared.faults.Verdict.{Verdict}
 use Rattle.fault_sim.specs.declared.faults.Verdict.TheVariants.{Seen, Unseen}
 use Rattle.fault_sim.specs.declared.state.LaneState.{LaneState}
-use Rattle.fault_sim.specs.Faults.{stuck, IsFault, order_for}
+use Rattle.fault_sim.specs.Faults.{stuck, IsFault}
+use Rattle.fault_sim.specs.code.Faults.{order_for}
 use Rattle.fault_sim.specs.Verdicts.{differs, is_seen, IsFirstSeen, Judges, AreVerdicts}
-use Rattle.fault_sim.specs.Lanes.{lane_net, lane_state, HasInputs}
-use Rattle.fault_sim.specs.Runs.{HasOrder, differs_in, IsLooked, AreLooked, is_decided, are_decided, StandsInLanes, RunsTo}
+use Rattle.fault_sim.specs.code.Lanes.{lane_net, lane_state, HasInputs}
+use Rattle.fault_sim.specs.code.Runs.{HasOrder, differs_in, IsLooked, AreLooked, is_decided, are_decided, StandsInLanes, RunsTo}
 use Rattle.fault_sim.proofs.Orders.{order_serves, one_stuck}
 
 -- ---- the netlist of a lane

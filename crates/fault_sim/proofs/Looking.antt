@@ -16,7 +16,7 @@ use Rattle.net_defs.specs.Steps.{values_of}
 use Rattle.net_defs.specs.Valid.{IsSignal}
 use Rattle.fault_sim.specs.declared.faults.Verdict.{Verdict}
 use Rattle.fault_sim.specs.Verdicts.{differs}
-use Rattle.fault_sim.specs.Runs.{differs_in, IsLooked, AreLooked}
+use Rattle.fault_sim.specs.code.Runs.{differs_in, IsLooked, AreLooked}
 
 -- a printed value of a lane
 column_is : (net : Netlist) (row : List Planes) (l j : ℕ) (p : Planes) (list : List ℕ) → list ≡ net.printed → All (IsSignal net) net.printed → length row ≡ length net.signals → j < length list → p ≡ get_or row (get_or list j 0) p

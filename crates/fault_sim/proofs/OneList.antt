@@ -21,7 +21,7 @@ use Rattle.fault_sim.specs.declared.faults.Verdict.{Verdict}
 use Rattle.fault_sim.specs.declared.faults.Verdict.TheVariants.{Seen, Unseen}
 use Rattle.fault_sim.specs.Faults.{IsFault, all_faults}
 use Rattle.fault_sim.specs.Verdicts.{is_seen, Judges, IsVerdict, AreVerdicts, HasOneList}
-use Rattle.fault_sim.specs.Runs.{differs_in, IsFirstColumn, IsLooked}
+use Rattle.fault_sim.specs.code.Runs.{differs_in, IsFirstColumn, IsLooked}
 use Rattle.fault_sim.proofs.Orders.{one_stuck}
 use Rattle.fault_sim.proofs.Looking.{differs_past}
 use Rattle.fault_sim.proofs.Judging.{judge_step}

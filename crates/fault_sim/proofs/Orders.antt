@@ -15,7 +15,8 @@ use Rattle.net_defs.specs.Reference.{HasOneSimulation}
 use Rattle.rank_find.proofs.Existence.{order_or_loop}
 use Rattle.ref_sim.proofs.Simulations.{one_along}
 use Rattle.fault_sim.specs.declared.faults.Fault.{Fault}
-use Rattle.fault_sim.specs.Faults.{constant, stuck, IsFault, order_for}
+use Rattle.fault_sim.specs.Faults.{constant, stuck, IsFault}
+use Rattle.fault_sim.specs.code.Faults.{order_for}
 use Rattle.fault_sim.proofs.Stuck.{stuck_here, stuck_else}
 
 constant_is_gate : (v : V4) → is_gate_driver (constant v) ≡ true

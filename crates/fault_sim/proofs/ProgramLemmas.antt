@@ -19,9 +19,9 @@ use Rattle.net_defs.specs.declared.timing.Timing.{Timing}
 use Rattle.net_defs.specs.Time.{value_at}
 use Rattle.ref_sim.proofs.OpLemmas.{All-one, join_more, base_many, base_twice}
 use Rattle.fault_sim.specs.declared.program.PairOp.{PairOp}
-use Rattle.fault_sim.specs.Turns.{settle_forced}
+use Rattle.fault_sim.specs.code.Turns.{settle_forced}
 use Rattle.lane_planes.specs.Formula.{pair_value, pair_form}
-use Rattle.fault_sim.specs.Programs.{put_forced, do_forced, follow_forced, pair_op, twice_kind, IsWithin, IsProgram, Adds}
+use Rattle.fault_sim.specs.code.Programs.{put_forced, do_forced, follow_forced, pair_op, twice_kind, IsWithin, IsProgram, Adds}
 use Rattle.fault_sim.proofs.BaseLemmas.{lane_at}
 use Rattle.lane_planes.proofs.FormulaLemmas.{form_answers}
 

@@ -10,7 +10,7 @@ use Rattle.net_defs.specs.declared.timing.Timing.{Timing}
 use Rattle.net_defs.specs.Steps.{is_late}
 use Rattle.net_defs.specs.Loops.{is_gate, IsGate}
 use Rattle.ref_sim.proofs.OpLemmas.{All-one}
-use Rattle.fault_sim.specs.Programs.{is_source, AreSources}
+use Rattle.fault_sim.specs.code.Programs.{is_source, AreSources}
 
 -- what is no gate, or is late, is a source
 pub source_is : (net : Netlist) (timing : Timing) (s : ℕ) → (IsGate net s → is_late net timing s ≡ true) → is_source net timing s ≡ true

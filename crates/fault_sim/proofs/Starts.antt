@@ -17,8 +17,8 @@ use Rattle.net_defs.specs.Steps.{State, first_state}
 use Rattle.ref_sim.specs.States.{initial_memories, AreShaped}
 use Rattle.fault_sim.specs.declared.faults.Fault.{Fault}
 use Rattle.fault_sim.specs.declared.state.LaneState.{LaneState}
-use Rattle.fault_sim.specs.Lanes.{lane_net, lane_state}
-use Rattle.fault_sim.specs.Runs.{StandsInLanes}
+use Rattle.fault_sim.specs.code.Lanes.{lane_net, lane_state}
+use Rattle.fault_sim.specs.code.Runs.{StandsInLanes}
 use Rattle.fault_sim.proofs.Stuck.{stuck_signal}
 
 pub undefined_row : (x : Planes) (n l : ℕ) → lane_of x l ≡ Undef → lane_row l (replicate n x) ≡ replicate n Undef

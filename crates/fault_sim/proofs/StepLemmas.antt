@@ -21,10 +21,11 @@ use Rattle.net_defs.specs.Steps.{State, is_late, values_of, driven, registered, 
 use Rattle.net_defs.specs.Loops.{is_gate, IsGate, is_gate_driver, IsOrder}
 use Rattle.ref_sim.proofs.Along.{along, along_length, along_keeps, along_gate, late_or}
 use Rattle.fault_sim.specs.declared.faults.Fault.{Fault}
-use Rattle.fault_sim.specs.Faults.{constant, stuck, IsFault, order_for}
-use Rattle.fault_sim.specs.Lanes.{HasInputs}
-use Rattle.fault_sim.specs.Turns.{base_value, AreBases, forced_along}
-use Rattle.fault_sim.specs.Programs.{AreSources}
+use Rattle.fault_sim.specs.Faults.{constant, stuck, IsFault}
+use Rattle.fault_sim.specs.code.Faults.{order_for}
+use Rattle.fault_sim.specs.code.Lanes.{HasInputs}
+use Rattle.fault_sim.specs.code.Turns.{base_value, AreBases, forced_along}
+use Rattle.fault_sim.specs.code.Programs.{AreSources}
 use Rattle.fault_sim.proofs.Stuck.{stuck_signal, stuck_here, stuck_else, stuck_long, constant_gives}
 use Rattle.fault_sim.proofs.Orders.{gate_else, order_serves}
 use Rattle.fault_sim.proofs.SourceLemmas.{source_is}

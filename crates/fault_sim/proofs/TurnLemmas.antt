@@ -22,9 +22,9 @@ use Rattle.ref_sim.specs.States.{AreShaped}
 use Rattle.fault_sim.specs.declared.faults.Fault.{Fault}
 use Rattle.fault_sim.specs.declared.state.LaneState.{LaneState}
 use Rattle.fault_sim.specs.Faults.{IsFault}
-use Rattle.fault_sim.specs.Lanes.{lane_net, force_at, HasInputs, AreForces}
-use Rattle.fault_sim.specs.Turns.{AreBases, forced_along, AreActed}
-use Rattle.fault_sim.specs.Programs.{AreSources}
+use Rattle.fault_sim.specs.code.Lanes.{lane_net, force_at, HasInputs, AreForces}
+use Rattle.fault_sim.specs.code.Turns.{AreBases, forced_along, AreActed}
+use Rattle.fault_sim.specs.code.Programs.{AreSources}
 use Rattle.fault_sim.proofs.EdgeLemmas.{shaped_after}
 use Rattle.fault_sim.proofs.StepLemmas.{good_step, faulty_step}
 

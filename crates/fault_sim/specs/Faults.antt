@@ -1,6 +1,6 @@
 -- Stuck faults, and the faulty design: one signal has the same value at every turn, and all else is as
 -- it was.
-use Rattle.std.specs.Prelude.{◌≡◌, ◌≢◌, ◌⊎◌, ℕ, List, [], ◌∷◌, length, if◌then◌else◌, Some, slice_get, slice_set}
+use Rattle.std.specs.Prelude.{◌≡◌, ◌≢◌, ◌⊎◌, ℕ, List, [], ◌∷◌, length, Some, slice_get, slice_set}
 use Rattle.std.specs.List.{flat_map, range_with_len}
 use Rattle.logic_four.specs.declared.V4.{V4}
 use Rattle.logic_four.specs.declared.V4.TheVariants.{Zero, One, Undef, HighZ}
@@ -16,7 +16,7 @@ use Rattle.net_defs.specs.Time.{value_at}
 use Rattle.net_defs.specs.Canonical.{name_of}
 use Rattle.net_defs.specs.Valid.{IsSignal}
 use Rattle.net_defs.specs.Steps.{State, driven, words_of, words_after, IsRightStep}
-use Rattle.net_defs.specs.Loops.{is_gate, IsCircle}
+use Rattle.net_defs.specs.Loops.{IsCircle}
 use Rattle.net_defs.specs.Reference.{HasOneSimulation}
 use Rattle.fault_sim.specs.declared.faults.Fault.{Fault}
 
@@ -82,8 +82,3 @@ HasOneFaulty =
     (net : Netlist) (timing : Timing) (stimulus : Stimulus) (fault : Fault)
     → ((members : List ℕ) → IsCircle net timing members → ⊥) → IsFault net fault
     → HasOneSimulation (stuck net fault) timing stimulus
-
--- an order of the gates of the faulty netlist: the stuck signal counts as a gate there, one that waits
--- for nothing
-abbrev pub order_for : Netlist → Fault → List ℕ → List ℕ
-order_for net fault order = if is_gate net fault.signal then order else fault.signal ∷ order

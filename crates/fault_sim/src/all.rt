@@ -5,8 +5,8 @@ ghost use Rattle.net_defs.specs.Valid.{IsValid, IsValidTiming, IsValidStimulus};
 ghost use Rattle.net_defs.specs.Loops.{AreRanks};
 ghost use Rattle.fault_sim.specs.Faults.{faults_from};
 ghost use Rattle.fault_sim.specs.Verdicts.{AreAllVerdicts, AreVerdicts, IsNamed};
-ghost use Rattle.fault_sim.specs.Programs.{IsSchedule};
-ghost use Rattle.fault_sim.specs.Groups.{group_faults, IsGroup, AreGroups, IsDone, IsRun, AreRun};
+ghost use Rattle.fault_sim.specs.code.Programs.{IsSchedule};
+ghost use Rattle.fault_sim.specs.code.Groups.{group_faults, IsGroup, AreGroups, IsDone, IsRun, AreRun};
 
 use crate::group::scheduled_group;
 use crate::schedule::{Schedule, make_schedule};

@@ -8,8 +8,8 @@ ghost use Rattle.net_defs.specs.Steps.{registered, is_late};
 ghost use Rattle.net_defs.specs.Loops.{is_gate_driver};
 ghost use Rattle.net_defs.specs.Valid.{IsValid, IsValidTiming, IsSignal, IsDrivable};
 ghost use Rattle.lane_planes.specs.Lanes.{lane_of, lane_row};
-ghost use Rattle.fault_sim.specs.Turns.{base_value, AreBases};
-ghost use Rattle.fault_sim.specs.Programs.{is_source, AreSources};
+ghost use Rattle.fault_sim.specs.code.Turns.{base_value, AreBases};
+ghost use Rattle.fault_sim.specs.code.Programs.{is_source, AreSources};
 
 use lane_planes::{Planes, forced, gate_over, in_all_lanes, settle_planes};
 use logic_four::V4;

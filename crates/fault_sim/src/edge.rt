@@ -5,8 +5,9 @@ ghost use Rattle.net_defs.specs.Time.{value_at};
 ghost use Rattle.net_defs.specs.Valid.{IsValid};
 ghost use Rattle.lane_planes.specs.Lanes.{lane_row};
 ghost use Rattle.ref_sim.specs.Sequences.{place_count};
-ghost use Rattle.ref_sim.specs.States.{AreShaped, last_row, row_of};
-ghost use Rattle.fault_sim.specs.Turns.{reads_of, memory_reads, memory_outs, IsRoom, HasAnswered};
+ghost use Rattle.ref_sim.specs.States.{AreShaped, last_row};
+ghost use Rattle.ref_sim.specs.code.States.{row_of};
+ghost use Rattle.fault_sim.specs.code.Turns.{reads_of, memory_reads, memory_outs, IsRoom, HasAnswered};
 
 use crate::Fault;
 use array_cells::Cells;

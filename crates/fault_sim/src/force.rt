@@ -2,7 +2,7 @@
 
 ghost use Rattle.std.specs.Prelude.{◌≤◌, length, All, IfOk};
 ghost use Rattle.fault_sim.specs.Faults.{IsFault};
-ghost use Rattle.fault_sim.specs.Lanes.{AreForces, AreFree};
+ghost use Rattle.fault_sim.specs.code.Lanes.{AreForces, AreFree};
 
 use crate::Fault;
 use lane_planes::{Planes, in_all_lanes, with_lane};

@@ -5,7 +5,7 @@ ghost use Rattle.net_defs.specs.Valid.{IsValid, IsValidTiming, IsValidStimulus};
 ghost use Rattle.net_defs.specs.Loops.{AreRanks};
 ghost use Rattle.fault_sim.specs.Faults.{IsFault};
 ghost use Rattle.fault_sim.specs.Verdicts.{AreVerdicts};
-ghost use Rattle.fault_sim.specs.Programs.{IsSchedule};
+ghost use Rattle.fault_sim.specs.code.Programs.{IsSchedule};
 
 use crate::edge::make_room;
 use crate::force::make_forces;

@@ -4,7 +4,7 @@ ghost use Rattle.std.specs.Prelude.{◌≡◌, ◌+◌, ◌<◌, ◌≤◌, ◌^
 ghost use Rattle.net_defs.specs.Valid.{IsSignal};
 ghost use Rattle.fault_sim.specs.Verdicts.{differs};
 ghost use Rattle.lane_planes.specs.Lanes.{lane_row};
-ghost use Rattle.fault_sim.specs.Runs.{FindsColumn, IsLooked, AreLooked, is_decided, are_decided};
+ghost use Rattle.fault_sim.specs.code.Runs.{FindsColumn, IsLooked, AreLooked, is_decided, are_decided};
 
 use crate::Verdict;
 use lane_planes::{Planes, lane};

@@ -8,8 +8,8 @@ ghost use Rattle.net_defs.specs.Time.{value_at};
 ghost use Rattle.net_defs.specs.Loops.{IsGate, IsOrder, waits_for, is_gate_driver, gate_operands};
 ghost use Rattle.net_defs.specs.Valid.{IsValid, IsValidTiming, IsSignal, IsDrivable};
 ghost use Rattle.lane_planes.specs.Lanes.{lane_row};
-ghost use Rattle.fault_sim.specs.Turns.{gate_driven, settle_forced};
-ghost use Rattle.fault_sim.specs.Programs.{put_forced, follow_forced, pair_op, twice_kind, IsWithin, IsProgram, Adds};
+ghost use Rattle.fault_sim.specs.code.Turns.{gate_driven, settle_forced};
+ghost use Rattle.fault_sim.specs.code.Programs.{put_forced, follow_forced, pair_op, twice_kind, IsWithin, IsProgram, Adds};
 
 use lane_planes::{PairForm, Planes, forced, gate_two, pair_form};
 use logic_four::{Kind, base_kind};

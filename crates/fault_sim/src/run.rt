@@ -6,10 +6,10 @@ ghost use Rattle.net_defs.specs.declared.stimulus.Stimulus.{Stimulus};
 ghost use Rattle.net_defs.specs.Time.{cycle_rows, cycle_count};
 ghost use Rattle.net_defs.specs.Valid.{IsValid, IsValidTiming, IsValidStimulus};
 ghost use Rattle.fault_sim.specs.Faults.{IsFault};
-ghost use Rattle.fault_sim.specs.Lanes.{IsReady, AreForces};
-ghost use Rattle.fault_sim.specs.Turns.{IsRoom};
-ghost use Rattle.fault_sim.specs.Programs.{IsSchedule};
-ghost use Rattle.fault_sim.specs.Runs.{StandsInLanes, RunsTo};
+ghost use Rattle.fault_sim.specs.code.Lanes.{IsReady, AreForces};
+ghost use Rattle.fault_sim.specs.code.Turns.{IsRoom};
+ghost use Rattle.fault_sim.specs.code.Programs.{IsSchedule};
+ghost use Rattle.fault_sim.specs.code.Runs.{StandsInLanes, RunsTo};
 
 use crate::edge::EdgeRoom;
 use crate::look::{are_decided, look};

@@ -3,7 +3,7 @@
 ghost use Rattle.std.specs.Prelude.{◌≡◌, ◌+◌, ◌<◌, length, IfOk, OnOk};
 ghost use Rattle.net_defs.specs.Loops.{IsOrder};
 ghost use Rattle.net_defs.specs.Valid.{IsValid, IsValidTiming, IsSignal};
-ghost use Rattle.fault_sim.specs.Programs.{is_source, AreSources, IsSchedule};
+ghost use Rattle.fault_sim.specs.code.Programs.{is_source, AreSources, IsSchedule};
 
 use crate::program::{PairOp, make_program};
 use net_defs::{Netlist, Timing, is_gate, is_late};

@@ -6,7 +6,7 @@ ghost use Rattle.lane_planes.specs.Lanes.{lane_row};
 ghost use Rattle.net_defs.specs.Steps.{first_state};
 ghost use Rattle.net_defs.specs.Valid.{IsValid};
 ghost use Rattle.ref_sim.specs.States.{initial_memories};
-ghost use Rattle.fault_sim.specs.Lanes.{IsReady, lane_net, lane_state};
+ghost use Rattle.fault_sim.specs.code.Lanes.{IsReady, lane_net, lane_state};
 
 use crate::Fault;
 use crate::state::LaneState;

@@ -6,9 +6,9 @@ ghost use Rattle.net_defs.specs.Steps.{IsRightStep};
 ghost use Rattle.net_defs.specs.Valid.{IsValid, IsValidTiming};
 ghost use Rattle.lane_planes.specs.Lanes.{lane_row};
 ghost use Rattle.fault_sim.specs.Faults.{IsFault};
-ghost use Rattle.fault_sim.specs.Lanes.{lane_net, lane_state, IsReady, AreForces, HasInputs};
-ghost use Rattle.fault_sim.specs.Turns.{IsRoom, AreActed};
-ghost use Rattle.fault_sim.specs.Programs.{follow_forced, IsWithin, IsSchedule};
+ghost use Rattle.fault_sim.specs.code.Lanes.{lane_net, lane_state, IsReady, AreForces, HasInputs};
+ghost use Rattle.fault_sim.specs.code.Turns.{IsRoom, AreActed};
+ghost use Rattle.fault_sim.specs.code.Programs.{follow_forced, IsWithin, IsSchedule};
 
 use crate::Fault;
 use crate::base::set_bases;

@@ -11,7 +11,8 @@ use Rattle.logic_four.specs.Packed.{packed_value}
 use Rattle.logic_four.proofs.CodeLemmas.{value_of-code_of, code_of_small, code_of-value_of}
 use Rattle.logic_four.proofs.PackedLemmas.{same_words}
 use Rattle.func_table.specs.declared.table.Table.{Table}
-use Rattle.func_table.specs.Entries.{entry_of, place_of, operands_at, answer_at, AreAlike, AreOther, entry_for}
+use Rattle.func_table.specs.Entries.{entry_of, place_of, AreAlike, AreOther, entry_for}
+use Rattle.func_table.specs.code.Entries.{operands_at, answer_at}
 
 -- the entry for four operands is below 256, and the operands are read from it
 first_code : (x y z w : ℕ) → x < 4 → (x + 4 * y + 16 * z + 64 * w) % 4 ≡ x

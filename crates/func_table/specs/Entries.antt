@@ -1,9 +1,9 @@
 -- A function table as its 256 entries.
-use Rattle.std.specs.Prelude.{◌≡◌, ℕ, ◌+◌, ◌*◌, ◌/◌, ◌%◌, ◌<◌, List, [], ◌∷◌, take, Option, Some, None}
+use Rattle.std.specs.Prelude.{◌≡◌, ℕ, ◌+◌, ◌*◌, ◌<◌, [], ◌∷◌, take, Option, Some, None}
 use Rattle.logic_four.specs.declared.V4.{V4}
 use Rattle.logic_four.specs.declared.V4.TheVariants.{Undef}
 use Rattle.logic_four.specs.declared.Kind.{Kind}
-use Rattle.logic_four.specs.Values.{code_of, value_of}
+use Rattle.logic_four.specs.Values.{code_of}
 use Rattle.logic_four.specs.Gates.{gate_value}
 use Rattle.logic_four.specs.Packed.{packed_value}
 use Rattle.func_table.specs.declared.table.Table.{Table}
@@ -31,14 +31,6 @@ entry_for table a b c d = entry_of table (place_of a b c d)
 abbrev pub looked_up : Option Table → V4 → V4 → V4 → V4 → V4
 looked_up None a b c d = Undef
 looked_up (Some table) a b c d = entry_for table a b c d
-
--- the four operands for which entry e is
-abbrev pub operands_at : ℕ → List V4
-operands_at e = value_of (e % 4) ∷ value_of (e / 4 % 4) ∷ value_of (e / 16 % 4) ∷ value_of (e / 64 % 4) ∷ []
-
--- what a node of n operands answers at entry e
-abbrev pub answer_at : Kind → ℕ → ℕ → V4
-answer_at kind n e = gate_value kind (take n (operands_at e))
 
 -- the table of a kind: for every four operands, what the kind answers for the first n of them
 abbrev pub IsTableOf : Kind → ℕ → Table → Type 0

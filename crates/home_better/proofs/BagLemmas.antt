@@ -5,8 +5,9 @@ use Rattle.std.specs.List.{sum_by}
 use Rattle.std.proofs.lemmas.Bool.{cases_lt, cases_eq}
 use Rattle.std.proofs.lemmas.List.Sums.{sum_by-cons}
 use Rattle.home_better.specs.declared.bags.Entry.{Entry}
-use Rattle.home_better.specs.Bags.{flag, counted, times, entry_at, IsBag}
-use Rattle.home_better.specs.Work.{hit, beside}
+use Rattle.home_better.specs.Bags.{flag}
+use Rattle.home_better.specs.code.Bags.{counted, times, entry_at, IsBag}
+use Rattle.home_better.specs.code.Work.{hit, beside}
 use Rattle.home_better.proofs.SumLemmas.{total, total_differ, total_none, if_same, if_apart}
 
 -- a number without entry

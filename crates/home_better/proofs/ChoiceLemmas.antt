@@ -8,7 +8,7 @@ use Rattle.std.proofs.lemmas.List.Elements.{filter-append}
 use Rattle.std.proofs.lemmas.List.Sums.{fold-append}
 use Rattle.list_laws.proofs.Ranges.{range_next}
 use Rattle.home_better.specs.Better.{first_least}
-use Rattle.home_better.specs.Moves.{first_most}
+use Rattle.home_better.specs.code.Moves.{first_most}
 
 range_suc : (n : ℕ) → range_with_len 0 (suc n) ≡ range_with_len 0 n ++ n ∷ []
 range_suc n = subst (λ m. range_with_len 0 m ≡ range_with_len 0 n ++ n ∷ []) (add-one n) (range_next n)

@@ -12,11 +12,12 @@ use Rattle.plan_defs.specs.declared.plan.Homes.{Homes}
 use Rattle.plan_defs.specs.Homes.{AreHomes, home_of, block_home, host_of, ports_of}
 use Rattle.plan_defs.proofs.PortLemmas.{home_port}
 use Rattle.home_better.specs.declared.bags.Entry.{Entry}
-use Rattle.home_better.specs.Bags.{flag, times, entry_at, where_at, IsBag}
+use Rattle.home_better.specs.Bags.{flag, where_at}
+use Rattle.home_better.specs.code.Bags.{times, entry_at, IsBag}
 use Rattle.home_better.specs.Better.{bound_of, passes, IsBetter, NoneLowers}
 use Rattle.home_better.specs.Crossings.{times_in, uses_by, block_uses, uses_at, reads_at, readers_at, crossings}
-use Rattle.home_better.specs.Ways.{IsOnTheWay}
-use Rattle.home_better.specs.Work.{beside, away_by}
+use Rattle.home_better.specs.code.Ways.{IsOnTheWay}
+use Rattle.home_better.specs.code.Work.{beside, away_by}
 use Rattle.home_better.proofs.SumLemmas.{total, total_none, if_same, if_apart}
 use Rattle.home_better.proofs.BagLemmas.{times_absent, times_here, total_members}
 use Rattle.home_better.proofs.MoveLemmas.{readers_most}

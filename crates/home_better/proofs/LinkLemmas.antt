@@ -18,9 +18,10 @@ use Rattle.node_defs.specs.WellFormed.{IsWellFormed}
 use Rattle.plan_defs.specs.declared.plan.Homes.{Homes}
 use Rattle.plan_defs.specs.Homes.{home_of, block_home, host_of}
 use Rattle.home_better.specs.declared.bags.Entry.{Entry}
-use Rattle.home_better.specs.Bags.{times, where_at}
+use Rattle.home_better.specs.Bags.{where_at}
+use Rattle.home_better.specs.code.Bags.{times}
 use Rattle.home_better.specs.Crossings.{times_in, feed_uses, item_uses, maybe_item_uses, memory_uses, block_uses, uses_by, uses_at}
-use Rattle.home_better.specs.Uses.{bag_at, AreBags, AreTakes, AreUses, Gives}
+use Rattle.home_better.specs.code.Uses.{bag_at, AreBags, AreTakes, AreUses, Gives}
 use Rattle.home_better.proofs.SumLemmas.{total, if_apart}
 use Rattle.home_better.proofs.UseLemmas.{gives_both}
 

@@ -14,7 +14,7 @@ use Rattle.plan_defs.specs.Picks.{node_count}
 use Rattle.home_better.specs.Bags.{flag, where_at}
 use Rattle.home_better.specs.Better.{load_at}
 use Rattle.home_better.specs.Crossings.{uses_by, uses_at, reads_at, readers_at, crossings, moved}
-use Rattle.home_better.specs.Moves.{others_at, pull_by, pull_at}
+use Rattle.home_better.specs.code.Moves.{others_at, pull_by, pull_at}
 use Rattle.home_better.proofs.SumLemmas.{total, total_at, total_both, total_most, if_same, if_apart, pull_one, pull_own, flag_most}
 
 -- a node that stays is where it was

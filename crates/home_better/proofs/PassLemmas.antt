@@ -13,7 +13,7 @@ use Rattle.plan_defs.specs.Picks.{node_count}
 use Rattle.home_better.specs.Bags.{where_at}
 use Rattle.home_better.specs.Crossings.{crossings, moved}
 use Rattle.home_better.specs.Better.{load_at, most_load, bound_of, most_at, has_room, best_port, settled, settled_from, node_numbers, pass, passes, IsBetter, NoneLowers}
-use Rattle.home_better.specs.Ways.{IsOnTheWay}
+use Rattle.home_better.specs.code.Ways.{IsOnTheWay}
 use Rattle.home_better.proofs.SumLemmas.{if_same, if_apart}
 use Rattle.home_better.proofs.MoveLemmas.{moved_own, moved_away, moved_homes, load_moved}
 use Rattle.home_better.proofs.ChoiceLemmas.{least_less, least_where, least_low}

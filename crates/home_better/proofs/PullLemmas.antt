@@ -9,11 +9,12 @@ use Rattle.node_defs.specs.WellFormed.{IsWellFormed}
 use Rattle.plan_defs.specs.declared.plan.Homes.{Homes}
 use Rattle.plan_defs.specs.Homes.{home_of}
 use Rattle.home_better.specs.declared.bags.Entry.{Entry}
-use Rattle.home_better.specs.Bags.{flag, times, entry_at, IsBag}
+use Rattle.home_better.specs.Bags.{flag}
+use Rattle.home_better.specs.code.Bags.{times, entry_at, IsBag}
 use Rattle.home_better.specs.Crossings.{uses_by}
-use Rattle.home_better.specs.Moves.{others_at, pull_by, pull_at}
-use Rattle.home_better.specs.Uses.{bag_at, AreTakes}
-use Rattle.home_better.specs.Work.{hit, beside, AddsEvenly}
+use Rattle.home_better.specs.code.Moves.{others_at, pull_by, pull_at}
+use Rattle.home_better.specs.code.Uses.{bag_at, AreTakes}
+use Rattle.home_better.specs.code.Work.{hit, beside, AddsEvenly}
 use Rattle.home_better.proofs.SumLemmas.{if_same, if_apart, flag_some, flag_most}
 use Rattle.home_better.proofs.BagLemmas.{times_absent, times_here, hits_flag, total_members}
 use Rattle.home_better.proofs.LinkLemmas.{uses_low}

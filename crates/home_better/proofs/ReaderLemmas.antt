@@ -22,9 +22,10 @@ use Rattle.plan_defs.specs.Homes.{AreHomes, home_of, block_home, host_of, ports_
 use Rattle.plan_defs.specs.Readers.{IsUser, IsReader, IsReaderList}
 use Rattle.plan_defs.proofs.PortLemmas.{home_port, reader_port}
 use Rattle.home_better.specs.declared.bags.Entry.{Entry}
-use Rattle.home_better.specs.Bags.{flag, entry_at, where_at, IsBag}
+use Rattle.home_better.specs.Bags.{flag, where_at}
+use Rattle.home_better.specs.code.Bags.{entry_at, IsBag}
 use Rattle.home_better.specs.Crossings.{times_in, feed_uses, item_uses, memory_uses, block_uses, uses_by, uses_at, reads_at, readers_at, crossings}
-use Rattle.home_better.specs.Work.{beside}
+use Rattle.home_better.specs.code.Work.{beside}
 use Rattle.home_better.proofs.SumLemmas.{total, if_same, if_apart, flag_some}
 use Rattle.home_better.proofs.BagLemmas.{total_members}
 use Rattle.home_better.proofs.LinkLemmas.{item_takes, uses_is, block_is}

@@ -6,12 +6,13 @@ use Rattle.node_defs.specs.WellFormed.{IsWellFormed}
 use Rattle.plan_defs.specs.declared.plan.Homes.{Homes}
 use Rattle.plan_defs.specs.Homes.{AreHomes, home_of}
 use Rattle.home_better.specs.declared.bags.Entry.{Entry}
-use Rattle.home_better.specs.Bags.{flag, times}
+use Rattle.home_better.specs.Bags.{flag}
+use Rattle.home_better.specs.code.Bags.{times}
 use Rattle.home_better.specs.Crossings.{uses_by, moved}
-use Rattle.home_better.specs.Moves.{others_at, pull_by, AreUsesWithout}
-use Rattle.home_better.specs.Spread.{AreSpread, AreSpreadWithout, Unmarks}
-use Rattle.home_better.specs.Uses.{bag_at, AreTakes}
-use Rattle.home_better.specs.Work.{beside}
+use Rattle.home_better.specs.code.Moves.{others_at, pull_by, AreUsesWithout}
+use Rattle.home_better.specs.code.Spread.{AreSpread, AreSpreadWithout, Unmarks}
+use Rattle.home_better.specs.code.Uses.{bag_at, AreTakes}
+use Rattle.home_better.specs.code.Work.{beside}
 use Rattle.home_better.proofs.SumLemmas.{if_same, if_apart, flag_some}
 use Rattle.home_better.proofs.LinkLemmas.{uses_low}
 use Rattle.home_better.proofs.MoveLemmas.{uses_home, uses_moved}

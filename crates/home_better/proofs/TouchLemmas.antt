@@ -8,10 +8,8 @@ use Rattle.std.proofs.lemmas.Bool.{cases_lt, cases_eq, cases_Bool, lt-ltb, le-lt
 use Rattle.std.proofs.lemmas.List.{take_all}
 use Rattle.std.proofs.lemmas.List.Elements.{Contains-push_cases}
 use Rattle.home_better.specs.declared.pulls.Pulls.{Pulls}
-use Rattle.home_better.specs.Touched.{AreTouched, is_better}
+use Rattle.home_better.specs.code.Touched.{AreTouched, is_better}
 use Rattle.home_better.proofs.ChoiceLemmas.{most_of, most_more}
-
--- ---- ports that are touched
 
 -- ---- the best port
 

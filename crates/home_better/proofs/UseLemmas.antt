@@ -3,8 +3,9 @@ use Rattle.std.proofs.Common.{◌≡◌, ◌≢◌, ◌∙◌, inl, inr, ℕ, �
 use Rattle.std.proofs.lemmas.Bool.{cases_eq}
 use Rattle.std.proofs.lemmas.List.Sums.{sum_by_more_le}
 use Rattle.home_better.specs.declared.bags.Entry.{Entry}
-use Rattle.home_better.specs.Bags.{counted, times, entry_at, where_at}
-use Rattle.home_better.specs.Uses.{bag_at, Gives}
+use Rattle.home_better.specs.Bags.{where_at}
+use Rattle.home_better.specs.code.Bags.{counted, times, entry_at}
+use Rattle.home_better.specs.code.Uses.{bag_at, Gives}
 use Rattle.home_better.proofs.SumLemmas.{if_same}
 
 -- one change after another
@@ -13,8 +14,6 @@ gives_both a b c f g h first second sum = record {
   size = second.size ∙ first.size;
   times = λ i q inside. omega (arith, first.times i q inside, second.times i q (rw first.size inside), sum i q);
 }
-
--- ---- loops
 
 -- ---- what loops ask of one entry
 

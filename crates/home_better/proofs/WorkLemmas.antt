@@ -14,13 +14,14 @@ use Rattle.plan_defs.specs.Picks.{node_count}
 use Rattle.plan_defs.proofs.CountLemmas.{few_before}
 use Rattle.home_better.specs.declared.bags.Entry.{Entry}
 use Rattle.home_better.specs.declared.moves.Work.{Work}
-use Rattle.home_better.specs.Bags.{times, where_at}
+use Rattle.home_better.specs.Bags.{where_at}
+use Rattle.home_better.specs.code.Bags.{times}
 use Rattle.home_better.specs.Better.{load_at, most_at, has_room, best_port, settled, settled_from, pass, passes, bound_of, IsBetter}
 use Rattle.home_better.specs.Crossings.{uses_by, uses_at, reads_at, readers_at, crossings, moved}
-use Rattle.home_better.specs.Moves.{pull_at, first_most, AreUsesWithout}
-use Rattle.home_better.specs.Uses.{bag_at, AreBags, AreTakes, AreUses, Gives}
-use Rattle.home_better.specs.Work.{AreLoads, AreMost, room_in}
-use Rattle.home_better.specs.Working.{IsLifted}
+use Rattle.home_better.specs.code.Moves.{pull_at, first_most, AreUsesWithout}
+use Rattle.home_better.specs.code.Uses.{bag_at, AreBags, AreTakes, AreUses, Gives}
+use Rattle.home_better.specs.code.Work.{AreLoads, AreMost, room_in}
+use Rattle.home_better.specs.code.Working.{IsLifted}
 use Rattle.home_better.proofs.SumLemmas.{total, total_most, if_same, if_apart}
 use Rattle.home_better.proofs.ChoiceLemmas.{least_is_most}
 use Rattle.home_better.proofs.LinkLemmas.{uses_low}

@@ -1,10 +1,4 @@
 pub mod Bags
 pub mod Better
+pub mod code
 pub mod Crossings
-pub mod Moves
-pub mod Spread
-pub mod Touched
-pub mod Uses
-pub mod Ways
-pub mod Work
-pub mod Working

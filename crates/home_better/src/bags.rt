@@ -1,7 +1,8 @@
 //! Numbers that stand several times, each with how often.
 
 ghost use Rattle.std.specs.Prelude.{◌≡◌, ◌≢◌, ℕ, ◌+◌, ◌<◌, ◌≤◌, OnOk, length};
-ghost use Rattle.home_better.specs.Bags.{times, entry_at, IsBag, where_at};
+ghost use Rattle.home_better.specs.Bags.{where_at};
+ghost use Rattle.home_better.specs.code.Bags.{times, entry_at, IsBag};
 
 use seen_list::{List, Memory};
 

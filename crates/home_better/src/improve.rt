@@ -6,9 +6,9 @@ ghost use Rattle.node_defs.specs.WellFormed.{IsWellFormed};
 ghost use Rattle.plan_defs.specs.Homes.{AreHomes, home_of};
 ghost use Rattle.home_better.specs.Better.{bound_of as bound_from, IsBetter, IsFilled, IsWithin, KeepsOthers, NoneLowers};
 ghost use Rattle.home_better.specs.Crossings.{crossings, readers_at};
-ghost use Rattle.home_better.specs.Uses.{AreTakes, AreUses};
-ghost use Rattle.home_better.specs.Work.{away_by};
-ghost use Rattle.home_better.specs.Working.{IsWork};
+ghost use Rattle.home_better.specs.code.Uses.{AreTakes, AreUses};
+ghost use Rattle.home_better.specs.code.Work.{away_by};
+ghost use Rattle.home_better.specs.code.Working.{IsWork};
 
 use crate::bags::Entry;
 use crate::links::{takes_of, uses_of};

@@ -4,9 +4,10 @@ ghost use Rattle.std.specs.Prelude.{◌≡◌, ℕ, ◌+◌, ◌<◌, ◌≤◌,
 ghost use Rattle.std.specs.List.{sum_by, range_with_len};
 ghost use Rattle.node_defs.specs.WellFormed.{IsMemoryOf, IsWellFormed};
 ghost use Rattle.plan_defs.specs.Homes.{AreHomes, block_home, home_of};
-ghost use Rattle.home_better.specs.Bags.{times, where_at, IsBag};
+ghost use Rattle.home_better.specs.Bags.{where_at};
+ghost use Rattle.home_better.specs.code.Bags.{times, IsBag};
 ghost use Rattle.home_better.specs.Crossings.{block_uses, feed_uses, item_uses, memory_uses, uses_by};
-ghost use Rattle.home_better.specs.Uses.{AreBags, AreTakes, AreUses, Gives, IsTaken};
+ghost use Rattle.home_better.specs.code.Uses.{AreBags, AreTakes, AreUses, Gives, IsTaken};
 
 use crate::bags::{Entry, give};
 use crate::uses::{empty_bags, give_all, give_bag, places_of};

@@ -5,7 +5,7 @@ ghost use Rattle.node_defs.specs.WellFormed.{IsWellFormed};
 ghost use Rattle.plan_defs.specs.Homes.{AreHomes};
 ghost use Rattle.plan_defs.specs.Picks.{node_count as nodes_of};
 ghost use Rattle.home_better.specs.Better.{bound_of as bound_from, fair_share, most_load};
-ghost use Rattle.home_better.specs.Work.{AreLoads, AreMost};
+ghost use Rattle.home_better.specs.code.Work.{AreLoads, AreMost};
 
 use machine_text::{Limited, Machine};
 use node_defs::NodeNet;

@@ -5,9 +5,9 @@ ghost use Rattle.node_defs.specs.WellFormed.{IsWellFormed};
 ghost use Rattle.home_better.specs.Bags.{where_at};
 ghost use Rattle.home_better.specs.Better.{best_port, bound_of, pass, settled, IsBetter};
 ghost use Rattle.home_better.specs.Crossings.{moved};
-ghost use Rattle.home_better.specs.Uses.{AreTakes};
-ghost use Rattle.home_better.specs.Work.{AreMost};
-ghost use Rattle.home_better.specs.Working.{IsLifted, IsWork};
+ghost use Rattle.home_better.specs.code.Uses.{AreTakes};
+ghost use Rattle.home_better.specs.code.Work.{AreMost};
+ghost use Rattle.home_better.specs.code.Working.{IsLifted, IsWork};
 
 use crate::bags::Entry;
 use crate::loads::node_count;

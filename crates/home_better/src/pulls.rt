@@ -3,13 +3,14 @@
 ghost use Rattle.std.specs.Prelude.{◌≡◌, ◌≢◌, ◌+◌, ◌++◌, ◌∷◌, ◌≤◌, ◌<◌, ◌==◌, if◌then◌else◌, [], ℕ, OnOk, length, slice_index, slice_set};
 ghost use Rattle.node_defs.specs.WellFormed.{IsWellFormed};
 ghost use Rattle.plan_defs.specs.Homes.{AreHomes, home_of};
-ghost use Rattle.home_better.specs.Bags.{flag, times, IsBag};
+ghost use Rattle.home_better.specs.Bags.{flag};
+ghost use Rattle.home_better.specs.code.Bags.{times, IsBag};
 ghost use Rattle.home_better.specs.Crossings.{uses_by};
-ghost use Rattle.home_better.specs.Moves.{pull_at, pull_by, AreLowered, AreUsesWithout, first_most};
-ghost use Rattle.home_better.specs.Spread.{AreSpreadWithout};
-ghost use Rattle.home_better.specs.Uses.{AreTakes};
-ghost use Rattle.home_better.specs.Work.{hit, beside, room_in, Adds, AddsEvenly};
-ghost use Rattle.home_better.specs.Touched.{is_better, AreTouched};
+ghost use Rattle.home_better.specs.code.Moves.{pull_at, pull_by, AreLowered, AreUsesWithout, first_most};
+ghost use Rattle.home_better.specs.code.Spread.{AreSpreadWithout};
+ghost use Rattle.home_better.specs.code.Uses.{AreTakes};
+ghost use Rattle.home_better.specs.code.Work.{hit, beside, room_in, Adds, AddsEvenly};
+ghost use Rattle.home_better.specs.code.Touched.{is_better, AreTouched};
 ghost use Rattle.std.specs.List.{filter, range_with_len};
 
 use crate::bags::Entry;

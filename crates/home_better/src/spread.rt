@@ -1,9 +1,9 @@
 //! Items that are used at each logic port: what takes one of them is pulled equally to all ports.
 
 ghost use Rattle.std.specs.Prelude.{◌≡◌, ◌≢◌, ◌<◌, ℕ, IsTrue, length};
-ghost use Rattle.home_better.specs.Bags.{counted, times, IsBag};
-ghost use Rattle.home_better.specs.Spread.{AreSpread, Unmarks};
-ghost use Rattle.home_better.specs.Uses.{bag_at, AreBags, AreUses};
+ghost use Rattle.home_better.specs.code.Bags.{counted, times, IsBag};
+ghost use Rattle.home_better.specs.code.Spread.{AreSpread, Unmarks};
+ghost use Rattle.home_better.specs.code.Uses.{bag_at, AreBags, AreUses};
 
 use crate::bags::{Entry, times_of};
 use node_defs::NodeNet;

@@ -1,9 +1,10 @@
 //! Bags in a list that get and lose numbers.
 
 ghost use Rattle.std.specs.Prelude.{◌≡◌, ◌≢◌, ℕ, ◌<◌, ◌≤◌, IfOk, OnOk, length, slice_index};
-ghost use Rattle.home_better.specs.Bags.{counted, times, where_at, IsBag};
+ghost use Rattle.home_better.specs.Bags.{where_at};
+ghost use Rattle.home_better.specs.code.Bags.{counted, times, IsBag};
 ghost use Rattle.home_better.specs.Crossings.{times_in};
-ghost use Rattle.home_better.specs.Uses.{bag_at, AreBags, Gives};
+ghost use Rattle.home_better.specs.code.Uses.{bag_at, AreBags, Gives};
 
 use crate::bags::{Entry, give, take};
 use seen_list::{List, Memory};

@@ -19,7 +19,7 @@ use Rattle.plan_defs.specs.Lists.{IsLeastFree}
 use Rattle.plan_defs.specs.Picks.{bits_of, bits_before, bit_limit, bits_left, LacksRoom, AreHoused, FindsNoPort}
 use Rattle.plan_defs.proofs.PlanLemmas.{least_same}
 use Rattle.home_pick.specs.declared.blocks.Filling.{Filling}
-use Rattle.home_pick.specs.Rooms.{limits_of, LacksBits, IsMostLeft, AreFilled}
+use Rattle.home_pick.specs.code.Rooms.{limits_of, LacksBits, IsMostLeft, AreFilled}
 
 -- ---- the bits of one memory more
 

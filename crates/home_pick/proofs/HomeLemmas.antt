@@ -22,7 +22,7 @@ use Rattle.node_defs.specs.WellFormed.{IsWellFormed, IsComputed}
 use Rattle.plan_defs.specs.declared.plan.Homes.{Homes}
 use Rattle.plan_defs.specs.Homes.{AreHomes, MayHouse, home_of}
 use Rattle.plan_defs.specs.Picks.{node_count, node_limit, node_room, AreHoused, ArePicked, IsInTurn, HasPickedHome}
-use Rattle.home_pick.specs.Rooms.{homes_at, AreItemPorts}
+use Rattle.home_pick.specs.code.Rooms.{homes_at, AreItemPorts}
 use Rattle.home_pick.proofs.TurnLemmas.{turn_same, turn_wide}
 
 -- nodes and latches come last

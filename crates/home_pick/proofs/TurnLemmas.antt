@@ -18,7 +18,7 @@ use Rattle.plan_defs.specs.Lists.{IsLeastFree}
 use Rattle.plan_defs.specs.Picks.{node_limit, node_room, nodes_before, IsFull, IsInTurn}
 use Rattle.plan_defs.proofs.PlanLemmas.{least_one, least_same}
 use Rattle.plan_defs.proofs.CountLemmas.{few_before}
-use Rattle.home_pick.specs.Rooms.{limits_of, IsSpent, AreTurned}
+use Rattle.home_pick.specs.code.Rooms.{limits_of, IsSpent, AreTurned}
 use Rattle.home_pick.proofs.FillLemmas.{at_same, at_other, limits_at, limits_count}
 
 -- ---- the nodes at a port

@@ -1,2 +1,2 @@
+pub mod code
 pub mod Refusals
-pub mod Rooms

@@ -5,7 +5,7 @@ ghost use Rattle.limits.specs.declared.TheConstants.{MAX_ADDRESS_BITS, MAX_WORD_
 ghost use Rattle.machine_text.specs.Machines.{IsValid};
 ghost use Rattle.plan_defs.specs.Lists.{IsLeastFree};
 ghost use Rattle.plan_defs.specs.Picks.{bits_of};
-ghost use Rattle.home_pick.specs.Rooms.{LacksBits, IsMostLeft, AreFilled};
+ghost use Rattle.home_pick.specs.code.Rooms.{LacksBits, IsMostLeft, AreFilled};
 
 use crate::ports::limits_of;
 use machine_text::{Limited, Machine};

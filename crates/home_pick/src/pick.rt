@@ -6,7 +6,7 @@ ghost use Rattle.machine_text.specs.declared.machine.Limited.TheVariants.{Nodes 
 ghost use Rattle.node_defs.specs.WellFormed.{IsWellFormed};
 ghost use Rattle.plan_defs.specs.Homes.{AreHomes};
 ghost use Rattle.plan_defs.specs.Picks.{AreHoused, ArePicked, HasPickedHome, node_count, node_room};
-ghost use Rattle.home_pick.specs.Rooms.{AreFilled, AreItemPorts, AreTurned, homes_at, limits_of as limits_at};
+ghost use Rattle.home_pick.specs.code.Rooms.{AreFilled, AreItemPorts, AreTurned, homes_at, limits_of as limits_at};
 ghost use Rattle.home_pick.specs.Refusals.{IsRight};
 
 use crate::blocks::{Filling, block_bits, empty, first_with_room, most_left};

@@ -3,7 +3,7 @@
 ghost use Rattle.std.specs.Prelude.{◌≡◌, ℕ, ◌<◌, ◌≤◌, IfOk, length, slice_index};
 ghost use Rattle.std.specs.List.{sum};
 ghost use Rattle.limits.specs.declared.TheConstants.{MAX_LOGIC, MAX_NODES};
-ghost use Rattle.home_pick.specs.Rooms.{limits_of as limits_at};
+ghost use Rattle.home_pick.specs.code.Rooms.{limits_of as limits_at};
 
 use machine_text::{Limited, Machine};
 use seen_list::{List, Memory};

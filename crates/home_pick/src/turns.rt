@@ -7,7 +7,7 @@ ghost use Rattle.machine_text.specs.Machines.{IsValid};
 ghost use Rattle.machine_text.specs.declared.machine.Limited.TheVariants.{Nodes};
 ghost use Rattle.plan_defs.specs.Lists.{IsLeastFree};
 ghost use Rattle.plan_defs.specs.Picks.{IsInTurn, node_room};
-ghost use Rattle.home_pick.specs.Rooms.{AreTurned, IsSpent, limits_of};
+ghost use Rattle.home_pick.specs.code.Rooms.{AreTurned, IsSpent, limits_of};
 
 use machine_text::Machine;
 use node_defs::NodeNet;

@@ -29,7 +29,7 @@ use Rattle.plan_defs.specs.Switches.{IsSwitch}
 use Rattle.plan_defs.proofs.PortLemmas.{home_port}
 use Rattle.image_build.specs.Plans.{IsPlanned}
 use Rattle.image_build.specs.Built.{IsBuilt, GivesItems}
-use Rattle.image_build.specs.Layouts.{IsWorkFor, IsLaidOut}
+use Rattle.image_build.specs.code.Layouts.{IsWorkFor, IsLaidOut}
 use Rattle.image_build.proofs.ClaimLemmas.{claimed_in, port_low, claim_at, placed}
 use Rattle.image_build.proofs.SourceLemmas.{ins_rise}
 use Rattle.image_build.proofs.WorkLemmas.{port_done, port_prints}

@@ -26,7 +26,7 @@ use Rattle.plan_defs.specs.Slots.{slot_of}
 use Rattle.plan_defs.proofs.PortLemmas.{home_port}
 use Rattle.image_build.specs.PortItems.{IsAt, ArePortItems}
 use Rattle.image_build.specs.Plans.{IsPlanned}
-use Rattle.image_build.specs.Layouts.{AreMadeFor, IsTaskFor, IsBitFor, IsInputFor, IsWorkFor, IsLaidOut}
+use Rattle.image_build.specs.code.Layouts.{AreMadeFor, IsTaskFor, IsBitFor, IsInputFor, IsWorkFor, IsLaidOut}
 use Rattle.image_build.proofs.MemberLemmas.{made_there}
 
 -- ---- the slots of what a port does

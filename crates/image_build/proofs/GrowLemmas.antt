@@ -6,7 +6,7 @@ use Rattle.std.proofs.lemmas.Option.{slice_get_within}
 use Rattle.list_laws.proofs.Places.{at_front, seam_at}
 use Rattle.node_defs.specs.declared.items.Item.{Item}
 use Rattle.node_defs.specs.declared.items.NodeNet.{NodeNet}
-use Rattle.image_build.specs.Layouts.{AreMadeFor}
+use Rattle.image_build.specs.code.Layouts.{AreMadeFor}
 
 -- a place of a list to which one more is added, that is not one of the old places
 pub last_place : {X : Type 0} (xs : List X) (y : X) (i : ℕ) (x : X) → length xs ≤ i → slice_get (xs ++ y ∷ []) i ≡ Some x → (i ≡ length xs) × (x ≡ y)

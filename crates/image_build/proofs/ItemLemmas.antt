@@ -17,7 +17,8 @@ use Rattle.switch_set.proofs.ListLemmas.{listed_none, listed_same, listed_more}
 use Rattle.switch_set.proofs.SwitchLemmas.{item_low, here_is, lower, kept, added, old_or}
 use Rattle.image_match.specs.Matches.{claims_of}
 use Rattle.image_build.specs.PortItems.{IsAt, ArePlanClaims}
-use Rattle.image_build.specs.Plans.{IsPlanned, AreItemsAmong}
+use Rattle.image_build.specs.Plans.{IsPlanned}
+use Rattle.image_build.specs.code.Plans.{AreItemsAmong}
 
 -- empty lists
 pub empty_at : (count p : ℕ) (lists : List (List ℕ)) → lists ≡ replicate count [] → claims_of lists p ≡ []

@@ -22,7 +22,7 @@ use Rattle.plan_defs.specs.Switches.{IsSendingOf, IsSent, IsReceiptOf, IsSwitch}
 use Rattle.plan_defs.proofs.PortLemmas.{home_port, reader_port}
 use Rattle.image_build.specs.Plans.{IsPlanned}
 use Rattle.image_build.specs.Built.{link_out, link_in}
-use Rattle.image_build.specs.Layouts.{IsLaidOut}
+use Rattle.image_build.specs.code.Layouts.{IsLaidOut}
 use Rattle.image_build.proofs.MemberLemmas.{stands, made_there}
 use Rattle.image_build.proofs.ClaimLemmas.{port_low, port_at, item_there}
 use Rattle.image_build.proofs.SourceLemmas.{links_at, received}

@@ -9,13 +9,13 @@ use Rattle.node_defs.specs.declared.items.NodeNet.{NodeNet}
 use Rattle.image_defs.specs.declared.image.BlockWork.{BlockWork}
 use Rattle.plan_defs.specs.declared.plan.Homes.{Homes}
 use Rattle.plan_defs.specs.Homes.{block_home, ports_of}
-use Rattle.plan_defs.specs.Lists.{ListsBelow}
+use Rattle.plan_defs.specs.code.Lists.{ListsBelow}
 use Rattle.plan_defs.proofs.ListLemmas.{listed_none, listed_more, listed_not}
 use Rattle.image_match.specs.Matches.{claims_of}
 use Rattle.image_build.specs.declared.memories.Memories.{Memories}
 use Rattle.image_build.specs.Built.{ArePortMemories}
-use Rattle.image_build.specs.Layouts.{block_for, AreBlocks}
-use Rattle.image_build.specs.Plans.{AreMemories, AreFirstMemories}
+use Rattle.image_build.specs.code.Layouts.{block_for, AreBlocks}
+use Rattle.image_build.specs.code.Plans.{AreMemories, AreFirstMemories}
 use Rattle.image_build.proofs.GrowLemmas.{last_place}
 use Rattle.image_build.proofs.ItemLemmas.{empty_at, grown_at, kept_at}
 

@@ -17,8 +17,9 @@ use Rattle.image_defs.specs.declared.image.OutBit.{OutBit}
 use Rattle.image_match.specs.Matches.{claims_of}
 use Rattle.image_build.specs.declared.memories.Memories.{Memories}
 use Rattle.image_build.specs.PortItems.{IsAt, ArePortItems}
-use Rattle.image_build.specs.Layouts.{IsBitFor}
-use Rattle.image_build.specs.Plans.{IsPlanned, IsInputItem, IsBitItem, IsBitAt, AreMemories}
+use Rattle.image_build.specs.code.Layouts.{IsBitFor}
+use Rattle.image_build.specs.Plans.{IsPlanned}
+use Rattle.image_build.specs.code.Plans.{IsInputItem, IsBitItem, IsBitAt, AreMemories}
 
 -- what stands in a port's list is at the port
 pub at_port : (nodes : NodeNet) (homes : Homes) (slots : List ℕ) (p : ℕ) (items : List ℕ) (k x : ℕ) → ArePortItems nodes homes slots p items → slice_get items k ≡ Some x → IsAt nodes homes p x

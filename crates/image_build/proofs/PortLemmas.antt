@@ -12,8 +12,8 @@ use Rattle.plan_defs.specs.declared.switch.PortLinks.{PortLinks}
 use Rattle.plan_defs.specs.declared.switch.Switch.{Switch}
 use Rattle.image_match.specs.Matches.{claims_of}
 use Rattle.image_build.specs.Built.{AreLinksOf}
-use Rattle.image_build.specs.Layouts.{IsWorkFor}
-use Rattle.image_build.specs.Plans.{AreFirstPorts}
+use Rattle.image_build.specs.code.Layouts.{IsWorkFor}
+use Rattle.image_build.specs.code.Plans.{AreFirstPorts}
 use Rattle.image_build.proofs.GrowLemmas.{last_place}
 
 module _ (nodes : NodeNet) (homes : Homes) (plan : Plan) (switch : Switch) (claims : List (List ℕ)) where

@@ -33,7 +33,7 @@ use Rattle.plan_defs.specs.Switches.{IsReceiptOf, IsSwitch}
 use Rattle.plan_defs.proofs.PortLemmas.{user_port}
 use Rattle.image_build.specs.Plans.{IsPlanned}
 use Rattle.image_build.specs.Built.{link_in}
-use Rattle.image_build.specs.Layouts.{source_of, feed_source, IsLaidOut}
+use Rattle.image_build.specs.code.Layouts.{source_of, feed_source, IsLaidOut}
 use Rattle.image_build.proofs.MemberLemmas.{made_there}
 use Rattle.image_build.proofs.ClaimLemmas.{port_low, claimed, item_there}
 

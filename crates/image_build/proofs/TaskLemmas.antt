@@ -14,8 +14,8 @@ use Rattle.image_defs.specs.declared.image.Task.{Task}
 use Rattle.image_defs.specs.declared.image.Task.TheVariants.{Eval, Hold}
 use Rattle.plan_defs.specs.declared.plan.Homes.{Homes}
 use Rattle.image_build.specs.Built.{Evaluates, AreInOrderOfUse}
-use Rattle.image_build.specs.Layouts.{IsTaskFor}
-use Rattle.image_build.specs.Plans.{Shelves, AreFirstTasks}
+use Rattle.image_build.specs.code.Layouts.{IsTaskFor}
+use Rattle.image_build.specs.code.Plans.{Shelves, AreFirstTasks}
 use Rattle.image_build.proofs.GrowLemmas.{last_place, made_kept, made_next}
 
 -- ---- tables

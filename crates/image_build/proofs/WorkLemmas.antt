@@ -39,7 +39,7 @@ use Rattle.plan_defs.specs.Switches.{IsSwitch}
 use Rattle.image_build.specs.PortItems.{IsAt}
 use Rattle.image_build.specs.Plans.{IsPlanned}
 use Rattle.image_build.specs.Built.{AreInOrderOfUse, ArePortMemories, AreBlocksOf, IsOrdered}
-use Rattle.image_build.specs.Layouts.{source_of, feed_source, IsTaskFor, AreTasks, block_for, AreBlocks, IsBitFor, AreBits, IsInputFor, AreInputs, IsWorkFor, IsLaidOut}
+use Rattle.image_build.specs.code.Layouts.{source_of, feed_source, IsTaskFor, AreTasks, block_for, AreBlocks, IsBitFor, AreBits, IsInputFor, AreInputs, IsWorkFor, IsLaidOut}
 use Rattle.image_build.proofs.ClaimLemmas.{port_low, claim_at}
 use Rattle.image_build.proofs.SourceLemmas.{early, feed_right, past_right, present_right}
 

@@ -1,4 +1,4 @@
 pub mod Built
-pub mod Layouts
+pub mod code
 pub mod Plans
 pub mod PortItems

@@ -1,29 +1,12 @@
 -- Items in a plan, and what is known while their work is laid out.
-use Rattle.std.specs.Prelude.{◌≡◌, ℕ, ◌<◌, ◌≤◌, List, length, take, Some, slice_get, slice_index, Contains}
+use Rattle.std.specs.Prelude.{◌≤◌}
 use Rattle.limits.specs.declared.TheConstants.{MAX_SLOTS}
-use Rattle.func_table.specs.declared.table.Table.{Table}
-use Rattle.func_table.specs.Shelf.{IsNumbered}
-use Rattle.node_defs.specs.declared.items.Item.{Item}
-use Rattle.node_defs.specs.declared.items.Item.TheVariants.{Input, BlockBit, Node, Latch}
 use Rattle.node_defs.specs.declared.items.NodeNet.{NodeNet}
 use Rattle.node_defs.specs.WellFormed.{IsWellFormed}
-use Rattle.image_defs.specs.declared.image.Task.{Task}
-use Rattle.image_defs.specs.declared.image.Task.TheVariants.{Eval, Hold}
-use Rattle.image_defs.specs.declared.image.OutBit.{OutBit}
-use Rattle.image_defs.specs.declared.image.PortImage.{PortImage}
-use Rattle.image_match.specs.Matches.{claims_of}
 use Rattle.plan_defs.specs.declared.plan.Homes.{Homes}
 use Rattle.plan_defs.specs.declared.plan.Plan.{Plan}
-use Rattle.plan_defs.specs.declared.switch.PortLinks.{PortLinks}
-use Rattle.plan_defs.specs.declared.switch.Switch.{Switch}
-use Rattle.plan_defs.specs.Homes.{AreHomes, block_home, ports_of}
-use Rattle.plan_defs.specs.Lists.{ListsBelow}
-use Rattle.plan_defs.specs.Slots.{slot_of, IsFirstFitPlan}
-use Rattle.image_build.specs.declared.memories.Memories.{Memories}
-use Rattle.switch_set.specs.Links.{IsSlotList}
-use Rattle.image_build.specs.PortItems.{IsAt}
-use Rattle.image_build.specs.Built.{ArePortMemories, AreInOrderOfUse, AreLinksOf}
-use Rattle.image_build.specs.Layouts.{AreTasks, IsWorkFor}
+use Rattle.plan_defs.specs.Homes.{AreHomes}
+use Rattle.plan_defs.specs.Slots.{IsFirstFitPlan}
 
 -- well-formed items at their homes, in their first-fit plan
 pub record IsPlanned (nodes : NodeNet) (homes : Homes) (plan : Plan) : Type 0 where
@@ -31,59 +14,3 @@ pub record IsPlanned (nodes : NodeNet) (homes : Homes) (plan : Plan) : Type 0 wh
   pub housed : AreHomes nodes homes
   pub first_fit : IsFirstFitPlan nodes homes plan
   pub few : plan.needed ≤ MAX_SLOTS
-
--- the lists of the ports have these items, each in slot order
-pub record AreItemsAmong (nodes : NodeNet) (homes : Homes) (slots done : List ℕ) (lists : List (List ℕ)) : Type 0 where
-  pub ports : length lists ≡ ports_of homes
-  pub items : (p : ℕ) → IsSlotList (slot_of slots) (λ i x. x ≡ i) (λ i. IsAt nodes homes p i × Contains done i) (claims_of lists p)
-
--- the item is an input, or a memory output
-abbrev pub IsInputItem : Item → Type 0
-IsInputItem (Input column) = Unit {0}
-IsInputItem (BlockBit m bit) = ⊥
-IsInputItem (Node t feeds) = ⊥
-IsInputItem (Latch op) = ⊥
-
-abbrev pub IsBitItem : Item → Type 0
-IsBitItem (Input column) = ⊥
-IsBitItem (BlockBit m bit) = Unit {0}
-IsBitItem (Node t feeds) = ⊥
-IsBitItem (Latch op) = ⊥
-
--- the output bit is that of the item, by the place of its memory
-abbrev pub IsBitAt : List ℕ → List ℕ → ℕ → Item → OutBit → Type 0
-IsBitAt slots places x (BlockBit m bit) out = out ≡ record { slot = slot_of slots x; block = slice_index places m; bit = bit }
-IsBitAt slots places x (Input column) out = ⊥
-IsBitAt slots places x (Node t feeds) out = ⊥
-IsBitAt slots places x (Latch op) out = ⊥
-
--- a task's table is one of the old ones, or the next
-abbrev pub Shelves : List Table → List Table → Task → Type 0
-Shelves old new (Eval slot n a b c d) = (table : Table) × IsNumbered table old new n
-Shelves old new (Hold slot from) = new ≡ old
-
--- the tasks of the first so many items, and their tables
-pub record AreFirstTasks (nodes : NodeNet) (homes : Homes) (slots : List ℕ) (p k : ℕ) (items : List ℕ) (tables : List Table) (tasks : List Task) : Type 0 where
-  pub tasks_are : AreTasks nodes homes slots p (take k items) tables tasks
-  pub in_order : AreInOrderOfUse tables tasks
-  pub few : length tables ≤ k
-
--- the memories of each port in their order, and for each memory its place among those of its port
-pub record AreMemories (nodes : NodeNet) (homes : Homes) (memories : Memories) : Type 0 where
-  pub ports : length memories.lists ≡ ports_of homes
-  pub lists : (p : ℕ) → p < ports_of homes → ArePortMemories nodes homes p (claims_of memories.lists p)
-  pub places_are : length memories.places ≡ length nodes.blocks
-  pub places : (m k : ℕ) → slice_get memories.places m ≡ Some k → slice_get (claims_of memories.lists (block_home homes m)) k ≡ Some m
-
--- the same of the first n memories
-pub record AreFirstMemories (nodes : NodeNet) (homes : Homes) (n : ℕ) (memories : Memories) : Type 0 where
-  pub ports : length memories.lists ≡ ports_of homes
-  pub lists : (p : ℕ) → ListsBelow (λ m. block_home homes m ≡ p) n (claims_of memories.lists p)
-  pub places_are : length memories.places ≡ n
-  pub places : (m k : ℕ) → slice_get memories.places m ≡ Some k → slice_get (claims_of memories.lists (block_home homes m)) k ≡ Some m
-
--- the first n ports do the work for their items, with their links
-pub record AreFirstPorts (nodes : NodeNet) (homes : Homes) (plan : Plan) (switch : Switch) (claims : List (List ℕ)) (n : ℕ) (ports : List PortImage) : Type 0 where
-  pub are : length ports ≡ n
-  pub works : (p : ℕ) (port : PortImage) → slice_get ports p ≡ Some port → IsWorkFor nodes homes plan.slots p (claims_of claims p) port.work
-  pub links : (p : ℕ) (port : PortImage) (links : PortLinks) → slice_get ports p ≡ Some port → slice_get switch.ports p ≡ Some links → AreLinksOf links port

@@ -7,8 +7,9 @@ ghost use Rattle.node_defs.specs.declared.items.Item.TheVariants.{BlockBit};
 ghost use Rattle.node_defs.specs.Takes.{BlockTakes};
 ghost use Rattle.image_build.specs.PortItems.{ArePortItems};
 ghost use Rattle.image_build.specs.Built.{ArePortMemories};
-ghost use Rattle.image_build.specs.Layouts.{block_for, AreBlocks, AreBits, IsWorkFor};
-ghost use Rattle.image_build.specs.Plans.{IsPlanned, AreMemories, IsBitItem, IsBitAt};
+ghost use Rattle.image_build.specs.code.Layouts.{block_for, AreBlocks, AreBits, IsWorkFor};
+ghost use Rattle.image_build.specs.Plans.{IsPlanned};
+ghost use Rattle.image_build.specs.code.Plans.{AreMemories, IsBitItem, IsBitAt};
 
 use crate::memories::Memories;
 use crate::sources::{source_of, sources_of};

@@ -12,8 +12,9 @@ ghost use Rattle.plan_defs.specs.Slots.{IsFirstFitPlan};
 ghost use Rattle.plan_defs.specs.Switches.{IsSwitch};
 ghost use Rattle.image_build.specs.PortItems.{ArePortItems, ArePlanClaims};
 ghost use Rattle.image_build.specs.Built.{AreLinksOf, IsBuilt, GivesItems};
-ghost use Rattle.image_build.specs.Layouts.{IsWorkFor, IsLaidOut};
-ghost use Rattle.image_build.specs.Plans.{IsPlanned, AreMemories, AreFirstPorts};
+ghost use Rattle.image_build.specs.code.Layouts.{IsWorkFor, IsLaidOut};
+ghost use Rattle.image_build.specs.Plans.{IsPlanned};
+ghost use Rattle.image_build.specs.code.Plans.{AreMemories, AreFirstPorts};
 
 use crate::array::array_work;
 use crate::host::{column_count, host_work};

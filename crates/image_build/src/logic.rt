@@ -4,8 +4,9 @@ ghost use Rattle.std.specs.Prelude.{◌≡◌, ◌<◌, ◌-◌, ◌^◌, ℕ, I
 ghost use Rattle.node_defs.specs.Takes.{Takes};
 ghost use Rattle.node_defs.specs.WellFormed.{IsComputed, NamesParts};
 ghost use Rattle.image_build.specs.PortItems.{ArePortItems};
-ghost use Rattle.image_build.specs.Layouts.{IsTaskFor, IsWorkFor};
-ghost use Rattle.image_build.specs.Plans.{IsPlanned, Shelves};
+ghost use Rattle.image_build.specs.code.Layouts.{IsTaskFor, IsWorkFor};
+ghost use Rattle.image_build.specs.Plans.{IsPlanned};
+ghost use Rattle.image_build.specs.code.Plans.{Shelves};
 
 use crate::sources::{feed_source, source_of};
 use func_table::Shelf;

@@ -1,7 +1,7 @@
 //! Where a port takes values from.
 
 ghost use Rattle.std.specs.Prelude.{◌≡◌, ◌<◌, ℕ, Contains, IfOk, length, map};
-ghost use Rattle.image_build.specs.Layouts.{source_of as taken_from, feed_source as fed_from};
+ghost use Rattle.image_build.specs.code.Layouts.{source_of as taken_from, feed_source as fed_from};
 ghost use Rattle.node_defs.specs.Takes.{FeedTakes};
 ghost use Rattle.image_match.specs.Matches.{is_last as is_of_last};
 

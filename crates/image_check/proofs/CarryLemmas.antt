@@ -13,7 +13,7 @@ use Rattle.image_match.specs.Matches.{CarryAll, MemoryImplements}
 use Rattle.image_check.specs.declared.claims.OnePort.{OnePort}
 use Rattle.image_check.specs.declared.nodes.Operands.{Operands}
 use Rattle.image_check.specs.Claimed.{lists_of}
-use Rattle.image_check.specs.OnePorts.{CarriesAt, CarryFour}
+use Rattle.image_check.specs.code.OnePorts.{CarriesAt, CarryFour}
 
 -- the first n sources carry the first n items
 abbrev pub CarryBelow : OnePort → List Source → List ℕ → ℕ → Type 0

@@ -12,8 +12,8 @@ use Rattle.image_check.specs.declared.file.PortClaims.{PortClaims}
 use Rattle.image_check.specs.declared.file.Claims.{Claims}
 use Rattle.image_check.specs.declared.shapes.Shape.{Shape}
 use Rattle.image_check.specs.Claimed.{lists_of}
-use Rattle.image_check.specs.OnePorts.{AreLaidOut, ClaimedIn}
-use Rattle.image_check.specs.Shapes.{IsShapeOf, IsRising}
+use Rattle.image_check.specs.code.OnePorts.{AreLaidOut, ClaimedIn}
+use Rattle.image_check.specs.code.Shapes.{IsShapeOf, IsRising}
 use Rattle.image_check.proofs.SearchLemmas.{one_place}
 
 -- the claims of a port

@@ -14,8 +14,8 @@ use Rattle.image_check.specs.declared.file.PortClaims.{PortClaims}
 use Rattle.image_check.specs.declared.file.ImageFile.{ImageFile}
 use Rattle.image_check.specs.declared.claims.OnePort.{OnePort}
 use Rattle.image_check.specs.Claimed.{lists_of, HasClaims, HasTiming, PlaceMatches, ColumnMatches}
-use Rattle.image_check.specs.Differences.{IsFirstOther, IsFirstSlot}
-use Rattle.image_check.specs.OnePorts.{IsOnePort}
+use Rattle.image_check.specs.code.Differences.{IsFirstOther, IsFirstSlot}
+use Rattle.image_check.specs.code.OnePorts.{IsOnePort}
 use Rattle.image_check.proofs.ClaimLemmas.{claims_there}
 use Rattle.image_check.proofs.SearchLemmas.{rises_far}
 

@@ -11,8 +11,8 @@ use Rattle.image_defs.specs.declared.image.PortImage.{PortImage}
 use Rattle.image_defs.specs.declared.image.Image.{Image}
 use Rattle.image_defs.specs.Places.{Each, Stands, item_slots, in_slots, out_slots}
 use Rattle.image_defs.specs.WellFormed.{IsLinkOut}
-use Rattle.image_check.specs.Links.{SendsTo, IsReader, link_in}
-use Rattle.image_check.specs.Shapes.{IsRising}
+use Rattle.image_check.specs.code.Links.{SendsTo, IsReader, link_in}
+use Rattle.image_check.specs.code.Shapes.{IsRising}
 use Rattle.image_check.proofs.SearchLemmas.{one_place}
 
 -- the slot of a member of a list

@@ -6,8 +6,8 @@ use Rattle.image_defs.specs.declared.image.PortImage.{PortImage}
 use Rattle.image_defs.specs.declared.image.Image.{Image}
 use Rattle.image_defs.specs.Places.{Each, IsPort, item_slots, in_slots}
 use Rattle.image_defs.specs.WellFormed.{IsWork, IsLinkOut, IsLinkIn, IsPortImage, IsWellFormed}
-use Rattle.image_check.specs.Forms.{HasNumbers, IsHostLast}
-use Rattle.image_check.specs.Shapes.{IsRising, AreRising}
+use Rattle.image_check.specs.code.Forms.{HasNumbers, IsHostLast}
+use Rattle.image_check.specs.code.Shapes.{IsRising, AreRising}
 
 -- a port whose other parts are right is right where its links in are
 pub port_by_links : (image : Image) (p : ℕ) (port : PortImage) (items ins : List ℕ) (outs : List LinkOut) (links : List LinkIn) (r : Bool) → items ≡ item_slots port.work → ins ≡ in_slots port.ins → outs ≡ port.outs → links ≡ port.ins → IsRising port

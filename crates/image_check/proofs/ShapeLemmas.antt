@@ -4,7 +4,7 @@ use Rattle.std.proofs.lemmas.List.{length_push}
 use Rattle.list_laws.proofs.Places.{one_there}
 use Rattle.image_defs.specs.declared.image.PortImage.{PortImage}
 use Rattle.image_check.specs.declared.shapes.Shape.{Shape}
-use Rattle.image_check.specs.Shapes.{IsShapeOf, AreShapesOf}
+use Rattle.image_check.specs.code.Shapes.{IsShapeOf, AreShapesOf}
 use Rattle.image_check.proofs.EachLemmas.{each_pushed, indexed}
 
 -- the slots of the first n ports

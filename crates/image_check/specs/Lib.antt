@@ -1,8 +1,3 @@
 pub mod Check
 pub mod Claimed
-pub mod Differences
-pub mod Forms
-pub mod Links
-pub mod Memories
-pub mod OnePorts
-pub mod Shapes
+pub mod code

@@ -5,7 +5,7 @@ ghost use Rattle.image_defs.specs.WellFormed.{IsWellFormed};
 ghost use Rattle.image_match.specs.Matches.{Matches};
 ghost use Rattle.image_check.specs.Check.{Says, IsOkOrMemory};
 ghost use Rattle.image_check.specs.Claimed.{lists_of, HasClaims, HasTiming, PlaceMatches};
-ghost use Rattle.image_check.specs.Shapes.{AreShapesOf};
+ghost use Rattle.image_check.specs.code.Shapes.{AreShapesOf};
 
 use crate::file::ImageFile;
 use crate::places::{first_column, first_place};

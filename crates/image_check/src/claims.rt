@@ -7,7 +7,7 @@ ghost use Rattle.image_defs.specs.Places.{sender_in};
 ghost use Rattle.image_match.specs.Matches.{IsClaim, CarryAll};
 ghost use Rattle.image_match.specs.Matches.{is_last as is_of_last};
 ghost use Rattle.image_check.specs.Claimed.{lists_of};
-ghost use Rattle.image_check.specs.OnePorts.{IsOnePort, ClaimedIn, ClaimsAt, CarriesAt};
+ghost use Rattle.image_check.specs.code.OnePorts.{IsOnePort, ClaimedIn, ClaimsAt, CarriesAt};
 ghost use Rattle.node_defs.specs.declared.items.Tag.TheVariants.{Last};
 
 use crate::file::{Claims, ImageFile};

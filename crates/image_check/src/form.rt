@@ -4,8 +4,8 @@ ghost use Rattle.std.specs.Prelude.{◌↔◌, ◌<◌, IsTrue};
 ghost use Rattle.std.specs.List.Sorted.{IsStrictlyIncreasing};
 ghost use Rattle.image_defs.specs.Places.{Each};
 ghost use Rattle.image_defs.specs.WellFormed.{IsHost};
-ghost use Rattle.image_check.specs.Forms.{HasNumbers, IsHostLast};
-ghost use Rattle.image_check.specs.Shapes.{IsShapeOf, AreShapesOf, IsRising, AreRising};
+ghost use Rattle.image_check.specs.code.Forms.{HasNumbers, IsHostLast};
+ghost use Rattle.image_check.specs.code.Shapes.{IsShapeOf, AreShapesOf, IsRising, AreRising};
 
 use crate::search::rises;
 use crate::shapes::Shape;

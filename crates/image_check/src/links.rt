@@ -5,8 +5,8 @@ ghost use Rattle.std.specs.List.Sorted.{IsStrictlyIncreasing};
 ghost use Rattle.image_defs.specs.declared.image.LinkOut.{LinkOut};
 ghost use Rattle.image_defs.specs.Places.{Each, Stands};
 ghost use Rattle.image_defs.specs.WellFormed.{IsLinkIn, IsLinkOut};
-ghost use Rattle.image_check.specs.Links.{SendsTo, IsReader, link_in};
-ghost use Rattle.image_check.specs.Shapes.{IsShapeOf, AreShapesOf, IsRising, AreRising};
+ghost use Rattle.image_check.specs.code.Links.{SendsTo, IsReader, link_in};
+ghost use Rattle.image_check.specs.code.Shapes.{IsShapeOf, AreShapesOf, IsRising, AreRising};
 
 use crate::search::{place_of, stands};
 use crate::shapes::Shape;

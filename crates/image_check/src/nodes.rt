@@ -8,8 +8,8 @@ ghost use Rattle.func_table.specs.Entries.{AreAlike};
 ghost use Rattle.image_defs.specs.Places.{blocks_of};
 ghost use Rattle.image_match.specs.Matches.{Implements, ImplementsClaim, TaskImplements, InputImplements};
 ghost use Rattle.image_check.specs.Claimed.{lists_of};
-ghost use Rattle.image_check.specs.Memories.{AreSameMemories};
-ghost use Rattle.image_check.specs.OnePorts.{IsOnePort, IsLike, AreSame, CarryFour};
+ghost use Rattle.image_check.specs.code.Memories.{AreSameMemories};
+ghost use Rattle.image_check.specs.code.OnePorts.{IsOnePort, IsLike, AreSame, CarryFour};
 
 use crate::claims::{OnePort, carries, carries_item};
 use crate::memories::{Pair, bit_implements};

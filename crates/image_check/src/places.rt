@@ -5,8 +5,8 @@ ghost use Rattle.limits.specs.declared.TheConstants.{MAX_PORTS};
 ghost use Rattle.image_defs.specs.Places.{IsPort, item_slots};
 ghost use Rattle.image_match.specs.Matches.{claims_of};
 ghost use Rattle.image_check.specs.Claimed.{lists_of, HasClaims, PlaceMatches, ColumnMatches, IsFirstPlace, IsFirstColumn};
-ghost use Rattle.image_check.specs.Differences.{AllAsClaimed, IsFirstOther, IsFirstSlot, PrintsAt, IsFirstUnprinted, PrintsAsMany};
-ghost use Rattle.image_check.specs.OnePorts.{IsOnePort, AreLaidOut};
+ghost use Rattle.image_check.specs.code.Differences.{AllAsClaimed, IsFirstOther, IsFirstSlot, PrintsAt, IsFirstUnprinted, PrintsAsMany};
+ghost use Rattle.image_check.specs.code.OnePorts.{IsOnePort, AreLaidOut};
 
 use crate::claims::{OnePort, carries_item};
 use crate::file::ImageFile;

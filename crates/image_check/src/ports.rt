@@ -5,7 +5,7 @@ ghost use Rattle.limits.specs.declared.TheConstants.{MAX_PORTS};
 ghost use Rattle.image_defs.specs.declared.image.PortImage.{PortImage};
 ghost use Rattle.image_defs.specs.Places.{IsPort};
 ghost use Rattle.image_defs.specs.WellFormed.{IsPortImage, IsWellFormed};
-ghost use Rattle.image_check.specs.Shapes.{IsShapeOf, AreShapesOf, IsRising, AreRising};
+ghost use Rattle.image_check.specs.code.Shapes.{IsShapeOf, AreShapesOf, IsRising, AreRising};
 
 use crate::form::{all_below, all_rise, has_numbers, is_host_last};
 use crate::links::{are_links_in, are_links_out};

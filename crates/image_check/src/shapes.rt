@@ -2,7 +2,7 @@
 
 ghost use Rattle.std.specs.Prelude.{◌≡◌, IfOk, map};
 ghost use Rattle.image_defs.specs.Places.{item_slots, in_slots, out_slots, task_slot};
-ghost use Rattle.image_check.specs.Shapes.{IsShapeOf, AreShapesOf};
+ghost use Rattle.image_check.specs.code.Shapes.{IsShapeOf, AreShapesOf};
 
 use image_defs::{InColumn, LinkIn, LinkOut, OutBit, PortImage, Task, Work};
 use seen_list::{List, Memory};

@@ -3,7 +3,7 @@
 ghost use Rattle.std.specs.Prelude.{◌≡◌, ◌↔◌, IsTrue};
 ghost use Rattle.image_defs.specs.Places.{Each};
 ghost use Rattle.image_defs.specs.WellFormed.{IsThere, IsBefore, IsOfLast, IsOperand, IsPast, IsPresent};
-ghost use Rattle.image_check.specs.Shapes.{IsShapeOf, IsRising};
+ghost use Rattle.image_check.specs.code.Shapes.{IsShapeOf, IsRising};
 
 use crate::search::stands;
 use crate::shapes::Shape;

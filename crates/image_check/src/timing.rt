@@ -5,7 +5,7 @@ ghost use Rattle.image_defs.specs.Places.{printed_of};
 ghost use Rattle.node_defs.specs.WellFormed.{is_input};
 ghost use Rattle.node_defs.specs.WellFormed.{column_count as columns_of};
 ghost use Rattle.image_check.specs.Claimed.{HasTiming};
-ghost use Rattle.image_check.specs.Differences.{PrintsAsMany};
+ghost use Rattle.image_check.specs.code.Differences.{PrintsAsMany};
 
 use image_defs::{Image, Source, Work};
 use net_defs::Timing;

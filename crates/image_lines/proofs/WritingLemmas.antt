@@ -10,7 +10,8 @@ use Rattle.image_defs.specs.declared.image.Source.{Source}
 use Rattle.image_defs.specs.declared.image.Task.TheVariants.{Eval, Hold}
 use Rattle.image_lines.specs.declared.line.Line.TheVariants as line
 use Rattle.net_defs.specs.declared.timing.Init.{Init}
-use Rattle.image_lines.specs.Words.{hex_digit, hex_digits, source_word, init_word, spaced, line_text, line_bytes, line_words}
+use Rattle.image_lines.specs.Words.{hex_digit, hex_digits, source_word, init_word, line_text, line_bytes, line_words}
+use Rattle.image_lines.specs.code.Words.{spaced}
 use Rattle.image_lines.proofs.HexLemmas.{digits_suc}
 
 -- the tokens behind the first, each with its space

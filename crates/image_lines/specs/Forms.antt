@@ -163,13 +163,6 @@ form word.Send = send
 form word.Take = receipt
 form word.End = just End
 
--- its lines have a fixed number of tokens
-abbrev pub IsShort : Word → Type 0
-IsShort word.Table = ⊥
-IsShort word.Send = ⊥
-IsShort word.Block = ⊥
-IsShort other = Unit {0}
-
 abbrev pub form_behind : List (List ℕ) → Option Word → Option (Line × Left)
 form_behind rest None = None
 form_behind rest (Some word) = form word (rest, false)

@@ -1,3 +1,4 @@
+pub mod code
 pub mod Forms
 pub mod Ranges
 pub mod Tokens

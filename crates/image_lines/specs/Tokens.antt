@@ -1,8 +1,7 @@
 -- How tokens are read. Beside the value of a token stands whether a number in it is too large.
-use Rattle.std.specs.Prelude.{◌≡◌, ℕ, ◌+◌, ◌-◌, ◌*◌, ◌^◌, ◌==◌, ◌&&◌, ◌||◌, Bool, true, false, List, [], ◌∷◌, length, slice_index, min, codes, nat_lt, nat_le, Option, Some, None, MatchOption, if◌then◌else◌, bytes_eq}
+use Rattle.std.specs.Prelude.{ℕ, ◌+◌, ◌-◌, ◌*◌, ◌^◌, ◌==◌, ◌&&◌, ◌||◌, Bool, true, false, List, [], ◌∷◌, length, slice_index, min, codes, nat_lt, nat_le, Option, Some, None, if◌then◌else◌, bytes_eq}
 use Rattle.std.specs.List.{fold, list_all, slice_split}
 use Rattle.std.specs.Option.{option_map, option_and_then}
-use Rattle.std.specs.Borrow.{Bor}
 use Rattle.std.specs.Char.{is_ascii_digit}
 use Rattle.text_lines.specs.Numbers.{number_of}
 use Rattle.logic_four.specs.declared.V4.{V4}
@@ -20,11 +19,6 @@ is_space byte = byte == 32
 -- the tokens of a line: what stands between its spaces
 abbrev pub tokens_of : List ℕ → List (List ℕ)
 tokens_of line = slice_split is_space line
-
--- the tokens of what is left of a line
-abbrev pub left_tokens : Option (Bor (List ℕ)) → List (List ℕ)
-left_tokens None = []
-left_tokens (Some text) = tokens_of text.now
 
 -- the decimal number that a token is, of any size, without leading zeros
 unfoldable pub plain_number : List ℕ → Option ℕ
@@ -135,12 +129,3 @@ in_front x read = (x ∷ read.0, read.1)
 unfoldable pub all_of : {X : Type 0} → (List ℕ → Option (X × Bool)) → List (List ℕ) → Bool → Option (List X × Bool)
 all_of read [] large = Some ([], large)
 all_of read (token ∷ rest) large = option_and_then (λ x. option_map (in_front x.0) (all_of read rest (large || x.1))) (read token)
-
--- a reader gave this, and left this
-abbrev pub Gives : {X : Type 0} → Option (X × Left) → Option X → Left → Type 0
-Gives wanted result left = MatchOption result (wanted ≡ None) (λ x. wanted ≡ Some (x, left))
-
--- the tokens that were left gave this, and none is left
-abbrev pub AllGiven : {X : Type 0} → Option (List X × Bool) → Option (List X) → Left → Type 0
-AllGiven wanted result left =
-    MatchOption result (wanted ≡ None) (λ xs. (wanted ≡ Some (xs, left.1)) × (left.0 ≡ []))

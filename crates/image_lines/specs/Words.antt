@@ -71,10 +71,6 @@ line_words (Send link) = codes "send" ∷ decimal link.slot ∷ map decimal link
 line_words (Take link) = codes "take" ∷ decimal link.slot ∷ decimal link.sender ∷ []
 line_words End = codes "end" ∷ []
 
--- a token with the space before it
-unfoldable pub spaced : List ℕ → List ℕ
-spaced word = 32 ∷ word
-
 -- the line: its tokens with one space between
 unfoldable pub line_bytes : Line → List ℕ
 line_bytes line = join_with_byte 32 (line_words line)

@@ -2,7 +2,8 @@
 
 ghost use Rattle.std.specs.Prelude.{◌≡◌, ◌∷◌, [], false, MatchOption, ℕ};
 ghost use Rattle.std.specs.Prelude.{◌||◌};
-ghost use Rattle.image_lines.specs.Tokens.{left_tokens, Gives, behind, field, tokens_of, number_token, source_token, init_token, kind_token};
+ghost use Rattle.image_lines.specs.Tokens.{behind, field, tokens_of, number_token, source_token, init_token, kind_token};
+ghost use Rattle.image_lines.specs.code.Tokens.{left_tokens, Gives};
 ghost use Rattle.image_lines.specs.Forms.{number, numbers, sources, feeds, times, counts, init};
 
 use crate::line::PortKind;
@@ -22,7 +23,8 @@ pub(crate) struct Fields<'a> {
 
 impl<'a> Model for Fields<'a> {
     ghost use Rattle.std.specs.Prelude.{List as Items, ℕ, Bool};
-    ghost use Rattle.image_lines.specs.Tokens.{Left, left_tokens};
+    ghost use Rattle.image_lines.specs.Tokens.{Left};
+    ghost use Rattle.image_lines.specs.code.Tokens.{left_tokens};
 
     ghost Value = { Left };
 

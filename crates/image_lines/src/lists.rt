@@ -1,7 +1,8 @@
 //! All tokens that are left of a line.
 
 ghost use Rattle.std.specs.Prelude.{◌≡◌, ℕ, Some, None, [], IfOk, MatchOption};
-ghost use Rattle.image_lines.specs.Tokens.{AllGiven, all_of, number_token, source_token, hex_token, Gives};
+ghost use Rattle.image_lines.specs.Tokens.{all_of, number_token, source_token, hex_token};
+ghost use Rattle.image_lines.specs.code.Tokens.{AllGiven, Gives};
 ghost use Rattle.image_lines.specs.Forms.{send, send_of, table, table_of, block, block_of};
 
 use crate::fields::Fields;

@@ -2,7 +2,8 @@
 
 ghost use Rattle.std.specs.Prelude.{◌≡◌, ◌∷◌, ◌++◌, ℕ, [], codes, decimal, map, OnOk, ◌<◌};
 ghost use Rattle.std.specs.List.{flat_map};
-ghost use Rattle.image_lines.specs.Words.{hex_digit, hex_digits, source_word, init_word, kind_word, spaced, line_text, line_bytes, line_words};
+ghost use Rattle.image_lines.specs.Words.{hex_digit, hex_digits, source_word, init_word, kind_word, line_text, line_bytes, line_words};
+ghost use Rattle.image_lines.specs.code.Words.{spaced};
 ghost use Rattle.image_lines.specs.declared.line.Line.TheVariants as line;
 
 use crate::line::PortKind;
@@ -14,7 +15,7 @@ use net_defs::Init;
 use seen_list::{Memory, Text};
 
 /// Adds a space and a number.
-#[tactic(auto, unfolding(crate::specs::Words::spaced))]
+#[tactic(auto, unfolding(crate::specs::code::Words::spaced))]
 fn push_number(text: &mut Text, n: u32) -> Result<(), Memory>
     ensures { OnOk result (text.new ≡ text.old ++ spaced (decimal n)) }
 {
@@ -24,7 +25,7 @@ fn push_number(text: &mut Text, n: u32) -> Result<(), Memory>
 }
 
 /// Adds a space and a source.
-#[tactic(auto, unfolding(crate::specs::Words::spaced, crate::specs::Words::source_word))]
+#[tactic(auto, unfolding(crate::specs::code::Words::spaced, crate::specs::Words::source_word))]
 fn push_source(text: &mut Text, source: &Source) -> Result<(), Memory>
     ensures { OnOk result (text.new ≡ text.old ++ spaced (source_word source.now)) }
 {
@@ -50,7 +51,7 @@ fn push_place(text: &mut Text, mark: &[u8], slot: u32) -> Result<(), Memory>
 }
 
 /// Adds a space and a word of a table.
-#[tactic(auto, unfolding(crate::specs::Words::spaced))]
+#[tactic(auto, unfolding(crate::specs::code::Words::spaced))]
 fn push_hex(text: &mut Text, word: u64) -> Result<(), Memory>
     ensures { OnOk result (text.new ≡ text.old ++ spaced (hex_digits 16 word)) }
 {
@@ -124,7 +125,7 @@ fn push_times(text: &mut Text, slots: u32, units: u32, init: Init) -> Result<(),
 }
 
 /// Adds a space and a count.
-#[tactic(auto, unfolding(crate::specs::Words::spaced))]
+#[tactic(auto, unfolding(crate::specs::code::Words::spaced))]
 fn push_count(text: &mut Text, n: usize) -> Result<(), Memory>
     ensures { OnOk result (text.new ≡ text.old ++ spaced (decimal n)) }
 {
@@ -133,7 +134,7 @@ fn push_count(text: &mut Text, n: usize) -> Result<(), Memory>
     text.push_bytes(buffer.format(n).as_bytes())
 }
 
-#[tactic(auto, unfolding(crate::specs::Words::init_word, crate::specs::Words::spaced))]
+#[tactic(auto, unfolding(crate::specs::Words::init_word, crate::specs::code::Words::spaced))]
 fn push_init(text: &mut Text, init: Init) -> Result<(), Memory>
     ensures { OnOk result (text.new ≡ text.old ++ spaced (init_word init)) }
 {
@@ -215,7 +216,7 @@ fn push_item(text: &mut Text, item: u32) -> Result<(), Memory>
 }
 
 /// Adds the line of an output bit, and of the item that it claims.
-#[tactic(auto, unfolding(crate::specs::Words::line_bytes, crate::specs::Words::line_words, crate::specs::Words::spaced))]
+#[tactic(auto, unfolding(crate::specs::Words::line_bytes, crate::specs::Words::line_words, crate::specs::code::Words::spaced))]
 pub fn push_bit(text: &mut Text, bit: &OutBit, item: u32) -> Result<(), Memory>
     ensures { OnOk result (text.new ≡ text.old ++ line_text (line.Bit bit.now item)) }
 {
@@ -228,7 +229,7 @@ pub fn push_bit(text: &mut Text, bit: &OutBit, item: u32) -> Result<(), Memory>
 }
 
 /// Adds the line of an input, and of the item that it claims.
-#[tactic(auto, unfolding(crate::specs::Words::line_bytes, crate::specs::Words::line_words, crate::specs::Words::spaced))]
+#[tactic(auto, unfolding(crate::specs::Words::line_bytes, crate::specs::Words::line_words, crate::specs::code::Words::spaced))]
 pub fn push_input(text: &mut Text, input: &InColumn, item: u32) -> Result<(), Memory>
     ensures { OnOk result (text.new ≡ text.old ++ line_text (line.Input input.now item)) }
 {
@@ -240,7 +241,7 @@ pub fn push_input(text: &mut Text, input: &InColumn, item: u32) -> Result<(), Me
 }
 
 /// Adds the line of a printed source.
-#[tactic(auto, unfolding(crate::specs::Words::line_bytes, crate::specs::Words::line_words, crate::specs::Words::spaced))]
+#[tactic(auto, unfolding(crate::specs::Words::line_bytes, crate::specs::Words::line_words, crate::specs::code::Words::spaced))]
 pub fn push_print(text: &mut Text, source: &Source) -> Result<(), Memory>
     ensures { OnOk result (text.new ≡ text.old ++ line_text (line.Print source.now)) }
 {
@@ -293,7 +294,7 @@ fn push_numbers(text: &mut Text, numbers: &[u32]) -> Result<(), Memory>
 }
 
 /// Adds the line of a link in.
-#[tactic(auto, unfolding(crate::specs::Words::line_bytes, crate::specs::Words::line_words, crate::specs::Words::spaced))]
+#[tactic(auto, unfolding(crate::specs::Words::line_bytes, crate::specs::Words::line_words, crate::specs::code::Words::spaced))]
 pub fn push_take(text: &mut Text, link: &LinkIn) -> Result<(), Memory>
     ensures { OnOk result (text.new ≡ text.old ++ line_text (line.Take link.now)) }
 {

@@ -7,7 +7,8 @@ use Rattle.std.proofs.lemmas.List.Sums.{sum_by-append}
 use Rattle.logic_four.specs.declared.V4.{V4}
 use Rattle.logic_four.specs.declared.V4.TheVariants.{Zero, One, Undef, HighZ}
 use Rattle.large_gen.specs.declared.summary.CellCounts.{CellCounts}
-use Rattle.large_gen.specs.Summaries.{is_zero, is_one, is_undefined, is_high_impedance, counts_of, with_cell}
+use Rattle.large_gen.specs.Summaries.{is_zero, is_one, is_undefined, is_high_impedance, counts_of}
+use Rattle.large_gen.specs.code.Summaries.{with_cell}
 
 abbrev pub total : CellCounts → ℕ
 total counts = counts.zeros + counts.ones + counts.xs + counts.zs

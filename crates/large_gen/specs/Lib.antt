@@ -1,3 +1,4 @@
+pub mod code
 pub mod Draws
 pub mod Large
 pub mod Summaries

@@ -1,5 +1,5 @@
 -- The summary of a run of a large design.
-use Rattle.std.specs.Prelude.{ℕ, ◌+◌, Bool, true, false, List, ◌++◌, count_by, codes, decimal}
+use Rattle.std.specs.Prelude.{ℕ, Bool, true, false, List, ◌++◌, count_by, codes, decimal}
 use Rattle.logic_four.specs.declared.V4.{V4}
 use Rattle.logic_four.specs.declared.V4.TheVariants.{Zero, One, Undef, HighZ}
 use Rattle.large_gen.specs.declared.summary.CellCounts.{CellCounts}
@@ -32,13 +32,6 @@ is_high_impedance HighZ = true
 -- how many cells have each value
 abbrev pub counts_of : List V4 → CellCounts
 counts_of cells = record { zeros = count_by is_zero cells; ones = count_by is_one cells; xs = count_by is_undefined cells; zs = count_by is_high_impedance cells }
-
--- one cell more
-abbrev pub with_cell : CellCounts → V4 → CellCounts
-with_cell counts Zero = record { zeros = counts.zeros + 1; ones = counts.ones; xs = counts.xs; zs = counts.zs }
-with_cell counts One = record { zeros = counts.zeros; ones = counts.ones + 1; xs = counts.xs; zs = counts.zs }
-with_cell counts Undef = record { zeros = counts.zeros; ones = counts.ones; xs = counts.xs + 1; zs = counts.zs }
-with_cell counts HighZ = record { zeros = counts.zeros; ones = counts.ones; xs = counts.xs; zs = counts.zs + 1 }
 
 -- `gates 2 nodes 2 slots 9 crossings 5`
 unfoldable pub plan_line : Summary → List ℕ

@@ -20,7 +20,7 @@ use Rattle.net_defs.specs.Time.{cycle_count}
 use Rattle.net_defs.specs.Trace.{cells_of}
 use Rattle.port_host.specs.Rows.{printed_sources}
 use Rattle.yse_compile.specs.Compiled.{ShowsReference}
-use Rattle.large_run.specs.Rows.{cells_in}
+use Rattle.large_run.specs.code.Rows.{cells_in}
 use Rattle.large_run.specs.Runs.{cells_to}
 
 -- ---- how many there are

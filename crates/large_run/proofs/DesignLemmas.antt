@@ -28,8 +28,8 @@ use Rattle.port_host.specs.Rows.{printed_sources}
 use Rattle.yse_compile.specs.declared.compiler.Compiled.{Compiled}
 use Rattle.yse_compile.specs.Compiled.{IsCompiled, ShowsReference}
 use Rattle.large_run.specs.declared.design.Design.{Design}
-use Rattle.large_run.specs.Designs.{IsDesign}
-use Rattle.large_run.specs.Rows.{cells_in}
+use Rattle.large_run.specs.code.Designs.{IsDesign}
+use Rattle.large_run.specs.code.Rows.{cells_in}
 use Rattle.large_run.specs.Runs.{cells_to, summary_of, IsSummaryOf}
 use Rattle.large_run.proofs.CellLemmas.{cells_few, cells_shown}
 use Rattle.large_run.specs.Setting.{large_machine, large_timing}

@@ -30,7 +30,7 @@ use Rattle.node_defs.specs.Items.{IsItemOf, IsNode}
 use Rattle.node_defs.specs.Order.{AreItems}
 use Rattle.node_defs.proofs.EarlierLemmas.{table_there}
 use Rattle.node_defs.proofs.NameLemmas.{name_at, named_item}
-use Rattle.node_map.specs.Nodes.{node_kind}
+use Rattle.node_map.specs.code.Nodes.{node_kind}
 use Rattle.node_map.proofs.MadeNodeLemmas.{kind_allowed}
 use Rattle.node_map.proofs.ShapeLemmas.{group_few, some_groups}
 use Rattle.plan_defs.specs.declared.plan.Homes.{Homes}

@@ -1,4 +1,3 @@
-pub mod Designs
-pub mod Rows
+pub mod code
 pub mod Runs
 pub mod Setting

@@ -3,7 +3,7 @@
 ghost use Rattle.std.specs.Prelude.{◌≡◌, ◌<◌, ◌^◌, IfOk, length};
 ghost use Rattle.large_gen.specs.Summaries.{counts_of};
 ghost use Rattle.large_gen.specs.Summaries.{summary_text as text_of};
-ghost use Rattle.large_run.specs.Rows.{cells_in};
+ghost use Rattle.large_run.specs.code.Rows.{cells_in};
 
 use large_gen::{CellCounts, Summary, summary_text};
 use net_defs::CellRow;

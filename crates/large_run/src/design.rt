@@ -8,7 +8,7 @@ ghost use Rattle.net_defs.specs.Valid.{IsValid};
 ghost use Rattle.yse_compile.specs.Compiled.{IsCompiled, ShowsReference};
 ghost use Rattle.yse_compile.specs.Designs.{DesignFits};
 ghost use Rattle.yse_compile.specs.declared.compiler.CompNo.TheVariants as no;
-ghost use Rattle.large_run.specs.Designs.{AreFigures, IsDesign};
+ghost use Rattle.large_run.specs.code.Designs.{AreFigures, IsDesign};
 ghost use Rattle.large_run.specs.Setting.{large_machine as machine_is, large_timing as timing_is};
 
 use crate::law::large_fits;

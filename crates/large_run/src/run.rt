@@ -4,7 +4,7 @@ ghost use Rattle.std.specs.Prelude.{◌≡◌, ◌⊎◌, ◌<◌, ◌≤◌, �
 ghost use Rattle.limits.specs.declared.TheConstants.{MAX_LARGE_CYCLES, MAX_LARGE_GATES};
 ghost use Rattle.crew_run.specs.Crews.{CanTell};
 ghost use Rattle.machine_run.specs.Visits.{AreInPlace, AreVisitsOf};
-ghost use Rattle.large_run.specs.Designs.{IsDesign};
+ghost use Rattle.large_run.specs.code.Designs.{IsDesign};
 ghost use Rattle.large_run.specs.Runs.{IsSummaryOf};
 
 use crate::counts::summed_up;

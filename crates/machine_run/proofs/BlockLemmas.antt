@@ -15,7 +15,7 @@ use Rattle.port_run.specs.declared.seated.Seated.{Seated}
 use Rattle.port_walk.specs.Placed.{CanGoOn, block_end}
 use Rattle.machine_run.specs.Crews.{CrewView, at_block_end, in_next_block, rows_at_end, turns_made}
 use Rattle.machine_run.specs.Dealt.{AreDealt, IsSeatOf}
-use Rattle.machine_run.specs.Moves.{AreMoved, HasEnded, HasGoneOn}
+use Rattle.machine_run.specs.code.Moves.{AreMoved, HasEnded, HasGoneOn}
 use Rattle.machine_run.proofs.MoveLemmas.{Leads, dealt_moved}
 
 -- ---- to the end of a block

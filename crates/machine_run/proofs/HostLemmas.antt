@@ -7,7 +7,8 @@ use Rattle.port_host.specs.Rows.{HostView}
 use Rattle.port_run.specs.Pairs.{IsHostOf}
 use Rattle.port_run.specs.declared.seated.Seated.{Seated}
 use Rattle.machine_run.specs.Crews.{CrewView, IsHostOfCrew}
-use Rattle.machine_run.specs.Dealt.{HasPort, IsSeatOf}
+use Rattle.machine_run.specs.Dealt.{IsSeatOf}
+use Rattle.machine_run.specs.code.Dealt.{HasPort}
 use Rattle.machine_run.proofs.CrewLemmas.{rows_before}
 
 module _ {G : Type 0} (crew : CrewView) (ws : List (Worker Seated G)) (has : HasPort crew.workers ws (host_of crew.image) 0) where

@@ -12,7 +12,7 @@ use Rattle.port_walk.specs.Placed.{CanGoOn}
 use Rattle.machine_run.specs.Crews.{CrewView, at_block_end, rows_at_end, turns_left, turns_made}
 use Rattle.machine_run.specs.Dealt.{AreDealt}
 use Rattle.machine_run.specs.Kept.{IsKept, view_of}
-use Rattle.machine_run.specs.Moves.{AreMoved, HasGoneOn}
+use Rattle.machine_run.specs.code.Moves.{AreMoved, HasGoneOn}
 use Rattle.machine_run.specs.Visits.{AllCanTellTurns, AreInPlace, AreVisitsBetween}
 use Rattle.machine_run.specs.declared.crew.Crew.TheInside.{Inside}
 use Rattle.machine_run.proofs.BlockLemmas.{can_go_on, dealt_at_end, dealt_in_next, have_ended}

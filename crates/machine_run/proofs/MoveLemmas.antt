@@ -4,13 +4,14 @@ use Rattle.std.proofs.lemmas.Bool.{cases_eq}
 use Rattle.std.proofs.lemmas.List.{length-set}
 use Rattle.std.proofs.lemmas.Option.{slice_get_within}
 use Rattle.crew_run.proofs.Places.{beside, one_some, set_other, set_same}
-use Rattle.crew_run.specs.Phases.{Each}
+use Rattle.crew_run.specs.code.Phases.{Each}
 use Rattle.crew_run.specs.declared.worker.Worker.{Worker}
 use Rattle.image_defs.specs.Places.{host_of}
 use Rattle.port_run.specs.declared.seated.Seated.{Seated}
 use Rattle.machine_run.specs.Crews.{CrewView}
-use Rattle.machine_run.specs.Dealt.{AreDealt, HasPort, IsMember, IsSeatOf}
-use Rattle.machine_run.specs.Moves.{AreFirst, AreMoved}
+use Rattle.machine_run.specs.Dealt.{AreDealt, IsMember, IsSeatOf}
+use Rattle.machine_run.specs.code.Dealt.{HasPort}
+use Rattle.machine_run.specs.code.Moves.{AreFirst, AreMoved}
 
 module _ {X : Type 0} (R : X → X → Type 0) (xs : List X) where
   pub first_none : AreFirst R 0 xs xs

@@ -9,7 +9,8 @@ use Rattle.net_defs.specs.Valid.{IsValidStimulus}
 use Rattle.port_run.specs.contracts.seated.SeatedStepper.TheImpl as seated
 use Rattle.port_run.specs.declared.seated.Seated.{Seated}
 use Rattle.machine_run.specs.Crews.{CrewView, at_block_end, rows_at_end, turns_left, turns_made}
-use Rattle.machine_run.specs.Dealt.{AreDealt, IsDealtTo}
+use Rattle.machine_run.specs.Dealt.{AreDealt}
+use Rattle.machine_run.specs.code.Dealt.{IsDealtTo}
 use Rattle.machine_run.specs.Visits.{AllCanTellTurns, CanTellTurns}
 use Rattle.machine_run.proofs.CrewLemmas.{made_few, made_more, turns_few}
 

@@ -61,14 +61,6 @@ module _ {S G : Type 0} (port_of : S → ℕ) where
 
 -- ---- the ports of a crew
 
--- what is dealt to worker w of a crew: one of its ports, from this number on
-abbrev pub IsDealtTo : CrewView → ℕ → ℕ → Seated → Type 0
-IsDealtTo crew = IsDealtFrom (λ (s : Seated). s.run.pass.port) (IsSeatOf crew) crew.workers (length crew.image.ports)
-
--- port p is member number k of its worker
-abbrev pub HasPort : {G : Type 0} → ℕ → List (Worker Seated G) → ℕ → ℕ → Type 0
-HasPort {G} n ws p k = HasPortOf (λ (s : Seated). s.run.pass.port) n ws p k
-
 -- the ports of the image from this number on are dealt to the workers, each once; the host is the first member of its
 -- worker
 abbrev pub AreDealt : {G : Type 0} → CrewView → ℕ → List (Worker Seated G) → Type 0

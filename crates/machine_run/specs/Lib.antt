@@ -1,7 +1,7 @@
+pub mod code
 pub mod Crews
 pub mod Dealt
 pub mod Gates
 pub mod Kept
-pub mod Moves
 pub mod Shown
 pub mod Visits

@@ -12,10 +12,6 @@ pub record AreWide (cycles cells : ℕ) (rows : List CellRow) : Type 0 where
   pub cycles_are : length rows ≡ cycles
   pub width : (c : ℕ) (row : CellRow) → slice_get rows c ≡ Some row → length row.cells ≡ cells
 
--- the first n of them have what the image shows
-pub record AreFilled (image : Image) (stimulus : Stimulus) (n : ℕ) (rows : List CellRow) : Type 0 where
-  pub cells : (c j : ℕ) (row : CellRow) → c < n → slice_get rows c ≡ Some row → j < length (printed_sources image) → value_at row.cells j ≡ shown image stimulus (c + 1) j
-
 -- the rows of the first cycles, one for each, with the cells that the image shows
 pub record AreShown (image : Image) (stimulus : Stimulus) (cycles : ℕ) (rows : List CellRow) : Type 0 where
   pub cycles_are : length rows ≡ cycles

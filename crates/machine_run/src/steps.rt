@@ -1,9 +1,9 @@
 //! The ports of a crew on their way to the next block.
 
 ghost use Rattle.std.specs.Prelude.{Some, slice_get, ℕ, ◌≡◌};
-ghost use Rattle.crew_run.specs.Phases.{Each};
+ghost use Rattle.crew_run.specs.code.Phases.{Each};
 ghost use Rattle.crew_run.specs.declared.worker.Worker.{Worker as Of};
-ghost use Rattle.machine_run.specs.Moves.{AreMoved, HasGoneOn};
+ghost use Rattle.machine_run.specs.code.Moves.{AreMoved, HasGoneOn};
 ghost use Rattle.port_run.specs.Pairs.{placed};
 ghost use Rattle.port_walk.specs.Placed.{CanGoOn};
 ghost use Rattle.port_run.specs.declared.seated.Seated.{Seated as Seat};

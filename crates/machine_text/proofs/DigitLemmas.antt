@@ -11,7 +11,7 @@ use Rattle.std.proofs.lemmas.List.Elements.{recursion_from_All}
 use Rattle.std.proofs.lemmas.List.Folds.{list_all-append}
 use Rattle.std.proofs.lemmas.List.Sums.{fold-append}
 use Rattle.text_lines.specs.Numbers.{digits_value, number_of}
-use Rattle.machine_text.specs.Digits.{IsSignificant, is_nonzero, without_zeros}
+use Rattle.machine_text.specs.code.Digits.{IsSignificant, is_nonzero, without_zeros}
 
 -- the value of digits after others of this value
 abbrev after : ℕ → List ℕ → ℕ

@@ -16,7 +16,7 @@ use Rattle.machine_text.specs.declared.saying.Says.TheVariants.{Nothing, Sets, L
 use Rattle.machine_text.specs.Limits.{same_limited}
 use Rattle.machine_text.specs.Quantities.{same_quantity, in_range, quantity_of}
 use Rattle.machine_text.specs.Settings.{same_given, setting_of, settings_of, sets}
-use Rattle.machine_text.specs.Given.{fault_in, given_after, given_fault, ports_in}
+use Rattle.machine_text.specs.code.Given.{fault_in, given_after, given_fault, ports_in}
 use Rattle.machine_text.specs.Machines.{fault_of, line_fault}
 use Rattle.machine_text.proofs.SayingLemmas.{IsNext}
 

@@ -7,7 +7,7 @@ use Rattle.text_lines.specs.Words.{words_of}
 use Rattle.machine_text.specs.declared.quantity.Version.{Version}
 use Rattle.machine_text.specs.declared.saying.Says.{Says}
 use Rattle.machine_text.specs.declared.saying.Says.TheVariants.{Nothing}
-use Rattle.machine_text.specs.Sayings.{said_lines}
+use Rattle.machine_text.specs.code.Sayings.{said_lines}
 use Rattle.machine_text.specs.Settings.{line_says, says_from, settled}
 
 -- what numbered lines say is what they say, with the numbers

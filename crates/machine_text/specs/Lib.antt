@@ -1,7 +1,5 @@
-pub mod Digits
-pub mod Given
+pub mod code
 pub mod Limits
 pub mod Machines
 pub mod Quantities
-pub mod Sayings
 pub mod Settings

@@ -4,7 +4,7 @@ ghost use Rattle.std.specs.Prelude.{◌≡◌, ◌++◌, [], ◌∷◌, min, not
 ghost use Rattle.std.specs.List.{list_any, position};
 ghost use Rattle.std.specs.Option.{is_some};
 ghost use Rattle.text_lines.specs.Numbers.{number_of, digits_value};
-ghost use Rattle.machine_text.specs.Digits.{IsSignificant, is_nonzero, without_zeros};
+ghost use Rattle.machine_text.specs.code.Digits.{IsSignificant, is_nonzero, without_zeros};
 
 use indexmap::IndexSet;
 use seen_list::Memory;
@@ -93,7 +93,7 @@ pub struct Numbers<'a> {
 impl<'a> Model for Numbers<'a> {
     ghost use Rattle.std.specs.Prelude.{ℕ, List, map, All};
     ghost use Rattle.text_lines.specs.Numbers.{digits_value};
-    ghost use Rattle.machine_text.specs.Digits.{IsSignificant};
+    ghost use Rattle.machine_text.specs.code.Digits.{IsSignificant};
 
     ghost Value = { List ℕ };
 

@@ -2,10 +2,11 @@
 
 ghost use Rattle.std.specs.Prelude.{◌≡◌, ◌≤◌, ℕ, true, None, MatchResult, IfOk, All, length, if◌then◌else◌};
 ghost use Rattle.limits.specs.declared.TheConstants.{MAX_TEXT_BYTES};
-ghost use Rattle.text_lines.specs.Answers.{Answers, fault_or, first};
+ghost use Rattle.text_lines.specs.Answers.{Answers, first};
+ghost use Rattle.text_lines.specs.code.Answers.{fault_or};
 ghost use Rattle.machine_text.specs.declared.machine.Machine.{Machine};
 ghost use Rattle.machine_text.specs.declared.machine.MachNo.TheVariants.{Memory as NoMemory};
-ghost use Rattle.machine_text.specs.Given.{if_below};
+ghost use Rattle.machine_text.specs.code.Given.{if_below};
 ghost use Rattle.machine_text.specs.Settings.{is_allowed, limit_of, limits_of, lines_say, settings_of};
 ghost use Rattle.machine_text.specs.Machines.{IsValid, Reads, absent_fault, first_fault, line_fault, machine_of, number_in, port_fault, processors};
 

@@ -5,7 +5,7 @@ ghost use Rattle.std.specs.List.{enumerate_from};
 ghost use Rattle.std.specs.Iterator.{YieldsFirst, item_count};
 ghost use Rattle.text_lines.specs.Lines.{parts_of};
 ghost use Rattle.text_lines.specs.Words.{words_of};
-ghost use Rattle.machine_text.specs.Sayings.{no_words, said_lines};
+ghost use Rattle.machine_text.specs.code.Sayings.{no_words, said_lines};
 ghost use Rattle.machine_text.specs.Settings.{announces_two, limit_by, limited_by, line_says, set_by, settled, words_say};
 
 use crate::digits::Digits;
@@ -53,7 +53,7 @@ pub struct Sayings<'a> {
 impl<'a> Model for Sayings<'a> {
     ghost use Rattle.std.specs.Prelude.{List as Items, ℕ};
     ghost use Rattle.machine_text.specs.declared.saying.Says.{Says};
-    ghost use Rattle.machine_text.specs.Sayings.{said_lines};
+    ghost use Rattle.machine_text.specs.code.Sayings.{said_lines};
 
     ghost Value = { Items (ℕ × Says) };
 
@@ -80,7 +80,7 @@ impl<'a> Iterator for Sayings<'a> {
 
     ghost remaining = { item_count (λ left. left) };
 
-    #[tactic(auto, unfolding(crate::specs::Sayings::said_lines))]
+    #[tactic(auto, unfolding(crate::specs::code::Sayings::said_lines))]
     fn next(&mut self) -> Option<(u32, Says<'a>)> {
         let (line, part) = self.lines.next()?;
         let version = self.version;

@@ -38,11 +38,11 @@ use Rattle.node_defs.specs.Items.{own, IsNamed, wire_tag, StandFor, IsNodeBlock}
 use Rattle.node_defs.specs.Order.{AreItems}
 use Rattle.node_map.specs.declared.keys.Key.{Key}
 use Rattle.node_map.specs.declared.numbering.Numbering.{Numbering}
-use Rattle.node_map.specs.Wires.{operands_of, helpers_at, rank_at, AreOwnRanks}
-use Rattle.node_map.specs.Places.{start_of, keys_to, key_cmp, name_of, flat_in, AreKeyed, AreRight, AreFlat, IsNumbering}
-use Rattle.node_map.specs.Tables.{Keeps}
-use Rattle.node_map.specs.Nodes.{IsFeed, AreFeeds, IsNodeAt, node_kind}
-use Rattle.node_map.specs.Made.{driver_at, IsMadeItem, AreMade, AreNodeBlocks}
+use Rattle.node_map.specs.code.Wires.{operands_of, helpers_at, rank_at, AreOwnRanks}
+use Rattle.node_map.specs.code.Places.{start_of, keys_to, key_cmp, name_of, flat_in, AreKeyed, AreRight, AreFlat, IsNumbering}
+use Rattle.node_map.specs.code.Tables.{Keeps}
+use Rattle.node_map.specs.code.Nodes.{IsFeed, AreFeeds, IsNodeAt, node_kind}
+use Rattle.node_map.specs.code.Made.{driver_at, IsMadeItem, AreMade, AreNodeBlocks}
 use Rattle.node_map.proofs.ShapeLemmas.{IsShaped, shaped, some_groups}
 use Rattle.node_map.proofs.RankLemmas.{OwnTo, own_begun, own_more, own_all}
 use Rattle.node_map.proofs.OrderLemmas.{key_total, made_keys, made_right}

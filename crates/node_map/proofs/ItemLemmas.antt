@@ -24,11 +24,11 @@ use Rattle.node_defs.specs.declared.items.NodeBlock.{NodeBlock}
 use Rattle.node_defs.specs.Groups.{group_at, helper_count}
 use Rattle.node_defs.specs.Items.{own, IsNamed, IsNode, IsGateItem, IsItemOf, IsItem, StandFor, IsNodeBlock}
 use Rattle.node_map.specs.declared.keys.Key.{Key}
-use Rattle.node_map.specs.Wires.{operands_of, helpers_at}
-use Rattle.node_map.specs.Places.{name_at, name_of}
-use Rattle.node_map.specs.Tables.{Keeps}
-use Rattle.node_map.specs.Nodes.{IsNodeAt, node_kind}
-use Rattle.node_map.specs.Made.{driver_at, IsMadeItem, AreMade}
+use Rattle.node_map.specs.code.Wires.{operands_of, helpers_at}
+use Rattle.node_map.specs.code.Places.{name_at, name_of}
+use Rattle.node_map.specs.code.Tables.{Keeps}
+use Rattle.node_map.specs.code.Nodes.{IsNodeAt, node_kind}
+use Rattle.node_map.specs.code.Made.{driver_at, IsMadeItem, AreMade}
 use Rattle.node_map.proofs.TableLemmas.{get_front, get_last}
 use Rattle.node_map.proofs.ShapeLemmas.{no_groups}
 

@@ -8,8 +8,8 @@ use Rattle.list_laws.proofs.Ranges.{last_or}
 use Rattle.net_defs.specs.declared.netlist.Netlist.{Netlist}
 use Rattle.net_defs.specs.declared.timing.Timing.{Timing}
 use Rattle.node_map.specs.declared.keys.Key.{Key}
-use Rattle.node_map.specs.Wires.{operands_of, helpers_at}
-use Rattle.node_map.specs.Places.{start_of, key_at, keys_of, keys_to}
+use Rattle.node_map.specs.code.Wires.{operands_of, helpers_at}
+use Rattle.node_map.specs.code.Places.{start_of, key_at, keys_of, keys_to}
 use Rattle.node_map.proofs.ShapeLemmas.{few_groups}
 
 -- what place of what signal stands here

@@ -26,9 +26,9 @@ use Rattle.node_defs.specs.Groups.{groups, group_at, helper_count}
 use Rattle.node_defs.specs.Items.{own, IsNamed, wire_name, wire_tag, feed_at, IsNode, IsGateItem, IsItemOf, IsItem, helpers_of, IsAmong, StandFor}
 use Rattle.node_defs.specs.Order.{class_of, rank_after_feed, rank_of, key_of, HelperBefore, Before, AreItems}
 use Rattle.node_map.specs.declared.keys.Key.{Key}
-use Rattle.node_map.specs.Wires.{operands_of, helpers_at, class_of_driver, class_at, past_of, most_of, pasts_to, pasts_of, rank_at, AreOwnRanks}
-use Rattle.node_map.specs.Places.{name_at, name_of, IsKeyBefore, AreKeyed, AreRight}
-use Rattle.node_map.specs.Made.{AreMade, AreNodeBlocks}
+use Rattle.node_map.specs.code.Wires.{operands_of, helpers_at, class_of_driver, class_at, past_of, most_of, pasts_to, pasts_of, rank_at, AreOwnRanks}
+use Rattle.node_map.specs.code.Places.{name_at, name_of, IsKeyBefore, AreKeyed, AreRight}
+use Rattle.node_map.specs.code.Made.{AreMade, AreNodeBlocks}
 use Rattle.node_map.proofs.ShapeLemmas.{group_within, group_few, some_groups, no_groups}
 use Rattle.node_map.proofs.PastLemmas.{added, added_is, past_operand, past_helper, pasts_before, most_same}
 use Rattle.node_map.proofs.RankLemmas.{rank_none}

@@ -14,8 +14,8 @@ use Rattle.node_defs.specs.declared.items.Item.TheVariants.{Node}
 use Rattle.node_defs.specs.declared.items.ItemName.{ItemName}
 use Rattle.node_defs.specs.Groups.{group_at, helper_count}
 use Rattle.node_defs.specs.Items.{feed_at}
-use Rattle.node_map.specs.Nodes.{IsFeed, AreFeeds, IsNodeAt, node_kind}
-use Rattle.node_map.specs.Tables.{AddsOnly, HasTable}
+use Rattle.node_map.specs.code.Nodes.{IsFeed, AreFeeds, IsNodeAt, node_kind}
+use Rattle.node_map.specs.code.Tables.{AddsOnly, HasTable}
 use Rattle.node_map.proofs.ShapeLemmas.{shaped, some_groups, narrow_groups}
 
 -- four operands, each of its place

@@ -12,8 +12,8 @@ use Rattle.node_defs.specs.declared.items.ItemName.{ItemName}
 use Rattle.node_defs.specs.Items.{own, helper_of, IsNamed}
 use Rattle.node_map.specs.declared.keys.Key.{Key}
 use Rattle.node_map.specs.declared.numbering.Numbering.{Numbering}
-use Rattle.node_map.specs.Wires.{helpers_at}
-use Rattle.node_map.specs.Places.{start_of, name_at, name_of, flat_in, AreKeyed, AreFlat, AreNumbers, IsNumbering}
+use Rattle.node_map.specs.code.Wires.{helpers_at}
+use Rattle.node_map.specs.code.Places.{start_of, name_at, name_of, flat_in, AreKeyed, AreFlat, AreNumbers, IsNumbering}
 use Rattle.node_map.proofs.KeyLemmas.{place_within}
 
 -- the numbers of the first so many keys

@@ -17,8 +17,8 @@ use Rattle.std.specs.Cmp.{IsTotalOrder}
 use Rattle.net_defs.specs.declared.netlist.Netlist.{Netlist}
 use Rattle.net_defs.specs.declared.timing.Timing.{Timing}
 use Rattle.node_map.specs.declared.keys.Key.{Key}
-use Rattle.node_map.specs.Wires.{operands_of, helpers_at}
-use Rattle.node_map.specs.Places.{start_of, key_at, keys_to, key_cmp, IsKeyBefore, AreKeyed, AreRight}
+use Rattle.node_map.specs.code.Wires.{operands_of, helpers_at}
+use Rattle.node_map.specs.code.Places.{start_of, key_at, keys_to, key_cmp, IsKeyBefore, AreKeyed, AreRight}
 use Rattle.node_map.proofs.KeyLemmas.{IsPlaced, placed, place_within, start_low, keys_length, key_placed}
 
 -- ---- keys that are not after one another

@@ -3,7 +3,7 @@ use Rattle.std.proofs.Common.{◌≡◌, ◌∙◌, ℕ, zero, suc, ◌+◌, ◌
 use Rattle.std.proofs.lemmas.Bool.{cases_lt}
 use Rattle.std.proofs.lemmas.List.{length_push, get_or_push, get_or_append_left, get_or_past}
 use Rattle.node_defs.specs.Groups.{group_at}
-use Rattle.node_map.specs.Wires.{most_of, pasts_to}
+use Rattle.node_map.specs.code.Wires.{most_of, pasts_to}
 
 -- the wire that a place adds
 pub added : ℕ → List ℕ → ℕ → ℕ

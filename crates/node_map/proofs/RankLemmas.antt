@@ -20,7 +20,7 @@ use Rattle.list_laws.proofs.Ranges.{last_or, zeros_read}
 use Rattle.rank_find.proofs.WalkLemmas.{is_gate_or}
 use Rattle.rank_find.proofs.NumberLemmas.{gate_within}
 use Rattle.node_defs.specs.Groups.{groups}
-use Rattle.node_map.specs.Wires.{operands_of, helpers_at, class_at, past_of, pasts_to, rank_at, AreOwnRanks}
+use Rattle.node_map.specs.code.Wires.{operands_of, helpers_at, class_at, past_of, pasts_to, rank_at, AreOwnRanks}
 use Rattle.node_map.proofs.ShapeLemmas.{few_groups, no_groups}
 use Rattle.node_map.proofs.PastLemmas.{pasts_le}
 

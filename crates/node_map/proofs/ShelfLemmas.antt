@@ -13,12 +13,13 @@ use Rattle.logic_four.specs.Packed.{packed_value}
 use Rattle.logic_four.proofs.CodeLemmas.{value_of-code_of, code_of_small}
 use Rattle.logic_four.proofs.PackedLemmas.{code_in-replaced_same, code_in-replaced_other, value-set_same, value-set_other}
 use Rattle.func_table.specs.declared.table.Table.{Table}
-use Rattle.func_table.specs.Entries.{entry_of, entry_for, place_of, answer_at, AreAlike, AreOther, IsTableOf}
+use Rattle.func_table.specs.Entries.{entry_of, entry_for, place_of, AreAlike, AreOther, IsTableOf}
+use Rattle.func_table.specs.code.Entries.{answer_at}
 use Rattle.func_table.specs.Shelf.{AreDifferent, IsNumbered}
 use Rattle.func_table.proofs.EntryLemmas.{entries_more, entries_are_answers}
 use Rattle.list_laws.proofs.Places.{seam_at}
 use Rattle.list_laws.proofs.Ranges.{last_or}
-use Rattle.node_map.specs.Tables.{Keeps, AddsOnly, HasTable}
+use Rattle.node_map.specs.code.Tables.{Keeps, AddsOnly, HasTable}
 use Rattle.node_map.proofs.TableLemmas.{numbered_keeps, numbered_adds}
 
 -- ---- tables

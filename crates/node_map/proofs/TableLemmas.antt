@@ -5,7 +5,7 @@ use Rattle.std.proofs.lemmas.Option.{slice_get-get_or, slice_get_within, get_or_
 use Rattle.std.proofs.lemmas.List.{length_push, get_or_append_left, get_or_push}
 use Rattle.func_table.specs.declared.table.Table.{Table}
 use Rattle.func_table.specs.Shelf.{IsNumbered}
-use Rattle.node_map.specs.Tables.{Keeps, AddsOnly}
+use Rattle.node_map.specs.code.Tables.{Keeps, AddsOnly}
 
 pub get_front : {X : Type 0} (xs : List X) (y x : X) (i : ℕ) → slice_get xs i ≡ Some x → slice_get (xs ++ y ∷ []) i ≡ Some x
 get_front xs y x i at =

@@ -1,5 +1,1 @@
-pub mod Wires
-pub mod Places
-pub mod Tables
-pub mod Nodes
-pub mod Made
+pub mod code

@@ -6,8 +6,8 @@ ghost use Rattle.std.specs.List.{range_with_len};
 ghost use Rattle.std.specs.List.Sorted.{IsPermutation, IsSorted};
 ghost use Rattle.net_defs.specs.Steps.{is_late};
 ghost use Rattle.net_defs.specs.Valid.{IsValidTiming};
-ghost use Rattle.node_map.specs.Wires.{operands_of, helpers_at, class_at, pasts_of, AreOwnRanks};
-ghost use Rattle.node_map.specs.Places.{key_at, keys_of, keys_to, key_cmp, key_from, AreKeyed, AreRight};
+ghost use Rattle.node_map.specs.code.Wires.{operands_of, helpers_at, class_at, pasts_of, AreOwnRanks};
+ghost use Rattle.node_map.specs.code.Places.{key_at, keys_of, keys_to, key_cmp, key_from, AreKeyed, AreRight};
 
 use crate::wires::{class, fill_pasts, number, operands};
 use net_defs::{Netlist, Timing, is_late};

@@ -7,8 +7,8 @@ ghost use Rattle.net_defs.specs.Valid.{IsValid, IsValidTiming};
 ghost use Rattle.net_defs.specs.Loops.{AreRanks, IsOrder};
 ghost use Rattle.node_defs.specs.Order.{AreItems};
 ghost use Rattle.node_defs.specs.Values.{AreItemValues, AreReferenceValues};
-ghost use Rattle.node_map.specs.Places.{AreKeyed, AreRight};
-ghost use Rattle.node_map.specs.Wires.{AreOwnRanks};
+ghost use Rattle.node_map.specs.code.Places.{AreKeyed, AreRight};
+ghost use Rattle.node_map.specs.code.Wires.{AreOwnRanks};
 
 use crate::items::{find_references, first_node, make_items};
 use crate::keys::{Key, sorted_keys};

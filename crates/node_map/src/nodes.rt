@@ -7,10 +7,10 @@ ghost use Rattle.logic_four.specs.Kinds.{AllowsOperands};
 ghost use Rattle.net_defs.specs.Valid.{IsSignal};
 ghost use Rattle.net_defs.specs.Steps.{is_late};
 ghost use Rattle.node_defs.specs.declared.items.Feed.TheVariants.{Fixed};
-ghost use Rattle.node_map.specs.Wires.{operands_of, helpers_at};
-ghost use Rattle.node_map.specs.Places.{IsNumbering};
-ghost use Rattle.node_map.specs.Nodes.{IsFeed, AreFeeds, IsNodeAt, node_kind};
-ghost use Rattle.node_map.specs.Tables.{Keeps, AddsOnly, AreMadeIn};
+ghost use Rattle.node_map.specs.code.Wires.{operands_of, helpers_at};
+ghost use Rattle.node_map.specs.code.Places.{IsNumbering};
+ghost use Rattle.node_map.specs.code.Nodes.{IsFeed, AreFeeds, IsNodeAt, node_kind};
+ghost use Rattle.node_map.specs.code.Tables.{Keeps, AddsOnly, AreMadeIn};
 
 use crate::numbering::Numbering;
 use crate::palette::Palette;

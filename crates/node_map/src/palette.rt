@@ -2,7 +2,7 @@
 
 ghost use Rattle.std.specs.Prelude.{◌≡◌, ◌+◌, ◌^◌, ◌<◌, ◌≤◌, ℕ, [], length, slice_get, OnOk, IfOk, IfSome};
 ghost use Rattle.logic_four.specs.Kinds.{AllowsOperands};
-ghost use Rattle.node_map.specs.Tables.{Keeps, AddsOnly, HasTable, AreMadeIn};
+ghost use Rattle.node_map.specs.code.Tables.{Keeps, AddsOnly, HasTable, AreMadeIn};
 
 use func_table::{Shelf, table_of};
 use logic_four::Kind;

@@ -3,7 +3,7 @@
 ghost use Rattle.std.specs.Prelude.{◌≡◌, ◌+◌, ◌^◌, ◌<◌, ◌≤◌, ℕ, [], length, map, slice_index, OnOk};
 ghost use Rattle.limits.specs.declared.TheConstants.{MAX_GATE_OPERANDS};
 ghost use Rattle.node_defs.specs.Groups.{groups};
-ghost use Rattle.node_map.specs.Wires.{operands_of, helpers_at, class_at, past_of, most_of, pasts_to, pasts_of};
+ghost use Rattle.node_map.specs.code.Wires.{operands_of, helpers_at, class_at, past_of, most_of, pasts_to, pasts_of};
 
 use net_defs::{Driver, Netlist};
 use node_defs::{Group, group_at, helper_count};

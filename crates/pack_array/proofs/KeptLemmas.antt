@@ -17,14 +17,15 @@ use Rattle.image_defs.specs.Frames.{frame}
 use Rattle.image_defs.specs.Ports as port_views
 use Rattle.image_defs.specs.Ports.{PortView, CanExecute, value_in, next_item}
 use Rattle.port_bank.specs.Reads.{IsHeld}
-use Rattle.port_array.specs.Acts.{answered_bit, FitsBit}
+use Rattle.port_array.specs.code.Acts.{answered_bit, FitsBit}
 use Rattle.port_array.specs.declared.port.ArrayPort.TheInside as one
 use Rattle.port_array.specs.Kept as one_kept
 use Rattle.port_array.proofs.KeptLemmas as plain
 use Rattle.pack_bank.specs.Views.{PackPortView, lane_port, at_first, after_begin, after_execute, after_receive, after_end, InEachLane}
 use Rattle.pack_array.specs.declared.memory.PackMemory.{PackMemory}
 use Rattle.pack_array.specs.declared.port.PackArray.TheInside.{Inside}
-use Rattle.pack_array.specs.Acts.{lane_memories, ReadPast, AreFirst, AreWhole, HaveActed}
+use Rattle.pack_array.specs.Acts.{lane_memories, AreWhole}
+use Rattle.pack_array.specs.code.Acts.{ReadPast, AreFirst, HaveActed}
 use Rattle.pack_array.specs.Kept.{lane_array, IsReady}
 use Rattle.pack_array.proofs.MemoryLemmas.{lane_fit, lane_first}
 

@@ -14,12 +14,14 @@ use Rattle.image_defs.specs.declared.image.BlockWork.{BlockWork}
 use Rattle.image_defs.proofs.PlaceLemmas.{at_map}
 use Rattle.port_array.specs.declared.memory.MemoryState.{MemoryState}
 use Rattle.port_array.specs.Acts as plain
-use Rattle.port_array.specs.Acts.{act_at, Acted, AreActed}
+use Rattle.port_array.specs.code.Acts as plain_code
+use Rattle.port_array.specs.code.Acts.{act_at, Acted, AreActed}
 use Rattle.port_array.proofs.MemoryLemmas.{set_place, acted_more}
 use Rattle.pack_bank.specs.Places.{lane_values}
 use Rattle.pack_bank.specs.Views.{PackPortView, lane_port}
 use Rattle.pack_array.specs.declared.memory.PackMemory.{PackMemory}
-use Rattle.pack_array.specs.Acts.{lane_memory, lane_memories, IsWhole, IsFirst, Stays, HasActed, AreFirst, AreWhole, HaveActed}
+use Rattle.pack_array.specs.Acts.{lane_memory, lane_memories, IsWhole, AreWhole}
+use Rattle.pack_array.specs.code.Acts.{IsFirst, Stays, HasActed, AreFirst, HaveActed}
 
 -- ---- one memory
 
@@ -138,11 +140,11 @@ lane_fit l low blocks memories all = record {
   of_lane : (b : ℕ) (block : BlockWork) (memory : MemoryState) → slice_get blocks b ≡ Some block → (one : PackMemory) × (slice_get memories b ≡ Some one) × (lane_memory l one ≡ memory) → plain.FitsMemory block memory
   of_lane b block memory at (one, there, same) = subst (plain.FitsMemory block) same ((all.each b block one at there).fits l low)
 
-pub lane_first : (l : ℕ) → l < 30 → (v : V4) (blocks : List BlockWork) (memories : List PackMemory) → AreFirst v blocks memories → plain.AreFirst v blocks (lane_memories l memories)
+pub lane_first : (l : ℕ) → l < 30 → (v : V4) (blocks : List BlockWork) (memories : List PackMemory) → AreFirst v blocks memories → plain_code.AreFirst v blocks (lane_memories l memories)
 lane_first l low v blocks memories all = record {
   long = length-map memories (lane_memory l) ∙ all.long;
   each = λ b block memory at there. of_lane b block memory at (at_map (lane_memory l) memories b memory there);
 } where
-  of_lane : (b : ℕ) (block : BlockWork) (memory : MemoryState) → slice_get blocks b ≡ Some block → (one : PackMemory) × (slice_get memories b ≡ Some one) × (lane_memory l one ≡ memory) → plain.IsFirst v block memory
+  of_lane : (b : ℕ) (block : BlockWork) (memory : MemoryState) → slice_get blocks b ≡ Some block → (one : PackMemory) × (slice_get memories b ≡ Some one) × (lane_memory l one ≡ memory) → plain_code.IsFirst v block memory
   of_lane b block memory at (one, there, same) =
-      subst (plain.IsFirst v block) same (record { fits = (all.each b block one at there).whole.fits l low; words = (all.each b block one at there).words l low })
+      subst (plain_code.IsFirst v block) same (record { fits = (all.each b block one at there).whole.fits l low; words = (all.each b block one at there).words l low })

@@ -6,10 +6,11 @@ ghost use Rattle.logic_four.specs.Memory.{memory_act, initial_words, HasShape};
 ghost use Rattle.net_defs.specs.Time.{is_edge};
 ghost use Rattle.lane_planes.specs.Lanes.{lane_of};
 ghost use Rattle.image_defs.specs.Places.{Each};
-ghost use Rattle.port_array.specs.Acts.{past_of, answered_bit, FitsBit, IsPastAt, ReadsPast, HasFewBits, Acted};
+ghost use Rattle.port_array.specs.code.Acts.{past_of, answered_bit, FitsBit, IsPastAt, ReadsPast, HasFewBits, Acted};
 ghost use Rattle.pack_bank.specs.Places.{lane_values};
 ghost use Rattle.pack_bank.specs.Views.{lane_port};
-ghost use Rattle.pack_array.specs.Acts.{lane_memory, lane_memories, IsWhole, IsFirst, Stays, HasActed, ReadPast, AreFirst, AreWhole, HaveActed};
+ghost use Rattle.pack_array.specs.Acts.{lane_memory, lane_memories, IsWhole, AreWhole};
+ghost use Rattle.pack_array.specs.code.Acts.{IsFirst, Stays, HasActed, ReadPast, AreFirst, HaveActed};
 
 use array_cells::Cells;
 use image_defs::{BlockWork, OutBit, Source};

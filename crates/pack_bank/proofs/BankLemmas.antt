@@ -10,12 +10,13 @@ use Rattle.image_defs.specs.WellFormed.{IsWellFormed}
 use Rattle.image_defs.specs.Ports.{CanBegin, CanExecute, CanReceive, CanEnd, value_in}
 use Rattle.port_bank.specs.declared.steps.Operand.{Operand}
 use Rattle.port_bank.specs.Banks as plain_banks
-use Rattle.port_bank.specs.Places.{numbered}
+use Rattle.port_bank.specs.code.Places.{numbered}
 use Rattle.port_bank.specs.Reads.{IsRead}
 use Rattle.port_bank.proofs.BankLemmas as plain
 use Rattle.pack_bank.specs.declared.bank.PackBank.TheInside.{Inside}
 use Rattle.pack_bank.specs.Banks.{view_of, lane_bank, IsKept}
-use Rattle.pack_bank.specs.Places.{PackTurns, count, in_lane, AreBlank}
+use Rattle.pack_bank.specs.Places.{PackTurns, count, in_lane}
+use Rattle.pack_bank.specs.code.Places.{AreBlank}
 use Rattle.pack_bank.specs.Views.{lane_port, InEachLane}
 
 -- ---- what is read

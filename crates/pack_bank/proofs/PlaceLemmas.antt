@@ -7,12 +7,14 @@ use Rattle.logic_four.specs.declared.V4.TheVariants.{Zero, One, Undef, HighZ}
 use Rattle.logic_four.specs.Values.{value_at}
 use Rattle.lane_planes.specs.declared.planes.Planes.{Planes}
 use Rattle.lane_planes.specs.Lanes.{lane_of}
-use Rattle.port_bank.specs.Places.{half, number_of, numbered, two_turns, TwoTurns}
-use Rattle.port_bank.specs.Banks.{blank}
-use Rattle.port_bank.specs.Places as plain_places
+use Rattle.port_bank.specs.Places.{half, number_of, two_turns, TwoTurns}
+use Rattle.port_bank.specs.code.Places.{numbered}
+use Rattle.port_bank.specs.code.Banks.{blank}
+use Rattle.port_bank.specs.code.Places as plain_places
 use Rattle.port_bank.proofs.PlaceLemmas as plain
 use Rattle.port_bank.proofs.PlaceLemmas.{length-half, number_few}
-use Rattle.pack_bank.specs.Places.{PackTurns, IsEven, count, lane_values, in_lane, doubled, AreBlank}
+use Rattle.pack_bank.specs.Places.{PackTurns, count, lane_values, in_lane}
+use Rattle.pack_bank.specs.code.Places.{IsEven, doubled, AreBlank}
 
 -- a lane has as many values as there are planes
 pub length_lane : (l : ℕ) (flat : List Planes) → length (lane_values l flat) ≡ length flat

@@ -1,3 +1,4 @@
 pub mod Banks
+pub mod code
 pub mod Places
 pub mod Views

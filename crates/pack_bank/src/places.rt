@@ -4,10 +4,12 @@ ghost use Rattle.std.specs.Prelude.{◌≡◌, ◌+◌, ◌*◌, ◌^◌, ◌<�
 ghost use Rattle.limits.specs.declared.TheConstants.{MAX_SLOTS};
 ghost use Rattle.logic_four.specs.Values.{value_at};
 ghost use Rattle.lane_planes.specs.Lanes.{lane_of};
-ghost use Rattle.port_bank.specs.Banks.{blank};
+ghost use Rattle.port_bank.specs.code.Banks.{blank};
 ghost use Rattle.port_bank.specs.Flat.{place_count};
-ghost use Rattle.port_bank.specs.Places.{number_of, numbered};
-ghost use Rattle.pack_bank.specs.Places.{in_lane, lane_values, doubled, count, AreBlank};
+ghost use Rattle.port_bank.specs.Places.{number_of};
+ghost use Rattle.port_bank.specs.code.Places.{numbered};
+ghost use Rattle.pack_bank.specs.Places.{in_lane, lane_values, count};
+ghost use Rattle.pack_bank.specs.code.Places.{doubled, AreBlank};
 
 use lane_planes::{Planes, in_all_lanes};
 use logic_four::V4;
@@ -26,7 +28,8 @@ pub(crate) struct Places {
 }
 
 impl Model for Places {
-    ghost use Rattle.pack_bank.specs.Places.{PackTurns, IsEven};
+    ghost use Rattle.pack_bank.specs.Places.{PackTurns};
+    ghost use Rattle.pack_bank.specs.code.Places.{IsEven};
 
     ghost Value = { PackTurns };
 

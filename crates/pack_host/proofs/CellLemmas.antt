@@ -8,10 +8,11 @@ use Rattle.lane_planes.specs.declared.planes.Planes.{Planes}
 use Rattle.lane_planes.specs.Lanes.{lane_of}
 use Rattle.image_defs.specs.declared.image.Source.{Source}
 use Rattle.port_bank.specs.Reads.{IsTaken}
-use Rattle.port_host.specs.Rows.{HasPrinted}
+use Rattle.port_host.specs.code.Rows.{HasPrinted}
 use Rattle.port_host.proofs.RowLemmas.{printed_more}
 use Rattle.pack_bank.specs.Views.{PackPortView, lane_port}
-use Rattle.pack_host.specs.Cells.{in_lane, HasPrintedAll}
+use Rattle.pack_host.specs.Cells.{in_lane}
+use Rattle.pack_host.specs.code.Cells.{HasPrintedAll}
 
 -- no cell is printed
 pub none_printed : (view : PackPortView) (sources : List Source) (start : ℕ) (cells : List Planes) → HasPrintedAll view sources 0 start cells cells

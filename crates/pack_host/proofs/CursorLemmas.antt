@@ -9,9 +9,10 @@ use Rattle.net_defs.specs.declared.stimulus.Stimulus.{Stimulus}
 use Rattle.net_defs.specs.Time.{cycle_rows}
 use Rattle.net_defs.specs.Valid.{IsValidStimulus}
 use Rattle.port_host.specs.declared.cursor.RowCursor.{RowCursor}
-use Rattle.port_host.specs.Rows.{times_in, IsAt}
+use Rattle.port_host.specs.Rows.{IsAt}
+use Rattle.port_host.specs.code.Rows.{times_in}
 use Rattle.port_host.proofs.CursorLemmas.{at_row, none_left, row_stays, row_over}
-use Rattle.pack_host.specs.Feeds.{AreAt, AreMoved}
+use Rattle.pack_host.specs.code.Feeds.{AreAt, AreMoved}
 
 -- behind all rows it stays
 pub stays_behind : (stimulus : Stimulus) (n : ℕ) (cursor : RowCursor) → length stimulus.rows ≤ cursor.row → IsAt stimulus n cursor → IsAt stimulus (n + 1) cursor

@@ -16,7 +16,7 @@ use Rattle.stim_text.specs.Lanes.{own_stimulus, lane_stimulus, AreLanes}
 use Rattle.stim_text.proofs.LaneLemmas.{lane_input}
 use Rattle.port_host.specs.declared.cursor.RowCursor.{RowCursor}
 use Rattle.port_host.specs.Rows.{values_in, IsAt}
-use Rattle.pack_host.specs.Feeds.{fed, AreAt, AreFed, HaveColumn, IsFed}
+use Rattle.pack_host.specs.code.Feeds.{fed, AreAt, AreFed, HaveColumn, IsFed}
 use Rattle.port_host.proofs.CursorLemmas.{row_at}
 use Rattle.pack_host.proofs.CursorLemmas.{at_set}
 

@@ -27,10 +27,12 @@ use Rattle.port_host.specs.Kept as plain_host
 use Rattle.port_host.specs.Rows.{printed_sources, row_start, HasRoom, IsAt, IsOn}
 use Rattle.port_host.proofs.HostLemmas as host
 use Rattle.pack_bank.specs.Views.{PackPortView, lane_port, InEachLane, at_first, after_end}
-use Rattle.pack_host.specs.Cells.{in_lane, HasPrintedAll}
-use Rattle.pack_host.specs.Feeds.{FeedView, IsFed}
+use Rattle.pack_host.specs.Cells.{in_lane}
+use Rattle.pack_host.specs.code.Cells.{HasPrintedAll}
+use Rattle.pack_host.specs.code.Feeds.{FeedView, IsFed}
 use Rattle.pack_host.specs.Kept.{lane_host, IsReady}
-use Rattle.pack_host.specs.Turns.{cycles_done, turn_at}
+use Rattle.pack_host.specs.Turns.{cycles_done}
+use Rattle.pack_host.specs.code.Turns.{turn_at}
 use Rattle.pack_host.specs.declared.port.PackHost.TheInside.{Inside}
 use Rattle.port_host.proofs.CursorLemmas.{row_at}
 use Rattle.pack_host.proofs.CursorLemmas.{cursor_at}

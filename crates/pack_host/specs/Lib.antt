@@ -1,4 +1,4 @@
 pub mod Cells
-pub mod Feeds
+pub mod code
 pub mod Kept
 pub mod Turns

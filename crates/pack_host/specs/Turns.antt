@@ -1,11 +1,7 @@
 -- The turns and cycles of a packed run.
-use Rattle.std.specs.Prelude.{ℕ, ◌+◌, ◌-◌, ◌*◌, ◌/◌}
+use Rattle.std.specs.Prelude.{ℕ, ◌-◌, ◌/◌}
 use Rattle.pack_bank.specs.Views.{PackPortView}
 
 -- the cycles that are over before a packed port's turn
 abbrev pub cycles_done : PackPortView → ℕ
 cycles_done view = (view.turn - 1) / view.image.units
-
--- the turn, counted from 1, where a cycle has so many, and so many cycles and turns of the next one are over
-abbrev pub turn_at : ℕ → ℕ → ℕ → ℕ
-turn_at units cycles unit = cycles * units + unit + 1

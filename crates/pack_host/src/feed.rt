@@ -3,7 +3,7 @@
 ghost use Rattle.std.specs.Prelude.{ℕ, ◌≡◌, ◌+◌, ◌<◌, length, IfOk};
 ghost use Rattle.limits.specs.declared.TheConstants.{MAX_CYCLES};
 ghost use Rattle.stim_text.specs.Lanes.{AreLanes};
-ghost use Rattle.pack_host.specs.Feeds.{fed, AreAt, AreFed, HaveColumn, IsFed};
+ghost use Rattle.pack_host.specs.code.Feeds.{fed, AreAt, AreFed, HaveColumn, IsFed};
 
 use crate::rows::{first_rows, next_rows, row_value};
 use lane_planes::{Planes, in_all_lanes, in_each_lane};
@@ -26,11 +26,11 @@ pub(crate) struct Feed<'a> {
 }
 
 impl<'a> Model for Feed<'a> {
-    ghost use Rattle.pack_host.specs.Feeds.{FeedView};
+    ghost use Rattle.pack_host.specs.code.Feeds.{FeedView};
 
     ghost Value = { FeedView };
 
-    ghost use Rattle.pack_host.specs.Feeds.{IsKept, view_of};
+    ghost use Rattle.pack_host.specs.code.Feeds.{IsKept, view_of};
 
     ghost view = { view_of };
 

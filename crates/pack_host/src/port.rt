@@ -10,7 +10,8 @@ ghost use Rattle.lane_planes.specs.Lanes.{lane_of};
 ghost use Rattle.stim_text.specs.Lanes.{lane_stimulus, AreLanes};
 ghost use Rattle.port_host.specs.Rows.{printed_sources};
 ghost use Rattle.pack_bank.specs.Views.{lane_port, at_first, after_begin, after_execute, after_receive, after_end, InEachLane};
-ghost use Rattle.pack_host.specs.Turns.{cycles_done, turn_at};
+ghost use Rattle.pack_host.specs.Turns.{cycles_done};
+ghost use Rattle.pack_host.specs.code.Turns.{turn_at};
 
 use crate::cells::{cell, keep_row, room, row_start};
 use crate::feed::Feed;

@@ -4,7 +4,7 @@ ghost use Rattle.std.specs.Prelude.{ℕ, ◌≡◌, ◌+◌, ◌<◌, length, sl
 ghost use Rattle.logic_four.specs.Values.{value_at};
 ghost use Rattle.net_defs.specs.Valid.{IsValidStimulus};
 ghost use Rattle.port_host.specs.Rows.{values_in, IsAt};
-ghost use Rattle.pack_host.specs.Feeds.{AreAt, AreMoved, AreValid};
+ghost use Rattle.pack_host.specs.code.Feeds.{AreAt, AreMoved, AreValid};
 
 use logic_four::V4;
 use net_defs::Stimulus;

@@ -21,11 +21,12 @@ use Rattle.port_bank.specs.declared.steps.Operand.{Operand}
 use Rattle.port_bank.specs.Flat.{place_count, operand_of}
 use Rattle.port_bank.specs.Reads.{IsRead, IsHeld, now_in, past_in}
 use Rattle.port_bank.proofs.TurnLemmas.{place_within, past_at_hand, past_taken}
-use Rattle.port_logic.specs.Ops.{IsTaskWithin, IsTabled}
-use Rattle.port_logic.specs.Tasks.{IsTaskAtHand}
+use Rattle.port_logic.specs.code.Ops.{IsTaskWithin, IsTabled}
+use Rattle.port_logic.specs.code.Tasks.{IsTaskAtHand}
 use Rattle.pack_logic.specs.declared.op.Op.TheVariants.{Keep}
-use Rattle.pack_logic.specs.Ops.{op_of, IsFormIn, AreForms, AreFormsOf, FitsOp}
-use Rattle.pack_logic.specs.Tasks.{IsAnswer}
+use Rattle.pack_logic.specs.Ops.{op_of, IsFormIn, AreForms, AreFormsOf}
+use Rattle.pack_logic.specs.code.Ops.{FitsOp}
+use Rattle.pack_logic.specs.code.Tasks.{IsAnswer}
 
 -- ---- a register
 

@@ -25,8 +25,10 @@ use Rattle.port_logic.proofs.TaskLemmas as plain_lemmas
 use Rattle.pack_bank.specs.Views.{lane_port, at_first, InEachLane}
 use Rattle.pack_logic.specs.declared.port.PackLogic.TheInside.{Inside}
 use Rattle.pack_logic.specs.declared.op.Op.{Op}
-use Rattle.pack_logic.specs.Ops.{op_of, AreForms, FitsOp}
-use Rattle.pack_logic.specs.Tasks.{IsAnswer, IsReady}
+use Rattle.pack_logic.specs.Ops.{op_of, AreForms}
+use Rattle.pack_logic.specs.code.Ops.{FitsOp}
+use Rattle.pack_logic.specs.Tasks.{IsReady}
+use Rattle.pack_logic.specs.code.Tasks.{IsAnswer}
 use Rattle.pack_logic.proofs.OpLemmas.{op_fits}
 
 -- a packed logic processor before its first turn

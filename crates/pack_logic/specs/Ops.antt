@@ -1,5 +1,5 @@
 -- Tasks laid flat, where each gate says what its table is known as.
-use Rattle.std.specs.Prelude.{◌≡◌, ℕ, ◌*◌, ◌<◌, List, length, Option, Some, None, slice_get, unwrap_or}
+use Rattle.std.specs.Prelude.{◌≡◌, ℕ, List, length, Option, Some, None, slice_get, unwrap_or}
 use Rattle.func_table.specs.declared.table.Table.{Table}
 use Rattle.lane_planes.specs.declared.tables.TableForm.{TableForm}
 use Rattle.lane_planes.specs.declared.tables.TableForm.TheVariants.{Other}
@@ -33,10 +33,3 @@ abbrev pub op_of : ℕ → List TableForm → Task → Op
 op_of slots forms (Eval slot table a b c d) =
     Look (form_at forms table) table (operand_of slots a) (operand_of slots b) (operand_of slots c) (operand_of slots d)
 op_of slots forms (Hold slot from) = Keep (operand_of slots from)
-
--- it names only tables and places that there are, and its table is known as it says
-abbrev pub FitsOp : List Table → ℕ → Op → Type 0
-FitsOp tables places (Look form table a b c d) =
-    (table < length tables) × IsFormIn (slice_get tables table) form
-    × (a.number < 2 * places) × (b.number < 2 * places) × (c.number < 2 * places) × (d.number < 2 * places)
-FitsOp tables places (Keep from) = from.number < 2 * places

@@ -3,7 +3,7 @@
 ghost use Rattle.std.specs.Prelude.{◌≡◌, ◌≤◌, map, IfOk};
 ghost use Rattle.limits.specs.declared.TheConstants.{MAX_SLOTS};
 ghost use Rattle.image_defs.specs.Places.{Each};
-ghost use Rattle.port_logic.specs.Ops.{IsTaskWithin};
+ghost use Rattle.port_logic.specs.code.Ops.{IsTaskWithin};
 ghost use Rattle.pack_logic.specs.Ops.{form_at, op_of, AreForms};
 
 use func_table::Table;

@@ -9,8 +9,8 @@ ghost use Rattle.image_defs.specs.Ports.{value_in, next_item, CanBegin, CanExecu
 ghost use Rattle.port_bank.specs.Links.{next_link};
 ghost use Rattle.port_bank.specs.Flat.{place_count};
 ghost use Rattle.pack_bank.specs.Views.{lane_port, at_first, after_begin, after_execute, after_receive, after_end, InEachLane};
-ghost use Rattle.pack_logic.specs.Ops.{FitsOp};
-ghost use Rattle.pack_logic.specs.Tasks.{IsAnswer};
+ghost use Rattle.pack_logic.specs.code.Ops.{FitsOp};
+ghost use Rattle.pack_logic.specs.code.Tasks.{IsAnswer};
 
 use crate::op::{Op, forms_of, ops_of};
 use func_table::Table;

@@ -6,8 +6,8 @@ use Rattle.machine_run.proofs.DealtLemmas.{each_less, more_dealt, none_dealt}
 use Rattle.machine_run.specs.Dealt.{AreIdle, HasGained}
 use Rattle.pack_run.specs.declared.seated.PackSeated.{PackSeated}
 use Rattle.pack_words.specs.Passes.{AreFirstPasses, BarView, IsFirstPass, PackPassView}
-use Rattle.pack_machine.specs.Crews.{PackCrew}
-use Rattle.pack_machine.specs.Dealt.{AreDealt, IsSeatOf}
+use Rattle.pack_machine.specs.code.Crews.{PackCrew}
+use Rattle.pack_machine.specs.code.Dealt.{AreDealt, IsSeatOf}
 
 -- the last of some first passes is that of the next port
 pub passes_less : (bar : BarView) (n : ℕ) (passes front : List PackPassView) (pass : PackPassView) → AreFirstPasses bar n passes → passes ≡ front ++ pass ∷ []

@@ -24,7 +24,8 @@ use Rattle.port_host.specs.Rows.{printed_sources}
 use Rattle.stim_text.proofs.LaneLemmas.{lane_input, own_cycles}
 use Rattle.stim_text.specs.Lanes.{AreLanes, longest, own_stimulus}
 use Rattle.stim_text.specs.declared.lanes.Lanes.{Lanes}
-use Rattle.pack_machine.specs.Shown.{AreLanesShown, HasCells, HaveRoom}
+use Rattle.pack_machine.specs.Shown.{AreLanesShown}
+use Rattle.pack_machine.specs.code.Shown.{HasCells, HaveRoom}
 use Rattle.pack_machine.proofs.FrameLemmas.{shown_same}
 
 -- ---- the cells of a row

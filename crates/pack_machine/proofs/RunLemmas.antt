@@ -21,9 +21,9 @@ use Rattle.pack_run.specs.Pairs.{last_turn}
 use Rattle.pack_run.specs.contracts.seated.PackSeatedStepper.TheImpl as seated
 use Rattle.pack_run.specs.declared.seated.PackSeated.{PackSeated}
 use Rattle.pack_words.specs.Rule.{turns_of}
-use Rattle.pack_machine.specs.Crews.{at_first}
-use Rattle.pack_machine.specs.Dealt.{AreDealt, IsDealtTo, IsSeatOf}
-use Rattle.pack_machine.specs.Shown.{EndsWithHost}
+use Rattle.pack_machine.specs.code.Crews.{at_first}
+use Rattle.pack_machine.specs.code.Dealt.{AreDealt, IsDealtTo, IsSeatOf}
+use Rattle.pack_machine.specs.code.Shown.{EndsWithHost}
 
 -- a run has few turns
 turns_few : (image : Image) (lanes : Lanes) → IsWellFormed image → AreLanes image.columns lanes → turns_of image lanes ≤ 2 ^ 62

@@ -1,3 +1,2 @@
-pub mod Crews
-pub mod Dealt
+pub mod code
 pub mod Shown

@@ -5,7 +5,8 @@ ghost use Rattle.crew_run.specs.Crews.{CanTell};
 ghost use Rattle.image_defs.specs.WellFormed.{IsWellFormed};
 ghost use Rattle.machine_run.specs.Visits.{AreInPlace, AreVisitsOf};
 ghost use Rattle.stim_text.specs.Lanes.{AreLanes, longest};
-ghost use Rattle.pack_machine.specs.Shown.{AreLanesShown, EndsWithHost, IsHostAtEnd};
+ghost use Rattle.pack_machine.specs.Shown.{AreLanesShown};
+ghost use Rattle.pack_machine.specs.code.Shown.{EndsWithHost, IsHostAtEnd};
 
 use crate::rows::{blank_lanes, fill_lanes};
 use crate::seats::workers_of;

@@ -8,7 +8,8 @@ ghost use Rattle.machine_run.specs.Shown.{AreShown, AreWide};
 ghost use Rattle.pack_words.specs.Rule.{stimulus_of};
 ghost use Rattle.port_host.specs.Rows.{printed_sources};
 ghost use Rattle.stim_text.specs.Lanes.{AreLanes};
-ghost use Rattle.pack_machine.specs.Shown.{AreLanesShown, HasCells, HaveRoom, IsHostAtEnd};
+ghost use Rattle.pack_machine.specs.Shown.{AreLanesShown};
+ghost use Rattle.pack_machine.specs.code.Shown.{HasCells, HaveRoom, IsHostAtEnd};
 
 use image_defs::Image;
 use machine_run::blank_rows;

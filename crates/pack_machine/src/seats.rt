@@ -5,8 +5,8 @@ ghost use Rattle.image_defs.specs.WellFormed.{IsWellFormed};
 ghost use Rattle.machine_run.specs.Dealt.{AreIdle};
 ghost use Rattle.stim_text.specs.Lanes.{AreLanes};
 ghost use Rattle.pack_words.specs.Passes.{AreFirstPasses, IsFirstPass};
-ghost use Rattle.pack_machine.specs.Crews.{at_first};
-ghost use Rattle.pack_machine.specs.Dealt.{AreDealt, IsSeatOf};
+ghost use Rattle.pack_machine.specs.code.Crews.{at_first};
+ghost use Rattle.pack_machine.specs.code.Dealt.{AreDealt, IsSeatOf};
 
 use crew_run::{Gate, Worker};
 use image_defs::Image;

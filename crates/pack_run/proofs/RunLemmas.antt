@@ -21,7 +21,8 @@ use Rattle.pack_words.specs.Words.{packed}
 use Rattle.pack_words.specs.declared.words.PackTaken.{PackTaken}
 use Rattle.pack_words.specs.declared.words.PackTaken.TheVariants as taken
 use Rattle.pack_run.specs.Pairs.{AreBegun, placed}
-use Rattle.pack_run.specs.Steps.{Asks, IsAnswer, IsNextAction, IsStepOf, IsUpcoming, Looks, word_at}
+use Rattle.pack_run.specs.Steps.{Asks, IsStepOf, Looks, word_at}
+use Rattle.pack_run.specs.code.Steps.{IsAnswer, IsNextAction, IsUpcoming}
 
 -- before the first event the port is at the place of the pass
 pub placed_first : (old : PackPassView) (port : PlacedPack) → AreBegun old port → port ≡ placed old

@@ -12,11 +12,8 @@ use Rattle.event_defs.specs.declared.place.Place.{Place}
 use Rattle.crew_run.specs.declared.stepper.Step.{Step}
 use Rattle.crew_run.specs.declared.stepper.Step.TheVariants.{Done, Moved, NotYet}
 use Rattle.slot_words.specs.Layout.{progress_word, send_word}
-use Rattle.port_run.specs.Steps as plain
 use Rattle.port_run.specs.Steps.{IsSource}
-use Rattle.pack_walk.specs.declared.action.PackAction.{PackAction}
-use Rattle.pack_walk.specs.declared.action.PackAction.TheVariants as action
-use Rattle.pack_words.specs.Passes.{AreValues, IsFit, IsRunning, PackPassView, WasSentBefore, one_step}
+use Rattle.pack_words.specs.Passes.{AreValues, IsRunning, PackPassView, WasSentBefore, one_step}
 use Rattle.pack_words.specs.Rule.{HasPlanes}
 use Rattle.pack_words.specs.Words.{packed, stamp_in, stamp_of}
 use Rattle.pack_run.specs.Pairs.{HasMadeAll}
@@ -130,24 +127,3 @@ pub record IsShort (pass : PackPassView) : Type 0 where
   pub is : IsPort pass.image pass.port seat
   pub early : IsRunning pass
   pub short : AskIsShort seat pass ⊎ TakeIsShort seat pass
-
--- ---- within a step
-
--- this is what the pass does next
-abbrev pub IsNextAction : PortImage → PackPassView → PackAction → Type 0
-IsNextAction seat pass (action.Ask reader) = IsRunning pass × AsksNext seat pass.place 1 reader
-IsNextAction seat pass (action.Put slot) = IsRunning pass × PutsNext seat pass.place 1 slot
-IsNextAction seat pass (action.Take slot) = IsRunning pass × TakesNext seat pass.place slot
-IsNextAction seat pass action.Tell = IsRunning pass × TellsNext seat pass.place
-IsNextAction seat pass action.Done = HasMadeAll pass
-
--- this is the next event of its place
-pub record IsUpcoming (pass : PackPassView) (upcoming : PackAction) : Type 0 where
-  pub fit : IsFit pass
-  pub seat : PortImage
-  pub is : IsPort pass.image pass.port seat
-  pub next : IsNextAction seat pass upcoming
-
--- the answer of an Ask
-abbrev pub IsAnswer : ℕ → ℕ → Step → Type 0
-IsAnswer finished turn = plain.IsAnswer finished turn 1

@@ -8,7 +8,8 @@ ghost use Rattle.pack_walk.specs.declared.action.PackAction.TheVariants as actio
 ghost use Rattle.pack_words.specs.Passes.{IsFit, IsOf};
 ghost use Rattle.pack_words.specs.Rule.{stimulus_of};
 ghost use Rattle.pack_run.specs.Pairs.{AreBegun, last_turn};
-ghost use Rattle.pack_run.specs.Steps.{IsAnswer, IsStepOf, IsUpcoming};
+ghost use Rattle.pack_run.specs.Steps.{IsStepOf};
+ghost use Rattle.pack_run.specs.code.Steps.{IsAnswer, IsUpcoming};
 
 use crew_run::Step;
 use logic_four::V4;

@@ -1,11 +1,10 @@
 -- A packed port of any kind, as the definitions see packed ports, and a run of its items.
-use Rattle.std.specs.Prelude.{◌≡◌, ◌↔◌, ℕ, ◌+◌, ◌<◌, Bool, true, false, if◌then◌else◌, length}
+use Rattle.std.specs.Prelude.{◌≡◌, ◌↔◌, ℕ, ◌+◌, ◌<◌, Bool, true, false, length}
 use Rattle.lane_planes.specs.declared.planes.Planes.{Planes}
 use Rattle.lane_planes.specs.Lanes.{lane_of}
-use Rattle.stim_text.specs.declared.lanes.Lanes.{Lanes}
 use Rattle.image_defs.specs.declared.image.Image.{Image}
 use Rattle.port_walk.specs.Kinds.{IsLastValue}
-use Rattle.pack_bank.specs.Views.{PackPortView, lane_port, at_first}
+use Rattle.pack_bank.specs.Views.{PackPortView, lane_port}
 use Rattle.pack_walk.specs.declared.kind.Kind.{Kind}
 use Rattle.pack_walk.specs.declared.kind.Kind.TheVariants.{Logic, Array, Host}
 
@@ -24,19 +23,6 @@ is_host (Host port) = true
 abbrev pub FitsKind : Image → ℕ → Kind → Type 0
 FitsKind image p kind = (is_host kind ≡ true) ↔ (p + 1 ≡ length image.ports)
 
--- it is the port of this number before its first turn
-pub record IsFirst (image : Image) (lanes : Lanes) (p : ℕ) (kind : Kind) : Type 0 where
-  pub view : view_in kind ≡ at_first image lanes p
-  pub fits : FitsKind image p kind
-
--- the items up to number `to` are executed, and nothing else is changed
-abbrev pub HasRun : PackPortView → PackPortView → ℕ → Type 0
-HasRun old new to = new ≡ record old { executed = to }
-
 -- where an item is executed this turn, these are in each lane the value of the last one
 abbrev pub AreLastValues : PackPortView → Planes → Type 0
 AreLastValues view values = (l : ℕ) → l < 30 → IsLastValue (lane_port l view) (lane_of values l)
-
--- it has begun and these items are executed, if the port is to run it
-abbrev pub HasEntered : PackPortView → PackPortView → ℕ → Bool → Type 0
-HasEntered old new to runs = new ≡ record old { begun = runs; executed = if runs then to else 0 }

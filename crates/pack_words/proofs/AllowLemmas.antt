@@ -21,7 +21,7 @@ use Rattle.slot_words.specs.Layout.{progress_in, send_word, turns_told}
 use Rattle.slot_words.specs.declared.rule.TheConstants.{UNCLAIMED}
 use Rattle.pack_words.proofs.StepLemmas.{ask_kept, claim_kept, kept_here, kept_there, put_kept, split_kept, stepped_view, take_before, take_kept, take_sent, tell_kept, told_more, wait_kept}
 use Rattle.pack_words.specs.Passes.{WasSentBefore}
-use Rattle.pack_words.specs.Plays.{Claims, Ends, FindsIn, Learns, Reads, Seated, Writes, after_step, claimed_by}
+use Rattle.pack_words.specs.code.Plays.{Claims, Ends, FindsIn, Learns, Reads, Seated, Writes, after_step, claimed_by}
 use Rattle.pack_words.specs.Rule.{HasPlanes, IsKept, Kept, turns_of}
 use Rattle.pack_words.specs.Words.{stamp_in, stamp_of}
 use Rattle.pack_words.specs.declared.rule.PackKey.{PackKey}

@@ -25,7 +25,7 @@ use Rattle.pack_words.specs.declared.words.PackTaken.{PackTaken}
 use Rattle.pack_words.specs.declared.words.PackTaken.TheVariants.{NotYet, Value}
 use Rattle.pack_words.specs.Held.{HasWords, IsHeld, bar_of, pass_of}
 use Rattle.pack_words.specs.Passes.{AreValues, BarView, IsFound, IsOf, PackPassView, WasSentBefore, one_step}
-use Rattle.pack_words.specs.Plays.{FindsIn, Reads, Seated, after_step}
+use Rattle.pack_words.specs.code.Plays.{FindsIn, Reads, Seated, after_step}
 use Rattle.pack_words.specs.Rule.{HasPlanes, IsRunnable}
 use Rattle.pack_words.specs.Words.{IsReadIn, packed, stamp_in, stamp_of}
 

@@ -18,7 +18,7 @@ use Rattle.pack_words.specs.declared.bar.PackBar.TheInside as bar
 use Rattle.pack_words.specs.declared.rule.PackView.{PackView}
 use Rattle.pack_words.specs.declared.pass.PackPass.TheInside.{Inside}
 use Rattle.pack_words.specs.Held.{HasWords, IsHeld, bar_of}
-use Rattle.pack_words.specs.Opening.{IsWinner}
+use Rattle.pack_words.specs.code.Opening.{IsWinner}
 use Rattle.pack_words.specs.Passes.{AreFirstPasses, BarView, IsFirstPass, PackPassView}
 use Rattle.pack_words.specs.Rule.{AreSent, IsKept, IsRunnable, stimulus_of, turns_of, unseated}
 

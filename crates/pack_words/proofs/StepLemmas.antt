@@ -32,7 +32,7 @@ use Rattle.slot_words.specs.declared.rule.TheConstants.{UNCLAIMED}
 use Rattle.slot_words.specs.declared.rule.View.{View}
 use Rattle.pack_words.proofs.SentLemmas.{found_before, found_now, is_now, sent_put, sent_still}
 use Rattle.pack_words.specs.Passes.{WasSentBefore}
-use Rattle.pack_words.specs.Plays.{after_step, claimed_by}
+use Rattle.pack_words.specs.code.Plays.{after_step, claimed_by}
 use Rattle.pack_words.specs.Rule.{AreSent, HasPlanes, IsKept, IsRunnable, IsSentIn, plain_view, stimulus_of, turns_of}
 use Rattle.pack_words.specs.Words.{stamp_in, stamp_of}
 use Rattle.pack_words.specs.declared.rule.PackKey.{PackKey}

@@ -1,7 +1,6 @@
+pub mod code
 pub mod Held
-pub mod Opening
 pub mod Passes
-pub mod Plays
 pub mod Rule
 pub mod Sound
 pub mod Words

@@ -5,7 +5,7 @@ ghost use Rattle.image_defs.specs.WellFormed.{IsWellFormed};
 ghost use Rattle.event_defs.specs.Row.{send_count};
 ghost use Rattle.send_row.specs.Sources.{AreFirsts};
 ghost use Rattle.stim_text.specs.Lanes.{AreLanes};
-ghost use Rattle.pack_words.specs.Opening.{IsOpened, IsTemplate, IsWinner};
+ghost use Rattle.pack_words.specs.code.Opening.{IsOpened, IsTemplate, IsWinner};
 ghost use Rattle.pack_words.specs.Passes.{AreFirstPasses, IsFirstPass, IsMade};
 
 use crate::bar::PackBar;

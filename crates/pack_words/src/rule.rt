@@ -57,7 +57,7 @@ impl Split<PackView> for Copied {
 pub(crate) struct Names;
 
 impl Play<(), PackView> for Names {
-    ghost use Rattle.pack_words.specs.Plays.{Claims};
+    ghost use Rattle.pack_words.specs.code.Plays.{Claims};
 
     ghost then = { Claims };
 }
@@ -66,7 +66,7 @@ impl Play<(), PackView> for Names {
 pub(crate) struct Asks;
 
 impl Play<(), PackView> for Asks {
-    ghost use Rattle.pack_words.specs.Plays.{Learns};
+    ghost use Rattle.pack_words.specs.code.Plays.{Learns};
 
     ghost then = { Learns };
 }
@@ -75,7 +75,7 @@ impl Play<(), PackView> for Asks {
 pub(crate) struct Puts;
 
 impl Play<(), PackView> for Puts {
-    ghost use Rattle.pack_words.specs.Plays.{Writes};
+    ghost use Rattle.pack_words.specs.code.Plays.{Writes};
 
     ghost then = { Writes };
 }
@@ -84,7 +84,7 @@ impl Play<(), PackView> for Puts {
 pub(crate) struct Takes;
 
 impl Play<(), PackView> for Takes {
-    ghost use Rattle.pack_words.specs.Plays.{Reads};
+    ghost use Rattle.pack_words.specs.code.Plays.{Reads};
 
     ghost then = { Reads };
 }
@@ -93,7 +93,7 @@ impl Play<(), PackView> for Takes {
 pub(crate) struct Tells;
 
 impl Play<(), PackView> for Tells {
-    ghost use Rattle.pack_words.specs.Plays.{Ends};
+    ghost use Rattle.pack_words.specs.code.Plays.{Ends};
 
     ghost then = { Ends };
 }

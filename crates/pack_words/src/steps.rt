@@ -3,7 +3,7 @@
 ghost use Rattle.std.specs.Prelude.{◌<◌, ◌≡◌};
 ghost use mathlib.Core.Option.{none};
 ghost use Rattle.atomic_table.specs.Table.{step};
-ghost use Rattle.pack_words.specs.Plays.{Ends, Learns, MayAsk, MayPut, MayTake, MayTell, Reads, Writes};
+ghost use Rattle.pack_words.specs.code.Plays.{Ends, Learns, MayAsk, MayPut, MayTake, MayTell, Reads, Writes};
 
 use crate::rule::{Asks, PackKey, PackLaw, PackView, Puts, Takes, Tells};
 use atomic_table::{Seat, Shared};

@@ -7,7 +7,8 @@ use Rattle.std.proofs.lemmas.List.{get_or_append_left, get_or_default, length-ap
 use Rattle.std.proofs.Math.Seq.{get_or-append_seam}
 use Rattle.std.proofs.lemmas.List.Elements.{Contains-append_left, Contains-push, Contains-push_cases}
 use Rattle.list_laws.proofs.Ranges.{last_or}
-use Rattle.plan_defs.specs.Lists.{Lists, ListsBelow}
+use Rattle.plan_defs.specs.Lists.{Lists}
+use Rattle.plan_defs.specs.code.Lists.{ListsBelow}
 
 pub listed_none : (P : ℕ → Type 0) → ListsBelow P 0 []
 listed_none P = record {

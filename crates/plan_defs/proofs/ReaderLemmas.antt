@@ -13,7 +13,7 @@ use Rattle.plan_defs.specs.declared.plan.Homes.{Homes}
 use Rattle.plan_defs.specs.Homes.{home_of}
 use Rattle.plan_defs.specs.Lists.{Lists}
 use Rattle.plan_defs.specs.Readers.{IsReaderList}
-use Rattle.plan_defs.specs.UserRows.{AreUsers}
+use Rattle.plan_defs.specs.code.UserRows.{AreUsers}
 
 -- a word that is 0 has none of its bits
 pub word_none : (rows : BitRows) (row w word : ℕ) → word ≡ 0 → ((b : ℕ) → b < 64 → (bit_at word b ≡ 1) ↔ HasBit rows row (64 * w + b)) → (m : ℕ) → 64 * w ≤ m → m < 64 * w + 64 → HasBit rows row m → ⊥

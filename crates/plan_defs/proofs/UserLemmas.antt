@@ -15,7 +15,7 @@ use Rattle.node_defs.specs.WellFormed.{IsWellFormed}
 use Rattle.plan_defs.specs.declared.plan.Homes.{Homes}
 use Rattle.plan_defs.specs.Homes.{AreHomes, home_of, block_home, host_of}
 use Rattle.plan_defs.specs.Readers.{ItemTakes, MemoryTakes, IsUser}
-use Rattle.plan_defs.specs.UserRows.{HasPlace, AreUsers}
+use Rattle.plan_defs.specs.code.UserRows.{HasPlace, AreUsers}
 use Rattle.plan_defs.proofs.PortLemmas.{user_port}
 
 pub place_kept : (a b : BitRows) (P : ℕ → ℕ → Type 0) (row bit : ℕ) → Adds a b P → HasPlace a row bit → HasPlace b row bit

@@ -1,3 +1,4 @@
+pub mod code
 pub mod Homes
 pub mod Lists
 pub mod Picks
@@ -6,4 +7,3 @@ pub mod Readers
 pub mod Slots
 pub mod Switches
 pub mod Tables
-pub mod UserRows

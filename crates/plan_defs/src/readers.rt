@@ -4,7 +4,8 @@ ghost use Rattle.std.specs.Prelude.{◌≡◌, ◌≢◌, ◌+◌, ◌*◌, ◌<
 ghost use Rattle.bit_rows.specs.Bits.{HasBit};
 ghost use Rattle.node_defs.specs.WellFormed.{IsWellFormed};
 ghost use Rattle.plan_defs.specs.Homes.{AreHomes};
-ghost use Rattle.plan_defs.specs.Lists.{Lists, ListsBelow};
+ghost use Rattle.plan_defs.specs.Lists.{Lists};
+ghost use Rattle.plan_defs.specs.code.Lists.{ListsBelow};
 
 use crate::plan::Homes;
 use crate::users::users;

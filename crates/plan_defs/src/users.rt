@@ -6,7 +6,7 @@ ghost use Rattle.node_defs.specs.Takes.{FeedTakes, IsOneOf, Takes, BlockTakes};
 ghost use Rattle.node_defs.specs.WellFormed.{IsWellFormed};
 ghost use Rattle.plan_defs.specs.Homes.{AreHomes};
 ghost use Rattle.plan_defs.specs.Readers.{ItemTakes, MemoryTakes};
-ghost use Rattle.plan_defs.specs.UserRows.{HasPlace, AreUsers};
+ghost use Rattle.plan_defs.specs.code.UserRows.{HasPlace, AreUsers};
 
 use crate::plan::Homes;
 use bit_rows::BitRows;

@@ -26,7 +26,8 @@ use Rattle.port_bank.specs.Reads.{IsHeld, now_in, past_in}
 use Rattle.port_bank.proofs.TurnLemmas.{turn_meets, item_meets, there_within}
 use Rattle.port_array.specs.declared.memory.MemoryState.{MemoryState}
 use Rattle.port_array.specs.declared.port.ArrayPort.TheInside.{Inside}
-use Rattle.port_array.specs.Acts.{act_at, IsPastAt, ReadsPast, HasFewBits, AreFirst, Acted, AreFit, AreActed, FitsBit, answered_bit}
+use Rattle.port_array.specs.Acts.{AreFit}
+use Rattle.port_array.specs.code.Acts.{act_at, IsPastAt, ReadsPast, HasFewBits, AreFirst, Acted, AreActed, FitsBit, answered_bit}
 use Rattle.port_array.specs.Kept.{words_turn, IsReady}
 
 -- ---- the work of an array processor

@@ -9,7 +9,8 @@ use Rattle.logic_four.specs.declared.V4.{V4}
 use Rattle.image_defs.specs.declared.image.BlockWork.{BlockWork}
 use Rattle.image_defs.specs.Ports.{PortView}
 use Rattle.port_array.specs.declared.memory.MemoryState.{MemoryState}
-use Rattle.port_array.specs.Acts.{FitsMemory, IsFirst, Acted, AreFit, AreActed}
+use Rattle.port_array.specs.Acts.{FitsMemory, AreFit}
+use Rattle.port_array.specs.code.Acts.{IsFirst, Acted, AreActed}
 
 -- a member of a list by its place
 pub member_at : {X : Type 0} (xs : List X) (i : ℕ) (x : X) → i < length xs → x ≡ get_or xs i x → slice_get xs i ≡ Some x

@@ -4,7 +4,8 @@ ghost use Rattle.std.specs.Prelude.{◌≡◌, ◌≤◌, true, false, length, m
 ghost use Rattle.limits.specs.declared.TheConstants.{MAX_ADDRESS_BITS, MAX_WORD_BITS};
 ghost use Rattle.net_defs.specs.Time.{is_edge};
 ghost use Rattle.image_defs.specs.Places.{Each};
-ghost use Rattle.port_array.specs.Acts.{past_of, answered_bit, FitsBit, IsPastAt, ReadsPast, HasFewBits, FitsMemory, IsFirst, AreFirst, Acted, AreFit, AreActed};
+ghost use Rattle.port_array.specs.Acts.{FitsMemory, AreFit};
+ghost use Rattle.port_array.specs.code.Acts.{past_of, answered_bit, FitsBit, IsPastAt, ReadsPast, HasFewBits, IsFirst, AreFirst, Acted, AreActed};
 
 use array_cells::Cells;
 use image_defs::{BlockWork, OutBit, Source};

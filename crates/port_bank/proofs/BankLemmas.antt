@@ -28,9 +28,10 @@ use Rattle.port_bank.specs.declared.steps.Operand.{Operand}
 use Rattle.port_bank.specs.declared.bank.Bank.TheInside.{Inside}
 use Rattle.port_bank.specs.Flat.{operand_of}
 use Rattle.port_bank.specs.Reads.{IsAtHand, IsRead, value_taken}
-use Rattle.port_bank.specs.Places.{numbered}
+use Rattle.port_bank.specs.code.Places.{numbered}
 use Rattle.port_bank.proofs.PlaceLemmas.{numbered_even, numbered_past, numbered_this}
-use Rattle.port_bank.specs.Banks.{blank, IsRoom, Holds, HoldsAll, view_of, IsKept}
+use Rattle.port_bank.specs.Banks.{IsRoom, Holds, HoldsAll, view_of, IsKept}
+use Rattle.port_bank.specs.code.Banks.{blank}
 
 -- ---- places
 

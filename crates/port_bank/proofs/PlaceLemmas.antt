@@ -9,8 +9,9 @@ use Rattle.std.proofs.Math.Seq.{get_or-append-add}
 use Rattle.logic_four.specs.declared.V4.{V4}
 use Rattle.logic_four.specs.declared.V4.TheVariants.{Zero, One, Undef, HighZ}
 use Rattle.logic_four.specs.Values.{value_at}
-use Rattle.port_bank.specs.Banks.{blank}
-use Rattle.port_bank.specs.Places.{half, number_of, numbered, two_turns, IsEven, TwoTurns}
+use Rattle.port_bank.specs.code.Banks.{blank}
+use Rattle.port_bank.specs.Places.{half, number_of, two_turns, TwoTurns}
+use Rattle.port_bank.specs.code.Places.{numbered, IsEven}
 
 pub length-half : (flat : List V4) (number : ℕ) → length (half flat number) ≡ length flat / 2
 unfolding half

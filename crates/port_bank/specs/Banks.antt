@@ -1,7 +1,6 @@
 -- What the banks of a port have: one the values of its turn so far, the other those of the turn before.
-use Rattle.std.specs.Prelude.{◌≡◌, ℕ, ◌+◌, ◌-◌, ◌*◌, ◌<◌, ◌≤◌, true, List, [], ◌∷◌, ◌++◌, length, replicate, Some, slice_get}
+use Rattle.std.specs.Prelude.{◌≡◌, ℕ, ◌+◌, ◌-◌, ◌*◌, ◌<◌, ◌≤◌, true, List, length, Some, slice_get}
 use Rattle.logic_four.specs.declared.V4.{V4}
-use Rattle.logic_four.specs.declared.V4.TheVariants.{Zero, One, Undef, HighZ}
 use Rattle.logic_four.specs.Values.{code_of, value_at}
 use Rattle.net_defs.specs.declared.stimulus.Stimulus.{Stimulus}
 use Rattle.net_defs.specs.Time.{is_edge}
@@ -15,10 +14,6 @@ use Rattle.image_defs.specs.Frames.{image_value}
 use Rattle.image_defs.specs.Ports.{PortView, last_turn}
 use Rattle.port_bank.specs.Flat.{place_count}
 use Rattle.port_bank.specs.declared.bank.Bank.TheInside.{Inside}
-
--- undefined values, and the four values by their codes
-abbrev pub blank : ℕ → List V4
-blank slots = replicate (2 * slots) Undef ++ (Zero ∷ One ∷ Undef ∷ HighZ ∷ [])
 
 -- there are all places for so many slots, and the constants stand in theirs
 pub record IsRoom (slots : ℕ) (bank : List V4) : Type 0 where

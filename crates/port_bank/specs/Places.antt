@@ -1,5 +1,5 @@
 -- Places of two values each, which lie side by side: a value of the turn, and one of the turn before.
-use Rattle.std.specs.Prelude.{◌≡◌, ℕ, ◌+◌, ◌*◌, ◌/◌, ◌%◌, ◌==◌, Bool, not, if◌then◌else◌, List, length, map}
+use Rattle.std.specs.Prelude.{ℕ, ◌+◌, ◌*◌, ◌/◌, Bool, not, if◌then◌else◌, List, length, map}
 use Rattle.std.specs.List.{range_with_len}
 use Rattle.logic_four.specs.declared.V4.{V4}
 use Rattle.logic_four.specs.Values.{value_at}
@@ -20,11 +20,3 @@ half flat number = map (λ place. value_at flat (2 * place + number)) (range_wit
 -- those of the turn are the second ones, or the first ones
 abbrev pub two_turns : List V4 → Bool → TwoTurns
 two_turns flat second = record { this = half flat (number_of second); past = half flat (number_of (not second)) }
-
--- a number's value: that of its half's place, in the turn if it is even, and else in the turn before
-abbrev pub numbered : TwoTurns → ℕ → V4
-numbered turns number = if number % 2 == 0 then value_at turns.this (number / 2) else value_at turns.past (number / 2)
-
--- each place has two values
-abbrev pub IsEven : List V4 → Type 0
-IsEven flat = length flat ≡ 2 * (length flat / 2)

@@ -3,8 +3,9 @@
 ghost use Rattle.std.specs.Prelude.{◌≡◌, ◌*◌, ◌^◌, ◌<◌, ◌≤◌, length, set, IfOk};
 ghost use Rattle.limits.specs.declared.TheConstants.{MAX_SLOTS};
 ghost use Rattle.logic_four.specs.Values.{value_at};
-ghost use Rattle.port_bank.specs.Banks.{blank};
-ghost use Rattle.port_bank.specs.Places.{number_of, numbered};
+ghost use Rattle.port_bank.specs.code.Banks.{blank};
+ghost use Rattle.port_bank.specs.Places.{number_of};
+ghost use Rattle.port_bank.specs.code.Places.{numbered};
 
 use logic_four::V4;
 use seen_list::{List, Memory};
@@ -22,7 +23,8 @@ pub(crate) struct Places {
 }
 
 impl Model for Places {
-    ghost use Rattle.port_bank.specs.Places.{two_turns, IsEven, TwoTurns};
+    ghost use Rattle.port_bank.specs.Places.{two_turns, TwoTurns};
+    ghost use Rattle.port_bank.specs.code.Places.{IsEven};
 
     ghost Value = { TwoTurns };
 

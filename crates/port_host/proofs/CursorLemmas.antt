@@ -12,7 +12,8 @@ use Rattle.net_defs.specs.declared.stimulus.Stimulus.{Stimulus}
 use Rattle.net_defs.specs.Time.{cycle_rows, cycle_count}
 use Rattle.net_defs.specs.Valid.{IsValidStimulus}
 use Rattle.port_host.specs.declared.cursor.RowCursor.{RowCursor}
-use Rattle.port_host.specs.Rows.{times_in, values_in, rows_left, IsAt}
+use Rattle.port_host.specs.Rows.{values_in, rows_left, IsAt}
+use Rattle.port_host.specs.code.Rows.{times_in}
 
 -- the cycles of one row
 abbrev repeats : StimRow → List (List V4)

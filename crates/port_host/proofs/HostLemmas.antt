@@ -26,7 +26,8 @@ use Rattle.port_bank.specs.Reads.{IsAtHand, now_in, past_in}
 use Rattle.port_bank.proofs.TurnLemmas.{item_meets, there_within}
 use Rattle.port_host.specs.declared.cursor.Progress.{Progress}
 use Rattle.port_host.specs.declared.port.HostPort.TheInside.{Inside}
-use Rattle.port_host.specs.Rows.{values_in, turn_of, rows_done, printed_sources, row_start, HasRoom, IsOn, HasPrinted, HasRows}
+use Rattle.port_host.specs.Rows.{values_in, turn_of, rows_done, printed_sources, row_start, HasRoom, IsOn, HasRows}
+use Rattle.port_host.specs.code.Rows.{HasPrinted}
 use Rattle.port_host.specs.Kept.{IsReady, view_of}
 use Rattle.port_host.proofs.CursorLemmas.{still_within, row_at}
 use Rattle.port_host.proofs.RowLemmas.{row_fits, cycles_over, cycle_runs, cycle_ends, cycle_goes_on, cycle_done, one_more, row_more}

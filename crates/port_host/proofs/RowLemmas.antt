@@ -13,7 +13,8 @@ use Rattle.image_defs.specs.declared.image.Source.{Source}
 use Rattle.image_defs.specs.Ports.{PortView, after_end}
 use Rattle.port_bank.specs.Reads.{IsTaken}
 use Rattle.port_host.specs.declared.cursor.Progress.{Progress}
-use Rattle.port_host.specs.Rows.{turn_of, rows_done, row_start, HasPrinted, HasRows}
+use Rattle.port_host.specs.Rows.{turn_of, rows_done, row_start, HasRows}
+use Rattle.port_host.specs.code.Rows.{HasPrinted}
 
 -- ---- numbers
 

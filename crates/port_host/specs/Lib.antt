@@ -1,2 +1,3 @@
+pub mod code
 pub mod Kept
 pub mod Rows

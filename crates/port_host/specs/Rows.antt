@@ -11,16 +11,10 @@ use Rattle.image_defs.specs.declared.image.PortImage.{PortImage}
 use Rattle.image_defs.specs.declared.image.Image.{Image}
 use Rattle.image_defs.specs.Places.{host_of, printed_of}
 use Rattle.image_defs.specs.Ports.{PortView, after_end, at_first}
-use Rattle.port_bank.specs.Reads.{IsTaken}
 use Rattle.port_host.specs.declared.cursor.RowCursor.{RowCursor}
 use Rattle.port_host.specs.declared.cursor.Progress.{Progress}
 
 -- ---- rows of the stimulus
-
--- for how many cycles a row serves, and its values; there are none where there is no row
-abbrev pub times_in : Option StimRow → ℕ
-times_in None = 0
-times_in (Some row) = row.times
 
 abbrev pub values_in : Option StimRow → List V4
 values_in None = []
@@ -90,12 +84,6 @@ printed_sources image = of_port (slice_get image.ports (host_of image)) where
 -- the place of the first cell of a row, where so many rows come before it
 abbrev pub row_start : ℕ → ℕ → ℕ
 row_start rows width = rows * width
-
--- what the first n sources have stands in the cells from this place on; what is before stays
-pub record HasPrinted (view : PortView) (sources : List Source) (n start : ℕ) (old new : List V4) : Type 0 where
-  pub long : length new ≡ length old
-  pub printed : (j : ℕ) (source : Source) → j < n → slice_get sources j ≡ Some source → IsTaken view source (value_at new (start + j))
-  pub before : (k : ℕ) → k < start → value_at new k ≡ value_at old k
 
 -- the cells have the rows of the first cycles, one after the other
 pub record HasRows (rows width : ℕ) (shown : ℕ → ℕ → V4) (cells : List V4) : Type 0 where

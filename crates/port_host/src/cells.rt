@@ -4,7 +4,8 @@ ghost use Rattle.std.specs.Prelude.{ℕ, ◌≡◌, ◌≢◌, ◌+◌, ◌*◌,
 ghost use Rattle.logic_four.specs.Values.{value_at};
 ghost use Rattle.image_defs.specs.Places.{Each};
 ghost use Rattle.port_bank.specs.Flat.{IsWithin};
-ghost use Rattle.port_host.specs.Rows.{row_start, HasPrinted};
+ghost use Rattle.port_host.specs.Rows.{row_start};
+ghost use Rattle.port_host.specs.code.Rows.{HasPrinted};
 
 use image_defs::Source;
 use logic_four::V4;

@@ -3,7 +3,8 @@
 ghost use Rattle.std.specs.Prelude.{ℕ, ◌≡◌, ◌+◌, ◌<◌, length, slice_get};
 ghost use Rattle.net_defs.specs.Time.{cycle_count, value_at};
 ghost use Rattle.net_defs.specs.Valid.{IsValidStimulus};
-ghost use Rattle.port_host.specs.Rows.{times_in, values_in, turn_of, IsAt, IsOn};
+ghost use Rattle.port_host.specs.Rows.{values_in, turn_of, IsAt, IsOn};
+ghost use Rattle.port_host.specs.code.Rows.{times_in};
 
 use logic_four::V4;
 use net_defs::Stimulus;

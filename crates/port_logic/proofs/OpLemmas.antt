@@ -22,8 +22,9 @@ use Rattle.port_bank.specs.Flat.{place_count, operand_of, IsWithin}
 use Rattle.port_bank.specs.Reads.{IsAtHand, IsRead, IsHeld, now_in, past_in, value_taken}
 use Rattle.port_bank.proofs.TurnLemmas.{place_within, past_at_hand, past_taken}
 use Rattle.port_logic.specs.declared.op.Op.TheVariants.{Pair, Keep}
-use Rattle.port_logic.specs.Ops.{entry_at, word_in, look_of, gate_of, op_of, IsTaskWithin, IsTabled, FitsOp}
-use Rattle.port_logic.specs.Tasks.{IsTaskAtHand, IsAnswer}
+use Rattle.port_logic.specs.Ops.{entry_at, word_in, look_of, gate_of, op_of}
+use Rattle.port_logic.specs.code.Ops.{IsTaskWithin, IsTabled, FitsOp}
+use Rattle.port_logic.specs.code.Tasks.{IsTaskAtHand, IsAnswer}
 
 -- ---- an entry
 

@@ -20,8 +20,10 @@ use Rattle.port_bank.specs.Flat.{place_count}
 use Rattle.port_bank.specs.Reads.{IsAtHand, now_in, past_in}
 use Rattle.port_bank.proofs.TurnLemmas.{item_meets, there_within, operand_at_hand}
 use Rattle.port_logic.specs.declared.port.LogicPort.TheInside.{Inside}
-use Rattle.port_logic.specs.Ops.{op_of, IsTaskWithin, IsTabled, FitsOp}
-use Rattle.port_logic.specs.Tasks.{IsTaskAtHand, IsAnswer, IsReady}
+use Rattle.port_logic.specs.Ops.{op_of}
+use Rattle.port_logic.specs.code.Ops.{IsTaskWithin, IsTabled, FitsOp}
+use Rattle.port_logic.specs.Tasks.{IsReady}
+use Rattle.port_logic.specs.code.Tasks.{IsTaskAtHand, IsAnswer}
 use Rattle.port_logic.proofs.OpLemmas.{op_fits}
 
 -- ---- the tasks of a logic processor

@@ -1,2 +1,3 @@
+pub mod code
 pub mod Ops
 pub mod Tasks

@@ -1,6 +1,6 @@
 -- Tasks laid flat. A gate whose third and fourth operands are constants needs 16 entries of its table, which
 -- stand side by side in one of the table's words.
-use Rattle.std.specs.Prelude.{ℕ, ◌+◌, ◌*◌, ◌/◌, ◌%◌, ◌^◌, ◌<◌, List, Option, Some, None, slice_get, slice_index}
+use Rattle.std.specs.Prelude.{ℕ, ◌+◌, ◌*◌, ◌/◌, ◌%◌, ◌^◌, List, Option, Some, None, slice_get, slice_index}
 use Rattle.logic_four.specs.declared.V4.{V4}
 use Rattle.logic_four.specs.Values.{code_of}
 use Rattle.func_table.specs.declared.table.Table.{Table}
@@ -8,7 +8,7 @@ use Rattle.image_defs.specs.declared.image.Source.{Source}
 use Rattle.image_defs.specs.declared.image.Source.TheVariants.{Own, Got, Const}
 use Rattle.image_defs.specs.declared.image.Task.{Task}
 use Rattle.image_defs.specs.declared.image.Task.TheVariants.{Eval, Hold}
-use Rattle.port_bank.specs.Flat.{operand_of, IsWithin}
+use Rattle.port_bank.specs.Flat.{operand_of}
 use Rattle.port_logic.specs.declared.op.Op.{Op}
 use Rattle.port_logic.specs.declared.op.Op.TheVariants.{Pair, Look, Keep}
 
@@ -40,18 +40,3 @@ gate_of slots tables table a b (Got s l) d = look_of slots table a b (Got s l) d
 abbrev pub op_of : ℕ → List Table → Task → Op
 op_of slots tables (Eval slot table a b c d) = gate_of slots tables table a b c d
 op_of slots tables (Hold slot from) = Keep (operand_of slots from)
-
--- a task names only slots, and a table, that there are
-abbrev pub IsTaskWithin : ℕ → Task → Type 0
-IsTaskWithin slots (Eval slot table a b c d) = IsWithin slots a × IsWithin slots b × IsWithin slots c × IsWithin slots d
-IsTaskWithin slots (Hold slot from) = IsWithin slots from
-
-abbrev pub IsTabled : ℕ → Task → Type 0
-IsTabled tables (Eval slot table a b c d) = table < tables
-IsTabled tables (Hold slot from) = Unit {0}
-
--- it names only tables and places that there are
-abbrev pub FitsOp : ℕ → ℕ → Op → Type 0
-FitsOp tables places (Pair word a b) = (a.number < 2 * places) × (b.number < 2 * places)
-FitsOp tables places (Look table a b c d) = (table < tables) × (a.number < 2 * places) × (b.number < 2 * places) × (c.number < 2 * places) × (d.number < 2 * places)
-FitsOp tables places (Keep from) = from.number < 2 * places

@@ -5,7 +5,8 @@ ghost use Rattle.std.specs.Prelude.{◌≡◌, ◌<◌, ◌≤◌, length, map, 
 ghost use Rattle.limits.specs.declared.TheConstants.{MAX_SLOTS};
 ghost use Rattle.image_defs.specs.Places.{Each};
 ghost use Rattle.port_bank.specs.Flat.{IsWithin};
-ghost use Rattle.port_logic.specs.Ops.{pair_of, look_of, gate_of, op_of, IsTaskWithin, IsTabled};
+ghost use Rattle.port_logic.specs.Ops.{pair_of, look_of, gate_of, op_of};
+ghost use Rattle.port_logic.specs.code.Ops.{IsTaskWithin, IsTabled};
 
 use func_table::Table;
 use image_defs::{Source, Task};

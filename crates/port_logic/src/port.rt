@@ -7,8 +7,8 @@ ghost use Rattle.image_defs.specs.WellFormed.{IsWellFormed, IsPortOf, IsLogic};
 ghost use Rattle.image_defs.specs.Ports.{at_first, after_begin, after_execute, after_receive, after_end, value_in, next_item, CanBegin, CanExecute, CanReceive, CanEnd};
 ghost use Rattle.port_bank.specs.Links.{next_link};
 ghost use Rattle.port_bank.specs.Flat.{place_count};
-ghost use Rattle.port_logic.specs.Ops.{FitsOp};
-ghost use Rattle.port_logic.specs.Tasks.{IsAnswer};
+ghost use Rattle.port_logic.specs.code.Ops.{FitsOp};
+ghost use Rattle.port_logic.specs.code.Tasks.{IsAnswer};
 
 use crate::op::{Op, ops_of};
 use func_table::Table;

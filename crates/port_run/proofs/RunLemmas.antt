@@ -27,7 +27,8 @@ use Rattle.port_run.specs.Kept.{IsKept, view_of}
 use Rattle.port_run.specs.declared.running.Running.TheInside.{Inside}
 use Rattle.port_run.proofs.NextLemmas.{asked_in}
 use Rattle.port_run.proofs.StepLemmas.{step_next}
-use Rattle.port_run.specs.Steps.{Asks, IsAnswer, IsEvent, IsStepOf, IsUpcoming, IsWait, Looks, word_now}
+use Rattle.port_run.specs.Steps.{Asks, IsEvent, IsStepOf, IsWait, Looks, word_now}
+use Rattle.port_run.specs.code.Steps.{IsAnswer, IsUpcoming}
 
 -- ---- what it keeps
 

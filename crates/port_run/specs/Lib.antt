@@ -1,3 +1,4 @@
+pub mod code
 pub mod Core
 pub mod Kept
 pub mod Pairs

@@ -9,18 +9,16 @@ use Rattle.image_defs.specs.declared.image.Image.{Image}
 use Rattle.image_defs.specs.declared.image.LinkIn.{LinkIn}
 use Rattle.image_defs.specs.declared.image.LinkOut.{LinkOut}
 use Rattle.image_defs.specs.declared.image.PortImage.{PortImage}
-use Rattle.event_defs.specs.Next.{AsksNext, IsNext, PutsNext, TakesNext, TellsNext}
+use Rattle.event_defs.specs.Next.{AsksNext, PutsNext, TakesNext, TellsNext}
 use Rattle.event_defs.specs.Places.{IsSend, after_ask, after_put, after_take, after_tell}
 use Rattle.event_defs.specs.Steps.{stamp_of}
-use Rattle.event_defs.specs.declared.place.Action.{Action}
 use Rattle.event_defs.specs.declared.place.Event.{Event}
 use Rattle.event_defs.specs.declared.place.Event.TheVariants.{Ask, Put, Take, Tell}
 use Rattle.event_defs.specs.declared.place.Place.{Place}
 use Rattle.crew_run.specs.declared.stepper.Step.{Step}
 use Rattle.crew_run.specs.declared.stepper.Step.TheVariants.{Done, Moved, NotYet}
 use Rattle.slot_words.specs.Layout.{progress_word, send_word}
-use Rattle.slot_words.specs.Passes.{IsFit, PassView, one_step}
-use Rattle.slot_words.specs.Rule.{turns_of}
+use Rattle.slot_words.specs.Passes.{PassView, one_step}
 use Rattle.port_run.specs.Pairs.{HasMade}
 
 -- what the image has in a slot of the pass's port in its turn
@@ -145,19 +143,3 @@ pub record IsShort (until : ℕ) (pass : PassView) : Type 0 where
   pub is : IsPort pass.image pass.port seat
   pub early : pass.place.turn ≤ until
   pub short : AskIsShort seat pass ⊎ TakeIsShort seat pass
-
--- ---- within a step
-
--- this is the next event of its place in a block that has this last turn
-pub record IsUpcoming (until : ℕ) (pass : PassView) (action : Action) : Type 0 where
-  pub fit : IsFit pass
-  pub few : until ≤ turns_of pass.image pass.stimulus
-  pub seat : PortImage
-  pub is : IsPort pass.image pass.port seat
-  pub next : IsNext seat pass.place pass.banks until (value_there pass) action
-
--- the answer of an Ask
-abbrev pub IsAnswer : ℕ → ℕ → ℕ → Step → Type 0
-IsAnswer finished turn banks Moved = turn ≤ finished + banks
-IsAnswer finished turn banks NotYet = finished + banks < turn
-IsAnswer finished turn banks Done = ⊥

@@ -7,7 +7,8 @@ ghost use Rattle.slot_words.specs.Passes.{IsFit, IsOf};
 ghost use Rattle.slot_words.specs.Rule.{turns_of};
 ghost use Rattle.port_walk.specs.Placed.{CanGoOn};
 ghost use Rattle.port_run.specs.Pairs.{AreBegun, IsHostOf, first_block, next_block, placed, with_pass};
-ghost use Rattle.port_run.specs.Steps.{IsAnswer, IsStepOf, IsUpcoming};
+ghost use Rattle.port_run.specs.Steps.{IsStepOf};
+ghost use Rattle.port_run.specs.code.Steps.{IsAnswer, IsUpcoming};
 
 use crew_run::Step;
 use event_defs::Action;

@@ -13,7 +13,8 @@ use Rattle.port_walk.specs.declared.any_port.AnyPort.TheInside.{Inside}
 use Rattle.port_walk.specs.declared.kind.Kind.{Kind}
 use Rattle.port_walk.specs.declared.kind.Kind.TheVariants.{Logic, Array, Host}
 use Rattle.port_walk.specs.Kept.{view_of, IsKept}
-use Rattle.port_walk.specs.Kinds.{view_in, is_host, rows_in, given_up_in, HasRoomIn}
+use Rattle.port_walk.specs.Kinds.{view_in, is_host, rows_in}
+use Rattle.port_walk.specs.code.Kinds.{given_up_in, HasRoomIn}
 use Rattle.port_walk.specs.Placed.{CanGoOn, block_end}
 
 pub le_late : (turn until : ℕ) → until < turn → nat_le turn until ≡ false

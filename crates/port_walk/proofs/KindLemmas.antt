@@ -10,7 +10,8 @@ use Rattle.image_defs.specs.WellFormed.{IsWellFormed, IsHost}
 use Rattle.image_defs.specs.Ports.{at_first}
 use Rattle.port_walk.specs.declared.kind.Kind.{Kind}
 use Rattle.port_walk.specs.declared.kind.Kind.TheVariants.{Host}
-use Rattle.port_walk.specs.Kinds.{is_host, FitsKind, IsFirst}
+use Rattle.port_walk.specs.Kinds.{is_host, FitsKind}
+use Rattle.port_walk.specs.code.Kinds.{IsFirst}
 
 -- a port that was looked up
 pub seat_there : (image : Image) (p : ℕ) (seat : PortImage) (ports : List PortImage) → p < length image.ports → ports ≡ image.ports → seat ≡ get_or ports p seat → IsPort image p seat

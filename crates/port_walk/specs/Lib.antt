@@ -1,3 +1,4 @@
+pub mod code
 pub mod Kept
 pub mod Kinds
 pub mod Placed

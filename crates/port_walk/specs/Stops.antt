@@ -17,11 +17,6 @@ pub record IsFront (slots : List ℕ) (bound n : ℕ) : Type 0 where
   pub before : (i slot : ℕ) → slice_get slots i ≡ Some slot → i < n → slot < bound
   pub rest : (i slot : ℕ) → slice_get slots i ≡ Some slot → n ≤ i → bound ≤ slot
 
--- the first n of these slots are before this bound
-pub record AreAllBefore (slots : List ℕ) (bound n : ℕ) : Type 0 where
-  pub within : n ≤ length slots
-  pub before : (i slot : ℕ) → slice_get slots i ≡ Some slot → i < n → slot < bound
-
 -- what comes first, by the slots in which the port sends and receives next: it sends before it receives in
 -- the same slot
 abbrev pub kind_of : Option ℕ → Option ℕ → StopKind
@@ -70,13 +65,3 @@ module _ (outs ins : List ℕ) where
   pub record AreStops (slots : ℕ) (items : List ℕ) (stops : List Stop) : Type 0 where
     pub count : length stops ≡ length outs + length ins + 1
     pub each : AreFirstStops slots items stops
-
-  -- the first stops of a turn are there, after which the port has sent and received so often, and the first
-  -- `from` items stand in the slots up to the next stop
-  pub record IsOnTheWay (slots : ℕ) (items : List ℕ) (stops : List Stop) (sent took from : ℕ) : Type 0 where
-    pub each : AreFirstStops slots items stops
-    pub come : counts (length stops) ≡ (sent, took)
-    pub count : length stops ≡ sent + took
-    pub sent_within : sent ≤ length outs
-    pub took_within : took ≤ length ins
-    pub items_before : AreAllBefore items (slot_at slots sent took + 1) from

@@ -5,7 +5,8 @@ ghost use Rattle.net_defs.specs.Valid.{IsValidStimulus};
 ghost use Rattle.image_defs.specs.WellFormed.{IsWellFormed};
 ghost use Rattle.image_defs.specs.Ports.{after_begin, after_receive, after_end, CanBegin, CanReceive, CanEnd};
 ghost use Rattle.port_host.specs.Rows.{moved_to};
-ghost use Rattle.port_walk.specs.Kinds.{view_in, is_host, rows_in, given_up_in, IsFirst, HasRoomIn, CanRun, HasRun, CanEnter, HasEntered, IsLastValue};
+ghost use Rattle.port_walk.specs.Kinds.{view_in, is_host, rows_in, IsLastValue};
+ghost use Rattle.port_walk.specs.code.Kinds.{given_up_in, IsFirst, HasRoomIn, CanRun, HasRun, CanEnter, HasEntered};
 
 use image_defs::{Image, Work};
 use logic_four::V4;

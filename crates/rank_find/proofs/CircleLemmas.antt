@@ -8,8 +8,8 @@ use Rattle.net_defs.specs.declared.netlist.Netlist.{Netlist}
 use Rattle.net_defs.specs.declared.timing.Timing.{Timing}
 use Rattle.net_defs.specs.Loops.{IsGate, waits_for, IsLoop}
 use Rattle.rank_find.specs.declared.walk.Mark.{Mark}
-use Rattle.rank_find.specs.Walk.{IsWalk}
-use Rattle.rank_find.specs.Circle.{place_of_member, IsCircleOn, IsLeastPlace}
+use Rattle.rank_find.specs.code.Walk.{IsWalk}
+use Rattle.rank_find.specs.code.Circle.{place_of_member, IsCircleOn, IsLeastPlace}
 use Rattle.list_laws.proofs.Differ.{differ_at}
 use Rattle.rank_find.proofs.WalkLemmas.{marked_gate}
 

@@ -9,8 +9,8 @@ use Rattle.net_defs.specs.declared.timing.Timing.{Timing}
 use Rattle.net_defs.specs.Loops.{IsGate, waits_for, IsOrder, OrderOrLoop}
 use Rattle.rank_find.specs.declared.walk.Mark.{Mark}
 use Rattle.rank_find.specs.declared.walk.Mark.TheVariants.{Fresh, Open, Done}
-use Rattle.rank_find.specs.Walk.{mark_at, first_mark, work_left, IsWalk}
-use Rattle.rank_find.specs.Circle.{place_of_member, IsCircleOn, IsLeastPlace}
+use Rattle.rank_find.specs.code.Walk.{mark_at, first_mark, work_left, IsWalk}
+use Rattle.rank_find.specs.code.Circle.{place_of_member, IsCircleOn, IsLeastPlace}
 use Rattle.list_laws.proofs.Places.{place_of, read_last}
 use Rattle.rank_find.proofs.WalkLemmas.{enter, enter-nearer, finish, finish-nearer}
 use Rattle.rank_find.proofs.CircleLemmas.{circle-loop}

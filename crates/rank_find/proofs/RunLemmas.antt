@@ -11,7 +11,7 @@ use Rattle.net_defs.specs.Loops.{is_gate, IsGate, waits_for, IsOrder}
 use Rattle.rank_find.specs.declared.walk.Mark.{Mark}
 use Rattle.rank_find.specs.declared.walk.Mark.TheVariants.{Fresh, Open, Done}
 use Rattle.rank_find.specs.declared.walk.Walk.{Walk}
-use Rattle.rank_find.specs.Walk.{mark_at, first_mark, freshness, IsWalk, IsWalking, Reaches, IsStart, IsIdle, IsOver}
+use Rattle.rank_find.specs.code.Walk.{mark_at, first_mark, freshness, IsWalk, IsWalking, Reaches, IsStart, IsIdle, IsOver}
 use Rattle.list_laws.proofs.Places.{place_of}
 use Rattle.list_laws.proofs.Ranges.{zeros_read}
 use Rattle.rank_find.proofs.WalkLemmas.{fresh_within, set_mark, enter}

@@ -11,8 +11,8 @@ use Rattle.net_defs.specs.Loops.{waits_for, IsLoop}
 use Rattle.rank_find.specs.declared.walk.Mark.{Mark}
 use Rattle.rank_find.specs.declared.walk.Mark.TheVariants.{Fresh, Open, Done}
 use Rattle.rank_find.specs.declared.walk.Walk.{Walk}
-use Rattle.rank_find.specs.Walk.{mark_at, work_left, IsWalk, IsWalking, Advances, IsTop, IsFirstUndone, AreDoneFrom, StepsTo}
-use Rattle.rank_find.specs.Circle.{IsCircleAt}
+use Rattle.rank_find.specs.code.Walk.{mark_at, work_left, IsWalk, IsWalking, Advances, IsTop, IsFirstUndone, AreDoneFrom, StepsTo}
+use Rattle.rank_find.specs.code.Circle.{IsCircleAt}
 use Rattle.list_laws.proofs.Places.{read_last, place_of}
 use Rattle.rank_find.proofs.WalkLemmas.{fresh_within, open_within, set_mark, enter, enter-nearer, finish, finish-nearer}
 use Rattle.rank_find.proofs.CircleLemmas.{circle-loop}

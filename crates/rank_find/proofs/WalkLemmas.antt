@@ -11,7 +11,7 @@ use Rattle.net_defs.specs.declared.timing.Timing.{Timing}
 use Rattle.net_defs.specs.Loops.{is_gate, IsGate, waits_for}
 use Rattle.rank_find.specs.declared.walk.Mark.{Mark}
 use Rattle.rank_find.specs.declared.walk.Mark.TheVariants.{Fresh, Open, Done}
-use Rattle.rank_find.specs.Walk.{mark_at, freshness, work_left, IsWalk}
+use Rattle.rank_find.specs.code.Walk.{mark_at, freshness, work_left, IsWalk}
 use Rattle.list_laws.proofs.Differ.{differ_at, differ_push, differ_front}
 use Rattle.list_laws.proofs.Places.{read_before, read_last, take_front}
 use Rattle.list_laws.proofs.Ranges.{last_or}

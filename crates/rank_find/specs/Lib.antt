@@ -1,4 +1,2 @@
-pub mod Circle
+pub mod code
 pub mod Refusal
-pub mod Walk
-pub mod Found

@@ -1,7 +1,7 @@
 //! The loop at the end of a path.
 
 ghost use Rattle.std.specs.Prelude.{◌≡◌, ◌+◌, ◌^◌, ◌<◌, ◌≤◌, length, slice_index, Contains, IfOk};
-ghost use Rattle.rank_find.specs.Circle.{place_of_member, IsCircleOn, IsCircleAt, IsLeastPlace};
+ghost use Rattle.rank_find.specs.code.Circle.{place_of_member, IsCircleOn, IsCircleAt, IsLeastPlace};
 
 use seen_list::{List, Memory};
 use std::alloc::Global;

@@ -9,7 +9,7 @@ ghost use Rattle.net_defs.specs.declared.timing.Mode.TheVariants as mode;
 ghost use Rattle.net_defs.specs.Valid.{IsValidTiming};
 ghost use Rattle.net_defs.specs.Loops.{IsOrder, IsCircle, IsLoop, AreRanks, OrderOrLoop};
 ghost use Rattle.rank_find.specs.Refusal.{IfLoop};
-ghost use Rattle.rank_find.specs.Found.{IsFound};
+ghost use Rattle.rank_find.specs.code.Found.{IsFound};
 
 mod circle;
 mod numbers;

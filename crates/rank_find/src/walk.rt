@@ -3,7 +3,7 @@
 ghost use Rattle.std.specs.Prelude.{◌≡◌, ◌≢◌, ℕ, ◌+◌, ◌-◌, ◌*◌, ◌^◌, ◌<◌, ◌≤◌, [], ◌∷◌, ◌++◌, length, take, map, replicate, slice_set, slice_index, IfOk, OnOk, IfSome, IsNone, MatchOption, Contains};
 ghost use Rattle.net_defs.specs.Loops.{waits_for, IsLoop};
 ghost use Rattle.net_defs.specs.Valid.{IsValidTiming};
-ghost use Rattle.rank_find.specs.Walk.{mark_at, first_mark, work_left, IsWalking, Advances, Reaches, IsTop, IsFirstUndone, AreDoneFrom, IsStart, IsIdle, IsOver, WentDown, StepsTo};
+ghost use Rattle.rank_find.specs.code.Walk.{mark_at, first_mark, work_left, IsWalking, Advances, Reaches, IsTop, IsFirstUndone, AreDoneFrom, IsStart, IsIdle, IsOver, WentDown, StepsTo};
 
 use crate::circle::circle_at;
 use net_defs::{Driver, Netlist, Signal, Timing, waits_for};

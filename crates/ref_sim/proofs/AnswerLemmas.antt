@@ -18,11 +18,12 @@ use Rattle.net_defs.specs.Time.{value_at}
 use Rattle.net_defs.specs.Valid.{IsValid, IsSignal, IsDrivable}
 use Rattle.net_defs.specs.Steps.{State, values_of, act_of, words_of}
 use Rattle.ref_sim.specs.declared.schedule.Role.TheVariants as role
-use Rattle.ref_sim.specs.Values.{IsStagedTo, Puts}
+use Rattle.ref_sim.specs.code.Values.{IsStagedTo, Puts}
 use Rattle.ref_sim.specs.Sequences.{place_count}
-use Rattle.ref_sim.specs.Schedules.{has_role, driver_has_role}
-use Rattle.ref_sim.specs.Rams.{ReadsWithin, act_over}
-use Rattle.ref_sim.specs.States.{last_row, output_value, is_driven_below, is_answered, Answers, Assigns}
+use Rattle.ref_sim.specs.code.Schedules.{has_role, driver_has_role}
+use Rattle.ref_sim.specs.code.Rams.{ReadsWithin, act_over}
+use Rattle.ref_sim.specs.States.{last_row, output_value, is_driven_below, is_answered, Answers}
+use Rattle.ref_sim.specs.code.States.{Assigns}
 use Rattle.ref_sim.proofs.Along.{map_same}
 
 -- the value that a signal had in the last turn

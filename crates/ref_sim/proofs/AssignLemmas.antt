@@ -10,11 +10,12 @@ use Rattle.list_laws.proofs.Places.{place_of}
 use Rattle.list_laws.proofs.Members.{refill_whole}
 use Rattle.ref_sim.specs.declared.ops.GateOp.{GateOp}
 use Rattle.ref_sim.specs.declared.schedule.Role.{Role}
-use Rattle.ref_sim.specs.Ops.{follow}
-use Rattle.ref_sim.specs.Values.{IsStagedTo, Puts}
-use Rattle.ref_sim.specs.Sequences.{place_count, here_value, Settles}
-use Rattle.ref_sim.specs.Schedules.{has_role, ListsRole}
-use Rattle.ref_sim.specs.States.{Assigns}
+use Rattle.ref_sim.specs.code.Ops.{follow}
+use Rattle.ref_sim.specs.code.Values.{IsStagedTo, Puts}
+use Rattle.ref_sim.specs.Sequences.{place_count}
+use Rattle.ref_sim.specs.code.Sequences.{here_value, Settles}
+use Rattle.ref_sim.specs.code.Schedules.{has_role, ListsRole}
+use Rattle.ref_sim.specs.code.States.{Assigns}
 use Rattle.ref_sim.proofs.ScheduleLemmas.{role_within}
 
 -- what is given may be said in another way

@@ -36,9 +36,9 @@ use Rattle.std.proofs.lemmas.List.{get_or-map, get_or-take, take-replicate}
 use Rattle.ref_sim.specs.declared.ram.RamPort.{RamPort}
 use Rattle.ref_sim.specs.declared.turn.SimState.{SimState}
 use Rattle.ref_sim.specs.Sequences.{place_count}
-use Rattle.ref_sim.specs.States.{state_of, row_of, IsInitial, IsReady, phase_of, driven_by, HoldInputs, StepsBy}
+use Rattle.ref_sim.specs.code.States.{state_of, row_of, IsInitial, IsReady, phase_of, driven_by, HoldInputs, StepsBy}
 use Rattle.ref_sim.specs.Rams.{ArePorts}
-use Rattle.ref_sim.specs.Runs.{StandsAt, RunsTo, phase_at, printed_row, HasRows}
+use Rattle.ref_sim.specs.code.Runs.{StandsAt, RunsTo, phase_at, printed_row, HasRows}
 use Rattle.ref_sim.proofs.Along.{map_same}
 use Rattle.ref_sim.proofs.Phases.{right_step}
 use Rattle.ref_sim.proofs.Uniqueness.{next_state}

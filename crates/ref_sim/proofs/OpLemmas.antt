@@ -14,8 +14,8 @@ use Rattle.logic_four.specs.Folds.{takes_many, base_kind, lone_kind}
 use Rattle.logic_four.proofs.FoldLemmas.{front}
 use Rattle.net_defs.specs.Time.{value_at}
 use Rattle.ref_sim.specs.declared.ops.GateOp.{GateOp}
-use Rattle.ref_sim.specs.Ops.{op_value, do_op, follow, IsWithin, Adds}
-use Rattle.ref_sim.specs.Sequences.{AddsPair}
+use Rattle.ref_sim.specs.code.Ops.{op_value, do_op, follow, IsWithin, Adds}
+use Rattle.ref_sim.specs.code.Sequences.{AddsPair}
 
 pub All-one : {X : Type 0} (P : X → Type 0) (x : X) → P x → All P (x ∷ [])
 All-one P x holds zero e below = holds

@@ -12,7 +12,7 @@ use Rattle.net_defs.specs.declared.stimulus.Stimulus.{Stimulus}
 use Rattle.net_defs.specs.Time.{value_at, is_edge, input_at}
 use Rattle.net_defs.specs.Steps.{State, driven, IsRightStep}
 use Rattle.ref_sim.specs.declared.turn.Phase.TheVariants as phase
-use Rattle.ref_sim.specs.States.{phase_of, by_phase, words_by_phase, driven_by, StepsBy}
+use Rattle.ref_sim.specs.code.States.{phase_of, by_phase, words_by_phase, driven_by, StepsBy}
 
 -- a choice by the phase is the choice by the turn
 module _ (timing : Timing) (turn : ℕ) where

@@ -6,7 +6,7 @@ use Rattle.logic_four.specs.declared.V4.{V4}
 use Rattle.logic_four.specs.declared.V4.TheVariants.{Undef}
 use Rattle.net_defs.specs.Time.{value_at}
 use Rattle.list_laws.proofs.Ranges.{last_or}
-use Rattle.ref_sim.specs.Values.{Puts}
+use Rattle.ref_sim.specs.code.Values.{Puts}
 
 -- the value of each signal after one was put
 pub put_value : (row : List V4) (s t : ℕ) (v : V4) → ((t ≡ s) × (s < length row → value_at (set row s v) t ≡ v)) ⊎ ((t ≢ s) × (value_at (set row s v) t ≡ value_at row t))

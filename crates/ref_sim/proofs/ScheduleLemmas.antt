@@ -15,8 +15,8 @@ use Rattle.list_laws.proofs.Places.{place_below}
 use Rattle.rank_find.proofs.NumberLemmas.{gate_within, waits_for_nothing}
 use Rattle.ref_sim.specs.declared.schedule.Role.{Role}
 use Rattle.ref_sim.specs.declared.schedule.Role.TheVariants as role
-use Rattle.ref_sim.specs.Sequences.{IsSequence}
-use Rattle.ref_sim.specs.Schedules.{driver_has_role, has_role, ListsRole}
+use Rattle.ref_sim.specs.code.Sequences.{IsSequence}
+use Rattle.ref_sim.specs.code.Schedules.{driver_has_role, has_role, ListsRole}
 
 pub role_within : (net : Netlist) (part : Role) (s : ℕ) → has_role net part s ≡ true → s < length net.signals
 role_within net part s plays = elim (cases_lt s (length net.signals)) [

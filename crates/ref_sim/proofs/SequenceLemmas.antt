@@ -20,8 +20,9 @@ use Rattle.net_defs.specs.Valid.{IsValid, IsSignal, IsDrivable}
 use Rattle.net_defs.specs.Loops.{waits_for}
 use Rattle.list_laws.proofs.Ranges.{last_or}
 use Rattle.ref_sim.specs.declared.ops.GateOp.{GateOp}
-use Rattle.ref_sim.specs.Ops.{do_op, follow, IsWithin, Adds}
-use Rattle.ref_sim.specs.Sequences.{spare_place, place_count, operand_place, here_driven, here_value, IsSequence, Settles}
+use Rattle.ref_sim.specs.code.Ops.{do_op, follow, IsWithin, Adds}
+use Rattle.ref_sim.specs.Sequences.{spare_place, place_count}
+use Rattle.ref_sim.specs.code.Sequences.{operand_place, here_driven, here_value, IsSequence, Settles}
 use Rattle.ref_sim.proofs.OpLemmas.{adds_as}
 use Rattle.ref_sim.proofs.Along.{map_same, late_or, waits_here}
 

@@ -24,10 +24,12 @@ use Rattle.ref_sim.specs.declared.schedule.Role.{Role}
 use Rattle.ref_sim.specs.declared.schedule.Role.TheVariants as role
 use Rattle.ref_sim.specs.declared.turn.Phase.{Phase}
 use Rattle.ref_sim.specs.declared.turn.Phase.TheVariants as phase
-use Rattle.ref_sim.specs.Values.{Keeps}
-use Rattle.ref_sim.specs.Sequences.{place_count, operand_place, here_value}
-use Rattle.ref_sim.specs.Schedules.{has_role, driver_has_role}
-use Rattle.ref_sim.specs.States.{row_of, last_row, output_value, AreShaped, Assigns, by_phase, words_by_phase, HoldInputs, WordsBy, driven_by, StepsBy}
+use Rattle.ref_sim.specs.code.Values.{Keeps}
+use Rattle.ref_sim.specs.Sequences.{place_count}
+use Rattle.ref_sim.specs.code.Sequences.{operand_place, here_value}
+use Rattle.ref_sim.specs.code.Schedules.{has_role, driver_has_role}
+use Rattle.ref_sim.specs.States.{last_row, output_value, AreShaped}
+use Rattle.ref_sim.specs.code.States.{row_of, Assigns, by_phase, words_by_phase, HoldInputs, WordsBy, driven_by, StepsBy}
 use Rattle.ref_sim.proofs.Along.{map_same, late_or}
 use Rattle.ref_sim.proofs.AnswerLemmas.{last_value}
 use Rattle.ref_sim.proofs.SequenceLemmas.{operand_low}

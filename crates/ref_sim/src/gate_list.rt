@@ -8,8 +8,9 @@ ghost use Rattle.logic_four.specs.Folds.{takes_many};
 ghost use Rattle.net_defs.specs.Time.{value_at};
 ghost use Rattle.net_defs.specs.Steps.{is_late};
 ghost use Rattle.net_defs.specs.Valid.{IsValid, IsValidTiming, IsSignal, IsDrivable};
-ghost use Rattle.ref_sim.specs.Ops.{Adds};
-ghost use Rattle.ref_sim.specs.Sequences.{spare_place, here_driven, here_value, IsSequence, Settles, AddsPair};
+ghost use Rattle.ref_sim.specs.code.Ops.{Adds};
+ghost use Rattle.ref_sim.specs.Sequences.{spare_place};
+ghost use Rattle.ref_sim.specs.code.Sequences.{here_driven, here_value, IsSequence, Settles, AddsPair};
 
 use crate::ops::{GateOp, pair_table};
 use logic_four::{Kind, base_kind, lone_kind};

@@ -6,7 +6,8 @@ ghost use Rattle.logic_four.specs.Memory.{initial_words};
 ghost use Rattle.logic_four.specs.declared.V4.TheVariants.{Undef};
 ghost use Rattle.net_defs.specs.Time.{initial_value};
 ghost use Rattle.net_defs.specs.Valid.{IsValid};
-ghost use Rattle.ref_sim.specs.States.{initial_memories, IsInitial};
+ghost use Rattle.ref_sim.specs.States.{initial_memories};
+ghost use Rattle.ref_sim.specs.code.States.{IsInitial};
 
 use crate::turn::SimState;
 use array_cells::Cells;

@@ -3,7 +3,7 @@
 ghost use Rattle.std.specs.Prelude.{◌≡◌, ◌∷◌, [], length, All};
 ghost use Rattle.logic_four.specs.declared.V4.{V4};
 ghost use Rattle.logic_four.specs.Gates.{gate_value};
-ghost use Rattle.ref_sim.specs.Ops.{pair_value, follow, IsWithin};
+ghost use Rattle.ref_sim.specs.code.Ops.{pair_value, follow, IsWithin};
 
 use logic_four::{Kind, V4, code, decoded};
 

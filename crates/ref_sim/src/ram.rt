@@ -3,8 +3,9 @@
 ghost use Rattle.std.specs.Prelude.{◌≡◌, ℕ, length, IfOk};
 ghost use Rattle.logic_four.specs.declared.V4.{V4};
 ghost use Rattle.logic_four.specs.Memory.{HasShape};
-ghost use Rattle.ref_sim.specs.Values.{IsStagedTo, Puts};
-ghost use Rattle.ref_sim.specs.Rams.{FitsPort, ArePorts, ReadsWithin, act_over};
+ghost use Rattle.ref_sim.specs.code.Values.{IsStagedTo, Puts};
+ghost use Rattle.ref_sim.specs.Rams.{FitsPort, ArePorts};
+ghost use Rattle.ref_sim.specs.code.Rams.{ReadsWithin, act_over};
 
 use crate::initial::undefined;
 use crate::values::{gather, put_all};

@@ -7,9 +7,10 @@ ghost use Rattle.net_defs.specs.Valid.{IsValid, IsValidTiming};
 ghost use Rattle.net_defs.specs.Steps.{first_state};
 ghost use Rattle.net_defs.specs.Reference.{HasOneSimulation};
 ghost use Rattle.net_defs.specs.Loops.{IsOrder};
-ghost use Rattle.ref_sim.specs.States.{state_of, IsReady};
-ghost use Rattle.ref_sim.specs.Schedules.{IsSchedule};
-ghost use Rattle.ref_sim.specs.Runs.{AreRowsOf, AreWide, HasRows, StandsAt, RunsTo, phase_at};
+ghost use Rattle.ref_sim.specs.code.States.{state_of, IsReady};
+ghost use Rattle.ref_sim.specs.code.Schedules.{IsSchedule};
+ghost use Rattle.ref_sim.specs.Runs.{AreRowsOf};
+ghost use Rattle.ref_sim.specs.code.Runs.{AreWide, HasRows, StandsAt, RunsTo, phase_at};
 
 use crate::initial::initial_state;
 use crate::ram::{RamPort, make_ports};

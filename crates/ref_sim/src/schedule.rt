@@ -3,8 +3,8 @@
 ghost use Rattle.std.specs.Prelude.{◌≡◌, ◌<◌, ◌^◌, length, IfOk};
 ghost use Rattle.net_defs.specs.Loops.{IsOrder};
 ghost use Rattle.net_defs.specs.Valid.{IsValid, IsValidTiming};
-ghost use Rattle.ref_sim.specs.Sequences.{Settles};
-ghost use Rattle.ref_sim.specs.Schedules.{driver_has_role, has_role, ListsRole, IsSchedule};
+ghost use Rattle.ref_sim.specs.code.Sequences.{Settles};
+ghost use Rattle.ref_sim.specs.code.Schedules.{driver_has_role, has_role, ListsRole, IsSchedule};
 
 use crate::gate_list::signal_ops;
 use crate::ops::GateOp;

@@ -3,8 +3,8 @@
 ghost use Rattle.std.specs.Prelude.{◌≡◌, ◌+◌, ◌<◌, ◌≤◌, length, slice_set, IfOk, OnOk, All};
 ghost use Rattle.net_defs.specs.Time.{cycle_count};
 ghost use Rattle.net_defs.specs.Valid.{IsSignal};
-ghost use Rattle.ref_sim.specs.States.{row_of};
-ghost use Rattle.ref_sim.specs.Runs.{printed_row, AreWide, HasRows};
+ghost use Rattle.ref_sim.specs.code.States.{row_of};
+ghost use Rattle.ref_sim.specs.code.Runs.{printed_row, AreWide, HasRows};
 
 use crate::initial::undefined;
 use crate::values::gather;

@@ -5,11 +5,13 @@ ghost use Rattle.net_defs.specs.Time.{value_at, initial_value};
 ghost use Rattle.net_defs.specs.Valid.{IsValid};
 ghost use Rattle.net_defs.specs.Loops.{is_gate};
 ghost use Rattle.ref_sim.specs.declared.schedule.Role.TheVariants as role;
-ghost use Rattle.ref_sim.specs.Values.{Keeps};
-ghost use Rattle.ref_sim.specs.Sequences.{place_count, here_value};
-ghost use Rattle.ref_sim.specs.Schedules.{has_role, ListsRole, IsSchedule};
+ghost use Rattle.ref_sim.specs.code.Values.{Keeps};
+ghost use Rattle.ref_sim.specs.Sequences.{place_count};
+ghost use Rattle.ref_sim.specs.code.Sequences.{here_value};
+ghost use Rattle.ref_sim.specs.code.Schedules.{has_role, ListsRole, IsSchedule};
 ghost use Rattle.ref_sim.specs.Rams.{ArePorts};
-ghost use Rattle.ref_sim.specs.States.{row_of, state_of, last_row, last_state, output_value, Answers, AreShaped, WroteMemories, Assigns, by_phase, HoldInputs, WordsBy, StepsBy, IsReady};
+ghost use Rattle.ref_sim.specs.States.{last_row, output_value, Answers, AreShaped, WroteMemories};
+ghost use Rattle.ref_sim.specs.code.States.{row_of, state_of, last_state, Assigns, by_phase, HoldInputs, WordsBy, StepsBy, IsReady};
 
 use crate::initial::initial_value;
 use crate::ops::eval_ops;

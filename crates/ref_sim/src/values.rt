@@ -3,7 +3,7 @@
 ghost use Rattle.std.specs.Prelude.{◌≡◌, ℕ, ◌+◌, ◌<◌, ◌≤◌, length, map, All};
 ghost use Rattle.logic_four.specs.declared.V4.{V4};
 ghost use Rattle.net_defs.specs.Time.{value_at};
-ghost use Rattle.ref_sim.specs.Values.{Puts, IsStagedTo, Keeps};
+ghost use Rattle.ref_sim.specs.code.Values.{Puts, IsStagedTo, Keeps};
 
 use logic_four::V4;
 

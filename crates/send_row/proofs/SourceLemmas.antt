@@ -22,7 +22,8 @@ use Rattle.event_defs.proofs.RowLemmas.{sends_are, sum_small}
 use Rattle.event_defs.proofs.SlotLemmas.{any_at, to_map}
 use Rattle.event_defs.specs.Counts.{of_port, sum_to}
 use Rattle.event_defs.specs.Row.{sends_before, sends_of}
-use Rattle.send_row.specs.Sources.{AreFirsts, AreSources, CountsSends, IsLinkAt, IsSource, StandsBetween}
+use Rattle.send_row.specs.Sources.{AreFirsts, AreSources, IsSource}
+use Rattle.send_row.specs.code.Sources.{CountsSends, IsLinkAt, StandsBetween}
 
 -- a member that was read within the list
 pub entry_there : {X : Type 0} (xs : List X) (i : ℕ) (read : X) → i < length xs → read ≡ slice_index_or xs i read → slice_get xs i ≡ Some read

@@ -1,5 +1,5 @@
 -- The numbers of sends and of sources.
-use Rattle.std.specs.Prelude.{List, Some, length, slice_get, ℕ, ◌+◌, ◌<◌, ◌≡◌, ◌≤◌}
+use Rattle.std.specs.Prelude.{List, Some, length, slice_get, ℕ, ◌<◌, ◌≡◌}
 use Rattle.image_defs.specs.declared.image.Image.{Image}
 use Rattle.image_defs.specs.declared.image.LinkIn.{LinkIn}
 use Rattle.image_defs.specs.declared.image.LinkOut.{LinkOut}
@@ -10,12 +10,6 @@ use Rattle.event_defs.specs.Row.{send_number, sends_before}
 pub record AreFirsts (image : Image) (n : ℕ) (firsts : List ℕ) : Type 0 where
   pub long : length firsts ≡ n
   pub each : (p : ℕ) → p < n → slice_get firsts p ≡ Some (sends_before image p)
-
--- the link of this slot has this number
-pub record IsLinkAt (outs : List LinkOut) (slot i : ℕ) : Type 0 where
-  pub link : LinkOut
-  pub is : slice_get outs i ≡ Some link
-  pub slot_is : link.slot ≡ slot
 
 -- the number among all sends of the one that a port receives from by this link
 pub record IsSource (image : Image) (link : LinkIn) (n : ℕ) : Type 0 where
@@ -29,14 +23,3 @@ pub record IsSource (image : Image) (link : LinkIn) (n : ℕ) : Type 0 where
 pub record AreSources (image : Image) (ins : List LinkIn) (n : ℕ) (sources : List ℕ) : Type 0 where
   pub long : length sources ≡ n
   pub each : (j : ℕ) (link : LinkIn) → j < n → slice_get ins j ≡ Some link → (s : ℕ) × (slice_get sources j ≡ Some s) × IsSource image link s
-
--- the links of this slot stand from one number on and before another
-pub record StandsBetween (outs : List LinkOut) (slot low high : ℕ) : Type 0 where
-  pub order : low < high
-  pub within : high ≤ length outs
-  pub each : (i : ℕ) (link : LinkOut) → slice_get outs i ≡ Some link → link.slot ≡ slot → (low ≤ i) × (i < high)
-
--- so many sends come before the first n ports and before the next one
-pub record CountsSends (image : Image) (n sends : ℕ) (firsts : List ℕ) : Type 0 where
-  pub firsts_are : AreFirsts image (n + 1) firsts
-  pub sends_are : sends ≡ sends_before image n

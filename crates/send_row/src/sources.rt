@@ -5,7 +5,8 @@ ghost use Rattle.std.specs.List.Sorted.{IsStrictlyIncreasing};
 ghost use Rattle.image_defs.specs.Places.{IsPort, out_slots};
 ghost use Rattle.image_defs.specs.WellFormed.{IsLinkIn, IsWellFormed};
 ghost use Rattle.image_defs.specs.declared.image.PortImage.{PortImage};
-ghost use Rattle.send_row.specs.Sources.{AreFirsts, AreSources, IsLinkAt, IsSource};
+ghost use Rattle.send_row.specs.Sources.{AreFirsts, AreSources, IsSource};
+ghost use Rattle.send_row.specs.code.Sources.{IsLinkAt};
 
 use image_defs::{Image, LinkIn, LinkOut};
 use seen_list::{List, Memory};

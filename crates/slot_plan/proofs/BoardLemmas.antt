@@ -8,7 +8,7 @@ use Rattle.bit_rows.specs.Bits.{HasBit, Adds, IsShaped}
 use Rattle.bit_rows.proofs.AddLemmas.{adds_same}
 use Rattle.plan_defs.proofs.UserLemmas.{adds_either}
 use Rattle.slot_plan.specs.declared.board.Board.{Board}
-use Rattle.slot_plan.specs.Boards.{IsBoard, IsTaken, IsRuledOut, IsShut, IsRowFor}
+use Rattle.slot_plan.specs.code.Boards.{IsBoard, IsTaken, IsRuledOut, IsShut, IsRowFor}
 
 -- there is room for each row
 pub row_room : (rows : BitRows) (count stride row : ℕ) → IsShaped rows count stride → row < count → row * rows.stride + rows.stride ≤ length rows.words

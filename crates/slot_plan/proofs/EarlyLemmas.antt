@@ -1,6 +1,6 @@
 -- The first slot that is not too early.
 use Rattle.std.proofs.Common.{◌≡◌, ◌⊎◌, ◌↔◌, inl, inr, ℕ, ◌+◌, ◌<◌, List, get_or, refl, ap, arith}
-use Rattle.slot_plan.specs.Early.{IsFrom, IsAnyLate}
+use Rattle.slot_plan.specs.code.Early.{IsFrom, IsAnyLate}
 
 pub from_one : (slots : List ℕ) (item : ℕ) → IsFrom (λ o. o ≡ item) slots (get_or slots item 0 + 1)
 from_one slots item s = (λ low. (item, refl, omega (arith, low)), there) where

@@ -20,9 +20,9 @@ use Rattle.plan_defs.proofs.PortLemmas.{home_port, reader_port}
 use Rattle.plan_defs.proofs.PlanLemmas.{blocked_agree, least_same}
 use Rattle.slot_plan.specs.declared.board.Board.{Board}
 use Rattle.slot_plan.specs.declared.planning.Planning.{Planning}
-use Rattle.slot_plan.specs.Boards.{IsBoard, IsShut, IsRowFor}
-use Rattle.slot_plan.specs.Early.{IsFrom, IsAnyLate}
-use Rattle.slot_plan.specs.Plannings.{IsRowOf, IsOccupied, IsPlannedTo}
+use Rattle.slot_plan.specs.code.Boards.{IsBoard, IsShut, IsRowFor}
+use Rattle.slot_plan.specs.code.Early.{IsFrom, IsAnyLate}
+use Rattle.slot_plan.specs.code.Plannings.{IsRowOf, IsOccupied, IsPlannedTo}
 
 -- ---- a slot more
 

@@ -15,9 +15,10 @@ use Rattle.node_defs.specs.WellFormed.{IsWellFormed}
 use Rattle.plan_defs.specs.declared.plan.Homes.{Homes}
 use Rattle.plan_defs.specs.Homes.{AreHomes, home_of}
 use Rattle.plan_defs.specs.Tables.{UsesTable, UsesTables}
-use Rattle.plan_defs.specs.UserRows.{HasPlace}
+use Rattle.plan_defs.specs.code.UserRows.{HasPlace}
 use Rattle.plan_defs.proofs.ListLemmas.{listed_none, listed_more, listed_not}
-use Rattle.slot_plan.specs.UsedTables.{HasTable, CountsBelow, AreUsed, AreTableCounts}
+use Rattle.slot_plan.specs.UsedTables.{AreTableCounts}
+use Rattle.slot_plan.specs.code.UsedTables.{HasTable, CountsBelow, AreUsed}
 use Rattle.slot_plan.proofs.BoardLemmas.{row_room}
 
 abbrev pub UsesTableBelow : NodeNet → Homes → ℕ → ℕ → ℕ → Type 0

@@ -1,5 +1,3 @@
-pub mod Boards
-pub mod Early
-pub mod Plannings
+pub mod code
 pub mod Refusals
 pub mod UsedTables

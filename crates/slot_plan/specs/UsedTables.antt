@@ -1,33 +1,8 @@
 -- The tables that the nodes of each port use, as rows of bits.
-use Rattle.std.specs.Prelude.{◌≡◌, ◌↔◌, ℕ, ◌+◌, ◌*◌, ◌<◌, ◌≤◌, List, length, slice_index}
-use Rattle.bit_rows.specs.declared.BitRows.{BitRows}
-use Rattle.bit_rows.specs.Bits.{HasBit}
-use Rattle.machine_text.specs.declared.machine.Machine.{Machine}
-use Rattle.node_defs.specs.declared.items.Item.{Item}
-use Rattle.node_defs.specs.declared.items.Item.TheVariants.{Input, BlockBit, Node, Latch}
+use Rattle.std.specs.Prelude.{◌≡◌, ℕ, ◌<◌, ◌≤◌, List, length, slice_index}
 use Rattle.node_defs.specs.declared.items.NodeNet.{NodeNet}
 use Rattle.plan_defs.specs.declared.plan.Homes.{Homes}
-use Rattle.plan_defs.specs.Lists.{ListsBelow}
-use Rattle.plan_defs.specs.Tables.{UsesTable, UsesTables, FitsTables, table_limit}
-use Rattle.slot_plan.specs.declared.tables.Crowded.{Crowded}
-
--- the item is a node with this table
-abbrev pub HasTable : Item → ℕ → Type 0
-HasTable (Input column) t = ⊥
-HasTable (BlockBit block bit) t = ⊥
-HasTable (Node table feeds) t = t ≡ table
-HasTable (Latch op) t = ⊥
-
--- so many numbers below the end have the property
-pub record CountsBelow (P : ℕ → Type 0) (end count : ℕ) : Type 0 where
-  pub numbers : List ℕ
-  pub lists : ListsBelow P end numbers
-  pub are : count ≡ length numbers
-
--- the row of each logic port has the tables that its nodes use
-pub record AreUsed (nodes : NodeNet) (homes : Homes) (rows : BitRows) : Type 0 where
-  pub room : (port : ℕ) → port < homes.logic → port * rows.stride + rows.stride ≤ length rows.words
-  pub exact : (port table : ℕ) → HasBit rows port table ↔ UsesTable nodes homes port table
+use Rattle.plan_defs.specs.Tables.{UsesTables}
 
 -- the numbers of different tables that the nodes of the first so many ports use
 pub record AreTableCounts (nodes : NodeNet) (homes : Homes) (ports : ℕ) (counts : List ℕ) : Type 0 where
@@ -35,12 +10,3 @@ pub record AreTableCounts (nodes : NodeNet) (homes : Homes) (ports : ℕ) (count
   pub uses : (port : ℕ) → port < ports → UsesTables nodes homes port (slice_index counts port)
   -- there are no more tables than that
   pub most : (port : ℕ) → port < ports → slice_index counts port ≤ length nodes.tables
-
--- the first port that uses more tables than it may
-pub record IsFirstCrowded (nodes : NodeNet) (homes : Homes) (machine : Machine) (found : Crowded) : Type 0 where
-  pub logic : found.port < homes.logic
-  pub uses : UsesTables nodes homes found.port found.needed
-  pub past : table_limit machine found.port < found.needed
-  pub before : (lower : ℕ) → lower < found.port → FitsTables nodes homes machine lower
-  -- there are no more tables than that
-  pub most : found.needed ≤ length nodes.tables

@@ -3,7 +3,7 @@
 ghost use Rattle.std.specs.Prelude.{◌⊎◌, ◌↔◌, ◌<◌, ◌≤◌, ℕ, length};
 ghost use Rattle.node_defs.specs.declared.items.Feed.TheVariants.{From};
 ghost use Rattle.node_defs.specs.Takes.{FeedAwaits, IsOneOf, Awaits};
-ghost use Rattle.slot_plan.specs.Early.{IsFrom};
+ghost use Rattle.slot_plan.specs.code.Early.{IsFrom};
 
 use node_defs::{Feed, Feeds, Item, Tag};
 

@@ -23,7 +23,7 @@ pub(crate) struct Planning {
 
 impl Planning {
     ghost use Rattle.plan_defs.specs.ReaderLists.{AreReaders};
-    ghost use Rattle.slot_plan.specs.Plannings.{IsPlannedTo};
+    ghost use Rattle.slot_plan.specs.code.Plannings.{IsPlannedTo};
 
     /// No item has a slot.
     fn new(alloc: Global, nodes: &NodeNet, homes: &Homes) -> Result<Planning, Memory>

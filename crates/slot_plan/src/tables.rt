@@ -6,8 +6,9 @@ ghost use Rattle.node_defs.specs.WellFormed.{IsWellFormed};
 ghost use Rattle.plan_defs.specs.Homes.{AreHomes};
 ghost use Rattle.plan_defs.specs.Tables.{UsesTable, FitsTables};
 ghost use Rattle.plan_defs.specs.Tables.{table_limit as limit_of};
-ghost use Rattle.plan_defs.specs.UserRows.{HasPlace};
-ghost use Rattle.slot_plan.specs.UsedTables.{HasTable, AreUsed, AreTableCounts, CountsBelow, IsFirstCrowded};
+ghost use Rattle.plan_defs.specs.code.UserRows.{HasPlace};
+ghost use Rattle.slot_plan.specs.UsedTables.{AreTableCounts};
+ghost use Rattle.slot_plan.specs.code.UsedTables.{HasTable, AreUsed, CountsBelow, IsFirstCrowded};
 
 use bit_rows::BitRows;
 use machine_text::{Limited, Machine};

@@ -2,7 +2,7 @@
 use Rattle.std.proofs.Common.{arith, refl, ◌+◌, ◌*◌, ◌≡◌}
 use Rattle.logic_four.specs.Values.{code_of}
 use Rattle.logic_four.specs.declared.V4.TheVariants.{Undef}
-use Rattle.slot_words.specs.Passes.{IsTakenIn}
+use Rattle.slot_words.specs.code.Passes.{IsTakenIn}
 use Rattle.slot_words.specs.declared.crossbar.Taken.TheVariants.{NotYet, Value}
 
 -- 14 is the word of an undefined value in turn 3, and of no other turn

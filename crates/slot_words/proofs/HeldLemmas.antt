@@ -29,8 +29,9 @@ use Rattle.slot_words.specs.declared.rule.View.{View}
 use Rattle.slot_words.specs.Held.{HasWords, IsHeld, crossbar_of, pass_of}
 use Rattle.slot_words.specs.Layout.{send_word, word_count}
 use Rattle.slot_words.specs.Links.{AreReceiptLinksOf, AreSendLinksOf, HasSlot}
-use Rattle.slot_words.specs.Passes.{CrossbarView, IsFound, IsOf, IsTakenIn, PassView, one_step}
-use Rattle.slot_words.specs.Plays.{FindsIn, Reads, Seated, after_step}
+use Rattle.slot_words.specs.Passes.{CrossbarView, IsFound, IsOf, PassView, one_step}
+use Rattle.slot_words.specs.code.Passes.{IsTakenIn}
+use Rattle.slot_words.specs.code.Plays.{FindsIn, Reads, Seated, after_step}
 use Rattle.slot_words.specs.Rule.{IsRunnable}
 
 -- what is said of the values holds of the fields

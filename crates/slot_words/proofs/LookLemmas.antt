@@ -14,7 +14,7 @@ use Rattle.slot_words.proofs.SoundLemmas.{told_none}
 use Rattle.slot_words.specs.declared.rule.TheConstants.{UNCLAIMED}
 use Rattle.slot_words.specs.declared.rule.View.{View}
 use Rattle.slot_words.specs.Layout.{progress_in, send_word, told_in, turns_told}
-use Rattle.slot_words.specs.Plays.{after_step, claimed_by}
+use Rattle.slot_words.specs.code.Plays.{after_step, claimed_by}
 use Rattle.slot_words.specs.Rule.{AreLooks, HasLast, steps_in, unseated}
 
 -- ---- what words tell

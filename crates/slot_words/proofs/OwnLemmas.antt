@@ -13,7 +13,7 @@ use Rattle.event_defs.specs.declared.place.Place.{Place}
 use Rattle.slot_words.specs.declared.rule.TheConstants.{UNCLAIMED}
 use Rattle.slot_words.specs.declared.rule.View.{View}
 use Rattle.slot_words.specs.Layout.{progress_in}
-use Rattle.slot_words.specs.Plays.{after_step, claimed_by}
+use Rattle.slot_words.specs.code.Plays.{after_step, claimed_by}
 use Rattle.slot_words.specs.Rule.{AreOwned, IsPassOf, unseated}
 
 pub within : {A : Type 0} (l : List A) (i : ℕ) (a : A) → get_elem? l i ≡ some a → i < length l

@@ -38,7 +38,7 @@ use Rattle.slot_words.specs.declared.rule.Key.{Key}
 use Rattle.slot_words.specs.declared.rule.TheConstants.{UNCLAIMED}
 use Rattle.slot_words.specs.declared.rule.View.{View}
 use Rattle.slot_words.specs.Layout.{progress_in, send_word, sent_in, told_in, turns_told}
-use Rattle.slot_words.specs.Plays.{Claims, Ends, FindsIn, Learns, Reads, Seated, Writes, after_step, claimed_by}
+use Rattle.slot_words.specs.code.Plays.{Claims, Ends, FindsIn, Learns, Reads, Seated, Writes, after_step, claimed_by}
 use Rattle.slot_words.specs.Rule.{AreInTurn, AreOwned, AreTimed, IsKept, IsPassOf, Kept, steps_in, turns_of}
 
 -- turns are few

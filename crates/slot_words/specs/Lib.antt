@@ -1,7 +1,6 @@
+pub mod code
 pub mod Held
 pub mod Layout
 pub mod Links
-pub mod Opening
 pub mod Passes
-pub mod Plays
 pub mod Rule

@@ -1,6 +1,6 @@
 -- A crossbar and a pass as contracts see them, and what each call does.
-use Rattle.std.specs.Prelude.{◌≡◌, ℕ, ◌+◌, ◌*◌, ◌%◌, ◌<◌, ◌≤◌, false, List, Some, length, slice_get, ◌≢◌}
-use Rattle.logic_four.specs.Values.{code_of, value_of}
+use Rattle.std.specs.Prelude.{◌≡◌, ℕ, ◌+◌, ◌*◌, ◌%◌, ◌<◌, ◌≤◌, false, List, Some, length, slice_get}
+use Rattle.logic_four.specs.Values.{code_of}
 use Rattle.logic_four.specs.declared.V4.{V4}
 use Rattle.net_defs.specs.declared.stimulus.Stimulus.{Stimulus}
 use Rattle.image_defs.specs.Frames.{image_value}
@@ -119,11 +119,6 @@ pub record CanTake (pass : PassView) (slot : ℕ) : Type 0 where
   pub receives : slice_get port.ins j ≡ Some link
   pub slot_is : link.slot ≡ slot
   pub missing : is_in slot pass.place.takes ≡ false
-
--- what a number is in a turn: a value where its stamp is the turn
-abbrev pub IsTakenIn : ℕ → ℕ → Taken → Type 0
-IsTakenIn number turn (Value v) = (stamp_of number ≡ turn) × (v ≡ value_of (number % 4))
-IsTakenIn number turn NotYet = stamp_of number ≢ turn
 
 -- what comes of reading this word: the sender's value of this turn where the word's turn is this one, and nothing
 -- where it is one before

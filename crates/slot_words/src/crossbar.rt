@@ -4,7 +4,8 @@ ghost use Rattle.std.specs.Prelude.{length, ◌*◌, ◌+◌, ◌<◌, ◌^◌, 
 ghost use Rattle.logic_four.specs.Values.{code_of};
 ghost use Rattle.event_defs.specs.Places.{after_ask, after_tell, known_of};
 ghost use Rattle.slot_words.specs.Layout.{progress_word, turns_told};
-ghost use Rattle.slot_words.specs.Passes.{CanPut, CanTake, CanTell, IsOf, IsPut, IsRunning, IsTake, IsTakenIn, one_step};
+ghost use Rattle.slot_words.specs.Passes.{CanPut, CanTake, CanTell, IsOf, IsPut, IsRunning, IsTake, one_step};
+ghost use Rattle.slot_words.specs.code.Passes.{IsTakenIn};
 
 use crate::pass::Pass;
 use crate::rule::{Key, Law, UNCLAIMED, View};

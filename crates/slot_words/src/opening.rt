@@ -6,7 +6,7 @@ ghost use Rattle.net_defs.specs.Valid.{IsValidStimulus};
 ghost use Rattle.image_defs.specs.WellFormed.{IsWellFormed};
 ghost use Rattle.event_defs.specs.Row.{send_count};
 ghost use Rattle.send_row.specs.Sources.{AreFirsts};
-ghost use Rattle.slot_words.specs.Opening.{IsOpened, IsTemplate, IsWinner};
+ghost use Rattle.slot_words.specs.code.Opening.{IsOpened, IsTemplate, IsWinner};
 ghost use Rattle.slot_words.specs.Passes.{AreFirstPasses, IsFirstPass, IsMade};
 
 use crate::crossbar::Crossbar;

@@ -62,7 +62,7 @@ impl Split<View> for Copied {
 pub(crate) struct Names;
 
 impl Play<(), View> for Names {
-    ghost use Rattle.slot_words.specs.Plays.{Claims};
+    ghost use Rattle.slot_words.specs.code.Plays.{Claims};
 
     ghost then = { Claims };
 }
@@ -71,7 +71,7 @@ impl Play<(), View> for Names {
 pub(crate) struct Asks;
 
 impl Play<(), View> for Asks {
-    ghost use Rattle.slot_words.specs.Plays.{Learns};
+    ghost use Rattle.slot_words.specs.code.Plays.{Learns};
 
     ghost then = { Learns };
 }
@@ -80,7 +80,7 @@ impl Play<(), View> for Asks {
 pub(crate) struct Puts;
 
 impl Play<(), View> for Puts {
-    ghost use Rattle.slot_words.specs.Plays.{Writes};
+    ghost use Rattle.slot_words.specs.code.Plays.{Writes};
 
     ghost then = { Writes };
 }
@@ -89,7 +89,7 @@ impl Play<(), View> for Puts {
 pub(crate) struct Takes;
 
 impl Play<(), View> for Takes {
-    ghost use Rattle.slot_words.specs.Plays.{Reads};
+    ghost use Rattle.slot_words.specs.code.Plays.{Reads};
 
     ghost then = { Reads };
 }
@@ -98,7 +98,7 @@ impl Play<(), View> for Takes {
 pub(crate) struct Tells;
 
 impl Play<(), View> for Tells {
-    ghost use Rattle.slot_words.specs.Plays.{Ends};
+    ghost use Rattle.slot_words.specs.code.Plays.{Ends};
 
     ghost then = { Ends };
 }

@@ -3,7 +3,7 @@
 ghost use Rattle.std.specs.Prelude.{◌<◌, ◌≡◌};
 ghost use mathlib.Core.Option.{none};
 ghost use Rattle.atomic_table.specs.Table.{step};
-ghost use Rattle.slot_words.specs.Plays.{Ends, Learns, MayAsk, MayPut, MayTake, MayTell, Reads, Writes};
+ghost use Rattle.slot_words.specs.code.Plays.{Ends, Learns, MayAsk, MayPut, MayTake, MayTell, Reads, Writes};
 
 use crate::rule::{Asks, Key, Law, Puts, Takes, Tells, View};
 use atomic_table::{Seat, Shared};

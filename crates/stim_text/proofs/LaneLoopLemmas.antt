@@ -16,7 +16,8 @@ use Rattle.stim_text.specs.declared.refusal.LaneNo.TheVariants.{NoLane}
 use Rattle.stim_text.specs.Repeats.{is_blank_part}
 use Rattle.stim_text.specs.Rows.{row_of}
 use Rattle.stim_text.specs.Stimuli.{rows_of, cycles_of}
-use Rattle.stim_text.specs.LaneTexts.{begins_lane, lane_lines, stimulus_of, lane_line_of, row_line, lane_fault, lane_fault_at}
+use Rattle.stim_text.specs.LaneTexts.{begins_lane, lane_lines, stimulus_of, lane_fault, lane_fault_at}
+use Rattle.stim_text.specs.code.LaneTexts.{lane_line_of, row_line}
 use Rattle.stim_text.proofs.CutLemmas.{IsCut, cut_none, cut_yes, cut_no}
 use Rattle.stim_text.proofs.RowLemmas.{row_of-blank}
 use Rattle.stim_text.proofs.LaneTextLemmas.{asked, rows_more, cycles_append, none_if, fault_outside, lanes_cut}

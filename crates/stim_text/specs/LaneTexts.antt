@@ -6,15 +6,12 @@ use Rattle.text_lines.specs.Answers.{first}
 use Rattle.text_lines.specs.Lines.{parts_of}
 use Rattle.text_lines.specs.Words.{words_of}
 use Rattle.net_defs.specs.declared.stimulus.Stimulus.{Stimulus}
-use Rattle.net_defs.specs.declared.stimulus.StimRow.{StimRow}
-use Rattle.stim_text.specs.declared.lane_line.LaneLine.{LaneLine}
-use Rattle.stim_text.specs.declared.lane_line.LaneLine.TheVariants.{Begins, Blank, Row}
 use Rattle.stim_text.specs.declared.lanes.Lanes.{Lanes}
 use Rattle.stim_text.specs.declared.lanes.TheConstants.{MAX_LANES}
 use Rattle.stim_text.specs.declared.refusal.LaneNo.{LaneNo}
 use Rattle.stim_text.specs.declared.refusal.LaneNo.TheVariants.{NoLane, TooMany, Stim}
 use Rattle.stim_text.specs.Repeats.{is_blank_part, only_word}
-use Rattle.stim_text.specs.Rows.{row_of, fault_of}
+use Rattle.stim_text.specs.Rows.{fault_of}
 use Rattle.stim_text.specs.Stimuli.{LinesRead, rows_of, cycles_of}
 
 -- ---- the lines of lanes
@@ -26,20 +23,6 @@ is_lane_word (Some word) = bytes_eq word (codes "lane")
 -- whether a line begins a lane: `lane` is its only word
 unfoldable pub begins_lane : List ℕ → Bool
 begins_lane part = is_lane_word (only_word (words_of part))
-
-abbrev pub row_line : Option StimRow → LaneLine
-row_line None = Blank
-row_line (Some row) = Row row
-
--- what an allowed line is
-unfoldable pub lane_line_of : List ℕ → LaneLine
-lane_line_of part = if begins_lane part then Begins else row_line (row_of part)
-
--- the cycles that a line adds to its lane
-abbrev pub times_in : LaneLine → ℕ
-times_in Begins = 0
-times_in Blank = 0
-times_in (Row row) = row.times
 
 -- how many lanes begin among these lines
 abbrev pub lane_count : List (List ℕ) → ℕ

@@ -5,3 +5,4 @@ pub mod Orders
 pub mod Repeats
 pub mod Rows
 pub mod Stimuli
+pub mod code

@@ -2,13 +2,15 @@
 
 ghost use Rattle.std.specs.Prelude.{◌≡◌, ◌≢◌, ◌⊎◌, ◌+◌, ◌≤◌, ◌<◌, ◌^◌, Some, None, length, nat_lt, if◌then◌else◌, IfOk, IfErr};
 ghost use Rattle.std.specs.Option.{option_map};
-ghost use Rattle.text_lines.specs.Answers.{Answers, fault_or};
+ghost use Rattle.text_lines.specs.Answers.{Answers};
+ghost use Rattle.text_lines.specs.code.Answers.{fault_or};
 ghost use Rattle.stim_text.specs.declared.lane_line.LaneLine.TheVariants as lane_line;
 ghost use Rattle.stim_text.specs.declared.refusal.LaneNo.TheVariants.{NoLane, TooMany, Stim, Memory as NoMemory};
 ghost use Rattle.stim_text.specs.declared.refusal.StimNo.TheVariants as stim_no;
 ghost use Rattle.stim_text.specs.Repeats.{is_blank_part};
 ghost use Rattle.stim_text.specs.Rows.{row_of, fault_of};
-ghost use Rattle.stim_text.specs.LaneTexts.{begins_lane, lane_fault, lane_line_of, row_line, times_in};
+ghost use Rattle.stim_text.specs.LaneTexts.{begins_lane, lane_fault};
+ghost use Rattle.stim_text.specs.code.LaneTexts.{lane_line_of, row_line, times_in};
 
 use crate::lanes::MAX_LANES;
 use crate::refusal::{LaneNo, StimNo};
@@ -28,7 +30,7 @@ pub enum LaneLine {
 
 /// Reads the part of a line outside its comment, after so many lanes have begun, the last of which
 /// has so many cycles: what it is, or its fault.
-#[tactic(auto, unfolding(crate::specs::LaneTexts::lane_fault, crate::specs::LaneTexts::lane_line_of))]
+#[tactic(auto, unfolding(crate::specs::LaneTexts::lane_fault, crate::specs::code::LaneTexts::lane_line_of))]
 pub fn read_line(
     alloc: Global,
     inputs: u32,

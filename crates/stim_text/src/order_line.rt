@@ -1,7 +1,7 @@
 //! One line of an order text.
 
 ghost use Rattle.std.specs.Prelude.{◌≡◌, ◌+◌, ◌≤◌, Some, IfOk, IfSome};
-ghost use Rattle.text_lines.specs.Answers.{fault_or};
+ghost use Rattle.text_lines.specs.code.Answers.{fault_or};
 ghost use Rattle.stim_text.specs.OrderLines.{line_of, form_fault, fault_of};
 
 use crate::order::OrderLine;

@@ -9,7 +9,7 @@ use Rattle.std.proofs.lemmas.List.Elements.{Contains-append_left, Contains-push,
 use Rattle.list_laws.proofs.Places.{place_below}
 use Rattle.plan_defs.specs.declared.switch.Receipt.{Receipt}
 use Rattle.plan_defs.specs.declared.switch.PortLinks.{PortLinks}
-use Rattle.switch_set.specs.Links.{links_at, with_receipt, Receives}
+use Rattle.switch_set.specs.code.Links.{links_at, with_receipt, Receives}
 
 -- ---- one port that does more
 

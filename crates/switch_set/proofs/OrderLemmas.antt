@@ -9,7 +9,8 @@ use Rattle.std.proofs.lemmas.List.Sorted.{IsPermutation-map, All-permutation, Co
 use Rattle.std.proofs.lemmas.Map.Keys.{IsDistinct-IsPermutation}
 use Rattle.std.proofs.lemmas.Map.Made.{IsDistinct-from_AllPairs, AllPairs-from_IsDistinct}
 use Rattle.switch_set.specs.declared.order.Placed.{Placed}
-use Rattle.switch_set.specs.Order.{placed_at, IsPlaced, items_of, IsSlotOrder}
+use Rattle.switch_set.specs.Order.{IsPlaced, items_of, IsSlotOrder}
+use Rattle.switch_set.specs.code.Order.{placed_at}
 
 -- the numbers of items in item order
 items_same : (slots numbers : List ℕ) → items_of (map (placed_at slots) numbers) ≡ numbers

@@ -21,7 +21,7 @@ use Rattle.plan_defs.specs.Switches.{IsSendingOf, IsSent, IsReceiptOf, IsSwitch}
 use Rattle.plan_defs.proofs.PlanLemmas.{one_at_home, one_received}
 use Rattle.plan_defs.proofs.PortLemmas.{home_port, reader_port}
 use Rattle.switch_set.specs.declared.order.Placed.{Placed}
-use Rattle.switch_set.specs.Links.{links_at, Links, AreSendsOf, AreReceiptsOf, AreLinked}
+use Rattle.switch_set.specs.code.Links.{links_at, Links, AreSendsOf, AreReceiptsOf, AreLinked}
 use Rattle.switch_set.specs.Order.{items_of, IsPlaced, IsSlotOrder}
 use Rattle.switch_set.proofs.ListLemmas.{among, listed_same, listed_more}
 

@@ -5,10 +5,6 @@ use Rattle.std.specs.List.Sorted.{IsNonDecreasingBy}
 use Rattle.plan_defs.specs.Slots.{slot_of}
 use Rattle.switch_set.specs.declared.order.Placed.{Placed}
 
--- item i in its slot
-abbrev pub placed_at : List ℕ → ℕ → Placed
-placed_at slots i = record { slot = slot_of slots i; item = i }
-
 -- this is an item in its slot
 abbrev pub IsPlaced : List ℕ → Placed → Type 0
 IsPlaced slots placed = (placed.item < length slots) × (placed.slot ≡ slot_of slots placed.item)

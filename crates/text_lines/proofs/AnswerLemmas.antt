@@ -2,7 +2,8 @@
 use Rattle.std.proofs.Common.{◌≡◌, ℕ, zero, suc, ◌<◌, ◌⊎◌, Option, Some, None, Ok, Err, sym, ap, ◌∙◌, subst, refl, inl, inr, arith}
 use Rattle.std.proofs.lemmas.Bool.{cases_lt}
 use Rattle.std.specs.Option.{option_or}
-use Rattle.text_lines.specs.Answers.{first, fault_or}
+use Rattle.text_lines.specs.Answers.{first}
+use Rattle.text_lines.specs.code.Answers.{fault_or}
 
 pub none_is_not_some : {A : Type 0} {x : A} → None ≡ Some x → ⊥
 none_is_not_some e = cc

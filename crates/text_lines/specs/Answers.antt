@@ -7,11 +7,6 @@ unfoldable pub first : {E : Type 0} → (ℕ → Option E) → ℕ → Option E
 first fault zero = None
 first fault (suc n) = option_or (first fault n) (fault n)
 
--- a fault, or the value where there is none
-abbrev pub fault_or : {T E : Type 0} → Option E → T → Result T E
-fault_or None x = Ok x
-fault_or (Some fault) x = Err fault
-
 -- A reader's answer: what is right, where there is no fault, and otherwise the fault. The memory's
 -- error may come in place of either.
 abbrev pub Answers : {T E : Type 0} → E → Result T E → Option E → (T → Type 0) → Type 0

@@ -1,5 +1,6 @@
 pub mod Answers
 pub mod Bytes
+pub mod code
 pub mod Lines
 pub mod Names
 pub mod Numbers

@@ -6,7 +6,7 @@ ghost use Rattle.image_defs.specs.WellFormed.{IsWellFormed};
 ghost use Rattle.event_defs.specs.declared.place.Action.TheVariants as action;
 ghost use Rattle.slot_words.specs.Passes.{AreFirstPasses, IsFirstPass, IsOf};
 ghost use Rattle.port_run.specs.Kept.{IsKept};
-ghost use Rattle.port_run.specs.Steps.{IsUpcoming};
+ghost use Rattle.port_run.specs.code.Steps.{IsUpcoming};
 
 use bench_read::law::reads_as_valid;
 use bench_read::read_bench;

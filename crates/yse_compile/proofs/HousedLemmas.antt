@@ -18,7 +18,7 @@ use Rattle.node_defs.specs.WellFormed.{IsWellFormed, IsComputed}
 use Rattle.plan_defs.specs.declared.plan.Homes.{Homes}
 use Rattle.plan_defs.specs.Lists.{IsLeastFree}
 use Rattle.plan_defs.specs.Picks.{bits_of, node_count, node_room, IsInTurn, HasPickedHome, ArePicked, FindsNoPort, HasTooManyNodes}
-use Rattle.home_pick.specs.Rooms.{limits_of, LacksBits, IsMostLeft, AreFilled, IsSpent, AreTurned, homes_at, AreItemPorts}
+use Rattle.home_pick.specs.code.Rooms.{limits_of, LacksBits, IsMostLeft, AreFilled, IsSpent, AreTurned, homes_at, AreItemPorts}
 use Rattle.home_pick.proofs.FillLemmas.{filled_none, filled_more, none_found, left_none, left_more, bits_read, some_bits}
 use Rattle.home_pick.proofs.HomeLemmas.{picked_are, ports_more, computed_last, node_room_left, source_first}
 use Rattle.home_pick.proofs.TurnLemmas.{turned_none, turned_before, turned_more, in_turn, room_left, some_unspent}

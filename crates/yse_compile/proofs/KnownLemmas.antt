@@ -7,7 +7,8 @@ use Rattle.std.proofs.lemmas.Option.{slice_get_within, none-some}
 use Rattle.std.proofs.Math.Numerals.{add-one}
 use Rattle.list_laws.proofs.Options.{one_some}
 use Rattle.list_laws.proofs.Ranges.{last_or}
-use Rattle.plan_defs.specs.Lists.{ListsBelow, IsLeastFree}
+use Rattle.plan_defs.specs.Lists.{IsLeastFree}
+use Rattle.plan_defs.specs.code.Lists.{ListsBelow}
 use Rattle.plan_defs.proofs.ListLemmas.{listed_none, listed_more, listed_not}
 
 -- it is so, or it is not

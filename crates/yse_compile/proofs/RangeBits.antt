@@ -14,7 +14,7 @@ use Rattle.machine_text.proofs.LimitLemmas.{limit_in_range}
 use Rattle.node_defs.specs.declared.items.NodeBlock.{NodeBlock}
 use Rattle.node_defs.specs.declared.items.NodeNet.{NodeNet}
 use Rattle.plan_defs.specs.declared.plan.Homes.{Homes}
-use Rattle.plan_defs.specs.Lists.{ListsBelow}
+use Rattle.plan_defs.specs.code.Lists.{ListsBelow}
 use Rattle.plan_defs.specs.Picks.{bits_of, bits_before, bit_limit, AreHoused}
 use Rattle.plan_defs.proofs.ListLemmas.{listed_none, listed_more, listed_not, listed_all}
 use Rattle.switch_set.proofs.SameLemmas.{one_lists}

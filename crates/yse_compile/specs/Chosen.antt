@@ -37,13 +37,6 @@ pub record IsDesign (net : Netlist) (machine : Machine) (timing : Timing) (compi
   pub routed : IsSwitch compiled.nodes compiled.homes compiled.plan.slots compiled.switch
   pub built : IsBuilt compiled.nodes compiled.homes compiled.plan compiled.switch timing compiled.image
 
--- homes of these items on the machine, the memories at the first array ports with room
-pub record AreHomesOn (nodes : NodeNet) (machine : Machine) (homes : Homes) : Type 0 where
-  pub logic : homes.logic ≡ machine.logic
-  pub array : homes.array ≡ machine.array
-  pub are : AreHomes nodes homes
-  pub memories : AreHoused nodes machine homes.blocks (length nodes.blocks)
-
 -- items at these homes have a first-fit plan of few enough slots and tables
 pub record HomesFit (nodes : NodeNet) (machine : Machine) (homes : Homes) : Type 0 where
   pub plan : Plan

@@ -2,4 +2,4 @@ pub mod Claims
 pub mod Chosen
 pub mod Compiled
 pub mod Designs
-pub mod Housing
+pub mod code

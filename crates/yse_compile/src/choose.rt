@@ -11,7 +11,7 @@ ghost use Rattle.plan_defs.specs.Tables.{Fits};
 ghost use Rattle.yse_compile.specs.Chosen.{FitsBy, FitsEither, HomesFit, IsChosen};
 ghost use Rattle.yse_compile.specs.Compiled.{ShowsReference, IsRight};
 ghost use Rattle.yse_compile.specs.Designs.{DesignFits};
-ghost use Rattle.yse_compile.specs.Housing.{AreAtHome, AreImproved};
+ghost use Rattle.yse_compile.specs.code.Housing.{AreAtHome, AreImproved};
 ghost use Rattle.yse_compile.specs.declared.compiler.CompNo.TheVariants as no;
 
 use crate::compiler::{CompNo, Compiled};

@@ -11,9 +11,10 @@ ghost use Rattle.plan_defs.specs.Homes.{AreHomes};
 ghost use Rattle.plan_defs.specs.Picks.{ArePicked};
 ghost use Rattle.plan_defs.specs.Slots.{IsFirstFitPlan};
 ghost use Rattle.plan_defs.specs.Tables.{Fits};
-ghost use Rattle.yse_compile.specs.Chosen.{AreHomesOn, FitsEither, HomesFit, IsDesign};
+ghost use Rattle.yse_compile.specs.Chosen.{FitsEither, HomesFit, IsDesign};
+ghost use Rattle.yse_compile.specs.code.Chosen.{AreHomesOn};
 ghost use Rattle.yse_compile.specs.Designs.{IsAcyclic, DesignFits};
-ghost use Rattle.yse_compile.specs.Housing.{AreAtHome};
+ghost use Rattle.yse_compile.specs.code.Housing.{AreAtHome};
 ghost use Rattle.yse_compile.specs.Compiled.{IsCompiled, ShowsReference, IsRight};
 ghost use Rattle.yse_compile.specs.declared.compiler.CompNo.TheVariants as no;
 

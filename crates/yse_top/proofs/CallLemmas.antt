@@ -13,7 +13,7 @@ use Rattle.yse_top.specs.Expected.{Expected}
 use Rattle.yse_top.specs.Law.{IsProper}
 use Rattle.yse_top.specs.Outcome.{Outcome}
 use Rattle.yse_top.specs.Readings.{Reading, AreReadings}
-use Rattle.yse_top.specs.Refusals.{Follows, ended_with}
+use Rattle.yse_top.specs.code.Refusals.{Follows, ended_with}
 use Rattle.yse_top.proofs.ChainLemmas.{follows_here}
 
 module _ (names : Option (List ℕ → Bool)) (bytes : Option (List ℕ → List ℕ)) (old new : FileCounts) where

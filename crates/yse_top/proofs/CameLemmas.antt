@@ -5,7 +5,7 @@ use Rattle.edge_io.specs.declared.counts.FileCounts.{FileCounts}
 use Rattle.cmd_words.specs.Asked.{asked}
 use Rattle.yse_top.specs.declared.status.Status.{Status}
 use Rattle.yse_top.specs.declared.status.Status.TheVariants as status
-use Rattle.yse_top.specs.Came.{CameTo}
+use Rattle.yse_top.specs.code.Came.{CameTo}
 use Rattle.yse_top.specs.Ends.{AreToldBy, IsDoneOrMemory, MayWrite}
 use Rattle.yse_top.specs.Expected.{Expected}
 use Rattle.yse_top.specs.Law.{IsProper, TellsWords}

@@ -12,10 +12,11 @@ use Rattle.machine_text.specs.declared.machine.Machine.{Machine}
 use Rattle.net_defs.specs.declared.homes.HomeChoice.{HomeChoice}
 use Rattle.net_defs.specs.declared.netlist.Netlist.{Netlist}
 use Rattle.net_defs.specs.declared.timing.Timing.{Timing}
-use Rattle.yse_top.specs.Checks.{After, Refuses, RefusesDesign, HasNoLoop, HasRoom}
+use Rattle.yse_top.specs.Checks.{After, Refuses, HasNoLoop, HasRoom}
+use Rattle.yse_top.specs.code.Checks.{RefusesDesign}
 use Rattle.yse_top.specs.Outcome.{Outcome}
 use Rattle.yse_top.specs.Readings.{Reading, IsReading, AreReadings}
-use Rattle.yse_top.specs.Refusals.{Follows, outcome_of}
+use Rattle.yse_top.specs.code.Refusals.{Follows, outcome_of}
 use Rattle.yse_top.specs.commands.Run.{AfterFit}
 use Rattle.edge_io.proofs.WritingLemmas.{rose_since, rose_until}
 

@@ -4,11 +4,11 @@ use Rattle.yse_top.specs.declared.output.Ending.{Ending}
 use Rattle.yse_top.specs.declared.output.Output.{Output}
 use Rattle.yse_top.specs.declared.output.Output.TheVariants as output
 use Rattle.yse_top.specs.declared.status.Status.TheVariants as status
-use Rattle.yse_top.specs.Endings.{ending_in, status_after, IsTold}
+use Rattle.yse_top.specs.code.Endings.{ending_in, status_after, IsTold}
 use Rattle.yse_top.specs.Ends.{MayWrite}
-use Rattle.yse_top.specs.Outputs.{bytes_of}
+use Rattle.yse_top.specs.code.Outputs.{bytes_of}
 use Rattle.yse_top.specs.Outcome.{done}
-use Rattle.yse_top.specs.Refusals.{ended_with}
+use Rattle.yse_top.specs.code.Refusals.{ended_with}
 use Rattle.edge_io.specs.Writing.{TakesLine}
 use Rattle.edge_io.proofs.WritingLemmas.{writes_none, tells_written}
 

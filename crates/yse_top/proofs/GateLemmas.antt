@@ -19,9 +19,10 @@ use Rattle.port_host.specs.Rows.{printed_sources}
 use Rattle.slot_words.specs.Rule.{turns_of}
 use Rattle.yse_top.specs.declared.commands.steps.Pace.{Pace}
 use Rattle.yse_top.specs.declared.refusal.Refusal.{Refusal}
-use Rattle.yse_top.specs.Images.{IsImageOf}
+use Rattle.yse_top.specs.code.Images.{IsImageOf}
 use Rattle.yse_top.specs.Orders.{IsMachineImage}
-use Rattle.yse_top.specs.Visited.{AreRunVisits, KeepsGates, block_of}
+use Rattle.yse_top.specs.Visited.{AreRunVisits, block_of}
+use Rattle.yse_top.specs.code.Visited.{KeepsGates}
 
 pub stay_in_place : {G : Type 0} (gates : List (Option G)) → AreInPlace gates gates
 stay_in_place gates = record { count = refl; some = λ i g there. (g, there) }

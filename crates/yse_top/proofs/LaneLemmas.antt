@@ -28,13 +28,14 @@ use Rattle.yse_top.specs.declared.output.Output.{Output}
 use Rattle.yse_top.specs.declared.refusal.Refusal.{Refusal}
 use Rattle.yse_top.specs.declared.status.Status.TheVariants as status
 use Rattle.yse_top.specs.Checks.{After, Refuses, HasFewBits, HasFewLaneCells}
-use Rattle.yse_top.specs.Endings.{ending_in}
+use Rattle.yse_top.specs.code.Endings.{ending_in}
 use Rattle.yse_top.specs.Ends.{MayWrite}
-use Rattle.yse_top.specs.Images.{IsImageOf}
+use Rattle.yse_top.specs.code.Images.{IsImageOf}
 use Rattle.yse_top.specs.Outcome.{Outcome, done, out_of_memory}
 use Rattle.yse_top.specs.Readings.{Reading}
-use Rattle.yse_top.specs.Refusals.{Follows, outcome_of, refused_of}
-use Rattle.yse_top.specs.Visited.{AreVisitsOfLanes, KeepsGates, LanesTelling, TellsOfLanes}
+use Rattle.yse_top.specs.code.Refusals.{Follows, outcome_of, refused_of}
+use Rattle.yse_top.specs.Visited.{AreVisitsOfLanes}
+use Rattle.yse_top.specs.code.Visited.{KeepsGates, LanesTelling, TellsOfLanes}
 use Rattle.yse_top.specs.commands.Pack.{AfterLanes, AreLaneTraces, AreTracesAfter, ExpectedPack, KeepsLanesOn, PacksIn, PacksOn}
 use Rattle.yse_top.specs.commands.Run.{AfterMachine}
 use Rattle.yse_top.proofs.CheckLemmas.{trace_only, trace_some}

@@ -12,9 +12,9 @@ use Rattle.yse_top.specs.declared.reading.Timed.{Timed}
 use Rattle.yse_top.specs.declared.refusal.Refusal.{Refusal}
 use Rattle.yse_top.specs.Checks.{After, AfterFile}
 use Rattle.yse_top.specs.Outcome.{Outcome}
-use Rattle.yse_top.specs.Passing.{AfterTimed, Continuation, Never, Only, Passes, Steps}
+use Rattle.yse_top.specs.code.Passing.{AfterTimed, Continuation, Never, Only, Passes, Steps}
 use Rattle.yse_top.specs.Readings.{Reading, AreReadings}
-use Rattle.yse_top.specs.Refusals.{AnswersText, Follows, GivesText, Satisfies, outcome_of, refused_of}
+use Rattle.yse_top.specs.code.Refusals.{AnswersText, Follows, GivesText, Satisfies, outcome_of, refused_of}
 use Rattle.yse_top.specs.commands.Run.{AfterMachine, AfterNetlist, AfterStimulus}
 use Rattle.yse_top.proofs.ChainLemmas.{no_readings, readings_both}
 use Rattle.yse_top.proofs.WeakerLemmas.{Implies, machine_so, stimulus_so, timed_so}

@@ -32,11 +32,11 @@ use Rattle.image_match.specs.Matches.{Matches}
 use Rattle.port_host.specs.Rows.{printed_sources}
 use Rattle.yse_compile.specs.Compiled.{ShowsReference}
 use Rattle.machine_run.specs.Shown.{AreShown}
-use Rattle.yse_top.specs.Images.{IsImageOf}
+use Rattle.yse_top.specs.code.Images.{IsImageOf}
 use Rattle.net_defs.specs.Valid.{IsValidStimulus}
 use Rattle.seen_list.specs.Filling.{Filling}
 use Rattle.trace_text.specs.Line.{HasRoom}
-use Rattle.yse_top.specs.Outputs.{CanPrint, cycle_lines}
+use Rattle.yse_top.specs.code.Outputs.{CanPrint, cycle_lines}
 use Rattle.yse_top.proofs.TraceLemmas.{printed_front}
 
 pub shown_none : (image : Image) (stimulus : Stimulus) → AreShown image stimulus 0 []

@@ -23,7 +23,7 @@ use Rattle.event_defs.specs.Steps.{CoreState, AreSteps, AreFirstSteps, IsStep, A
 use Rattle.event_core.specs.Core.{CoreView, IsStart, IsSameCore, IsSoundCore, Applies, AreDone, state_of, turns_of, rows_of}
 use Rattle.net_defs.specs.declared.trace.CellRow.{CellRow}
 use Rattle.machine_run.specs.Shown.{AreShown}
-use Rattle.yse_top.specs.Stepped.{HasStepped}
+use Rattle.yse_top.specs.code.Stepped.{HasStepped}
 
 -- ---- steps of states
 

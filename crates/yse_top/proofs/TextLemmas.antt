@@ -14,7 +14,7 @@ use Rattle.yse_top.specs.Checks.{text_of}
 use Rattle.yse_top.specs.Lines.{too_long_line}
 use Rattle.yse_top.specs.Outcome.{refusal, out_of_memory}
 use Rattle.yse_top.specs.Readings.{AreReadings}
-use Rattle.yse_top.specs.Refusals.{GivesText, refused_of}
+use Rattle.yse_top.specs.code.Refusals.{GivesText, refused_of}
 use Rattle.yse_top.proofs.ChainLemmas.{one_reading}
 
 -- the text of a file of at most so many bytes, and the refusal of a longer one

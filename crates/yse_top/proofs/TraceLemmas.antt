@@ -10,7 +10,7 @@ use Rattle.net_defs.specs.declared.trace.Rows.{Rows}
 use Rattle.net_defs.specs.Steps.{State}
 use Rattle.net_defs.specs.Time.{cycle_count}
 use Rattle.net_defs.specs.Trace.{header_line, cycle_line, cells_of, trace_to, IsTrace}
-use Rattle.yse_top.specs.Outputs.{ArePrinted, cycle_lines}
+use Rattle.yse_top.specs.code.Outputs.{ArePrinted, cycle_lines}
 
 -- lines of rows from a cycle on, whose cells f says
 lines_from : (f : ℕ → List V4) (rows : List CellRow) (n : ℕ) → ((c : ℕ) (row : CellRow) → slice_get rows c ≡ Some row → row.cells ≡ f (n + c)) → flat_map (λ p. cycle_line (p.0 + 1) p.1.cells) (enumerate_from n rows) ≡ flat_map (λ c. cycle_line (c + 1) (f c)) (range_with_len n (length rows))

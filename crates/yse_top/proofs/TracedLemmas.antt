@@ -27,13 +27,13 @@ use Rattle.yse_top.specs.Checks.{After, AfterRead, AfterFile, Ends, Writes, text
 use Rattle.yse_top.specs.Expected.{ExpectedOf}
 use Rattle.yse_top.specs.Outcome.{Outcome, done, refusal}
 use Rattle.yse_top.specs.Lines.{too_long_line}
-use Rattle.yse_top.specs.Outputs.{bytes_of}
+use Rattle.yse_top.specs.code.Outputs.{bytes_of}
 use Rattle.yse_top.specs.Readings.{Reading}
-use Rattle.yse_top.specs.Refusals.{Follows}
+use Rattle.yse_top.specs.code.Refusals.{Follows}
 use Rattle.stim_text.specs.declared.lanes.Lanes.{Lanes}
 use Rattle.yse_top.specs.Traced.{AreLanesOfFiles, AreOfFiles, AreTracesOfFiles, IsFaultListOfFiles, IsOutputOfFiles, IsTimingOfFile, IsTraceOfFiles}
 use Rattle.yse_top.specs.Orders.{EndsIn, EndsInOrder}
-use Rattle.yse_top.specs.Endings.{ending_in, status_after}
+use Rattle.yse_top.specs.code.Endings.{ending_in, status_after}
 use Rattle.yse_top.specs.Visited.{IsImageOfFile, IsMachineOfFile}
 use Rattle.yse_top.specs.commands.Fault.{ExpectedFault, FaultsIn, IsFaultList, ListsFaults}
 use Rattle.yse_top.specs.commands.Pack.{AfterLanes, AreLaneTraces, ExpectedPack, KeepsLanesOn, PacksIn, PacksOn}

@@ -23,12 +23,13 @@ use Rattle.yse_top.specs.declared.status.Status.{Status}
 use Rattle.yse_top.specs.declared.status.Status.TheVariants as status
 use Rattle.yse_top.specs.Outcome.{Outcome, done}
 use Rattle.edge_io.specs.Writing.{joined}
-use Rattle.yse_top.specs.Outputs.{lanes_bytes, run_bytes, trace_bytes, wrote_in}
+use Rattle.yse_top.specs.code.Outputs.{lanes_bytes, run_bytes, trace_bytes, wrote_in}
 use Rattle.yse_top.specs.Readings.{Reading}
-use Rattle.yse_top.specs.Endings.{ending_in}
+use Rattle.yse_top.specs.code.Endings.{ending_in}
 use Rattle.yse_top.specs.Ends.{IsWhole, MayWrite}
-use Rattle.yse_top.specs.Refusals.{Follows, ended_with, outcome_of, refused_of, status_so_far, status_told, written_by}
-use Rattle.yse_top.specs.Visited.{AreRunVisits, AreTold, AreTurnsOf, AreVisitsOfFiles, AreVisitsOfImage, EndsTelling, ExecTelling, HasWorkers, KeepsGates, TellsGates, TellsOfExec, TellsOfRun, block_of, has_limit, order_file}
+use Rattle.yse_top.specs.code.Refusals.{Follows, ended_with, outcome_of, refused_of, status_so_far, status_told, written_by}
+use Rattle.yse_top.specs.Visited.{AreRunVisits, AreTold, AreTurnsOf, AreVisitsOfFiles, AreVisitsOfImage, TellsGates, block_of}
+use Rattle.yse_top.specs.code.Visited.{EndsTelling, ExecTelling, HasWorkers, KeepsGates, TellsOfExec, TellsOfRun, has_limit, order_file}
 use Rattle.yse_top.specs.commands.Exec.{ExecutesBy, ExpectedExec, WritesTraceOf}
 use Rattle.yse_top.specs.commands.Run.{AfterMachine, EndsWithin, ExpectedOn, ExpectedRun}
 use Rattle.yse_top.proofs.CallLemmas.{ended_no_fault}

@@ -13,7 +13,7 @@ use Rattle.stim_text.specs.declared.order.Order.{Order}
 use Rattle.yse_top.specs.declared.reading.Timed.{Timed}
 use Rattle.yse_top.specs.Checks.{After, AfterFile, AfterRead, IsLanesOf, IsListOf, IsMachineOf, IsNetlistOf, IsOrderOf, HasNoLoop, HasRoom, IsStimulusOf, listing, text_of}
 use Rattle.yse_top.specs.Outcome.{Outcome}
-use Rattle.yse_top.specs.Passing.{AfterImageFile, AfterNetlistFile, AfterOrderFile, AfterTimed}
+use Rattle.yse_top.specs.code.Passing.{AfterImageFile, AfterNetlistFile, AfterOrderFile, AfterTimed}
 use Rattle.yse_top.specs.Readings.{Reading}
 use Rattle.yse_top.specs.commands.Exec.{AfterImage, AfterMatch, ExecutesBy, IsAccepted, IsImageFileOf, OnImage, RunsImage}
 use Rattle.yse_top.specs.commands.Pack.{AfterLanes}

@@ -8,7 +8,7 @@ ghost use Rattle.cmd_words.specs.Forms.{IsInRange};
 ghost use Rattle.edge_io.specs.Writing.{TakesLine};
 ghost use Rattle.limits.specs.declared.TheConstants.{MAX_WORKERS};
 ghost use Rattle.machine_run.specs.Visits.{AreInPlace};
-ghost use Rattle.yse_top.specs.Came.{CameTo};
+ghost use Rattle.yse_top.specs.code.Came.{CameTo};
 ghost use Rattle.yse_top.specs.Ends.{MayWrite};
 ghost use Rattle.yse_top.specs.Expected.{Expected, ExpectedOf};
 ghost use Rattle.yse_top.specs.Traced.{IsOutputOfFiles};

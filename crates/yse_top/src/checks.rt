@@ -8,12 +8,13 @@ ghost use Rattle.net_defs.specs.declared.stimulus.Stimulus.{Stimulus};
 ghost use Rattle.net_defs.specs.Valid.{Ascends, IsValid, IsValidStimulus, IsValidTiming, input_count};
 ghost use Rattle.yse_compile.specs.Chosen.{IsChosen, FitsBy};
 ghost use Rattle.yse_compile.specs.Compiled.{ShowsReference, IsOverfull, IsRight};
-ghost use Rattle.yse_top.specs.Checks.{Refuses, RefusesDesign, IsLanesOf, IsListOf, IsMachineOf, IsNetlistOf, IsOrderOf, IsStimulusOf, HasNoLoop, HasRoom, HasFewCells, cell_count};
+ghost use Rattle.yse_top.specs.Checks.{Refuses, IsLanesOf, IsListOf, IsMachineOf, IsNetlistOf, IsOrderOf, IsStimulusOf, HasNoLoop, HasRoom, HasFewCells, cell_count};
+ghost use Rattle.yse_top.specs.code.Checks.{RefusesDesign};
 ghost use Rattle.stim_text.specs.Lanes.{AreLanes};
 ghost use Rattle.stim_text.specs.Orders.{IsValidOrder};
-ghost use Rattle.yse_top.specs.Images.{IsImageOf};
+ghost use Rattle.yse_top.specs.code.Images.{IsImageOf};
 ghost use Rattle.yse_top.specs.Orders.{IsMachineImage};
-ghost use Rattle.yse_top.specs.Refusals.{Satisfies, refused_of};
+ghost use Rattle.yse_top.specs.code.Refusals.{Satisfies, refused_of};
 
 use crate::refusal::{Refusal, of_lanes, of_list, of_machine, of_netlist, of_order, of_stimulus};
 use bench_read::law::reads_as_valid;

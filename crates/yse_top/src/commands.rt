@@ -5,9 +5,10 @@ ghost use Rattle.cmd_words.specs.Forms.{IsInRange};
 ghost use Rattle.limits.specs.declared.TheConstants.{MAX_WORKERS};
 ghost use Rattle.machine_run.specs.Visits.{AreInPlace};
 ghost use Rattle.yse_top.specs.Expected.{ExpectedOf};
-ghost use Rattle.yse_top.specs.Outputs.{CanEnd};
-ghost use Rattle.yse_top.specs.Refusals.{Follows, MayTake, status_told};
-ghost use Rattle.yse_top.specs.Visited.{AllCanTell, HasWorkers, TellsGates, has_limit, order_file};
+ghost use Rattle.yse_top.specs.code.Outputs.{CanEnd};
+ghost use Rattle.yse_top.specs.code.Refusals.{Follows, MayTake, status_told};
+ghost use Rattle.yse_top.specs.Visited.{AllCanTell, TellsGates};
+ghost use Rattle.yse_top.specs.code.Visited.{HasWorkers, has_limit, order_file};
 
 mod compile;
 mod exec;

@@ -3,7 +3,7 @@
 ghost use Rattle.std.specs.Prelude.{◌≡◌};
 ghost use Rattle.edge_io.specs.Writing.{Takes, TakesLine};
 ghost use Rattle.yse_top.specs.Lines.{limit_line, read_fault_line, too_long_line, usage_line, write_fault_line};
-ghost use Rattle.yse_top.specs.Refusals.{line_of, status_of};
+ghost use Rattle.yse_top.specs.code.Refusals.{line_of, status_of};
 
 use crate::lines::image::{write_image_line, write_match_line};
 use crate::lines::list::write_list_line;

@@ -2,11 +2,11 @@
 
 ghost use Rattle.std.specs.Prelude.{◌≡◌, OnErr};
 ghost use Rattle.std.specs.Io.KnownBytes.{append_known};
-ghost use Rattle.yse_top.specs.Endings.{ending_in, status_after, IsTold};
+ghost use Rattle.yse_top.specs.code.Endings.{ending_in, status_after, IsTold};
 ghost use Rattle.yse_top.specs.Ends.{EndsAs, MayWrite};
 ghost use Rattle.yse_top.specs.Lines.{unfinished_line};
-ghost use Rattle.yse_top.specs.Outputs.{bytes_of, CanEnd, HasTaken, wrote_in};
-ghost use Rattle.yse_top.specs.Refusals.{ended_with};
+ghost use Rattle.yse_top.specs.code.Outputs.{bytes_of, CanEnd, HasTaken, wrote_in};
+ghost use Rattle.yse_top.specs.code.Refusals.{ended_with};
 ghost use Rattle.edge_io.specs.Writing.{Takes, TakesLine};
 
 use crate::diagnostics::tell_write_fault;

@@ -6,8 +6,8 @@ ghost use Rattle.limits.specs.declared.TheConstants.{MAX_TEXT_BYTES};
 ghost use Rattle.net_defs.specs.Valid.{IsValid, IsValidTiming};
 ghost use Rattle.node_defs.specs.Order.{AreItems};
 ghost use Rattle.yse_top.specs.Checks.{HasNoLoop, Refuses};
-ghost use Rattle.yse_top.specs.Images.{IsImageOf};
-ghost use Rattle.yse_top.specs.Refusals.{Satisfies, refused_of};
+ghost use Rattle.yse_top.specs.code.Images.{IsImageOf};
+ghost use Rattle.yse_top.specs.code.Refusals.{Satisfies, refused_of};
 ghost use Rattle.yse_top.specs.commands.Exec.{IsAccepted, IsImageFileOf};
 
 use crate::checks::Built;

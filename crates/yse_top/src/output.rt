@@ -1,7 +1,7 @@
 //! The output of a request, and how it is written.
 
 ghost use Rattle.std.specs.Prelude.{IsErr, OnErr};
-ghost use Rattle.yse_top.specs.Outputs.{bytes_of, lanes_bytes, trace_bytes, CanEnd, CanPrint, CanPrintLanes, HasTaken, wrote_in};
+ghost use Rattle.yse_top.specs.code.Outputs.{bytes_of, lanes_bytes, trace_bytes, CanEnd, CanPrint, CanPrintLanes, HasTaken, wrote_in};
 ghost use Rattle.edge_io.specs.Writing.{Takes};
 
 use edge_io::{Sink, WriteNo, write_whole};

@@ -8,8 +8,8 @@ ghost use Rattle.machine_text.specs.Machines.{IsValid as IsValidMachine, ports_o
 ghost use Rattle.net_defs.specs.Valid.{IsValid, IsValidStimulus, IsValidTiming, input_count};
 ghost use Rattle.stim_text.specs.Lanes.{AreLanes};
 ghost use Rattle.stim_text.specs.Orders.{IsValidOrder};
-ghost use Rattle.yse_top.specs.Passing.{AfterImageFile, AfterNetlistFile, AfterOrderFile, AfterTimed, Passes};
-ghost use Rattle.yse_top.specs.Refusals.{GivesText};
+ghost use Rattle.yse_top.specs.code.Passing.{AfterImageFile, AfterNetlistFile, AfterOrderFile, AfterTimed, Passes};
+ghost use Rattle.yse_top.specs.code.Refusals.{GivesText};
 ghost use Rattle.yse_top.specs.commands.Pack.{AfterLanes};
 ghost use Rattle.yse_top.specs.commands.Run.{AfterList, AfterMachine, AfterStimulus};
 

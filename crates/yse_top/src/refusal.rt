@@ -1,7 +1,7 @@
 //! Why a call ends before its output. A fault of writing is no refusal.
 
 ghost use Rattle.std.specs.Prelude.{◌≡◌};
-ghost use Rattle.yse_top.specs.Refusals.{of_image, of_lanes, of_list, of_machine, of_match, of_netlist, of_order, of_stimulus};
+ghost use Rattle.yse_top.specs.code.Refusals.{of_image, of_lanes, of_list, of_machine, of_match, of_netlist, of_order, of_stimulus};
 
 use bench_read::{BenchNo, LastNo};
 use image_check::CheckNo;

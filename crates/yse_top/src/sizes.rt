@@ -6,7 +6,7 @@ ghost use Rattle.net_defs.specs.declared.stimulus.Stimulus.{Stimulus};
 ghost use Rattle.net_defs.specs.Valid.{IsValid, IsValidStimulus, input_count};
 ghost use Rattle.stim_text.specs.Lanes.{AreLanes, longest};
 ghost use Rattle.yse_top.specs.Checks.{HasFewBits, HasFewLaneCells, HasFewSignals, block_bits, lane_cell_count, memory_bits};
-ghost use Rattle.yse_top.specs.Refusals.{Satisfies};
+ghost use Rattle.yse_top.specs.code.Refusals.{Satisfies};
 
 use crate::refusal::Refusal;
 use crate::{MAX_FAULT_SIGNALS, MAX_PACK_BITS};

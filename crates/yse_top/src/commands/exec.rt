@@ -4,9 +4,10 @@ ghost use Rattle.std.specs.Prelude.{◌≤◌, IfOk, length};
 ghost use Rattle.cmd_words.specs.Forms.{IsRunInRange};
 ghost use Rattle.limits.specs.declared.TheConstants.{MAX_WORKERS};
 ghost use Rattle.yse_top.specs.declared.commands.steps.Pace.TheVariants.{Workers};
-ghost use Rattle.yse_top.specs.Outputs.{CanEnd};
-ghost use Rattle.yse_top.specs.Refusals.{Follows, MayTake, written_by};
-ghost use Rattle.yse_top.specs.Visited.{AllCanTell, ExecTelling, KeepsGates, TellsOfExec};
+ghost use Rattle.yse_top.specs.code.Outputs.{CanEnd};
+ghost use Rattle.yse_top.specs.code.Refusals.{Follows, MayTake, written_by};
+ghost use Rattle.yse_top.specs.Visited.{AllCanTell};
+ghost use Rattle.yse_top.specs.code.Visited.{ExecTelling, KeepsGates, TellsOfExec};
 ghost use Rattle.yse_top.specs.commands.Exec.{ExecutesBy, ExpectedExec};
 
 use crate::commands::steps::by_workers;

@@ -5,8 +5,8 @@ ghost use Rattle.edge_io.specs.Writing.{joined};
 ghost use Rattle.net_defs.specs.Loops.{AreRanks};
 ghost use Rattle.net_defs.specs.Valid.{IsValid, IsValidStimulus, IsValidTiming};
 ghost use Rattle.cmd_words.specs.Forms.{IsRunInRange};
-ghost use Rattle.yse_top.specs.Outputs.{CanWrite};
-ghost use Rattle.yse_top.specs.Refusals.{Follows};
+ghost use Rattle.yse_top.specs.code.Outputs.{CanWrite};
+ghost use Rattle.yse_top.specs.code.Refusals.{Follows};
 ghost use Rattle.yse_top.specs.commands.Fault.{ExpectedFault, IsFaultList};
 
 use crate::checks::{WithRanks, ranked};

@@ -5,8 +5,8 @@ ghost use Rattle.std.specs.Prelude.{[], ◌≡◌, ◌⊎◌, ◌≤◌, IfOk, l
 ghost use Rattle.limits.specs.declared.TheConstants.{MAX_LARGE_CYCLES, MAX_LARGE_GATES, MAX_WORKERS};
 ghost use Rattle.large_run.specs.Setting.{large_machine};
 ghost use Rattle.machine_run.specs.Visits.{AreInPlace, AreVisitsOf};
-ghost use Rattle.yse_top.specs.Outputs.{CanWrite};
-ghost use Rattle.yse_top.specs.Refusals.{outcome_of, status_told};
+ghost use Rattle.yse_top.specs.code.Outputs.{CanWrite};
+ghost use Rattle.yse_top.specs.code.Refusals.{outcome_of, status_told};
 ghost use Rattle.yse_top.specs.Visited.{AllCanTell, AreTold};
 ghost use Rattle.yse_top.specs.commands.Large.{ExpectedLarge};
 

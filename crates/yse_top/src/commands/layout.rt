@@ -5,8 +5,8 @@ ghost use Rattle.machine_text.specs.Machines.{IsValid as IsValidMachine};
 ghost use Rattle.net_defs.specs.Valid.{IsValid};
 ghost use Rattle.cmd_words.specs.Forms.{IsRunInRange};
 ghost use Rattle.yse_compile.specs.Chosen.{IsChosen};
-ghost use Rattle.yse_top.specs.Outputs.{CanWrite};
-ghost use Rattle.yse_top.specs.Refusals.{Follows};
+ghost use Rattle.yse_top.specs.code.Outputs.{CanWrite};
+ghost use Rattle.yse_top.specs.code.Refusals.{Follows};
 ghost use Rattle.yse_top.specs.commands.Layout.{ExpectedLayout, IsSheetOf};
 
 use crate::checks::{Planned, designed};

@@ -7,11 +7,12 @@ ghost use Rattle.limits.specs.declared.TheConstants.{MAX_WORKERS};
 ghost use Rattle.machine_run.specs.Visits.{AreInPlace, AreVisitsOf};
 ghost use Rattle.stim_text.specs.Lanes.{AreLanes, longest};
 ghost use Rattle.yse_top.specs.declared.commands.steps.Pace.TheVariants.{Workers};
-ghost use Rattle.yse_top.specs.Images.{IsImageOf};
+ghost use Rattle.yse_top.specs.code.Images.{IsImageOf};
 ghost use Rattle.yse_top.specs.Orders.{IsMachineImage};
-ghost use Rattle.yse_top.specs.Outputs.{CanPrintLanes, CanWrite, lanes_bytes};
-ghost use Rattle.yse_top.specs.Refusals.{Follows, outcome_of};
-ghost use Rattle.yse_top.specs.Visited.{AllCanTell, KeepsGates, LanesTelling, TellsOfLanes};
+ghost use Rattle.yse_top.specs.code.Outputs.{CanPrintLanes, CanWrite, lanes_bytes};
+ghost use Rattle.yse_top.specs.code.Refusals.{Follows, outcome_of};
+ghost use Rattle.yse_top.specs.Visited.{AllCanTell};
+ghost use Rattle.yse_top.specs.code.Visited.{KeepsGates, LanesTelling, TellsOfLanes};
 ghost use Rattle.yse_top.specs.commands.Pack.{AreLaneTraces, ExpectedPack, PacksOn};
 ghost use Rattle.yse_top.specs.commands.Run.{AfterMachine};
 

@@ -4,8 +4,8 @@ ghost use Rattle.std.specs.Prelude.{◌≡◌, IfOk};
 ghost use Rattle.net_defs.specs.Loops.{IsOrder};
 ghost use Rattle.net_defs.specs.Valid.{IsValid, IsValidStimulus, IsValidTiming};
 ghost use Rattle.cmd_words.specs.Forms.{IsRunInRange};
-ghost use Rattle.yse_top.specs.Outputs.{CanWrite, CanPrint, ArePrinted};
-ghost use Rattle.yse_top.specs.Refusals.{Follows};
+ghost use Rattle.yse_top.specs.code.Outputs.{CanWrite, CanPrint, ArePrinted};
+ghost use Rattle.yse_top.specs.code.Refusals.{Follows};
 ghost use Rattle.yse_top.specs.commands.Run.{ExpectedRefer};
 
 use crate::checks::{Design, few_cells, ordered};

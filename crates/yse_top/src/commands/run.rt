@@ -5,11 +5,12 @@ ghost use Rattle.machine_text.specs.Machines.{IsValid as IsValidMachine};
 ghost use Rattle.net_defs.specs.Valid.{IsValid, IsValidStimulus, input_count};
 ghost use Rattle.cmd_words.specs.Forms.{IsRunInRange};
 ghost use Rattle.limits.specs.declared.TheConstants.{MAX_WORKERS};
-ghost use Rattle.yse_top.specs.Images.{IsImageOf};
+ghost use Rattle.yse_top.specs.code.Images.{IsImageOf};
 ghost use Rattle.yse_top.specs.Orders.{IsMachineImage};
-ghost use Rattle.yse_top.specs.Outputs.{CanEnd, CanWrite};
-ghost use Rattle.yse_top.specs.Refusals.{Follows, MayTake, outcome_of, written_by};
-ghost use Rattle.yse_top.specs.Visited.{AllCanTell, EndsTelling, KeepsGates, TellsOfRun, has_limit, order_file};
+ghost use Rattle.yse_top.specs.code.Outputs.{CanEnd, CanWrite};
+ghost use Rattle.yse_top.specs.code.Refusals.{Follows, MayTake, outcome_of, written_by};
+ghost use Rattle.yse_top.specs.Visited.{AllCanTell};
+ghost use Rattle.yse_top.specs.code.Visited.{EndsTelling, KeepsGates, TellsOfRun, has_limit, order_file};
 ghost use Rattle.yse_top.specs.commands.Run.{AfterMachine, EndsWithin, ExpectedOn, ExpectedRun, KeepsTrace};
 
 use crate::checks::{Built, compiled, few_cells};

@@ -1,8 +1,8 @@
 //! `show`: the canonical text of a netlist.
 
 ghost use Rattle.std.specs.Prelude.{IfOk};
-ghost use Rattle.yse_top.specs.Outputs.{CanWrite};
-ghost use Rattle.yse_top.specs.Refusals.{Follows};
+ghost use Rattle.yse_top.specs.code.Outputs.{CanWrite};
+ghost use Rattle.yse_top.specs.code.Refusals.{Follows};
 ghost use Rattle.yse_top.specs.commands.Show.{ExpectedShow};
 
 use crate::output::Output;

@@ -14,11 +14,12 @@ ghost use Rattle.stim_text.specs.Orders.{IsValidOrder};
 ghost use Rattle.event_core.specs.Core.{AreDone, IsSameCore, IsSoundCore, rows_of};
 ghost use Rattle.cmd_words.specs.Forms.{IsRunInRange};
 ghost use Rattle.limits.specs.declared.TheConstants.{MAX_WORKERS};
-ghost use Rattle.yse_top.specs.Images.{IsImageOf};
-ghost use Rattle.yse_top.specs.Orders.{AreRowsInOrder, EndsInOrder, IsEndingOf, IsMachineImage};
-ghost use Rattle.yse_top.specs.Stepped.{HasStepped};
-ghost use Rattle.yse_top.specs.Outputs.{trace_bytes, run_bytes, CanPrint, CanWrite};
-ghost use Rattle.yse_top.specs.Refusals.{ended_with};
+ghost use Rattle.yse_top.specs.code.Images.{IsImageOf};
+ghost use Rattle.yse_top.specs.Orders.{EndsInOrder, IsMachineImage};
+ghost use Rattle.yse_top.specs.code.Orders.{AreRowsInOrder, IsEndingOf};
+ghost use Rattle.yse_top.specs.code.Stepped.{HasStepped};
+ghost use Rattle.yse_top.specs.code.Outputs.{trace_bytes, run_bytes, CanPrint, CanWrite};
+ghost use Rattle.yse_top.specs.code.Refusals.{ended_with};
 ghost use Rattle.yse_top.specs.Visited.{AllCanTell, AreRunVisits};
 
 use crate::checks::Built;

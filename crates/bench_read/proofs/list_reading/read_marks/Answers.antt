@@ -6,7 +6,8 @@ use Rattle.net_defs.specs.Valid.{IsSignal}
 use Rattle.text_lines.specs.Lines.{parts_of}
 use Rattle.text_lines.proofs.AnswerLemmas.{fault_or_ok, fault_or_err}
 use Rattle.text_lines.proofs.LineLemmas.{next_line, no_next_line}
-use Rattle.bench_read.specs.GateLists.{AreMarks, gates_of, gate_of, fault_of}
+use Rattle.bench_read.specs.GateLists.{gates_of, gate_of, fault_of}
+use Rattle.bench_read.specs.code.GateLists.{AreMarks}
 use Rattle.bench_read.proofs.MarkLemmas.{marked_none, marked_blank, marked_more, marked_fault, marked_all}
 use Rattle.bench_read.proofs.list_reading.read_marks.Goals as goal
 

@@ -1,7 +1,7 @@
 -- The command with the options so far.
 use Rattle.std.proofs.Common.{◌≡◌, take}
 use Rattle.clap.specs.Words.{app_of}
-use Rattle.cmd_words.specs.Parses.{app_with, texts_in}
+use Rattle.cmd_words.specs.code.Parses.{app_with, texts_in}
 use Rattle.cmd_words.proofs.parsing.command.Given as goal
 
 abbrev pub invariant-loop-name : goal.invariant-loop-name

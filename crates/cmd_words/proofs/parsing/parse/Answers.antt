@@ -2,7 +2,7 @@
 use Rattle.std.proofs.Common.{◌≡◌, ◌∙◌, sym, true, map}
 use Rattle.std.specs.String.{string_bytes}
 use Rattle.clap.specs.Words.{app_of}
-use Rattle.cmd_words.specs.Parses.{has_no_short, texts_in}
+use Rattle.cmd_words.specs.code.Parses.{has_no_short, texts_in}
 use Rattle.cmd_words.proofs.MatchLemmas.{parse_ok, parse_err, short_refused}
 use Rattle.cmd_words.proofs.parsing.parse.Goals as goal
 

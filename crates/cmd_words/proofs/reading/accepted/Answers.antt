@@ -1,7 +1,7 @@
 -- What the three files ask for is what the words ask for.
 use Rattle.std.proofs.Common.{map}
 use Rattle.std.specs.String.{string_bytes}
-use Rattle.cmd_words.specs.Parses.{texts_in}
+use Rattle.cmd_words.specs.code.Parses.{texts_in}
 use Rattle.cmd_words.proofs.AskLemmas.{says_image}
 use Rattle.cmd_words.proofs.reading.accepted.Goals as goal
 

@@ -1,7 +1,7 @@
 -- What the file asks for is what the words ask for.
 use Rattle.std.proofs.Common.{map}
 use Rattle.std.specs.String.{string_bytes}
-use Rattle.cmd_words.specs.Parses.{texts_in}
+use Rattle.cmd_words.specs.code.Parses.{texts_in}
 use Rattle.cmd_words.proofs.AskLemmas.{says_netlist}
 use Rattle.cmd_words.proofs.reading.layout.Goals as goal
 

@@ -1,7 +1,7 @@
 -- What the two files ask for is what the words ask for.
 use Rattle.std.proofs.Common.{map}
 use Rattle.std.specs.String.{string_bytes}
-use Rattle.cmd_words.specs.Parses.{texts_in}
+use Rattle.cmd_words.specs.code.Parses.{texts_in}
 use Rattle.cmd_words.proofs.AskLemmas.{says_two}
 use Rattle.cmd_words.proofs.reading.simulation.Goals as goal
 

@@ -1,4 +1,4 @@
-use Rattle.crew_run.specs.Phases.{Each, HasBegun}
+use Rattle.crew_run.specs.code.Phases.{Each, HasBegun}
 use Rattle.crew_run.proofs.crew.run_phases.Given as goal
 
 abbrev pub invariant-phases : goal.invariant-phases

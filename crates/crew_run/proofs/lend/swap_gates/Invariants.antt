@@ -1,4 +1,4 @@
-use Rattle.crew_run.specs.Lending.{AreSwapped}
+use Rattle.crew_run.specs.code.Lending.{AreSwapped}
 use Rattle.crew_run.proofs.lend.swap_gates.Given as goal
 
 abbrev pub invariant-workers : goal.invariant-workers

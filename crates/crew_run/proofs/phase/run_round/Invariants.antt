@@ -1,4 +1,4 @@
-use Rattle.crew_run.specs.Phases.{AreStepped}
+use Rattle.crew_run.specs.code.Phases.{AreStepped}
 use Rattle.crew_run.proofs.phase.run_round.Given as goal
 
 abbrev pub invariant-members : goal.invariant-members

@@ -1,4 +1,4 @@
-use Rattle.crew_run.specs.Phases.{AreStepped}
+use Rattle.crew_run.specs.code.Phases.{AreStepped}
 use Rattle.crew_run.proofs.phase.run_rounds.Given as goal
 
 abbrev pub invariant-rounds : goal.invariant-rounds

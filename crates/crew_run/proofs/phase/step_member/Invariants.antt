@@ -1,4 +1,4 @@
-use Rattle.crew_run.specs.Phases.{IsStepped}
+use Rattle.crew_run.specs.code.Phases.{IsStepped}
 use Rattle.crew_run.proofs.phase.step_member.Given as goal
 
 abbrev pub invariant-steps : goal.invariant-steps

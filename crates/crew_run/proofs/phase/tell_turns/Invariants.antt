@@ -1,4 +1,4 @@
-use Rattle.crew_run.specs.Phases.{AreBegun}
+use Rattle.crew_run.specs.code.Phases.{AreBegun}
 use Rattle.crew_run.proofs.phase.tell_turns.Given as goal
 
 abbrev pub invariant-loop-k : goal.invariant-loop-k

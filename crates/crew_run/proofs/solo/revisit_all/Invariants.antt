@@ -1,4 +1,4 @@
-use Rattle.crew_run.specs.Phases.{Each, IsResumed}
+use Rattle.crew_run.specs.code.Phases.{Each, IsResumed}
 use Rattle.crew_run.proofs.solo.revisit_all.Given as goal
 
 abbrev pub invariant-visits : goal.invariant-visits

@@ -1,4 +1,4 @@
-use Rattle.crew_run.specs.Phases.{Each, IsResumed}
+use Rattle.crew_run.specs.code.Phases.{Each, IsResumed}
 use Rattle.crew_run.proofs.solo.run_solo.Given as goal
 
 abbrev pub invariant-rounds : goal.invariant-rounds

@@ -1,4 +1,4 @@
-use Rattle.event_core.specs.Made.{AreFirstSeats}
+use Rattle.event_core.specs.code.Made.{AreFirstSeats}
 use Rattle.event_core.proofs.seats.make.Given as goal
 
 abbrev pub invariant-ports : goal.invariant-ports

@@ -4,7 +4,7 @@ use Rattle.std.specs.List.{All}
 use Rattle.list_laws.proofs.Members.{refill_whole}
 use Rattle.fault_sim.specs.Faults.{all_faults}
 use Rattle.fault_sim.specs.Verdicts.{AreVerdicts}
-use Rattle.fault_sim.specs.Groups.{group_faults, IsDone}
+use Rattle.fault_sim.specs.code.Groups.{group_faults, IsDone}
 use Rattle.fault_sim.proofs.Gathering.{faults_stay, all_done}
 use Rattle.fault_sim.proofs.all.fault_all.Goals as goal
 

@@ -1,5 +1,5 @@
 use Rattle.std.proofs.Common.{◌+◌, sym, subst, arith}
-use Rattle.fault_sim.specs.Groups.{AreGroups}
+use Rattle.fault_sim.specs.code.Groups.{AreGroups}
 use Rattle.fault_sim.proofs.Gathering.{groups_more}
 use Rattle.fault_sim.proofs.all.make_groups.Goals as goal
 

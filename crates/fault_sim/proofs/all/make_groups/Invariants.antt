@@ -1,5 +1,5 @@
 use Rattle.std.proofs.Common.{◌≡◌, ◌*◌, ◌≤◌, ◌<◌, length}
-use Rattle.fault_sim.specs.Groups.{AreGroups}
+use Rattle.fault_sim.specs.code.Groups.{AreGroups}
 use Rattle.fault_sim.proofs.all.make_groups.Given as goal
 
 abbrev pub invariant-groups : goal.invariant-groups

@@ -1,6 +1,6 @@
 use Rattle.std.proofs.Common.{◌<◌, ℕ}
 use Rattle.lane_planes.specs.Lanes.{lane_row}
-use Rattle.fault_sim.specs.Turns.{AreBases}
+use Rattle.fault_sim.specs.code.Turns.{AreBases}
 use Rattle.fault_sim.proofs.base.set_bases.Given as goal
 
 abbrev pub invariant-sources : goal.invariant-sources

@@ -3,7 +3,7 @@ use Rattle.std.specs.List.{All}
 use Rattle.lane_planes.specs.Lanes.{lane_row}
 use Rattle.net_defs.specs.Valid.{IsSignal}
 use Rattle.net_defs.specs.Time.{value_at}
-use Rattle.fault_sim.specs.Turns.{memory_reads, memory_outs}
+use Rattle.fault_sim.specs.code.Turns.{memory_reads, memory_outs}
 use Rattle.fault_sim.proofs.EdgeLemmas.{reads_within, outs_within, answered_in}
 use Rattle.fault_sim.proofs.edge.edge_lane.Goals as goal
 

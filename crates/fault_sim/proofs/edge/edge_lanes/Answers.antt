@@ -3,7 +3,7 @@ use Rattle.std.proofs.lemmas.List.{length-set, get_or_default}
 use Rattle.lane_planes.specs.Lanes.{lane_row}
 use Rattle.ref_sim.specs.States.{AreShaped}
 use Rattle.ref_sim.proofs.Writes.{refill_set}
-use Rattle.fault_sim.specs.Turns.{HasAnswered}
+use Rattle.fault_sim.specs.code.Turns.{HasAnswered}
 use Rattle.fault_sim.proofs.EdgeLemmas.{lanes_more, left_more}
 use Rattle.fault_sim.proofs.edge.edge_lanes.Goals as goal
 

@@ -1,6 +1,6 @@
 use Rattle.std.proofs.Common.{◌≡◌, take}
 use Rattle.std.specs.List.{flat_map}
-use Rattle.fault_sim.specs.Turns.{reads_of}
+use Rattle.fault_sim.specs.code.Turns.{reads_of}
 use Rattle.fault_sim.proofs.edge.make_reads.Given as goal
 
 abbrev pub invariant-memories : goal.invariant-memories

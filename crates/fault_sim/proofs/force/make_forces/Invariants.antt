@@ -2,7 +2,7 @@ use Rattle.std.proofs.Common.{◌≡◌, ◌<◌, ◌≤◌, ℕ, length}
 use Rattle.logic_four.specs.declared.V4.TheVariants.{Undef}
 use Rattle.lane_planes.specs.Lanes.{lane_row}
 use Rattle.net_defs.specs.Time.{value_at}
-use Rattle.fault_sim.specs.Lanes.{force_at}
+use Rattle.fault_sim.specs.code.Lanes.{force_at}
 use Rattle.fault_sim.proofs.force.make_forces.Given as goal
 
 abbrev pub invariant-faults : goal.invariant-faults

@@ -3,7 +3,7 @@ use Rattle.std.proofs.lemmas.List.{length-set}
 use Rattle.logic_four.specs.declared.Kind.TheVariants.{And}
 use Rattle.lane_planes.specs.Lanes.{lane_row}
 use Rattle.fault_sim.specs.declared.program.PairOp.{PairOp}
-use Rattle.fault_sim.specs.Programs.{IsWithin}
+use Rattle.fault_sim.specs.code.Programs.{IsWithin}
 use Rattle.fault_sim.proofs.ProgramLemmas.{op_done, ops_more}
 use Rattle.fault_sim.proofs.program.do_ops.Goals as goal
 

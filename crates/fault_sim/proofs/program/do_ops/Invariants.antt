@@ -1,6 +1,6 @@
 use Rattle.std.proofs.Common.{◌≡◌, ◌<◌, ℕ, length, take}
 use Rattle.lane_planes.specs.Lanes.{lane_row}
-use Rattle.fault_sim.specs.Programs.{follow_forced}
+use Rattle.fault_sim.specs.code.Programs.{follow_forced}
 use Rattle.fault_sim.proofs.program.do_ops.Given as goal
 
 abbrev pub invariant-ops : goal.invariant-ops

@@ -1,5 +1,5 @@
 use Rattle.std.proofs.Common.{take}
-use Rattle.fault_sim.specs.Programs.{IsProgram}
+use Rattle.fault_sim.specs.code.Programs.{IsProgram}
 use Rattle.fault_sim.proofs.program.make_program.Given as goal
 
 abbrev pub invariant-gates : goal.invariant-gates

@@ -1,7 +1,7 @@
 use Rattle.std.proofs.Common.{length, map, take}
 use Rattle.logic_four.specs.Gates.{gate_value}
 use Rattle.net_defs.specs.Time.{value_at}
-use Rattle.fault_sim.specs.Programs.{put_forced, Adds}
+use Rattle.fault_sim.specs.code.Programs.{put_forced, Adds}
 use Rattle.fault_sim.proofs.program.push_wide.Given as goal
 
 abbrev pub invariant-operands : goal.invariant-operands

@@ -1,8 +1,8 @@
 use Rattle.std.proofs.Common.{◌≡◌, length, replicate, take}
 use Rattle.std.specs.List.{flat_map}
-use Rattle.fault_sim.specs.Lanes.{IsReady}
-use Rattle.fault_sim.specs.Turns.{IsRoom}
-use Rattle.fault_sim.specs.Runs.{RunsTo}
+use Rattle.fault_sim.specs.code.Lanes.{IsReady}
+use Rattle.fault_sim.specs.code.Turns.{IsRoom}
+use Rattle.fault_sim.specs.code.Runs.{RunsTo}
 use Rattle.fault_sim.proofs.run.run.Given as goal
 
 abbrev pub invariant-rows : goal.invariant-rows

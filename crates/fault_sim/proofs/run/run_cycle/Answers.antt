@@ -1,6 +1,6 @@
 use Rattle.std.proofs.Common.{◌≡◌, ◌+◌, ◌*◌, refl, subst, arith}
-use Rattle.ref_sim.specs.Runs.{StandsAt}
-use Rattle.fault_sim.specs.Lanes.{lane_net, lane_state}
+use Rattle.ref_sim.specs.code.Runs.{StandsAt}
+use Rattle.fault_sim.specs.code.Lanes.{lane_net, lane_state}
 use Rattle.fault_sim.proofs.Judging.{lane_order, given_inputs, turn_stands}
 use Rattle.fault_sim.proofs.run.run_cycle.Goals as goal
 

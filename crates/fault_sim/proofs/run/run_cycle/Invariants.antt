@@ -1,9 +1,9 @@
 use Rattle.std.proofs.Common.{◌≡◌, ◌+◌, ◌*◌, ◌<◌, [], get_or}
 use Rattle.net_defs.specs.declared.stimulus.Stimulus.{Stimulus}
 use Rattle.net_defs.specs.Time.{cycle_rows, cycle_count}
-use Rattle.fault_sim.specs.Lanes.{IsReady}
-use Rattle.fault_sim.specs.Turns.{IsRoom}
-use Rattle.fault_sim.specs.Runs.{StandsInLanes}
+use Rattle.fault_sim.specs.code.Lanes.{IsReady}
+use Rattle.fault_sim.specs.code.Turns.{IsRoom}
+use Rattle.fault_sim.specs.code.Runs.{StandsInLanes}
 use Rattle.fault_sim.proofs.run.run_cycle.Given as goal
 
 abbrev pub invariant-places : goal.invariant-places

@@ -1,5 +1,5 @@
 use Rattle.std.proofs.Common.{◌≡◌, ◌∙◌, ◌+◌, false, sym, ap, subst, arith}
-use Rattle.fault_sim.specs.Runs.{RunsTo, AreLooked, are_decided}
+use Rattle.fault_sim.specs.code.Runs.{RunsTo, AreLooked, are_decided}
 use Rattle.fault_sim.proofs.Judging.{runs_kept, runs_step}
 use Rattle.fault_sim.proofs.run.run_row.Goals as goal
 

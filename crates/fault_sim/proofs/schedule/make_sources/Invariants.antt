@@ -1,4 +1,4 @@
-use Rattle.fault_sim.specs.Programs.{AreSources}
+use Rattle.fault_sim.specs.code.Programs.{AreSources}
 use Rattle.fault_sim.proofs.schedule.make_sources.Given as goal
 
 abbrev pub invariant-signals : goal.invariant-signals

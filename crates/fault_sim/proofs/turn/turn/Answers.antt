@@ -2,9 +2,9 @@ use Rattle.std.proofs.Common.{◌∙◌, ◌<◌, length, sym, ap, subst, arith}
 use Rattle.std.specs.List.{All}
 use Rattle.std.proofs.lemmas.List.{length-map}
 use Rattle.lane_planes.specs.Lanes.{lane_of, lane_row}
-use Rattle.fault_sim.specs.Lanes.{lane_state}
-use Rattle.fault_sim.specs.Turns.{AreBases, AreActed}
-use Rattle.fault_sim.specs.Programs.{IsWithin, AreSources}
+use Rattle.fault_sim.specs.code.Lanes.{lane_state}
+use Rattle.fault_sim.specs.code.Turns.{AreBases, AreActed}
+use Rattle.fault_sim.specs.code.Programs.{IsWithin, AreSources}
 use Rattle.fault_sim.proofs.BaseLemmas.{same_long}
 use Rattle.fault_sim.proofs.TurnLemmas.{lane_step, still_shaped, words_acted, outputs_acted}
 use Rattle.fault_sim.proofs.turn.turn.Goals as goal

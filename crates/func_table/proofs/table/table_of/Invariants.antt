@@ -1,6 +1,6 @@
 use Rattle.std.proofs.Common.{◌≡◌, ◌<◌, ℕ, length}
 use Rattle.logic_four.specs.Packed.{packed_value}
-use Rattle.func_table.specs.Entries.{answer_at}
+use Rattle.func_table.specs.code.Entries.{answer_at}
 use Rattle.func_table.proofs.table.table_of.Given as goal
 
 abbrev pub invariant-entries : goal.invariant-entries

@@ -1,5 +1,5 @@
 use Rattle.std.proofs.Common.{◌≢◌, ℕ, ◌<◌}
-use Rattle.home_better.specs.Bags.{entry_at}
+use Rattle.home_better.specs.code.Bags.{entry_at}
 use Rattle.home_better.proofs.bags.first_place.Given as goal
 
 abbrev pub invariant-entries : goal.invariant-entries

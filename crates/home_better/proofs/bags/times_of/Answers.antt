@@ -1,5 +1,5 @@
 use Rattle.std.proofs.Common.{◌∙◌, ap, sym, arith}
-use Rattle.home_better.specs.Bags.{times}
+use Rattle.home_better.specs.code.Bags.{times}
 use Rattle.home_better.proofs.BagLemmas.{times_absent, times_here}
 use Rattle.home_better.proofs.bags.times_of.Goals as goal
 

@@ -1,6 +1,6 @@
 use Rattle.std.proofs.Common.{◌≡◌, ◌≤◌, take}
 use Rattle.std.specs.List.{sum_by}
-use Rattle.home_better.specs.Work.{away_by}
+use Rattle.home_better.specs.code.Work.{away_by}
 use Rattle.home_better.proofs.improve.away.Given as goal
 
 abbrev pub invariant-entries : goal.invariant-entries

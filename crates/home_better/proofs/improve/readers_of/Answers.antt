@@ -1,7 +1,7 @@
 use Rattle.std.proofs.Common.{◌≡◌, ◌∙◌, List, ap, sym, subst, arith}
 use Rattle.home_better.specs.declared.bags.Entry.{Entry}
-use Rattle.home_better.specs.Bags.{IsBag, times}
-use Rattle.home_better.specs.Uses.{bag_at}
+use Rattle.home_better.specs.code.Bags.{IsBag, times}
+use Rattle.home_better.specs.code.Uses.{bag_at}
 use Rattle.home_better.proofs.LinkLemmas.{read_taken}
 use Rattle.home_better.proofs.CrossingLemmas.{readers_are}
 use Rattle.home_better.proofs.improve.readers_of.Goals as goal

@@ -2,7 +2,7 @@ use Rattle.std.proofs.Common.{◌≡◌, length, get_or, Some, slice_get, refl, 
 use Rattle.std.proofs.lemmas.Option.{slice_get_read}
 use Rattle.home_better.specs.Bags.{where_at}
 use Rattle.home_better.specs.Crossings.{memory_uses}
-use Rattle.home_better.specs.Uses.{Gives}
+use Rattle.home_better.specs.code.Uses.{Gives}
 use Rattle.home_better.proofs.LinkLemmas.{gives_read}
 use Rattle.home_better.proofs.links.add_blocks.Goals as goal
 

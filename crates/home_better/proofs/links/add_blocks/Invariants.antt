@@ -2,7 +2,7 @@ use Rattle.std.proofs.Common.{◌≡◌}
 use Rattle.plan_defs.specs.Homes.{block_home}
 use Rattle.home_better.specs.Bags.{where_at}
 use Rattle.home_better.specs.Crossings.{block_uses}
-use Rattle.home_better.specs.Uses.{AreBags, Gives}
+use Rattle.home_better.specs.code.Uses.{AreBags, Gives}
 use Rattle.home_better.proofs.SumLemmas.{total}
 use Rattle.home_better.proofs.links.add_blocks.Given as goal
 

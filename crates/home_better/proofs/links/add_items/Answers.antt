@@ -1,8 +1,9 @@
 use Rattle.std.proofs.Common.{◌≡◌, ◌∙◌, ◌≢◌, ◌<◌, ℕ, List, length, get_or, refl, sym, ap, subst, arith}
 use Rattle.std.proofs.lemmas.Option.{slice_get_read}
 use Rattle.home_better.specs.declared.bags.Entry.{Entry}
-use Rattle.home_better.specs.Bags.{times, where_at}
-use Rattle.home_better.specs.Uses.{bag_at, Gives}
+use Rattle.home_better.specs.Bags.{where_at}
+use Rattle.home_better.specs.code.Bags.{times}
+use Rattle.home_better.specs.code.Uses.{bag_at, Gives}
 use Rattle.home_better.proofs.LinkLemmas.{gives_taken, taken_low, bag_read}
 use Rattle.home_better.proofs.links.add_items.Goals as goal
 

@@ -2,7 +2,7 @@ use Rattle.std.proofs.Common.{◌≡◌}
 use Rattle.plan_defs.specs.Homes.{home_of}
 use Rattle.home_better.specs.Bags.{where_at}
 use Rattle.home_better.specs.Crossings.{uses_by}
-use Rattle.home_better.specs.Uses.{AreBags, Gives}
+use Rattle.home_better.specs.code.Uses.{AreBags, Gives}
 use Rattle.home_better.proofs.SumLemmas.{total}
 use Rattle.home_better.proofs.links.add_items.Given as goal
 

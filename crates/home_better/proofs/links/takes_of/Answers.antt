@@ -2,7 +2,7 @@ use Rattle.std.proofs.Common.{◌≡◌, ◌≤◌, ◌∷◌, ◌++◌, [], Lis
 use Rattle.std.proofs.lemmas.List.{length_push}
 use Rattle.plan_defs.proofs.UserLemmas.{read_at}
 use Rattle.home_better.specs.declared.bags.Entry.{Entry}
-use Rattle.home_better.specs.Bags.{IsBag}
+use Rattle.home_better.specs.code.Bags.{IsBag}
 use Rattle.home_better.proofs.LinkLemmas.{all_push, taken_more}
 use Rattle.home_better.proofs.links.takes_of.Goals as goal
 

@@ -1,7 +1,7 @@
 use Rattle.std.proofs.Common.{◌≡◌, ℕ, ◌<◌, ◌≤◌, length}
-use Rattle.home_better.specs.Bags.{times}
+use Rattle.home_better.specs.code.Bags.{times}
 use Rattle.home_better.specs.Crossings.{uses_by}
-use Rattle.home_better.specs.Uses.{bag_at, AreBags}
+use Rattle.home_better.specs.code.Uses.{bag_at, AreBags}
 use Rattle.home_better.proofs.links.takes_of.Given as goal
 
 abbrev pub invariant-items : goal.invariant-items

@@ -2,7 +2,7 @@ use Rattle.std.proofs.Common.{◌∙◌, List, ℕ, length, ap, subst}
 use Rattle.plan_defs.specs.Homes.{host_of}
 use Rattle.home_better.specs.Bags.{where_at}
 use Rattle.home_better.specs.Crossings.{times_in}
-use Rattle.home_better.specs.Uses.{Gives}
+use Rattle.home_better.specs.code.Uses.{Gives}
 use Rattle.home_better.proofs.LinkLemmas.{uses_are}
 use Rattle.home_better.proofs.links.uses_of.Goals as goal
 

@@ -1,8 +1,8 @@
 use Rattle.std.proofs.Common.{◌≡◌, ◌≢◌, ◌∙◌, ◌<◌, List, ℕ, length, get_or, sym, ap, subst, arith}
 use Rattle.home_better.specs.declared.bags.Entry.{Entry}
-use Rattle.home_better.specs.Bags.{times}
-use Rattle.home_better.specs.Spread.{AreSpreadWithout}
-use Rattle.home_better.specs.Uses.{bag_at}
+use Rattle.home_better.specs.code.Bags.{times}
+use Rattle.home_better.specs.code.Spread.{AreSpreadWithout}
+use Rattle.home_better.specs.code.Uses.{bag_at}
 use Rattle.home_better.proofs.LinkLemmas.{read_taken, taken_low}
 use Rattle.home_better.proofs.SpreadLemmas.{lifted_spread}
 use Rattle.home_better.proofs.WorkLemmas.{lift_some, lifted_uses}

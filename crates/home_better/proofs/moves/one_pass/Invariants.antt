@@ -1,7 +1,7 @@
 use Rattle.std.proofs.Common.{◌≡◌}
 use Rattle.std.specs.List.{range_with_len}
 use Rattle.home_better.specs.Better.{settled_from}
-use Rattle.home_better.specs.Working.{IsWork}
+use Rattle.home_better.specs.code.Working.{IsWork}
 use Rattle.home_better.proofs.moves.one_pass.Given as goal
 
 abbrev pub invariant-nodes : goal.invariant-nodes

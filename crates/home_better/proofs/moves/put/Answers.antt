@@ -2,12 +2,13 @@ use Rattle.std.proofs.Common.{◌≡◌, ◌≢◌, ◌∙◌, ◌+◌, ◌<◌,
 use Rattle.std.specs.Prelude.{slice_index}
 use Rattle.plan_defs.specs.Homes.{home_of}
 use Rattle.home_better.specs.declared.bags.Entry.{Entry}
-use Rattle.home_better.specs.Bags.{times, where_at}
+use Rattle.home_better.specs.Bags.{where_at}
+use Rattle.home_better.specs.code.Bags.{times}
 use Rattle.home_better.specs.Better.{load_at}
 use Rattle.home_better.specs.Crossings.{crossings, moved}
-use Rattle.home_better.specs.Moves.{pull_at}
-use Rattle.home_better.specs.Uses.{bag_at}
-use Rattle.home_better.specs.Working.{IsWork}
+use Rattle.home_better.specs.code.Moves.{pull_at}
+use Rattle.home_better.specs.code.Uses.{bag_at}
+use Rattle.home_better.specs.code.Working.{IsWork}
 use Rattle.home_better.proofs.LinkLemmas.{read_taken, taken_low}
 use Rattle.home_better.proofs.LoadLemmas.{node_home}
 use Rattle.home_better.proofs.MoveLemmas.{moved_homes}

@@ -1,5 +1,5 @@
 use Rattle.std.proofs.Common.{◌≡◌}
-use Rattle.home_better.specs.Working.{IsWork}
+use Rattle.home_better.specs.code.Working.{IsWork}
 use Rattle.home_better.proofs.WorkLemmas.{IsPassed}
 use Rattle.home_better.proofs.moves.settle_all.Given as goal
 

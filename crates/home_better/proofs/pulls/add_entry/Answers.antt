@@ -1,12 +1,12 @@
 use Rattle.std.proofs.Common.{◌≡◌, ◌∙◌, ◌≢◌, inl, inr, ℕ, List, length, get_or, refl, sym, ap, subst, arith}
 use Rattle.std.proofs.lemmas.Option.{slice_get_read}
 use Rattle.home_better.specs.declared.bags.Entry.{Entry}
-use Rattle.home_better.specs.Bags.{IsBag, times}
+use Rattle.home_better.specs.code.Bags.{IsBag, times}
 use Rattle.home_better.specs.Crossings.{uses_by}
-use Rattle.home_better.specs.Uses.{bag_at}
+use Rattle.home_better.specs.code.Uses.{bag_at}
 use Rattle.home_better.proofs.LinkLemmas.{bag_read, uses_low}
-use Rattle.home_better.specs.Moves.{pull_by}
-use Rattle.home_better.specs.Work.{beside}
+use Rattle.home_better.specs.code.Moves.{pull_by}
+use Rattle.home_better.specs.code.Work.{beside}
 use Rattle.home_better.proofs.PullLemmas.{entry_pull, entry_nothing, nothing_added, one_added}
 use Rattle.home_better.proofs.SpreadLemmas.{even_pull}
 use Rattle.home_better.proofs.pulls.add_entry.Goals as goal

@@ -2,8 +2,8 @@ use Rattle.std.proofs.Common.{◌≡◌, ◌∙◌, ◌+◌, ◌<◌, List, leng
 use Rattle.std.proofs.lemmas.List.{take_all}
 use Rattle.std.specs.List.{sum_by}
 use Rattle.home_better.specs.declared.bags.Entry.{Entry}
-use Rattle.home_better.specs.Bags.{entry_at}
-use Rattle.home_better.specs.Work.{hit}
+use Rattle.home_better.specs.code.Bags.{entry_at}
+use Rattle.home_better.specs.code.Work.{hit}
 use Rattle.home_better.proofs.BagLemmas.{hits_flag}
 use Rattle.home_better.proofs.PullLemmas.{hits_none}
 use Rattle.home_better.proofs.pulls.add_hits.Goals as goal

@@ -1,7 +1,7 @@
 use Rattle.std.proofs.Common.{take}
 use Rattle.std.specs.List.{sum_by}
-use Rattle.home_better.specs.Work.{hit, Adds}
-use Rattle.home_better.specs.Touched.{AreTouched}
+use Rattle.home_better.specs.code.Work.{hit, Adds}
+use Rattle.home_better.specs.code.Touched.{AreTouched}
 use Rattle.home_better.proofs.pulls.add_hits.Given as goal
 
 abbrev pub invariant-entries : goal.invariant-entries

@@ -1,5 +1,5 @@
 use Rattle.std.proofs.Common.{◌≡◌, length}
-use Rattle.home_better.specs.Touched.{AreTouched}
+use Rattle.home_better.specs.code.Touched.{AreTouched}
 use Rattle.home_better.proofs.pulls.clear.Given as goal
 
 abbrev pub invariant-touched : goal.invariant-touched

@@ -1,7 +1,7 @@
 use Rattle.std.proofs.Common.{◌+◌, sym, subst, take, arith}
 use Rattle.std.specs.Prelude.{slice_index}
 use Rattle.std.specs.List.{Contains}
-use Rattle.home_better.specs.Work.{room_in}
+use Rattle.home_better.specs.code.Work.{room_in}
 use Rattle.home_better.proofs.TouchLemmas.{IsBest, best_before, strongest_is}
 use Rattle.home_better.proofs.pulls.strongest.Goals as goal
 

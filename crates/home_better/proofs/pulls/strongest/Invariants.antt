@@ -1,6 +1,6 @@
 use Rattle.std.proofs.Common.{◌≡◌, ◌<◌, length, take, slice_index}
 use Rattle.std.specs.List.{Contains}
-use Rattle.home_better.specs.Work.{room_in}
+use Rattle.home_better.specs.code.Work.{room_in}
 use Rattle.home_better.proofs.TouchLemmas.{IsBest}
 use Rattle.home_better.proofs.pulls.strongest.Given as goal
 

@@ -4,10 +4,11 @@ use Rattle.std.proofs.lemmas.List.{take_all}
 use Rattle.std.proofs.lemmas.List.Sums.{sum_by_more}
 use Rattle.std.proofs.lemmas.Option.{slice_get_read}
 use Rattle.home_better.specs.declared.bags.Entry.{Entry}
-use Rattle.home_better.specs.Bags.{times, flag, entry_at}
-use Rattle.home_better.specs.Moves.{pull_by}
-use Rattle.home_better.specs.Uses.{bag_at}
-use Rattle.home_better.specs.Work.{beside}
+use Rattle.home_better.specs.Bags.{flag}
+use Rattle.home_better.specs.code.Bags.{times, entry_at}
+use Rattle.home_better.specs.code.Moves.{pull_by}
+use Rattle.home_better.specs.code.Uses.{bag_at}
+use Rattle.home_better.specs.code.Work.{beside}
 use Rattle.home_better.proofs.SumLemmas.{flag_most}
 use Rattle.home_better.proofs.LinkLemmas.{bag_read}
 use Rattle.home_better.proofs.PullLemmas.{own_pull, beside_most, taken_count, pull_members}

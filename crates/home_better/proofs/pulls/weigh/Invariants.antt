@@ -1,9 +1,9 @@
 use Rattle.std.proofs.Common.{◌≡◌, ℕ, ◌+◌, ◌<◌, ◌≤◌, length, get_or, take}
 use Rattle.std.specs.List.{sum_by}
-use Rattle.home_better.specs.Moves.{pull_by, AreLowered}
-use Rattle.home_better.specs.Touched.{AreTouched}
-use Rattle.home_better.specs.Uses.{bag_at}
-use Rattle.home_better.specs.Work.{beside}
+use Rattle.home_better.specs.code.Moves.{pull_by, AreLowered}
+use Rattle.home_better.specs.code.Touched.{AreTouched}
+use Rattle.home_better.specs.code.Uses.{bag_at}
+use Rattle.home_better.specs.code.Work.{beside}
 use Rattle.home_better.proofs.pulls.weigh.Given as goal
 
 abbrev pub invariant-taken : goal.invariant-taken

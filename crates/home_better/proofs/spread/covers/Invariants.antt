@@ -1,5 +1,5 @@
 use Rattle.std.proofs.Common.{◌≢◌, ◌<◌, ℕ}
-use Rattle.home_better.specs.Bags.{times}
+use Rattle.home_better.specs.code.Bags.{times}
 use Rattle.home_better.proofs.spread.covers.Given as goal
 
 abbrev pub invariant-numbers : goal.invariant-numbers

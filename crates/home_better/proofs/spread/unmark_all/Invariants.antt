@@ -1,7 +1,7 @@
 use Rattle.std.proofs.Common.{◌≢◌, take}
-use Rattle.home_better.specs.Bags.{times}
-use Rattle.home_better.specs.Spread.{Unmarks}
-use Rattle.home_better.specs.Uses.{bag_at}
+use Rattle.home_better.specs.code.Bags.{times}
+use Rattle.home_better.specs.code.Spread.{Unmarks}
+use Rattle.home_better.specs.code.Uses.{bag_at}
 use Rattle.home_better.proofs.spread.unmark_all.Given as goal
 
 abbrev pub invariant-taken : goal.invariant-taken

@@ -1,5 +1,5 @@
 use Rattle.std.proofs.Common.{◌≡◌, ℕ, ◌<◌, length}
-use Rattle.home_better.specs.Bags.{entry_at, times}
+use Rattle.home_better.specs.code.Bags.{entry_at, times}
 use Rattle.home_better.proofs.uses.empty_bag.Given as goal
 
 abbrev pub invariant-numbers : goal.invariant-numbers

@@ -1,7 +1,7 @@
 use Rattle.std.proofs.Common.{take}
 use Rattle.home_better.specs.Bags.{where_at}
 use Rattle.home_better.specs.Crossings.{times_in}
-use Rattle.home_better.specs.Uses.{AreBags, Gives}
+use Rattle.home_better.specs.code.Uses.{AreBags, Gives}
 use Rattle.home_better.proofs.uses.give_all.Given as goal
 
 abbrev pub invariant-items : goal.invariant-items

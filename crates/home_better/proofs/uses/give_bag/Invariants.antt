@@ -1,6 +1,7 @@
 use Rattle.std.proofs.Common.{take}
-use Rattle.home_better.specs.Bags.{times, where_at}
-use Rattle.home_better.specs.Uses.{AreBags, Gives}
+use Rattle.home_better.specs.Bags.{where_at}
+use Rattle.home_better.specs.code.Bags.{times}
+use Rattle.home_better.specs.code.Uses.{AreBags, Gives}
 use Rattle.home_better.proofs.uses.give_bag.Given as goal
 
 abbrev pub invariant-taken : goal.invariant-taken

@@ -1,5 +1,5 @@
 use Rattle.std.proofs.Common.{ℕ, ◌<◌}
-use Rattle.home_pick.specs.Rooms.{LacksBits}
+use Rattle.home_pick.specs.code.Rooms.{LacksBits}
 use Rattle.home_pick.proofs.blocks.first_with_room.Given as goal
 
 abbrev pub invariant-ports : goal.invariant-ports

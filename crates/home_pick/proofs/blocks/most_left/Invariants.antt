@@ -1,4 +1,4 @@
-use Rattle.home_pick.specs.Rooms.{IsMostLeft}
+use Rattle.home_pick.specs.code.Rooms.{IsMostLeft}
 use Rattle.home_pick.proofs.blocks.most_left.Given as goal
 
 abbrev pub invariant-ports : goal.invariant-ports

@@ -1,4 +1,4 @@
-use Rattle.home_pick.specs.Rooms.{AreFilled}
+use Rattle.home_pick.specs.code.Rooms.{AreFilled}
 use Rattle.home_pick.proofs.pick.block_ports.Given as goal
 
 abbrev pub invariant-memories : goal.invariant-memories

@@ -1,5 +1,5 @@
 use Rattle.std.proofs.Common.{subst, length}
-use Rattle.home_pick.specs.Rooms.{AreItemPorts}
+use Rattle.home_pick.specs.code.Rooms.{AreItemPorts}
 use Rattle.home_pick.proofs.HomeLemmas.{homes_are, picked_are}
 use Rattle.home_pick.proofs.pick.homes.Goals as goal
 

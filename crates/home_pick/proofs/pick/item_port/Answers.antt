@@ -1,6 +1,6 @@
 use Rattle.std.proofs.Common.{◌≡◌, ◌+◌, ◌-◌, ◌<◌, ◌≤◌, length, get_or, [], ◌∷◌, ◌++◌, sym, subst, arith}
 use Rattle.node_defs.specs.WellFormed.{NamesParts, IsComputed}
-use Rattle.home_pick.specs.Rooms.{AreTurned}
+use Rattle.home_pick.specs.code.Rooms.{AreTurned}
 use Rattle.home_pick.proofs.HomeLemmas.{computed_last, node_room_left, source_first}
 use Rattle.home_pick.proofs.TurnLemmas.{turned_before}
 use Rattle.home_pick.proofs.pick.item_port.Goals as goal

@@ -1,5 +1,5 @@
 use Rattle.std.proofs.Common.{◌≡◌, ◌-◌}
-use Rattle.home_pick.specs.Rooms.{AreItemPorts, AreTurned}
+use Rattle.home_pick.specs.code.Rooms.{AreItemPorts, AreTurned}
 use Rattle.home_pick.proofs.pick.item_ports.Given as goal
 
 abbrev pub invariant-items : goal.invariant-items

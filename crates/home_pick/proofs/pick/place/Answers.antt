@@ -1,7 +1,7 @@
 use Rattle.std.proofs.Common.{◌≡◌, ◌∙◌, ◌<◌, List, ℕ, Some, slice_get, length, refl, sym, ap, subst, arith}
 use Rattle.std.proofs.lemmas.Option.{slice_get_read}
 use Rattle.plan_defs.specs.Picks.{bits_of}
-use Rattle.home_pick.specs.Rooms.{LacksBits, IsMostLeft}
+use Rattle.home_pick.specs.code.Rooms.{LacksBits, IsMostLeft}
 use Rattle.home_pick.proofs.FillLemmas.{bits_read, none_found, some_bits}
 use Rattle.home_pick.proofs.pick.place.Goals as goal
 

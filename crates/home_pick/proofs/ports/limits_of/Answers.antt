@@ -1,5 +1,5 @@
 use Rattle.std.proofs.Common.{◌∙◌, ◌∷◌, [], ◌++◌, sym, ap}
-use Rattle.home_pick.specs.Rooms.{limits_of}
+use Rattle.home_pick.specs.code.Rooms.{limits_of}
 use Rattle.home_pick.proofs.FillLemmas.{limits_none, limits_more}
 use Rattle.home_pick.proofs.ports.limits_of.Goals as goal
 

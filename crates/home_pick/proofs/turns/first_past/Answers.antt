@@ -1,6 +1,6 @@
 use Rattle.std.proofs.Common.{◌≡◌, ◌-◌, ◌<◌, inl, inr, ℕ, length, sym, subst, arith}
 use Rattle.std.proofs.lemmas.Bool.{cases_lt}
-use Rattle.home_pick.specs.Rooms.{IsSpent}
+use Rattle.home_pick.specs.code.Rooms.{IsSpent}
 use Rattle.home_pick.proofs.TurnLemmas.{some_unspent}
 use Rattle.home_pick.proofs.turns.first_past.Goals as goal
 

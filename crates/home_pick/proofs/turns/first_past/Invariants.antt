@@ -1,5 +1,5 @@
 use Rattle.std.proofs.Common.{ℕ, ◌<◌}
-use Rattle.home_pick.specs.Rooms.{IsSpent}
+use Rattle.home_pick.specs.code.Rooms.{IsSpent}
 use Rattle.home_pick.proofs.turns.first_past.Given as goal
 
 abbrev pub invariant-ports : goal.invariant-ports

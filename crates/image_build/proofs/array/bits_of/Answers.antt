@@ -2,8 +2,8 @@ use Rattle.std.proofs.Common.{◌<◌, get_or, arith, length, subst, sym}
 use Rattle.node_defs.specs.declared.items.Item.TheVariants.{Input}
 use Rattle.node_defs.specs.WellFormed.{NamesParts}
 use Rattle.image_match.specs.Matches.{claims_of}
-use Rattle.image_build.specs.Layouts.{IsBitFor}
-use Rattle.image_build.specs.Plans.{IsBitAt}
+use Rattle.image_build.specs.code.Layouts.{IsBitFor}
+use Rattle.image_build.specs.code.Plans.{IsBitAt}
 use Rattle.image_build.proofs.GrowLemmas.{made_next}
 use Rattle.image_build.proofs.PlannedLemmas.{at_place, item_at, bit_at_array, bit_right}
 use Rattle.image_build.proofs.array.bits_of.Goals as goal

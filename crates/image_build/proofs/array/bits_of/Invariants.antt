@@ -1,6 +1,6 @@
 use Rattle.std.proofs.Common.{take}
 use Rattle.image_match.specs.Matches.{claims_of}
-use Rattle.image_build.specs.Layouts.{AreBits}
+use Rattle.image_build.specs.code.Layouts.{AreBits}
 use Rattle.image_build.proofs.array.bits_of.Given as goal
 
 abbrev pub invariant-items : goal.invariant-items

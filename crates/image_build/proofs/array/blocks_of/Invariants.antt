@@ -1,5 +1,5 @@
 use Rattle.std.proofs.Common.{take}
-use Rattle.image_build.specs.Layouts.{AreBlocks}
+use Rattle.image_build.specs.code.Layouts.{AreBlocks}
 use Rattle.image_build.proofs.array.blocks_of.Given as goal
 
 abbrev pub invariant-numbers : goal.invariant-numbers

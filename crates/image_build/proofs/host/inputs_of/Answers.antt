@@ -1,6 +1,6 @@
 use Rattle.std.proofs.Common.{get_or}
 use Rattle.node_defs.specs.declared.items.Item.TheVariants.{Input}
-use Rattle.image_build.specs.Layouts.{IsInputFor}
+use Rattle.image_build.specs.code.Layouts.{IsInputFor}
 use Rattle.image_build.proofs.GrowLemmas.{made_next}
 use Rattle.image_build.proofs.PlannedLemmas.{at_place, item_at, input_at_host}
 use Rattle.image_build.proofs.host.inputs_of.Goals as goal

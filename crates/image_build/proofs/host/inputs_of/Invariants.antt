@@ -1,5 +1,5 @@
 use Rattle.std.proofs.Common.{take}
-use Rattle.image_build.specs.Layouts.{AreInputs}
+use Rattle.image_build.specs.code.Layouts.{AreInputs}
 use Rattle.image_build.proofs.host.inputs_of.Given as goal
 
 abbrev pub invariant-items : goal.invariant-items

@@ -6,7 +6,7 @@ use Rattle.net_defs.specs.Steps.{State}
 use Rattle.node_defs.specs.Values.{AreItemValues}
 use Rattle.image_build.specs.Plans.{IsPlanned}
 use Rattle.image_build.specs.Built.{IsBuilt, GivesItems}
-use Rattle.image_build.specs.Layouts.{IsLaidOut}
+use Rattle.image_build.specs.code.Layouts.{IsLaidOut}
 use Rattle.image_build.proofs.BuiltLemmas.{laid_out_is_built, built_gives}
 use Rattle.image_build.proofs.image.build.Goals as goal
 

@@ -3,7 +3,7 @@ use Rattle.std.proofs.lemmas.List.{get_or_default}
 use Rattle.std.proofs.lemmas.Option.{slice_get-get_or}
 use Rattle.image_match.specs.Matches.{claims_of}
 use Rattle.image_build.specs.PortItems.{ArePortItems}
-use Rattle.image_build.specs.Layouts.{IsWorkFor}
+use Rattle.image_build.specs.code.Layouts.{IsWorkFor}
 use Rattle.image_build.proofs.PortLemmas.{ports_more}
 use Rattle.image_build.proofs.image.port_images.Goals as goal
 

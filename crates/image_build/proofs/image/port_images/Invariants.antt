@@ -1,4 +1,4 @@
-use Rattle.image_build.specs.Plans.{AreFirstPorts}
+use Rattle.image_build.specs.code.Plans.{AreFirstPorts}
 use Rattle.image_build.proofs.image.port_images.Given as goal
 
 abbrev pub invariant-ports : goal.invariant-ports

@@ -1,4 +1,4 @@
-use Rattle.image_build.specs.Plans.{AreFirstTasks}
+use Rattle.image_build.specs.code.Plans.{AreFirstTasks}
 use Rattle.image_build.proofs.logic.logic_work.Given as goal
 
 abbrev pub invariant-items : goal.invariant-items

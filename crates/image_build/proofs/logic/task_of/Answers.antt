@@ -3,7 +3,7 @@ use Rattle.std.proofs.lemmas.Option.{slice_get_within, slice_get-get_or}
 use Rattle.node_defs.specs.Takes.{Takes}
 use Rattle.node_defs.specs.WellFormed.{NamesParts}
 use Rattle.image_defs.specs.declared.image.Task.TheVariants.{Eval}
-use Rattle.image_build.specs.Layouts.{IsTaskFor}
+use Rattle.image_build.specs.code.Layouts.{IsTaskFor}
 use Rattle.image_build.proofs.logic.task_of.Goals as goal
 
 pub feed_source-requires-clause-taken : goal.feed_source-requires-clause-taken

@@ -1,4 +1,4 @@
-use Rattle.image_build.specs.Plans.{AreFirstMemories}
+use Rattle.image_build.specs.code.Plans.{AreFirstMemories}
 use Rattle.image_build.proofs.memories.memories_of.Given as goal
 
 abbrev pub invariant-memories : goal.invariant-memories

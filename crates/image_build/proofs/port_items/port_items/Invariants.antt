@@ -1,6 +1,6 @@
 use Rattle.std.proofs.Common.{take}
 use Rattle.switch_set.specs.Order.{items_of}
-use Rattle.image_build.specs.Plans.{AreItemsAmong}
+use Rattle.image_build.specs.code.Plans.{AreItemsAmong}
 use Rattle.image_build.proofs.port_items.port_items.Given as goal
 
 abbrev pub invariant-items : goal.invariant-items

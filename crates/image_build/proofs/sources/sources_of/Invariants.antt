@@ -1,5 +1,5 @@
 use Rattle.std.proofs.Common.{◌≡◌, map, take}
-use Rattle.image_build.specs.Layouts.{source_of}
+use Rattle.image_build.specs.code.Layouts.{source_of}
 use Rattle.image_build.proofs.sources.sources_of.Given as goal
 
 abbrev pub invariant-items : goal.invariant-items

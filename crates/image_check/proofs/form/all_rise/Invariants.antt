@@ -1,4 +1,4 @@
-use Rattle.image_check.specs.Shapes.{IsRising}
+use Rattle.image_check.specs.code.Shapes.{IsRising}
 use Rattle.image_check.proofs.EachLemmas.{EachBelow}
 use Rattle.image_check.proofs.form.all_rise.Given as goal
 

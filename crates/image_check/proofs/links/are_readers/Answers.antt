@@ -1,5 +1,5 @@
 use Rattle.std.proofs.Common.{rules}
-use Rattle.image_check.specs.Links.{IsReader}
+use Rattle.image_check.specs.code.Links.{IsReader}
 use Rattle.image_check.proofs.EachLemmas.{each_read, each_done}
 use Rattle.image_check.proofs.links.are_readers.Goals as goal
 

@@ -1,4 +1,4 @@
-use Rattle.image_check.specs.Links.{IsReader}
+use Rattle.image_check.specs.code.Links.{IsReader}
 use Rattle.image_check.proofs.EachLemmas.{EachBelow}
 use Rattle.image_check.proofs.links.are_readers.Given as goal
 

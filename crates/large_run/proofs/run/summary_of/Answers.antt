@@ -6,7 +6,7 @@ use Rattle.large_gen.proofs.ValidLemmas.{valid_large}
 use Rattle.machine_run.specs.Shown.{AreShown}
 use Rattle.net_defs.specs.declared.trace.CellRow.{CellRow}
 use Rattle.net_defs.specs.Time.{cycle_count}
-use Rattle.large_run.specs.Rows.{cells_in}
+use Rattle.large_run.specs.code.Rows.{cells_in}
 use Rattle.large_run.specs.Setting.{large_timing}
 use Rattle.large_run.proofs.DesignLemmas.{columns_large, run_few, summary_shown}
 use Rattle.large_run.proofs.run.summary_of.Goals as goal

@@ -1,5 +1,5 @@
-use Rattle.crew_run.specs.Phases.{Each}
-use Rattle.machine_run.specs.Moves.{AreFirst, HasGoneOn}
+use Rattle.crew_run.specs.code.Phases.{Each}
+use Rattle.machine_run.specs.code.Moves.{AreFirst, HasGoneOn}
 use Rattle.machine_run.proofs.steps.go_on_all.Given as goal
 
 abbrev pub invariant-workers : goal.invariant-workers

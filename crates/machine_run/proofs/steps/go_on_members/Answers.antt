@@ -1,6 +1,6 @@
 use Rattle.std.proofs.Common.{arith, sym, ◌∙◌}
 use Rattle.std.proofs.lemmas.Option.{slice_get-get_or}
-use Rattle.machine_run.specs.Moves.{HasGoneOn}
+use Rattle.machine_run.specs.code.Moves.{HasGoneOn}
 use Rattle.machine_run.proofs.MoveLemmas.{first_all, first_more}
 use Rattle.machine_run.proofs.steps.go_on_members.Goals as goal
 

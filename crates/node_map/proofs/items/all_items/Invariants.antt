@@ -1,4 +1,4 @@
-use Rattle.node_map.specs.Tables.{AreMadeIn}
+use Rattle.node_map.specs.code.Tables.{AreMadeIn}
 use Rattle.node_map.proofs.ItemLemmas.{MadeTo}
 use Rattle.node_map.proofs.items.all_items.Given as goal
 

@@ -1,5 +1,5 @@
 use Rattle.std.proofs.Common.{◌≡◌}
-use Rattle.node_map.specs.Places.{keys_to}
+use Rattle.node_map.specs.code.Places.{keys_to}
 use Rattle.node_map.proofs.keys.all_keys.Given as goal
 
 abbrev pub invariant-signals : goal.invariant-signals

@@ -1,6 +1,6 @@
 use Rattle.std.proofs.Common.{◌≡◌, ◌++◌, map}
 use Rattle.std.specs.List.{range_with_len}
-use Rattle.node_map.specs.Places.{key_from}
+use Rattle.node_map.specs.code.Places.{key_from}
 use Rattle.node_map.proofs.keys.push_keys.Given as goal
 
 abbrev pub invariant-places : goal.invariant-places

@@ -1,6 +1,6 @@
 use Rattle.std.proofs.Common.{length}
 use Rattle.std.specs.List.Sorted.{IsPermutation}
-use Rattle.node_map.specs.Places.{keys_to}
+use Rattle.node_map.specs.code.Places.{keys_to}
 use Rattle.node_map.proofs.OrderLemmas.{made_keys, made_right}
 use Rattle.node_map.proofs.keys.sorted_keys.Goals as goal
 

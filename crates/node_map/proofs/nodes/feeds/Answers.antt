@@ -1,4 +1,4 @@
-use Rattle.node_map.specs.Wires.{operands_of}
+use Rattle.node_map.specs.code.Wires.{operands_of}
 use Rattle.node_map.proofs.MadeNodeLemmas.{four_feeds}
 use Rattle.node_map.proofs.nodes.feeds.Goals as goal
 

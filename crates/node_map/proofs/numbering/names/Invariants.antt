@@ -1,5 +1,5 @@
 use Rattle.std.proofs.Common.{◌≡◌, map, take}
-use Rattle.node_map.specs.Places.{name_of}
+use Rattle.node_map.specs.code.Places.{name_of}
 use Rattle.node_map.proofs.numbering.names.Given as goal
 
 abbrev pub invariant-keys : goal.invariant-keys

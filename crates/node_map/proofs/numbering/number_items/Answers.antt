@@ -1,5 +1,5 @@
 use Rattle.std.proofs.Common.{subst}
-use Rattle.node_map.specs.Places.{AreNumbers}
+use Rattle.node_map.specs.code.Places.{AreNumbers}
 use Rattle.node_map.proofs.NumberLemmas.{are_flat, are_numbered}
 use Rattle.node_map.proofs.numbering.number_items.Goals as goal
 

@@ -1,6 +1,6 @@
 use Rattle.std.proofs.Common.{◌≡◌, map}
 use Rattle.std.specs.List.{range_with_len}
-use Rattle.node_map.specs.Places.{start_of}
+use Rattle.node_map.specs.code.Places.{start_of}
 use Rattle.node_map.proofs.numbering.starts.Given as goal
 
 abbrev pub invariant-signals : goal.invariant-signals

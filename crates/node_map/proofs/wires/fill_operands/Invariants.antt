@@ -1,5 +1,5 @@
 use Rattle.std.proofs.Common.{◌≡◌, map, take}
-use Rattle.node_map.specs.Wires.{past_of}
+use Rattle.node_map.specs.code.Wires.{past_of}
 use Rattle.node_map.proofs.wires.fill_operands.Given as goal
 
 abbrev pub invariant-operands : goal.invariant-operands

@@ -1,5 +1,5 @@
 use Rattle.std.proofs.Common.{◌≡◌, map, length}
-use Rattle.node_map.specs.Wires.{past_of, pasts_to}
+use Rattle.node_map.specs.code.Wires.{past_of, pasts_to}
 use Rattle.node_map.proofs.wires.fill_pasts.Given as goal
 
 abbrev pub invariant-places : goal.invariant-places

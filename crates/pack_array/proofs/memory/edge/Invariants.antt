@@ -1,4 +1,5 @@
-use Rattle.pack_array.specs.Acts.{IsWhole, HasActed}
+use Rattle.pack_array.specs.Acts.{IsWhole}
+use Rattle.pack_array.specs.code.Acts.{HasActed}
 use Rattle.pack_array.proofs.memory.edge.Given as goal
 
 abbrev pub invariant-lanes : goal.invariant-lanes

@@ -1,4 +1,5 @@
-use Rattle.pack_array.specs.Acts.{AreWhole, HaveActed}
+use Rattle.pack_array.specs.Acts.{AreWhole}
+use Rattle.pack_array.specs.code.Acts.{HaveActed}
 use Rattle.pack_array.proofs.memory.edge_all.Given as goal
 
 abbrev pub invariant-all : goal.invariant-all

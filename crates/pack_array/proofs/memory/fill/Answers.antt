@@ -2,7 +2,7 @@ use Rattle.std.proofs.Common.{◌∙◌, inl, inr, get_or, map, set, sym, ap, ar
 use Rattle.std.proofs.lemmas.List.{ext_get_or, length-map, length-set, get_or-map, get_or-set_same, get_or-set_other}
 use Rattle.list_laws.proofs.Ranges.{last_or}
 use Rattle.logic_four.specs.declared.V4.TheVariants.{Undef}
-use Rattle.port_array.specs.Acts.{past_of}
+use Rattle.port_array.specs.code.Acts.{past_of}
 use Rattle.pack_bank.specs.Views.{lane_port}
 use Rattle.pack_array.proofs.memory.fill.Goals as goal
 

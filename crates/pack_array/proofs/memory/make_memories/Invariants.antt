@@ -1,7 +1,7 @@
 use Rattle.std.proofs.Common.{◌≡◌, ℕ, length, slice_get, Some}
 use Rattle.image_defs.specs.declared.image.BlockWork.{BlockWork}
 use Rattle.pack_array.specs.declared.memory.PackMemory.{PackMemory}
-use Rattle.pack_array.specs.Acts.{IsFirst}
+use Rattle.pack_array.specs.code.Acts.{IsFirst}
 use Rattle.pack_array.proofs.memory.make_memories.Given as goal
 
 abbrev pub invariant-each : goal.invariant-each

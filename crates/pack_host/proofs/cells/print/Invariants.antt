@@ -1,4 +1,4 @@
-use Rattle.pack_host.specs.Cells.{HasPrintedAll}
+use Rattle.pack_host.specs.code.Cells.{HasPrintedAll}
 use Rattle.pack_host.proofs.cells.print.Given as goal
 
 abbrev pub invariant-sources : goal.invariant-sources

@@ -1,5 +1,5 @@
 use Rattle.std.specs.Prelude.{◌≡◌, ℕ, length}
-use Rattle.pack_host.specs.Feeds.{AreAt, AreFed}
+use Rattle.pack_host.specs.code.Feeds.{AreAt, AreFed}
 use Rattle.pack_host.proofs.feed.fill.Given as goal
 
 abbrev pub invariant-columns : goal.invariant-columns

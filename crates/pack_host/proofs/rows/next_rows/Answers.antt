@@ -2,7 +2,7 @@ use Rattle.std.proofs.Common.{◌∙◌, refl, subst, arith}
 use Rattle.std.proofs.lemmas.Option.{slice_get_read, slice_get-get_or}
 use Rattle.std.proofs.lemmas.List.{length-set}
 use Rattle.net_defs.specs.declared.stimulus.Stimulus.{Stimulus}
-use Rattle.pack_host.specs.Feeds.{AreMoved}
+use Rattle.pack_host.specs.code.Feeds.{AreMoved}
 use Rattle.pack_host.proofs.CursorLemmas.{none_moved, moved_more, all_moved}
 use Rattle.pack_host.proofs.rows.next_rows.Goals as goal
 

@@ -1,5 +1,5 @@
 use Rattle.std.specs.Prelude.{◌≡◌, ℕ, length}
-use Rattle.pack_host.specs.Feeds.{AreAt, AreMoved}
+use Rattle.pack_host.specs.code.Feeds.{AreAt, AreMoved}
 use Rattle.pack_host.proofs.rows.next_rows.Given as goal
 
 abbrev pub invariant-lanes : goal.invariant-lanes

@@ -3,7 +3,7 @@ use Rattle.lane_planes.specs.Lanes.{lane_of}
 use Rattle.port_bank.specs.Reads.{IsHeld}
 use Rattle.pack_bank.specs.Views.{lane_port}
 use Rattle.pack_logic.proofs.OpLemmas.{keep_right}
-use Rattle.pack_logic.specs.Tasks.{IsAnswer}
+use Rattle.pack_logic.specs.code.Tasks.{IsAnswer}
 use Rattle.pack_logic.proofs.port.answer.Goals as goal
 
 pub returns-in-Keep : goal.returns-in-Keep

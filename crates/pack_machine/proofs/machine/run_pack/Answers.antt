@@ -3,7 +3,8 @@ use Rattle.std.proofs.Common.{ap, arith, drop, length, subst, sym, ◌∙◌, �
 use Rattle.std.proofs.lemmas.List.{take_at}
 use Rattle.crew_run.specs.Lending.{AllCanRunWith, AllHaveRunWith}
 use Rattle.pack_run.specs.contracts.seated.PackSeatedStepper.TheImpl as seated
-use Rattle.pack_machine.specs.Shown.{AreLanesShown, EndsWithHost}
+use Rattle.pack_machine.specs.Shown.{AreLanesShown}
+use Rattle.pack_machine.specs.code.Shown.{EndsWithHost}
 use Rattle.pack_machine.proofs.RunLemmas.{can_run, have_visits, host_ended, in_place}
 use Rattle.pack_machine.proofs.machine.run_pack.Goals as goal
 

@@ -1,8 +1,8 @@
 use Rattle.std.proofs.Common.{ap, arith, length, refl, subst, sym, ◌∙◌, ◌%◌}
 use Rattle.pack_words.specs.Passes.{IsFirstPass}
 use Rattle.pack_machine.proofs.DealtLemmas.{dealt_more, dealt_none, passes_less}
-use Rattle.pack_machine.specs.Crews.{at_first}
-use Rattle.pack_machine.specs.Dealt.{AreDealt}
+use Rattle.pack_machine.specs.code.Crews.{at_first}
+use Rattle.pack_machine.specs.code.Dealt.{AreDealt}
 use Rattle.pack_machine.proofs.seats.deal.Goals as goal
 
 pub seat-requires-clause-first : goal.seat-requires-clause-first

@@ -1,7 +1,7 @@
 use Rattle.std.proofs.Common.{length, ◌≤◌}
 use Rattle.pack_words.specs.Passes.{AreFirstPasses}
-use Rattle.pack_machine.specs.Crews.{at_first}
-use Rattle.pack_machine.specs.Dealt.{AreDealt}
+use Rattle.pack_machine.specs.code.Crews.{at_first}
+use Rattle.pack_machine.specs.code.Dealt.{AreDealt}
 use Rattle.pack_machine.proofs.seats.deal.Given as goal
 
 abbrev pub invariant-passes : goal.invariant-passes

@@ -1,8 +1,8 @@
 use Rattle.std.proofs.Common.{ap, arith, drop, length, subst, sym}
 use Rattle.std.proofs.lemmas.List.{take_at}
-use Rattle.pack_machine.specs.Crews.{at_first}
+use Rattle.pack_machine.specs.code.Crews.{at_first}
 use Rattle.machine_run.specs.Dealt.{AreIdle}
-use Rattle.pack_machine.specs.Dealt.{AreDealt}
+use Rattle.pack_machine.specs.code.Dealt.{AreDealt}
 use Rattle.pack_machine.proofs.seats.workers_of.Goals as goal
 
 pub deal-requires-clause-fits : goal.deal-requires-clause-fits

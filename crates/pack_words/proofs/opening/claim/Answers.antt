@@ -1,7 +1,7 @@
 use Rattle.std.proofs.Common.{ap, arith, length, subst, sym, ◌<◌, ◌∙◌}
 use Rattle.pack_words.proofs.OpeningLemmas.{claim_room, no_port}
 use Rattle.pack_words.proofs.AllowLemmas.{claim_allowed, split_allowed}
-use Rattle.pack_words.specs.Opening.{IsTemplate}
+use Rattle.pack_words.specs.code.Opening.{IsTemplate}
 use Rattle.pack_words.specs.Passes.{BarView}
 use Rattle.pack_words.specs.declared.rule.PackView.{PackView}
 use Rattle.pack_words.proofs.opening.claim.Goals as goal

@@ -1,4 +1,4 @@
-use Rattle.pack_words.specs.Opening.{IsTemplate}
+use Rattle.pack_words.specs.code.Opening.{IsTemplate}
 use Rattle.pack_words.specs.Passes.{AreFirstPasses}
 use Rattle.pack_words.proofs.opening.deal.Given as goal
 

@@ -1,4 +1,5 @@
-use Rattle.port_array.specs.Acts.{AreActed, AreFit}
+use Rattle.port_array.specs.Acts.{AreFit}
+use Rattle.port_array.specs.code.Acts.{AreActed}
 use Rattle.port_array.proofs.memory.edge_all.Given as goal
 
 abbrev pub invariant-all : goal.invariant-all

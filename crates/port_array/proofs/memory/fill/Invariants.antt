@@ -1,6 +1,6 @@
 use Rattle.std.proofs.Common.{◌≡◌, ◌<◌, ℕ, get_or, map, length}
 use Rattle.logic_four.specs.declared.V4.TheVariants.{Undef}
-use Rattle.port_array.specs.Acts.{past_of}
+use Rattle.port_array.specs.code.Acts.{past_of}
 use Rattle.port_array.proofs.memory.fill.Given as goal
 
 abbrev pub invariant-sources : goal.invariant-sources

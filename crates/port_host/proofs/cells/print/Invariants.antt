@@ -1,4 +1,4 @@
-use Rattle.port_host.specs.Rows.{HasPrinted}
+use Rattle.port_host.specs.code.Rows.{HasPrinted}
 use Rattle.port_host.proofs.cells.print.Given as goal
 
 abbrev pub invariant-sources : goal.invariant-sources

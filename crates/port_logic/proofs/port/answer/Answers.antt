@@ -1,7 +1,7 @@
 use Rattle.std.proofs.Common.{subst, sym}
 use Rattle.port_bank.specs.Reads.{IsHeld}
 use Rattle.port_logic.proofs.OpLemmas.{held_right, pair_right}
-use Rattle.port_logic.specs.Tasks.{IsAnswer}
+use Rattle.port_logic.specs.code.Tasks.{IsAnswer}
 use Rattle.port_logic.proofs.port.answer.Goals as goal
 
 pub returns-in-Pair : goal.returns-in-Pair

@@ -1,4 +1,5 @@
-use Rattle.port_walk.specs.Kinds.{HasRun, IsLastValue}
+use Rattle.port_walk.specs.Kinds.{IsLastValue}
+use Rattle.port_walk.specs.code.Kinds.{HasRun}
 use Rattle.port_walk.proofs.kind.run_array.Given as goal
 
 abbrev pub invariant-items : goal.invariant-items

@@ -1,6 +1,7 @@
 use Rattle.std.specs.Prelude.{◌≡◌}
 use Rattle.port_host.specs.Rows.{moved_to}
-use Rattle.port_walk.specs.Kinds.{HasRun, IsLastValue}
+use Rattle.port_walk.specs.Kinds.{IsLastValue}
+use Rattle.port_walk.specs.code.Kinds.{HasRun}
 use Rattle.port_walk.proofs.kind.run_host.Given as goal
 
 abbrev pub invariant-items : goal.invariant-items

@@ -3,7 +3,8 @@ use Rattle.std.proofs.lemmas.List.{length-map}
 use Rattle.image_defs.specs.declared.image.LinkIn.{LinkIn}
 use Rattle.image_defs.specs.declared.image.LinkOut.{LinkOut}
 use Rattle.image_defs.specs.Places.{in_slots, out_slots}
-use Rattle.port_walk.specs.Stops.{IsStop, IsOnTheWay, AreStops}
+use Rattle.port_walk.specs.Stops.{IsStop, AreStops}
+use Rattle.port_walk.specs.code.Stops.{IsOnTheWay}
 use Rattle.port_walk.proofs.StopLemmas.{stop_is, way_begins, way_sends, way_receives, way_ends, send_within, receipt_within}
 use Rattle.port_walk.proofs.stops.stops_of.Goals as goal
 

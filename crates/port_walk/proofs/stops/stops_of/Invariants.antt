@@ -1,6 +1,6 @@
 use Rattle.std.proofs.Common.{◌+◌, ◌-◌, length}
 use Rattle.image_defs.specs.Places.{in_slots, out_slots}
-use Rattle.port_walk.specs.Stops.{IsOnTheWay}
+use Rattle.port_walk.specs.code.Stops.{IsOnTheWay}
 use Rattle.port_walk.proofs.stops.stops_of.Given as goal
 
 abbrev pub invariant-stops : goal.invariant-stops

@@ -1,5 +1,5 @@
 use Rattle.std.proofs.Common.{◌≡◌, ℕ, ◌<◌, length, get_or}
-use Rattle.rank_find.specs.Circle.{place_of_member}
+use Rattle.rank_find.specs.code.Circle.{place_of_member}
 use Rattle.rank_find.proofs.circle.circle.Given as goal
 
 abbrev pub invariant-loop-member : goal.invariant-loop-member

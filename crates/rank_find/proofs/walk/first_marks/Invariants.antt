@@ -1,5 +1,5 @@
 use Rattle.std.proofs.Common.{◌≡◌, map, take}
-use Rattle.rank_find.specs.Walk.{first_mark}
+use Rattle.rank_find.specs.code.Walk.{first_mark}
 use Rattle.rank_find.proofs.walk.first_marks.Given as goal
 
 abbrev pub invariant-loop-signal : goal.invariant-loop-signal

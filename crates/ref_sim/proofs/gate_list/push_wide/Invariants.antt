@@ -1,7 +1,7 @@
 use Rattle.std.proofs.Common.{◌+◌, map, take}
 use Rattle.logic_four.specs.Gates.{gate_value}
 use Rattle.net_defs.specs.Time.{value_at}
-use Rattle.ref_sim.specs.Ops.{Adds}
+use Rattle.ref_sim.specs.code.Ops.{Adds}
 use Rattle.ref_sim.proofs.gate_list.push_wide.Given as goal
 
 abbrev pub invariant-loop-k : goal.invariant-loop-k

@@ -1,4 +1,4 @@
-use Rattle.ref_sim.specs.Sequences.{Settles}
+use Rattle.ref_sim.specs.code.Sequences.{Settles}
 use Rattle.ref_sim.proofs.gate_list.signal_ops.Given as goal
 
 abbrev pub invariant-loop-signal : goal.invariant-loop-signal

@@ -1,5 +1,5 @@
 use Rattle.std.proofs.Common.{◌≡◌, length, take}
-use Rattle.ref_sim.specs.Ops.{follow}
+use Rattle.ref_sim.specs.code.Ops.{follow}
 use Rattle.ref_sim.proofs.ops.eval_ops.Given as goal
 
 abbrev pub invariant-loop-op : goal.invariant-loop-op

@@ -1,5 +1,5 @@
 use Rattle.std.proofs.Common.{◌∙◌, ap}
-use Rattle.ref_sim.specs.Rams.{act_over}
+use Rattle.ref_sim.specs.code.Rams.{act_over}
 use Rattle.ref_sim.proofs.AssignLemmas.{puts_into}
 use Rattle.ref_sim.proofs.ram.edge_memory.Goals as goal
 

@@ -1,8 +1,8 @@
 use Rattle.std.proofs.Common.{◌≡◌, length, replicate, take}
 use Rattle.std.specs.List.{flat_map}
 use Rattle.net_defs.specs.Time.{cycle_count}
-use Rattle.ref_sim.specs.States.{state_of, IsReady}
-use Rattle.ref_sim.specs.Runs.{HasRows, RunsTo}
+use Rattle.ref_sim.specs.code.States.{state_of, IsReady}
+use Rattle.ref_sim.specs.code.Runs.{HasRows, RunsTo}
 use Rattle.ref_sim.proofs.run.run.Given as goal
 
 abbrev pub invariant-loop-row : goal.invariant-loop-row

@@ -1,8 +1,8 @@
 use Rattle.std.proofs.Common.{◌≡◌, ◌==◌, ℕ, ◌+◌, ◌*◌, ◌<◌, [], get_or}
 use Rattle.net_defs.specs.declared.stimulus.Stimulus.{Stimulus}
 use Rattle.net_defs.specs.Time.{cycle_rows, cycle_count}
-use Rattle.ref_sim.specs.States.{state_of, row_of, HoldInputs, IsReady}
-use Rattle.ref_sim.specs.Runs.{StandsAt}
+use Rattle.ref_sim.specs.code.States.{state_of, row_of, HoldInputs, IsReady}
+use Rattle.ref_sim.specs.code.Runs.{StandsAt}
 use Rattle.ref_sim.proofs.run.run_cycle.Given as goal
 
 abbrev pub invariant-loop-place : goal.invariant-loop-place

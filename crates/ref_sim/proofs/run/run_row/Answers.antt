@@ -1,6 +1,6 @@
 use Rattle.std.proofs.Common.{◌∙◌, ◌+◌, refl, ap, arith, set}
-use Rattle.ref_sim.specs.States.{row_of}
-use Rattle.ref_sim.specs.Runs.{printed_row}
+use Rattle.ref_sim.specs.code.States.{row_of}
+use Rattle.ref_sim.specs.code.Runs.{printed_row}
 use Rattle.ref_sim.proofs.CycleLemmas.{time_more, rows_set}
 use Rattle.ref_sim.proofs.run.run_row.Goals as goal
 

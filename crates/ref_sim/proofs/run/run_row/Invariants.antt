@@ -1,8 +1,8 @@
 use Rattle.std.proofs.Common.{◌≡◌, ℕ, ◌+◌, ◌<◌, [], length, get_or, take}
 use Rattle.net_defs.specs.declared.stimulus.Stimulus.{Stimulus}
 use Rattle.net_defs.specs.Time.{cycle_rows, cycle_count}
-use Rattle.ref_sim.specs.States.{state_of, IsReady}
-use Rattle.ref_sim.specs.Runs.{HasRows, RunsTo}
+use Rattle.ref_sim.specs.code.States.{state_of, IsReady}
+use Rattle.ref_sim.specs.code.Runs.{HasRows, RunsTo}
 use Rattle.ref_sim.proofs.run.run_row.Given as goal
 
 abbrev pub invariant-loop-time : goal.invariant-loop-time

@@ -1,5 +1,5 @@
 use Rattle.std.proofs.Common.{subst, sym}
-use Rattle.ref_sim.specs.Sequences.{IsSequence}
+use Rattle.ref_sim.specs.code.Sequences.{IsSequence}
 use Rattle.ref_sim.proofs.ScheduleLemmas.{order_sequence}
 use Rattle.ref_sim.proofs.schedule.make_schedule.Goals as goal
 

@@ -1,5 +1,5 @@
 use Rattle.std.proofs.Common.{subst, sym}
-use Rattle.ref_sim.specs.Sequences.{IsSequence}
+use Rattle.ref_sim.specs.code.Sequences.{IsSequence}
 use Rattle.ref_sim.proofs.ScheduleLemmas.{register_sequence}
 use Rattle.ref_sim.proofs.schedule.register_schedule.Goals as goal
 

@@ -1,6 +1,6 @@
 use Rattle.std.proofs.Common.{◌≡◌, ℕ, ◌<◌, true, length, get_or}
 use Rattle.std.specs.List.{Contains}
-use Rattle.ref_sim.specs.Schedules.{has_role}
+use Rattle.ref_sim.specs.code.Schedules.{has_role}
 use Rattle.ref_sim.proofs.schedule.signals_of.Given as goal
 
 abbrev pub invariant-loop-signal : goal.invariant-loop-signal

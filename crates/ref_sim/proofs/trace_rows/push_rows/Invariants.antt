@@ -1,5 +1,5 @@
 use Rattle.std.proofs.Common.{◌≡◌, ◌+◌, length}
-use Rattle.ref_sim.specs.Runs.{AreWide}
+use Rattle.ref_sim.specs.code.Runs.{AreWide}
 use Rattle.ref_sim.proofs.trace_rows.push_rows.Given as goal
 
 abbrev pub invariant-loop-time : goal.invariant-loop-time

@@ -1,6 +1,6 @@
 use Rattle.std.proofs.Common.{◌≡◌, length, replicate, take}
 use Rattle.std.specs.List.{flat_map}
-use Rattle.ref_sim.specs.Runs.{AreWide}
+use Rattle.ref_sim.specs.code.Runs.{AreWide}
 use Rattle.ref_sim.proofs.trace_rows.undefined_rows.Given as goal
 
 abbrev pub invariant-loop-row : goal.invariant-loop-row

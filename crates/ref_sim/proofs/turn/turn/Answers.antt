@@ -1,5 +1,5 @@
 use Rattle.std.proofs.Common.{◌∙◌}
-use Rattle.ref_sim.specs.States.{state_of}
+use Rattle.ref_sim.specs.code.States.{state_of}
 use Rattle.ref_sim.proofs.TurnLemmas.{turn_steps, turn_words, still_shaped}
 use Rattle.ref_sim.proofs.turn.turn.Goals as goal
 

@@ -1,4 +1,4 @@
-use Rattle.ref_sim.specs.Values.{Puts}
+use Rattle.ref_sim.specs.code.Values.{Puts}
 use Rattle.ref_sim.proofs.values.fill.Given as goal
 
 abbrev pub invariant-loop-signal : goal.invariant-loop-signal

@@ -1,7 +1,7 @@
 use Rattle.std.proofs.Common.{◌≡◌, ◌∙◌, length, refl, subst, arith}
 use Rattle.std.proofs.lemmas.List.{length-set, get_or_default}
 use Rattle.logic_four.specs.declared.V4.TheVariants.{Zero, Undef}
-use Rattle.ref_sim.specs.Values.{Puts}
+use Rattle.ref_sim.specs.code.Values.{Puts}
 use Rattle.ref_sim.proofs.Rows.{puts_more}
 use Rattle.ref_sim.proofs.values.put_all.Goals as goal
 

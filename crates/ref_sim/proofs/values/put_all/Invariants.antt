@@ -1,6 +1,6 @@
 use Rattle.std.proofs.Common.{◌≡◌, ℕ, length}
 use Rattle.logic_four.specs.declared.V4.{V4}
-use Rattle.ref_sim.specs.Values.{IsStagedTo, Puts}
+use Rattle.ref_sim.specs.code.Values.{IsStagedTo, Puts}
 use Rattle.ref_sim.proofs.values.put_all.Given as goal
 
 abbrev pub invariant-loop-k : goal.invariant-loop-k

@@ -1,6 +1,7 @@
 use Rattle.std.proofs.Common.{◌≡◌, ◌∙◌, ◌+◌, Some, [], ◌∷◌, ◌++◌, length, slice_get, ap, subst, sym, arith}
 use Rattle.image_defs.specs.declared.image.PortImage.{PortImage}
-use Rattle.send_row.specs.Sources.{AreFirsts, CountsSends}
+use Rattle.send_row.specs.Sources.{AreFirsts}
+use Rattle.send_row.specs.code.Sources.{CountsSends}
 use Rattle.send_row.proofs.SourceLemmas.{entry_there}
 use Rattle.send_row.proofs.SourceLemmas.{outs_few, before_few, counted_none, counted_more}
 use Rattle.send_row.proofs.sources.first_sends.Goals as goal

@@ -1,4 +1,4 @@
-use Rattle.send_row.specs.Sources.{CountsSends}
+use Rattle.send_row.specs.code.Sources.{CountsSends}
 use Rattle.send_row.proofs.sources.first_sends.Given as goal
 
 abbrev pub invariant-ports : goal.invariant-ports

@@ -1,5 +1,5 @@
 use Rattle.std.proofs.Common.{◌-◌}
-use Rattle.send_row.specs.Sources.{StandsBetween}
+use Rattle.send_row.specs.code.Sources.{StandsBetween}
 use Rattle.send_row.proofs.sources.link_at.Given as goal
 
 abbrev pub invariant-halves : goal.invariant-halves

@@ -1,6 +1,6 @@
 use Rattle.std.proofs.Common.{sym, subst}
 use Rattle.node_defs.specs.Takes.{FeedAwaits}
-use Rattle.slot_plan.specs.Early.{IsFrom}
+use Rattle.slot_plan.specs.code.Early.{IsFrom}
 use Rattle.slot_plan.proofs.early.after.Goals as goal
 
 pub after_tagged-requires : goal.after_tagged-requires

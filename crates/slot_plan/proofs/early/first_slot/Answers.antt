@@ -1,6 +1,6 @@
 use Rattle.std.proofs.Common.{sym, subst}
 use Rattle.node_defs.specs.Takes.{Awaits}
-use Rattle.slot_plan.specs.Early.{IsFrom}
+use Rattle.slot_plan.specs.code.Early.{IsFrom}
 use Rattle.slot_plan.proofs.early.first_slot.Goals as goal
 
 pub after_all-requires : goal.after_all-requires

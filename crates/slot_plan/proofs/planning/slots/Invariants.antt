@@ -1,5 +1,5 @@
 use Rattle.plan_defs.specs.ReaderLists.{AreReaders}
-use Rattle.slot_plan.specs.Plannings.{IsPlannedTo}
+use Rattle.slot_plan.specs.code.Plannings.{IsPlannedTo}
 use Rattle.slot_plan.proofs.planning.slots.Given as goal
 
 abbrev pub invariant-items : goal.invariant-items

@@ -1,5 +1,5 @@
 use Rattle.bit_rows.specs.Bits.{HasBit}
-use Rattle.slot_plan.specs.UsedTables.{CountsBelow}
+use Rattle.slot_plan.specs.code.UsedTables.{CountsBelow}
 use Rattle.slot_plan.proofs.tables.count.Given as goal
 
 abbrev pub invariant-tables : goal.invariant-tables

@@ -1,5 +1,5 @@
 use Rattle.std.proofs.Common.{refl, sym, subst}
-use Rattle.slot_plan.specs.UsedTables.{HasTable}
+use Rattle.slot_plan.specs.code.UsedTables.{HasTable}
 use Rattle.slot_plan.proofs.tables.mark_table.Goals as goal
 
 pub put-requires-clause-within : goal.put-requires-clause-within

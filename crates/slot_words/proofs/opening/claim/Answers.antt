@@ -1,7 +1,7 @@
 use Rattle.std.proofs.Common.{ap, arith, length, subst, sym, ◌<◌, ◌∙◌}
 use Rattle.slot_words.proofs.OpeningLemmas.{claim_room, no_port}
 use Rattle.slot_words.proofs.StepLemmas.{claim_allowed, split_allowed}
-use Rattle.slot_words.specs.Opening.{IsTemplate}
+use Rattle.slot_words.specs.code.Opening.{IsTemplate}
 use Rattle.slot_words.specs.Passes.{CrossbarView}
 use Rattle.slot_words.specs.declared.rule.View.{View}
 use Rattle.slot_words.proofs.opening.claim.Goals as goal

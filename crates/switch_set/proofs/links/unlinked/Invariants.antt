@@ -1,4 +1,4 @@
-use Rattle.switch_set.specs.Links.{AreUnlinked}
+use Rattle.switch_set.specs.code.Links.{AreUnlinked}
 use Rattle.switch_set.proofs.links.unlinked.Given as goal
 
 abbrev pub invariant-ports : goal.invariant-ports

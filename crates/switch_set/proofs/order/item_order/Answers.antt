@@ -1,6 +1,6 @@
 use Rattle.std.proofs.Common.{◌∙◌, ◌++◌, ◌∷◌, [], sym, ap, arith}
 use Rattle.std.proofs.lemmas.List.FromFn.{map-range_with_len_more}
-use Rattle.switch_set.specs.Order.{placed_at}
+use Rattle.switch_set.specs.code.Order.{placed_at}
 use Rattle.switch_set.proofs.order.item_order.Goals as goal
 
 pub items-preserved : goal.items-preserved

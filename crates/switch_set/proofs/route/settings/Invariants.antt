@@ -1,6 +1,6 @@
 use Rattle.std.proofs.Common.{◌≡◌, take}
 use Rattle.plan_defs.specs.ReaderLists.{AreReaders}
-use Rattle.switch_set.specs.Links.{AreLinked}
+use Rattle.switch_set.specs.code.Links.{AreLinked}
 use Rattle.switch_set.specs.Order.{items_of, IsSlotOrder}
 use Rattle.switch_set.proofs.route.settings.Given as goal
 

@@ -1,8 +1,8 @@
 -- The outcome that the command came to, the trace, and what the gates were told.
 use Rattle.std.proofs.Common.{◌∙◌, sym, ap, subst, inl, Some}
 use Rattle.yse_top.specs.Ends.{MayWrite}
-use Rattle.yse_top.specs.Outputs.{bytes_of}
-use Rattle.yse_top.specs.Refusals.{ended_with, refused_of}
+use Rattle.yse_top.specs.code.Outputs.{bytes_of}
+use Rattle.yse_top.specs.code.Refusals.{ended_with, refused_of}
 use Rattle.yse_top.specs.Visited.{TellsGates}
 use Rattle.yse_top.proofs.TracedLemmas.{traced}
 use Rattle.yse_top.proofs.VisitedLemmas.{output_writes, refused_writes, told_fails, told_writes, tells_ended}

@@ -4,7 +4,7 @@ use Rattle.edge_io.specs.Writing.{Takes, joined}
 use Rattle.edge_io.specs.declared.writing.WriteNo.{WriteNo}
 use Rattle.yse_top.specs.declared.output.Output.{Output}
 use Rattle.yse_top.specs.declared.output.Output.TheVariants.{Lines}
-use Rattle.yse_top.specs.Outputs.{HasTaken, bytes_of}
+use Rattle.yse_top.specs.code.Outputs.{HasTaken, bytes_of}
 use Rattle.yse_top.proofs.output.write_output.Goals as goal
 
 module _ {O : Type 0} (taken : O → Option (List ℕ)) (faults : O → ℕ) (before old new : O) (result : Result (Unit {0}) WriteNo) where

@@ -5,7 +5,7 @@ use Rattle.net_defs.specs.declared.netlist.Netlist.{Netlist}
 use Rattle.net_defs.specs.declared.timing.Timing.{Timing}
 use Rattle.yse_top.specs.declared.reading.Timed.{Timed}
 use Rattle.yse_top.specs.Outcome.{Outcome}
-use Rattle.yse_top.specs.Passing.{AfterNetlistFile, Continuation}
+use Rattle.yse_top.specs.code.Passing.{AfterNetlistFile, Continuation}
 use Rattle.yse_top.specs.Readings.{Reading}
 use Rattle.yse_top.specs.commands.Run.{AfterList, AfterNetlist}
 use Rattle.yse_top.proofs.PassingLemmas.{both_pass, first_stops, value_passes}

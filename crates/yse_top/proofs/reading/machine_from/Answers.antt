@@ -2,7 +2,7 @@
 use Rattle.std.proofs.Common.{List, refl, sym}
 use Rattle.machine_text.specs.Machines.{default_machine}
 use Rattle.yse_top.specs.Outcome.{Outcome}
-use Rattle.yse_top.specs.Passing.{Only}
+use Rattle.yse_top.specs.code.Passing.{Only}
 use Rattle.yse_top.specs.Readings.{Reading}
 use Rattle.yse_top.specs.commands.Run.{AfterMachine}
 use Rattle.yse_top.proofs.PassingLemmas.{value_passes}

@@ -1,7 +1,7 @@
 -- Without a file of a list the timing is that of the words.
 use Rattle.std.proofs.Common.{◌≡◌, ◌∙◌, sym, ap, refl, List, ℕ}
 use Rattle.yse_top.specs.Outcome.{Outcome}
-use Rattle.yse_top.specs.Passing.{Only}
+use Rattle.yse_top.specs.code.Passing.{Only}
 use Rattle.yse_top.specs.Readings.{Reading}
 use Rattle.yse_top.specs.commands.Run.{AfterList}
 use Rattle.yse_top.proofs.PassingLemmas.{value_passes}

@@ -4,7 +4,7 @@ use Rattle.net_defs.specs.declared.timing.Timing.{Timing}
 use Rattle.net_defs.specs.declared.netlist.Netlist.{Netlist}
 use Rattle.yse_top.specs.Checks.{IsListOf, listing}
 use Rattle.yse_top.specs.Outcome.{Outcome}
-use Rattle.yse_top.specs.Passing.{Continuation}
+use Rattle.yse_top.specs.code.Passing.{Continuation}
 use Rattle.yse_top.specs.Readings.{Reading}
 use Rattle.yse_top.specs.commands.Run.{AfterList}
 use Rattle.yse_top.proofs.PassingLemmas.{both_pass, file_passes, file_stops, first_stops, value_passes}

@@ -1,5 +1,5 @@
 use Rattle.std.proofs.Common.{length, map, set, ap, ◌∙◌, arith}
-use Rattle.array_cells.specs.Places.{stored}
+use Rattle.array_cells.specs.code.Places.{stored}
 use Rattle.array_cells.proofs.WordLemmas.{word_in, words_of-stored}
 use Rattle.array_cells.proofs.cells.Cells.store.Goals as goal
 

@@ -3,9 +3,10 @@ use Rattle.event_defs.specs.declared.place.CoreStep.TheVariants.{Moved, NotYet}
 use Rattle.event_defs.specs.declared.place.Action.TheVariants as action
 use Rattle.event_defs.specs.declared.place.Event.TheVariants as event
 use Rattle.event_core.specs.declared.seats.Seat.{Seat}
-use Rattle.event_core.specs.Core.{IsUpcoming, Applies, CoreView}
+use Rattle.event_core.specs.Core.{Applies, CoreView}
+use Rattle.event_core.specs.code.Core.{IsUpcoming}
 use Rattle.event_core.specs.Kept.{view_of}
-use Rattle.event_core.specs.Seats.{seat_asked}
+use Rattle.event_core.specs.code.Seats.{seat_asked}
 use Rattle.event_core.proofs.CoreLemmas.{reseated, same_seat, seat_in, seat_there}
 use Rattle.event_core.proofs.EventLemmas.{reader_within, known_within, ask_waits, ask_moves}
 use Rattle.std.proofs.lemmas.Bool.{false≢true}

@@ -1,6 +1,7 @@
 use Rattle.std.proofs.Common.{◌≡◌, ◌<◌, length, subst, sym}
 use Rattle.event_core.specs.declared.seats.Seat.{Seat}
-use Rattle.event_core.specs.Core.{IsUpcoming, CoreView}
+use Rattle.event_core.specs.Core.{CoreView}
+use Rattle.event_core.specs.code.Core.{IsUpcoming}
 use Rattle.event_core.proofs.CoreLemmas.{known_wide, next_seen, same_seat, seat_in}
 use Rattle.event_core.proofs.core_run.Core.next.Goals as goal
 

@@ -4,9 +4,10 @@ use Rattle.event_defs.specs.declared.place.Action.TheVariants as action
 use Rattle.event_defs.specs.declared.place.Event.TheVariants as event
 use Rattle.port_walk.specs.Placed.{CanPut}
 use Rattle.event_core.specs.declared.seats.Seat.{Seat}
-use Rattle.event_core.specs.Core.{IsUpcoming, Applies, CoreView}
+use Rattle.event_core.specs.Core.{Applies, CoreView}
+use Rattle.event_core.specs.code.Core.{IsUpcoming}
 use Rattle.event_core.specs.Kept.{view_of}
-use Rattle.event_core.specs.Seats.{HasPutRoom, seat_put}
+use Rattle.event_core.specs.code.Seats.{HasPutRoom, seat_put}
 use Rattle.event_core.proofs.CoreLemmas.{put_room, reseated, same_seat, seat_in, seat_there}
 use Rattle.event_core.proofs.EventLemmas.{can_put, early_turn, put_moves}
 use Rattle.event_core.proofs.core_run.Core.put.Goals as goal

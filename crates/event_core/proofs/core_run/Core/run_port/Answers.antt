@@ -1,7 +1,7 @@
 use Rattle.std.proofs.Common.{◌≡◌, ap, inl, inr, subst}
 use Rattle.std.proofs.lemmas.Bool.{false≢true}
 use Rattle.event_defs.specs.Counts.{moves}
-use Rattle.event_core.specs.Core.{IsReady}
+use Rattle.event_core.specs.code.Core.{IsReady}
 use Rattle.event_core.proofs.RoundLemmas.{ready_of}
 use Rattle.event_core.proofs.SweepLemmas.{idle_after, idle_before, leaves_fewer, moved_again, run_none, was_busy, was_idle, whole_left, whole_run, whole_sound}
 use Rattle.event_core.proofs.core_run.Core.run_port.Goals as goal

@@ -1,6 +1,7 @@
 use Rattle.std.proofs.Common.{◌≡◌, length, ap, subst, arith}
 use Rattle.event_defs.proofs.JoinLemmas.{moves_few}
-use Rattle.event_core.specs.Core.{CoreView, HasStepped, IsReady}
+use Rattle.event_core.specs.Core.{CoreView}
+use Rattle.event_core.specs.code.Core.{HasStepped, IsReady}
 use Rattle.event_core.proofs.RoundLemmas.{none_stepped, one_stepped, ready_of, round_left, round_made, round_none, round_over, round_sound}
 use Rattle.event_core.proofs.core_run.Core.run_round.Goals as goal
 

@@ -1,4 +1,4 @@
-use Rattle.event_core.specs.Core.{HasStepped}
+use Rattle.event_core.specs.code.Core.{HasStepped}
 use Rattle.event_core.proofs.core_run.Core.run_round.Given as goal
 
 abbrev pub invariant-ports : goal.invariant-ports

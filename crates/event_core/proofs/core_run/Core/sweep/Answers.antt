@@ -1,5 +1,6 @@
 use Rattle.std.proofs.Common.{◌≡◌, length, ap, subst, arith}
-use Rattle.event_core.specs.Core.{CoreView, HasSwept, IsReady}
+use Rattle.event_core.specs.Core.{CoreView}
+use Rattle.event_core.specs.code.Core.{HasSwept, IsReady}
 use Rattle.event_core.proofs.RoundLemmas.{ready_of}
 use Rattle.event_core.proofs.SweepLemmas.{run_left, run_over, run_sound, swept_done, swept_inside, swept_next, swept_none}
 use Rattle.event_core.proofs.core_run.Core.sweep.Goals as goal

@@ -1,4 +1,4 @@
-use Rattle.event_core.specs.Core.{HasSwept}
+use Rattle.event_core.specs.code.Core.{HasSwept}
 use Rattle.event_core.proofs.core_run.Core.sweep.Given as goal
 
 abbrev pub invariant-runs : goal.invariant-runs

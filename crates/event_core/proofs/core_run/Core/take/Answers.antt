@@ -4,9 +4,10 @@ use Rattle.event_defs.specs.declared.place.Action.TheVariants as action
 use Rattle.event_defs.specs.declared.place.Event.TheVariants as event
 use Rattle.port_walk.specs.Placed.{CanTake, CanTakeValue}
 use Rattle.event_core.specs.declared.seats.Seat.{Seat}
-use Rattle.event_core.specs.Core.{IsUpcoming, Applies, CoreView}
+use Rattle.event_core.specs.Core.{Applies, CoreView}
+use Rattle.event_core.specs.code.Core.{IsUpcoming}
 use Rattle.event_core.specs.Kept.{view_of}
-use Rattle.event_core.specs.Seats.{HasTakeRoom, seat_taken}
+use Rattle.event_core.specs.code.Seats.{HasTakeRoom, seat_taken}
 use Rattle.event_core.proofs.CoreLemmas.{take_room, reseated, same_seat, seat_in, seat_there}
 use Rattle.event_core.proofs.EventLemmas.{can_take, take_waits, can_take_value, take_moves}
 use Rattle.std.proofs.lemmas.Bool.{false≢true}

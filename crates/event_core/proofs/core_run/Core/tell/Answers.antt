@@ -4,9 +4,10 @@ use Rattle.event_defs.specs.declared.place.Action.TheVariants as action
 use Rattle.event_defs.specs.declared.place.Event.TheVariants as event
 use Rattle.port_walk.specs.Placed.{IsEnding}
 use Rattle.event_core.specs.declared.seats.Seat.{Seat}
-use Rattle.event_core.specs.Core.{IsUpcoming, Applies, CoreView}
+use Rattle.event_core.specs.Core.{Applies, CoreView}
+use Rattle.event_core.specs.code.Core.{IsUpcoming}
 use Rattle.event_core.specs.Kept.{view_of}
-use Rattle.event_core.specs.Seats.{seat_told}
+use Rattle.event_core.specs.code.Seats.{seat_told}
 use Rattle.event_core.proofs.CoreLemmas.{is_seat, reseated, same_seat, seat_in, seat_there}
 use Rattle.event_core.proofs.EventLemmas.{can_tell, tell_moves}
 use Rattle.event_core.proofs.core_run.Core.tell.Goals as goal

@@ -1,6 +1,6 @@
 use Rattle.std.proofs.Common.{◌%◌, ◌<◌, length, subst}
 use Rattle.plan_defs.specs.Lists.{IsLeastFree}
-use Rattle.home_pick.specs.Rooms.{IsSpent}
+use Rattle.home_pick.specs.code.Rooms.{IsSpent}
 use Rattle.home_pick.proofs.TurnLemmas.{in_turn, turned_more}
 use Rattle.home_pick.proofs.turns.Turns.turn_port.Goals as goal
 

@@ -1,6 +1,6 @@
 use Rattle.std.proofs.Common.{◌∙◌, get_or, ap, sym, arith}
 use Rattle.logic_four.specs.declared.V4.TheVariants.{Zero}
-use Rattle.large_gen.specs.Summaries.{with_cell}
+use Rattle.large_gen.specs.code.Summaries.{with_cell}
 use Rattle.large_gen.proofs.SummaryLemmas.{total, total_more, row_more}
 use Rattle.large_gen.proofs.summary.CellCounts.add.Goals as goal
 

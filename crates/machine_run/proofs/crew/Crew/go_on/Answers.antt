@@ -1,6 +1,6 @@
 use Rattle.std.proofs.Common.{subst, sym}
 use Rattle.machine_run.specs.Kept.{IsKept}
-use Rattle.machine_run.specs.Moves.{AreMoved, HasGoneOn}
+use Rattle.machine_run.specs.code.Moves.{AreMoved, HasGoneOn}
 use Rattle.machine_run.proofs.KeptLemmas.{back, can_go_on_all, kept_in_next}
 use Rattle.machine_run.proofs.crew.Crew.go_on.Goals as goal
 

@@ -1,6 +1,6 @@
 use Rattle.std.proofs.Common.{◌∙◌, ◌*◌, ◌<◌, ap, subst, sym}
 use Rattle.lane_planes.specs.Lanes.{lane_of}
-use Rattle.port_bank.specs.Places.{numbered}
+use Rattle.port_bank.specs.code.Places.{numbered}
 use Rattle.pack_bank.specs.Places.{PackTurns, count, in_lane}
 use Rattle.pack_bank.proofs.PlaceLemmas.{number_there, read_value}
 use Rattle.pack_bank.proofs.places.Places.value.Goals as goal

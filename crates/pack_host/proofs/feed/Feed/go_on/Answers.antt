@@ -1,5 +1,5 @@
 use Rattle.std.proofs.Common.{◌∙◌, ◌+◌, subst, sym}
-use Rattle.pack_host.specs.Feeds.{AreAt}
+use Rattle.pack_host.specs.code.Feeds.{AreAt}
 use Rattle.pack_host.proofs.feed.Feed.go_on.Goals as goal
 
 pub next_rows-requires-clause-valid : goal.next_rows-requires-clause-valid

@@ -3,7 +3,8 @@ use Rattle.image_defs.specs.declared.image.Image.{Image}
 use Rattle.pack_walk.specs.declared.action.PackAction.TheVariants as action
 use Rattle.pack_words.specs.Passes.{PackPassView}
 use Rattle.pack_run.specs.Pairs.{placed}
-use Rattle.pack_run.specs.Steps.{IsStepOf, IsUpcoming}
+use Rattle.pack_run.specs.Steps.{IsStepOf}
+use Rattle.pack_run.specs.code.Steps.{IsUpcoming}
 use Rattle.pack_run.proofs.RunLemmas.{asked_step, reader_there}
 use Rattle.pack_run.proofs.running.PackRunning.ask.Goals as goal
 

@@ -1,6 +1,6 @@
 use Rattle.std.proofs.Common.{refl, subst}
 use Rattle.pack_run.specs.Pairs.{HasMadeAll}
-use Rattle.pack_run.specs.Steps.{IsUpcoming}
+use Rattle.pack_run.specs.code.Steps.{IsUpcoming}
 use Rattle.pack_run.proofs.RunLemmas.{upcoming}
 use Rattle.pack_run.proofs.running.PackRunning.step.Goals as goal
 

@@ -1,7 +1,8 @@
 use Rattle.std.proofs.Common.{subst, sym}
 use Rattle.crew_run.specs.declared.stepper.Step.TheVariants as step
 use Rattle.pack_walk.specs.declared.action.PackAction.TheVariants as action
-use Rattle.pack_run.specs.Steps.{IsStepOf, IsUpcoming}
+use Rattle.pack_run.specs.Steps.{IsStepOf}
+use Rattle.pack_run.specs.code.Steps.{IsUpcoming}
 use Rattle.pack_run.proofs.RunLemmas.{can_take, may_take, missed_placed, missed_step, took_placed, took_step}
 use Rattle.pack_run.proofs.running.PackRunning.take.Goals as goal
 

@@ -6,7 +6,7 @@ use Rattle.pack_words.proofs.AllowLemmas.{put_allowed}
 use Rattle.pack_words.proofs.HeldLemmas.{held_stepped, own_fields, pass_stepped, put_word, reseated, word_read, word_room}
 use Rattle.pack_words.specs.Held.{pass_of}
 use Rattle.pack_words.specs.Passes.{AreValues, CanPut, IsPut, IsRunning, PackPassView, one_step}
-use Rattle.pack_words.specs.Plays.{after_step}
+use Rattle.pack_words.specs.code.Plays.{after_step}
 use Rattle.pack_words.specs.Rule.{HasPlanes}
 use Rattle.pack_words.specs.Words.{packed}
 use Rattle.pack_words.proofs.bar.PackBar.put.Goals as goal

@@ -2,7 +2,7 @@ use Rattle.std.proofs.Common.{◌≡◌, ◌∙◌, ap, subst}
 use Rattle.image_defs.specs.Places.{IsPort}
 use Rattle.image_defs.specs.WellFormed.{IsArray}
 use Rattle.port_bank.proofs.TurnLemmas.{seat_found}
-use Rattle.port_array.specs.Acts.{AreFirst}
+use Rattle.port_array.specs.code.Acts.{AreFirst}
 use Rattle.port_array.proofs.KeptLemmas.{blocks_few, ready_first}
 use Rattle.port_array.proofs.port.ArrayPort.new.Goals as goal
 

@@ -3,7 +3,8 @@ use Rattle.image_defs.specs.declared.image.Image.{Image}
 use Rattle.event_defs.specs.declared.place.Action.TheVariants as action
 use Rattle.port_run.specs.Kept.{view_of}
 use Rattle.port_run.specs.Pairs.{RunView, placed, with_pass}
-use Rattle.port_run.specs.Steps.{IsStepOf, IsUpcoming}
+use Rattle.port_run.specs.Steps.{IsStepOf}
+use Rattle.port_run.specs.code.Steps.{IsUpcoming}
 use Rattle.port_run.proofs.RunLemmas.{asked_step, block_stays, kept_after, reader_there}
 use Rattle.port_run.proofs.running.Running.ask.Goals as goal
 

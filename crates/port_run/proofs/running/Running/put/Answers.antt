@@ -4,7 +4,8 @@ use Rattle.event_defs.specs.declared.place.Event.TheVariants as event
 use Rattle.crew_run.specs.declared.stepper.Step.TheVariants.{Moved}
 use Rattle.port_run.specs.Kept.{view_of}
 use Rattle.port_run.specs.Pairs.{RunView}
-use Rattle.port_run.specs.Steps.{IsEvent, IsUpcoming}
+use Rattle.port_run.specs.Steps.{IsEvent}
+use Rattle.port_run.specs.code.Steps.{IsUpcoming}
 use Rattle.port_run.proofs.RunLemmas.{block_stays, kept_after, put_event, put_placed}
 use Rattle.port_run.proofs.running.Running.put.Goals as goal
 

@@ -1,7 +1,7 @@
 use Rattle.std.proofs.Common.{refl, subst}
 use Rattle.port_run.specs.Kept.{view_of}
 use Rattle.port_run.specs.Pairs.{IsDone, RunView}
-use Rattle.port_run.specs.Steps.{IsUpcoming}
+use Rattle.port_run.specs.code.Steps.{IsUpcoming}
 use Rattle.port_run.proofs.RunLemmas.{upcoming}
 use Rattle.port_run.proofs.running.Running.step.Goals as goal
 

@@ -4,7 +4,8 @@ use Rattle.event_defs.specs.declared.place.Event.TheVariants as event
 use Rattle.crew_run.specs.declared.stepper.Step.TheVariants as step
 use Rattle.port_run.specs.Kept.{view_of}
 use Rattle.port_run.specs.Pairs.{RunView}
-use Rattle.port_run.specs.Steps.{IsEvent, IsUpcoming, IsWait}
+use Rattle.port_run.specs.Steps.{IsEvent, IsWait}
+use Rattle.port_run.specs.code.Steps.{IsUpcoming}
 use Rattle.port_run.proofs.RunLemmas.{block_stays, kept_after, may_take, missed_placed, missed_wait, took_event, took_placed}
 use Rattle.port_run.proofs.running.Running.take.Goals as goal
 

@@ -1,4 +1,4 @@
-use Rattle.rank_find.specs.Walk.{work_left, IsWalking, Reaches}
+use Rattle.rank_find.specs.code.Walk.{work_left, IsWalking, Reaches}
 use Rattle.rank_find.proofs.walk.Walk.go_down.Given as goal
 
 abbrev pub invariant-loop-gate : goal.invariant-loop-gate

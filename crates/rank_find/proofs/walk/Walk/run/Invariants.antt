@@ -1,6 +1,6 @@
 use Rattle.std.proofs.Common.{◌≢◌, ℕ, ◌<◌}
 use Rattle.rank_find.specs.declared.walk.Mark.TheVariants.{Fresh}
-use Rattle.rank_find.specs.Walk.{mark_at, IsIdle}
+use Rattle.rank_find.specs.code.Walk.{mark_at, IsIdle}
 use Rattle.rank_find.proofs.walk.Walk.run.Given as goal
 
 abbrev pub invariant-loop-root : goal.invariant-loop-root

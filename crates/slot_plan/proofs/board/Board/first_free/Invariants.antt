@@ -1,5 +1,5 @@
 use Rattle.std.proofs.Common.{ℕ, ◌*◌, ◌<◌}
-use Rattle.slot_plan.specs.Boards.{IsShut}
+use Rattle.slot_plan.specs.code.Boards.{IsShut}
 use Rattle.slot_plan.proofs.board.Board.first_free.Given as goal
 
 abbrev pub invariant-spans : goal.invariant-spans

@@ -1,5 +1,5 @@
 use Rattle.std.proofs.Common.{ℕ, ◌+◌, ◌*◌, ◌<◌}
-use Rattle.slot_plan.specs.Boards.{IsShut}
+use Rattle.slot_plan.specs.code.Boards.{IsShut}
 use Rattle.slot_plan.proofs.board.Board.free_in_span.Given as goal
 
 abbrev pub invariant-words : goal.invariant-words

@@ -1,5 +1,5 @@
 use Rattle.std.proofs.Common.{◌*◌, arith}
-use Rattle.slot_plan.specs.Boards.{IsShut}
+use Rattle.slot_plan.specs.code.Boards.{IsShut}
 use Rattle.slot_plan.proofs.ScanLemmas.{scan_on, scan_stop}
 use Rattle.slot_plan.proofs.board.Board.free_in_word.Goals as goal
 

@@ -1,6 +1,6 @@
 use Rattle.std.proofs.Common.{subst, arith}
 use Rattle.node_defs.specs.Takes.{Awaits}
-use Rattle.slot_plan.specs.Early.{IsFrom}
+use Rattle.slot_plan.specs.code.Early.{IsFrom}
 use Rattle.slot_plan.proofs.PlaceLemmas.{home_low, reader_low, from_low, slot_low, planned_more}
 use Rattle.slot_plan.proofs.planning.Planning.put.Goals as goal
 

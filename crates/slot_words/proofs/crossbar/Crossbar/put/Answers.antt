@@ -7,7 +7,7 @@ use Rattle.slot_words.proofs.HeldLemmas.{held_stepped, own_fields, pass_stepped,
 use Rattle.slot_words.proofs.StepLemmas.{put_allowed, turns_few}
 use Rattle.slot_words.specs.Held.{pass_of}
 use Rattle.slot_words.specs.Passes.{CanPut, IsPut, IsRunning, PassView, one_step}
-use Rattle.slot_words.specs.Plays.{after_step}
+use Rattle.slot_words.specs.code.Plays.{after_step}
 use Rattle.slot_words.proofs.crossbar.Crossbar.put.Goals as goal
 
 pub put-requires-clause-own : goal.put-requires-clause-own

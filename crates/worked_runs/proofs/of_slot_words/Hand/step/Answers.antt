@@ -1,7 +1,7 @@
 -- What comes next at the port is what comes next at the place of the pass.
 use Rattle.std.proofs.Common.{subst}
 use Rattle.port_run.specs.Kept.{view_of}
-use Rattle.port_run.specs.Steps.{IsUpcoming}
+use Rattle.port_run.specs.code.Steps.{IsUpcoming}
 use Rattle.port_run.proofs.RunLemmas.{upcoming}
 use Rattle.worked_runs.proofs.of_slot_words.Hand.step.Goals as goal
 

@@ -5,8 +5,8 @@ use Rattle.image_defs.specs.declared.image.Image.{Image}
 use Rattle.net_defs.specs.declared.netlist.Netlist.{Netlist}
 use Rattle.net_defs.specs.declared.timing.Timing.{Timing}
 use Rattle.yse_top.specs.Checks.{HasNoLoop}
-use Rattle.yse_top.specs.Passing.{AfterImageFile, Continuation}
-use Rattle.yse_top.specs.Visited.{ExecTelling}
+use Rattle.yse_top.specs.code.Passing.{AfterImageFile, Continuation}
+use Rattle.yse_top.specs.code.Visited.{ExecTelling}
 use Rattle.yse_top.specs.commands.Exec.{AfterImage, AfterMatch, IsAccepted, OnImage, RunsImage}
 use Rattle.yse_top.proofs.ChainLemmas.{follows_here, follows_on, follows_refusal}
 use Rattle.yse_top.proofs.PassingLemmas.{design_on, design_stops, passed_on, stimulus_on, stimulus_stops, stopped}

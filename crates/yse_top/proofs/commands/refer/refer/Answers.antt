@@ -2,7 +2,7 @@
 use Rattle.std.proofs.Common.{refl, inl, inr, sym, subst, ◌++◌}
 use Rattle.net_defs.specs.Trace.{header_line, IsTrace}
 use Rattle.yse_top.specs.Checks.{HasFewCells, HasNoLoop}
-use Rattle.yse_top.specs.Outputs.{cycle_lines}
+use Rattle.yse_top.specs.code.Outputs.{cycle_lines}
 use Rattle.yse_top.specs.commands.Run.{AfterLoop, AfterStimulus, KeepsTrace, WritesTrace}
 use Rattle.yse_top.proofs.ChainLemmas.{follows_here, follows_on, follows_refusal}
 use Rattle.yse_top.proofs.PassingLemmas.{design_on, design_stops, stimulus_on, stimulus_stops}

@@ -1,6 +1,7 @@
 -- Without an order file the trace is written, and workers tell the gates.
 use Rattle.std.proofs.Common.{Ok, refl, inl, inr, subst}
-use Rattle.yse_top.specs.Visited.{AreRunVisits, EndsTelling}
+use Rattle.yse_top.specs.Visited.{AreRunVisits}
+use Rattle.yse_top.specs.code.Visited.{EndsTelling}
 use Rattle.yse_top.specs.commands.Run.{EndsBy}
 use Rattle.yse_top.proofs.ChainLemmas.{follows_here}
 use Rattle.yse_top.proofs.GateLemmas.{machine_ports}

@@ -8,7 +8,7 @@ use Rattle.net_defs.specs.declared.timing.Timing.{Timing}
 use Rattle.stim_text.specs.declared.order.Order.{Order}
 use Rattle.yse_top.specs.Checks.{Ends, HasFewCells}
 use Rattle.yse_top.specs.Orders.{EndsInOrder}
-use Rattle.yse_top.specs.Passing.{AfterOrderFile, Continuation}
+use Rattle.yse_top.specs.code.Passing.{AfterOrderFile, Continuation}
 use Rattle.yse_top.specs.commands.Run.{EndsBy}
 use Rattle.yse_top.proofs.ChainLemmas.{follows_here, follows_on, follows_refusal}
 use Rattle.yse_top.proofs.PassingLemmas.{passed_on, stopped}

@@ -1,7 +1,7 @@
 -- The machine, the design, whether it fits, the stimulus, and the end.
 use Rattle.std.proofs.Common.{Ok}
-use Rattle.yse_top.specs.Refusals.{written_by}
-use Rattle.yse_top.specs.Visited.{EndsTelling}
+use Rattle.yse_top.specs.code.Refusals.{written_by}
+use Rattle.yse_top.specs.code.Visited.{EndsTelling}
 use Rattle.yse_top.specs.commands.Run.{AfterStimulus, ExpectedOn, OnTiming}
 use Rattle.yse_top.proofs.ChainLemmas.{follows_fit, follows_unfit}
 use Rattle.yse_top.proofs.PassingLemmas.{design_on, design_stops, machine_on, machine_stops, stimulus_on, stimulus_stops}

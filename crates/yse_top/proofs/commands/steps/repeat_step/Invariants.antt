@@ -1,5 +1,5 @@
 use Rattle.std.specs.Prelude.{replicate}
-use Rattle.yse_top.specs.Stepped.{HasStepped}
+use Rattle.yse_top.specs.code.Stepped.{HasStepped}
 use Rattle.yse_top.proofs.commands.steps.repeat_step.Given as goal
 
 abbrev pub invariant-steps : goal.invariant-steps

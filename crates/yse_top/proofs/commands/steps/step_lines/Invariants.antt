@@ -1,6 +1,6 @@
 use Rattle.std.specs.Prelude.{take}
 use Rattle.std.specs.List.{flat_map}
-use Rattle.yse_top.specs.Stepped.{HasStepped}
+use Rattle.yse_top.specs.code.Stepped.{HasStepped}
 use Rattle.yse_top.proofs.StepLemmas.{line_steps}
 use Rattle.yse_top.proofs.commands.steps.step_lines.Given as goal
 

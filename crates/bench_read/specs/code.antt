@@ -1,0 +1,6 @@
+pub mod Drafting
+pub mod Drafts
+pub mod GateLists
+pub mod Making
+pub mod Placed
+pub mod Storing

@@ -1,0 +1,8 @@
+-- Beside specs/Placed.antt, what only private functions and proofs cite.
+use Rattle.std.specs.Prelude.{List, map}
+use Rattle.bench_read.specs.Lines.{Line}
+use Rattle.bench_read.specs.Placed.{Placed}
+
+-- the lines, without their numbers
+abbrev pub lines_at : List Placed → List Line
+lines_at placed = map (λ p. p.line) placed

@@ -1,0 +1,27 @@
+-- What becomes of the members of workers, each in its place.
+use Rattle.std.specs.Prelude.{List, Some, length, slice_get, ℕ, ◌+◌, ◌<◌, ◌≡◌, ◌≤◌}
+use Rattle.crew_run.specs.code.Phases.{Each}
+use Rattle.crew_run.specs.declared.worker.Worker.{Worker}
+use Rattle.port_run.specs.Pairs.{next_block}
+use Rattle.port_run.specs.Same.{IsSame}
+use Rattle.port_run.specs.declared.seated.Seated.{Seated}
+
+-- the relation leads from each member to the one that stands in its place, of as many
+abbrev pub AreMoved : {S G : Type 0} → (S → S → Type 0) → List (Worker S G) → List (Worker S G) → Type 0
+AreMoved R ws ws' = Each (λ w w'. Each R w.members w'.members) ws ws'
+
+-- it leads from each of the first n to the one that stands in its place, and the others are as before
+module _ {X : Type 0} (R : X → X → Type 0) where
+  pub record AreFirst (n : ℕ) (xs xs' : List X) : Type 0 where
+    pub count : length xs' ≡ length xs
+    pub moved : (i : ℕ) (x x' : X) → i < n → slice_get xs i ≡ Some x → slice_get xs' i ≡ Some x' → R x x'
+    pub others : (i : ℕ) → n ≤ i → slice_get xs' i ≡ slice_get xs i
+
+-- the same port, which has made all turns of its block
+pub record HasEnded (seat seat' : Seated) : Type 0 where
+  pub same : IsSame seat.bar.now seat.run seat'.bar.now seat'.run
+  pub done : seat'.run.pass.place.turn ≡ seat'.run.until + 1
+
+-- the same port, in its next block
+pub record HasGoneOn (seat seat' : Seated) : Type 0 where
+  pub run : seat'.run ≡ next_block seat.run

@@ -1,0 +1,12 @@
+-- Beside specs/Shown.antt, what only private functions and proofs cite.
+use Rattle.std.specs.Prelude.{List, Some, length, slice_get, ℕ, ◌+◌, ◌<◌, ◌≡◌}
+use Rattle.image_defs.specs.Frames.{shown}
+use Rattle.image_defs.specs.declared.image.Image.{Image}
+use Rattle.logic_four.specs.Values.{value_at}
+use Rattle.net_defs.specs.declared.stimulus.Stimulus.{Stimulus}
+use Rattle.net_defs.specs.declared.trace.CellRow.{CellRow}
+use Rattle.port_host.specs.Rows.{printed_sources}
+
+-- the first n of them have what the image shows
+pub record AreFilled (image : Image) (stimulus : Stimulus) (n : ℕ) (rows : List CellRow) : Type 0 where
+  pub cells : (c j : ℕ) (row : CellRow) → c < n → slice_get rows c ≡ Some row → j < length (printed_sources image) → value_at row.cells j ≡ shown image stimulus (c + 1) j

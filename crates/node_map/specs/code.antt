@@ -1,0 +1,5 @@
+pub mod Made
+pub mod Nodes
+pub mod Places
+pub mod Tables
+pub mod Wires

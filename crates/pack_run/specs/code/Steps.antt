@@ -1,0 +1,30 @@
+-- Beside specs/Steps.antt, what only private functions and proofs cite.
+use Rattle.std.specs.Prelude.{ℕ}
+use Rattle.image_defs.specs.Places.{IsPort}
+use Rattle.image_defs.specs.declared.image.PortImage.{PortImage}
+use Rattle.event_defs.specs.Next.{AsksNext, PutsNext, TakesNext, TellsNext}
+use Rattle.crew_run.specs.declared.stepper.Step.{Step}
+use Rattle.port_run.specs.code.Steps as plain
+use Rattle.pack_walk.specs.declared.action.PackAction.{PackAction}
+use Rattle.pack_walk.specs.declared.action.PackAction.TheVariants as action
+use Rattle.pack_words.specs.Passes.{IsFit, IsRunning, PackPassView}
+use Rattle.pack_run.specs.Pairs.{HasMadeAll}
+
+-- this is what the pass does next
+abbrev pub IsNextAction : PortImage → PackPassView → PackAction → Type 0
+IsNextAction seat pass (action.Ask reader) = IsRunning pass × AsksNext seat pass.place 1 reader
+IsNextAction seat pass (action.Put slot) = IsRunning pass × PutsNext seat pass.place 1 slot
+IsNextAction seat pass (action.Take slot) = IsRunning pass × TakesNext seat pass.place slot
+IsNextAction seat pass action.Tell = IsRunning pass × TellsNext seat pass.place
+IsNextAction seat pass action.Done = HasMadeAll pass
+
+-- this is the next event of its place
+pub record IsUpcoming (pass : PackPassView) (upcoming : PackAction) : Type 0 where
+  pub fit : IsFit pass
+  pub seat : PortImage
+  pub is : IsPort pass.image pass.port seat
+  pub next : IsNextAction seat pass upcoming
+
+-- the answer of an Ask
+abbrev pub IsAnswer : ℕ → ℕ → Step → Type 0
+IsAnswer finished turn = plain.IsAnswer finished turn 1

@@ -1,0 +1,4 @@
+pub mod Boards
+pub mod Early
+pub mod Plannings
+pub mod UsedTables
