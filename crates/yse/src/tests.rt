@@ -51,6 +51,50 @@ const GATES: usize = 64;
 
 const FILES: &str = "net.bench net.stim";
 
+/// Numbers of workers and of banks.
+const CREWS: &[&str] = &[
+    "--workers 1 --banks 1",
+    "--workers 1 --banks 2",
+    "--workers 1 --banks 8",
+    "--workers 2 --banks 1",
+    "--workers 2 --banks 2",
+    "--workers 2 --banks 8",
+    "--workers 7 --banks 1",
+    "--workers 7 --banks 2",
+    "--workers 7 --banks 8",
+    "--workers 64 --banks 1",
+    "--workers 64 --banks 2",
+    "--workers 64 --banks 8",
+];
+
+fn crews() -> &'static [&'static str] {
+    CREWS
+}
+
+fn push_word(alloc: Global, words: &mut Vec<String>, word: &str) -> Result<(), AllocError> {
+    words.push(String::from_str(alloc, word)?)?;
+    Ok(())
+}
+
+fn push_words(alloc: Global, words: &mut Vec<String>, line: &str) -> Result<(), AllocError> {
+    for word in line.split(' ') {
+        if !word.is_empty() {
+            push_word(alloc, words, word)?;
+        }
+    }
+    Ok(())
+}
+
+/// Two lines of words.
+fn two<'a>(first: &'a str, second: &'a str) -> [&'a str; 2] {
+    [first, second]
+}
+
+/// Three lines of words.
+fn three<'a>(first: &'a str, second: &'a str, third: &'a str) -> [&'a str; 3] {
+    [first, second, third]
+}
+
 /// The words of these lines.
 fn words_of(alloc: Global, lines: &[&str]) -> Result<Vec<String>, AllocError> {
     let mut words = Vec::new(alloc);
@@ -60,15 +104,6 @@ fn words_of(alloc: Global, lines: &[&str]) -> Result<Vec<String>, AllocError> {
     Ok(words)
 }
 
-fn push_words(alloc: Global, words: &mut Vec<String>, line: &str) -> Result<(), AllocError> {
-    for word in line.split(' ') {
-        if !word.is_empty() {
-            words.push(String::from_str(alloc, word)?)?;
-        }
-    }
-    Ok(())
-}
-
 fn named(alloc: Global, name: &[u8], bytes: List<u8>) -> Result<NamedBytes, Memory> {
     Ok(NamedBytes {
         name: Text::from_bytes(alloc, name)?,
@@ -76,13 +111,23 @@ fn named(alloc: Global, name: &[u8], bytes: List<u8>) -> Result<NamedBytes, Memo
     })
 }
 
+fn push_file(
+    alloc: Global,
+    files: &mut List<NamedBytes>,
+    name: &[u8],
+    bytes: &[u8],
+) -> Result<(), Memory> {
+    files.push(named(alloc, name, List::from_slice(alloc, bytes)?)?)
+}
+
 /// Files of these names and bytes; the call of this number fails (0: none).
 fn store(alloc: Global, files: &[(&[u8], &[u8])], failing: u64) -> Result<MemFiles, Memory> {
+    let fails = List::from_slice(alloc, &[failing])?;
     let mut list = List::new(alloc);
     for (name, bytes) in files {
-        list.push(named(alloc, name, List::from_slice(alloc, bytes)?)?)?;
+        push_file(alloc, &mut list, name, bytes)?;
     }
-    Ok(MemFiles::new(list, List::from_slice(alloc, &[failing])?))
+    Ok(MemFiles::new(list, fails))
 }
 
 /// The files of a netlist and of a stimulus; the call of this number fails (0: none).
@@ -140,6 +185,29 @@ struct Ended {
     err: MemSink,
 }
 
+/// What is wanted of a call: the number of its status, its output and its line.
+#[derive(Clone, Copy)]
+struct Wanted<'a> {
+    status: u8,
+    output: &'a [u8],
+    line: &'a [u8],
+}
+
+/// A call that ends with status 0 and this output.
+fn printed<'a>(output: &'a [u8]) -> Wanted<'a> {
+    Wanted {
+        status: 0,
+        output,
+        line: b"",
+    }
+}
+
+fn has_ended(ended: &Ended, wanted: Wanted<'_>) -> bool {
+    ended.status == wanted.status
+        && ended.out.taken() == wanted.output
+        && ended.err.taken() == wanted.line
+}
+
 /// Calls `yse` with the words of these lines and a sink whose call of this number fails (0: none).
 fn end_of<R: Threads + Wait + Sync, F: Files>(
     rt: &R,
@@ -180,6 +248,20 @@ fn end_with_gates<R: Threads + Wait + Sync, F: Files, G: Gate + Send>(
     Ok(Ended { status, out, err })
 }
 
+/// Whether such a call ends so.
+fn ends<R: Threads + Wait + Sync, F: Files + Drop>(
+    rt: &R,
+    alloc: Global,
+    lines: &[&str],
+    files: F,
+    failing: u64,
+    wanted: Wanted<'_>,
+) -> Result<bool, Memory> {
+    let mut files = files;
+    let ended = end_of(rt, alloc, lines, &mut files, failing)?;
+    Ok(has_ended(&ended, wanted))
+}
+
 /// A netlist file that is one comment of so many bytes; the stimulus is an empty file.
 fn comment(alloc: Global, bytes: usize) -> Result<PlainFiles, Memory> {
     let mut files = List::new(alloc);
@@ -187,32 +269,32 @@ fn comment(alloc: Global, bytes: usize) -> Result<PlainFiles, Memory> {
     Ok(PlainFiles::new(files))
 }
 
-/// The reference simulation of such a file.
-fn end_of_comment<R: Threads + Wait + Sync>(
-    rt: &R,
-    alloc: Global,
-    bytes: usize,
-) -> Result<Ended, Memory> {
-    let mut files = comment(alloc, bytes)?;
-    end_of(rt, alloc, &["refer", FILES], &mut files, 0)
+/// Numbers of bytes, and how the reference simulation of such a file ends: a text of 67,108,864 bytes is read, and one
+/// of a byte more is refused.
+const TEXTS: &[(usize, u8, &str, &str)] = &[
+    (67_108_864, 0, "cycle\n", ""),
+    (
+        67_108_865,
+        10,
+        "",
+        "limit: net.bench has more than 67108864 bytes\n",
+    ),
+];
+
+fn texts() -> &'static [(usize, u8, &'static str, &'static str)] {
+    TEXTS
 }
 
-/// A text of 67,108,864 bytes is read, and one of a byte more is refused.
 #[test]
 fn texts_have_a_most(rt: HostRuntime) -> Result<(), Fail> {
-    for (bytes, status, output, line) in [
-        (67_108_864usize, 0u8, "cycle\n", ""),
-        (
-            67_108_865,
-            10,
-            "",
-            "limit: net.bench has more than 67108864 bytes\n",
-        ),
-    ] {
-        let ended = end_of_comment(&rt, rt.alloc(), bytes)?;
-        assert_eq!(rt; ended.out.taken(), output.as_bytes());
-        assert_eq!(rt; ended.err.taken(), line.as_bytes());
-        assert_eq!(rt; ended.status, status);
+    for (bytes, status, output, line) in texts() {
+        let wanted = Wanted {
+            status: *status,
+            output: output.as_bytes(),
+            line: line.as_bytes(),
+        };
+        let files = comment(rt.alloc(), *bytes)?;
+        assert!(rt; ends(&rt, rt.alloc(), &["refer", FILES], files, 0, wanted)?);
     }
     Ok(())
 }

@@ -1,22 +1,26 @@
 //! Runs in blocks of cycles.
 
 ghost use Rattle.crew_run.specs.Crews.{CanTell};
+ghost use Rattle.limits.specs.declared.TheConstants.{MAX_WORKERS};
 ghost use Rattle.std.specs.Prelude.{All, IfOk, Option, Some, length, slice_get, ℕ, ◌^◌, ◌≡◌, ◌≤◌};
+ghost use Rattle.yse_top.specs.Visited.{AllCanTell};
 
-use super::{C17, Ended, FILES, GATES, end_of, status_of, two_files, words_of};
+use super::{
+    C17, Ended, FILES, GATES, Wanted, end_of, ends, printed, status_of, two_files, words_of,
+};
 use crew_run::{CountGate, Gate};
-use edge_io::{Failed, MemFiles, MemSink, NullSink, Sink};
+use edge_io::{Failed, Files, MemFiles, MemSink, NullSink, Sink};
 use machine_run::count_gates;
 use seen_list::{List, Memory, Text};
 use std::alloc::Global;
-use std::marker::Sync;
+use std::marker::{Send, Sync};
 use std::sync::Wait;
 use std::sync::atomic::{AtomicU64, Ordering};
 use std::test::Fail;
 use std::thread::Threads;
 
 /// Rows of 4,095 to 4,097 cycles, of 8,192 and 8,193, and of 10,000. A block has 4,096.
-const ROWS: [&str; 6] = [
+const ROWS: &[&str] = &[
     "0x1z0 * 4000\n11111 * 95\n",
     "0x1z0 * 4000\n11111 * 95\n10101\n",
     "0x1z0 * 4000\n11111 * 96\n10101\n",
@@ -25,28 +29,57 @@ const ROWS: [&str; 6] = [
     "10101 * 3000\n0x1z0 * 2000\n11111\n00110 * 4999\n",
 ];
 
-/// The call of these words over c17 and these rows, with a sink whose call of this number fails (0: none).
+fn all_rows() -> &'static [&'static str] {
+    ROWS
+}
+
+/// Numbers of workers and of banks.
+const CREWS: &[&str] = &[
+    "--workers 1 --banks 1",
+    "--workers 1 --banks 2",
+    "--workers 1 --banks 8",
+    "--workers 2 --banks 1",
+    "--workers 2 --banks 2",
+    "--workers 2 --banks 8",
+    "--workers 7 --banks 1",
+    "--workers 7 --banks 2",
+    "--workers 7 --banks 8",
+];
+
+fn crews() -> &'static [&'static str] {
+    CREWS
+}
+
+/// The call of these words over c17 and these rows.
 fn end_over<R: Threads + Wait + Sync>(
     rt: &R,
     alloc: Global,
     lines: &[&str],
     rows: &str,
-    failing: u64,
 ) -> Result<Ended, Memory> {
     let mut files = two_files(alloc, C17.as_bytes(), rows.as_bytes(), 0)?;
-    end_of(rt, alloc, lines, &mut files, failing)
+    end_of(rt, alloc, lines, &mut files, 0)
+}
+
+/// Whether the run over these rows ends so, with a sink whose call of this number fails (0: none).
+fn run_ends<R: Threads + Wait + Sync>(
+    rt: &R,
+    alloc: Global,
+    crew: &str,
+    rows: &str,
+    failing: u64,
+    wanted: Wanted<'_>,
+) -> Result<bool, Memory> {
+    let files = two_files(alloc, C17.as_bytes(), rows.as_bytes(), 0)?;
+    ends(rt, alloc, &["run", FILES, crew], files, failing, wanted)
 }
 
 /// Whether runs over these rows, with so many workers and banks, print what the reference does.
 fn agrees<R: Threads + Wait + Sync>(rt: &R, alloc: Global, rows: &str) -> Result<bool, Memory> {
-    let reference = end_over(rt, alloc, &["refer", FILES], rows, 0)?;
-    for workers in ["1", "2", "7"] {
-        for banks in ["1", "2", "8"] {
-            let lines = ["run", FILES, "--workers", workers, "--banks", banks];
-            let run = end_over(rt, alloc, &lines, rows, 0)?;
-            if run.status != 0 || run.out.taken() != reference.out.taken() {
-                return Ok(false);
-            }
+    let reference = end_over(rt, alloc, &["refer", FILES], rows)?;
+    for crew in crews() {
+        if !run_ends(rt, alloc, crew, rows, 0, printed(reference.out.taken()))? {
+            return Ok(false);
         }
     }
     Ok(reference.status == 0)
@@ -54,22 +87,27 @@ fn agrees<R: Threads + Wait + Sync>(rt: &R, alloc: Global, rows: &str) -> Result
 
 #[test]
 fn blocks_print_the_reference(rt: HostRuntime) -> Result<(), Fail> {
-    for rows in ROWS {
+    for rows in all_rows() {
         assert!(rt; agrees(&rt, rt.alloc(), rows)?);
     }
     Ok(())
 }
 
+/// Whether a sink that fails at the first row of the second block has what the run of one block writes.
+fn is_cut_off<R: Threads + Wait + Sync>(rt: &R, alloc: Global) -> Result<bool, Memory> {
+    let whole = end_over(rt, alloc, &["run", FILES], "11111 * 4096\n")?;
+    let wanted = Wanted {
+        status: 4,
+        output: whole.out.taken(),
+        line: b"write fault\n",
+    };
+    Ok(whole.status == 0 && run_ends(rt, alloc, "", "11111 * 5000\n", 4098, wanted)?)
+}
+
 /// A sink that fails at the first row of the second block has the header and the rows of the first one.
 #[test]
 fn fault_in_the_second_block(rt: HostRuntime) -> Result<(), Fail> {
-    let alloc = rt.alloc();
-    let lines = ["run", FILES];
-    let whole = end_over(&rt, alloc, &lines, "11111 * 4096\n", 0)?;
-    let cut = end_over(&rt, alloc, &lines, "11111 * 5000\n", 4098)?;
-    assert_eq!(rt; whole.status, 0);
-    assert_eq!(rt; cut.status, 4);
-    assert_eq!(rt; cut.out.taken(), whole.out.taken());
+    assert!(rt; is_cut_off(&rt, rt.alloc())?);
     Ok(())
 }
 
@@ -97,39 +135,69 @@ fn many_files(alloc: Global) -> Result<MemFiles, Memory> {
     two_files(alloc, netlist.as_bytes(), rows.as_slice(), 0)
 }
 
-/// The run over these files, with a sink that keeps what it writes.
-fn run_of_many<R: Threads + Wait + Sync>(rt: &R, alloc: Global) -> Result<(u8, MemSink), Memory> {
-    let mut files = many_files(alloc)?;
-    let words = words_of(alloc, &["run", FILES, "--workers 1"])?;
-    let words = words.as_slice();
-    let mut gates = count_gates(alloc, GATES)?;
-    let gates = gates.as_mut_slice();
-    let mut out = MemSink::new(alloc, 16_777_216, 4096, List::new(alloc))?;
+/// The status of the run of these words over these files, with this sink.
+fn status_into<R: Threads + Wait + Sync, F: Files + Drop, O: Sink, G: Gate + Send>(
+    rt: &R,
+    alloc: Global,
+    line: &str,
+    files: F,
+    out: &mut O,
+    gates: &mut [Option<G>],
+) -> Result<u8, Memory>
+    requires gates { MAX_WORKERS ≤ length gates.old }
+    requires tell { AllCanTell G.Gate.own gates.old }
+{
+    let words = words_of(alloc, &[line])?;
+    let mut files = files;
     let mut err = NullSink::new();
-    let status = status_of(rt, alloc, words, &mut files, &mut out, &mut err, gates);
-    Ok((status, out))
+    Ok(status_of(
+        rt,
+        alloc,
+        words.as_slice(),
+        &mut files,
+        out,
+        &mut err,
+        gates,
+    ))
+}
+
+/// The status of the run over these files, with a sink that keeps what it writes.
+fn run_many<R: Threads + Wait + Sync>(
+    rt: &R,
+    alloc: Global,
+    out: &mut MemSink,
+) -> Result<u8, Memory> {
+    let files = many_files(alloc)?;
+    let mut gates = count_gates(alloc, GATES)?;
+    let line = "run net.bench net.stim --workers 1";
+    status_into(rt, alloc, line, files, out, gates.as_mut_slice())
+}
+
+/// Whether all of it is written.
+fn many_are_run<R: Threads + Wait + Sync>(rt: &R, alloc: Global) -> Result<bool, Memory> {
+    let mut out = MemSink::new(alloc, 16_777_216, 4096, List::new(alloc))?;
+    let status = run_many(rt, alloc, &mut out)?;
+    let taken = out.taken();
+    Ok(status == 0 && taken.len() == 8_888_905 && taken.ends_with(b"\n1000000 0\n"))
 }
 
 /// A run has no limit on cells.
 #[test]
 fn many_cells_are_run(rt: HostRuntime) -> Result<(), Fail> {
-    let (status, out) = run_of_many(&rt, rt.alloc())?;
-    assert_eq!(rt; status, 0);
-    assert_eq!(rt; out.taken().len(), 8_888_905);
-    assert!(rt; out.taken().ends_with(b"\n1000000 0\n"));
+    assert!(rt; many_are_run(&rt, rt.alloc())?);
     Ok(())
 }
 
 /// The reference has one.
 #[test]
 fn many_cells_are_not_referred(rt: HostRuntime) -> Result<(), Fail> {
-    let mut files = many_files(rt.alloc())?;
-    let ended = end_of(&rt, rt.alloc(), &["refer", FILES], &mut files, 0)?;
-    assert_eq!(rt; ended.status, 10);
-    assert_eq!(rt;
-        ended.err.taken(),
-        b"limit: 269000000 cells, at most 268435456\n".as_slice()
-    );
+    let wanted = Wanted {
+        status: 10,
+        output: b"",
+        line: b"limit: 269000000 cells, at most 268435456\n",
+    };
+    let files = many_files(rt.alloc())?;
+    assert!(rt; ends(&rt, rt.alloc(), &["refer", FILES], files, 0, wanted)?);
     Ok(())
 }
 
@@ -209,6 +277,17 @@ impl<'a> Sink for TurnSink<'a> {
     }
 }
 
+/// A sink that has noted nothing.
+fn turn_sink<'a>(told: &'a AtomicU64) -> TurnSink<'a> {
+    TurnSink {
+        sink: NullSink::new(),
+        told,
+        header: None,
+        first_row: None,
+        last_row: 0,
+    }
+}
+
 /// How many turns the gates were told of at the header, at the first row and at the last one.
 fn turns_at_pieces<R: Threads + Wait + Sync>(
     rt: &R,
@@ -216,20 +295,17 @@ fn turns_at_pieces<R: Threads + Wait + Sync>(
     rows: &str,
 ) -> Result<(Option<u64>, Option<u64>, u64), Memory> {
     let told = AtomicU64::new(0);
+    let mut out = turn_sink(&told);
+    let files = two_files(alloc, C17.as_bytes(), rows.as_bytes(), 0)?;
     let mut gates = turn_gates(alloc, &told)?;
-    let gates = gates.as_mut_slice();
-    let words = words_of(alloc, &["run", FILES])?;
-    let words = words.as_slice();
-    let mut files = two_files(alloc, C17.as_bytes(), rows.as_bytes(), 0)?;
-    let mut out = TurnSink {
-        sink: NullSink::new(),
-        told: &told,
-        header: None,
-        first_row: None,
-        last_row: 0,
-    };
-    let mut err = NullSink::new();
-    status_of(rt, alloc, words, &mut files, &mut out, &mut err, gates);
+    status_into(
+        rt,
+        alloc,
+        "run net.bench net.stim",
+        files,
+        &mut out,
+        gates.as_mut_slice(),
+    )?;
     Ok((out.header, out.first_row, out.last_row))
 }
 
@@ -238,8 +314,7 @@ fn turns_at_pieces<R: Threads + Wait + Sync>(
 #[test]
 fn rows_come_before_the_last_block(rt: HostRuntime) -> Result<(), Fail> {
     let (header, first, last) = turns_at_pieces(&rt, rt.alloc(), "11111 * 8193\n")?;
-    assert_eq!(rt; header, Some(0));
     assert!(rt; last > 0);
-    assert_eq!(rt; first, Some(last / 8193 * 4096));
+    assert!(rt; header == Some(0) && first == Some(last / 8193 * 4096));
     Ok(())
 }

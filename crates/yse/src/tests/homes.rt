@@ -1,6 +1,6 @@
 //! Plans and runs with better homes.
 
-use super::{C17, Ended, S27, end_of, three_files, two_files};
+use super::{C17, S27, Wanted, crews, ends, printed, three_files, two_files};
 use seen_list::Memory;
 use std::alloc::Global;
 use std::marker::Sync;
@@ -59,26 +59,32 @@ fn layouts() -> &'static [Layout] {
     LAYOUTS
 }
 
-/// The plan of a layout.
-fn plan_of<R: Threads + Wait + Sync>(
+/// Whether the plan of a layout is reported as stated.
+fn is_planned<R: Threads + Wait + Sync>(
     rt: &R,
     alloc: Global,
     layout: &Layout,
-) -> Result<Ended, Memory> {
-    let mut files = three_files(alloc, C17.as_bytes(), b"", layout.machine.as_bytes())?;
-    end_of(rt, alloc, &[PLAN, layout.homes], &mut files, 0)
+) -> Result<bool, Memory> {
+    let files = three_files(alloc, C17.as_bytes(), b"", layout.machine.as_bytes())?;
+    let wanted = Wanted {
+        status: layout.status,
+        output: layout.output.as_bytes(),
+        line: layout.line.as_bytes(),
+    };
+    ends(rt, alloc, &[PLAN, layout.homes], files, 0, wanted)
 }
 
 #[test]
 fn better_plans_are_reported_as_stated(rt: HostRuntime) -> Result<(), Fail> {
     for layout in layouts() {
-        let ended = plan_of(&rt, rt.alloc(), layout)?;
-        assert_eq!(rt; ended.out.taken(), layout.output.as_bytes());
-        assert_eq!(rt; ended.err.taken(), layout.line.as_bytes());
-        assert_eq!(rt; ended.status, layout.status);
+        assert!(rt; is_planned(&rt, rt.alloc(), layout)?);
     }
     Ok(())
 }
+
+const ROWS: &[u8] = b"0000\n0001\n0000\n1000\n0001\n";
+
+const TRACE: &[u8] = b"cycle G17\n1 1\n2 0\n3 0\n4 1\n5 1\n";
 
 /// Whether a call over s27, with these words, ends with the number 0 of its status and prints its trace.
 fn prints_s27<R: Threads + Wait + Sync>(
@@ -86,22 +92,16 @@ fn prints_s27<R: Threads + Wait + Sync>(
     alloc: Global,
     lines: &[&str],
 ) -> Result<bool, Memory> {
-    let rows = "0000\n0001\n0000\n1000\n0001\n";
-    let mut files = two_files(alloc, S27.as_bytes(), rows.as_bytes(), 0)?;
-    let ended = end_of(rt, alloc, lines, &mut files, 0)?;
-    let trace = "cycle G17\n1 1\n2 0\n3 0\n4 1\n5 1\n";
-    Ok(ended.status == 0 && ended.out.taken() == trace.as_bytes())
+    let files = two_files(alloc, S27.as_bytes(), ROWS, 0)?;
+    ends(rt, alloc, lines, files, 0, printed(TRACE))
 }
 
 /// The same bytes as of plain homes and of the reference, with so many workers and banks.
 #[test]
 fn better_homes_print_the_reference(rt: HostRuntime) -> Result<(), Fail> {
     let run = "run net.bench net.stim --init 0 --homes better";
-    for workers in ["1", "2", "7", "64"] {
-        for banks in ["1", "2", "8"] {
-            let lines = [run, "--workers", workers, "--banks", banks];
-            assert!(rt; prints_s27(&rt, rt.alloc(), &lines)?);
-        }
+    for crew in crews() {
+        assert!(rt; prints_s27(&rt, rt.alloc(), &[run, crew])?);
     }
     assert!(rt; prints_s27(&rt, rt.alloc(), &["refer net.bench net.stim --init 0"])?);
     Ok(())

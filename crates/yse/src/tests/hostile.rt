@@ -1,8 +1,8 @@
 //! Whole calls at edges that fail, or that give or take little at a time, and over texts that are cut off or as
 //! large as a text may be.
 
-use super::{C17, Ended, GATES, S27, named, status_of, words_of};
-use edge_io::{MemFiles, MemSink};
+use super::{C17, Ended, GATES, S27, Wanted, has_ended, printed, push_file, status_of, words_of};
+use edge_io::{Files, MemFiles, MemSink};
 use machine_run::count_gates;
 use seen_list::{List, Memory, Text};
 use std::alloc::Global;
@@ -11,7 +11,11 @@ use std::sync::Wait;
 use std::test::Fail;
 use std::thread::Threads;
 
-const COMMANDS: [&str; 3] = ["run", "refer", "order"];
+const COMMANDS: &[&str] = &["run", "refer", "order"];
+
+fn commands() -> &'static [&'static str] {
+    COMMANDS
+}
 
 const S27_TRACE: &str = "cycle G17\n1 1\n2 1\n3 1\n";
 
@@ -43,24 +47,63 @@ const EASY: Edges = Edges {
 };
 
 fn store(alloc: Global, netlist: &[u8], stimulus: &[u8], edges: Edges) -> Result<MemFiles, Memory> {
-    let mut files = List::new(alloc);
-    for (name, bytes) in [(b"net.bench".as_slice(), netlist), (b"net.stim", stimulus)] {
-        files.push(named(alloc, name, List::from_slice(alloc, bytes)?)?)?;
-    }
     let fails = List::from_slice(alloc, &[edges.failing_read])?;
+    let mut files = List::new(alloc);
+    push_file(alloc, &mut files, b"net.bench", netlist)?;
+    push_file(alloc, &mut files, b"net.stim", stimulus)?;
     Ok(MemFiles::with_most(files, fails, edges.most_read.max(1)))
 }
 
 fn sink(alloc: Global, room: usize, most: usize, failing: u64) -> Result<MemSink, Memory> {
-    MemSink::new(
-        alloc,
-        room,
-        most.max(1),
-        List::from_slice(alloc, &[failing])?,
-    )
+    let fails = List::from_slice(alloc, &[failing])?;
+    MemSink::new(alloc, room, most.max(1), fails)
 }
 
-/// What comes of a call with the words of these lines over a netlist, a stimulus and such edges.
+fn sinks(alloc: Global, edges: Edges) -> Result<Ended, Memory> {
+    let out = sink(alloc, edges.room, edges.most_written, edges.failing_write)?;
+    let err = sink(alloc, edges.line_room, 4096, edges.failing_line)?;
+    Ok(Ended {
+        status: 0,
+        out,
+        err,
+    })
+}
+
+/// The status of a call with these words over these files and sinks.
+fn status_at<R: Threads + Wait + Sync, F: Files>(
+    rt: &R,
+    alloc: Global,
+    words: &[String],
+    files: &mut F,
+    ended: &mut Ended,
+) -> Result<u8, Memory> {
+    let mut gates = count_gates(alloc, GATES)?;
+    let gates = gates.as_mut_slice();
+    Ok(status_of(
+        rt,
+        alloc,
+        words,
+        files,
+        &mut ended.out,
+        &mut ended.err,
+        gates,
+    ))
+}
+
+/// What comes of a call with these words over these files and such edges.
+fn end_of_words<R: Threads + Wait + Sync, F: Files>(
+    rt: &R,
+    alloc: Global,
+    words: &[String],
+    files: &mut F,
+    edges: Edges,
+) -> Result<Ended, Memory> {
+    let mut ended = sinks(alloc, edges)?;
+    ended.status = status_at(rt, alloc, words, files, &mut ended)?;
+    Ok(ended)
+}
+
+/// What comes of a call with these words over a netlist, a stimulus and such edges.
 fn end_at<R: Threads + Wait + Sync>(
     rt: &R,
     alloc: Global,
@@ -71,53 +114,34 @@ fn end_at<R: Threads + Wait + Sync>(
 ) -> Result<Ended, Memory> {
     let words = words_of(alloc, lines)?;
     let mut files = store(alloc, netlist, stimulus, edges)?;
-    let mut out = sink(alloc, edges.room, edges.most_written, edges.failing_write)?;
-    let mut err = sink(alloc, edges.line_room, 4096, edges.failing_line)?;
-    let mut gates = count_gates(alloc, GATES)?;
-    let status = status_of(
-        rt,
-        alloc,
-        words.as_slice(),
-        &mut files,
-        &mut out,
-        &mut err,
-        gates.as_mut_slice(),
-    );
-    Ok(Ended { status, out, err })
+    end_of_words(rt, alloc, words.as_slice(), &mut files, edges)
 }
 
-/// Three cycles of s27 by a command.
-fn end_of_s27<R: Threads + Wait + Sync>(
+/// Whether three cycles of s27 by a command end so.
+fn s27_ends<R: Threads + Wait + Sync>(
     rt: &R,
     alloc: Global,
     command: &str,
     edges: Edges,
-) -> Result<Ended, Memory> {
-    end_at(
-        rt,
-        alloc,
-        &[command, "net.bench net.stim --init 0"],
-        S27.as_bytes(),
-        b"0000 * 3\n",
-        edges,
-    )
+    wanted: Wanted<'_>,
+) -> Result<bool, Memory> {
+    let lines = [command, "net.bench net.stim --init 0"];
+    let ended = end_at(rt, alloc, &lines, S27.as_bytes(), b"0000 * 3\n", edges)?;
+    Ok(has_ended(&ended, wanted))
 }
 
-/// Three cycles of c17 by a command.
-fn end_of_c17<R: Threads + Wait + Sync>(
+/// Whether three cycles of c17 by a command end so.
+fn c17_ends<R: Threads + Wait + Sync>(
     rt: &R,
     alloc: Global,
     command: &str,
     edges: Edges,
-) -> Result<Ended, Memory> {
-    end_at(
-        rt,
-        alloc,
-        &[command, "net.bench net.stim"],
-        C17.as_bytes(),
-        b"11111\n00000\nxxxxx\n",
-        edges,
-    )
+    wanted: Wanted<'_>,
+) -> Result<bool, Memory> {
+    let lines = [command, "net.bench net.stim"];
+    let rows = b"11111\n00000\nxxxxx\n";
+    let ended = end_at(rt, alloc, &lines, C17.as_bytes(), rows, edges)?;
+    Ok(has_ended(&ended, wanted))
 }
 
 /// The canonical text of a netlist.
@@ -129,99 +153,148 @@ fn end_of_show<R: Threads + Wait + Sync>(
     end_at(rt, alloc, &["show net.bench"], netlist, b"", EASY)
 }
 
+/// The call of the store or of the output that fails, and how the call ends: the number of its status, its output and
+/// its line.
+type Failing = (u64, u8, &'static str, &'static str);
+
 /// Each file is begun, read, and read again up to its end.
-#[test]
-fn each_call_of_the_files_may_fail(rt: HostRuntime) -> Result<(), Fail> {
-    for command in COMMANDS {
-        for (failing_read, status, output, line) in [
-            (1, 3u8, "", "read fault: net.bench\n"),
-            (2, 3, "", "read fault: net.bench\n"),
-            (3, 3, "", "read fault: net.bench\n"),
-            (4, 3, "", "read fault: net.stim\n"),
-            (5, 3, "", "read fault: net.stim\n"),
-            (6, 3, "", "read fault: net.stim\n"),
-            (7, 0, S27_TRACE, ""),
-        ] {
-            let edges = Edges {
-                failing_read,
-                ..EASY
-            };
-            let ended = end_of_s27(&rt, rt.alloc(), command, edges)?;
-            assert_eq!(rt; ended.out.taken(), output.as_bytes());
-            assert_eq!(rt; ended.err.taken(), line.as_bytes());
-            assert_eq!(rt; ended.status, status);
-        }
-    }
-    Ok(())
-}
+const FAILING_READS: &[Failing] = &[
+    (1, 3, "", "read fault: net.bench\n"),
+    (2, 3, "", "read fault: net.bench\n"),
+    (3, 3, "", "read fault: net.bench\n"),
+    (4, 3, "", "read fault: net.stim\n"),
+    (5, 3, "", "read fault: net.stim\n"),
+    (6, 3, "", "read fault: net.stim\n"),
+    (7, 0, S27_TRACE, ""),
+];
 
 /// Whole lines are written before a write that fails.
-#[test]
-fn each_write_may_fail(rt: HostRuntime) -> Result<(), Fail> {
-    for command in COMMANDS {
-        for (failing_write, status, output, line) in [
-            (1, 4u8, "", "write fault\n"),
-            (2, 4, "cycle G17\n", "write fault\n"),
-            (3, 4, "cycle G17\n1 1\n", "write fault\n"),
-            (4, 4, "cycle G17\n1 1\n2 1\n", "write fault\n"),
-            (5, 0, S27_TRACE, ""),
-        ] {
-            let edges = Edges {
-                failing_write,
-                ..EASY
-            };
-            let ended = end_of_s27(&rt, rt.alloc(), command, edges)?;
-            assert_eq!(rt; ended.out.taken(), output.as_bytes());
-            assert_eq!(rt; ended.err.taken(), line.as_bytes());
-            assert_eq!(rt; ended.status, status);
+const FAILING_WRITES: &[Failing] = &[
+    (1, 4, "", "write fault\n"),
+    (2, 4, "cycle G17\n", "write fault\n"),
+    (3, 4, "cycle G17\n1 1\n", "write fault\n"),
+    (4, 4, "cycle G17\n1 1\n2 1\n", "write fault\n"),
+    (5, 0, S27_TRACE, ""),
+];
+
+/// Whether three cycles of s27 end so by each command.
+fn all_end<R: Threads + Wait + Sync>(
+    rt: &R,
+    alloc: Global,
+    edges: Edges,
+    wanted: Wanted<'_>,
+) -> Result<bool, Memory> {
+    for command in commands() {
+        if !s27_ends(rt, alloc, command, edges, wanted)? {
+            return Ok(false);
         }
+    }
+    Ok(true)
+}
+
+fn wanted_of(failing: &Failing) -> Wanted<'static> {
+    Wanted {
+        status: failing.1,
+        output: failing.2.as_bytes(),
+        line: failing.3.as_bytes(),
+    }
+}
+
+fn failing_reads() -> &'static [Failing] {
+    FAILING_READS
+}
+
+fn failing_writes() -> &'static [Failing] {
+    FAILING_WRITES
+}
+
+#[test]
+fn each_call_of_the_files_and_each_write_may_fail(rt: HostRuntime) -> Result<(), Fail> {
+    for failing in failing_reads() {
+        let edges = Edges {
+            failing_read: failing.0,
+            ..EASY
+        };
+        assert!(rt; all_end(&rt, rt.alloc(), edges, wanted_of(failing))?);
+    }
+    for failing in failing_writes() {
+        let edges = Edges {
+            failing_write: failing.0,
+            ..EASY
+        };
+        assert!(rt; all_end(&rt, rt.alloc(), edges, wanted_of(failing))?);
     }
     Ok(())
 }
 
-/// A sink that takes a byte a call, until it is full, has as much of the trace as there is room for.
+/// Whether a sink of so much room, which takes a byte a call, has as much of the trace as there is room for.
+fn is_filled<R: Threads + Wait + Sync>(
+    rt: &R,
+    alloc: Global,
+    command: &str,
+    room: usize,
+) -> Result<bool, Memory> {
+    let trace = C17_TRACE.as_bytes();
+    let (output, rest) = trace.split_at_checked(room).unwrap_or((trace, b""));
+    let edges = Edges {
+        room,
+        most_written: 1,
+        ..EASY
+    };
+    let (status, line) = if rest.is_empty() {
+        (0, "")
+    } else {
+        (4, "write fault\n")
+    };
+    let wanted = Wanted {
+        status,
+        output,
+        line: line.as_bytes(),
+    };
+    c17_ends(rt, alloc, command, edges, wanted)
+}
+
 #[test]
 fn any_room_is_filled(rt: HostRuntime) -> Result<(), Fail> {
-    let trace = C17_TRACE.as_bytes();
-    for command in COMMANDS {
-        for room in 0..trace.len() + 1 {
-            let edges = Edges {
-                room,
-                most_written: 1,
-                ..EASY
-            };
-            let ended = end_of_c17(&rt, rt.alloc(), command, edges)?;
-            assert_eq!(rt; ended.out.taken(), &trace[..room]);
-            assert_eq!(rt; ended.status, if room < trace.len() { 4 } else { 0 });
+    for command in commands() {
+        for room in 0..C17_TRACE.len() + 1 {
+            assert!(rt; is_filled(&rt, rt.alloc(), command, room)?);
         }
     }
     Ok(())
 }
 
-/// A line that can't be told changes no status.
-#[test]
-fn the_line_may_fail(rt: HostRuntime) -> Result<(), Fail> {
+/// Whether a line that can't be told leaves the status of a refused netlist.
+fn keeps_its_status<R: Threads + Wait + Sync>(rt: &R, alloc: Global) -> Result<bool, Memory> {
     let netlist = b"INPUT(a)\nOUTPUT(z)\nz = AND(a, b)\n";
     let edges = Edges {
         failing_line: 1,
         ..EASY
     };
-    let ended = end_at(&rt, rt.alloc(), &["show net.bench"], netlist, b"", edges)?;
-    assert_eq!(rt; ended.out.taken(), b"".as_slice());
-    assert_eq!(rt; ended.err.taken(), b"".as_slice());
-    assert_eq!(rt; ended.status, 5);
+    let ended = end_at(rt, alloc, &["show net.bench"], netlist, b"", edges)?;
+    Ok(ended.status == 5 && ended.out.taken().is_empty() && ended.err.taken().is_empty())
+}
+
+#[test]
+fn the_line_may_fail(rt: HostRuntime) -> Result<(), Fail> {
+    assert!(rt; keeps_its_status(&rt, rt.alloc())?);
     Ok(())
+}
+
+const PIECES: &[usize] = &[1, 2, 7];
+
+fn pieces() -> &'static [usize] {
+    PIECES
 }
 
 #[test]
 fn files_come_in_small_pieces(rt: HostRuntime) -> Result<(), Fail> {
-    for command in COMMANDS {
-        for most_read in [1, 2, 7] {
-            let edges = Edges { most_read, ..EASY };
-            let ended = end_of_s27(&rt, rt.alloc(), command, edges)?;
-            assert_eq!(rt; ended.out.taken(), S27_TRACE.as_bytes());
-            assert_eq!(rt; ended.status, 0);
-        }
+    for most_read in pieces() {
+        let edges = Edges {
+            most_read: *most_read,
+            ..EASY
+        };
+        assert!(rt; all_end(&rt, rt.alloc(), edges, printed(S27_TRACE.as_bytes()))?);
     }
     Ok(())
 }
@@ -233,22 +306,47 @@ fn is_netlist(inputs: usize, front: &[u8], rest: &[u8]) -> bool {
     rest.is_empty() || (ends_line && (front.len() <= inputs || rest.len() == 1))
 }
 
-#[test]
-fn texts_are_cut_off(rt: HostRuntime) -> Result<(), Fail> {
-    for (text, inputs) in [(C17.as_bytes(), 45), (S27.as_bytes(), 40)] {
-        for bytes in 0..text.len() + 1 {
-            let (front, rest) = text.split_at(bytes);
-            let ended = end_of_show(&rt, rt.alloc(), front)?;
-            assert_eq!(rt;
-                ended.status,
-                if is_netlist(inputs, front, rest) {
-                    0
-                } else {
-                    5
-                }
-            );
+/// The number of the status of `show` where this text is cut off behind so many bytes, and the one that is wanted.
+fn cut_off<R: Threads + Wait + Sync>(
+    rt: &R,
+    alloc: Global,
+    text: &[u8],
+    inputs: usize,
+    bytes: usize,
+) -> Result<(u8, u8), Memory> {
+    let (front, rest) = text.split_at_checked(bytes).unwrap_or((text, b""));
+    let ended = end_of_show(rt, alloc, front)?;
+    Ok((
+        ended.status,
+        if is_netlist(inputs, front, rest) {
+            0
+        } else {
+            5
+        },
+    ))
+}
+
+/// Whether a text that begins with inputs of so many bytes is refused wherever it is cut off inside.
+fn is_refused_in_part<R: Threads + Wait + Sync>(
+    rt: &R,
+    alloc: Global,
+    text: &[u8],
+    inputs: usize,
+) -> Result<bool, Memory> {
+    for bytes in 0..text.len() {
+        let (status, wanted) = cut_off(rt, alloc, text, inputs, bytes)?;
+        if status != wanted {
+            return Ok(false);
         }
     }
+    let (status, wanted) = cut_off(rt, alloc, text, inputs, text.len())?;
+    Ok(status == wanted)
+}
+
+#[test]
+fn texts_are_cut_off(rt: HostRuntime) -> Result<(), Fail> {
+    assert!(rt; is_refused_in_part(&rt, rt.alloc(), C17.as_bytes(), 45)?);
+    assert!(rt; is_refused_in_part(&rt, rt.alloc(), S27.as_bytes(), 40)?);
     Ok(())
 }
 
@@ -263,34 +361,43 @@ fn name_of(alloc: Global, bytes: usize) -> Result<Text, Memory> {
 /// An input, and a gate of so many operands.
 fn gate_of(alloc: Global, operands: u32) -> Result<Text, Memory> {
     let mut text = Text::from_bytes(alloc, b"INPUT(a)\nz = AND(a")?;
-    for _ in 1..operands {
-        text.push_bytes(b", a")?;
-    }
+    push_operands(&mut text, operands.saturating_sub(1))?;
     text.push_bytes(b")\n")?;
     Ok(text)
 }
 
-fn push_bit(alloc: Global, text: &mut Text, bit: u32) -> Result<(), Fail> {
-    let output = format!(in alloc; ", q{bit}")?;
-    text.push_bytes(output.as_bytes())?;
+fn push_bit(alloc: Global, text: &mut Text, bit: u32) -> Result<(), Memory> {
+    text.push_bytes(format!(in alloc; ", q{bit}")?.as_bytes())
+}
+
+/// Adds so many operands.
+fn push_operands(text: &mut Text, more: u32) -> Result<(), Memory> {
+    for _ in 0..more {
+        text.push_bytes(b", a")?;
+    }
     Ok(())
 }
 
-/// An input, and a memory of so many address bits and 64 data bits.
-fn memory_of(alloc: Global, address: u32) -> Result<Text, Fail> {
-    let mut text = Text::from_bytes(alloc, b"INPUT(a)\n[q")?;
+fn push_outputs(alloc: Global, text: &mut Text) -> Result<(), Memory> {
     for bit in 1u32..64 {
-        push_bit(alloc, &mut text, bit)?;
+        push_bit(alloc, text, bit)?;
     }
+    Ok(())
+}
+
+fn push_memory(alloc: Global, text: &mut Text, address: u32) -> Result<(), Memory> {
+    push_outputs(alloc, text)?;
     text.push_bytes(b"] = RAM(a; a")?;
-    for _ in 1..address {
-        text.push_bytes(b", a")?;
-    }
+    push_operands(text, address.saturating_sub(1))?;
     text.push_bytes(b"; a")?;
-    for _ in 1u32..64 {
-        text.push_bytes(b", a")?;
-    }
-    text.push_bytes(b")\n")?;
+    push_operands(text, 63)?;
+    text.push_bytes(b")\n")
+}
+
+/// An input, and a memory of so many address bits and 64 data bits.
+fn memory_of(alloc: Global, address: u32) -> Result<Text, Memory> {
+    let mut text = Text::from_bytes(alloc, b"INPUT(a)\n[q")?;
+    push_memory(alloc, &mut text, address)?;
     Ok(text)
 }
 
@@ -302,84 +409,119 @@ enum Much {
     Memory,
 }
 
-fn text_with(alloc: Global, much: Much, size: u32) -> Result<Text, Fail> {
+fn text_with(alloc: Global, much: Much, size: u32) -> Result<Text, Memory> {
     match much {
-        Much::Name => Ok(name_of(alloc, size as usize)?),
-        Much::Gate => Ok(gate_of(alloc, size)?),
+        Much::Name => name_of(alloc, size as usize),
+        Much::Gate => gate_of(alloc, size),
         Much::Memory => memory_of(alloc, size),
     }
 }
 
+const OPERANDS: &str = "netlist: line 2: wrong number of operands\n";
+
+/// What a text has as much of, how much, and the number of the status and the line of `show`.
+const MUCH: &[(Much, u32, u8, &str)] = &[
+    (Much::Name, 255, 0, ""),
+    (Much::Gate, 1024, 0, ""),
+    (Much::Gate, 1025, 5, OPERANDS),
+    (Much::Memory, 16, 0, ""),
+    (Much::Memory, 17, 5, OPERANDS),
+];
+
+fn all_much() -> &'static [(Much, u32, u8, &'static str)] {
+    MUCH
+}
+
+/// Whether `show` of such a text ends with this status and this line.
+fn is_shown<R: Threads + Wait + Sync>(
+    rt: &R,
+    alloc: Global,
+    much: &(Much, u32, u8, &str),
+) -> Result<bool, Memory> {
+    let text = text_with(alloc, much.0, much.1)?;
+    let ended = end_of_show(rt, alloc, text.as_bytes())?;
+    Ok(ended.status == much.2 && ended.err.taken() == much.3.as_bytes())
+}
+
 #[test]
 fn texts_at_the_limits(rt: HostRuntime) -> Result<(), Fail> {
-    let operands = "netlist: line 2: wrong number of operands\n";
-    for (much, size, status, line) in [
-        (Much::Name, 255u32, 0u8, ""),
-        (Much::Gate, 1024, 0, ""),
-        (Much::Gate, 1025, 5, operands),
-        (Much::Memory, 16, 0, ""),
-        (Much::Memory, 17, 5, operands),
-    ] {
-        let text = text_with(rt.alloc(), much, size)?;
-        let ended = end_of_show(&rt, rt.alloc(), text.as_bytes())?;
-        assert_eq!(rt; ended.err.taken(), line.as_bytes());
-        assert_eq!(rt; ended.status, status);
+    for much in all_much() {
+        assert!(rt; is_shown(&rt, rt.alloc(), much)?);
     }
     Ok(())
+}
+
+const ANY_BYTE: &[u8] = b"input(a)\r\noutput(z)\r\nz = not(y) # \xff\r\ny = buff(a)\r\n";
+
+const CANONICAL: &[u8] = b"INPUT(a)\nOUTPUT(z)\nz = NOT(y)\ny = BUFF(a)\n";
+
+/// Whether `show` prints a text as another.
+fn shows<R: Threads + Wait + Sync>(
+    rt: &R,
+    alloc: Global,
+    netlist: &[u8],
+    text: &[u8],
+) -> Result<bool, Memory> {
+    let ended = end_of_show(rt, alloc, netlist)?;
+    Ok(has_ended(&ended, printed(text)))
 }
 
 /// Line ends of two bytes, and a byte in a comment that has no place elsewhere.
 #[test]
 fn comments_have_any_byte(rt: HostRuntime) -> Result<(), Fail> {
-    let netlist = b"input(a)\r\noutput(z)\r\nz = not(y) # \xff\r\ny = buff(a)\r\n";
-    let ended = end_of_show(&rt, rt.alloc(), netlist)?;
-    assert_eq!(rt;
-        ended.out.taken(),
-        b"INPUT(a)\nOUTPUT(z)\nz = NOT(y)\ny = BUFF(a)\n".as_slice()
-    );
-    assert_eq!(rt; ended.status, 0);
+    assert!(rt; shows(&rt, rt.alloc(), ANY_BYTE, CANONICAL)?);
     Ok(())
+}
+
+/// A netlist, and the line that is told of it.
+#[derive(Drop)]
+struct Ring {
+    netlist: Text,
+    line: Text,
 }
 
 /// Adds a gate, and its name to the line.
-fn push_inverter(
-    alloc: Global,
-    netlist: &mut Text,
-    line: &mut Text,
-    gate: u32,
-    before: u32,
-) -> Result<(), Fail> {
+fn push_inverter(alloc: Global, ring: &mut Ring, gate: u32, before: u32) -> Result<(), Memory> {
     let driver = format!(in alloc; "g{gate} = NOT(g{before})\n")?;
-    netlist.push_bytes(driver.as_bytes())?;
-    let name = format!(in alloc; " g{gate}")?;
-    line.push_bytes(name.as_bytes())?;
-    Ok(())
+    ring.netlist.push_bytes(driver.as_bytes())?;
+    ring.line
+        .push_bytes(format!(in alloc; " g{gate}")?.as_bytes())
 }
 
-/// So many gates in a ring, each a NOT of the one before it, and the line that tells the loop.
-fn ring(alloc: Global, size: u32) -> Result<(Text, Text), Fail> {
-    let mut netlist = Text::new(alloc);
-    let mut line = Text::from_bytes(alloc, b"loop:")?;
+/// Adds so many gates in a ring, each a NOT of the one before it.
+fn push_ring(alloc: Global, ring: &mut Ring, size: u32) -> Result<(), Memory> {
     let mut before = size.saturating_sub(1);
     for gate in 0..size {
-        push_inverter(alloc, &mut netlist, &mut line, gate, before)?;
+        push_inverter(alloc, ring, gate, before)?;
         before = gate;
     }
-    line.push_bytes(b"\n")?;
-    Ok((netlist, line))
+    ring.line.push_bytes(b"\n")
 }
 
-/// A loop of all gates that a netlist may have is told name by name.
-#[test]
-fn ring_of_a_million_is_told(rt: HostRuntime) -> Result<(), Fail> {
-    let (netlist, line) = ring(rt.alloc(), 1_048_576)?;
+/// So many gates in a ring, and the line that tells the loop.
+fn ring_of(alloc: Global, size: u32) -> Result<Ring, Memory> {
+    let line = Text::from_bytes(alloc, b"loop:")?;
+    let netlist = Text::new(alloc);
+    let mut ring = Ring { netlist, line };
+    push_ring(alloc, &mut ring, size)?;
+    Ok(ring)
+}
+
+/// Whether a loop of so many gates is told name by name.
+fn is_told<R: Threads + Wait + Sync>(rt: &R, alloc: Global, size: u32) -> Result<bool, Memory> {
+    let ring = ring_of(alloc, size)?;
     let edges = Edges {
         line_room: 16_777_216,
         ..EASY
     };
     let lines = ["refer net.bench net.stim"];
-    let ended = end_at(&rt, rt.alloc(), &lines, netlist.as_bytes(), b"", edges)?;
-    assert_eq!(rt; ended.status, 7);
-    assert!(rt; ended.err.taken() == line.as_bytes());
+    let ended = end_at(rt, alloc, &lines, ring.netlist.as_bytes(), b"", edges)?;
+    Ok(ended.status == 7 && ended.err.taken() == ring.line.as_bytes())
+}
+
+/// A loop of all gates that a netlist may have is told name by name.
+#[test]
+fn ring_of_a_million_is_told(rt: HostRuntime) -> Result<(), Fail> {
+    assert!(rt; is_told(&rt, rt.alloc(), 1_048_576)?);
     Ok(())
 }

@@ -1,6 +1,9 @@
 //! Images that `compile` writes, and what `exec` makes of them and of others.
 
-use super::{C17, Ended, LATCH, RAM, S27, WIDE, end_of, store, three_files};
+use super::{
+    C17, Ended, LATCH, RAM, S27, WIDE, Wanted, crews, end_of, has_ended, printed, store, three,
+    three_files,
+};
 use seen_list::{Memory, Text};
 use std::alloc::Global;
 use std::marker::Sync;
@@ -87,12 +90,8 @@ fn compile_of<R: Threads + Wait + Sync>(
     alloc: Global,
     design: &Design,
 ) -> Result<Ended, Memory> {
-    let mut files = three_files(
-        alloc,
-        design.netlist.as_bytes(),
-        b"",
-        design.machine.as_bytes(),
-    )?;
+    let (netlist, machine) = (design.netlist.as_bytes(), design.machine.as_bytes());
+    let mut files = three_files(alloc, netlist, b"", machine)?;
     end_of(rt, alloc, &[COMPILE, design.timing], &mut files, 0)
 }
 
@@ -119,26 +118,37 @@ fn prints_trace<R: Threads + Wait + Sync>(
     alloc: Global,
     design: &Design,
     image: &[u8],
-    workers: &'static str,
+    crew: &str,
 ) -> Result<bool, Memory> {
-    for banks in ["1", "2", "8"] {
-        let lines = [EXEC, design.timing, "--workers", workers, "--banks", banks];
-        let ended = exec_of(rt, alloc, &lines, design, image)?;
-        if ended.status != 0 || ended.out.taken() != design.trace.as_bytes() {
+    let ended = exec_of(rt, alloc, &three(EXEC, design.timing, crew), design, image)?;
+    Ok(has_ended(&ended, printed(design.trace.as_bytes())))
+}
+
+/// Whether what is compiled of a design is run by any number of workers, and with any number of banks.
+fn is_run_by_all<R: Threads + Wait + Sync>(
+    rt: &R,
+    alloc: Global,
+    design: &Design,
+) -> Result<bool, Memory> {
+    let compiled = compile_of(rt, alloc, design)?;
+    for crew in crews() {
+        if !prints_trace(rt, alloc, design, compiled.out.taken(), crew)? {
             return Ok(false);
         }
     }
     Ok(true)
 }
 
-/// What is compiled once is run by any number of workers, and with any number of banks.
+const DESIGNS: &[Design] = &[BUFFER, GATES_ALONE, REGISTERS, MEMORY, WIDE_GATE, LOOP];
+
+fn designs() -> &'static [Design] {
+    DESIGNS
+}
+
 #[test]
 fn images_print_the_trace(rt: HostRuntime) -> Result<(), Fail> {
-    for design in [BUFFER, GATES_ALONE, REGISTERS, MEMORY, WIDE_GATE, LOOP] {
-        let compiled = compile_of(&rt, rt.alloc(), &design)?;
-        for workers in ["1", "2", "7", "64"] {
-            assert!(rt; prints_trace(&rt, rt.alloc(), &design, compiled.out.taken(), workers)?);
-        }
+    for design in designs() {
+        assert!(rt; is_run_by_all(&rt, rt.alloc(), design)?);
     }
     Ok(())
 }
@@ -169,14 +179,16 @@ fn joined(alloc: Global, parts: &[&str]) -> Result<Text, Memory> {
     Ok(text)
 }
 
-/// The image of a buffer, word for word.
+/// Whether the buffer's image is written word for word.
+fn is_image_of_buffer<R: Threads + Wait + Sync>(rt: &R, alloc: Global) -> Result<bool, Memory> {
+    let image = joined(alloc, &[HEAD, GATE, SEND, TAKE, INPUT, PRINT, LINKS, END])?;
+    let compiled = compile_of(rt, alloc, &BUFFER)?;
+    Ok(has_ended(&compiled, printed(image.as_bytes())))
+}
+
 #[test]
 fn the_image_of_a_buffer(rt: HostRuntime) -> Result<(), Fail> {
-    let compiled = compile_of(&rt, rt.alloc(), &BUFFER)?;
-    let parts = [HEAD, GATE, SEND, TAKE, INPUT, PRINT, LINKS, END];
-    let image = joined(rt.alloc(), &parts)?;
-    assert_eq!(rt; compiled.status, 0);
-    assert_eq!(rt; compiled.out.taken(), image.as_bytes());
+    assert!(rt; is_image_of_buffer(&rt, rt.alloc())?);
     Ok(())
 }
 
@@ -302,33 +314,32 @@ fn cases() -> &'static [Case] {
     CASES
 }
 
-/// The call of a case.
-fn end_of_case<R: Threads + Wait + Sync>(
-    rt: &R,
-    alloc: Global,
-    case: &Case,
-) -> Result<Ended, Memory> {
+/// The text of a case's image.
+fn image_of(alloc: Global, case: &Case) -> Result<Text, Memory> {
     let parts = [
         HEAD, case.gate, SEND, case.take, INPUT, case.print, LINKS, case.end,
     ];
-    let image = joined(alloc, &parts)?;
-    exec_of(
-        rt,
-        alloc,
-        &["exec net.bench", case.words],
-        &BUFFER,
-        image.as_bytes(),
-    )
+    joined(alloc, &parts)
+}
+
+/// Whether the call of a case ends as it says.
+fn is_case<R: Threads + Wait + Sync>(rt: &R, alloc: Global, case: &Case) -> Result<bool, Memory> {
+    let image = image_of(alloc, case)?;
+    let lines = ["exec net.bench", case.words];
+    let ended = exec_of(rt, alloc, &lines, &BUFFER, image.as_bytes())?;
+    let output = if case.status == 0 { BUFFER.trace } else { "" };
+    let wanted = Wanted {
+        status: case.status,
+        output: output.as_bytes(),
+        line: case.line.as_bytes(),
+    };
+    Ok(has_ended(&ended, wanted))
 }
 
 #[test]
 fn images_of_a_buffer_end_as_stated(rt: HostRuntime) -> Result<(), Fail> {
     for case in cases() {
-        let ended = end_of_case(&rt, rt.alloc(), case)?;
-        let output = if case.status == 0 { BUFFER.trace } else { "" };
-        assert_eq!(rt; ended.out.taken(), output.as_bytes());
-        assert_eq!(rt; ended.err.taken(), case.line.as_bytes());
-        assert_eq!(rt; ended.status, case.status);
+        assert!(rt; is_case(&rt, rt.alloc(), case)?);
     }
     Ok(())
 }
@@ -372,6 +383,18 @@ fn with_lines(alloc: Global, text: &[u8], ranges: &[(usize, usize)]) -> Result<T
     Ok(out)
 }
 
+/// Whether a design's image is harmless with these ranges of its lines alone.
+fn is_harmless_with<R: Threads + Wait + Sync>(
+    rt: &R,
+    alloc: Global,
+    design: &Design,
+    image: &[u8],
+    ranges: &[(usize, usize)],
+) -> Result<bool, Memory> {
+    let changed = with_lines(alloc, image, ranges)?;
+    is_harmless(rt, alloc, design, changed.as_bytes())
+}
+
 /// Whether a design's image is harmless with a line deleted, doubled, or swapped with the next one.
 fn is_harmless_changed<R: Threads + Wait + Sync>(
     rt: &R,
@@ -382,17 +405,14 @@ fn is_harmless_changed<R: Threads + Wait + Sync>(
 ) -> Result<bool, Memory> {
     let next = line.saturating_add(1);
     let third = next.saturating_add(1);
-    for ranges in [
-        [(0, line), (next, ALL), (0, 0), (0, 0)],
-        [(0, next), (line, ALL), (0, 0), (0, 0)],
-        [(0, line), (next, third), (line, next), (third, ALL)],
-    ] {
-        let changed = with_lines(alloc, image, &ranges)?;
-        if !is_harmless(rt, alloc, design, changed.as_bytes())? {
-            return Ok(false);
-        }
-    }
-    Ok(true)
+    let deleted = [(0, line), (next, ALL)];
+    let doubled = [(0, next), (line, ALL)];
+    let swapped = [(0, line), (next, third), (line, next), (third, ALL)];
+    Ok(
+        is_harmless_with(rt, alloc, design, image, &deleted)?
+            && is_harmless_with(rt, alloc, design, image, &doubled)?
+            && is_harmless_with(rt, alloc, design, image, &swapped)?,
+    )
 }
 
 fn count_lines(text: &[u8]) -> usize {
@@ -405,17 +425,28 @@ fn count_lines(text: &[u8]) -> usize {
     count
 }
 
+/// Whether the image of a design is harmless however a line of it is changed.
+fn is_harmless_by_lines<R: Threads + Wait + Sync>(
+    rt: &R,
+    alloc: Global,
+    design: &Design,
+) -> Result<bool, Memory> {
+    let compiled = compile_of(rt, alloc, design)?;
+    let image = compiled.out.taken();
+    for line in 0..count_lines(image) {
+        if !is_harmless_changed(rt, alloc, design, image, line)? {
+            return Ok(false);
+        }
+    }
+    Ok(compiled.status == 0)
+}
+
 /// No line that is deleted, doubled or swapped with the next one makes `exec` print anything but the trace.
 #[test]
 fn changed_lines_print_no_other_trace(rt: HostRuntime) -> Result<(), Fail> {
-    for design in [GATES_ALONE, REGISTERS, MEMORY] {
-        let compiled = compile_of(&rt, rt.alloc(), &design)?;
-        assert_eq!(rt; compiled.status, 0);
-        let image = compiled.out.taken();
-        for line in 0..count_lines(image) {
-            assert!(rt; is_harmless_changed(&rt, rt.alloc(), &design, image, line)?);
-        }
-    }
+    assert!(rt; is_harmless_by_lines(&rt, rt.alloc(), &GATES_ALONE)?);
+    assert!(rt; is_harmless_by_lines(&rt, rt.alloc(), &REGISTERS)?);
+    assert!(rt; is_harmless_by_lines(&rt, rt.alloc(), &MEMORY)?);
     Ok(())
 }
 
@@ -448,6 +479,15 @@ fn value_of(digits: &[u8]) -> u64 {
     value
 }
 
+/// The number that is one more, or one less.
+fn moved(value: u64, up: bool) -> u64 {
+    if up {
+        value.saturating_add(1)
+    } else {
+        value.saturating_sub(1)
+    }
+}
+
 /// A text in which the number at these places is one more, or one less.
 fn with_moved(
     alloc: Global,
@@ -457,34 +497,62 @@ fn with_moved(
 ) -> Result<Text, Memory> {
     let (front, rest) = text.split_at_checked(places.1).unwrap_or((text, b""));
     let (front, digits) = front.split_at_checked(places.0).unwrap_or((front, b""));
-    let value = value_of(digits);
-    let moved = if up {
-        value.saturating_add(1)
-    } else {
-        value.saturating_sub(1)
-    };
+    let value = moved(value_of(digits), up);
     let mut out = Text::from_bytes(alloc, front)?;
-    out.push_bytes(format!(in alloc; "{moved}")?.as_bytes())?;
+    out.push_bytes(format!(in alloc; "{value}")?.as_bytes())?;
     out.push_bytes(rest)?;
     Ok(out)
+}
+
+/// Whether a design's image is harmless with the number at these places one more, or one less.
+fn is_harmless_moved<R: Threads + Wait + Sync>(
+    rt: &R,
+    alloc: Global,
+    design: &Design,
+    image: &[u8],
+    places: (usize, usize),
+    up: bool,
+) -> Result<bool, Memory> {
+    let moved = with_moved(alloc, image, places, up)?;
+    is_harmless(rt, alloc, design, moved.as_bytes())
+}
+
+/// Whether an image is harmless with any number moved by one.
+fn is_harmless_by_numbers<R: Threads + Wait + Sync>(
+    rt: &R,
+    alloc: Global,
+    design: &Design,
+    image: &[u8],
+) -> Result<bool, Memory> {
+    for nth in 0..image.len() {
+        let Some(places) = number_at(image, nth) else {
+            return Ok(true);
+        };
+        if !is_harmless_moved(rt, alloc, design, image, places, true)?
+            || !is_harmless_moved(rt, alloc, design, image, places, false)?
+        {
+            return Ok(false);
+        }
+    }
+    Ok(true)
+}
+
+/// Whether what is compiled of a design is harmless with any number moved by one.
+fn is_harmless_by_one<R: Threads + Wait + Sync>(
+    rt: &R,
+    alloc: Global,
+    design: &Design,
+) -> Result<bool, Memory> {
+    let compiled = compile_of(rt, alloc, design)?;
+    let harmless = is_harmless_by_numbers(rt, alloc, design, compiled.out.taken())?;
+    Ok(compiled.status == 0 && harmless)
 }
 
 /// No number of an image that is moved by one makes `exec` print anything but the trace.
 #[test]
 fn moved_numbers_print_no_other_trace(rt: HostRuntime) -> Result<(), Fail> {
-    for design in [GATES_ALONE, TOGGLE, MEMORY] {
-        let compiled = compile_of(&rt, rt.alloc(), &design)?;
-        assert_eq!(rt; compiled.status, 0);
-        let image = compiled.out.taken();
-        for nth in 0..image.len() {
-            let Some(places) = number_at(image, nth) else {
-                break;
-            };
-            for up in [true, false] {
-                let moved = with_moved(rt.alloc(), image, places, up)?;
-                assert!(rt; is_harmless(&rt, rt.alloc(), &design, moved.as_bytes())?);
-            }
-        }
-    }
+    assert!(rt; is_harmless_by_one(&rt, rt.alloc(), &GATES_ALONE)?);
+    assert!(rt; is_harmless_by_one(&rt, rt.alloc(), &TOGGLE)?);
+    assert!(rt; is_harmless_by_one(&rt, rt.alloc(), &MEMORY)?);
     Ok(())
 }

@@ -1,7 +1,7 @@
 //! Calls in mixed mode: lists of gates that are read and lists that are refused, and what a listed
 //! gate and the others read.
 
-use super::{C17, Ended, LATCH, RAM, S27, WIDE, end_of, store};
+use super::{C17, LATCH, RAM, S27, WIDE, Wanted, ends, store, two};
 use seen_list::Memory;
 use std::alloc::Global;
 use std::marker::Sync;
@@ -280,30 +280,32 @@ fn cases() -> &'static [Case] {
     CASES
 }
 
-/// The end of a call of a case with the words of these lines.
-fn end_of_case<R: Threads + Wait + Sync>(
+/// Whether a call ends as the case says.
+fn is_case<R: Threads + Wait + Sync>(
     rt: &R,
     alloc: Global,
-    lines: &[&str],
+    call: &str,
     case: &Case,
-) -> Result<Ended, Memory> {
+) -> Result<bool, Memory> {
     let files: [(&[u8], &[u8]); 3] = [
         (b"net.bench", case.netlist.as_bytes()),
         (b"net.stim", case.stimulus.as_bytes()),
         (b"net.last", case.list.as_bytes()),
     ];
-    let mut files = store(alloc, &files, 0)?;
-    end_of(rt, alloc, lines, &mut files, 0)
+    let files = store(alloc, &files, 0)?;
+    let wanted = Wanted {
+        status: case.status,
+        output: case.output.as_bytes(),
+        line: case.line.as_bytes(),
+    };
+    ends(rt, alloc, &two(call, case.words), files, 0, wanted)
 }
 
 #[test]
 fn mixed_calls_end_as_stated(rt: HostRuntime) -> Result<(), Fail> {
     for case in cases() {
         for call in case.calls.split('|') {
-            let ended = end_of_case(&rt, rt.alloc(), &[call, case.words], case)?;
-            assert_eq!(rt; ended.out.taken(), case.output.as_bytes());
-            assert_eq!(rt; ended.err.taken(), case.line.as_bytes());
-            assert_eq!(rt; ended.status, case.status);
+            assert!(rt; is_case(&rt, rt.alloc(), call, case)?);
         }
     }
     Ok(())

@@ -1,7 +1,7 @@
 //! Plans on machines whose ports have limits of their own: the texts of such machines, designs that they
 //! hold, and designs that they don't.
 
-use super::{C17, Ended, end_of, three_files};
+use super::{C17, Wanted, ends, three_files};
 use seen_list::Memory;
 use std::alloc::Global;
 use std::marker::Sync;
@@ -134,19 +134,21 @@ fn cases() -> &'static [Case] {
     CASES
 }
 
-/// The plan of a case.
-fn plan_of<R: Threads + Wait + Sync>(rt: &R, alloc: Global, case: &Case) -> Result<Ended, Memory> {
-    let mut files = three_files(alloc, case.netlist.as_bytes(), b"", case.machine.as_bytes())?;
-    end_of(rt, alloc, &[PLAN], &mut files, 0)
+/// Whether the plan of a case ends as it says.
+fn is_case<R: Threads + Wait + Sync>(rt: &R, alloc: Global, case: &Case) -> Result<bool, Memory> {
+    let files = three_files(alloc, case.netlist.as_bytes(), b"", case.machine.as_bytes())?;
+    let wanted = Wanted {
+        status: case.status,
+        output: case.output.as_bytes(),
+        line: case.line.as_bytes(),
+    };
+    ends(rt, alloc, &[PLAN], files, 0, wanted)
 }
 
 #[test]
 fn plans_by_own_limits_end_as_stated(rt: HostRuntime) -> Result<(), Fail> {
     for case in cases() {
-        let ended = plan_of(&rt, rt.alloc(), case)?;
-        assert_eq!(rt; ended.out.taken(), case.output.as_bytes());
-        assert_eq!(rt; ended.err.taken(), case.line.as_bytes());
-        assert_eq!(rt; ended.status, case.status);
+        assert!(rt; is_case(&rt, rt.alloc(), case)?);
     }
     Ok(())
 }

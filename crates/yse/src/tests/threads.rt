@@ -6,7 +6,8 @@ ghost use Rattle.std.specs.Prelude.{All, IfOk, Option, Some, length, slice_get, 
 ghost use Rattle.yse_top.specs.Visited.{AllCanTell};
 
 use super::{
-    C17, Ended, GATES, S27, end_of, end_with_gates, store, three_files, two_files, words_of,
+    C17, Ended, GATES, S27, crews, end_of, end_with_gates, ends, has_ended, printed, store,
+    three_files, two_files, words_of,
 };
 use crew_run::{CountGate, Gate};
 use edge_io::MemFiles;
@@ -42,19 +43,15 @@ fn prints_s27<R: Threads + Wait + Sync>(
     alloc: Global,
     lines: &[&str],
 ) -> Result<bool, Memory> {
-    let mut files = two_files(alloc, S27.as_bytes(), S27_ROWS.as_bytes(), 0)?;
-    let ended = end_of(rt, alloc, lines, &mut files, 0)?;
-    Ok(ended.out.taken() == S27_TRACE.as_bytes())
+    let files = two_files(alloc, S27.as_bytes(), S27_ROWS.as_bytes(), 0)?;
+    ends(rt, alloc, lines, files, 0, printed(S27_TRACE.as_bytes()))
 }
 
 /// The same bytes with so many workers and banks.
 #[test]
 fn workers_print_the_reference(rt: HostRuntime) -> Result<(), Fail> {
-    for workers in ["1", "2", "7", "64"] {
-        for banks in ["1", "2", "8"] {
-            let lines = [RUN_S27, "--workers", workers, "--banks", banks];
-            assert!(rt; prints_s27(&rt, rt.alloc(), &lines)?);
-        }
+    for crew in crews() {
+        assert!(rt; prints_s27(&rt, rt.alloc(), &[RUN_S27, crew])?);
     }
     Ok(())
 }
@@ -182,27 +179,30 @@ fn files_of(alloc: Global, design: (&str, &str, &str)) -> Result<MemFiles, Memor
     )
 }
 
-/// A run by two workers, and whether the two were held, and found something.
-#[derive(Drop)]
+/// A run by two workers: whether it printed what was wanted, and whether the two were held, and found something.
+#[derive(Clone, Copy)]
 struct Watched {
-    ended: Ended,
+    printed: bool,
     first: (bool, bool),
     second: (bool, bool),
 }
 
-/// The call of these words over these files, with these gates.
-fn end_with<'a, R: Threads + Wait + Sync>(
+/// Whether the call of these words over these files, with these gates, ends with status 0 and this trace.
+fn prints_with<'a, R: Threads + Wait + Sync>(
     rt: &R,
     alloc: Global,
     line: &str,
-    mut files: MemFiles,
+    files: MemFiles,
     gates: &mut [Option<WatchGate<'a>>],
-) -> Result<Ended, Memory>
+    trace: &str,
+) -> Result<bool, Memory>
     requires gates { MAX_WORKERS ≤ length gates.old }
     requires tell { AllCanTell ⟦<WatchGate<'a> as Gate>⟧ gates.old }
 {
     let words = words_of(alloc, &[line])?;
-    end_with_gates(rt, alloc, words.as_slice(), &mut files, 0, gates)
+    let mut files = files;
+    let ended = end_with_gates(rt, alloc, words.as_slice(), &mut files, 0, gates)?;
+    Ok(has_ended(&ended, printed(trace.as_bytes())))
 }
 
 fn run_watched<R: Threads + Wait + Sync>(
@@ -211,14 +211,15 @@ fn run_watched<R: Threads + Wait + Sync>(
     watch: Watch,
     line: &str,
     files: MemFiles,
+    trace: &str,
 ) -> Result<Watched, Memory> {
     let one = AtomicBool::new(false);
     let two = AtomicBool::new(false);
     let mut gates = watch_gates(alloc, watch, &one, &two)?;
-    let ended = end_with(rt, alloc, line, files, gates.as_mut_slice())?;
+    let printed = prints_with(rt, alloc, line, files, gates.as_mut_slice(), trace)?;
     let gates = gates.as_slice();
     Ok(Watched {
-        ended,
+        printed,
         first: held(gates.first()),
         second: held(gates.get(1)),
     })
@@ -232,27 +233,40 @@ fn held(gate: Option<&Option<WatchGate<'_>>>) -> (bool, bool) {
     }
 }
 
+/// The words of a call, the stimulus or the lanes, and what is printed.
+type Call = (&'static str, &'static str, &'static str);
+
+const MEETINGS: &[Call] = &[
+    (
+        "run net.bench net.stim --init 0 --workers 2",
+        S27_ROWS,
+        S27_TRACE,
+    ),
+    (
+        "pack net.bench net.stim --init 0 --workers 2",
+        S27_LANE,
+        S27_LANE_TRACE,
+    ),
+];
+
+fn meetings() -> &'static [Call] {
+    MEETINGS
+}
+
+/// Whether a call over s27 prints its trace, with each of two workers held until it found the other.
+fn meet<R: Threads + Wait + Sync>(rt: &R, alloc: Global, call: &Call) -> Result<bool, Memory> {
+    let files = files_of(alloc, (S27, call.1, TWO_LOGIC))?;
+    let watched = run_watched(rt, alloc, Watch::Pair, call.0, files, call.2)?;
+    let both = watched.first == (true, true) && watched.second == (true, true);
+    Ok(watched.printed && both)
+}
+
 /// Each of two workers is held at its first call until the other was called too: the two run beside one
 /// another.
 #[test]
 fn two_workers_meet(rt: HostRuntime) -> Result<(), Fail> {
-    for (line, rows, trace) in [
-        (
-            "run net.bench net.stim --init 0 --workers 2",
-            S27_ROWS,
-            S27_TRACE,
-        ),
-        (
-            "pack net.bench net.stim --init 0 --workers 2",
-            S27_LANE,
-            S27_LANE_TRACE,
-        ),
-    ] {
-        let files = files_of(rt.alloc(), (S27, rows, TWO_LOGIC))?;
-        let watched = run_watched(&rt, rt.alloc(), Watch::Pair, line, files)?;
-        assert_eq!(rt; watched.ended.out.taken(), trace.as_bytes());
-        assert_eq!(rt; watched.first, (true, true));
-        assert_eq!(rt; watched.second, (true, true));
+    for call in meetings() {
+        assert!(rt; meet(&rt, rt.alloc(), call)?);
     }
     Ok(())
 }
@@ -269,6 +283,23 @@ const C17_LANE: &str = "lane\n11111 * 10\n";
 const C17_LANE_TRACE: &str =
     "lane 1\ncycle 22 23\n1 10\n2 10\n3 10\n4 10\n5 10\n6 10\n7 10\n8 10\n9 10\n10 10\n";
 
+const WAITS: &[Call] = &[
+    (
+        "run net.bench net.stim --machine net.machine --workers 2",
+        C17_ROWS,
+        C17_TRACE,
+    ),
+    (
+        "pack net.bench net.stim --machine net.machine --workers 2",
+        C17_LANE,
+        C17_LANE_TRACE,
+    ),
+];
+
+fn waits() -> &'static [Call] {
+    WAITS
+}
+
 /// Whether a call of these words, by two workers, prints this, with the first worker held at the host's third turn
 /// while the second one got no further.
 fn waits_for_the_host<R: Threads + Wait + Sync>(
@@ -278,54 +309,54 @@ fn waits_for_the_host<R: Threads + Wait + Sync>(
     files: MemFiles,
     trace: &str,
 ) -> Result<bool, Memory> {
-    let watched = run_watched(rt, alloc, Watch::Hold, line, files)?;
-    Ok(
-        watched.ended.status == 0
-            && watched.ended.out.taken() == trace.as_bytes()
-            && watched.first == (true, false),
-    )
+    let watched = run_watched(rt, alloc, Watch::Hold, line, files, trace)?;
+    Ok(watched.printed && watched.first == (true, false))
+}
+
+/// Whether a call over c17 does.
+fn c17_waits<R: Threads + Wait + Sync>(rt: &R, alloc: Global, call: &Call) -> Result<bool, Memory> {
+    let files = files_of(alloc, (C17, call.1, TWO_LOGIC))?;
+    waits_for_the_host(rt, alloc, call.0, files, call.2)
 }
 
 /// While the host is held at its third turn, the port that takes values from it does not get past that turn.
 #[test]
 fn a_worker_waits_for_the_host(rt: HostRuntime) -> Result<(), Fail> {
-    for (line, rows, trace) in [
-        (
-            "run net.bench net.stim --machine net.machine --workers 2",
-            C17_ROWS,
-            C17_TRACE,
-        ),
-        (
-            "pack net.bench net.stim --machine net.machine --workers 2",
-            C17_LANE,
-            C17_LANE_TRACE,
-        ),
-    ] {
-        let files = files_of(rt.alloc(), (C17, rows, TWO_LOGIC))?;
-        assert!(rt; waits_for_the_host(&rt, rt.alloc(), line, files, trace)?);
+    for call in waits() {
+        assert!(rt; c17_waits(&rt, rt.alloc(), call)?);
     }
     Ok(())
 }
 
-/// The files of c17, of these rows, and of the image that `compile` writes for the two logic processors.
-fn files_with_image<R: Threads + Wait + Sync>(rt: &R, alloc: Global) -> Result<MemFiles, Memory> {
-    let mut files = files_of(alloc, (C17, "", TWO_LOGIC))?;
-    let line = "compile net.bench --machine net.machine";
-    let compiled = end_of(rt, alloc, &[line], &mut files, 0)?;
+/// The files of c17, of these rows, and of an image.
+fn image_files(alloc: Global, image: &[u8]) -> Result<MemFiles, Memory> {
     let files: [(&[u8], &[u8]); 3] = [
         (b"net.bench", C17.as_bytes()),
         (b"net.stim", C17_ROWS.as_bytes()),
-        (b"net.image", compiled.out.taken()),
+        (b"net.image", image),
     ];
     store(alloc, &files, 0)
+}
+
+/// What `compile` writes for the two logic processors.
+fn compiled<R: Threads + Wait + Sync>(rt: &R, alloc: Global) -> Result<Ended, Memory> {
+    let mut files = files_of(alloc, (C17, "", TWO_LOGIC))?;
+    let line = "compile net.bench --machine net.machine";
+    end_of(rt, alloc, &[line], &mut files, 0)
+}
+
+/// Whether the run of the image that is compiled of c17 waits too.
+fn image_waits<R: Threads + Wait + Sync>(rt: &R, alloc: Global) -> Result<bool, Memory> {
+    let compiled = compiled(rt, alloc)?;
+    let files = image_files(alloc, compiled.out.taken())?;
+    let line = "exec net.bench net.image net.stim --workers 2";
+    waits_for_the_host(rt, alloc, line, files, C17_TRACE)
 }
 
 /// The same where an image from a file is run.
 #[test]
 fn a_worker_waits_for_the_host_of_an_image(rt: HostRuntime) -> Result<(), Fail> {
-    let line = "exec net.bench net.image net.stim --workers 2";
-    let files = files_with_image(&rt, rt.alloc())?;
-    assert!(rt; waits_for_the_host(&rt, rt.alloc(), line, files, C17_TRACE)?);
+    assert!(rt; image_waits(&rt, rt.alloc())?);
     Ok(())
 }
 
@@ -333,7 +364,8 @@ fn a_worker_waits_for_the_host_of_an_image(rt: HostRuntime) -> Result<(), Fail> 
 /// only logic processor is held before its first, with so many banks.
 fn runs_ahead<R: Threads + Wait + Sync>(rt: &R, alloc: Global, line: &str) -> Result<bool, Memory> {
     let files = files_of(alloc, (BUFFER, "1 * 10\n", "logic 1\narray 0\n"))?;
-    Ok(run_watched(rt, alloc, Watch::Ahead, line, files)?.first.1)
+    let watched = run_watched(rt, alloc, Watch::Ahead, line, files, "")?;
+    Ok(watched.first.1)
 }
 
 /// With eight banks a port runs ahead of its readers, with one it waits for them.
@@ -346,10 +378,22 @@ fn banks_let_a_port_run_ahead(rt: HostRuntime) -> Result<(), Fail> {
     Ok(())
 }
 
-/// The end of a call for a generated design.
-fn large<R: Threads + Wait + Sync>(rt: &R, alloc: Global, words: &str) -> Result<Ended, Memory> {
-    let mut files = two_files(alloc, b"", b"", 0)?;
-    end_of(rt, alloc, &["large", words], &mut files, 0)
+/// Whether a call for a generated design prints these lines.
+fn is_summed_up<R: Threads + Wait + Sync>(
+    rt: &R,
+    alloc: Global,
+    words: &str,
+    lines: &str,
+) -> Result<bool, Memory> {
+    let files = two_files(alloc, b"", b"", 0)?;
+    ends(
+        rt,
+        alloc,
+        &["large", words],
+        files,
+        0,
+        printed(lines.as_bytes()),
+    )
 }
 
 /// Generated designs: the words behind the command, and the summary.
@@ -375,8 +419,7 @@ fn summaries() -> &'static [(&'static str, &'static str)] {
 #[test]
 fn generated_designs_are_summed_up(rt: HostRuntime) -> Result<(), Fail> {
     for (words, lines) in summaries() {
-        let ended = large(&rt, rt.alloc(), words)?;
-        assert_eq!(rt; ended.out.taken(), lines.as_bytes());
+        assert!(rt; is_summed_up(&rt, rt.alloc(), words, lines)?);
     }
     Ok(())
 }
