@@ -229,21 +229,31 @@ fn meet<'a, R: Threads + Wait + Sync>(
     run_both(rt, alloc, one, two)
 }
 
-/// No hold runs out, so the two run beside one another.
-#[test]
-fn two_meet(rt: HostRuntime) -> Result<(), Fail> {
+/// Whether each of two workers told its gate of its member's turns alone, and no hold ran out.
+fn are_told<'a>(workers: &[Worker<Pacer<'a>, PairGate<'a>>]) -> bool {
+    if workers.len() != 2 {
+        return false;
+    }
+    told(&workers[0], 3) == Some((1000, 1000, false))
+        && told(&workers[0], 255) == Some((0, 0, false))
+        && told(&workers[1], 255) == Some((1000, 1000, false))
+}
+
+fn have_met<R: Threads + Wait + Sync>(rt: &R, alloc: Global) -> Result<bool, Memory> {
     let shared = Shared {
         left: AtomicU64::new(0),
         right: AtomicU64::new(0),
         one: AtomicBool::new(false),
         two: AtomicBool::new(false),
     };
-    let workers = meet(&rt, rt.alloc(), &shared)?;
-    let workers = workers.as_slice();
-    assert_eq!(rt; workers.len(), 2);
-    assert_eq!(rt; told(&workers[0], 3), Some((1000, 1000, false)));
-    assert_eq!(rt; told(&workers[0], 255), Some((0, 0, false)));
-    assert_eq!(rt; told(&workers[1], 255), Some((1000, 1000, false)));
+    let workers = meet(rt, alloc, &shared)?;
+    Ok(are_told(workers.as_slice()))
+}
+
+/// No hold runs out, so the two run beside one another.
+#[test]
+fn two_meet(rt: HostRuntime) -> Result<(), Fail> {
+    assert!(rt; have_met(&rt, rt.alloc())?);
     Ok(())
 }
 
@@ -317,25 +327,40 @@ fn rounds<'a, R: Threads + Wait + Sync>(
     Ok(gates)
 }
 
+/// Workers, ports, and how often the worker's gate was told of the port, and of which turn last.
+const TOLD: &[(usize, u32, u64, u64)] = &[
+    (0, 0, 5, 5),
+    (0, 1, 0, 0),
+    (1, 0, 0, 0),
+    (2, 1, 5, 5),
+    (2, 7, 2, 9),
+    (3, 7, 0, 0),
+    (4, 0, 0, 0),
+];
+
+/// Whether there are five gates that were told so.
+fn were_told(gates: &[Option<CountGate>], told: &[(usize, u32, u64, u64)]) -> bool {
+    for (worker, port, times, latest) in told {
+        let Some(gate) = gates.get(*worker) else {
+            return false;
+        };
+        if *port >= 256 || visits(gate, *port) != Some((*times, *latest)) {
+            return false;
+        }
+    }
+    gates.len() == 5
+}
+
+fn run_rounds<R: Threads + Wait + Sync>(rt: &R, alloc: Global) -> Result<bool, Memory> {
+    let shared = [AtomicU64::new(0), AtomicU64::new(0), AtomicU64::new(0)];
+    let gates = rounds(rt, alloc, &shared, 800_000)?;
+    Ok(were_told(gates.as_slice(), TOLD))
+}
+
 /// Each gate is told of each turn of its worker's members once, though the third member finds nothing for so long
 /// that the workers go through two phases in threads and two in the calling thread.
 #[test]
 fn gates_are_told_in_both_kinds_of_phase(rt: HostRuntime) -> Result<(), Fail> {
-    let shared = [AtomicU64::new(0), AtomicU64::new(0), AtomicU64::new(0)];
-    let gates = rounds(&rt, rt.alloc(), &shared, 800_000)?;
-    let gates = gates.as_slice();
-    assert_eq!(rt; gates.len(), 5);
-    let told = [
-        (0, 0, 5, 5),
-        (0, 1, 0, 0),
-        (1, 0, 0, 0),
-        (2, 1, 5, 5),
-        (2, 7, 2, 9),
-        (3, 7, 0, 0),
-        (4, 0, 0, 0),
-    ];
-    for (worker, port, times, latest) in told {
-        assert_eq!(rt; visits(&gates[worker], port), Some((times, latest)));
-    }
+    assert!(rt; run_rounds(&rt, rt.alloc())?);
     Ok(())
 }

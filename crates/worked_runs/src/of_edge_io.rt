@@ -1,128 +1,48 @@
-//! Values from outside: whole reads and whole writes over memory and over the host.
-use edge_io::{
-    Failed, HostFiles, HostSink, MemFiles, MemSink, NamedBytes, NullSink, PlainFiles, PlainSink,
-    ReadNo, WriteNo, read_file, write_whole,
-};
-use seen_list::{List, Memory, Text};
+//! Values from outside: whole reads and whole writes over the host and over a writer.
+
+use edge_io::{Files, HostFiles, HostSink, ReadNo, WriteNo, read_file, write_whole};
 use std::alloc::Global;
 use std::io::{ErrorKind, Write};
 use std::test::Fail;
 use std::time::{SystemTime, UNIX_EPOCH};
 use std::{fs, io};
 
-fn file(alloc: Global, name: &[u8], content: &[u8]) -> Result<NamedBytes, Memory> {
-    Ok(NamedBytes {
-        name: Text::from_bytes(alloc, name)?,
-        bytes: List::from_slice(alloc, content)?,
-    })
-}
-
-fn store(alloc: Global, fails: &[u64]) -> Result<MemFiles, Memory> {
-    let mut files = List::new(alloc);
-    for (name, content) in [
-        (b"a".as_slice(), b"abc".as_slice()),
-        (b"empty", b""),
-        (b"a", b"later"),
-    ] {
-        files.push(file(alloc, name, content)?)?;
-    }
-    Ok(MemFiles::new(files, List::from_slice(alloc, fails)?))
-}
-
-fn seen(got: &Result<List<u8>, ReadNo>) -> Result<&[u8], ReadNo> {
-    match got {
-        Ok(bytes) => Ok(bytes.as_slice()),
-        Err(no) => Err(*no),
+/// Why no more than so many bytes are read of a file, or whether they are these.
+fn read<F: Files>(
+    alloc: Global,
+    files: &mut F,
+    name: &[u8],
+    limit: u8,
+    wanted: &[u8],
+) -> Result<bool, ReadNo> {
+    match read_file(alloc, files, name, usize::from(limit)) {
+        Ok(bytes) => Ok(bytes.as_slice() == wanted),
+        Err(no) => Err(no),
     }
 }
 
-/// A start is the first call; "abc" is then read by the second, and the third finds its end.
-#[test]
-fn reads_from_memory(rt: HostRuntime) -> Result<(), Fail> {
-    let no: [u64; 0] = [];
-    for (name, limit, fails, want) in [
-        (b"a".as_slice(), 3u8, no.as_slice(), Ok(b"abc".as_slice())),
-        (b"a", 2, &no, Err(ReadNo::TooLong)),
-        (b"a", 0, &no, Err(ReadNo::TooLong)),
-        (b"empty", 0, &no, Ok(b"")),
-        (b"absent", 3, &no, Err(ReadNo::Failed)),
-        (b"a", 3, &[1], Err(ReadNo::Failed)),
-        (b"a", 3, &[2], Err(ReadNo::Failed)),
-        (b"a", 3, &[3], Err(ReadNo::Failed)),
-        (b"a", 3, &[4, 0], Ok(b"abc")),
-    ] {
-        let mut files = store(rt.alloc(), fails)?;
-        let got = read_file(rt.alloc(), &mut files, name, usize::from(limit));
-        assert_eq!(rt; seen(&got), want);
-    }
-    Ok(())
+/// Whether the file has three bytes, of which two are too few.
+fn is_read<F: Files>(alloc: Global, files: &mut F, name: &[u8]) -> bool {
+    read(alloc, files, name, 3, b"abc") == Ok(true)
+        && read(alloc, files, name, 2, b"abc") == Err(ReadNo::TooLong)
 }
 
-#[test]
-fn writes_to_memory(rt: HostRuntime) -> Result<(), Fail> {
-    for (room, most, fails, piece, want, taken) in [
-        (
-            8u8,
-            3u8,
-            [0u64],
-            b"abcde".as_slice(),
-            Ok(()),
-            b"abcde".as_slice(),
-        ),
-        (4, 3, [0], b"abcde", Err(WriteNo::Failed), b"abcd"),
-        (8, 3, [2], b"abcde", Err(WriteNo::Failed), b"abc"),
-        (0, 1, [1], b"", Ok(()), b""),
-        (0, 1, [0], b"a", Err(WriteNo::Failed), b""),
-    ] {
-        assert!(rt; most > 0);
-        let fails = List::from_slice(rt.alloc(), &fails)?;
-        let mut sink = MemSink::new(rt.alloc(), usize::from(room), usize::from(most), fails)?;
-        assert_eq!(rt; write_whole(&mut sink, piece), want);
-        assert_eq!(rt; sink.taken(), taken);
-    }
-    Ok(())
+fn is_no_file<F: Files>(alloc: Global, files: &mut F, name: &[u8]) -> bool {
+    read(alloc, files, name, 3, b"abc") == Err(ReadNo::Failed)
 }
 
-/// Every name is there; one that isn't in the list is that of an empty file.
-#[test]
-fn reads_from_plain_files(rt: HostRuntime) -> Result<(), Fail> {
-    let mut files = List::new(rt.alloc());
-    files.push(file(rt.alloc(), b"a", b"abc")?)?;
-    let mut files = PlainFiles::new(files);
-    for (name, want) in [(b"absent".as_slice(), b"".as_slice()), (b"a", b"abc")] {
-        let got = read_file(rt.alloc(), &mut files, name, 3);
-        assert_eq!(rt; seen(&got), Ok(want));
-    }
-    Ok(())
-}
-
-/// Where there is memory enough, the room is taken; nothing that follows can fail.
-#[test]
-fn writes_to_plain_sinks(rt: HostRuntime) -> Result<(), Fail> {
-    let text = b"INPUT(a)\nOUTPUT(z)\nz = BUFF(a)\n".as_slice();
-    let mut sink = PlainSink::new(rt.alloc(), 32)?;
-    sink.write(text);
-    assert_eq!(rt; sink.taken(), text);
-    assert_eq!(rt; sink.room(), 1);
-    assert_eq!(rt; write_whole(&mut NullSink::new(), b"abc"), Ok(()));
-    Ok(())
-}
-
+/// A file that is written and removed again, a folder, and a name that is no text.
 #[test]
 fn reads_from_the_host(rt: HostRuntime) -> Result<(), Fail> {
     let now = SystemTime::now(&rt)?.duration_since(UNIX_EPOCH)?;
     let path = format!(in rt.alloc(); "/tmp/edge_io_{}_{}", now.as_secs(), now.subsec_nanos())?;
-    fs::write(&rt, path.as_str(), "abc")?;
     let mut files = HostFiles::new(&rt);
-    for (limit, want) in [(3u8, Ok(b"abc".as_slice())), (2, Err(ReadNo::TooLong))] {
-        let got = read_file(rt.alloc(), &mut files, path.as_bytes(), usize::from(limit));
-        assert_eq!(rt; seen(&got), want);
-    }
+    fs::write(&rt, path.as_str(), "abc")?;
+    let there = is_read(rt.alloc(), &mut files, path.as_bytes());
     fs::remove_file(&rt, path.as_str())?;
-    for name in [path.as_bytes(), b"/tmp", b"\xff"] {
-        let got = read_file(rt.alloc(), &mut files, name, 3);
-        assert_eq!(rt; seen(&got), Err(ReadNo::Failed));
-    }
+    assert!(rt; there && is_no_file(rt.alloc(), &mut files, path.as_bytes()));
+    assert!(rt; is_no_file(rt.alloc(), &mut files, b"/tmp"));
+    assert!(rt; is_no_file(rt.alloc(), &mut files, b"\xff"));
     Ok(())
 }
 
@@ -164,21 +84,32 @@ impl Write for Odd<'_> {
     }
 }
 
+/// Quirks, how a whole write ends by a writer that has them, and what was taken.
+const QUIRKS: &[(Quirk, Result<(), WriteNo>, &[u8])] = &[
+    (Quirk::None, Ok(()), b"abcde"),
+    (Quirk::CutOffOnce, Ok(()), b"abcde"),
+    (Quirk::TakesNothing, Err(WriteNo::Failed), b""),
+    (Quirk::FlushFails, Err(WriteNo::Failed), b"ab"),
+];
+
+fn quirks() -> &'static [(Quirk, Result<(), WriteNo>, &'static [u8])] {
+    QUIRKS
+}
+
+fn write(bytes: &mut Vec<u8>, quirk: Quirk) -> Result<(), WriteNo> {
+    let mut sink = HostSink::new(Odd { bytes, quirk });
+    write_whole(&mut sink, b"abcde")
+}
+
+/// Whether a whole write by a writer with a quirk ends so.
+fn is_written(alloc: Global, quirk: Quirk, wanted: &Result<(), WriteNo>, taken: &[u8]) -> bool {
+    let mut bytes = Vec::new(alloc);
+    write(&mut bytes, quirk) == *wanted && bytes.as_slice() == taken
+}
+
 #[test]
-fn writes_to_a_writer(rt: HostRuntime) -> Result<(), Fail> {
-    for (quirk, want, taken) in [
-        (Quirk::None, Ok(()), b"abcde".as_slice()),
-        (Quirk::CutOffOnce, Ok(()), b"abcde"),
-        (Quirk::TakesNothing, Err(WriteNo::Failed), b""),
-        (Quirk::FlushFails, Err(WriteNo::Failed), b"ab"),
-    ] {
-        let mut bytes = Vec::new(rt.alloc());
-        let mut sink = HostSink::new(Odd {
-            bytes: &mut bytes,
-            quirk,
-        });
-        assert_eq!(rt; write_whole(&mut sink, b"abcde"), want);
-        assert_eq!(rt; bytes.as_slice(), taken);
+fn writes_to_a_writer(rt: HostRuntime) {
+    for (quirk, wanted, taken) in quirks() {
+        assert!(rt; is_written(rt.alloc(), *quirk, wanted, taken));
     }
-    Ok(())
 }

@@ -9,8 +9,8 @@ use pack_words::{PackTaken, packed_word, read_packed};
 fn words_have_their_turn_and_planes(rt: HostRuntime) {
     let planes = with_lane(with_lane(in_all_lanes(V4::Zero), 0, V4::One), 1, V4::Undef);
     let word = packed_word(17, planes);
-    assert_eq!(rt; word, 34_359_738_385);
-    assert_eq!(rt; read_packed(word, 17), PackTaken::Value(planes));
-    assert_eq!(rt; read_packed(word, 18), PackTaken::NotYet);
-    assert_eq!(rt; read_packed(0, 1), PackTaken::NotYet);
+    assert!(rt; word == 34_359_738_385);
+    assert!(rt; read_packed(word, 17) == PackTaken::Value(planes));
+    assert!(rt; read_packed(word, 18) == PackTaken::NotYet);
+    assert!(rt; read_packed(0, 1) == PackTaken::NotYet);
 }
