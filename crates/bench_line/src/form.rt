@@ -12,7 +12,7 @@ use bench_text::Mark;
 use seen_list::{List, Memory};
 
 /// What stands in a line that has a form, but for the names of its lists, and how many those are.
-#[derive(Clone, Copy, Debug, PartialEq, Eq)]
+#[derive(Clone, Copy)]
 pub enum Head<'a> {
     /// `WORD(name)`
     Port {

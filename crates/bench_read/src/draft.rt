@@ -9,7 +9,7 @@ use seen_list::List;
 use std::alloc::Global;
 
 /// What a line does, with the numbers of its names.
-#[derive(Clone, Copy, Debug, PartialEq, Eq)]
+#[derive(Clone, Copy)]
 pub enum Act {
     /// The stimulus drives the name.
     Input,
@@ -24,14 +24,14 @@ pub enum Act {
 }
 
 /// What a line does, and the line's number.
-#[derive(Clone, Copy, Debug, PartialEq, Eq)]
+#[derive(Clone, Copy)]
 pub struct Statement {
     pub act: Act,
     pub at: u32,
 }
 
 /// A name that a line drives, and the line's number.
-#[derive(Clone, Copy, Debug, PartialEq, Eq)]
+#[derive(Clone, Copy)]
 pub struct DrivenName<'a> {
     pub name: &'a [u8],
     pub at: u32,

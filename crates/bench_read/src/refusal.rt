@@ -7,7 +7,7 @@ use bench_text::TextNo;
 use seen_list::{Memory, Text};
 
 /// What a text has too many of.
-#[derive(Clone, Copy, Debug, PartialEq, Eq)]
+#[derive(Clone, Copy, PartialEq, Eq)]
 pub enum Many {
     /// More than 1,048,576 signals.
     Signals,
@@ -51,7 +51,7 @@ impl From<Memory> for BenchNo {
 }
 
 /// Why the text of a list of gates is refused. Lines are counted from 1.
-#[derive(Clone, Copy, Debug, PartialEq, Eq)]
+#[derive(Clone, Copy)]
 pub enum LastNo {
     /// The line is neither blank nor one name.
     Syntax { line: u32 },

@@ -3,7 +3,7 @@
 use seen_list::{List, Memory};
 
 /// What a token is.
-#[derive(Clone, Copy, Debug, PartialEq, Eq)]
+#[derive(Clone, Copy, PartialEq, Eq)]
 pub enum Mark {
     /// `(`
     Open,
@@ -25,7 +25,7 @@ pub enum Mark {
 
 /// A token of a text: its bytes are those from place `from` up to place `upto`, counted from 0,
 /// and they stand in line `line`, counted from 1.
-#[derive(Clone, Copy, Debug, PartialEq, Eq)]
+#[derive(Clone, Copy)]
 pub struct Token {
     pub mark: Mark,
     pub from: u32,

@@ -69,7 +69,7 @@ pub enum Command {
 }
 
 /// Why words are refused.
-#[derive(Clone, Copy, Debug, PartialEq, Eq)]
+#[derive(Clone, Copy)]
 pub enum WordNo {
     /// The words are of the form of no command.
     Usage,

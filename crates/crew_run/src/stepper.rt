@@ -4,7 +4,7 @@ ghost use Rattle.std.specs.Prelude.{Bool, ℕ, if◌then◌else◌, ◌+◌, ◌
 ghost use Rattle.crew_run.specs.Steps.{Done, Moved, NotYet, steps_of};
 
 /// What a step came to.
-#[derive(Clone, Copy, Debug, PartialEq, Eq)]
+#[derive(Clone, Copy)]
 pub enum Step {
     /// One event was taken.
     Moved,

@@ -27,5 +27,5 @@ pub use sink::Sink;
 pub use writing::{WriteNo, write_whole};
 
 /// A fault of starting a file, of reading or of writing.
-#[derive(Clone, Copy, Debug, PartialEq, Eq)]
+#[derive(Clone, Copy, PartialEq, Eq)]
 pub struct Failed;

@@ -10,7 +10,7 @@ use seen_list::{List, Memory};
 use std::alloc::Global;
 
 /// Why a file wasn't read.
-#[derive(Clone, Copy, Debug, PartialEq, Eq)]
+#[derive(Clone, Copy, PartialEq, Eq)]
 pub enum ReadNo {
     /// A call of the store failed: the file is absent, or can't be read.
     Failed,

@@ -8,7 +8,7 @@ ghost use Rattle.edge_io.specs.Writing.{TakesProperPrefix};
 use crate::{Failed, Sink};
 
 /// Why a piece wasn't written.
-#[derive(Clone, Copy, Debug, PartialEq, Eq)]
+#[derive(Clone, Copy, PartialEq, Eq)]
 pub enum WriteNo {
     /// A call of the sink failed.
     Failed,

@@ -15,7 +15,7 @@ pub struct Place {
 }
 
 /// What a port is to do next.
-#[derive(Clone, Copy, Debug, PartialEq, Eq)]
+#[derive(Clone, Copy)]
 pub enum Action {
     /// To look how many turns this reader has finished.
     Ask { reader: u32 },
@@ -30,7 +30,7 @@ pub enum Action {
 }
 
 /// What a port did.
-#[derive(Clone, Copy, Debug, PartialEq, Eq)]
+#[derive(Clone, Copy)]
 pub enum Event {
     /// It looked how many turns this reader has finished, and they were enough.
     Ask { reader: u32 },
@@ -43,7 +43,7 @@ pub enum Event {
 }
 
 /// What came of a step of a port.
-#[derive(Clone, Copy, Debug, PartialEq, Eq)]
+#[derive(Clone, Copy)]
 pub enum CoreStep {
     /// It made this event.
     Moved(Event),

@@ -3,7 +3,7 @@
 use logic_four::V4;
 
 /// A signal that has the same value at every turn: 0 or 1.
-#[derive(Clone, Copy, Debug, PartialEq, Eq)]
+#[derive(Clone, Copy)]
 pub struct Fault {
     /// The number of the signal, in signal order from 0.
     pub signal: u32,
@@ -11,7 +11,7 @@ pub struct Fault {
 }
 
 /// Where a fault is first seen at a printed name.
-#[derive(Clone, Copy, Debug, PartialEq, Eq)]
+#[derive(Clone, Copy)]
 pub enum Verdict {
     Seen {
         /// The least cycle, counted from 1.

@@ -18,7 +18,7 @@ use seen_list::{List, Memory};
 use std::alloc::Global;
 
 /// Puts into the place `gate` what a gate of this form answers for the values in the places `a` and `b`.
-#[derive(Clone, Copy, Debug, PartialEq, Eq)]
+#[derive(Clone, Copy)]
 pub(crate) struct PairOp {
     pub(crate) gate: u32,
     pub(crate) a: u32,

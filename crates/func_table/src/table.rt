@@ -12,7 +12,7 @@ const ENTRIES: usize = 256;
 
 /// The answer of a gate for each of the 256 choices of four operands. Entry `a + 4b + 16c + 64d` is
 /// the answer for the operands of the codes a, b, c and d.
-#[derive(Clone, Copy, Debug, PartialEq, Eq)]
+#[derive(Clone, Copy, PartialEq, Eq)]
 pub struct Table {
     /// Entry `e` is a code in two bits of word `e / 32`, the first of them bit `2 * (e % 32)`.
     pub words: [u64; 8],

@@ -7,7 +7,7 @@ ghost use Rattle.home_better.specs.code.Bags.{times, entry_at, IsBag};
 use seen_list::{List, Memory};
 
 /// A number and how often it stands.
-#[derive(Clone, Copy, Debug, PartialEq, Eq)]
+#[derive(Clone, Copy)]
 pub(crate) struct Entry {
     pub(crate) key: u32,
     pub(crate) count: u32,

@@ -19,7 +19,7 @@ use seen_list::{List, Memory};
 use std::alloc::Global;
 
 /// Why there are no homes.
-#[derive(Clone, Copy, Debug, PartialEq, Eq)]
+#[derive(Clone, Copy)]
 pub enum HomeNo {
     /// This memory is the first that finds no array port with room for its bits. So many bits are
     /// left on the array port that has the most, 0 without one.

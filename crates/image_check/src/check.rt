@@ -18,7 +18,7 @@ use std::alloc::Global;
 
 /// Why an image isn't accepted. Of several causes the first in this order is answered, but that want of memory
 /// may come in place of any answer.
-#[derive(Clone, Copy, Debug, PartialEq, Eq)]
+#[derive(Clone, Copy)]
 pub enum CheckNo {
     /// The image isn't well formed.
     Form,

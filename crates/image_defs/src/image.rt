@@ -6,7 +6,7 @@ use net_defs::Init;
 use seen_list::List;
 
 /// Where a port takes a value from.
-#[derive(Clone, Copy, Debug, PartialEq, Eq)]
+#[derive(Clone, Copy)]
 pub enum Source {
     /// What the port's own item in this slot has, in the last turn or in this one.
     Own { slot: u32, last: bool },
@@ -17,7 +17,7 @@ pub enum Source {
 }
 
 /// What a logic processor does in a slot.
-#[derive(Clone, Copy, Debug, PartialEq, Eq)]
+#[derive(Clone, Copy)]
 pub enum Task {
     /// Looks four operands up in the processor's table of this number.
     Eval {
@@ -45,7 +45,7 @@ pub struct BlockWork {
 }
 
 /// Output bit number `bit` of the array processor's memory number `block`, in a slot.
-#[derive(Clone, Copy, Debug, PartialEq, Eq)]
+#[derive(Clone, Copy)]
 pub struct OutBit {
     pub slot: u32,
     pub block: u32,
@@ -53,7 +53,7 @@ pub struct OutBit {
 }
 
 /// The input of this column of the stimulus, counted from 0, in a slot of the host's.
-#[derive(Clone, Copy, Debug, PartialEq, Eq)]
+#[derive(Clone, Copy)]
 pub struct InColumn {
     pub slot: u32,
     pub column: u32,
@@ -88,7 +88,7 @@ pub struct LinkOut {
 }
 
 /// In this slot the port receives what the sender sends.
-#[derive(Clone, Copy, Debug, PartialEq, Eq)]
+#[derive(Clone, Copy)]
 pub struct LinkIn {
     pub slot: u32,
     pub sender: u32,

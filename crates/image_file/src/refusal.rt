@@ -3,7 +3,7 @@
 use seen_list::Memory;
 
 /// Why an image text is refused. Lines are counted from 1.
-#[derive(Clone, Copy, Debug, PartialEq, Eq)]
+#[derive(Clone, Copy)]
 pub enum ImageNo {
     /// The line isn't of a form that may stand there, or has no LF, or stands behind the line `end`.
     /// Where the text ends before its line `end`, it is the line that would follow.

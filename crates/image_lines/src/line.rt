@@ -6,7 +6,7 @@ use net_defs::Init;
 use seen_list::Memory;
 
 /// The kinds of port.
-#[derive(Clone, Copy, Debug, PartialEq, Eq)]
+#[derive(Clone, Copy)]
 pub enum PortKind {
     Logic,
     Array,
@@ -14,7 +14,7 @@ pub enum PortKind {
 }
 
 /// What the second line of a text says of the whole image.
-#[derive(Clone, Copy, Debug, PartialEq, Eq)]
+#[derive(Clone, Copy)]
 pub struct Sizes {
     pub slots: u32,
     pub units: u32,
@@ -54,7 +54,7 @@ pub enum Line {
 }
 
 /// Why a line is refused.
-#[derive(Clone, Copy, Debug, PartialEq, Eq)]
+#[derive(Clone, Copy)]
 pub enum LineNo {
     /// It has none of the forms.
     Syntax,

@@ -10,7 +10,7 @@ use crate::{ALL, Planes};
 use logic_four::Kind;
 
 /// How gates of a kind answer for two operands: the kind, and what the formula does for it.
-#[derive(Clone, Copy, Debug, PartialEq, Eq)]
+#[derive(Clone, Copy, PartialEq, Eq)]
 pub struct PairForm {
     pub kind: Kind,
     pub turns_operands: bool,

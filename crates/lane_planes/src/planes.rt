@@ -4,7 +4,7 @@ ghost use Rattle.std.specs.Prelude.{◌<◌, ◌^◌};
 
 /// Thirty values, one a lane. Lane `k` of the lanes 0 to 29 has the code whose lower bit is bit `k` of
 /// `low`, and whose upper bit is bit `k` of `high`.
-#[derive(Clone, Copy, Debug, PartialEq, Eq)]
+#[derive(Clone, Copy, PartialEq, Eq)]
 pub struct Planes {
     pub low: u32,
     pub high: u32,

@@ -26,7 +26,7 @@ const KINDS: [Kind; 10] = [
 ];
 
 /// How a table is answered in all lanes at once.
-#[derive(Clone, Copy, Debug, PartialEq, Eq)]
+#[derive(Clone, Copy, PartialEq, Eq)]
 pub enum TableForm {
     /// It is the table of a gate.
     Gate { kind: Kind, operands: u32 },

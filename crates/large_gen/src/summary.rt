@@ -12,7 +12,7 @@ use seen_list::{Memory, Text};
 use std::alloc::Global;
 
 /// How many printed cells have each value.
-#[derive(Clone, Copy, Debug, PartialEq, Eq)]
+#[derive(Clone, Copy)]
 pub struct CellCounts {
     pub zeros: u64,
     pub ones: u64,
@@ -21,7 +21,7 @@ pub struct CellCounts {
 }
 
 /// What the summary of a run tells.
-#[derive(Clone, Copy, Debug, PartialEq, Eq)]
+#[derive(Clone, Copy)]
 pub struct Summary {
     /// The gates that were asked for.
     pub gates: u64,

@@ -16,7 +16,7 @@ pub use memory::memory_laws;
 pub use values::{char_round_trip, code, decoded, not, of_char, settle, to_char};
 
 /// The value of a signal.
-#[derive(Clone, Copy, Debug, PartialEq, Eq)]
+#[derive(Clone, Copy, PartialEq, Eq)]
 pub enum V4 {
     Zero,
     One,
@@ -27,7 +27,7 @@ pub enum V4 {
 }
 
 /// The kind of a gate. `Bus` joins drivers of one wire; every other kind settles its operands.
-#[derive(Clone, Copy, Debug, PartialEq, Eq)]
+#[derive(Clone, Copy, PartialEq, Eq)]
 pub enum Kind {
     And,
     Nand,

@@ -41,6 +41,13 @@ impl<'a> Given<'a> {
         }
     }
 
+    /// The numbers for all ports.
+    pub fn into_settings(self) -> List<Setting>
+        ensures { result ≡ self.entry.settings }
+    {
+        self.settings
+    }
+
     /// Adds a port that has its own limit, if it is new, and answers whether it was.
     fn add_port(&mut self, what: Limited, port: &Digits<'a>) -> Result<bool, Memory>
         ensures is_new { IfOk result (λ is_new. is_new ≡ not (list_any (nat_eq port.now) (ports_in self.old what))) }

@@ -10,7 +10,7 @@ use seen_list::{List, Memory};
 use std::alloc::Global;
 
 /// What a machine text can limit at single ports.
-#[derive(Clone, Copy, Debug, PartialEq, Eq)]
+#[derive(Clone, Copy, PartialEq, Eq)]
 pub enum Limited {
     /// The different functions of a logic processor.
     Functions,
@@ -21,7 +21,7 @@ pub enum Limited {
 }
 
 /// A limit that holds at one port, in place of that of all ports.
-#[derive(Clone, Copy, Debug, PartialEq, Eq)]
+#[derive(Clone, Copy)]
 pub struct PortLimit {
     pub what: Limited,
     /// Which of the logic processors it is, and for bits which of the array processors, from 0.
@@ -98,7 +98,7 @@ fn is_at(own: &PortLimit, what: Limited, port: u32) -> bool
 }
 
 /// Why a machine text is refused. Lines are counted from 1.
-#[derive(Clone, Copy, Debug, PartialEq, Eq)]
+#[derive(Clone, Copy, PartialEq, Eq)]
 pub enum MachNo {
     /// The line is neither blank nor one of the forms that the text's version has.
     Syntax { line: u32 },

@@ -6,14 +6,14 @@ ghost use Rattle.machine_text.specs.Quantities.{named, least_of, most_of, defaul
 use crate::machine::Limited;
 
 /// The versions of the machine text.
-#[derive(Clone, Copy, Debug, PartialEq, Eq)]
+#[derive(Clone, Copy, PartialEq, Eq)]
 pub enum Version {
     One,
     Two,
 }
 
 /// A quantity of the machine, which a text names by a word.
-#[derive(Clone, Copy, Debug, PartialEq, Eq)]
+#[derive(Clone, Copy, PartialEq, Eq)]
 pub enum Quantity {
     /// The number of logic processors.
     Logic,

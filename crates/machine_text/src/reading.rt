@@ -6,7 +6,7 @@ ghost use Rattle.text_lines.specs.Answers.{Answers, first};
 ghost use Rattle.text_lines.specs.code.Answers.{fault_or};
 ghost use Rattle.machine_text.specs.declared.machine.Machine.{Machine};
 ghost use Rattle.machine_text.specs.declared.machine.MachNo.TheVariants.{Memory as NoMemory};
-ghost use Rattle.machine_text.specs.code.Given.{if_below};
+ghost use Rattle.machine_text.specs.code.Given.{given_none, if_below};
 ghost use Rattle.machine_text.specs.Settings.{is_allowed, limit_of, limits_of, lines_say, settings_of};
 ghost use Rattle.machine_text.specs.Machines.{IsValid, Reads, absent_fault, first_fault, line_fault, machine_of, number_in, port_fault, processors};
 
@@ -35,8 +35,8 @@ pub fn read_machine(alloc: Global, bytes: &[u8]) -> Result<Machine, MachNo>
     ensures only { (machine : Machine) → Reads bytes.now machine
         → (first_fault bytes.now ≡ None) × MatchResult result (λ read. read ≡ machine) (λ e. e ≡ NoMemory) }
 {
-    let given = read_lines(alloc, bytes)?;
-    let settings = given.settings.as_slice();
+    let read = read_lines(alloc, bytes)?;
+    let settings = read.as_slice();
     let logic = number_in(settings, Quantity::Logic);
     let array = number_in(settings, Quantity::Array);
     let sum = logic + array + 1;
@@ -47,17 +47,32 @@ pub fn read_machine(alloc: Global, bytes: &[u8]) -> Result<Machine, MachNo>
     Ok(machine_of(settings, own))
 }
 
-/// What the lines of the text give, or the fault of the first line that has one.
-fn read_lines(alloc: Global, bytes: &[u8]) -> Result<Given<'_>, MachNo>
+/// The settings of the lines of the text, or the fault of the first line that has one.
+fn read_lines(alloc: Global, bytes: &[u8]) -> Result<List<Setting>, MachNo>
     requires { length bytes.now ≤ MAX_TEXT_BYTES }
     ensures { Answers NoMemory result (first (line_fault (lines_say bytes.now)) (length (lines_say bytes.now)))
-        (λ given. given.settings ≡ settings_of (lines_say bytes.now)) }
+        (λ read. read ≡ settings_of (lines_say bytes.now)) }
 {
     let mut given = Given::new(alloc);
-    for (line, said) in Sayings::new(bytes) {
-        take_line(&mut given, line, &said)?;
+    let taken = take_lines(&mut given, bytes);
+    let settings = given.into_settings();
+    match taken {
+        Ok(()) => Ok(settings),
+        Err(no) => Err(no),
     }
-    Ok(given)
+}
+
+/// Takes the lines of the text, or answers the fault of the first line that has one.
+fn take_lines<'a>(given: &mut Given<'a>, bytes: &'a [u8]) -> Result<(), MachNo>
+    requires short { length bytes.now ≤ MAX_TEXT_BYTES }
+    requires begun { given.old ≡ given_none }
+    ensures { Answers NoMemory result (first (line_fault (lines_say bytes.now)) (length (lines_say bytes.now)))
+        (λ _. given.new.settings ≡ settings_of (lines_say bytes.now)) }
+{
+    for (line, said) in Sayings::new(bytes) {
+        take_line(given, line, &said)?;
+    }
+    Ok(())
 }
 
 /// The limits of single ports that the lines of the text give, or the first line that limits a port

@@ -16,7 +16,7 @@ use text_lines::numbers::number_within;
 use text_lines::{Lines, Words};
 
 /// A quantity that a line sets for all ports, and its number.
-#[derive(Clone, Copy, Debug)]
+#[derive(Clone, Copy)]
 pub struct Setting {
     pub quantity: Quantity,
     pub value: u32,

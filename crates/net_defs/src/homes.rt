@@ -2,7 +2,7 @@
 
 /// How a compiler chooses the home of a node, which is the logic port that works it out (this
 /// project's profile).
-#[derive(Clone, Copy, Debug, PartialEq, Eq)]
+#[derive(Clone, Copy, PartialEq, Eq)]
 pub enum HomeChoice {
     /// The nodes are dealt to the logic ports in turn.
     Plain,

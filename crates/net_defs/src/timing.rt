@@ -11,7 +11,7 @@ use seen_list::List;
 use std::alloc::Global;
 
 /// Which values a gate reads.
-#[derive(Clone, Copy, Debug, PartialEq, Eq)]
+#[derive(Clone, Copy, PartialEq, Eq)]
 pub enum Mode {
     /// This turn's values, each gate after its operands.
     Rank,
@@ -22,7 +22,7 @@ pub enum Mode {
 }
 
 /// What registers and memories hold at first.
-#[derive(Clone, Copy, Debug, PartialEq, Eq)]
+#[derive(Clone, Copy, PartialEq, Eq)]
 pub enum Init {
     Undef,
     Zero,

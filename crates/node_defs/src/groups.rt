@@ -9,7 +9,7 @@ ghost use Rattle.node_defs.specs.Groups.{helper_count as helpers_in};
 /// Up to four wires of a gate that stand next to one another: from wire `first` on, `size` of them.
 /// The wires of a gate of n operands are its operands, 0 to n - 1 from the left, and then its helpers,
 /// n and up.
-#[derive(Clone, Copy, Debug, PartialEq, Eq)]
+#[derive(Clone, Copy)]
 pub struct Group {
     pub first: u32,
     pub size: u32,

@@ -5,7 +5,7 @@ use logic_four::V4;
 use seen_list::List;
 
 /// Of which turn an operand's value is taken.
-#[derive(Clone, Copy, Debug, PartialEq, Eq)]
+#[derive(Clone, Copy, PartialEq, Eq)]
 pub enum Tag {
     /// This turn's.
     This,
@@ -14,7 +14,7 @@ pub enum Tag {
 }
 
 /// An operand of a node.
-#[derive(Clone, Copy, Debug, PartialEq, Eq)]
+#[derive(Clone, Copy)]
 pub enum Feed {
     /// The value of the item of this number.
     From { item: u32, tag: Tag },
@@ -23,7 +23,7 @@ pub enum Feed {
 }
 
 /// The four operands of a node. Those past its number of operands are fixed at 0.
-#[derive(Clone, Copy, Debug, PartialEq, Eq)]
+#[derive(Clone, Copy)]
 pub struct Feeds {
     pub a: Feed,
     pub b: Feed,
@@ -34,7 +34,7 @@ pub struct Feeds {
 /// An item. Items are numbered from 0: the inputs, then the memory outputs, both in signal order,
 /// then nodes and latches by rank, then by the signal of their gate or register, then by the number of
 /// the helper, a gate's own node last. So each stands after all whose values of this turn it takes.
-#[derive(Clone, Copy, Debug, PartialEq, Eq)]
+#[derive(Clone, Copy)]
 pub enum Item {
     /// The input of this column of the stimulus, counted from 0.
     Input { column: u32 },
@@ -47,7 +47,7 @@ pub enum Item {
 }
 
 /// What an item stands for: a signal, or a helper of a wide gate.
-#[derive(Clone, Copy, Debug, PartialEq, Eq)]
+#[derive(Clone, Copy)]
 pub struct ItemName {
     /// The number of the signal, or of the signal that the wide gate drives.
     pub signal: u32,

@@ -16,7 +16,7 @@ use seen_list::Memory;
 use std::alloc::Global;
 
 /// By what an item is ordered.
-#[derive(Clone, Copy, Debug, PartialEq, Eq, PartialOrd, Ord)]
+#[derive(Clone, Copy, PartialEq, Eq, PartialOrd, Ord)]
 pub(crate) struct Key {
     pub class: u32,
     pub rank: u32,

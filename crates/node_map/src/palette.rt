@@ -10,7 +10,7 @@ use seen_list::{List, Memory};
 use std::alloc::Global;
 
 /// The number of the table of a kind and a number of operands.
-#[derive(Clone, Copy, Debug, PartialEq, Eq)]
+#[derive(Clone, Copy)]
 pub(crate) struct Made {
     pub kind: Kind,
     pub operands: u32,

@@ -14,7 +14,7 @@ use seen_list::{List, Memory};
 use std::alloc::Global;
 
 /// What a task does, by operands of a bank.
-#[derive(Clone, Copy, Debug, PartialEq, Eq)]
+#[derive(Clone, Copy)]
 pub(crate) enum Op {
     /// Answers four operands by the table of this number, which is known as this.
     Look {

@@ -1,7 +1,7 @@
 //! What a packed port does next.
 
 /// What a packed port is to do next. It is the same in all lanes, but for the values.
-#[derive(Clone, Copy, Debug, PartialEq, Eq)]
+#[derive(Clone, Copy)]
 pub enum PackAction {
     /// To look how many turns this reader has finished.
     Ask { reader: u32 },

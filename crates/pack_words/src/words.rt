@@ -6,7 +6,7 @@ ghost use Rattle.pack_words.specs.Words.{IsReadIn, packed};
 use lane_planes::Planes;
 
 /// What a `take` found.
-#[derive(Clone, Copy, Debug, PartialEq, Eq)]
+#[derive(Clone, Copy, PartialEq, Eq)]
 pub enum PackTaken {
     /// The sender's values of this turn, one a lane.
     Value(Planes),

@@ -11,7 +11,7 @@ pub struct Sending {
 }
 
 /// In this slot the port receives what the sender sends.
-#[derive(Clone, Copy, Debug, PartialEq, Eq)]
+#[derive(Clone, Copy)]
 pub struct Receipt {
     pub slot: u32,
     pub sender: u32,

@@ -12,7 +12,7 @@ use logic_four::code;
 ///
 /// Of S slots, place `s` has what the port's own item in slot `s` has, place `S + s` what the port
 /// receives in slot `s`, and place `2 * S + c` the value whose code is `c`.
-#[derive(Clone, Copy, Debug, PartialEq, Eq)]
+#[derive(Clone, Copy)]
 pub struct Operand {
     pub number: u32,
 }

@@ -10,7 +10,7 @@ use logic_four::V4;
 use net_defs::Stimulus;
 
 /// A row of the stimulus, and for how many cycles it still serves, this one among them.
-#[derive(Clone, Copy, Debug, PartialEq, Eq)]
+#[derive(Clone, Copy)]
 pub struct RowCursor {
     pub row: usize,
     pub rest: u32,
@@ -18,7 +18,7 @@ pub struct RowCursor {
 
 /// How far a run has come: the cycles that are over, the turns of this cycle that are over, and the
 /// row of this cycle.
-#[derive(Clone, Copy, Debug, PartialEq, Eq)]
+#[derive(Clone, Copy)]
 pub struct Progress {
     pub rows: u32,
     pub unit: u32,

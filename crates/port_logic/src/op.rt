@@ -16,7 +16,7 @@ use seen_list::{List, Memory};
 use std::alloc::Global;
 
 /// What a task does, by operands of a bank.
-#[derive(Clone, Copy, Debug, PartialEq, Eq)]
+#[derive(Clone, Copy)]
 pub(crate) enum Op {
     /// Looks two operands up in the 16 lowest places of this part of a table.
     Pair {

@@ -12,7 +12,7 @@ use seen_list::{List, Memory};
 use std::alloc::Global;
 
 /// What a port does at a stop.
-#[derive(Clone, Copy, Debug, PartialEq, Eq)]
+#[derive(Clone, Copy)]
 pub enum StopKind {
     Send,
     Receive,
@@ -21,7 +21,7 @@ pub enum StopKind {
 
 /// A stop: what the port does there, in which slot, and how many of its items stand in the slots up
 /// to that one. The end of a turn has the number of slots for its slot.
-#[derive(Clone, Copy, Debug, PartialEq, Eq)]
+#[derive(Clone, Copy)]
 pub struct Stop {
     pub kind: StopKind,
     pub slot: u32,

@@ -11,7 +11,7 @@ use seen_list::{List, Memory};
 use std::alloc::Global;
 
 /// How far the walk has come with a signal.
-#[derive(Clone, Copy, Debug, PartialEq, Eq)]
+#[derive(Clone, Copy, PartialEq, Eq)]
 pub(crate) enum Mark {
     /// A gate that was not reached.
     Fresh,

@@ -20,7 +20,7 @@ use std::alloc::Global;
 
 /// Where the operations of a gate write and read: the place of the gate, the place of the signal 0 as
 /// the gate reads it, and the place that holds what the first operands of a wide gate answer.
-#[derive(Clone, Copy, Debug, PartialEq, Eq)]
+#[derive(Clone, Copy)]
 struct GatePlaces {
     gate: u32,
     base: u32,

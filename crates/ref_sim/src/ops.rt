@@ -9,7 +9,7 @@ use logic_four::{Kind, V4, code, decoded};
 
 /// Puts into the place `gate` what the table answers for the values in the places `a` and `b`. The
 /// table has the two-bit code of the answer at bit 2 (code of a + 4 code of b).
-#[derive(Clone, Copy, Debug, PartialEq, Eq)]
+#[derive(Clone, Copy)]
 pub(crate) struct GateOp {
     pub(crate) gate: u32,
     pub(crate) a: u32,

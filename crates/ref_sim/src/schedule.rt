@@ -13,7 +13,7 @@ use seen_list::{List, Memory};
 use std::alloc::Global;
 
 /// What gives a signal its value in a turn, if it is no gate.
-#[derive(Clone, Copy, Debug, PartialEq, Eq)]
+#[derive(Clone, Copy)]
 pub(crate) enum Role {
     /// The stimulus.
     Input,

@@ -24,7 +24,7 @@ use net_defs::{Netlist, Timing};
 use seen_list::List;
 
 /// Where a turn stands in its cycle.
-#[derive(Clone, Copy, Debug, PartialEq, Eq)]
+#[derive(Clone, Copy)]
 pub(crate) enum Phase {
     /// Turn 1.
     Start,

@@ -18,7 +18,7 @@ use seen_list::Memory;
 use std::alloc::Global;
 
 /// Why there is no plan.
-#[derive(Clone, Copy, Debug, PartialEq, Eq)]
+#[derive(Clone, Copy)]
 pub enum PlanNo {
     /// A turn wants more slots than the machine has.
     Slots { needed: u32, limit: u32 },

@@ -18,7 +18,7 @@ use seen_list::{List, Memory};
 use std::alloc::Global;
 
 /// A port and the number of different tables that its nodes use.
-#[derive(Clone, Copy, Debug, PartialEq, Eq)]
+#[derive(Clone, Copy)]
 pub(crate) struct Crowded {
     pub(crate) port: u32,
     pub(crate) needed: u32,

@@ -36,7 +36,7 @@ impl Model for Crossbar {
 }
 
 /// What a `take` found.
-#[derive(Clone, Copy, Debug, PartialEq, Eq)]
+#[derive(Clone, Copy)]
 pub enum Taken {
     /// The sender's value of this turn.
     Value(V4),

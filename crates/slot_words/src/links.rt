@@ -12,7 +12,7 @@ use send_row::source_of;
 use std::alloc::Global;
 
 /// A slot in which a port sends or receives, and the word of bank 0 of what is sent there.
-#[derive(Clone, Copy, Debug, PartialEq, Eq)]
+#[derive(Clone, Copy)]
 pub struct Link {
     pub slot: u32,
     pub word: u32,

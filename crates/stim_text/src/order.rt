@@ -3,7 +3,7 @@
 use seen_list::List;
 
 /// Steps of one port, one after another: `times` of them, 1 to 1,000,000.
-#[derive(Clone, Copy, Debug, PartialEq, Eq)]
+#[derive(Clone, Copy)]
 pub struct OrderLine {
     pub port: u32,
     pub times: u32,

@@ -3,7 +3,7 @@
 use seen_list::Memory;
 
 /// Why a stimulus text is refused. Lines are counted from 1.
-#[derive(Clone, Copy, Debug, PartialEq, Eq)]
+#[derive(Clone, Copy, PartialEq, Eq)]
 pub enum StimNo {
     /// A byte among the values of the line is neither a blank nor a value, which without inputs is
     /// the byte `-`.
@@ -31,7 +31,7 @@ impl From<Memory> for StimNo {
 }
 
 /// Why a text of lanes is refused. Lines are counted from 1, in the whole text.
-#[derive(Clone, Copy, Debug, PartialEq, Eq)]
+#[derive(Clone, Copy, PartialEq, Eq)]
 pub enum LaneNo {
     /// The line is not blank, and no lane has begun.
     NoLane { line: u32 },
@@ -56,7 +56,7 @@ impl From<Memory> for LaneNo {
 }
 
 /// Why an order text is refused. Lines are counted from 1.
-#[derive(Clone, Copy, Debug, PartialEq, Eq)]
+#[derive(Clone, Copy, PartialEq, Eq)]
 pub enum OrderNo {
     /// The line is neither blank, nor a number, nor a number, `*` and a number of 1 to 1,000,000.
     Syntax { line: u32 },

@@ -55,7 +55,7 @@ pub enum Output {
 }
 
 /// Where a run ended: the rows that are done, and those of a whole run.
-#[derive(Clone, Copy, Debug, PartialEq, Eq)]
+#[derive(Clone, Copy)]
 pub struct Ending {
     pub rows: u32,
     pub cycles: u32,

@@ -20,6 +20,10 @@ if_in_range quantity n = if in_range quantity n then Some n else None
 abbrev pub if_below : ℕ → ℕ → Option ℕ
 if_below count n = if nat_lt n count then Some n else None
 
+-- nothing is kept yet
+abbrev pub given_none : Given
+given_none = record { settings = []; functions = []; nodes = []; bits = [] }
+
 -- the ports that have their own limit
 abbrev pub ports_in : Given → Limited → List ℕ
 ports_in given Functions = given.functions

@@ -5,13 +5,13 @@ use Rattle.text_lines.specs.Lines.{parts_of}
 use Rattle.machine_text.specs.Settings.{lines_say}
 use Rattle.machine_text.proofs.SayingLemmas.{next_said, no_next_said, said_numbered}
 use Rattle.machine_text.proofs.GivenLemmas.{taken_none, taken_more, taken_fault, taken_all}
-use Rattle.machine_text.proofs.reading.read_lines.Goals as goal
+use Rattle.machine_text.proofs.reading.take_lines.Goals as goal
 
 pub loop-line-init : goal.loop-line-init
 loop-line-init c = record {
   within = omega arith;
   left = c.into_iter-line-iterator.ensures.into_iter_gives ∙ c.new-line-items.ensures ∙ said_numbered None 1 (parts_of c.args.bytes.now);
-  taken = rw c.new-given.ensures (taken_none (lines_say c.args.bytes.now));
+  taken = rw c.requires.begun (taken_none (lines_say c.args.bytes.now));
 }
 
 pub loop-line-preserved : goal.loop-line-preserved

@@ -2,7 +2,7 @@ use Rattle.std.proofs.Common.{◌≡◌, ◌+◌, ◌≤◌, length, drop}
 use Rattle.std.specs.List.{enumerate_from}
 use Rattle.machine_text.specs.Settings.{lines_say}
 use Rattle.machine_text.proofs.GivenLemmas.{HasTaken}
-use Rattle.machine_text.proofs.reading.read_lines.Given as goal
+use Rattle.machine_text.proofs.reading.take_lines.Given as goal
 
 abbrev pub invariant-loop-line : goal.invariant-loop-line
 invariant-loop-line l = record {
