@@ -77,7 +77,10 @@ fn exec_telling<'a, R: Threads + Wait + Sync, F: Files, O: Sink, G: Gate + Send>
     };
     let file = match image_in(alloc, files, image) {
         Ok(file) => file,
-        Err(no) => return Err(no),
+        Err(no) => {
+            drop(mapped);
+            return Err(no);
+        }
     };
     let built = match accepted(alloc, mapped, &timing, file) {
         Ok(built) => built,
@@ -85,7 +88,10 @@ fn exec_telling<'a, R: Threads + Wait + Sync, F: Files, O: Sink, G: Gate + Send>
     };
     let stimulus = match stimulus_in(alloc, files, words.stimulus.as_bytes(), &built.net) {
         Ok(stimulus) => stimulus,
-        Err(no) => return Err(no),
+        Err(no) => {
+            drop(built);
+            return Err(no);
+        }
     };
     match by_workers(rt, alloc, words, &timing, built, stimulus, out, gates) {
         Ok(written) => Ok(Output::Written(written)),

@@ -46,11 +46,17 @@ pub fn fault<'a, R: Threads + Sync, F: Files>(
     };
     match few_signals(&design.net) {
         Ok(()) => {}
-        Err(no) => return Err(no),
+        Err(no) => {
+            drop(design);
+            return Err(no);
+        }
     }
     let stimulus = match stimulus_in(alloc, files, words.stimulus.as_bytes(), &design.net) {
         Ok(stimulus) => stimulus,
-        Err(no) => return Err(no),
+        Err(no) => {
+            drop(design);
+            return Err(no);
+        }
     };
     match lines_of(rt, alloc, words, &timing, &design, &stimulus) {
         Ok(lines) => Ok(Output::Lines(lines)),

@@ -88,11 +88,17 @@ fn pack_telling<'a, R: Threads + Wait + Sync, F: Files, G: Gate + Send>(
     };
     match few_bits(&built.net) {
         Ok(()) => {}
-        Err(no) => return Err(no),
+        Err(no) => {
+            drop(built);
+            return Err(no);
+        }
     }
     let lanes = match lanes_in(alloc, files, words.stimulus.as_bytes(), &built.net) {
         Ok(lanes) => lanes,
-        Err(no) => return Err(no),
+        Err(no) => {
+            drop(built);
+            return Err(no);
+        }
     };
     pack_kept(rt, alloc, words, &machine, &timing, built, &lanes, gates)
 }

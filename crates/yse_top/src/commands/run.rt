@@ -86,7 +86,10 @@ fn run_telling<'a, R: Threads + Wait + Sync, F: Files, O: Sink, G: Gate + Send>(
     };
     let stimulus = match stimulus_in(alloc, files, words.stimulus.as_bytes(), &built.net) {
         Ok(stimulus) => stimulus,
-        Err(no) => return Err(no),
+        Err(no) => {
+            drop(built);
+            return Err(no);
+        }
     };
     finish(
         rt, alloc, files, words, pace, &machine, &timing, built, stimulus, out, gates,
