@@ -2,3 +2,4 @@ pub mod Drafts
 pub mod Files
 pub mod Ranges
 pub mod Reading
+pub mod code

@@ -1,11 +1,12 @@
 //! What a line adds to a text as far as it has been read.
 
-ghost use Rattle.std.specs.Prelude.{◌≡◌, ◌<◌, ◌^◌, true, IfOk, OnOk};
+ghost use Rattle.std.specs.Prelude.{◌≡◌, ◌<◌, ◌^◌, [], ◌∷◌, ◌++◌, true, IfOk, OnOk};
 ghost use Rattle.image_lines.specs.Forms.{is_within};
 ghost use Rattle.image_defs.specs.declared.image.Work.TheVariants as work;
 ghost use Rattle.image_lines.specs.declared.line.Line.TheVariants as line;
 ghost use Rattle.image_file.specs.declared.draft.Draft.TheVariants as draft;
 ghost use Rattle.image_file.specs.Drafts as drafts;
+ghost use Rattle.image_file.specs.code.Around.{around};
 
 use crate::draft::{Body, Draft, OpenPort};
 use crate::room::block_bits;
@@ -23,11 +24,20 @@ pub(crate) fn draft_with(alloc: Global, so_far: Draft, said: Line) -> Result<Dra
     ensures { IfOk result (λ after. after ≡ drafts.draft_with so_far said) }
 {
     match so_far {
-        Draft::Blank => Ok(titled(&said)),
-        Draft::Titled => Ok(sized(&said)),
-        Draft::Sized(sizes) => Ok(first_port(alloc, sizes, &said)),
         Draft::Within(body) => body_with(alloc, body, said),
-        Draft::Ended(file) => Ok(Draft::Ended(file)),
+        other => Ok(around(alloc, other, &said)),
+    }
+}
+
+/// The text so far with a line more, where no port's lines are being read.
+fn around(alloc: Global, so_far: Draft, said: &Line) -> Draft
+    ensures { result ≡ around so_far said.now }
+{
+    match so_far {
+        Draft::Blank => titled(said),
+        Draft::Titled => sized(said),
+        Draft::Sized(sizes) => first_port(alloc, sizes, said),
+        other => other,
     }
 }
 
@@ -127,13 +137,7 @@ fn next_port(alloc: Global, body: Body, kind: PortKind) -> Result<Draft, Memory>
         mut claims,
         current,
     } = body;
-    let OpenPort {
-        port,
-        items,
-        bits: _,
-    } = current;
-    ports.push(port)?;
-    claims.push(PortClaims { items })?;
+    push_port(&mut ports, &mut claims, current)?;
     Ok(Draft::Within(Body {
         sizes,
         ports,
@@ -151,13 +155,7 @@ fn ended(body: Body) -> Result<Draft, Memory>
         mut claims,
         current,
     } = body;
-    let OpenPort {
-        port,
-        items,
-        bits: _,
-    } = current;
-    ports.push(port)?;
-    claims.push(PortClaims { items })?;
+    push_port(&mut ports, &mut claims, current)?;
     Ok(Draft::Ended(ImageFile {
         image: Image {
             slots: sizes.slots,
@@ -170,40 +168,62 @@ fn ended(body: Body) -> Result<Draft, Memory>
     }))
 }
 
-fn same_port(body: Body, said: Line) -> Result<Draft, Memory>
+/// Adds a port that has been read, and its claims.
+fn push_port(
+    ports: &mut List<PortImage>,
+    claims: &mut List<PortClaims>,
+    read: OpenPort,
+) -> Result<(), Memory>
+    ensures ports { OnOk result (ports.new ≡ ports.old ++ read.port ∷ []) }
+    ensures claims { OnOk result (claims.new ≡ claims.old ++ record { items = read.items } ∷ []) }
+{
+    let OpenPort {
+        port,
+        items,
+        bits: _,
+    } = read;
+    match ports.push(port) {
+        Ok(()) => claims.push(PortClaims { items }),
+        Err(no) => Err(no),
+    }
+}
+
+fn same_port(mut body: Body, said: Line) -> Result<Draft, Memory>
     requires within { is_within said ≡ true }
     requires small { drafts.bits_with body.current.bits said < 2 ^ 64 }
     ensures { IfOk result (λ after. after ≡ draft.Within (record body { current = drafts.open_with body.current said })) }
 {
-    let Body {
-        sizes,
-        ports,
-        claims,
-        current,
-    } = body;
-    let current = open_with(current, said)?;
-    Ok(Draft::Within(Body {
-        sizes,
-        ports,
-        claims,
-        current,
-    }))
+    match add_line(&mut body, said) {
+        Ok(()) => Ok(Draft::Within(body)),
+        Err(no) => {
+            drop(body);
+            Err(no)
+        }
+    }
 }
 
-fn open_with(so_far: OpenPort, said: Line) -> Result<OpenPort, Memory>
+/// Adds a line to the port that is being read.
+fn add_line(body: &mut Body, said: Line) -> Result<(), Memory>
     requires within { is_within said ≡ true }
-    requires small { drafts.bits_with so_far.bits said < 2 ^ 64 }
-    ensures { IfOk result (λ after. after ≡ drafts.open_with so_far said) }
+    requires small { drafts.bits_with body.old.current.bits said < 2 ^ 64 }
+    ensures { OnOk result (body.new ≡ record body.old { current = drafts.open_with body.old.current said }) }
 {
-    let OpenPort {
-        port,
-        mut items,
-        bits,
-    } = so_far;
-    let bits = bits_with(bits, &said);
-    push_item(&mut items, &said)?;
-    let port = port_with(port, said)?;
-    Ok(OpenPort { port, items, bits })
+    open_with(&mut body.current, said)
+}
+
+fn open_with(so_far: &mut OpenPort, said: Line) -> Result<(), Memory>
+    requires within { is_within said ≡ true }
+    requires small { drafts.bits_with so_far.old.bits said < 2 ^ 64 }
+    ensures { OnOk result (so_far.new ≡ drafts.open_with so_far.old said) }
+{
+    so_far.bits = bits_with(so_far.bits, &said);
+    match push_item(&mut so_far.items, &said) {
+        Ok(()) => port_with(&mut so_far.port, said),
+        Err(no) => {
+            drop(said);
+            Err(no)
+        }
+    }
 }
 
 fn bits_with(bits: u64, said: &Line) -> u64
@@ -229,32 +249,18 @@ fn push_item(items: &mut List<u32>, said: &Line) -> Result<(), Memory>
     }
 }
 
-fn port_with(port: PortImage, said: Line) -> Result<PortImage, Memory>
-    ensures { IfOk result (λ after. after ≡ drafts.port_with port said) }
+fn port_with(port: &mut PortImage, said: Line) -> Result<(), Memory>
+    ensures { OnOk result (port.new ≡ drafts.port_with port.old said) }
 {
-    let PortImage {
-        work,
-        mut outs,
-        mut ins,
-    } = port;
     match said {
-        Line::Send(link) => {
-            outs.push(link)?;
-            Ok(PortImage { work, outs, ins })
-        }
-        Line::Take(link) => {
-            ins.push(link)?;
-            Ok(PortImage { work, outs, ins })
-        }
-        other => {
-            let work = work_with(work, other)?;
-            Ok(PortImage { work, outs, ins })
-        }
+        Line::Send(link) => port.outs.push(link),
+        Line::Take(link) => port.ins.push(link),
+        other => work_with(&mut port.work, other),
     }
 }
 
-fn work_with(work: Work, said: Line) -> Result<Work, Memory>
-    ensures { IfOk result (λ after. after ≡ drafts.work_with work said) }
+fn work_with(work: &mut Work, said: Line) -> Result<(), Memory>
+    ensures { OnOk result (work.new ≡ drafts.work_with work.old said) }
 {
     match work {
         Work::Logic { tables, tasks } => logic_with(tables, tasks, said),
@@ -263,58 +269,40 @@ fn work_with(work: Work, said: Line) -> Result<Work, Memory>
     }
 }
 
-fn logic_with(mut tables: List<Table>, mut tasks: List<Task>, said: Line) -> Result<Work, Memory>
-    ensures { IfOk result (λ after. after ≡ drafts.work_with (work.Logic tables tasks) said) }
+fn logic_with(tables: &mut List<Table>, tasks: &mut List<Task>, said: Line) -> Result<(), Memory>
+    ensures { OnOk result (work.Logic tables.new tasks.new ≡ drafts.work_with (work.Logic tables.old tasks.old) said) }
 {
     match said {
-        Line::Table(table) => {
-            tables.push(table)?;
-            Ok(Work::Logic { tables, tasks })
-        }
-        Line::Work { task, item: _ } => {
-            tasks.push(task)?;
-            Ok(Work::Logic { tables, tasks })
-        }
-        _ => Ok(Work::Logic { tables, tasks }),
+        Line::Table(table) => tables.push(table),
+        Line::Work { task, item: _ } => tasks.push(task),
+        _ => Ok(()),
     }
 }
 
 fn array_with(
-    mut blocks: List<BlockWork>,
-    mut outs: List<OutBit>,
+    blocks: &mut List<BlockWork>,
+    outs: &mut List<OutBit>,
     said: Line,
-) -> Result<Work, Memory>
-    ensures { IfOk result (λ after. after ≡ drafts.work_with (work.Array blocks outs) said) }
+) -> Result<(), Memory>
+    ensures { OnOk result (work.Array blocks.new outs.new ≡ drafts.work_with (work.Array blocks.old outs.old) said) }
 {
     match said {
-        Line::Block(block) => {
-            blocks.push(block)?;
-            Ok(Work::Array { blocks, outs })
-        }
-        Line::Bit { bit, item: _ } => {
-            outs.push(bit)?;
-            Ok(Work::Array { blocks, outs })
-        }
-        _ => Ok(Work::Array { blocks, outs }),
+        Line::Block(block) => blocks.push(block),
+        Line::Bit { bit, item: _ } => outs.push(bit),
+        _ => Ok(()),
     }
 }
 
 fn host_with(
-    mut inputs: List<InColumn>,
-    mut printed: List<Source>,
+    inputs: &mut List<InColumn>,
+    printed: &mut List<Source>,
     said: Line,
-) -> Result<Work, Memory>
-    ensures { IfOk result (λ after. after ≡ drafts.work_with (work.Host inputs printed) said) }
+) -> Result<(), Memory>
+    ensures { OnOk result (work.Host inputs.new printed.new ≡ drafts.work_with (work.Host inputs.old printed.old) said) }
 {
     match said {
-        Line::Input { input, item: _ } => {
-            inputs.push(input)?;
-            Ok(Work::Host { inputs, printed })
-        }
-        Line::Print(source) => {
-            printed.push(source)?;
-            Ok(Work::Host { inputs, printed })
-        }
-        _ => Ok(Work::Host { inputs, printed }),
+        Line::Input { input, item: _ } => inputs.push(input),
+        Line::Print(source) => printed.push(source),
+        _ => Ok(()),
     }
 }

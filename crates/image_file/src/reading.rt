@@ -1,6 +1,6 @@
 //! The reader of image texts.
 
-ghost use Rattle.std.specs.Prelude.{◌≡◌, ◌≤◌, true, None, MatchResult, length};
+ghost use Rattle.std.specs.Prelude.{◌≡◌, ◌≤◌, ◌⊎◌, true, None, Ok, Err, IfOk, MatchResult, length};
 ghost use Rattle.limits.specs.declared.TheConstants.{MAX_TEXT_BYTES};
 ghost use Rattle.std.specs.Option.{option_map};
 ghost use Rattle.text_lines.specs.Answers.{Answers, AnswersAs};
@@ -9,6 +9,7 @@ ghost use Rattle.image_check.specs.declared.file.ImageFile.{ImageFile as File};
 ghost use Rattle.image_lines.specs.Forms.{is_within, line_read};
 ghost use Rattle.image_file.specs.declared.refusal.ImageNo.TheVariants.{Memory as NoMemory};
 ghost use Rattle.image_file.specs.declared.draft.Draft.TheVariants as draft;
+ghost use Rattle.image_file.specs.Drafts.{draft_with, has_room};
 ghost use Rattle.image_file.specs.Ranges.{Reads};
 ghost use Rattle.image_file.specs.Reading.{first_fault, file_read, after_line, followed, at_end};
 
@@ -66,29 +67,62 @@ fn first_line(text: &[u8]) -> Option<(&[u8], &[u8])>
 fn follow(alloc: Global, number: u32, draft: Draft, bytes: &[u8]) -> Result<Draft, ImageNo>
     ensures { AnswersAs NoMemory result (after_line number draft (line_read bytes.now)) }
 {
+    match line_behind(alloc, number, &draft, bytes) {
+        Ok(line) => longer(alloc, draft, line),
+        Err(no) => {
+            drop(draft);
+            Err(no)
+        }
+    }
+}
+
+/// What the line of this number says, if it may follow the text so far.
+fn line_behind(alloc: Global, number: u32, draft: &Draft, bytes: &[u8]) -> Result<Line, ImageNo>
+    ensures within { IfOk result (λ said. is_within said ≡ true) }
+    ensures room { IfOk result (λ said. has_room draft.now said ≡ true) }
+    ensures answers { MatchResult result
+        (λ said. after_line number draft.now (line_read bytes.now) ≡ Ok (draft_with draft.now said))
+        (λ e. (e ≡ NoMemory) ⊎ (after_line number draft.now (line_read bytes.now) ≡ Err e)) }
+{
     match read_line(alloc, bytes) {
-        Ok((line, within)) => placed(alloc, number, draft, line, within),
+        Ok((line, within)) => {
+            match may_follow(number, draft, &line, within) {
+                Ok(()) => Ok(line),
+                Err(no) => {
+                    drop(line);
+                    Err(no)
+                }
+            }
+        }
         Err(LineNo::Syntax) => Err(ImageNo::Syntax { line: number }),
         Err(LineNo::Memory) => Err(ImageNo::Memory),
     }
 }
 
-fn placed(
-    alloc: Global,
-    number: u32,
-    draft: Draft,
-    line: Line,
-    within: bool,
-) -> Result<Draft, ImageNo>
-    requires { within ≡ true → is_within line ≡ true }
-    ensures { AnswersAs NoMemory result (followed number draft line within) }
+/// Whether the line of this number may follow the text so far, or why not.
+fn may_follow(number: u32, draft: &Draft, line: &Line, within: bool) -> Result<(), ImageNo>
+    requires { within ≡ true → is_within line.now ≡ true }
+    ensures within { IfOk result (λ _. within ≡ true) }
+    ensures room { IfOk result (λ _. has_room draft.now line.now ≡ true) }
+    ensures answers { MatchResult result
+        (λ _. followed number draft.now line.now within ≡ Ok (draft_with draft.now line.now))
+        (λ e. followed number draft.now line.now within ≡ Err e) }
 {
-    if !may_stand(&draft, &line) {
+    if !may_stand(draft, line) {
         return Err(ImageNo::Syntax { line: number });
     }
-    if !within || !has_room(&draft, &line) {
+    if !within || !has_room(draft, line) {
         return Err(ImageNo::Range { line: number });
     }
+    Ok(())
+}
+
+/// The text so far with a line that may follow it.
+fn longer(alloc: Global, draft: Draft, line: Line) -> Result<Draft, ImageNo>
+    requires within { is_within line ≡ true }
+    requires room { has_room draft line ≡ true }
+    ensures { MatchResult result (λ after. after ≡ draft_with draft line) (λ e. e ≡ NoMemory) }
+{
     match draft_with(alloc, draft, line) {
         Ok(longer) => Ok(longer),
         Err(_memory) => Err(ImageNo::Memory),
@@ -101,7 +135,10 @@ fn finished(number: u32, draft: Draft, rest: &[u8]) -> Result<ImageFile, ImageNo
 {
     match draft {
         Draft::Ended(file) => ended(number, file, rest),
-        _ => Err(ImageNo::Syntax { line: number }),
+        other => {
+            drop(other);
+            Err(ImageNo::Syntax { line: number })
+        }
     }
 }
 
