@@ -37,9 +37,13 @@ line_by old first end words =
     ∙ append_assoc old (join_with_byte 32 (first ∷ words)) end
 
 -- the tokens of a list, written in a row
+row : {X : Type 0} (word : X → List ℕ) (text : List ℕ) (xs : List X)
+    → text ++ flat_map (λ x. spaced (word x)) xs ≡ fold (λ t w. t ++ spaced w) text (map word xs)
+row word text xs = ap (λ t. text ++ t) (sym (spaced_map word xs)) ∙ sym (along text (map word xs))
+
 in_row : {X : Type 0} (word : X → List ℕ) (text end : List ℕ) (xs : List X)
     → text ++ flat_map (λ x. spaced (word x)) xs ++ end ≡ fold (λ t w. t ++ spaced w) text (map word xs) ++ end
-in_row word text end xs = ap (λ t. t ++ end) (ap (λ t. text ++ t) (sym (spaced_map word xs)) ∙ sym (along text (map word xs)))
+in_row word text end xs = ap (λ t. t ++ end) (row word text xs)
 
 pub table_text : (old : List ℕ) (table : Table)
     → old ++ codes "table" ++ flat_map (λ word. spaced (hex_digits 16 word)) table.words ++ codes "\n" ≡ old ++ line_text (line.Table table)
@@ -84,12 +88,14 @@ head_text old slots units init columns ports =
     (decimal slots ∷ codes "units" ∷ decimal units ∷ codes "init" ∷ init_word init ∷ codes "columns" ∷ decimal columns ∷ codes "ports" ∷ decimal ports ∷ [])
 
 pub eval_text : (old : List ℕ) (slot table : ℕ) (a b c d : Source) (item : ℕ)
-    → old ++ codes "eval" ++ spaced (decimal slot) ++ spaced (decimal table) ++ spaced (source_word a) ++ spaced (source_word b) ++ spaced (source_word c) ++ spaced (source_word d)
+    → old ++ codes "eval" ++ flat_map (λ n. spaced (decimal n)) (slot ∷ table ∷ []) ++ flat_map (λ source. spaced (source_word source)) (a ∷ b ∷ c ∷ d ∷ [])
     ++ spaced (decimal item) ++ codes "\n"
     ≡ old ++ line_text (line.Work (Eval slot table a b c d) item)
 unfolding line_bytes line_words
 eval_text old slot table a b c d item =
-    line_by old (codes "eval") (codes "\n") (decimal slot ∷ decimal table ∷ source_word a ∷ source_word b ∷ source_word c ∷ source_word d ∷ decimal item ∷ [])
+    ap (λ t. t ++ flat_map (λ source. spaced (source_word source)) (a ∷ b ∷ c ∷ d ∷ []) ++ spaced (decimal item) ++ codes "\n") (row decimal (old ++ codes "eval") (slot ∷ table ∷ []))
+    ∙ ap (λ t. t ++ spaced (decimal item) ++ codes "\n") (row source_word (old ++ codes "eval" ++ spaced (decimal slot) ++ spaced (decimal table)) (a ∷ b ∷ c ∷ d ∷ []))
+    ∙ line_by old (codes "eval") (codes "\n") (decimal slot ∷ decimal table ∷ source_word a ∷ source_word b ∷ source_word c ∷ source_word d ∷ decimal item ∷ [])
 
 pub hold_text : (old : List ℕ) (slot : ℕ) (from : Source) (item : ℕ)
     → old ++ codes "hold" ++ spaced (decimal slot) ++ spaced (source_word from) ++ spaced (decimal item) ++ codes "\n" ≡ old ++ line_text (line.Work (Hold slot from) item)

@@ -8,6 +8,7 @@ ghost use Rattle.image_lines.specs.Forms.{number, numbers, sources, feeds, times
 
 use crate::line::PortKind;
 use crate::tokens;
+use crate::word::is_word;
 use image_defs::Source;
 use net_defs::Init;
 use std::marker::Model;
@@ -144,7 +145,7 @@ impl<'a> Fields<'a> {
         let Some(token) = self.next() else {
             return None;
         };
-        if token == b"init".as_slice() {
+        if is_word(token, b"init") {
             self.init_field()
         } else {
             None

@@ -12,7 +12,7 @@ ghost use Rattle.image_lines.specs.declared.line.Line.TheVariants as line;
 use crate::fields::Fields;
 use crate::line::{Line, LineNo, Sizes};
 use crate::lists::{block, send, table};
-use crate::word::{Word, named};
+use crate::word::{Word, is_word, named};
 use image_defs::{BlockWork, InColumn, LinkIn, OutBit, Task};
 use limits::{MAX_ADDRESS_BITS, MAX_PORTS, MAX_SIGNALS, MAX_SLOTS, MAX_UNITS, MAX_WORD_BITS};
 use seen_list::Memory;
@@ -40,6 +40,7 @@ fn finished(line: Line, mut fields: Fields) -> Result<(Line, bool), LineNo>
 {
     let large = fields.is_large();
     if fields.next().is_some() {
+        drop(line);
         return Err(LineNo::Syntax);
     }
     let within = !large && is_within(&line);
@@ -138,7 +139,7 @@ fn version(fields: &mut Fields) -> Option<Line>
     let Some(token) = fields.next() else {
         return None;
     };
-    if token == b"1".as_slice() {
+    if is_word(token, b"1") {
         Some(Line::Version)
     } else {
         None

@@ -20,6 +20,7 @@ pub(crate) fn all_numbers(alloc: Global, fields: &mut Fields) -> Result<Option<L
     let mut values = List::new(alloc);
     'tokens: while let Some(token) = fields.next() {
         let Some((value, large)) = tokens::number_token(token) else {
+            drop(values);
             return Ok(None);
         };
         fields.note(large);
@@ -38,6 +39,7 @@ pub(crate) fn all_sources(
     let mut values = List::new(alloc);
     'tokens: while let Some(token) = fields.next() {
         let Some((value, large)) = tokens::source_token(token) else {
+            drop(values);
             return Ok(None);
         };
         fields.note(large);
@@ -53,6 +55,7 @@ pub(crate) fn all_words(alloc: Global, fields: &mut Fields) -> Result<Option<Lis
     let mut values = List::new(alloc);
     'tokens: while let Some(token) = fields.next() {
         let Some((value, large)) = tokens::hex_token(token) else {
+            drop(values);
             return Ok(None);
         };
         fields.note(large);

@@ -6,6 +6,7 @@ ghost use Rattle.std.specs.Option.{option_map};
 ghost use Rattle.image_lines.specs.Tokens.{plain_number, number_token, source_token, lettered, value_letter, init_token, kind_token, hex_token, is_hex, hex_value, hex_value_of};
 
 use crate::line::PortKind;
+use crate::word::is_word;
 use image_defs::Source;
 use logic_four::V4;
 use net_defs::Init;
@@ -85,9 +86,9 @@ fn value_letter(letters: &[u8]) -> Option<V4>
 pub(crate) fn init_token(token: &[u8]) -> Option<(Init, bool)>
     ensures { result ≡ init_token token.now }
 {
-    if token == b"x".as_slice() {
+    if is_word(token, b"x") {
         Some((Init::Undef, false))
-    } else if token == b"0".as_slice() {
+    } else if is_word(token, b"0") {
         Some((Init::Zero, false))
     } else {
         None
@@ -99,11 +100,11 @@ pub(crate) fn init_token(token: &[u8]) -> Option<(Init, bool)>
 pub(crate) fn kind_token(token: &[u8]) -> Option<(PortKind, bool)>
     ensures { result ≡ kind_token token.now }
 {
-    if token == b"logic".as_slice() {
+    if is_word(token, b"logic") {
         Some((PortKind::Logic, false))
-    } else if token == b"array".as_slice() {
+    } else if is_word(token, b"array") {
         Some((PortKind::Array, false))
-    } else if token == b"host".as_slice() {
+    } else if is_word(token, b"host") {
         Some((PortKind::Host, false))
     } else {
         None

@@ -1,6 +1,6 @@
 //! The first tokens of lines.
 
-ghost use Rattle.std.specs.Prelude.{◌≡◌};
+ghost use Rattle.std.specs.Prelude.{◌≡◌, bytes_eq};
 ghost use Rattle.image_lines.specs.Forms.{named};
 
 /// What the first token of a line says that the line is.
@@ -26,33 +26,40 @@ pub(crate) enum Word {
 pub(crate) fn named(token: &[u8]) -> Option<Word>
     ensures { result ≡ named token.now }
 {
-    if token == b"eval".as_slice() {
+    if is_word(token, b"eval") {
         Some(Word::Eval)
-    } else if token == b"take".as_slice() {
+    } else if is_word(token, b"take") {
         Some(Word::Take)
-    } else if token == b"send".as_slice() {
+    } else if is_word(token, b"send") {
         Some(Word::Send)
-    } else if token == b"hold".as_slice() {
+    } else if is_word(token, b"hold") {
         Some(Word::Hold)
-    } else if token == b"out".as_slice() {
+    } else if is_word(token, b"out") {
         Some(Word::Out)
-    } else if token == b"in".as_slice() {
+    } else if is_word(token, b"in") {
         Some(Word::In)
-    } else if token == b"print".as_slice() {
+    } else if is_word(token, b"print") {
         Some(Word::Print)
-    } else if token == b"table".as_slice() {
+    } else if is_word(token, b"table") {
         Some(Word::Table)
-    } else if token == b"block".as_slice() {
+    } else if is_word(token, b"block") {
         Some(Word::Block)
-    } else if token == b"port".as_slice() {
+    } else if is_word(token, b"port") {
         Some(Word::Port)
-    } else if token == b"yse-image".as_slice() {
+    } else if is_word(token, b"yse-image") {
         Some(Word::Version)
-    } else if token == b"slots".as_slice() {
+    } else if is_word(token, b"slots") {
         Some(Word::Slots)
-    } else if token == b"end".as_slice() {
+    } else if is_word(token, b"end") {
         Some(Word::End)
     } else {
         None
     }
+}
+
+/// Whether the token is the word.
+pub(crate) fn is_word(token: &[u8], word: &[u8]) -> bool
+    ensures { result ≡ bytes_eq token.now word.now }
+{
+    token == word
 }

@@ -10,7 +10,7 @@ use crate::line::PortKind;
 use func_table::Table;
 use image_defs::{BlockWork, InColumn, LinkIn, LinkOut, OutBit, Source, Task};
 use itoa::Buffer;
-use logic_four::V4;
+use logic_four::to_char;
 use net_defs::Init;
 use seen_list::{Memory, Text};
 
@@ -30,23 +30,19 @@ fn push_source(text: &mut Text, source: &Source) -> Result<(), Memory>
     ensures { OnOk result (text.new ≡ text.old ++ spaced (source_word source.now)) }
 {
     match source {
-        Source::Own { slot, last: false } => push_place(text, b" o", *slot),
-        Source::Own { slot, last: true } => push_place(text, b" O", *slot),
-        Source::Got { slot, last: false } => push_place(text, b" g", *slot),
-        Source::Got { slot, last: true } => push_place(text, b" G", *slot),
-        Source::Const(V4::Zero) => text.push_bytes(b" c0"),
-        Source::Const(V4::One) => text.push_bytes(b" c1"),
-        Source::Const(V4::Undef) => text.push_bytes(b" cx"),
-        Source::Const(V4::HighZ) => text.push_bytes(b" cz"),
+        Source::Own { slot, last } => push_place(text, if *last { b'O' } else { b'o' }, *slot),
+        Source::Got { slot, last } => push_place(text, if *last { b'G' } else { b'g' }, *slot),
+        Source::Const(value) => text.push_bytes(&[b' ', b'c', to_char(*value)]),
     }
 }
 
-/// Adds a mark and a slot.
-fn push_place(text: &mut Text, mark: &[u8], slot: u32) -> Result<(), Memory>
-    ensures { OnOk result (text.new ≡ text.old ++ mark.now ++ decimal slot) }
+/// Adds a space, a mark and a slot.
+#[tactic(auto, unfolding(crate::specs::code::Words::spaced))]
+fn push_place(text: &mut Text, mark: u8, slot: u32) -> Result<(), Memory>
+    ensures { OnOk result (text.new ≡ text.old ++ spaced (mark ∷ decimal slot)) }
 {
     let mut buffer = Buffer::new();
-    text.push_bytes(mark)?;
+    text.push_bytes(&[b' ', mark])?;
     text.push_bytes(buffer.format(slot).as_bytes())
 }
 
@@ -190,12 +186,8 @@ pub fn push_task(text: &mut Text, task: &Task, item: u32) -> Result<(), Memory>
             d,
         } => {
             text.push_bytes(b"eval")?;
-            push_number(text, *slot)?;
-            push_number(text, *table)?;
-            push_source(text, a)?;
-            push_source(text, b)?;
-            push_source(text, c)?;
-            push_source(text, d)?;
+            push_numbers(text, &[*slot, *table])?;
+            push_sources(text, &[*a, *b, *c, *d])?;
             push_item(text, item)
         }
         Task::Hold { slot, from } => {
@@ -215,17 +207,21 @@ fn push_item(text: &mut Text, item: u32) -> Result<(), Memory>
     text.push_bytes(b"\n")
 }
 
+/// Adds a line of a word and numbers.
+fn push_row(text: &mut Text, word: &[u8], numbers: &[u32]) -> Result<(), Memory>
+    ensures { OnOk result (text.new ≡ text.old ++ word.now ++ flat_map (λ n. spaced (decimal n)) numbers.now ++ codes "\n") }
+{
+    text.push_bytes(word)?;
+    push_numbers(text, numbers)?;
+    text.push_bytes(b"\n")
+}
+
 /// Adds the line of an output bit, and of the item that it claims.
 #[tactic(auto, unfolding(crate::specs::Words::line_bytes, crate::specs::Words::line_words, crate::specs::code::Words::spaced))]
 pub fn push_bit(text: &mut Text, bit: &OutBit, item: u32) -> Result<(), Memory>
     ensures { OnOk result (text.new ≡ text.old ++ line_text (line.Bit bit.now item)) }
 {
-    text.push_bytes(b"out")?;
-    push_number(text, bit.slot)?;
-    push_number(text, bit.block)?;
-    push_number(text, bit.bit)?;
-    push_number(text, item)?;
-    text.push_bytes(b"\n")
+    push_row(text, b"out", &[bit.slot, bit.block, bit.bit, item])
 }
 
 /// Adds the line of an input, and of the item that it claims.
@@ -233,11 +229,7 @@ pub fn push_bit(text: &mut Text, bit: &OutBit, item: u32) -> Result<(), Memory>
 pub fn push_input(text: &mut Text, input: &InColumn, item: u32) -> Result<(), Memory>
     ensures { OnOk result (text.new ≡ text.old ++ line_text (line.Input input.now item)) }
 {
-    text.push_bytes(b"in")?;
-    push_number(text, input.slot)?;
-    push_number(text, input.column)?;
-    push_number(text, item)?;
-    text.push_bytes(b"\n")
+    push_row(text, b"in", &[input.slot, input.column, item])
 }
 
 /// Adds the line of a printed source.
@@ -298,10 +290,7 @@ fn push_numbers(text: &mut Text, numbers: &[u32]) -> Result<(), Memory>
 pub fn push_take(text: &mut Text, link: &LinkIn) -> Result<(), Memory>
     ensures { OnOk result (text.new ≡ text.old ++ line_text (line.Take link.now)) }
 {
-    text.push_bytes(b"take")?;
-    push_number(text, link.slot)?;
-    push_number(text, link.sender)?;
-    text.push_bytes(b"\n")
+    push_row(text, b"take", &[link.slot, link.sender])
 }
 
 /// Adds the last line of a text.
