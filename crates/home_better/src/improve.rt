@@ -1,13 +1,13 @@
 //! Better homes, and the crossings before and after.
 
-ghost use Rattle.std.specs.Prelude.{◌≡◌, ◌≤◌, ◌<◌, ℕ, IfOk, length};
+ghost use Rattle.std.specs.Prelude.{◌≡◌, ◌≤◌, ◌<◌, ℕ, IfOk, OnOk, length};
 ghost use Rattle.std.specs.List.{sum_by};
 ghost use Rattle.node_defs.specs.WellFormed.{IsWellFormed};
 ghost use Rattle.plan_defs.specs.Homes.{AreHomes, home_of};
 ghost use Rattle.home_better.specs.Better.{bound_of as bound_from, IsBetter, IsFilled, IsWithin, KeepsOthers, NoneLowers};
 ghost use Rattle.home_better.specs.Crossings.{crossings, readers_at};
 ghost use Rattle.home_better.specs.code.Uses.{AreTakes, AreUses};
-ghost use Rattle.home_better.specs.code.Work.{away_by};
+ghost use Rattle.home_better.specs.code.Work.{away_by, AreLoads};
 ghost use Rattle.home_better.specs.code.Working.{IsWork};
 
 use crate::bags::Entry;
@@ -61,14 +61,36 @@ pub fn better(
     let takes = takes_of(alloc, nodes)?;
     let mut work = begin(alloc, nodes, homes, &takes)?;
     let before = work.count;
-    let bound = bound_of(nodes, homes, work.loads.as_slice());
-    let most = most_each(alloc, machine, bound, homes.logic)?;
-    settle_all(&mut work, nodes, machine, &takes, bound, most.as_slice())?;
-    Ok(Improved {
-        homes: work.homes,
-        before,
-        after: work.count,
-    })
+    let settled = settle_within(alloc, &mut work, nodes, machine, &takes);
+    let after = work.count;
+    let moved = work.into_homes();
+    match settled {
+        Ok(()) => Ok(Improved {
+            homes: moved,
+            before,
+            after,
+        }),
+        Err(no) => Err(no),
+    }
+}
+
+/// Passes until one moves nothing, where no port is filled past the bound of the homes at the start.
+fn settle_within(
+    alloc: Global,
+    work: &mut Work,
+    nodes: &NodeNet,
+    machine: &Machine,
+    takes: &List<List<Entry>>,
+) -> Result<(), Memory>
+    requires nodes { IsWellFormed nodes.now }
+    requires work { IsWork nodes.now work.old }
+    requires takes { AreTakes nodes.now takes.now }
+    ensures work { OnOk result (IsWork nodes.now work.new) }
+    ensures better { OnOk result (IsBetter nodes.now machine.now work.old.homes work.new.homes) }
+{
+    let bound = bound_of(nodes, &work.homes, work.loads.as_slice());
+    let most = most_each(alloc, machine, bound, work.homes.logic)?;
+    settle_all(work, nodes, machine, takes, bound, most.as_slice())
 }
 
 /// The homes that are given, and what is counted of them.
@@ -84,15 +106,34 @@ fn begin(
     ensures work { IfOk result (IsWork nodes.now) }
     ensures homes { IfOk result (λ work. work.homes ≡ homes.now) }
 {
-    let copied = copy_of(homes)?;
     let uses = uses_of(alloc, nodes, homes, takes)?;
+    let count = count_crossings(nodes, homes, &uses);
+    let copied = copy_of(homes)?;
     let loads = loads_of(alloc, nodes, homes)?;
+    with_room(alloc, nodes, copied, uses, loads, count)
+}
+
+/// Homes and what is counted of them, with room for what pulls nodes.
+fn with_room(
+    alloc: Global,
+    nodes: &NodeNet,
+    homes: Homes,
+    uses: List<List<Entry>>,
+    loads: List<u32>,
+    count: u64,
+) -> Result<Work, Memory>
+    requires homes { AreHomes nodes.now homes }
+    requires uses { AreUses nodes.now homes uses }
+    requires loads { AreLoads nodes.now homes loads }
+    requires count { count ≡ crossings nodes.now homes }
+    ensures work { IfOk result (IsWork nodes.now) }
+    ensures homes { IfOk result (λ work. work.homes ≡ homes) }
+{
     let spread = List::filled(alloc, false, nodes.items.len())?;
     let at = List::filled(alloc, 0, homes.logic as usize)?;
     let touched = List::new(alloc);
-    let count = count_crossings(nodes, homes, &uses);
     Ok(Work {
-        homes: copied,
+        homes,
         uses,
         loads,
         spread,

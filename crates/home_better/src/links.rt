@@ -7,7 +7,7 @@ ghost use Rattle.plan_defs.specs.Homes.{AreHomes, block_home, home_of};
 ghost use Rattle.home_better.specs.Bags.{where_at};
 ghost use Rattle.home_better.specs.code.Bags.{times, IsBag};
 ghost use Rattle.home_better.specs.Crossings.{block_uses, feed_uses, item_uses, memory_uses, uses_by};
-ghost use Rattle.home_better.specs.code.Uses.{AreBags, AreTakes, AreUses, Gives, IsTaken};
+ghost use Rattle.home_better.specs.code.Uses.{bag_at, AreBags, AreTakes, AreUses, Gives, IsTaken};
 
 use crate::bags::{Entry, give};
 use crate::uses::{empty_bags, give_all, give_bag, places_of};
@@ -83,16 +83,46 @@ pub(crate) fn uses_of(
     requires takes { AreTakes nodes.now takes.now }
     ensures { IfOk result (AreUses nodes.now homes.now) }
 {
+    let mut uses = begin_uses(alloc, homes, takes)?;
+    match add_all(&mut uses, nodes, homes, takes) {
+        Ok(()) => Ok(uses),
+        Err(no) => Err(no),
+    }
+}
+
+/// A bag for each item, in which no port stands.
+fn begin_uses(
+    alloc: Global,
+    homes: &Homes,
+    takes: &List<List<Entry>>,
+) -> Result<List<List<Entry>>, Memory>
+    ensures size { IfOk result (λ bags. length bags ≡ length takes.now) }
+    ensures bags { IfOk result AreBags }
+    ensures none { IfOk result (λ bags. (i q : ℕ) → times (bag_at bags i) q ≡ 0) }
+{
     let places = places_of(alloc, takes)?;
-    let mut uses = empty_bags(alloc, places.as_slice(), homes.logic)?;
-    add_items(&mut uses, nodes, homes, takes)?;
-    add_blocks(&mut uses, nodes, homes)?;
-    give_all(
-        &mut uses,
-        nodes.printed.as_slice(),
-        homes.logic + homes.array,
-    )?;
-    Ok(uses)
+    empty_bags(alloc, places.as_slice(), homes.logic)
+}
+
+/// Adds the uses by items, memories and the host to bags in which no port stands.
+fn add_all(
+    uses: &mut List<List<Entry>>,
+    nodes: &NodeNet,
+    homes: &Homes,
+    takes: &List<List<Entry>>,
+) -> Result<(), Memory>
+    requires nodes { IsWellFormed nodes.now }
+    requires homes { AreHomes nodes.now homes.now }
+    requires takes { AreTakes nodes.now takes.now }
+    requires size { length uses.old ≡ length nodes.now.items }
+    requires bags { AreBags uses.old }
+    requires none { (i q : ℕ) → times (bag_at uses.old i) q ≡ 0 }
+    ensures { OnOk result (AreUses nodes.now homes.now uses.new) }
+{
+    add_items(uses, nodes, homes, takes)?;
+    add_blocks(uses, nodes, homes)?;
+    give_all(uses, nodes.printed.as_slice(), homes.logic + homes.array)?;
+    Ok(())
 }
 
 /// Adds the uses by items.

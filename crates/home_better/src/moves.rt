@@ -35,6 +35,15 @@ pub(crate) struct Work {
     pub(crate) count: u64,
 }
 
+impl Work {
+    /// The homes alone.
+    pub(crate) fn into_homes(self) -> Homes
+        ensures { result ≡ self.homes }
+    {
+        self.homes
+    }
+}
+
 /// Takes the uses by node v away, and weighs what pulls it.
 fn lift(work: &mut Work, nodes: &NodeNet, takes: &List<List<Entry>>, v: usize) -> Result<(), Memory>
     requires nodes { IsWellFormed nodes.now }
