@@ -25,6 +25,13 @@ pub(crate) struct Numbering {
 }
 
 impl Numbering {
+    /// The names alone.
+    pub(crate) fn into_names(self) -> List<ItemName>
+        ensures { result ≡ self.names }
+    {
+        self.names
+    }
+
     /// The number of the item that stands for a signal: the last of its items.
     pub(crate) fn own_item(&self, signal: u32) -> u32
         ensures { (net : Net) → IsNumbering net self.now → signal < length net.signals → IsNamed self.now.names result (own signal) }
