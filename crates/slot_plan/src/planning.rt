@@ -40,6 +40,30 @@ impl Planning {
         })
     }
 
+    /// Gives each item its slot.
+    fn place_all(&mut self, nodes: &NodeNet, homes: &Homes, readers: &Readers) -> Result<(), Memory>
+        requires nodes { IsWellFormed nodes.now }
+        requires homes { AreHomes nodes.now homes.now }
+        requires readers { AreReaders nodes.now homes.now readers.now }
+        requires before { IsPlannedTo nodes.now homes.now 0 self.old }
+        ensures { OnOk result (IsPlannedTo nodes.now homes.now (length nodes.now.items) self.new) }
+    {
+        'items: for item in 0..nodes.items.len() {
+            self.place(nodes, homes, readers, item)?;
+        }
+        Ok(())
+    }
+
+    /// The slots so far, and how many a turn needs for them.
+    fn into_plan(self) -> Plan
+        ensures { result ≡ record { slots = self.slots; needed = self.needed } }
+    {
+        Plan {
+            slots: self.slots,
+            needed: self.needed,
+        }
+    }
+
     /// Gives the next item its slot.
     fn place(
         &mut self,
@@ -97,11 +121,10 @@ pub(crate) fn slots(alloc: Global, nodes: &NodeNet, homes: &Homes) -> Result<Pla
 {
     let readers = Readers::new(alloc, nodes, homes)?;
     let mut planning = Planning::new(alloc, nodes, homes)?;
-    'items: for item in 0..nodes.items.len() {
-        planning.place(nodes, homes, &readers, item)?;
+    let placed = planning.place_all(nodes, homes, &readers);
+    let plan = planning.into_plan();
+    match placed {
+        Ok(()) => Ok(plan),
+        Err(no) => Err(no),
     }
-    Ok(Plan {
-        slots: planning.slots,
-        needed: planning.needed,
-    })
 }
