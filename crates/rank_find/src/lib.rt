@@ -83,9 +83,12 @@ fn find_order(alloc: Global, net: &Netlist, timing: &Timing) -> Result<Found, Me
     ensures { IfOk result (IsFound net.now timing.now) }
 {
     let mut walk = Walk::new(alloc, net)?;
-    match walk.run(alloc, net, timing)? {
-        Some(members) => Ok(Found::Loop(members)),
-        None => Ok(Found::Order(walk.into_order())),
+    let found = walk.run(alloc, net, timing);
+    let order = walk.into_order();
+    match found {
+        Ok(Some(members)) => Ok(Found::Loop(members)),
+        Ok(None) => Ok(Found::Order(order)),
+        Err(no) => Err(no),
     }
 }
 
