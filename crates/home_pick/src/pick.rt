@@ -151,12 +151,35 @@ fn item_ports(
     ensures { IfOk result (AreItemPorts nodes.now machine.now blocks.now (length nodes.now.items)) }
 {
     let mut turns = begin(alloc, nodes, machine, limits)?;
+    let given = give_ports(&mut turns, nodes, machine, blocks);
+    let ports = turns.into_ports();
+    match given {
+        Ok(()) => Ok(ports),
+        Err(no) => Err(no),
+    }
+}
+
+/// Gives each item its port, where the logic ports hold all nodes and none has a port yet.
+fn give_ports(
+    turns: &mut Turns,
+    nodes: &NodeNet,
+    machine: &Machine,
+    blocks: &[u32],
+) -> Result<(), Memory>
+    requires nodes { IsWellFormed nodes.now }
+    requires machine { IsValid machine.now }
+    requires blocks { length blocks.now ≡ length nodes.now.blocks }
+    requires few { node_count nodes.now ≤ node_room machine.now }
+    requires ports { turns.old.ports ≡ [] }
+    requires turned { AreTurned nodes.now machine.now [] 0 turns.old.left turns.old.skips }
+    ensures { OnOk result (AreItemPorts nodes.now machine.now blocks.now (length nodes.now.items) turns.new.ports) }
+{
     let items = nodes.items.as_slice();
     'items: for i in 0..items.len() {
-        let port = item_port(&mut turns, nodes, machine, blocks, &items[i], i as u32);
+        let port = item_port(turns, nodes, machine, blocks, &items[i], i as u32);
         turns.ports.push(port)?;
     }
-    Ok(turns.ports)
+    Ok(())
 }
 
 /// The port of the next item, given with its number.

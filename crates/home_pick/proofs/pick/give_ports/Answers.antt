@@ -1,7 +1,7 @@
 use Rattle.std.proofs.Common.{arith}
 use Rattle.plan_defs.proofs.UserLemmas.{read_at}
 use Rattle.home_pick.proofs.HomeLemmas.{ports_more}
-use Rattle.home_pick.proofs.pick.item_ports.Goals as goal
+use Rattle.home_pick.proofs.pick.give_ports.Goals as goal
 
 pub items-preserved : goal.items-preserved
 items-preserved c = rw (c.in_ok-push.ensures.ok, c.item_port-port.ensures.ports) (record {

@@ -1,6 +1,6 @@
 use Rattle.std.proofs.Common.{◌≡◌, ◌-◌}
 use Rattle.home_pick.specs.code.Rooms.{AreItemPorts, AreTurned}
-use Rattle.home_pick.proofs.pick.item_ports.Given as goal
+use Rattle.home_pick.proofs.pick.give_ports.Given as goal
 
 abbrev pub invariant-items : goal.invariant-items
 invariant-items l = record {
