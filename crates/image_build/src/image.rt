@@ -93,12 +93,31 @@ fn port_images(
     ensures { IfOk result (AreFirstPorts nodes.now homes.now plan.now switch.now lists.now (length lists.now)) }
 {
     let memories = memories_of(alloc, nodes, homes)?;
+    ports_with(alloc, nodes, homes, plan, switch, &memories, lists)
+}
+
+/// A port for each list of items, with the memories that stand at it.
+fn ports_with(
+    alloc: Global,
+    nodes: &NodeNet,
+    homes: &Homes,
+    plan: &Plan,
+    switch: &Switch,
+    memories: &Memories,
+    lists: &[List<u32>],
+) -> Result<List<PortImage>, Memory>
+    requires planned { IsPlanned nodes.now homes.now plan.now }
+    requires switch { IsSwitch nodes.now homes.now plan.now.slots switch.now }
+    requires memories { AreMemories nodes.now homes.now memories.now }
+    requires claims { ArePlanClaims nodes.now homes.now plan.now.slots lists.now }
+    ensures { IfOk result (AreFirstPorts nodes.now homes.now plan.now switch.now lists.now (length lists.now)) }
+{
     let links = switch.ports.as_slice();
     let mut ports = List::new(alloc);
     'ports: for p in 0..lists.len() {
         let items = lists[p].as_slice();
         let port = port_image(
-            alloc, nodes, homes, plan, &memories, p as u32, items, &links[p],
+            alloc, nodes, homes, plan, memories, p as u32, items, &links[p],
         )?;
         ports.push(port)?;
     }
