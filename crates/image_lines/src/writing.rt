@@ -102,8 +102,7 @@ pub fn push_head(
     ensures { OnOk result (text.new ≡ text.old ++ line_text (line.Head (record { slots = slots; units = units; init = init; columns = columns; ports = ports }))) }
 {
     push_times(text, slots, units, init)?;
-    text.push_bytes(b" columns")?;
-    push_number(text, columns)?;
+    push_named(text, b" columns", columns)?;
     text.push_bytes(b" ports")?;
     push_count(text, ports)?;
     text.push_bytes(b"\n")
@@ -112,12 +111,18 @@ pub fn push_head(
 fn push_times(text: &mut Text, slots: u32, units: u32, init: Init) -> Result<(), Memory>
     ensures { OnOk result (text.new ≡ text.old ++ codes "slots" ++ spaced (decimal slots) ++ codes " units" ++ spaced (decimal units) ++ codes " init" ++ spaced (init_word init)) }
 {
-    text.push_bytes(b"slots")?;
-    push_number(text, slots)?;
-    text.push_bytes(b" units")?;
-    push_number(text, units)?;
+    push_named(text, b"slots", slots)?;
+    push_named(text, b" units", units)?;
     text.push_bytes(b" init")?;
     push_init(text, init)
+}
+
+/// Adds a word, a space and a number.
+fn push_named(text: &mut Text, word: &[u8], n: u32) -> Result<(), Memory>
+    ensures { OnOk result (text.new ≡ text.old ++ word.now ++ spaced (decimal n)) }
+{
+    text.push_bytes(word)?;
+    push_number(text, n)
 }
 
 /// Adds a space and a count.
@@ -191,8 +196,7 @@ pub fn push_task(text: &mut Text, task: &Task, item: u32) -> Result<(), Memory>
             push_item(text, item)
         }
         Task::Hold { slot, from } => {
-            text.push_bytes(b"hold")?;
-            push_number(text, *slot)?;
+            push_named(text, b"hold", *slot)?;
             push_source(text, from)?;
             push_item(text, item)
         }
@@ -270,8 +274,7 @@ fn push_sources(text: &mut Text, sources: &[Source]) -> Result<(), Memory>
 pub fn push_send(text: &mut Text, link: &LinkOut) -> Result<(), Memory>
     ensures { OnOk result (text.new ≡ text.old ++ line_text (line.Send link.now)) }
 {
-    text.push_bytes(b"send")?;
-    push_number(text, link.slot)?;
+    push_named(text, b"send", link.slot)?;
     push_numbers(text, link.readers.as_slice())?;
     text.push_bytes(b"\n")
 }
