@@ -67,3 +67,10 @@ each_at_all P n xs all so_far i x here = let low = slice_get_within xs i x here 
 -- where a part isn't so the whole isn't
 pub no_part : {A W : Type 0} → IsTrue false ↔ A → (W → A) → IsTrue false ↔ W
 no_part is part = (λ f. cc, λ w. is.1 (part w))
+
+-- one that is looked at isn't so, read as a reference or as a value
+pub each_not : {X : Type 0} (P : X → Type 0) (k : ℕ) (xs : List X) (here : X) → k < length xs → here ≡ get_or xs k here → IsTrue false ↔ P here → IsTrue false ↔ Each P xs
+each_not P k xs here within is said = no_part said (λ (each : Each P xs). each k here (indexed xs xs k here refl within is))
+
+pub each_read_not : {X : Type 0} (P : X → Type 0) (k : ℕ) (xs : List X) (d : X) → k < length xs → IsTrue false ↔ P (get_or xs k d) → IsTrue false ↔ Each P xs
+each_read_not P k xs d within said = no_part said (λ (each : Each P xs). each k (get_or xs k d) (slice_get-get_or xs k d within))

@@ -1,6 +1,6 @@
 use Rattle.std.proofs.Common.{rules}
 use Rattle.image_defs.specs.WellFormed.{IsPresent}
-use Rattle.image_check.proofs.EachLemmas.{each_read, each_done}
+use Rattle.image_check.proofs.EachLemmas.{each_read, each_done, each_read_not}
 use Rattle.image_check.proofs.sources.are_present.Goals as goal
 
 pub sources-preserved : goal.sources-preserved
@@ -8,3 +8,6 @@ sources-preserved c = each_read (IsPresent c.args.port.now) c.sources.k c.args.s
 
 pub returns : goal.returns
 returns c = each_done (IsPresent c.args.port.now) c.sources.k c.args.sources.now c.sources-test.false c.sources.invariant
+
+pub returns-then-not-is_present : goal.returns-then-not-is_present
+returns-then-not-is_present c = each_read_not (IsPresent c.args.port.now) c.sources.k c.args.sources.now _ c.sources-test.true c.if-not-is_present.ensures
