@@ -246,6 +246,15 @@ module _ (net : Netlist) (numbering : Numbering) (numbered : IsNumbering net num
       different : AreDifferent tables
       to : MadeTo net timing numbering.names tables keys n items
 
+    -- with the item of the next key
+    made_next : (keys : List Key) (n : ℕ) (old : List Table) → AreMadeTo keys n old → (key : Key) → slice_get keys n ≡ Some key
+        → (tables : List Table) → IsStep old key tables → AreMadeTo keys (suc n) tables
+    made_next keys n old before key there tables step = record {
+      items = before.items ++ step.item ∷ [];
+      different = step.different;
+      to = rw add-one at (made_more net timing numbering.names old tables keys n before.items key step.item before.to there step.kept step.made);
+    }
+
     made_to : (keys : List Key) → AreKeyed net keys → (n : ℕ) → n ≤ length keys → (tables : List Table) × AreMadeTo keys n tables
     made_to keys keyed zero within = (
       [],
@@ -258,14 +267,8 @@ module _ (net : Netlist) (numbering : Numbering) (numbered : IsNumbering net num
     made_to keys keyed (suc n) within =
         let before : _ = made_to keys keyed n (omega (arith, within)) in
         let key : _ = member_at keys n (omega (arith, within)) in
-        let step : _ = step_there before.0 key.0 before.1.different (keyed.signal n key.0 key.1) (keyed.place n key.0 key.1) in (
-          step.0,
-          record {
-            items = before.1.items ++ step.1.item ∷ [];
-            different = step.1.different;
-            to = rw add-one at (made_more net timing numbering.names before.0 step.0 keys n before.1.items key.0 step.1.item before.1.to key.1 step.1.kept step.1.made);
-          },
-        )
+        let step : _ = step_there before.0 key.0 before.1.different (keyed.signal n key.0 key.1) (keyed.place n key.0 key.1) in
+        (step.0, made_next keys n before.0 before.1 key.0 key.1 step.0 step.1)
 
     pub all_made : (keys : List Key) → AreKeyed net keys → (tables : List Table) × (items : List Item) × AreDifferent tables × AreMade net timing numbering.names tables keys items
     all_made keys keyed =
