@@ -1,6 +1,6 @@
 //! Bags in a list that get and lose numbers.
 
-ghost use Rattle.std.specs.Prelude.{◌≡◌, ◌≢◌, ℕ, ◌<◌, ◌≤◌, IfOk, OnOk, length, slice_index};
+ghost use Rattle.std.specs.Prelude.{◌≡◌, ◌≢◌, ℕ, ◌<◌, ◌≤◌, IfOk, OnOk, [], length, slice_index};
 ghost use Rattle.home_better.specs.Bags.{where_at};
 ghost use Rattle.home_better.specs.code.Bags.{counted, times, IsBag};
 ghost use Rattle.home_better.specs.Crossings.{times_in};
@@ -22,11 +22,29 @@ pub(crate) fn empty_bags(
     ensures none { IfOk result (λ bags. (i q : ℕ) → times (bag_at bags i) q ≡ 0) }
 {
     let mut bags = List::new(alloc);
+    match add_bags(alloc, &mut bags, places, ports) {
+        Ok(()) => Ok(bags),
+        Err(no) => Err(no),
+    }
+}
+
+/// Adds such a bag for each item to a list of none.
+fn add_bags(
+    alloc: Global,
+    bags: &mut List<List<Entry>>,
+    places: &[u32],
+    ports: u32,
+) -> Result<(), Memory>
+    requires { bags.old ≡ [] }
+    ensures size { OnOk result (length bags.new ≡ length places.now) }
+    ensures bags { OnOk result (AreBags bags.new) }
+    ensures none { OnOk result ((i q : ℕ) → times (bag_at bags.new i) q ≡ 0) }
+{
     'bags: for i in 0..places.len() {
         let bag = empty_bag(alloc, if places[i] < ports { 0 } else { ports })?;
         bags.push(bag)?;
     }
-    Ok(bags)
+    Ok(())
 }
 
 /// A bag in which nothing stands, with an entry for each of so many numbers, at the number's place.

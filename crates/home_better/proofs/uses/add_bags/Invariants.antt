@@ -1,7 +1,7 @@
 use Rattle.std.proofs.Common.{◌≡◌, ℕ, length}
 use Rattle.home_better.specs.code.Bags.{times}
 use Rattle.home_better.specs.code.Uses.{bag_at, AreBags}
-use Rattle.home_better.proofs.uses.empty_bags.Given as goal
+use Rattle.home_better.proofs.uses.add_bags.Given as goal
 
 abbrev pub invariant-bags : goal.invariant-bags
 invariant-bags l = record {
