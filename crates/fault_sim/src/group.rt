@@ -1,10 +1,12 @@
 //! A group of faults beside the good design.
 
-ghost use Rattle.std.specs.Prelude.{◌≤◌, length, All, IfOk};
+ghost use Rattle.std.specs.Prelude.{◌≡◌, ◌≤◌, ℕ, length, All, IfOk};
 ghost use Rattle.net_defs.specs.Valid.{IsValid, IsValidTiming, IsValidStimulus};
 ghost use Rattle.net_defs.specs.Loops.{AreRanks};
+ghost use Rattle.net_defs.specs.Steps.{first_state};
 ghost use Rattle.fault_sim.specs.Faults.{IsFault};
 ghost use Rattle.fault_sim.specs.Verdicts.{AreVerdicts};
+ghost use Rattle.fault_sim.specs.code.Lanes.{lane_net, lane_state, IsReady, AreForces};
 ghost use Rattle.fault_sim.specs.code.Programs.{IsSchedule};
 
 use crate::edge::make_room;
@@ -12,7 +14,9 @@ use crate::force::make_forces;
 use crate::run::run;
 use crate::schedule::{Schedule, make_schedule};
 use crate::start::first_state;
+use crate::state::LaneState;
 use crate::{Fault, Verdict};
+use lane_planes::Planes;
 use net_defs::{Netlist, Ranks, Stimulus, Timing};
 use seen_list::{List, Memory};
 use std::alloc::Global;
@@ -57,19 +61,53 @@ pub(crate) fn scheduled_group(
     ensures { IfOk result (AreVerdicts net.now timing.now stim.now faults.now) }
 {
     let forces = make_forces(alloc, net, faults)?;
-    let mut room = make_room(alloc, net)?;
     let mut state = first_state(alloc, net, timing, faults)?;
-    let mut verdicts = List::filled(alloc, Verdict::Unseen, faults.len())?;
-    run(
-        &mut verdicts,
+    run_from_start(
+        alloc,
         &mut state,
-        &mut room,
         net,
         timing,
         stim,
         schedule,
         faults,
         forces.as_slice(),
+    )
+}
+
+/// The same, from the state before the first turn, and with what each signal is stuck at.
+fn run_from_start(
+    alloc: Global,
+    state: &mut LaneState,
+    net: &Netlist,
+    timing: &Timing,
+    stim: &Stimulus,
+    schedule: &Schedule,
+    faults: &[Fault],
+    forces: &[Planes],
+) -> Result<List<Verdict>, Memory>
+    requires valid { IsValid net.now }
+    requires timing { IsValidTiming timing.now }
+    requires schedule { IsSchedule net.now timing.now schedule.now }
+    requires stimulus { IsValidStimulus stim.now }
+    requires few { length faults.now ≤ 29 }
+    requires faults { All (IsFault net.now) faults.now }
+    requires forces { AreForces net.now faults.now forces.now }
+    requires ready { IsReady net.now faults.now state.old }
+    requires first { (l : ℕ) → l ≤ length faults.now → lane_state l state.old ≡ first_state (lane_net net.now faults.now l) timing.now }
+    ensures { IfOk result (AreVerdicts net.now timing.now stim.now faults.now) }
+{
+    let mut verdicts = List::filled(alloc, Verdict::Unseen, faults.len())?;
+    let mut room = make_room(alloc, net)?;
+    run(
+        &mut verdicts,
+        state,
+        &mut room,
+        net,
+        timing,
+        stim,
+        schedule,
+        faults,
+        forces,
     );
     Ok(verdicts)
 }
