@@ -1,9 +1,10 @@
 //! The memories of an array processor, and what they do at an edge.
 
-ghost use Rattle.std.specs.Prelude.{◌≡◌, ◌≤◌, true, false, length, map, IfOk};
+ghost use Rattle.std.specs.Prelude.{◌≡◌, ◌≤◌, true, false, length, map, replicate, IfOk, OnOk};
 ghost use Rattle.limits.specs.declared.TheConstants.{MAX_ADDRESS_BITS, MAX_WORD_BITS};
 ghost use Rattle.net_defs.specs.Time.{is_edge};
 ghost use Rattle.image_defs.specs.Places.{Each};
+ghost use Rattle.logic_four.specs.declared.V4.TheVariants.{Undef};
 ghost use Rattle.port_array.specs.Acts.{FitsMemory, AreFit};
 ghost use Rattle.port_array.specs.code.Acts.{past_of, answered_bit, FitsBit, IsPastAt, ReadsPast, HasFewBits, IsFirst, AreFirst, Acted, AreActed};
 
@@ -30,12 +31,42 @@ pub(crate) fn make_memory(alloc: Global, block: &BlockWork, v: V4) -> Result<Mem
 {
     let address_bits = block.address.len();
     let word_bits = block.word.len();
-    Ok(MemoryState {
+    let mut memory = MemoryState {
         cells: Cells::new(alloc, address_bits as u32, word_bits as u32, v)?,
-        address: List::filled(alloc, V4::Undef, address_bits)?,
-        word: List::filled(alloc, V4::Undef, word_bits)?,
-        outs: List::filled(alloc, V4::Undef, word_bits)?,
-    })
+        address: List::new(alloc),
+        word: List::new(alloc),
+        outs: List::new(alloc),
+    };
+    match make_room(alloc, &mut memory, address_bits, word_bits) {
+        Ok(()) => Ok(memory),
+        Err(no) => Err(no),
+    }
+}
+
+/// Gives a memory room for what it takes at an edge, and for what it answers.
+fn make_room(
+    alloc: Global,
+    memory: &mut MemoryState,
+    address_bits: usize,
+    word_bits: usize,
+) -> Result<(), Memory>
+    ensures { OnOk result (memory.new ≡ record memory.old {
+      address = replicate address_bits Undef;
+      word = replicate word_bits Undef;
+      outs = replicate word_bits Undef;
+    }) }
+{
+    blank(alloc, &mut memory.address, address_bits)?;
+    blank(alloc, &mut memory.word, word_bits)?;
+    blank(alloc, &mut memory.outs, word_bits)
+}
+
+/// Gives a list so many values, all of them undefined.
+fn blank(alloc: Global, room: &mut List<V4>, bits: usize) -> Result<(), Memory>
+    ensures { OnOk result (room.new ≡ replicate bits Undef) }
+{
+    *room = List::filled(alloc, V4::Undef, bits)?;
+    Ok(())
 }
 
 /// A memory for each block.
