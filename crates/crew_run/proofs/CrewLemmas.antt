@@ -1,8 +1,8 @@
 -- What holds of each worker holds of all.
-use Rattle.std.proofs.Common.{◌≡◌, ◌∙◌, ◌++◌, ◌+◌, ◌-◌, ◌≤◌, ℕ, List, [], length, slice_get, Some, inl, inr, ap, subst, sym, refl, arith, length-append}
+use Rattle.std.proofs.Common.{◌≡◌, ◌∙◌, ◌++◌, ◌+◌, ◌-◌, ◌<◌, ◌≤◌, ℕ, List, [], length, slice_get, Some, inl, inr, ap, subst, sym, refl, arith, length-append}
 use Rattle.std.proofs.lemmas.Bool.{cases_lt}
 use Rattle.std.proofs.lemmas.Option.{slice_get_within}
-use Rattle.list_laws.proofs.Places.{at_front, slice_past}
+use Rattle.list_laws.proofs.Places.{at_front, one_there, slice_past}
 use Rattle.list_laws.proofs.Members.{beside}
 use Rattle.list_laws.proofs.Options.{one_some}
 use Rattle.crew_run.specs.declared.gate.Gate as gate
@@ -12,6 +12,13 @@ use Rattle.crew_run.specs.Crews.{AllCanRun, AllHaveRun, HasRun}
 use Rattle.crew_run.specs.code.Phases.{AreDone, CanResume, Each, HasBegun, IsResumed}
 use Rattle.crew_run.proofs.PhaseLemmas.{begun_resumed, can_resume, has_run}
 use Rattle.crew_run.proofs.StepLemmas.{untold_none}
+
+-- what holds of all before a place and of the one that stands there holds of all before the next place
+pub below_more : {X : Type 0} (P : X → Type 0) (xs : List X) (n : ℕ) (x : X) → ((j : ℕ) (y : X) → j < n → slice_get xs j ≡ Some y → P y) → slice_get xs n ≡ Some x → P x → (j : ℕ) (y : X) → j < n + 1 → slice_get xs j ≡ Some y → P y
+below_more P xs n x before at here j y less is = elim (cases_lt j n) [
+  | inl low ↦ before j y low is
+  | inr high ↦ subst P (one_there xs n j x y (omega (arith, less, high)) at is) here
+]
 
 module _ {S G : Type 0} (m : stepper.Ghosts S) (p : gate.Ghosts G) where
   pub all_can_resume : (ws ws' : List (Worker S G)) → AllCanRun m p ws → Each (HasBegun m p) ws ws' → (i : ℕ) (w : Worker S G) → slice_get ws' i ≡ Some w → CanResume m p w
