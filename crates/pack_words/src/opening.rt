@@ -123,6 +123,50 @@ fn deal(
     Ok(Some(passes))
 }
 
+/// The words and the passes of all ports, or `None` where some port was claimed before.
+fn try_make(
+    alloc: Global,
+    image: &Image,
+    lanes: &Lanes,
+    firsts: &[u32],
+) -> Result<Option<(PackBar, List<PackPass>)>, Memory>
+    requires image { IsWellFormed image.now }
+    requires lanes { AreLanes image.now.columns lanes.now }
+    requires firsts { AreFirsts image.now (length image.now.ports + 1) firsts.now }
+    ensures { IfOk result (λ tried. IfSome tried (λ made. IsMade image.now lanes.now made.0 made.1)) }
+{
+    let sends = firsts[image.ports.len()];
+    let (bar, template) = open(alloc, image, lanes, sends)?;
+    match deal(alloc, &bar, image, firsts, template) {
+        Ok(Some(passes)) => Ok(Some((bar, passes))),
+        Ok(None) => Ok(None),
+        Err(no) => Err(no),
+    }
+}
+
+/// The words and the passes, with new words until no port was claimed before.
+fn make_by<R: Wait>(
+    rt: &R,
+    alloc: Global,
+    image: &Image,
+    lanes: &Lanes,
+    firsts: &[u32],
+) -> Result<(PackBar, List<PackPass>), Memory>
+    requires image { IsWellFormed image.now }
+    requires lanes { AreLanes image.now.columns lanes.now }
+    requires firsts { AreFirsts image.now (length image.now.ports + 1) firsts.now }
+    ensures { IfOk result (λ made. IsMade image.now lanes.now made.0 made.1) }
+{
+    'tries: for _ in rt.forever() {
+        match try_make(alloc, image, lanes, firsts) {
+            Ok(Some(made)) => return Ok(made),
+            Ok(None) => {}
+            Err(no) => return Err(no),
+        }
+    }
+    unreachable!()
+}
+
 impl PackBar {
     /// The words of an image with lanes, and one pass for each port, in their order, each before its first
     /// event. It may begin again with new words, without a bound on how often, so what it promises holds if
@@ -138,13 +182,6 @@ impl PackBar {
         ensures { IfOk result (λ made. IsMade image.now lanes.now made.0 made.1) }
     {
         let firsts = first_sends(alloc, image)?;
-        let sends = firsts.as_slice()[image.ports.len()];
-        'tries: for _ in rt.forever() {
-            let (bar, template) = open(alloc, image, lanes, sends)?;
-            if let Some(passes) = deal(alloc, &bar, image, firsts.as_slice(), template)? {
-                return Ok((bar, passes));
-            }
-        }
-        unreachable!()
+        make_by(rt, alloc, image, lanes, firsts.as_slice())
     }
 }
