@@ -1,6 +1,6 @@
 //! The readers of all sends of a port, in one list, and which of them lag.
 
-ghost use Rattle.std.specs.Prelude.{◌≡◌, ◌↔◌, ◌+◌, ◌-◌, ◌<◌, ◌≤◌, length, slice_index_or, slice_range, IsTrue, IfOk, MatchOption};
+ghost use Rattle.std.specs.Prelude.{◌≡◌, ◌↔◌, ◌+◌, ◌-◌, ◌<◌, ◌≤◌, length, slice_index_or, slice_range, IsTrue, IfOk, OnOk, MatchOption, []};
 ghost use Rattle.std.specs.List.Sorted.{IsStrictlyIncreasing};
 ghost use Rattle.limits.specs.declared.TheConstants.{MAX_SLOTS, MAX_PORTS};
 ghost use Rattle.image_defs.specs.Places.{Each};
@@ -25,14 +25,30 @@ pub fn readers_of(alloc: Global, outs: &[LinkOut]) -> Result<Readers, Memory>
     requires readers { Each HasFewReaders outs.now }
     ensures { IfOk result (AreReaders (length outs.now) outs.now) }
 {
-    let mut all = List::new(alloc);
-    let mut starts = List::new(alloc);
-    starts.push(0)?;
-    'sends: for link in outs {
-        all.extend_from_slice(link.readers.as_slice())?;
-        starts.push(all.len() as u32)?;
+    let mut readers = Readers {
+        all: List::new(alloc),
+        starts: List::new(alloc),
+    };
+    match add_readers(&mut readers, outs) {
+        Ok(()) => Ok(readers),
+        Err(no) => Err(no),
     }
-    Ok(Readers { all, starts })
+}
+
+/// Adds the readers of these sends, where there were none.
+fn add_readers(readers: &mut Readers, outs: &[LinkOut]) -> Result<(), Memory>
+    requires few { length outs.now ≤ MAX_SLOTS }
+    requires each { Each HasFewReaders outs.now }
+    requires all { readers.old.all ≡ [] }
+    requires starts { readers.old.starts ≡ [] }
+    ensures { OnOk result (AreReaders (length outs.now) outs.now readers.new) }
+{
+    readers.starts.push(0)?;
+    'sends: for link in outs {
+        readers.all.extend_from_slice(link.readers.as_slice())?;
+        readers.starts.push(readers.all.len() as u32)?;
+    }
+    Ok(())
 }
 
 /// The readers of a send.

@@ -1,5 +1,0 @@
-use Rattle.port_walk.specs.Rows.{AreReaders}
-use Rattle.port_walk.proofs.readers.readers_of.Given as goal
-
-abbrev pub invariant-sends : goal.invariant-sends
-invariant-sends l = AreReaders l.link-index l.outs (record { all = l.all; starts = l.starts })
