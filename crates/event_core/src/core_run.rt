@@ -11,6 +11,7 @@ ghost use Rattle.event_defs.specs.declared.place.CoreStep.TheVariants.{Moved};
 ghost use Rattle.event_defs.specs.declared.place.Action.TheVariants as action;
 ghost use Rattle.event_defs.specs.declared.place.Event.TheVariants as event;
 ghost use Rattle.port_host.specs.Rows.{printed_sources};
+ghost use Rattle.send_row.specs.Sources.{AreFirsts};
 ghost use Rattle.event_core.specs.Core.{Applies, AreDone, HasRun, IsIdle, IsRoundOf, IsSoundCore, IsStart, SparesReaders, TakesThisTurn, left_of, rows_of};
 ghost use Rattle.event_core.specs.code.Core.{IsReady, IsUpcoming};
 
@@ -89,20 +90,40 @@ impl<'a> Core<'a> {
         ensures start { IfOk result (IsStart image.now stim.now banks) }
         ensures sound { IfOk result IsSoundCore }
     {
-        let ports = image.ports.len();
         let firsts = send_row::first_sends(alloc, image)?;
-        let sends = firsts.as_slice()[ports];
+        Core::begin(alloc, image, stim, banks, firsts.as_slice())
+    }
+
+    /// The machine before its first event, by the numbers of the ports' first sends among all sends.
+    fn begin(
+        alloc: Global,
+        image: &'a Image,
+        stim: &'a Stimulus,
+        banks: u32,
+        firsts: &[u32],
+    ) -> Result<Core<'a>, Memory>
+        requires image { IsWellFormed image.now }
+        requires stimulus { IsValidStimulus stim.now }
+        requires columns { stim.now.columns ≡ image.now.columns }
+        requires some { 1 ≤ banks }
+        requires firsts { AreFirsts image.now (length image.now.ports + 1) firsts.now }
+        ensures start { IfOk result (IsStart image.now stim.now banks) }
+        ensures sound { IfOk result IsSoundCore }
+    {
+        let ports = image.ports.len();
+        let words = firsts[ports] as usize * banks as usize;
         let cycles = stim.cycles();
-        let window = cycles.max(1);
-        let seats = seats::make(alloc, image, stim, firsts.as_slice(), banks, window)?;
+        let finished = List::filled(alloc, 0, ports)?;
+        let words = List::filled(alloc, 0, words)?;
+        let seats = seats::make(alloc, image, stim, firsts, banks, cycles.max(1))?;
         Ok(Core {
             image,
             stim,
             banks,
             until: image.units as u64 * cycles as u64,
             seats,
-            finished: List::filled(alloc, 0, ports)?,
-            words: List::filled(alloc, 0, sends as usize * banks as usize)?,
+            finished,
+            words,
         })
     }
 

@@ -50,10 +50,13 @@ fn first_seat<'a>(
     requires there { p < length image.now.ports }
     ensures { IfOk result (IsFirstSeat image.now stim.now banks p) }
 {
+    let known = List::filled(alloc, 0, image.ports.len())?;
+    let sources = send_row::sources_of(alloc, image, firsts, p)?;
+    let port = AnyPort::new(alloc, image, stim, p as u32, window)?;
     Ok(Seat {
-        port: AnyPort::new(alloc, image, stim, p as u32, window)?,
-        known: List::filled(alloc, 0, image.ports.len())?,
-        sources: send_row::sources_of(alloc, image, firsts, p)?,
+        port,
+        known,
+        sources,
         first: firsts[p],
         bank: first_bank(banks),
     })

@@ -8,9 +8,9 @@ pub returns : goal.returns
 returns c =
     let there = c.requires.there in
     record {
-      port = c.in_ok-new.ensures ∙ ap (at_start c.args.image.now c.args.stim.now c.args.p) c.requires.window;
-      known = c.in_ok-filled.ensures ∙ ap (λ n. replicate n 0) c.len.ensures;
+      port = c.in_ok-port.ensures ∙ ap (at_start c.args.image.now c.args.stim.now c.args.p) c.requires.window;
+      known = c.in_ok-known.ensures ∙ ap (λ n. replicate n 0) c.len.ensures;
       bank = c.first_bank.ensures;
       first = get_or_from_slice_get c.args.firsts.now c.args.p (sends_before c.args.image.now c.args.p) 0 (c.requires.firsts.each c.args.p (omega arith));
-      sources = c.in_ok-sources_of.ensures;
+      sources = c.in_ok-sources.ensures;
     }
