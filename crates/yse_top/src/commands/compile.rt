@@ -1,12 +1,13 @@
 //! The text of the image of a design.
 
-ghost use Rattle.std.specs.Prelude.{IfOk};
+ghost use Rattle.std.specs.Prelude.{◌≡◌, IfOk};
 ghost use Rattle.net_defs.specs.Valid.{IsValid};
 ghost use Rattle.yse_compile.specs.Chosen.{IsChosen};
 ghost use Rattle.yse_top.specs.commands.Compile.{IsImageTextOf};
 
 use crate::checks::Planned;
 use image_check::ImageFile;
+use image_defs::Image;
 use image_file::write_image;
 use machine_text::Machine;
 use net_defs::{HomeChoice, Timing};
@@ -28,13 +29,27 @@ pub fn image_text_of(
     ensures { IfOk result (IsImageTextOf _choice planned.net _machine.now _timing.now) }
 {
     designs_are_placed();
+    let claimed = claims(alloc, &planned.chosen.compiled);
+    let image = image_of(planned);
+    match claimed {
+        Ok(claims) => {
+            let file = ImageFile { image, claims };
+            let text = write_image(alloc, &file);
+            drop(file);
+            text
+        }
+        Err(no) => {
+            drop(image);
+            Err(no)
+        }
+    }
+}
+
+/// The image of a design.
+fn image_of(planned: Planned) -> Image
+    ensures { result ≡ planned.chosen.compiled.image }
+{
     let Planned { net: _, chosen } = planned;
     let compiled = chosen.compiled;
-    let claims = claims(alloc, &compiled)?;
-    let file = ImageFile {
-        image: compiled.image,
-        claims,
-    };
-    let text = write_image(alloc, &file)?;
-    Ok(text)
+    compiled.image
 }

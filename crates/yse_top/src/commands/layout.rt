@@ -76,7 +76,11 @@ fn sheet_of(
     ensures { IfOk result (IsSheetOf sheet choice planned.net machine.now timing.now) }
 {
     match sheet {
-        Sheet::Report => report_of(alloc, &planned, machine, timing, choice),
+        Sheet::Report => {
+            let report = report_of(alloc, &planned, machine, timing, choice);
+            drop(planned);
+            report
+        }
         Sheet::Image => image_text_of(alloc, planned, machine, timing, choice),
     }
 }

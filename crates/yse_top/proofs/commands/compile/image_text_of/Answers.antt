@@ -1,17 +1,17 @@
 -- The text is that of the image and the plan's claims.
-use Rattle.std.proofs.Common.{refl}
+use Rattle.std.proofs.lemmas.Result.{IfOk-weaker}
 use Rattle.yse_top.proofs.commands.compile.image_text_of.Goals as goal
 
-pub claims-requires : goal.claims-requires
-claims-requires c =
+pub claims-claimed-requires : goal.claims-claimed-requires
+claims-claimed-requires c =
     c.designs_are_placed.ensures c.args.planned.net c.args._machine.now c.args._timing.now c.args.planned.chosen.compiled c.requires.valid c.requires.chosen.design
 
-pub returns : goal.returns
-returns c = record {
+pub returns-in-Ok : goal.returns-in-Ok
+returns-in-Ok c = IfOk-weaker c.write_image-text.result _ _ (λ text same. record {
   chosen = c.args.planned.chosen;
   is = c.requires.chosen;
-  file = record { image = c.args.planned.chosen.compiled.image; claims = c.in_ok-claims.claims };
-  image = refl;
-  claims = c.in_ok-claims.ensures;
-  text = c.in_ok-text.ensures;
-}
+  file = record { image = c.image_of-image.result; claims = c.in-Ok.claims };
+  image = c.image_of-image.ensures;
+  claims = c.in-Ok.ensures;
+  text = same;
+}) c.write_image-text.ensures
