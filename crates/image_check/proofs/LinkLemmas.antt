@@ -1,5 +1,5 @@
 -- Links of rising slots, searched for by their slot.
-use Rattle.std.proofs.Common.{◌≡◌, ◌↔◌, IsTrue, Bool, false, nat_eq, ◌==◌, slice_index_or, rules, tests, ℕ, ◌≤◌, List, [], ◌∷◌, length, map, Some, slice_get, sym, ap, ◌∙◌, subst, refl, arith}
+use Rattle.std.proofs.Common.{◌≡◌, ◌≢◌, ◌↔◌, IsTrue, Bool, false, nat_eq, ◌==◌, slice_index_or, rules, tests, ℕ, ◌≤◌, List, [], ◌∷◌, length, map, Some, slice_get, sym, ap, ◌∙◌, subst, refl, arith}
 use Rattle.std.specs.List.Sorted.{IsStrictlyIncreasing}
 use Rattle.std.specs.Option.{option_map}
 use Rattle.std.proofs.lemmas.Option.{slice_get-map, get_or_from_slice_get}
@@ -9,8 +9,8 @@ use Rattle.image_defs.specs.declared.image.LinkIn.{LinkIn}
 use Rattle.image_defs.specs.declared.image.LinkOut.{LinkOut}
 use Rattle.image_defs.specs.declared.image.PortImage.{PortImage}
 use Rattle.image_defs.specs.declared.image.Image.{Image}
-use Rattle.image_defs.specs.Places.{Each, Stands, item_slots, in_slots, out_slots}
-use Rattle.image_defs.specs.WellFormed.{IsLinkOut}
+use Rattle.image_defs.specs.Places.{Each, Stands, IsPort, item_slots, in_slots, out_slots}
+use Rattle.image_defs.specs.WellFormed.{IsLinkOut, IsLinkIn}
 use Rattle.image_check.specs.code.Links.{SendsTo, IsReader, link_in}
 use Rattle.image_check.specs.code.Shapes.{IsRising}
 use Rattle.image_check.proofs.SearchLemmas.{one_place}
@@ -108,3 +108,25 @@ link_out_by image p port slots link readers r is rising some item same said = (o
 
   back : IsLinkOut image p port link → IsTrue r
   back l = said.1 (subst (Each (IsReader image p link.slot)) (sym same) (λ i x here. record { other = l.other i x here; receives = l.received i x here }))
+
+-- ---- the ports at the other ends
+
+pub link_in_some : (image : Image) (p : ℕ) (link : LinkIn) (sender : PortImage) (r : Bool) → IsPort image link.sender sender → IsTrue r ↔ SendsTo sender link.slot p → IsTrue r ↔ IsLinkIn image p link
+link_in_some image p link sender r is sent = (gives, back) where
+  gives : IsTrue r → IsLinkIn image p link
+  gives so = let to = sent.0 so in record { sender = sender; is = is; sent = to.sent; sends = to.sends; slot = to.slot_is; reads = to.reads }
+
+  back : IsLinkIn image p link → IsTrue r
+  back there =
+      let same = one_there image.ports link.sender link.sender there.sender sender refl there.is is in
+      sent.1 (record { sent = there.sent; sends = subst (λ (q : PortImage). Stands q.outs there.sent) same there.sends; slot_is = there.slot; reads = there.reads })
+
+pub reader_some : (image : Image) (p slot reader : ℕ) (port : PortImage) (r : Bool) → (reader ≢ p) → IsPort image reader port → IsTrue r ↔ Stands port.ins (link_in slot p) → IsTrue r ↔ IsReader image p slot reader
+reader_some image p slot reader port r other is received = (gives, back) where
+  gives : IsTrue r → IsReader image p slot reader
+  gives so = record { other = other; receives = record { port = port; is = is; receives = received.0 so } }
+
+  back : IsReader image p slot reader → IsTrue r
+  back there =
+      let same = one_there image.ports reader reader there.receives.port port refl there.receives.is is in
+      received.1 (subst (λ (q : PortImage). Stands q.ins (link_in slot p)) same there.receives.receives)
