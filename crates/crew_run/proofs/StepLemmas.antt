@@ -84,6 +84,12 @@ module _ {S G : Type 0} (m : stepper.Ghosts S) (p : gate.Ghosts G) where
         let told : slice_index (p.times g') (m.port b) + begun m a ≡ slice_index (p.times g) (m.port a) + begun m b = subst (λ q. slice_index (p.times g') q + begun m a ≡ slice_index (p.times g) (m.port a) + begun m b) (sym follows.port) (h.passes k a b before at).times in
         omega (arith, told, can.room k a before, follows.last_turn, begun_later m a b follows)
 
+  -- so does the room for those of one
+  pub room_once : (a b : S) (g g' : G) → IsStepped m p a g b g' → HasRoomFor m p a g → HasRoomFor m p b g'
+  room_once a b g g' h room =
+      let told : slice_index (p.times g') (m.port b) + begun m a ≡ slice_index (p.times g) (m.port a) + begun m b = subst (λ q. slice_index (p.times g') q + begun m a ≡ slice_index (p.times g) (m.port a) + begun m b) (sym h.follows.port) h.passes.times in
+      omega (arith, told, room, h.follows.last_turn, begun_later m a b h.follows)
+
 module _ {S G : Type 0} (m : stepper.Ghosts S) (p : gate.Ghosts G) (reflexive : (a : S) → m.same a a) where
   pub follows_none : (a : S) → Follows m a a
   follows_none a = record { same = reflexive a; port = refl; last_turn = refl; later = omega arith; within = λ h. h }
@@ -127,6 +133,14 @@ module _ {S G : Type 0} (m : stepper.Ghosts S) (p : gate.Ghosts G) (transitive :
     last_turn = i.last_turn ∙ h.last_turn;
     later = omega (arith, h.later, i.later);
     within = λ low. let mid = i.within (omega (arith, h.within low, h.last_turn)) in omega (arith, mid, h.last_turn);
+  }
+
+  -- one member, stepped and stepped again
+  pub once_more : (a b c : S) (g g' g'' : G) → IsStepped m p a g b g' → IsStepped m p b g' c g'' → IsStepped m p a g c g''
+  once_more a b c g g' g'' h i = record {
+    follows = follows_more a b c h.follows i.follows;
+    passes = passes_more m p a b c g g' g'' h.follows i.follows h.passes i.passes;
+    others = λ q away. untold_more p q g g' g'' (h.others q away) (i.others q (subst (λ r. q ≢ r) (sym h.follows.port) away));
   }
 
   pub stepped_more : (xs ys zs : List S) (g g' g'' : G) → AreStepped m p xs g ys g' → AreStepped m p ys g' zs g'' → AreStepped m p xs g zs g''
