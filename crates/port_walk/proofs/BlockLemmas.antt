@@ -8,7 +8,6 @@ use Rattle.net_defs.specs.declared.stimulus.Stimulus.{Stimulus}
 use Rattle.net_defs.specs.Time.{cycle_count, turn_count}
 use Rattle.image_defs.specs.declared.image.Image.{Image}
 use Rattle.image_defs.specs.Steps.{timing_of}
-use Rattle.image_defs.specs.Ports.{PortView}
 use Rattle.port_walk.specs.declared.any_port.AnyPort.TheInside.{Inside}
 use Rattle.port_walk.specs.declared.kind.Kind.{Kind}
 use Rattle.port_walk.specs.declared.kind.Kind.TheVariants.{Logic, Array, Host}

@@ -2,7 +2,7 @@ use Rattle.std.proofs.Common.{◌≡◌, ◌∙◌, ◌+◌, length, take, get_o
 use Rattle.std.proofs.lemmas.Option.{slice_get_within}
 use Rattle.image_defs.specs.Places.{in_slots}
 use Rattle.image_defs.specs.Ports.{PortView, after_receive}
-use Rattle.port_walk.specs.Kinds.{view_in}
+use Rattle.port_walk.specs.Kinds.{IsLastValue, view_in}
 use Rattle.port_walk.specs.Kept.{view_of}
 use Rattle.port_walk.specs.Placed.{CanTakeValue, HasTaken}
 use Rattle.port_walk.proofs.KeptLemmas.{walk_of, walks}
@@ -63,3 +63,15 @@ returns c =
     let kept = c.self.invariant in
     subst (λ view. HasTaken view (record (view_of a) { takes = take (a.took + 1) (in_slots a.seat.now.ins) })) c.self.view_is
     (has_taken a kept (get_or a.stops a.at no_stop) (found (walk_of a) (walks a kept) a.stops refl))
+
+pub bounds-stops-self-inside : goal.bounds-stops-self-inside
+bounds-stops-self-inside c =
+    let a = c.self.inside in
+    let within = slice_get_within a.stops a.at _ (found (walk_of a) (walks a c.self.invariant) c.as_slice-stops.result.now c.as_slice-stops.ensures) in
+    omega (arith, within, ap length c.as_slice-stops.ensures)
+
+pub run-self-inside-requires-clause-last : goal.run-self-inside-requires-clause-last
+run-self-inside-requires-clause-last c =
+    let a = c.self.inside in
+    let last : IsLastValue (after_receive (view_in a.kind)) a.value = record { each = c.self.invariant.value.each } in
+    subst (λ view. IsLastValue view a.value) (sym c.receive.ensures.view) last
