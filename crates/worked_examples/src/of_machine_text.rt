@@ -199,34 +199,31 @@ fn reads_texts(rt: HostRuntime) {
 const LIMITED: &[u8] =
     b"version 2\nnodes 1 4194304\nFunctions 0 01\nbits 000 16777216\nnodes 4 1\nlogic 5\nnodes 9\n";
 
-const LIMITS: &[PortLimit] = &[
-    PortLimit {
-        what: Limited::Nodes,
-        port: 1,
-        limit: 4_194_304,
-    },
-    PortLimit {
-        what: Limited::Functions,
-        port: 0,
-        limit: 1,
-    },
-    PortLimit {
-        what: Limited::Bits,
-        port: 0,
-        limit: 16_777_216,
-    },
-    PortLimit {
-        what: Limited::Nodes,
-        port: 4,
-        limit: 1,
-    },
+const LIMITS: &[(Limited, u32, u32)] = &[
+    (Limited::Nodes, 1, 4_194_304),
+    (Limited::Functions, 0, 1),
+    (Limited::Bits, 0, 16_777_216),
+    (Limited::Nodes, 4, 1),
 ];
+
+/// Whether a list has these limits alone, in this order: of what, at which port, and how much.
+fn are_limits(own: &[PortLimit], wanted: &[(Limited, u32, u32)]) -> bool {
+    if own.len() != wanted.len() {
+        return false;
+    }
+    for i in 0..own.len() {
+        if (own[i].what, own[i].port, own[i].limit) != wanted[i] {
+            return false;
+        }
+    }
+    true
+}
 
 /// Whether a machine was read that has these limits of single ports, one node at port 4 and nine at port 0.
 fn has_limits(read: &Result<Machine, MachNo>) -> bool {
     match read {
         Ok(machine) => {
-            machine.own.as_slice() == LIMITS
+            are_limits(machine.own.as_slice(), LIMITS)
                 && machine.limit_at(Limited::Nodes, 4) == 1
                 && machine.limit_at(Limited::Nodes, 0) == 9
         }
