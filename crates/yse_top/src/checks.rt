@@ -222,15 +222,20 @@ pub fn compiled<'a>(
 {
     same_inputs();
     match designed(alloc, net, machine, timing, choice) {
-        Ok(planned) => {
-            let Planned { net, chosen } = planned;
-            let compiled = chosen.compiled;
-            Ok(Built {
-                net,
-                image: compiled.image,
-            })
-        }
+        Ok(planned) => Ok(built_of(planned)),
         Err(no) => Err(no),
+    }
+}
+
+/// The netlist of a design with its image. What they were made from is given up.
+pub fn built_of(planned: Planned) -> Built
+    ensures { result ≡ record { net = planned.net; image = planned.chosen.compiled.image } }
+{
+    let Planned { net, chosen } = planned;
+    let compiled = chosen.compiled;
+    Built {
+        net,
+        image: compiled.image,
     }
 }
 

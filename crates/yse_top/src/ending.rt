@@ -29,8 +29,11 @@ pub fn end<O: Sink, E: Sink>(out: &mut O, err: &mut E, output: Output) -> Status
     ensures silent { result ≡ Status.Done → err.new ≡ err.old }
     ensures may_write { MayWrite result }
 {
+    let mut output = output;
     let ending = ending_of(&output);
-    match write_output(out, output) {
+    let wrote = write_output(out, &mut output);
+    drop(output);
+    match wrote {
         Ok(()) => tell_ending(err, ending),
         Err(_) => tell_write_fault(err),
     }

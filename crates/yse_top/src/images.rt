@@ -79,11 +79,13 @@ pub fn accepted<'a>(
 {
     same_inputs();
     matching_images_show();
-    match check_image(alloc, &file, &mapped.nodes, timing) {
-        Ok(()) => Ok(Built {
-            net: mapped.net,
-            image: file.image,
-        }),
+    let checked = check_image(alloc, &file, &mapped.nodes, timing);
+    let Mapped { net, nodes } = mapped;
+    drop(nodes);
+    let ImageFile { image, claims } = file;
+    drop(claims);
+    match checked {
+        Ok(()) => Ok(Built { net, image }),
         Err(no) => Err(of_match(no)),
     }
 }

@@ -61,12 +61,12 @@ pub struct Ending {
     pub cycles: u32,
 }
 
-/// Writes an output, but for that of a run that wrote it itself. It takes no memory.
-pub fn write_output<O: Sink>(out: &mut O, output: Output) -> Result<(), WriteNo>
-    requires { CanEnd output }
-    ensures written { (before : O) → HasTaken O.taken O.faults before out.old output
-        → Takes (O.taken before) (O.taken out.new) (O.faults before) (O.faults out.new) result (bytes_of output) }
-    ensures failed { OnErr (wrote_in output) (IsErr result) }
+/// Writes an output, but for that of a run that wrote it itself. It takes no memory, and uses up the room for lines.
+pub fn write_output<O: Sink>(out: &mut O, output: &mut Output) -> Result<(), WriteNo>
+    requires { CanEnd output.old }
+    ensures written { (before : O) → HasTaken O.taken O.faults before out.old output.old
+        → Takes (O.taken before) (O.taken out.new) (O.faults before) (O.faults out.new) result (bytes_of output.old) }
+    ensures failed { OnErr (wrote_in output.old) (IsErr result) }
 {
     match output {
         Output::Text(text) => write_piece(out, text.as_bytes()),
@@ -86,26 +86,29 @@ pub fn write_piece<S: Sink>(sink: &mut S, piece: &[u8]) -> Result<(), WriteNo>
     write_whole(sink, piece)
 }
 
-fn write_rows<O: Sink>(out: &mut O, trace: Trace) -> Result<(), WriteNo>
-    requires { CanPrint trace }
+fn write_rows<O: Sink>(out: &mut O, trace: &mut Trace) -> Result<(), WriteNo>
+    requires { CanPrint trace.old }
     ensures { Takes (O.taken out.old) (O.taken out.new) (O.faults out.old) (O.faults out.new) result
-        (trace_bytes trace) }
+        (trace_bytes trace.old) }
 {
-    let mut line = trace.line;
-    write_trace(out, &trace.net, &mut line, trace.rows.rows.as_slice())
+    write_trace(
+        out,
+        &trace.net,
+        &mut trace.line,
+        trace.rows.rows.as_slice(),
+    )
 }
 
-fn write_traces<O: Sink>(out: &mut O, traces: LaneTraces) -> Result<(), WriteNo>
-    requires { CanPrintLanes traces }
+fn write_traces<O: Sink>(out: &mut O, traces: &mut LaneTraces) -> Result<(), WriteNo>
+    requires { CanPrintLanes traces.old }
     ensures { Takes (O.taken out.old) (O.taken out.new) (O.faults out.old) (O.faults out.new) result
-        (lanes_bytes traces) }
+        (lanes_bytes traces.old) }
 {
-    let (mut mark, mut line) = (traces.mark, traces.line);
     write_lanes(
         out,
         &traces.net,
-        &mut mark,
-        &mut line,
+        &mut traces.mark,
+        &mut traces.line,
         traces.lanes.as_slice(),
     )
 }

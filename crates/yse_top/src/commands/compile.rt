@@ -1,13 +1,12 @@
 //! The text of the image of a design.
 
-ghost use Rattle.std.specs.Prelude.{◌≡◌, IfOk};
+ghost use Rattle.std.specs.Prelude.{IfOk};
 ghost use Rattle.net_defs.specs.Valid.{IsValid};
 ghost use Rattle.yse_compile.specs.Chosen.{IsChosen};
 ghost use Rattle.yse_top.specs.commands.Compile.{IsImageTextOf};
 
-use crate::checks::Planned;
+use crate::checks::{Built, Planned, built_of};
 use image_check::ImageFile;
-use image_defs::Image;
 use image_file::write_image;
 use machine_text::Machine;
 use net_defs::{HomeChoice, Timing};
@@ -30,7 +29,8 @@ pub fn image_text_of(
 {
     designs_are_placed();
     let claimed = claims(alloc, &planned.chosen.compiled);
-    let image = image_of(planned);
+    let Built { net, image } = built_of(planned);
+    drop(net);
     match claimed {
         Ok(claims) => {
             let file = ImageFile { image, claims };
@@ -43,13 +43,4 @@ pub fn image_text_of(
             Err(no)
         }
     }
-}
-
-/// The image of a design.
-fn image_of(planned: Planned) -> Image
-    ensures { result ≡ planned.chosen.compiled.image }
-{
-    let Planned { net: _, chosen } = planned;
-    let compiled = chosen.compiled;
-    compiled.image
 }

@@ -7,7 +7,9 @@ ghost use Rattle.net_defs.specs.Valid.{IsValid, IsValidStimulus, IsValidTiming};
 ghost use Rattle.cmd_words.specs.Forms.{IsRunInRange};
 ghost use Rattle.yse_top.specs.code.Outputs.{CanWrite};
 ghost use Rattle.yse_top.specs.code.Refusals.{Follows};
-ghost use Rattle.yse_top.specs.commands.Fault.{ExpectedFault, IsFaultList};
+ghost use Rattle.yse_top.specs.Checks.{After, HasFewSignals};
+ghost use Rattle.yse_top.specs.commands.Fault.{ExpectedFault, IsFaultList, ListsFaults};
+ghost use Rattle.yse_top.specs.commands.Run.{AfterStimulus};
 
 use crate::checks::{WithRanks, ranked};
 use crate::output::Output;
@@ -40,25 +42,38 @@ pub fn fault<'a, R: Threads + Sync, F: Files>(
         Ok(timed) => timed,
         Err(no) => return Err(no),
     };
-    let design = match ranked(alloc, net, &timing) {
-        Ok(design) => design,
-        Err(no) => return Err(no),
-    };
+    match ranked(alloc, net, &timing) {
+        Ok(design) => faults_of(rt, alloc, files, words, &timing, &design),
+        Err(no) => Err(no),
+    }
+}
+
+/// The same of a netlist with its ranks.
+fn faults_of<'a, R: Threads + Sync, F: Files>(
+    rt: &R,
+    alloc: Global,
+    files: &mut F,
+    words: &'a RunWords,
+    timing: &Timing,
+    design: &WithRanks,
+) -> Result<Output, Refusal<'a>>
+    requires range { IsRunInRange words.now }
+    requires timing { IsValidTiming timing.now }
+    requires valid { IsValid design.now.net }
+    requires ranks { AreRanks design.now.net timing.now design.now.ranks }
+    ensures expected { Follows (F.names files.old) (F.bytes files.old) (F.counts files.old) (F.counts files.new)
+        result (After (HasFewSignals design.now.net) (λ few. AfterStimulus words.now.stimulus design.now.net (ListsFaults design.now.net timing.now))) }
+    ensures writable { IfOk result CanWrite }
+{
     match few_signals(&design.net) {
         Ok(()) => {}
-        Err(no) => {
-            drop(design);
-            return Err(no);
-        }
+        Err(no) => return Err(no),
     }
     let stimulus = match stimulus_in(alloc, files, words.stimulus.as_bytes(), &design.net) {
         Ok(stimulus) => stimulus,
-        Err(no) => {
-            drop(design);
-            return Err(no);
-        }
+        Err(no) => return Err(no),
     };
-    match lines_of(rt, alloc, words, &timing, &design, &stimulus) {
+    match lines_of(rt, alloc, words, timing, design, &stimulus) {
         Ok(lines) => Ok(Output::Lines(lines)),
         Err(Memory) => Err(Refusal::Memory),
     }

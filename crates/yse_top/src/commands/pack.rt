@@ -4,7 +4,9 @@ ghost use Rattle.std.specs.Prelude.{[], ◌≡◌, ◌≤◌, ◌*◌, IfOk, OnE
 ghost use Rattle.net_defs.specs.Valid.{IsValid, input_count};
 ghost use Rattle.cmd_words.specs.Forms.{IsRunInRange};
 ghost use Rattle.limits.specs.declared.TheConstants.{MAX_WORKERS};
+ghost use Rattle.kept_lines.specs.Lines.{HasMarkRoom};
 ghost use Rattle.machine_run.specs.Visits.{AreInPlace, AreVisitsOf};
+ghost use Rattle.trace_text.specs.Line.{HasRoom};
 ghost use Rattle.stim_text.specs.Lanes.{AreLanes, longest};
 ghost use Rattle.yse_top.specs.declared.commands.steps.Pace.TheVariants.{Workers};
 ghost use Rattle.yse_top.specs.code.Images.{IsImageOf};
@@ -26,7 +28,7 @@ use crew_run::Gate;
 use edge_io::Files;
 use kept_lines::LaneMark;
 use machine_text::Machine;
-use net_defs::Timing;
+use net_defs::{Netlist, Timing};
 use pack_machine::run_pack;
 use seen_list::Memory;
 use std::alloc::Global;
@@ -157,13 +159,28 @@ fn lane_traces<R: Threads + Wait + Sync, G: Gate + Send>(
     ensures refused { OnErr result (gates.new ≡ gates.old) }
     ensures in_place { AreInPlace gates.old gates.new }
 {
-    let line = TraceLine::new(alloc, &built.net)?;
+    let Built { net, image } = built;
+    let (line, mark) = lines_of(alloc, &net)?;
+    let rows = run_pack(rt, alloc, &image, lanes, words.workers, gates);
+    drop(image);
+    match rows {
+        Ok(lanes) => Ok(LaneTraces {
+            net,
+            lanes,
+            line,
+            mark,
+        }),
+        Err(no) => Err(no),
+    }
+}
+
+/// Room for a line of a trace of the netlist, and for the line of a lane.
+fn lines_of(alloc: Global, net: &Netlist) -> Result<(TraceLine, LaneMark), Memory>
+    requires { IsValid net.now }
+    ensures room { IfOk result (λ lines. HasRoom net.now lines.0) }
+    ensures mark { IfOk result (λ lines. HasMarkRoom lines.1) }
+{
+    let line = TraceLine::new(alloc, net)?;
     let mark = LaneMark::new(alloc)?;
-    let rows = run_pack(rt, alloc, &built.image, lanes, words.workers, gates)?;
-    Ok(LaneTraces {
-        net: built.net,
-        lanes: rows,
-        line,
-        mark,
-    })
+    Ok((line, mark))
 }

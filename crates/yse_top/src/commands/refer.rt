@@ -1,12 +1,12 @@
 //! `refer`: the trace of the reference simulation.
 
-ghost use Rattle.std.specs.Prelude.{◌≡◌, IfOk};
+ghost use Rattle.std.specs.Prelude.{[], ◌≡◌, IfOk};
 ghost use Rattle.net_defs.specs.Loops.{IsOrder};
 ghost use Rattle.net_defs.specs.Valid.{IsValid, IsValidStimulus, IsValidTiming};
 ghost use Rattle.cmd_words.specs.Forms.{IsRunInRange};
 ghost use Rattle.yse_top.specs.code.Outputs.{CanWrite, CanPrint, ArePrinted};
-ghost use Rattle.yse_top.specs.code.Refusals.{Follows};
-ghost use Rattle.yse_top.specs.commands.Run.{ExpectedRefer};
+ghost use Rattle.yse_top.specs.code.Refusals.{Follows, outcome_of};
+ghost use Rattle.yse_top.specs.commands.Run.{ExpectedRefer, KeepsTrace};
 
 use crate::checks::{Design, few_cells, ordered};
 use crate::output::{Output, Trace};
@@ -41,14 +41,37 @@ pub fn refer<'a, F: Files>(
     };
     let stimulus = match stimulus_in(alloc, files, words.stimulus.as_bytes(), &design.net) {
         Ok(stimulus) => stimulus,
-        Err(no) => return Err(no),
+        Err(no) => {
+            drop(design);
+            return Err(no);
+        }
     };
-    match few_cells(&design.net, &stimulus) {
-        Ok(()) => match printed(alloc, &timing, design, &stimulus) {
+    kept(alloc, &timing, design, &stimulus)
+}
+
+/// The trace of a simulation under a stimulus, if its cells are few enough to be kept.
+fn kept<'a>(
+    alloc: Global,
+    timing: &Timing,
+    design: Design,
+    stimulus: &Stimulus,
+) -> Result<Output, Refusal<'a>>
+    requires timing { IsValidTiming timing.now }
+    requires valid { IsValid design.net }
+    requires order { IsOrder design.net timing.now design.order }
+    requires stimulus { IsValidStimulus stimulus.now }
+    ensures expected { KeepsTrace design.net timing.now stimulus.now [] (outcome_of result) }
+    ensures writable { IfOk result CanWrite }
+{
+    match few_cells(&design.net, stimulus) {
+        Ok(()) => match printed(alloc, timing, design, stimulus) {
             Ok(trace) => Ok(Output::Trace(trace)),
             Err(Memory) => Err(Refusal::Memory),
         },
-        Err(no) => Err(no),
+        Err(no) => {
+            drop(design);
+            Err(no)
+        }
     }
 }
 
@@ -67,7 +90,9 @@ fn printed(
     ensures writable { IfOk result CanPrint }
 {
     let Design { net, order } = design;
-    let line = TraceLine::new(alloc, &net)?;
     let rows = refer_in_order(alloc, &net, timing, stimulus, order)?;
-    Ok(Trace { net, rows, line })
+    match TraceLine::new(alloc, &net) {
+        Ok(line) => Ok(Trace { net, rows, line }),
+        Err(no) => Err(no),
+    }
 }

@@ -114,12 +114,13 @@ pub fn by_rounds(
     ensures writable { IfOk result CanPrint }
 {
     let line = TraceLine::new(alloc, &built.net)?;
-    let rows = rows_by_rounds(alloc, words, timing, &built, stimulus)?;
-    Ok(Trace {
-        net: built.net,
-        rows,
-        line,
-    })
+    let rows = rows_by_rounds(alloc, words, timing, &built, stimulus);
+    let Built { net, image } = built;
+    drop(image);
+    match rows {
+        Ok(rows) => Ok(Trace { net, rows, line }),
+        Err(no) => Err(no),
+    }
 }
 
 /// The rows of a run to its end.
@@ -162,12 +163,14 @@ pub fn by_order(
     ensures writable { IfOk result CanWrite }
 {
     let line = TraceLine::new(alloc, &built.net)?;
-    let (rows, ending) = rows_by_order(alloc, words, timing, &built, stimulus, order)?;
-    let trace = Trace {
-        net: built.net,
-        rows,
-        line,
+    let made = rows_by_order(alloc, words, timing, &built, stimulus, order);
+    let Built { net, image } = built;
+    drop(image);
+    let (rows, ending) = match made {
+        Ok(made) => made,
+        Err(no) => return Err(no),
     };
+    let trace = Trace { net, rows, line };
     match ending {
         None => Ok(Output::Trace(trace)),
         Some(ending) => Ok(Output::Unfinished(trace, ending)),

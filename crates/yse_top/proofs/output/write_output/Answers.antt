@@ -16,4 +16,4 @@ module _ {O : Type 0} (taken : O → Option (List ℕ)) (faults : O → ℕ) (be
 
 pub returns-in-Lines-clause-written : goal.returns-in-Lines-clause-written
 returns-in-Lines-clause-written g c = λ before same.
-    lines_taken g.O.Sink.taken g.O.Sink.faults before c.args.out.now c.write_texts.new.out _ c.args.output c.in-Lines.lines c.in-Lines.is (rw c.as_slice.ensures at c.write_texts.ensures) same
+    lines_taken g.O.Sink.taken g.O.Sink.faults before c.args.out.now c.write_texts.new.out _ c.args.output.now c.in-Lines.lines c.in-Lines.is (rw c.as_slice.ensures at c.write_texts.ensures) same

@@ -1,4 +1,5 @@
 -- The text is that of the image and the plan's claims.
+use Rattle.std.proofs.Common.{ap}
 use Rattle.std.proofs.lemmas.Result.{IfOk-weaker}
 use Rattle.yse_top.proofs.commands.compile.image_text_of.Goals as goal
 
@@ -10,8 +11,8 @@ pub returns-in-Ok : goal.returns-in-Ok
 returns-in-Ok c = IfOk-weaker c.write_image-text.result _ _ (λ text same. record {
   chosen = c.args.planned.chosen;
   is = c.requires.chosen;
-  file = record { image = c.image_of-image.result; claims = c.in-Ok.claims };
-  image = c.image_of-image.ensures;
+  file = record { image = c.built_of-net.result.image; claims = c.in-Ok.claims };
+  image = ap (λ built. built.image) c.built_of-net.ensures;
   claims = c.in-Ok.ensures;
   text = same;
 }) c.write_image-text.ensures
