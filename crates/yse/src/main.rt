@@ -1,32 +1,16 @@
 //! The program: real files, streams and gates around the top call, whose status is the exit status.
 #![tactic(auto)]
 
-ghost use Rattle.std.specs.Prelude.{◌≡◌, ◌≤◌, ℕ, List as Items, Option, MatchOption, length};
-ghost use Rattle.std.specs.IoError.{error_kind};
-ghost use Rattle.std.specs.Process.{exit_status};
-ghost use Rattle.edge_io.specs.Writing.{TakesLine};
-ghost use Rattle.limits.specs.declared.TheConstants.{MAX_WORKERS};
-ghost use Rattle.yse_top.specs.Statuses.{status_number};
-ghost use Rattle.yse_top.specs.Visited.{AllCanTell};
-ghost use Rattle.yse.specs.Given.{Gives, words_in};
-ghost use Rattle.yse.specs.Ended.{EndsBy, EndsForMemory};
-
 #[cfg(test)]
 mod tests;
 
-use crew_run::Gate;
-use edge_io::{Files, HostFiles, HostSink, Sink};
+use edge_io::{HostFiles, HostSink};
 use limits::MAX_WORKERS;
 use machine_run::count_gates;
 use seen_list::Memory;
-use std::alloc::Global;
-use std::io::ErrorKind;
-use std::marker::{Send, Sync};
 use std::process::ExitCode;
-use std::sync::Wait;
-use std::thread::Threads;
 use std::{env, io};
-use yse_top::{Status, out_of_memory, yse};
+use yse_top::{ended, exit_code, out_of_memory};
 
 fn main(rt: HostRuntime) -> ExitCode {
     let mut files = HostFiles::new(&rt);
@@ -43,51 +27,6 @@ fn main(rt: HostRuntime) -> ExitCode {
             gates.as_mut_slice(),
         ),
         Err(Memory) => exit_code(out_of_memory(&mut err)),
-    }
-}
-
-/// A whole call with the words that were read: the exit status is the number of its status.
-fn ended<R: Threads + Wait + Sync, F: Files, O: Sink, E: Sink, G: Gate + Send>(
-    rt: &R,
-    alloc: Global,
-    read: io::Result<Vec<String>>,
-    files: &mut F,
-    out: &mut O,
-    err: &mut E,
-    gates: &mut [Option<G>],
-) -> ExitCode
-    requires gates { MAX_WORKERS ≤ length gates.old }
-    requires tell { AllCanTell G.Gate.own gates.old }
-    ensures called { (given : Option (Items (Items ℕ)))
-        × Gives error_kind ErrorKind.OutOfMemory read given
-        × MatchOption given (EndsForMemory (F.counts files.old) (F.counts files.new) (O.taken out.old) (O.taken out.new) (O.faults out.old) (O.faults out.new)
-        (TakesLine (E.taken err.old) (E.taken err.new) (E.faults err.old) (E.faults err.new)) gates.old gates.new (exit_status result))
-        (λ words. EndsBy G.Gate.own (F.names files.old) (F.bytes files.old) (F.counts files.old) (F.counts files.new)
-        (O.taken out.old) (O.taken out.new) (O.faults out.old) (O.faults out.new)
-        (TakesLine (E.taken err.old) (E.taken err.new) (E.faults err.old) (E.faults err.new)) gates.old gates.new words
-        (exit_status result)) }
-{
-    match words_given(alloc, read) {
-        Ok(words) => exit_code(yse(rt, alloc, words.as_slice(), files, out, err, gates)),
-        Err(Memory) => exit_code(out_of_memory(err)),
-    }
-}
-
-/// The exit status of a call.
-fn exit_code(status: Status) -> ExitCode
-    ensures { exit_status result ≡ status_number status }
-{
-    ExitCode::from(status.number())
-}
-
-/// The words that were read. Where one isn't UTF-8 there are none, as if none had been given.
-fn words_given(alloc: Global, read: io::Result<Vec<String>>) -> Result<Vec<String>, Memory>
-    ensures { Gives error_kind ErrorKind.OutOfMemory read (words_in result) }
-{
-    match read {
-        Ok(words) => Ok(words),
-        Err(error) if error.kind() == ErrorKind::OutOfMemory => Err(Memory),
-        Err(_) => Ok(Vec::new(alloc)),
     }
 }
 

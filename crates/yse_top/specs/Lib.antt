@@ -1,8 +1,10 @@
 pub mod Checks
 pub mod code
 pub mod commands
+pub mod Ended
 pub mod Ends
 pub mod Expected
+pub mod Given
 pub mod Law
 pub mod Lines
 pub mod Orders
