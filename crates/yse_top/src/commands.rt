@@ -35,7 +35,6 @@ use std::sync::Wait;
 use std::thread::Threads;
 
 /// The output of a command, and else the refusal. A run has written its output to `out`; else `out` is not called.
-#[tactic(auto, using(crate::proofs::GateLemmas::stay_in_place))]
 pub fn prepare<'a, R: Threads + Wait + Sync, F: Files, O: Sink, G: Gate + Send>(
     rt: &R,
     alloc: Global,

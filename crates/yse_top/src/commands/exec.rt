@@ -48,7 +48,6 @@ pub fn exec<'a, R: Threads + Wait + Sync, F: Files, O: Sink, G: Gate + Send>(
 }
 
 /// The same, with what the gates are told.
-#[tactic(auto, using(crate::proofs::GateLemmas::gates_kept))]
 fn exec_telling<'a, R: Threads + Wait + Sync, F: Files, O: Sink, G: Gate + Send>(
     rt: &R,
     alloc: Global,

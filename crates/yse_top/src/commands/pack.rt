@@ -60,7 +60,6 @@ pub fn pack<'a, R: Threads + Wait + Sync, F: Files, G: Gate + Send>(
 }
 
 /// The same, with what the gates are told.
-#[tactic(auto, using(crate::proofs::GateLemmas::gates_kept))]
 fn pack_telling<'a, R: Threads + Wait + Sync, F: Files, G: Gate + Send>(
     rt: &R,
     alloc: Global,
@@ -106,7 +105,6 @@ fn pack_telling<'a, R: Threads + Wait + Sync, F: Files, G: Gate + Send>(
 }
 
 /// The traces of lanes, if their cells are few enough to be kept.
-#[tactic(auto, using(crate::proofs::GateLemmas::gates_kept))]
 fn pack_kept<'a, R: Threads + Wait + Sync, G: Gate + Send>(
     rt: &R,
     alloc: Global,

@@ -53,7 +53,6 @@ pub fn run<'a, R: Threads + Wait + Sync, F: Files, O: Sink, G: Gate + Send>(
 }
 
 /// The same, with what the gates are told.
-#[tactic(auto, using(crate::proofs::GateLemmas::gates_kept))]
 fn run_telling<'a, R: Threads + Wait + Sync, F: Files, O: Sink, G: Gate + Send>(
     rt: &R,
     alloc: Global,
@@ -97,7 +96,7 @@ fn run_telling<'a, R: Threads + Wait + Sync, F: Files, O: Sink, G: Gate + Send>(
 }
 
 /// The trace of an image under a stimulus. By workers it is written, and else it is kept.
-#[tactic(auto, using(crate::proofs::GateLemmas::gates_kept), unfolding(crate::specs::commands::Run::EndsBy))]
+#[tactic(auto, unfolding(crate::specs::commands::Run::EndsBy))]
 fn finish<'a, R: Threads + Wait + Sync, F: Files, O: Sink, G: Gate + Send>(
     rt: &R,
     alloc: Global,

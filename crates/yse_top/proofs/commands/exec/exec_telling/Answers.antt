@@ -9,6 +9,7 @@ use Rattle.yse_top.specs.code.Passing.{AfterImageFile, Continuation}
 use Rattle.yse_top.specs.code.Visited.{ExecTelling}
 use Rattle.yse_top.specs.commands.Exec.{AfterImage, AfterMatch, IsAccepted, OnImage, RunsImage}
 use Rattle.yse_top.proofs.ChainLemmas.{follows_here, follows_on, follows_refusal}
+use Rattle.yse_top.proofs.GateLemmas.{gates_kept}
 use Rattle.yse_top.proofs.PassingLemmas.{design_on, design_stops, passed_on, stimulus_on, stimulus_stops, stopped}
 use Rattle.yse_top.proofs.WeakerLemmas.{image_file_so}
 use Rattle.yse_top.proofs.commands.exec.exec_telling.Goals as goal
@@ -123,3 +124,48 @@ returns-clause-expected g c =
     (stimulus_on _ _ words.stimulus net (end file.image timing net) stimulus _ _ _ _ _ _ c.in-Ok-stimulus_in.ensures.same_names c.in-Ok-stimulus_in.ensures.same_bytes
     (rw of_net at (rw of_built.0 at (rw c.as_bytes.ensures at c.in-Ok-stimulus_in.ensures.step)))
     (follows_here _ _ _ _ (end file.image timing net stimulus) (record { ends = (refl, inr refl); visits = λ is. cc }))))))
+
+pub returns-in-Err-clause-kept : goal.returns-in-Err-clause-kept
+returns-in-Err-clause-kept g c = gates_kept _ _ _
+
+pub returns-in-Err-items_of-clause-kept : goal.returns-in-Err-items_of-clause-kept
+returns-in-Err-items_of-clause-kept g c = gates_kept _ _ _
+
+pub returns-in-Err-image_in-clause-kept : goal.returns-in-Err-image_in-clause-kept
+returns-in-Err-image_in-clause-kept g c = gates_kept _ _ _
+
+pub returns-in-Err-accepted-clause-kept : goal.returns-in-Err-accepted-clause-kept
+returns-in-Err-accepted-clause-kept g c = gates_kept _ _ _
+
+pub returns-in-Err-stimulus_in-clause-kept : goal.returns-in-Err-stimulus_in-clause-kept
+returns-in-Err-stimulus_in-clause-kept g c = gates_kept _ _ _
+
+pub returns-in-Err-clause-writable : goal.returns-in-Err-clause-writable
+returns-in-Err-clause-writable g c = tt
+
+pub returns-in-Err-clause-written : goal.returns-in-Err-clause-written
+returns-in-Err-clause-written g c = refl
+
+pub returns-in-Err-items_of-clause-writable : goal.returns-in-Err-items_of-clause-writable
+returns-in-Err-items_of-clause-writable g c = tt
+
+pub returns-in-Err-items_of-clause-written : goal.returns-in-Err-items_of-clause-written
+returns-in-Err-items_of-clause-written g c = refl
+
+pub returns-in-Err-image_in-clause-writable : goal.returns-in-Err-image_in-clause-writable
+returns-in-Err-image_in-clause-writable g c = tt
+
+pub returns-in-Err-image_in-clause-written : goal.returns-in-Err-image_in-clause-written
+returns-in-Err-image_in-clause-written g c = refl
+
+pub returns-in-Err-accepted-clause-writable : goal.returns-in-Err-accepted-clause-writable
+returns-in-Err-accepted-clause-writable g c = tt
+
+pub returns-in-Err-accepted-clause-written : goal.returns-in-Err-accepted-clause-written
+returns-in-Err-accepted-clause-written g c = refl
+
+pub returns-in-Err-stimulus_in-clause-writable : goal.returns-in-Err-stimulus_in-clause-writable
+returns-in-Err-stimulus_in-clause-writable g c = tt
+
+pub returns-in-Err-stimulus_in-clause-written : goal.returns-in-Err-stimulus_in-clause-written
+returns-in-Err-stimulus_in-clause-written g c = refl

@@ -5,6 +5,7 @@ use Rattle.yse_top.specs.commands.Pack.{AfterLanes, PacksIn, PacksOn}
 use Rattle.yse_top.proofs.ChainLemmas.{follows_fit, follows_here, follows_on, follows_refusal, follows_unfit}
 use Rattle.yse_top.proofs.PassingLemmas.{design_on, design_stops, machine_on, machine_stops, passed_on, stopped}
 use Rattle.yse_top.proofs.WeakerLemmas.{lanes_so}
+use Rattle.yse_top.proofs.GateLemmas.{gates_kept}
 use Rattle.yse_top.proofs.commands.pack.pack_telling.Goals as goal
 
 pub returns-in-Err-clause-expected : goal.returns-in-Err-clause-expected
@@ -74,3 +75,33 @@ returns-clause-expected g c =
     (follows_on _ _ (HasFewBits design.net) (λ few. then) tt _ _ _ (rw same at c.in-Ok-few_bits.ensures)
     (passed_on _ _ (AfterLanes words.stimulus design.net) (lanes_so words.stimulus design.net) lanes (end machine design.timing design.net) _ _ _ _ _ _ c.in-Ok-lanes_in.ensures.same_names c.in-Ok-lanes_in.ensures.same_bytes
     (rw same at (rw c.as_bytes.ensures at c.in-Ok-lanes_in.ensures.step)) (follows_here _ _ _ _ (end machine design.timing design.net lanes) (rw same at c.pack_kept.ensures.expected))))))
+
+pub returns-in-Err-clause-kept : goal.returns-in-Err-clause-kept
+returns-in-Err-clause-kept g c = gates_kept _ _ _
+
+pub returns-in-Err-design_from-clause-kept : goal.returns-in-Err-design_from-clause-kept
+returns-in-Err-design_from-clause-kept g c = gates_kept _ _ _
+
+pub returns-in-Err-compiled-clause-kept : goal.returns-in-Err-compiled-clause-kept
+returns-in-Err-compiled-clause-kept g c = gates_kept _ _ _
+
+pub returns-in-Err-few_bits-clause-kept : goal.returns-in-Err-few_bits-clause-kept
+returns-in-Err-few_bits-clause-kept g c = gates_kept _ _ _
+
+pub returns-in-Err-lanes_in-clause-kept : goal.returns-in-Err-lanes_in-clause-kept
+returns-in-Err-lanes_in-clause-kept g c = gates_kept _ _ _
+
+pub returns-in-Err-clause-writable : goal.returns-in-Err-clause-writable
+returns-in-Err-clause-writable g c = tt
+
+pub returns-in-Err-design_from-clause-writable : goal.returns-in-Err-design_from-clause-writable
+returns-in-Err-design_from-clause-writable g c = tt
+
+pub returns-in-Err-compiled-clause-writable : goal.returns-in-Err-compiled-clause-writable
+returns-in-Err-compiled-clause-writable g c = tt
+
+pub returns-in-Err-few_bits-clause-writable : goal.returns-in-Err-few_bits-clause-writable
+returns-in-Err-few_bits-clause-writable g c = tt
+
+pub returns-in-Err-lanes_in-clause-writable : goal.returns-in-Err-lanes_in-clause-writable
+returns-in-Err-lanes_in-clause-writable g c = tt

@@ -1,10 +1,11 @@
 -- The machine, the design, whether it fits, the stimulus, and the end.
-use Rattle.std.proofs.Common.{Ok}
+use Rattle.std.proofs.Common.{Ok, refl}
 use Rattle.yse_top.specs.code.Refusals.{written_by}
 use Rattle.yse_top.specs.code.Visited.{EndsTelling}
 use Rattle.yse_top.specs.commands.Run.{AfterStimulus, ExpectedOn, OnTiming}
 use Rattle.yse_top.proofs.ChainLemmas.{follows_fit, follows_unfit}
 use Rattle.yse_top.proofs.PassingLemmas.{design_on, design_stops, machine_on, machine_stops, stimulus_on, stimulus_stops}
+use Rattle.yse_top.proofs.GateLemmas.{gates_kept}
 use Rattle.yse_top.proofs.commands.run.run_telling.Goals as goal
 
 pub returns-in-Err-clause-expected : goal.returns-in-Err-clause-expected
@@ -55,3 +56,39 @@ returns-clause-expected g c =
     (follows_fit _ _ words.homes design.net machine design.timing (AfterStimulus words.stimulus design.net (end machine design.timing design.net)) _ _ _ c.in-Ok-compiled.ensures.acyclic c.in-Ok-compiled.ensures.fits
     (stimulus_on _ _ words.stimulus design.net (end machine design.timing design.net) stimulus _ _ _ _ _ _ c.in-Ok-stimulus_in.ensures.same_names c.in-Ok-stimulus_in.ensures.same_bytes
     (rw same at (rw c.as_bytes.ensures at c.in-Ok-stimulus_in.ensures.step)) (rw same at c.finish.ensures.expected))))
+
+pub returns-in-Err-clause-kept : goal.returns-in-Err-clause-kept
+returns-in-Err-clause-kept g c = gates_kept _ _ _
+
+pub returns-in-Err-design_from-clause-kept : goal.returns-in-Err-design_from-clause-kept
+returns-in-Err-design_from-clause-kept g c = gates_kept _ _ _
+
+pub returns-in-Err-compiled-clause-kept : goal.returns-in-Err-compiled-clause-kept
+returns-in-Err-compiled-clause-kept g c = gates_kept _ _ _
+
+pub returns-in-Err-stimulus_in-clause-kept : goal.returns-in-Err-stimulus_in-clause-kept
+returns-in-Err-stimulus_in-clause-kept g c = gates_kept _ _ _
+
+pub returns-in-Err-clause-writable : goal.returns-in-Err-clause-writable
+returns-in-Err-clause-writable g c = tt
+
+pub returns-in-Err-clause-written : goal.returns-in-Err-clause-written
+returns-in-Err-clause-written g c = refl
+
+pub returns-in-Err-design_from-clause-writable : goal.returns-in-Err-design_from-clause-writable
+returns-in-Err-design_from-clause-writable g c = tt
+
+pub returns-in-Err-design_from-clause-written : goal.returns-in-Err-design_from-clause-written
+returns-in-Err-design_from-clause-written g c = refl
+
+pub returns-in-Err-compiled-clause-writable : goal.returns-in-Err-compiled-clause-writable
+returns-in-Err-compiled-clause-writable g c = tt
+
+pub returns-in-Err-compiled-clause-written : goal.returns-in-Err-compiled-clause-written
+returns-in-Err-compiled-clause-written g c = refl
+
+pub returns-in-Err-stimulus_in-clause-writable : goal.returns-in-Err-stimulus_in-clause-writable
+returns-in-Err-stimulus_in-clause-writable g c = tt
+
+pub returns-in-Err-stimulus_in-clause-written : goal.returns-in-Err-stimulus_in-clause-written
+returns-in-Err-stimulus_in-clause-written g c = refl
