@@ -37,8 +37,8 @@ use Rattle.image_file.specs.Reading.{first_fault}
 use Rattle.image_file.specs.declared.refusal.ImageNo.{ImageNo}
 use Rattle.text_lines.specs.Answers.{IsReader}
 use Rattle.image_check.specs.Claimed.{lists_of, HasTiming, PlaceMatches, ColumnMatches, IsFirstPlace, IsFirstColumn}
-use Rattle.yse_top.specs.declared.status.Status.TheVariants as status
-use Rattle.yse_top.specs.Lines.{match_line}
+use Rattle.refusal_lines.specs.declared.status.Status.TheVariants as status
+use Rattle.refusal_lines.specs.Lines.{match_line}
 use Rattle.yse_top.specs.Checks.{After}
 use Rattle.yse_top.specs.Outcome.{Outcome, refusal, out_of_memory}
 use Rattle.yse_top.specs.Readings.{Reading}

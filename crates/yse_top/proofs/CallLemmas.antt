@@ -7,8 +7,8 @@ use Rattle.cmd_words.specs.declared.command.Command.{Command}
 use Rattle.cmd_words.specs.Forms.{HasForm}
 use Rattle.yse_top.specs.declared.output.Output.{Output}
 use Rattle.yse_top.specs.declared.output.Output.TheVariants as output
-use Rattle.yse_top.specs.declared.refusal.Refusal.TheVariants as refusal
-use Rattle.yse_top.specs.declared.status.Status.TheVariants as status
+use Rattle.refusal_lines.specs.declared.refusal.Refusal.TheVariants as refusal
+use Rattle.refusal_lines.specs.declared.status.Status.TheVariants as status
 use Rattle.yse_top.specs.Expected.{Expected}
 use Rattle.yse_top.specs.Law.{IsProper}
 use Rattle.yse_top.specs.Outcome.{Outcome}

@@ -3,8 +3,8 @@ use Rattle.std.proofs.Common.{◌≡◌, ◌≢◌, ◌∙◌, ◌↔◌, sym, s
 use Rattle.edge_io.specs.Counts.{Rose}
 use Rattle.edge_io.specs.declared.counts.FileCounts.{FileCounts}
 use Rattle.cmd_words.specs.Asked.{asked}
-use Rattle.yse_top.specs.declared.status.Status.{Status}
-use Rattle.yse_top.specs.declared.status.Status.TheVariants as status
+use Rattle.refusal_lines.specs.declared.status.Status.{Status}
+use Rattle.refusal_lines.specs.declared.status.Status.TheVariants as status
 use Rattle.yse_top.specs.code.Came.{CameTo}
 use Rattle.yse_top.specs.Ends.{AreToldBy, IsDoneOrMemory, MayWrite}
 use Rattle.yse_top.specs.Expected.{Expected}

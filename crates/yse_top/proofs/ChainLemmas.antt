@@ -7,7 +7,7 @@ use Rattle.edge_io.specs.Counts.{raised, raised_if}
 use Rattle.edge_io.specs.Names.{is_absent}
 use Rattle.edge_io.specs.declared.counts.FileCounts.{FileCounts}
 use Rattle.yse_top.specs.declared.output.Output.{Output}
-use Rattle.yse_top.specs.declared.refusal.Refusal.{Refusal}
+use Rattle.refusal_lines.specs.declared.refusal.Refusal.{Refusal}
 use Rattle.machine_text.specs.declared.machine.Machine.{Machine}
 use Rattle.net_defs.specs.declared.homes.HomeChoice.{HomeChoice}
 use Rattle.net_defs.specs.declared.netlist.Netlist.{Netlist}

@@ -14,11 +14,11 @@ use Rattle.machine_text.specs.declared.machine.Machine.{Machine}
 use Rattle.yse_compile.specs.declared.compiler.CompNo.{CompNo}
 use Rattle.yse_compile.specs.Chosen.{FitsBy}
 use Rattle.yse_compile.specs.Compiled.{IsRight, IsOverfull}
-use Rattle.yse_top.specs.declared.status.Status.{Status}
-use Rattle.yse_top.specs.declared.status.Status.TheVariants as status
+use Rattle.refusal_lines.specs.declared.status.Status.{Status}
+use Rattle.refusal_lines.specs.declared.status.Status.TheVariants as status
 use Rattle.yse_top.specs.Checks.{ReadsAs, HasNoLoop, HasRoom, IsWithin}
 use Rattle.yse_top.specs.Law.{AreAlike, Equal}
-use Rattle.yse_top.specs.Lines.{loop_line, overfull_line}
+use Rattle.refusal_lines.specs.Lines.{loop_line, overfull_line}
 use Rattle.yse_top.specs.Outcome.{Outcome, refusal}
 use Rattle.yse_top.proofs.ProperLemmas.{IsCheck, IsOfText, alike}
 

@@ -5,8 +5,8 @@ use Rattle.std.proofs.lemmas.List.Sums.{sum_by-cons}
 use Rattle.edge_io.specs.Counts.{raised, Rose}
 use Rattle.edge_io.specs.Names.{is_absent, OfTold}
 use Rattle.edge_io.specs.declared.counts.FileCounts.{FileCounts}
-use Rattle.yse_top.specs.declared.status.Status.{Status}
-use Rattle.yse_top.specs.declared.status.Status.TheVariants as status
+use Rattle.refusal_lines.specs.declared.status.Status.{Status}
+use Rattle.refusal_lines.specs.declared.status.Status.TheVariants as status
 use Rattle.yse_top.specs.Ends.{AreToldBy, IsDoneOrMemory}
 use Rattle.yse_top.specs.Law.{IsProper, AgreeOn}
 use Rattle.yse_top.specs.Outcome.{Outcome, done}

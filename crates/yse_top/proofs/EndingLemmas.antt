@@ -3,7 +3,7 @@ use Rattle.std.proofs.Common.{◌≡◌, sym, refl, subst, ℕ, List, [], Option
 use Rattle.yse_top.specs.declared.output.Ending.{Ending}
 use Rattle.yse_top.specs.declared.output.Output.{Output}
 use Rattle.yse_top.specs.declared.output.Output.TheVariants as output
-use Rattle.yse_top.specs.declared.status.Status.TheVariants as status
+use Rattle.refusal_lines.specs.declared.status.Status.TheVariants as status
 use Rattle.yse_top.specs.code.Endings.{ending_in, status_after, IsTold}
 use Rattle.yse_top.specs.Ends.{MayWrite}
 use Rattle.yse_top.specs.code.Outputs.{bytes_of}

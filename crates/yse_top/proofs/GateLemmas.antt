@@ -18,7 +18,7 @@ use Rattle.net_defs.specs.Valid.{input_count}
 use Rattle.port_host.specs.Rows.{printed_sources}
 use Rattle.slot_words.specs.Rule.{turns_of}
 use Rattle.yse_top.specs.declared.commands.steps.Pace.{Pace}
-use Rattle.yse_top.specs.declared.refusal.Refusal.{Refusal}
+use Rattle.refusal_lines.specs.declared.refusal.Refusal.{Refusal}
 use Rattle.yse_top.specs.code.Images.{IsImageOf}
 use Rattle.yse_top.specs.Orders.{IsMachineImage}
 use Rattle.yse_top.specs.Visited.{AreRunVisits, block_of}

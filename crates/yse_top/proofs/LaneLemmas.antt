@@ -25,8 +25,8 @@ use Rattle.trace_text.specs.Line.{HasRoom}
 use Rattle.cmd_words.specs.declared.command.RunWords.{RunWords}
 use Rattle.yse_top.specs.declared.commands.steps.Pace.TheVariants.{Workers}
 use Rattle.yse_top.specs.declared.output.Output.{Output}
-use Rattle.yse_top.specs.declared.refusal.Refusal.{Refusal}
-use Rattle.yse_top.specs.declared.status.Status.TheVariants as status
+use Rattle.refusal_lines.specs.declared.refusal.Refusal.{Refusal}
+use Rattle.refusal_lines.specs.declared.status.Status.TheVariants as status
 use Rattle.yse_top.specs.Checks.{After, Refuses, HasFewBits, HasFewLaneCells}
 use Rattle.yse_top.specs.code.Endings.{ending_in}
 use Rattle.yse_top.specs.Ends.{MayWrite}

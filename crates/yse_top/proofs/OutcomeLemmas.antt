@@ -1,7 +1,7 @@
 -- A chain of checks has an outcome where each check and each end has one: one lemma for each of the links.
 use Rattle.std.proofs.Common.{◌≡◌, ◌≢◌, sym, refl, subst, ◌⊎◌, inl, inr, ℕ, zero, suc, ◌≤◌, List, [], ◌∷◌, length, Option, Some, None, Result, Ok, Err}
 use Rattle.limits.specs.declared.TheConstants.{MAX_TEXT_BYTES}
-use Rattle.yse_top.specs.declared.status.Status.TheVariants as status
+use Rattle.refusal_lines.specs.declared.status.Status.TheVariants as status
 use Rattle.yse_top.specs.Checks.{After, AfterFile, Ends, Writes, text_of, read_fault}
 use Rattle.yse_top.specs.Law.{AreGiven, HasOutcome}
 use Rattle.yse_top.specs.Outcome.{Outcome, done}

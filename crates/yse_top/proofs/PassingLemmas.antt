@@ -9,7 +9,7 @@ use Rattle.net_defs.specs.declared.stimulus.Stimulus.{Stimulus}
 use Rattle.net_defs.specs.declared.timing.Timing.{Timing}
 use Rattle.yse_top.specs.declared.output.Output.{Output}
 use Rattle.yse_top.specs.declared.reading.Timed.{Timed}
-use Rattle.yse_top.specs.declared.refusal.Refusal.{Refusal}
+use Rattle.refusal_lines.specs.declared.refusal.Refusal.{Refusal}
 use Rattle.yse_top.specs.Checks.{After, AfterFile}
 use Rattle.yse_top.specs.Outcome.{Outcome}
 use Rattle.yse_top.specs.code.Passing.{AfterTimed, Continuation, Never, Only, Passes, Steps}

@@ -8,10 +8,10 @@ use Rattle.edge_io.specs.Names.{is_absent, IsAbsent, OfTold}
 use Rattle.edge_io.specs.declared.counts.FileCounts.{FileCounts}
 use Rattle.edge_io.specs.declared.reading.ReadNo.{ReadNo}
 use Rattle.edge_io.specs.declared.reading.ReadNo.TheVariants as no
-use Rattle.yse_top.specs.declared.refusal.Refusal.{Refusal}
-use Rattle.yse_top.specs.declared.status.Status.TheVariants.{Limit}
+use Rattle.refusal_lines.specs.declared.refusal.Refusal.{Refusal}
+use Rattle.refusal_lines.specs.declared.status.Status.TheVariants.{Limit}
 use Rattle.yse_top.specs.Checks.{text_of}
-use Rattle.yse_top.specs.Lines.{too_long_line}
+use Rattle.refusal_lines.specs.Lines.{too_long_line}
 use Rattle.yse_top.specs.Outcome.{refusal, out_of_memory}
 use Rattle.yse_top.specs.Readings.{AreReadings}
 use Rattle.yse_top.specs.code.Refusals.{GivesText, refused_of}

@@ -17,10 +17,10 @@ use Rattle.yse_top.specs.declared.commands.steps.Pace.{Pace}
 use Rattle.yse_top.specs.declared.commands.steps.Pace.TheVariants.{Workers}
 use Rattle.yse_top.specs.declared.output.Output.{Output}
 use Rattle.yse_top.specs.declared.output.Output.TheVariants as output
-use Rattle.yse_top.specs.declared.refusal.Refusal.{Refusal}
-use Rattle.yse_top.specs.declared.refusal.Refusal.TheVariants as refusal
-use Rattle.yse_top.specs.declared.status.Status.{Status}
-use Rattle.yse_top.specs.declared.status.Status.TheVariants as status
+use Rattle.refusal_lines.specs.declared.refusal.Refusal.{Refusal}
+use Rattle.refusal_lines.specs.declared.refusal.Refusal.TheVariants as refusal
+use Rattle.refusal_lines.specs.declared.status.Status.{Status}
+use Rattle.refusal_lines.specs.declared.status.Status.TheVariants as status
 use Rattle.yse_top.specs.Outcome.{Outcome, done}
 use Rattle.edge_io.specs.Writing.{joined}
 use Rattle.yse_top.specs.code.Outputs.{lanes_bytes, run_bytes, trace_bytes, wrote_in}

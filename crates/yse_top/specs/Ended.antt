@@ -4,14 +4,14 @@ use Rattle.std.specs.Io.KnownBytes.{append_known}
 use Rattle.cmd_words.specs.Asked.{asked}
 use Rattle.crew_run.specs.declared.gate.Gate as gate
 use Rattle.edge_io.specs.declared.counts.FileCounts.{FileCounts}
-use Rattle.yse_top.specs.declared.status.Status.{Status}
-use Rattle.yse_top.specs.declared.status.Status.TheVariants.{Done, Memory}
+use Rattle.refusal_lines.specs.declared.status.Status.{Status}
+use Rattle.refusal_lines.specs.declared.status.Status.TheVariants.{Done, Memory}
 use Rattle.yse_top.specs.Ends.{EndsAs}
 use Rattle.yse_top.specs.Expected.{Expected}
-use Rattle.yse_top.specs.Lines.{memory_line}
+use Rattle.refusal_lines.specs.Lines.{memory_line}
 use Rattle.yse_top.specs.Outcome.{Outcome}
 use Rattle.yse_top.specs.Readings.{Reading, AreReadings}
-use Rattle.yse_top.specs.Statuses.{status_number}
+use Rattle.refusal_lines.specs.Statuses.{status_number}
 use Rattle.yse_top.specs.Traced.{IsTraceOfFiles}
 use Rattle.yse_top.specs.Visited.{TellsGates}
 use Rattle.yse_top.specs.Words.{traced_by}

@@ -4,9 +4,9 @@ use Rattle.std.specs.Io.KnownBytes.{append_known}
 use Rattle.edge_io.specs.Counts.{Rose}
 use Rattle.edge_io.specs.Names.{is_absent}
 use Rattle.edge_io.specs.Writing.{TakesProperPrefix}
-use Rattle.yse_top.specs.declared.status.Status.{Status}
-use Rattle.yse_top.specs.declared.status.Status.TheVariants as status
-use Rattle.yse_top.specs.Lines.{write_fault_line}
+use Rattle.refusal_lines.specs.declared.status.Status.{Status}
+use Rattle.refusal_lines.specs.declared.status.Status.TheVariants as status
+use Rattle.refusal_lines.specs.Lines.{write_fault_line}
 use Rattle.yse_top.specs.Outcome.{Outcome}
 use Rattle.yse_top.specs.Readings.{Reading}
 

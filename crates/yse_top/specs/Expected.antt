@@ -4,9 +4,9 @@ use Rattle.cmd_words.specs.declared.command.Command.{Command}
 use Rattle.cmd_words.specs.declared.command.Command.TheVariants as command
 use Rattle.cmd_words.specs.Forms.{HasForm}
 use Rattle.yse_top.specs.declared.commands.layout.Sheet.TheVariants as sheet
-use Rattle.yse_top.specs.declared.status.Status.TheVariants as status
+use Rattle.refusal_lines.specs.declared.status.Status.TheVariants as status
 use Rattle.yse_top.specs.Checks.{After}
-use Rattle.yse_top.specs.Lines.{usage_line}
+use Rattle.refusal_lines.specs.Lines.{usage_line}
 use Rattle.yse_top.specs.Outcome.{Outcome, refusal}
 use Rattle.yse_top.specs.Readings.{Reading}
 use Rattle.yse_top.specs.commands.Exec.{ExpectedExec}

@@ -1,8 +1,8 @@
 -- The laws of whole calls: what is expected is one outcome, and there is one, whatever the files hold.
 use Rattle.std.specs.Prelude.{◌⊎◌, ◌≡◌, ◌≢◌, ◌↔◌, ℕ, List, [], ◌∷◌, ◌++◌, ◌+◌, length, take, map, Option, Some, None, slice_get}
-use Rattle.yse_top.specs.declared.status.Status.TheVariants as ends
+use Rattle.refusal_lines.specs.declared.status.Status.TheVariants as ends
 use Rattle.yse_top.specs.Expected.{Expected}
-use Rattle.yse_top.specs.Lines.{read_fault_line}
+use Rattle.refusal_lines.specs.Lines.{read_fault_line}
 use Rattle.yse_top.specs.Outcome.{Outcome}
 use Rattle.yse_top.specs.Readings.{Reading}
 use Rattle.cmd_words.specs.declared.command.Command.{Command}

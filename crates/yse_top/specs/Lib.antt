@@ -6,11 +6,9 @@ pub mod Ends
 pub mod Expected
 pub mod Given
 pub mod Law
-pub mod Lines
 pub mod Orders
 pub mod Outcome
 pub mod Readings
-pub mod Statuses
 pub mod Traced
 pub mod Visited
 pub mod Words

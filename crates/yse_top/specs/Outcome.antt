@@ -1,8 +1,8 @@
 -- How a whole call ends.
 use Rattle.std.specs.Prelude.{List, [], ℕ}
-use Rattle.yse_top.specs.declared.status.Status.{Status}
-use Rattle.yse_top.specs.declared.status.Status.TheVariants as status
-use Rattle.yse_top.specs.Lines.{memory_line, unfinished_line}
+use Rattle.refusal_lines.specs.declared.status.Status.{Status}
+use Rattle.refusal_lines.specs.declared.status.Status.TheVariants as status
+use Rattle.refusal_lines.specs.Lines.{memory_line, unfinished_line}
 
 -- the status, the line to the error sink, and the output
 pub record Outcome : Type 0 where

@@ -15,13 +15,11 @@ ghost use Rattle.yse_top.specs.Traced.{IsOutputOfFiles};
 ghost use Rattle.yse_top.specs.Visited.{AllCanTell, TellsGates};
 
 use crate::commands::prepare;
-use crate::diagnostics::refuse;
 use crate::ending::end;
-use crate::refusal::Refusal;
-use crate::status::Status;
 use cmd_words::{Command, WordNo, read_words};
 use crew_run::Gate;
 use edge_io::{Files, Sink};
+use refusal_lines::{Refusal, Status, refuse};
 use std::alloc::Global;
 use std::marker::{Send, Sync};
 use std::sync::Wait;

@@ -16,7 +16,6 @@ ghost use Rattle.yse_top.specs.code.Images.{IsImageOf};
 ghost use Rattle.yse_top.specs.Orders.{IsMachineImage};
 ghost use Rattle.yse_top.specs.code.Refusals.{Satisfies, refused_of};
 
-use crate::refusal::{Refusal, of_lanes, of_list, of_machine, of_netlist, of_order, of_stimulus};
 use bench_read::law::reads_as_valid;
 use bench_read::{read_bench, read_last};
 use image_defs::Image;
@@ -24,6 +23,7 @@ use limits::MAX_CELLS;
 use machine_text::{Machine, read_machine};
 use net_defs::{HomeChoice, Netlist, Ranks, Stimulus, Timing};
 use rank_find::{RankNo, order, rank};
+use refusal_lines::{Refusal, of_lanes, of_list, of_machine, of_netlist, of_order, of_stimulus};
 use seen_list::List;
 use std::alloc::Global;
 use stim_text::{Lanes, Order, read_lanes, read_order, read_stim};

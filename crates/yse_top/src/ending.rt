@@ -4,17 +4,13 @@ ghost use Rattle.std.specs.Prelude.{◌≡◌, OnErr};
 ghost use Rattle.std.specs.Io.KnownBytes.{append_known};
 ghost use Rattle.yse_top.specs.code.Endings.{ending_in, status_after, IsTold};
 ghost use Rattle.yse_top.specs.Ends.{EndsAs, MayWrite};
-ghost use Rattle.yse_top.specs.Lines.{unfinished_line};
 ghost use Rattle.yse_top.specs.code.Outputs.{bytes_of, CanEnd, HasTaken, wrote_in};
 ghost use Rattle.yse_top.specs.code.Refusals.{ended_with};
-ghost use Rattle.edge_io.specs.Writing.{Takes, TakesLine};
+ghost use Rattle.edge_io.specs.Writing.{TakesLine};
 
-use crate::diagnostics::tell_write_fault;
-use crate::lines::write_pieces;
 use crate::output::{Ending, Output, write_output};
-use crate::status::Status;
-use edge_io::{Sink, WriteNo};
-use itoa::Buffer;
+use edge_io::Sink;
+use refusal_lines::{Status, tell_write_fault, write_unfinished_line};
 
 /// Writes an output to `out`, as far as it is not written, and then a line to `err` where its run was not
 /// finished, and answers the status. A fault of `err` changes nothing.
@@ -66,24 +62,4 @@ fn tell_ending<E: Sink>(err: &mut E, ending: Option<Ending>) -> Status
             Status::Unfinished
         }
     }
-}
-
-#[tactic(auto, unfolding(crate::specs::Lines::unfinished_line))]
-fn write_unfinished_line<S: Sink>(sink: &mut S, rows: u32, cycles: u32) -> Result<(), WriteNo>
-    ensures { Takes (S.taken sink.old) (S.taken sink.new) (S.faults sink.old) (S.faults sink.new)
-        result (unfinished_line rows cycles) }
-{
-    let (mut first, mut second) = (Buffer::new(), Buffer::new());
-    let rows = first.format(rows).as_bytes();
-    let cycles = second.format(cycles).as_bytes();
-    write_pieces(
-        sink,
-        &[
-            b"order: ended with ",
-            rows,
-            b" of ",
-            cycles,
-            b" rows done\n",
-        ],
-    )
 }

@@ -11,13 +11,13 @@ ghost use Rattle.yse_top.specs.code.Refusals.{Satisfies, refused_of};
 ghost use Rattle.yse_top.specs.commands.Exec.{IsAccepted, IsImageFileOf};
 
 use crate::checks::Built;
-use crate::refusal::{Refusal, of_image, of_match};
 use image_check::{ImageFile, check_image};
 use image_file::read_image;
 use net_defs::{Netlist, Timing};
 use node_defs::NodeNet;
 use node_map::map_nodes;
 use rank_find::{RankNo, rank};
+use refusal_lines::{Refusal, of_image, of_match};
 use seen_list::{List, Memory};
 use std::alloc::Global;
 use yse_compile::inputs::same_inputs;

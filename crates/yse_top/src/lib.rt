@@ -10,7 +10,7 @@ ghost use Rattle.limits.specs.declared.TheConstants.{MAX_WORKERS};
 ghost use Rattle.machine_run.specs.Visits.{AreInPlace};
 ghost use Rattle.yse_top.specs.Ends.{EndsAs, IsDoneOrMemory, MayWrite, AreToldBy};
 ghost use Rattle.yse_top.specs.Expected.{Expected};
-ghost use Rattle.yse_top.specs.Lines.{memory_line};
+ghost use Rattle.refusal_lines.specs.Lines.{memory_line};
 ghost use Rattle.yse_top.specs.Outcome.{Outcome, done};
 ghost use Rattle.yse_top.specs.Readings.{Reading, AreReadings};
 ghost use Rattle.yse_top.specs.Traced.{IsOutputOfFiles};
@@ -21,36 +21,25 @@ ghost use Rattle.edge_io.specs.Writing.{TakesLine};
 mod call;
 mod checks;
 mod commands;
-mod diagnostics;
 mod ending;
 mod images;
 pub mod law;
-mod lines;
 mod output;
 mod program;
 mod reading;
-mod refusal;
 mod sizes;
-mod status;
 
 use call::call;
 use crew_run::Gate;
-use diagnostics::refuse;
 use edge_io::{Files, Sink};
 use law::calls_are_proper;
 pub use program::{ended, exit_code};
-use refusal::Refusal;
-pub use status::Status;
+use refusal_lines::{Refusal, refuse};
+pub use refusal_lines::{MAX_FAULT_SIGNALS, MAX_PACK_BITS, Status};
 use std::alloc::Global;
 use std::marker::{Send, Sync};
 use std::sync::Wait;
 use std::thread::Threads;
-
-/// The most bits of all memories of a design whose lanes run at once: each lane has its own content.
-pub const MAX_PACK_BITS: u64 = 16_777_216;
-
-/// The most signals of a netlist whose stuck faults are listed.
-pub const MAX_FAULT_SIGNALS: u64 = 65_536;
 
 /// Does what the words say. `run`, `refer` and `order` with `NETLIST STIMULUS [--mode rank|unit|mixed]
 /// [--last FILE] [--units K] [--init x|0]` simulate the netlist of the one file with the stimulus of the

@@ -4,10 +4,11 @@ ghost use Rattle.std.specs.Prelude.{IsErr, OnErr};
 ghost use Rattle.yse_top.specs.code.Outputs.{bytes_of, lanes_bytes, trace_bytes, CanEnd, CanPrint, CanPrintLanes, HasTaken, wrote_in};
 ghost use Rattle.edge_io.specs.Writing.{Takes};
 
-use edge_io::{Sink, WriteNo, write_whole};
+use edge_io::{Sink, WriteNo};
 use image_defs::Image;
 use kept_lines::{LaneMark, write_lanes, write_texts, write_trace};
 use net_defs::{Netlist, Rows, Stimulus};
+use refusal_lines::write_piece;
 use seen_list::{List, Text};
 use trace_text::TraceLine;
 
@@ -76,14 +77,6 @@ pub fn write_output<O: Sink>(out: &mut O, output: &mut Output) -> Result<(), Wri
         Output::Lanes(traces) => write_traces(out, traces),
         Output::Lines(lines) => write_texts(out, lines.as_slice()),
     }
-}
-
-/// Writes one piece.
-pub fn write_piece<S: Sink>(sink: &mut S, piece: &[u8]) -> Result<(), WriteNo>
-    ensures { Takes (S.taken sink.old) (S.taken sink.new) (S.faults sink.old) (S.faults sink.new)
-        result piece.now }
-{
-    write_whole(sink, piece)
 }
 
 fn write_rows<O: Sink>(out: &mut O, trace: &mut Trace) -> Result<(), WriteNo>

@@ -5,15 +5,15 @@ ghost use Rattle.std.specs.IoError.{error_kind};
 ghost use Rattle.std.specs.Process.{exit_status};
 ghost use Rattle.edge_io.specs.Writing.{TakesLine};
 ghost use Rattle.limits.specs.declared.TheConstants.{MAX_WORKERS};
-ghost use Rattle.yse_top.specs.Statuses.{status_number};
+ghost use Rattle.refusal_lines.specs.Statuses.{status_number};
 ghost use Rattle.yse_top.specs.Visited.{AllCanTell};
 ghost use Rattle.yse_top.specs.Given.{Gives, words_in};
 ghost use Rattle.yse_top.specs.Ended.{EndsBy, EndsForMemory};
 
-use crate::status::Status;
 use crate::{out_of_memory, yse};
 use crew_run::Gate;
 use edge_io::{Files, Sink};
+use refusal_lines::Status;
 use seen_list::Memory;
 use std::alloc::Global;
 use std::io;

@@ -15,13 +15,13 @@ ghost use Rattle.yse_top.specs.commands.Run.{AfterList, AfterMachine, AfterStimu
 
 use crate::checks::{lanes_of, list_of, machine_of, netlist_of, order_of, stimulus_of};
 use crate::images::image_file_of;
-use crate::refusal::Refusal;
 use cmd_words::RunWords;
 use edge_io::{Files, ReadNo, read_file};
 use image_check::ImageFile;
 use limits::MAX_TEXT_BYTES;
 use machine_text::Machine;
 use net_defs::{Netlist, Stimulus, Timing};
+use refusal_lines::Refusal;
 use seen_list::{List, Text};
 use std::alloc::Global;
 use stim_text::{Lanes, Order};

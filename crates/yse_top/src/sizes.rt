@@ -8,10 +8,9 @@ ghost use Rattle.stim_text.specs.Lanes.{AreLanes, longest};
 ghost use Rattle.yse_top.specs.Checks.{HasFewBits, HasFewLaneCells, HasFewSignals, block_bits, lane_cell_count, memory_bits};
 ghost use Rattle.yse_top.specs.code.Refusals.{Satisfies};
 
-use crate::refusal::Refusal;
-use crate::{MAX_FAULT_SIGNALS, MAX_PACK_BITS};
 use limits::MAX_CELLS;
 use net_defs::{Block, Netlist};
+use refusal_lines::{MAX_FAULT_SIGNALS, MAX_PACK_BITS, Refusal};
 use stim_text::{Lanes, MAX_LANES};
 
 /// Whether there are not too many cells of lanes.

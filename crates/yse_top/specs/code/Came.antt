@@ -1,8 +1,8 @@
 -- What a call came to.
 use Rattle.std.specs.Prelude.{◌≡◌, ℕ, Bool, List, Option}
 use Rattle.edge_io.specs.declared.counts.FileCounts.{FileCounts}
-use Rattle.yse_top.specs.declared.status.Status.{Status}
-use Rattle.yse_top.specs.declared.status.Status.TheVariants as status
+use Rattle.refusal_lines.specs.declared.status.Status.{Status}
+use Rattle.refusal_lines.specs.declared.status.Status.TheVariants as status
 use Rattle.yse_top.specs.Ends.{EndsAs, MayWrite}
 use Rattle.yse_top.specs.Outcome.{Outcome}
 use Rattle.yse_top.specs.Readings.{Reading, AreReadings}

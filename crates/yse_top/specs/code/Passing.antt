@@ -7,7 +7,7 @@ use Rattle.image_check.specs.declared.file.ImageFile.{ImageFile}
 use Rattle.machine_text.specs.declared.machine.Machine.{Machine}
 use Rattle.stim_text.specs.declared.order.Order.{Order}
 use Rattle.yse_top.specs.declared.reading.Timed.{Timed}
-use Rattle.yse_top.specs.declared.refusal.Refusal.{Refusal}
+use Rattle.refusal_lines.specs.declared.refusal.Refusal.{Refusal}
 use Rattle.yse_top.specs.Checks.{After, AfterFile, IsNetlistOf, IsOrderOf}
 use Rattle.yse_top.specs.Outcome.{Outcome}
 use Rattle.yse_top.specs.Readings.{Reading, AreReadings}

@@ -17,9 +17,9 @@ use Rattle.image_check.specs.declared.check.CheckNo.TheVariants.{Memory}
 use Rattle.image_check.specs.declared.file.ImageFile.{ImageFile}
 use Rattle.image_check.specs.Check.{Says}
 use Rattle.cmd_words.specs.declared.command.RunWords.{RunWords}
-use Rattle.yse_top.specs.declared.status.Status.TheVariants as status
+use Rattle.refusal_lines.specs.declared.status.Status.TheVariants as status
 use Rattle.yse_top.specs.Checks.{After, AfterFile, HasNoLoop, ReadsAs}
-use Rattle.yse_top.specs.Lines.{image_line, match_line}
+use Rattle.refusal_lines.specs.Lines.{image_line, match_line}
 use Rattle.yse_top.specs.Outcome.{Outcome, refusal, out_of_memory}
 use Rattle.yse_top.specs.Readings.{Reading}
 use Rattle.yse_top.specs.commands.Run.{AfterNetlist, AfterStimulus, WritesTrace}

@@ -11,9 +11,9 @@ ghost use Rattle.yse_top.specs.Visited.{AllCanTell, AreTold};
 ghost use Rattle.yse_top.specs.commands.Large.{ExpectedLarge};
 
 use crate::output::Output;
-use crate::refusal::Refusal;
 use crew_run::Gate;
 use large_run::large as run_large;
+use refusal_lines::Refusal;
 use seen_list::Memory;
 use std::alloc::Global;
 use std::marker::{Send, Sync};

@@ -14,11 +14,11 @@ use crate::commands::compile::image_text_of;
 use crate::commands::plan::report_of;
 use crate::output::Output;
 use crate::reading::{Timed, design_from, machine_from};
-use crate::refusal::Refusal;
 use cmd_words::RunWords;
 use edge_io::Files;
 use machine_text::Machine;
 use net_defs::{HomeChoice, Timing};
+use refusal_lines::Refusal;
 use seen_list::{Memory, Text};
 use std::alloc::Global;
 

@@ -7,9 +7,9 @@ ghost use Rattle.yse_top.specs.commands.Show.{ExpectedShow};
 
 use crate::output::Output;
 use crate::reading::netlist_in;
-use crate::refusal::Refusal;
 use edge_io::Files;
 use net_defs::show as canonical_text;
+use refusal_lines::Refusal;
 use seen_list::Memory;
 use std::alloc::Global;
 

@@ -1,0 +1,23 @@
+//! Why a call did not end well: each refusal, with the status and the line of it. A line is written in pieces, without
+//! taking memory.
+#![tactic(auto)]
+
+mod diagnostics;
+mod lines;
+mod piece;
+mod refusal;
+mod status;
+
+pub use diagnostics::{refuse, tell_write_fault};
+pub use lines::order::write_unfinished_line;
+pub use piece::write_piece;
+pub use refusal::{
+    Refusal, of_image, of_lanes, of_list, of_machine, of_match, of_netlist, of_order, of_stimulus,
+};
+pub use status::Status;
+
+/// The most bits of all memories of a design whose lanes run at once: each lane has its own content.
+pub const MAX_PACK_BITS: u64 = 16_777_216;
+
+/// The most signals of a netlist whose stuck faults are listed.
+pub const MAX_FAULT_SIGNALS: u64 = 65_536;
