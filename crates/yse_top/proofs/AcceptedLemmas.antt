@@ -39,10 +39,11 @@ use Rattle.text_lines.specs.Answers.{IsReader}
 use Rattle.image_check.specs.Claimed.{lists_of, HasTiming, PlaceMatches, ColumnMatches, IsFirstPlace, IsFirstColumn}
 use Rattle.refusal_lines.specs.declared.status.Status.TheVariants as status
 use Rattle.refusal_lines.specs.Lines.{match_line}
-use Rattle.yse_top.specs.Checks.{After}
-use Rattle.yse_top.specs.Outcome.{Outcome, refusal, out_of_memory}
-use Rattle.yse_top.specs.Readings.{Reading}
-use Rattle.yse_top.specs.commands.Exec.{AfterImage, AfterMatch, IsAccepted, IsImageFileOf, IsTaken, RunsImage, WritesTraceOf}
+use Rattle.named_files.specs.Checks.{After}
+use Rattle.named_files.specs.Outcome.{Outcome, refusal, out_of_memory}
+use Rattle.named_files.specs.Readings.{Reading}
+use Rattle.yse_top.specs.commands.Exec.{AfterImage, AfterMatch, IsTaken, RunsImage, WritesTraceOf}
+use Rattle.named_files.specs.Images.{IsAccepted, IsImageFileOf}
 use Rattle.yse_top.proofs.ProperLemmas.{IsOfText, IsSingle, alike, short_passes}
 use Rattle.yse_top.proofs.TracedLemmas.{whole_text}
 

@@ -11,8 +11,8 @@ use Rattle.refusal_lines.specs.declared.refusal.Refusal.TheVariants as refusal
 use Rattle.refusal_lines.specs.declared.status.Status.TheVariants as status
 use Rattle.yse_top.specs.Expected.{Expected}
 use Rattle.yse_top.specs.Law.{IsProper}
-use Rattle.yse_top.specs.Outcome.{Outcome}
-use Rattle.yse_top.specs.Readings.{Reading, AreReadings}
+use Rattle.named_files.specs.Outcome.{Outcome}
+use Rattle.named_files.specs.Readings.{Reading, AreReadings}
 use Rattle.yse_top.specs.code.Refusals.{Follows, ended_with}
 use Rattle.yse_top.proofs.ChainLemmas.{follows_here}
 

@@ -9,8 +9,8 @@ use Rattle.yse_top.specs.code.Came.{CameTo}
 use Rattle.yse_top.specs.Ends.{AreToldBy, IsDoneOrMemory, MayWrite}
 use Rattle.yse_top.specs.Expected.{Expected}
 use Rattle.yse_top.specs.Law.{IsProper, TellsWords}
-use Rattle.yse_top.specs.Outcome.{done}
-use Rattle.yse_top.specs.Readings.{Reading}
+use Rattle.named_files.specs.Outcome.{done}
+use Rattle.named_files.specs.Readings.{Reading}
 use Rattle.yse_top.proofs.EndLemmas.{absent_kept, completes, fault_rose}
 
 -- what may be written is no such status

@@ -16,10 +16,10 @@ use Rattle.yse_compile.specs.Chosen.{FitsBy}
 use Rattle.yse_compile.specs.Compiled.{IsRight, IsOverfull}
 use Rattle.refusal_lines.specs.declared.status.Status.{Status}
 use Rattle.refusal_lines.specs.declared.status.Status.TheVariants as status
-use Rattle.yse_top.specs.Checks.{ReadsAs, HasNoLoop, HasRoom, IsWithin}
+use Rattle.named_files.specs.Checks.{ReadsAs, HasNoLoop, HasRoom, IsWithin}
 use Rattle.yse_top.specs.Law.{AreAlike, Equal}
 use Rattle.refusal_lines.specs.Lines.{loop_line, overfull_line}
-use Rattle.yse_top.specs.Outcome.{Outcome, refusal}
+use Rattle.named_files.specs.Outcome.{Outcome, refusal}
 use Rattle.yse_top.proofs.ProperLemmas.{IsCheck, IsOfText, alike}
 
 -- ---- readers of texts: each reads as one thing, or has a first fault

@@ -5,10 +5,10 @@ use Rattle.std.specs.Prelude.{⊤}
 use Rattle.limits.specs.declared.TheConstants.{MAX_TEXT_BYTES}
 use Rattle.refusal_lines.specs.declared.status.Status.{Status}
 use Rattle.refusal_lines.specs.declared.status.Status.TheVariants as status
-use Rattle.yse_top.specs.Checks.{After, AfterRead, AfterFile, Ends, text_of}
+use Rattle.named_files.specs.Checks.{After, AfterRead, AfterFile, Ends, text_of}
 use Rattle.yse_top.specs.Law.{IsProper, HasOutcome}
-use Rattle.yse_top.specs.Outcome.{Outcome}
-use Rattle.yse_top.specs.Readings.{Reading}
+use Rattle.named_files.specs.Outcome.{Outcome}
+use Rattle.named_files.specs.Readings.{Reading}
 use Rattle.yse_top.proofs.OutcomeLemmas.{outcome_after, outcome_file}
 use Rattle.yse_top.proofs.ProperLemmas.{IsOfText, IsOfEnd, IsCheck, IsSingle, answered, at_most_once, single, IsEnding, memory_status, text_check, passed_short, proper_after, proper_file, proper_ends}
 

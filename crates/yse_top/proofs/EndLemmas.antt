@@ -9,8 +9,8 @@ use Rattle.refusal_lines.specs.declared.status.Status.{Status}
 use Rattle.refusal_lines.specs.declared.status.Status.TheVariants as status
 use Rattle.yse_top.specs.Ends.{AreToldBy, IsDoneOrMemory}
 use Rattle.yse_top.specs.Law.{IsProper, AgreeOn}
-use Rattle.yse_top.specs.Outcome.{Outcome, done}
-use Rattle.yse_top.specs.Readings.{Reading, IsReading, AreReadings}
+use Rattle.named_files.specs.Outcome.{Outcome, done}
+use Rattle.named_files.specs.Readings.{Reading, IsReading, AreReadings}
 
 -- the member after a list
 last_at : (before : List Reading) (reading : Reading) → slice_get (before ++ reading ∷ []) (length before) ≡ Some reading

@@ -18,11 +18,11 @@ use Rattle.stim_text.specs.declared.order.Order.{Order}
 use Rattle.stim_text.specs.Orders.{steps_of}
 use Rattle.trace_text.specs.Line.{HasRoom}
 use Rattle.machine_run.specs.Shown.{AreShown}
-use Rattle.yse_top.specs.code.Images.{IsImageOf}
-use Rattle.yse_top.specs.Orders.{EndsIn, EndsInOrder, IsMachineImage}
+use Rattle.named_files.specs.Images.{IsImageOf, IsMachineImage}
+use Rattle.yse_top.specs.Orders.{EndsIn, EndsInOrder}
 use Rattle.yse_top.specs.code.Orders.{AreRowsInOrder, IsEndingOf}
 use Rattle.yse_top.specs.declared.output.Ending.{Ending}
-use Rattle.yse_top.specs.Outcome.{Outcome, done, unfinished}
+use Rattle.named_files.specs.Outcome.{Outcome, done, unfinished}
 use Rattle.yse_top.specs.code.Outputs.{CanPrint, trace_bytes}
 use Rattle.yse_top.specs.code.Stepped.{HasStepped}
 use Rattle.yse_top.proofs.ShownLemmas.{front_shown, shown_prints}

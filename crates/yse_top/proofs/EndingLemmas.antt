@@ -7,7 +7,7 @@ use Rattle.refusal_lines.specs.declared.status.Status.TheVariants as status
 use Rattle.yse_top.specs.code.Endings.{ending_in, status_after, IsTold}
 use Rattle.yse_top.specs.Ends.{MayWrite}
 use Rattle.yse_top.specs.code.Outputs.{bytes_of}
-use Rattle.yse_top.specs.Outcome.{done}
+use Rattle.named_files.specs.Outcome.{done}
 use Rattle.yse_top.specs.code.Refusals.{ended_with}
 use Rattle.edge_io.specs.Writing.{TakesLine}
 use Rattle.edge_io.proofs.WritingLemmas.{writes_none, tells_written}

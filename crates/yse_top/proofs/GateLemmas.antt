@@ -19,8 +19,7 @@ use Rattle.port_host.specs.Rows.{printed_sources}
 use Rattle.slot_words.specs.Rule.{turns_of}
 use Rattle.yse_top.specs.declared.commands.steps.Pace.{Pace}
 use Rattle.refusal_lines.specs.declared.refusal.Refusal.{Refusal}
-use Rattle.yse_top.specs.code.Images.{IsImageOf}
-use Rattle.yse_top.specs.Orders.{IsMachineImage}
+use Rattle.named_files.specs.Images.{IsImageOf, IsMachineImage}
 use Rattle.yse_top.specs.Visited.{AreRunVisits, block_of}
 use Rattle.yse_top.specs.code.Visited.{KeepsGates}
 

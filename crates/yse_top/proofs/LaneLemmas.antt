@@ -27,22 +27,24 @@ use Rattle.yse_top.specs.declared.commands.steps.Pace.TheVariants.{Workers}
 use Rattle.yse_top.specs.declared.output.Output.{Output}
 use Rattle.refusal_lines.specs.declared.refusal.Refusal.{Refusal}
 use Rattle.refusal_lines.specs.declared.status.Status.TheVariants as status
-use Rattle.yse_top.specs.Checks.{After, Refuses, HasFewBits, HasFewLaneCells}
+use Rattle.named_files.specs.Checks.{After, Refuses, HasFewBits, HasFewLaneCells}
 use Rattle.yse_top.specs.code.Endings.{ending_in}
 use Rattle.yse_top.specs.Ends.{MayWrite}
-use Rattle.yse_top.specs.code.Images.{IsImageOf}
-use Rattle.yse_top.specs.Outcome.{Outcome, done, out_of_memory}
-use Rattle.yse_top.specs.Readings.{Reading}
-use Rattle.yse_top.specs.code.Refusals.{Follows, outcome_of, refused_of}
+use Rattle.named_files.specs.Images.{IsImageOf}
+use Rattle.named_files.specs.Outcome.{Outcome, done, out_of_memory}
+use Rattle.named_files.specs.Readings.{Reading}
+use Rattle.yse_top.specs.code.Refusals.{Follows, outcome_of}
+use Rattle.named_files.specs.Refused.{refused_of}
 use Rattle.yse_top.specs.Visited.{AreVisitsOfLanes}
 use Rattle.yse_top.specs.code.Visited.{KeepsGates, LanesTelling, TellsOfLanes}
-use Rattle.yse_top.specs.commands.Pack.{AfterLanes, AreLaneTraces, AreTracesAfter, ExpectedPack, KeepsLanesOn, PacksIn, PacksOn}
-use Rattle.yse_top.specs.commands.Run.{AfterMachine}
+use Rattle.named_files.specs.Files.{AfterLanes, AfterMachine}
+use Rattle.yse_top.specs.commands.Pack.{AreLaneTraces, AreTracesAfter, ExpectedPack, KeepsLanesOn, PacksIn, PacksOn}
 use Rattle.yse_top.proofs.CheckLemmas.{trace_only, trace_some}
 use Rattle.yse_top.proofs.ShownLemmas.{shown_prints, trace_shown}
 use Rattle.yse_top.proofs.TracedLemmas.{reached_lanes, same_units}
 use Rattle.yse_top.proofs.VisitedLemmas.{is_done, told_as}
-use Rattle.yse_top.proofs.WeakerLemmas.{after_so, fit_so, lanes_so, machine_so, netlist_so}
+use Rattle.named_files.proofs.WeakerLemmas.{after_so, lanes_so, machine_so, netlist_so}
+use Rattle.yse_top.proofs.WeakerLemmas.{fit_so}
 
 -- ---- the traces of lanes
 

@@ -16,9 +16,7 @@ mod PassingLemmas
 mod ProperLemmas
 mod ReportLemmas
 mod ShownLemmas
-mod SizeLemmas
 mod StepLemmas
-mod TextLemmas
 mod TraceLemmas
 mod TracedLemmas
 mod VisitedLemmas

@@ -2,10 +2,10 @@
 use Rattle.std.proofs.Common.{◌≡◌, ◌≢◌, sym, refl, subst, ◌⊎◌, inl, inr, ℕ, zero, suc, ◌≤◌, List, [], ◌∷◌, length, Option, Some, None, Result, Ok, Err}
 use Rattle.limits.specs.declared.TheConstants.{MAX_TEXT_BYTES}
 use Rattle.refusal_lines.specs.declared.status.Status.TheVariants as status
-use Rattle.yse_top.specs.Checks.{After, AfterFile, Ends, Writes, text_of, read_fault}
+use Rattle.named_files.specs.Checks.{After, AfterFile, Ends, Writes, text_of, read_fault}
 use Rattle.yse_top.specs.Law.{AreGiven, HasOutcome}
-use Rattle.yse_top.specs.Outcome.{Outcome, done}
-use Rattle.yse_top.specs.Readings.{Reading}
+use Rattle.named_files.specs.Outcome.{Outcome, done}
+use Rattle.named_files.specs.Readings.{Reading}
 use Rattle.yse_top.proofs.ProperLemmas.{IsOfEnd, IsAnswered, answered, of_end_not, text_check, passed_short}
 
 given_none : (give : ℕ → List ℕ → Option (List ℕ)) → AreGiven give []

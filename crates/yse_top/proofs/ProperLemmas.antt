@@ -5,11 +5,11 @@ use Rattle.std.proofs.lemmas.Bool.{leb-true}
 use Rattle.limits.specs.declared.TheConstants.{MAX_TEXT_BYTES}
 use Rattle.refusal_lines.specs.declared.status.Status.{Status}
 use Rattle.refusal_lines.specs.declared.status.Status.TheVariants as status
-use Rattle.yse_top.specs.Checks.{After, AfterRead, AfterFile, Ends, Writes, text_of, read_fault}
+use Rattle.named_files.specs.Checks.{After, AfterRead, AfterFile, Ends, Writes, text_of, read_fault}
 use Rattle.yse_top.specs.Law.{AreAlike, AgreeOn, Equal, HasCause, IsProper}
 use Rattle.refusal_lines.specs.Lines.{too_long_line}
-use Rattle.yse_top.specs.Outcome.{Outcome, done, refusal, out_of_memory}
-use Rattle.yse_top.specs.Readings.{Reading}
+use Rattle.named_files.specs.Outcome.{Outcome, done, refusal, out_of_memory}
+use Rattle.named_files.specs.Readings.{Reading}
 
 -- ---- outcomes
 

@@ -20,20 +20,10 @@ use Rattle.net_defs.specs.Steps.{State}
 use Rattle.net_defs.specs.Trace.{header_line, cells_of, cycle_line, trace_to, IsTrace}
 use Rattle.image_defs.specs.declared.image.Image.{Image}
 use Rattle.image_defs.specs.Frames.{shown}
-use Rattle.net_defs.specs.Valid.{input_count}
-use Rattle.node_defs.specs.declared.items.NodeNet.{NodeNet}
-use Rattle.node_defs.specs.Order.{AreItems}
-use Rattle.node_defs.specs.WellFormed.{column_count}
-use Rattle.node_defs.proofs.MemberLemmas.{member_at}
-use Rattle.image_defs.specs.declared.image.PortImage.{PortImage}
-use Rattle.image_defs.specs.Places.{host_of}
-use Rattle.image_defs.specs.WellFormed.{IsWellFormed}
-use Rattle.image_match.specs.Matches.{Matches}
-use Rattle.port_host.specs.Rows.{printed_sources}
-use Rattle.yse_compile.specs.Compiled.{ShowsReference}
-use Rattle.machine_run.specs.Shown.{AreShown}
-use Rattle.yse_top.specs.code.Images.{IsImageOf}
 use Rattle.net_defs.specs.Valid.{IsValidStimulus}
+use Rattle.port_host.specs.Rows.{printed_sources}
+use Rattle.machine_run.specs.Shown.{AreShown}
+use Rattle.named_files.specs.Images.{IsImageOf}
 use Rattle.seen_list.specs.Filling.{Filling}
 use Rattle.trace_text.specs.Line.{HasRoom}
 use Rattle.yse_top.specs.code.Outputs.{CanPrint, cycle_lines}
@@ -122,21 +112,6 @@ run_trace net timing stimulus image of = record {
       ext_get_or Undef (cells_shown image stimulus (c + 1)) (cells_of net timing states (c + 1)) (many ∙ of.printed ∙ sym (length-map net.printed _)) (λ j inside.
       get_or-map-range_with_len (λ j. shown image stimulus (c + 1) j) 0 (length (printed_sources image)) j j Undef (omega (arith, inside, many)) (omega arith)
       ∙ (of.shows stimulus).cells (c + 1) j (omega (arith, low)) (omega (arith, inside, many, of.printed)))
-
--- a well-formed image that matches the items of a netlist is one of the netlist
-pub image_of : (net : Netlist) (timing : Timing) (nodes : NodeNet) (image : Image) (claims : List (List ℕ)) → AreItems net timing nodes → IsWellFormed image → Matches image claims nodes timing → column_count nodes ≡ input_count net → ((stimulus : Stimulus) → ShowsReference net timing stimulus image) → IsImageOf net timing image
-image_of net timing nodes image claims items fits matches inputs shows = record {
-  fits = fits;
-  units = matches.units;
-  columns = matches.columns ∙ inputs;
-  printed = printed;
-  shows = shows;
-} where
-  host : (port : PortImage) × (slice_get image.ports (host_of image) ≡ Some port)
-  host = member_at image.ports (host_of image) (omega (arith, fits.some_ports))
-
-  printed : length (printed_sources image) ≡ length net.printed
-  printed = rw host.1 ((matches.printed host.0 host.1).as_many ∙ items.printed.each)
 
 -- the rows of the first cycles fit the line
 pub shown_prints : (net : Netlist) (timing : Timing) (stimulus : Stimulus) (image : Image) (n : ℕ) (rows : Rows) (line : Filling) → HasRoom net line → IsValidStimulus stimulus → IsImageOf net timing image → AreShown image stimulus n rows.rows → n ≤ cycle_count stimulus

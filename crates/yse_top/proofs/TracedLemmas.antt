@@ -1,6 +1,6 @@
 -- The output of a simulation is the trace of what its files read as.
 use Rattle.std.proofs.Common.{◌≡◌, ◌≢◌, ◌∙◌, sym, ap, refl, subst, inl, inr, ℕ, zero, suc, List, [], ◌∷◌, Option, Some, None, Result, Ok, Err, Bool, true, false}
-use Rattle.std.specs.Prelude.{slice_get, IfSome}
+use Rattle.std.specs.Prelude.{slice_get, IfSome, nat_le, length, if◌then◌else◌}
 use Rattle.limits.specs.declared.TheConstants.{MAX_TEXT_BYTES}
 use Rattle.edge_io.specs.Names.{OfTold}
 use Rattle.edge_io.specs.declared.counts.FileCounts.{FileCounts}
@@ -23,12 +23,12 @@ use Rattle.machine_text.specs.Machines.{default_machine}
 use Rattle.yse_top.specs.declared.output.Output.{Output}
 use Rattle.refusal_lines.specs.declared.status.Status.{Status}
 use Rattle.refusal_lines.specs.declared.status.Status.TheVariants as status
-use Rattle.yse_top.specs.Checks.{After, AfterRead, AfterFile, Ends, Writes, text_of, IsLanesOf, HasFewBits, HasFewLaneCells, HasFewSignals, IsMachineOf, IsNetlistOf, HasNoLoop, HasRoom, IsStimulusOf, HasFewCells, IsListOf, IsOrderOf, listing}
+use Rattle.named_files.specs.Checks.{After, AfterRead, AfterFile, Ends, Writes, text_of, IsLanesOf, HasFewBits, HasFewLaneCells, HasFewSignals, IsMachineOf, IsNetlistOf, HasNoLoop, HasRoom, IsStimulusOf, HasFewCells, IsListOf, IsOrderOf, listing}
 use Rattle.yse_top.specs.Expected.{ExpectedOf}
-use Rattle.yse_top.specs.Outcome.{Outcome, done, refusal}
+use Rattle.named_files.specs.Outcome.{Outcome, done, refusal}
 use Rattle.refusal_lines.specs.Lines.{too_long_line}
 use Rattle.yse_top.specs.code.Outputs.{bytes_of}
-use Rattle.yse_top.specs.Readings.{Reading}
+use Rattle.named_files.specs.Readings.{Reading}
 use Rattle.yse_top.specs.code.Refusals.{Follows}
 use Rattle.stim_text.specs.declared.lanes.Lanes.{Lanes}
 use Rattle.yse_top.specs.Traced.{AreLanesOfFiles, AreOfFiles, AreTracesOfFiles, IsFaultListOfFiles, IsOutputOfFiles, IsTimingOfFile, IsTraceOfFiles}
@@ -36,12 +36,13 @@ use Rattle.yse_top.specs.Orders.{EndsIn, EndsInOrder}
 use Rattle.yse_top.specs.code.Endings.{ending_in, status_after}
 use Rattle.yse_top.specs.Visited.{IsImageOfFile, IsMachineOfFile}
 use Rattle.yse_top.specs.commands.Fault.{ExpectedFault, FaultsIn, IsFaultList, ListsFaults}
-use Rattle.yse_top.specs.commands.Pack.{AfterLanes, AreLaneTraces, ExpectedPack, KeepsLanesOn, PacksIn, PacksOn}
-use Rattle.yse_top.specs.commands.Exec.{AfterImage, AfterMatch, ExecutesBy, ExpectedExec, IsAccepted, IsImageFileOf, OnImage, RunsImage, WritesTraceOf}
-use Rattle.yse_top.specs.commands.Run.{AfterCells, AfterFit, AfterList, AfterLoop, AfterMachine, AfterNetlist, AfterStimulus, WritesTrace, EndsBy, EndsWithin, ExpectedRun, ExpectedOn, ExpectedRefer, KeepsTrace, OnTiming}
+use Rattle.named_files.specs.Files.{AfterLanes, AfterList, AfterMachine, AfterNetlist, AfterStimulus}
+use Rattle.yse_top.specs.commands.Pack.{AreLaneTraces, ExpectedPack, KeepsLanesOn, PacksIn, PacksOn}
+use Rattle.yse_top.specs.commands.Exec.{AfterImage, AfterMatch, ExecutesBy, ExpectedExec, OnImage, RunsImage, WritesTraceOf}
+use Rattle.named_files.specs.Images.{IsAccepted, IsImageFileOf}
+use Rattle.yse_top.specs.commands.Run.{AfterCells, AfterFit, AfterLoop, WritesTrace, EndsBy, EndsWithin, ExpectedRun, ExpectedOn, ExpectedRefer, KeepsTrace, OnTiming}
 use Rattle.yse_top.proofs.EndingLemmas.{whole_output}
 use Rattle.yse_top.proofs.ProperLemmas.{passes, refuses, refused_once, never_both}
-use Rattle.std.specs.Prelude.{nat_le, length, if◌then◌else◌}
 
 -- an end with an output is no other end
 not_done : (o : Outcome) (s : Status) (output : List ℕ) → done output ≡ o → o.status ≡ s → s ≢ status.Done → ⊥

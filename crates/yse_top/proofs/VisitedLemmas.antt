@@ -21,21 +21,24 @@ use Rattle.refusal_lines.specs.declared.refusal.Refusal.{Refusal}
 use Rattle.refusal_lines.specs.declared.refusal.Refusal.TheVariants as refusal
 use Rattle.refusal_lines.specs.declared.status.Status.{Status}
 use Rattle.refusal_lines.specs.declared.status.Status.TheVariants as status
-use Rattle.yse_top.specs.Outcome.{Outcome, done}
+use Rattle.named_files.specs.Outcome.{Outcome, done}
 use Rattle.edge_io.specs.Writing.{joined}
 use Rattle.yse_top.specs.code.Outputs.{lanes_bytes, run_bytes, trace_bytes, wrote_in}
-use Rattle.yse_top.specs.Readings.{Reading}
+use Rattle.named_files.specs.Readings.{Reading}
 use Rattle.yse_top.specs.code.Endings.{ending_in}
 use Rattle.yse_top.specs.Ends.{IsWhole, MayWrite}
-use Rattle.yse_top.specs.code.Refusals.{Follows, ended_with, outcome_of, refused_of, status_so_far, status_told, written_by}
+use Rattle.yse_top.specs.code.Refusals.{Follows, ended_with, outcome_of, status_so_far, status_told, written_by}
+use Rattle.named_files.specs.Refused.{refused_of}
 use Rattle.yse_top.specs.Visited.{AreRunVisits, AreTold, AreTurnsOf, AreVisitsOfFiles, AreVisitsOfImage, TellsGates, block_of}
 use Rattle.yse_top.specs.code.Visited.{EndsTelling, ExecTelling, HasWorkers, KeepsGates, TellsOfExec, TellsOfRun, has_limit, order_file}
 use Rattle.yse_top.specs.commands.Exec.{ExecutesBy, ExpectedExec, WritesTraceOf}
-use Rattle.yse_top.specs.commands.Run.{AfterMachine, EndsWithin, ExpectedOn, ExpectedRun}
+use Rattle.named_files.specs.Files.{AfterMachine}
+use Rattle.yse_top.specs.commands.Run.{EndsWithin, ExpectedOn, ExpectedRun}
 use Rattle.yse_top.proofs.CallLemmas.{ended_no_fault}
 use Rattle.yse_top.proofs.GateLemmas.{all_blocks}
 use Rattle.yse_top.proofs.TracedLemmas.{reached, reached_image, same_units}
-use Rattle.yse_top.proofs.WeakerLemmas.{exec_so, machine_so, on_so}
+use Rattle.yse_top.proofs.WeakerLemmas.{exec_so, on_so}
+use Rattle.named_files.proofs.WeakerLemmas.{machine_so}
 
 -- ---- outcomes at which something may be written
 

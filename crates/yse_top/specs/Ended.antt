@@ -1,5 +1,5 @@
 -- How a program ends that makes one call.
-use Rattle.std.specs.Prelude.{◌≡◌, ℕ, Bool, List, Option, Some, None, IfSome}
+use Rattle.std.specs.Prelude.{◌≡◌, ℕ, Bool, List, Option, IfSome}
 use Rattle.std.specs.Io.KnownBytes.{append_known}
 use Rattle.cmd_words.specs.Asked.{asked}
 use Rattle.crew_run.specs.declared.gate.Gate as gate
@@ -9,8 +9,8 @@ use Rattle.refusal_lines.specs.declared.status.Status.TheVariants.{Done, Memory}
 use Rattle.yse_top.specs.Ends.{EndsAs}
 use Rattle.yse_top.specs.Expected.{Expected}
 use Rattle.refusal_lines.specs.Lines.{memory_line}
-use Rattle.yse_top.specs.Outcome.{Outcome}
-use Rattle.yse_top.specs.Readings.{Reading, AreReadings}
+use Rattle.named_files.specs.Outcome.{Outcome}
+use Rattle.named_files.specs.Readings.{Reading, AreReadings}
 use Rattle.refusal_lines.specs.Statuses.{status_number}
 use Rattle.yse_top.specs.Traced.{IsTraceOfFiles}
 use Rattle.yse_top.specs.Visited.{TellsGates}

@@ -7,8 +7,8 @@ use Rattle.edge_io.specs.Writing.{TakesProperPrefix}
 use Rattle.refusal_lines.specs.declared.status.Status.{Status}
 use Rattle.refusal_lines.specs.declared.status.Status.TheVariants as status
 use Rattle.refusal_lines.specs.Lines.{write_fault_line}
-use Rattle.yse_top.specs.Outcome.{Outcome}
-use Rattle.yse_top.specs.Readings.{Reading}
+use Rattle.named_files.specs.Outcome.{Outcome}
+use Rattle.named_files.specs.Readings.{Reading}
 
 -- The sink has taken the output, and the line is told; or, after a fault of the sink, it has taken a proper
 -- prefix of the output, and the line of that fault is told.

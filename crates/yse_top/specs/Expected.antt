@@ -5,10 +5,10 @@ use Rattle.cmd_words.specs.declared.command.Command.TheVariants as command
 use Rattle.cmd_words.specs.Forms.{HasForm}
 use Rattle.yse_top.specs.declared.commands.layout.Sheet.TheVariants as sheet
 use Rattle.refusal_lines.specs.declared.status.Status.TheVariants as status
-use Rattle.yse_top.specs.Checks.{After}
+use Rattle.named_files.specs.Checks.{After}
 use Rattle.refusal_lines.specs.Lines.{usage_line}
-use Rattle.yse_top.specs.Outcome.{Outcome, refusal}
-use Rattle.yse_top.specs.Readings.{Reading}
+use Rattle.named_files.specs.Outcome.{Outcome, refusal}
+use Rattle.named_files.specs.Readings.{Reading}
 use Rattle.yse_top.specs.commands.Exec.{ExpectedExec}
 use Rattle.yse_top.specs.commands.Fault.{ExpectedFault}
 use Rattle.yse_top.specs.commands.Large.{ExpectedLarge}

@@ -3,8 +3,8 @@ use Rattle.std.specs.Prelude.{◌⊎◌, ◌≡◌, ◌≢◌, ◌↔◌, ℕ, L
 use Rattle.refusal_lines.specs.declared.status.Status.TheVariants as ends
 use Rattle.yse_top.specs.Expected.{Expected}
 use Rattle.refusal_lines.specs.Lines.{read_fault_line}
-use Rattle.yse_top.specs.Outcome.{Outcome}
-use Rattle.yse_top.specs.Readings.{Reading}
+use Rattle.named_files.specs.Outcome.{Outcome}
+use Rattle.named_files.specs.Readings.{Reading}
 use Rattle.cmd_words.specs.declared.command.Command.{Command}
 use Rattle.cmd_words.specs.declared.command.Command.TheVariants as command
 use Rattle.machine_text.specs.declared.machine.Machine.{Machine}

@@ -1,4 +1,3 @@
-pub mod Checks
 pub mod code
 pub mod commands
 pub mod Ended
@@ -7,8 +6,6 @@ pub mod Expected
 pub mod Given
 pub mod Law
 pub mod Orders
-pub mod Outcome
-pub mod Readings
 pub mod Traced
 pub mod Visited
 pub mod Words

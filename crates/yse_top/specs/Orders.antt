@@ -14,15 +14,8 @@ use Rattle.event_defs.specs.declared.place.CoreStep.{CoreStep}
 use Rattle.event_defs.specs.Steps.{CoreState, AreFirstSteps, AllDone, rows_done}
 use Rattle.stim_text.specs.declared.order.Order.{Order}
 use Rattle.stim_text.specs.Orders.{steps_of}
-use Rattle.yse_compile.specs.declared.choose.Chosen.{Chosen}
-use Rattle.yse_compile.specs.Chosen.{IsChosen}
-use Rattle.yse_top.specs.Outcome.{Outcome, done, unfinished}
-
--- the image that a netlist is compiled to for a machine, at the homes of the choice
-pub record IsMachineImage (choice : HomeChoice) (net : Netlist) (machine : Machine) (timing : Timing) (image : Image) : Type 0 where
-  pub chosen : Chosen
-  pub is : IsChosen net machine timing choice chosen
-  pub image_is : chosen.compiled.image ≡ image
+use Rattle.named_files.specs.Outcome.{Outcome, done, unfinished}
+use Rattle.named_files.specs.Images.{IsMachineImage}
 
 -- the state after the steps of an order, one by one from the start, with so many banks
 pub record IsAfterOrder (order : Order) (banks : ℕ) (timing : Timing) (stimulus : Stimulus) (image : Image) (state : CoreState) : Type 0 where

@@ -14,7 +14,7 @@ use Rattle.stim_text.specs.LaneTexts.{ReadsAsLanes}
 use Rattle.cmd_words.specs.declared.command.Command.{Command}
 use Rattle.cmd_words.specs.declared.command.Command.TheVariants as command
 use Rattle.cmd_words.specs.declared.command.RunWords.{RunWords}
-use Rattle.yse_top.specs.Checks.{listing}
+use Rattle.named_files.specs.Checks.{listing}
 use Rattle.yse_top.specs.Words.{traced_by}
 use Rattle.yse_top.specs.commands.Fault.{IsFaultList}
 use Rattle.yse_top.specs.commands.Pack.{AreLaneTraces}

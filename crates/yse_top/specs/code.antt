@@ -1,10 +1,7 @@
 pub mod Came
-pub mod Checks
 pub mod Endings
-pub mod Images
 pub mod Orders
 pub mod Outputs
-pub mod Passing
 pub mod Refusals
 pub mod Stepped
 pub mod Visited

@@ -11,23 +11,19 @@ ghost use Rattle.machine_run.specs.Visits.{AreInPlace};
 ghost use Rattle.yse_top.specs.Ends.{EndsAs, IsDoneOrMemory, MayWrite, AreToldBy};
 ghost use Rattle.yse_top.specs.Expected.{Expected};
 ghost use Rattle.refusal_lines.specs.Lines.{memory_line};
-ghost use Rattle.yse_top.specs.Outcome.{Outcome, done};
-ghost use Rattle.yse_top.specs.Readings.{Reading, AreReadings};
+ghost use Rattle.named_files.specs.Outcome.{Outcome, done};
+ghost use Rattle.named_files.specs.Readings.{Reading, AreReadings};
 ghost use Rattle.yse_top.specs.Traced.{IsOutputOfFiles};
 ghost use Rattle.yse_top.specs.Visited.{AllCanTell, TellsGates};
 ghost use Rattle.yse_top.specs.Words.{files_named};
 ghost use Rattle.edge_io.specs.Writing.{TakesLine};
 
 mod call;
-mod checks;
 mod commands;
 mod ending;
-mod images;
 pub mod law;
 mod output;
 mod program;
-mod reading;
-mod sizes;
 
 use call::call;
 use crew_run::Gate;

@@ -4,8 +4,8 @@ use Rattle.edge_io.specs.declared.counts.FileCounts.{FileCounts}
 use Rattle.refusal_lines.specs.declared.status.Status.{Status}
 use Rattle.refusal_lines.specs.declared.status.Status.TheVariants as status
 use Rattle.yse_top.specs.Ends.{EndsAs, MayWrite}
-use Rattle.yse_top.specs.Outcome.{Outcome}
-use Rattle.yse_top.specs.Readings.{Reading, AreReadings}
+use Rattle.named_files.specs.Outcome.{Outcome}
+use Rattle.named_files.specs.Readings.{Reading, AreReadings}
 
 -- an outcome that a chain of checks expects of what was read, in which the call ended; a fault of writing came where
 -- something is written

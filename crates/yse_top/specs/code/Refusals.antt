@@ -1,5 +1,5 @@
--- What a call that may refuse says of its check.
-use Rattle.std.specs.Prelude.{◌≡◌, ℕ, List, [], ◌∷◌, Bool, Option, Some, None, Result, Ok, Err}
+-- The outcome of an output or a refusal, and what a call that comes to one says of its chain of checks.
+use Rattle.std.specs.Prelude.{◌≡◌, ℕ, List, Bool, Option, Result, Ok, Err}
 use Rattle.edge_io.specs.declared.counts.FileCounts.{FileCounts}
 use Rattle.edge_io.specs.declared.writing.WriteNo.{WriteNo}
 use Rattle.yse_top.specs.declared.output.Output.{Output}
@@ -7,12 +7,11 @@ use Rattle.yse_top.specs.declared.output.Output.TheVariants as output
 use Rattle.refusal_lines.specs.declared.refusal.Refusal.{Refusal}
 use Rattle.refusal_lines.specs.declared.status.Status.{Status}
 use Rattle.refusal_lines.specs.declared.status.Status.TheVariants as status
-use Rattle.yse_top.specs.Checks.{Refuses, text_of, read_fault}
-use Rattle.refusal_lines.specs.Refusals.{line_of, status_of}
-use Rattle.yse_top.specs.Outcome.{Outcome, done, unfinished, refusal as refused}
+use Rattle.named_files.specs.Outcome.{Outcome, done, unfinished}
 use Rattle.edge_io.specs.Writing.{joined}
 use Rattle.yse_top.specs.code.Outputs.{HasTaken, lanes_bytes, run_bytes, trace_bytes, wrote_in}
-use Rattle.yse_top.specs.Readings.{Reading, AreReadings}
+use Rattle.named_files.specs.Readings.{Reading, AreReadings}
+use Rattle.named_files.specs.Refused.{refused_of}
 
 -- an end with the output, which may be that of a run that was not finished
 abbrev pub ended_with : Output → Outcome
@@ -22,9 +21,6 @@ ended_with (output.Unfinished trace ending) = unfinished ending.rows ending.cycl
 ended_with (output.Written run) = done (run_bytes run)
 ended_with (output.Lanes traces) = done (lanes_bytes traces)
 ended_with (output.Lines lines) = done (joined lines)
-
-abbrev pub refused_of : Refusal → Outcome
-refused_of why = refused (status_of why) (line_of why)
 
 abbrev pub outcome_of : Result Output Refusal → Outcome
 outcome_of (Ok output) = ended_with output
@@ -49,24 +45,7 @@ module _ {O : Type 0} (taken : O → Option (List ℕ)) (faults : O → ℕ) (be
   MayTake (Ok output) = HasTaken taken faults before after output
   MayTake (Err why) = after ≡ before
 
--- a call answers what the check lets pass, or its refusal
-abbrev pub Satisfies : {X : Type 0} → Result X Refusal → (Result X Outcome → Type 0) → Type 0
-Satisfies (Ok x) Checked = Checked (Ok x)
-Satisfies (Err why) Checked = Refuses Checked (refused_of why)
-
--- a call answers the text of a file whose bytes these are
-abbrev pub AnswersText : List ℕ → Option (List ℕ) → Result (List ℕ) Refusal → Type 0
-AnswersText file None (Ok text) = ⊥
-AnswersText file None (Err why) = refused_of why ≡ read_fault file
-AnswersText file (Some bytes) result = Satisfies result (λ answer. text_of file bytes ≡ answer)
-
 module _ (names : Option (List ℕ → Bool)) (bytes : Option (List ℕ → List ℕ)) (old new : FileCounts) where
-  -- a call began one file, and answers its text
-  pub record GivesText (file : List ℕ) (result : Result (List ℕ) Refusal) : Type 0 where
-    pub gave : Option (List ℕ)
-    pub reading : AreReadings names bytes old new (record { file = file; bytes = gave } ∷ [])
-    pub text : AnswersText file gave result
-
   -- a call began some files, and comes to what a chain of checks expects of them
   pub record Follows (result : Result Output Refusal) (Chain : List Reading → Outcome → Type 0) : Type 0 where
     pub readings : List Reading

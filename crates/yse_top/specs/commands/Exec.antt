@@ -1,40 +1,21 @@
 -- `exec`: the trace of the reference simulation, by an image from elsewhere. Whoever made the image, the trace is
 -- that of the netlist, since an image that does not match the netlist is refused. There is no machine that the
 -- image has to fit, and no limit on cells.
-use Rattle.std.specs.Prelude.{◌≡◌, ◌≢◌, ◌⊎◌, ◌≤◌, ◌∷◌, List, ℕ, length, Some, Result, Ok, Err}
+use Rattle.std.specs.Prelude.{◌≡◌, ◌⊎◌, ◌≤◌, ◌∷◌, List, ℕ, length, Some}
 use Rattle.limits.specs.declared.TheConstants.{MAX_TEXT_BYTES}
 use Rattle.net_defs.specs.declared.netlist.Netlist.{Netlist}
 use Rattle.net_defs.specs.declared.stimulus.Stimulus.{Stimulus}
 use Rattle.net_defs.specs.declared.timing.Timing.{Timing}
-use Rattle.node_defs.specs.declared.items.NodeNet.{NodeNet}
-use Rattle.node_defs.specs.Order.{AreItems}
 use Rattle.image_defs.specs.declared.image.Image.{Image}
 use Rattle.image_file.specs.Files.{image_text}
-use Rattle.image_file.specs.Ranges.{Reads}
-use Rattle.image_file.specs.Reading.{first_fault}
-use Rattle.image_check.specs.declared.check.CheckNo.{CheckNo}
-use Rattle.image_check.specs.declared.check.CheckNo.TheVariants.{Memory}
 use Rattle.image_check.specs.declared.file.ImageFile.{ImageFile}
-use Rattle.image_check.specs.Check.{Says}
 use Rattle.cmd_words.specs.declared.command.RunWords.{RunWords}
-use Rattle.refusal_lines.specs.declared.status.Status.TheVariants as status
-use Rattle.yse_top.specs.Checks.{After, AfterFile, HasNoLoop, ReadsAs}
-use Rattle.refusal_lines.specs.Lines.{image_line, match_line}
-use Rattle.yse_top.specs.Outcome.{Outcome, refusal, out_of_memory}
-use Rattle.yse_top.specs.Readings.{Reading}
-use Rattle.yse_top.specs.commands.Run.{AfterNetlist, AfterStimulus, WritesTrace}
-
--- the image of a text, with its claims
-abbrev pub IsImageFileOf : List ℕ → Result ImageFile Outcome → Type 0
-IsImageFileOf text = ReadsAs (Reads text) (first_fault text) (λ why. refusal status.ImageText (image_line why))
-
--- the image is well formed and matches the items of the netlist, through its claims; where it doesn't, the refusal
--- says what the check says of it
-abbrev pub IsAccepted : Netlist → Timing → ImageFile → Result (Unit {0}) Outcome → Type 0
-IsAccepted net timing file (Ok passed) = (nodes : NodeNet) × AreItems net timing nodes × Says file nodes timing (Ok tt)
-IsAccepted net timing file (Err outcome) =
-    (nodes : NodeNet) × AreItems net timing nodes × (why : CheckNo) × (why ≢ Memory) × Says file nodes timing (Err why)
-    × (outcome ≡ refusal status.ImageMatch (match_line why))
+use Rattle.named_files.specs.Checks.{After, AfterFile, HasNoLoop}
+use Rattle.named_files.specs.Outcome.{Outcome, out_of_memory}
+use Rattle.named_files.specs.Readings.{Reading}
+use Rattle.named_files.specs.Files.{AfterNetlist, AfterStimulus}
+use Rattle.yse_top.specs.commands.Run.{WritesTrace}
+use Rattle.named_files.specs.Images.{IsAccepted, IsImageFileOf}
 
 -- the netlist accepts the image, whose claims are of no use from then on
 abbrev pub AfterMatch : Netlist → Timing → ImageFile → (Image → List Reading → Outcome → Type 0) → List Reading → Outcome → Type 0

@@ -8,10 +8,10 @@ use Rattle.net_defs.specs.declared.netlist.Netlist.{Netlist}
 use Rattle.net_defs.specs.declared.stimulus.Stimulus.{Stimulus}
 use Rattle.net_defs.specs.declared.timing.Timing.{Timing}
 use Rattle.cmd_words.specs.declared.command.RunWords.{RunWords}
-use Rattle.yse_top.specs.Checks.{After, Ends, Writes, HasFewSignals, HasNoLoop}
-use Rattle.yse_top.specs.Outcome.{Outcome}
-use Rattle.yse_top.specs.Readings.{Reading}
-use Rattle.yse_top.specs.commands.Run.{AfterNetlist, AfterStimulus}
+use Rattle.named_files.specs.Checks.{After, Ends, Writes, HasFewSignals, HasNoLoop}
+use Rattle.named_files.specs.Outcome.{Outcome}
+use Rattle.named_files.specs.Readings.{Reading}
+use Rattle.named_files.specs.Files.{AfterNetlist, AfterStimulus}
 
 -- the output is a line for each of the verdicts on all stuck faults, and a last one on how many are seen
 pub record IsFaultList (net : Netlist) (timing : Timing) (stimulus : Stimulus) (output : List ℕ) : Type 0 where

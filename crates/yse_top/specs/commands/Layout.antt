@@ -7,12 +7,13 @@ use Rattle.net_defs.specs.declared.timing.Timing.{Timing}
 use Rattle.cmd_words.specs.declared.command.RunWords.{RunWords}
 use Rattle.yse_top.specs.declared.commands.layout.Sheet.{Sheet}
 use Rattle.yse_top.specs.declared.commands.layout.Sheet.TheVariants as sheet
-use Rattle.yse_top.specs.Checks.{Ends, Writes}
-use Rattle.yse_top.specs.Outcome.{Outcome}
-use Rattle.yse_top.specs.Readings.{Reading}
+use Rattle.named_files.specs.Checks.{Ends, Writes}
+use Rattle.named_files.specs.Outcome.{Outcome}
+use Rattle.named_files.specs.Readings.{Reading}
 use Rattle.yse_top.specs.commands.Compile.{IsImageTextOf}
 use Rattle.yse_top.specs.commands.Plan.{IsReportOf}
-use Rattle.yse_top.specs.commands.Run.{AfterFit, AfterMachine, AfterNetlist}
+use Rattle.yse_top.specs.commands.Run.{AfterFit}
+use Rattle.named_files.specs.Files.{AfterMachine, AfterNetlist}
 
 -- the output is what is asked of the design
 abbrev pub IsSheetOf : Sheet → HomeChoice → Netlist → Machine → Timing → List ℕ → Type 0

@@ -9,10 +9,11 @@ use Rattle.net_defs.specs.declared.timing.Timing.{Timing}
 use Rattle.net_defs.specs.Trace.{IsTrace}
 use Rattle.stim_text.specs.declared.lanes.Lanes.{Lanes}
 use Rattle.cmd_words.specs.declared.command.RunWords.{RunWords}
-use Rattle.yse_top.specs.Checks.{After, AfterFile, Ends, Writes, IsLanesOf, HasFewBits, HasFewLaneCells}
-use Rattle.yse_top.specs.Outcome.{Outcome}
-use Rattle.yse_top.specs.Readings.{Reading}
-use Rattle.yse_top.specs.commands.Run.{AfterFit, AfterMachine, AfterNetlist}
+use Rattle.named_files.specs.Checks.{After, Ends, Writes, HasFewBits, HasFewLaneCells}
+use Rattle.named_files.specs.Outcome.{Outcome}
+use Rattle.named_files.specs.Readings.{Reading}
+use Rattle.yse_top.specs.commands.Run.{AfterFit}
+use Rattle.named_files.specs.Files.{AfterMachine, AfterNetlist, AfterLanes}
 
 -- for each lane after the first n the line with its number, and then the trace of the lane's own stimulus
 abbrev pub AreTracesAfter : Netlist → Timing → ℕ → List Stimulus → List ℕ → Type 0
@@ -24,12 +25,6 @@ AreTracesAfter net timing n (stimulus ∷ lanes) output =
 -- the output is the traces of all lanes, counted from 1
 abbrev pub AreLaneTraces : Netlist → Timing → Lanes → List ℕ → Type 0
 AreLaneTraces net timing lanes = AreTracesAfter net timing 0 lanes.lanes
-
--- the stimulus file and its text, which is one of lanes
-unfoldable pub AfterLanes : List ℕ → Netlist → (Lanes → List Reading → Outcome → Type 0) → List Reading → Outcome → Type 0
-AfterLanes file net Next =
-    AfterFile file (λ text.
-    After (IsLanesOf text net) Next)
 
 -- the cells, and then the traces of the lanes
 abbrev pub KeepsLanes : Netlist → Timing → Lanes → List Reading → Outcome → Type 0

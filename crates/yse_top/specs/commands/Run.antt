@@ -3,36 +3,17 @@
 -- all cycles, and have a limit on them; a run has none.
 use Rattle.std.specs.Prelude.{Bool, true, false, List, ℕ, Option, Some, None}
 use Rattle.machine_text.specs.declared.machine.Machine.{Machine}
-use Rattle.machine_text.specs.Machines.{default_machine}
 use Rattle.net_defs.specs.declared.homes.HomeChoice.{HomeChoice}
 use Rattle.net_defs.specs.declared.netlist.Netlist.{Netlist}
 use Rattle.net_defs.specs.declared.stimulus.Stimulus.{Stimulus}
 use Rattle.net_defs.specs.declared.timing.Timing.{Timing}
 use Rattle.net_defs.specs.Trace.{IsTrace}
 use Rattle.cmd_words.specs.declared.command.RunWords.{RunWords}
-use Rattle.yse_top.specs.Checks.{After, AfterFile, Ends, Writes, IsMachineOf, IsNetlistOf, HasNoLoop, HasRoom, IsStimulusOf, HasFewCells, IsListOf, IsOrderOf, listing}
+use Rattle.named_files.specs.Checks.{After, AfterFile, Ends, Writes, HasNoLoop, HasRoom, HasFewCells, IsOrderOf}
 use Rattle.yse_top.specs.Orders.{EndsInOrder}
-use Rattle.yse_top.specs.Outcome.{Outcome}
-use Rattle.yse_top.specs.Readings.{Reading}
-
--- the machine file and its text, where one is named, and else the default machine
-unfoldable pub AfterMachine : Option (List ℕ) → (Machine → List Reading → Outcome → Type 0) → List Reading → Outcome → Type 0
-AfterMachine None Next = Next default_machine
-AfterMachine (Some file) Next = AfterFile file (λ text. After (IsMachineOf text) Next)
-
--- where the file of a list is named, that file, its text, and the timing with the gates that it lists; else
--- the timing as it is
-unfoldable pub AfterList : Option (List ℕ) → Netlist → Timing → (Timing → List Reading → Outcome → Type 0) → List Reading → Outcome → Type 0
-AfterList None net timing Next = Next timing
-AfterList (Some file) net timing Next =
-    AfterFile file (λ text.
-    After (IsListOf text net) (λ listed. Next (listing timing listed)))
-
--- the stimulus file and its text
-unfoldable pub AfterStimulus : List ℕ → Netlist → (Stimulus → List Reading → Outcome → Type 0) → List Reading → Outcome → Type 0
-AfterStimulus file net Next =
-    AfterFile file (λ text.
-    After (IsStimulusOf text net) Next)
+use Rattle.named_files.specs.Outcome.{Outcome}
+use Rattle.named_files.specs.Readings.{Reading}
+use Rattle.named_files.specs.Files.{AfterMachine, AfterNetlist, AfterStimulus}
 
 -- the cells, where they are limited
 abbrev pub AfterCells : Bool → Netlist → Stimulus → (List Reading → Outcome → Type 0) → List Reading → Outcome → Type 0
@@ -44,12 +25,6 @@ abbrev pub AfterFit : HomeChoice → Netlist → Machine → Timing → (List Re
 AfterFit choice net machine timing Next =
     After (HasNoLoop net timing) (λ passed.
     After (HasRoom choice net machine timing) (λ fits. Next))
-
--- the netlist file, its text, the list, and then this end of the netlist in its timing
-unfoldable pub AfterNetlist : RunWords → (Netlist → Timing → List Reading → Outcome → Type 0) → List Reading → Outcome → Type 0
-AfterNetlist words End =
-    AfterFile words.netlist (λ text.
-    After (IsNetlistOf text) (λ net. AfterList words.last net words.timing (End net)))
 
 -- the trace is written
 abbrev pub WritesTrace : Netlist → Timing → Stimulus → List Reading → Outcome → Type 0

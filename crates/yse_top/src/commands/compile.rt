@@ -5,10 +5,10 @@ ghost use Rattle.net_defs.specs.Valid.{IsValid};
 ghost use Rattle.yse_compile.specs.Chosen.{IsChosen};
 ghost use Rattle.yse_top.specs.commands.Compile.{IsImageTextOf};
 
-use crate::checks::{Built, Planned, built_of};
 use image_check::ImageFile;
 use image_file::write_image;
 use machine_text::Machine;
+use named_files::{Built, Planned, built_of};
 use net_defs::{HomeChoice, Timing};
 use seen_list::{Memory, Text};
 use std::alloc::Global;

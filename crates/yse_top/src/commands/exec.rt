@@ -11,12 +11,11 @@ ghost use Rattle.yse_top.specs.code.Visited.{ExecTelling, KeepsGates, TellsOfExe
 ghost use Rattle.yse_top.specs.commands.Exec.{ExecutesBy, ExpectedExec};
 
 use crate::commands::steps::by_workers;
-use crate::images::{accepted, items_of};
 use crate::output::Output;
-use crate::reading::{Timed, design_from, image_in, stimulus_in};
 use cmd_words::RunWords;
 use crew_run::Gate;
 use edge_io::{Files, Sink};
+use named_files::{Timed, accepted, design_from, image_in, items_of, stimulus_in};
 use refusal_lines::Refusal;
 use seen_list::Memory;
 use std::alloc::Global;

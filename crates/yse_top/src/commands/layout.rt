@@ -9,14 +9,13 @@ ghost use Rattle.yse_top.specs.code.Outputs.{CanWrite};
 ghost use Rattle.yse_top.specs.code.Refusals.{Follows};
 ghost use Rattle.yse_top.specs.commands.Layout.{ExpectedLayout, IsSheetOf};
 
-use crate::checks::{Planned, designed};
 use crate::commands::compile::image_text_of;
 use crate::commands::plan::report_of;
 use crate::output::Output;
-use crate::reading::{Timed, design_from, machine_from};
 use cmd_words::RunWords;
 use edge_io::Files;
 use machine_text::Machine;
+use named_files::{Planned, Timed, design_from, designed, machine_from};
 use net_defs::{HomeChoice, Timing};
 use refusal_lines::Refusal;
 use seen_list::{Memory, Text};

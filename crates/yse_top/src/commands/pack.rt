@@ -9,24 +9,23 @@ ghost use Rattle.machine_run.specs.Visits.{AreInPlace, AreVisitsOf};
 ghost use Rattle.trace_text.specs.Line.{HasRoom};
 ghost use Rattle.stim_text.specs.Lanes.{AreLanes, longest};
 ghost use Rattle.yse_top.specs.declared.commands.steps.Pace.TheVariants.{Workers};
-ghost use Rattle.yse_top.specs.code.Images.{IsImageOf};
-ghost use Rattle.yse_top.specs.Orders.{IsMachineImage};
+ghost use Rattle.named_files.specs.Images.{IsImageOf, IsMachineImage};
 ghost use Rattle.yse_top.specs.code.Outputs.{CanPrintLanes, CanWrite, lanes_bytes};
 ghost use Rattle.yse_top.specs.code.Refusals.{Follows, outcome_of};
 ghost use Rattle.yse_top.specs.Visited.{AllCanTell};
 ghost use Rattle.yse_top.specs.code.Visited.{KeepsGates, LanesTelling, TellsOfLanes};
 ghost use Rattle.yse_top.specs.commands.Pack.{AreLaneTraces, ExpectedPack, PacksOn};
-ghost use Rattle.yse_top.specs.commands.Run.{AfterMachine};
+ghost use Rattle.named_files.specs.Files.{AfterMachine};
 
-use crate::checks::{Built, compiled};
 use crate::output::{LaneTraces, Output};
-use crate::reading::{Timed, design_from, lanes_in, machine_from};
-use crate::sizes::{few_bits, few_lane_cells};
 use cmd_words::RunWords;
 use crew_run::Gate;
 use edge_io::Files;
 use kept_lines::LaneMark;
 use machine_text::Machine;
+use named_files::{
+    Built, Timed, compiled, design_from, few_bits, few_lane_cells, lanes_in, machine_from,
+};
 use net_defs::{Netlist, Timing};
 use pack_machine::run_pack;
 use refusal_lines::Refusal;

@@ -5,9 +5,9 @@ ghost use Rattle.net_defs.specs.Valid.{IsValid};
 ghost use Rattle.yse_compile.specs.Chosen.{IsChosen};
 ghost use Rattle.yse_top.specs.commands.Plan.{IsReportOf, crossings_line, homes_word, told_of_homes};
 
-use crate::checks::Planned;
 use itoa::Buffer;
 use machine_text::Machine;
+use named_files::Planned;
 use net_defs::{HomeChoice, Timing};
 use plan_defs::law::items_are_well_formed;
 use plan_text::report;

@@ -8,11 +8,10 @@ ghost use Rattle.yse_top.specs.code.Outputs.{CanWrite, CanPrint, ArePrinted};
 ghost use Rattle.yse_top.specs.code.Refusals.{Follows, outcome_of};
 ghost use Rattle.yse_top.specs.commands.Run.{ExpectedRefer, KeepsTrace};
 
-use crate::checks::{Design, few_cells, ordered};
 use crate::output::{Output, Trace};
-use crate::reading::{Timed, design_from, stimulus_in};
 use cmd_words::RunWords;
 use edge_io::Files;
+use named_files::{Design, Timed, design_from, few_cells, ordered, stimulus_in};
 use net_defs::{Stimulus, Timing};
 use ref_sim::refer_in_order;
 use refusal_lines::Refusal;

@@ -5,22 +5,23 @@ ghost use Rattle.machine_text.specs.Machines.{IsValid as IsValidMachine};
 ghost use Rattle.net_defs.specs.Valid.{IsValid, IsValidStimulus, input_count};
 ghost use Rattle.cmd_words.specs.Forms.{IsRunInRange};
 ghost use Rattle.limits.specs.declared.TheConstants.{MAX_WORKERS};
-ghost use Rattle.yse_top.specs.code.Images.{IsImageOf};
-ghost use Rattle.yse_top.specs.Orders.{IsMachineImage};
+ghost use Rattle.named_files.specs.Images.{IsImageOf, IsMachineImage};
 ghost use Rattle.yse_top.specs.code.Outputs.{CanEnd, CanWrite};
 ghost use Rattle.yse_top.specs.code.Refusals.{Follows, MayTake, outcome_of, written_by};
 ghost use Rattle.yse_top.specs.Visited.{AllCanTell};
 ghost use Rattle.yse_top.specs.code.Visited.{EndsTelling, KeepsGates, TellsOfRun, has_limit, order_file};
-ghost use Rattle.yse_top.specs.commands.Run.{AfterMachine, EndsWithin, ExpectedOn, ExpectedRun, KeepsTrace};
+ghost use Rattle.named_files.specs.Files.{AfterMachine};
+ghost use Rattle.yse_top.specs.commands.Run.{EndsWithin, ExpectedOn, ExpectedRun, KeepsTrace};
 
-use crate::checks::{Built, compiled, few_cells};
 use crate::commands::steps::{Pace, by_order, by_rounds, by_workers};
 use crate::output::Output;
-use crate::reading::{Timed, design_from, machine_from, order_in, stimulus_in};
 use cmd_words::RunWords;
 use crew_run::Gate;
 use edge_io::{Files, Sink};
 use machine_text::Machine;
+use named_files::{
+    Built, Timed, compiled, design_from, few_cells, machine_from, order_in, stimulus_in,
+};
 use net_defs::{Stimulus, Timing};
 use refusal_lines::Refusal;
 use seen_list::Memory;

@@ -6,8 +6,8 @@ ghost use Rattle.yse_top.specs.code.Refusals.{Follows};
 ghost use Rattle.yse_top.specs.commands.Show.{ExpectedShow};
 
 use crate::output::Output;
-use crate::reading::netlist_in;
 use edge_io::Files;
+use named_files::netlist_in;
 use net_defs::show as canonical_text;
 use refusal_lines::Refusal;
 use seen_list::Memory;

@@ -7,7 +7,7 @@ use Rattle.cmd_words.specs.declared.command.WordNo.TheVariants.{Usage, Memory}
 use Rattle.refusal_lines.specs.declared.refusal.Refusal.TheVariants as refusal
 use Rattle.yse_top.specs.Ends.{MayWrite}
 use Rattle.yse_top.specs.Expected.{Expected}
-use Rattle.yse_top.specs.code.Refusals.{refused_of}
+use Rattle.named_files.specs.Refused.{refused_of}
 use Rattle.yse_top.specs.Traced.{IsOutputOfFiles}
 use Rattle.yse_top.specs.Visited.{TellsGates}
 use Rattle.yse_top.proofs.CallLemmas.{follows_usage, follows_no_memory}

@@ -2,7 +2,8 @@
 use Rattle.std.proofs.Common.{◌∙◌, sym, ap, subst, inl, Some}
 use Rattle.yse_top.specs.Ends.{MayWrite}
 use Rattle.yse_top.specs.code.Outputs.{bytes_of}
-use Rattle.yse_top.specs.code.Refusals.{ended_with, refused_of}
+use Rattle.yse_top.specs.code.Refusals.{ended_with}
+use Rattle.named_files.specs.Refused.{refused_of}
 use Rattle.yse_top.specs.Visited.{TellsGates}
 use Rattle.yse_top.proofs.TracedLemmas.{traced}
 use Rattle.yse_top.proofs.VisitedLemmas.{output_writes, refused_writes, told_fails, told_writes, tells_ended}

@@ -6,7 +6,7 @@ use Rattle.limits.specs.declared.TheConstants.{MAX_CELLS, MAX_LARGE_GATES, MAX_T
 use Rattle.machine_text.specs.declared.machine.Machine.{Machine}
 use Rattle.machine_text.specs.Machines as machine_text
 use Rattle.machine_text.specs.Machines.{IsValid as IsValidMachine, default_machine, ports_of}
-use Rattle.net_defs.specs.Valid.{IsValid}
+use Rattle.net_defs.specs.Valid.{IsValid, input_count}
 use Rattle.yse_compile.specs.Chosen.{FitsBy}
 use Rattle.yse_compile.specs.Designs.{IsAcyclic}
 use Rattle.text_lines.specs.Answers.{IsReader}
@@ -26,7 +26,6 @@ use Rattle.image_file.specs.Ranges as image_file
 use Rattle.image_file.specs.Reading as image_faults
 use Rattle.event_defs.specs.Linked.{AreLinkedAlike}
 use Rattle.stim_text.specs.Orders.{steps_of}
-use Rattle.net_defs.specs.Valid.{input_count}
 use Rattle.bench_read.specs.Faults as bench
 use Rattle.bench_read.specs.GateLists as gate_lists
 use Rattle.bench_read.specs.Reads as bench_reads
@@ -45,26 +44,28 @@ use Rattle.edge_io.specs.Writing.{joined}
 use Rattle.fault_lines.specs.Lines.{fault_lines}
 use Rattle.fault_sim.specs.Verdicts.{HasOneList, HaveOneList}
 use Rattle.refusal_lines.specs.declared.TheConstants.{MAX_FAULT_SIGNALS, MAX_PACK_BITS}
-use Rattle.yse_top.specs.Checks.{After, Ends, Writes, IsLanesOf, HasFewBits, HasFewLaneCells, HasFewSignals, cell_count, lane_cell_count, memory_bits, IsMachineOf, IsNetlistOf, HasNoLoop, HasRoom, IsStimulusOf, HasFewCells, IsListOf, IsOrderOf, listing}
+use Rattle.named_files.specs.Checks.{After, Ends, Writes, IsLanesOf, HasFewBits, HasFewLaneCells, HasFewSignals, cell_count, lane_cell_count, memory_bits, IsMachineOf, IsNetlistOf, HasNoLoop, HasRoom, IsStimulusOf, HasFewCells, IsListOf, IsOrderOf, listing}
 use Rattle.cmd_words.specs.Forms.{HasForm, IsInRange}
 use Rattle.refusal_lines.specs.declared.status.Status.{Status}
 use Rattle.yse_top.specs.Expected.{Expected, ExpectedOf, Asks}
 use Rattle.yse_top.specs.Law.{AreImageTexts, Equal, IsProper, HasOutcome, SameOutput}
 use Rattle.refusal_lines.specs.Lines.{usage_line, machine_line, netlist_line, stimulus_line, cells_line, bits_limit_line, signals_line, lanes_line, order_line, list_line, image_line}
-use Rattle.yse_top.specs.Outcome.{Outcome, refusal}
-use Rattle.yse_top.specs.Readings.{Reading}
+use Rattle.named_files.specs.Outcome.{Outcome, refusal}
+use Rattle.named_files.specs.Readings.{Reading}
 use Rattle.yse_top.specs.Orders.{EndsInOrder}
 use Rattle.yse_top.specs.Words.{files_of, files_named, IsSettled}
-use Rattle.yse_top.specs.commands.Exec.{AfterImage, AfterMatch, ExpectedExec, IsAccepted, IsImageFileOf, OnImage, RunsImage, WritesTraceOf}
+use Rattle.yse_top.specs.commands.Exec.{AfterImage, AfterMatch, ExpectedExec, OnImage, RunsImage, WritesTraceOf}
+use Rattle.named_files.specs.Images.{IsAccepted, IsImageFileOf}
 use Rattle.yse_top.specs.commands.Fault.{ExpectedFault, FaultsIn, IsFaultList, ListsFaults}
 use Rattle.yse_top.specs.commands.Large.{ExpectedLarge}
-use Rattle.yse_top.specs.commands.Pack.{AfterLanes, AreLaneTraces, ExpectedPack, KeepsLanes, KeepsLanesOn, PacksIn, PacksOn}
+use Rattle.named_files.specs.Files.{AfterLanes, AfterList, AfterMachine, AfterNetlist, AfterStimulus}
+use Rattle.yse_top.specs.commands.Pack.{AreLaneTraces, ExpectedPack, KeepsLanes, KeepsLanesOn, PacksIn, PacksOn}
 use Rattle.yse_top.specs.commands.Compile.{IsImageTextOf}
 use Rattle.yse_top.specs.commands.Layout.{ExpectedLayout, ExpectedLayoutOn, IsSheetOf, LaysOut}
 use Rattle.yse_top.specs.commands.Plan.{IsReportOf}
 use Rattle.yse_top.specs.declared.commands.layout.Sheet.{Sheet}
 use Rattle.yse_top.specs.declared.commands.layout.Sheet.TheVariants as sheet
-use Rattle.yse_top.specs.commands.Run.{AfterCells, AfterFit, AfterList, AfterLoop, AfterMachine, AfterNetlist, AfterStimulus, WritesTrace, EndsBy, EndsWithin, ExpectedRun, ExpectedOn, ExpectedRefer, KeepsTrace, OnTiming}
+use Rattle.yse_top.specs.commands.Run.{AfterCells, AfterFit, AfterLoop, WritesTrace, EndsBy, EndsWithin, ExpectedRun, ExpectedOn, ExpectedRefer, KeepsTrace, OnTiming}
 use Rattle.yse_top.specs.commands.Show.{ExpectedShow}
 use Rattle.yse_top.proofs.AcceptedLemmas.{accepted_single, interchangeable}
 use Rattle.yse_top.proofs.CommandLemmas.{IsCommand, command_after, command_single, command_file, command_ends, not_words}

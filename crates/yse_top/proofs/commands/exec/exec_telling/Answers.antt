@@ -4,14 +4,15 @@ use Rattle.image_check.specs.declared.file.ImageFile.{ImageFile}
 use Rattle.image_defs.specs.declared.image.Image.{Image}
 use Rattle.net_defs.specs.declared.netlist.Netlist.{Netlist}
 use Rattle.net_defs.specs.declared.timing.Timing.{Timing}
-use Rattle.yse_top.specs.Checks.{HasNoLoop}
-use Rattle.yse_top.specs.code.Passing.{AfterImageFile, Continuation}
+use Rattle.named_files.specs.Checks.{HasNoLoop}
+use Rattle.named_files.specs.Passing.{AfterImageFile, Continuation}
 use Rattle.yse_top.specs.code.Visited.{ExecTelling}
-use Rattle.yse_top.specs.commands.Exec.{AfterImage, AfterMatch, IsAccepted, OnImage, RunsImage}
+use Rattle.yse_top.specs.commands.Exec.{AfterImage, AfterMatch, OnImage, RunsImage}
+use Rattle.named_files.specs.Images.{IsAccepted}
 use Rattle.yse_top.proofs.ChainLemmas.{follows_here, follows_on, follows_refusal}
 use Rattle.yse_top.proofs.GateLemmas.{gates_kept}
 use Rattle.yse_top.proofs.PassingLemmas.{design_on, design_stops, passed_on, stimulus_on, stimulus_stops, stopped}
-use Rattle.yse_top.proofs.WeakerLemmas.{image_file_so}
+use Rattle.named_files.proofs.WeakerLemmas.{image_file_so}
 use Rattle.yse_top.proofs.commands.exec.exec_telling.Goals as goal
 
 -- what comes after the image file

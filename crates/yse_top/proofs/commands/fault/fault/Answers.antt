@@ -1,7 +1,7 @@
 -- The design, the loop, and the list.
-use Rattle.yse_top.specs.Checks.{After, HasFewSignals, HasNoLoop}
+use Rattle.named_files.specs.Checks.{After, HasFewSignals, HasNoLoop}
 use Rattle.yse_top.specs.commands.Fault.{FaultsIn, ListsFaults}
-use Rattle.yse_top.specs.commands.Run.{AfterStimulus}
+use Rattle.named_files.specs.Files.{AfterStimulus}
 use Rattle.yse_top.proofs.ChainLemmas.{follows_on, follows_refusal}
 use Rattle.yse_top.proofs.PassingLemmas.{design_on, design_stops}
 use Rattle.yse_top.proofs.commands.fault.fault.Goals as goal

@@ -1,8 +1,8 @@
 -- The number of signals, the stimulus, and the list.
 use Rattle.std.proofs.Common.{refl, inl, inr}
-use Rattle.yse_top.specs.Checks.{HasFewSignals}
+use Rattle.named_files.specs.Checks.{HasFewSignals}
 use Rattle.yse_top.specs.commands.Fault.{ListsFaults}
-use Rattle.yse_top.specs.commands.Run.{AfterStimulus}
+use Rattle.named_files.specs.Files.{AfterStimulus}
 use Rattle.yse_top.proofs.ChainLemmas.{follows_here, follows_on, follows_refusal}
 use Rattle.yse_top.proofs.PassingLemmas.{stimulus_on, stimulus_stops}
 use Rattle.yse_top.proofs.commands.fault.faults_of.Goals as goal

@@ -1,6 +1,6 @@
 -- The machine, the design, whether it fits, and what is asked of it.
 use Rattle.std.proofs.Common.{refl, inl, inr}
-use Rattle.yse_top.specs.Checks.{Ends, Writes}
+use Rattle.named_files.specs.Checks.{Ends, Writes}
 use Rattle.yse_top.specs.commands.Layout.{ExpectedLayoutOn, IsSheetOf, LaysOut}
 use Rattle.yse_top.proofs.ChainLemmas.{follows_fit, follows_here, follows_unfit}
 use Rattle.yse_top.proofs.PassingLemmas.{design_on, design_stops, machine_on, machine_stops}

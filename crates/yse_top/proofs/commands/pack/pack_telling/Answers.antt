@@ -1,10 +1,11 @@
 -- The machine, the design, whether it fits, the bits of its memories, the lanes, and their end.
-use Rattle.yse_top.specs.Checks.{After, HasFewBits}
+use Rattle.named_files.specs.Checks.{After, HasFewBits}
 use Rattle.yse_top.specs.code.Visited.{LanesTelling}
-use Rattle.yse_top.specs.commands.Pack.{AfterLanes, PacksIn, PacksOn}
+use Rattle.named_files.specs.Files.{AfterLanes}
+use Rattle.yse_top.specs.commands.Pack.{PacksIn, PacksOn}
 use Rattle.yse_top.proofs.ChainLemmas.{follows_fit, follows_here, follows_on, follows_refusal, follows_unfit}
 use Rattle.yse_top.proofs.PassingLemmas.{design_on, design_stops, machine_on, machine_stops, passed_on, stopped}
-use Rattle.yse_top.proofs.WeakerLemmas.{lanes_so}
+use Rattle.named_files.proofs.WeakerLemmas.{lanes_so}
 use Rattle.yse_top.proofs.GateLemmas.{gates_kept}
 use Rattle.yse_top.proofs.commands.pack.pack_telling.Goals as goal
 

@@ -1,6 +1,7 @@
 -- The netlist, the loop, the stimulus, and the trace.
-use Rattle.yse_top.specs.Checks.{HasNoLoop}
-use Rattle.yse_top.specs.commands.Run.{AfterLoop, AfterStimulus, KeepsTrace}
+use Rattle.named_files.specs.Checks.{HasNoLoop}
+use Rattle.yse_top.specs.commands.Run.{AfterLoop, KeepsTrace}
+use Rattle.named_files.specs.Files.{AfterStimulus}
 use Rattle.yse_top.proofs.ChainLemmas.{follows_here, follows_on, follows_refusal}
 use Rattle.yse_top.proofs.PassingLemmas.{design_on, design_stops, stimulus_on, stimulus_stops}
 use Rattle.yse_top.proofs.commands.refer.refer.Goals as goal

@@ -6,13 +6,13 @@ use Rattle.net_defs.specs.declared.netlist.Netlist.{Netlist}
 use Rattle.net_defs.specs.declared.stimulus.Stimulus.{Stimulus}
 use Rattle.net_defs.specs.declared.timing.Timing.{Timing}
 use Rattle.stim_text.specs.declared.order.Order.{Order}
-use Rattle.yse_top.specs.Checks.{Ends, HasFewCells}
+use Rattle.named_files.specs.Checks.{Ends, HasFewCells}
 use Rattle.yse_top.specs.Orders.{EndsInOrder}
-use Rattle.yse_top.specs.code.Passing.{AfterOrderFile, Continuation}
+use Rattle.named_files.specs.Passing.{AfterOrderFile, Continuation}
 use Rattle.yse_top.specs.commands.Run.{EndsBy}
 use Rattle.yse_top.proofs.ChainLemmas.{follows_here, follows_on, follows_refusal}
 use Rattle.yse_top.proofs.PassingLemmas.{passed_on, stopped}
-use Rattle.yse_top.proofs.WeakerLemmas.{order_so}
+use Rattle.named_files.proofs.WeakerLemmas.{order_so}
 use Rattle.yse_top.proofs.commands.run.in_order.Goals as goal
 
 -- what comes after the order

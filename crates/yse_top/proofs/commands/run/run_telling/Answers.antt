@@ -2,7 +2,8 @@
 use Rattle.std.proofs.Common.{Ok, refl}
 use Rattle.yse_top.specs.code.Refusals.{written_by}
 use Rattle.yse_top.specs.code.Visited.{EndsTelling}
-use Rattle.yse_top.specs.commands.Run.{AfterStimulus, ExpectedOn, OnTiming}
+use Rattle.named_files.specs.Files.{AfterStimulus}
+use Rattle.yse_top.specs.commands.Run.{ExpectedOn, OnTiming}
 use Rattle.yse_top.proofs.ChainLemmas.{follows_fit, follows_unfit}
 use Rattle.yse_top.proofs.PassingLemmas.{design_on, design_stops, machine_on, machine_stops, stimulus_on, stimulus_stops}
 use Rattle.yse_top.proofs.GateLemmas.{gates_kept}

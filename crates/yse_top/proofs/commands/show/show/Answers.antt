@@ -2,12 +2,12 @@
 use Rattle.std.proofs.Common.{◌≡◌, refl, inl, inr}
 use Rattle.net_defs.specs.Canonical.{canonical_text}
 use Rattle.net_defs.specs.declared.netlist.Netlist.{Netlist}
-use Rattle.yse_top.specs.Checks.{Ends, Writes}
-use Rattle.yse_top.specs.code.Passing.{AfterNetlistFile, Continuation}
+use Rattle.named_files.specs.Checks.{Ends, Writes}
+use Rattle.named_files.specs.Passing.{AfterNetlistFile, Continuation}
 use Rattle.yse_top.specs.commands.Show.{ExpectedShow}
 use Rattle.yse_top.proofs.ChainLemmas.{follows_here}
 use Rattle.yse_top.proofs.PassingLemmas.{passed_on, stopped}
-use Rattle.yse_top.proofs.WeakerLemmas.{netlist_file_so}
+use Rattle.named_files.proofs.WeakerLemmas.{netlist_file_so}
 use Rattle.yse_top.proofs.commands.show.show.Goals as goal
 
 -- what comes after the netlist

@@ -1,0 +1,12 @@
+use Rattle.named_files.specs.Checks.{IsMachineOf}
+use Rattle.named_files.specs.Files.{AfterMachine}
+use Rattle.named_files.proofs.PassingLemmas.{file_passes, file_stops}
+use Rattle.named_files.proofs.reading.machine_in.Goals as goal
+
+pub returns-in-Ok-clause-step : goal.returns-in-Ok-clause-step
+unfolding AfterMachine
+returns-in-Ok-clause-step g c = file_passes _ _ IsMachineOf _ _ c.args.file.now c.in-Ok.text _ c.in-Ok.ensures.text c.machine_of.ensures.checked
+
+pub returns-in-Err-clause-step : goal.returns-in-Err-clause-step
+unfolding AfterMachine
+returns-in-Err-clause-step g c = file_stops _ _ IsMachineOf _ _ c.args.file.now _ c.in-Err.ensures.text

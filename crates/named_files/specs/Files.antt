@@ -1,0 +1,43 @@
+-- The files that words name: each is begun, and its text is checked; what comes next is given.
+use Rattle.std.specs.Prelude.{List, ℕ, Option, Some, None}
+use Rattle.machine_text.specs.declared.machine.Machine.{Machine}
+use Rattle.machine_text.specs.Machines.{default_machine}
+use Rattle.net_defs.specs.declared.netlist.Netlist.{Netlist}
+use Rattle.net_defs.specs.declared.stimulus.Stimulus.{Stimulus}
+use Rattle.net_defs.specs.declared.timing.Timing.{Timing}
+use Rattle.cmd_words.specs.declared.command.RunWords.{RunWords}
+use Rattle.named_files.specs.Checks.{After, AfterFile, IsMachineOf, IsNetlistOf, IsStimulusOf, IsListOf, listing, IsLanesOf}
+use Rattle.named_files.specs.Outcome.{Outcome}
+use Rattle.named_files.specs.Readings.{Reading}
+use Rattle.stim_text.specs.declared.lanes.Lanes.{Lanes}
+
+-- the machine file and its text, where one is named, and else the default machine
+unfoldable pub AfterMachine : Option (List ℕ) → (Machine → List Reading → Outcome → Type 0) → List Reading → Outcome → Type 0
+AfterMachine None Next = Next default_machine
+AfterMachine (Some file) Next = AfterFile file (λ text. After (IsMachineOf text) Next)
+
+-- where the file of a list is named, that file, its text, and the timing with the gates that it lists; else
+-- the timing as it is
+unfoldable pub AfterList : Option (List ℕ) → Netlist → Timing → (Timing → List Reading → Outcome → Type 0) → List Reading → Outcome → Type 0
+AfterList None net timing Next = Next timing
+AfterList (Some file) net timing Next =
+    AfterFile file (λ text.
+    After (IsListOf text net) (λ listed. Next (listing timing listed)))
+
+-- the stimulus file and its text
+unfoldable pub AfterStimulus : List ℕ → Netlist → (Stimulus → List Reading → Outcome → Type 0) → List Reading → Outcome → Type 0
+AfterStimulus file net Next =
+    AfterFile file (λ text.
+    After (IsStimulusOf text net) Next)
+
+-- the stimulus file and its text, which is one of lanes
+unfoldable pub AfterLanes : List ℕ → Netlist → (Lanes → List Reading → Outcome → Type 0) → List Reading → Outcome → Type 0
+AfterLanes file net Next =
+    AfterFile file (λ text.
+    After (IsLanesOf text net) Next)
+
+-- the netlist file, its text, the list, and then this end of the netlist in its timing
+unfoldable pub AfterNetlist : RunWords → (Netlist → Timing → List Reading → Outcome → Type 0) → List Reading → Outcome → Type 0
+AfterNetlist words End =
+    AfterFile words.netlist (λ text.
+    After (IsNetlistOf text) (λ net. AfterList words.last net words.timing (End net)))

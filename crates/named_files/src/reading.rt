@@ -1,0 +1,257 @@
+//! The files that a request names: each is begun, read and checked, one step of a call for each.
+
+ghost use Rattle.std.specs.Prelude.{◌≡◌, ◌≤◌, length, IfOk, Some};
+ghost use Rattle.cmd_words.specs.Forms.{IsRunInRange};
+ghost use Rattle.image_check.specs.Claimed.{HasClaims};
+ghost use Rattle.limits.specs.declared.TheConstants.{MAX_TEXT_BYTES};
+ghost use Rattle.machine_text.specs.Machines.{IsValid as IsValidMachine, ports_of};
+ghost use Rattle.net_defs.specs.Valid.{IsValid, IsValidStimulus, IsValidTiming, input_count};
+ghost use Rattle.stim_text.specs.Lanes.{AreLanes};
+ghost use Rattle.stim_text.specs.Orders.{IsValidOrder};
+ghost use Rattle.named_files.specs.Passing.{AfterImageFile, AfterNetlistFile, AfterOrderFile, AfterTimed, Passes};
+ghost use Rattle.named_files.specs.code.Texts.{GivesText};
+ghost use Rattle.named_files.specs.Files.{AfterLanes, AfterList, AfterMachine, AfterStimulus};
+
+use crate::checks::{lanes_of, list_of, machine_of, netlist_of, order_of, stimulus_of};
+use crate::images::image_file_of;
+use cmd_words::RunWords;
+use edge_io::{Files, ReadNo, read_file};
+use image_check::ImageFile;
+use limits::MAX_TEXT_BYTES;
+use machine_text::Machine;
+use net_defs::{Netlist, Stimulus, Timing};
+use refusal_lines::Refusal;
+use seen_list::{List, Text};
+use std::alloc::Global;
+use stim_text::{Lanes, Order};
+
+/// A netlist, and the timing that it is run in.
+#[derive(Drop)]
+pub struct Timed {
+    pub net: Netlist,
+    pub timing: Timing,
+}
+
+/// The bytes of a file, and else why they can't be had.
+pub fn read_text<'a, F: Files>(
+    alloc: Global,
+    files: &mut F,
+    file: &'a [u8],
+) -> Result<List<u8>, Refusal<'a>>
+    ensures same_names { F.names files.new ≡ F.names files.old }
+    ensures same_bytes { F.bytes files.new ≡ F.bytes files.old }
+    ensures text { GivesText (F.names files.old) (F.bytes files.old) (F.counts files.old) (F.counts files.new) file.now result }
+    ensures short { IfOk result (λ text. length text ≤ MAX_TEXT_BYTES) }
+{
+    match read_file(alloc, files, file, MAX_TEXT_BYTES) {
+        Ok(text) => Ok(text),
+        Err(ReadNo::Failed) => Err(Refusal::ReadFault(file)),
+        Err(ReadNo::TooLong) => Err(Refusal::TooLong(file)),
+        Err(ReadNo::Memory) => Err(Refusal::Memory),
+    }
+}
+
+/// The machine of the named file, and else the default machine.
+pub fn machine_from<'a, F: Files>(
+    alloc: Global,
+    files: &mut F,
+    file: &'a Option<Text>,
+) -> Result<Machine, Refusal<'a>>
+    ensures same_names { F.names files.new ≡ F.names files.old }
+    ensures same_bytes { F.bytes files.new ≡ F.bytes files.old }
+    ensures step { Passes (F.names files.old) (F.bytes files.old) (F.counts files.old) (F.counts files.new)
+        (AfterMachine file.now) result }
+    ensures valid { IfOk result IsValidMachine }
+{
+    match file {
+        None => Ok(Machine::default_size(alloc)),
+        Some(file) => machine_in(alloc, files, file.as_bytes()),
+    }
+}
+
+/// The machine of this file.
+fn machine_in<'a, F: Files>(
+    alloc: Global,
+    files: &mut F,
+    file: &'a [u8],
+) -> Result<Machine, Refusal<'a>>
+    ensures same_names { F.names files.new ≡ F.names files.old }
+    ensures same_bytes { F.bytes files.new ≡ F.bytes files.old }
+    ensures step { Passes (F.names files.old) (F.bytes files.old) (F.counts files.old) (F.counts files.new)
+        (AfterMachine (Some file.now)) result }
+    ensures valid { IfOk result IsValidMachine }
+{
+    match read_text(alloc, files, file) {
+        Ok(text) => machine_of(alloc, text),
+        Err(no) => Err(no),
+    }
+}
+
+/// The netlist of the words, and their timing with the gates listed that the file of a list names.
+pub fn design_from<'a, F: Files>(
+    alloc: Global,
+    files: &mut F,
+    words: &'a RunWords,
+) -> Result<Timed, Refusal<'a>>
+    requires range { IsRunInRange words.now }
+    ensures same_names { F.names files.new ≡ F.names files.old }
+    ensures same_bytes { F.bytes files.new ≡ F.bytes files.old }
+    ensures step { Passes (F.names files.old) (F.bytes files.old) (F.counts files.old) (F.counts files.new)
+        (AfterTimed words.now) result }
+    ensures valid { IfOk result (λ timed. IsValid timed.net) }
+    ensures timing { IfOk result (λ timed. IsValidTiming timed.timing) }
+{
+    let net = match netlist_in(alloc, files, words.netlist.as_bytes()) {
+        Ok(net) => net,
+        Err(no) => return Err(no),
+    };
+    match timing_from(alloc, files, words, &net) {
+        Ok(timing) => Ok(Timed { net, timing }),
+        Err(no) => Err(no),
+    }
+}
+
+/// The netlist of this file.
+pub fn netlist_in<'a, F: Files>(
+    alloc: Global,
+    files: &mut F,
+    file: &'a [u8],
+) -> Result<Netlist, Refusal<'a>>
+    ensures same_names { F.names files.new ≡ F.names files.old }
+    ensures same_bytes { F.bytes files.new ≡ F.bytes files.old }
+    ensures step { Passes (F.names files.old) (F.bytes files.old) (F.counts files.old) (F.counts files.new)
+        (AfterNetlistFile file.now) result }
+    ensures valid { IfOk result IsValid }
+{
+    match read_text(alloc, files, file) {
+        Ok(text) => netlist_of(alloc, text),
+        Err(no) => Err(no),
+    }
+}
+
+/// The timing of the words, with the gates listed that the file of a list names.
+fn timing_from<'a, F: Files>(
+    alloc: Global,
+    files: &mut F,
+    words: &'a RunWords,
+    net: &Netlist,
+) -> Result<Timing, Refusal<'a>>
+    requires range { IsRunInRange words.now }
+    requires valid { IsValid net.now }
+    ensures same_names { F.names files.new ≡ F.names files.old }
+    ensures same_bytes { F.bytes files.new ≡ F.bytes files.old }
+    ensures step { Passes (F.names files.old) (F.bytes files.old) (F.counts files.old) (F.counts files.new)
+        (AfterList words.now.last net.now words.now.timing) result }
+    ensures timing { IfOk result IsValidTiming }
+{
+    match &words.last {
+        // The timing of words lists no gate, so this is a copy of it.
+        None => Ok(words.timing.listing(List::new(alloc))),
+        Some(file) => timing_in(alloc, files, file.as_bytes(), net, &words.timing),
+    }
+}
+
+/// The timing with the gates listed that this file names.
+fn timing_in<'a, F: Files>(
+    alloc: Global,
+    files: &mut F,
+    file: &'a [u8],
+    net: &Netlist,
+    timing: &Timing,
+) -> Result<Timing, Refusal<'a>>
+    requires valid { IsValid net.now }
+    requires timing { IsValidTiming timing.now }
+    ensures same_names { F.names files.new ≡ F.names files.old }
+    ensures same_bytes { F.bytes files.new ≡ F.bytes files.old }
+    ensures step { Passes (F.names files.old) (F.bytes files.old) (F.counts files.old) (F.counts files.new)
+        (AfterList (Some file.now) net.now timing.now) result }
+    ensures timing { IfOk result IsValidTiming }
+{
+    let text = match read_text(alloc, files, file) {
+        Ok(text) => text,
+        Err(no) => return Err(no),
+    };
+    match list_of(alloc, text, net) {
+        Ok(listed) => Ok(timing.listing(listed)),
+        Err(no) => Err(no),
+    }
+}
+
+/// The stimulus of this file, for the inputs of a netlist.
+pub fn stimulus_in<'a, F: Files>(
+    alloc: Global,
+    files: &mut F,
+    file: &'a [u8],
+    net: &Netlist,
+) -> Result<Stimulus, Refusal<'a>>
+    requires { IsValid net.now }
+    ensures same_names { F.names files.new ≡ F.names files.old }
+    ensures same_bytes { F.bytes files.new ≡ F.bytes files.old }
+    ensures step { Passes (F.names files.old) (F.bytes files.old) (F.counts files.old) (F.counts files.new)
+        (AfterStimulus file.now net.now) result }
+    ensures valid { IfOk result IsValidStimulus }
+    ensures columns { IfOk result (λ stimulus. stimulus.columns ≡ input_count net.now) }
+{
+    match read_text(alloc, files, file) {
+        Ok(text) => stimulus_of(alloc, text, net),
+        Err(no) => Err(no),
+    }
+}
+
+/// The lanes of this file, for the inputs of a netlist.
+pub fn lanes_in<'a, F: Files>(
+    alloc: Global,
+    files: &mut F,
+    file: &'a [u8],
+    net: &Netlist,
+) -> Result<Lanes, Refusal<'a>>
+    requires { IsValid net.now }
+    ensures same_names { F.names files.new ≡ F.names files.old }
+    ensures same_bytes { F.bytes files.new ≡ F.bytes files.old }
+    ensures step { Passes (F.names files.old) (F.bytes files.old) (F.counts files.old) (F.counts files.new)
+        (AfterLanes file.now net.now) result }
+    ensures lanes { IfOk result (AreLanes (input_count net.now)) }
+{
+    match read_text(alloc, files, file) {
+        Ok(text) => lanes_of(alloc, text, net),
+        Err(no) => Err(no),
+    }
+}
+
+/// The order of this file, for the ports of a machine.
+pub fn order_in<'a, F: Files>(
+    alloc: Global,
+    files: &mut F,
+    file: &'a [u8],
+    machine: &Machine,
+) -> Result<Order, Refusal<'a>>
+    requires { IsValidMachine machine.now }
+    ensures same_names { F.names files.new ≡ F.names files.old }
+    ensures same_bytes { F.bytes files.new ≡ F.bytes files.old }
+    ensures step { Passes (F.names files.old) (F.bytes files.old) (F.counts files.old) (F.counts files.new)
+        (AfterOrderFile file.now machine.now) result }
+    ensures valid { IfOk result (IsValidOrder (ports_of machine.now)) }
+{
+    match read_text(alloc, files, file) {
+        Ok(text) => order_of(alloc, text, machine),
+        Err(no) => Err(no),
+    }
+}
+
+/// The image of this file, with its claims.
+pub fn image_in<'a, F: Files>(
+    alloc: Global,
+    files: &mut F,
+    file: &'a [u8],
+) -> Result<ImageFile, Refusal<'a>>
+    ensures same_names { F.names files.new ≡ F.names files.old }
+    ensures same_bytes { F.bytes files.new ≡ F.bytes files.old }
+    ensures step { Passes (F.names files.old) (F.bytes files.old) (F.counts files.old) (F.counts files.new)
+        (AfterImageFile file.now) result }
+    ensures claims { IfOk result HasClaims }
+{
+    match read_text(alloc, files, file) {
+        Ok(text) => image_file_of(alloc, text),
+        Err(no) => Err(no),
+    }
+}

@@ -1,9 +1,0 @@
-use Rattle.yse_top.specs.Checks.{IsOrderOf}
-use Rattle.yse_top.proofs.PassingLemmas.{file_passes, file_stops}
-use Rattle.yse_top.proofs.reading.order_in.Goals as goal
-
-pub returns-in-Ok-clause-step : goal.returns-in-Ok-clause-step
-returns-in-Ok-clause-step g c = file_passes _ _ (λ text. IsOrderOf text c.args.machine.now) _ _ c.args.file.now c.in-Ok.text _ c.in-Ok.ensures.text c.order_of.ensures.checked
-
-pub returns-in-Err-clause-step : goal.returns-in-Err-clause-step
-returns-in-Err-clause-step g c = file_stops _ _ (λ text. IsOrderOf text c.args.machine.now) _ _ c.args.file.now _ c.in-Err.ensures.text
