@@ -6,11 +6,6 @@ use Rattle.std.specs.String.{string_bytes}
 abbrev pub bytes_of : {Y Z : Type 0} → Vec (String Y) Z → List (List ℕ)
 bytes_of words = map string_bytes words.items
 
--- the words that are answered, unless memory ran out
-abbrev pub words_in : {Y Z N : Type 0} → Result (Vec (String Y) Z) N → Option (List (List ℕ))
-words_in (Ok words) = Some (bytes_of words)
-words_in (Err refused) = None
-
 -- What was read gives these words: those that were read; none where memory ran out; and where they can't be
 -- read for another reason, as where one isn't UTF-8, the words of an empty command line.
 abbrev pub Gives : {Y Z E K : Type 0} → (E → K) → K → Result (Vec (String Y) Z) E → Option (List (List ℕ)) → Type 0

@@ -1,5 +1,6 @@
 pub mod Came
 pub mod Endings
+pub mod Given
 pub mod Orders
 pub mod Outputs
 pub mod Refusals

@@ -84,12 +84,7 @@ fn write_rows<O: Sink>(out: &mut O, trace: &mut Trace) -> Result<(), WriteNo>
     ensures { Takes (O.taken out.old) (O.taken out.new) (O.faults out.old) (O.faults out.new) result
         (trace_bytes trace.old) }
 {
-    write_trace(
-        out,
-        &trace.net,
-        &mut trace.line,
-        trace.rows.rows.as_slice(),
-    )
+    write_trace(out, &trace.net, &mut trace.line, trace.rows.rows.as_slice())
 }
 
 fn write_traces<O: Sink>(out: &mut O, traces: &mut LaneTraces) -> Result<(), WriteNo>

@@ -7,7 +7,8 @@ ghost use Rattle.edge_io.specs.Writing.{TakesLine};
 ghost use Rattle.limits.specs.declared.TheConstants.{MAX_WORKERS};
 ghost use Rattle.refusal_lines.specs.Statuses.{status_number};
 ghost use Rattle.yse_top.specs.Visited.{AllCanTell};
-ghost use Rattle.yse_top.specs.Given.{Gives, words_in};
+ghost use Rattle.yse_top.specs.Given.{Gives};
+ghost use Rattle.yse_top.specs.code.Given.{words_in};
 ghost use Rattle.yse_top.specs.Ended.{EndsBy, EndsForMemory};
 
 use crate::{out_of_memory, yse};
