@@ -140,33 +140,3 @@ returns-in-Err-accepted-clause-kept g c = gates_kept _ _ _
 
 pub returns-in-Err-stimulus_in-clause-kept : goal.returns-in-Err-stimulus_in-clause-kept
 returns-in-Err-stimulus_in-clause-kept g c = gates_kept _ _ _
-
-pub returns-in-Err-clause-writable : goal.returns-in-Err-clause-writable
-returns-in-Err-clause-writable g c = tt
-
-pub returns-in-Err-clause-written : goal.returns-in-Err-clause-written
-returns-in-Err-clause-written g c = refl
-
-pub returns-in-Err-items_of-clause-writable : goal.returns-in-Err-items_of-clause-writable
-returns-in-Err-items_of-clause-writable g c = tt
-
-pub returns-in-Err-items_of-clause-written : goal.returns-in-Err-items_of-clause-written
-returns-in-Err-items_of-clause-written g c = refl
-
-pub returns-in-Err-image_in-clause-writable : goal.returns-in-Err-image_in-clause-writable
-returns-in-Err-image_in-clause-writable g c = tt
-
-pub returns-in-Err-image_in-clause-written : goal.returns-in-Err-image_in-clause-written
-returns-in-Err-image_in-clause-written g c = refl
-
-pub returns-in-Err-accepted-clause-writable : goal.returns-in-Err-accepted-clause-writable
-returns-in-Err-accepted-clause-writable g c = tt
-
-pub returns-in-Err-accepted-clause-written : goal.returns-in-Err-accepted-clause-written
-returns-in-Err-accepted-clause-written g c = refl
-
-pub returns-in-Err-stimulus_in-clause-writable : goal.returns-in-Err-stimulus_in-clause-writable
-returns-in-Err-stimulus_in-clause-writable g c = tt
-
-pub returns-in-Err-stimulus_in-clause-written : goal.returns-in-Err-stimulus_in-clause-written
-returns-in-Err-stimulus_in-clause-written g c = refl

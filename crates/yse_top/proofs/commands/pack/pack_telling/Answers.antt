@@ -91,18 +91,3 @@ returns-in-Err-few_bits-clause-kept g c = gates_kept _ _ _
 
 pub returns-in-Err-lanes_in-clause-kept : goal.returns-in-Err-lanes_in-clause-kept
 returns-in-Err-lanes_in-clause-kept g c = gates_kept _ _ _
-
-pub returns-in-Err-clause-writable : goal.returns-in-Err-clause-writable
-returns-in-Err-clause-writable g c = tt
-
-pub returns-in-Err-design_from-clause-writable : goal.returns-in-Err-design_from-clause-writable
-returns-in-Err-design_from-clause-writable g c = tt
-
-pub returns-in-Err-compiled-clause-writable : goal.returns-in-Err-compiled-clause-writable
-returns-in-Err-compiled-clause-writable g c = tt
-
-pub returns-in-Err-few_bits-clause-writable : goal.returns-in-Err-few_bits-clause-writable
-returns-in-Err-few_bits-clause-writable g c = tt
-
-pub returns-in-Err-lanes_in-clause-writable : goal.returns-in-Err-lanes_in-clause-writable
-returns-in-Err-lanes_in-clause-writable g c = tt

@@ -1,5 +1,5 @@
 -- The machine, the design, whether it fits, the stimulus, and the end.
-use Rattle.std.proofs.Common.{Ok, refl}
+use Rattle.std.proofs.Common.{Ok}
 use Rattle.yse_top.specs.code.Refusals.{written_by}
 use Rattle.yse_top.specs.code.Visited.{EndsTelling}
 use Rattle.named_files.specs.Files.{AfterStimulus}
@@ -69,27 +69,3 @@ returns-in-Err-compiled-clause-kept g c = gates_kept _ _ _
 
 pub returns-in-Err-stimulus_in-clause-kept : goal.returns-in-Err-stimulus_in-clause-kept
 returns-in-Err-stimulus_in-clause-kept g c = gates_kept _ _ _
-
-pub returns-in-Err-clause-writable : goal.returns-in-Err-clause-writable
-returns-in-Err-clause-writable g c = tt
-
-pub returns-in-Err-clause-written : goal.returns-in-Err-clause-written
-returns-in-Err-clause-written g c = refl
-
-pub returns-in-Err-design_from-clause-writable : goal.returns-in-Err-design_from-clause-writable
-returns-in-Err-design_from-clause-writable g c = tt
-
-pub returns-in-Err-design_from-clause-written : goal.returns-in-Err-design_from-clause-written
-returns-in-Err-design_from-clause-written g c = refl
-
-pub returns-in-Err-compiled-clause-writable : goal.returns-in-Err-compiled-clause-writable
-returns-in-Err-compiled-clause-writable g c = tt
-
-pub returns-in-Err-compiled-clause-written : goal.returns-in-Err-compiled-clause-written
-returns-in-Err-compiled-clause-written g c = refl
-
-pub returns-in-Err-stimulus_in-clause-writable : goal.returns-in-Err-stimulus_in-clause-writable
-returns-in-Err-stimulus_in-clause-writable g c = tt
-
-pub returns-in-Err-stimulus_in-clause-written : goal.returns-in-Err-stimulus_in-clause-written
-returns-in-Err-stimulus_in-clause-written g c = refl
