@@ -24,7 +24,8 @@ use std::process::ExitCode;
 use std::sync::Wait;
 use std::thread::Threads;
 
-/// A whole call with the words that were read: the exit status is the number of its status.
+/// A whole call with the words that were read: the exit status is the number of its status. Words that could not be
+/// read count as none; where that was for want of memory, no file is begun, and the status is that of want of memory.
 pub fn ended<R: Threads + Wait + Sync, F: Files, O: Sink, E: Sink, G: Gate + Send>(
     rt: &R,
     alloc: Global,

@@ -1,6 +1,6 @@
 //! `pack`: the traces of up to 30 simulations, by one run of the compiled machine.
 
-ghost use Rattle.std.specs.Prelude.{[], ◌≡◌, ◌≤◌, ◌*◌, IfOk, OnErr, OnOk, Some, length};
+ghost use Rattle.std.specs.Prelude.{[], ◌≡◌, ◌≤◌, ◌*◌, IfOk, OnErr, OnOk, length};
 ghost use Rattle.net_defs.specs.Valid.{IsValid, input_count};
 ghost use Rattle.cmd_words.specs.Forms.{IsRunInRange};
 ghost use Rattle.limits.specs.declared.TheConstants.{MAX_WORKERS};
@@ -157,7 +157,7 @@ fn lane_traces<R: Threads + Wait + Sync, G: Gate + Send>(
     ensures in_place { AreInPlace gates.old gates.new }
 {
     let Built { net, image } = built;
-    let (line, mark) = lines_of(alloc, &net)?;
+    let (line, mark) = line_room(alloc, &net)?;
     let rows = run_pack(rt, alloc, &image, lanes, words.workers, gates);
     drop(image);
     match rows {
@@ -172,7 +172,7 @@ fn lane_traces<R: Threads + Wait + Sync, G: Gate + Send>(
 }
 
 /// Room for a line of a trace of the netlist, and for the line of a lane.
-fn lines_of(alloc: Global, net: &Netlist) -> Result<(TraceLine, LaneMark), Memory>
+fn line_room(alloc: Global, net: &Netlist) -> Result<(TraceLine, LaneMark), Memory>
     requires { IsValid net.now }
     ensures room { IfOk result (λ lines. HasRoom net.now lines.0) }
     ensures mark { IfOk result (λ lines. HasMarkRoom lines.1) }

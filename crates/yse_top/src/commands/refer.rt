@@ -89,9 +89,7 @@ fn printed(
     ensures writable { IfOk result CanPrint }
 {
     let Design { net, order } = design;
+    let line = TraceLine::new(alloc, &net)?;
     let rows = refer_in_order(alloc, &net, timing, stimulus, order)?;
-    match TraceLine::new(alloc, &net) {
-        Ok(line) => Ok(Trace { net, rows, line }),
-        Err(no) => Err(no),
-    }
+    Ok(Trace { net, rows, line })
 }
