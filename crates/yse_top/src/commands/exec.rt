@@ -1,6 +1,8 @@
 //! `exec`: the trace of the reference simulation, by an image from elsewhere.
 
 ghost use Rattle.std.specs.Prelude.{◌≤◌, IfOk, length};
+ghost use Rattle.net_defs.specs.Valid.{IsValid};
+ghost use Rattle.node_defs.specs.Order.{AreItems};
 ghost use Rattle.cmd_words.specs.Forms.{IsRunInRange};
 ghost use Rattle.limits.specs.declared.TheConstants.{MAX_WORKERS};
 ghost use Rattle.yse_top.specs.declared.commands.steps.Pace.TheVariants.{Workers};
@@ -8,14 +10,16 @@ ghost use Rattle.yse_top.specs.code.Outputs.{CanEnd};
 ghost use Rattle.yse_top.specs.code.Refusals.{Follows, MayTake, written_by};
 ghost use Rattle.yse_top.specs.Visited.{AllCanTell};
 ghost use Rattle.yse_top.specs.code.Visited.{ExecTelling, KeepsGates, TellsOfExec};
-ghost use Rattle.yse_top.specs.commands.Exec.{ExecutesBy, ExpectedExec};
+ghost use Rattle.named_files.specs.Images.{IsImageOf};
+ghost use Rattle.yse_top.specs.commands.Exec.{AfterImage, ExecutesBy, ExpectedExec, RunsImage};
 
 use crate::commands::steps::by_workers;
 use crate::output::Output;
 use cmd_words::RunWords;
 use crew_run::Gate;
 use edge_io::{Files, Sink};
-use named_files::{Timed, accepted, design_from, image_in, items_of, stimulus_in};
+use named_files::{Built, Mapped, Timed, accepted, design_from, image_in, items_of, stimulus_in};
+use net_defs::Timing;
 use refusal_lines::Refusal;
 use seen_list::Memory;
 use std::alloc::Global;
@@ -69,10 +73,35 @@ fn exec_telling<'a, R: Threads + Wait + Sync, F: Files, O: Sink, G: Gate + Send>
         Ok(timed) => timed,
         Err(no) => return Err(no),
     };
-    let mapped = match items_of(alloc, net, &timing) {
-        Ok(mapped) => mapped,
-        Err(no) => return Err(no),
-    };
+    match items_of(alloc, net, &timing) {
+        Ok(mapped) => exec_mapped(rt, alloc, files, words, image, &timing, mapped, out, gates),
+        Err(no) => Err(no),
+    }
+}
+
+/// The same of a netlist with its items.
+fn exec_mapped<'a, R: Threads + Wait + Sync, F: Files, O: Sink, G: Gate + Send>(
+    rt: &R,
+    alloc: Global,
+    files: &mut F,
+    words: &'a RunWords,
+    image: &'a [u8],
+    timing: &Timing,
+    mapped: Mapped,
+    out: &mut O,
+    gates: &mut [Option<G>],
+) -> Result<Output, Refusal<'a>>
+    requires range { IsRunInRange words.now }
+    requires valid { IsValid mapped.net }
+    requires items { AreItems mapped.net timing.now mapped.nodes }
+    requires gates { MAX_WORKERS ≤ length gates.old }
+    requires tell { AllCanTell G.Gate.own gates.old }
+    ensures expected { Follows (F.names files.old) (F.bytes files.old) (F.counts files.old) (F.counts files.new)
+        result (AfterImage image.now mapped.net timing.now (RunsImage words.now (ExecTelling G.Gate.own gates.old gates.new (written_by result) words.now) mapped.net timing.now)) }
+    ensures writable { IfOk result CanEnd }
+    ensures written { MayTake O.taken O.faults out.old out.new result }
+    ensures kept { KeepsGates Workers gates.old gates.new result }
+{
     let file = match image_in(alloc, files, image) {
         Ok(file) => file,
         Err(no) => {
@@ -80,10 +109,34 @@ fn exec_telling<'a, R: Threads + Wait + Sync, F: Files, O: Sink, G: Gate + Send>
             return Err(no);
         }
     };
-    let built = match accepted(alloc, mapped, &timing, file) {
-        Ok(built) => built,
-        Err(no) => return Err(no),
-    };
+    match accepted(alloc, mapped, timing, file) {
+        Ok(built) => exec_built(rt, alloc, files, words, timing, built, out, gates),
+        Err(no) => Err(no),
+    }
+}
+
+/// The same of an image that the netlist accepts.
+fn exec_built<'a, R: Threads + Wait + Sync, F: Files, O: Sink, G: Gate + Send>(
+    rt: &R,
+    alloc: Global,
+    files: &mut F,
+    words: &'a RunWords,
+    timing: &Timing,
+    built: Built,
+    out: &mut O,
+    gates: &mut [Option<G>],
+) -> Result<Output, Refusal<'a>>
+    requires range { IsRunInRange words.now }
+    requires valid { IsValid built.net }
+    requires image { IsImageOf built.net timing.now built.image }
+    requires gates { MAX_WORKERS ≤ length gates.old }
+    requires tell { AllCanTell G.Gate.own gates.old }
+    ensures expected { Follows (F.names files.old) (F.bytes files.old) (F.counts files.old) (F.counts files.new)
+        result (RunsImage words.now (ExecTelling G.Gate.own gates.old gates.new (written_by result) words.now) built.net timing.now built.image) }
+    ensures writable { IfOk result CanEnd }
+    ensures written { MayTake O.taken O.faults out.old out.new result }
+    ensures kept { KeepsGates Workers gates.old gates.new result }
+{
     let stimulus = match stimulus_in(alloc, files, words.stimulus.as_bytes(), &built.net) {
         Ok(stimulus) => stimulus,
         Err(no) => {
@@ -91,7 +144,7 @@ fn exec_telling<'a, R: Threads + Wait + Sync, F: Files, O: Sink, G: Gate + Send>
             return Err(no);
         }
     };
-    match by_workers(rt, alloc, words, &timing, built, stimulus, out, gates) {
+    match by_workers(rt, alloc, words, timing, built, stimulus, out, gates) {
         Ok(written) => Ok(Output::Written(written)),
         Err(Memory) => Err(Refusal::Memory),
     }

@@ -7,7 +7,7 @@ ghost use Rattle.cmd_words.specs.Forms.{IsRunInRange};
 ghost use Rattle.yse_compile.specs.Chosen.{IsChosen};
 ghost use Rattle.yse_top.specs.code.Outputs.{CanWrite};
 ghost use Rattle.yse_top.specs.code.Refusals.{Follows};
-ghost use Rattle.yse_top.specs.commands.Layout.{ExpectedLayout, IsSheetOf};
+ghost use Rattle.yse_top.specs.commands.Layout.{ExpectedLayout, ExpectedLayoutOn, IsSheetOf};
 
 use crate::commands::compile::image_text_of;
 use crate::commands::plan::report_of;
@@ -42,19 +42,35 @@ pub fn lay_out<'a, F: Files>(
         result (ExpectedLayout sheet words.now) }
     ensures writable { IfOk result CanWrite }
 {
-    let machine = match machine_from(alloc, files, &words.machine) {
-        Ok(machine) => machine,
-        Err(no) => return Err(no),
-    };
+    match machine_from(alloc, files, &words.machine) {
+        Ok(machine) => lay_out_on(alloc, files, words, &machine, sheet),
+        Err(no) => Err(no),
+    }
+}
+
+/// The same on a machine.
+fn lay_out_on<'a, F: Files>(
+    alloc: Global,
+    files: &mut F,
+    words: &'a RunWords,
+    machine: &Machine,
+    sheet: Sheet,
+) -> Result<Output, Refusal<'a>>
+    requires range { IsRunInRange words.now }
+    requires machine { IsValidMachine machine.now }
+    ensures expected { Follows (F.names files.old) (F.bytes files.old) (F.counts files.old) (F.counts files.new)
+        result (ExpectedLayoutOn sheet words.now machine.now) }
+    ensures writable { IfOk result CanWrite }
+{
     let Timed { net, timing } = match design_from(alloc, files, words) {
         Ok(timed) => timed,
         Err(no) => return Err(no),
     };
-    let planned = match designed(alloc, net, &machine, &timing, words.homes) {
+    let planned = match designed(alloc, net, machine, &timing, words.homes) {
         Ok(planned) => planned,
         Err(no) => return Err(no),
     };
-    match sheet_of(alloc, planned, &machine, &timing, words.homes, sheet) {
+    match sheet_of(alloc, planned, machine, &timing, words.homes, sheet) {
         Ok(text) => Ok(Output::Text(text)),
         Err(Memory) => Err(Refusal::Memory),
     }

@@ -1,6 +1,7 @@
 //! `pack`: the traces of up to 30 simulations, by one run of the compiled machine.
 
 ghost use Rattle.std.specs.Prelude.{[], ◌≡◌, ◌≤◌, ◌*◌, IfOk, OnErr, OnOk, length};
+ghost use Rattle.machine_text.specs.Machines.{IsValid as IsValidMachine};
 ghost use Rattle.net_defs.specs.Valid.{IsValid, input_count};
 ghost use Rattle.cmd_words.specs.Forms.{IsRunInRange};
 ghost use Rattle.limits.specs.declared.TheConstants.{MAX_WORKERS};
@@ -15,7 +16,8 @@ ghost use Rattle.yse_top.specs.code.Refusals.{Follows, outcome_of};
 ghost use Rattle.yse_top.specs.Visited.{AllCanTell};
 ghost use Rattle.yse_top.specs.code.Visited.{KeepsGates, LanesTelling, TellsOfLanes};
 ghost use Rattle.yse_top.specs.commands.Pack.{AreLaneTraces, ExpectedPack, PacksOn};
-ghost use Rattle.named_files.specs.Files.{AfterMachine};
+ghost use Rattle.named_files.specs.Checks.{After, HasFewBits};
+ghost use Rattle.named_files.specs.Files.{AfterLanes, AfterMachine};
 
 use crate::output::{LaneTraces, Output};
 use cmd_words::RunWords;
@@ -78,14 +80,59 @@ fn pack_telling<'a, R: Threads + Wait + Sync, F: Files, G: Gate + Send>(
         Ok(machine) => machine,
         Err(no) => return Err(no),
     };
+    pack_on(rt, alloc, files, words, &machine, gates)
+}
+
+/// The same on a machine.
+fn pack_on<'a, R: Threads + Wait + Sync, F: Files, G: Gate + Send>(
+    rt: &R,
+    alloc: Global,
+    files: &mut F,
+    words: &'a RunWords,
+    machine: &Machine,
+    gates: &mut [Option<G>],
+) -> Result<Output, Refusal<'a>>
+    requires range { IsRunInRange words.now }
+    requires machine { IsValidMachine machine.now }
+    requires gates { MAX_WORKERS ≤ length gates.old }
+    requires tell { AllCanTell G.Gate.own gates.old }
+    ensures expected { Follows (F.names files.old) (F.bytes files.old) (F.counts files.old) (F.counts files.new)
+        result (PacksOn words.now (LanesTelling G.Gate.own gates.old gates.new words.now) machine.now) }
+    ensures writable { IfOk result CanWrite }
+    ensures kept { KeepsGates Workers gates.old gates.new result }
+{
     let Timed { net, timing } = match design_from(alloc, files, words) {
         Ok(timed) => timed,
         Err(no) => return Err(no),
     };
-    let built = match compiled(alloc, net, &machine, &timing, words.homes) {
-        Ok(built) => built,
-        Err(no) => return Err(no),
-    };
+    match compiled(alloc, net, machine, &timing, words.homes) {
+        Ok(built) => pack_built(rt, alloc, files, words, machine, &timing, built, gates),
+        Err(no) => Err(no),
+    }
+}
+
+/// The same of an image of the machine.
+fn pack_built<'a, R: Threads + Wait + Sync, F: Files, G: Gate + Send>(
+    rt: &R,
+    alloc: Global,
+    files: &mut F,
+    words: &'a RunWords,
+    machine: &Machine,
+    timing: &Timing,
+    built: Built,
+    gates: &mut [Option<G>],
+) -> Result<Output, Refusal<'a>>
+    requires range { IsRunInRange words.now }
+    requires valid { IsValid built.net }
+    requires image { IsImageOf built.net timing.now built.image }
+    requires made { IsMachineImage words.now.homes built.net machine.now timing.now built.image }
+    requires gates { MAX_WORKERS ≤ length gates.old }
+    requires tell { AllCanTell G.Gate.own gates.old }
+    ensures expected { Follows (F.names files.old) (F.bytes files.old) (F.counts files.old) (F.counts files.new)
+        result (After (HasFewBits built.net) (λ few. AfterLanes words.now.stimulus built.net (LanesTelling G.Gate.own gates.old gates.new words.now machine.now timing.now built.net))) }
+    ensures writable { IfOk result CanWrite }
+    ensures kept { KeepsGates Workers gates.old gates.new result }
+{
     match few_bits(&built.net) {
         Ok(()) => {}
         Err(no) => {
@@ -100,7 +147,7 @@ fn pack_telling<'a, R: Threads + Wait + Sync, F: Files, G: Gate + Send>(
             return Err(no);
         }
     };
-    pack_kept(rt, alloc, words, &machine, &timing, built, &lanes, gates)
+    pack_kept(rt, alloc, words, machine, timing, built, &lanes, gates)
 }
 
 /// The traces of lanes, if their cells are few enough to be kept.

@@ -10,7 +10,7 @@ ghost use Rattle.yse_top.specs.code.Outputs.{CanEnd, CanWrite};
 ghost use Rattle.yse_top.specs.code.Refusals.{Follows, MayTake, outcome_of, written_by};
 ghost use Rattle.yse_top.specs.Visited.{AllCanTell};
 ghost use Rattle.yse_top.specs.code.Visited.{EndsTelling, KeepsGates, TellsOfRun, has_limit, order_file};
-ghost use Rattle.named_files.specs.Files.{AfterMachine};
+ghost use Rattle.named_files.specs.Files.{AfterMachine, AfterStimulus};
 ghost use Rattle.yse_top.specs.commands.Run.{EndsWithin, ExpectedOn, ExpectedRun, KeepsTrace};
 
 use crate::commands::steps::{Pace, by_order, by_rounds, by_workers};
@@ -76,14 +76,68 @@ fn run_telling<'a, R: Threads + Wait + Sync, F: Files, O: Sink, G: Gate + Send>(
         Ok(machine) => machine,
         Err(no) => return Err(no),
     };
+    run_on(rt, alloc, files, words, pace, &machine, out, gates)
+}
+
+/// The same on a machine.
+fn run_on<'a, R: Threads + Wait + Sync, F: Files, O: Sink, G: Gate + Send>(
+    rt: &R,
+    alloc: Global,
+    files: &mut F,
+    words: &'a RunWords,
+    pace: Pace<'a>,
+    machine: &Machine,
+    out: &mut O,
+    gates: &mut [Option<G>],
+) -> Result<Output, Refusal<'a>>
+    requires range { IsRunInRange words.now }
+    requires machine { IsValidMachine machine.now }
+    requires gates { MAX_WORKERS ≤ length gates.old }
+    requires tell { AllCanTell G.Gate.own gates.old }
+    ensures expected { Follows (F.names files.old) (F.bytes files.old) (F.counts files.old) (F.counts files.new)
+        result (ExpectedOn words.now (EndsTelling G.Gate.own gates.old gates.new (written_by result) pace.entry words.now) machine.now) }
+    ensures writable { IfOk result CanEnd }
+    ensures written { MayTake O.taken O.faults out.old out.new result }
+    ensures kept { KeepsGates pace.entry gates.old gates.new result }
+{
     let Timed { net, timing } = match design_from(alloc, files, words) {
         Ok(timed) => timed,
         Err(no) => return Err(no),
     };
-    let built = match compiled(alloc, net, &machine, &timing, words.homes) {
-        Ok(built) => built,
-        Err(no) => return Err(no),
-    };
+    match compiled(alloc, net, machine, &timing, words.homes) {
+        Ok(built) => run_built(
+            rt, alloc, files, words, pace, machine, &timing, built, out, gates,
+        ),
+        Err(no) => Err(no),
+    }
+}
+
+/// The same of an image of the machine.
+fn run_built<'a, R: Threads + Wait + Sync, F: Files, O: Sink, G: Gate + Send>(
+    rt: &R,
+    alloc: Global,
+    files: &mut F,
+    words: &'a RunWords,
+    pace: Pace<'a>,
+    machine: &Machine,
+    timing: &Timing,
+    built: Built,
+    out: &mut O,
+    gates: &mut [Option<G>],
+) -> Result<Output, Refusal<'a>>
+    requires range { IsRunInRange words.now }
+    requires machine { IsValidMachine machine.now }
+    requires valid { IsValid built.net }
+    requires image { IsImageOf built.net timing.now built.image }
+    requires made { IsMachineImage words.now.homes built.net machine.now timing.now built.image }
+    requires gates { MAX_WORKERS ≤ length gates.old }
+    requires tell { AllCanTell G.Gate.own gates.old }
+    ensures expected { Follows (F.names files.old) (F.bytes files.old) (F.counts files.old) (F.counts files.new)
+        result (AfterStimulus words.now.stimulus built.net (EndsTelling G.Gate.own gates.old gates.new (written_by result) pace.entry words.now machine.now timing.now built.net)) }
+    ensures writable { IfOk result CanEnd }
+    ensures written { MayTake O.taken O.faults out.old out.new result }
+    ensures kept { KeepsGates pace.entry gates.old gates.new result }
+{
     let stimulus = match stimulus_in(alloc, files, words.stimulus.as_bytes(), &built.net) {
         Ok(stimulus) => stimulus,
         Err(no) => {
@@ -92,7 +146,7 @@ fn run_telling<'a, R: Threads + Wait + Sync, F: Files, O: Sink, G: Gate + Send>(
         }
     };
     finish(
-        rt, alloc, files, words, pace, &machine, &timing, built, stimulus, out, gates,
+        rt, alloc, files, words, pace, machine, timing, built, stimulus, out, gates,
     )
 }
 

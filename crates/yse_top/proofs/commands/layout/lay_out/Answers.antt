@@ -1,9 +1,6 @@
--- The machine, the design, whether it fits, and what is asked of it.
-use Rattle.std.proofs.Common.{refl, inl, inr}
-use Rattle.named_files.specs.Checks.{Ends, Writes}
-use Rattle.yse_top.specs.commands.Layout.{ExpectedLayoutOn, IsSheetOf, LaysOut}
-use Rattle.yse_top.proofs.ChainLemmas.{follows_fit, follows_here, follows_unfit}
-use Rattle.yse_top.proofs.PassingLemmas.{design_on, design_stops, machine_on, machine_stops}
+-- The machine, and what comes of it.
+use Rattle.yse_top.specs.commands.Layout.{ExpectedLayoutOn}
+use Rattle.yse_top.proofs.PassingLemmas.{machine_on, machine_stops}
 use Rattle.yse_top.proofs.commands.layout.lay_out.Goals as goal
 
 pub returns-in-Err-clause-expected : goal.returns-in-Err-clause-expected
@@ -11,41 +8,8 @@ returns-in-Err-clause-expected g c =
     let words = c.args.words.now in
     machine_stops _ _ words.machine (ExpectedLayoutOn c.args.sheet words) _ _ _ c.in-Err.ensures.step
 
-pub returns-in-Err-design_from-clause-expected : goal.returns-in-Err-design_from-clause-expected
-returns-in-Err-design_from-clause-expected g c =
+pub returns-in-Ok-clause-expected : goal.returns-in-Ok-clause-expected
+returns-in-Ok-clause-expected g c =
     let words = c.args.words.now in
-    let machine = c.in-Ok.machine in
-    machine_on _ _ words.machine (ExpectedLayoutOn c.args.sheet words) machine _ _ _ _ _ _ c.in-Ok.ensures.same_names c.in-Ok.ensures.same_bytes c.in-Ok.ensures.step
-    (design_stops _ _ words (LaysOut c.args.sheet words.homes machine) _ _ _ c.in-Err-design_from.ensures.step)
-
-pub returns-in-Err-designed-clause-expected : goal.returns-in-Err-designed-clause-expected
-returns-in-Err-designed-clause-expected g c =
-    let words = c.args.words.now in
-    let machine = c.in-Ok.machine in
-    let design = c.in-Ok-design_from.timed in
-    let end = Ends (Writes (IsSheetOf c.args.sheet words.homes design.net machine design.timing)) in
-    machine_on _ _ words.machine (ExpectedLayoutOn c.args.sheet words) machine _ _ _ _ _ _ c.in-Ok.ensures.same_names c.in-Ok.ensures.same_bytes c.in-Ok.ensures.step
-    (design_on _ _ words (LaysOut c.args.sheet words.homes machine) design _ _ _ _ _ _ c.in-Ok-design_from.ensures.same_names c.in-Ok-design_from.ensures.same_bytes c.in-Ok-design_from.ensures.step
-    (follows_unfit _ _ words.homes design.net machine design.timing end _ _ c.in-Err-designed.ensures.refused))
-
-pub returns-in-Ok-sheet_of-clause-expected : goal.returns-in-Ok-sheet_of-clause-expected
-returns-in-Ok-sheet_of-clause-expected g c =
-    let words = c.args.words.now in
-    let machine = c.in-Ok.machine in
-    let design = c.in-Ok-design_from.timed in
-    let end = Ends (Writes (IsSheetOf c.args.sheet words.homes design.net machine design.timing)) in
-    machine_on _ _ words.machine (ExpectedLayoutOn c.args.sheet words) machine _ _ _ _ _ _ c.in-Ok.ensures.same_names c.in-Ok.ensures.same_bytes c.in-Ok.ensures.step
-    (design_on _ _ words (LaysOut c.args.sheet words.homes machine) design _ _ _ _ _ _ c.in-Ok-design_from.ensures.same_names c.in-Ok-design_from.ensures.same_bytes c.in-Ok-design_from.ensures.step
-    (follows_fit _ _ words.homes design.net machine design.timing end _ _ _ c.in-Ok-designed.ensures.acyclic c.in-Ok-designed.ensures.fits
-    (follows_here _ _ _ _ end (refl, inl (_, rw c.in-Ok-designed.ensures.same at c.in-Ok-sheet_of.ensures, refl)))))
-
-pub returns-clause-expected : goal.returns-clause-expected
-returns-clause-expected g c =
-    let words = c.args.words.now in
-    let machine = c.in-Ok.machine in
-    let design = c.in-Ok-design_from.timed in
-    let end = Ends (Writes (IsSheetOf c.args.sheet words.homes design.net machine design.timing)) in
-    machine_on _ _ words.machine (ExpectedLayoutOn c.args.sheet words) machine _ _ _ _ _ _ c.in-Ok.ensures.same_names c.in-Ok.ensures.same_bytes c.in-Ok.ensures.step
-    (design_on _ _ words (LaysOut c.args.sheet words.homes machine) design _ _ _ _ _ _ c.in-Ok-design_from.ensures.same_names c.in-Ok-design_from.ensures.same_bytes c.in-Ok-design_from.ensures.step
-    (follows_fit _ _ words.homes design.net machine design.timing end _ _ _ c.in-Ok-designed.ensures.acyclic c.in-Ok-designed.ensures.fits
-    (follows_here _ _ _ _ end (refl, inr refl))))
+    machine_on _ _ words.machine (ExpectedLayoutOn c.args.sheet words) c.in-Ok.machine _ _ _ _ _ _ c.in-Ok.ensures.same_names c.in-Ok.ensures.same_bytes c.in-Ok.ensures.step
+    c.lay_out_on.ensures.expected
