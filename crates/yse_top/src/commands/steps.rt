@@ -196,8 +196,20 @@ fn rows_by_order(
     let mut core = Core::new(alloc, &built.image, stimulus, words.banks)?;
     step_lines(&mut core, order.lines.as_slice());
     steps_are_sound();
-    let rows = rows_of(alloc, &core)?;
-    Ok((rows, ending_of(&core, stimulus)))
+    rows_and_ending(alloc, &core, stimulus)
+}
+
+/// The rows that are done, and where the run ends if a port is not done.
+fn rows_and_ending(
+    alloc: Global,
+    core: &Core<'_>,
+    stimulus: &Stimulus,
+) -> Result<(Rows, Option<Ending>), Memory>
+    requires { IsValidStimulus stimulus.now }
+    ensures { IfOk result (λ made. AreShown core.now.image core.now.stimulus (rows_of core.now) made.0.rows × IsEndingOf core.now stimulus.now made.1) }
+{
+    let rows = rows_of(alloc, core)?;
+    Ok((rows, ending_of(core, stimulus)))
 }
 
 /// Where a run ends in which a port is not done.

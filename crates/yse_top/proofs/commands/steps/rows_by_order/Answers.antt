@@ -1,4 +1,5 @@
 use Rattle.std.proofs.Common.{◌*◌}
+use Rattle.std.proofs.lemmas.Result.{IfOk-weaker}
 use Rattle.net_defs.specs.Time.{cycle_count}
 use Rattle.event_core.specs.Core.{state_of}
 use Rattle.stim_text.specs.Orders.{steps_of}
@@ -13,7 +14,7 @@ returns c =
     let stimulus = c.args.stimulus.now in
     let banks = c.args.words.now.banks in
     let steps = steps_of c.args.order.now in
-    rows_in_order c.args.built.now.net c.args._timing.now stimulus image c.requires.image banks c.in_ok-core.core c.step_lines.new.core c.in_ok-core.ensures.start stepped.same
+    IfOk-weaker c.rows_and_ending.result _ _ (λ made are. rows_in_order c.args.built.now.net c.args._timing.now stimulus image c.requires.image banks c.in_ok-core.core c.step_lines.new.core c.in_ok-core.ensures.start stepped.same
     (c.steps_are_sound.ensures image stimulus banks (image.units * cycle_count stimulus) steps _ (state_of c.step_lines.new.core) c.requires.image.fits c.requires.range.banks_some
     (first_steps image stimulus banks c.in_ok-core.core c.step_lines.new.core steps c.in_ok-core.ensures.start stepped))
-    c.in_ok-rows.rows c.in_ok-rows.ensures c.args.order.now c.ending_of.result stepped c.ending_of.ensures
+    made.0 are.0 c.args.order.now made.1 stepped are.1) c.rows_and_ending.ensures
