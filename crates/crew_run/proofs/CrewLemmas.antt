@@ -1,7 +1,7 @@
 -- What holds of each worker holds of all.
-use Rattle.std.proofs.Common.{◌≡◌, ◌∙◌, ◌++◌, ◌+◌, ◌-◌, ◌<◌, ◌≤◌, ℕ, List, [], length, slice_get, Some, inl, inr, ap, subst, sym, refl, arith, length-append}
+use Rattle.std.proofs.Common.{◌≡◌, ◌∙◌, ◌++◌, ◌+◌, ◌-◌, ◌<◌, ◌≤◌, ℕ, List, [], length, get_or, slice_get, Some, inl, inr, ap, subst, sym, refl, arith, length-append}
 use Rattle.std.proofs.lemmas.Bool.{cases_lt}
-use Rattle.std.proofs.lemmas.Option.{slice_get_within}
+use Rattle.std.proofs.lemmas.Option.{get_or_from_slice_get, slice_get_within}
 use Rattle.list_laws.proofs.Places.{at_front, one_there, slice_past}
 use Rattle.list_laws.proofs.Members.{beside}
 use Rattle.list_laws.proofs.Options.{one_some}
@@ -20,7 +20,19 @@ below_more P xs n x before at here j y less is = elim (cases_lt j n) [
   | inr high ↦ subst P (one_there xs n j x y (omega (arith, less, high)) at is) here
 ]
 
+-- what leads from what stands at each place to what stands there in another list of the same length
+pub each_place : {W : Type 0} (R : W → W → Type 0) (ws ws' : List W) → length ws' ≡ length ws → ((i : ℕ) (d : W) → i < length ws → R (get_or ws i d) (get_or ws' i d)) → Each R ws ws'
+each_place R ws ws' count at = (
+  count,
+  λ i w w' here there.
+      subst (R w) (get_or_from_slice_get ws' i w' w there) (subst (λ v. R v (get_or ws' i w)) (get_or_from_slice_get ws i w w here) (at i w (slice_get_within ws i w here))),
+)
+
 module _ {S G : Type 0} (m : stepper.Ghosts S) (p : gate.Ghosts G) where
+  -- where there is no worker all have run
+  pub none_have_run : (ws : List (Worker S G)) → length ws ≡ 0 → AllHaveRun m p ws ws
+  none_have_run ws none = (refl, λ i w w' at at'. absurd (omega (arith, slice_get_within ws i w at, none)))
+
   pub all_can_resume : (ws ws' : List (Worker S G)) → AllCanRun m p ws → Each (HasBegun m p) ws ws' → (i : ℕ) (w : Worker S G) → slice_get ws' i ≡ Some w → CanResume m p w
   all_can_resume ws ws' can begun i w at =
       let (old, was) = beside ws' ws i w (sym begun.0) at in

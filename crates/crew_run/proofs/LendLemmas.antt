@@ -1,5 +1,5 @@
 -- Gates go to the workers and come back.
-use Rattle.std.proofs.Common.{◌≡◌, ◌∙◌, ℕ, ◌+◌, ◌≤◌, List, Option, length, set, slice_get, Some, inl, inr, sym, ap, subst, arith}
+use Rattle.std.proofs.Common.{◌≡◌, ◌∙◌, ℕ, ◌+◌, ◌≤◌, List, Option, length, set, slice_get, Some, inl, inr, sym, ap, subst, refl, arith}
 use Rattle.std.proofs.lemmas.List.{length-set}
 use Rattle.std.proofs.lemmas.Option.{slice_get_within}
 use Rattle.list_laws.proofs.Places.{one_there}
@@ -14,6 +14,16 @@ use Rattle.crew_run.specs.Lending.{AllCanRunWith, AllHaveRunWith, lent}
 use Rattle.crew_run.specs.code.Lending.{AreSwapped}
 
 module _ {S G : Type 0} where
+  pub swapped_none : (ws : List (Worker S G)) (gates : List (Option G)) → AreSwapped 0 ws gates ws gates
+  swapped_none ws gates = record {
+    worker_count = refl;
+    gate_count = refl;
+    taken = λ i w gate low at there. absurd (omega arith);
+    given = λ i w low at. absurd (omega arith);
+    other_workers = λ i high. refl;
+    other_gates = λ i high. refl;
+  }
+
   pub swapped_more : (n : ℕ) (ws : List (Worker S G)) (gates : List (Option G)) (ws' : List (Worker S G)) (gates' : List (Option G)) (w : Worker S G) (gate : Option G)
       → AreSwapped n ws gates ws' gates' → slice_get ws' n ≡ Some w → slice_get gates' n ≡ Some gate → AreSwapped (n + 1) ws gates (set ws' n (lent w gate)) (set gates' n w.gate)
   swapped_more n ws gates ws' gates' w gate h at gate_at = record {

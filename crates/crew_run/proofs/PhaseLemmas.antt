@@ -1,10 +1,11 @@
 -- What phases come to that follow one another.
 use Rattle.std.proofs.Common.{◌≡◌, ◌≢◌, ◌∙◌, ℕ, ◌+◌, List, length, slice_get, Some, inl, inr, sym, ap, subst, arith}
+use Rattle.std.specs.List.{refill}
 use Rattle.std.proofs.lemmas.Bool.{cases_lt}
 use Rattle.std.proofs.lemmas.Option.{slice_get_within}
 use Rattle.list_laws.proofs.Places.{one_there}
 use Rattle.list_laws.proofs.Ranges.{last_or}
-use Rattle.list_laws.proofs.Members.{beside}
+use Rattle.list_laws.proofs.Members.{beside, refill_whole}
 use Rattle.list_laws.proofs.Options.{one_some}
 use Rattle.crew_run.specs.declared.gate.Gate as gate
 use Rattle.crew_run.specs.declared.stepper.Stepper as stepper
@@ -85,6 +86,14 @@ module _ {S G : Type 0} (m : stepper.Ghosts S) (p : gate.Ghosts G) where
   -- the gate of a worker that can run has room for its members
   pub room_of : (w : Worker S G) (g : G) → CanRun m p w → w.gate ≡ Some g → (k : ℕ) (a : S) → slice_get w.members k ≡ Some a → HasRoomToRun m p a g
   room_of w g can is k a at = subst (HasRoomToRun m p a) (one_some can.gate.told g (sym can.gate.is ∙ is)) (can.gate.room k a at)
+
+  -- the gate of a worker between two phases leaves room for the turns of its members
+  pub can_step_with : (w : Worker S G) (g : G) → CanResume m p w → w.gate ≡ Some g → CanStep m p w.members g
+  can_step_with w g can is = subst (CanStep m p w.members) (one_some can.gate g (sym can.gate_is ∙ is)) can.can
+
+  -- members that were lent out for their steps
+  pub stepped_back : (members lent_out now : List S) (g g' : G) → lent_out ≡ members → AreStepped m p lent_out g now g' → AreStepped m p members g (refill (length members) members now) g'
+  stepped_back members lent_out now g g' is h = rw (refill_whole members now (h.count ∙ ap length is)) (subst (λ xs. AreStepped m p xs g now g') is h)
 
   -- a worker that has begun can resume
   pub can_resume : (w w' : Worker S G) → CanRun m p w → HasBegun m p w w' → CanResume m p w'

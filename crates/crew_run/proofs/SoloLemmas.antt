@@ -9,7 +9,8 @@ use Rattle.list_laws.proofs.Options.{one_some}
 use Rattle.crew_run.specs.declared.gate.Gate as gate
 use Rattle.crew_run.specs.declared.stepper.Stepper as stepper
 use Rattle.crew_run.specs.declared.worker.Worker.{Worker}
-use Rattle.crew_run.specs.code.Phases.{AreStepped, CanResume, CanStep, Each, IsResumed}
+use Rattle.crew_run.specs.code.Phases.{AreStepped, CanResume, Each, IsResumed}
+use Rattle.crew_run.proofs.PhaseLemmas.{can_step_with}
 use Rattle.crew_run.proofs.StepLemmas.{can_step_kept, stepped_more, stepped_none}
 
 module _ {S G : Type 0} (m : stepper.Ghosts S) (p : gate.Ghosts G) where
@@ -18,7 +19,7 @@ module _ {S G : Type 0} (m : stepper.Ghosts S) (p : gate.Ghosts G) where
   resumed_can w w' can h = record {
     gate = h.gate';
     gate_is = h.gate'_is;
-    can = can_step_kept m p w.members w'.members h.gate h.gate' h.stepped (subst (CanStep m p w.members) (one_some can.gate h.gate (sym can.gate_is ∙ h.gate_is)) can.can);
+    can = can_step_kept m p w.members w'.members h.gate h.gate' h.stepped (can_step_with m p w h.gate can h.gate_is);
   }
 
   pub all_resumed_can : (ws ws' : List (Worker S G)) → ((i : ℕ) (w : Worker S G) → slice_get ws i ≡ Some w → CanResume m p w) → Each (IsResumed m p) ws ws' → (i : ℕ) (w : Worker S G) → slice_get ws' i ≡ Some w → CanResume m p w

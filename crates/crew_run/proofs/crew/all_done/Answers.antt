@@ -1,5 +1,5 @@
-use Rattle.std.proofs.Common.{refl}
-use Rattle.std.proofs.lemmas.Option.{slice_get_read}
+use Rattle.std.proofs.Common.{arith, refl}
+use Rattle.std.proofs.lemmas.Option.{slice_get_read, slice_get_within}
 use Rattle.crew_run.specs.code.Phases.{AreDone}
 use Rattle.crew_run.proofs.CrewLemmas.{below_more}
 use Rattle.crew_run.proofs.crew.all_done.Goals as goal
@@ -12,3 +12,6 @@ pub workers-preserved : goal.workers-preserved
 workers-preserved g c =
     let at = slice_get_read c.args.workers.now _ c.workers.i c.index-workers-i.result refl c.workers-test.true c.index-workers-i.is in
     below_more (λ w. AreDone g.S.Stepper w.members) c.args.workers.now c.workers.i c.index-workers-i.result c.workers.invariant at c.if-not-is_done.ensures
+
+pub returns : goal.returns
+returns g c = λ i w at. c.workers.invariant i w (omega (arith, slice_get_within c.args.workers.now i w at, c.workers-test.false)) at

@@ -1,4 +1,6 @@
-use Rattle.crew_run.proofs.CrewLemmas.{all_begun_resumed, all_can_resume, all_have_run}
+use Rattle.std.proofs.Common.{◌∙◌, sym}
+use Rattle.std.proofs.lemmas.Bool.{eqb-true}
+use Rattle.crew_run.proofs.CrewLemmas.{all_begun_resumed, all_can_resume, all_have_run, none_have_run}
 use Rattle.crew_run.proofs.crew.run_phases.Goals as goal
 
 pub all_done-requires : goal.all_done-requires
@@ -14,3 +16,12 @@ pub phases-preserved : goal.phases-preserved
 phases-preserved g c =
     let laws = g.met.S.Stepper g.world.𝓛 g.world.𝓜 g.world.𝓡 ((λ s x. x), (λ x. x), (λ x. x), λ x. x) in
     all_begun_resumed g.S.Stepper g.G.Gate laws.transitive _ _ _ c.phases.invariant c.go_on-steps.ensures
+
+pub returns-then-is_empty : goal.returns-then-is_empty
+returns-then-is_empty g c = none_have_run g.S.Stepper g.G.Gate c.args.workers.now (eqb-true _ 0 (sym c.is_empty.ensures ∙ c.if-is_empty.true))
+
+pub begin_all-requires-clause-can : goal.begin_all-requires-clause-can
+begin_all-requires-clause-can g c κs within = c.requires
+
+pub phases-init : goal.phases-init
+phases-init g c = c.begin_all.ensures
