@@ -1,11 +1,16 @@
-use Rattle.std.proofs.Common.{ap, arith, refl, sym, suc, ◌∙◌, ◌≡◌, ◌≢◌}
+use Rattle.std.proofs.Common.{ap, arith, length, refl, subst, sym, suc, ◌∙◌, ◌≡◌, ◌≢◌, ◌≤◌}
 use Rattle.edge_io.proofs.WritingLemmas.{writes_same}
+use Rattle.limits.specs.declared.TheConstants.{MAX_CYCLES}
 use Rattle.machine_run.proofs.TurnLemmas.{in_place_on}
+use Rattle.machine_run.specs.Crews.{CrewView, rows_at_end, turns_left}
+use Rattle.machine_run.specs.Visits.{AllCanTellTurns}
 use Rattle.net_defs.specs.Time.{cycle_count}
+use Rattle.port_host.specs.Rows.{printed_sources}
+use Rattle.trace_text.specs.Line.{row_room}
 use Rattle.block_run.specs.Blocks.{cycles_of_blocks}
 use Rattle.block_run.specs.Lines.{cells_shown, lines_between}
 use Rattle.block_run.proofs.LinesLemmas.{lines_begin, lines_cut, lines_written}
-use Rattle.block_run.proofs.RunLemmas.{block_taken, later, no_cycle, over_first, over_more, rows_are, stops_in, visits_all, visits_more}
+use Rattle.block_run.proofs.RunLemmas.{block_taken, later, no_cycle, over_first, over_more, rows_are, rows_left, stops_in, visits_all, visits_more}
 use Rattle.block_run.proofs.blocks.run_all.Goals as goal
 
 pub runs-init : goal.runs-init
@@ -75,3 +80,32 @@ runs-preserved g c =
       );
       room = c.run_block.ensures.room ∙ c.runs.invariant.room;
     }
+
+pub run_block-requires-clause-enough : goal.run_block-requires-clause-enough
+run_block-requires-clause-enough g c κs within =
+    let (k, over, written) = c.runs.invariant.run in
+    subst (λ (v : CrewView). v.workers ≤ length c.runs.gates) (sym over.crew_is) (omega (arith, over.kept.count, c.requires.enough))
+
+pub run_block-requires-clause-tell : goal.run_block-requires-clause-tell
+run_block-requires-clause-tell g c κs within =
+    let (k, over, written) = c.runs.invariant.run in
+    subst (λ (v : CrewView). AllCanTellTurns g.G.Gate (turns_left v) v.workers c.runs.gates) (sym over.crew_is) over.tell
+
+pub run_block-requires-clause-room : goal.run_block-requires-clause-room
+run_block-requires-clause-room g c κs within =
+    let (k, over, written) = c.runs.invariant.run in
+    subst (λ (v : CrewView). row_room (length (printed_sources v.image)) ≤ c.runs.line.room) (sym over.crew_is) (omega (arith, c.requires.room, c.runs.invariant.room))
+
+pub run_block-requires-clause-cycles : goal.run_block-requires-clause-cycles
+run_block-requires-clause-cycles g c κs within =
+    let (k, over, written) = c.runs.invariant.run in
+    subst (λ (v : CrewView). cycle_count v.stimulus ≤ MAX_CYCLES) (sym over.crew_is) (omega (arith, c.requires.cycles, c.requires.all))
+
+pub go_on-requires-clause-done : goal.go_on-requires-clause-done
+go_on-requires-clause-done g c = subst (λ (v : CrewView). v.rows ≡ rows_at_end v) (sym c.run_block.ensures.ran) refl
+
+pub go_on-requires-clause-more : goal.go_on-requires-clause-more
+go_on-requires-clause-more g c =
+    let (k, over, written) = c.runs.invariant.run in
+    let more : c.run_block.new.crew.rows ≢ cycle_count c.args.crew.now.stimulus = λ same. c.if-rows_done-cycles.false (omega (arith, c.host.ensures.rows, c.rows_done.ensures, c.requires.all, same)) in
+    rows_left g.G.Gate c.args.crew.now.image c.args.crew.now.stimulus c.args.crew.now.workers c.args.gates.now k _ _ _ c.run_block.new.gates over c.run_block.ensures.ran c.run_block.ensures.visits c.run_block.ensures.tell c.run_block.ensures.kept more

@@ -1,5 +1,7 @@
-use Rattle.std.proofs.Common.{ap}
-use Rattle.edge_io.proofs.WritingLemmas.{writes_same, writes_then}
+use Rattle.std.proofs.Common.{ap, arith, ◌∙◌, ◌≡◌}
+use Rattle.std.specs.Io.KnownBytes.{append_known}
+use Rattle.edge_io.proofs.WritingLemmas.{writes_same, writes_stop, writes_then}
+use Rattle.machine_run.proofs.TurnLemmas.{in_place_none}
 use Rattle.block_run.specs.Lines.{cells_shown, lines_between}
 use Rattle.block_run.proofs.RunLemmas.{stops_first, visits_begin}
 use Rattle.block_run.proofs.blocks.write_run.Goals as goal
@@ -18,3 +20,19 @@ returns-in-Err-clause-stopped g c = record {
   visits = visits_begin g.G.Gate c.args.crew.now.image c.args.crew.now.stimulus c.args.crew.now.workers c.args.gates.now;
   taken = stops_first c.args.net.now c.args.crew.now.image c.args.crew.now.stimulus _ _ _ _ c.write_line.result c.in-Err.no _ c.in-Err.is (ap (λ l. l.bytes) c.header.ensures) c.write_line.ensures;
 }
+
+pub run_all-requires-clause-room : goal.run_all-requires-clause-room
+run_all-requires-clause-room g c κs within =
+    let same : c.header.new.self.room ≡ c.args.line.now.room = ap (λ l. l.room) c.header.ensures in
+    omega (arith, same, c.requires.room.rows, c.requires.printed)
+
+pub returns-in-Ok-clause-stopped : goal.returns-in-Ok-clause-stopped
+returns-in-Ok-clause-stopped g c =
+    let wrote = rw c.in-Ok.is at c.write_line.ensures in
+    c.run_all.ensures.stopped c.args.net.now _ (wrote.whole ∙ ap (append_known (g.O.Sink.taken c.args.out.now)) (ap (λ l. l.bytes) c.header.ensures))
+
+pub returns-in-Err-clause-kept : goal.returns-in-Err-clause-kept
+returns-in-Err-clause-kept g c = in_place_none c.args.gates.now
+
+pub returns-in-Err-clause-written : goal.returns-in-Err-clause-written
+returns-in-Err-clause-written g c = writes_stop _ _ _ _ c.write_line.result c.in-Err.no _ _ _ c.in-Err.is (ap (λ l. l.bytes) c.header.ensures) c.write_line.ensures
