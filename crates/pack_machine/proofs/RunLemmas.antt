@@ -12,6 +12,7 @@ use Rattle.image_defs.specs.Places.{host_of}
 use Rattle.image_defs.specs.WellFormed.{IsWellFormed}
 use Rattle.image_defs.specs.declared.image.Image.{Image}
 use Rattle.limits.specs.declared.TheConstants.{MAX_CYCLES, MAX_UNITS}
+use Rattle.list_laws.proofs.Places.{one_there}
 use Rattle.machine_run.proofs.VisitLemmas.{all_visited, visited_in_place}
 use Rattle.machine_run.specs.Visits.{AreInPlace, AreVisitsOf}
 use Rattle.stim_text.proofs.LaneLemmas.{longest_few}
@@ -106,3 +107,10 @@ module _ {G : Type 0} (image : Image) (lanes : Lanes) (workers : ℕ) (fits : Is
             turn = ran.done 0 b here ∙ ap (λ t. t + 1) (ap (λ (x : Image). turns_of x b.run.lanes) image_is ∙ ap (turns_of image) lanes_are);
           };
         }
+
+module _ {G : Type 0} (image : Image) (lanes : Lanes) where
+  -- the first member of the host's worker is the host
+  pub host_there : (ws : List (Worker PackSeated G)) (ends : EndsWithHost image lanes ws) (n w : ℕ) (worker : Worker PackSeated G) (members : List PackSeated) → n ≡ length image.ports → w ≡ (n - 1) % length ws → slice_get ws w ≡ Some worker → members ≡ worker.members → slice_get members 0 ≡ Some ends.has.seat
+  host_there ws ends n w worker members count place at are =
+      let same = one_there ws w (host_of image % length ws) worker ends.has.member.worker (place ∙ ap (λ m. (m - 1) % length ws) count) at ends.has.member.worker_is in
+      ap (λ xs. slice_get xs 0) (are ∙ ap (λ (x : Worker PackSeated G). x.members) same) ∙ ends.has.member.member_is

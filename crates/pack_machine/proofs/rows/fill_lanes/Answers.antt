@@ -2,7 +2,7 @@ use Rattle.std.proofs.Common.{arith, length, subst, slice_index_or}
 use Rattle.std.proofs.lemmas.Option.{slice_get-get_or}
 use Rattle.machine_run.specs.Shown.{AreShown}
 use Rattle.pack_words.specs.Rule.{stimulus_of}
-use Rattle.pack_machine.proofs.RowLemmas.{can_fill, lanes_all, lanes_more}
+use Rattle.pack_machine.proofs.RowLemmas.{can_fill, lanes_all, lanes_more, lanes_none}
 use Rattle.pack_machine.proofs.rows.fill_lanes.Goals as goal
 
 pub fill_lane-requires-clause-few : goal.fill_lane-requires-clause-few
@@ -28,3 +28,6 @@ lanes-preserved c =
 pub returns : goal.returns
 returns c =
     lanes_all c.args.host.now.image c.args.lanes.now c.lanes.l c.lanes.rows (omega (arith, c.lanes-test.false, c.lanes.invariant.room.count, c.requires.room.count)) c.lanes.invariant
+
+pub lanes-init : goal.lanes-init
+lanes-init c = lanes_none c.args.host.now.image c.args.lanes.now c.args.rows.now c.requires.room
