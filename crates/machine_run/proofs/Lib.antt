@@ -7,6 +7,7 @@ pub mod KeptLemmas
 pub mod MoveLemmas
 pub mod ReadyLemmas
 pub mod RoomLemmas
+pub mod RowLemmas
 pub mod TurnLemmas
 pub mod VisitLemmas
 pub mod WholeLemmas

@@ -1,7 +1,7 @@
-use Rattle.std.proofs.Common.{arith, subst}
+use Rattle.std.proofs.Common.{ap, arith, length, subst}
 use Rattle.machine_run.specs.Crews.{CrewView, IsHostOfCrew}
 use Rattle.machine_run.specs.Kept.{view_of}
-use Rattle.machine_run.proofs.HostLemmas.{first_member, host_of_crew, host_worker, not_other}
+use Rattle.machine_run.proofs.HostLemmas.{first_member, host_of_crew, host_worker, not_other, some_member}
 use Rattle.machine_run.proofs.crew.Crew.host.Goals as goal
 
 pub unreachable-requires : goal.unreachable-requires
@@ -20,3 +20,13 @@ returns g c =
     let first = first_member (view_of a) a.workers has c.index-as_slice-worker_of.result c.as_slice-2.result.now is c.as_slice-2.ensures c.index-as_slice-0.result in
     subst (λ (x : CrewView). IsHostOfCrew x c.in-Some.host.now) c.self.view_is
     (host_of_crew (view_of a) a.workers has _ first (c.self.invariant.dealt.each _ 0 has.seat has.member).seat_is c.in-Some.host.now c.self.invariant.fits.units.0 c.in-Some.ensures)
+
+pub bounds-as_slice-0 : goal.bounds-as_slice-0
+bounds-as_slice-0 g c =
+    let a = c.self.inside in
+    let has = c.self.invariant.dealt.host (omega arith) in
+    let is = host_worker (view_of a) a.workers has c.len-host.result c.len.result c.worker_of.result c.as_slice.result.now c.index-as_slice-worker_of.result c.len-host.ensures c.len.ensures c.worker_of.ensures.is c.as_slice.ensures c.index-as_slice-worker_of.is in
+    some_member (view_of a) a.workers has c.index-as_slice-worker_of.result c.as_slice-2.result.now is c.as_slice-2.ensures
+
+pub bounds-as_slice-worker_of : goal.bounds-as_slice-worker_of
+bounds-as_slice-worker_of g c = omega (arith, c.worker_of.ensures.within, c.len.ensures, ap length c.as_slice.ensures)
