@@ -1,6 +1,12 @@
 use Rattle.std.proofs.Common.{◌≡◌, arith, subst, length}
-use Rattle.rank_find.proofs.NumberLemmas.{IsRankedTo, ranked_more, ranked_all}
+use Rattle.rank_find.proofs.NumberLemmas.{IsRankedTo, gate_within, ranked_more, ranked_all}
 use Rattle.rank_find.proofs.numbers.rank_numbers.Goals as goal
+
+pub rank_above-number-requires : goal.rank_above-number-requires
+rank_above-number-requires c = λ s. rw c.as_slice.ensures (omega (arith, c.loop-gate.invariant.low s))
+
+pub set-requires : goal.set-requires
+set-requires c = omega (arith, gate_within c.args.net.now _ (c.requires.order.gates c.loop-gate.gate-index 0 c.loop-gate-test.true), c.loop-gate.invariant.signals)
 
 pub loop-gate-preserved : goal.loop-gate-preserved
 loop-gate-preserved c =
