@@ -104,9 +104,7 @@ fn push_gate(
 {
     push_pieces(text, gate, b" = ", word)?;
     text.push_bytes(b"(")?;
-    push_names(text, net, operands)?;
-    text.push_bytes(b")\n")?;
-    Ok(())
+    push_names_then(text, net, operands, b")\n")
 }
 
 fn push_ram_at(text: &mut Text, net: &Netlist, number: u32) -> Result<(), Memory>
@@ -123,12 +121,23 @@ fn push_ram(text: &mut Text, net: &Netlist, memory: &Block) -> Result<(), Memory
     ensures { OnOk result (text.new ≡ text.old ++ memory_line net.now memory.now) }
 {
     text.push_bytes(b"[")?;
-    push_names(text, net, memory.outs.as_slice())?;
-    push_pieces(text, b"] = RAM(", name_of(net, memory.we), b"; ")?;
-    push_names(text, net, memory.address.as_slice())?;
-    text.push_bytes(b"; ")?;
-    push_names(text, net, memory.word.as_slice())?;
-    text.push_bytes(b")\n")?;
+    push_names_then(text, net, memory.outs.as_slice(), b"] = RAM(")?;
+    push_pieces(text, name_of(net, memory.we), b"; ", b"")?;
+    push_names_then(text, net, memory.address.as_slice(), b"; ")?;
+    push_names_then(text, net, memory.word.as_slice(), b")\n")
+}
+
+/// The names, and what stands after the last one.
+fn push_names_then(
+    text: &mut Text,
+    net: &Netlist,
+    numbers: &[u32],
+    end: &[u8],
+) -> Result<(), Memory>
+    ensures { OnOk result (text.new ≡ text.old ++ (names_of net.now numbers.now ++ end.now)) }
+{
+    push_names(text, net, numbers)?;
+    text.push_bytes(end)?;
     Ok(())
 }
 
