@@ -158,3 +158,14 @@ lone_does spare base gate kind alone (x ∷ []) old new is one allowed low withi
     let in_range : base + x < spare = within 0 0 (omega arith) in
     adds_as spare gate _ _ old new (pair_does spare gate (base + x) (base + x) alone low (omega arith) (omega arith) old new adds)
     (λ values. ap (λ k. gate_value k (value_at values (base + x) ∷ value_at values (base + x) ∷ [])) is ∙ lone kind (value_at values (base + x)) allowed)
+
+-- the first two operands of a gate
+pub two_do : (spare base gate : ℕ) (kind : Kind) (operands : List ℕ) (old new : List GateOp) → gate ≤ spare → 1 < length operands → All (λ o. base + o < spare) operands
+    → AddsPair kind gate (base + get_or operands 0 0) (base + get_or operands 1 0) old new
+    → Adds spare gate (λ values. gate_value kind (map (λ o. value_at values (base + o)) (take 2 operands))) old new
+two_do spare base gate kind [] old new low two within adds = absurd (omega arith)
+two_do spare base gate kind (x ∷ []) old new low two within adds = absurd (omega arith)
+two_do spare base gate kind (x ∷ y ∷ rest) old new low two within adds =
+    let first : base + x < spare = within 0 0 (omega arith) in
+    let second : base + y < spare = within 1 0 (omega arith) in
+    pair_does spare gate (base + x) (base + y) kind low (omega arith) (omega arith) old new adds

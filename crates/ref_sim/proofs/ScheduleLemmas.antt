@@ -1,9 +1,10 @@
 -- Lists whose signals may be settled in their order.
-use Rattle.std.proofs.Common.{◌≡◌, ◌∙◌, ℕ, ◌<◌, inl, inr, true, false, List, [], length, get_or, refl, sym, subst, arith, Option, Some, None}
+use Rattle.std.proofs.Common.{◌≡◌, ◌∙◌, ℕ, ◌+◌, ◌<◌, inl, inr, true, false, List, [], ◌∷◌, ◌++◌, length, get_or, refl, sym, subst, arith, Option, Some, None}
 use Rattle.std.specs.List.{slice_get, Contains}
 use Rattle.std.proofs.lemmas.Option.{slice_get_past}
 use Rattle.std.proofs.lemmas.Bool.{cases_lt}
-use Rattle.std.proofs.lemmas.List.{get_or_default}
+use Rattle.std.proofs.lemmas.List.{get_or_default, length_push, get_or_append_left, get_or_push}
+use Rattle.std.proofs.lemmas.List.Elements.{Contains-append_left, Contains-append_right}
 use Rattle.net_defs.specs.declared.netlist.Netlist.{Netlist}
 use Rattle.net_defs.specs.declared.netlist.Signal.{Signal}
 use Rattle.net_defs.specs.declared.netlist.Driver.{Driver}
@@ -12,6 +13,7 @@ use Rattle.net_defs.specs.declared.timing.Timing.{Timing}
 use Rattle.net_defs.specs.Loops.{IsGate, waits_for, IsOrder, is_gate, is_gate_driver}
 use Rattle.list_laws.proofs.Differ.{differ_at}
 use Rattle.list_laws.proofs.Places.{place_below}
+use Rattle.list_laws.proofs.Ranges.{last_or}
 use Rattle.rank_find.proofs.NumberLemmas.{gate_within, waits_for_nothing}
 use Rattle.ref_sim.specs.declared.schedule.Role.{Role}
 use Rattle.ref_sim.specs.declared.schedule.Role.TheVariants as role
@@ -54,4 +56,36 @@ register_sequence net timing list lists = record {
       let none : Contains [] operand = subst (λ xs. Contains xs operand) (none_waits net timing (get_or list i 0) (lists.all i (omega arith))) waits in
       let inside = none.1 in
       absurd (omega arith);
+}
+
+-- the role of a signal by its driver
+pub role_here : (net : Netlist) (part : Role) (s : ℕ) (signal : Signal) → slice_get net.signals s ≡ Some signal → has_role net part s ≡ driver_has_role part signal.driver
+role_here net part s signal is = rw is refl
+
+-- the list has the signals of a role among the first n
+pub record ListsBelow (net : Netlist) (part : Role) (n : ℕ) (list : List ℕ) : Type 0 where
+  pub all : (k : ℕ) → k < length list → has_role net part (get_or list k 0) ≡ true
+  pub each : (s : ℕ) → s < n → has_role net part s ≡ true → Contains list s
+
+-- the next signal has the role
+pub below_taken : (net : Netlist) (part : Role) (n : ℕ) (list : List ℕ) → has_role net part n ≡ true → ListsBelow net part n list → ListsBelow net part (n + 1) (list ++ n ∷ [])
+below_taken net part n list plays below = record {
+  all = λ k within. elim (last_or k (length list) (omega (arith, length_push list n))) [
+    | inl h ↦ rw (get_or_append_left list (n ∷ []) 0 k h) (below.all k h)
+    | inr h ↦ rw (get_or_push list n 0 k (sym h)) plays
+  ];
+  each = λ s within has. elim (last_or s n within) [
+    | inl h ↦ Contains-append_left list (n ∷ []) s (below.each s h has)
+    | inr h ↦ Contains-append_right list (n ∷ []) s (0, omega arith, sym h)
+  ];
+}
+
+-- the next signal hasn't
+pub below_passed : (net : Netlist) (part : Role) (n : ℕ) (list : List ℕ) → has_role net part n ≡ false → ListsBelow net part n list → ListsBelow net part (n + 1) list
+below_passed net part n list other below = record {
+  all = below.all;
+  each = λ s within has. elim (last_or s n within) [
+    | inl h ↦ below.each s h has
+    | inr h ↦ let none : has_role net part s ≡ false = rw h other in absurd (cc)
+  ];
 }

@@ -46,6 +46,7 @@ pub(crate) fn make_schedule(
     ensures { IfOk result (IsSchedule net.now timing.now) }
 {
     let gate_ops = signal_ops(alloc, net, timing, order.as_slice())?;
+    drop(order);
     let (registers, register_ops) = register_schedule(alloc, net, timing)?;
     let (inputs, outputs) = input_and_output_signals(alloc, net)?;
     Ok(Schedule {
