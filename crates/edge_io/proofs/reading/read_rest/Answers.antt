@@ -1,4 +1,4 @@
-use Rattle.std.proofs.Common.{◌≡◌, ◌∙◌, sym, arith, ℕ, ◌+◌, ◌≤◌, ◌++◌, length, take, drop, false, Ok, Err, Result}
+use Rattle.std.proofs.Common.{◌≡◌, ◌∙◌, sym, arith, ℕ, ◌+◌, ◌++◌, length, take, drop, false, Ok, Err, Result}
 use Rattle.std.specs.Result.{OnOk, is_err}
 use Rattle.std.proofs.lemmas.List.{length-take}
 use Rattle.edge_io.proofs.ReadingLemmas.{counts_more, counts_whole, counts_failed, counts_unkept, counts_too_long, gone_more, grown_length}
