@@ -1,5 +1,5 @@
 -- The command of `clap`: how it is built, and what it finds by a name.
-use Rattle.std.proofs.Common.{is_some, ◌≡◌, ◌+◌, ◌<◌, ℕ, Bool, true, false, List, [], ◌∷◌, map, length, take, Option, Some, None, refl, ap, ◌∙◌, codes}
+use Rattle.std.proofs.Common.{is_some, ◌≡◌, ◌+◌, ◌<◌, ℕ, Bool, true, false, List, [], ◌∷◌, map, length, take, Option, Some, None, refl, ap, sym, ◌∙◌, codes}
 use Rattle.std.specs.Prelude.{bytes_eq, count_by, find, slice_index_or, if◌then◌else◌}
 use Rattle.std.specs.List.{list_all, list_any}
 use Rattle.std.specs.Borrow.{Bor}
@@ -7,7 +7,7 @@ use Rattle.std.proofs.lemmas.Bool.{false_from_ne_true}
 use Rattle.std.proofs.lemmas.List.{map-append, take_more}
 use Rattle.std.proofs.lemmas.Slice.Eq.{bytes_eq-Decides}
 use Rattle.clap.specs.Faults.{is_simple_and_free}
-use Rattle.clap.specs.Simple.{Shape, built, filled_from, is_simple, new_shape, with_rule}
+use Rattle.clap.specs.Simple.{App, Shape, built, filled_from, is_simple, new_shape, with_rule}
 use Rattle.clap.specs.Walk.{Rule, arg_by_id, arg_by_long, is_early_multiple}
 use Rattle.clap.specs.declared.builder.range.ValueRange.{ValueRange}
 use Rattle.cmd_words.specs.Arguments.{Word, has_name}
@@ -70,13 +70,14 @@ pub is_simple_app : (names : List Word) → is_simple (app_with names) ≡ true
 is_simple_app names = rw (filled_options 2 names, all_plain names, all_simple names, one_index names, none_early (count_by (λ rule. is_some rule.index) (built (app_with names)).top.rules) names) refl
 
 -- one more option
-pub app_step : (options : List (Bor Word)) (i : ℕ) (x : Bor Word) → i < length options
-    → app_with (texts_in (take (i + 1) options)) ≡ with_rule (app_with (texts_in (take i options))) (option_rule (slice_index_or options i x).now)
-app_step options i x within =
-    ap (λ (rules : List Rule). record (app_with []) { top = record (app_with []).top { rules = files_rule ∷ rules } })
+pub app_step : (options : List (Bor Word)) (i : ℕ) (x : Bor Word) → i < length options → (before : App) (rule : Rule)
+    → before ≡ app_with (texts_in (take i options)) → rule ≡ option_rule (slice_index_or options i x).now
+    → with_rule before rule ≡ app_with (texts_in (take (i + 1) options))
+app_step options i x within before rule was is =
+    rw (was, is) (sym (ap (λ (rules : List Rule). record (app_with []) { top = record (app_with []).top { rules = files_rule ∷ rules } })
     (ap (λ texts. map option_rule (texts_in texts)) (take_more options i x within)
     ∙ ap (map option_rule) (map-append (λ text. text.now) (take i options) (slice_index_or options i x ∷ []))
-    ∙ map-append option_rule (texts_in (take i options)) ((slice_index_or options i x).now ∷ []))
+    ∙ map-append option_rule (texts_in (take i options)) ((slice_index_or options i x).now ∷ []))))
 
 -- ---- names
 

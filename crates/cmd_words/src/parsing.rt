@@ -89,7 +89,6 @@ fn refusal(error: &Error) -> WordNo
 }
 
 /// The command with options of these names. It takes any number of positional arguments.
-#[tactic(auto, using(crate::proofs::AppLemmas::app_step))]
 fn command<'a>(alloc: Global, options: &'a [&'a str]) -> Result<Command<'a>, AllocError>
     ensures { IfOk result (λ command. app_of command ≡ app_with (texts_in options.entry.now)) }
 {
