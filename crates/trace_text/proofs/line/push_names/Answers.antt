@@ -1,6 +1,7 @@
 use Rattle.std.proofs.Common.{ℕ, ◌∷◌, length, take, ap, arith, length-append}
 use Rattle.std.specs.List.{flat_map}
 use Rattle.std.proofs.lemmas.List.Folds.{length-flat_map-take}
+use Rattle.std.proofs.lemmas.Grind.{common_steps}
 use Rattle.net_defs.specs.Canonical.{name_of}
 use Rattle.seen_list.specs.Filling.{Filling}
 use Rattle.trace_text.proofs.line.push_names.Goals as goal
@@ -13,3 +14,6 @@ push_name-requires c =
     let short = length-flat_map-take shown numbers c.loop-number.number-index 0 c.loop-number-test.true in
     let so_far = c.loop-number.invariant.so_far in
     omega (arith, short, c.requires, ap length c.name_of.ensures, ap (λ (l : Filling). length l.bytes) so_far, ap (λ (l : Filling). l.room) so_far, length-append c.args.line.now.bytes before, ap (λ xs. length (flat_map shown xs)) c.loop-number.invariant.whole)
+
+pub loop-number-preserved : goal.loop-number-preserved
+loop-number-preserved c = grind (arith, common_steps)
