@@ -61,8 +61,8 @@ pub record HasMarked (net : Netlist) (parts : List (List ℕ)) (k : ℕ) (marks 
 here : (net : Netlist) {parts : List (List ℕ)} {k line : ℕ} {part : List ℕ} {left : List (ℕ × List ℕ)} → IsNextLine parts k line part left → fault_at net parts k ≡ fault_of net (gates_of net (take k parts)) line part
 here net next = rw (next.number, next.here) refl
 
-pub marked_none : (net : Netlist) (parts : List (List ℕ)) → HasMarked net parts 0 (replicate (length net.signals) false)
-marked_none net parts = record { are = no_marks net; no_fault = first-zero _ }
+pub marked_none : {net : Netlist} (parts : List (List ℕ)) {marks : List Bool} → AreMarks net [] marks → HasMarked net parts 0 marks
+marked_none parts are = record { are = are; no_fault = first-zero _ }
 
 no_fault_more : {net : Netlist} {parts : List (List ℕ)} {k line : ℕ} {part : List ℕ} {left : List (ℕ × List ℕ)} {marks : List Bool} → HasMarked net parts k marks → IsNextLine parts k line part left → fault_of net (gates_of net (take k parts)) line part ≡ None → first (fault_at net parts) (k + 1) ≡ None
 no_fault_more {net = net} {parts = parts} {k = k} so next none =

@@ -1,6 +1,6 @@
 //! The reader of the texts of lists of gates.
 
-ghost use Rattle.std.specs.Prelude.{◌≡◌, ◌≤◌, List as Items, ℕ, None, MatchResult, IfOk, length};
+ghost use Rattle.std.specs.Prelude.{◌≡◌, ◌≤◌, List as Items, [], ℕ, None, MatchResult, IfOk, length};
 ghost use Rattle.limits.specs.declared.TheConstants.{MAX_SIGNALS, MAX_TEXT_BYTES};
 ghost use Rattle.text_lines.specs.Answers.{Answers};
 ghost use Rattle.text_lines.specs.Lines.{parts_of};
@@ -46,14 +46,36 @@ fn read_marks(alloc: Global, bytes: &[u8], net: &Netlist) -> Result<List<bool>, 
     ensures { Answers NoMemory result (first_fault net.now bytes.now)
         (AreMarks net.now (gates_of net.now (parts_of bytes.now))) }
 {
-    let names = signal_names(alloc, net)?;
     let mut marks = List::filled(alloc, false, net.signals.len())?;
+    let names = signal_names(alloc, net)?;
+    let taken = mark_lines(bytes, net, &names, &mut marks);
+    drop(names);
+    match taken {
+        Ok(()) => Ok(marks),
+        Err(no) => Err(no),
+    }
+}
+
+/// Marks the gates that the text names, or answers the fault of its first line that has one.
+fn mark_lines(
+    bytes: &[u8],
+    net: &Netlist,
+    names: &Names,
+    marks: &mut List<bool>,
+) -> Result<(), LastNo>
+    requires short { length bytes.now ≤ MAX_TEXT_BYTES }
+    requires net { IsValid net.now }
+    requires names { names.now ≡ names_in net.now }
+    requires unmarked { AreMarks net.now [] marks.old }
+    ensures { Answers NoMemory result (first_fault net.now bytes.now)
+        (λ _. AreMarks net.now (gates_of net.now (parts_of bytes.now)) marks.new) }
+{
     for (line, part) in Lines::new(bytes) {
-        if let Some(gate) = read_line(net, &names, marks.as_slice(), line, part)? {
+        if let Some(gate) = read_line(net, names, marks.as_slice(), line, part)? {
             marks.set(gate as usize, true);
         }
     }
-    Ok(marks)
+    Ok(())
 }
 
 /// The names of the signals, in signal order.

@@ -27,10 +27,12 @@ pub fn signal_numbers(alloc: Global, draft: &Draft, inputs: usize) -> Result<Lis
     let mut input = 0;
     let mut other = inputs;
     'lines: for (_at, line) in DraftLines::new(draft) {
-        push_range(&mut order, input, input_count(line))?;
-        push_range(&mut order, other, other_count(line))?;
-        input += input_count(line);
-        other += other_count(line);
+        let own_inputs = input_count(line);
+        let own_others = other_count(line);
+        push_range(&mut order, input, own_inputs)?;
+        push_range(&mut order, other, own_others)?;
+        input += own_inputs;
+        other += own_others;
     }
     Ok(order)
 }

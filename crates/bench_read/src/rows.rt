@@ -69,13 +69,15 @@ fn read_row<'a>(
 {
     let mut outs = List::new(alloc);
     let (act, name) = read_act(at, part, &mut outs, &mut draft.uses)?;
-    drive(
+    let driven = drive(
         alloc,
         at,
         driven_by(act, &[name], outs.as_slice()),
         &mut draft.names,
         &mut draft.drivers,
-    )?;
+    );
+    drop(outs);
+    driven?;
     draft.operands += operands_by(act);
     check_limits(at, draft.drivers.len(), draft.operands)?;
     draft.statements.push(Statement { act, at })?;

@@ -2,7 +2,7 @@ use Rattle.std.proofs.Common.{◌≡◌, ◌+◌, ◌≤◌, length, drop}
 use Rattle.std.specs.List.{enumerate_from}
 use Rattle.text_lines.specs.Lines.{parts_of}
 use Rattle.bench_read.proofs.MarkLemmas.{HasMarked}
-use Rattle.bench_read.proofs.list_reading.read_marks.Given as goal
+use Rattle.bench_read.proofs.list_reading.mark_lines.Given as goal
 
 abbrev pub invariant-loop-line : goal.invariant-loop-line
 invariant-loop-line l = record {
