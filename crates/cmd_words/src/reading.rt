@@ -211,7 +211,9 @@ fn netlist<'a>(alloc: Global, words: &'a [String], options: &'a [&'a str]) -> Re
     ensures { Answers result (says (texts_in options.entry.now) of_one_file (map string_bytes words.entry.now)) }
 {
     let matches = parse(alloc, words, options)?;
-    match one_argument(&matches) {
+    let found = one_argument(&matches);
+    drop(matches);
+    match found {
         Some(netlist) => Ok(Text::from_bytes(alloc, netlist.as_bytes())?),
         None => Err(WordNo::Usage),
     }
