@@ -2,7 +2,8 @@
 use Rattle.std.proofs.Common.{◌≡◌, ◌∙◌, ◌⊎◌, inl, inr, ℕ, true, false, refl, sym, ap, subst}
 use Rattle.machine_text.specs.declared.machine.Machine.{Machine}
 use Rattle.machine_text.specs.Machines.{IsValid as IsValidMachine}
-use Rattle.net_defs.specs.declared.homes.HomeChoice.TheVariants.{Better}
+use Rattle.net_defs.specs.declared.homes.HomeChoice.{HomeChoice}
+use Rattle.net_defs.specs.declared.homes.HomeChoice.TheVariants.{Plain, Better}
 use Rattle.net_defs.specs.declared.netlist.Netlist.{Netlist}
 use Rattle.net_defs.specs.declared.timing.Timing.{Timing}
 use Rattle.node_defs.specs.declared.items.NodeNet.{NodeNet}
@@ -16,10 +17,11 @@ use Rattle.home_better.specs.Crossings.{crossings}
 use Rattle.home_better.proofs.PassLemmas.{passes_way, start_way}
 use Rattle.home_pick.proofs.HomeLemmas.{homes_are}
 use Rattle.yse_compile.specs.declared.choose.Chosen.{Chosen}
+use Rattle.yse_compile.specs.declared.compiler.Compiled.{Compiled}
 use Rattle.yse_compile.specs.declared.compiler.CompNo.{CompNo}
 use Rattle.yse_compile.specs.declared.compiler.CompNo.TheVariants.{Loop, Bits, Slots, Functions, Memory, Nodes}
-use Rattle.yse_compile.specs.Chosen.{FitsEither, HomesFit, IsChosen, IsDesign, UsesPlain, UsesBetter}
-use Rattle.yse_compile.specs.Compiled.{IsOverfull, IsRight}
+use Rattle.yse_compile.specs.Chosen.{FitsBy, FitsEither, HomesFit, IsChosen, IsDesign, UsesPlain, UsesBetter}
+use Rattle.yse_compile.specs.Compiled.{IsCompiled, IsOverfull, IsRight}
 use Rattle.yse_compile.specs.Designs.{IsAcyclic, DesignFits, LacksBits, LacksNodes, LacksSlots, LacksFunctions}
 use Rattle.yse_compile.proofs.FitLemmas.{FitsOrNot, LacksPlan}
 
@@ -38,6 +40,11 @@ plain_either net machine timing fits = record {
   picked = fits.picked;
   fit = inl (record { plan = fits.plan; first_fit = fits.first_fit; fits = fits.fits });
 }
+
+-- what fits by a choice of homes fits at plain homes or at better ones
+pub by_either : (net : Netlist) (machine : Machine) (timing : Timing) (choice : HomeChoice) → (DesignFits net machine timing → FitsEither net machine timing) → FitsBy choice net machine timing → FitsEither net machine timing
+by_either net machine timing Plain plain fits = plain fits
+by_either net machine timing Better plain fits = fits
 
 -- it fits by a claim, or a refusal is right and it does not
 abbrev pub FitsOrRefused : Netlist → Machine → Timing → Type 0 → Type 0
@@ -99,7 +106,89 @@ module _ (net : Netlist) (machine : Machine) (timing : Timing) where
       | inr neither ↦ inr (why, right, over, neither)
     ]
 
+-- ---- what is compiled
+
+-- a compiled design is a design
+pub compiled_design : (net : Netlist) (machine : Machine) (timing : Timing) (compiled : Compiled) → AreHomes compiled.nodes compiled.homes → IsCompiled net machine timing compiled → IsDesign net machine timing compiled
+compiled_design net machine timing compiled homes is = record {
+  acyclic = is.acyclic;
+  items = is.items;
+  logic = is.picked.logic;
+  array = is.picked.array;
+  homes = homes;
+  memories = is.picked.memories;
+  first_fit = is.first_fit;
+  fits = is.fits;
+  routed = is.routed;
+  built = is.built;
+}
+
+-- a design at the homes that are picked is compiled
+pub design_compiled : (net : Netlist) (machine : Machine) (timing : Timing) (nodes : NodeNet) (plain : Homes) (compiled : Compiled) → compiled.nodes ≡ nodes → compiled.homes ≡ plain → ArePicked nodes machine plain → IsDesign net machine timing compiled
+    → IsCompiled net machine timing compiled
+design_compiled net machine timing nodes plain compiled same homes picked is = record {
+  acyclic = is.acyclic;
+  items = is.items;
+  picked = subst (λ n. ArePicked n machine compiled.homes) (sym same) (subst (ArePicked nodes machine) (sym homes) picked);
+  first_fit = is.first_fit;
+  fits = is.fits;
+  routed = is.routed;
+  built = is.built;
+}
+
+-- it fits
+pub compiled_fits : (net : Netlist) (machine : Machine) (timing : Timing) (compiled : Compiled) → IsCompiled net machine timing compiled → DesignFits net machine timing
+compiled_fits net machine timing compiled is = record {
+  acyclic = is.acyclic;
+  nodes = compiled.nodes;
+  items = is.items;
+  homes = compiled.homes;
+  picked = is.picked;
+  plan = compiled.plan;
+  first_fit = is.first_fit;
+  fits = is.fits;
+}
+
+-- the same items at the same homes
+homes_kept : (nodes : NodeNet) (plain : Homes) (compiled : Compiled) → compiled.nodes ≡ nodes → compiled.homes ≡ plain → AreHomes nodes plain → AreHomes compiled.nodes compiled.homes
+homes_kept nodes plain compiled same homes are = subst (λ n. AreHomes n compiled.homes) (sym same) (subst (AreHomes nodes) (sym homes) are)
+
 -- ---- the homes that are used
+
+-- the plain homes are used, where they are asked
+pub plain_used : (net : Netlist) (machine : Machine) (timing : Timing) (nodes : NodeNet) (plain : Homes) (chosen : Chosen)
+    → chosen.compiled.nodes ≡ nodes → ArePicked nodes machine plain → AreHomes nodes plain → IsCompiled net machine timing chosen.compiled
+    → chosen.before ≡ crossings nodes plain → chosen.after ≡ crossings nodes plain → chosen.better ≡ false → chosen.compiled.homes ≡ plain
+    → IsChosen net machine timing Plain chosen
+plain_used net machine timing nodes plain chosen same picked are compiled before after plainly homes = record {
+  plain = plain;
+  picked = subst (λ n. ArePicked n machine plain) (sym same) picked;
+  design = compiled_design net machine timing chosen.compiled (homes_kept nodes plain chosen.compiled same homes are) compiled;
+  used = record {
+    homes = homes;
+    plainly = plainly;
+    before = before ∙ ap (λ n. crossings n plain) (sym same);
+    after = after ∙ ap (λ n. crossings n plain) (sym same);
+  };
+}
+
+-- the plain homes are used, where better ones do not fit
+pub plain_kept : (net : Netlist) (machine : Machine) (timing : Timing) (nodes : NodeNet) (plain best : Homes) (chosen : Chosen)
+    → chosen.compiled.nodes ≡ nodes → ArePicked nodes machine plain → AreHomes nodes plain → IsCompiled net machine timing chosen.compiled → IsBetter nodes machine plain best
+    → chosen.before ≡ crossings nodes plain → chosen.after ≡ crossings nodes best → chosen.better ≡ false → chosen.compiled.homes ≡ plain → (HomesFit nodes machine best → ⊥)
+    → IsChosen net machine timing Better chosen
+plain_kept net machine timing nodes plain best chosen same picked are compiled is before after plainly homes unfit = record {
+  plain = plain;
+  picked = subst (λ n. ArePicked n machine plain) (sym same) picked;
+  design = compiled_design net machine timing chosen.compiled (homes_kept nodes plain chosen.compiled same homes are) compiled;
+  used = record {
+    best = best;
+    is_better = subst (λ n. IsBetter n machine plain best) (sym same) is;
+    before = before ∙ ap (λ n. crossings n plain) (sym same);
+    after = after ∙ ap (λ n. crossings n best) (sym same);
+    used = inr (plainly, homes, λ fits. unfit (subst (λ n. HomesFit n machine best) same fits));
+  };
+}
 
 -- the better homes are used
 pub better_used : (net : Netlist) (machine : Machine) (timing : Timing) (nodes : NodeNet) (plain best : Homes) (chosen : Chosen)

@@ -88,7 +88,10 @@ fn at_plain(
 {
     let count = match count_of(alloc, net, machine, timing, &housed) {
         Ok(count) => count,
-        Err(_) => return Err(CompNo::Memory),
+        Err(_) => {
+            drop(housed);
+            return Err(CompNo::Memory);
+        }
     };
     match compile_at(alloc, net, machine, timing, housed) {
         Ok(compiled) => Ok(Chosen {
@@ -136,12 +139,19 @@ fn at_better(
 {
     let improved = match better_homes(alloc, net, machine, timing, &housed) {
         Ok(improved) => improved,
-        Err(_) => return Err(CompNo::Memory),
+        Err(_) => {
+            drop(housed);
+            return Err(CompNo::Memory);
+        }
     };
     match plan_if_fits(alloc, machine, &housed.nodes, &improved.homes) {
         Ok(Some(plan)) => use_better(alloc, net, machine, timing, housed, improved, plan),
         Ok(None) => keep_plain(alloc, net, machine, timing, housed, improved),
-        Err(_) => Err(CompNo::Memory),
+        Err(_) => {
+            drop(improved);
+            drop(housed);
+            Err(CompNo::Memory)
+        }
     }
 }
 
@@ -182,15 +192,11 @@ fn use_better(
     ensures fitted { OnOk result (FitsEither net.now machine.now timing.now) }
 {
     drop(housed.homes);
-    match routed(
-        alloc,
-        net,
-        machine,
-        timing,
-        housed.nodes,
-        improved.homes,
-        plan,
-    ) {
+    let rehoused = Housed {
+        nodes: housed.nodes,
+        homes: improved.homes,
+    };
+    match routed(alloc, net, machine, timing, rehoused, plan) {
         Ok(compiled) => Ok(Chosen {
             compiled,
             before: improved.before,

@@ -1,15 +1,19 @@
 //! The steps of the compiler: items, homes, the plan, and the switch and image.
 
-ghost use Rattle.std.specs.Prelude.{◌≡◌, ◌≤◌, IfOk, IfErr, IfSome, IsNone, OnOk};
+ghost use Rattle.std.specs.Prelude.{◌≡◌, ◌≤◌, List as Items, IfOk, IfErr, IfSome, IsNone, OnOk};
+ghost use Rattle.image_build.specs.Built.{GivesItems, IsBuilt};
 ghost use Rattle.limits.specs.declared.TheConstants.{MAX_SLOTS};
 ghost use Rattle.machine_text.specs.Machines.{IsValid as IsValidMachine};
 ghost use Rattle.net_defs.specs.declared.stimulus.Stimulus.{Stimulus};
+ghost use Rattle.net_defs.specs.Steps.{State};
 ghost use Rattle.net_defs.specs.Valid.{IsValid, IsValidTiming};
 ghost use Rattle.node_defs.specs.Order.{AreItems};
+ghost use Rattle.node_defs.specs.Values.{AreItemValues};
 ghost use Rattle.node_defs.specs.WellFormed.{IsWellFormed};
 ghost use Rattle.plan_defs.specs.Homes.{AreHomes};
 ghost use Rattle.plan_defs.specs.Picks.{ArePicked};
 ghost use Rattle.plan_defs.specs.Slots.{IsFirstFitPlan};
+ghost use Rattle.plan_defs.specs.Switches.{IsSwitch};
 ghost use Rattle.plan_defs.specs.Tables.{Fits};
 ghost use Rattle.yse_compile.specs.Chosen.{FitsEither, HomesFit, IsDesign};
 ghost use Rattle.yse_compile.specs.code.Chosen.{AreHomesOn};
@@ -24,13 +28,14 @@ use crate::law::{
 };
 use home_pick::{HomeNo, homes};
 use image_build::build;
+use image_defs::Image;
 use machine_text::Machine;
 use net_defs::{Netlist, Timing};
 use node_defs::NodeNet;
 use node_defs::law::{one_run, values_are_reference};
 use node_map::map_nodes;
 use plan_defs::law::items_are_well_formed;
-use plan_defs::{Homes, Plan};
+use plan_defs::{Homes, Plan, Switch};
 use rank_find::{RankNo, rank};
 use seen_list::Memory;
 use slot_plan::{PlanNo, first_fit};
@@ -65,7 +70,10 @@ pub(crate) fn at_home(
     };
     match homes_of(alloc, net, machine, timing, &nodes) {
         Ok(homes) => Ok(Housed { nodes, homes }),
-        Err(refusal) => Err(refusal),
+        Err(refusal) => {
+            drop(nodes);
+            Err(refusal)
+        }
     }
 }
 
@@ -154,19 +162,14 @@ pub(crate) fn compile_at(
     fits_slots();
     fits_functions();
     match plan_of(alloc, net, machine, timing, &housed) {
-        Ok(plan) => match routed(
-            alloc,
-            net,
-            machine,
-            timing,
-            housed.nodes,
-            housed.homes,
-            plan,
-        ) {
+        Ok(plan) => match routed(alloc, net, machine, timing, housed, plan) {
             Ok(compiled) => Ok(compiled),
             Err(_) => Err(CompNo::Memory),
         },
-        Err(refusal) => Err(refusal),
+        Err(refusal) => {
+            drop(housed);
+            Err(refusal)
+        }
     }
 }
 
@@ -231,33 +234,67 @@ pub(crate) fn routed(
     net: &Netlist,
     _machine: &Machine,
     timing: &Timing,
-    nodes: NodeNet,
-    homes: Homes,
+    housed: Housed,
     plan: Plan,
 ) -> Result<Compiled, Memory>
     requires net { IsValid net.now }
     requires machine { IsValidMachine _machine.now }
     requires timing { IsValidTiming timing.now }
-    requires nodes { IsWellFormed nodes }
+    requires nodes { IsWellFormed housed.nodes }
     requires acyclic { IsAcyclic net.now timing.now }
-    requires items { AreItems net.now timing.now nodes }
-    requires homes { AreHomesOn nodes _machine.now homes }
-    requires plan { IsFirstFitPlan nodes homes plan }
-    requires fits { Fits nodes homes _machine.now plan }
+    requires items { AreItems net.now timing.now housed.nodes }
+    requires homes { AreHomesOn housed.nodes _machine.now housed.homes }
+    requires plan { IsFirstFitPlan housed.nodes housed.homes plan }
+    requires fits { Fits housed.nodes housed.homes _machine.now plan }
     ensures shown { IfOk result (λ compiled. (stimulus : Stimulus) → ShowsReference net.now timing.now stimulus compiled.image) }
     ensures design { IfOk result (IsDesign net.now _machine.now timing.now) }
-    ensures nodes { IfOk result (λ compiled. compiled.nodes ≡ nodes) }
-    ensures homes { IfOk result (λ compiled. compiled.homes ≡ homes) }
+    ensures nodes { IfOk result (λ compiled. compiled.nodes ≡ housed.nodes) }
+    ensures homes { IfOk result (λ compiled. compiled.homes ≡ housed.homes) }
 {
     one_run();
     values_are_reference();
-    let switch = settings(alloc, &nodes, &homes, &plan)?;
-    let image = build(alloc, &nodes, &homes, &plan, &switch, timing)?;
-    Ok(Compiled {
-        nodes,
-        homes,
-        plan,
-        switch,
-        image,
-    })
+    match wire(alloc, timing, &housed.nodes, &housed.homes, &plan) {
+        Ok(wired) => Ok(Compiled {
+            nodes: housed.nodes,
+            homes: housed.homes,
+            plan,
+            switch: wired.switch,
+            image: wired.image,
+        }),
+        Err(refused) => {
+            drop(housed);
+            drop(plan);
+            Err(refused)
+        }
+    }
+}
+
+/// A switch, and the image that goes by it.
+#[derive(Drop)]
+struct Wired {
+    switch: Switch,
+    image: Image,
+}
+
+/// The switch and the image of items at their homes in their slots.
+fn wire(
+    alloc: Global,
+    timing: &Timing,
+    nodes: &NodeNet,
+    homes: &Homes,
+    plan: &Plan,
+) -> Result<Wired, Memory>
+    requires timing { IsValidTiming timing.now }
+    requires nodes { IsWellFormed nodes.now }
+    requires homes { AreHomes nodes.now homes.now }
+    requires plan { IsFirstFitPlan nodes.now homes.now plan.now }
+    requires needed { plan.now.needed ≤ MAX_SLOTS }
+    ensures values { IfOk result (λ wired. (stimulus : Stimulus) (values : Items State) → AreItemValues nodes.now timing.now stimulus values
+        → GivesItems nodes.now homes.now plan.now timing.now stimulus values wired.image) }
+    ensures routed { IfOk result (λ wired. IsSwitch nodes.now homes.now plan.now.slots wired.switch) }
+    ensures built { IfOk result (λ wired. IsBuilt nodes.now homes.now plan.now wired.switch timing.now wired.image) }
+{
+    let switch = settings(alloc, nodes, homes, plan)?;
+    let image = build(alloc, nodes, homes, plan, &switch, timing)?;
+    Ok(Wired { switch, image })
 }
