@@ -1,6 +1,7 @@
 -- The slots of the ports.
 use Rattle.std.proofs.Common.{◌≡◌, ℕ, ◌+◌, ◌<◌, get_or, List, [], ◌∷◌, ◌++◌, length, Some, slice_get, sym, subst, refl, arith}
 use Rattle.std.proofs.lemmas.List.{length_push}
+use Rattle.std.proofs.lemmas.Option.{slice_get_within, slice_get-get_or}
 use Rattle.list_laws.proofs.Places.{one_there}
 use Rattle.image_defs.specs.declared.image.PortImage.{PortImage}
 use Rattle.image_check.specs.declared.shapes.Shape.{Shape}
@@ -31,3 +32,10 @@ shape_at ports shapes p port shape are within here there =
 -- the same, where the ports are read in a slice of them
 pub shape_of_port : (ports slice : List PortImage) (shapes : List Shape) (p : ℕ) (port : PortImage) (shape : Shape) → AreShapesOf ports shapes → slice ≡ ports → p < length slice → port ≡ get_or slice p port → shape ≡ get_or shapes p shape → IsShapeOf port shape
 shape_of_port ports slice shapes p port shape are same = shape_at slice shapes p port shape (subst (λ xs. AreShapesOf xs shapes) (sym same) are)
+
+-- the same, where the port is known to stand at the place
+pub shape_read : (ports : List PortImage) (shapes : List Shape) (p : ℕ) (port : PortImage) (d : Shape) → AreShapesOf ports shapes → slice_get ports p ≡ Some port → IsShapeOf port (get_or shapes p d)
+shape_read ports shapes p port d are is = let low = slice_get_within ports p port is in are.each p port (get_or shapes p d) is (slice_get-get_or shapes p d (omega (arith, low, are.as_many)))
+
+pub shape_found : (ports : List PortImage) (shapes : List Shape) (p : ℕ) (port : PortImage) (shape : Shape) → AreShapesOf ports shapes → slice_get ports p ≡ Some port → shape ≡ get_or shapes p shape → IsShapeOf port shape
+shape_found ports shapes p port shape are is there = subst (IsShapeOf port) (sym there) (shape_read ports shapes p port shape are is)
