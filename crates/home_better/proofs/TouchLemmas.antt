@@ -1,5 +1,5 @@
 -- Ports that are touched, and the best of them.
-use Rattle.std.proofs.Common.{◌≡◌, ◌≢◌, ◌∙◌, ◌⊎◌, inl, inr, ℕ, zero, suc, ◌+◌, ◌<◌, ◌≤◌, Bool, true, false, List, length, get_or, take, refl, sym, ap, subst, arith, if◌then◌else◌}
+use Rattle.std.proofs.Common.{◌≡◌, ◌≢◌, ◌∙◌, ◌⊎◌, inl, inr, ℕ, zero, suc, ◌+◌, ◌<◌, ◌≤◌, Bool, true, false, List, [], length, replicate, get_or, take, refl, sym, ap, subst, arith, if◌then◌else◌}
 use Rattle.std.specs.Prelude.{◌==◌, nat_lt, slice_index}
 use Rattle.std.specs.List.{Contains}
 use Rattle.std.proofs.Math.Numerals.{add-one}
@@ -7,9 +7,17 @@ use Rattle.std.proofs.Math.Seq.{take-suc}
 use Rattle.std.proofs.lemmas.Bool.{cases_lt, cases_eq, cases_Bool, lt-ltb, le-ltb, eq-eqb, ne_eqb, both_ways, cond-true, cond-false}
 use Rattle.std.proofs.lemmas.List.{take_all}
 use Rattle.std.proofs.lemmas.List.Elements.{Contains-push_cases}
+use Rattle.list_laws.proofs.Ranges.{zeros_read}
 use Rattle.home_better.specs.declared.pulls.Pulls.{Pulls}
 use Rattle.home_better.specs.code.Touched.{AreTouched, is_better}
 use Rattle.home_better.proofs.ChoiceLemmas.{most_of, most_more}
+
+-- nothing pulls
+pub none_touched : (pulls : Pulls) (n : ℕ) → pulls.at ≡ replicate n 0 → pulls.touched ≡ [] → AreTouched pulls
+none_touched pulls n at touched = record {
+  within = λ k low. absurd (let none = ap length touched in omega (arith, low, none));
+  whole = λ port low some. absurd (some (ap (λ (xs : List ℕ). get_or xs port 0) at ∙ zeros_read n port));
+}
 
 -- ---- the best port
 

@@ -1,0 +1,16 @@
+use Rattle.std.proofs.Common.{◌∙◌, ap, length, false, replicate}
+use Rattle.std.proofs.lemmas.List.{length-replicate}
+use Rattle.home_better.proofs.SpreadLemmas.{none_spread}
+use Rattle.home_better.proofs.TouchLemmas.{none_touched}
+use Rattle.home_better.proofs.improve.with_room.Goals as goal
+
+pub returns-clause-work : goal.returns-clause-work
+returns-clause-work c = record {
+  are = c.requires.homes;
+  uses = c.requires.uses;
+  loads = c.requires.loads;
+  spread = none_spread c.args.nodes.now c.args.homes c.in_ok-spread.spread (c.in_ok-spread.ensures ∙ ap (λ n. replicate n false) c.len.ensures);
+  size = ap length c.in_ok-at.ensures ∙ length-replicate c.args.homes.logic 0;
+  touched = none_touched (record { at = c.in_ok-at.at; touched = c.new-touched.result }) c.args.homes.logic c.in_ok-at.ensures c.new-touched.ensures;
+  count = c.requires.count;
+}
