@@ -42,7 +42,7 @@ use slot_plan::{PlanNo, first_fit};
 use std::alloc::Global;
 use switch_set::settings;
 
-/// Items and their plain homes.
+/// Items and their homes.
 #[derive(Drop)]
 pub(crate) struct Housed {
     pub(crate) nodes: NodeNet,
@@ -253,13 +253,13 @@ pub(crate) fn routed(
 {
     one_run();
     values_are_reference();
-    match wire(alloc, timing, &housed.nodes, &housed.homes, &plan) {
-        Ok(wired) => Ok(Compiled {
+    match switch_and_image(alloc, timing, &housed.nodes, &housed.homes, &plan) {
+        Ok(switched) => Ok(Compiled {
             nodes: housed.nodes,
             homes: housed.homes,
             plan,
-            switch: wired.switch,
-            image: wired.image,
+            switch: switched.switch,
+            image: switched.image,
         }),
         Err(refused) => {
             drop(housed);
@@ -271,30 +271,30 @@ pub(crate) fn routed(
 
 /// A switch, and the image that goes by it.
 #[derive(Drop)]
-struct Wired {
+struct Switched {
     switch: Switch,
     image: Image,
 }
 
 /// The switch and the image of items at their homes in their slots.
-fn wire(
+fn switch_and_image(
     alloc: Global,
     timing: &Timing,
     nodes: &NodeNet,
     homes: &Homes,
     plan: &Plan,
-) -> Result<Wired, Memory>
+) -> Result<Switched, Memory>
     requires timing { IsValidTiming timing.now }
     requires nodes { IsWellFormed nodes.now }
     requires homes { AreHomes nodes.now homes.now }
     requires plan { IsFirstFitPlan nodes.now homes.now plan.now }
     requires needed { plan.now.needed ≤ MAX_SLOTS }
-    ensures values { IfOk result (λ wired. (stimulus : Stimulus) (values : Items State) → AreItemValues nodes.now timing.now stimulus values
-        → GivesItems nodes.now homes.now plan.now timing.now stimulus values wired.image) }
-    ensures routed { IfOk result (λ wired. IsSwitch nodes.now homes.now plan.now.slots wired.switch) }
-    ensures built { IfOk result (λ wired. IsBuilt nodes.now homes.now plan.now wired.switch timing.now wired.image) }
+    ensures values { IfOk result (λ switched. (stimulus : Stimulus) (values : Items State) → AreItemValues nodes.now timing.now stimulus values
+        → GivesItems nodes.now homes.now plan.now timing.now stimulus values switched.image) }
+    ensures routed { IfOk result (λ switched. IsSwitch nodes.now homes.now plan.now.slots switched.switch) }
+    ensures built { IfOk result (λ switched. IsBuilt nodes.now homes.now plan.now switched.switch timing.now switched.image) }
 {
     let switch = settings(alloc, nodes, homes, plan)?;
     let image = build(alloc, nodes, homes, plan, &switch, timing)?;
-    Ok(Wired { switch, image })
+    Ok(Switched { switch, image })
 }
