@@ -5,7 +5,7 @@ use Rattle.std.proofs.lemmas.Bool.{cases_lt}
 use Rattle.std.proofs.lemmas.List.{get_or_past, length-map, length-replicate}
 use Rattle.std.proofs.lemmas.Option.{slice_get_within, get_or_from_slice_get, slice_get_cases}
 use Rattle.list_laws.proofs.Places.{at_front, seam_at}
-use Rattle.list_laws.proofs.Ranges.{zeros_read}
+use Rattle.list_laws.proofs.Ranges.{replicate_read}
 use Rattle.net_defs.specs.Time.{cycle_count, turn_count}
 use Rattle.net_defs.specs.Valid.{IsValidStimulus}
 use Rattle.net_defs.specs.declared.stimulus.Stimulus.{Stimulus}
@@ -62,7 +62,7 @@ module _ (a : Inside) (fits : IsWellFormed a.image.now) (valid : IsValidStimulus
   pub start_state : state_of (view_of a) ≡ first_state (length a.image.now.ports)
   start_state =
       let places : ◌≡◌ {A = ℕ → Place} (λ q. slice_index_or (map place_in a.seats) q (start (length a.image.now.ports))) (λ q. start (length a.image.now.ports)) = fun_ext (λ q. starts_at q) in
-      let none_finished : ◌≡◌ {A = ℕ → ℕ} (λ q. slice_index_or a.finished q 0) (λ q. 0) = fun_ext (λ q. ap (λ xs. slice_index_or xs q 0) finished ∙ zeros_read (length a.image.now.ports) q) in
+      let none_finished : ◌≡◌ {A = ℕ → ℕ} (λ q. slice_index_or a.finished q 0) (λ q. 0) = fun_ext (λ q. ap (λ xs. slice_index_or xs q 0) finished ∙ replicate_read (length a.image.now.ports) q 0) in
       let none_written : ◌≡◌ {A = ℕ → ℕ → ℕ → ℕ} (word_in a.image.now a.banks a.words) (λ p i b. 0) = ap (word_in a.image.now a.banks) words ∙ words_zero a.image.now a.banks (send_count a.image.now * a.banks) in
       ap {A = ℕ → Place} {B = CoreState} (λ f. record { place = f; finished = λ q. slice_index_or a.finished q 0; word = word_in a.image.now a.banks a.words }) places
       ∙ (ap {A = ℕ → ℕ} {B = CoreState} (λ f. record { place = λ q. start (length a.image.now.ports); finished = f; word = word_in a.image.now a.banks a.words }) none_finished

@@ -4,7 +4,7 @@ use Rattle.std.proofs.Math.Path.{fun_ext}
 use Rattle.std.proofs.lemmas.Bool.{and_from, and_parts, cases_eq, cases_order}
 use Rattle.std.proofs.lemmas.Nat.{div-mul-add}
 use Rattle.std.proofs.lemmas.Option.{slice_get_within}
-use Rattle.list_laws.proofs.Ranges.{zeros_read}
+use Rattle.list_laws.proofs.Ranges.{replicate_read}
 use Rattle.image_defs.specs.Places.{IsPort}
 use Rattle.image_defs.specs.declared.image.Image.{Image}
 use Rattle.image_defs.specs.declared.image.LinkOut.{LinkOut}
@@ -128,7 +128,7 @@ module _ (image : Image) (banks : ℕ) where
 
   -- before the first event
   pub words_zero : (n : ℕ) → word_in image banks (replicate n 0) ≡ (λ p i b. 0)
-  words_zero n = fun_ext (λ p. fun_ext (λ i. fun_ext (λ b. by_test (nat_lt i (sends_of image p) && nat_lt b banks) (slice_index_or (replicate n 0) (word_place banks (send_number image p i) b) 0) (zeros_read n (word_place banks (send_number image p i) b))))) where
+  words_zero n = fun_ext (λ p. fun_ext (λ i. fun_ext (λ b. by_test (nat_lt i (sends_of image p) && nat_lt b banks) (slice_index_or (replicate n 0) (word_place banks (send_number image p i) b) 0) (replicate_read n (word_place banks (send_number image p i) b) 0)))) where
     by_test : (t : Bool) (m : ℕ) → m ≡ 0 → (if t then m else 0) ≡ 0
     by_test true m none = none
     by_test false m none = refl

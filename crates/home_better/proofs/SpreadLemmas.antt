@@ -2,6 +2,7 @@
 use Rattle.std.proofs.Common.{◌≡◌, ◌≢◌, ◌∙◌, inl, inr, ℕ, ◌<◌, Bool, true, false, List, length, replicate, get_or, sym, ap, arith}
 use Rattle.std.proofs.lemmas.Bool.{cases_eq, cases_lt}
 use Rattle.std.proofs.lemmas.List.{get_or-replicate, get_or_past, length-replicate}
+use Rattle.list_laws.proofs.Ranges.{replicate_read}
 use Rattle.node_defs.specs.declared.items.NodeNet.{NodeNet}
 use Rattle.node_defs.specs.WellFormed.{IsWellFormed}
 use Rattle.plan_defs.specs.declared.plan.Homes.{Homes}
@@ -19,14 +20,11 @@ use Rattle.home_better.proofs.LinkLemmas.{uses_low}
 use Rattle.home_better.proofs.MoveLemmas.{uses_home, uses_moved}
 use Rattle.home_better.proofs.PullLemmas.{used_pull}
 
-false_read : (n i : ℕ) → get_or (replicate n false) i false ≡ false
-false_read n i = elim (cases_lt i n) [ inl low ↦ get_or-replicate n i false false low | inr up ↦ get_or_past (replicate n false) i false (omega (arith, up, length-replicate {A = Bool} n false)) ]
-
 -- nothing is marked
 pub none_spread : (nodes : NodeNet) (homes : Homes) (spread : List Bool) → spread ≡ replicate (length nodes.items) false → AreSpread nodes homes spread
 none_spread nodes homes spread is = record {
   size = ap length is ∙ length-replicate {A = Bool} (length nodes.items) false;
-  each = λ i port marked within. absurd (let f : false ≡ true = sym (false_read (length nodes.items) i) ∙ ap (λ (s : List Bool). get_or s i false) (sym is) ∙ marked in cc);
+  each = λ i port marked within. absurd (let f : false ≡ true = sym (replicate_read (length nodes.items) i false) ∙ ap (λ (s : List Bool). get_or s i false) (sym is) ∙ marked in cc);
 }
 
 -- node v is lifted

@@ -7,7 +7,7 @@ use Rattle.std.proofs.Math.Seq.{take-suc}
 use Rattle.std.proofs.lemmas.Bool.{cases_lt, cases_eq, cases_Bool, lt-ltb, le-ltb, eq-eqb, ne_eqb, both_ways, cond-true, cond-false}
 use Rattle.std.proofs.lemmas.List.{take_all}
 use Rattle.std.proofs.lemmas.List.Elements.{Contains-push_cases}
-use Rattle.list_laws.proofs.Ranges.{zeros_read}
+use Rattle.list_laws.proofs.Ranges.{replicate_read}
 use Rattle.home_better.specs.declared.pulls.Pulls.{Pulls}
 use Rattle.home_better.specs.code.Touched.{AreTouched, is_better}
 use Rattle.home_better.proofs.ChoiceLemmas.{most_of, most_more}
@@ -16,7 +16,7 @@ use Rattle.home_better.proofs.ChoiceLemmas.{most_of, most_more}
 pub none_touched : (pulls : Pulls) (n : ℕ) → pulls.at ≡ replicate n 0 → pulls.touched ≡ [] → AreTouched pulls
 none_touched pulls n at touched = record {
   within = λ k low. absurd (let none = ap length touched in omega (arith, low, none));
-  whole = λ port low some. absurd (some (ap (λ (xs : List ℕ). get_or xs port 0) at ∙ zeros_read n port));
+  whole = λ port low some. absurd (some (ap (λ (xs : List ℕ). get_or xs port 0) at ∙ replicate_read n port 0));
 }
 
 -- ---- the best port

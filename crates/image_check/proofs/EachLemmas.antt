@@ -2,7 +2,7 @@
 use Rattle.std.proofs.Common.{◌≡◌, ◌↔◌, IsTrue, Bool, true, false, rules, ℕ, ◌+◌, ◌<◌, ◌≤◌, List, [], ◌∷◌, ◌++◌, length, get_or, Some, slice_get, inl, inr, sym, ap, ◌∙◌, subst, refl, arith}
 use Rattle.std.proofs.lemmas.List.{length_push}
 use Rattle.std.proofs.lemmas.Option.{slice_get_within, slice_get-get_or}
-use Rattle.list_laws.proofs.Places.{at_front, seam_at, one_there}
+use Rattle.list_laws.proofs.Places.{at_front, seam_at, one_there, indexed}
 use Rattle.list_laws.proofs.Ranges.{last_or}
 use Rattle.image_defs.specs.Places.{Each}
 
@@ -31,10 +31,6 @@ each_pushed P n ys y long before last i x here =
           let is : y ≡ x = one_there (ys ++ y ∷ []) (length ys) i y x at_end (seam_at ys y []) here in
           subst (P i) is (subst (λ m. P m y) (sym same) last)
     ]
-
--- what is read at a place of a list stands there
-pub indexed : {X : Type 0} (xs ys : List X) (k : ℕ) (x : X) → xs ≡ ys → k < length xs → x ≡ get_or xs k x → slice_get ys k ≡ Some x
-indexed xs ys k x same within is = sym (ap (λ zs. slice_get zs k) same) ∙ slice_get-get_or xs k x within ∙ ap Some (sym is)
 
 -- the next member of a list, read as a reference or as a value
 pub each_next : {X : Type 0} (P : X → Type 0) (k : ℕ) (xs : List X) (here : X) → EachBelow P k xs → k < length xs → here ≡ get_or xs k here → P here → EachBelow P (k + 1) xs

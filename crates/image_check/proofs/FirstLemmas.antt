@@ -4,7 +4,7 @@ use Rattle.std.specs.List.Sorted.{IsStrictlyIncreasing}
 use Rattle.std.proofs.lemmas.Bool.{cases_lt}
 use Rattle.std.proofs.lemmas.List.{length-map}
 use Rattle.std.proofs.lemmas.Option.{slice_get_within, slice_get-get_or, get_or_from_slice_get}
-use Rattle.list_laws.proofs.Places.{one_there, within_some}
+use Rattle.list_laws.proofs.Places.{one_there, within_some, indexed}
 use Rattle.list_laws.proofs.Ranges.{last_or}
 use Rattle.net_defs.specs.declared.timing.Timing.{Timing}
 use Rattle.node_defs.specs.declared.items.Feed.TheVariants.{From}
@@ -24,7 +24,7 @@ use Rattle.image_check.specs.code.Differences.{AsClaimed, AllAsClaimed, IsFirstO
 use Rattle.image_check.specs.code.OnePorts.{IsOnePort, AreLaidOut, CarriesAt}
 use Rattle.image_check.specs.code.Shapes.{IsShapeOf}
 use Rattle.image_check.proofs.ClaimLemmas.{claims_there}
-use Rattle.image_check.proofs.EachLemmas.{EachAtBelow, each_at_more, indexed}
+use Rattle.image_check.proofs.EachLemmas.{EachAtBelow, each_at_more}
 use Rattle.image_check.proofs.SearchLemmas.{rises_far}
 use Rattle.image_check.proofs.ShapeLemmas.{shape_found}
 

@@ -10,34 +10,13 @@ use Rattle.logic_four.specs.declared.Kind.{Kind}
 use Rattle.logic_four.specs.declared.Kind.TheVariants.{And, Nand, Or, Nor, Xor, Xnor, Not, Buf, Tri, Bus}
 use Rattle.logic_four.specs.Values.{settled, inverse}
 use Rattle.logic_four.specs.Gates.{gate_value, and_value, xor_value}
+use Rattle.logic_four.proofs.TestLemmas.{two_same}
 use Rattle.lane_planes.specs.declared.planes.Planes.{Planes}
 use Rattle.lane_planes.specs.Lanes.{lane_of}
 use Rattle.lane_planes.specs.Joins.{first_of, join_of, answer_of}
 use Rattle.lane_planes.proofs.WordLemmas.{Word, low_word, high_word, both, either, differ, apart, all_ones, no_ones}
-use Rattle.lane_planes.proofs.LaneLemmas.{bits, in_lane, in_lanes, same, same_true}
+use Rattle.lane_planes.proofs.LaneLemmas.{bits, in_lane, in_lanes}
 use Rattle.lane_planes.specs.Formula.{turned, paired, pair_value, pair_form}
-
--- a test of all sixteen pairs of values
-abbrev for_each : (V4 → Bool) → Bool
-for_each test = test Zero && (test One && (test Undef && test HighZ))
-
-at_value : (test : V4 → Bool) (v : V4) → for_each test ≡ true → test v ≡ true
-at_value test v e = by_value v where
-  one : (test One && (test Undef && test HighZ)) ≡ true
-  one = (and_parts (test Zero) (test One && (test Undef && test HighZ)) e).1
-
-  last : (test Undef && test HighZ) ≡ true
-  last = (and_parts (test One) (test Undef && test HighZ) one).1
-
-  by_value : (v : V4) → test v ≡ true
-  by_value Zero = (and_parts (test Zero) (test One && (test Undef && test HighZ)) e).0
-  by_value One = (and_parts (test One) (test Undef && test HighZ) one).0
-  by_value Undef = (and_parts (test Undef) (test HighZ) last).0
-  by_value HighZ = (and_parts (test Undef) (test HighZ) last).1
-
-two_same : (f g : V4 → V4 → V4) → for_each (λ v. for_each (λ w. same (f v w) (g v w))) ≡ true → (v w : V4) → f v w ≡ g v w
-two_same f g test v w =
-    same_true (f v w) (g v w) (at_value (λ w. same (f v w) (g v w)) w (at_value (λ v. for_each (λ w. same (f v w) (g v w))) v test))
 
 -- a form answers as the gate
 abbrev gate_pair : Kind → V4 → V4 → V4

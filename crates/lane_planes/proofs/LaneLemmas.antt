@@ -1,13 +1,13 @@
 -- A claim on the lanes of planes holds where it holds for every choice of their bits.
-use Rattle.std.proofs.Common.{◌≡◌, ◌∙◌, ℕ, zero, suc, ◌+◌, ◌*◌, ◌/◌, ◌%◌, ◌^◌, ◌<◌, bit_and, Bool, true, ◌&&◌, eqb, eqb-true, sym, ap, ap₂, subst, arith}
+use Rattle.std.proofs.Common.{◌≡◌, ◌∙◌, ℕ, zero, suc, ◌+◌, ◌*◌, ◌/◌, ◌%◌, ◌^◌, ◌<◌, bit_and, Bool, true, ◌&&◌, sym, ap, ap₂, subst, arith}
 use Rattle.std.specs.Int.{bit_at}
 use Rattle.std.proofs.lemmas.Nat.Bits.{bit_at-lt, shr_and_one, same_from_bits_below}
 use Rattle.std.proofs.Math.Bridge.{le_prop}
 use Rattle.std.proofs.lemmas.Bool.{and_parts}
 use Rattle.logic_four.specs.declared.V4.{V4}
 use Rattle.logic_four.specs.Values.{value_of, code_of}
-use Rattle.logic_four.proofs.CodeLemmas.{value_of-code_of}
 use Rattle.logic_four.proofs.PackedLemmas.{code_from_value}
+use Rattle.logic_four.proofs.TestLemmas.{same, same_true}
 use Rattle.lane_planes.specs.declared.planes.Planes.{Planes}
 use Rattle.lane_planes.specs.Lanes.{lane_of, AreAlike}
 use Rattle.lane_planes.proofs.BitLemmas.{value_of_bits}
@@ -40,13 +40,6 @@ lane_read p k =
     rw (shr_and_one p.low k, shr_and_one p.high k) (ap value_of few)
 
 -- ---- a test of each choice of bits
-
-abbrev pub same : V4 → V4 → Bool
-same v w = eqb (code_of v) (code_of w)
-
--- values that pass the test are the same
-pub same_true : (v w : V4) → same v w ≡ true → v ≡ w
-same_true v w e = sym (value_of-code_of v) ∙ ap value_of (eqb-true (code_of v) (code_of w) e) ∙ value_of-code_of w
 
 abbrev for_both : (ℕ → Bool) → Bool
 for_both test = test 0 && test 1

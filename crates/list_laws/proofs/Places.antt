@@ -2,7 +2,7 @@
 use Rattle.std.proofs.Common.{◌≡◌, ℕ, zero, suc, ◌≤◌, List, [], ◌∷◌, ◌++◌, length, take, get_or, slice_get, Some, None, sym, ap, ◌∙◌, subst, refl, arith, ◌+◌, ◌<◌, drop, All, slice_index, inl, inr}
 use Rattle.std.proofs.lemmas.List.{drop_more, length-take-le, take-append-drop, get_or-take, get_or_append_left, get_or_push, get_or_default, take_at, get_or_past}
 use Rattle.std.proofs.lemmas.List.Elements.{Contains-get_or, All-get_or}
-use Rattle.std.proofs.lemmas.Option.{slice_get_within, get_or_from_slice_get}
+use Rattle.std.proofs.lemmas.Option.{slice_get_within, slice_get-get_or, get_or_from_slice_get}
 use Rattle.std.specs.List.{Contains}
 use Rattle.std.proofs.lemmas.Bool.{cases_lt}
 
@@ -40,6 +40,10 @@ drop_here xs s x e = drop_more xs s x (slice_get_within xs s x e) ∙ ap (λ y. 
 -- at one place stands one member
 pub one_there : {X : Type 0} (xs : List X) (s t : ℕ) (x y : X) → s ≡ t → slice_get xs s ≡ Some x → slice_get xs t ≡ Some y → x ≡ y
 one_there xs s t x y same e f = cc (ap (slice_get xs) same)
+
+-- what is read at a place of a list stands there
+pub indexed : {X : Type 0} (xs ys : List X) (k : ℕ) (x : X) → xs ≡ ys → k < length xs → x ≡ get_or xs k x → slice_get ys k ≡ Some x
+indexed xs ys k x same within is = sym (ap (λ zs. slice_get zs k) same) ∙ slice_get-get_or xs k x within ∙ ap Some (sym is)
 
 -- before the end stands some member
 pub within_some : {X : Type 0} (xs : List X) (i : ℕ) → i < length xs → slice_get xs i ≡ None → ⊥

@@ -11,9 +11,9 @@ use Rattle.std.proofs.lemmas.List.Sums.{sum_by_push}
 pub last_or : (i n : ℕ) → i < n + 1 → (i < n) ⊎ (i ≡ n)
 last_or i n within = elim (cases_lt i n) [ inl h ↦ inl h | inr h ↦ inr (omega arith) ]
 
--- zeros are read in zeros, and past their end
-pub zeros_read : (n s : ℕ) → get_or (replicate {A = ℕ} n 0) s 0 ≡ 0
-zeros_read n s = elim (cases_lt s n) [ inl h ↦ get_or-replicate n s 0 0 h | inr h ↦ get_or_past (replicate {A = ℕ} n 0) s 0 (omega (arith, length-replicate {A = ℕ} n 0)) ]
+-- a list of one value alone has it at each place, and is read so past its end
+pub replicate_read : {X : Type 0} (n i : ℕ) (x : X) → get_or (replicate n x) i x ≡ x
+replicate_read {X} n i x = elim (cases_lt i n) [ inl h ↦ get_or-replicate n i x x h | inr h ↦ get_or_past (replicate n x) i x (omega (arith, length-replicate {A = X} n x)) ]
 
 -- a member of a range
 pub range_get : (a n k : ℕ) → k < n → slice_get (range_with_len a n) k ≡ Some (a + k)

@@ -3,3 +3,4 @@ pub mod FoldLemmas
 pub mod KindLemmas
 pub mod MemoryLemmas
 pub mod PackedLemmas
+pub mod TestLemmas

@@ -1,7 +1,7 @@
 -- The least ranks of what takes the wires of a gate.
 use Rattle.std.proofs.Common.{◌≡◌, ◌∙◌, ℕ, zero, suc, ◌+◌, ◌<◌, ◌≤◌, max, List, [], ◌∷◌, ◌++◌, length, map, take, get_or, inl, inr, refl, sym, ap, arith}
 use Rattle.std.proofs.lemmas.Bool.{cases_lt}
-use Rattle.std.proofs.lemmas.List.{take_all, take_more, map-append, length_push, get_or_push, get_or_append_left, get_or_past}
+use Rattle.std.proofs.lemmas.List.{take_all, map_more, length_push, get_or_push, get_or_append_left, get_or_past}
 use Rattle.node_defs.specs.Groups.{group_at}
 use Rattle.node_map.specs.code.Wires.{most_of, pasts_to}
 
@@ -9,7 +9,7 @@ use Rattle.node_map.specs.code.Wires.{most_of, pasts_to}
 pub map_taken : {Y : Type 0} (f : ℕ → Y) (xs : List ℕ) (i : ℕ) (now : List Y) (y : Y) → i < length xs → now ≡ map f (take i xs) → y ≡ f (get_or xs i 0) → now ++ y ∷ [] ≡ map f (take (i + 1) xs)
 map_taken {Y} f xs i now y within so_far is =
     ap (λ (ys : List Y). ys ++ y ∷ []) so_far
-    ∙ (ap (λ (z : Y). map f (take i xs) ++ z ∷ []) is ∙ sym (ap (map f) (take_more xs i 0 within) ∙ map-append f (take i xs) (get_or xs i 0 ∷ [])))
+    ∙ (ap (λ (z : Y). map f (take i xs) ++ z ∷ []) is ∙ sym (map_more f xs i 0 within))
 
 pub map_whole : {Y : Type 0} (f : ℕ → Y) (xs : List ℕ) (i : ℕ) (now : List Y) → length xs ≤ i → now ≡ map f (take i xs) → now ≡ map f xs
 map_whole f xs i now all so_far = so_far ∙ ap (map f) (take_all i xs all)

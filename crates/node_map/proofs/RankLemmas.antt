@@ -16,7 +16,7 @@ use Rattle.net_defs.specs.Steps.{is_late}
 use Rattle.net_defs.specs.Loops.{is_gate, is_gate_driver, gate_operands, IsGate, waits_for, IsOrder}
 use Rattle.list_laws.proofs.Differ.{differ_at}
 use Rattle.list_laws.proofs.Places.{place_of, place_below}
-use Rattle.list_laws.proofs.Ranges.{last_or, zeros_read}
+use Rattle.list_laws.proofs.Ranges.{last_or, replicate_read}
 use Rattle.rank_find.proofs.WalkLemmas.{is_gate_or}
 use Rattle.rank_find.proofs.NumberLemmas.{gate_within}
 use Rattle.node_defs.specs.Groups.{groups}
@@ -102,9 +102,9 @@ pub record OwnTo (net : Netlist) (timing : Timing) (order : List ℕ) (n : ℕ) 
 pub own_begun : (net : Netlist) (timing : Timing) (order own : List ℕ) → own ≡ replicate (length net.signals) 0 → OwnTo net timing order 0 own
 own_begun net timing order own is = record {
   signals = ap length is ∙ length-replicate (length net.signals) 0;
-  low = λ s. omega (arith, ap (λ xs. get_or xs s 0) is, zeros_read (length net.signals) s);
+  low = λ s. omega (arith, ap (λ xs. get_or xs s 0) is, replicate_read (length net.signals) s 0);
   ranked = λ k within. absurd (omega arith);
-  others = λ s none. ap (λ xs. get_or xs s 0) is ∙ zeros_read (length net.signals) s;
+  others = λ s none. ap (λ xs. get_or xs s 0) is ∙ replicate_read (length net.signals) s 0;
 }
 
 module _ (net : Netlist) (timing : Timing) (order : List ℕ) (i : ℕ) (own : List ℕ) (narrow : (s : ℕ) → length (operands_of net s) ≤ 1024)

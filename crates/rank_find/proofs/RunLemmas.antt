@@ -13,7 +13,7 @@ use Rattle.rank_find.specs.declared.walk.Mark.TheVariants.{Fresh, Open, Done}
 use Rattle.rank_find.specs.declared.walk.Walk.{Walk}
 use Rattle.rank_find.specs.code.Walk.{mark_at, first_mark, freshness, IsWalk, IsWalking, Reaches, IsStart, IsIdle, IsOver}
 use Rattle.list_laws.proofs.Places.{place_of}
-use Rattle.list_laws.proofs.Ranges.{zeros_read}
+use Rattle.list_laws.proofs.Ranges.{replicate_read}
 use Rattle.rank_find.proofs.WalkLemmas.{fresh_within, set_mark, enter}
 
 -- the first mark of a signal that may be missing
@@ -66,7 +66,7 @@ start_idle net timing walk start = record {
   walking = record {
     lists = rw (start.marks, start.path, start.order) (start_lists net timing);
     places = ap length start.places ∙ length-replicate (length net.signals) 0;
-    passed = λ s k below within. let none : get_or walk.places s 0 ≡ 0 = ap (λ xs. get_or xs s 0) start.places ∙ zeros_read (length net.signals) s in absurd (omega arith);
+    passed = λ s k below within. let none : get_or walk.places s 0 ≡ 0 = ap (λ xs. get_or xs s 0) start.places ∙ replicate_read (length net.signals) s 0 in absurd (omega arith);
   };
   path = start.path;
 }

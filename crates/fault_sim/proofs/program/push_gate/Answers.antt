@@ -1,8 +1,8 @@
 use Rattle.std.proofs.Common.{◌≡◌, ◌∙◌, sym, ap, refl, subst, arith, ℕ, ◌<◌, true, false, List, [], length, get_or, Some, IsTrue}
 use Rattle.std.specs.List.{slice_get, Contains}
 use Rattle.std.proofs.lemmas.List.{append-nil}
-use Rattle.std.proofs.lemmas.Option.{slice_get-get_or}
 use Rattle.std.proofs.lemmas.Result.{on_ok_weaker}
+use Rattle.list_laws.proofs.Places.{indexed}
 use Rattle.logic_four.specs.declared.V4.{V4}
 use Rattle.net_defs.specs.declared.netlist.Netlist.{Netlist}
 use Rattle.net_defs.specs.declared.netlist.Signal.{Signal}
@@ -39,7 +39,7 @@ module _ (net : Netlist) (timing : Timing) (g : ℕ) (signal : Signal) (is : sli
 -- the signal of a place
 found : (net : Netlist) (g : ℕ) (signals : List Signal) (signal : Signal) → g < length net.signals → signals ≡ net.signals → signal ≡ get_or signals g signal → slice_get net.signals g ≡ Some signal
 found net g signals signal within same is =
-    slice_get-get_or net.signals g signal within ∙ ap Some (ap (λ list. get_or list g signal) (sym same) ∙ sym is)
+    indexed signals net.signals g signal same (subst (λ list. g < length list) (sym same) within) is
 
 pub returns-then-is_late : goal.returns-then-is_late
 returns-then-is_late c = none_added c.args.net.now c.args.timing.now c.args.g _ (sym c.is_late.ensures ∙ c.if-is_late.true)

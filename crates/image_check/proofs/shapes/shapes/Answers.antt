@@ -1,4 +1,4 @@
-use Rattle.image_check.proofs.EachLemmas.{indexed}
+use Rattle.list_laws.proofs.Places.{indexed}
 use Rattle.image_check.proofs.ShapeLemmas.{shapes_more}
 use Rattle.std.proofs.Common.{refl}
 use Rattle.image_check.proofs.shapes.shapes.Goals as goal
