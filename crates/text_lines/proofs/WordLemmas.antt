@@ -1,7 +1,7 @@
 -- The words of a part, one after another.
-use Rattle.std.proofs.Common.{◌≡◌, ℕ, ◌+◌, ◌<◌, ◌≤◌, Bool, false, List, [], ◌∷◌, length, sym, ap, ◌∙◌, refl, ⊎_elim, arith, take_all}
+use Rattle.std.proofs.Common.{◌≡◌, ℕ, ◌+◌, ◌<◌, ◌≤◌, Bool, false, List, [], ◌∷◌, length, Some, None, sym, ap, ◌∙◌, refl, ⊎_elim, arith, take_all, ltb}
 use Rattle.std.specs.Prelude.{filter}
-use Rattle.std.specs.List.{before_first, after_first, position_or_len, slice_split}
+use Rattle.std.specs.List.{before_first, after_first, position, position_or_len, slice_split}
 use Rattle.std.proofs.lemmas.Bool.{cases_lt, cond-true, cond-false, lt-ltb, le-ltb}
 use Rattle.std.proofs.lemmas.List.{length-take-le, drop_all}
 use Rattle.std.proofs.lemmas.List.Elements.{All-from_get_or}
@@ -9,6 +9,16 @@ use Rattle.std.proofs.lemmas.List.Sums.{prefix_len-le-length, fails_before_first
 use Rattle.std.proofs.lemmas.List.Splits.{slice_split_first, slice_split_none}
 use Rattle.text_lines.specs.Bytes.{is_blank}
 use Rattle.text_lines.specs.Words.{is_nonempty, words_of}
+use Rattle.text_lines.proofs.AnswerLemmas.{none_is_not_some}
+
+-- where no element passes, all of them stand before the first that does
+pub before_first-none : {X : Type 0} (p : X → Bool) (xs : List X) → position p xs ≡ None → xs ≡ before_first p xs
+before_first-none p xs none =
+    let place = position_or_len p xs in
+    ⊎_elim
+    (λ within. absurd (none_is_not_some (sym none ∙ cond-true (ltb place (length xs)) (Some place) None (lt-ltb place (length xs) within))))
+    (λ past. sym (take_all place xs past))
+    (cases_lt place (length xs))
 
 length-before_first : (p : ℕ → Bool) (xs : List ℕ) → length (before_first p xs) ≡ position_or_len p xs
 length-before_first p xs = length-take-le (position_or_len p xs) xs (prefix_len-le-length _ xs)
