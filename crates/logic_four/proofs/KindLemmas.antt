@@ -1,12 +1,12 @@
 -- The words of the kinds read back, and the numbers of operands.
-use Rattle.std.proofs.Common.{inl, inr, ◌≡◌, ◌⊎◌, ℕ, Bool, true, false, List, Option, Some, None, refl, subst, ◌≤◌, arith}
+use Rattle.std.proofs.Common.{inl, inr, ◌≡◌, ◌≢◌, ◌⊎◌, ℕ, Bool, true, false, List, Option, Some, None, refl, subst, sym, ◌∙◌, ◌≤◌, leb, arith}
 use Rattle.std.specs.Prelude.{if◌then◌else◌, codes}
 use Rattle.std.specs.Str.{str_to_ascii_lowercase, str_eq_ignore_ascii_case}
-use Rattle.std.proofs.lemmas.Bool.{and_parts, leb-true, eqb-true}
+use Rattle.std.proofs.lemmas.Bool.{and_parts, le-leb, leb-true, eqb-true}
 use Rattle.std.proofs.lemmas.Slice.Eq.{bytes_eq-Decides}
 use Rattle.logic_four.specs.declared.Kind.{Kind}
 use Rattle.logic_four.specs.declared.Kind.TheVariants.{And, Nand, Or, Nor, Xor, Xnor, Not, Buf, Tri, Bus}
-use Rattle.logic_four.specs.Kinds.{kind_word, kind_of, is_any_number, AllowsOperands, IsSameWord, ReadsInAnyCase, CanonicalWordsRead, BothWordsOfBuffers, WordsSayTheirKind}
+use Rattle.logic_four.specs.Kinds.{kind_word, kind_of, is_any_number, allows_operands, AllowsOperands, IsSameWord, ReadsInAnyCase, CanonicalWordsRead, BothWordsOfBuffers, WordsSayTheirKind}
 
 pub canonical : CanonicalWordsRead
 unfolding kind_of
@@ -70,6 +70,31 @@ says word kind e =
     (tested (Says word kind) (str_eq_ignore_ascii_case word (codes "TRI")) Tri kind _ (by_word word Tri kind)
     (tested (Says word kind) (str_eq_ignore_ascii_case word (codes "BUS")) Bus kind _ (by_word word Bus kind)
     (none_is word kind))))))))))) e
+
+-- a test of a word that fails says that the names differ
+unless : (b r : Bool) → (b ≡ true → r ≡ true) → r ≡ false → b ≡ false
+unless true r passes fails = sym (passes refl) ∙ fails
+unless false r passes fails = refl
+
+pub differs : (word name : List ℕ) (r : Bool) → (str_to_ascii_lowercase word ≡ str_to_ascii_lowercase name → r ≡ true) → r ≡ false → str_eq_ignore_ascii_case word name ≡ false
+differs word name r passes fails =
+    unless (str_eq_ignore_ascii_case word name) r (λ same. passes ((bytes_eq-Decides (str_to_ascii_lowercase word) (str_to_ascii_lowercase name)).0 same)) fails
+
+-- where one operand or two are not demanded and there are some, the most alone decides
+any_number_from_one : (n : ℕ) → 1 ≤ n → leb n 1024 ≡ is_any_number n
+any_number_from_one n some = rw (le-leb 1 n some) refl
+
+pub up_to_most : (kind : Kind) (n : ℕ) → kind ≢ Not → kind ≢ Buf → kind ≢ Tri → 1 ≤ n → leb n 1024 ≡ allows_operands kind n
+up_to_most And n _ _ _ some = any_number_from_one n some
+up_to_most Nand n _ _ _ some = any_number_from_one n some
+up_to_most Or n _ _ _ some = any_number_from_one n some
+up_to_most Nor n _ _ _ some = any_number_from_one n some
+up_to_most Xor n _ _ _ some = any_number_from_one n some
+up_to_most Xnor n _ _ _ some = any_number_from_one n some
+up_to_most Not n apart _ _ some = absurd (apart refl)
+up_to_most Buf n _ apart _ some = absurd (apart refl)
+up_to_most Tri n _ _ apart some = absurd (apart refl)
+up_to_most Bus n _ _ _ some = any_number_from_one n some
 
 -- every kind has an operand at least, and none has more than the most
 any_number : (n : ℕ) → is_any_number n ≡ true → (1 ≤ n) × (n ≤ 1024)
