@@ -1,5 +1,5 @@
 -- The words of the kinds read back, and the numbers of operands.
-use Rattle.std.proofs.Common.{inl, inr, ◌≡◌, ◌≢◌, ◌⊎◌, ℕ, Bool, true, false, List, Option, Some, None, refl, subst, sym, ◌∙◌, ◌≤◌, leb, arith}
+use Rattle.std.proofs.Common.{inl, inr, ◌≡◌, ◌≢◌, ◌⊎◌, ℕ, Bool, true, false, List, Option, Some, None, refl, subst, ◌≤◌, leb, arith}
 use Rattle.std.specs.Prelude.{if◌then◌else◌, codes}
 use Rattle.std.specs.Str.{str_to_ascii_lowercase, str_eq_ignore_ascii_case}
 use Rattle.std.proofs.lemmas.Bool.{and_parts, le-leb, leb-true, eqb-true}
@@ -70,15 +70,6 @@ says word kind e =
     (tested (Says word kind) (str_eq_ignore_ascii_case word (codes "TRI")) Tri kind _ (by_word word Tri kind)
     (tested (Says word kind) (str_eq_ignore_ascii_case word (codes "BUS")) Bus kind _ (by_word word Bus kind)
     (none_is word kind))))))))))) e
-
--- a test of a word that fails says that the names differ
-unless : (b r : Bool) → (b ≡ true → r ≡ true) → r ≡ false → b ≡ false
-unless true r passes fails = sym (passes refl) ∙ fails
-unless false r passes fails = refl
-
-pub differs : (word name : List ℕ) (r : Bool) → (str_to_ascii_lowercase word ≡ str_to_ascii_lowercase name → r ≡ true) → r ≡ false → str_eq_ignore_ascii_case word name ≡ false
-differs word name r passes fails =
-    unless (str_eq_ignore_ascii_case word name) r (λ same. passes ((bytes_eq-Decides (str_to_ascii_lowercase word) (str_to_ascii_lowercase name)).0 same)) fails
 
 -- where one operand or two are not demanded and there are some, the most alone decides
 any_number_from_one : (n : ℕ) → 1 ≤ n → leb n 1024 ≡ is_any_number n

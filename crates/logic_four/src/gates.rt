@@ -38,16 +38,10 @@ fn all_known(vs: &[V4]) -> bool
     vs.iter().all(|v| matches!(v, V4::Zero | V4::One))
 }
 
-fn count_ones(vs: &[V4]) -> usize
-    ensures { result ≡ count_by is_one vs.now }
-{
-    vs.iter().filter(|v| matches!(v, V4::One)).count()
-}
-
 fn odd_parity(vs: &[V4]) -> bool
     ensures { result ≡ is_odd_parity vs.now }
 {
-    count_ones(vs) % 2 == 1
+    vs.iter().filter(|v| matches!(v, V4::One)).count() % 2 == 1
 }
 
 fn all_high_z(vs: &[V4]) -> bool

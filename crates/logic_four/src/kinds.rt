@@ -43,9 +43,7 @@ pub fn kind_of(word: &[u8]) -> Option<Kind>
         Some(Kind::Xnor)
     } else if word.eq_ignore_ascii_case(b"NOT") {
         Some(Kind::Not)
-    } else if word.eq_ignore_ascii_case(b"BUF") {
-        Some(Kind::Buf)
-    } else if word.eq_ignore_ascii_case(b"BUFF") {
+    } else if word.eq_ignore_ascii_case(b"BUF") || word.eq_ignore_ascii_case(b"BUFF") {
         Some(Kind::Buf)
     } else if word.eq_ignore_ascii_case(b"TRI") {
         Some(Kind::Tri)
