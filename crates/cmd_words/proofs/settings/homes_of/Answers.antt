@@ -1,0 +1,5 @@
+use Rattle.std.proofs.Common.{refl}
+use Rattle.cmd_words.proofs.settings.homes_of.Goals as goal
+
+pub returns-in_default : goal.returns-in_default
+returns-in_default c = rw c.in_default.is refl
