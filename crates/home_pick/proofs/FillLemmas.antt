@@ -1,5 +1,5 @@
 -- Memories that get their ports one after another.
-use Rattle.std.proofs.Common.{◌≡◌, ◌∙◌, ◌⊎◌, inl, inr, ℕ, zero, suc, ◌+◌, ◌-◌, ◌*◌, ◌^◌, ◌<◌, ◌≤◌, List, [], ◌∷◌, ◌++◌, length, map, get_or, set, refl, sym, ap, subst, arith, if◌then◌else◌, eq-eqb, Some, slice_get}
+use Rattle.std.proofs.Common.{◌≡◌, ◌∙◌, ◌⊎◌, inl, inr, ℕ, zero, suc, ◌+◌, ◌-◌, ◌*◌, ◌^◌, ◌%◌, ◌<◌, ◌≤◌, List, [], ◌∷◌, ◌++◌, length, map, get_or, set, refl, sym, ap, subst, arith, if◌then◌else◌, eq-eqb, mod-eq_of_lt, one-mul, Some, slice_get}
 use Rattle.std.specs.Prelude.{◌==◌}
 use Rattle.std.specs.List.{range_with_len}
 use Rattle.std.proofs.Math.Nat.{mul-le-mul}
@@ -188,6 +188,9 @@ left_more left n most new before up one = record {
 
 power_small : (a : ℕ) → a ≤ 16 → 2 ^ a < 131072
 power_small a few = pow-lt {i = a} {j = 17} (omega (arith, few))
+
+pub shifted : (a : ℕ) → a ≤ 16 → (1 * 2 ^ a) % 4294967296 ≡ 2 ^ a
+shifted a few = let small = power_small a few in mod-eq_of_lt {n = 1 * 2 ^ a} {m = 4294967296} (omega (arith, small)) ∙ one-mul (2 ^ a)
 
 pub bits_read : (nodes : NodeNet) (m : ℕ) (block : NodeBlock) → slice_get nodes.blocks m ≡ Some block → bits_of nodes m ≡ 2 ^ length block.address * length block.word
 bits_read nodes m block is = rw is refl
