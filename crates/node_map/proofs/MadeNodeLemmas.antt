@@ -1,6 +1,6 @@
 -- The nodes of a gate as they are made.
-use Rattle.std.proofs.Common.{◌≡◌, ◌∙◌, inl, inr, ℕ, zero, suc, ◌+◌, ◌<◌, ◌≤◌, nat_lt, Bool, true, false, if◌then◌else◌, List, length, refl, sym, ap, arith}
-use Rattle.std.proofs.lemmas.Bool.{cases_lt, le-leb, eqb-true}
+use Rattle.std.proofs.Common.{◌≡◌, ◌∙◌, inl, inr, ℕ, zero, suc, ◌+◌, ◌-◌, ◌<◌, ◌≤◌, nat_lt, Bool, true, false, if◌then◌else◌, List, length, refl, sym, ap, arith}
+use Rattle.std.proofs.lemmas.Bool.{cases_lt, le-leb, le-ltb, eqb-true}
 use Rattle.logic_four.specs.declared.V4.TheVariants.{Zero}
 use Rattle.logic_four.specs.declared.Kind.{Kind}
 use Rattle.logic_four.specs.declared.Kind.TheVariants.{And, Nand, Or, Nor, Xor, Xnor, Not, Buf, Tri, Bus}
@@ -8,12 +8,13 @@ use Rattle.logic_four.specs.Kinds.{AllowsOperands}
 use Rattle.logic_four.proofs.KindLemmas.{some_operands, few_operands}
 use Rattle.func_table.specs.declared.table.Table.{Table}
 use Rattle.node_defs.specs.declared.groups.Group.{Group}
-use Rattle.node_defs.specs.declared.items.Feed.TheVariants.{Fixed}
+use Rattle.node_defs.specs.declared.items.Feed.TheVariants.{Fixed, From}
 use Rattle.node_defs.specs.declared.items.Feeds.{Feeds}
 use Rattle.node_defs.specs.declared.items.Item.TheVariants.{Node}
 use Rattle.node_defs.specs.declared.items.ItemName.{ItemName}
+use Rattle.node_defs.specs.declared.items.Tag.TheVariants.{This}
 use Rattle.node_defs.specs.Groups.{group_at, helper_count}
-use Rattle.node_defs.specs.Items.{feed_at}
+use Rattle.node_defs.specs.Items.{IsNamed, feed_at, helper_of, wire_tag}
 use Rattle.node_map.specs.code.Nodes.{IsFeed, AreFeeds, IsNodeAt, node_kind}
 use Rattle.node_map.specs.code.Tables.{AddsOnly, HasTable}
 use Rattle.node_map.proofs.ShapeLemmas.{shaped, some_groups, narrow_groups}
@@ -103,3 +104,12 @@ made_node names old tables late s ops kind place table feeds has adds are = reco
 } where
   twice : length old ≡ table → length old + 1 ≡ table → ⊥
   twice one other = omega (arith, one, other)
+
+-- ---- a wire past the operands
+
+helper_tag : (late : Bool) (ops : List ℕ) (w : ℕ) → length ops ≤ w → wire_tag late ops w ≡ This
+helper_tag true ops w past = rw (le-ltb w (length ops) past) refl
+helper_tag false ops w past = refl
+
+pub helper_feed : (names : List ItemName) (late : Bool) (s : ℕ) (ops : List ℕ) (w x : ℕ) → length ops ≤ w → IsNamed names x (helper_of s (w - length ops)) → IsFeed names late s ops w (From x This)
+helper_feed names late s ops w x past named = (x, rw (le-ltb w (length ops) past) named, ap (From x) (sym (helper_tag late ops w past)))

@@ -13,7 +13,7 @@ use seen_list::Memory;
 pub(crate) fn operands(net: &Netlist, signal: u32) -> &[u32]
     ensures { result.now ≡ operands_of net.now signal }
 {
-    match net.signals.as_slice().get(signal as usize) {
+    match net.signals.get(signal as usize) {
         Some(found) => {
             match &found.driver {
                 Driver::Gate { ops, .. } => ops.as_slice(),
@@ -28,7 +28,7 @@ pub(crate) fn operands(net: &Netlist, signal: u32) -> &[u32]
 pub(crate) fn class(net: &Netlist, signal: u32) -> u32
     ensures { result ≡ class_at net.now signal }
 {
-    match net.signals.as_slice().get(signal as usize) {
+    match net.signals.get(signal as usize) {
         Some(found) => {
             match found.driver {
                 Driver::Input => 0,
