@@ -9,7 +9,7 @@ use Rattle.std.proofs.lemmas.List.Elements.{Contains-append_left, Contains-push,
 use Rattle.list_laws.proofs.Places.{place_below}
 use Rattle.plan_defs.specs.declared.switch.Receipt.{Receipt}
 use Rattle.plan_defs.specs.declared.switch.PortLinks.{PortLinks}
-use Rattle.switch_set.specs.code.Links.{links_at, with_receipt, Receives}
+use Rattle.switch_set.specs.code.Links.{links_at, with_receipt, with_sending, Receives, Links}
 
 -- ---- one port that does more
 
@@ -70,4 +70,33 @@ module _ (old ports : List PortLinks) (readers : List ℕ) (receipt : Receipt) (
     sends = sends_now;
     more = λ port h. more_now port (Contains-push_cases (take k readers) (get_or readers k 0) port (subst (λ xs. Contains xs port) (take_more readers k 0 low) h));
     same = λ port none. ap (λ (links : PortLinks). links.receipts) (now_other port (λ is. none (subst (Contains (take (k + 1) readers)) (sym is) here))) ∙ before.same port (λ h. none (kept port h));
+  }
+
+-- ---- one item is sent and received
+
+module _ (old mid new : List PortLinks) (slot home : ℕ) (readers : List ℕ) (low : home < length old)
+    (sent : mid ≡ set old home (with_sending (links_at old home) (record { slot = slot; readers = readers })))
+    (got : Receives mid new (Contains readers) (record { slot = slot; sender = home })) where
+  at_home : links_at mid home ≡ with_sending (links_at old home) (record { slot = slot; readers = readers })
+  at_home = ap (λ ports. links_at ports home) sent ∙ set_same old home _ low
+
+  elsewhere : (port : ℕ) → (port ≡ home → ⊥) → links_at mid port ≡ links_at old port
+  elsewhere port apart = ap (λ ports. links_at ports port) sent ∙ set_other old home port _ apart
+
+  receipts_stay : (port : ℕ) → (links_at mid port).receipts ≡ (links_at old port).receipts
+  receipts_stay port = elim (cases_eq port home) [
+    | inl same ↦ subst (λ p. (links_at mid p).receipts ≡ (links_at old p).receipts) (sym same) (ap (λ (links : PortLinks). links.receipts) at_home)
+    | inr apart ↦ ap (λ (links : PortLinks). links.receipts) (elsewhere port apart)
+  ]
+
+  pub linked : 0 < length readers → Links old new slot home readers
+  linked some = record {
+    ports = got.ports ∙ ap length sent ∙ length-set old home _;
+    sender = λ _. got.sends home ∙ ap (λ (links : PortLinks). links.sends) at_home;
+    silent = λ port empty. got.sends port ∙ elim (cases_eq port home) [
+      | inl same ↦ absurd (let none = ap length (empty same) in omega (arith, none, some))
+      | inr apart ↦ ap (λ (links : PortLinks). links.sends) (elsewhere port apart)
+    ];
+    receivers = λ port one. got.more port one ∙ ap (λ receipts. receipts ++ record { slot = slot; sender = home } ∷ []) (receipts_stay port);
+    others = λ port none. got.same port none ∙ receipts_stay port;
   }
