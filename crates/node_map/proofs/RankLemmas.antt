@@ -102,7 +102,7 @@ pub record OwnTo (net : Netlist) (timing : Timing) (order : List ℕ) (n : ℕ) 
 pub own_begun : (net : Netlist) (timing : Timing) (order own : List ℕ) → own ≡ replicate (length net.signals) 0 → OwnTo net timing order 0 own
 own_begun net timing order own is = record {
   signals = ap length is ∙ length-replicate (length net.signals) 0;
-  low = λ s. omega (arith, ap (λ xs. get_or xs s 0) is, replicate_read (length net.signals) s 0);
+  low = λ s. omega (arith, ap (λ xs. get_or xs s 0) is, replicate_read {X = ℕ} (length net.signals) s 0);
   ranked = λ k within. absurd (omega arith);
   others = λ s none. ap (λ xs. get_or xs s 0) is ∙ replicate_read (length net.signals) s 0;
 }
