@@ -1,0 +1,10 @@
+use Rattle.std.proofs.Common.{Some, ap}
+use Rattle.clap.specs.Walk.{Rule}
+use Rattle.clap.specs.declared.builder.action.ArgAction.TheVariants.{Set}
+use Rattle.clap.specs.declared.builder.value_parser.ValueParser.TheVariants.{NonEmptyString}
+use Rattle.cmd_words.proofs.parsing.option.Goals as goal
+
+pub returns-clause-rule : goal.returns-clause-rule
+returns-clause-rule c =
+    rw (c.value_parser.ensures.others, c.value_parser.ensures.given.1, c.value_parser.ensures.given.2, c.action.ensures, c.long.ensures)
+    (ap (λ (rule : Rule). record rule { long = Some c.args.name.now; action = Some Set; parser = Some NonEmptyString }) c.new.ensures.rule)
