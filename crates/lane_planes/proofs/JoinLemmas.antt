@@ -1,8 +1,9 @@
 -- Operands joined one after the other make what the gate makes of all.
-use Rattle.std.proofs.Common.{◌≡◌, ◌∙◌, ◌≤◌, ℕ, zero, suc, ◌+◌, ◌-◌, List, [], ◌∷◌, length, map, take, drop, get_or, eqb-true, refl, sym, ap, arith}
+use Rattle.std.proofs.Common.{◌≡◌, ◌∙◌, ◌≤◌, ℕ, zero, suc, ◌+◌, ◌-◌, List, [], ◌∷◌, ◌++◌, length, map, take, drop, get_or, eqb-true, refl, sym, ap, arith}
 use Rattle.std.specs.Prelude.{◌<◌, IsTrue, All}
 use Rattle.std.specs.List.{fold}
-use Rattle.std.proofs.lemmas.List.{length-map, get_or-map}
+use Rattle.std.proofs.lemmas.List.{length-map, get_or-map, map-append, take_more}
+use Rattle.std.proofs.lemmas.List.Sums.{fold-append}
 use Rattle.std.proofs.Math.Seq.{take-length}
 use Rattle.logic_four.specs.declared.V4.{V4}
 use Rattle.logic_four.specs.declared.V4.TheVariants.{Undef}
@@ -117,3 +118,26 @@ all_over kind k row (o ∷ rest) first is allowed within =
     rw whole
     (ap (λ v. answer_of kind (fold (join_of kind) (first_of kind v) (map (value_at (lane_row k row)) rest))) (sym value)
     ∙ sym (one_by_one kind (value_at (lane_row k row) o) (map (value_at (lane_row k row)) rest) (rw long allowed)))
+
+-- the operands after the first are within the row as all are
+pub rest_within : (limit : ℕ) (operands : List ℕ) → All (λ o. o < limit) operands → All (λ o. o < limit) (take (length operands - 1) (drop 1 operands))
+rest_within limit [] within = within
+rest_within limit (o ∷ rest) within =
+    let less : suc (length rest) - 1 ≡ length rest = omega arith in
+    let whole : take (suc (length rest) - 1) rest ≡ rest = rw less (take-length rest) in
+    rw whole (λ k d inside. within (suc k) d (omega (arith, inside)))
+
+-- one more operand at a place of a row, in one lane
+pub one_more_over : (kind : Kind) (k : ℕ) (row : List Planes) (others : List ℕ) (i : ℕ) (so_far : V4) (p : Planes)
+    → i < length others → get_or others i 0 < length row → p ≡ get_or row (get_or others i 0) p
+    → join_of kind (fold (join_of kind) so_far (map (value_at (lane_row k row)) (take i others))) (lane_of p k)
+    ≡ fold (join_of kind) so_far (map (value_at (lane_row k row)) (take (i + 1) others))
+one_more_over kind k row others i so_far p before inside is =
+    let o = get_or others i 0 in
+    let value = value_at (lane_row k row) in
+    let here : value o ≡ lane_of p k = get_or-map (λ p. lane_of p k) row o p Undef inside ∙ ap (λ p. lane_of p k) (sym is) in
+    sym
+    (ap (λ places. fold (join_of kind) so_far (map value places)) (take_more others i 0 before)
+    ∙ ap (fold (join_of kind) so_far) (map-append value (take i others) (o ∷ []))
+    ∙ fold-append (join_of kind) so_far (map value (take i others)) (value o ∷ [])
+    ∙ ap (join_of kind (fold (join_of kind) so_far (map value (take i others)))) here)

@@ -1,9 +1,11 @@
 -- A claim on the lanes of planes holds where it holds for every choice of their bits.
-use Rattle.std.proofs.Common.{◌≡◌, ◌∙◌, ℕ, zero, suc, ◌+◌, ◌*◌, ◌/◌, ◌%◌, ◌^◌, ◌<◌, bit_and, Bool, true, ◌&&◌, sym, ap, ap₂, subst, arith}
+use Rattle.std.proofs.Common.{◌≡◌, ◌∙◌, ℕ, zero, suc, ◌+◌, ◌*◌, ◌/◌, ◌%◌, ◌^◌, ◌<◌, bit_and, Bool, true, ◌&&◌, inl, inr, sym, ap, ap₂, subst, arith}
+use Rattle.std.specs.Prelude.{◌≢◌}
 use Rattle.std.specs.Int.{bit_at}
 use Rattle.std.proofs.lemmas.Nat.Bits.{bit_at-lt, shr_and_one, same_from_bits_below}
 use Rattle.std.proofs.Math.Bridge.{le_prop}
 use Rattle.std.proofs.lemmas.Bool.{and_parts}
+use Rattle.std.proofs.lemmas.Bool.Decides.{eqb_tells}
 use Rattle.logic_four.specs.declared.V4.{V4}
 use Rattle.logic_four.specs.Values.{value_of, code_of}
 use Rattle.logic_four.proofs.PackedLemmas.{code_from_value}
@@ -105,3 +107,16 @@ same_planes p q alike =
     (alike k low) in
     same_words p q (same_from_bits_below 30 p.low q.low p.low_small q.low_small (λ k low. (parts k low).0))
     (same_from_bits_below 30 p.high q.high p.high_small q.high_small (λ k low. (parts k low).1))
+
+-- what holds of the lanes so far and of one more holds of all of them, where the words keep the others
+pub one_more_lane : (P : ℕ → V4 → Type 0) (k low high low_on high_on : ℕ) (v : V4) → k < 30 → ((j : ℕ) → j < k → P j (bits (bit_at low j) (bit_at high j))) → P k v
+    → bit_at low_on k ≡ code_of v % 2 → ((j : ℕ) → j < 30 → j ≢ k → bit_at low_on j ≡ bit_at low j)
+    → bit_at high_on k ≡ code_of v / 2 → ((j : ℕ) → j < 30 → j ≢ k → bit_at high_on j ≡ bit_at high j)
+    → (j : ℕ) → j < k + 1 → P j (bits (bit_at low_on j) (bit_at high_on j))
+one_more_lane P k low high low_on high_on v within so_far here low_here low_others high_here high_others j below = elim (eqb_tells j k) [
+  | inl same ↦ rw (same.1, low_here, high_here, value_of_bits v) here
+  | inr apart ↦
+      let before : j < k = omega (arith, below, apart.1) in
+      let inside : j < 30 = omega (arith, before, within) in
+      rw (low_others j inside apart.1, high_others j inside apart.1) (so_far j before)
+]
