@@ -1,5 +1,6 @@
 -- Lemmas on the counts of a store while a whole file is read.
-use Rattle.std.proofs.Common.{◌≡◌, ◌∙◌, ap, sym, subst, arith, ℕ, ◌+◌, ◌<◌, ◌≤◌, Bool, true, false, List, ◌++◌, length, take, length-append, Option, Ok, Err}
+use Rattle.std.proofs.Common.{◌≡◌, ◌∙◌, refl, ap, sym, subst, arith, ℕ, ◌+◌, ◌<◌, ◌≤◌, Bool, true, false, List, ◌++◌, length, take, length-append, Option, None, Some, Ok, Err}
+use Rattle.std.specs.Option.{IfSome}
 use Rattle.std.specs.Io.KnownBytes.{Consumes}
 use Rattle.std.proofs.KnownBytes.{Consumes-trans}
 use Rattle.std.proofs.lemmas.List.{take-append-le, length-take-le}
@@ -17,6 +18,16 @@ pub record CountsSoFar (n : ℕ) (old new : FileCounts) : Type 0 where
   pub absent_starts : new.absent_starts ≡ old.absent_starts
   pub given : new.given ≡ raised old.given n
   pub reads : new.reads ≤ raised old.reads n
+
+-- before the first read
+pub counts_none : (counts : FileCounts) → CountsSoFar 0 counts counts
+counts_none counts = record {
+  faults = record { failures = refl; kept = omega arith; rose = λ never. absurd (cc) };
+  starts = refl;
+  absent_starts = refl;
+  given = omega arith;
+  reads = omega arith;
+}
 
 -- calls of which none failed, and then one more
 faults_on : (failed : Bool) (old mid new : FileCounts) → CountsFaults false old mid → CountsFaults failed mid new → CountsFaults failed old new
@@ -88,3 +99,9 @@ grown_length bytes grown buf rest n within grew = ap length grew ∙ simp (take-
 pub gone_more : (a b c : Option (List ℕ)) (bytes grown buf rest : List ℕ) (n : ℕ) → n ≤ length buf → grown ≡ bytes ++ take n (buf ++ rest) → Consumes a b bytes → Consumes b c (take n buf) → Consumes a c grown
 gone_more a b c bytes grown buf rest n within grew before now =
     subst (Consumes a c) (sym (grew ∙ ap (λ more. bytes ++ more) (take-append-le n buf rest within))) (Consumes-trans a b c bytes (take n buf) before now)
+
+-- a file that gave more bytes than the limit has more
+pub past_limit : (a b : Option (List ℕ)) (bytes : List ℕ) (limit : ℕ) → Consumes a b bytes → limit < length bytes → IfSome a (λ left. limit < length left)
+past_limit None b bytes limit gone past = tt
+past_limit (Some xs) None bytes limit gone past = absurd gone
+past_limit (Some xs) (Some ys) bytes limit gone past = omega (arith, past, ap length gone, length-append bytes ys)

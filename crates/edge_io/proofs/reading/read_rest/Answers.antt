@@ -1,13 +1,23 @@
-use Rattle.std.proofs.Common.{◌≡◌, ◌∙◌, sym, arith, ℕ, ◌+◌, ◌++◌, length, take, drop, false, Ok, Err, Result}
+use Rattle.std.proofs.Common.{◌≡◌, ◌∙◌, refl, sym, arith, ℕ, ◌+◌, ◌++◌, length, take, drop, false, Ok, Err, Result}
 use Rattle.std.specs.Result.{OnOk, is_err}
+use Rattle.std.proofs.KnownBytes.{Consumes-nil, Consumes-whole}
 use Rattle.std.proofs.lemmas.List.{length-take}
-use Rattle.edge_io.proofs.ReadingLemmas.{counts_more, counts_whole, counts_failed, counts_unkept, counts_too_long, gone_more, grown_length}
+use Rattle.edge_io.proofs.ReadingLemmas.{counts_none, counts_more, counts_whole, counts_failed, counts_unkept, counts_too_long, gone_more, grown_length, past_limit}
 use Rattle.edge_io.proofs.reading.read_rest.Goals as goal
 
 -- what a call that didn't fail says
 said : {T E : Type 0} (r : Result T E) (P : Type 0) → is_err r ≡ false → OnOk r P → P
 said (Ok x) P is p = p
 said (Err e) P is p = absurd (cc)
+
+pub chunks-init : goal.chunks-init
+chunks-init g c = record {
+  same_names = refl;
+  same_bytes = refl;
+  gone = rw c.new-bytes.ensures (Consumes-nil _);
+  counts = rw c.new-bytes.ensures (counts_none _);
+  within = rw c.new-bytes.ensures (omega arith);
+}
 
 pub chunks-preserved : goal.chunks-preserved
 chunks-preserved g c =
@@ -36,3 +46,11 @@ returns-then-is_err-clause-counted g c =
 
 pub returns-clause-counted : goal.returns-clause-counted
 returns-clause-counted g c = counts_too_long c.args.limit (length c.chunks.bytes) _ _ (omega arith) c.chunks.invariant.counts
+
+pub returns-in-Ok-eq0-clause-whole : goal.returns-in-Ok-eq0-clause-whole
+returns-in-Ok-eq0-clause-whole g c =
+    Consumes-whole _ _ c.chunks.bytes (λ left. c.chunks.bytes ≡ left) c.chunks.invariant.gone
+    (c.in-Ok-eq0.ensures.gives.end c.in-Ok-eq0.field-0-test (omega (arith, c.min-room.ensures, c.read.auto.buf, length-take {A = ℕ}))) refl
+
+pub returns-clause-too_long : goal.returns-clause-too_long
+returns-clause-too_long g c = λ _. past_limit _ _ c.chunks.bytes c.args.limit c.chunks.invariant.gone (rw c.len.ensures at c.chunks-test.false)
