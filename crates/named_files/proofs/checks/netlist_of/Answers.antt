@@ -1,0 +1,13 @@
+use Rattle.named_files.proofs.RefusedLemmas.{netlist_refused}
+use Rattle.named_files.proofs.checks.netlist_of.Goals as goal
+
+pub returns-in-Ok-clause-checked : goal.returns-in-Ok-clause-checked
+returns-in-Ok-clause-checked c =
+    let answers = rw c.as_slice-bytes.ensures at c.in-Ok.ensures.answers in
+    answers.1
+
+pub returns-in-Ok-clause-valid : goal.returns-in-Ok-clause-valid
+returns-in-Ok-clause-valid c = c.reads_as_valid.ensures c.in-Ok.ensures.answers.1
+
+pub returns-clause-checked : goal.returns-clause-checked
+returns-clause-checked c = rw c.of_netlist.ensures (netlist_refused _ _ (rw c.as_slice-bytes.ensures at c.in-Err.ensures.answers))
