@@ -1,5 +1,6 @@
 -- By a choice of homes a design fits or is refused, and it has one design's homes.
-use Rattle.std.proofs.Common.{◌≡◌, ◌∙◌, ◌⊎◌, inl, inr, ℕ, true, false, refl, sym, ap, subst}
+use Rattle.std.proofs.Common.{◌≡◌, ◌∙◌, ◌⊎◌, inl, inr, ℕ, true, false, Result, Ok, Err, refl, sym, ap, subst}
+use Rattle.std.specs.Prelude.{IfErr}
 use Rattle.machine_text.specs.declared.machine.Machine.{Machine}
 use Rattle.machine_text.specs.Machines.{IsValid as IsValidMachine}
 use Rattle.net_defs.specs.declared.homes.HomeChoice.{HomeChoice}
@@ -29,6 +30,11 @@ use Rattle.yse_compile.proofs.FitLemmas.{FitsOrNot, LacksPlan}
 pub better_are : (nodes : NodeNet) (machine : Machine) (start better : Homes) → IsWellFormed nodes → AreHomes nodes start → IsBetter nodes machine start better → AreHomes nodes better
 better_are nodes machine start better formed are is =
     subst (AreHomes nodes) (sym is.reached) (passes_way nodes machine (bound_of nodes start) start is.count formed (start_way nodes machine start are)).are
+
+-- want of memory is a right refusal
+pub memory_right : {X : Type 0} (net : Netlist) (machine : Machine) (timing : Timing) (result : Result X CompNo) → IfErr result (λ refusal. refusal ≡ Memory) → IfErr result (IsRight net machine timing)
+memory_right net machine timing (Ok x) is = is
+memory_right net machine timing (Err refusal) is = subst (IsRight net machine timing) (sym is) tt
 
 -- what fits at its plain homes fits at them or at better ones
 pub plain_either : (net : Netlist) (machine : Machine) (timing : Timing) → DesignFits net machine timing → FitsEither net machine timing

@@ -1,4 +1,4 @@
-use Rattle.std.proofs.Common.{subst}
+use Rattle.std.proofs.Common.{subst, refl}
 use Rattle.home_pick.specs.Refusals.{IsRight}
 use Rattle.yse_compile.proofs.steps.homes_of.Goals as goal
 
@@ -11,3 +11,28 @@ pub returns-in-Err-Nodes-clause-either : goal.returns-in-Err-Nodes-clause-either
 returns-in-Err-Nodes-clause-either c = λ either.
     absurd (c.either_fits.ensures.nodes c.args._net.now c.args.machine.now c.args._timing.now either c.in-Err-Nodes.needed c.in-Err-Nodes.limit
     (record { acyclic = c.requires.acyclic; nodes = c.args.nodes.now; items = c.requires.items; many = subst (IsRight c.args.nodes.now c.args.machine.now) c.in-Err-Nodes.field-0-is c.in-Err-Nodes.ensures.refused }))
+
+pub returns-in-Ok-clause-picked : goal.returns-in-Ok-clause-picked
+returns-in-Ok-clause-picked c = c.in-Ok.ensures.picked
+
+pub returns-in-Ok-clause-homes : goal.returns-in-Ok-clause-homes
+returns-in-Ok-clause-homes c = c.in-Ok.ensures.homes
+
+pub returns-in-Err-Bits-clause-refused : goal.returns-in-Err-Bits-clause-refused
+returns-in-Err-Bits-clause-refused c = record {
+  acyclic = c.requires.acyclic;
+  nodes = c.args.nodes.now;
+  items = c.requires.items;
+  none = subst (IsRight c.args.nodes.now c.args.machine.now) c.in-Err-Bits.field-0-is c.in-Err-Bits.ensures.refused;
+}
+
+pub returns-in-Err-Nodes-clause-refused : goal.returns-in-Err-Nodes-clause-refused
+returns-in-Err-Nodes-clause-refused c = record {
+  acyclic = c.requires.acyclic;
+  nodes = c.args.nodes.now;
+  items = c.requires.items;
+  many = subst (IsRight c.args.nodes.now c.args.machine.now) c.in-Err-Nodes.field-0-is c.in-Err-Nodes.ensures.refused;
+}
+
+pub returns-in-Err-Memory-clause-either : goal.returns-in-Err-Memory-clause-either
+returns-in-Err-Memory-clause-either c = λ either. refl

@@ -1,4 +1,4 @@
-use Rattle.std.proofs.Common.{subst}
+use Rattle.std.proofs.Common.{subst, refl}
 use Rattle.slot_plan.specs.Refusals.{IsRight}
 use Rattle.yse_compile.proofs.steps.plan_of.Goals as goal
 
@@ -31,3 +31,12 @@ pub returns-in-Err-Functions-clause-never : goal.returns-in-Err-Functions-clause
 returns-in-Err-Functions-clause-never c = λ fit.
     absurd (c.planned_or_refused.ensures.functions c.args.housed.now.nodes c.args.machine.now c.args.housed.now.homes fit c.in-Err-Functions.port c.in-Err-Functions.needed c.in-Err-Functions.limit
     (subst (IsRight c.args.housed.now.nodes c.args.housed.now.homes c.args.machine.now) c.in-Err-Functions.field-0-is c.in-Err-Functions.ensures.refused))
+
+pub returns-in-Ok-clause-plan : goal.returns-in-Ok-clause-plan
+returns-in-Ok-clause-plan c = c.in-Ok.ensures.plan
+
+pub returns-in-Ok-clause-fits : goal.returns-in-Ok-clause-fits
+returns-in-Ok-clause-fits c = c.in-Ok.ensures.fits
+
+pub returns-in-Err-Memory-clause-never : goal.returns-in-Err-Memory-clause-never
+returns-in-Err-Memory-clause-never c = λ fits. refl
