@@ -20,3 +20,12 @@ returns-in-Ok-clause-chosen c =
 pub returns-in-Ok-clause-fitted : goal.returns-in-Ok-clause-fitted
 returns-in-Ok-clause-fitted c =
     plain_either c.args.net.now c.args.machine.now c.args.timing.now (compiled_fits c.args.net.now c.args.machine.now c.args.timing.now c.in-Ok.compiled c.in-Ok.ensures.compiled)
+
+pub compile_at-requires-clause-housed : goal.compile_at-requires-clause-housed
+compile_at-requires-clause-housed c = c.requires.housed
+
+pub returns-in-Ok-clause-shown : goal.returns-in-Ok-clause-shown
+returns-in-Ok-clause-shown c = c.in-Ok.ensures.shown
+
+pub returns-in-Err-clause-refused : goal.returns-in-Err-clause-refused
+returns-in-Err-clause-refused c = c.in-Err.ensures.refused

@@ -18,3 +18,24 @@ returns-in-Ok-clause-fitted c = record {
   picked = c.requires.housed.picked;
   fit = inr (c.args.improved.homes, c.requires.improved.better, record { plan = c.args.plan; first_fit = c.requires.plan; fits = c.requires.fit });
 }
+
+pub routed-requires-clause-homes : goal.routed-requires-clause-homes
+routed-requires-clause-homes c = c.requires.improved.on
+
+pub routed-requires-clause-nodes : goal.routed-requires-clause-nodes
+routed-requires-clause-nodes c = c.requires.housed.formed
+
+pub routed-requires-clause-acyclic : goal.routed-requires-clause-acyclic
+routed-requires-clause-acyclic c = c.requires.housed.acyclic
+
+pub routed-requires-clause-items : goal.routed-requires-clause-items
+routed-requires-clause-items c = c.requires.housed.items
+
+pub routed-requires-clause-plan : goal.routed-requires-clause-plan
+routed-requires-clause-plan c = c.requires.plan
+
+pub routed-requires-clause-fits : goal.routed-requires-clause-fits
+routed-requires-clause-fits c = c.requires.fit
+
+pub returns-in-Ok-clause-shown : goal.returns-in-Ok-clause-shown
+returns-in-Ok-clause-shown c = c.in-Ok.ensures.shown
