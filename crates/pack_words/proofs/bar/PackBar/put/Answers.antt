@@ -1,4 +1,5 @@
-use Rattle.std.proofs.Common.{ap, ap₂, false, refl, subst, sym, ℕ, ◌+◌, ◌∙◌, ◌≡◌}
+use Rattle.std.proofs.Common.{ap, ap₂, false, length, refl, subst, sym, ℕ, ◌+◌, ◌<◌, ◌∙◌, ◌≡◌}
+use Rattle.std.proofs.lemmas.Option.{slice_get_within}
 use Rattle.image_defs.specs.declared.image.LinkOut.{LinkOut}
 use Rattle.event_defs.specs.Places.{IsSend, after_put, is_in}
 use Rattle.slot_words.specs.Layout.{send_word}
@@ -72,3 +73,16 @@ returns c =
           (put_word a c.pass.invariant c.as_slice.result.now c.as_slice-2.result.now c.find-k.result c.args.slot c.find-k.ensures c.as_slice.ensures c.as_slice-2.ensures i link send slot_is)
           (c.packed_word-number.ensures ∙ ap (λ t. packed t c.args.v) c.pass.invariant.turn);
     })
+
+pub find-k-requires : goal.find-k-requires
+find-k-requires c =
+    let a = c.pass.inside in
+    let can : CanPut (pass_of a) c.args.slot c.args.v = subst (λ (o : PackPassView). CanPut o c.args.slot c.args.v) (sym c.pass.view_is) c.requires.can in
+    let within = slice_get_within can.send.port.outs can.i can.link can.send.link_is in
+    let at = (c.pass.invariant.sends can.send.port can.send.is).each can.i can.link within can.send.link_is in
+    (can.i, record { link = record { slot = can.link.slot; word = send_word a.seat.me.0.image 1 a.port can.i 0 }; is = rw c.as_slice.ensures at; slot_is = can.slot_is })
+
+pub bounds-as_slice-k : goal.bounds-as_slice-k
+bounds-as_slice-k c =
+    let k = c.find-k.result in
+    subst (λ xs. k < length xs) (c.as_slice.ensures ∙ sym c.as_slice-2.ensures) (slice_get_within c.as_slice.result.now k c.find-k.ensures.link c.find-k.ensures.is)

@@ -1,4 +1,5 @@
-use Rattle.std.proofs.Common.{ap, false, subst, sym, ◌∙◌, ◌≡◌}
+use Rattle.std.proofs.Common.{ap, false, length, subst, sym, ◌<◌, ◌∙◌, ◌≡◌}
+use Rattle.std.proofs.lemmas.Option.{slice_get_within}
 use Rattle.event_defs.proofs.PaceLemmas.{source}
 use Rattle.event_defs.specs.Places.{is_in}
 use Rattle.slot_words.specs.Layout.{send_word}
@@ -69,3 +70,15 @@ returns c =
                 (gives a held c.take-number.new.seat link.sender c.args.slot (word_read c.as_slice-2.result.now c.find-k.result) c.take-number.result a.last_send c.next_hint-pass-inside.result found.1 at_word found.0 c.take-number.ensures.table c.read_packed.result c.read_packed.ensures);
           };
     })
+
+pub find-k-requires : goal.find-k-requires
+find-k-requires c =
+    let can : CanTake (pass_of c.pass.inside) c.args.slot = subst (λ (o : PackPassView). CanTake o c.args.slot) (sym c.pass.view_is) c.requires.can in
+    let within = slice_get_within can.port.ins can.j can.link can.receives in
+    let at = (c.pass.invariant.receipts can.port can.is).each can.j can.link within can.receives in
+    (can.j, record { link = record { slot = can.link.slot; word = at.0 }; is = rw c.as_slice.ensures at.1; slot_is = can.slot_is })
+
+pub bounds-as_slice-k : goal.bounds-as_slice-k
+bounds-as_slice-k c =
+    let k = c.find-k.result in
+    subst (λ xs. k < length xs) (c.as_slice.ensures ∙ sym c.as_slice-2.ensures) (slice_get_within c.as_slice.result.now k c.find-k.ensures.link c.find-k.ensures.is)
