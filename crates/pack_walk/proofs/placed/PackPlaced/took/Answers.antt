@@ -2,7 +2,7 @@ use Rattle.std.proofs.Common.{◌≡◌, ◌∙◌, ◌+◌, length, take, get_o
 use Rattle.std.proofs.lemmas.Option.{slice_get_within}
 use Rattle.image_defs.specs.Places.{in_slots}
 use Rattle.pack_bank.specs.Views.{PackPortView, after_receive}
-use Rattle.pack_walk.specs.Kinds.{view_in}
+use Rattle.pack_walk.specs.Kinds.{AreLastValues, view_in}
 use Rattle.pack_walk.specs.Kept.{view_of}
 use Rattle.pack_walk.specs.Placed.{CanTake, HasTaken}
 use Rattle.pack_walk.proofs.KeptLemmas.{walk_of, walks}
@@ -66,3 +66,14 @@ returns c =
     let kept = c.self.invariant in
     subst (λ view. HasTaken view (record (view_of a) { takes = take (a.took + 1) (in_slots a.seat.now.ins) })) c.self.view_is
     (has_taken a kept (get_or a.stops a.at no_stop) (found (walk_of a) (walks a kept) a.stops refl))
+
+pub bounds-stops-self-inside : goal.bounds-stops-self-inside
+bounds-stops-self-inside c =
+    let a = c.self.inside in
+    rw c.as_slice-stops.ensures (slice_get_within a.stops a.at _ (found (walk_of a) (walks a c.self.invariant) a.stops refl))
+
+pub run-self-inside-requires-clause-last : goal.run-self-inside-requires-clause-last
+run-self-inside-requires-clause-last c =
+    let a = c.self.inside in
+    let last : AreLastValues (after_receive (view_in a.kind)) a.value = λ l low. record { each = (c.self.invariant.value l low).each } in
+    subst (λ view. AreLastValues view a.value) (sym c.receive.ensures.view) last
