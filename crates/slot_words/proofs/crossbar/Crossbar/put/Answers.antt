@@ -1,4 +1,5 @@
-use Rattle.std.proofs.Common.{ap, ap₂, arith, false, refl, subst, sym, ℕ, ◌*◌, ◌+◌, ◌∙◌, ◌≡◌}
+use Rattle.std.proofs.Common.{ap, ap₂, arith, false, length, refl, subst, sym, ℕ, ◌*◌, ◌+◌, ◌<◌, ◌∙◌, ◌≡◌}
+use Rattle.std.proofs.lemmas.Option.{slice_get_within}
 use Rattle.logic_four.specs.Values.{code_of}
 use Rattle.image_defs.specs.Frames.{image_value}
 use Rattle.image_defs.specs.declared.image.LinkOut.{LinkOut}
@@ -6,6 +7,7 @@ use Rattle.event_defs.specs.Places.{IsSend, after_put, is_in}
 use Rattle.slot_words.proofs.HeldLemmas.{held_stepped, own_fields, pass_stepped, put_word, reseated, word_room}
 use Rattle.slot_words.proofs.StepLemmas.{put_allowed, turns_few}
 use Rattle.slot_words.specs.Held.{pass_of}
+use Rattle.slot_words.specs.Layout.{send_word}
 use Rattle.slot_words.specs.Passes.{CanPut, IsPut, IsRunning, PassView, one_step}
 use Rattle.slot_words.specs.code.Plays.{after_step}
 use Rattle.slot_words.proofs.crossbar.Crossbar.put.Goals as goal
@@ -71,3 +73,19 @@ stamped-number-requires c =
     let few = turns_few a.seat.me.0.image a.seat.me.0.stimulus c.pass.invariant.runs.image_fits c.pass.invariant.runs.stimulus_fits in
     let turn = c.pass.invariant.turn in
     omega arith
+
+pub find-k-requires : goal.find-k-requires
+find-k-requires c =
+    let a = c.pass.inside in
+    let can : CanPut (pass_of a) c.args.slot c.args.v = subst (λ (o : PassView). CanPut o c.args.slot c.args.v) (sym c.pass.view_is) c.requires.can in
+    let within = slice_get_within can.send.port.outs can.i can.link can.send.link_is in
+    let at = (c.pass.invariant.sends can.send.port can.send.is).each can.i can.link within can.send.link_is in
+    (can.i, record { link = record { slot = can.link.slot; word = send_word a.seat.me.0.image a.seat.me.0.banks a.port can.i 0 }; is = rw c.as_slice.ensures at; slot_is = can.slot_is })
+
+pub bounds-as_slice-k : goal.bounds-as_slice-k
+bounds-as_slice-k c =
+    let k = c.find-k.result in
+    subst (λ xs. k < length xs) (c.as_slice.ensures ∙ sym c.as_slice-2.ensures) (slice_get_within c.as_slice.result.now k c.find-k.ensures.link c.find-k.ensures.is)
+
+pub word_in_turn-word-requires : goal.word_in_turn-word-requires
+word_in_turn-word-requires c = record { some = rw c.pass.invariant.banks c.pass.invariant.runs.some }

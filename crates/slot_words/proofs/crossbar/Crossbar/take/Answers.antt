@@ -1,4 +1,5 @@
-use Rattle.std.proofs.Common.{ap, false, subst, sym, ◌%◌, ◌∙◌, ◌≡◌}
+use Rattle.std.proofs.Common.{ap, false, length, subst, sym, ◌%◌, ◌<◌, ◌∙◌, ◌≡◌}
+use Rattle.std.proofs.lemmas.Option.{slice_get_within}
 use Rattle.event_defs.proofs.PaceLemmas.{source}
 use Rattle.event_defs.specs.Places.{is_in}
 use Rattle.slot_words.proofs.HeldLemmas.{gives, held_found, own_fields, reseated, take_finds, take_word, word_room}
@@ -65,3 +66,19 @@ returns c =
                 (gives a held c.take-number.new.seat link.sender c.args.slot c.word_in_turn-word.result c.take-number.result a.last_send c.next_hint-pass-inside.result found.1 at_word found.0 c.take-number.ensures.table c.taken_in.result c.taken_in.ensures);
           };
     })
+
+pub find-k-requires : goal.find-k-requires
+find-k-requires c =
+    let a = c.pass.inside in
+    let can : CanTake (pass_of a) c.args.slot = subst (λ (o : PassView). CanTake o c.args.slot) (sym c.pass.view_is) c.requires.can in
+    let within = slice_get_within can.port.ins can.j can.link can.receives in
+    let at = (c.pass.invariant.receipts can.port can.is).each can.j can.link within can.receives in
+    (can.j, record { link = record { slot = can.link.slot; word = at.0 }; is = rw c.as_slice.ensures at.1; slot_is = can.slot_is })
+
+pub bounds-as_slice-k : goal.bounds-as_slice-k
+bounds-as_slice-k c =
+    let k = c.find-k.result in
+    subst (λ xs. k < length xs) (c.as_slice.ensures ∙ sym c.as_slice-2.ensures) (slice_get_within c.as_slice.result.now k c.find-k.ensures.link c.find-k.ensures.is)
+
+pub word_in_turn-word-requires : goal.word_in_turn-word-requires
+word_in_turn-word-requires c = record { some = rw c.pass.invariant.banks c.pass.invariant.runs.some }
