@@ -56,3 +56,11 @@ returns c =
     let kept = c.self.invariant in
     subst (λ view. HasPut view (record (view_of a) { puts = take (a.sent + 1) (out_slots a.seat.now.outs) })) c.self.view_is
     (has_put a kept (get_or a.stops a.at no_stop) (found (walk_of a) (walks a kept) a.stops refl))
+
+pub bounds-stops-self-inside : goal.bounds-stops-self-inside
+bounds-stops-self-inside c =
+    let a = c.self.inside in
+    rw c.as_slice-stops.ensures (slice_get_within a.stops a.at _ (found (walk_of a) (walks a c.self.invariant) a.stops refl))
+
+pub run-self-inside-requires-clause-last : goal.run-self-inside-requires-clause-last
+run-self-inside-requires-clause-last c = c.self.invariant.value
