@@ -1,12 +1,16 @@
 -- What arguments and values say, said of a parse.
-use Rattle.std.proofs.Common.{◌≡◌, inl, inr, List, [], ◌∷◌, Option, Some, option_map, sym, ap, ap₂, ◌∙◌}
-use Rattle.std.specs.Prelude.{option_and_then}
+use Rattle.std.proofs.Common.{◌≡◌, inl, inr, ℕ, List, [], ◌∷◌, Option, Some, None, option_map, refl, sym, ap, ap₂, ◌∙◌}
+use Rattle.std.specs.Prelude.{option_and_then, codes}
 use Rattle.list_laws.proofs.Options.{one_some}
 use Rattle.clap.specs.declared.parser.matches.ArgMatches.{ArgMatches}
+use Rattle.net_defs.specs.declared.homes.HomeChoice.{HomeChoice}
+use Rattle.net_defs.specs.declared.timing.Timing.{Timing}
+use Rattle.cmd_words.specs.declared.command.RunWords.{RunWords}
 use Rattle.cmd_words.specs.declared.command.WordNo.{WordNo}
 use Rattle.cmd_words.specs.Arguments.{Word, value_given}
-use Rattle.cmd_words.specs.Asked.{IsRefusal, Values, image_by, of_image, of_large, of_netlist, of_two_files, large_by, run_by, says}
-use Rattle.cmd_words.specs.code.Parses.{arguments_found, both_of, one_of, three_of, value_found, IsParsedAs}
+use Rattle.cmd_words.specs.Asked.{IsRefusal, Values, image_by, of_image, of_large, of_netlist, of_two_files, large_by, run_by, run_with, says}
+use Rattle.cmd_words.specs.code.Parses.{arguments_found, both_of, one_of, three_of, value_found, settings_by, IsParsedAs}
+use Rattle.cmd_words.specs.Settings.{timing_by, banks_by, workers_by, homes_by}
 use Rattle.cmd_words.specs.Uses.{Found}
 
 -- what words say is what a parse of them found says
@@ -64,3 +68,34 @@ says_netlist names words matches netlist is one =
 pub made_refused : {T U : Type 0} (make : T → U) (answer : Option T) (refusal : WordNo) → IsRefusal answer refusal → IsRefusal (option_map make answer) refusal
 made_refused make answer refusal (inl full) = inl full
 made_refused make answer refusal (inr usage) = inr (usage.0, ap (option_map make) usage.1)
+
+-- ---- a simulation, by its settings and its files
+
+-- what two files, the values of options and settings ask for
+abbrev pub run_of : Word → Word → Values → Timing × ℕ × ℕ × HomeChoice → RunWords
+run_of netlist stimulus value settings = record {
+  netlist = netlist;
+  stimulus = stimulus;
+  machine = value (codes "machine");
+  order = value (codes "order");
+  last = value (codes "last");
+  timing = settings.0;
+  banks = settings.1;
+  workers = settings.2;
+  homes = settings.3;
+}
+
+pub run_set : (netlist stimulus : Word) (value : Values) → run_by netlist stimulus value ≡ option_map (run_of netlist stimulus value) (settings_by value)
+run_set netlist stimulus value = go (timing_by value) (banks_by value) (workers_by value) (homes_by value) where
+  go : (timing : Option Timing) (banks workers : Option ℕ) (homes : Option HomeChoice)
+      → run_with netlist stimulus value timing banks workers homes
+      ≡ option_map (run_of netlist stimulus value) (option_and_then (λ banks. option_and_then (λ workers. option_and_then (λ homes. option_and_then (λ timing.
+      Some (timing, banks, workers, homes)) timing) homes) workers) banks)
+  go (Some timing) (Some banks) (Some workers) (Some homes) = refl
+  go (Some timing) (Some banks) (Some workers) None = refl
+  go (Some timing) (Some banks) None homes = refl
+  go (Some timing) None workers homes = refl
+  go None (Some banks) (Some workers) (Some homes) = refl
+  go None (Some banks) (Some workers) None = refl
+  go None (Some banks) None homes = refl
+  go None None workers homes = refl

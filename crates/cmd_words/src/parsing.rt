@@ -1,6 +1,6 @@
 //! The words behind the name of a command, parsed by one command of `clap`.
 
-ghost use Rattle.std.specs.Prelude.{◌≡◌, false, map, bytes_eq, option_map, MatchResult, IfOk};
+ghost use Rattle.std.specs.Prelude.{◌≡◌, false, [], map, bytes_eq, option_map, MatchResult, IfOk};
 ghost use Rattle.std.specs.String.{string_bytes};
 ghost use Rattle.clap.specs.Words.{app_of, kind_of, rule_of};
 ghost use Rattle.cmd_words.specs.Arguments.{has_name};
@@ -92,14 +92,21 @@ fn refusal(error: &Error) -> WordNo
 fn command<'a>(alloc: Global, options: &'a [&'a str]) -> Result<Command<'a>, AllocError>
     ensures { IfOk result (λ command. app_of command ≡ app_with (texts_in options.entry.now)) }
 {
-    let mut command = Command::new(alloc, "yse")
-        .no_binary_name(true)
-        .disable_help_flag(true)
-        .arg(files(alloc))?;
+    let mut command = bare(alloc)?;
     for name in options {
         command = command.arg(option(alloc, *name))?;
     }
     Ok(command)
+}
+
+/// The command without options.
+fn bare<'a>(alloc: Global) -> Result<Command<'a>, AllocError>
+    ensures { IfOk result (λ command. app_of command ≡ app_with []) }
+{
+    Command::new(alloc, "yse")
+        .no_binary_name(true)
+        .disable_help_flag(true)
+        .arg(files(alloc))
 }
 
 fn files<'a>(alloc: Global) -> Arg<'a>

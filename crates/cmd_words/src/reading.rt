@@ -1,13 +1,13 @@
 //! The reader of words: the first word picks the command, and the others are parsed by its options.
 
-ghost use Rattle.std.specs.Prelude.{◌≡◌, false, map, option_map, MatchResult, IfOk};
+ghost use Rattle.std.specs.Prelude.{◌≡◌, false, map, option_map, codes, MatchResult, IfOk};
 ghost use Rattle.std.specs.String.{string_bytes};
 ghost use Rattle.cmd_words.specs.declared.command.Command.TheVariants as command;
 ghost use Rattle.cmd_words.specs.declared.command.WordNo.TheVariants.{Memory as NoMemory};
 ghost use Rattle.cmd_words.specs.Arguments.{has_name};
 ghost use Rattle.cmd_words.specs.Asked.{Answers, asked, asked_by, says, image_by, of_two_files, of_netlist, of_one_file, of_image, of_large, run_by, large_by};
 ghost use Rattle.cmd_words.specs.Forms.{HasForm, HasNoForm, IsInRange};
-ghost use Rattle.cmd_words.specs.code.Parses.{files_id, texts_in, value_found};
+ghost use Rattle.cmd_words.specs.code.Parses.{files_id, texts_in, value_found, settings_by};
 ghost use Rattle.cmd_words.specs.Settings.{run_options, refer_options, order_options, plan_options, compile_options, exec_options, pack_options, fault_options, show_options, large_options};
 
 use crate::command::{Command, RunWords, WordNo};
@@ -15,6 +15,7 @@ use crate::options::{COMPILE, EXEC, FAULT, LARGE, ORDER, PACK, PLAN, REFER, RUN,
 use crate::parsing::{one_argument, parse, three_arguments, two_arguments, value};
 use crate::settings::{banks, cycles_of, gates_of, homes, timing, workers};
 use clap::ArgMatches;
+use net_defs::{HomeChoice, Timing};
 use seen_list::Text;
 use std::alloc::Global;
 
@@ -244,25 +245,56 @@ fn run_words(
 ) -> Result<RunWords, WordNo>
     ensures { Answers result (run_by netlist.now stimulus.now (value_found matches.now)) }
 {
-    let (Some(timing), Some(banks), Some(workers), Some(homes)) = (
-        timing(alloc, matches),
-        banks(matches),
-        workers(matches),
-        homes(matches),
-    ) else {
+    let Some((timing, banks, workers, homes)) = settings(alloc, matches) else {
         return Err(WordNo::Usage);
     };
+    let (netlist, stimulus) = argument_texts(alloc, netlist, stimulus)?;
+    let (machine, order, last) = option_texts(alloc, matches)?;
     Ok(RunWords {
-        netlist: Text::from_bytes(alloc, netlist.as_bytes())?,
-        stimulus: Text::from_bytes(alloc, stimulus.as_bytes())?,
-        machine: text(alloc, value(matches, "machine"))?,
-        order: text(alloc, value(matches, "order"))?,
-        last: text(alloc, value(matches, "last"))?,
+        netlist,
+        stimulus,
+        machine,
+        order,
+        last,
         timing,
         banks,
         workers,
         homes,
     })
+}
+
+/// What the options say that name no file.
+fn settings(alloc: Global, matches: &ArgMatches<'_>) -> Option<(Timing, u32, u32, HomeChoice)>
+    ensures { result ≡ settings_by (value_found matches.now) }
+{
+    let banks = banks(matches)?;
+    let workers = workers(matches)?;
+    let homes = homes(matches)?;
+    let timing = timing(alloc, matches)?;
+    Some((timing, banks, workers, homes))
+}
+
+/// The names of two files as texts.
+fn argument_texts(alloc: Global, netlist: &str, stimulus: &str) -> Result<(Text, Text), WordNo>
+    ensures { MatchResult result (λ texts. (texts.0 ≡ netlist.now) × (texts.1 ≡ stimulus.now)) (λ no. no ≡ NoMemory) }
+{
+    let netlist = Text::from_bytes(alloc, netlist.as_bytes())?;
+    let stimulus = Text::from_bytes(alloc, stimulus.as_bytes())?;
+    Ok((netlist, stimulus))
+}
+
+/// The names of files that options give, of a machine, an order and a list of gates.
+fn option_texts(
+    alloc: Global,
+    matches: &ArgMatches<'_>,
+) -> Result<(Option<Text>, Option<Text>, Option<Text>), WordNo>
+    ensures { MatchResult result (λ texts. (texts.0 ≡ value_found matches.now (codes "machine"))
+        × (texts.1 ≡ value_found matches.now (codes "order")) × (texts.2 ≡ value_found matches.now (codes "last"))) (λ no. no ≡ NoMemory) }
+{
+    let machine = text(alloc, value(matches, "machine"))?;
+    let order = text(alloc, value(matches, "order"))?;
+    let last = text(alloc, value(matches, "last"))?;
+    Ok((machine, order, last))
 }
 
 /// What three files and the values of options ask for.
@@ -275,11 +307,9 @@ fn image_words(
 ) -> Result<Command, WordNo>
     ensures { Answers result (image_by netlist.now image.now stimulus.now (value_found matches.now)) }
 {
+    let image = Text::from_bytes(alloc, image.as_bytes())?;
     let words = run_words(alloc, netlist, stimulus, matches)?;
-    Ok(Command::Exec {
-        words,
-        image: Text::from_bytes(alloc, image.as_bytes())?,
-    })
+    Ok(Command::Exec { words, image })
 }
 
 /// What two numbers and the values of options ask for.

@@ -1,5 +1,5 @@
 -- The parse of the words behind the name of a command by one command of `clap`.
-use Rattle.std.specs.Prelude.{◌≡◌, ◌==◌, ◌&&◌, Bool, true, false, not, List, [], ◌∷◌, map, if◌then◌else◌, Option, Some, None, option_map, unwrap_or, codes, bytes_eq}
+use Rattle.std.specs.Prelude.{◌≡◌, ◌==◌, ◌&&◌, ℕ, Bool, true, false, not, List, [], ◌∷◌, map, if◌then◌else◌, Option, Some, None, option_map, option_and_then, unwrap_or, codes, bytes_eq}
 use Rattle.std.specs.Borrow.{Bor}
 use Rattle.clap.specs.Matches.{found_of, first_value, matched_of, raw_values}
 use Rattle.clap.specs.Simple.{App, new_app, new_rule, on_top}
@@ -9,10 +9,13 @@ use Rattle.clap.specs.declared.builder.value_parser.ValueParser.TheVariants.{Non
 use Rattle.clap.specs.declared.error.kind.ErrorKind.{ErrorKind}
 use Rattle.clap.specs.declared.error.kind.ErrorKind.TheVariants.{OutOfMemory}
 use Rattle.clap.specs.declared.parser.matches.ArgMatches.{ArgMatches}
+use Rattle.net_defs.specs.declared.homes.HomeChoice.{HomeChoice}
+use Rattle.net_defs.specs.declared.timing.Timing.{Timing}
 use Rattle.cmd_words.specs.declared.command.WordNo.{WordNo}
 use Rattle.cmd_words.specs.declared.command.WordNo.TheVariants.{Usage, Memory}
 use Rattle.cmd_words.specs.Arguments.{Word, dashes, value_given}
 use Rattle.cmd_words.specs.Asked.{Values}
+use Rattle.cmd_words.specs.Settings.{timing_by, banks_by, workers_by, homes_by}
 use Rattle.cmd_words.specs.Uses.{Found, parsed}
 
 -- ---- the command
@@ -62,6 +65,12 @@ arguments_found matches = unwrap_or (option_map raw_values (matched_of (found_of
 -- the value of an option
 abbrev pub value_found : ArgMatches → Values
 value_found matches name = if bytes_eq name files_id then None else first_value (found_of matches) name
+
+-- what the options of a simulation say that name no file
+abbrev pub settings_by : Values → Option (Timing × ℕ × ℕ × HomeChoice)
+settings_by value =
+    option_and_then (λ banks. option_and_then (λ workers. option_and_then (λ homes. option_and_then (λ timing.
+    Some (timing, banks, workers, homes)) (timing_by value)) (homes_by value)) (workers_by value)) (banks_by value)
 
 -- the matches hold what the words give
 pub record IsParsedAs (names words : List Word) (matches : ArgMatches) : Type 0 where
