@@ -6,7 +6,6 @@ use Rattle.image_defs.specs.declared.image.LinkOut.{LinkOut}
 use Rattle.image_defs.specs.declared.image.PortImage.{PortImage}
 use Rattle.image_defs.specs.Places.{IsPort}
 use Rattle.image_defs.specs.Ports.{value_in as port_value}
-use Rattle.event_defs.specs.declared.place.Action.TheVariants.{Take, Tell}
 use Rattle.event_defs.specs.Next.{IsNext}
 use Rattle.port_walk.specs.declared.stops.Stop.{Stop}
 use Rattle.port_walk.specs.declared.stops.StopKind.TheVariants.{Send, Receive, End}
