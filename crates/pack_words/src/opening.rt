@@ -1,6 +1,6 @@
 //! Making a packed crossbar and its passes.
 
-ghost use Rattle.std.specs.Prelude.{IfOk, IfSome, length, replicate, ◌++◌, ◌+◌, ◌<◌, ◌^◌, ◌≡◌};
+ghost use Rattle.std.specs.Prelude.{IfOk, IfSome, length, replicate, true, ◌++◌, ◌+◌, ◌<◌, ◌^◌, ◌≡◌};
 ghost use Rattle.image_defs.specs.WellFormed.{IsWellFormed};
 ghost use Rattle.event_defs.specs.Row.{send_count};
 ghost use Rattle.send_row.specs.Sources.{AreFirsts};
@@ -115,12 +115,39 @@ fn deal(
     let mut template = template;
     let mut passes = List::new(alloc);
     'ports: for p in 0..image.ports.len() as u32 {
-        let Some(seat) = claim(bar, &mut template, p) else {
+        if !deal_one(alloc, bar, image, firsts, &mut template, p, &mut passes)? {
             return Ok(None);
-        };
-        passes.push(pass_of(alloc, bar, image, firsts, p, seat)?)?;
+        }
     }
     Ok(Some(passes))
+}
+
+/// Adds the pass of a port to those of the ports before it, and tells whether the port was not claimed before.
+fn deal_one(
+    alloc: Global,
+    bar: &PackBar,
+    image: &Image,
+    firsts: &[u32],
+    template: &mut Seat<(), PackView>,
+    p: u32,
+    passes: &mut List<PackPass>,
+) -> Result<bool, Memory>
+    requires fits { IsWellFormed image.now }
+    requires image { image.now ≡ bar.now.image }
+    requires firsts { AreFirsts image.now (length image.now.ports + 1) firsts.now }
+    requires there { p < length image.now.ports }
+    requires template { IsTemplate bar.now template.old }
+    requires before { AreFirstPasses bar.now p passes.old }
+    ensures template { IsTemplate bar.now template.new }
+    ensures dealt { IfOk result (λ dealt. dealt ≡ true → AreFirstPasses bar.now (p + 1) passes.new) }
+{
+    match claim(bar, template, p) {
+        Some(seat) => {
+            passes.push(pass_of(alloc, bar, image, firsts, p, seat)?)?;
+            Ok(true)
+        }
+        None => Ok(false),
+    }
 }
 
 /// The words and the passes of all ports, or `None` where some port was claimed before.
