@@ -1,33 +1,18 @@
 use Rattle.std.proofs.Common.{◌≡◌, ◌↔◌, ◌∙◌, ◌+◌, ◌*◌, ◌≤◌, min, true, nat_le, if◌then◌else◌, length, get_or, ap, subst, sym, refl, arith}
 use Rattle.std.proofs.lemmas.Bool.{leb-true}
-use Rattle.limits.specs.declared.TheConstants.{MAX_SLOTS}
-use Rattle.image_defs.specs.Places.{Each, item_slots, in_slots, out_slots}
+use Rattle.image_defs.specs.Places.{item_slots}
 use Rattle.image_defs.specs.Ports.{PortView, last_turn}
 use Rattle.port_walk.specs.Kinds.{view_in}
-use Rattle.port_walk.specs.Rows.{HasFewReaders, AreReaders}
-use Rattle.port_walk.specs.Stops.{ArePlaces}
 use Rattle.port_walk.specs.Placed.{block_end}
 use Rattle.port_walk.proofs.BlockLemmas.{end_low}
 use Rattle.port_walk.proofs.KindLemmas.{seat_there}
 use Rattle.port_walk.proofs.MoveLemmas.{can_enter, kept_fresh, first_found}
-use Rattle.port_walk.proofs.WalkLemmas.{no_stop, out_places, in_places, few_sends, few_readers, stops_read}
+use Rattle.port_walk.proofs.WalkLemmas.{no_stop}
 use Rattle.port_walk.proofs.any_port.AnyPort.new.Goals as goal
 
-pub stops_of-requires-clause-outs : goal.stops_of-requires-clause-outs
-stops_of-requires-clause-outs c =
-    let image = c.args.image.now in
-    let seat = c.index-as_slice-port.result in
-    let is = seat_there image c.args.port seat c.as_slice.result.now c.requires.there c.as_slice.ensures c.index-as_slice-port.is in
-    let good = c.requires.image.ports c.args.port seat is in
-    subst (λ xs. ArePlaces image.slots (out_slots xs)) (sym c.as_slice-3.ensures) (out_places image c.args.port seat good)
-
-pub stops_of-requires-clause-ins : goal.stops_of-requires-clause-ins
-stops_of-requires-clause-ins c =
-    let image = c.args.image.now in
-    let seat = c.index-as_slice-port.result in
-    let is = seat_there image c.args.port seat c.as_slice.result.now c.requires.there c.as_slice.ensures c.index-as_slice-port.is in
-    let good = c.requires.image.ports c.args.port seat is in
-    subst (λ xs. ArePlaces image.slots (in_slots xs)) (sym c.as_slice-4.ensures) (in_places image c.args.port seat good)
+pub lists_of-requires-clause-seat : goal.lists_of-requires-clause-seat
+lists_of-requires-clause-seat c =
+    (c.args.port, seat_there c.args.image.now c.args.port c.index-as_slice-port.result c.as_slice.result.now c.requires.there c.as_slice.ensures c.index-as_slice-port.is)
 
 pub enter-value-requires : goal.enter-value-requires
 enter-value-requires c =
@@ -36,18 +21,18 @@ enter-value-requires c =
     let is = seat_there image c.args.port seat c.as_slice.result.now c.requires.there c.as_slice.ensures c.index-as_slice-port.is in
     let good = c.requires.image.ports c.args.port seat is in
     let slots = c.in_ok-slots.slots in
-    let stops = c.in_ok-stops.stops in
-    let slots_are : slots ≡ item_slots seat.work = c.in_ok-slots.ensures in
-    let stops_are = stops_read image.slots slots c.as_slice-2.result.now seat.outs c.as_slice-3.result.now seat.ins c.as_slice-4.result.now stops c.as_slice-2.ensures c.as_slice-3.ensures c.as_slice-4.ensures c.in_ok-stops.ensures in
-    let first = get_or c.as_slice-7.result.now 0 no_stop in
-    let there = first_found image c.args.port seat good is slots stops slots_are stops_are c.as_slice-7.result.now c.as_slice-7.ensures in
+    let stops = c.in_ok-slots.stops in
+    let slots_are : slots ≡ item_slots seat.work = c.in_ok-slots.ensures.0 in
+    let stops_are = c.in_ok-slots.ensures.1 in
+    let first = get_or c.as_slice-3.result.now 0 no_stop in
+    let there = first_found image c.args.port seat good is slots stops slots_are stops_are c.as_slice-3.result.now c.as_slice-3.ensures in
     let view : PortView = view_in c.in_ok-kind.kind in
     let until_is : c.last_turn-until.result ≡ block_end image c.args.stim.now 0 c.args.window = c.last_turn-until.ensures ∙ ap (λ n. image.units * min (0 + c.args.window) n) c.cycles-cycles.ensures in
     let begins = c.in_ok-kind.ensures.view in
-    can_enter image c.args.port seat good is slots stops slots_are stops_are view c.as_slice-6.result.now first (nat_le 1 c.last_turn-until.result)
+    can_enter image c.args.port seat good is slots stops slots_are stops_are view c.as_slice-2.result.now first (nat_le 1 c.last_turn-until.result)
     (ap (λ (v : PortView). v.image) begins) (ap (λ (v : PortView). v.port) begins) (ap (λ (v : PortView). v.begun) begins) (ap (λ (v : PortView). v.executed) begins)
     (λ runs. subst (λ (v : PortView). v.turn ≤ last_turn v) (sym begins) (omega (arith, leb-true 1 c.last_turn-until.result runs, until_is, end_low image c.args.stim.now 0 c.args.window)))
-    c.as_slice-6.ensures there
+    c.as_slice-2.ensures there
 
 pub invariant_of-result : goal.invariant_of-result
 invariant_of-result c =
@@ -56,11 +41,11 @@ invariant_of-result c =
     let is = seat_there image c.args.port seat c.as_slice.result.now c.requires.there c.as_slice.ensures c.index-as_slice-port.is in
     let good = c.requires.image.ports c.args.port seat is in
     let slots = c.in_ok-slots.slots in
-    let stops = c.in_ok-stops.stops in
-    let slots_are : slots ≡ item_slots seat.work = c.in_ok-slots.ensures in
-    let stops_are = stops_read image.slots slots c.as_slice-2.result.now seat.outs c.as_slice-3.result.now seat.ins c.as_slice-4.result.now stops c.as_slice-2.ensures c.as_slice-3.ensures c.as_slice-4.ensures c.in_ok-stops.ensures in
-    let first = get_or c.as_slice-7.result.now 0 no_stop in
-    let there = first_found image c.args.port seat good is slots stops slots_are stops_are c.as_slice-7.result.now c.as_slice-7.ensures in
+    let stops = c.in_ok-slots.stops in
+    let slots_are : slots ≡ item_slots seat.work = c.in_ok-slots.ensures.0 in
+    let stops_are = c.in_ok-slots.ensures.1 in
+    let first = get_or c.as_slice-3.result.now 0 no_stop in
+    let there = first_found image c.args.port seat good is slots stops slots_are stops_are c.as_slice-3.result.now c.as_slice-3.ensures in
     let until = c.last_turn-until.result in
     let until_is : until ≡ block_end image c.args.stim.now 0 c.args.window = c.last_turn-until.ensures ∙ ap (λ n. image.units * min (0 + c.args.window) n) c.cycles-cycles.ensures in
     kept_fresh _ (record {
@@ -77,7 +62,7 @@ invariant_of-result c =
       last = omega arith;
       slots = slots_are;
       stops = stops_are;
-      readers = subst (λ xs. AreReaders (length xs) xs c.in_ok-readers.readers) c.as_slice-5.ensures c.in_ok-readers.ensures;
+      readers = c.in_ok-slots.ensures.2;
       at = refl;
       sent = refl;
       took = refl;
@@ -87,27 +72,3 @@ invariant_of-result c =
           ∙ ap (λ (view : PortView). record view { begun = nat_le 1 until; executed = if nat_le 1 until then first.items else 0 }) c.in_ok-kind.ensures.view;
       value = c.enter-value.ensures.last;
     })
-
-pub stops_of-requires-clause-items : goal.stops_of-requires-clause-items
-stops_of-requires-clause-items c =
-    let image = c.args.image.now in
-    let seat = c.index-as_slice-port.result in
-    let is = seat_there image c.args.port seat c.as_slice.result.now c.requires.there c.as_slice.ensures c.index-as_slice-port.is in
-    let good = c.requires.image.ports c.args.port seat is in
-    let slots_are : c.as_slice-2.result.now ≡ item_slots seat.work = c.as_slice-2.ensures ∙ c.in_ok-slots.ensures in
-    subst (ArePlaces image.slots) (sym slots_are) (record { rising = good.items; low = good.item_slots_within })
-
-pub readers_of-requires-clause-few : goal.readers_of-requires-clause-few
-readers_of-requires-clause-few c =
-    let image = c.args.image.now in
-    let seat = c.index-as_slice-port.result in
-    let is = seat_there image c.args.port seat c.as_slice.result.now c.requires.there c.as_slice.ensures c.index-as_slice-port.is in
-    let few = few_sends image c.requires.image c.args.port seat is in
-    subst (λ xs. length xs ≤ MAX_SLOTS) (sym c.as_slice-5.ensures) few
-
-pub readers_of-requires-clause-readers : goal.readers_of-requires-clause-readers
-readers_of-requires-clause-readers c =
-    let image = c.args.image.now in
-    let seat = c.index-as_slice-port.result in
-    let is = seat_there image c.args.port seat c.as_slice.result.now c.requires.there c.as_slice.ensures c.index-as_slice-port.is in
-    subst (Each HasFewReaders) (sym c.as_slice-5.ensures) (few_readers image c.requires.image c.args.port seat is)
