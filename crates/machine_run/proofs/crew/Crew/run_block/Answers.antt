@@ -1,7 +1,8 @@
-use Rattle.std.proofs.Common.{subst, sym}
+use Rattle.std.proofs.Common.{ap, ap₂, length, min, subst, sym, ℕ, ◌+◌, ◌∙◌}
 use Rattle.crew_run.specs.Lending.{AllCanRunWith, AllHaveRunWith}
 use Rattle.port_run.specs.contracts.seated.SeatedStepper.TheImpl as seated
-use Rattle.machine_run.specs.Kept.{IsKept}
+use Rattle.machine_run.specs.Crews.{at_block_end}
+use Rattle.machine_run.specs.Kept.{IsKept, view_of}
 use Rattle.machine_run.proofs.KeptLemmas.{back, can_run_block, can_tell_at_end, in_place_at_end, kept_at_end, visits_at_end}
 use Rattle.machine_run.proofs.crew.Crew.run_block.Goals as goal
 
@@ -30,3 +31,10 @@ pub returns-clause-kept : goal.returns-clause-kept
 returns-clause-kept g c =
     let run = subst (λ ws. AllHaveRunWith seated.ghosts g.G.Gate ws c.args.gates.now c.run_with.new.workers c.run_with.new.gates) c.as_mut_slice.ensures.value c.run_with.ensures in
     in_place_at_end c.self.inside c.self.invariant g.G.Gate c.args.gates.now c.args.self.now c.self.view_is c.requires.enough c.run_with.new.workers c.run_with.new.gates run c.block_end-self-inside.result c.block_end-self-inside.ensures
+
+pub returns-clause-run : goal.returns-clause-run
+returns-clause-run g c =
+    let run = subst (λ ws. AllHaveRunWith seated.ghosts g.G.Gate ws c.args.gates.now c.run_with.new.workers c.run_with.new.gates) c.as_mut_slice.ensures.value c.run_with.ensures in
+    ◌∙◌ {b = at_block_end (view_of c.self.inside)}
+    (ap₂ (λ (n r : ℕ). record (view_of c.self.inside) { workers = n; rows = r }) (ap length (back c.self.inside.workers c.run_with.new.workers run.worker_count) ∙ run.worker_count)
+    (c.block_end-self-inside.ensures ∙ ap (min (c.self.inside.first_row + c.self.inside.window)) c.self.invariant.cycles)) (ap at_block_end c.self.view_is)
