@@ -1,6 +1,8 @@
+use Rattle.std.proofs.lemmas.Result.{err_from_is_err_and}
+use Rattle.list_laws.proofs.Ranges.{replicate_read}
 use Rattle.std.proofs.Common.{◌≡◌, ◌∙◌, ◌+◌, ◌-◌, ◌<◌, ◌≤◌, length, get_or, refl, sym, ap, arith, Some}
-use Rattle.std.proofs.lemmas.List.{length-set}
-use Rattle.plan_defs.specs.Picks.{bits_of}
+use Rattle.std.proofs.lemmas.List.{length-replicate, length-set}
+use Rattle.plan_defs.specs.Picks.{bits_before, bits_of}
 use Rattle.plan_defs.proofs.UserLemmas.{read_at}
 use Rattle.home_pick.proofs.FillLemmas.{bits_read, bits_few}
 use Rattle.plan_text.proofs.FigureLemmas.{bits_grown, bits_small}
@@ -34,3 +36,42 @@ memories-preserved c =
       whole = c.as_slice-blocks.ensures;
       homes_whole = refl;
     })))
+
+pub returns-in_err-counts-clause-shape : goal.returns-in_err-counts-clause-shape
+returns-in_err-counts-clause-shape c = let p = err_from_is_err_and c.from_residual.result c.from_residual.ensures.1 in rw p.1 tt
+
+pub returns-in_err-counts-clause-counts : goal.returns-in_err-counts-clause-counts
+returns-in_err-counts-clause-counts c = let p = err_from_is_err_and c.from_residual.result c.from_residual.ensures.1 in rw p.1 tt
+
+pub memories-init : goal.memories-init
+memories-init c = record {
+  shape = ap length c.in_ok-counts.ensures ∙ length-replicate c.args.homes.now.array 0;
+  counts = λ a low. ap (λ counts. get_or counts a 0) c.in_ok-counts.ensures ∙ replicate_read c.args.homes.now.array a 0;
+  small = λ a low.
+      let none : get_or c.in_ok-counts.counts a 0 ≡ 0 = ap (λ counts. get_or counts a 0) c.in_ok-counts.ensures ∙ replicate_read c.args.homes.now.array a 0 in
+      omega (arith, none);
+  whole = c.as_slice-blocks.ensures;
+  homes_whole = c.as_slice-ports.ensures;
+}
+
+pub bounds-ports-m : goal.bounds-ports-m
+bounds-ports-m c = omega (arith, ap length c.as_slice-ports.ensures, ap length c.as_slice-blocks.ensures, c.requires.homes.blocks)
+
+pub overflow_sub-a : goal.overflow_sub-a
+overflow_sub-a c =
+    let at = c.requires.homes.memories c.memories.m (omega (arith, ap length c.as_slice-blocks.ensures)) in
+    rw c.as_slice-ports.ensures at.0
+
+pub bounds-as_slice-a : goal.bounds-as_slice-a
+bounds-as_slice-a c =
+    let at = c.requires.homes.memories c.memories.m (omega (arith, ap length c.as_slice-blocks.ensures)) in
+    rw (c.as_slice.ensures, c.as_slice-ports.ensures) (omega (arith, at.0, at.1, c.memories.invariant.shape))
+
+pub returns-clause-shape : goal.returns-clause-shape
+returns-clause-shape c = c.memories.invariant.shape
+
+pub returns-clause-counts : goal.returns-clause-counts
+returns-clause-counts c a low =
+    let all : c.memories.m ≡ length c.args.nodes.now.blocks = omega (arith, ap length c.as_slice-blocks.ensures) in
+    c.memories.invariant.counts a (rw c.memories.invariant.shape low)
+    ∙ ap (λ m. bits_before c.args.nodes.now c.args.homes.now.blocks m (c.args.homes.now.logic + a)) all

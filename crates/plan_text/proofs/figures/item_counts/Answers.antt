@@ -1,5 +1,9 @@
 use Rattle.std.proofs.Common.{◌∙◌, ◌+◌, ◌<◌, length, get_or, refl, ap, arith}
-use Rattle.std.proofs.lemmas.List.{length-set}
+use Rattle.std.specs.Prelude.{◌==◌}
+use Rattle.std.specs.List.{count_by}
+use Rattle.list_laws.proofs.Ranges.{replicate_read}
+use Rattle.std.proofs.lemmas.Result.{err_from_is_err_and}
+use Rattle.std.proofs.lemmas.List.{length-replicate, length-set, take_all}
 use Rattle.plan_defs.specs.Homes.{ports_of}
 use Rattle.plan_defs.proofs.PortLemmas.{home_port}
 use Rattle.plan_text.proofs.FigureLemmas.{raised}
@@ -20,3 +24,27 @@ items-preserved c =
       counts = λ port inside. raised c.args.homes.now.items c.items.counts c.items.i (omega arith) (rw c.items.invariant.shape low) c.items.invariant.counts port (rw (← length-set c.items.counts (get_or c.args.homes.now.items c.items.i 0) (get_or c.items.counts (get_or c.args.homes.now.items c.items.i 0) 0 + 1)) inside);
       whole = refl;
     }))
+
+pub returns-in_err-counts-clause-shape : goal.returns-in_err-counts-clause-shape
+returns-in_err-counts-clause-shape c = let p = err_from_is_err_and c.from_residual.result c.from_residual.ensures.1 in rw p.1 tt
+
+pub returns-in_err-counts-clause-counts : goal.returns-in_err-counts-clause-counts
+returns-in_err-counts-clause-counts c = let p = err_from_is_err_and c.from_residual.result c.from_residual.ensures.1 in rw p.1 tt
+
+pub items-init : goal.items-init
+items-init c = record {
+  shape = ap length c.in_ok-counts.ensures ∙ length-replicate (ports_of c.args.homes.now) 0;
+  counts = λ port low. ap (λ counts. get_or counts port 0) c.in_ok-counts.ensures ∙ replicate_read (ports_of c.args.homes.now) port 0;
+  whole = c.as_slice-ports.ensures;
+}
+
+pub bounds-ports-i : goal.bounds-ports-i
+bounds-ports-i c = omega (arith, ap length c.as_slice-ports.ensures, c.requires.homes.items)
+
+pub returns-clause-shape : goal.returns-clause-shape
+returns-clause-shape c = c.items.invariant.shape
+
+pub returns-clause-counts : goal.returns-clause-counts
+returns-clause-counts c port low =
+    c.items.invariant.counts port (rw c.items.invariant.shape low)
+    ∙ ap (count_by (λ home. home == port)) (take_all c.items.i c.args.homes.now.items (omega (arith, c.requires.homes.items)))
