@@ -96,7 +96,7 @@ pub run_block-requires-clause-enough : goal.run_block-requires-clause-enough
 run_block-requires-clause-enough g c κs within = subst (λ (x : CrewView). x.workers ≤ length c.args.gates.now) (sym c.in_ok-crew.ensures) c.requires.enough
 
 pub fill_rows-requires-clause-none : goal.fill_rows-requires-clause-none
-fill_rows-requires-clause-none g c = 
+fill_rows-requires-clause-none g c =
     c.host.ensures.first_row ∙ (ap (λ (x : CrewView). x.first_row) c.run_block.ensures.run ∙ ap (λ (x : CrewView). x.first_row) c.in_ok-crew.ensures)
 
 pub returns-clause-refused : goal.returns-clause-refused

@@ -15,7 +15,7 @@ invariant_of-self g c =
     (kept_in_next c.self.inside c.self.invariant c.args.self.now c.self.view_is c.requires.done c.requires.more c.go_on_all.new.workers moved)
 
 pub returns : goal.returns
-returns g c = 
+returns g c =
     let moved = subst (λ ws. AreMoved HasGoneOn ws c.go_on_all.new.workers) c.as_mut_slice.ensures.value c.go_on_all.ensures in
     let a = c.self.inside in
     ap (λ (n : ℕ). record (view_of a) { workers = n; first_row = a.rows }) (ap length (back a.workers c.go_on_all.new.workers moved.0) ∙ moved.0)
