@@ -11,3 +11,6 @@ returns-in-None c = no_slot_by c.args.one.now c.args.nodes.now c.args.claims.now
 
 pub bounds-slots-place : goal.bounds-slots-place
 bounds-slots-place c = let low = slice_get_within c.args.claims.now c.in-Some.place c.in-Some.ensures.x c.in-Some.ensures.is in omega (arith, low, c.requires.as_many)
+
+pub first_other-requires : goal.first_other-requires
+first_other-requires c = c.requires.one
