@@ -1,10 +1,11 @@
 use Rattle.std.proofs.Common.{◌<◌, get_or, arith, length, subst, sym}
+use Rattle.std.proofs.lemmas.Result.{err_from_is_err_and}
 use Rattle.node_defs.specs.declared.items.Item.TheVariants.{Input}
 use Rattle.node_defs.specs.WellFormed.{NamesParts}
 use Rattle.image_match.specs.Matches.{claims_of}
 use Rattle.image_build.specs.code.Layouts.{IsBitFor}
 use Rattle.image_build.specs.code.Plans.{IsBitAt}
-use Rattle.image_build.proofs.GrowLemmas.{made_next}
+use Rattle.image_build.proofs.GrowLemmas.{made_all, made_next}
 use Rattle.image_build.proofs.PlannedLemmas.{at_place, item_at, bit_at_array, bit_right}
 use Rattle.image_build.proofs.array.bits_of.Goals as goal
 
@@ -28,3 +29,21 @@ items-preserved c =
     (bit_right c.args.nodes.now c.args.homes.now c.args.plan.now c.requires.planned c.args.memories.now c.args.port (get_or c.args.items.now c.items.k 0) (get_or c.as_slice-list.result.now (get_or c.args.items.now c.items.k 0) (Input 0)) c.bit_of.result c.requires.memories
     (at_place c.args.nodes.now c.args.homes.now c.args.plan.now.slots c.args.port c.args.items.now c.items.k 0 c.requires.items c.items-test.true) there
     (subst (λ places. IsBitAt c.args.plan.now.slots places (get_or c.args.items.now c.items.k 0) (get_or c.as_slice-list.result.now (get_or c.args.items.now c.items.k 0) (Input 0)) c.bit_of.result) c.as_slice-places.ensures c.bit_of.ensures)))
+
+pub returns-in_err-push : goal.returns-in_err-push
+returns-in_err-push c = let p = err_from_is_err_and c.from_residual.result c.from_residual.ensures.1 in rw p.1 tt
+
+pub bounds-list-x : goal.bounds-list-x
+bounds-list-x c =
+    subst (λ list. get_or c.args.items.now c.items.k 0 < length list) (sym c.as_slice-list.ensures)
+    (at_place c.args.nodes.now c.args.homes.now c.args.plan.now.slots c.args.port c.args.items.now c.items.k 0 c.requires.items c.items-test.true).0
+
+pub bit_of-requires-clause-within : goal.bit_of-requires-clause-within
+bit_of-requires-clause-within c =
+    let at = (at_place c.args.nodes.now c.args.homes.now c.args.plan.now.slots c.args.port c.args.items.now c.items.k 0 c.requires.items c.items-test.true) in
+    omega (arith, at.0, c.requires.planned.first_fit.slots.items)
+
+pub returns : goal.returns
+returns c =
+    made_all c.args.nodes.now (IsBitFor c.args.plan.now.slots (claims_of c.args.memories.now.lists c.args.port)) c.args.items.now c.items.k c.items.outs
+    (omega arith) c.items.invariant

@@ -1,4 +1,5 @@
-use Rattle.std.proofs.Common.{get_or, arith}
+use Rattle.std.proofs.Common.{get_or, arith, length, subst, sym, ◌<◌}
+use Rattle.std.proofs.lemmas.Result.{err_from_is_err_and}
 use Rattle.node_defs.specs.declared.items.Item.TheVariants.{Input}
 use Rattle.image_build.proofs.PlannedLemmas.{at_place, item_at, computed_at, place_few}
 use Rattle.image_build.proofs.TaskLemmas.{tasks_more}
@@ -39,3 +40,17 @@ items-preserved c =
     (get_or c.as_slice-list.result.now (get_or c.args.items.now c.items.k 0) (Input 0)) c.in_ok-task.task c.items.invariant c.items-test.true
     (item_at c.args.nodes.now c.args.homes.now c.args.plan.now c.requires.planned c.args.port c.args.items.now c.items.k 0 c.as_slice-list.result.now (Input 0) c.requires.items c.items-test.true c.as_slice-list.ensures)
     c.in_ok-task.ensures.task c.task_of.new.shelf.different c.in_ok-task.ensures.shelf)
+
+pub returns-in_err-task : goal.returns-in_err-task
+returns-in_err-task c = let p = err_from_is_err_and c.from_residual.result c.from_residual.ensures.1 in rw p.1 tt
+
+pub returns-in_err-push : goal.returns-in_err-push
+returns-in_err-push c = let p = err_from_is_err_and c.from_residual-in_err-push.result c.from_residual-in_err-push.ensures.1 in rw p.1 tt
+
+pub bounds-list-x : goal.bounds-list-x
+bounds-list-x c =
+    subst (λ list. get_or c.args.items.now c.items.k 0 < length list) (sym c.as_slice-list.ensures)
+    (at_place c.args.nodes.now c.args.homes.now c.args.plan.now.slots c.args.port c.args.items.now c.items.k 0 c.requires.items c.items-test.true).0
+
+pub task_of-requires-clause-as_long : goal.task_of-requires-clause-as_long
+task_of-requires-clause-as_long c = omega (arith, c.requires.planned.housed.items, c.requires.planned.first_fit.slots.items)
