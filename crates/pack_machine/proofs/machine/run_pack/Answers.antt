@@ -1,9 +1,11 @@
 -- The crew can run, and after its run the host has made all turns and the gates were told of them.
-use Rattle.std.proofs.Common.{ap, arith, drop, length, subst, sym, ◌∙◌, ◌≡◌}
+use Rattle.std.proofs.Common.{ap, arith, drop, length, refl, subst, sym, ◌∙◌, ◌≡◌}
 use Rattle.std.proofs.lemmas.List.{take_at}
+use Rattle.std.proofs.lemmas.Result.{err_from_is_err_and}
 use Rattle.crew_run.specs.Lending.{AllCanRunWith, AllHaveRunWith}
 use Rattle.image_defs.specs.declared.image.Image.{Image}
 use Rattle.stim_text.specs.Lanes.{AreLanes}
+use Rattle.machine_run.proofs.TurnLemmas.{in_place_none}
 use Rattle.pack_run.specs.contracts.seated.PackSeatedStepper.TheImpl as seated
 use Rattle.pack_machine.specs.Shown.{AreLanesShown}
 use Rattle.pack_machine.specs.code.Shown.{EndsWithHost, HaveRoom, IsHostAtEnd}
@@ -56,3 +58,75 @@ pub fill_lanes-requires-clause-room : goal.fill_lanes-requires-clause-room
 fill_lanes-requires-clause-room g c =
     subst (λ (x : Image). HaveRoom x c.args.lanes.now c.as_mut_slice-2.result.now) (sym c.host.ensures.image_is)
     (subst (HaveRoom c.args.image.now c.args.lanes.now) (sym c.as_mut_slice-2.ensures.value) c.in_ok-rows.ensures)
+
+pub returns-in_err-bar-clause-rows : goal.returns-in_err-bar-clause-rows
+returns-in_err-bar-clause-rows g c = let p = err_from_is_err_and c.from_residual.result c.from_residual.ensures.1 in rw p.1 tt
+
+pub returns-in_err-bar-clause-visits : goal.returns-in_err-bar-clause-visits
+returns-in_err-bar-clause-visits g c = let p = err_from_is_err_and c.from_residual.result c.from_residual.ensures.1 in rw p.1 tt
+
+pub returns-in_err-bar-clause-refused : goal.returns-in_err-bar-clause-refused
+returns-in_err-bar-clause-refused g c = let p = err_from_is_err_and c.from_residual.result c.from_residual.ensures.1 in rw p.1 refl
+
+pub returns-in_err-bar-clause-kept : goal.returns-in_err-bar-clause-kept
+returns-in_err-bar-clause-kept g c = in_place_none c.args.gates.now
+
+pub returns-in_err-rows-clause-rows : goal.returns-in_err-rows-clause-rows
+returns-in_err-rows-clause-rows g c = let p = err_from_is_err_and c.from_residual-in_err-rows.result c.from_residual-in_err-rows.ensures.1 in rw p.1 tt
+
+pub returns-in_err-rows-clause-visits : goal.returns-in_err-rows-clause-visits
+returns-in_err-rows-clause-visits g c = let p = err_from_is_err_and c.from_residual-in_err-rows.result c.from_residual-in_err-rows.ensures.1 in rw p.1 tt
+
+pub returns-in_err-rows-clause-refused : goal.returns-in_err-rows-clause-refused
+returns-in_err-rows-clause-refused g c = let p = err_from_is_err_and c.from_residual-in_err-rows.result c.from_residual-in_err-rows.ensures.1 in rw p.1 refl
+
+pub returns-in_err-rows-clause-kept : goal.returns-in_err-rows-clause-kept
+returns-in_err-rows-clause-kept g c = in_place_none c.args.gates.now
+
+pub returns-in_err-crew-clause-rows : goal.returns-in_err-crew-clause-rows
+returns-in_err-crew-clause-rows g c = let p = err_from_is_err_and c.from_residual-in_err-crew.result c.from_residual-in_err-crew.ensures.1 in rw p.1 tt
+
+pub returns-in_err-crew-clause-visits : goal.returns-in_err-crew-clause-visits
+returns-in_err-crew-clause-visits g c = let p = err_from_is_err_and c.from_residual-in_err-crew.result c.from_residual-in_err-crew.ensures.1 in rw p.1 tt
+
+pub returns-in_err-crew-clause-refused : goal.returns-in_err-crew-clause-refused
+returns-in_err-crew-clause-refused g c = let p = err_from_is_err_and c.from_residual-in_err-crew.result c.from_residual-in_err-crew.ensures.1 in rw p.1 refl
+
+pub returns-in_err-crew-clause-kept : goal.returns-in_err-crew-clause-kept
+returns-in_err-crew-clause-kept g c = in_place_none c.args.gates.now
+
+pub make-requires-clause-image : goal.make-requires-clause-image
+make-requires-clause-image g c = c.requires.image
+
+pub make-requires-clause-lanes : goal.make-requires-clause-lanes
+make-requires-clause-lanes g c = c.requires.lanes
+
+pub blank_lanes-requires-clause-fits : goal.blank_lanes-requires-clause-fits
+blank_lanes-requires-clause-fits g c = c.requires.image
+
+pub workers_of-requires-clause-fits : goal.workers_of-requires-clause-fits
+workers_of-requires-clause-fits g c = c.requires.image
+
+pub blank_lanes-requires-clause-lanes : goal.blank_lanes-requires-clause-lanes
+blank_lanes-requires-clause-lanes g c = c.requires.lanes
+
+pub workers_of-requires-clause-lanes : goal.workers_of-requires-clause-lanes
+workers_of-requires-clause-lanes g c = c.requires.lanes
+
+pub workers_of-requires-clause-image : goal.workers_of-requires-clause-image
+workers_of-requires-clause-image g c = c.in_ok-bar.ensures.image_is
+
+pub workers_of-requires-clause-same_lanes : goal.workers_of-requires-clause-same_lanes
+workers_of-requires-clause-same_lanes g c = c.in_ok-bar.ensures.lanes_are
+
+pub workers_of-requires-clause-passes : goal.workers_of-requires-clause-passes
+workers_of-requires-clause-passes g c = c.in_ok-bar.ensures.all
+
+pub workers_of-requires-clause-some : goal.workers_of-requires-clause-some
+workers_of-requires-clause-some g c = c.requires.some_workers
+
+pub host-requires-clause-fits : goal.host-requires-clause-fits
+host-requires-clause-fits g c = c.requires.image
+
+pub returns-clause-refused : goal.returns-clause-refused
+returns-clause-refused g c = tt
