@@ -75,3 +75,15 @@ returns-clause-counts c a low =
     let all : c.memories.m ≡ length c.args.nodes.now.blocks = omega (arith, ap length c.as_slice-blocks.ensures) in
     c.memories.invariant.counts a (rw c.memories.invariant.shape low)
     ∙ ap (λ m. bits_before c.args.nodes.now c.args.homes.now.blocks m (c.args.homes.now.logic + a)) all
+
+pub overflow_add-bits : goal.overflow_add-bits
+overflow_add-bits c =
+    let is = read_at c.args.nodes.now.blocks c.as_slice-blocks.result.now c.memories.m c.index-blocks-m.result c.as_slice-blocks.ensures (omega arith) ∙ ap Some (sym c.index-blocks-m.is) in
+    let memory = c.requires.nodes.memories c.memories.m c.index-blocks-m.result is in
+    let few : c.block_bits.result ≤ 8388608 = rw c.block_bits.ensures (bits_few (length c.index-blocks-m.result.address) (length c.index-blocks-m.result.word) memory.address.1 memory.word.1) in
+    let many = ap length c.as_slice-blocks.ensures in
+    let at = c.requires.homes.memories c.memories.m (omega (arith, many)) in
+    let a = get_or c.args.homes.now.blocks c.memories.m 0 - c.args.homes.now.logic in
+    let low : a < length c.memories.counts = omega (arith, at.0, at.1, c.memories.invariant.shape) in
+    let small = c.memories.invariant.small a low in
+    rw (c.as_slice.ensures, c.as_slice-ports.ensures) (omega (arith, small, few, many, c.requires.nodes.few_memories))

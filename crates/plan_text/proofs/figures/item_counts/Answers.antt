@@ -1,9 +1,10 @@
-use Rattle.std.proofs.Common.{◌∙◌, ◌+◌, ◌<◌, length, get_or, refl, ap, arith}
+use Rattle.std.proofs.Common.{◌∙◌, ◌+◌, ◌<◌, length, get_or, refl, ap, arith, take}
 use Rattle.std.specs.Prelude.{◌==◌}
 use Rattle.std.specs.List.{count_by}
 use Rattle.list_laws.proofs.Ranges.{replicate_read}
 use Rattle.std.proofs.lemmas.Result.{err_from_is_err_and}
-use Rattle.std.proofs.lemmas.List.{length-replicate, length-set, take_all}
+use Rattle.std.proofs.lemmas.List.{length-replicate, length-set, length-take, take_all}
+use Rattle.std.proofs.lemmas.List.Sums.{count_by-le-length}
 use Rattle.plan_defs.specs.Homes.{ports_of}
 use Rattle.plan_defs.proofs.PortLemmas.{home_port}
 use Rattle.plan_text.proofs.FigureLemmas.{raised}
@@ -48,3 +49,11 @@ pub returns-clause-counts : goal.returns-clause-counts
 returns-clause-counts c port low =
     c.items.invariant.counts port (rw c.items.invariant.shape low)
     ∙ ap (count_by (λ home. home == port)) (take_all c.items.i c.args.homes.now.items (omega (arith, c.requires.homes.items)))
+
+pub raise-requires-clause-small : goal.raise-requires-clause-small
+raise-requires-clause-small c =
+    let port = get_or c.args.homes.now.items c.items.i 0 in
+    let low : port < ports_of c.args.homes.now = home_port c.args.nodes.now c.args.homes.now c.items.i c.requires.nodes c.requires.homes (omega arith) in
+    let is = c.items.invariant.counts port (rw c.items.invariant.shape low) in
+    let most = count_by-le-length (λ home. home == port) (take c.items.i c.args.homes.now.items) in
+    rw c.as_slice-ports.ensures (omega (arith, is, most, length-take c.items.i c.args.homes.now.items, c.requires.nodes.few, c.requires.homes.items))
