@@ -1,6 +1,6 @@
-use Rattle.std.proofs.Common.{subst, sym}
+use Rattle.std.proofs.Common.{inl, subst, sym}
 use Rattle.std.specs.Prelude.{List, length, ◌<◌, ◌^◌}
-use Rattle.std.proofs.lemmas.Result.{IfOk-weaker}
+use Rattle.std.proofs.lemmas.Result.{IfOk-weaker, err_from_is_err_and}
 use Rattle.large_gen.specs.Large.{large_netlist}
 use Rattle.large_gen.proofs.ValidLemmas.{valid_large}
 use Rattle.machine_run.specs.Shown.{AreShown}
@@ -26,3 +26,27 @@ returns-clause-summary g c =
     IfOk-weaker c.summed_up.result _ _ (λ text told.
     summary_shown c.args._gates_count c.args._cycles c.args.design.now c.requires.design c.as_slice.result.now text
     (subst (λ (rows : List CellRow). AreShown c.args.design.now.compiled.image c.args.design.now.rows (cycle_count c.args.design.now.rows) rows) (sym c.as_slice.ensures) c.in_ok-rows.ensures.rows) told) c.summed_up.ensures
+
+pub returns-in_err-rows-clause-summary : goal.returns-in_err-rows-clause-summary
+returns-in_err-rows-clause-summary g c = let p = err_from_is_err_and c.from_residual.result c.from_residual.ensures.1 in rw p.1 tt
+
+pub returns-in_err-rows-clause-visits : goal.returns-in_err-rows-clause-visits
+returns-in_err-rows-clause-visits g c = let p = err_from_is_err_and c.from_residual.result c.from_residual.ensures.1 in rw p.1 tt
+
+pub returns-in_err-rows-clause-refused : goal.returns-in_err-rows-clause-refused
+returns-in_err-rows-clause-refused g c = let p = err_from_is_err_and c.from_residual.result c.from_residual.ensures.1 in rw p.1 (inl c.in_err-rows.ensures.refused)
+
+pub returns-in_err-rows-clause-kept : goal.returns-in_err-rows-clause-kept
+returns-in_err-rows-clause-kept g c = c.in_err-rows.ensures.kept
+
+pub run_machine-requires-clause-some_workers : goal.run_machine-requires-clause-some_workers
+run_machine-requires-clause-some_workers g c κs within = c.requires.some_workers
+
+pub run_machine-requires-clause-enough : goal.run_machine-requires-clause-enough
+run_machine-requires-clause-enough g c κs within = c.requires.enough
+
+pub run_machine-requires-clause-tell : goal.run_machine-requires-clause-tell
+run_machine-requires-clause-tell g c κs within = c.requires.tell
+
+pub returns-clause-kept : goal.returns-clause-kept
+returns-clause-kept g c = c.in_ok-rows.ensures.kept
