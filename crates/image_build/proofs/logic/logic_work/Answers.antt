@@ -41,9 +41,6 @@ items-preserved c =
     (item_at c.args.nodes.now c.args.homes.now c.args.plan.now c.requires.planned c.args.port c.args.items.now c.items.k 0 c.as_slice-list.result.now (Input 0) c.requires.items c.items-test.true c.as_slice-list.ensures)
     c.in_ok-task.ensures.task c.task_of.new.shelf.different c.in_ok-task.ensures.shelf)
 
-pub returns-in_err-task : goal.returns-in_err-task
-returns-in_err-task c = let p = err_from_is_err_and c.from_residual.result c.from_residual.ensures.1 in rw p.1 tt
-
 pub returns-in_err-push : goal.returns-in_err-push
 returns-in_err-push c = let p = err_from_is_err_and c.from_residual-in_err-push.result c.from_residual-in_err-push.ensures.1 in rw p.1 tt
 
