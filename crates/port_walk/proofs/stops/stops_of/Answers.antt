@@ -5,7 +5,7 @@ use Rattle.image_defs.specs.declared.image.LinkOut.{LinkOut}
 use Rattle.image_defs.specs.Places.{in_slots, out_slots}
 use Rattle.port_walk.specs.Stops.{IsStop, AreStops}
 use Rattle.port_walk.specs.code.Stops.{IsOnTheWay}
-use Rattle.port_walk.proofs.StopLemmas.{stop_is, way_begins, way_sends, way_receives, way_ends, send_within, receipt_within}
+use Rattle.port_walk.proofs.StopLemmas.{stop_is, way_begins, way_sends, way_receives, way_ends, send_within, receipt_within, places_few}
 use Rattle.port_walk.proofs.stops.stops_of.Goals as goal
 
 pub stops-init : goal.stops-init
@@ -65,3 +65,22 @@ returns c =
     stop_is outs ins a.slots a.items.now c.stops.sent c.stops.took stop c.out_at.result c.in_at.result c.out_at.ensures c.in_at.ensures c.stop_at-stop.ensures.kind c.stop_at-stop.ensures.slot c.stop_at-stop.ensures.front in
     subst (AreStops outs ins a.slots a.items.now) (sym c.in_ok-push.ensures.ok)
     (way_ends outs ins a.slots a.items.now c.stops.stops c.stops.sent c.stops.took c.stops.from c.stops.invariant stop is c.in-End.is)
+
+pub stop_at-stop-requires-clause-from : goal.stop_at-stop-requires-clause-from
+stop_at-stop-requires-clause-from c = rw (c.out_at.ensures, c.in_at.ensures) c.stops.invariant.items_before
+
+pub overflow_add-sent : goal.overflow_add-sent
+overflow_add-sent c =
+    let few = places_few c.args.slots (out_slots c.args.outs.now) c.requires.outs in
+    omega (arith, c.requires.few, c.stops.invariant.sent_within)
+
+pub overflow_add-took : goal.overflow_add-took
+overflow_add-took c =
+    let few = places_few c.args.slots (in_slots c.args.ins.now) c.requires.ins in
+    omega (arith, c.requires.few, c.stops.invariant.took_within)
+
+pub stop_at-stop-requires-clause-few : goal.stop_at-stop-requires-clause-few
+stop_at-stop-requires-clause-few c = c.requires.few
+
+pub stop_at-stop-requires-clause-items : goal.stop_at-stop-requires-clause-items
+stop_at-stop-requires-clause-items c = c.requires.items
