@@ -1,4 +1,4 @@
-use Rattle.std.proofs.Common.{ap, ap₂, false, length, refl, subst, sym, ℕ, ◌+◌, ◌<◌, ◌∙◌, ◌≡◌}
+use Rattle.std.proofs.Common.{ap, ap₂, false, length, refl, subst, sym, ℕ, ◌+◌, ◌<◌, ◌∙◌, ◌≡◌, arith}
 use Rattle.std.proofs.lemmas.Option.{slice_get_within}
 use Rattle.image_defs.specs.declared.image.LinkOut.{LinkOut}
 use Rattle.event_defs.specs.Places.{IsSend, after_put, is_in}
@@ -86,3 +86,19 @@ pub bounds-as_slice-k : goal.bounds-as_slice-k
 bounds-as_slice-k c =
     let k = c.find-k.result in
     subst (λ xs. k < length xs) (c.as_slice.ensures ∙ sym c.as_slice-2.ensures) (slice_get_within c.as_slice.result.now k c.find-k.ensures.link c.find-k.ensures.is)
+
+pub put-requires-clause-own : goal.put-requires-clause-own
+put-requires-clause-own c =
+    (own_fields c.self.inside c.pass.inside c.args.self.now c.args.pass.now c.self.view_is c.pass.view_is c.requires.own).table
+
+pub overflow_add-pass : goal.overflow_add-pass
+overflow_add-pass c =
+    let links = c.as_slice.result.now in
+    let within = slice_get_within links c.find-k.result c.find-k.ensures.link c.find-k.ensures.is in
+    omega (arith, c.as_slice.type_inv.0)
+
+pub offset_bounds-as_slice-k : goal.offset_bounds-as_slice-k
+offset_bounds-as_slice-k c =
+    let links = c.as_slice.result.now in
+    let within = slice_get_within links c.find-k.result c.find-k.ensures.link c.find-k.ensures.is in
+    omega (arith, c.as_slice.type_inv.1)
