@@ -1,4 +1,4 @@
-use Rattle.std.proofs.Common.{◌≡◌, ◌-◌, ◌<◌, inl, inr, ℕ, length, sym, subst, arith}
+use Rattle.std.proofs.Common.{◌≡◌, ◌-◌, ◌<◌, inl, inr, ℕ, length, sym, subst, arith, rules}
 use Rattle.std.proofs.lemmas.Bool.{cases_lt}
 use Rattle.home_pick.specs.code.Rooms.{IsSpent}
 use Rattle.home_pick.proofs.TurnLemmas.{some_unspent}
@@ -14,3 +14,6 @@ returns-clause-first c = record {
 } where
   below : (e : ℕ) → e < length c.args.left.now - 1 → IsSpent c.args.left.now c.args.start e
   below e before = c.ports.invariant e (omega (arith, before, c.ports-test.false))
+
+pub ports-preserved : goal.ports-preserved
+ports-preserved c = search rules

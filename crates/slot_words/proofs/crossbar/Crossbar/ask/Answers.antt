@@ -1,4 +1,4 @@
-use Rattle.std.proofs.Common.{arith, length, subst, sym, ℕ, ◌<◌, ◌≡◌}
+use Rattle.std.proofs.Common.{arith, length, subst, sym, ℕ, ◌<◌, ◌≡◌, rules}
 use Rattle.image_defs.specs.declared.image.Image.{Image}
 use Rattle.slot_words.proofs.HeldLemmas.{own_fields, progress_room}
 use Rattle.slot_words.proofs.StepLemmas.{ask_allowed}
@@ -31,3 +31,6 @@ ask-requires-clause-may c =
     let own = own_fields b a c.args.self.now c.args.pass.now c.self.view_is c.pass.view_is c.requires.own in
     let low = reader_in b a c.args.self.now c.args.reader c.self.view_is own c.requires.reader in
     ask_allowed b.table.shared.key b.table.shared.table_id.slots a.seat.id a.seat.me a.port _ c.pass.invariant.port (omega arith)
+
+pub invariant_of-pass : goal.invariant_of-pass
+invariant_of-pass c = search rules
