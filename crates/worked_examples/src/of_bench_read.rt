@@ -14,71 +14,29 @@ fn read(alloc: Global, text: &[u8]) -> Result<Netlist, BenchNo> {
     read_bench(alloc, text)
 }
 
-/// Whether the text reads as a netlist of this canonical text.
-fn is_shown(alloc: Global, text: &[u8], shown: &[u8]) -> bool {
-    match read(alloc, text) {
-        Ok(net) => match show(alloc, &net) {
-            Ok(text) => text.as_bytes() == shown,
-            Err(_) => false,
-        },
+/// Whether this is the canonical text of a netlist.
+fn is_shown(alloc: Global, net: &Netlist, wanted: &[u8]) -> bool {
+    match show(alloc, net) {
+        Ok(text) => text.as_bytes() == wanted,
         Err(_) => false,
     }
 }
 
-/// Texts, and their canonical texts: words as names, any letter case, forward references, CRLF, comments with any
-/// byte, blanks anywhere, and a last line without its LF.
-const SHOWN: &[(&str, &str)] = &[
-    ("", ""),
-    (
-        "output(z)\nz=buf(a)\ninput(a)\n",
-        "INPUT(a)\nOUTPUT(z)\nz = BUFF(a)\n",
-    ),
-    (
-        "INPUT(INPUT)\r\nAND = OR(INPUT, b) # \u{ff}\r\n\r\nb=nand\t( INPUT ,INPUT)\r\n#\r",
-        "INPUT(INPUT)\nAND = OR(INPUT, b)\nb = NAND(INPUT, INPUT)\n",
-    ),
-    (
-        "INPUT(a)\nz = NOT(y)\ny = BUFF(a)\nOUTPUT(z)\nOUTPUT(a)\nOUTPUT(z)",
-        "INPUT(a)\nOUTPUT(z)\nOUTPUT(a)\nOUTPUT(z)\nz = NOT(y)\ny = BUFF(a)\n",
-    ),
-    (
-        "[q0, q1] = ram(we; a0, a1; d0, d1)\nINPUT(we)\nq=Dff(q1)\nINPUT(a0)\nINPUT(a1)\nINPUT(d0)\nINPUT(d1)\n[ r ]=RAM(q;q;q0)",
-        "INPUT(we)\nINPUT(a0)\nINPUT(a1)\nINPUT(d0)\nINPUT(d1)\n[q0, q1] = RAM(we; a0, a1; d0, d1)\nq = DFF(q1)\n[r] = RAM(q; q; q0)\n",
-    ),
-    (
-        "INPUT(e)\nINPUT(a)\nt = TRI(e, a)\ny = BUS(t)\nx = xor(a, e)\nw = XNOR(a, x)\nv = NOR(a)\n",
-        "INPUT(e)\nINPUT(a)\nt = TRI(e, a)\ny = BUS(t)\nx = XOR(a, e)\nw = XNOR(a, x)\nv = NOR(a)\n",
-    ),
-];
-
-fn shown() -> &'static [(&'static str, &'static str)] {
-    SHOWN
-}
-
-#[test]
-fn reads_texts(rt: HostRuntime) {
-    for (text, shown) in shown() {
-        assert!(rt; is_shown(rt.alloc(), text.as_bytes(), shown.as_bytes()));
-    }
-}
-
-/// What an answer is, as numbers: the refusal's place in the enum, its line, and another line or column. The name is
-/// the one that a refusal has to tell.
-fn told(answer: &Result<Netlist, BenchNo>, name: &[u8]) -> (u8, u32, u32) {
+/// What an answer is, as numbers: the refusal's place in the enum, its line, and another line or column. The text is
+/// the netlist's canonical one, or the name that a refusal has to tell.
+fn told(alloc: Global, answer: &Result<Netlist, BenchNo>, text: &[u8]) -> (u8, u32, u32) {
     match answer {
-        Ok(_net) => (0, 0, 0),
+        Ok(net) => (if is_shown(alloc, net, text) { 0 } else { 12 }, 0, 0),
         Err(BenchNo::Text(no)) => told_text(*no),
         Err(BenchNo::Syntax { line }) => (4, *line, 0),
         Err(BenchNo::UnknownKind { line }) => (5, *line, 0),
         Err(BenchNo::Arity { line }) => (6, *line, 0),
-        Err(
-            BenchNo::DrivenTwice {
-                name: twice,
-                first,
-                line,
-            },
-        ) => told_name(twice, name, (7, *line, *first)),
-        Err(BenchNo::Undriven { name: use_, line }) => told_name(use_, name, (8, *line, 0)),
+        Err(BenchNo::DrivenTwice { name, first, line }) => told_name(
+            name,
+            text,
+            (7, *line, *first),
+        ),
+        Err(BenchNo::Undriven { name, line }) => told_name(name, text, (8, *line, 0)),
         Err(BenchNo::TooMany { line, what }) => (
             9,
             *line,
@@ -105,13 +63,36 @@ fn told_name(name: &Text, wanted: &[u8], numbers: (u8, u32, u32)) -> (u8, u32, u
     }
 }
 
-/// What is told of a text.
-fn told_of(alloc: Global, text: &[u8], name: &[u8]) -> (u8, u32, u32) {
-    told(&read(alloc, text), name)
-}
-
-/// The refused netlists, the names that are told, and the kinds of refusal with their lines and columns.
-const REFUSED: &[(&str, &str, (u8, u32, u32))] = &[
+/// Netlists and their canonical texts: words as names, any letter case, forward references, CRLF, comments with any
+/// byte, blanks anywhere, and a last line without its LF. Then the refused netlists, the names that are told, and the
+/// kinds of refusal with their lines and columns.
+const TEXTS: &[(&str, &str, (u8, u32, u32))] = &[
+    ("", "", (0, 0, 0)),
+    (
+        "output(z)\nz=buf(a)\ninput(a)\n",
+        "INPUT(a)\nOUTPUT(z)\nz = BUFF(a)\n",
+        (0, 0, 0),
+    ),
+    (
+        "INPUT(INPUT)\r\nAND = OR(INPUT, b) # \u{ff}\r\n\r\nb=nand\t( INPUT ,INPUT)\r\n#\r",
+        "INPUT(INPUT)\nAND = OR(INPUT, b)\nb = NAND(INPUT, INPUT)\n",
+        (0, 0, 0),
+    ),
+    (
+        "INPUT(a)\nz = NOT(y)\ny = BUFF(a)\nOUTPUT(z)\nOUTPUT(a)\nOUTPUT(z)",
+        "INPUT(a)\nOUTPUT(z)\nOUTPUT(a)\nOUTPUT(z)\nz = NOT(y)\ny = BUFF(a)\n",
+        (0, 0, 0),
+    ),
+    (
+        "[q0, q1] = ram(we; a0, a1; d0, d1)\nINPUT(we)\nq=Dff(q1)\nINPUT(a0)\nINPUT(a1)\nINPUT(d0)\nINPUT(d1)\n[ r ]=RAM(q;q;q0)",
+        "INPUT(we)\nINPUT(a0)\nINPUT(a1)\nINPUT(d0)\nINPUT(d1)\n[q0, q1] = RAM(we; a0, a1; d0, d1)\nq = DFF(q1)\n[r] = RAM(q; q; q0)\n",
+        (0, 0, 0),
+    ),
+    (
+        "INPUT(e)\nINPUT(a)\nt = TRI(e, a)\ny = BUS(t)\nx = xor(a, e)\nw = XNOR(a, x)\nv = NOR(a)\n",
+        "INPUT(e)\nINPUT(a)\nt = TRI(e, a)\ny = BUS(t)\nx = XOR(a, e)\nw = XNOR(a, x)\nv = NOR(a)\n",
+        (0, 0, 0),
+    ),
     ("INPUT(a)\nz = NOT a\n", "", (4, 2, 0)),
     ("z = RAM(a)\n", "", (5, 1, 0)),
     ("[q] = AND(a; b; c)\n", "", (5, 1, 0)),
@@ -129,16 +110,14 @@ const REFUSED: &[(&str, &str, (u8, u32, u32))] = &[
     ("z = DFF(a, a)\n", "", (6, 1, 0)),
 ];
 
-fn refused() -> &'static [(&'static str, &'static str, (u8, u32, u32))] {
-    REFUSED
+fn texts() -> &'static [(&'static str, &'static str, (u8, u32, u32))] {
+    TEXTS
 }
 
 #[test]
-fn refuses_texts(rt: HostRuntime) {
-    for (text, name, want) in refused() {
-        assert_eq!(rt;
-            told_of(rt.alloc(), text.as_bytes(), name.as_bytes()),
-            *want
-        );
+fn reads_texts(rt: HostRuntime) {
+    for (text, wanted, numbers) in texts() {
+        let answer = read(rt.alloc(), text.as_bytes());
+        assert!(rt; told(rt.alloc(), &answer, wanted.as_bytes()) == *numbers);
     }
 }

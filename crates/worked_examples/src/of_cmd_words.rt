@@ -1,9 +1,8 @@
 //! A table of words, and what is read of each.
 
-use crate::texts::push_number;
 use cmd_words::{Command, RunWords, WordNo, read_words};
-use net_defs::{HomeChoice, Init, Mode, Timing};
-use seen_list::{List, Memory, Text};
+use net_defs::{HomeChoice, Init, Mode};
+use seen_list::{Memory, Text};
 use std::alloc::Global;
 use std::test::Fail;
 
@@ -175,26 +174,15 @@ fn push_word_behind(text: &mut Text, word: &[u8]) -> Result<(), Memory> {
     text.push_bytes(word)
 }
 
-/// Adds a blank, a word and a number.
-fn push_count(alloc: Global, text: &mut Text, word: &[u8], count: u32) -> Result<(), Memory> {
-    push_word_behind(text, word)?;
-    push_number(alloc, text, count)
-}
-
-/// Adds how a netlist is run in time.
-fn push_timing(alloc: Global, text: &mut Text, timing: &Timing) -> Result<(), Memory> {
-    push_word_behind(text, mode_word(timing.mode).as_bytes())?;
-    push_count(alloc, text, b"", timing.units)?;
-    push_word_behind(text, init_word(timing.init).as_bytes())
-}
-
 /// Adds all but the files that need not be named, and the homes.
 fn push_files(alloc: Global, text: &mut Text, words: &RunWords) -> Result<(), Memory> {
     push_word_behind(text, words.netlist.as_bytes())?;
     push_word_behind(text, words.stimulus.as_bytes())?;
-    push_timing(alloc, text, &words.timing)?;
-    push_count(alloc, text, b"banks ", words.banks)?;
-    push_count(alloc, text, b"workers ", words.workers)
+    let mode = mode_word(words.timing.mode);
+    let init = init_word(words.timing.init);
+    let (units, banks, workers) = (words.timing.units, words.banks, words.workers);
+    let counts = format!(in alloc; " {mode} {units} {init} banks {banks} workers {workers}")?;
+    text.push_bytes(counts.as_bytes())
 }
 
 /// Adds a blank, a word and a file that need not be named.
@@ -237,10 +225,8 @@ fn push_large(
     cycles: u32,
     workers: u32,
 ) -> Result<(), Memory> {
-    text.push_bytes(b"large")?;
-    push_count(alloc, text, b"", gates)?;
-    push_count(alloc, text, b"", cycles)?;
-    push_count(alloc, text, b"workers ", workers)
+    let numbers = format!(in alloc; "large {gates} {cycles} workers {workers}")?;
+    text.push_bytes(numbers.as_bytes())
 }
 
 fn push_show(text: &mut Text, netlist: &Text) -> Result<(), Memory> {
@@ -277,28 +263,17 @@ fn push_answer(
 }
 
 /// Adds what is read of a line.
-fn push_read(
-    alloc: Global,
-    answers: &mut List<Result<Command, WordNo>>,
-    line: &str,
-) -> Result<(), Memory> {
+fn push_read(alloc: Global, text: &mut Text, line: &str) -> Result<(), Memory> {
     let words = words_of(alloc, line)?;
-    answers.push(read_words(alloc, words.as_slice()))
-}
-
-/// What is read of a line.
-fn told_of(alloc: Global, line: &str) -> Result<Text, Memory> {
-    let mut answers = List::new(alloc);
-    push_read(alloc, &mut answers, line)?;
-    let mut text = Text::new(alloc);
-    for answer in answers.as_slice() {
-        push_answer(alloc, &mut text, answer)?;
-    }
-    Ok(text)
+    let answer = read_words(alloc, words.as_slice());
+    let pushed = push_answer(alloc, text, &answer);
+    drop(answer);
+    pushed
 }
 
 fn is_told(alloc: Global, line: &str, wanted: &str) -> Result<bool, Memory> {
-    let text = told_of(alloc, line)?;
+    let mut text = Text::new(alloc);
+    push_read(alloc, &mut text, line)?;
     Ok(text.as_bytes() == wanted.as_bytes())
 }
 

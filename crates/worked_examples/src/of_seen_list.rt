@@ -31,9 +31,8 @@ fn rooms_are_filled(alloc: Global) -> Result<bool, Memory> {
 
 #[test]
 fn memory_is_taken(rt: HostRuntime) -> Result<(), Fail> {
-    assert!(rt; texts_grow(rt.alloc())?);
-    assert!(rt; lists_grow(rt.alloc())?);
-    assert!(rt; lists_are_filled(rt.alloc())?);
-    assert!(rt; rooms_are_filled(rt.alloc())?);
+    let alloc = rt.alloc();
+    assert!(rt; texts_grow(alloc)? && lists_grow(alloc)?);
+    assert!(rt; lists_are_filled(alloc)? && rooms_are_filled(alloc)?);
     Ok(())
 }
