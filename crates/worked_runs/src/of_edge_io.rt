@@ -31,18 +31,33 @@ fn is_no_file<F: Files>(alloc: Global, files: &mut F, name: &[u8]) -> bool {
     read(alloc, files, name, 3, b"abc") == Err(ReadNo::Failed)
 }
 
-/// A file that is written and removed again, a folder, and a name that is no text.
+/// A name of no file.
+fn fresh_name(rt: &HostRuntime) -> Result<String, Fail> {
+    let now = SystemTime::now(rt)?.duration_since(UNIX_EPOCH)?;
+    let (seconds, nanos) = (now.as_secs(), now.subsec_nanos());
+    Ok(format!(in rt.alloc(); "/tmp/edge_io_{seconds}_{nanos}")?)
+}
+
+/// Whether a file of this name is read while it is there.
+fn is_read_while_there(rt: &HostRuntime, name: &str) -> Result<bool, Fail> {
+    let mut files = HostFiles::new(rt);
+    fs::write(rt, name, "abc")?;
+    let there = is_read(rt.alloc(), &mut files, name.as_bytes());
+    fs::remove_file(rt, name)?;
+    Ok(there && is_no_file(rt.alloc(), &mut files, name.as_bytes()))
+}
+
+/// Whether a folder is no file, nor a name that is no text.
+fn are_no_files(rt: &HostRuntime) -> bool {
+    let mut files = HostFiles::new(rt);
+    is_no_file(rt.alloc(), &mut files, b"/tmp") && is_no_file(rt.alloc(), &mut files, b"\xff")
+}
+
 #[test]
 fn reads_from_the_host(rt: HostRuntime) -> Result<(), Fail> {
-    let now = SystemTime::now(&rt)?.duration_since(UNIX_EPOCH)?;
-    let path = format!(in rt.alloc(); "/tmp/edge_io_{}_{}", now.as_secs(), now.subsec_nanos())?;
-    let mut files = HostFiles::new(&rt);
-    fs::write(&rt, path.as_str(), "abc")?;
-    let there = is_read(rt.alloc(), &mut files, path.as_bytes());
-    fs::remove_file(&rt, path.as_str())?;
-    assert!(rt; there && is_no_file(rt.alloc(), &mut files, path.as_bytes()));
-    assert!(rt; is_no_file(rt.alloc(), &mut files, b"/tmp"));
-    assert!(rt; is_no_file(rt.alloc(), &mut files, b"\xff"));
+    let name = fresh_name(&rt)?;
+    assert!(rt; is_read_while_there(&rt, name.as_str())?);
+    assert!(rt; are_no_files(&rt));
     Ok(())
 }
 

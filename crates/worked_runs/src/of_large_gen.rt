@@ -1,7 +1,8 @@
 //! Large designs with ample memory, against draws and texts from outside.
 
 ghost use Rattle.limits.specs.declared.TheConstants.{MAX_LARGE_GATES};
-ghost use Rattle.std.specs.Prelude.{◌≤◌};
+ghost use Rattle.large_gen.specs.Draws.{IsState};
+ghost use Rattle.std.specs.Prelude.{IfOk, ◌≤◌};
 
 use large_gen::{large_net, large_rows};
 use logic_four::{V4, to_char};
@@ -18,24 +19,20 @@ const TEN: &str =
 
 const TEN_STATE: u32 = 11134;
 
-fn is_shown(alloc: Global, net: &Netlist, text: &str) -> Result<bool, Memory> {
-    let shown = show(alloc, net)?;
-    Ok(shown.as_bytes() == text.as_bytes())
+fn is_shown(alloc: Global, net: &Netlist, text: &str) -> bool {
+    match show(alloc, net) {
+        Ok(shown) => shown.as_bytes() == text.as_bytes(),
+        Err(_) => false,
+    }
 }
 
 /// The state of the generator behind a design of so many gates, and whether this is the design's canonical text.
 fn state_behind(alloc: Global, gates: u32, text: &str) -> Result<(u32, bool), Memory>
     requires { gates ≤ MAX_LARGE_GATES }
+    ensures { IfOk result (λ known. IsState known.0) }
 {
     let design = large_net(alloc, gates)?;
-    Ok((design.state, is_shown(alloc, &design.net, text)?))
-}
-
-#[test]
-fn designs_are_known(rt: HostRuntime) -> Result<(), Fail> {
-    assert!(rt; state_behind(rt.alloc(), 2, TWO)?.1);
-    assert!(rt; state_behind(rt.alloc(), 10, TEN)? == (TEN_STATE, true));
-    Ok(())
+    Ok((design.state, is_shown(alloc, &design.net, text)))
 }
 
 /// The two rows of a design of two gates.
@@ -65,14 +62,17 @@ fn are_rows(rows: &[StimRow], wanted: &[&str]) -> bool {
     true
 }
 
-fn has_rows(alloc: Global, wanted: &[&str]) -> Result<bool, Memory> {
-    let two = large_net(alloc, 2)?;
-    let stimulus = large_rows(alloc, two.state, 2)?;
+fn has_rows(alloc: Global, state: u32, wanted: &[&str]) -> Result<bool, Memory>
+    requires { IsState state }
+{
+    let stimulus = large_rows(alloc, state, 2)?;
     Ok(are_rows(stimulus.rows.as_slice(), wanted))
 }
 
 #[test]
-fn rows_are_known(rt: HostRuntime) -> Result<(), Fail> {
-    assert!(rt; has_rows(rt.alloc(), ROWS)?);
+fn designs_are_known(rt: HostRuntime) -> Result<(), Fail> {
+    let (state, shown) = state_behind(rt.alloc(), 2, TWO)?;
+    assert!(rt; shown && has_rows(rt.alloc(), state, ROWS)?);
+    assert!(rt; state_behind(rt.alloc(), 10, TEN)? == (TEN_STATE, true));
     Ok(())
 }
