@@ -1,4 +1,5 @@
-//! Whole calls over files and sinks in memory, with statuses, lines and output from outside.
+//! Whole calls over files and sinks in memory, with statuses, lines and output from outside. A call is
+//! made in one way by all of them, and most are rows of one kind of table: each function here is proved too.
 
 ghost use Rattle.std.specs.Prelude.{length, ◌≤◌};
 ghost use Rattle.limits.specs.declared.TheConstants.{MAX_WORKERS};
@@ -19,13 +20,12 @@ mod packs;
 mod threads;
 
 use crew_run::Gate;
-use edge_io::{Files, MemFiles, MemSink, NamedBytes, PlainFiles, Sink};
+use edge_io::{MemFiles, MemSink, NamedBytes};
 use machine_run::count_gates;
 use seen_list::{List, Memory, Text};
 use std::alloc::{AllocError, Global};
 use std::marker::{Send, Sync};
 use std::sync::Wait;
-use std::test::Fail;
 use std::thread::Threads;
 use yse_top::yse;
 
@@ -51,25 +51,9 @@ const GATES: usize = 64;
 
 const FILES: &str = "net.bench net.stim";
 
-/// Numbers of workers and of banks.
-const CREWS: &[&str] = &[
-    "--workers 1 --banks 1",
-    "--workers 1 --banks 2",
-    "--workers 1 --banks 8",
-    "--workers 2 --banks 1",
-    "--workers 2 --banks 2",
-    "--workers 2 --banks 8",
-    "--workers 7 --banks 1",
-    "--workers 7 --banks 2",
-    "--workers 7 --banks 8",
-    "--workers 64 --banks 1",
-    "--workers 64 --banks 2",
-    "--workers 64 --banks 8",
-];
-
-fn crews() -> &'static [&'static str] {
-    CREWS
-}
+/// Runs with so many workers and banks.
+const RUNS: &str =
+    "run --workers 1 --banks 1|run --workers 1 --banks 2|run --workers 1 --banks 8|run --workers 2 --banks 1|run --workers 2 --banks 2|run --workers 2 --banks 8|run --workers 7 --banks 1|run --workers 7 --banks 2|run --workers 7 --banks 8|run --workers 64 --banks 1|run --workers 64 --banks 2|run --workers 64 --banks 8";
 
 fn push_word(alloc: Global, words: &mut Vec<String>, word: &str) -> Result<(), AllocError> {
     words.push(String::from_str(alloc, word)?)?;
@@ -85,16 +69,6 @@ fn push_words(alloc: Global, words: &mut Vec<String>, line: &str) -> Result<(), 
     Ok(())
 }
 
-/// Two lines of words.
-fn two<'a>(first: &'a str, second: &'a str) -> [&'a str; 2] {
-    [first, second]
-}
-
-/// Three lines of words.
-fn three<'a>(first: &'a str, second: &'a str, third: &'a str) -> [&'a str; 3] {
-    [first, second, third]
-}
-
 /// The words of these lines.
 fn words_of(alloc: Global, lines: &[&str]) -> Result<Vec<String>, AllocError> {
     let mut words = Vec::new(alloc);
@@ -104,9 +78,47 @@ fn words_of(alloc: Global, lines: &[&str]) -> Result<Vec<String>, AllocError> {
     Ok(words)
 }
 
-fn named(alloc: Global, name: &[u8], bytes: List<u8>) -> Result<NamedBytes, Memory> {
+/// The bytes of the files `net.bench`, `net.stim`, `net.machine` and `net.more`.
+type Texts<'a> = [&'a [u8]; 4];
+
+/// Four texts.
+fn four<'a>(netlist: &'a [u8], stimulus: &'a [u8], machine: &'a [u8], more: &'a [u8]) -> Texts<'a> {
+    [netlist, stimulus, machine, more]
+}
+
+/// A netlist and a stimulus.
+fn texts_of<'a>(netlist: &'a str, stimulus: &'a str) -> Texts<'a> {
+    [netlist.as_bytes(), stimulus.as_bytes(), b"", b""]
+}
+
+/// The most bytes that one read gives; the call of the store that fails (0: none); the room of the output and the
+/// most bytes that one write takes of it; the room of the line; and the writes of the output and of the line that
+/// fail.
+#[derive(Clone, Copy)]
+struct Edges {
+    most_read: usize,
+    failing_read: u64,
+    room: usize,
+    most_written: usize,
+    line_room: usize,
+    failing_write: u64,
+    failing_line: u64,
+}
+
+/// Nothing fails.
+const EASY: Edges = Edges {
+    most_read: 131_072,
+    failing_read: 0,
+    room: 131_072,
+    most_written: 4096,
+    line_room: 4096,
+    failing_write: 0,
+    failing_line: 0,
+};
+
+fn named(alloc: Global, name: &str, bytes: List<u8>) -> Result<NamedBytes, Memory> {
     Ok(NamedBytes {
-        name: Text::from_bytes(alloc, name)?,
+        name: Text::from_bytes(alloc, name.as_bytes())?,
         bytes,
     })
 }
@@ -114,67 +126,33 @@ fn named(alloc: Global, name: &[u8], bytes: List<u8>) -> Result<NamedBytes, Memo
 fn push_file(
     alloc: Global,
     files: &mut List<NamedBytes>,
-    name: &[u8],
+    name: &str,
     bytes: &[u8],
 ) -> Result<(), Memory> {
     files.push(named(alloc, name, List::from_slice(alloc, bytes)?)?)
 }
 
-/// Files of these names and bytes; the call of this number fails (0: none).
-fn store(alloc: Global, files: &[(&[u8], &[u8])], failing: u64) -> Result<MemFiles, Memory> {
+fn push_files(
+    alloc: Global,
+    files: &mut List<NamedBytes>,
+    texts: &Texts<'_>,
+) -> Result<(), Memory> {
+    push_file(alloc, files, "net.bench", texts[0])?;
+    push_file(alloc, files, "net.stim", texts[1])?;
+    push_file(alloc, files, "net.machine", texts[2])?;
+    push_file(alloc, files, "net.more", texts[3])
+}
+
+fn store(alloc: Global, texts: &Texts<'_>, edges: &Edges) -> Result<MemFiles, Memory> {
+    let mut files = List::new(alloc);
+    push_files(alloc, &mut files, texts)?;
+    let fails = List::from_slice(alloc, &[edges.failing_read])?;
+    Ok(MemFiles::with_most(files, fails, edges.most_read.max(1)))
+}
+
+fn sink(alloc: Global, room: usize, most: usize, failing: u64) -> Result<MemSink, Memory> {
     let fails = List::from_slice(alloc, &[failing])?;
-    let mut list = List::new(alloc);
-    for (name, bytes) in files {
-        push_file(alloc, &mut list, name, bytes)?;
-    }
-    Ok(MemFiles::new(list, fails))
-}
-
-/// The files of a netlist and of a stimulus; the call of this number fails (0: none).
-fn two_files(
-    alloc: Global,
-    netlist: &[u8],
-    stimulus: &[u8],
-    failing: u64,
-) -> Result<MemFiles, Memory> {
-    let files: [(&[u8], &[u8]); 2] = [(b"net.bench", netlist), (b"net.stim", stimulus)];
-    store(alloc, &files, failing)
-}
-
-/// The files of a netlist, a stimulus and a machine.
-fn three_files(
-    alloc: Global,
-    netlist: &[u8],
-    stimulus: &[u8],
-    machine: &[u8],
-) -> Result<MemFiles, Memory> {
-    let files: [(&[u8], &[u8]); 3] = [
-        (b"net.bench", netlist),
-        (b"net.stim", stimulus),
-        (b"net.machine", machine),
-    ];
-    store(alloc, &files, 0)
-}
-
-/// A sink whose call of this number fails (0: none).
-fn sink(alloc: Global, failing: u64) -> Result<MemSink, Memory> {
-    MemSink::new(alloc, 131_072, 4096, List::from_slice(alloc, &[failing])?)
-}
-
-/// The number of the status of a call.
-fn status_of<R: Threads + Wait + Sync, F: Files, O: Sink, E: Sink, G: Gate + Send>(
-    rt: &R,
-    alloc: Global,
-    words: &[String],
-    files: &mut F,
-    out: &mut O,
-    err: &mut E,
-    gates: &mut [Option<G>],
-) -> u8
-    requires gates { MAX_WORKERS ≤ length gates.old }
-    requires tell { AllCanTell G.Gate.own gates.old }
-{
-    yse(rt, alloc, words, files, out, err, gates).number()
+    MemSink::new(alloc, room, most.max(1), fails)
 }
 
 /// What came of a call: the number of its status, and its sinks.
@@ -185,116 +163,178 @@ struct Ended {
     err: MemSink,
 }
 
-/// What is wanted of a call: the number of its status, its output and its line.
-#[derive(Clone, Copy)]
-struct Wanted<'a> {
-    status: u8,
-    output: &'a [u8],
-    line: &'a [u8],
-}
-
-/// A call that ends with status 0 and this output.
-fn printed<'a>(output: &'a [u8]) -> Wanted<'a> {
-    Wanted {
+/// Before the call.
+fn sinks(alloc: Global, edges: &Edges) -> Result<Ended, Memory> {
+    let out = sink(alloc, edges.room, edges.most_written, edges.failing_write)?;
+    let err = sink(alloc, edges.line_room, 4096, edges.failing_line)?;
+    Ok(Ended {
         status: 0,
-        output,
-        line: b"",
-    }
+        out,
+        err,
+    })
 }
 
-fn has_ended(ended: &Ended, wanted: Wanted<'_>) -> bool {
-    ended.status == wanted.status
-        && ended.out.taken() == wanted.output
-        && ended.err.taken() == wanted.line
+/// Calls `yse`.
+fn call<R: Threads + Wait + Sync, G: Gate + Send>(
+    rt: &R,
+    alloc: Global,
+    words: &[String],
+    files: &mut MemFiles,
+    ended: &mut Ended,
+    gates: &mut [Option<G>],
+)
+    requires gates { MAX_WORKERS ≤ length gates.old }
+    requires tell { AllCanTell G.Gate.own gates.old }
+{
+    let (out, err) = (&mut ended.out, &mut ended.err);
+    ended.status = yse(rt, alloc, words, files, out, err, gates).number();
 }
 
-/// Calls `yse` with the words of these lines and a sink whose call of this number fails (0: none).
-fn end_of<R: Threads + Wait + Sync, F: Files>(
+/// What comes of a call with the words of these lines over these files, with gates that are handed in.
+fn end_with<R: Threads + Wait + Sync, G: Gate + Send>(
     rt: &R,
     alloc: Global,
     lines: &[&str],
-    files: &mut F,
-    failing: u64,
-) -> Result<Ended, Memory> {
-    let words = words_of(alloc, lines)?;
-    end_of_words(rt, alloc, words.as_slice(), files, failing)
-}
-
-fn end_of_words<R: Threads + Wait + Sync, F: Files>(
-    rt: &R,
-    alloc: Global,
-    words: &[String],
-    files: &mut F,
-    failing: u64,
-) -> Result<Ended, Memory> {
-    let mut gates = count_gates(alloc, GATES)?;
-    end_with_gates(rt, alloc, words, files, failing, gates.as_mut_slice())
-}
-
-fn end_with_gates<R: Threads + Wait + Sync, F: Files, G: Gate + Send>(
-    rt: &R,
-    alloc: Global,
-    words: &[String],
-    files: &mut F,
-    failing: u64,
+    texts: &Texts<'_>,
+    edges: &Edges,
     gates: &mut [Option<G>],
 ) -> Result<Ended, Memory>
     requires gates { MAX_WORKERS ≤ length gates.old }
     requires tell { AllCanTell G.Gate.own gates.old }
 {
-    let mut out = sink(alloc, failing)?;
-    let mut err = sink(alloc, 0)?;
-    let status = status_of(rt, alloc, words, files, &mut out, &mut err, gates);
-    Ok(Ended { status, out, err })
+    let words = words_of(alloc, lines)?;
+    let mut files = store(alloc, texts, edges)?;
+    let mut ended = sinks(alloc, edges)?;
+    call(rt, alloc, words.as_slice(), &mut files, &mut ended, gates);
+    Ok(ended)
 }
 
-/// Whether such a call ends so.
-fn ends<R: Threads + Wait + Sync, F: Files + Drop>(
+/// The same with gates that only count.
+fn end_of<R: Threads + Wait + Sync>(
     rt: &R,
     alloc: Global,
     lines: &[&str],
-    files: F,
-    failing: u64,
-    wanted: Wanted<'_>,
-) -> Result<bool, Memory> {
-    let mut files = files;
-    let ended = end_of(rt, alloc, lines, &mut files, failing)?;
-    Ok(has_ended(&ended, wanted))
+    texts: &Texts<'_>,
+    edges: &Edges,
+) -> Result<Ended, Memory> {
+    let mut gates = count_gates(alloc, GATES)?;
+    end_with(rt, alloc, lines, texts, edges, gates.as_mut_slice())
 }
 
-/// A netlist file that is one comment of so many bytes; the stimulus is an empty file.
-fn comment(alloc: Global, bytes: usize) -> Result<PlainFiles, Memory> {
-    let mut files = List::new(alloc);
-    files.push(named(alloc, b"net.bench", List::filled(alloc, b'#', bytes)?)?)?;
-    Ok(PlainFiles::new(files))
+fn has_ended(ended: &Ended, status: u8, output: &[u8], line: &[u8]) -> bool {
+    ended.status == status && ended.out.taken() == output && ended.err.taken() == line
 }
 
-/// Numbers of bytes, and how the reference simulation of such a file ends: a text of 67,108,864 bytes is read, and one
-/// of a byte more is refused.
-const TEXTS: &[(usize, u8, &str, &str)] = &[
-    (67_108_864, 0, "cycle\n", ""),
-    (
-        67_108_865,
-        10,
-        "",
-        "limit: net.bench has more than 67108864 bytes\n",
-    ),
-];
-
-fn texts() -> &'static [(usize, u8, &'static str, &'static str)] {
-    TEXTS
-}
-
-#[test]
-fn texts_have_a_most(rt: HostRuntime) -> Result<(), Fail> {
-    for (bytes, status, output, line) in texts() {
-        let wanted = Wanted {
-            status: *status,
-            output: output.as_bytes(),
-            line: line.as_bytes(),
-        };
-        let files = comment(rt.alloc(), *bytes)?;
-        assert!(rt; ends(&rt, rt.alloc(), &["refer", FILES], files, 0, wanted)?);
+/// Whether a call ends with this status, this output and this line.
+fn ends<R: Threads + Wait + Sync>(
+    rt: &R,
+    alloc: Global,
+    lines: &[&str],
+    texts: &Texts<'_>,
+    edges: &Edges,
+    wanted: (u8, &[u8], &[u8]),
+) -> bool {
+    match end_of(rt, alloc, lines, texts, edges) {
+        Ok(ended) => has_ended(&ended, wanted.0, wanted.1, wanted.2),
+        Err(_) => false,
     }
-    Ok(())
+}
+
+/// Calls with the same words behind each, over the texts of a netlist, a stimulus, a machine and what else a call reads.
+/// The call of the store and the write of the output that fail (0: none). What is wanted: the number of the status, the
+/// output and the line.
+#[derive(Clone, Copy)]
+struct Case {
+    calls: &'static str,
+    words: &'static str,
+    netlist: &'static str,
+    stimulus: &'static str,
+    machine: &'static str,
+    more: &'static str,
+    failing: (u64, u64),
+    status: u8,
+    output: &'static str,
+    line: &'static str,
+}
+
+fn edges_of(case: &Case) -> Edges {
+    Edges {
+        failing_read: case.failing.0,
+        failing_write: case.failing.1,
+        ..EASY
+    }
+}
+
+/// Whether a call of a case ends as it says.
+fn is_case<R: Threads + Wait + Sync>(
+    rt: &R,
+    alloc: Global,
+    call: &'static str,
+    case: &Case,
+) -> bool {
+    let texts = [
+        case.netlist.as_bytes(),
+        case.stimulus.as_bytes(),
+        case.machine.as_bytes(),
+        case.more.as_bytes(),
+    ];
+    let wanted = (case.status, case.output.as_bytes(), case.line.as_bytes());
+    ends(
+        rt,
+        alloc,
+        &[call, case.words],
+        &texts,
+        &edges_of(case),
+        wanted,
+    )
+}
+
+/// Whether all calls of these cases do.
+fn all_end<R: Threads + Wait + Sync>(rt: &R, alloc: Global, cases: &'static [Case]) -> bool {
+    for case in cases {
+        for call in case.calls.split('|') {
+            if !is_case(rt, alloc, call, case) {
+                return false;
+            }
+        }
+    }
+    true
+}
+
+/// Whether these calls, each with the same words behind it, print this and end with status 0.
+fn all_print<R: Threads + Wait + Sync>(
+    rt: &R,
+    alloc: Global,
+    calls: &'static str,
+    words: &'static str,
+    texts: &Texts<'_>,
+    output: &[u8],
+) -> bool {
+    for call in calls.split('|') {
+        if !ends(rt, alloc, &[call, words], texts, &EASY, (0, output, b"")) {
+            return false;
+        }
+    }
+    true
+}
+
+/// Whether the reference simulation ends so with a netlist file that is one comment of so many bytes and an empty
+/// stimulus.
+fn ends_with_comment<R: Threads + Wait + Sync>(
+    rt: &R,
+    alloc: Global,
+    bytes: usize,
+    wanted: (u8, &[u8], &[u8]),
+) -> Result<bool, Memory> {
+    let comment = List::filled(alloc, b'#', bytes)?;
+    let texts: Texts<'_> = [comment.as_slice(), b"", b"", b""];
+    Ok(ends(rt, alloc, &["refer", FILES], &texts, &EASY, wanted))
+}
+
+/// A text of 67,108,864 bytes is read, and one of a byte more is refused.
+#[test]
+fn texts_have_a_most(rt: HostRuntime) {
+    let line = b"limit: net.bench has more than 67108864 bytes\n";
+    assert!(rt; ends_with_comment(&rt, rt.alloc(), 67_108_864, (0, b"cycle\n", b"")) == Ok(true));
+    assert!(rt; ends_with_comment(&rt, rt.alloc(), 67_108_865, (10, b"", line)) == Ok(true));
 }

@@ -1,22 +1,10 @@
 //! Runs in blocks of cycles.
 
-ghost use Rattle.crew_run.specs.Crews.{CanTell};
-ghost use Rattle.limits.specs.declared.TheConstants.{MAX_WORKERS};
-ghost use Rattle.std.specs.Prelude.{All, IfOk, Option, Some, length, slice_get, ℕ, ◌^◌, ◌≡◌, ◌≤◌};
-ghost use Rattle.yse_top.specs.Visited.{AllCanTell};
-
-use super::{
-    C17, Ended, FILES, GATES, Wanted, end_of, ends, printed, status_of, two_files, words_of,
-};
-use crew_run::{CountGate, Gate};
-use edge_io::{Failed, Files, MemFiles, MemSink, NullSink, Sink};
-use machine_run::count_gates;
-use seen_list::{List, Memory, Text};
+use super::{C17, EASY, Edges, FILES, all_print, end_of, ends, texts_of};
+use seen_list::Memory;
 use std::alloc::Global;
-use std::marker::{Send, Sync};
+use std::marker::Sync;
 use std::sync::Wait;
-use std::sync::atomic::{AtomicU64, Ordering};
-use std::test::Fail;
 use std::thread::Threads;
 
 /// Rows of 4,095 to 4,097 cycles, of 8,192 and 8,193, and of 10,000. A block has 4,096.
@@ -33,288 +21,127 @@ fn all_rows() -> &'static [&'static str] {
     ROWS
 }
 
-/// Numbers of workers and of banks.
-const CREWS: &[&str] = &[
-    "--workers 1 --banks 1",
-    "--workers 1 --banks 2",
-    "--workers 1 --banks 8",
-    "--workers 2 --banks 1",
-    "--workers 2 --banks 2",
-    "--workers 2 --banks 8",
-    "--workers 7 --banks 1",
-    "--workers 7 --banks 2",
-    "--workers 7 --banks 8",
-];
-
-fn crews() -> &'static [&'static str] {
-    CREWS
-}
-
-/// The call of these words over c17 and these rows.
-fn end_over<R: Threads + Wait + Sync>(
-    rt: &R,
-    alloc: Global,
-    lines: &[&str],
-    rows: &str,
-) -> Result<Ended, Memory> {
-    let mut files = two_files(alloc, C17.as_bytes(), rows.as_bytes(), 0)?;
-    end_of(rt, alloc, lines, &mut files, 0)
-}
-
-/// Whether the run over these rows ends so, with a sink whose call of this number fails (0: none).
-fn run_ends<R: Threads + Wait + Sync>(
-    rt: &R,
-    alloc: Global,
-    crew: &str,
-    rows: &str,
-    failing: u64,
-    wanted: Wanted<'_>,
-) -> Result<bool, Memory> {
-    let files = two_files(alloc, C17.as_bytes(), rows.as_bytes(), 0)?;
-    ends(rt, alloc, &["run", FILES, crew], files, failing, wanted)
-}
+/// Runs with so many workers and banks.
+const RUNS: &str =
+    "run --workers 1 --banks 1|run --workers 1 --banks 2|run --workers 1 --banks 8|run --workers 2 --banks 1|run --workers 2 --banks 2|run --workers 2 --banks 8|run --workers 7 --banks 1|run --workers 7 --banks 2|run --workers 7 --banks 8";
 
 /// Whether runs over these rows, with so many workers and banks, print what the reference does.
 fn agrees<R: Threads + Wait + Sync>(rt: &R, alloc: Global, rows: &str) -> Result<bool, Memory> {
-    let reference = end_over(rt, alloc, &["refer", FILES], rows)?;
-    for crew in crews() {
-        if !run_ends(rt, alloc, crew, rows, 0, printed(reference.out.taken()))? {
-            return Ok(false);
-        }
-    }
-    Ok(reference.status == 0)
+    let texts = texts_of(C17, rows);
+    let reference = end_of(rt, alloc, &["refer", FILES], &texts, &EASY)?;
+    let agreed = all_print(rt, alloc, RUNS, FILES, &texts, reference.out.taken());
+    Ok(reference.status == 0 && agreed)
 }
 
 #[test]
-fn blocks_print_the_reference(rt: HostRuntime) -> Result<(), Fail> {
+fn blocks_print_the_reference(rt: HostRuntime) {
     for rows in all_rows() {
-        assert!(rt; agrees(&rt, rt.alloc(), rows)?);
+        assert!(rt; agrees(&rt, rt.alloc(), rows) == Ok(true));
     }
-    Ok(())
 }
 
-/// Whether a sink that fails at the first row of the second block has what the run of one block writes.
-fn is_cut_off<R: Threads + Wait + Sync>(rt: &R, alloc: Global) -> Result<bool, Memory> {
-    let whole = end_over(rt, alloc, &["run", FILES], "11111 * 4096\n")?;
-    let wanted = Wanted {
-        status: 4,
-        output: whole.out.taken(),
-        line: b"write fault\n",
+/// Whether the run of more than a block, with a sink that fails at the first row of the second one, writes this.
+fn is_cut_off<R: Threads + Wait + Sync>(rt: &R, alloc: Global, output: &[u8]) -> bool {
+    let texts = texts_of(C17, "11111 * 5000\n");
+    let edges = Edges {
+        failing_write: 4098,
+        ..EASY
     };
-    Ok(whole.status == 0 && run_ends(rt, alloc, "", "11111 * 5000\n", 4098, wanted)?)
+    ends(
+        rt,
+        alloc,
+        &["run", FILES],
+        &texts,
+        &edges,
+        (4, output, b"write fault\n"),
+    )
+}
+
+/// Whether it writes what the run of one block does.
+fn has_one_block<R: Threads + Wait + Sync>(rt: &R, alloc: Global) -> Result<bool, Memory> {
+    let texts = texts_of(C17, "11111 * 4096\n");
+    let whole = end_of(rt, alloc, &["run", FILES], &texts, &EASY)?;
+    Ok(whole.status == 0 && is_cut_off(rt, alloc, whole.out.taken()))
 }
 
 /// A sink that fails at the first row of the second block has the header and the rows of the first one.
 #[test]
-fn fault_in_the_second_block(rt: HostRuntime) -> Result<(), Fail> {
-    assert!(rt; is_cut_off(&rt, rt.alloc())?);
-    Ok(())
-}
-
-/// Adds an input of a number.
-fn push_input(alloc: Global, text: &mut Text, i: u32) -> Result<(), Memory> {
-    let line = format!(in alloc; "INPUT(i{i})\n")?;
-    text.push_bytes(line.as_bytes())
+fn fault_in_the_second_block(rt: HostRuntime) {
+    assert!(rt; has_one_block(&rt, rt.alloc()) == Ok(true));
 }
 
 /// 268 inputs, of which the first is printed.
-fn many_inputs(alloc: Global) -> Result<Text, Memory> {
-    let mut text = Text::new(alloc);
-    for i in 1..269 {
-        push_input(alloc, &mut text, i)?;
-    }
-    text.push_bytes(b"OUTPUT(i1)\n")?;
-    Ok(text)
-}
+const MANY: &str = "\
+INPUT(i1)\nINPUT(i2)\nINPUT(i3)\nINPUT(i4)\nINPUT(i5)\nINPUT(i6)\nINPUT(i7)\nINPUT(i8)\nINPUT(i9)\n\
+INPUT(i10)\nINPUT(i11)\nINPUT(i12)\nINPUT(i13)\nINPUT(i14)\nINPUT(i15)\nINPUT(i16)\nINPUT(i17)\nINPUT(i18)\n\
+INPUT(i19)\nINPUT(i20)\nINPUT(i21)\nINPUT(i22)\nINPUT(i23)\nINPUT(i24)\nINPUT(i25)\nINPUT(i26)\nINPUT(i27)\n\
+INPUT(i28)\nINPUT(i29)\nINPUT(i30)\nINPUT(i31)\nINPUT(i32)\nINPUT(i33)\nINPUT(i34)\nINPUT(i35)\nINPUT(i36)\n\
+INPUT(i37)\nINPUT(i38)\nINPUT(i39)\nINPUT(i40)\nINPUT(i41)\nINPUT(i42)\nINPUT(i43)\nINPUT(i44)\nINPUT(i45)\n\
+INPUT(i46)\nINPUT(i47)\nINPUT(i48)\nINPUT(i49)\nINPUT(i50)\nINPUT(i51)\nINPUT(i52)\nINPUT(i53)\nINPUT(i54)\n\
+INPUT(i55)\nINPUT(i56)\nINPUT(i57)\nINPUT(i58)\nINPUT(i59)\nINPUT(i60)\nINPUT(i61)\nINPUT(i62)\nINPUT(i63)\n\
+INPUT(i64)\nINPUT(i65)\nINPUT(i66)\nINPUT(i67)\nINPUT(i68)\nINPUT(i69)\nINPUT(i70)\nINPUT(i71)\nINPUT(i72)\n\
+INPUT(i73)\nINPUT(i74)\nINPUT(i75)\nINPUT(i76)\nINPUT(i77)\nINPUT(i78)\nINPUT(i79)\nINPUT(i80)\nINPUT(i81)\n\
+INPUT(i82)\nINPUT(i83)\nINPUT(i84)\nINPUT(i85)\nINPUT(i86)\nINPUT(i87)\nINPUT(i88)\nINPUT(i89)\nINPUT(i90)\n\
+INPUT(i91)\nINPUT(i92)\nINPUT(i93)\nINPUT(i94)\nINPUT(i95)\nINPUT(i96)\nINPUT(i97)\nINPUT(i98)\nINPUT(i99)\n\
+INPUT(i100)\nINPUT(i101)\nINPUT(i102)\nINPUT(i103)\nINPUT(i104)\nINPUT(i105)\nINPUT(i106)\nINPUT(i107)\n\
+INPUT(i108)\nINPUT(i109)\nINPUT(i110)\nINPUT(i111)\nINPUT(i112)\nINPUT(i113)\nINPUT(i114)\nINPUT(i115)\n\
+INPUT(i116)\nINPUT(i117)\nINPUT(i118)\nINPUT(i119)\nINPUT(i120)\nINPUT(i121)\nINPUT(i122)\nINPUT(i123)\n\
+INPUT(i124)\nINPUT(i125)\nINPUT(i126)\nINPUT(i127)\nINPUT(i128)\nINPUT(i129)\nINPUT(i130)\nINPUT(i131)\n\
+INPUT(i132)\nINPUT(i133)\nINPUT(i134)\nINPUT(i135)\nINPUT(i136)\nINPUT(i137)\nINPUT(i138)\nINPUT(i139)\n\
+INPUT(i140)\nINPUT(i141)\nINPUT(i142)\nINPUT(i143)\nINPUT(i144)\nINPUT(i145)\nINPUT(i146)\nINPUT(i147)\n\
+INPUT(i148)\nINPUT(i149)\nINPUT(i150)\nINPUT(i151)\nINPUT(i152)\nINPUT(i153)\nINPUT(i154)\nINPUT(i155)\n\
+INPUT(i156)\nINPUT(i157)\nINPUT(i158)\nINPUT(i159)\nINPUT(i160)\nINPUT(i161)\nINPUT(i162)\nINPUT(i163)\n\
+INPUT(i164)\nINPUT(i165)\nINPUT(i166)\nINPUT(i167)\nINPUT(i168)\nINPUT(i169)\nINPUT(i170)\nINPUT(i171)\n\
+INPUT(i172)\nINPUT(i173)\nINPUT(i174)\nINPUT(i175)\nINPUT(i176)\nINPUT(i177)\nINPUT(i178)\nINPUT(i179)\n\
+INPUT(i180)\nINPUT(i181)\nINPUT(i182)\nINPUT(i183)\nINPUT(i184)\nINPUT(i185)\nINPUT(i186)\nINPUT(i187)\n\
+INPUT(i188)\nINPUT(i189)\nINPUT(i190)\nINPUT(i191)\nINPUT(i192)\nINPUT(i193)\nINPUT(i194)\nINPUT(i195)\n\
+INPUT(i196)\nINPUT(i197)\nINPUT(i198)\nINPUT(i199)\nINPUT(i200)\nINPUT(i201)\nINPUT(i202)\nINPUT(i203)\n\
+INPUT(i204)\nINPUT(i205)\nINPUT(i206)\nINPUT(i207)\nINPUT(i208)\nINPUT(i209)\nINPUT(i210)\nINPUT(i211)\n\
+INPUT(i212)\nINPUT(i213)\nINPUT(i214)\nINPUT(i215)\nINPUT(i216)\nINPUT(i217)\nINPUT(i218)\nINPUT(i219)\n\
+INPUT(i220)\nINPUT(i221)\nINPUT(i222)\nINPUT(i223)\nINPUT(i224)\nINPUT(i225)\nINPUT(i226)\nINPUT(i227)\n\
+INPUT(i228)\nINPUT(i229)\nINPUT(i230)\nINPUT(i231)\nINPUT(i232)\nINPUT(i233)\nINPUT(i234)\nINPUT(i235)\n\
+INPUT(i236)\nINPUT(i237)\nINPUT(i238)\nINPUT(i239)\nINPUT(i240)\nINPUT(i241)\nINPUT(i242)\nINPUT(i243)\n\
+INPUT(i244)\nINPUT(i245)\nINPUT(i246)\nINPUT(i247)\nINPUT(i248)\nINPUT(i249)\nINPUT(i250)\nINPUT(i251)\n\
+INPUT(i252)\nINPUT(i253)\nINPUT(i254)\nINPUT(i255)\nINPUT(i256)\nINPUT(i257)\nINPUT(i258)\nINPUT(i259)\n\
+INPUT(i260)\nINPUT(i261)\nINPUT(i262)\nINPUT(i263)\nINPUT(i264)\nINPUT(i265)\nINPUT(i266)\nINPUT(i267)\n\
+INPUT(i268)\nOUTPUT(i1)\n";
 
-/// The files of these inputs, and of 1,000,000 cycles of zeros.
-fn many_files(alloc: Global) -> Result<MemFiles, Memory> {
-    let netlist = many_inputs(alloc)?;
-    let mut rows = List::filled(alloc, b'0', 268)?;
-    rows.extend_from_slice(b" * 1000000\n")?;
-    two_files(alloc, netlist.as_bytes(), rows.as_slice(), 0)
-}
+/// 1,000,000 cycles of zeros.
+const ZEROS: &str =
+    "0000000000000000000000000000000000000000000000000000000000000000000000000000000000000000000000000000000000000000000000000000000000000000000000000000000000000000000000000000000000000000000000000000000000000000000000000000000000000000000000000000000000000000000000000000 * 1000000\n";
 
-/// The status of the run of these words over these files, with this sink.
-fn status_into<R: Threads + Wait + Sync, F: Files + Drop, O: Sink, G: Gate + Send>(
-    rt: &R,
-    alloc: Global,
-    line: &str,
-    files: F,
-    out: &mut O,
-    gates: &mut [Option<G>],
-) -> Result<u8, Memory>
-    requires gates { MAX_WORKERS ≤ length gates.old }
-    requires tell { AllCanTell G.Gate.own gates.old }
-{
-    let words = words_of(alloc, &[line])?;
-    let mut files = files;
-    let mut err = NullSink::new();
-    Ok(status_of(
-        rt,
-        alloc,
-        words.as_slice(),
-        &mut files,
-        out,
-        &mut err,
-        gates,
-    ))
-}
-
-/// The status of the run over these files, with a sink that keeps what it writes.
-fn run_many<R: Threads + Wait + Sync>(
-    rt: &R,
-    alloc: Global,
-    out: &mut MemSink,
-) -> Result<u8, Memory> {
-    let files = many_files(alloc)?;
-    let mut gates = count_gates(alloc, GATES)?;
-    let line = "run net.bench net.stim --workers 1";
-    status_into(rt, alloc, line, files, out, gates.as_mut_slice())
-}
-
-/// Whether all of it is written.
+/// Whether all of a run over many inputs is written.
 fn many_are_run<R: Threads + Wait + Sync>(rt: &R, alloc: Global) -> Result<bool, Memory> {
-    let mut out = MemSink::new(alloc, 16_777_216, 4096, List::new(alloc))?;
-    let status = run_many(rt, alloc, &mut out)?;
-    let taken = out.taken();
-    Ok(status == 0 && taken.len() == 8_888_905 && taken.ends_with(b"\n1000000 0\n"))
-}
-
-/// A run has no limit on cells.
-#[test]
-fn many_cells_are_run(rt: HostRuntime) -> Result<(), Fail> {
-    assert!(rt; many_are_run(&rt, rt.alloc())?);
-    Ok(())
-}
-
-/// The reference has one.
-#[test]
-fn many_cells_are_not_referred(rt: HostRuntime) -> Result<(), Fail> {
-    let wanted = Wanted {
-        status: 10,
-        output: b"",
-        line: b"limit: 269000000 cells, at most 268435456\n",
+    let edges = Edges {
+        room: 16_777_216,
+        ..EASY
     };
-    let files = many_files(rt.alloc())?;
-    assert!(rt; ends(&rt, rt.alloc(), &["refer", FILES], files, 0, wanted)?);
-    Ok(())
-}
-
-/// Counts the turns that gates are told of, over all ports.
-#[derive(Drop)]
-struct TurnGate<'a> {
-    counts: CountGate,
-    told: &'a AtomicU64,
-}
-
-impl<'a> Gate for TurnGate<'a> {
-    ghost times = { λ g. ⟦<CountGate as Gate>⟧.times g.counts };
-
-    ghost latest = { λ g. ⟦<CountGate as Gate>⟧.latest g.counts };
-
-    fn at(&mut self, port: u32, turn: u64) {
-        self.counts.at(port, turn);
-        self.told.fetch_add(1, Ordering::SeqCst);
-    }
-}
-
-fn turn_gate<'a>(told: &'a AtomicU64) -> TurnGate<'a>
-    ensures { All (λ n. n ≤ 2 ^ 62) (⟦<TurnGate<'a> as Gate>⟧.times result) }
-{
-    TurnGate {
-        counts: CountGate::new(),
-        told,
-    }
-}
-
-/// The gates of a call.
-fn turn_gates<'a>(alloc: Global, told: &'a AtomicU64) -> Result<List<Option<TurnGate<'a>>>, Memory>
-    ensures count { IfOk result (λ gates. length gates ≡ 64) }
-    ensures tell { IfOk result (λ gates. (i : ℕ) (gate : Option TurnGate) → slice_get gates i ≡ Some gate → CanTell ⟦<TurnGate<'a> as Gate>⟧ gate) }
-{
-    let mut gates = List::new(alloc);
-    'gates: for _w in 0..GATES {
-        gates.push(Some(turn_gate(told)))?;
-    }
-    Ok(gates)
-}
-
-/// Notes at each piece of how many turns the gates were told.
-#[derive(Drop)]
-struct TurnSink<'a> {
-    sink: NullSink,
-    told: &'a AtomicU64,
-    header: Option<u64>,
-    first_row: Option<u64>,
-    last_row: u64,
-}
-
-impl<'a> TurnSink<'a> {
-    fn note(&mut self)
-        ensures { self.new.sink ≡ self.old.sink }
-    {
-        let told = self.told.load(Ordering::SeqCst);
-        if self.header.is_none() {
-            self.header = Some(told);
-        } else if self.first_row.is_none() {
-            self.first_row = Some(told);
-        }
-        self.last_row = told;
-    }
-}
-
-impl<'a> Sink for TurnSink<'a> {
-    ghost taken = { λ s. ⟦<NullSink as Sink>⟧.taken s.sink };
-
-    ghost faults = { λ s. ⟦<NullSink as Sink>⟧.faults s.sink };
-
-    ghost writes = { λ s. ⟦<NullSink as Sink>⟧.writes s.sink };
-
-    fn write(&mut self, piece: &[u8]) -> Result<usize, Failed> {
-        self.note();
-        self.sink.write(piece)
-    }
-}
-
-/// A sink that has noted nothing.
-fn turn_sink<'a>(told: &'a AtomicU64) -> TurnSink<'a> {
-    TurnSink {
-        sink: NullSink::new(),
-        told,
-        header: None,
-        first_row: None,
-        last_row: 0,
-    }
-}
-
-/// How many turns the gates were told of at the header, at the first row and at the last one.
-fn turns_at_pieces<R: Threads + Wait + Sync>(
-    rt: &R,
-    alloc: Global,
-    rows: &str,
-) -> Result<(Option<u64>, Option<u64>, u64), Memory> {
-    let told = AtomicU64::new(0);
-    let mut out = turn_sink(&told);
-    let files = two_files(alloc, C17.as_bytes(), rows.as_bytes(), 0)?;
-    let mut gates = turn_gates(alloc, &told)?;
-    status_into(
+    let ended = end_of(
         rt,
         alloc,
-        "run net.bench net.stim",
-        files,
-        &mut out,
-        gates.as_mut_slice(),
+        &["run --workers 1", FILES],
+        &texts_of(MANY, ZEROS),
+        &edges,
     )?;
-    Ok((out.header, out.first_row, out.last_row))
+    let taken = ended.out.taken();
+    let size = taken.len();
+    Ok(ended.status == 0 && size == 8_888_905 && taken.ends_with(b"\n1000000 0\n"))
 }
 
-/// The first row is written after the turns of one block, and before those of the last one. The header comes
-/// before any turn. Ports of 8,193 cycles are in three blocks.
+/// A run has no limit on cells, and the reference has one.
 #[test]
-fn rows_come_before_the_last_block(rt: HostRuntime) -> Result<(), Fail> {
-    let (header, first, last) = turns_at_pieces(&rt, rt.alloc(), "11111 * 8193\n")?;
-    assert!(rt; last > 0);
-    assert!(rt; header == Some(0) && first == Some(last / 8193 * 4096));
-    Ok(())
+fn many_cells(rt: HostRuntime) {
+    assert!(rt; many_are_run(&rt, rt.alloc()) == Ok(true));
+    let texts = texts_of(MANY, ZEROS);
+    let line = b"limit: 269000000 cells, at most 268435456\n";
+    assert!(rt;
+        ends(
+            &rt,
+            rt.alloc(),
+            &["refer", FILES],
+            &texts,
+            &EASY,
+            (10, b"", line)
+        )
+    );
 }

@@ -1,52 +1,36 @@
 //! A table of whole calls: what the commands end with over the same files.
 
-use super::{C17, FILES, LATCH, RAM, S27, USAGE, WIDE, Wanted, ends, two, two_files};
-use seen_list::Memory;
-use std::alloc::Global;
-use std::marker::Sync;
-use std::sync::Wait;
-use std::test::Fail;
-use std::thread::Threads;
+use super::{C17, Case, FILES, LATCH, RAM, S27, USAGE, WIDE, all_end};
 
 const SHARE: &str =
     "INPUT(e)\nINPUT(a)\nINPUT(f)\nINPUT(b)\nOUTPUT(y)\nt = TRI(e, a)\nu = TRI(f, b)\ny = BUS(t, u)\n";
 
 const REGISTER: &str = "INPUT(a)\nOUTPUT(q)\nq = DFF(a)\n";
 
-const ALL: &str = "run refer order";
+const ALL: &str = "run|refer|order";
 
-/// A call of each of these commands with the same words behind it, over the files of a netlist and of
-/// a stimulus, and the call of the store and of the sink that fails (0: none). What is wanted: the
-/// number of the status, the output and the line.
-#[derive(Clone, Copy)]
-struct Case {
-    commands: &'static str,
-    words: &'static str,
-    netlist: &'static str,
-    stimulus: &'static str,
-    failing: (u64, u64),
-    status: u8,
-    output: &'static str,
-    line: &'static str,
-}
-
-const CASES: &[Case] = &[
+/// Netlists that people have, and stimuli that are refused.
+const PUBLISHED: &[Case] = &[
     // C17, in rank order.
     Case {
-        commands: ALL,
+        calls: ALL,
         words: FILES,
         netlist: C17,
         stimulus: "11111\n00000\nxxxxx\n",
+        machine: "",
+        more: "",
         failing: (0, 0),
         status: 0,
         output: "cycle 22 23\n1 10\n2 00\n3 xx\n",
         line: "",
     },
     Case {
-        commands: ALL,
+        calls: ALL,
         words: FILES,
         netlist: C17,
         stimulus: "",
+        machine: "",
+        more: "",
         failing: (0, 0),
         status: 0,
         output: "cycle 22 23\n",
@@ -54,50 +38,60 @@ const CASES: &[Case] = &[
     },
     // C17 in three units, with a repeat.
     Case {
-        commands: ALL,
+        calls: ALL,
         words: "net.bench net.stim --mode unit --units 3",
         netlist: C17,
         stimulus: "11111 * 2\n",
+        machine: "",
+        more: "",
         failing: (0, 0),
         status: 0,
         output: "cycle 22 23\n1 1x\n2 10\n",
         line: "",
     },
     Case {
-        commands: ALL,
+        calls: ALL,
         words: FILES,
         netlist: C17,
         stimulus: "1111\n",
+        machine: "",
+        more: "",
         failing: (0, 0),
         status: 9,
         output: "",
         line: "stimulus: line 1: 4 values, 5 wanted\n",
     },
     Case {
-        commands: ALL,
+        calls: ALL,
         words: FILES,
         netlist: C17,
         stimulus: "11112\n",
+        machine: "",
+        more: "",
         failing: (0, 0),
         status: 9,
         output: "",
         line: "stimulus: line 1: bad character\n",
     },
     Case {
-        commands: ALL,
+        calls: ALL,
         words: FILES,
         netlist: C17,
         stimulus: "11111 * 0\n",
+        machine: "",
+        more: "",
         failing: (0, 0),
         status: 9,
         output: "",
         line: "stimulus: line 1: bad repeat\n",
     },
     Case {
-        commands: ALL,
+        calls: ALL,
         words: FILES,
         netlist: C17,
         stimulus: "11111 * 1000000\n00000\n",
+        machine: "",
+        more: "",
         failing: (0, 0),
         status: 9,
         output: "",
@@ -105,51 +99,70 @@ const CASES: &[Case] = &[
     },
     // S27, with the initial values 0 and x.
     Case {
-        commands: ALL,
+        calls: ALL,
         words: "net.bench net.stim --init 0",
         netlist: S27,
         stimulus: "0000 * 3\n",
+        machine: "",
+        more: "",
         failing: (0, 0),
         status: 0,
         output: "cycle G17\n1 1\n2 1\n3 1\n",
         line: "",
     },
     Case {
-        commands: ALL,
+        calls: ALL,
         words: "net.bench net.stim --init 0",
         netlist: S27,
         stimulus: "0000\n0001\n0000\n1000\n0001\n",
+        machine: "",
+        more: "",
         failing: (0, 0),
         status: 0,
         output: "cycle G17\n1 1\n2 0\n3 0\n4 1\n5 1\n",
         line: "",
     },
     Case {
-        commands: ALL,
+        calls: ALL,
         words: FILES,
         netlist: S27,
         stimulus: "0000\n0001\n0000\n1000\n0001\n",
+        machine: "",
+        more: "",
         failing: (0, 0),
         status: 0,
         output: "cycle G17\n1 x\n2 x\n3 x\n4 1\n5 1\n",
         line: "",
     },
+];
+
+#[test]
+fn published_netlists_end_as_stated(rt: HostRuntime) {
+    assert!(rt; all_end(&rt, rt.alloc(), PUBLISHED));
+}
+
+/// Small netlists, each for one thing.
+const SMALL: &[Case] = &[
     // The latch: a loop in rank order, and none in unit delay.
     Case {
-        commands: ALL,
+        calls: ALL,
         words: FILES,
         netlist: LATCH,
         stimulus: "01\n11\n10\n",
+        machine: "",
+        more: "",
         failing: (0, 0),
         status: 7,
         output: "",
         line: "loop: q p\n",
     },
     Case {
-        commands: ALL,
+        calls: ALL,
         words: "net.bench net.stim --mode unit --units 4",
         netlist: LATCH,
         stimulus: "01\n11\n10\n",
+        machine: "",
+        more: "",
         failing: (0, 0),
         status: 0,
         output: "cycle q p\n1 10\n2 10\n3 01\n",
@@ -157,10 +170,12 @@ const CASES: &[Case] = &[
     },
     // A gate of 17 operands is one unit.
     Case {
-        commands: ALL,
+        calls: ALL,
         words: "net.bench net.stim --mode unit --units 2",
         netlist: WIDE,
         stimulus: "11111111111111111\n11111111111111110\n",
+        machine: "",
+        more: "",
         failing: (0, 0),
         status: 0,
         output: "cycle z\n1 1\n2 0\n",
@@ -168,10 +183,12 @@ const CASES: &[Case] = &[
     },
     // A buffer in unit delay.
     Case {
-        commands: ALL,
+        calls: ALL,
         words: "net.bench net.stim --mode unit",
         netlist: "INPUT(a)\nOUTPUT(z)\nz = BUFF(a)\n",
         stimulus: "0\n1\n1\n",
+        machine: "",
+        more: "",
         failing: (0, 0),
         status: 0,
         output: "cycle z\n1 x\n2 0\n3 1\n",
@@ -179,10 +196,12 @@ const CASES: &[Case] = &[
     },
     // A bus of two tri-state drivers.
     Case {
-        commands: ALL,
+        calls: ALL,
         words: FILES,
         netlist: SHARE,
         stimulus: "0100\n1100\n1110\n1111\n1z00\n",
+        machine: "",
+        more: "",
         failing: (0, 0),
         status: 0,
         output: "cycle y\n1 z\n2 1\n3 x\n4 1\n5 x\n",
@@ -190,10 +209,12 @@ const CASES: &[Case] = &[
     },
     // A memory: the read before the write.
     Case {
-        commands: ALL,
+        calls: ALL,
         words: FILES,
         netlist: RAM,
         stimulus: "1101\n0100\n0100\n1100\n0100\n0100\n",
+        machine: "",
+        more: "",
         failing: (0, 0),
         status: 0,
         output: "cycle q\n1 x\n2 x\n3 1\n4 1\n5 1\n6 0\n",
@@ -201,20 +222,24 @@ const CASES: &[Case] = &[
     },
     // An undefined address, and an undefined enable.
     Case {
-        commands: ALL,
+        calls: ALL,
         words: "net.bench net.stim --init 0",
         netlist: RAM,
         stimulus: "0000\n1x01\n0000\n0000\n",
+        machine: "",
+        more: "",
         failing: (0, 0),
         status: 0,
         output: "cycle q\n1 0\n2 0\n3 x\n4 x\n",
         line: "",
     },
     Case {
-        commands: ALL,
+        calls: ALL,
         words: "net.bench net.stim --init 0",
         netlist: RAM,
         stimulus: "0000\n0x01\n0000\n0000\n",
+        machine: "",
+        more: "",
         failing: (0, 0),
         status: 0,
         output: "cycle q\n1 0\n2 0\n3 x\n4 0\n",
@@ -222,10 +247,12 @@ const CASES: &[Case] = &[
     },
     // A netlist of no bytes.
     Case {
-        commands: ALL,
+        calls: ALL,
         words: FILES,
         netlist: "",
         stimulus: "- * 2\n",
+        machine: "",
+        more: "",
         failing: (0, 0),
         status: 0,
         output: "cycle\n1 \n2 \n",
@@ -233,10 +260,12 @@ const CASES: &[Case] = &[
     },
     // An input printed twice.
     Case {
-        commands: ALL,
+        calls: ALL,
         words: FILES,
         netlist: "INPUT(a)\nOUTPUT(a)\nOUTPUT(a)\n",
         stimulus: "1\nz\n",
+        machine: "",
+        more: "",
         failing: (0, 0),
         status: 0,
         output: "cycle a a\n1 11\n2 zz\n",
@@ -244,10 +273,12 @@ const CASES: &[Case] = &[
     },
     // A register that breaks a loop.
     Case {
-        commands: ALL,
+        calls: ALL,
         words: "net.bench net.stim --init 0",
         netlist: "OUTPUT(q)\nn = NOT(q)\nq = DFF(n)\n",
         stimulus: "- * 4\n",
+        machine: "",
+        more: "",
         failing: (0, 0),
         status: 0,
         output: "cycle q\n1 0\n2 1\n3 0\n4 1\n",
@@ -255,41 +286,58 @@ const CASES: &[Case] = &[
     },
     // A register: undefined at first, and after high impedance.
     Case {
-        commands: ALL,
+        calls: ALL,
         words: FILES,
         netlist: REGISTER,
         stimulus: "1\n0\nz\n0\n",
+        machine: "",
+        more: "",
         failing: (0, 0),
         status: 0,
         output: "cycle q\n1 x\n2 1\n3 0\n4 x\n",
         line: "",
     },
     Case {
-        commands: ALL,
+        calls: ALL,
         words: "net.bench net.stim --mode unit --units 3 --init 0",
         netlist: REGISTER,
         stimulus: "1\n0\n",
+        machine: "",
+        more: "",
         failing: (0, 0),
         status: 0,
         output: "cycle q\n1 0\n2 1\n",
         line: "",
     },
+];
+
+#[test]
+fn small_netlists_end_as_stated(rt: HostRuntime) {
+    assert!(rt; all_end(&rt, rt.alloc(), SMALL));
+}
+
+/// Calls that print a text, netlists that are refused, and words.
+const TEXTS: &[Case] = &[
     // Canonical texts.
     Case {
-        commands: "show",
+        calls: "show",
         words: "net.bench",
         netlist: "output(z)\nz=buf(a)\ninput(a)\n",
         stimulus: "",
+        machine: "",
+        more: "",
         failing: (0, 0),
         status: 0,
         output: "INPUT(a)\nOUTPUT(z)\nz = BUFF(a)\n",
         line: "",
     },
     Case {
-        commands: "show",
+        calls: "show",
         words: "net.bench",
         netlist: RAM,
         stimulus: "",
+        machine: "",
+        more: "",
         failing: (0, 0),
         status: 0,
         output: "INPUT(we)\nINPUT(a0)\nINPUT(a1)\nINPUT(d)\nOUTPUT(q)\n[q] = RAM(we; a0, a1; d)\n",
@@ -297,30 +345,36 @@ const CASES: &[Case] = &[
     },
     // A text is one piece: there is no second write that could fail.
     Case {
-        commands: "show",
+        calls: "show",
         words: "net.bench",
         netlist: RAM,
         stimulus: "",
+        machine: "",
+        more: "",
         failing: (0, 2),
         status: 0,
         output: "INPUT(we)\nINPUT(a0)\nINPUT(a1)\nINPUT(d)\nOUTPUT(q)\n[q] = RAM(we; a0, a1; d)\n",
         line: "",
     },
     Case {
-        commands: "plan",
+        calls: "plan",
         words: "net.bench",
         netlist: "",
         stimulus: "",
+        machine: "",
+        more: "",
         failing: (0, 2),
         status: 0,
         output: "slots 0\nl0 items 0 tables 0 takes 0\nl1 items 0 tables 0 takes 0\nl2 items 0 tables 0 takes 0\nl3 items 0 tables 0 takes 0\na0 items 0 bits 0 takes 0\nh items 0 takes 0\n",
         line: "",
     },
     Case {
-        commands: "large",
+        calls: "large",
         words: "2 2",
         netlist: "",
         stimulus: "",
+        machine: "",
+        more: "",
         failing: (0, 2),
         status: 0,
         output: "gates 2 nodes 2 slots 9 crossings 5\nzeros 2 ones 2 xs 0 zs 0\n",
@@ -328,70 +382,84 @@ const CASES: &[Case] = &[
     },
     // Refused netlists.
     Case {
-        commands: "show",
+        calls: "show",
         words: "net.bench",
         netlist: "INPUT(a)\nOUTPUT(z)\nz = AND(a, b)\n",
         stimulus: "",
+        machine: "",
+        more: "",
         failing: (0, 0),
         status: 5,
         output: "",
         line: "netlist: line 3: b has no driver\n",
     },
     Case {
-        commands: "show",
+        calls: "show",
         words: "net.bench",
         netlist: "INPUT(a)\na = NOT(a)\n",
         stimulus: "",
+        machine: "",
+        more: "",
         failing: (0, 0),
         status: 5,
         output: "",
         line: "netlist: line 2: a driven twice, first at line 1\n",
     },
     Case {
-        commands: "show",
+        calls: "show",
         words: "net.bench",
         netlist: "INPUT(a)\nz = MAJ(a, a, a)\ny = NOT(a, a)\n",
         stimulus: "",
+        machine: "",
+        more: "",
         failing: (0, 0),
         status: 5,
         output: "",
         line: "netlist: line 2: unknown kind\n",
     },
     Case {
-        commands: "show",
+        calls: "show",
         words: "net.bench",
         netlist: "INPUT(a)\nz = NOT(a, a)\n",
         stimulus: "",
+        machine: "",
+        more: "",
         failing: (0, 0),
         status: 5,
         output: "",
         line: "netlist: line 2: wrong number of operands\n",
     },
     Case {
-        commands: "show",
+        calls: "show",
         words: "net.bench",
         netlist: "INPUT(a\nz = MAJ(a)\n",
         stimulus: "",
+        machine: "",
+        more: "",
         failing: (0, 0),
         status: 5,
         output: "",
         line: "netlist: line 1: syntax\n",
     },
     Case {
-        commands: "show",
+        calls: "show",
         words: "net.bench",
         netlist: "INPUT(a)\nz = NOT(a\x01)\n",
         stimulus: "",
+        machine: "",
+        more: "",
         failing: (0, 0),
         status: 5,
         output: "",
         line: "netlist: line 2, column 10: bad byte\n",
     },
     Case {
-        commands: "show",
+        calls: "show",
         words: "net.bench",
         netlist: "INPUT(nnnnnnnnnnnnnnnnnnnnnnnnnnnnnnnnnnnnnnnnnnnnnnnnnnnnnnnnnnnnnnnnnnnnnnnnnnnnnnnnnnnnnnnnnnnnnnnnnnnnnnnnnnnnnnnnnnnnnnnnnnnnnnnnnnnnnnnnnnnnnnnnnnnnnnnnnnnnnnnnnnnnnnnnnnnnnnnnnnnnnnnnnnnnnnnnnnnnnnnnnnnnnnnnnnnnnnnnnnnnnnnnnnnnnnnnnnnnnnnnnnnnnnnnnnnnnnnn)\n",
         stimulus: "",
+        machine: "",
+        more: "",
         failing: (0, 0),
         status: 5,
         output: "",
@@ -399,10 +467,12 @@ const CASES: &[Case] = &[
     },
     // A file that isn't there.
     Case {
-        commands: ALL,
+        calls: ALL,
         words: "net.bench other",
         netlist: C17,
         stimulus: "",
+        machine: "",
+        more: "",
         failing: (0, 0),
         status: 3,
         output: "",
@@ -410,10 +480,12 @@ const CASES: &[Case] = &[
     },
     // Words of no form.
     Case {
-        commands: "",
+        calls: "",
         words: "",
         netlist: "",
         stimulus: "",
+        machine: "",
+        more: "",
         failing: (0, 0),
         status: 2,
         output: "",
@@ -421,10 +493,12 @@ const CASES: &[Case] = &[
     },
     // Options before the files and behind them, and what stands behind `--`.
     Case {
-        commands: ALL,
+        calls: ALL,
         words: "--units=3 net.bench --mode unit -- net.stim",
         netlist: C17,
         stimulus: "11111 * 2\n",
+        machine: "",
+        more: "",
         failing: (0, 0),
         status: 0,
         output: "cycle 22 23\n1 1x\n2 10\n",
@@ -432,40 +506,7 @@ const CASES: &[Case] = &[
     },
 ];
 
-fn cases() -> &'static [Case] {
-    CASES
-}
-
-/// Whether a call of a command ends as the case says.
-fn is_case<R: Threads + Wait + Sync>(
-    rt: &R,
-    alloc: Global,
-    command: &str,
-    case: &Case,
-) -> Result<bool, Memory> {
-    let (netlist, stimulus) = (case.netlist.as_bytes(), case.stimulus.as_bytes());
-    let files = two_files(alloc, netlist, stimulus, case.failing.0)?;
-    let wanted = Wanted {
-        status: case.status,
-        output: case.output.as_bytes(),
-        line: case.line.as_bytes(),
-    };
-    ends(
-        rt,
-        alloc,
-        &two(command, case.words),
-        files,
-        case.failing.1,
-        wanted,
-    )
-}
-
 #[test]
-fn calls_end_as_stated(rt: HostRuntime) -> Result<(), Fail> {
-    for case in cases() {
-        for command in case.commands.split(' ') {
-            assert!(rt; is_case(&rt, rt.alloc(), command, case)?);
-        }
-    }
-    Ok(())
+fn texts_and_words_end_as_stated(rt: HostRuntime) {
+    assert!(rt; all_end(&rt, rt.alloc(), TEXTS));
 }

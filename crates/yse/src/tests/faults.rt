@@ -2,124 +2,127 @@
 //! the stuck signal's gate or register is replaced by an input of a constant value. A memory's outputs can't be replaced
 //! so; their lines are those of a second program.
 
-use super::{C17, LATCH, RAM, S27, ends, printed, store, three};
-use seen_list::Memory;
-use std::alloc::Global;
-use std::marker::Sync;
-use std::sync::Wait;
-use std::test::Fail;
-use std::thread::Threads;
+use super::{C17, Case, FILES, LATCH, RAM, S27, all_end};
 
 /// A bus of two drivers.
 const BUS: &str =
     "INPUT(e)\nINPUT(a)\nINPUT(f)\nINPUT(b)\nOUTPUT(y)\nt = TRI(e, a)\nu = TRI(f, b)\ny = BUS(t, u)\n";
 
-/// A netlist, a stimulus, a list of gates, the options that tell how it runs, and the output.
-#[derive(Clone, Copy)]
-struct Case {
-    netlist: &'static str,
-    stimulus: &'static str,
-    list: &'static str,
-    options: &'static str,
-    output: &'static str,
-}
+const CALLS: &str = "fault --workers 1|fault --workers 2|fault --workers 7";
 
 const CASES: &[Case] = &[
     Case {
+        calls: CALLS,
+        words: FILES,
         netlist: C17,
         stimulus: "11111\n00000\n01010\n",
-        list: "",
-        options: "",
+        machine: "",
+        more: "",
+        failing: (0, 0),
+        status: 0,
         output: "1 0 1 22\n1 1 -\n2 0 3 22\n2 1 2 22\n3 0 1 23\n3 1 3 22\n6 0 1 23\n6 1 -\n7 0 -\n7 1 2 23\n10 0 2 22\n10 1 1 22\n11 0 3 22\n11 1 1 23\n16 0 1 23\n16 1 3 22\n19 0 1 23\n19 1 -\n22 0 1 22\n22 1 2 22\n23 0 3 23\n23 1 1 23\ndetected 18 of 22\n",
+        line: "",
     },
     Case {
+        calls: CALLS,
+        words: "net.bench net.stim --init 0",
         netlist: S27,
         stimulus: "0000\n0001\n0000\n1000\n0001\n",
-        list: "",
-        options: "--init 0",
+        machine: "",
+        more: "",
+        failing: (0, 0),
+        status: 0,
         output: "G0 0 4 G17\nG0 1 2 G17\nG1 0 -\nG1 1 2 G17\nG2 0 -\nG2 1 -\nG3 0 2 G17\nG3 1 1 G17\nG5 0 5 G17\nG5 1 2 G17\nG6 0 3 G17\nG6 1 1 G17\nG7 0 -\nG7 1 2 G17\nG14 0 2 G17\nG14 1 4 G17\nG17 0 1 G17\nG17 1 2 G17\nG8 0 3 G17\nG8 1 1 G17\nG15 0 2 G17\nG15 1 -\nG16 0 2 G17\nG16 1 1 G17\nG9 0 1 G17\nG9 1 2 G17\nG10 0 5 G17\nG10 1 2 G17\nG11 0 2 G17\nG11 1 1 G17\nG12 0 2 G17\nG12 1 -\nG13 0 -\nG13 1 2 G17\ndetected 27 of 34\n",
+        line: "",
     },
     Case {
+        calls: CALLS,
+        words: FILES,
         netlist: S27,
         stimulus: "0000\n0001\n0000\n1000\n0001\n",
-        list: "",
-        options: "",
+        machine: "",
+        more: "",
+        failing: (0, 0),
+        status: 0,
         output: "G0 0 -\nG0 1 -\nG1 0 -\nG1 1 -\nG2 0 -\nG2 1 -\nG3 0 -\nG3 1 -\nG5 0 -\nG5 1 -\nG6 0 -\nG6 1 -\nG7 0 -\nG7 1 -\nG14 0 -\nG14 1 -\nG17 0 4 G17\nG17 1 -\nG8 0 -\nG8 1 4 G17\nG15 0 -\nG15 1 -\nG16 0 -\nG16 1 -\nG9 0 4 G17\nG9 1 -\nG10 0 -\nG10 1 -\nG11 0 -\nG11 1 4 G17\nG12 0 -\nG12 1 -\nG13 0 -\nG13 1 -\ndetected 4 of 34\n",
+        line: "",
     },
     Case {
+        calls: CALLS,
+        words: FILES,
         netlist: RAM,
         stimulus: "1101\n0100\n0100\n1100\n0100\n0100\n",
-        list: "",
-        options: "",
+        machine: "",
+        more: "",
+        failing: (0, 0),
+        status: 0,
         output: "we 0 -\nwe 1 4 q\na0 0 -\na0 1 -\na1 0 -\na1 1 -\nd 0 3 q\nd 1 6 q\nq 0 3 q\nq 1 6 q\ndetected 5 of 10\n",
+        line: "",
     },
     Case {
+        calls: CALLS,
+        words: FILES,
         netlist: BUS,
         stimulus: "1000\n1001\n1010\n1110\n1011\n0000\nx000\n1100\n",
-        list: "",
-        options: "",
+        machine: "",
+        more: "",
+        failing: (0, 0),
+        status: 0,
         output: "e 0 -\ne 1 -\na 0 8 y\na 1 1 y\nf 0 -\nf 1 -\nb 0 -\nb 1 -\nt 0 8 y\nt 1 1 y\nu 0 -\nu 1 -\ny 0 8 y\ny 1 1 y\ndetected 6 of 14\n",
+        line: "",
     },
     Case {
+        calls: CALLS,
+        words: "net.bench net.stim --mode unit --units 4",
         netlist: LATCH,
         stimulus: "01\n11\n10\n",
-        list: "",
-        options: "--mode unit --units 4",
+        machine: "",
+        more: "",
+        failing: (0, 0),
+        status: 0,
         output: "s 0 3 q\ns 1 -\nr 0 1 p\nr 1 3 q\nq 0 1 q\nq 1 3 q\np 0 3 q\np 1 1 p\ndetected 7 of 8\n",
+        line: "",
     },
     Case {
+        calls: CALLS,
+        words: "net.bench net.stim --mode mixed --last net.more --units 2",
         netlist: LATCH,
         stimulus: "01\n11\n10\n",
-        list: "q\n",
-        options: "--mode mixed --last net.last --units 2",
+        machine: "",
+        more: "q\n",
+        failing: (0, 0),
+        status: 0,
         output: "s 0 3 q\ns 1 -\nr 0 1 p\nr 1 3 q\nq 0 1 q\nq 1 3 q\np 0 3 q\np 1 1 p\ndetected 7 of 8\n",
+        line: "",
     },
     Case {
+        calls: CALLS,
+        words: "net.bench net.stim --mode unit --units 2",
         netlist: C17,
         stimulus: "11111 * 2\n00000 * 2\n",
-        list: "",
-        options: "--mode unit --units 2",
+        machine: "",
+        more: "",
+        failing: (0, 0),
+        status: 0,
         output: "1 0 2 22\n1 1 -\n2 0 -\n2 1 4 22\n3 0 2 23\n3 1 -\n6 0 2 23\n6 1 -\n7 0 -\n7 1 4 23\n10 0 4 22\n10 1 2 22\n11 0 -\n11 1 2 23\n16 0 2 23\n16 1 -\n19 0 2 23\n19 1 -\n22 0 2 22\n22 1 4 22\n23 0 -\n23 1 2 23\ndetected 13 of 22\n",
+        line: "",
     },
     // No input is known.
     Case {
+        calls: CALLS,
+        words: FILES,
         netlist: C17,
         stimulus: "xxxxx\n",
-        list: "",
-        options: "",
+        machine: "",
+        more: "",
+        failing: (0, 0),
+        status: 0,
         output: "1 0 -\n1 1 -\n2 0 -\n2 1 -\n3 0 -\n3 1 -\n6 0 -\n6 1 -\n7 0 -\n7 1 -\n10 0 -\n10 1 -\n11 0 -\n11 1 -\n16 0 -\n16 1 -\n19 0 -\n19 1 -\n22 0 -\n22 1 -\n23 0 -\n23 1 -\ndetected 0 of 22\n",
+        line: "",
     },
 ];
 
-fn cases() -> &'static [Case] {
-    CASES
-}
-
-const CALLS: &str = "fault --workers 1|fault --workers 2|fault --workers 7";
-
-/// Whether a call over the files of a case lists its faults.
-fn is_case<R: Threads + Wait + Sync>(
-    rt: &R,
-    alloc: Global,
-    call: &str,
-    case: &Case,
-) -> Result<bool, Memory> {
-    let files: [(&[u8], &[u8]); 3] = [
-        (b"net.bench", case.netlist.as_bytes()),
-        (b"net.stim", case.stimulus.as_bytes()),
-        (b"net.last", case.list.as_bytes()),
-    ];
-    let files = store(alloc, &files, 0)?;
-    let lines = three(call, "net.bench net.stim", case.options);
-    ends(rt, alloc, &lines, files, 0, printed(case.output.as_bytes()))
-}
-
 #[test]
-fn faults_are_seen_as_in_edited_netlists(rt: HostRuntime) -> Result<(), Fail> {
-    for case in cases() {
-        for call in CALLS.split('|') {
-            assert!(rt; is_case(&rt, rt.alloc(), call, case)?);
-        }
-    }
-    Ok(())
+fn faults_are_seen_as_in_edited_netlists(rt: HostRuntime) {
+    assert!(rt; all_end(&rt, rt.alloc(), CASES));
 }

@@ -1,302 +1,286 @@
 //! Whole calls at edges that fail, or that give or take little at a time, and over texts that are cut off or as
 //! large as a text may be.
 
-use super::{C17, Ended, GATES, S27, Wanted, has_ended, printed, push_file, status_of, words_of};
-use edge_io::{Files, MemFiles, MemSink};
-use machine_run::count_gates;
-use seen_list::{List, Memory, Text};
+use super::{C17, Case, EASY, Edges, FILES, S27, Texts, all_end, end_of, ends, texts_of};
+use seen_list::{Memory, Text};
 use std::alloc::Global;
 use std::marker::Sync;
 use std::sync::Wait;
-use std::test::Fail;
 use std::thread::Threads;
 
-const COMMANDS: &[&str] = &["run", "refer", "order"];
-
-fn commands() -> &'static [&'static str] {
-    COMMANDS
-}
+const COMMANDS: &str = "run|refer|order";
 
 const S27_TRACE: &str = "cycle G17\n1 1\n2 1\n3 1\n";
 
 const C17_TRACE: &str = "cycle 22 23\n1 10\n2 00\n3 xx\n";
 
-/// The most bytes that one read gives; the call of the store that fails (0: none); the room of the output and the
-/// most bytes that one write takes of it; the room of the line; and the writes of the output and of the line that
-/// fail.
-#[derive(Clone, Copy)]
-struct Edges {
-    most_read: usize,
-    failing_read: u64,
-    room: usize,
-    most_written: usize,
-    line_room: usize,
-    failing_write: u64,
-    failing_line: u64,
-}
-
-/// Nothing fails.
-const EASY: Edges = Edges {
-    most_read: 131_072,
-    failing_read: 0,
-    room: 131_072,
-    most_written: 131_072,
-    line_room: 4096,
-    failing_write: 0,
-    failing_line: 0,
-};
-
-fn store(alloc: Global, netlist: &[u8], stimulus: &[u8], edges: Edges) -> Result<MemFiles, Memory> {
-    let fails = List::from_slice(alloc, &[edges.failing_read])?;
-    let mut files = List::new(alloc);
-    push_file(alloc, &mut files, b"net.bench", netlist)?;
-    push_file(alloc, &mut files, b"net.stim", stimulus)?;
-    Ok(MemFiles::with_most(files, fails, edges.most_read.max(1)))
-}
-
-fn sink(alloc: Global, room: usize, most: usize, failing: u64) -> Result<MemSink, Memory> {
-    let fails = List::from_slice(alloc, &[failing])?;
-    MemSink::new(alloc, room, most.max(1), fails)
-}
-
-fn sinks(alloc: Global, edges: Edges) -> Result<Ended, Memory> {
-    let out = sink(alloc, edges.room, edges.most_written, edges.failing_write)?;
-    let err = sink(alloc, edges.line_room, 4096, edges.failing_line)?;
-    Ok(Ended {
+const CASES: &[Case] = &[
+    // Each file is begun, read, and read again up to its end.
+    Case {
+        calls: COMMANDS,
+        words: "net.bench net.stim --init 0",
+        netlist: S27,
+        stimulus: "0000 * 3\n",
+        machine: "",
+        more: "",
+        failing: (1, 0),
+        status: 3,
+        output: "",
+        line: "read fault: net.bench\n",
+    },
+    Case {
+        calls: COMMANDS,
+        words: "net.bench net.stim --init 0",
+        netlist: S27,
+        stimulus: "0000 * 3\n",
+        machine: "",
+        more: "",
+        failing: (2, 0),
+        status: 3,
+        output: "",
+        line: "read fault: net.bench\n",
+    },
+    Case {
+        calls: COMMANDS,
+        words: "net.bench net.stim --init 0",
+        netlist: S27,
+        stimulus: "0000 * 3\n",
+        machine: "",
+        more: "",
+        failing: (3, 0),
+        status: 3,
+        output: "",
+        line: "read fault: net.bench\n",
+    },
+    Case {
+        calls: COMMANDS,
+        words: "net.bench net.stim --init 0",
+        netlist: S27,
+        stimulus: "0000 * 3\n",
+        machine: "",
+        more: "",
+        failing: (4, 0),
+        status: 3,
+        output: "",
+        line: "read fault: net.stim\n",
+    },
+    Case {
+        calls: COMMANDS,
+        words: "net.bench net.stim --init 0",
+        netlist: S27,
+        stimulus: "0000 * 3\n",
+        machine: "",
+        more: "",
+        failing: (5, 0),
+        status: 3,
+        output: "",
+        line: "read fault: net.stim\n",
+    },
+    Case {
+        calls: COMMANDS,
+        words: "net.bench net.stim --init 0",
+        netlist: S27,
+        stimulus: "0000 * 3\n",
+        machine: "",
+        more: "",
+        failing: (6, 0),
+        status: 3,
+        output: "",
+        line: "read fault: net.stim\n",
+    },
+    Case {
+        calls: COMMANDS,
+        words: "net.bench net.stim --init 0",
+        netlist: S27,
+        stimulus: "0000 * 3\n",
+        machine: "",
+        more: "",
+        failing: (7, 0),
         status: 0,
-        out,
-        err,
-    })
+        output: S27_TRACE,
+        line: "",
+    },
+    // Whole lines are written before a write that fails.
+    Case {
+        calls: COMMANDS,
+        words: "net.bench net.stim --init 0",
+        netlist: S27,
+        stimulus: "0000 * 3\n",
+        machine: "",
+        more: "",
+        failing: (0, 1),
+        status: 4,
+        output: "",
+        line: "write fault\n",
+    },
+    Case {
+        calls: COMMANDS,
+        words: "net.bench net.stim --init 0",
+        netlist: S27,
+        stimulus: "0000 * 3\n",
+        machine: "",
+        more: "",
+        failing: (0, 2),
+        status: 4,
+        output: "cycle G17\n",
+        line: "write fault\n",
+    },
+    Case {
+        calls: COMMANDS,
+        words: "net.bench net.stim --init 0",
+        netlist: S27,
+        stimulus: "0000 * 3\n",
+        machine: "",
+        more: "",
+        failing: (0, 3),
+        status: 4,
+        output: "cycle G17\n1 1\n",
+        line: "write fault\n",
+    },
+    Case {
+        calls: COMMANDS,
+        words: "net.bench net.stim --init 0",
+        netlist: S27,
+        stimulus: "0000 * 3\n",
+        machine: "",
+        more: "",
+        failing: (0, 4),
+        status: 4,
+        output: "cycle G17\n1 1\n2 1\n",
+        line: "write fault\n",
+    },
+    Case {
+        calls: COMMANDS,
+        words: "net.bench net.stim --init 0",
+        netlist: S27,
+        stimulus: "0000 * 3\n",
+        machine: "",
+        more: "",
+        failing: (0, 5),
+        status: 0,
+        output: S27_TRACE,
+        line: "",
+    },
+];
+
+#[test]
+fn each_call_of_the_files_and_each_write_may_fail(rt: HostRuntime) {
+    assert!(rt; all_end(&rt, rt.alloc(), CASES));
 }
 
-/// The status of a call with these words over these files and sinks.
-fn status_at<R: Threads + Wait + Sync, F: Files>(
+/// Whether a call prints three cycles of s27 where the files come in pieces of so many bytes.
+fn comes_in_pieces<R: Threads + Wait + Sync>(
     rt: &R,
     alloc: Global,
-    words: &[String],
-    files: &mut F,
-    ended: &mut Ended,
-) -> Result<u8, Memory> {
-    let mut gates = count_gates(alloc, GATES)?;
-    let gates = gates.as_mut_slice();
-    Ok(status_of(
+    call: &str,
+    most_read: usize,
+) -> bool {
+    let texts = texts_of(S27, "0000 * 3\n");
+    let edges = Edges { most_read, ..EASY };
+    ends(
         rt,
         alloc,
-        words,
-        files,
-        &mut ended.out,
-        &mut ended.err,
-        gates,
-    ))
+        &[call],
+        &texts,
+        &edges,
+        (0, S27_TRACE.as_bytes(), b""),
+    )
 }
 
-/// What comes of a call with these words over these files and such edges.
-fn end_of_words<R: Threads + Wait + Sync, F: Files>(
-    rt: &R,
-    alloc: Global,
-    words: &[String],
-    files: &mut F,
-    edges: Edges,
-) -> Result<Ended, Memory> {
-    let mut ended = sinks(alloc, edges)?;
-    ended.status = status_at(rt, alloc, words, files, &mut ended)?;
-    Ok(ended)
-}
-
-/// What comes of a call with these words over a netlist, a stimulus and such edges.
-fn end_at<R: Threads + Wait + Sync>(
-    rt: &R,
-    alloc: Global,
-    lines: &[&str],
-    netlist: &[u8],
-    stimulus: &[u8],
-    edges: Edges,
-) -> Result<Ended, Memory> {
-    let words = words_of(alloc, lines)?;
-    let mut files = store(alloc, netlist, stimulus, edges)?;
-    end_of_words(rt, alloc, words.as_slice(), &mut files, edges)
-}
-
-/// Whether three cycles of s27 by a command end so.
-fn s27_ends<R: Threads + Wait + Sync>(
-    rt: &R,
-    alloc: Global,
-    command: &str,
-    edges: Edges,
-    wanted: Wanted<'_>,
-) -> Result<bool, Memory> {
-    let lines = [command, "net.bench net.stim --init 0"];
-    let ended = end_at(rt, alloc, &lines, S27.as_bytes(), b"0000 * 3\n", edges)?;
-    Ok(has_ended(&ended, wanted))
-}
-
-/// Whether three cycles of c17 by a command end so.
-fn c17_ends<R: Threads + Wait + Sync>(
-    rt: &R,
-    alloc: Global,
-    command: &str,
-    edges: Edges,
-    wanted: Wanted<'_>,
-) -> Result<bool, Memory> {
-    let lines = [command, "net.bench net.stim"];
-    let rows = b"11111\n00000\nxxxxx\n";
-    let ended = end_at(rt, alloc, &lines, C17.as_bytes(), rows, edges)?;
-    Ok(has_ended(&ended, wanted))
-}
-
-/// The canonical text of a netlist.
-fn end_of_show<R: Threads + Wait + Sync>(
-    rt: &R,
-    alloc: Global,
-    netlist: &[u8],
-) -> Result<Ended, Memory> {
-    end_at(rt, alloc, &["show net.bench"], netlist, b"", EASY)
-}
-
-/// The call of the store or of the output that fails, and how the call ends: the number of its status, its output and
-/// its line.
-type Failing = (u64, u8, &'static str, &'static str);
-
-/// Each file is begun, read, and read again up to its end.
-const FAILING_READS: &[Failing] = &[
-    (1, 3, "", "read fault: net.bench\n"),
-    (2, 3, "", "read fault: net.bench\n"),
-    (3, 3, "", "read fault: net.bench\n"),
-    (4, 3, "", "read fault: net.stim\n"),
-    (5, 3, "", "read fault: net.stim\n"),
-    (6, 3, "", "read fault: net.stim\n"),
-    (7, 0, S27_TRACE, ""),
+const PIECES: &[(&str, usize)] = &[
+    ("run net.bench net.stim --init 0", 1),
+    ("run net.bench net.stim --init 0", 2),
+    ("run net.bench net.stim --init 0", 7),
+    ("refer net.bench net.stim --init 0", 1),
+    ("refer net.bench net.stim --init 0", 2),
+    ("refer net.bench net.stim --init 0", 7),
+    ("order net.bench net.stim --init 0", 1),
+    ("order net.bench net.stim --init 0", 2),
+    ("order net.bench net.stim --init 0", 7),
 ];
 
-/// Whole lines are written before a write that fails.
-const FAILING_WRITES: &[Failing] = &[
-    (1, 4, "", "write fault\n"),
-    (2, 4, "cycle G17\n", "write fault\n"),
-    (3, 4, "cycle G17\n1 1\n", "write fault\n"),
-    (4, 4, "cycle G17\n1 1\n2 1\n", "write fault\n"),
-    (5, 0, S27_TRACE, ""),
-];
-
-/// Whether three cycles of s27 end so by each command.
-fn all_end<R: Threads + Wait + Sync>(
-    rt: &R,
-    alloc: Global,
-    edges: Edges,
-    wanted: Wanted<'_>,
-) -> Result<bool, Memory> {
-    for command in commands() {
-        if !s27_ends(rt, alloc, command, edges, wanted)? {
-            return Ok(false);
-        }
-    }
-    Ok(true)
-}
-
-fn wanted_of(failing: &Failing) -> Wanted<'static> {
-    Wanted {
-        status: failing.1,
-        output: failing.2.as_bytes(),
-        line: failing.3.as_bytes(),
-    }
-}
-
-fn failing_reads() -> &'static [Failing] {
-    FAILING_READS
-}
-
-fn failing_writes() -> &'static [Failing] {
-    FAILING_WRITES
+fn pieces() -> &'static [(&'static str, usize)] {
+    PIECES
 }
 
 #[test]
-fn each_call_of_the_files_and_each_write_may_fail(rt: HostRuntime) -> Result<(), Fail> {
-    for failing in failing_reads() {
-        let edges = Edges {
-            failing_read: failing.0,
-            ..EASY
-        };
-        assert!(rt; all_end(&rt, rt.alloc(), edges, wanted_of(failing))?);
+fn files_come_in_small_pieces(rt: HostRuntime) {
+    for (call, most_read) in pieces() {
+        assert!(rt; comes_in_pieces(&rt, rt.alloc(), call, *most_read));
     }
-    for failing in failing_writes() {
-        let edges = Edges {
-            failing_write: failing.0,
-            ..EASY
-        };
-        assert!(rt; all_end(&rt, rt.alloc(), edges, wanted_of(failing))?);
-    }
-    Ok(())
 }
 
 /// Whether a sink of so much room, which takes a byte a call, has as much of the trace as there is room for.
 fn is_filled<R: Threads + Wait + Sync>(
     rt: &R,
     alloc: Global,
-    command: &str,
+    command: &'static str,
     room: usize,
-) -> Result<bool, Memory> {
+) -> bool {
     let trace = C17_TRACE.as_bytes();
-    let (output, rest) = trace.split_at_checked(room).unwrap_or((trace, b""));
     let edges = Edges {
         room,
         most_written: 1,
         ..EASY
     };
+    let (output, rest) = trace.split_at_checked(room).unwrap_or((trace, b""));
     let (status, line) = if rest.is_empty() {
         (0, "")
     } else {
         (4, "write fault\n")
     };
-    let wanted = Wanted {
-        status,
-        output,
-        line: line.as_bytes(),
-    };
-    c17_ends(rt, alloc, command, edges, wanted)
+    let texts = texts_of(C17, "11111\n00000\nxxxxx\n");
+    let wanted = (status, output, line.as_bytes());
+    ends(rt, alloc, &[command, FILES], &texts, &edges, wanted)
 }
 
 #[test]
-fn any_room_is_filled(rt: HostRuntime) -> Result<(), Fail> {
-    for command in commands() {
+fn any_room_is_filled(rt: HostRuntime) {
+    for command in COMMANDS.split('|') {
         for room in 0..C17_TRACE.len() + 1 {
-            assert!(rt; is_filled(&rt, rt.alloc(), command, room)?);
+            assert!(rt; is_filled(&rt, rt.alloc(), command, room));
         }
     }
-    Ok(())
 }
 
 /// Whether a line that can't be told leaves the status of a refused netlist.
-fn keeps_its_status<R: Threads + Wait + Sync>(rt: &R, alloc: Global) -> Result<bool, Memory> {
-    let netlist = b"INPUT(a)\nOUTPUT(z)\nz = AND(a, b)\n";
+fn keeps_its_status<R: Threads + Wait + Sync>(rt: &R, alloc: Global) -> bool {
+    let texts = texts_of("INPUT(a)\nOUTPUT(z)\nz = AND(a, b)\n", "");
     let edges = Edges {
         failing_line: 1,
         ..EASY
     };
-    let ended = end_at(rt, alloc, &["show net.bench"], netlist, b"", edges)?;
-    Ok(ended.status == 5 && ended.out.taken().is_empty() && ended.err.taken().is_empty())
+    ends(
+        rt,
+        alloc,
+        &["show net.bench"],
+        &texts,
+        &edges,
+        (5, b"", b""),
+    )
+}
+
+const ANY_BYTE: &[u8] = b"input(a)\r\noutput(z)\r\nz = not(y) # \xff\r\ny = buff(a)\r\n";
+
+const CANONICAL: &[u8] = b"INPUT(a)\nOUTPUT(z)\nz = NOT(y)\ny = BUFF(a)\n";
+
+/// Whether line ends of two bytes are read, and a byte in a comment that has no place elsewhere.
+fn comment_has_any_byte<R: Threads + Wait + Sync>(rt: &R, alloc: Global) -> bool {
+    let texts: Texts<'_> = [ANY_BYTE, b"", b"", b""];
+    ends(
+        rt,
+        alloc,
+        &["show net.bench"],
+        &texts,
+        &EASY,
+        (0, CANONICAL, b""),
+    )
 }
 
 #[test]
-fn the_line_may_fail(rt: HostRuntime) -> Result<(), Fail> {
-    assert!(rt; keeps_its_status(&rt, rt.alloc())?);
-    Ok(())
-}
-
-const PIECES: &[usize] = &[1, 2, 7];
-
-fn pieces() -> &'static [usize] {
-    PIECES
-}
-
-#[test]
-fn files_come_in_small_pieces(rt: HostRuntime) -> Result<(), Fail> {
-    for most_read in pieces() {
-        let edges = Edges {
-            most_read: *most_read,
-            ..EASY
-        };
-        assert!(rt; all_end(&rt, rt.alloc(), edges, printed(S27_TRACE.as_bytes()))?);
-    }
-    Ok(())
+fn lines_that_fail_and_comments(rt: HostRuntime) {
+    assert!(rt; keeps_its_status(&rt, rt.alloc()));
+    assert!(rt; comment_has_any_byte(&rt, rt.alloc()));
 }
 
 /// Whether a text that begins with lines of inputs, of so many bytes, is a netlist where it is cut off behind
@@ -306,222 +290,179 @@ fn is_netlist(inputs: usize, front: &[u8], rest: &[u8]) -> bool {
     rest.is_empty() || (ends_line && (front.len() <= inputs || rest.len() == 1))
 }
 
-/// The number of the status of `show` where this text is cut off behind so many bytes, and the one that is wanted.
-fn cut_off<R: Threads + Wait + Sync>(
+fn status_of_show<R: Threads + Wait + Sync>(
+    rt: &R,
+    alloc: Global,
+    netlist: &[u8],
+) -> Result<u8, Memory> {
+    let ended = end_of(
+        rt,
+        alloc,
+        &["show net.bench"],
+        &[netlist, b"", b"", b""],
+        &EASY,
+    )?;
+    Ok(ended.status)
+}
+
+/// Whether a text that begins with inputs of so many bytes, cut off behind so many, is shown if it is a netlist, and
+/// else refused.
+fn is_judged<R: Threads + Wait + Sync>(
     rt: &R,
     alloc: Global,
     text: &[u8],
     inputs: usize,
     bytes: usize,
-) -> Result<(u8, u8), Memory> {
+) -> bool {
     let (front, rest) = text.split_at_checked(bytes).unwrap_or((text, b""));
-    let ended = end_of_show(rt, alloc, front)?;
-    Ok((
-        ended.status,
-        if is_netlist(inputs, front, rest) {
-            0
-        } else {
-            5
-        },
-    ))
+    let wanted = if is_netlist(inputs, front, rest) {
+        0
+    } else {
+        5
+    };
+    status_of_show(rt, alloc, front) == Ok(wanted)
 }
 
-/// Whether a text that begins with inputs of so many bytes is refused wherever it is cut off inside.
+/// Whether it is refused wherever it is cut off inside.
 fn is_refused_in_part<R: Threads + Wait + Sync>(
     rt: &R,
     alloc: Global,
     text: &[u8],
     inputs: usize,
-) -> Result<bool, Memory> {
+) -> bool {
     for bytes in 0..text.len() {
-        let (status, wanted) = cut_off(rt, alloc, text, inputs, bytes)?;
-        if status != wanted {
-            return Ok(false);
+        if !is_judged(rt, alloc, text, inputs, bytes) {
+            return false;
         }
     }
-    let (status, wanted) = cut_off(rt, alloc, text, inputs, text.len())?;
-    Ok(status == wanted)
+    is_judged(rt, alloc, text, inputs, text.len())
 }
 
 #[test]
-fn texts_are_cut_off(rt: HostRuntime) -> Result<(), Fail> {
-    assert!(rt; is_refused_in_part(&rt, rt.alloc(), C17.as_bytes(), 45)?);
-    assert!(rt; is_refused_in_part(&rt, rt.alloc(), S27.as_bytes(), 40)?);
-    Ok(())
+fn texts_are_cut_off(rt: HostRuntime) {
+    assert!(rt; is_refused_in_part(&rt, rt.alloc(), C17.as_bytes(), 45));
+    assert!(rt; is_refused_in_part(&rt, rt.alloc(), S27.as_bytes(), 40));
 }
 
-/// An input with a name of so many bytes.
-fn name_of(alloc: Global, bytes: usize) -> Result<Text, Memory> {
-    let mut text = Text::from_bytes(alloc, b"INPUT(")?;
-    text.push_bytes(List::filled(alloc, b'n', bytes)?.as_slice())?;
-    text.push_bytes(b")\n")?;
-    Ok(text)
+/// Whether a call over a netlist ends with this status and this line, whatever it prints.
+fn tells<R: Threads + Wait + Sync>(
+    rt: &R,
+    alloc: Global,
+    call: &str,
+    netlist: &[u8],
+    edges: &Edges,
+    wanted: (u8, &[u8]),
+) -> Result<bool, Memory> {
+    let ended = end_of(rt, alloc, &[call], &[netlist, b"", b"", b""], edges)?;
+    Ok(ended.status == wanted.0 && ended.err.taken() == wanted.1)
 }
 
-/// An input, and a gate of so many operands.
-fn gate_of(alloc: Global, operands: u32) -> Result<Text, Memory> {
-    let mut text = Text::from_bytes(alloc, b"INPUT(a)\nz = AND(a")?;
-    push_operands(&mut text, operands.saturating_sub(1))?;
-    text.push_bytes(b")\n")?;
-    Ok(text)
-}
-
-fn push_bit(alloc: Global, text: &mut Text, bit: u32) -> Result<(), Memory> {
-    text.push_bytes(format!(in alloc; ", q{bit}")?.as_bytes())
-}
-
-/// Adds so many operands.
-fn push_operands(text: &mut Text, more: u32) -> Result<(), Memory> {
-    for _ in 0..more {
-        text.push_bytes(b", a")?;
+fn push_times(text: &mut Text, piece: &str, times: u32) -> Result<(), Memory> {
+    for _ in 0..times {
+        text.push_bytes(piece.as_bytes())?;
     }
     Ok(())
-}
-
-fn push_outputs(alloc: Global, text: &mut Text) -> Result<(), Memory> {
-    for bit in 1u32..64 {
-        push_bit(alloc, text, bit)?;
-    }
-    Ok(())
-}
-
-fn push_memory(alloc: Global, text: &mut Text, address: u32) -> Result<(), Memory> {
-    push_outputs(alloc, text)?;
-    text.push_bytes(b"] = RAM(a; a")?;
-    push_operands(text, address.saturating_sub(1))?;
-    text.push_bytes(b"; a")?;
-    push_operands(text, 63)?;
-    text.push_bytes(b")\n")
-}
-
-/// An input, and a memory of so many address bits and 64 data bits.
-fn memory_of(alloc: Global, address: u32) -> Result<Text, Memory> {
-    let mut text = Text::from_bytes(alloc, b"INPUT(a)\n[q")?;
-    push_memory(alloc, &mut text, address)?;
-    Ok(text)
-}
-
-/// What a text has as much of as it may have: a name's bytes, a gate's operands, a memory's address bits.
-#[derive(Clone, Copy)]
-enum Much {
-    Name,
-    Gate,
-    Memory,
-}
-
-fn text_with(alloc: Global, much: Much, size: u32) -> Result<Text, Memory> {
-    match much {
-        Much::Name => name_of(alloc, size as usize),
-        Much::Gate => gate_of(alloc, size),
-        Much::Memory => memory_of(alloc, size),
-    }
 }
 
 const OPERANDS: &str = "netlist: line 2: wrong number of operands\n";
 
-/// What a text has as much of, how much, and the number of the status and the line of `show`.
-const MUCH: &[(Much, u32, u8, &str)] = &[
-    (Much::Name, 255, 0, ""),
-    (Much::Gate, 1024, 0, ""),
-    (Much::Gate, 1025, 5, OPERANDS),
-    (Much::Memory, 16, 0, ""),
-    (Much::Memory, 17, 5, OPERANDS),
+/// An input, and a memory of an address bit and of 64 data bits up to where they begin.
+const MEMORY: &str =
+    "INPUT(a)\n[q, q1, q2, q3, q4, q5, q6, q7, q8, q9, q10, q11, q12, q13, q14, q15, q16, q17, q18, q19, q20, q21, q22, q23, q24, q25, q26, q27, q28, q29, q30, q31, q32, q33, q34, q35, q36, q37, q38, q39, q40, q41, q42, q43, q44, q45, q46, q47, q48, q49, q50, q51, q52, q53, q54, q55, q56, q57, q58, q59, q60, q61, q62, q63] = RAM(a; a";
+
+const DATA: &str =
+    "; a, a, a, a, a, a, a, a, a, a, a, a, a, a, a, a, a, a, a, a, a, a, a, a, a, a, a, a, a, a, a, a, a, a, a, a, a, a, a, a, a, a, a, a, a, a, a, a, a, a, a, a, a, a, a, a, a, a, a, a, a, a, a, a)\n";
+
+/// A text, as what it begins with, a piece that stands there so many times, and its end; and the number of the status
+/// and the line of `show`.
+type Much = (
+    &'static str,
+    &'static str,
+    u32,
+    &'static str,
+    u8,
+    &'static str,
+);
+
+/// A name of 255 bytes, gates of 1,024 operands and of one more, and memories of 16 address bits and of one more.
+const MUCH: &[Much] = &[
+    ("INPUT(", "n", 255, ")\n", 0, ""),
+    ("INPUT(a)\nz = AND(a", ", a", 1023, ")\n", 0, ""),
+    ("INPUT(a)\nz = AND(a", ", a", 1024, ")\n", 5, OPERANDS),
+    (MEMORY, ", a", 15, DATA, 0, ""),
+    (MEMORY, ", a", 16, DATA, 5, OPERANDS),
 ];
 
-fn all_much() -> &'static [(Much, u32, u8, &'static str)] {
+fn all_much() -> &'static [Much] {
     MUCH
 }
 
 /// Whether `show` of such a text ends with this status and this line.
-fn is_shown<R: Threads + Wait + Sync>(
-    rt: &R,
-    alloc: Global,
-    much: &(Much, u32, u8, &str),
-) -> Result<bool, Memory> {
-    let text = text_with(alloc, much.0, much.1)?;
-    let ended = end_of_show(rt, alloc, text.as_bytes())?;
-    Ok(ended.status == much.2 && ended.err.taken() == much.3.as_bytes())
+fn is_shown<R: Threads + Wait + Sync>(rt: &R, alloc: Global, much: &Much) -> Result<bool, Memory> {
+    let mut text = Text::new(alloc);
+    push_times(&mut text, much.0, 1)?;
+    push_times(&mut text, much.1, much.2)?;
+    push_times(&mut text, much.3, 1)?;
+    let wanted = (much.4, much.5.as_bytes());
+    tells(rt, alloc, "show net.bench", text.as_bytes(), &EASY, wanted)
 }
 
 #[test]
-fn texts_at_the_limits(rt: HostRuntime) -> Result<(), Fail> {
+fn texts_at_the_limits(rt: HostRuntime) {
     for much in all_much() {
-        assert!(rt; is_shown(&rt, rt.alloc(), much)?);
+        assert!(rt; is_shown(&rt, rt.alloc(), much) == Ok(true));
     }
-    Ok(())
 }
 
-const ANY_BYTE: &[u8] = b"input(a)\r\noutput(z)\r\nz = not(y) # \xff\r\ny = buff(a)\r\n";
-
-const CANONICAL: &[u8] = b"INPUT(a)\nOUTPUT(z)\nz = NOT(y)\ny = BUFF(a)\n";
-
-/// Whether `show` prints a text as another.
-fn shows<R: Threads + Wait + Sync>(
-    rt: &R,
+/// Adds a gate to a netlist, and its name to a line.
+fn push_inverter(
     alloc: Global,
-    netlist: &[u8],
-    text: &[u8],
-) -> Result<bool, Memory> {
-    let ended = end_of_show(rt, alloc, netlist)?;
-    Ok(has_ended(&ended, printed(text)))
+    netlist: &mut Text,
+    line: &mut Text,
+    gate: u32,
+    before: u32,
+) -> Result<(), Memory> {
+    netlist.push_bytes(format!(in alloc; "g{gate} = NOT(g{before})\n")?.as_bytes())?;
+    line.push_bytes(format!(in alloc; " g{gate}")?.as_bytes())
 }
 
-/// Line ends of two bytes, and a byte in a comment that has no place elsewhere.
-#[test]
-fn comments_have_any_byte(rt: HostRuntime) -> Result<(), Fail> {
-    assert!(rt; shows(&rt, rt.alloc(), ANY_BYTE, CANONICAL)?);
-    Ok(())
-}
-
-/// A netlist, and the line that is told of it.
-#[derive(Drop)]
-struct Ring {
-    netlist: Text,
-    line: Text,
-}
-
-/// Adds a gate, and its name to the line.
-fn push_inverter(alloc: Global, ring: &mut Ring, gate: u32, before: u32) -> Result<(), Memory> {
-    let driver = format!(in alloc; "g{gate} = NOT(g{before})\n")?;
-    ring.netlist.push_bytes(driver.as_bytes())?;
-    ring.line
-        .push_bytes(format!(in alloc; " g{gate}")?.as_bytes())
-}
-
-/// Adds so many gates in a ring, each a NOT of the one before it.
-fn push_ring(alloc: Global, ring: &mut Ring, size: u32) -> Result<(), Memory> {
+/// Adds so many gates in a ring, each a NOT of the one before it, and the line that tells the loop.
+fn push_ring(alloc: Global, netlist: &mut Text, line: &mut Text, size: u32) -> Result<(), Memory> {
+    line.push_bytes(b"loop:")?;
     let mut before = size.saturating_sub(1);
     for gate in 0..size {
-        push_inverter(alloc, ring, gate, before)?;
+        push_inverter(alloc, netlist, line, gate, before)?;
         before = gate;
     }
-    ring.line.push_bytes(b"\n")
-}
-
-/// So many gates in a ring, and the line that tells the loop.
-fn ring_of(alloc: Global, size: u32) -> Result<Ring, Memory> {
-    let line = Text::from_bytes(alloc, b"loop:")?;
-    let netlist = Text::new(alloc);
-    let mut ring = Ring { netlist, line };
-    push_ring(alloc, &mut ring, size)?;
-    Ok(ring)
+    line.push_bytes(b"\n")
 }
 
 /// Whether a loop of so many gates is told name by name.
-fn is_told<R: Threads + Wait + Sync>(rt: &R, alloc: Global, size: u32) -> Result<bool, Memory> {
-    let ring = ring_of(alloc, size)?;
+fn ring_is_told<R: Threads + Wait + Sync>(
+    rt: &R,
+    alloc: Global,
+    size: u32,
+) -> Result<bool, Memory> {
+    let mut netlist = Text::new(alloc);
+    let mut line = Text::new(alloc);
+    push_ring(alloc, &mut netlist, &mut line, size)?;
     let edges = Edges {
         line_room: 16_777_216,
         ..EASY
     };
-    let lines = ["refer net.bench net.stim"];
-    let ended = end_at(rt, alloc, &lines, ring.netlist.as_bytes(), b"", edges)?;
-    Ok(ended.status == 7 && ended.err.taken() == ring.line.as_bytes())
+    let call = "refer net.bench net.stim";
+    tells(
+        rt,
+        alloc,
+        call,
+        netlist.as_bytes(),
+        &edges,
+        (7, line.as_bytes()),
+    )
 }
 
 /// A loop of all gates that a netlist may have is told name by name.
 #[test]
-fn ring_of_a_million_is_told(rt: HostRuntime) -> Result<(), Fail> {
-    assert!(rt; is_told(&rt, rt.alloc(), 1_048_576)?);
-    Ok(())
+fn ring_of_a_million_is_told(rt: HostRuntime) {
+    assert!(rt; ring_is_told(&rt, rt.alloc(), 1_048_576) == Ok(true));
 }

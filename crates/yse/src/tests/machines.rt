@@ -1,17 +1,11 @@
 //! Runs on the machine of a text: machines that hold the design, designs that are overfull, and
 //! machine texts that are refused. And plans on such a machine.
 
-use super::{C17, LATCH, RAM, Wanted, ends, printed, three_files};
-use seen_list::Memory;
-use std::alloc::Global;
-use std::marker::Sync;
-use std::sync::Wait;
-use std::test::Fail;
-use std::thread::Threads;
+use super::{C17, Case, LATCH, RAM, all_end};
 
-const PLAN: &str = "plan net.bench --machine net.machine";
+const PLANNED: &str = "net.bench --machine net.machine";
 
-const RUN: &str = "run net.bench net.stim --machine net.machine";
+const ON_MACHINE: &str = "net.bench net.stim --machine net.machine";
 
 const ROWS: &str = "11111\n00000\nxxxxx\n";
 
@@ -23,148 +17,193 @@ const TWO_GATES: &str = "INPUT(a)\nINPUT(b)\nOUTPUT(y)\ny = AND(a, b)\nz = OR(a,
 const LARGE: &str =
     "INPUT(a)\n[q0, q1] = RAM(a; a, a, a, a, a, a, a, a, a, a, a, a, a, a, a, a; a, a)\n";
 
-/// A run on the machine of a text. What is wanted: the number of the status, the output and the line.
-#[derive(Clone, Copy)]
-struct Case {
-    machine: &'static str,
-    netlist: &'static str,
-    stimulus: &'static str,
-    status: u8,
-    output: &'static str,
-    line: &'static str,
-}
-
 const CASES: &[Case] = &[
     // Eleven items in nine slots.
     Case {
+        calls: "run",
+        words: ON_MACHINE,
+        netlist: C17,
+        stimulus: ROWS,
         machine: "logic 1\nslots 9\n",
-        netlist: C17,
-        stimulus: ROWS,
+        more: "",
+        failing: (0, 0),
         status: 0,
         output: TRACE,
         line: "",
     },
     Case {
+        calls: "run",
+        words: ON_MACHINE,
+        netlist: C17,
+        stimulus: ROWS,
         machine: "logic 1\narray 0\n",
-        netlist: C17,
-        stimulus: ROWS,
+        more: "",
+        failing: (0, 0),
         status: 0,
         output: TRACE,
         line: "",
     },
     Case {
+        calls: "run",
+        words: ON_MACHINE,
+        netlist: C17,
+        stimulus: ROWS,
         machine: "logic 2\narray 0\n",
-        netlist: C17,
-        stimulus: ROWS,
+        more: "",
+        failing: (0, 0),
         status: 0,
         output: TRACE,
         line: "",
     },
     Case {
+        calls: "run",
+        words: ON_MACHINE,
+        netlist: C17,
+        stimulus: ROWS,
         machine: "logic 4\narray 0\n",
-        netlist: C17,
-        stimulus: ROWS,
+        more: "",
+        failing: (0, 0),
         status: 0,
         output: TRACE,
         line: "",
     },
     Case {
-        machine: "logic 254\narray 0\n",
+        calls: "run",
+        words: ON_MACHINE,
         netlist: C17,
         stimulus: ROWS,
+        machine: "logic 254\narray 0\n",
+        more: "",
+        failing: (0, 0),
         status: 0,
         output: TRACE,
         line: "",
     },
     // Two different tables, one for each of two processors.
     Case {
-        machine: "logic 2\nfunctions 1\n",
+        calls: "run",
+        words: ON_MACHINE,
         netlist: TWO_GATES,
         stimulus: "11\n01\n",
+        machine: "logic 2\nfunctions 1\n",
+        more: "",
+        failing: (0, 0),
         status: 0,
         output: "cycle y\n1 1\n2 0\n",
         line: "",
     },
     // Designs that do not fit.
     Case {
-        machine: "logic 2\nslots 7\n",
+        calls: "run",
+        words: ON_MACHINE,
         netlist: C17,
         stimulus: ROWS,
+        machine: "logic 2\nslots 7\n",
+        more: "",
+        failing: (0, 0),
         status: 8,
         output: "",
         line: "overfull: slots: 8 needed, limit is 7\n",
     },
     Case {
-        machine: "logic 1\nfunctions 1\n",
+        calls: "run",
+        words: ON_MACHINE,
         netlist: TWO_GATES,
         stimulus: "11\n",
+        machine: "logic 1\nfunctions 1\n",
+        more: "",
+        failing: (0, 0),
         status: 8,
         output: "",
         line: "overfull: functions of logic port 0: 2 needed, limit is 1\n",
     },
     Case {
-        machine: "# the default\n",
+        calls: "run",
+        words: ON_MACHINE,
         netlist: LARGE,
         stimulus: "1\n",
+        machine: "# the default\n",
+        more: "",
+        failing: (0, 0),
         status: 8,
         output: "",
         line: "overfull: bits of memory q0: 131072 needed, 65536 left\n",
     },
     Case {
-        machine: "array 0\n",
+        calls: "run",
+        words: ON_MACHINE,
         netlist: LARGE,
         stimulus: "1\n",
+        machine: "array 0\n",
+        more: "",
+        failing: (0, 0),
         status: 8,
         output: "",
         line: "overfull: bits of memory q0: 131072 needed, 0 left\n",
     },
     // A loop is refused before the room is.
     Case {
-        machine: "logic 1\nslots 1\n",
+        calls: "run",
+        words: ON_MACHINE,
         netlist: LATCH,
         stimulus: "01\n",
+        machine: "logic 1\nslots 1\n",
+        more: "",
+        failing: (0, 0),
         status: 7,
         output: "",
         line: "loop: q p\n",
     },
     // Machine texts that are refused.
     Case {
-        machine: "logic 0\n",
+        calls: "run",
+        words: ON_MACHINE,
         netlist: C17,
         stimulus: ROWS,
+        machine: "logic 0\n",
+        more: "",
+        failing: (0, 0),
         status: 6,
         output: "",
         line: "machine: line 1: out of range\n",
     },
     Case {
-        machine: "logic 254\narray 2\n",
+        calls: "run",
+        words: ON_MACHINE,
         netlist: C17,
         stimulus: ROWS,
+        machine: "logic 254\narray 2\n",
+        more: "",
+        failing: (0, 0),
         status: 6,
         output: "",
         line: "machine: 257 ports, limit is 256\n",
     },
     Case {
-        machine: "slots 5\nslots 5\n",
+        calls: "run",
+        words: ON_MACHINE,
         netlist: C17,
         stimulus: ROWS,
+        machine: "slots 5\nslots 5\n",
+        more: "",
+        failing: (0, 0),
         status: 6,
         output: "",
         line: "machine: line 2: given twice\n",
     },
     Case {
-        machine: "wheels 4\n",
+        calls: "run",
+        words: ON_MACHINE,
         netlist: C17,
         stimulus: ROWS,
+        machine: "wheels 4\n",
+        more: "",
+        failing: (0, 0),
         status: 6,
         output: "",
         line: "machine: line 1: syntax\n",
     },
 ];
-
-fn cases() -> &'static [Case] {
-    CASES
-}
 
 /// A gate of five operands and a memory of four words of two bits.
 const CUT: &str =
@@ -173,111 +212,113 @@ const CUT: &str =
 /// A gate of five operands, each of them one of two inputs.
 const WIDE_GATE: &str = "INPUT(a)\nINPUT(b)\nOUTPUT(z)\nz = NAND(a, b, a, b, a)\n";
 
-/// A plan: the options, what its machine's text and its netlist are, and its report.
-#[derive(Clone, Copy)]
-struct Layout {
-    options: &'static str,
-    machine: &'static str,
-    netlist: &'static str,
-    report: &'static str,
-}
-
-const LAYOUTS: &[Layout] = &[
-    Layout {
-        options: "",
-        machine: "logic 2\n",
+/// Plans and their reports.
+const LAYOUTS: &[Case] = &[
+    Case {
+        calls: "plan",
+        words: PLANNED,
         netlist: C17,
-        report: "slots 8\nl0 items 3 tables 1 takes 4\nl1 items 3 tables 1 takes 4\na0 items 0 bits 0 takes 0\nh items 5 takes 2\n1 h 0 l0\n2 h 1 l0\n3 h 2 l0 l1\n6 h 3 l1\n7 h 4 l1\n10 l0 3\n11 l1 4 l0\n16 l0 5 l1\n19 l1 5\n22 l0 6 h\n23 l1 7 h\n",
+        stimulus: "",
+        machine: "logic 2\n",
+        more: "",
+        failing: (0, 0),
+        status: 0,
+        output: "slots 8\nl0 items 3 tables 1 takes 4\nl1 items 3 tables 1 takes 4\na0 items 0 bits 0 takes 0\nh items 5 takes 2\n1 h 0 l0\n2 h 1 l0\n3 h 2 l0 l1\n6 h 3 l1\n7 h 4 l1\n10 l0 3\n11 l1 4 l0\n16 l0 5 l1\n19 l1 5\n22 l0 6 h\n23 l1 7 h\n",
+        line: "",
     },
     // Eleven items in nine slots.
-    Layout {
-        options: "",
-        machine: "logic 1\nslots 9\n",
+    Case {
+        calls: "plan",
+        words: PLANNED,
         netlist: C17,
-        report: "slots 9\nl0 items 6 tables 1 takes 5\na0 items 0 bits 0 takes 0\nh items 5 takes 2\n1 h 0 l0\n2 h 1 l0\n3 h 2 l0\n6 h 3 l0\n7 h 4 l0\n10 l0 3\n11 l0 4\n16 l0 5\n19 l0 6\n22 l0 7 h\n23 l0 8 h\n",
+        stimulus: "",
+        machine: "logic 1\nslots 9\n",
+        more: "",
+        failing: (0, 0),
+        status: 0,
+        output: "slots 9\nl0 items 6 tables 1 takes 5\na0 items 0 bits 0 takes 0\nh items 5 takes 2\n1 h 0 l0\n2 h 1 l0\n3 h 2 l0\n6 h 3 l0\n7 h 4 l0\n10 l0 3\n11 l0 4\n16 l0 5\n19 l0 6\n22 l0 7 h\n23 l0 8 h\n",
+        line: "",
     },
     // In rank order and in unit delay.
-    Layout {
-        options: "",
-        machine: "logic 2\n",
+    Case {
+        calls: "plan",
+        words: PLANNED,
         netlist: CUT,
-        report: "slots 7\nl0 items 2 tables 2 takes 5\nl1 items 1 tables 1 takes 1\na0 items 2 bits 8 takes 4\nh items 5 takes 2\na1 h 0 l0 a0\na2 h 1 l0 a0\na3 h 2 l0 a0\na4 h 3 l0\na5 h 4 l1\nq a0 0 h\nr a0 1\nz/0 l0 4\nz/1 l1 5 l0\nz l0 6 a0 h\n",
+        stimulus: "",
+        machine: "logic 2\n",
+        more: "",
+        failing: (0, 0),
+        status: 0,
+        output: "slots 7\nl0 items 2 tables 2 takes 5\nl1 items 1 tables 1 takes 1\na0 items 2 bits 8 takes 4\nh items 5 takes 2\na1 h 0 l0 a0\na2 h 1 l0 a0\na3 h 2 l0 a0\na4 h 3 l0\na5 h 4 l1\nq a0 0 h\nr a0 1\nz/0 l0 4\nz/1 l1 5 l0\nz l0 6 a0 h\n",
+        line: "",
     },
-    Layout {
-        options: "--mode unit",
-        machine: "logic 2\n",
+    Case {
+        calls: "plan --mode unit",
+        words: PLANNED,
         netlist: CUT,
-        report: "slots 6\nl0 items 2 tables 2 takes 5\nl1 items 1 tables 1 takes 1\na0 items 2 bits 8 takes 4\nh items 5 takes 2\na1 h 0 l0 a0\na2 h 1 l0 a0\na3 h 2 l0 a0\na4 h 3 l0\na5 h 4 l1\nq a0 0 h\nr a0 1\nz/0 l0 0\nz/1 l1 4 l0\nz l0 5 a0 h\n",
+        stimulus: "",
+        machine: "logic 2\n",
+        more: "",
+        failing: (0, 0),
+        status: 0,
+        output: "slots 6\nl0 items 2 tables 2 takes 5\nl1 items 1 tables 1 takes 1\na0 items 2 bits 8 takes 4\nh items 5 takes 2\na1 h 0 l0 a0\na2 h 1 l0 a0\na3 h 2 l0 a0\na4 h 3 l0\na5 h 4 l1\nq a0 0 h\nr a0 1\nz/0 l0 0\nz/1 l1 4 l0\nz l0 5 a0 h\n",
+        line: "",
     },
     // A memory, and a second array processor that has nothing to do.
-    Layout {
-        options: "",
-        machine: "logic 1\narray 2\n",
+    Case {
+        calls: "plan",
+        words: PLANNED,
         netlist: RAM,
-        report: "slots 4\nl0 items 0 tables 0 takes 0\na0 items 1 bits 4 takes 4\na1 items 0 bits 0 takes 0\nh items 4 takes 1\nwe h 0 a0\na0 h 1 a0\na1 h 2 a0\nd h 3 a0\nq a0 0 h\n",
+        stimulus: "",
+        machine: "logic 1\narray 2\n",
+        more: "",
+        failing: (0, 0),
+        status: 0,
+        output: "slots 4\nl0 items 0 tables 0 takes 0\na0 items 1 bits 4 takes 4\na1 items 0 bits 0 takes 0\nh items 4 takes 1\nwe h 0 a0\na0 h 1 a0\na1 h 2 a0\nd h 3 a0\nq a0 0 h\n",
+        line: "",
     },
     // A gate that is cut into two helpers and its own node.
-    Layout {
-        options: "",
-        machine: "logic 1\narray 0\n",
+    Case {
+        calls: "plan",
+        words: PLANNED,
         netlist: WIDE_GATE,
-        report: "slots 4\nl0 items 3 tables 3 takes 2\nh items 2 takes 1\na h 0 l0\nb h 1 l0\nz/0 l0 2\nz/1 l0 1\nz l0 3 h\n",
+        stimulus: "",
+        machine: "logic 1\narray 0\n",
+        more: "",
+        failing: (0, 0),
+        status: 0,
+        output: "slots 4\nl0 items 3 tables 3 takes 2\nh items 2 takes 1\na h 0 l0\nb h 1 l0\nz/0 l0 2\nz/1 l0 1\nz l0 3 h\n",
+        line: "",
     },
     // An input that is printed is at the host already, however often it is printed.
-    Layout {
-        options: "",
-        machine: "logic 1\narray 0\n",
+    Case {
+        calls: "plan",
+        words: PLANNED,
         netlist: "INPUT(a)\nOUTPUT(a)\nOUTPUT(a)\n",
-        report: "slots 1\nl0 items 0 tables 0 takes 0\nh items 1 takes 0\na h 0\n",
-    },
-    Layout {
-        options: "",
+        stimulus: "",
         machine: "logic 1\narray 0\n",
+        more: "",
+        failing: (0, 0),
+        status: 0,
+        output: "slots 1\nl0 items 0 tables 0 takes 0\nh items 1 takes 0\na h 0\n",
+        line: "",
+    },
+    Case {
+        calls: "plan",
+        words: PLANNED,
         netlist: "",
-        report: "slots 0\nl0 items 0 tables 0 takes 0\nh items 0 takes 0\n",
+        stimulus: "",
+        machine: "logic 1\narray 0\n",
+        more: "",
+        failing: (0, 0),
+        status: 0,
+        output: "slots 0\nl0 items 0 tables 0 takes 0\nh items 0 takes 0\n",
+        line: "",
     },
 ];
 
-fn layouts() -> &'static [Layout] {
-    LAYOUTS
-}
-
-/// Whether the run of a case ends as it says.
-fn is_case<R: Threads + Wait + Sync>(rt: &R, alloc: Global, case: &Case) -> Result<bool, Memory> {
-    let (netlist, stimulus) = (case.netlist.as_bytes(), case.stimulus.as_bytes());
-    let files = three_files(alloc, netlist, stimulus, case.machine.as_bytes())?;
-    let wanted = Wanted {
-        status: case.status,
-        output: case.output.as_bytes(),
-        line: case.line.as_bytes(),
-    };
-    ends(rt, alloc, &[RUN], files, 0, wanted)
-}
-
-/// Whether the plan of a layout is reported as stated.
-fn is_planned<R: Threads + Wait + Sync>(
-    rt: &R,
-    alloc: Global,
-    layout: &Layout,
-) -> Result<bool, Memory> {
-    let (netlist, machine) = (layout.netlist.as_bytes(), layout.machine.as_bytes());
-    let files = three_files(alloc, netlist, b"", machine)?;
-    let wanted = printed(layout.report.as_bytes());
-    ends(rt, alloc, &[PLAN, layout.options], files, 0, wanted)
-}
-
 #[test]
-fn runs_on_machines_end_as_stated(rt: HostRuntime) -> Result<(), Fail> {
-    for case in cases() {
-        assert!(rt; is_case(&rt, rt.alloc(), case)?);
-    }
-    Ok(())
-}
-
-#[test]
-fn plans_are_reported_as_stated(rt: HostRuntime) -> Result<(), Fail> {
-    for layout in layouts() {
-        assert!(rt; is_planned(&rt, rt.alloc(), layout)?);
-    }
-    Ok(())
+fn runs_and_plans_end_as_stated(rt: HostRuntime) {
+    assert!(rt; all_end(&rt, rt.alloc(), CASES));
+    assert!(rt; all_end(&rt, rt.alloc(), LAYOUTS));
 }

@@ -1,15 +1,9 @@
 //! Plans on machines whose ports have limits of their own: the texts of such machines, designs that they
 //! hold, and designs that they don't.
 
-use super::{C17, Wanted, ends, three_files};
-use seen_list::Memory;
-use std::alloc::Global;
-use std::marker::Sync;
-use std::sync::Wait;
-use std::test::Fail;
-use std::thread::Threads;
+use super::{C17, Case, all_end};
 
-const PLAN: &str = "plan net.bench --machine net.machine";
+const PLANNED: &str = "net.bench --machine net.machine";
 
 const TWO_GATES: &str = "INPUT(a)\nINPUT(b)\nOUTPUT(y)\ny = AND(a, b)\nz = OR(a, b)\n";
 
@@ -20,135 +14,172 @@ const TWO_MEMORIES: &str = "INPUT(a)\n[q] = RAM(a; a; a)\n[r, s] = RAM(a; a; a, 
 const LARGE: &str =
     "INPUT(a)\n[q0, q1] = RAM(a; a, a, a, a, a, a, a, a, a, a, a, a, a, a, a, a; a, a)\nz = AND(a, a)\ny = OR(a, a)\n";
 
-/// A plan on the machine of a text. What is wanted: the number of the status, the output and the line.
-#[derive(Clone, Copy)]
-struct Case {
-    machine: &'static str,
-    netlist: &'static str,
-    status: u8,
-    output: &'static str,
-    line: &'static str,
-}
-
 const CASES: &[Case] = &[
     // Nodes go past a port that is full.
     Case {
-        machine: "version 2\nlogic 2\nnodes 0 1\n",
+        calls: "plan",
+        words: PLANNED,
         netlist: C17,
+        stimulus: "",
+        machine: "version 2\nlogic 2\nnodes 0 1\n",
+        more: "",
+        failing: (0, 0),
         status: 0,
         output: "slots 9\nl0 items 1 tables 1 takes 2\nl1 items 5 tables 1 takes 5\na0 items 0 bits 0 takes 0\nh items 5 takes 2\n1 h 0 l0\n2 h 1 l1\n3 h 2 l0 l1\n6 h 3 l1\n7 h 4 l1\n10 l0 5 l1\n11 l1 4\n16 l1 5\n19 l1 6\n22 l1 7 h\n23 l1 8 h\n",
         line: "",
     },
     Case {
-        machine: "# limits\n\tVersion 002 # the second\r\nlogic 3\nNODES 2\nnodes 1 1\nnodes 00002 4\n",
+        calls: "plan",
+        words: PLANNED,
         netlist: C17,
+        stimulus: "",
+        machine: "# limits\n\tVersion 002 # the second\r\nlogic 3\nNODES 2\nnodes 1 1\nnodes 00002 4\n",
+        more: "",
+        failing: (0, 0),
         status: 0,
         output: "slots 9\nl0 items 2 tables 1 takes 4\nl1 items 1 tables 1 takes 2\nl2 items 3 tables 1 takes 4\na0 items 0 bits 0 takes 0\nh items 5 takes 2\n1 h 0 l0\n2 h 1 l2\n3 h 2 l0 l1\n6 h 3 l1\n7 h 4 l0\n10 l0 3 l2\n11 l1 5 l0 l2\n16 l2 6\n19 l0 6 l2\n22 l2 7 h\n23 l2 8 h\n",
         line: "",
     },
     // The second memory finds no room at the first array processor.
     Case {
-        machine: "version 2\nlogic 1\narray 2\nbits 0 3\n",
+        calls: "plan",
+        words: PLANNED,
         netlist: TWO_MEMORIES,
+        stimulus: "",
+        machine: "version 2\nlogic 1\narray 2\nbits 0 3\n",
+        more: "",
+        failing: (0, 0),
         status: 0,
         output: "slots 2\nl0 items 0 tables 0 takes 0\na0 items 1 bits 2 takes 1\na1 items 2 bits 4 takes 1\nh items 1 takes 0\na h 0 a0 a1\nq a0 0\nr a1 0\ns a1 1\n",
         line: "",
     },
     // Functions by the limit of the port itself.
     Case {
-        machine: "version 2\nlogic 1\nfunctions 1\nfunctions 0 2\n",
+        calls: "plan",
+        words: PLANNED,
         netlist: TWO_GATES,
+        stimulus: "",
+        machine: "version 2\nlogic 1\nfunctions 1\nfunctions 0 2\n",
+        more: "",
+        failing: (0, 0),
         status: 0,
         output: "slots 4\nl0 items 2 tables 2 takes 2\na0 items 0 bits 0 takes 0\nh items 2 takes 1\na h 0 l0\nb h 1 l0\ny l0 2 h\nz l0 3\n",
         line: "",
     },
     Case {
-        machine: "version 2\nlogic 1\nfunctions 0 1\n",
+        calls: "plan",
+        words: PLANNED,
         netlist: TWO_GATES,
+        stimulus: "",
+        machine: "version 2\nlogic 1\nfunctions 0 1\n",
+        more: "",
+        failing: (0, 0),
         status: 8,
         output: "",
         line: "overfull: functions of logic port 0: 2 needed, limit is 1\n",
     },
     // Too many nodes, which is told after the bits and before the slots.
     Case {
+        calls: "plan",
+        words: PLANNED,
+        netlist: C17,
+        stimulus: "",
         machine: "version 2\nlogic 2\nnodes 2\n",
-        netlist: C17,
+        more: "",
+        failing: (0, 0),
         status: 8,
         output: "",
         line: "overfull: nodes: 6 needed, limit is 4\n",
     },
     Case {
+        calls: "plan",
+        words: PLANNED,
+        netlist: C17,
+        stimulus: "",
         machine: "version 2\nlogic 2\nnodes 2\nslots 1\n",
-        netlist: C17,
+        more: "",
+        failing: (0, 0),
         status: 8,
         output: "",
         line: "overfull: nodes: 6 needed, limit is 4\n",
     },
     Case {
-        machine: "version 2\nlogic 1\nnodes 1\n",
+        calls: "plan",
+        words: PLANNED,
         netlist: LARGE,
+        stimulus: "",
+        machine: "version 2\nlogic 1\nnodes 1\n",
+        more: "",
+        failing: (0, 0),
         status: 8,
         output: "",
         line: "overfull: bits of memory q0: 131072 needed, 65536 left\n",
     },
     // A limit of a port that is not there, after every fault of a line and the number of the ports.
     Case {
+        calls: "plan",
+        words: PLANNED,
+        netlist: C17,
+        stimulus: "",
         machine: "version 2\nlogic 2\nnodes 2 5\n",
-        netlist: C17,
+        more: "",
+        failing: (0, 0),
         status: 6,
         output: "",
         line: "machine: line 3: no such port\n",
     },
     Case {
+        calls: "plan",
+        words: PLANNED,
+        netlist: C17,
+        stimulus: "",
         machine: "version 2\narray 0\nbits 0 5\n",
-        netlist: C17,
+        more: "",
+        failing: (0, 0),
         status: 6,
         output: "",
         line: "machine: line 3: no such port\n",
     },
     Case {
-        machine: "version 2\nnodes 9 1\nslots 0\n",
+        calls: "plan",
+        words: PLANNED,
         netlist: C17,
+        stimulus: "",
+        machine: "version 2\nnodes 9 1\nslots 0\n",
+        more: "",
+        failing: (0, 0),
         status: 6,
         output: "",
         line: "machine: line 3: out of range\n",
     },
     Case {
-        machine: "version 2\nnodes 255 1\nlogic 254\narray 2\n",
+        calls: "plan",
+        words: PLANNED,
         netlist: C17,
+        stimulus: "",
+        machine: "version 2\nnodes 255 1\nlogic 254\narray 2\n",
+        more: "",
+        failing: (0, 0),
         status: 6,
         output: "",
         line: "machine: 257 ports, limit is 256\n",
     },
     // What no text of the first version sets.
     Case {
-        machine: "nodes 5\n",
+        calls: "plan",
+        words: PLANNED,
         netlist: C17,
+        stimulus: "",
+        machine: "nodes 5\n",
+        more: "",
+        failing: (0, 0),
         status: 6,
         output: "",
         line: "machine: line 1: syntax\n",
     },
 ];
 
-fn cases() -> &'static [Case] {
-    CASES
-}
-
-/// Whether the plan of a case ends as it says.
-fn is_case<R: Threads + Wait + Sync>(rt: &R, alloc: Global, case: &Case) -> Result<bool, Memory> {
-    let files = three_files(alloc, case.netlist.as_bytes(), b"", case.machine.as_bytes())?;
-    let wanted = Wanted {
-        status: case.status,
-        output: case.output.as_bytes(),
-        line: case.line.as_bytes(),
-    };
-    ends(rt, alloc, &[PLAN], files, 0, wanted)
-}
-
 #[test]
-fn plans_by_own_limits_end_as_stated(rt: HostRuntime) -> Result<(), Fail> {
-    for case in cases() {
-        assert!(rt; is_case(&rt, rt.alloc(), case)?);
-    }
-    Ok(())
+fn plans_by_own_limits_end_as_stated(rt: HostRuntime) {
+    assert!(rt; all_end(&rt, rt.alloc(), CASES));
 }

@@ -1,11 +1,10 @@
 //! Runs of lanes against the reference: each lane prints what `refer` prints of its own stimulus.
 
-use super::{C17, Ended, LATCH, RAM, S27, end_of, has_ended, printed, store, three};
+use super::{C17, EASY, FILES, LATCH, RAM, S27, Texts, all_print, end_of, four};
 use seen_list::{Memory, Text};
 use std::alloc::Global;
 use std::marker::Sync;
 use std::sync::Wait;
-use std::test::Fail;
 use std::thread::Threads;
 
 /// A bus of two drivers.
@@ -50,13 +49,13 @@ const THIRTY: &[&str] = &[
     "00000 * 14\n10x01\n",
 ];
 
-/// The stimuli of the lanes of a design, a list of gates, and the options that tell how it runs.
+/// The stimuli of the lanes of a design, a list of gates, and the words behind a call.
 #[derive(Clone, Copy)]
 struct Case {
     netlist: &'static str,
     lanes: &'static [&'static str],
     list: &'static str,
-    options: &'static str,
+    words: &'static str,
 }
 
 const CASES: &[Case] = &[
@@ -64,13 +63,13 @@ const CASES: &[Case] = &[
         netlist: C17,
         lanes: THIRTY,
         list: "",
-        options: "",
+        words: FILES,
     },
     Case {
         netlist: C17,
         lanes: &["11111 * 40\n"],
         list: "",
-        options: "--mode unit --units 3",
+        words: "net.bench net.stim --mode unit --units 3",
     },
     Case {
         netlist: S27,
@@ -81,13 +80,13 @@ const CASES: &[Case] = &[
             "0010\n",
         ],
         list: "",
-        options: "--init 0",
+        words: "net.bench net.stim --init 0",
     },
     Case {
         netlist: BUS,
         lanes: &["1000\n1001\n1010\n1110\n", "1011\n0000\nx000\n1100\nz1zz\n"],
         list: "",
-        options: "",
+        words: FILES,
     },
     // Each lane has its own words of a memory, of one bit and of 64.
     Case {
@@ -98,7 +97,7 @@ const CASES: &[Case] = &[
             "0000\n0x01\n0000\n0000\n",
         ],
         list: "",
-        options: "",
+        words: FILES,
     },
     Case {
         netlist: WORDS,
@@ -108,20 +107,20 @@ const CASES: &[Case] = &[
             "1x1\n000\n000\n",
         ],
         list: "",
-        options: "--init 0",
+        words: "net.bench net.stim --init 0",
     },
     // A loop in unit delay, and cut by one listed gate.
     Case {
         netlist: LATCH,
         lanes: &["01\n11\n10\n", "10\n11 * 18\n"],
         list: "",
-        options: "--mode unit --units 4",
+        words: "net.bench net.stim --mode unit --units 4",
     },
     Case {
         netlist: LATCH,
         lanes: &["01\n11\n10\n", "10\n11 * 18\n"],
         list: "q\n",
-        options: "--mode mixed --last net.last --units 2",
+        words: "net.bench net.stim --mode mixed --last net.more --units 2",
     },
 ];
 
@@ -129,22 +128,10 @@ fn cases() -> &'static [Case] {
     CASES
 }
 
-/// The end of a call of these lines of words over the files of a case, with this stimulus.
-fn end_of_case<R: Threads + Wait + Sync>(
-    rt: &R,
-    alloc: Global,
-    lines: &[&str],
-    case: &Case,
-    stimulus: &[u8],
-) -> Result<Ended, Memory> {
-    let files: [(&[u8], &[u8]); 4] = [
-        (b"net.bench", case.netlist.as_bytes()),
-        (b"net.stim", stimulus),
-        (b"net.last", case.list.as_bytes()),
-        (b"net.machine", b"logic 3\n"),
-    ];
-    let mut files = store(alloc, &files, 0)?;
-    end_of(rt, alloc, lines, &mut files, 0)
+/// The texts of a case, with this stimulus.
+fn texts_with<'a>(case: &Case, stimulus: &'a [u8]) -> Texts<'a> {
+    let (netlist, list) = (case.netlist.as_bytes(), case.list.as_bytes());
+    four(netlist, stimulus, b"logic 3\n", list)
 }
 
 /// The text of the lanes.
@@ -157,22 +144,20 @@ fn lanes_text(alloc: Global, lanes: &[&str]) -> Result<Text, Memory> {
     Ok(text)
 }
 
-/// Adds what a lane is to print: its number, and what `refer` prints of its stimulus.
-fn push_reference<R: Threads + Wait + Sync>(
+/// Adds what `refer` prints of a stimulus.
+fn push_trace<R: Threads + Wait + Sync>(
     rt: &R,
     alloc: Global,
     text: &mut Text,
     case: &Case,
-    n: usize,
+    stimulus: &str,
 ) -> Result<(), Memory> {
-    let stimulus = case.lanes.get(n).unwrap_or(&"").as_bytes();
-    let lines = ["refer", "net.bench net.stim", case.options];
-    let ended = end_of_case(rt, alloc, &lines, case, stimulus)?;
-    text.push_bytes(format!(in alloc; "lane {}\n", n.saturating_add(1))?.as_bytes())?;
+    let texts = texts_with(case, stimulus.as_bytes());
+    let ended = end_of(rt, alloc, &["refer", case.words], &texts, &EASY)?;
     text.push_bytes(ended.out.taken())
 }
 
-/// What the lanes are to print.
+/// What the lanes are to print: of each its number, and what `refer` prints of its stimulus.
 fn references<R: Threads + Wait + Sync>(
     rt: &R,
     alloc: Global,
@@ -180,26 +165,14 @@ fn references<R: Threads + Wait + Sync>(
 ) -> Result<Text, Memory> {
     let mut text = Text::new(alloc);
     for n in 0..case.lanes.len() {
-        push_reference(rt, alloc, &mut text, case, n)?;
+        let number = format!(in alloc; "lane {}\n", n + 1)?;
+        text.push_bytes(number.as_bytes())?;
+        push_trace(rt, alloc, &mut text, case, case.lanes[n])?;
     }
     Ok(text)
 }
 
 const CALLS: &str = "pack --workers 1|pack --workers 7|pack --workers 2 --machine net.machine";
-
-/// Whether a call over these lanes prints this.
-fn prints<R: Threads + Wait + Sync>(
-    rt: &R,
-    alloc: Global,
-    call: &str,
-    case: &Case,
-    lanes: &[u8],
-    output: &[u8],
-) -> Result<bool, Memory> {
-    let lines = three(call, "net.bench net.stim", case.options);
-    let ended = end_of_case(rt, alloc, &lines, case, lanes)?;
-    Ok(has_ended(&ended, printed(output)))
-}
 
 /// Whether each call prints the references of a case.
 fn print_references<R: Threads + Wait + Sync>(
@@ -209,18 +182,13 @@ fn print_references<R: Threads + Wait + Sync>(
 ) -> Result<bool, Memory> {
     let lanes = lanes_text(alloc, case.lanes)?;
     let wanted = references(rt, alloc, case)?;
-    for call in CALLS.split('|') {
-        if !prints(rt, alloc, call, case, lanes.as_bytes(), wanted.as_bytes())? {
-            return Ok(false);
-        }
-    }
-    Ok(true)
+    let texts = texts_with(case, lanes.as_bytes());
+    Ok(all_print(rt, alloc, CALLS, case.words, &texts, wanted.as_bytes()))
 }
 
 #[test]
-fn lanes_print_their_references(rt: HostRuntime) -> Result<(), Fail> {
+fn lanes_print_their_references(rt: HostRuntime) {
     for case in cases() {
-        assert!(rt; print_references(&rt, rt.alloc(), case)?);
+        assert!(rt; print_references(&rt, rt.alloc(), case) == Ok(true));
     }
-    Ok(())
 }

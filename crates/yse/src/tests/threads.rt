@@ -1,70 +1,108 @@
-//! Runs on threads: so many workers and banks, workers that meet, and a worker that waits for the crossbar.
+//! Runs on threads: so many workers and banks, workers that meet, a worker that waits for the crossbar, and the
+//! turns that are made before a row is written.
 
-ghost use Rattle.limits.specs.declared.TheConstants.{MAX_WORKERS};
 ghost use Rattle.crew_run.specs.Crews.{CanTell};
 ghost use Rattle.std.specs.Prelude.{All, IfOk, Option, Some, length, slice_get, true, ℕ, ◌+◌, ◌<◌, ◌^◌, ◌≡◌, ◌≤◌};
-ghost use Rattle.yse_top.specs.Visited.{AllCanTell};
 
 use super::{
-    C17, Ended, GATES, S27, crews, end_of, end_with_gates, ends, has_ended, printed, store,
-    three_files, two_files, words_of,
+    C17, Case, EASY, Edges, FILES, GATES, RUNS, S27, Texts, all_end, end_of, end_with, four,
+    has_ended, texts_of,
 };
 use crew_run::{CountGate, Gate};
-use edge_io::MemFiles;
 use seen_list::{List, Memory};
 use std::alloc::Global;
 use std::hint;
 use std::marker::Sync;
 use std::sync::Wait;
-use std::sync::atomic::{AtomicBool, Ordering};
+use std::sync::atomic::{AtomicBool, AtomicU64, Ordering};
 use std::test::Fail;
 use std::thread::Threads;
 
 /// How often a hold tries at most.
 const TRIES: u32 = 50_000_000;
 
-/// A buffer whose input alone is printed.
-const BUFFER: &str = "INPUT(a)\nOUTPUT(a)\nz = BUFF(a)\n";
-
-const RUN_S27: &str = "run net.bench net.stim --init 0";
-
 const S27_ROWS: &str = "0000\n0001\n0000\n1000\n0001\n";
 
 const S27_TRACE: &str = "cycle G17\n1 1\n2 0\n3 0\n4 1\n5 1\n";
 
-/// The same rows as a lane.
-const S27_LANE: &str = "lane\n0000\n0001\n0000\n1000\n0001\n";
+const THOUSANDS: &str =
+    "gates 2000 nodes 2000 slots 292 crossings 3775\nzeros 87 ones 73 xs 0 zs 0\n";
 
-const S27_LANE_TRACE: &str = "lane 1\ncycle G17\n1 1\n2 0\n3 0\n4 1\n5 1\n";
+const TENS_OF_THOUSANDS: &str =
+    "gates 20000 nodes 20000 slots 2464 crossings 36674\nzeros 1231 ones 369 xs 0 zs 0\n";
 
-/// Whether a call over the files of S27, with these words, prints its trace.
-fn prints_s27<R: Threads + Wait + Sync>(
-    rt: &R,
-    alloc: Global,
-    lines: &[&str],
-) -> Result<bool, Memory> {
-    let files = two_files(alloc, S27.as_bytes(), S27_ROWS.as_bytes(), 0)?;
-    ends(rt, alloc, lines, files, 0, printed(S27_TRACE.as_bytes()))
-}
+/// The same bytes at each run and with so many workers and banks, of s27 and of generated designs.
+const CASES: &[Case] = &[
+    Case {
+        calls: RUNS,
+        words: "net.bench net.stim --init 0",
+        netlist: S27,
+        stimulus: S27_ROWS,
+        machine: "",
+        more: "",
+        failing: (0, 0),
+        status: 0,
+        output: S27_TRACE,
+        line: "",
+    },
+    Case {
+        calls: "large --workers 1|large --workers 4|large --workers 64",
+        words: "2000 20",
+        netlist: "",
+        stimulus: "",
+        machine: "",
+        more: "",
+        failing: (0, 0),
+        status: 0,
+        output: THOUSANDS,
+        line: "",
+    },
+    Case {
+        calls: "large --workers 1|large --workers 1",
+        words: "20000 200",
+        netlist: "",
+        stimulus: "",
+        machine: "",
+        more: "",
+        failing: (0, 0),
+        status: 0,
+        output: TENS_OF_THOUSANDS,
+        line: "",
+    },
+];
 
-/// The same bytes with so many workers and banks.
 #[test]
-fn workers_print_the_reference(rt: HostRuntime) -> Result<(), Fail> {
-    for crew in crews() {
-        assert!(rt; prints_s27(&rt, rt.alloc(), &[RUN_S27, crew])?);
-    }
-    Ok(())
+fn workers_print_the_reference(rt: HostRuntime) {
+    assert!(rt; all_end(&rt, rt.alloc(), CASES));
 }
 
 /// What a gate does beside counting.
 #[derive(Clone, Copy)]
 enum Watch {
+    /// Nothing.
+    Turns,
     /// It holds its first call until the other worker was told of a turn.
     Pair,
     /// The first worker's holds the host's turn 3, until the second worker was told of a later turn.
     Hold,
     /// The first worker's holds its first call until the second worker was told of a turn past the third.
     Ahead,
+}
+
+/// What the gates of two workers share: their flags, and how many turns the gates of a call were told of.
+#[derive(Drop)]
+struct Shared {
+    one: AtomicBool,
+    two: AtomicBool,
+    told: AtomicU64,
+}
+
+fn fresh() -> Shared {
+    Shared {
+        one: AtomicBool::new(false),
+        two: AtomicBool::new(false),
+        told: AtomicU64::new(0),
+    }
 }
 
 /// Counts, and holds its worker in one call. It says whether a try of the hold found what it looked for.
@@ -75,6 +113,7 @@ struct WatchGate<'a> {
     first: bool,
     mine: &'a AtomicBool,
     other: &'a AtomicBool,
+    told: &'a AtomicU64,
     held: bool,
     found: bool,
 }
@@ -94,6 +133,7 @@ impl Watch {
     /// Whether the flag of the worker is to be set in a turn.
     fn marks(self, turn: u64) -> bool {
         match self {
+            Watch::Turns => false,
             Watch::Pair => true,
             Watch::Hold | Watch::Ahead => turn > 3,
         }
@@ -103,6 +143,7 @@ impl Watch {
     /// port 2.
     fn holds(self, first: bool, held: bool, port: u32, turn: u64) -> bool {
         match self {
+            Watch::Turns => false,
             Watch::Pair => !held,
             Watch::Hold => first && port == 2 && turn == 3,
             Watch::Ahead => first && !held,
@@ -117,6 +158,7 @@ impl<'a> Gate for WatchGate<'a> {
 
     fn at(&mut self, port: u32, turn: u64) {
         self.counts.at(port, turn);
+        self.told.fetch_add(1, Ordering::SeqCst);
         if self.watch.marks(turn) {
             self.mine.store(true, Ordering::SeqCst);
         }
@@ -127,22 +169,22 @@ impl<'a> Gate for WatchGate<'a> {
     }
 }
 
-/// A gate that was told nothing, with the flag of its worker and that of the other.
-fn watch_gate<'a>(
-    watch: Watch,
-    first: bool,
-    one: &'a AtomicBool,
-    two: &'a AtomicBool,
-) -> WatchGate<'a>
+/// A gate that was told nothing.
+fn watch_gate<'a>(watch: Watch, first: bool, shared: &'a Shared) -> WatchGate<'a>
     ensures { All (λ n. n ≤ 2 ^ 62) (⟦<WatchGate<'a> as Gate>⟧.times result) }
 {
-    let (mine, other) = if first { (one, two) } else { (two, one) };
+    let (mine, other) = if first {
+        (&shared.one, &shared.two)
+    } else {
+        (&shared.two, &shared.one)
+    };
     WatchGate {
         counts: CountGate::new(),
         watch,
         first,
         mine,
         other,
+        told: &shared.told,
         held: false,
         found: false,
     }
@@ -152,77 +194,16 @@ fn watch_gate<'a>(
 fn watch_gates<'a>(
     alloc: Global,
     watch: Watch,
-    one: &'a AtomicBool,
-    two: &'a AtomicBool,
+    shared: &'a Shared,
 ) -> Result<List<Option<WatchGate<'a>>>, Memory>
     ensures count { IfOk result (λ gates. length gates ≡ 64) }
     ensures tell { IfOk result (λ gates. (i : ℕ) (gate : Option WatchGate) → slice_get gates i ≡ Some gate → CanTell ⟦<WatchGate<'a> as Gate>⟧ gate) }
 {
     let mut gates = List::new(alloc);
     'gates: for w in 0..GATES {
-        gates.push(Some(watch_gate(watch, w == 0, one, two)))?;
+        gates.push(Some(watch_gate(watch, w == 0, shared)))?;
     }
     Ok(gates)
-}
-
-/// A machine of two logic processors and no array processor, where the second of two workers has the second of
-/// them alone.
-const TWO_LOGIC: &str = "logic 2\narray 0\n";
-
-/// The files of a netlist, a stimulus and a machine.
-fn files_of(alloc: Global, design: (&str, &str, &str)) -> Result<MemFiles, Memory> {
-    three_files(
-        alloc,
-        design.0.as_bytes(),
-        design.1.as_bytes(),
-        design.2.as_bytes(),
-    )
-}
-
-/// A run by two workers: whether it printed what was wanted, and whether the two were held, and found something.
-#[derive(Clone, Copy)]
-struct Watched {
-    printed: bool,
-    first: (bool, bool),
-    second: (bool, bool),
-}
-
-/// Whether the call of these words over these files, with these gates, ends with status 0 and this trace.
-fn prints_with<'a, R: Threads + Wait + Sync>(
-    rt: &R,
-    alloc: Global,
-    line: &str,
-    files: MemFiles,
-    gates: &mut [Option<WatchGate<'a>>],
-    trace: &str,
-) -> Result<bool, Memory>
-    requires gates { MAX_WORKERS ≤ length gates.old }
-    requires tell { AllCanTell ⟦<WatchGate<'a> as Gate>⟧ gates.old }
-{
-    let words = words_of(alloc, &[line])?;
-    let mut files = files;
-    let ended = end_with_gates(rt, alloc, words.as_slice(), &mut files, 0, gates)?;
-    Ok(has_ended(&ended, printed(trace.as_bytes())))
-}
-
-fn run_watched<R: Threads + Wait + Sync>(
-    rt: &R,
-    alloc: Global,
-    watch: Watch,
-    line: &str,
-    files: MemFiles,
-    trace: &str,
-) -> Result<Watched, Memory> {
-    let one = AtomicBool::new(false);
-    let two = AtomicBool::new(false);
-    let mut gates = watch_gates(alloc, watch, &one, &two)?;
-    let printed = prints_with(rt, alloc, line, files, gates.as_mut_slice(), trace)?;
-    let gates = gates.as_slice();
-    Ok(Watched {
-        printed,
-        first: held(gates.first()),
-        second: held(gates.get(1)),
-    })
 }
 
 /// Whether the gate held its worker, and found something.
@@ -233,193 +214,185 @@ fn held(gate: Option<&Option<WatchGate<'_>>>) -> (bool, bool) {
     }
 }
 
-/// The words of a call, the stimulus or the lanes, and what is printed.
-type Call = (&'static str, &'static str, &'static str);
+/// Whether a call prints what it should, and whether the gates of the first two workers held them, and found something.
+type Finding = (bool, (bool, bool), (bool, bool));
 
-const MEETINGS: &[Call] = &[
-    (
-        "run net.bench net.stim --init 0 --workers 2",
-        S27_ROWS,
-        S27_TRACE,
-    ),
-    (
-        "pack net.bench net.stim --init 0 --workers 2",
-        S27_LANE,
-        S27_LANE_TRACE,
-    ),
+/// What is watched, the words of a call, its netlist, its stimulus or lanes, its machine, and its trace.
+type Watching = (Watch, &'static str, [&'static str; 3], &'static str);
+
+/// The call of a row, whose file `net.more` has these bytes.
+fn watched<R: Threads + Wait + Sync>(
+    rt: &R,
+    alloc: Global,
+    row: &Watching,
+    more: &[u8],
+) -> Result<Finding, Memory> {
+    let [netlist, stimulus, machine] = row.2;
+    let texts = four(
+        netlist.as_bytes(),
+        stimulus.as_bytes(),
+        machine.as_bytes(),
+        more,
+    );
+    let shared = fresh();
+    let mut gates = watch_gates(alloc, row.0, &shared)?;
+    let ended = end_with(rt, alloc, &[row.1], &texts, &EASY, gates.as_mut_slice())?;
+    let gates = gates.as_slice();
+    Ok((
+        has_ended(&ended, 0, row.3.as_bytes(), b""),
+        held(gates.first()),
+        held(gates.get(1)),
+    ))
+}
+
+/// A machine of two logic processors and no array processor, where the second of two workers has the second of
+/// them alone.
+const TWO_LOGIC: &str = "logic 2\narray 0\n";
+
+/// A buffer whose input alone is printed, on a machine of one logic processor.
+const BUFFER: [&str; 3] = [
+    "INPUT(a)\nOUTPUT(a)\nz = BUFF(a)\n",
+    "1 * 10\n",
+    "logic 1\narray 0\n",
 ];
 
-fn meetings() -> &'static [Call] {
-    MEETINGS
-}
+const BUFFER_TRACE: &str = "cycle a\n1 1\n2 1\n3 1\n4 1\n5 1\n6 1\n7 1\n8 1\n9 1\n10 1\n";
 
-/// Whether a call over s27 prints its trace, with each of two workers held until it found the other.
-fn meet<R: Threads + Wait + Sync>(rt: &R, alloc: Global, call: &Call) -> Result<bool, Memory> {
-    let files = files_of(alloc, (S27, call.1, TWO_LOGIC))?;
-    let watched = run_watched(rt, alloc, Watch::Pair, call.0, files, call.2)?;
-    let both = watched.first == (true, true) && watched.second == (true, true);
-    Ok(watched.printed && both)
-}
-
-/// Each of two workers is held at its first call until the other was called too: the two run beside one
-/// another.
-#[test]
-fn two_workers_meet(rt: HostRuntime) -> Result<(), Fail> {
-    for call in meetings() {
-        assert!(rt; meet(&rt, rt.alloc(), call)?);
-    }
-    Ok(())
-}
-
-/// Ten cycles of c17, and their trace.
-const C17_ROWS: &str = "11111 * 10\n";
-
+/// Ten cycles of c17.
 const C17_TRACE: &str =
     "cycle 22 23\n1 10\n2 10\n3 10\n4 10\n5 10\n6 10\n7 10\n8 10\n9 10\n10 10\n";
 
-/// The same cycles as a lane.
-const C17_LANE: &str = "lane\n11111 * 10\n";
-
+/// The same as a lane.
 const C17_LANE_TRACE: &str =
     "lane 1\ncycle 22 23\n1 10\n2 10\n3 10\n4 10\n5 10\n6 10\n7 10\n8 10\n9 10\n10 10\n";
 
-const WAITS: &[Call] = &[
+/// Calls, and what their gates find.
+const WATCHED: &[(Watching, Finding)] = &[
+    // Each of two workers is held at its first call until the other was called too: the two run beside one another.
     (
-        "run net.bench net.stim --machine net.machine --workers 2",
-        C17_ROWS,
-        C17_TRACE,
+        (
+            Watch::Pair,
+            "run net.bench net.stim --init 0 --workers 2",
+            [S27, S27_ROWS, ""],
+            S27_TRACE,
+        ),
+        (true, (true, true), (true, true)),
     ),
     (
-        "pack net.bench net.stim --machine net.machine --workers 2",
-        C17_LANE,
-        C17_LANE_TRACE,
+        (
+            Watch::Pair,
+            "pack net.bench net.stim --init 0 --workers 2",
+            [S27, "lane\n0000\n0001\n0000\n1000\n0001\n", ""],
+            "lane 1\ncycle G17\n1 1\n2 0\n3 0\n4 1\n5 1\n",
+        ),
+        (true, (true, true), (true, true)),
+    ),
+    // While the host is held at its third turn, the port that takes values from it does not get past that turn.
+    (
+        (
+            Watch::Hold,
+            "run net.bench net.stim --machine net.machine --workers 2",
+            [C17, "11111 * 10\n", TWO_LOGIC],
+            C17_TRACE,
+        ),
+        (true, (true, false), (false, false)),
+    ),
+    (
+        (
+            Watch::Hold,
+            "pack net.bench net.stim --machine net.machine --workers 2",
+            [C17, "lane\n11111 * 10\n", TWO_LOGIC],
+            C17_LANE_TRACE,
+        ),
+        (true, (true, false), (false, false)),
+    ),
+    // The host, which takes no value of the buffer, is told of its fourth turn while the worker of the only logic
+    // processor is held before its first, with eight banks and not with one.
+    (
+        (
+            Watch::Ahead,
+            "run net.bench net.stim --machine net.machine --workers 2 --banks 8",
+            BUFFER,
+            BUFFER_TRACE,
+        ),
+        (true, (true, true), (false, false)),
+    ),
+    (
+        (
+            Watch::Ahead,
+            "run net.bench net.stim --machine net.machine --workers 2 --banks 1",
+            BUFFER,
+            BUFFER_TRACE,
+        ),
+        (true, (true, false), (false, false)),
     ),
 ];
 
-fn waits() -> &'static [Call] {
-    WAITS
+fn all_watched() -> &'static [(Watching, Finding)] {
+    WATCHED
 }
 
-/// Whether a call of these words, by two workers, prints this, with the first worker held at the host's third turn
-/// while the second one got no further.
-fn waits_for_the_host<R: Threads + Wait + Sync>(
-    rt: &R,
-    alloc: Global,
-    line: &str,
-    files: MemFiles,
-    trace: &str,
-) -> Result<bool, Memory> {
-    let watched = run_watched(rt, alloc, Watch::Hold, line, files, trace)?;
-    Ok(watched.printed && watched.first == (true, false))
-}
-
-/// Whether a call over c17 does.
-fn c17_waits<R: Threads + Wait + Sync>(rt: &R, alloc: Global, call: &Call) -> Result<bool, Memory> {
-    let files = files_of(alloc, (C17, call.1, TWO_LOGIC))?;
-    waits_for_the_host(rt, alloc, call.0, files, call.2)
-}
-
-/// While the host is held at its third turn, the port that takes values from it does not get past that turn.
 #[test]
-fn a_worker_waits_for_the_host(rt: HostRuntime) -> Result<(), Fail> {
-    for call in waits() {
-        assert!(rt; c17_waits(&rt, rt.alloc(), call)?);
+fn workers_wait_for_one_another(rt: HostRuntime) {
+    for (row, held) in all_watched() {
+        assert!(rt; watched(&rt, rt.alloc(), row, b"") == Ok(*held));
     }
-    Ok(())
 }
 
-/// The files of c17, of these rows, and of an image.
-fn image_files(alloc: Global, image: &[u8]) -> Result<MemFiles, Memory> {
-    let files: [(&[u8], &[u8]); 3] = [
-        (b"net.bench", C17.as_bytes()),
-        (b"net.stim", C17_ROWS.as_bytes()),
-        (b"net.image", image),
-    ];
-    store(alloc, &files, 0)
+/// A run of the image that is in the last file.
+const OF_IMAGE: Watching = (
+    Watch::Hold,
+    "exec net.bench net.more net.stim --workers 2",
+    [C17, "11111 * 10\n", ""],
+    C17_TRACE,
+);
+
+/// What the gates find at the run of the image that is compiled of c17 for two logic processors.
+fn watched_image<R: Threads + Wait + Sync>(rt: &R, alloc: Global) -> Result<Finding, Memory> {
+    let compile = ["compile net.bench --machine net.machine"];
+    let texts: Texts<'_> = [C17.as_bytes(), b"", TWO_LOGIC.as_bytes(), b""];
+    let compiled = end_of(rt, alloc, &compile, &texts, &EASY)?;
+    watched(rt, alloc, &OF_IMAGE, compiled.out.taken())
 }
 
-/// What `compile` writes for the two logic processors.
-fn compiled<R: Threads + Wait + Sync>(rt: &R, alloc: Global) -> Result<Ended, Memory> {
-    let mut files = files_of(alloc, (C17, "", TWO_LOGIC))?;
-    let line = "compile net.bench --machine net.machine";
-    end_of(rt, alloc, &[line], &mut files, 0)
-}
-
-/// Whether the run of the image that is compiled of c17 waits too.
-fn image_waits<R: Threads + Wait + Sync>(rt: &R, alloc: Global) -> Result<bool, Memory> {
-    let compiled = compiled(rt, alloc)?;
-    let files = image_files(alloc, compiled.out.taken())?;
-    let line = "exec net.bench net.image net.stim --workers 2";
-    waits_for_the_host(rt, alloc, line, files, C17_TRACE)
-}
-
-/// The same where an image from a file is run.
+/// It waits too.
 #[test]
-fn a_worker_waits_for_the_host_of_an_image(rt: HostRuntime) -> Result<(), Fail> {
-    assert!(rt; image_waits(&rt, rt.alloc())?);
-    Ok(())
+fn a_worker_waits_for_the_host_of_an_image(rt: HostRuntime) {
+    let found = (true, (true, false), (false, false));
+    assert!(rt; watched_image(&rt, rt.alloc()) == Ok(found));
 }
 
-/// Whether the host, which takes no value of the buffer, is told of its fourth turn while the worker of the
-/// only logic processor is held before its first, with so many banks.
-fn runs_ahead<R: Threads + Wait + Sync>(rt: &R, alloc: Global, line: &str) -> Result<bool, Memory> {
-    let files = files_of(alloc, (BUFFER, "1 * 10\n", "logic 1\narray 0\n"))?;
-    let watched = run_watched(rt, alloc, Watch::Ahead, line, files, "")?;
-    Ok(watched.first.1)
-}
-
-/// With eight banks a port runs ahead of its readers, with one it waits for them.
-#[test]
-fn banks_let_a_port_run_ahead(rt: HostRuntime) -> Result<(), Fail> {
-    let eight = "run net.bench net.stim --machine net.machine --workers 2 --banks 8";
-    assert!(rt; runs_ahead(&rt, rt.alloc(), eight)?);
-    let one = "run net.bench net.stim --machine net.machine --workers 2 --banks 1";
-    assert!(rt; !runs_ahead(&rt, rt.alloc(), one)?);
-    Ok(())
-}
-
-/// Whether a call for a generated design prints these lines.
-fn is_summed_up<R: Threads + Wait + Sync>(
+/// How many turns the gates are told of in a run of three blocks, where this write fails (0: none).
+fn turns_told<R: Threads + Wait + Sync>(
     rt: &R,
     alloc: Global,
-    words: &str,
-    lines: &str,
-) -> Result<bool, Memory> {
-    let files = two_files(alloc, b"", b"", 0)?;
-    ends(
+    failing_write: u64,
+) -> Result<u64, Memory> {
+    let edges = Edges {
+        failing_write,
+        ..EASY
+    };
+    let texts = texts_of(C17, "11111 * 8193\n");
+    let shared = fresh();
+    let mut gates = watch_gates(alloc, Watch::Turns, &shared)?;
+    end_with(
         rt,
         alloc,
-        &["large", words],
-        files,
-        0,
-        printed(lines.as_bytes()),
-    )
+        &["run", FILES],
+        &texts,
+        &edges,
+        gates.as_mut_slice(),
+    )?;
+    Ok(shared.told.load(Ordering::SeqCst))
 }
 
-/// Generated designs: the words behind the command, and the summary.
-const SUMMARIES: &[(&str, &str)] = &[
-    ("2000 20 --workers 1", THOUSANDS),
-    ("2000 20 --workers 4", THOUSANDS),
-    ("2000 20 --workers 64", THOUSANDS),
-    ("20000 200 --workers 1", TENS_OF_THOUSANDS),
-    ("20000 200 --workers 1", TENS_OF_THOUSANDS),
-];
-
-const THOUSANDS: &str =
-    "gates 2000 nodes 2000 slots 292 crossings 3775\nzeros 87 ones 73 xs 0 zs 0\n";
-
-const TENS_OF_THOUSANDS: &str =
-    "gates 20000 nodes 20000 slots 2464 crossings 36674\nzeros 1231 ones 369 xs 0 zs 0\n";
-
-fn summaries() -> &'static [(&'static str, &'static str)] {
-    SUMMARIES
-}
-
-/// Generated designs print the same summary at each run and with each number of workers.
+/// A run whose header is not written makes no turn, and one whose first row is not written makes those of one block,
+/// and not those of the last one. Ports of 8,193 cycles are in three blocks.
 #[test]
-fn generated_designs_are_summed_up(rt: HostRuntime) -> Result<(), Fail> {
-    for (words, lines) in summaries() {
-        assert!(rt; is_summed_up(&rt, rt.alloc(), words, lines)?);
-    }
+fn rows_come_before_the_last_block(rt: HostRuntime) -> Result<(), Fail> {
+    let last = turns_told(&rt, rt.alloc(), 0)?;
+    assert!(rt; last > 0);
+    assert!(rt; turns_told(&rt, rt.alloc(), 1) == Ok(0));
+    assert!(rt; turns_told(&rt, rt.alloc(), 2) == Ok(last / 8193 * 4096));
     Ok(())
 }
