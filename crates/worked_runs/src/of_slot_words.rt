@@ -2,6 +2,7 @@
 
 ghost use Rattle.std.specs.Prelude.{◌≡◌, ◌<◌, length};
 ghost use Rattle.net_defs.specs.Valid.{IsValid, IsValidStimulus};
+ghost use Rattle.machine_text.specs.Machines as machines;
 ghost use Rattle.image_defs.specs.WellFormed.{IsWellFormed};
 ghost use Rattle.event_defs.specs.declared.place.Action.TheVariants as action;
 ghost use Rattle.slot_words.specs.Passes.{AreFirstPasses, IsFirstPass, IsOf};
@@ -13,14 +14,13 @@ use bench_read::read_bench;
 use event_defs::Action;
 use image_defs::Image;
 use logic_four::V4;
-use machine_text::read_machine;
+use machine_text::{Machine, read_machine};
 use net_defs::{Init, Mode, Netlist, Stimulus, Timing};
 use port_walk::AnyPort;
 use seen_list::{List, Memory};
 use slot_words::{Crossbar, Pass, Taken};
 use std::alloc::Global;
 use std::sync::Wait;
-use std::test::Fail;
 use std::thread::{self, Threads, yield_now};
 use stim_text::read_stim;
 use yse_compile::compile;
@@ -256,91 +256,6 @@ fn first_steps<'a>(first: &mut Hand<'a>, host: &mut Hand<'a>) -> (Did, Did, Did)
     (waits, puts, first.step())
 }
 
-/// The host and port 0 in one thread, and port 1 in another.
-fn drive_all<'a, R: Threads>(
-    rt: &R,
-    host: &mut Hand<'a>,
-    first: &mut Hand<'a>,
-    second: &mut Hand<'a>,
-) -> (Tally, Tally) {
-    thread::join(rt, move || drive_both(host, first), move || drive(second))
-}
-
-/// What the first steps of three hands and then two threads do.
-fn drive_three<'a, R: Threads>(
-    rt: &R,
-    hands: &mut [Hand<'a>],
-) -> Option<((Did, Did, Did), Tally, Tally)> {
-    let (host, rest) = hands.split_first_mut()?;
-    let (second, rest) = rest.split_first_mut()?;
-    let (first, _) = rest.split_first_mut()?;
-    let steps = first_steps(first, host);
-    let (one, other) = drive_all(rt, host, first, second);
-    Some((steps, one, other))
-}
-
-/// What the first steps and then two threads do.
-fn run_by_hand<R: Threads + Wait>(
-    rt: &R,
-    alloc: Global,
-    image: &Image,
-    stim: &Stimulus,
-) -> Result<Option<((Did, Did, Did), Tally, Tally)>, Memory>
-    requires fits { IsWellFormed image.now }
-    requires valid { IsValidStimulus stim.now }
-    requires columns { stim.now.columns ≡ image.now.columns }
-{
-    let (bar, passes) = Crossbar::make(rt, alloc, image, stim, 2)?;
-    let mut hands = all_hands(alloc, &bar, image, stim, passes)?;
-    Ok(drive_three(rt, hands.as_mut_slice()))
-}
-
-/// The same of an image, over these rows.
-fn run_image<R: Threads + Wait>(
-    rt: &R,
-    alloc: Global,
-    image: &Image,
-) -> Result<Option<((Did, Did, Did), Tally, Tally)>, Memory>
-    requires { IsWellFormed image.now }
-{
-    match read_stim(alloc, ROWS, image.columns) {
-        Ok(stim) => run_by_hand(rt, alloc, image, &stim),
-        Err(_) => Ok(None),
-    }
-}
-
-/// The same of a netlist, compiled for two logic processors, with one turn a cycle.
-fn run_net<R: Threads + Wait>(
-    rt: &R,
-    alloc: Global,
-    net: &Netlist,
-) -> Result<Option<((Did, Did, Did), Tally, Tally)>, Memory>
-    requires { IsValid net.now }
-{
-    let Ok(machine) = read_machine(alloc, b"logic 2\narray 0\n") else {
-        return Ok(None);
-    };
-    let timing = Timing::unlisted(alloc, Mode::Rank, 1, Init::Undef);
-    match compile(alloc, net, &machine, &timing) {
-        Ok(compiled) => run_image(rt, alloc, &compiled.image),
-        Err(_) => Ok(None),
-    }
-}
-
-/// The same of c17.
-fn run_c17<R: Threads + Wait>(
-    rt: &R,
-    alloc: Global,
-) -> Result<Option<((Did, Did, Did), Tally, Tally)>, Memory> {
-    match read_bench(alloc, C17) {
-        Ok(net) => {
-            reads_as_valid(C17, &net);
-            run_net(rt, alloc, &net)
-        }
-        Err(_) => Ok(None),
-    }
-}
-
 /// Whether port 0 takes nothing in slot 0 before the host's Put, and its value after it.
 fn are_first(steps: (Did, Did, Did)) -> bool {
     steps.0 == (Did::Waited { slot: 0 })
@@ -357,14 +272,99 @@ fn took(tally: Tally, taken: u32) -> bool {
     tally.taken == taken && tally.wrong == 0
 }
 
+/// The host and port 0 in one thread, and port 1 in another.
+fn drive_all<'a, R: Threads>(
+    rt: &R,
+    host: &mut Hand<'a>,
+    first: &mut Hand<'a>,
+    second: &mut Hand<'a>,
+) -> (Tally, Tally) {
+    thread::join(rt, move || drive_both(host, first), move || drive(second))
+}
+
+/// Whether the first steps of three hands are as stated, and what two threads take then.
+fn drive_three<'a, R: Threads>(rt: &R, hands: &mut [Hand<'a>]) -> bool {
+    let Some((host, rest)) = hands.split_first_mut() else {
+        return false;
+    };
+    let Some((second, rest)) = rest.split_first_mut() else {
+        return false;
+    };
+    let Some((first, _)) = rest.split_first_mut() else {
+        return false;
+    };
+    let begun = are_first(first_steps(first, host));
+    let (one, other) = drive_all(rt, host, first, second);
+    begun && took(one, 59_999) && took(other, 40_000)
+}
+
+/// Whether the hands of an image over these rows do as stated.
+fn run_by_hand<R: Threads + Wait>(
+    rt: &R,
+    alloc: Global,
+    image: &Image,
+    stim: &Stimulus,
+) -> Result<bool, Memory>
+    requires fits { IsWellFormed image.now }
+    requires valid { IsValidStimulus stim.now }
+    requires columns { stim.now.columns ≡ image.now.columns }
+{
+    let (bar, passes) = Crossbar::make(rt, alloc, image, stim, 2)?;
+    let mut hands = all_hands(alloc, &bar, image, stim, passes)?;
+    Ok(drive_three(rt, hands.as_mut_slice()))
+}
+
+/// The same of an image, over these rows.
+fn run_image<R: Threads + Wait>(rt: &R, alloc: Global, image: &Image) -> Result<bool, Memory>
+    requires { IsWellFormed image.now }
+{
+    match read_stim(alloc, ROWS, image.columns) {
+        Ok(stim) => run_by_hand(rt, alloc, image, &stim),
+        Err(_) => Ok(false),
+    }
+}
+
+/// The same of a netlist, compiled for a machine, with one turn a cycle.
+fn run_on<R: Threads + Wait>(
+    rt: &R,
+    alloc: Global,
+    net: &Netlist,
+    machine: &Machine,
+) -> Result<bool, Memory>
+    requires net { IsValid net.now }
+    requires machine { machines.IsValid machine.now }
+{
+    let timing = Timing::unlisted(alloc, Mode::Rank, 1, Init::Undef);
+    match compile(alloc, net, machine, &timing) {
+        Ok(compiled) => run_image(rt, alloc, &compiled.image),
+        Err(_) => Ok(false),
+    }
+}
+
+/// The same on two logic processors.
+fn run_net<R: Threads + Wait>(rt: &R, alloc: Global, net: &Netlist) -> Result<bool, Memory>
+    requires { IsValid net.now }
+{
+    match read_machine(alloc, b"logic 2\narray 0\n") {
+        Ok(machine) => run_on(rt, alloc, net, &machine),
+        Err(_) => Ok(false),
+    }
+}
+
+/// The same of c17.
+fn run_c17<R: Threads + Wait>(rt: &R, alloc: Global) -> Result<bool, Memory> {
+    match read_bench(alloc, C17) {
+        Ok(net) => {
+            reads_as_valid(C17, &net);
+            run_net(rt, alloc, &net)
+        }
+        Err(_) => Ok(false),
+    }
+}
+
 /// In turn 1 port 0 takes nothing in slot 0 before the host's Put, and its value after it. Then two
 /// threads make all other events of 10,000 turns, and each value taken is that of its slot and turn.
 #[test]
-fn crossbar_of_c17(rt: HostRuntime) -> Result<(), Fail> {
-    let Some((steps, one, other)) = run_c17(&rt, rt.alloc())? else {
-        return Err(Fail::new("c17 is an image"));
-    };
-    assert!(rt; are_first(steps));
-    assert!(rt; took(one, 59_999) && took(other, 40_000));
-    Ok(())
+fn crossbar_of_c17(rt: HostRuntime) {
+    assert!(rt; run_c17(&rt, rt.alloc()) == Ok(true));
 }
