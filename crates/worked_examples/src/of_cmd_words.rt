@@ -1,10 +1,10 @@
 //! A table of words, and what is read of each.
 
+use crate::texts::push_number;
 use cmd_words::{Command, RunWords, WordNo, read_words};
-use net_defs::{HomeChoice, Init, Mode};
+use net_defs::{HomeChoice, Init, Mode, Timing};
 use seen_list::{Memory, Text};
 use std::alloc::Global;
-use std::test::Fail;
 
 /// A line of words, and what is read of it. Lines that begin with `#` tell what comes next.
 const CASES: &str = "\
@@ -174,15 +174,26 @@ fn push_word_behind(text: &mut Text, word: &[u8]) -> Result<(), Memory> {
     text.push_bytes(word)
 }
 
+/// Adds a blank, a word and a number.
+fn push_count(alloc: Global, text: &mut Text, word: &[u8], count: u32) -> Result<(), Memory> {
+    push_word_behind(text, word)?;
+    push_number(alloc, text, count)
+}
+
+/// Adds how a netlist is run in time.
+fn push_timing(alloc: Global, text: &mut Text, timing: &Timing) -> Result<(), Memory> {
+    push_word_behind(text, mode_word(timing.mode).as_bytes())?;
+    push_count(alloc, text, b"", timing.units)?;
+    push_word_behind(text, init_word(timing.init).as_bytes())
+}
+
 /// Adds all but the files that need not be named, and the homes.
 fn push_files(alloc: Global, text: &mut Text, words: &RunWords) -> Result<(), Memory> {
     push_word_behind(text, words.netlist.as_bytes())?;
     push_word_behind(text, words.stimulus.as_bytes())?;
-    let mode = mode_word(words.timing.mode);
-    let init = init_word(words.timing.init);
-    let (units, banks, workers) = (words.timing.units, words.banks, words.workers);
-    let counts = format!(in alloc; " {mode} {units} {init} banks {banks} workers {workers}")?;
-    text.push_bytes(counts.as_bytes())
+    push_timing(alloc, text, &words.timing)?;
+    push_count(alloc, text, b"banks ", words.banks)?;
+    push_count(alloc, text, b"workers ", words.workers)
 }
 
 /// Adds a blank, a word and a file that need not be named.
@@ -225,8 +236,10 @@ fn push_large(
     cycles: u32,
     workers: u32,
 ) -> Result<(), Memory> {
-    let numbers = format!(in alloc; "large {gates} {cycles} workers {workers}")?;
-    text.push_bytes(numbers.as_bytes())
+    text.push_bytes(b"large")?;
+    push_count(alloc, text, b"", gates)?;
+    push_count(alloc, text, b"", cycles)?;
+    push_count(alloc, text, b"workers ", workers)
 }
 
 fn push_show(text: &mut Text, netlist: &Text) -> Result<(), Memory> {
@@ -286,9 +299,8 @@ fn is_case(alloc: Global, case: &str) -> Result<bool, Memory> {
 }
 
 #[test]
-fn reads_words(rt: HostRuntime) -> Result<(), Fail> {
+fn reads_words(rt: HostRuntime) {
     for case in cases().split('\n') {
-        assert!(rt; is_case(rt.alloc(), case)?);
+        assert!(rt; is_case(rt.alloc(), case) == Ok(true));
     }
-    Ok(())
 }

@@ -2,7 +2,6 @@
 
 use seen_list::{List, Memory, Room, Text};
 use std::alloc::Global;
-use std::test::Fail;
 
 fn texts_grow(alloc: Global) -> Result<bool, Memory> {
     let mut text = Text::from_bytes(alloc, b"ab")?;
@@ -30,9 +29,9 @@ fn rooms_are_filled(alloc: Global) -> Result<bool, Memory> {
 }
 
 #[test]
-fn memory_is_taken(rt: HostRuntime) -> Result<(), Fail> {
-    let alloc = rt.alloc();
-    assert!(rt; texts_grow(alloc)? && lists_grow(alloc)?);
-    assert!(rt; lists_are_filled(alloc)? && rooms_are_filled(alloc)?);
-    Ok(())
+fn memory_is_taken(rt: HostRuntime) {
+    assert!(rt; texts_grow(rt.alloc()) == Ok(true));
+    assert!(rt; lists_grow(rt.alloc()) == Ok(true));
+    assert!(rt; lists_are_filled(rt.alloc()) == Ok(true));
+    assert!(rt; rooms_are_filled(rt.alloc()) == Ok(true));
 }

@@ -6,7 +6,6 @@ use logic_four::{V4, to_char};
 use net_defs::Stimulus;
 use seen_list::{Memory, Text};
 use std::alloc::Global;
-use std::test::Fail;
 use stim_text::{LaneNo, Lanes, Order, OrderNo, StimNo, read_lanes, read_order, read_stim};
 
 /// A text that is read for so many inputs or ports, what it is read as, and, in place of it, why it is refused.
@@ -35,11 +34,12 @@ fn push_rows(alloc: Global, text: &mut Text, stimulus: &Stimulus) -> Result<(), 
     Ok(())
 }
 
-/// Whether these are the rows of a stimulus.
-fn has_rows(alloc: Global, stimulus: &Stimulus, wanted: &str) -> Result<bool, Memory> {
+/// Whether a stimulus is read as it says.
+fn has_rows(alloc: Global, stimulus: &Stimulus, read: &Read<StimNo>) -> Result<bool, Memory> {
     let mut text = Text::new(alloc);
     push_rows(alloc, &mut text, stimulus)?;
-    Ok(text.as_bytes() == wanted.as_bytes())
+    let right = stimulus.columns == read.1 && read.3.is_none();
+    Ok(right && text.as_bytes() == read.2.as_bytes())
 }
 
 /// Whether a text is read as it says.
@@ -48,9 +48,7 @@ fn is_stimulus(alloc: Global, read: &Read<StimNo>) -> Result<bool, Memory> {
         return Ok(false);
     }
     match read_stim(alloc, read.0.as_bytes(), read.1) {
-        Ok(stimulus) => Ok(
-            stimulus.columns == read.1 && read.3.is_none() && has_rows(alloc, &stimulus, read.2)?,
-        ),
+        Ok(stimulus) => has_rows(alloc, &stimulus, read),
         Err(no) => Ok(read.3 == Some(no)),
     }
 }
@@ -137,21 +135,20 @@ fn stimuli() -> &'static [Read<StimNo>] {
 }
 
 #[test]
-fn reads_rows(rt: HostRuntime) -> Result<(), Fail> {
+fn reads_rows(rt: HostRuntime) {
     for read in stimuli() {
-        assert!(rt; is_stimulus(rt.alloc(), read)?);
+        assert!(rt; is_stimulus(rt.alloc(), read) == Ok(true));
     }
-    Ok(())
 }
 
 /// Whether these are the lanes: for each the line `lane`, and its rows.
-fn has_lanes(alloc: Global, lanes: &Lanes, wanted: &str) -> Result<bool, Memory> {
+fn has_lanes(alloc: Global, lanes: &Lanes, read: &Read<LaneNo>) -> Result<bool, Memory> {
     let mut text = Text::new(alloc);
     for stimulus in lanes.lanes.as_slice() {
         text.push_bytes(b"lane\n")?;
         push_rows(alloc, &mut text, stimulus)?;
     }
-    Ok(text.as_bytes() == wanted.as_bytes())
+    Ok(read.3.is_none() && text.as_bytes() == read.2.as_bytes())
 }
 
 /// Whether a text of lanes is read as it says.
@@ -160,7 +157,7 @@ fn are_lanes(alloc: Global, read: &Read<LaneNo>) -> Result<bool, Memory> {
         return Ok(false);
     }
     match read_lanes(alloc, read.0.as_bytes(), read.1) {
-        Ok(lanes) => Ok(read.3.is_none() && has_lanes(alloc, &lanes, read.2)?),
+        Ok(lanes) => has_lanes(alloc, &lanes, read),
         Err(no) => Ok(read.3 == Some(no)),
     }
 }
@@ -253,11 +250,10 @@ fn lanes() -> &'static [Read<LaneNo>] {
 }
 
 #[test]
-fn reads_lanes(rt: HostRuntime) -> Result<(), Fail> {
+fn reads_lanes(rt: HostRuntime) {
     for read in lanes() {
-        assert!(rt; are_lanes(rt.alloc(), read)?);
+        assert!(rt; are_lanes(rt.alloc(), read) == Ok(true));
     }
-    Ok(())
 }
 
 /// Adds the lines of an order: of each the port, `*`, the repeat, and a line end.
@@ -269,10 +265,10 @@ fn push_order(alloc: Global, text: &mut Text, order: &Order) -> Result<(), Memor
     Ok(())
 }
 
-fn has_steps(alloc: Global, order: &Order, wanted: &str) -> Result<bool, Memory> {
+fn has_steps(alloc: Global, order: &Order, read: &Read<OrderNo>) -> Result<bool, Memory> {
     let mut text = Text::new(alloc);
     push_order(alloc, &mut text, order)?;
-    Ok(text.as_bytes() == wanted.as_bytes())
+    Ok(read.3.is_none() && text.as_bytes() == read.2.as_bytes())
 }
 
 /// Whether an order text is read as it says.
@@ -281,7 +277,7 @@ fn is_order(alloc: Global, read: &Read<OrderNo>) -> Result<bool, Memory> {
         return Ok(false);
     }
     match read_order(alloc, read.0.as_bytes(), read.1) {
-        Ok(order) => Ok(read.3.is_none() && has_steps(alloc, &order, read.2)?),
+        Ok(order) => has_steps(alloc, &order, read),
         Err(no) => Ok(read.3 == Some(no)),
     }
 }
@@ -323,9 +319,8 @@ fn orders() -> &'static [Read<OrderNo>] {
 }
 
 #[test]
-fn reads_orders(rt: HostRuntime) -> Result<(), Fail> {
+fn reads_orders(rt: HostRuntime) {
     for read in orders() {
-        assert!(rt; is_order(rt.alloc(), read)?);
+        assert!(rt; is_order(rt.alloc(), read) == Ok(true));
     }
-    Ok(())
 }

@@ -45,9 +45,9 @@ fn planned(alloc: Global, nodes: &NodeNet, machine: &Machine) -> Option<Switch>
 /// What a port sends, as slots and readers, and what it receives, as slots and senders.
 type Row<'a> = (&'a [(u32, &'a [u32])], &'a [(u32, u32)]);
 
-/// Whether the ports send and receive these, and no others.
-fn agrees(switch: &Option<Switch>, rows: &[Row<'_>]) -> bool {
-    match switch {
+/// Whether the ports of a netlist on a machine send and receive these, and no others.
+fn has_links(alloc: Global, text: &[u8], sizes: &[u8], rows: &[Row<'_>]) -> bool {
+    match switched(alloc, text, sizes) {
         Some(switch) => ports_agree(switch.ports.as_slice(), rows),
         None => false,
     }
@@ -112,16 +112,6 @@ const MEMORY_ON_ONE: &[Row<'_>] = &[
 
 #[test]
 fn links_are_set(rt: HostRuntime) {
-    assert!(rt;
-        agrees(
-            &switched(rt.alloc(), C17, b"logic 2\narray 1\n"),
-            C17_ON_TWO
-        )
-    );
-    assert!(rt;
-        agrees(
-            &switched(rt.alloc(), MEMORY, b"logic 1\narray 1\n"),
-            MEMORY_ON_ONE
-        )
-    );
+    assert!(rt; has_links(rt.alloc(), C17, b"logic 2\narray 1\n", C17_ON_TWO));
+    assert!(rt; has_links(rt.alloc(), MEMORY, b"logic 1\narray 1\n", MEMORY_ON_ONE));
 }
