@@ -46,19 +46,20 @@ execute-values-requires c l low =
 pub items-preserved : goal.items-preserved
 items-preserved c = record {
   run = c.execute-values.ensures.view ∙ ap after_execute c.items.invariant.run;
-  last = λ l low. record { each = λ seat k slot is next item.
-      let slots = c.args.slots.now in
-      let i = c.items.i in
-      let can : CanRun (lane_port l c.args.host.now) slots c.args.from c.args.to = c.requires.can l low in
-      let within : i < length slots = omega (arith, can.within, c.items-test.true) in
-      let there : slice_get slots i ≡ Some (get_or slots i 0) = slice_get_read slots (length slots) i (get_or slots i 0) refl within (get_or_default slots i 0 (get_or slots i 0) within) in
-      let new_is : c.execute-values.new.self ≡ record c.args.host.now { executed = i + 1 } = c.execute-values.ensures.view ∙ ap after_execute c.items.invariant.run in
-      let seat_is : can.seat ≡ seat = one_there c.args.host.now.image.ports c.args.host.now.port c.args.host.now.port can.seat seat refl can.is (subst (λ (v : PackPortView). IsPort v.image v.port seat) new_is is) in
-      let at : k ≡ i = omega (arith, next, ap (λ (v : PackPortView). v.executed) new_is) in
-      let slot_is : get_or slots i 0 ≡ slot = one_there slots i k (get_or slots i 0) slot (sym at) there (subst (λ xs. slice_get xs k ≡ Some slot) (sym (can.slots_are ∙ ap (λ (s : PortImage). item_slots s.work) seat_is)) item) in
-      c.execute-values.ensures.values l low
-      ∙ ap (λ (v : PackPortView). value_in (lane_port l v) (get_or slots i 0)) c.items.invariant.run
-      ∙ ap (value_in (lane_port l c.args.host.now)) slot_is
-      ∙ ap (λ (v : PackPortView). value_in (lane_port l v) slot) (sym new_is)
+  last = λ l low. record {
+    each = λ seat k slot is next item.
+        let slots = c.args.slots.now in
+        let i = c.items.i in
+        let can : CanRun (lane_port l c.args.host.now) slots c.args.from c.args.to = c.requires.can l low in
+        let within : i < length slots = omega (arith, can.within, c.items-test.true) in
+        let there : slice_get slots i ≡ Some (get_or slots i 0) = slice_get_read slots (length slots) i (get_or slots i 0) refl within (get_or_default slots i 0 (get_or slots i 0) within) in
+        let new_is : c.execute-values.new.self ≡ record c.args.host.now { executed = i + 1 } = c.execute-values.ensures.view ∙ ap after_execute c.items.invariant.run in
+        let seat_is : can.seat ≡ seat = one_there c.args.host.now.image.ports c.args.host.now.port c.args.host.now.port can.seat seat refl can.is (subst (λ (v : PackPortView). IsPort v.image v.port seat) new_is is) in
+        let at : k ≡ i = omega (arith, next, ap (λ (v : PackPortView). v.executed) new_is) in
+        let slot_is : get_or slots i 0 ≡ slot = one_there slots i k (get_or slots i 0) slot (sym at) there (subst (λ xs. slice_get xs k ≡ Some slot) (sym (can.slots_are ∙ ap (λ (s : PortImage). item_slots s.work) seat_is)) item) in
+        c.execute-values.ensures.values l low
+        ∙ ap (λ (v : PackPortView). value_in (lane_port l v) (get_or slots i 0)) c.items.invariant.run
+        ∙ ap (value_in (lane_port l c.args.host.now)) slot_is
+        ∙ ap (λ (v : PackPortView). value_in (lane_port l v) slot) (sym new_is);
   };
 }

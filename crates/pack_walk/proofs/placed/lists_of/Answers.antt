@@ -42,6 +42,6 @@ returns c =
     let seat = c.args.seat.now in (
       c.in_ok-slots.ensures,
       stops_read c.args.image.now.slots c.in_ok-slots.slots c.as_slice.result.now seat.outs c.as_slice-2.result.now seat.ins c.as_slice-3.result.now c.in_ok-stops.stops
-      c.as_slice.ensures c.as_slice-2.ensures c.as_slice-3.ensures c.in_ok-stops.ensures,
+          c.as_slice.ensures c.as_slice-2.ensures c.as_slice-3.ensures c.in_ok-stops.ensures,
       subst (λ xs. AreReaders (length xs) xs c.in_ok-readers.readers) c.as_slice-4.ensures c.in_ok-readers.ensures,
     )

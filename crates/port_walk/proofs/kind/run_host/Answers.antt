@@ -34,15 +34,16 @@ items-preserved c =
     let within : i < length slots = omega (arith, can.within, c.items-test.true) in
     let there : slice_get slots i ≡ Some slot = slice_get_read slots (length slots) i slot refl within (get_or_default slots i 0 slot within) in
     let new_is : c.execute-value.new.self.port ≡ record c.args.host.now.port { executed = i + 1 } =
-          ap (λ (v : HostView). v.port) c.execute-value.ensures.view ∙ ap after_execute c.items.invariant.run in
-    let last : IsLastValue c.execute-value.new.self.port c.execute-value.result = record { each = λ seat k at is next item.
-      let seat_is : can.seat ≡ seat = one_there c.args.host.now.port.image.ports c.args.host.now.port.port c.args.host.now.port.port can.seat seat refl can.is (subst (λ (v : PortView). IsPort v.image v.port seat) new_is is) in
-      let place : k ≡ i = omega (arith, next, ap (λ (v : PortView). v.executed) new_is) in
-      let slot_is : slot ≡ at = one_there slots i k slot at (sym place) there (subst (λ xs. slice_get xs k ≡ Some at) (sym (can.slots_are ∙ ap (λ (s : PortImage). item_slots s.work) seat_is)) item) in
-      c.execute-value.ensures.value
-      ∙ ap (λ (v : PortView). value_in v slot) c.items.invariant.run
-      ∙ ap (value_in c.args.host.now.port) slot_is
-      ∙ ap (λ (v : PortView). value_in v at) (sym new_is)
+    ap (λ (v : HostView). v.port) c.execute-value.ensures.view ∙ ap after_execute c.items.invariant.run in
+    let last : IsLastValue c.execute-value.new.self.port c.execute-value.result = record {
+      each = λ seat k at is next item.
+          let seat_is : can.seat ≡ seat = one_there c.args.host.now.port.image.ports c.args.host.now.port.port c.args.host.now.port.port can.seat seat refl can.is (subst (λ (v : PortView). IsPort v.image v.port seat) new_is is) in
+          let place : k ≡ i = omega (arith, next, ap (λ (v : PortView). v.executed) new_is) in
+          let slot_is : slot ≡ at = one_there slots i k slot at (sym place) there (subst (λ xs. slice_get xs k ≡ Some at) (sym (can.slots_are ∙ ap (λ (s : PortImage). item_slots s.work) seat_is)) item) in
+          c.execute-value.ensures.value
+          ∙ ap (λ (v : PortView). value_in v slot) c.items.invariant.run
+          ∙ ap (value_in c.args.host.now.port) slot_is
+          ∙ ap (λ (v : PortView). value_in v at) (sym new_is);
     } in
     record {
       run = new_is;

@@ -17,6 +17,6 @@ returns c =
     let within : k < a.width = omega (arith, c.requires) in
     let read = c.index-as_slice-column.is ∙ ap (λ xs. get_or xs k planes) c.as_slice.ensures in
     let there : slice_get a.columns k ≡ Some planes =
-        slice_get_read a.columns a.width k planes c.self.invariant.width within read in
+    slice_get_read a.columns a.width k planes c.self.invariant.width within read in
     subst (λ (v : FeedView). IsFed v.columns v.lanes v.cycles k planes) c.self.view_is
     (c.self.invariant.columns k planes within there)
