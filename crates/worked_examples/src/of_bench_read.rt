@@ -22,8 +22,9 @@ fn is_shown(alloc: Global, net: &Netlist, wanted: &[u8]) -> bool {
     }
 }
 
-/// What an answer is, as numbers: the refusal's place in the enum, its line, and another line or column. The text is
-/// the netlist's canonical one, or the name that a refusal has to tell.
+/// What an answer is, as numbers: the refusal's place in the enum (0 of a netlist, 12 of one that has another canonical
+/// text, 10 of a refusal that tells another name), its line, and another line or column. The text is the netlist's
+/// canonical one, or the name that a refusal has to tell.
 fn told(alloc: Global, answer: &Result<Netlist, BenchNo>, text: &[u8]) -> (u8, u32, u32) {
     match answer {
         Ok(net) => (if is_shown(alloc, net, text) { 0 } else { 12 }, 0, 0),

@@ -34,7 +34,7 @@ fn push_rows(alloc: Global, text: &mut Text, stimulus: &Stimulus) -> Result<(), 
     Ok(())
 }
 
-/// Whether a stimulus is read as it says.
+/// Whether no refusal is wanted, and these are the rows.
 fn has_rows(alloc: Global, stimulus: &Stimulus, read: &Read<StimNo>) -> Result<bool, Memory> {
     let mut text = Text::new(alloc);
     push_rows(alloc, &mut text, stimulus)?;
@@ -141,7 +141,7 @@ fn reads_rows(rt: HostRuntime) {
     }
 }
 
-/// Whether these are the lanes: for each the line `lane`, and its rows.
+/// Whether no refusal is wanted, and these are the lanes: for each the line `lane`, and its rows.
 fn has_lanes(alloc: Global, lanes: &Lanes, read: &Read<LaneNo>) -> Result<bool, Memory> {
     let mut text = Text::new(alloc);
     for stimulus in lanes.lanes.as_slice() {

@@ -38,7 +38,7 @@ fn fresh_name(rt: &HostRuntime) -> Result<String, Fail> {
     Ok(format!(in rt.alloc(); "/tmp/edge_io_{seconds}_{nanos}")?)
 }
 
-/// Whether a file of this name is read while it is there.
+/// Whether a file of this name is read while it is there, and then no more.
 fn is_read_while_there(rt: &HostRuntime, name: &str) -> Result<bool, Fail> {
     let mut files = HostFiles::new(rt);
     fs::write(rt, name, "abc")?;

@@ -20,7 +20,7 @@ mod packs;
 mod threads;
 
 use crew_run::Gate;
-use edge_io::{MemFiles, MemSink, NamedBytes};
+use edge_io::{MemFiles, MemSink, NamedBytes, NullSink, PlainFiles};
 use machine_run::count_gates;
 use seen_list::{List, Memory, Text};
 use std::alloc::{AllocError, Global};
@@ -51,7 +51,7 @@ const GATES: usize = 64;
 
 const FILES: &str = "net.bench net.stim";
 
-/// Runs with so many workers and banks.
+/// Runs with so many workers and banks, with `|` between them.
 const RUNS: &str =
     "run --workers 1 --banks 1|run --workers 1 --banks 2|run --workers 1 --banks 8|run --workers 2 --banks 1|run --workers 2 --banks 2|run --workers 2 --banks 8|run --workers 7 --banks 1|run --workers 7 --banks 2|run --workers 7 --banks 8|run --workers 64 --banks 1|run --workers 64 --banks 2|run --workers 64 --banks 8";
 
@@ -81,7 +81,7 @@ fn words_of(alloc: Global, lines: &[&str]) -> Result<Vec<String>, AllocError> {
 /// The bytes of the files `net.bench`, `net.stim`, `net.machine` and `net.more`.
 type Texts<'a> = [&'a [u8]; 4];
 
-/// Four texts.
+/// Four texts, which may live differently long.
 fn four<'a>(netlist: &'a [u8], stimulus: &'a [u8], machine: &'a [u8], more: &'a [u8]) -> Texts<'a> {
     [netlist, stimulus, machine, more]
 }
@@ -155,7 +155,14 @@ fn sink(alloc: Global, room: usize, most: usize, failing: u64) -> Result<MemSink
     MemSink::new(alloc, room, most.max(1), fails)
 }
 
-/// What came of a call: the number of its status, and its sinks.
+/// The sinks of a call: of its output and of its line.
+#[derive(Drop)]
+struct Sinks {
+    out: MemSink,
+    err: MemSink,
+}
+
+/// What came of a call: the number of its status, and what its sinks took.
 #[derive(Drop)]
 struct Ended {
     status: u8,
@@ -163,31 +170,26 @@ struct Ended {
     err: MemSink,
 }
 
-/// Before the call.
-fn sinks(alloc: Global, edges: &Edges) -> Result<Ended, Memory> {
+fn sinks_of(alloc: Global, edges: &Edges) -> Result<Sinks, Memory> {
     let out = sink(alloc, edges.room, edges.most_written, edges.failing_write)?;
     let err = sink(alloc, edges.line_room, 4096, edges.failing_line)?;
-    Ok(Ended {
-        status: 0,
-        out,
-        err,
-    })
+    Ok(Sinks { out, err })
 }
 
-/// Calls `yse`.
+/// Calls `yse`, and answers the number of its status.
 fn call<R: Threads + Wait + Sync, G: Gate + Send>(
     rt: &R,
     alloc: Global,
     words: &[String],
     files: &mut MemFiles,
-    ended: &mut Ended,
+    sinks: &mut Sinks,
     gates: &mut [Option<G>],
-)
+) -> u8
     requires gates { MAX_WORKERS ≤ length gates.old }
     requires tell { AllCanTell G.Gate.own gates.old }
 {
-    let (out, err) = (&mut ended.out, &mut ended.err);
-    ended.status = yse(rt, alloc, words, files, out, err, gates).number();
+    let (out, err) = (&mut sinks.out, &mut sinks.err);
+    yse(rt, alloc, words, files, out, err, gates).number()
 }
 
 /// What comes of a call with the words of these lines over these files, with gates that are handed in.
@@ -204,9 +206,13 @@ fn end_with<R: Threads + Wait + Sync, G: Gate + Send>(
 {
     let words = words_of(alloc, lines)?;
     let mut files = store(alloc, texts, edges)?;
-    let mut ended = sinks(alloc, edges)?;
-    call(rt, alloc, words.as_slice(), &mut files, &mut ended, gates);
-    Ok(ended)
+    let mut sinks = sinks_of(alloc, edges)?;
+    let status = call(rt, alloc, words.as_slice(), &mut files, &mut sinks, gates);
+    Ok(Ended {
+        status,
+        out: sinks.out,
+        err: sinks.err,
+    })
 }
 
 /// The same with gates that only count.
@@ -240,7 +246,7 @@ fn ends<R: Threads + Wait + Sync>(
     }
 }
 
-/// Calls with the same words behind each, over the texts of a netlist, a stimulus, a machine and what else a call reads.
+/// Calls, with `|` between them, with the same words behind each, over the texts of a netlist, a stimulus, a machine and what else a call reads.
 /// The call of the store and the write of the output that fail (0: none). What is wanted: the number of the status, the
 /// output and the line.
 #[derive(Clone, Copy)]
@@ -337,4 +343,37 @@ fn texts_have_a_most(rt: HostRuntime) {
     let line = b"limit: net.bench has more than 67108864 bytes\n";
     assert!(rt; ends_with_comment(&rt, rt.alloc(), 67_108_864, (0, b"cycle\n", b"")) == Ok(true));
     assert!(rt; ends_with_comment(&rt, rt.alloc(), 67_108_865, (10, b"", line)) == Ok(true));
+}
+
+/// The number of the status of a call over a store in which each name is there, and sinks that take all. None of them can
+/// fail.
+fn plain_status<R: Threads + Wait + Sync>(
+    rt: &R,
+    alloc: Global,
+    line: &str,
+    netlist: &str,
+) -> Result<u8, Memory> {
+    let words = words_of(alloc, &[line])?;
+    let mut list = List::new(alloc);
+    push_file(alloc, &mut list, "net.bench", netlist.as_bytes())?;
+    let mut gates = count_gates(alloc, GATES)?;
+    let mut files = PlainFiles::new(list);
+    let (mut out, mut err) = (NullSink::new(), NullSink::new());
+    let gates = gates.as_mut_slice();
+    Ok(yse(
+        rt,
+        alloc,
+        words.as_slice(),
+        &mut files,
+        &mut out,
+        &mut err,
+        gates,
+    )
+    .number())
+}
+
+/// The stimulus, which isn't in the list, is an empty file.
+#[test]
+fn plain_files_and_sinks_serve(rt: HostRuntime) {
+    assert!(rt; plain_status(&rt, rt.alloc(), "run net.bench net.stim", C17) == Ok(0));
 }

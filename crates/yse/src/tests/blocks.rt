@@ -21,15 +21,15 @@ fn all_rows() -> &'static [&'static str] {
     ROWS
 }
 
-/// Runs with so many workers and banks.
-const RUNS: &str =
+/// Runs with 1, 2 and 7 workers and so many banks, with `|` between them.
+const FEW_RUNS: &str =
     "run --workers 1 --banks 1|run --workers 1 --banks 2|run --workers 1 --banks 8|run --workers 2 --banks 1|run --workers 2 --banks 2|run --workers 2 --banks 8|run --workers 7 --banks 1|run --workers 7 --banks 2|run --workers 7 --banks 8";
 
 /// Whether runs over these rows, with so many workers and banks, print what the reference does.
 fn agrees<R: Threads + Wait + Sync>(rt: &R, alloc: Global, rows: &str) -> Result<bool, Memory> {
     let texts = texts_of(C17, rows);
     let reference = end_of(rt, alloc, &["refer", FILES], &texts, &EASY)?;
-    let agreed = all_print(rt, alloc, RUNS, FILES, &texts, reference.out.taken());
+    let agreed = all_print(rt, alloc, FEW_RUNS, FILES, &texts, reference.out.taken());
     Ok(reference.status == 0 && agreed)
 }
 

@@ -1,4 +1,4 @@
-//! A table of whole calls: what the commands end with over the same files.
+//! Whole calls: what the commands end with, each over the same files.
 
 use super::{C17, Case, FILES, LATCH, RAM, S27, USAGE, WIDE, all_end};
 

@@ -98,7 +98,7 @@ fn loops_end_as_stated(rt: HostRuntime) {
     assert!(rt; all_end(&rt, rt.alloc(), LOOPS));
 }
 
-/// Lists that are refused, and files that are missing.
+/// Lists that are refused, a list that is missing, and a netlist that is refused before its list is read.
 const REFUSED: &[Case] = &[
     // Lists that are refused, before the loop and before the stimulus.
     Case {

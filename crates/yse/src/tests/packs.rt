@@ -51,27 +51,27 @@ const THIRTY: &[&str] = &[
 
 /// The stimuli of the lanes of a design, a list of gates, and the words behind a call.
 #[derive(Clone, Copy)]
-struct Case {
+struct PackCase {
     netlist: &'static str,
     lanes: &'static [&'static str],
     list: &'static str,
     words: &'static str,
 }
 
-const CASES: &[Case] = &[
-    Case {
+const CASES: &[PackCase] = &[
+    PackCase {
         netlist: C17,
         lanes: THIRTY,
         list: "",
         words: FILES,
     },
-    Case {
+    PackCase {
         netlist: C17,
         lanes: &["11111 * 40\n"],
         list: "",
         words: "net.bench net.stim --mode unit --units 3",
     },
-    Case {
+    PackCase {
         netlist: S27,
         lanes: &[
             "0000\n0001\n0000\n1000\n0001\n",
@@ -82,14 +82,14 @@ const CASES: &[Case] = &[
         list: "",
         words: "net.bench net.stim --init 0",
     },
-    Case {
+    PackCase {
         netlist: BUS,
         lanes: &["1000\n1001\n1010\n1110\n", "1011\n0000\nx000\n1100\nz1zz\n"],
         list: "",
         words: FILES,
     },
     // Each lane has its own words of a memory, of one bit and of 64.
-    Case {
+    PackCase {
         netlist: RAM,
         lanes: &[
             "1101\n0100\n0100\n1100\n0100\n0100\n",
@@ -99,7 +99,7 @@ const CASES: &[Case] = &[
         list: "",
         words: FILES,
     },
-    Case {
+    PackCase {
         netlist: WORDS,
         lanes: &[
             "101\n110\n000\n010\n000\n",
@@ -110,13 +110,13 @@ const CASES: &[Case] = &[
         words: "net.bench net.stim --init 0",
     },
     // A loop in unit delay, and cut by one listed gate.
-    Case {
+    PackCase {
         netlist: LATCH,
         lanes: &["01\n11\n10\n", "10\n11 * 18\n"],
         list: "",
         words: "net.bench net.stim --mode unit --units 4",
     },
-    Case {
+    PackCase {
         netlist: LATCH,
         lanes: &["01\n11\n10\n", "10\n11 * 18\n"],
         list: "q\n",
@@ -124,12 +124,12 @@ const CASES: &[Case] = &[
     },
 ];
 
-fn cases() -> &'static [Case] {
+fn cases() -> &'static [PackCase] {
     CASES
 }
 
 /// The texts of a case, with this stimulus.
-fn texts_with<'a>(case: &Case, stimulus: &'a [u8]) -> Texts<'a> {
+fn texts_with<'a>(case: &PackCase, stimulus: &'a [u8]) -> Texts<'a> {
     let (netlist, list) = (case.netlist.as_bytes(), case.list.as_bytes());
     four(netlist, stimulus, b"logic 3\n", list)
 }
@@ -149,7 +149,7 @@ fn push_trace<R: Threads + Wait + Sync>(
     rt: &R,
     alloc: Global,
     text: &mut Text,
-    case: &Case,
+    case: &PackCase,
     stimulus: &str,
 ) -> Result<(), Memory> {
     let texts = texts_with(case, stimulus.as_bytes());
@@ -161,7 +161,7 @@ fn push_trace<R: Threads + Wait + Sync>(
 fn references<R: Threads + Wait + Sync>(
     rt: &R,
     alloc: Global,
-    case: &Case,
+    case: &PackCase,
 ) -> Result<Text, Memory> {
     let mut text = Text::new(alloc);
     for n in 0..case.lanes.len() {
@@ -178,7 +178,7 @@ const CALLS: &str = "pack --workers 1|pack --workers 7|pack --workers 2 --machin
 fn print_references<R: Threads + Wait + Sync>(
     rt: &R,
     alloc: Global,
-    case: &Case,
+    case: &PackCase,
 ) -> Result<bool, Memory> {
     let lanes = lanes_text(alloc, case.lanes)?;
     let wanted = references(rt, alloc, case)?;

@@ -31,7 +31,8 @@ const THOUSANDS: &str =
 const TENS_OF_THOUSANDS: &str =
     "gates 20000 nodes 20000 slots 2464 crossings 36674\nzeros 1231 ones 369 xs 0 zs 0\n";
 
-/// The same bytes at each run and with so many workers and banks, of s27 and of generated designs.
+/// The same bytes at each run and with so many workers and banks: the trace of s27, and what generated designs come
+/// to.
 const CASES: &[Case] = &[
     Case {
         calls: RUNS,
@@ -72,15 +73,15 @@ const CASES: &[Case] = &[
 ];
 
 #[test]
-fn workers_print_the_reference(rt: HostRuntime) {
+fn workers_print_the_same(rt: HostRuntime) {
     assert!(rt; all_end(&rt, rt.alloc(), CASES));
 }
 
-/// What a gate does beside counting.
+/// What a gate does beside counting the turns that it is told of.
 #[derive(Clone, Copy)]
 enum Watch {
     /// Nothing.
-    Turns,
+    Nothing,
     /// It holds its first call until the other worker was told of a turn.
     Pair,
     /// The first worker's holds the host's turn 3, until the second worker was told of a later turn.
@@ -89,7 +90,8 @@ enum Watch {
     Ahead,
 }
 
-/// What the gates of two workers share: their flags, and how many turns the gates of a call were told of.
+/// What the gates of a call share: a flag of the first worker and one of the others, and how many turns all gates
+/// were told of.
 #[derive(Drop)]
 struct Shared {
     one: AtomicBool,
@@ -97,15 +99,18 @@ struct Shared {
     told: AtomicU64,
 }
 
-fn fresh() -> Shared {
-    Shared {
-        one: AtomicBool::new(false),
-        two: AtomicBool::new(false),
-        told: AtomicU64::new(0),
+impl Shared {
+    fn new() -> Shared {
+        Shared {
+            one: AtomicBool::new(false),
+            two: AtomicBool::new(false),
+            told: AtomicU64::new(0),
+        }
     }
 }
 
-/// Counts, and holds its worker in one call. It says whether a try of the hold found what it looked for.
+/// Counts the turns for itself and for all gates, and holds its worker in one call at most. It says whether a try of the
+/// hold found what it looked for.
 #[derive(Drop)]
 struct WatchGate<'a> {
     counts: CountGate,
@@ -133,7 +138,7 @@ impl Watch {
     /// Whether the flag of the worker is to be set in a turn.
     fn marks(self, turn: u64) -> bool {
         match self {
-            Watch::Turns => false,
+            Watch::Nothing => false,
             Watch::Pair => true,
             Watch::Hold | Watch::Ahead => turn > 3,
         }
@@ -143,7 +148,7 @@ impl Watch {
     /// port 2.
     fn holds(self, first: bool, held: bool, port: u32, turn: u64) -> bool {
         match self {
-            Watch::Turns => false,
+            Watch::Nothing => false,
             Watch::Pair => !held,
             Watch::Hold => first && port == 2 && turn == 3,
             Watch::Ahead => first && !held,
@@ -234,7 +239,7 @@ fn watched<R: Threads + Wait + Sync>(
         machine.as_bytes(),
         more,
     );
-    let shared = fresh();
+    let shared = Shared::new();
     let mut gates = watch_gates(alloc, row.0, &shared)?;
     let ended = end_with(rt, alloc, &[row.1], &texts, &EASY, gates.as_mut_slice())?;
     let gates = gates.as_slice();
@@ -355,7 +360,7 @@ fn watched_image<R: Threads + Wait + Sync>(rt: &R, alloc: Global) -> Result<Find
     watched(rt, alloc, &OF_IMAGE, compiled.out.taken())
 }
 
-/// It waits too.
+/// A worker that runs an image from a file waits as one that runs what was compiled.
 #[test]
 fn a_worker_waits_for_the_host_of_an_image(rt: HostRuntime) {
     let found = (true, (true, false), (false, false));
@@ -373,8 +378,8 @@ fn turns_told<R: Threads + Wait + Sync>(
         ..EASY
     };
     let texts = texts_of(C17, "11111 * 8193\n");
-    let shared = fresh();
-    let mut gates = watch_gates(alloc, Watch::Turns, &shared)?;
+    let shared = Shared::new();
+    let mut gates = watch_gates(alloc, Watch::Nothing, &shared)?;
     end_with(
         rt,
         alloc,
