@@ -2,12 +2,10 @@
 
 ghost use Rattle.std.specs.Prelude.{◌≡◌, ◌≢◌, ◌*◌, ◌<◌, ℕ, length, IfOk, MatchOption};
 ghost use Rattle.std.specs.List.Sorted.{IsStrictlyIncreasing};
-ghost use Rattle.image_defs.specs.Places.{Each, IsPort, item_slots, in_slots, out_slots, host_of};
+ghost use Rattle.image_defs.specs.Places.{Each, host_of};
 ghost use Rattle.image_defs.specs.WellFormed.{IsWellFormed};
 ghost use Rattle.logic_four.specs.declared.V4.{V4};
 ghost use Rattle.port_walk.specs.Readers.{IsSendAction};
-ghost use Rattle.port_walk.specs.Rows.{AreReaders};
-ghost use Rattle.port_walk.specs.Stops.{AreStops};
 ghost use Rattle.stim_text.specs.Lanes.{AreLanes, longest};
 ghost use Rattle.pack_walk.specs.Placed.{at_start, in_next_turn, last_turn, lane_action, IsNextOf, CanPut, CanTake, IsEnding, HasPut, HasTaken, IsNextValue, IsHostIn};
 
@@ -16,8 +14,9 @@ use crate::kind::Kind;
 use image_defs::{Image, PortImage};
 use lane_planes::Planes;
 use pack_host::PackHost;
-use port_walk::readers::{Readers, first_lagging, readers_at, readers_of, turns_wanted};
-use port_walk::stops::{Stop, StopKind, slots_of, stops_of};
+use port_walk::lists::lists_of;
+use port_walk::readers::{Readers, first_lagging, readers_at, turns_wanted};
+use port_walk::stops::{Stop, StopKind};
 use seen_list::{List, Memory};
 use std::alloc::Global;
 use std::marker::Model;
@@ -67,30 +66,6 @@ fn send_action(readers: &[u32], known: &[u64], turns: u64, slot: u32) -> PackAct
         Some(reader) => PackAction::Ask { reader },
         None => PackAction::Put { slot },
     }
-}
-
-/// The slots of the items of a port, its stops, and the readers of its sends.
-fn lists_of(
-    alloc: Global,
-    image: &Image,
-    seat: &PortImage,
-) -> Result<(List<u32>, List<Stop>, Readers), Memory>
-    requires image { IsWellFormed image.now }
-    requires seat { (p : ℕ) × IsPort image.now p seat.now }
-    ensures { IfOk result (λ lists. (lists.0 ≡ item_slots seat.now.work)
-        × AreStops (out_slots seat.now.outs) (in_slots seat.now.ins) image.now.slots lists.0 lists.1
-        × AreReaders (length seat.now.outs) seat.now.outs lists.2) }
-{
-    let slots = slots_of(alloc, &seat.work)?;
-    let stops = stops_of(
-        alloc,
-        image.slots,
-        slots.as_slice(),
-        seat.outs.as_slice(),
-        seat.ins.as_slice(),
-    )?;
-    let readers = readers_of(alloc, seat.outs.as_slice())?;
-    Ok((slots, stops, readers))
 }
 
 impl<'a> PackPlaced<'a> {

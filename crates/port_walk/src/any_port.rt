@@ -1,18 +1,17 @@
 //! A port of any kind with its place in the turn.
 
-ghost use Rattle.std.specs.Prelude.{◌≡◌, ◌≢◌, ◌+◌, ◌*◌, ◌<◌, ◌≤◌, ℕ, min, length, IfOk, MatchOption};
+ghost use Rattle.std.specs.Prelude.{◌≡◌, ◌≢◌, ◌+◌, ◌*◌, ◌<◌, ◌≤◌, min, length, IfOk, MatchOption};
 ghost use Rattle.net_defs.specs.Valid.{IsValidStimulus};
 ghost use Rattle.std.specs.List.Sorted.{IsStrictlyIncreasing};
-ghost use Rattle.image_defs.specs.Places.{Each, IsPort, item_slots, in_slots, out_slots, host_of};
+ghost use Rattle.image_defs.specs.Places.{Each, host_of};
 ghost use Rattle.image_defs.specs.WellFormed.{IsWellFormed};
 ghost use Rattle.port_walk.specs.Readers.{IsSendAction};
-ghost use Rattle.port_walk.specs.Rows.{AreReaders};
-ghost use Rattle.port_walk.specs.Stops.{AreStops};
 ghost use Rattle.port_walk.specs.Placed.{at_start, in_next_block, in_next_turn, IsNextOf, CanGoOn, CanPut, CanTake, CanTakeValue, IsEnding, HasPut, HasTaken, IsNextSend, IsNextReceipt, IsHostIn};
 
 use crate::kind::Kind;
-use crate::readers::{Readers, first_lagging, readers_at, readers_of, turns_wanted};
-use crate::stops::{Stop, StopKind, slots_of, stops_of};
+use crate::lists::lists_of;
+use crate::readers::{Readers, first_lagging, readers_at, turns_wanted};
+use crate::stops::{Stop, StopKind};
 use event_defs::Action;
 use image_defs::{Image, PortImage};
 use logic_four::V4;
@@ -86,30 +85,6 @@ pub(crate) fn send_action(
         Some(reader) => Action::Ask { reader },
         None => Action::Put { slot, value },
     }
-}
-
-/// The slots of the items of a port, its stops, and the readers of its sends.
-fn lists_of(
-    alloc: Global,
-    image: &Image,
-    seat: &PortImage,
-) -> Result<(List<u32>, List<Stop>, Readers), Memory>
-    requires image { IsWellFormed image.now }
-    requires seat { (p : ℕ) × IsPort image.now p seat.now }
-    ensures { IfOk result (λ lists. (lists.0 ≡ item_slots seat.now.work)
-        × AreStops (out_slots seat.now.outs) (in_slots seat.now.ins) image.now.slots lists.0 lists.1
-        × AreReaders (length seat.now.outs) seat.now.outs lists.2) }
-{
-    let slots = slots_of(alloc, &seat.work)?;
-    let stops = stops_of(
-        alloc,
-        image.slots,
-        slots.as_slice(),
-        seat.outs.as_slice(),
-        seat.ins.as_slice(),
-    )?;
-    let readers = readers_of(alloc, seat.outs.as_slice())?;
-    Ok((slots, stops, readers))
 }
 
 impl<'a> AnyPort<'a> {

@@ -4,6 +4,7 @@
 
 mod any_port;
 mod kind;
+pub mod lists;
 pub mod readers;
 pub mod stops;
 

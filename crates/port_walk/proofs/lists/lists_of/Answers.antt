@@ -4,7 +4,7 @@ use Rattle.image_defs.specs.Places.{Each, item_slots, in_slots, out_slots}
 use Rattle.port_walk.specs.Rows.{HasFewReaders, AreReaders}
 use Rattle.port_walk.specs.Stops.{ArePlaces}
 use Rattle.port_walk.proofs.WalkLemmas.{out_places, in_places, few_sends, few_readers, stops_read}
-use Rattle.port_walk.proofs.any_port.lists_of.Goals as goal
+use Rattle.port_walk.proofs.lists.lists_of.Goals as goal
 
 pub stops_of-requires-clause-items : goal.stops_of-requires-clause-items
 stops_of-requires-clause-items c =

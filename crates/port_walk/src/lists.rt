@@ -1,0 +1,38 @@
+//! The lists that a port is made with.
+
+ghost use Rattle.std.specs.Prelude.{◌≡◌, ℕ, length, IfOk};
+ghost use Rattle.image_defs.specs.Places.{IsPort, item_slots, in_slots, out_slots};
+ghost use Rattle.image_defs.specs.WellFormed.{IsWellFormed};
+ghost use Rattle.port_walk.specs.Rows.{AreReaders};
+ghost use Rattle.port_walk.specs.Stops.{AreStops};
+
+use crate::readers::{Readers, readers_of};
+use crate::stops::{Stop, slots_of, stops_of};
+use image_defs::{Image, PortImage};
+use seen_list::{List, Memory};
+use std::alloc::Global;
+
+/// The slots of the items of a port, in their order, its stops, and the readers of its sends: what a port of any kind
+/// keeps of its image beside its kind.
+pub fn lists_of(
+    alloc: Global,
+    image: &Image,
+    seat: &PortImage,
+) -> Result<(List<u32>, List<Stop>, Readers), Memory>
+    requires image { IsWellFormed image.now }
+    requires seat { (p : ℕ) × IsPort image.now p seat.now }
+    ensures { IfOk result (λ lists. (lists.0 ≡ item_slots seat.now.work)
+        × AreStops (out_slots seat.now.outs) (in_slots seat.now.ins) image.now.slots lists.0 lists.1
+        × AreReaders (length seat.now.outs) seat.now.outs lists.2) }
+{
+    let slots = slots_of(alloc, &seat.work)?;
+    let stops = stops_of(
+        alloc,
+        image.slots,
+        slots.as_slice(),
+        seat.outs.as_slice(),
+        seat.ins.as_slice(),
+    )?;
+    let readers = readers_of(alloc, seat.outs.as_slice())?;
+    Ok((slots, stops, readers))
+}
