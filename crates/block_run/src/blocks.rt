@@ -155,5 +155,7 @@ pub fn run_blocks<R: Threads + Wait + Sync, G: Gate + Send, O: Sink>(
     let (bar, passes) = Crossbar::make(rt, alloc, image, stim, banks)?;
     let window = window(image, net.printed.len());
     let mut crew = Crew::new(alloc, &bar, image, stim, passes, workers, window)?;
-    Ok(write_run(rt, net, stim.cycles(), &mut crew, gates, &mut line, out))
+    let wrote = write_run(rt, net, stim.cycles(), &mut crew, gates, &mut line, out);
+    crew.end();
+    Ok(wrote)
 }

@@ -285,4 +285,7 @@ impl<'a> Core<'a> {
     {
         have_finished(self.finished.as_slice(), self.until)
     }
+
+    /// Ends the run, wherever it is. What the ports hold is let go here.
+    pub fn end(self) {}
 }

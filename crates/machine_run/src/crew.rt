@@ -132,4 +132,7 @@ impl<'a, G: Gate> Crew<'a, G> {
         go_on_all(self.workers.as_mut_slice());
         self.first_row = self.rows;
     }
+
+    /// Ends the run, wherever it is. What the ports hold is let go here.
+    pub fn end(self) {}
 }

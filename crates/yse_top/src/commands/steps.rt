@@ -139,7 +139,9 @@ fn rows_by_rounds(
 {
     let mut core = Core::new(alloc, &built.image, stimulus, words.banks)?;
     run_rounds(&mut core);
-    rows_of(alloc, &core)
+    let rows = rows_of(alloc, &core);
+    core.end();
+    rows
 }
 
 /// What is done of the trace by the end of an order of the machine's ports.
@@ -196,7 +198,9 @@ fn rows_by_order(
     let mut core = Core::new(alloc, &built.image, stimulus, words.banks)?;
     step_lines(&mut core, order.lines.as_slice());
     steps_are_sound();
-    rows_and_ending(alloc, &core, stimulus)
+    let made = rows_and_ending(alloc, &core, stimulus);
+    core.end();
+    made
 }
 
 /// The rows that are done, and where the run ends if a port is not done.

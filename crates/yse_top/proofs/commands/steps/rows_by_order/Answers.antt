@@ -14,7 +14,7 @@ returns c =
     let stimulus = c.args.stimulus.now in
     let banks = c.args.words.now.banks in
     let steps = steps_of c.args.order.now in
-    IfOk-weaker c.rows_and_ending.result _ _ (λ made are. rows_in_order c.args.built.now.net c.args._timing.now stimulus image c.requires.image banks c.in_ok-core.core c.step_lines.new.core c.in_ok-core.ensures.start stepped.same
+    IfOk-weaker c.rows_and_ending-made.result _ _ (λ made are. rows_in_order c.args.built.now.net c.args._timing.now stimulus image c.requires.image banks c.in_ok-core.core c.step_lines.new.core c.in_ok-core.ensures.start stepped.same
     (c.steps_are_sound.ensures image stimulus banks (image.units * cycle_count stimulus) steps _ (state_of c.step_lines.new.core) c.requires.image.fits c.requires.range.banks_some
     (first_steps image stimulus banks c.in_ok-core.core c.step_lines.new.core steps c.in_ok-core.ensures.start stepped))
-    made.0 are.0 c.args.order.now made.1 stepped are.1) c.rows_and_ending.ensures
+    made.0 are.0 c.args.order.now made.1 stepped are.1) c.rows_and_ending-made.ensures

@@ -11,4 +11,4 @@ returns c =
     let last = c.run_rounds.new.core in
     let start = c.in_ok-core.ensures.start in
     let sound = same_sound image stimulus banks c.in_ok-core.core last start c.run_rounds.ensures.same c.run_rounds.ensures.sound in
-    IfOk-weaker c.rows_of.result _ _ (λ rows are. all_shown c.args.built.now.net c.args._timing.now stimulus image c.requires.image banks c.in_ok-core.core last start c.run_rounds.ensures.same sound rows are c.run_rounds.ensures.done) c.rows_of.ensures
+    IfOk-weaker c.rows_of-rows.result _ _ (λ rows are. all_shown c.args.built.now.net c.args._timing.now stimulus image c.requires.image banks c.in_ok-core.core last start c.run_rounds.ensures.same sound rows are c.run_rounds.ensures.done) c.rows_of-rows.ensures
