@@ -1,5 +1,5 @@
 -- A port at a stop of its turn: what comes next there, and which stop is after it, whatever values the port has.
-use Rattle.std.proofs.Common.{◌≡◌, inl, inr, ℕ, ◌+◌, ◌-◌, ◌<◌, ◌≤◌, true, List, [], ◌∷◌, ◌++◌, length, take, get_or, slice_get, Some, sym, ap, ◌∙◌, subst, refl, arith}
+use Rattle.std.proofs.Common.{◌≡◌, inl, inr, ℕ, ◌*◌, ◌+◌, ◌-◌, ◌<◌, ◌≤◌, true, List, [], ◌∷◌, ◌++◌, length, take, get_or, slice_get, Some, sym, ap, ◌∙◌, subst, refl, arith}
 use Rattle.std.proofs.lemmas.Bool.{cases_lt}
 use Rattle.std.proofs.lemmas.List.{length-map, take_more}
 use Rattle.std.proofs.lemmas.Option.{slice_get_within, slice_get-get_or, slice_get_cases, get_or_from_slice_get}
@@ -173,6 +173,14 @@ module _ (w : Walk) (walks : IsWalk w) where
 
   within_at : w.at < length w.stops
   within_at = omega (arith, walks.stops.count, walks.at, walks.sent, walks.took, out_length, in_length)
+
+  -- so many stops have few numbers
+  pub few_at : w.at ≤ 2 * MAX_SLOTS
+  few_at =
+      let sends = few_sends w.image walks.image w.port w.seat walks.seat in
+      let receipts = places_few w.image.slots (ins w) (in_places w.image w.port w.seat good) in
+      let slots = walks.image.slots in
+      omega (arith, walks.at, walks.sent, walks.took, in_length)
 
   -- the stop at which it stands
   pub found : (stops : List Stop) → stops ≡ w.stops → slice_get w.stops w.at ≡ Some (get_or stops w.at no_stop)

@@ -13,7 +13,7 @@ use seen_list::{List, Memory};
 use std::alloc::Global;
 
 /// The slots of the items of a port, in their order, its stops, and the readers of its sends: what a port of any kind
-/// keeps of its image beside its kind.
+/// keeps of its image beside its kind. It takes memory for all three, and is refused for want of it alone.
 pub fn lists_of(
     alloc: Global,
     image: &Image,

@@ -1,29 +1,14 @@
-use Rattle.std.proofs.Common.{◌∙◌, ◌+◌, length, take, get_or, ap, subst, sym, refl, arith, ◌*◌, ◌≤◌}
+use Rattle.std.proofs.Common.{◌∙◌, ◌+◌, length, take, get_or, ap, subst, sym, refl, arith}
 use Rattle.std.proofs.lemmas.Option.{slice_get_within}
-use Rattle.image_defs.specs.Places.{out_slots, in_slots}
+use Rattle.image_defs.specs.Places.{out_slots}
 use Rattle.pack_bank.specs.Views.{PackPortView}
 use Rattle.pack_walk.specs.Kinds.{view_in}
-use Rattle.pack_walk.specs.Kept.{view_of, IsKept}
+use Rattle.pack_walk.specs.Kept.{view_of}
 use Rattle.pack_walk.specs.Placed.{CanPut, HasPut}
 use Rattle.pack_walk.proofs.KeptLemmas.{walk_of, walks}
 use Rattle.pack_walk.proofs.MoveLemmas.{early_of, sending_here, inner_here, can_run, kept_after, has_put}
-use Rattle.port_walk.proofs.WalkLemmas.{no_stop, found, after_send, few_sends, in_places}
-use Rattle.std.proofs.lemmas.List.{length-map}
-use Rattle.limits.specs.declared.TheConstants.{MAX_SLOTS}
-use Rattle.image_defs.specs.declared.image.LinkIn.{LinkIn}
-use Rattle.pack_walk.specs.declared.placed.PackPlaced.TheInside.{Inside}
-use Rattle.port_walk.proofs.StopLemmas.{places_few}
+use Rattle.port_walk.proofs.WalkLemmas.{no_stop, found, after_send, few_at}
 use Rattle.pack_walk.proofs.placed.PackPlaced.put_done.Goals as goal
-
-few : (a : Inside) → IsKept a → a.at ≤ 2 * MAX_SLOTS
-few a kept =
-    let image = a.image.now in
-    let seat = a.seat.now in
-    let outs = few_sends image kept.image a.port seat kept.seat in
-    let places = in_places image a.port seat (kept.image.ports a.port seat kept.seat) in
-    let ins = places_few image.slots (in_slots seat.ins) places in
-    let slots = kept.image.slots in
-    omega (arith, length-map seat.ins (λ (link : LinkIn). link.slot))
 
 pub bounds-stops-self-inside-2 : goal.bounds-stops-self-inside-2
 bounds-stops-self-inside-2 c =
@@ -81,16 +66,16 @@ pub run-self-inside-requires-clause-last : goal.run-self-inside-requires-clause-
 run-self-inside-requires-clause-last c = c.self.invariant.value
 
 pub offset_bounds-stops-self-inside : goal.offset_bounds-stops-self-inside
-offset_bounds-stops-self-inside c = omega (arith, few c.self.inside c.self.invariant)
+offset_bounds-stops-self-inside c = omega (arith, few_at (walk_of c.self.inside) (walks c.self.inside c.self.invariant))
 
 pub overflow_add-to : goal.overflow_add-to
-overflow_add-to c = omega (arith, few c.self.inside c.self.invariant)
+overflow_add-to c = omega (arith, few_at (walk_of c.self.inside) (walks c.self.inside c.self.invariant))
 
 pub offset_bounds-stops-self-inside-2 : goal.offset_bounds-stops-self-inside-2
-offset_bounds-stops-self-inside-2 c = omega (arith, few c.self.inside c.self.invariant)
+offset_bounds-stops-self-inside-2 c = omega (arith, few_at (walk_of c.self.inside) (walks c.self.inside c.self.invariant))
 
 pub overflow_add-self : goal.overflow_add-self
-overflow_add-self c = omega (arith, few c.self.inside c.self.invariant)
+overflow_add-self c = omega (arith, few_at (walk_of c.self.inside) (walks c.self.inside c.self.invariant))
 
 pub overflow_add-self-2 : goal.overflow_add-self-2
-overflow_add-self-2 c = omega (arith, few c.self.inside c.self.invariant)
+overflow_add-self-2 c = omega (arith, few_at (walk_of c.self.inside) (walks c.self.inside c.self.invariant))

@@ -1,29 +1,14 @@
-use Rattle.std.proofs.Common.{◌≡◌, ◌∙◌, ◌+◌, length, take, get_or, ap, subst, sym, refl, arith, ◌*◌, ◌≤◌}
+use Rattle.std.proofs.Common.{◌≡◌, ◌∙◌, ◌+◌, length, take, get_or, ap, subst, sym, refl, arith}
 use Rattle.std.proofs.lemmas.Option.{slice_get_within}
 use Rattle.image_defs.specs.Places.{in_slots}
 use Rattle.image_defs.specs.Ports.{PortView, after_receive}
 use Rattle.port_walk.specs.Kinds.{IsLastValue, view_in}
-use Rattle.port_walk.specs.Kept.{view_of, IsKept}
+use Rattle.port_walk.specs.Kept.{view_of}
 use Rattle.port_walk.specs.Placed.{CanTakeValue, HasTaken}
 use Rattle.port_walk.proofs.KeptLemmas.{walk_of, walks}
 use Rattle.port_walk.proofs.MoveLemmas.{receiving_here, inner_at, inner_here, can_run, kept_after, has_taken, can_receive}
-use Rattle.port_walk.proofs.WalkLemmas.{no_stop, found, after_receipt, few_sends, in_places}
-use Rattle.std.proofs.lemmas.List.{length-map}
-use Rattle.limits.specs.declared.TheConstants.{MAX_SLOTS}
-use Rattle.image_defs.specs.declared.image.LinkIn.{LinkIn}
-use Rattle.port_walk.specs.declared.any_port.AnyPort.TheInside.{Inside}
-use Rattle.port_walk.proofs.StopLemmas.{places_few}
+use Rattle.port_walk.proofs.WalkLemmas.{no_stop, found, after_receipt, few_at}
 use Rattle.port_walk.proofs.any_port.AnyPort.took.Goals as goal
-
-few : (a : Inside) → IsKept a → a.at ≤ 2 * MAX_SLOTS
-few a kept =
-    let image = a.image.now in
-    let seat = a.seat.now in
-    let outs = few_sends image kept.image a.port seat kept.seat in
-    let places = in_places image a.port seat (kept.image.ports a.port seat kept.seat) in
-    let ins = places_few image.slots (in_slots seat.ins) places in
-    let slots = kept.image.slots in
-    omega (arith, length-map seat.ins (λ (link : LinkIn). link.slot))
 
 pub bounds-stops-self-inside-2 : goal.bounds-stops-self-inside-2
 bounds-stops-self-inside-2 c =
@@ -92,16 +77,16 @@ run-self-inside-requires-clause-last c =
     subst (λ view. IsLastValue view a.value) (sym c.receive.ensures.view) last
 
 pub offset_bounds-stops-self-inside : goal.offset_bounds-stops-self-inside
-offset_bounds-stops-self-inside c = omega (arith, few c.self.inside c.self.invariant)
+offset_bounds-stops-self-inside c = omega (arith, few_at (walk_of c.self.inside) (walks c.self.inside c.self.invariant))
 
 pub overflow_add-to : goal.overflow_add-to
-overflow_add-to c = omega (arith, few c.self.inside c.self.invariant)
+overflow_add-to c = omega (arith, few_at (walk_of c.self.inside) (walks c.self.inside c.self.invariant))
 
 pub offset_bounds-stops-self-inside-2 : goal.offset_bounds-stops-self-inside-2
-offset_bounds-stops-self-inside-2 c = omega (arith, few c.self.inside c.self.invariant)
+offset_bounds-stops-self-inside-2 c = omega (arith, few_at (walk_of c.self.inside) (walks c.self.inside c.self.invariant))
 
 pub overflow_add-self : goal.overflow_add-self
-overflow_add-self c = omega (arith, few c.self.inside c.self.invariant)
+overflow_add-self c = omega (arith, few_at (walk_of c.self.inside) (walks c.self.inside c.self.invariant))
 
 pub overflow_add-self-2 : goal.overflow_add-self-2
-overflow_add-self-2 c = omega (arith, few c.self.inside c.self.invariant)
+overflow_add-self-2 c = omega (arith, few_at (walk_of c.self.inside) (walks c.self.inside c.self.invariant))
