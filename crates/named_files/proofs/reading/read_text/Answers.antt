@@ -1,5 +1,5 @@
 -- What was read is the text, or is too long, or there was no memory for it.
-use Rattle.std.proofs.Common.{refl}
+use Rattle.std.proofs.Common.{rules, refl}
 use Rattle.named_files.proofs.TextLemmas.{gives_text, gives_too_long, gives_memory}
 use Rattle.named_files.proofs.reading.read_text.Goals as goal
 
@@ -16,3 +16,6 @@ pub returns-in-Err-Memory-clause-text : goal.returns-in-Err-Memory-clause-text
 returns-in-Err-Memory-clause-text g c =
     let e = rw c.in-Err-Memory.field-0-is at c.in-Err-Memory.ensures in
     gives_memory _ _ _ _ _ e.absent e.counted _ refl
+
+pub returns-in-Err-Failed-clause-text : goal.returns-in-Err-Failed-clause-text
+returns-in-Err-Failed-clause-text g c = search rules
