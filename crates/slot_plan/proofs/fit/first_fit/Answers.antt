@@ -1,4 +1,4 @@
-use Rattle.std.proofs.Common.{◌≤◌, refl, subst}
+use Rattle.std.proofs.Common.{◌≤◌, refl, rules, subst}
 use Rattle.slot_plan.proofs.fit.first_fit.Goals as goal
 
 pub returns-then-plan-limit-clause-refused : goal.returns-then-plan-limit-clause-refused
@@ -23,3 +23,12 @@ returns-in-Some-clause-refused c =
       past = rw c.table_limit.ensures crowded.past;
       before = crowded.before;
     }
+
+pub returns-then-plan-limit-clause-law : goal.returns-then-plan-limit-clause-law
+returns-then-plan-limit-clause-law c = search rules
+
+pub returns-in-None-clause-plan : goal.returns-in-None-clause-plan
+returns-in-None-clause-plan c = c.in_ok-plan.ensures.plan
+
+pub returns-in-None-clause-needed : goal.returns-in-None-clause-needed
+returns-in-None-clause-needed c = c.in_ok-plan.ensures.needed
