@@ -16,11 +16,19 @@ mod of_bit_rows;
 #[cfg(test)]
 mod of_cmd_words;
 #[cfg(test)]
+mod of_crew_run;
+#[cfg(test)]
+mod of_edge_io;
+#[cfg(test)]
 mod of_func_table;
 #[cfg(test)]
 mod of_image_lines;
 #[cfg(test)]
 mod of_lane_planes;
+#[cfg(test)]
+mod of_large_gen;
+#[cfg(test)]
+mod of_limits;
 #[cfg(test)]
 mod of_logic_four;
 #[cfg(test)]
@@ -28,9 +36,13 @@ mod of_machine_text;
 #[cfg(test)]
 mod of_node_map;
 #[cfg(test)]
+mod of_pack_words;
+#[cfg(test)]
 mod of_rank_find;
 #[cfg(test)]
 mod of_seen_list;
+#[cfg(test)]
+mod of_slot_words;
 #[cfg(test)]
 mod of_stim_text;
 #[cfg(test)]

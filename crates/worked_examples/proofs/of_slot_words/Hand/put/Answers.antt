@@ -3,7 +3,7 @@ use Rattle.crew_run.specs.declared.stepper.Step.TheVariants.{Moved}
 use Rattle.port_run.specs.Kept.{view_of}
 use Rattle.port_run.proofs.RunLemmas.{kept_after, put_event, put_placed}
 use Rattle.port_run.proofs.StepLemmas.{step_of}
-use Rattle.worked_runs.proofs.of_slot_words.Hand.put.Goals as goal
+use Rattle.worked_examples.proofs.of_slot_words.Hand.put.Goals as goal
 
 pub invariant_of-self-clause-own : goal.invariant_of-self-clause-own
 invariant_of-self-clause-own c =

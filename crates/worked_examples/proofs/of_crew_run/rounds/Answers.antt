@@ -1,7 +1,7 @@
 -- Its gates are new, so that they have room for the turns of any members.
 use Rattle.std.proofs.Common.{arith}
 use Rattle.crew_run.proofs.RoomLemmas.{can_run_with}
-use Rattle.worked_runs.proofs.of_crew_run.rounds.Goals as goal
+use Rattle.worked_examples.proofs.of_crew_run.rounds.Goals as goal
 
 pub run_with-requires-after_bounds : goal.run_with-requires-after_bounds
 run_with-requires-after_bounds g c κs within =

@@ -3,7 +3,7 @@ use Rattle.std.proofs.Common.{subst}
 use Rattle.port_run.specs.Kept.{view_of}
 use Rattle.port_run.specs.code.Steps.{IsUpcoming}
 use Rattle.port_run.proofs.RunLemmas.{upcoming}
-use Rattle.worked_runs.proofs.of_slot_words.Hand.step.Goals as goal
+use Rattle.worked_examples.proofs.of_slot_words.Hand.step.Goals as goal
 
 pub ask-requires : goal.ask-requires
 ask-requires c =

@@ -1,6 +1,6 @@
 use Rattle.std.proofs.Common.{length, ◌≤◌}
 use Rattle.slot_words.specs.Passes.{AreFirstPasses}
-use Rattle.worked_runs.proofs.of_slot_words.all_hands.Given as goal
+use Rattle.worked_examples.proofs.of_slot_words.all_hands.Given as goal
 
 abbrev pub invariant-passes : goal.invariant-passes
 invariant-passes l = record {

@@ -1,7 +1,7 @@
 -- The last of the first passes is that of the next port.
 use Rattle.std.proofs.Common.{ap, arith, length}
-use Rattle.worked_runs.proofs.PassLemmas.{popped}
-use Rattle.worked_runs.proofs.of_slot_words.all_hands.Goals as goal
+use Rattle.worked_examples.proofs.PassLemmas.{popped}
+use Rattle.worked_examples.proofs.of_slot_words.all_hands.Goals as goal
 
 pub hand_of-requires-clause-first : goal.hand_of-requires-clause-first
 hand_of-requires-clause-first c = (popped c.args.bar.now _ _ c.in-Some.pass c.passes.invariant.passes c.in-Some.ensures.last).first

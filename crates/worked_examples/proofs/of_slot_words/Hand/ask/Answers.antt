@@ -1,7 +1,7 @@
 use Rattle.std.proofs.Common.{length, subst, ◌<◌}
 use Rattle.image_defs.specs.declared.image.Image.{Image}
 use Rattle.port_run.proofs.RunLemmas.{reader_there}
-use Rattle.worked_runs.proofs.of_slot_words.Hand.ask.Goals as goal
+use Rattle.worked_examples.proofs.of_slot_words.Hand.ask.Goals as goal
 
 pub ask-requires-clause-reader : goal.ask-requires-clause-reader
 ask-requires-clause-reader c =
