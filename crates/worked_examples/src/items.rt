@@ -1,4 +1,4 @@
-//! The items of netlists that are read, for the tests of items and of what is planned of them.
+//! What is made of netlists in the tests of what comes after reading.
 
 ghost use Rattle.std.specs.Prelude.{IfSome};
 ghost use Rattle.net_defs.specs.Valid.{IsValid, IsValidTiming};
@@ -20,8 +20,24 @@ pub(crate) fn rank_order(alloc: Global) -> Timing
     Timing::unlisted(alloc, Mode::Rank, 1, Init::Undef)
 }
 
+/// None where a text is no netlist, or where there is no memory.
+pub(crate) fn netlist_of(alloc: Global, text: &str) -> Option<Netlist>
+    ensures { IfSome result IsValid }
+{
+    if text.len() > 1_000_000 {
+        return None;
+    }
+    match read_bench(alloc, text.as_bytes()) {
+        Ok(net) => {
+            reads_as_valid(text.as_bytes(), &net);
+            Some(net)
+        }
+        Err(_) => None,
+    }
+}
+
 /// None where there is no order or no memory.
-fn mapped(alloc: Global, net: &Netlist, timing: &Timing) -> Option<NodeNet>
+pub(crate) fn items_of(alloc: Global, net: &Netlist, timing: &Timing) -> Option<NodeNet>
     requires net { IsValid net.now }
     requires timing { IsValidTiming timing.now }
     ensures { IfSome result IsWellFormed }
@@ -31,19 +47,4 @@ fn mapped(alloc: Global, net: &Netlist, timing: &Timing) -> Option<NodeNet>
     };
     items_are_well_formed();
     map_nodes(alloc, net, &ranks, timing).ok()
-}
-
-/// Of the netlist of a text; none where there is no netlist, no order or no memory.
-pub(crate) fn items_of(alloc: Global, text: &[u8], timing: &Timing) -> Option<NodeNet>
-    requires { IsValidTiming timing.now }
-    ensures { IfSome result IsWellFormed }
-{
-    if text.len() > 1_000_000 {
-        return None;
-    }
-    let Ok(net) = read_bench(alloc, text) else {
-        return None;
-    };
-    reads_as_valid(text, &net);
-    mapped(alloc, &net, timing)
 }

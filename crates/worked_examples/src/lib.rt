@@ -50,4 +50,4 @@ mod of_switch_set;
 #[cfg(test)]
 mod of_text_lines;
 #[cfg(test)]
-mod texts;
+mod wanted;

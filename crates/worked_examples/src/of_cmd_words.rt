@@ -1,6 +1,6 @@
 //! A table of words, and what is read of each.
 
-use crate::texts::push_number;
+use crate::wanted::Wanted;
 use cmd_words::{Command, RunWords, WordNo, read_words};
 use net_defs::{HomeChoice, Init, Mode, Timing};
 use seen_list::{Memory, Text};
@@ -168,126 +168,107 @@ fn init_word(init: Init) -> &'static str {
     }
 }
 
-/// Adds a blank and a word.
-fn push_word_behind(text: &mut Text, word: &[u8]) -> Result<(), Memory> {
-    text.push_bytes(b" ")?;
-    text.push_bytes(word)
+/// Tells a blank and a word.
+fn tell_word(wanted: &mut Wanted<'_>, word: &[u8]) {
+    wanted.tell(b" ");
+    wanted.tell(word);
 }
 
-/// Adds a blank, a word and a number.
-fn push_count(alloc: Global, text: &mut Text, word: &[u8], count: u32) -> Result<(), Memory> {
-    push_word_behind(text, word)?;
-    push_number(alloc, text, count)
+/// Tells a blank, a word and a number.
+fn tell_count(wanted: &mut Wanted<'_>, word: &[u8], count: u32) {
+    tell_word(wanted, word);
+    wanted.tell_number(count);
 }
 
-/// Adds how a netlist is run in time.
-fn push_timing(alloc: Global, text: &mut Text, timing: &Timing) -> Result<(), Memory> {
-    push_word_behind(text, mode_word(timing.mode).as_bytes())?;
-    push_count(alloc, text, b"", timing.units)?;
-    push_word_behind(text, init_word(timing.init).as_bytes())
+/// Tells how a netlist is run in time.
+fn tell_timing(wanted: &mut Wanted<'_>, timing: &Timing) {
+    tell_word(wanted, mode_word(timing.mode).as_bytes());
+    tell_count(wanted, b"", timing.units);
+    tell_word(wanted, init_word(timing.init).as_bytes());
 }
 
-/// Adds all but the files that need not be named, and the homes.
-fn push_files(alloc: Global, text: &mut Text, words: &RunWords) -> Result<(), Memory> {
-    push_word_behind(text, words.netlist.as_bytes())?;
-    push_word_behind(text, words.stimulus.as_bytes())?;
-    push_timing(alloc, text, &words.timing)?;
-    push_count(alloc, text, b"banks ", words.banks)?;
-    push_count(alloc, text, b"workers ", words.workers)
+/// Tells a blank, a word and a file that need not be named.
+fn tell_option(wanted: &mut Wanted<'_>, word: &[u8], file: &Option<Text>) {
+    if let Some(name) = file {
+        tell_word(wanted, word);
+        wanted.tell(name.as_bytes());
+    }
 }
 
-/// Adds a blank, a word and a file that need not be named.
-fn push_option(text: &mut Text, word: &[u8], file: &Option<Text>) -> Result<(), Memory> {
-    match file {
-        Some(name) => {
-            push_word_behind(text, word)?;
-            text.push_bytes(name.as_bytes())
+/// Tells a simulation, as the table writes it.
+fn tell_run(wanted: &mut Wanted<'_>, command: &str, words: &RunWords) {
+    wanted.tell(command.as_bytes());
+    tell_word(wanted, words.netlist.as_bytes());
+    tell_word(wanted, words.stimulus.as_bytes());
+    tell_timing(wanted, &words.timing);
+    tell_count(wanted, b"banks ", words.banks);
+    tell_count(wanted, b"workers ", words.workers);
+    tell_option(wanted, b"machine ", &words.machine);
+    tell_option(wanted, b"order ", &words.order);
+    tell_option(wanted, b"last ", &words.last);
+    if words.homes == HomeChoice::Better {
+        tell_word(wanted, b"better");
+    }
+}
+
+/// Tells a simulation by an image.
+fn tell_exec(wanted: &mut Wanted<'_>, words: &RunWords, image: &Text) {
+    tell_run(wanted, "exec", words);
+    tell_word(wanted, b"image ");
+    wanted.tell(image.as_bytes());
+}
+
+/// Tells the numbers of a generated design.
+fn tell_large(wanted: &mut Wanted<'_>, gates: u32, cycles: u32, workers: u32) {
+    wanted.tell(b"large");
+    tell_count(wanted, b"", gates);
+    tell_count(wanted, b"", cycles);
+    tell_count(wanted, b"workers ", workers);
+}
+
+fn tell_show(wanted: &mut Wanted<'_>, netlist: &Text) {
+    wanted.tell(b"show");
+    tell_word(wanted, netlist.as_bytes());
+}
+
+/// Tells what was read, as the table writes it.
+fn tell_command(wanted: &mut Wanted<'_>, command: &Command) {
+    match command {
+        Command::Run(words) => tell_run(wanted, "run", words),
+        Command::Refer(words) => tell_run(wanted, "refer", words),
+        Command::Order(words) => tell_run(wanted, "order", words),
+        Command::Plan(words) => tell_run(wanted, "plan", words),
+        Command::Compile(words) => tell_run(wanted, "compile", words),
+        Command::Exec { words, image } => tell_exec(wanted, words, image),
+        Command::Pack(words) => tell_run(wanted, "pack", words),
+        Command::Fault(words) => tell_run(wanted, "fault", words),
+        Command::Show { netlist } => tell_show(wanted, netlist),
+        Command::Large {
+            gates,
+            cycles,
+            workers,
+        } => tell_large(wanted, *gates, *cycles, *workers),
+    }
+}
+
+/// Tells what is read of some words.
+fn tell_read(alloc: Global, wanted: &mut Wanted<'_>, words: &[String]) {
+    match read_words(alloc, words) {
+        Ok(command) => {
+            tell_command(wanted, &command);
+            drop(command);
         }
-        None => Ok(()),
+        Err(WordNo::Usage) => wanted.tell(b"usage"),
+        Err(WordNo::Memory) => wanted.tell(b"no memory"),
     }
-}
-
-/// Adds a simulation, as the table writes it.
-fn push_run(alloc: Global, text: &mut Text, command: &str, words: &RunWords) -> Result<(), Memory> {
-    text.push_bytes(command.as_bytes())?;
-    push_files(alloc, text, words)?;
-    push_option(text, b"machine ", &words.machine)?;
-    push_option(text, b"order ", &words.order)?;
-    push_option(text, b"last ", &words.last)?;
-    text.push_bytes(if words.homes == HomeChoice::Better {
-        b" better"
-    } else {
-        b""
-    })
-}
-
-/// Adds a simulation by an image.
-fn push_exec(alloc: Global, text: &mut Text, words: &RunWords, image: &Text) -> Result<(), Memory> {
-    push_run(alloc, text, "exec", words)?;
-    push_word_behind(text, b"image ")?;
-    text.push_bytes(image.as_bytes())
-}
-
-/// Adds the numbers of a generated design.
-fn push_large(
-    alloc: Global,
-    text: &mut Text,
-    gates: u32,
-    cycles: u32,
-    workers: u32,
-) -> Result<(), Memory> {
-    text.push_bytes(b"large")?;
-    push_count(alloc, text, b"", gates)?;
-    push_count(alloc, text, b"", cycles)?;
-    push_count(alloc, text, b"workers ", workers)
-}
-
-fn push_show(text: &mut Text, netlist: &Text) -> Result<(), Memory> {
-    text.push_bytes(b"show")?;
-    push_word_behind(text, netlist.as_bytes())
-}
-
-/// Adds what was read, as the table writes it.
-fn push_answer(
-    alloc: Global,
-    text: &mut Text,
-    answer: &Result<Command, WordNo>,
-) -> Result<(), Memory> {
-    match answer {
-        Ok(Command::Run(words)) => push_run(alloc, text, "run", words),
-        Ok(Command::Refer(words)) => push_run(alloc, text, "refer", words),
-        Ok(Command::Order(words)) => push_run(alloc, text, "order", words),
-        Ok(Command::Plan(words)) => push_run(alloc, text, "plan", words),
-        Ok(Command::Compile(words)) => push_run(alloc, text, "compile", words),
-        Ok(Command::Exec { words, image }) => push_exec(alloc, text, words, image),
-        Ok(Command::Pack(words)) => push_run(alloc, text, "pack", words),
-        Ok(Command::Fault(words)) => push_run(alloc, text, "fault", words),
-        Ok(Command::Show { netlist }) => push_show(text, netlist),
-        Ok(
-            Command::Large {
-                gates,
-                cycles,
-                workers,
-            },
-        ) => push_large(alloc, text, *gates, *cycles, *workers),
-        Err(WordNo::Usage) => text.push_bytes(b"usage"),
-        Err(WordNo::Memory) => text.push_bytes(b"memory"),
-    }
-}
-
-/// Adds what is read of a line.
-fn push_read(alloc: Global, text: &mut Text, line: &str) -> Result<(), Memory> {
-    let words = words_of(alloc, line)?;
-    let answer = read_words(alloc, words.as_slice());
-    let pushed = push_answer(alloc, text, &answer);
-    drop(answer);
-    pushed
 }
 
 fn is_told(alloc: Global, line: &str, wanted: &str) -> Result<bool, Memory> {
-    let mut text = Text::new(alloc);
-    push_read(alloc, &mut text, line)?;
-    Ok(text.as_bytes() == wanted.as_bytes())
+    let words = words_of(alloc, line)?;
+    let mut wanted = Wanted::new(wanted);
+    tell_read(alloc, &mut wanted, words.as_slice());
+    drop(words);
+    Ok(wanted.is_told())
 }
 
 /// Whether a line of the table is read as it says.

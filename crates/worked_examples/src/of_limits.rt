@@ -1,11 +1,11 @@
 //! Texts on both sides of the limits that only long texts meet.
 
+use crate::wanted::Wanted;
 use bench_read::{BenchNo, Many, read_bench};
 use itoa::Buffer;
 use limits::fits_text;
 use seen_list::{Memory, Text};
 use std::alloc::Global;
-use std::test::Fail;
 use stim_text::{OrderNo, read_order};
 
 fn push_input(text: &mut Text, number: &str) -> Result<(), Memory> {
@@ -54,43 +54,51 @@ fn gates(alloc: Global, wide: u32, more: u32) -> Result<Text, Memory> {
     Ok(text)
 }
 
-/// The line that a netlist has too many signals or operands with, or no line where it is read.
-fn too_many(alloc: Global, text: &Text) -> Option<(u32, Option<Many>)> {
+/// Whether a netlist is read, or has too many signals or operands with a line, as is wanted.
+fn is_told(alloc: Global, text: &Text, wanted: &str) -> bool {
+    let mut wanted = Wanted::new(wanted);
     if !fits_text(text.len()) {
-        return None;
+        return false;
     }
     match read_bench(alloc, text.as_bytes()) {
-        Ok(_) => Some((0, None)),
-        Err(BenchNo::TooMany { line, what }) => Some((line, Some(what))),
-        Err(_) => None,
+        Ok(net) => {
+            wanted.tell(b"read\n");
+            drop(net);
+        }
+        Err(BenchNo::TooMany { line, what }) => wanted.tell_count((many_word(what), line)),
+        Err(no) => drop(no),
+    }
+    wanted.is_told()
+}
+
+fn many_word(what: Many) -> &'static str {
+    match what {
+        Many::Signals => "signals",
+        Many::Operands => "operands",
     }
 }
 
-fn too_many_inputs(alloc: Global, count: u32) -> Result<Option<(u32, Option<Many>)>, Memory> {
+fn are_inputs(alloc: Global, count: u32, wanted: &str) -> Result<bool, Memory> {
     let text = inputs(alloc, count)?;
-    Ok(too_many(alloc, &text))
+    let told = is_told(alloc, &text, wanted);
+    drop(text);
+    Ok(told)
 }
 
-fn too_many_operands(
-    alloc: Global,
-    wide: u32,
-    more: u32,
-) -> Result<Option<(u32, Option<Many>)>, Memory> {
+fn are_gates(alloc: Global, wide: u32, more: u32, wanted: &str) -> Result<bool, Memory> {
     let text = gates(alloc, wide, more)?;
-    Ok(too_many(alloc, &text))
+    let told = is_told(alloc, &text, wanted);
+    drop(text);
+    Ok(told)
 }
 
 /// 1,048,576 signals and 4,194,304 operands are read, and one more is too many.
 #[test]
-fn netlists_at_the_limits(rt: HostRuntime) -> Result<(), Fail> {
-    let alloc = rt.alloc();
-    let signals = Some((1_048_577, Some(Many::Signals)));
-    assert!(rt; too_many_inputs(alloc, 1_048_576)? == Some((0, None)));
-    assert!(rt; too_many_inputs(alloc, 1_048_577)? == signals);
-    let operands = Some((4098, Some(Many::Operands)));
-    assert!(rt; too_many_operands(alloc, 4095, 1023)? == Some((0, None)));
-    assert!(rt; too_many_operands(alloc, 4096, 0)? == operands);
-    Ok(())
+fn netlists_at_the_limits(rt: HostRuntime) {
+    assert!(rt; are_inputs(rt.alloc(), 1_048_576, "read\n") == Ok(true));
+    assert!(rt; are_inputs(rt.alloc(), 1_048_577, "signals 1048577\n") == Ok(true));
+    assert!(rt; are_gates(rt.alloc(), 4095, 1023, "read\n") == Ok(true));
+    assert!(rt; are_gates(rt.alloc(), 4096, 0, "operands 4098\n") == Ok(true));
 }
 
 /// So many lines of a million steps, and what comes after them.
@@ -103,20 +111,27 @@ fn steps(alloc: Global, lines: u32, after: &str) -> Result<Text, Memory> {
     Ok(text)
 }
 
-/// Why an order of these lines is refused; want of memory also where the text is too long to be read.
+/// Why an order is refused; want of memory also where the text is too long to be read.
+fn refusal(alloc: Global, text: &Text) -> Option<OrderNo> {
+    if fits_text(text.len()) {
+        read_order(alloc, text.as_bytes(), 1).err()
+    } else {
+        Some(OrderNo::Memory)
+    }
+}
+
+/// Why an order of these lines is refused.
 fn order_refusal(alloc: Global, lines: u32, after: &str) -> Result<Option<OrderNo>, Memory> {
     let text = steps(alloc, lines, after)?;
-    if !fits_text(text.len()) {
-        return Ok(Some(OrderNo::Memory));
-    }
-    Ok(read_order(alloc, text.as_bytes(), 1).err())
+    let no = refusal(alloc, &text);
+    drop(text);
+    Ok(no)
 }
 
 /// 1,000,000,000 steps are read, and one more is too many.
 #[test]
-fn orders_at_the_limit(rt: HostRuntime) -> Result<(), Fail> {
+fn orders_at_the_limit(rt: HostRuntime) {
     let refusal = OrderNo::TooLong { line: 1001 };
-    assert!(rt; order_refusal(rt.alloc(), 1000, "")?.is_none());
-    assert!(rt; order_refusal(rt.alloc(), 1000, "0")? == Some(refusal));
-    Ok(())
+    assert!(rt; order_refusal(rt.alloc(), 1000, "") == Ok(None));
+    assert!(rt; order_refusal(rt.alloc(), 1000, "0") == Ok(Some(refusal)));
 }

@@ -1,197 +1,176 @@
 //! `map_nodes` with ample memory, against items written out by hand.
 
-use crate::items::items_of;
-use crate::texts::push_number;
-use limits::MAX_UNITS;
-use net_defs::{Init, Mode, Timing};
+ghost use Rattle.net_defs.specs.Valid.{IsValid};
+
+use crate::items::{items_of, netlist_of, rank_order};
+use crate::wanted::{Wanted, parts_of};
+use net_defs::{Init, Mode, Netlist, Timing};
 use node_defs::{Feed, Feeds, Item, ItemName, NodeNet, Tag};
-use seen_list::{Memory, Text};
 use std::alloc::Global;
 
-/// Adds an operand: its item, with a `'` where its value is that of the last turn; nothing for a value that is
-/// always 0.
-fn push_feed(alloc: Global, text: &mut Text, feed: &Feed) -> Result<(), Memory> {
-    match feed {
-        Feed::From { item, tag } => {
-            text.push_bytes(b" ")?;
-            push_number(alloc, text, *item)?;
-            text.push_bytes(if *tag == Tag::Last { b"'" } else { b"" })
-        }
-        Feed::Fixed(_) => Ok(()),
+/// Netlists, each in rank order or in unit delay with 9 turns a cycle, with `|` between them. Behind `=>` stand the
+/// number of the first node, the number of tables, and a line for each item from there on: the number of its signal, and
+/// of a helper a `.` and its own number; then its table and its operands, or `register` and its operand. A `'` marks a
+/// value of the last turn. In unit delay only the first of three levels reads the last turn.
+const CASES: &str = "\
+rank: INPUT(a)\nINPUT(b)\nINPUT(c)\nINPUT(d)\nINPUT(e)\n\
+z = NAND(a, b, c, d, e)\n\
+=> items 5 3\n\
+5.0: 0 of 0 1 2 3\n\
+5.1: 1 of 4\n\
+5: 2 of 5 6\n\
+|rank: INPUT(a)\nINPUT(b)\nINPUT(c)\nINPUT(d)\nINPUT(e)\nINPUT(f)\nINPUT(g)\n\
+z = BUS(a, b, c, d, e, f, g)\n\
+=> items 7 3\n\
+7.0: 0 of 0 1 2 3\n\
+7.1: 1 of 4 5 6\n\
+7: 2 of 7 8\n\
+|unit: INPUT(a)\nINPUT(b)\nINPUT(c)\nINPUT(d)\nINPUT(e)\nINPUT(f)\nINPUT(g)\nINPUT(h)\nINPUT(i)\n\
+INPUT(j)\nINPUT(k)\nINPUT(l)\nINPUT(m)\nINPUT(n)\nINPUT(o)\nINPUT(p)\nINPUT(q)\nOUTPUT(z)\n\
+z = AND(a, b, c, d, e, f, g, h, i, j, k, l, m, n, o, p, q)\n\
+=> items 17 3\n\
+17.0: 0 of 0' 1' 2' 3'\n\
+17.1: 0 of 4' 5' 6' 7'\n\
+17.2: 0 of 8' 9' 10' 11'\n\
+17.3: 0 of 12' 13' 14' 15'\n\
+17.4: 1 of 16'\n\
+17.5: 0 of 17 18 19 20\n\
+17.6: 1 of 21\n\
+17: 2 of 22 23\n\
+|rank: INPUT(1)\nINPUT(2)\nINPUT(3)\nINPUT(6)\nINPUT(7)\n\
+10 = NAND(1, 3)\n11 = NAND(3, 6)\n16 = NAND(2, 11)\n19 = NAND(11, 7)\n22 = NAND(10, 16)\n23 = NAND(16, 19)\n\
+=> items 5 1\n\
+5: 0 of 0 2\n\
+6: 0 of 2 3\n\
+7: 0 of 1 6\n\
+8: 0 of 6 4\n\
+9: 0 of 5 7\n\
+10: 0 of 7 8\n\
+|rank: z = NOT(q)\nr = DFF(z)\n[q] = RAM(w; a, b; d)\nINPUT(w)\nINPUT(a)\nINPUT(b)\nINPUT(d)\n\
+=> items 5 1\n\
+4: 0 of 4\n\
+5: register 5\n\
+|rank: INPUT(G0)\nINPUT(G1)\nINPUT(G2)\nINPUT(G3)\n\
+G5 = DFF(G10)\nG6 = DFF(G11)\nG7 = DFF(G13)\nG14 = NOT(G0)\nG17 = NOT(G11)\nG8 = AND(G14, G6)\n\
+G15 = OR(G12, G8)\nG16 = OR(G3, G8)\nG9 = NAND(G16, G15)\nG10 = NOR(G14, G11)\nG11 = NOR(G5, G9)\n\
+G12 = NOR(G1, G7)\nG13 = NOR(G2, G12)\n\
+=> items 4 5\n\
+4: register 16\n\
+5: register 14\n\
+6: register 12\n\
+7: 0 of 0\n\
+9: 1 of 7 5\n\
+15: 2 of 1 6\n\
+10: 3 of 9 8\n\
+11: 3 of 3 8\n\
+16: 2 of 2 9\n\
+12: 4 of 11 10\n\
+14: 2 of 4 13\n\
+8: 0 of 14\n\
+13: 2 of 7 14\n";
+
+fn cases() -> &'static str {
+    CASES
+}
+
+/// Tells the signal of an item, and the number of a helper.
+fn tell_name(wanted: &mut Wanted<'_>, name: &ItemName) {
+    wanted.tell_number(name.signal);
+    if let Some(helper) = name.helper {
+        wanted.tell(b".");
+        wanted.tell_number(helper);
     }
 }
 
-fn push_feeds(alloc: Global, text: &mut Text, feeds: &Feeds) -> Result<(), Memory> {
-    push_feed(alloc, text, &feeds.a)?;
-    push_feed(alloc, text, &feeds.b)?;
-    push_feed(alloc, text, &feeds.c)?;
-    push_feed(alloc, text, &feeds.d)
+/// Tells an operand; nothing of a value that is always 0.
+fn tell_feed(wanted: &mut Wanted<'_>, feed: &Feed) {
+    if let Feed::From { item, tag } = feed {
+        wanted.tell(b" ");
+        wanted.tell_number(*item);
+        if *tag == Tag::Last {
+            wanted.tell(b"'");
+        }
+    }
 }
 
-/// Adds an item: a register by its operand, a node by its table and its operands.
-fn push_item(alloc: Global, text: &mut Text, item: &Item) -> Result<(), Memory> {
+fn tell_node(wanted: &mut Wanted<'_>, table: u32, feeds: &Feeds) {
+    wanted.tell_number(table);
+    wanted.tell(b" of");
+    tell_feed(wanted, &feeds.a);
+    tell_feed(wanted, &feeds.b);
+    tell_feed(wanted, &feeds.c);
+    tell_feed(wanted, &feeds.d);
+}
+
+fn tell_item(wanted: &mut Wanted<'_>, item: &Item) {
     match item {
         Item::Latch { op } => {
-            text.push_bytes(b"register ")?;
-            push_number(alloc, text, *op)
+            wanted.tell(b"register ");
+            wanted.tell_number(*op);
         }
-        Item::Node { table, feeds } => {
-            push_number(alloc, text, *table)?;
-            text.push_bytes(b" of")?;
-            push_feeds(alloc, text, feeds)
+        Item::Node { table, feeds } => tell_node(wanted, *table, feeds),
+        Item::Input { .. } | Item::BlockBit { .. } => wanted.tell(b"no node"),
+    }
+}
+
+/// Tells the items from the first node on.
+fn tell_items(wanted: &mut Wanted<'_>, first: usize, items: &[Item], names: &[ItemName]) {
+    for place in 0..items.len().min(names.len()) {
+        if place >= first {
+            tell_name(wanted, &names[place]);
+            wanted.tell(b": ");
+            tell_item(wanted, &items[place]);
+            wanted.tell(b"\n");
         }
-        Item::Input { .. } | Item::BlockBit { .. } => text.push_bytes(b"no node"),
     }
 }
 
-/// The items from the first node on, a line each.
-fn told(alloc: Global, nodes: &NodeNet) -> Result<Text, Memory> {
-    let mut text = Text::new(alloc);
-    for item in nodes
-        .items
-        .as_slice()
-        .iter()
-        .skip(nodes.first_node as usize)
-    {
-        push_item(alloc, &mut text, item)?;
-        text.push_bytes(b"\n")?;
+fn tell_nodes(wanted: &mut Wanted<'_>, nodes: &NodeNet) {
+    let (items, names) = (nodes.items.as_slice(), nodes.names.as_slice());
+    let tables = u32::try_from(nodes.tables.len()).unwrap_or(u32::MAX);
+    wanted.tell_line("items", &[nodes.first_node, tables]);
+    tell_items(wanted, nodes.first_node as usize, items, names);
+}
+
+/// The items of a netlist in rank order, or in unit delay with 9 turns a cycle.
+fn mapped(alloc: Global, net: &Netlist, mode: &str) -> Option<NodeNet>
+    requires { IsValid net.now }
+{
+    if mode == "rank" {
+        items_of(alloc, net, &rank_order(alloc))
+    } else {
+        items_of(
+            alloc,
+            net,
+            &Timing::unlisted(alloc, Mode::Unit, 9, Init::Undef),
+        )
     }
-    Ok(text)
 }
 
-/// A gate of 17 operands.
-const WIDE_AND: &str =
-    "INPUT(a)\nINPUT(b)\nINPUT(c)\nINPUT(d)\nINPUT(e)\nINPUT(f)\nINPUT(g)\nINPUT(h)\nINPUT(i)\nINPUT(j)\nINPUT(k)\nINPUT(l)\nINPUT(m)\nINPUT(n)\nINPUT(o)\nINPUT(p)\nINPUT(q)\nOUTPUT(z)\nz = AND(a, b, c, d, e, f, g, h, i, j, k, l, m, n, o, p, q)\n";
-
-/// A netlist, its mode and the turns of a cycle, its first node, its number of tables, and its items from the first node
-/// on: the tables of nodes with their operands.
-type Row = (&'static str, (Mode, u32), u32, usize, &'static str);
-
-/// In unit delay only the first of three levels reads the last turn.
-const ROWS: &[Row] = &[
-    (
-        "INPUT(a)\nINPUT(b)\nINPUT(c)\nINPUT(d)\nINPUT(e)\nz = NAND(a, b, c, d, e)\n",
-        (Mode::Rank, 1),
-        5,
-        3,
-        "0 of 0 1 2 3\n1 of 4\n2 of 5 6\n",
-    ),
-    (
-        "INPUT(a)\nINPUT(b)\nINPUT(c)\nINPUT(d)\nINPUT(e)\nINPUT(f)\nINPUT(g)\nz = BUS(a, b, c, d, e, f, g)\n",
-        (Mode::Rank, 1),
-        7,
-        3,
-        "0 of 0 1 2 3\n1 of 4 5 6\n2 of 7 8\n",
-    ),
-    (
-        WIDE_AND,
-        (Mode::Unit, 9),
-        17,
-        3,
-        "0 of 0' 1' 2' 3'\n0 of 4' 5' 6' 7'\n0 of 8' 9' 10' 11'\n0 of 12' 13' 14' 15'\n1 of 16'\n0 of 17 18 19 20\n1 of 21\n2 of 22 23\n",
-    ),
-    (
-        "INPUT(1)\nINPUT(2)\nINPUT(3)\nINPUT(6)\nINPUT(7)\n10 = NAND(1, 3)\n11 = NAND(3, 6)\n16 = NAND(2, 11)\n19 = NAND(11, 7)\n22 = NAND(10, 16)\n23 = NAND(16, 19)\n",
-        (Mode::Rank, 1),
-        5,
-        1,
-        "0 of 0 2\n0 of 2 3\n0 of 1 6\n0 of 6 4\n0 of 5 7\n0 of 7 8\n",
-    ),
-    (
-        "z = NOT(q)\nr = DFF(z)\n[q] = RAM(w; a, b; d)\nINPUT(w)\nINPUT(a)\nINPUT(b)\nINPUT(d)\n",
-        (Mode::Rank, 1),
-        5,
-        1,
-        "0 of 4\nregister 5\n",
-    ),
-    (
-        "INPUT(G0)\nINPUT(G1)\nINPUT(G2)\nINPUT(G3)\nG5 = DFF(G10)\nG6 = DFF(G11)\nG7 = DFF(G13)\nG14 = NOT(G0)\nG17 = NOT(G11)\nG8 = AND(G14, G6)\nG15 = OR(G12, G8)\nG16 = OR(G3, G8)\nG9 = NAND(G16, G15)\nG10 = NOR(G14, G11)\nG11 = NOR(G5, G9)\nG12 = NOR(G1, G7)\nG13 = NOR(G2, G12)\n",
-        (Mode::Rank, 1),
-        4,
-        5,
-        "register 16\nregister 14\nregister 12\n0 of 0\n1 of 7 5\n2 of 1 6\n3 of 9 8\n3 of 3 8\n2 of 2 9\n4 of 11 10\n2 of 4 13\n0 of 14\n2 of 7 14\n",
-    ),
-];
-
-fn rows() -> &'static [Row] {
-    ROWS
-}
-
-/// The items of a netlist in a mode in which no gate is listed.
-fn items_in(alloc: Global, text: &str, mode: Mode, units: u32) -> Option<NodeNet> {
-    if units == 0 || units > MAX_UNITS || (mode == Mode::Rank && units != 1) {
-        return None;
+/// Tells the items of a netlist, if it has an order.
+fn tell_mapped(alloc: Global, wanted: &mut Wanted<'_>, net: &Netlist, mode: &str)
+    requires { IsValid net.now }
+{
+    if let Some(nodes) = mapped(alloc, net, mode) {
+        tell_nodes(wanted, &nodes);
+        drop(nodes);
     }
-    let timing = Timing::unlisted(alloc, mode, units, Init::Undef);
-    items_of(alloc, text.as_bytes(), &timing)
 }
 
-/// Whether these are the items of a row.
-fn is_told(alloc: Global, nodes: &NodeNet, row: &Row) -> Result<bool, Memory> {
-    let items = told(alloc, nodes)?;
-    Ok(
-        nodes.first_node == row.2
-            && nodes.tables.len() == row.3
-            && items.as_bytes() == row.4.as_bytes(),
-    )
-}
-
-/// Whether the netlist of a row has its items.
-fn has_items(alloc: Global, row: &Row) -> Result<bool, Memory> {
-    match items_in(alloc, row.0, row.1.0, row.1.1) {
-        Some(nodes) => is_told(alloc, &nodes, row),
-        None => Ok(false),
+/// Whether the netlist of a case has these items.
+fn has_items(alloc: Global, case: &str) -> bool {
+    let (mode, text, wanted) = parts_of(case);
+    let mut wanted = Wanted::new(wanted);
+    if let Some(net) = netlist_of(alloc, text) {
+        tell_mapped(alloc, &mut wanted, &net, mode);
+        drop(net);
     }
+    wanted.is_told()
 }
 
 #[test]
 fn netlists_have_these_items(rt: HostRuntime) {
-    for row in rows() {
-        assert!(rt; has_items(rt.alloc(), row) == Ok(true));
+    for case in cases().split('|') {
+        assert!(rt; has_items(rt.alloc(), case));
     }
-}
-
-/// What the items of a gate of 17 operands stand for, behind its inputs: seven helpers, and then the gate itself.
-const HELPERS: &[Option<u32>] = &[
-    Some(0),
-    Some(1),
-    Some(2),
-    Some(3),
-    Some(4),
-    Some(5),
-    Some(6),
-    None,
-];
-
-/// Whether the names are those of these helpers of signal 17.
-fn are_helpers(names: &[ItemName], helpers: &[Option<u32>]) -> bool {
-    if names.len() != helpers.len() {
-        return false;
-    }
-    for i in 0..names.len() {
-        if names[i].signal != 17 || names[i].helper != helpers[i] {
-            return false;
-        }
-    }
-    true
-}
-
-/// Whether the names of the items behind the first 17 are those of the helpers.
-fn has_helpers(nodes: &NodeNet) -> bool {
-    match nodes.names.as_slice().split_at_checked(17) {
-        Some((_, names)) => are_helpers(names, HELPERS),
-        None => false,
-    }
-}
-
-fn wide_has_helpers(alloc: Global) -> bool {
-    match items_in(alloc, WIDE_AND, Mode::Unit, 9) {
-        Some(nodes) => has_helpers(&nodes),
-        None => false,
-    }
-}
-
-#[test]
-fn helpers_are_numbered(rt: HostRuntime) {
-    assert!(rt; wide_has_helpers(rt.alloc()));
 }

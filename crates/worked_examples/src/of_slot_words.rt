@@ -9,13 +9,12 @@ ghost use Rattle.slot_words.specs.Passes.{AreFirstPasses, IsFirstPass, IsOf};
 ghost use Rattle.port_run.specs.Kept.{IsKept};
 ghost use Rattle.port_run.specs.code.Steps.{IsUpcoming};
 
-use bench_read::law::reads_as_valid;
-use bench_read::read_bench;
+use crate::items::{netlist_of, rank_order};
 use event_defs::Action;
 use image_defs::Image;
 use logic_four::V4;
 use machine_text::{Machine, read_machine};
-use net_defs::{Init, Mode, Netlist, Stimulus, Timing};
+use net_defs::{Netlist, Stimulus};
 use port_walk::AnyPort;
 use seen_list::{List, Memory};
 use slot_words::{Crossbar, Pass, Taken};
@@ -25,8 +24,8 @@ use std::thread::{self, Threads, yield_now};
 use stim_text::read_stim;
 use yse_compile::compile;
 
-const C17: &[u8] =
-    b"INPUT(1)\nINPUT(2)\nINPUT(3)\nINPUT(6)\nINPUT(7)\nOUTPUT(22)\nOUTPUT(23)\n10 = NAND(1, 3)\n11 = NAND(3, 6)\n16 = NAND(2, 11)\n19 = NAND(11, 7)\n22 = NAND(10, 16)\n23 = NAND(16, 19)\n";
+const C17: &str =
+    "INPUT(1)\nINPUT(2)\nINPUT(3)\nINPUT(6)\nINPUT(7)\nOUTPUT(22)\nOUTPUT(23)\n10 = NAND(1, 3)\n11 = NAND(3, 6)\n16 = NAND(2, 11)\n19 = NAND(11, 7)\n22 = NAND(10, 16)\n23 = NAND(16, 19)\n";
 
 /// 10,000 cycles.
 const ROWS: &[u8] = b"10101 * 3000\n0x1z0 * 2000\n11111\n00110 * 4999\n";
@@ -119,10 +118,34 @@ fn hand_of<'a>(
     requires first { IsFirstPass bar.now pass.port pass }
     requires there { pass.port < length image.now.ports }
 {
-    let cycles = stim.cycles();
-    let window = cycles.max(1);
-    let port = AnyPort::new(alloc, image, stim, pass.port(), window)?;
-    Ok(Hand { bar, pass, port })
+    let window = stim.cycles().max(1);
+    match AnyPort::new(alloc, image, stim, pass.port(), window) {
+        Ok(port) => Ok(Hand { bar, pass, port }),
+        Err(no) => {
+            drop(pass);
+            Err(no)
+        }
+    }
+}
+
+/// Adds the hand of a port.
+fn push_hand<'a>(
+    hands: &mut List<Hand<'a>>,
+    alloc: Global,
+    bar: &'a Crossbar,
+    image: &'a Image,
+    stim: &'a Stimulus,
+    pass: Pass,
+) -> Result<(), Memory>
+    requires fits { IsWellFormed image.now }
+    requires valid { IsValidStimulus stim.now }
+    requires columns { stim.now.columns ≡ image.now.columns }
+    requires image { bar.now.image ≡ image.now }
+    requires stimulus { bar.now.stimulus ≡ stim.now }
+    requires first { IsFirstPass bar.now pass.port pass }
+    requires there { pass.port < length image.now.ports }
+{
+    hands.push(hand_of(alloc, bar, image, stim, pass)?)
 }
 
 /// The hands of all ports, the last one first.
@@ -142,10 +165,19 @@ fn all_hands<'a>(
 {
     let mut passes = passes;
     let mut hands = List::new(alloc);
+    let mut ended = Ok(());
     'passes: while let Some(pass) = passes.pop() {
-        hands.push(hand_of(alloc, bar, image, stim, pass)?)?;
+        let pushed = push_hand(&mut hands, alloc, bar, image, stim, pass);
+        ended = ended.and(pushed);
     }
-    Ok(hands)
+    drop(passes);
+    match ended {
+        Ok(()) => Ok(hands),
+        Err(no) => {
+            drop(hands);
+            Err(no)
+        }
+    }
 }
 
 /// Of two values both must be 1 for a 0.
@@ -311,7 +343,9 @@ fn run_by_hand<R: Threads + Wait>(
 {
     let (bar, passes) = Crossbar::make(rt, alloc, image, stim, 2)?;
     let mut hands = all_hands(alloc, &bar, image, stim, passes)?;
-    Ok(drive_three(rt, hands.as_mut_slice()))
+    let right = drive_three(rt, hands.as_mut_slice());
+    drop(hands);
+    Ok(right)
 }
 
 /// The same of an image, over these rows.
@@ -319,7 +353,11 @@ fn run_image<R: Threads + Wait>(rt: &R, alloc: Global, image: &Image) -> Result<
     requires { IsWellFormed image.now }
 {
     match read_stim(alloc, ROWS, image.columns) {
-        Ok(stim) => run_by_hand(rt, alloc, image, &stim),
+        Ok(stim) => {
+            let ran = run_by_hand(rt, alloc, image, &stim);
+            drop(stim);
+            ran
+        }
         Err(_) => Ok(false),
     }
 }
@@ -334,10 +372,16 @@ fn run_on<R: Threads + Wait>(
     requires net { IsValid net.now }
     requires machine { machines.IsValid machine.now }
 {
-    let timing = Timing::unlisted(alloc, Mode::Rank, 1, Init::Undef);
-    match compile(alloc, net, machine, &timing) {
-        Ok(compiled) => run_image(rt, alloc, &compiled.image),
-        Err(_) => Ok(false),
+    match compile(alloc, net, machine, &rank_order(alloc)) {
+        Ok(compiled) => {
+            let ran = run_image(rt, alloc, &compiled.image);
+            drop(compiled);
+            ran
+        }
+        Err(no) => {
+            drop(no);
+            Ok(false)
+        }
     }
 }
 
@@ -346,19 +390,24 @@ fn run_net<R: Threads + Wait>(rt: &R, alloc: Global, net: &Netlist) -> Result<bo
     requires { IsValid net.now }
 {
     match read_machine(alloc, b"logic 2\narray 0\n") {
-        Ok(machine) => run_on(rt, alloc, net, &machine),
+        Ok(machine) => {
+            let ran = run_on(rt, alloc, net, &machine);
+            drop(machine);
+            ran
+        }
         Err(_) => Ok(false),
     }
 }
 
 /// The same of c17.
 fn run_c17<R: Threads + Wait>(rt: &R, alloc: Global) -> Result<bool, Memory> {
-    match read_bench(alloc, C17) {
-        Ok(net) => {
-            reads_as_valid(C17, &net);
-            run_net(rt, alloc, &net)
+    match netlist_of(alloc, C17) {
+        Some(net) => {
+            let ran = run_net(rt, alloc, &net);
+            drop(net);
+            ran
         }
-        Err(_) => Ok(false),
+        None => Ok(false),
     }
 }
 

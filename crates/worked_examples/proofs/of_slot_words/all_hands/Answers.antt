@@ -3,11 +3,11 @@ use Rattle.std.proofs.Common.{ap, arith, length}
 use Rattle.worked_examples.proofs.PassLemmas.{popped}
 use Rattle.worked_examples.proofs.of_slot_words.all_hands.Goals as goal
 
-pub hand_of-requires-clause-first : goal.hand_of-requires-clause-first
-hand_of-requires-clause-first c = (popped c.args.bar.now _ _ c.in-Some.pass c.passes.invariant.passes c.in-Some.ensures.last).first
+pub push_hand-pushed-requires-clause-first : goal.push_hand-pushed-requires-clause-first
+push_hand-pushed-requires-clause-first c = (popped c.args.bar.now _ _ c.in-Some.pass c.passes.invariant.passes c.in-Some.ensures.last).first
 
-pub hand_of-requires-clause-there : goal.hand_of-requires-clause-there
-hand_of-requires-clause-there c =
+pub push_hand-pushed-requires-clause-there : goal.push_hand-pushed-requires-clause-there
+push_hand-pushed-requires-clause-there c =
     let last = popped c.args.bar.now _ _ c.in-Some.pass c.passes.invariant.passes c.in-Some.ensures.last in
     omega (arith, last.count, last.port, c.passes.invariant.few, ap (λ image. length image.ports) c.requires.image)
 
