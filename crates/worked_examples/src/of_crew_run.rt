@@ -246,7 +246,9 @@ fn have_met<R: Threads + Wait + Sync>(rt: &R, alloc: Global) -> Result<bool, Mem
         two: AtomicBool::new(false),
     };
     let workers = meet(rt, alloc, &shared)?;
-    Ok(are_told(workers.as_slice()))
+    let told = are_told(workers.as_slice());
+    drop(workers);
+    Ok(told)
 }
 
 /// No hold runs out, so the two run beside one another.
@@ -352,7 +354,9 @@ fn were_told(gates: &[Option<CountGate>], told: &[(usize, u32, u64, u64)]) -> bo
 fn run_rounds<R: Threads + Wait + Sync>(rt: &R, alloc: Global) -> Result<bool, Memory> {
     let shared = [AtomicU64::new(0), AtomicU64::new(0), AtomicU64::new(0)];
     let gates = rounds(rt, alloc, &shared, 800_000)?;
-    Ok(were_told(gates.as_slice(), TOLD))
+    let told = were_told(gates.as_slice(), TOLD);
+    drop(gates);
+    Ok(told)
 }
 
 /// Each gate is told of each turn of its worker's members once, though the third member finds nothing for so long
