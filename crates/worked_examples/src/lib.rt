@@ -12,8 +12,6 @@ mod of_bench_read;
 #[cfg(test)]
 mod of_bench_text;
 #[cfg(test)]
-mod of_bit_rows;
-#[cfg(test)]
 mod of_cmd_words;
 #[cfg(test)]
 mod of_crew_run;
@@ -21,8 +19,6 @@ mod of_crew_run;
 mod of_edge_io;
 #[cfg(test)]
 mod of_func_table;
-#[cfg(test)]
-mod of_image_lines;
 #[cfg(test)]
 mod of_lane_planes;
 #[cfg(test)]
@@ -47,7 +43,5 @@ mod of_slot_words;
 mod of_stim_text;
 #[cfg(test)]
 mod of_switch_set;
-#[cfg(test)]
-mod of_text_lines;
 #[cfg(test)]
 mod wanted;
