@@ -2,11 +2,10 @@
 
 use edge_io::{Files, HostFiles, HostSink, ReadNo, WriteNo, read_file, write_whole};
 use std::alloc::Global;
-use std::io;
 use std::io::{ErrorKind, Write};
-
-/// A file that each host has, with the name of its system and a line end.
-const SYSTEM: &[u8] = b"/proc/sys/kernel/ostype";
+use std::test::Fail;
+use std::time::{SystemTime, UNIX_EPOCH};
+use std::{fs, io};
 
 /// Why no more than so many bytes are read of a file, or whether they are these.
 fn read<F: Files>(
@@ -17,32 +16,49 @@ fn read<F: Files>(
     wanted: &[u8],
 ) -> Result<bool, ReadNo> {
     match read_file(alloc, files, name, usize::from(limit)) {
-        Ok(bytes) => {
-            let right = bytes.as_slice() == wanted;
-            drop(bytes);
-            Ok(right)
-        }
+        Ok(bytes) => Ok(bytes.as_slice() == wanted),
         Err(no) => Err(no),
     }
 }
 
-fn is_no_file<F: Files>(alloc: Global, files: &mut F, name: &[u8]) -> bool {
-    read(alloc, files, name, 6, b"") == Err(ReadNo::Failed)
+/// Whether the file has three bytes, of which two are too few.
+fn is_read<F: Files>(alloc: Global, files: &mut F, name: &[u8]) -> bool {
+    read(alloc, files, name, 3, b"abc") == Ok(true)
+        && read(alloc, files, name, 2, b"abc") == Err(ReadNo::TooLong)
 }
 
-/// Whether the file has six bytes, of which five are too few, and a folder, an absent file, and a name that is no text
-/// are no files.
-fn are_read<F: Files>(alloc: Global, files: &mut F) -> bool {
-    read(alloc, files, SYSTEM, 6, b"Linux\n") == Ok(true)
-        && read(alloc, files, SYSTEM, 5, b"") == Err(ReadNo::TooLong)
-        && is_no_file(alloc, files, b"/proc/sys/kernel")
-        && is_no_file(alloc, files, b"/proc/sys/kernel/absent")
-        && is_no_file(alloc, files, b"\xff")
+fn is_no_file<F: Files>(alloc: Global, files: &mut F, name: &[u8]) -> bool {
+    read(alloc, files, name, 3, b"abc") == Err(ReadNo::Failed)
+}
+
+/// A name of no file.
+fn fresh_name(rt: &HostRuntime) -> Result<String, Fail> {
+    let now = SystemTime::now(rt)?.duration_since(UNIX_EPOCH)?;
+    let (seconds, nanos) = (now.as_secs(), now.subsec_nanos());
+    Ok(format!(in rt.alloc(); "/tmp/edge_io_{seconds}_{nanos}")?)
+}
+
+/// Whether a file of this name is read while it is there, and then no more.
+fn is_read_while_there(rt: &HostRuntime, name: &str) -> Result<bool, Fail> {
+    let mut files = HostFiles::new(rt);
+    fs::write(rt, name, "abc")?;
+    let there = is_read(rt.alloc(), &mut files, name.as_bytes());
+    fs::remove_file(rt, name)?;
+    Ok(there && is_no_file(rt.alloc(), &mut files, name.as_bytes()))
+}
+
+/// Whether a folder is no file, nor a name that is no text.
+fn are_no_files(rt: &HostRuntime) -> bool {
+    let mut files = HostFiles::new(rt);
+    is_no_file(rt.alloc(), &mut files, b"/tmp") && is_no_file(rt.alloc(), &mut files, b"\xff")
 }
 
 #[test]
-fn reads_from_the_host(rt: HostRuntime) {
-    assert!(rt; are_read(rt.alloc(), &mut HostFiles::new(&rt)));
+fn reads_from_the_host(rt: HostRuntime) -> Result<(), Fail> {
+    let name = fresh_name(&rt)?;
+    assert!(rt; is_read_while_there(&rt, name.as_str())?);
+    assert!(rt; are_no_files(&rt));
+    Ok(())
 }
 
 /// A writer with one quirk, which takes two bytes a call into a vector.
@@ -103,10 +119,7 @@ fn write(bytes: &mut Vec<u8>, quirk: Quirk) -> Result<(), WriteNo> {
 /// Whether a whole write by a writer with a quirk ends so.
 fn is_written(alloc: Global, quirk: Quirk, wanted: &Result<(), WriteNo>, taken: &[u8]) -> bool {
     let mut bytes = Vec::new(alloc);
-    let ended = write(&mut bytes, quirk) == *wanted;
-    let right = ended && bytes.as_slice() == taken;
-    drop(bytes);
-    right
+    write(&mut bytes, quirk) == *wanted && bytes.as_slice() == taken
 }
 
 #[test]
