@@ -1,4 +1,4 @@
-use Rattle.std.proofs.Common.{Some, ap, refl, ◌+◌, ◌∙◌}
+use Rattle.std.proofs.Common.{rules, Some, ap, refl, ◌+◌, ◌∙◌}
 use Rattle.std.proofs.lemmas.List.{length_push}
 use Rattle.crew_run.proofs.Places.{each_push}
 use Rattle.machine_run.proofs.GateLemmas.{new_can_tell}
@@ -12,3 +12,6 @@ gates-preserved c =
 
 pub returns-clause-tell : goal.returns-clause-tell
 returns-clause-tell c = λ i gate at. new_can_tell gate (c.gates.invariant.1 i gate at)
+
+pub returns-clause-count : goal.returns-clause-count
+returns-clause-count c = search rules

@@ -1,4 +1,4 @@
-use Rattle.std.proofs.Common.{arith, sym, ◌∙◌}
+use Rattle.std.proofs.Common.{rules, arith, sym, ◌∙◌}
 use Rattle.std.proofs.lemmas.Option.{slice_get-get_or}
 use Rattle.machine_run.specs.code.Moves.{HasGoneOn}
 use Rattle.machine_run.proofs.MoveLemmas.{first_all, first_more}
@@ -16,3 +16,6 @@ members-preserved c =
 
 pub returns : goal.returns
 returns c = first_all HasGoneOn c.args.members.now c.members.k c.members.members c.members.invariant (omega (arith, c.members-test.false))
+
+pub members-init : goal.members-init
+members-init c = search rules
