@@ -41,7 +41,11 @@ pub fn fault<'a, R: Threads + Sync, F: Files>(
         Err(no) => return Err(no),
     };
     match ranked(alloc, net, &timing) {
-        Ok(design) => faults_of(rt, alloc, files, words, &timing, &design),
+        Ok(design) => {
+            let listed = faults_of(rt, alloc, files, words, &timing, &design);
+            drop(design);
+            listed
+        }
         Err(no) => Err(no),
     }
 }

@@ -177,7 +177,10 @@ fn pack_kept<'a, R: Threads + Wait + Sync, G: Gate + Send>(
             Ok(traces) => Ok(Output::Lanes(traces)),
             Err(Memory) => Err(Refusal::Memory),
         },
-        Err(no) => Err(no),
+        Err(no) => {
+            drop(built);
+            Err(no)
+        }
     }
 }
 
@@ -204,7 +207,14 @@ fn lane_traces<R: Threads + Wait + Sync, G: Gate + Send>(
     ensures in_place { AreInPlace gates.old gates.new }
 {
     let Built { net, image } = built;
-    let (line, mark) = line_room(alloc, &net)?;
+    let (line, mark) = match line_room(alloc, &net) {
+        Ok(room) => room,
+        Err(no) => {
+            drop(net);
+            drop(image);
+            return Err(no);
+        }
+    };
     let rows = run_pack(rt, alloc, &image, lanes, words.workers, gates);
     drop(image);
     match rows {
@@ -214,7 +224,12 @@ fn lane_traces<R: Threads + Wait + Sync, G: Gate + Send>(
             line,
             mark,
         }),
-        Err(no) => Err(no),
+        Err(no) => {
+            drop(net);
+            drop(line);
+            drop(mark);
+            Err(no)
+        }
     }
 }
 

@@ -89,7 +89,20 @@ fn printed(
     ensures writable { IfOk result CanPrint }
 {
     let Design { net, order } = design;
-    let line = TraceLine::new(alloc, &net)?;
-    let rows = refer_in_order(alloc, &net, timing, stimulus, order)?;
-    Ok(Trace { net, rows, line })
+    let line = match TraceLine::new(alloc, &net) {
+        Ok(line) => line,
+        Err(no) => {
+            drop(net);
+            drop(order);
+            return Err(no);
+        }
+    };
+    match refer_in_order(alloc, &net, timing, stimulus, order) {
+        Ok(rows) => Ok(Trace { net, rows, line }),
+        Err(no) => {
+            drop(net);
+            drop(line);
+            Err(no)
+        }
+    }
 }

@@ -213,7 +213,10 @@ fn in_rounds<'a>(
             Ok(trace) => Ok(Output::Trace(trace)),
             Err(Memory) => Err(Refusal::Memory),
         },
-        Err(no) => Err(no),
+        Err(no) => {
+            drop(built);
+            Err(no)
+        }
     }
 }
 
@@ -241,11 +244,17 @@ fn in_order<'a, F: Files>(
 {
     match few_cells(&built.net, stimulus) {
         Ok(()) => {}
-        Err(no) => return Err(no),
+        Err(no) => {
+            drop(built);
+            return Err(no);
+        }
     }
     let order = match order_in(alloc, files, file, machine) {
         Ok(order) => order,
-        Err(no) => return Err(no),
+        Err(no) => {
+            drop(built);
+            return Err(no);
+        }
     };
     match by_order(alloc, words, machine, timing, built, stimulus, &order) {
         Ok(output) => Ok(output),

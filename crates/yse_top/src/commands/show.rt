@@ -27,7 +27,9 @@ pub fn show<'a, F: Files>(
         Ok(net) => net,
         Err(no) => return Err(no),
     };
-    match canonical_text(alloc, &net) {
+    let text = canonical_text(alloc, &net);
+    drop(net);
+    match text {
         Ok(text) => Ok(Output::Text(text)),
         Err(Memory) => Err(Refusal::Memory),
     }

@@ -88,13 +88,21 @@ pub fn by_workers<R: Threads + Wait + Sync, O: Sink, G: Gate + Send>(
         words.workers,
         gates,
         out,
-    )?;
-    Ok(Written {
-        net,
-        image,
-        stimulus,
-        wrote,
-    })
+    );
+    match wrote {
+        Ok(wrote) => Ok(Written {
+            net,
+            image,
+            stimulus,
+            wrote,
+        }),
+        Err(no) => {
+            drop(net);
+            drop(image);
+            drop(stimulus);
+            Err(no)
+        }
+    }
 }
 
 /// The trace of an image under a stimulus: all ports step, round after round, until they are done.
@@ -113,13 +121,23 @@ pub fn by_rounds(
     ensures printed { IfOk result (λ trace. IsTrace built.net timing.now stimulus.now (trace_bytes trace)) }
     ensures writable { IfOk result CanPrint }
 {
-    let line = TraceLine::new(alloc, &built.net)?;
+    let line = match TraceLine::new(alloc, &built.net) {
+        Ok(line) => line,
+        Err(no) => {
+            drop(built);
+            return Err(no);
+        }
+    };
     let rows = rows_by_rounds(alloc, words, timing, &built, stimulus);
     let Built { net, image } = built;
     drop(image);
     match rows {
         Ok(rows) => Ok(Trace { net, rows, line }),
-        Err(no) => Err(no),
+        Err(no) => {
+            drop(net);
+            drop(line);
+            Err(no)
+        }
     }
 }
 
@@ -164,13 +182,23 @@ pub fn by_order(
     ensures ended { IfOk result (λ output. EndsInOrder order.now words.now.banks words.now.homes built.net _machine.now timing.now stimulus.now (ended_with output)) }
     ensures writable { IfOk result CanWrite }
 {
-    let line = TraceLine::new(alloc, &built.net)?;
+    let line = match TraceLine::new(alloc, &built.net) {
+        Ok(line) => line,
+        Err(no) => {
+            drop(built);
+            return Err(no);
+        }
+    };
     let made = rows_by_order(alloc, words, timing, &built, stimulus, order);
     let Built { net, image } = built;
     drop(image);
     let (rows, ending) = match made {
         Ok(made) => made,
-        Err(no) => return Err(no),
+        Err(no) => {
+            drop(net);
+            drop(line);
+            return Err(no);
+        }
     };
     let trace = Trace { net, rows, line };
     match ending {

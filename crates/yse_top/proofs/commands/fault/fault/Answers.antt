@@ -29,4 +29,4 @@ returns-in-Ok-ranked-clause-expected g c =
     let then = AfterStimulus words.stimulus net (ListsFaults net timing) in
     design_on _ _ words (FaultsIn words.stimulus) c.in-Ok.timed _ _ _ _ _ _ c.in-Ok.ensures.same_names c.in-Ok.ensures.same_bytes c.in-Ok.ensures.step
     (follows_on _ _ (HasNoLoop net timing) (λ passed. After (HasFewSignals net) (λ few. then)) tt _ _ _ c.in-Ok-ranked.ensures.acyclic
-    (rw same at c.faults_of.ensures.expected))
+    (rw same at c.faults_of-listed.ensures.expected))

@@ -12,10 +12,10 @@ returns-in-Ok-lane_traces-clause-expected g c =
     (machine_ports c.args.words.now.homes c.args.built.net c.args._machine.now c.args.timing.now c.args.built.image c.requires.made) c.in-Ok-lane_traces.ensures.visits in
     lanes_done g.G.Gate c.args.gates.now c.lane_traces.new.gates c.args.words.now c.args._machine.now c.args.timing.now c.args.built.net c.args.lanes.now _ c.in-Ok.ensures c.in-Ok-lane_traces.ensures.printed visits
 
-pub returns-in-Ok-clause-expected : goal.returns-in-Ok-clause-expected
-returns-in-Ok-clause-expected g c =
+pub returns-in-Err-lane_traces-clause-expected : goal.returns-in-Err-lane_traces-clause-expected
+returns-in-Err-lane_traces-clause-expected g c =
     lanes_full g.G.Gate c.args.gates.now c.lane_traces.new.gates c.args.words.now c.args._machine.now c.args.timing.now c.args.built.net c.args.lanes.now c.in-Ok.ensures
 
-pub returns-clause-expected : goal.returns-clause-expected
-returns-clause-expected g c =
+pub returns-in-Err-clause-expected : goal.returns-in-Err-clause-expected
+returns-in-Err-clause-expected g c =
     lanes_many g.G.Gate c.args.gates.now c.args.gates.now c.args.words.now c.args._machine.now c.args.timing.now c.args.built.net c.args.lanes.now c.in-Err.no c.in-Err.ensures

@@ -20,17 +20,17 @@ returns-in-Err-clause-expected g c =
     let file = c.args.file.now in
     stopped _ _ (AfterNetlistFile file) (netlist_file_so file) net_then _ _ _ c.in-Err.ensures.step
 
-pub returns-in-Ok-canonical_text-clause-expected : goal.returns-in-Ok-canonical_text-clause-expected
+pub returns-in-Ok-text-clause-expected : goal.returns-in-Ok-text-clause-expected
 unfolding ExpectedShow
-returns-in-Ok-canonical_text-clause-expected g c =
+returns-in-Ok-text-clause-expected g c =
     let file = c.args.file.now in
     let net = c.in-Ok.net in
     passed_on _ _ (AfterNetlistFile file) (netlist_file_so file) net net_then _ _ _ _ _ _ c.in-Ok.ensures.same_names c.in-Ok.ensures.same_bytes c.in-Ok.ensures.step
-    (follows_here _ _ _ _ (net_then net) (refl, inl (_, c.in-Ok-canonical_text.ensures, refl)))
+    (follows_here _ _ _ _ (net_then net) (refl, inl (_, c.in-Ok-text.ensures, refl)))
 
-pub returns-clause-expected : goal.returns-clause-expected
+pub returns-in-Err-text-clause-expected : goal.returns-in-Err-text-clause-expected
 unfolding ExpectedShow
-returns-clause-expected g c =
+returns-in-Err-text-clause-expected g c =
     let file = c.args.file.now in
     let net = c.in-Ok.net in
     passed_on _ _ (AfterNetlistFile file) (netlist_file_so file) net net_then _ _ _ _ _ _ c.in-Ok.ensures.same_names c.in-Ok.ensures.same_bytes c.in-Ok.ensures.step

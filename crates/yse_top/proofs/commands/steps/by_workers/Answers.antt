@@ -3,11 +3,11 @@ use Rattle.yse_top.proofs.GateLemmas.{image_visits}
 use Rattle.yse_top.proofs.ShownLemmas.{run_trace}
 use Rattle.yse_top.proofs.commands.steps.by_workers.Goals as goal
 
-pub returns-clause-printed : goal.returns-clause-printed
-returns-clause-printed g c =
+pub returns-in-Ok-clause-printed : goal.returns-in-Ok-clause-printed
+returns-in-Ok-clause-printed g c =
     run_trace c.args.built.net c.args._timing.now c.args.stimulus c.args.built.image c.requires.image
 
-pub returns-clause-visits : goal.returns-clause-visits
-returns-clause-visits g c =
+pub returns-in-Ok-clause-visits : goal.returns-in-Ok-clause-visits
+returns-in-Ok-clause-visits g c =
     image_visits g.G.Gate c.args.built.net c.args._timing.now c.args.stimulus c.args.built.image c.requires.image
-    c.args.words.now.workers c.args.gates.now _ _ c.in_ok-wrote.ensures.visits
+    c.args.words.now.workers c.args.gates.now _ _ c.in-Ok.ensures.visits
