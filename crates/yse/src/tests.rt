@@ -192,6 +192,42 @@ fn call<R: Threads + Wait + Sync, G: Gate + Send>(
     yse(rt, alloc, words, files, out, err, gates).number()
 }
 
+/// What comes of a call over a store.
+fn end_over<R: Threads + Wait + Sync, G: Gate + Send>(
+    rt: &R,
+    alloc: Global,
+    words: &[String],
+    files: &mut MemFiles,
+    edges: &Edges,
+    gates: &mut [Option<G>],
+) -> Result<Ended, Memory>
+    requires gates { MAX_WORKERS ≤ length gates.old }
+    requires tell { AllCanTell G.Gate.own gates.old }
+{
+    let mut sinks = sinks_of(alloc, edges)?;
+    let status = call(rt, alloc, words, files, &mut sinks, gates);
+    let Sinks { out, err } = sinks;
+    Ok(Ended { status, out, err })
+}
+
+/// What comes of a call with these words over files with these texts.
+fn end_by<R: Threads + Wait + Sync, G: Gate + Send>(
+    rt: &R,
+    alloc: Global,
+    words: &[String],
+    texts: &Texts<'_>,
+    edges: &Edges,
+    gates: &mut [Option<G>],
+) -> Result<Ended, Memory>
+    requires gates { MAX_WORKERS ≤ length gates.old }
+    requires tell { AllCanTell G.Gate.own gates.old }
+{
+    let mut files = store(alloc, texts, edges)?;
+    let ended = end_over(rt, alloc, words, &mut files, edges, gates);
+    drop(files);
+    ended
+}
+
 /// What comes of a call with the words of these lines over these files, with gates that are handed in.
 fn end_with<R: Threads + Wait + Sync, G: Gate + Send>(
     rt: &R,
@@ -205,14 +241,9 @@ fn end_with<R: Threads + Wait + Sync, G: Gate + Send>(
     requires tell { AllCanTell G.Gate.own gates.old }
 {
     let words = words_of(alloc, lines)?;
-    let mut files = store(alloc, texts, edges)?;
-    let mut sinks = sinks_of(alloc, edges)?;
-    let status = call(rt, alloc, words.as_slice(), &mut files, &mut sinks, gates);
-    Ok(Ended {
-        status,
-        out: sinks.out,
-        err: sinks.err,
-    })
+    let ended = end_by(rt, alloc, words.as_slice(), texts, edges, gates);
+    drop(words);
+    ended
 }
 
 /// The same with gates that only count.
@@ -224,7 +255,9 @@ fn end_of<R: Threads + Wait + Sync>(
     edges: &Edges,
 ) -> Result<Ended, Memory> {
     let mut gates = count_gates(alloc, GATES)?;
-    end_with(rt, alloc, lines, texts, edges, gates.as_mut_slice())
+    let ended = end_with(rt, alloc, lines, texts, edges, gates.as_mut_slice());
+    drop(gates);
+    ended
 }
 
 fn has_ended(ended: &Ended, status: u8, output: &[u8], line: &[u8]) -> bool {
@@ -241,7 +274,11 @@ fn ends<R: Threads + Wait + Sync>(
     wanted: (u8, &[u8], &[u8]),
 ) -> bool {
     match end_of(rt, alloc, lines, texts, edges) {
-        Ok(ended) => has_ended(&ended, wanted.0, wanted.1, wanted.2),
+        Ok(ended) => {
+            let right = has_ended(&ended, wanted.0, wanted.1, wanted.2);
+            drop(ended);
+            right
+        }
         Err(_) => false,
     }
 }
@@ -334,7 +371,9 @@ fn ends_with_comment<R: Threads + Wait + Sync>(
 ) -> Result<bool, Memory> {
     let comment = List::filled(alloc, b'#', bytes)?;
     let texts: Texts<'_> = [comment.as_slice(), b"", b"", b""];
-    Ok(ends(rt, alloc, &["refer", FILES], &texts, &EASY, wanted))
+    let right = ends(rt, alloc, &["refer", FILES], &texts, &EASY, wanted);
+    drop(comment);
+    Ok(right)
 }
 
 /// A text of 67,108,864 bytes is read, and one of a byte more is refused.
@@ -345,35 +384,63 @@ fn texts_have_a_most(rt: HostRuntime) {
     assert!(rt; ends_with_comment(&rt, rt.alloc(), 67_108_865, (10, b"", line)) == Ok(true));
 }
 
-/// The number of the status of a call over a store in which each name is there, and sinks that take all. None of them can
-/// fail.
+/// A store in which each name is there, of which the netlist has this text.
+fn plain_store(alloc: Global, netlist: &str) -> Result<PlainFiles, Memory> {
+    let mut list = List::new(alloc);
+    push_file(alloc, &mut list, "net.bench", netlist.as_bytes())?;
+    Ok(PlainFiles::new(list))
+}
+
+/// The number of the status of a call over such a store, and sinks that take all. None of them can fail.
+fn plain_call<R: Threads + Wait + Sync>(
+    rt: &R,
+    alloc: Global,
+    words: &[String],
+    files: &mut PlainFiles,
+) -> Result<u8, Memory> {
+    let mut gates = count_gates(alloc, GATES)?;
+    let (mut out, mut err) = (NullSink::new(), NullSink::new());
+    let status = yse(
+        rt,
+        alloc,
+        words,
+        files,
+        &mut out,
+        &mut err,
+        gates.as_mut_slice(),
+    );
+    drop(gates);
+    Ok(status.number())
+}
+
+/// The same over a store that is made for it.
 fn plain_status<R: Threads + Wait + Sync>(
+    rt: &R,
+    alloc: Global,
+    words: &[String],
+    netlist: &str,
+) -> Result<u8, Memory> {
+    let mut files = plain_store(alloc, netlist)?;
+    let status = plain_call(rt, alloc, words, &mut files);
+    drop(files);
+    status
+}
+
+/// Whether a call with the words of a line ends so with status 0.
+fn is_plainly_done<R: Threads + Wait + Sync>(
     rt: &R,
     alloc: Global,
     line: &str,
     netlist: &str,
-) -> Result<u8, Memory> {
+) -> Result<bool, AllocError> {
     let words = words_of(alloc, &[line])?;
-    let mut list = List::new(alloc);
-    push_file(alloc, &mut list, "net.bench", netlist.as_bytes())?;
-    let mut gates = count_gates(alloc, GATES)?;
-    let mut files = PlainFiles::new(list);
-    let (mut out, mut err) = (NullSink::new(), NullSink::new());
-    let gates = gates.as_mut_slice();
-    Ok(yse(
-        rt,
-        alloc,
-        words.as_slice(),
-        &mut files,
-        &mut out,
-        &mut err,
-        gates,
-    )
-    .number())
+    let status = plain_status(rt, alloc, words.as_slice(), netlist);
+    drop(words);
+    Ok(status == Ok(0))
 }
 
 /// The stimulus, which isn't in the list, is an empty file.
 #[test]
 fn plain_files_and_sinks_serve(rt: HostRuntime) {
-    assert!(rt; plain_status(&rt, rt.alloc(), "run net.bench net.stim", C17) == Ok(0));
+    assert!(rt; is_plainly_done(&rt, rt.alloc(), "run net.bench net.stim", C17) == Ok(true));
 }

@@ -30,7 +30,9 @@ fn agrees<R: Threads + Wait + Sync>(rt: &R, alloc: Global, rows: &str) -> Result
     let texts = texts_of(C17, rows);
     let reference = end_of(rt, alloc, &["refer", FILES], &texts, &EASY)?;
     let agreed = all_print(rt, alloc, FEW_RUNS, FILES, &texts, reference.out.taken());
-    Ok(reference.status == 0 && agreed)
+    let right = reference.status == 0 && agreed;
+    drop(reference);
+    Ok(right)
 }
 
 #[test]
@@ -61,7 +63,9 @@ fn is_cut_off<R: Threads + Wait + Sync>(rt: &R, alloc: Global, output: &[u8]) ->
 fn has_one_block<R: Threads + Wait + Sync>(rt: &R, alloc: Global) -> Result<bool, Memory> {
     let texts = texts_of(C17, "11111 * 4096\n");
     let whole = end_of(rt, alloc, &["run", FILES], &texts, &EASY)?;
-    Ok(whole.status == 0 && is_cut_off(rt, alloc, whole.out.taken()))
+    let right = whole.status == 0 && is_cut_off(rt, alloc, whole.out.taken());
+    drop(whole);
+    Ok(right)
 }
 
 /// A sink that fails at the first row of the second block has the header and the rows of the first one.
@@ -125,7 +129,9 @@ fn many_are_run<R: Threads + Wait + Sync>(rt: &R, alloc: Global) -> Result<bool,
     )?;
     let taken = ended.out.taken();
     let size = taken.len();
-    Ok(ended.status == 0 && size == 8_888_905 && taken.ends_with(b"\n1000000 0\n"))
+    let right = ended.status == 0 && size == 8_888_905 && taken.ends_with(b"\n1000000 0\n");
+    drop(ended);
+    Ok(right)
 }
 
 /// A run has no limit on cells, and the reference has one.

@@ -302,7 +302,9 @@ fn status_of_show<R: Threads + Wait + Sync>(
         &[netlist, b"", b"", b""],
         &EASY,
     )?;
-    Ok(ended.status)
+    let status = ended.status;
+    drop(ended);
+    Ok(status)
 }
 
 /// Whether a text that begins with inputs of so many bytes, cut off behind so many, is shown if it is a netlist, and
@@ -354,7 +356,9 @@ fn tells<R: Threads + Wait + Sync>(
     wanted: (u8, &[u8]),
 ) -> Result<bool, Memory> {
     let ended = end_of(rt, alloc, &[call], &[netlist, b"", b"", b""], edges)?;
-    Ok(ended.status == wanted.0 && ended.err.taken() == wanted.1)
+    let right = ended.status == wanted.0 && ended.err.taken() == wanted.1;
+    drop(ended);
+    Ok(right)
 }
 
 fn push_times(text: &mut Text, piece: &str, times: u32) -> Result<(), Memory> {
@@ -404,7 +408,9 @@ fn is_shown<R: Threads + Wait + Sync>(rt: &R, alloc: Global, much: &Much) -> Res
     push_times(&mut text, much.1, much.2)?;
     push_times(&mut text, much.3, 1)?;
     let wanted = (much.4, much.5.as_bytes());
-    tells(rt, alloc, "show net.bench", text.as_bytes(), &EASY, wanted)
+    let right = tells(rt, alloc, "show net.bench", text.as_bytes(), &EASY, wanted);
+    drop(text);
+    right
 }
 
 #[test]

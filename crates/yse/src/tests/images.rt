@@ -385,14 +385,10 @@ fn is_run_by_all<R: Threads + Wait + Sync>(
 ) -> Result<bool, Memory> {
     let compiled = compile_of(rt, alloc, design)?;
     let texts = texts_with(design, compiled.out.taken());
-    Ok(all_print(
-        rt,
-        alloc,
-        EXECS,
-        design.exec,
-        &texts,
-        design.trace.as_bytes(),
-    ))
+    let trace = design.trace.as_bytes();
+    let printed = all_print(rt, alloc, EXECS, design.exec, &texts, trace);
+    drop(compiled);
+    Ok(printed)
 }
 
 const DESIGNS: &[Design] = &[BUFFER, GATES_ALONE, REGISTERS, MEMORY, WIDE_GATE, LOOP];
@@ -417,11 +413,13 @@ fn is_harmless<R: Threads + Wait + Sync>(
 ) -> Result<bool, Memory> {
     let lines = ["exec --workers 1", design.exec];
     let ended = end_of(rt, alloc, &lines, &texts_with(design, image), &EASY)?;
-    Ok(match ended.status {
+    let harmless = match ended.status {
         0 => ended.out.taken() == design.trace.as_bytes(),
         14 | 15 => ended.out.taken().is_empty(),
         _ => false,
-    })
+    };
+    drop(ended);
+    Ok(harmless)
 }
 
 /// The same of the parts of a text.
@@ -435,7 +433,9 @@ fn are_harmless<R: Threads + Wait + Sync>(
     for part in parts {
         text.push_bytes(part)?;
     }
-    is_harmless(rt, alloc, design, text.as_bytes())
+    let harmless = is_harmless(rt, alloc, design, text.as_bytes());
+    drop(text);
+    harmless
 }
 
 /// The places of a text from which on and up to which its line `nth`, counted from 0, stands with its end.
@@ -516,7 +516,9 @@ fn is_harmless_with<R: Threads + Wait + Sync>(
     rest: &[u8],
 ) -> Result<bool, Memory> {
     let digits = format!(in alloc; "{value}")?;
-    are_harmless(rt, alloc, design, &[front, digits.as_bytes(), rest])
+    let harmless = are_harmless(rt, alloc, design, &[front, digits.as_bytes(), rest]);
+    drop(digits);
+    harmless
 }
 
 /// Whether a design's image is harmless with the number at these places one more, or one less.
@@ -588,7 +590,9 @@ fn withstands<R: Threads + Wait + Sync>(
 ) -> Result<bool, Memory> {
     let compiled = compile_of(rt, alloc, design)?;
     let harmless = is_harmless_changed(rt, alloc, design, compiled.out.taken(), change);
-    Ok(compiled.status == 0 && harmless)
+    let right = compiled.status == 0 && harmless;
+    drop(compiled);
+    Ok(right)
 }
 
 const CHANGES: &[(Design, Change)] = &[

@@ -174,7 +174,9 @@ fn print_in_drawn_order<R: Threads + Wait + Sync>(
         TWO_LOGIC.as_bytes(),
         order.as_bytes(),
     ];
-    Ok(all_print(rt, alloc, BANKS, ORDERED, &texts, output))
+    let printed = all_print(rt, alloc, BANKS, ORDERED, &texts, output);
+    drop(order);
+    Ok(printed)
 }
 
 /// Whether they print what the reference simulation does.
@@ -192,7 +194,9 @@ fn print_the_reference<R: Threads + Wait + Sync>(
         &EASY,
     )?;
     let printed = print_in_drawn_order(rt, alloc, design, reference.out.taken());
-    Ok(reference.status == 0 && printed == Ok(true))
+    let right = reference.status == 0 && printed == Ok(true);
+    drop(reference);
+    Ok(right)
 }
 
 #[test]

@@ -154,7 +154,17 @@ fn push_trace<R: Threads + Wait + Sync>(
 ) -> Result<(), Memory> {
     let texts = texts_with(case, stimulus.as_bytes());
     let ended = end_of(rt, alloc, &["refer", case.words], &texts, &EASY)?;
-    text.push_bytes(ended.out.taken())
+    let pushed = text.push_bytes(ended.out.taken());
+    drop(ended);
+    pushed
+}
+
+/// Adds the line that begins a lane, with its number.
+fn push_mark(alloc: Global, text: &mut Text, lane: usize) -> Result<(), Memory> {
+    let mark = format!(in alloc; "lane {lane}\n")?;
+    let pushed = text.push_bytes(mark.as_bytes());
+    drop(mark);
+    pushed
 }
 
 /// What the lanes are to print: of each its number, and what `refer` prints of its stimulus.
@@ -165,8 +175,7 @@ fn references<R: Threads + Wait + Sync>(
 ) -> Result<Text, Memory> {
     let mut text = Text::new(alloc);
     for n in 0..case.lanes.len() {
-        let number = format!(in alloc; "lane {}\n", n + 1)?;
-        text.push_bytes(number.as_bytes())?;
+        push_mark(alloc, &mut text, n + 1)?;
         push_trace(rt, alloc, &mut text, case, case.lanes[n])?;
     }
     Ok(text)
@@ -174,16 +183,30 @@ fn references<R: Threads + Wait + Sync>(
 
 const CALLS: &str = "pack --workers 1|pack --workers 7|pack --workers 2 --machine net.machine";
 
+/// Whether each call prints this of the lanes of a case.
+fn print_lanes<R: Threads + Wait + Sync>(
+    rt: &R,
+    alloc: Global,
+    case: &PackCase,
+    wanted: &[u8],
+) -> Result<bool, Memory> {
+    let lanes = lanes_text(alloc, case.lanes)?;
+    let texts = texts_with(case, lanes.as_bytes());
+    let printed = all_print(rt, alloc, CALLS, case.words, &texts, wanted);
+    drop(lanes);
+    Ok(printed)
+}
+
 /// Whether each call prints the references of a case.
 fn print_references<R: Threads + Wait + Sync>(
     rt: &R,
     alloc: Global,
     case: &PackCase,
 ) -> Result<bool, Memory> {
-    let lanes = lanes_text(alloc, case.lanes)?;
     let wanted = references(rt, alloc, case)?;
-    let texts = texts_with(case, lanes.as_bytes());
-    Ok(all_print(rt, alloc, CALLS, case.words, &texts, wanted.as_bytes()))
+    let printed = print_lanes(rt, alloc, case, wanted.as_bytes());
+    drop(wanted);
+    printed
 }
 
 #[test]

@@ -5,7 +5,7 @@ ghost use Rattle.crew_run.specs.Crews.{CanTell};
 ghost use Rattle.std.specs.Prelude.{All, IfOk, Option, Some, length, slice_get, true, ℕ, ◌+◌, ◌<◌, ◌^◌, ◌≡◌, ◌≤◌};
 
 use super::{
-    C17, Case, EASY, Edges, FILES, GATES, RUNS, S27, Texts, all_end, end_of, end_with, four,
+    C17, Case, EASY, Edges, Ended, FILES, GATES, RUNS, S27, Texts, all_end, end_of, end_with, four,
     has_ended, texts_of,
 };
 use crew_run::{CountGate, Gate};
@@ -225,6 +225,18 @@ type Finding = (bool, (bool, bool), (bool, bool));
 /// What is watched, the words of a call, its netlist, its stimulus or lanes, its machine, and its trace.
 type Watching = (Watch, &'static str, [&'static str; 3], &'static str);
 
+/// Whether a call ended with this output and with nothing else.
+fn has_printed(ended: Result<Ended, Memory>, output: &str) -> bool {
+    match ended {
+        Ok(ended) => {
+            let right = has_ended(&ended, 0, output.as_bytes(), b"");
+            drop(ended);
+            right
+        }
+        Err(_) => false,
+    }
+}
+
 /// The call of a row, whose file `net.more` has these bytes.
 fn watched<R: Threads + Wait + Sync>(
     rt: &R,
@@ -241,13 +253,11 @@ fn watched<R: Threads + Wait + Sync>(
     );
     let shared = Shared::new();
     let mut gates = watch_gates(alloc, row.0, &shared)?;
-    let ended = end_with(rt, alloc, &[row.1], &texts, &EASY, gates.as_mut_slice())?;
-    let gates = gates.as_slice();
-    Ok((
-        has_ended(&ended, 0, row.3.as_bytes(), b""),
-        held(gates.first()),
-        held(gates.get(1)),
-    ))
+    let ended = end_with(rt, alloc, &[row.1], &texts, &EASY, gates.as_mut_slice());
+    let one = held(gates.as_slice().first());
+    let two = held(gates.as_slice().get(1));
+    drop(gates);
+    Ok((has_printed(ended, row.3), one, two))
 }
 
 /// A machine of two logic processors and no array processor, where the second of two workers has the second of
@@ -357,7 +367,9 @@ fn watched_image<R: Threads + Wait + Sync>(rt: &R, alloc: Global) -> Result<Find
     let compile = ["compile net.bench --machine net.machine"];
     let texts: Texts<'_> = [C17.as_bytes(), b"", TWO_LOGIC.as_bytes(), b""];
     let compiled = end_of(rt, alloc, &compile, &texts, &EASY)?;
-    watched(rt, alloc, &OF_IMAGE, compiled.out.taken())
+    let found = watched(rt, alloc, &OF_IMAGE, compiled.out.taken());
+    drop(compiled);
+    found
 }
 
 /// A worker that runs an image from a file waits as one that runs what was compiled.
@@ -380,14 +392,19 @@ fn turns_told<R: Threads + Wait + Sync>(
     let texts = texts_of(C17, "11111 * 8193\n");
     let shared = Shared::new();
     let mut gates = watch_gates(alloc, Watch::Nothing, &shared)?;
-    end_with(
+    let ended = end_with(
         rt,
         alloc,
         &["run", FILES],
         &texts,
         &edges,
         gates.as_mut_slice(),
-    )?;
+    );
+    drop(gates);
+    match ended {
+        Ok(ended) => drop(ended),
+        Err(no) => return Err(no),
+    }
     Ok(shared.told.load(Ordering::SeqCst))
 }
 
