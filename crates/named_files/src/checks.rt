@@ -26,7 +26,7 @@ use seen_list::List;
 use std::alloc::Global;
 use stim_text::{Lanes, Order, read_lanes, read_order, read_stim};
 use yse_compile::inputs::same_inputs;
-use yse_compile::{Chosen, CompNo, compile_with};
+use yse_compile::{Chosen, CompNo, Compiled, compile_with};
 
 /// A netlist, and an order of its gates.
 #[derive(Drop)]
@@ -127,7 +127,10 @@ pub fn ordered<'a>(alloc: Global, net: Netlist, timing: &Timing) -> Result<Desig
     match order(alloc, &net, timing) {
         Ok(order) => Ok(Design { net, order }),
         Err(RankNo::Loop(members)) => Err(Refusal::Loop(net, members)),
-        Err(RankNo::Memory) => Err(Refusal::Memory),
+        Err(RankNo::Memory) => {
+            drop(net);
+            Err(Refusal::Memory)
+        }
     }
 }
 
@@ -195,7 +198,10 @@ fn of_design<'a>(
             };
             Refusal::Overfull(net, no)
         }
-        CompNo::Memory => Refusal::Memory,
+        CompNo::Memory => {
+            drop(net);
+            Refusal::Memory
+        }
         CompNo::Nodes { needed, limit } => Refusal::Overfull(net, CompNo::Nodes { needed, limit }),
     }
 }
@@ -230,11 +236,18 @@ pub fn built_of(planned: Planned) -> Built
     ensures { result ≡ record { net = planned.net; image = planned.chosen.compiled.image } }
 {
     let Planned { net, chosen } = planned;
-    let compiled = chosen.compiled;
-    Built {
-        net,
-        image: compiled.image,
-    }
+    let Compiled {
+        image,
+        nodes,
+        homes,
+        plan,
+        switch,
+    } = chosen.compiled;
+    drop(nodes);
+    drop(homes);
+    drop(plan);
+    drop(switch);
+    Built { net, image }
 }
 
 /// Whether there are not too many cells.
@@ -286,7 +299,10 @@ pub fn ranked<'a>(alloc: Global, net: Netlist, timing: &Timing) -> Result<WithRa
     match rank(alloc, &net, timing) {
         Ok(ranks) => Ok(WithRanks { net, ranks }),
         Err(RankNo::Loop(members)) => Err(Refusal::Loop(net, members)),
-        Err(RankNo::Memory) => Err(Refusal::Memory),
+        Err(RankNo::Memory) => {
+            drop(net);
+            Err(Refusal::Memory)
+        }
     }
 }
 

@@ -39,12 +39,22 @@ pub fn items_of<'a>(alloc: Global, net: Netlist, timing: &Timing) -> Result<Mapp
     ensures looped { IfErr result (λ no. Refuses (HasNoLoop net timing.now) (refused_of no)) }
 {
     match rank(alloc, &net, timing) {
-        Ok(ranks) => match map_nodes(alloc, &net, &ranks, timing) {
-            Ok(nodes) => Ok(Mapped { net, nodes }),
-            Err(Memory) => Err(Refusal::Memory),
-        },
+        Ok(ranks) => {
+            let mapped = map_nodes(alloc, &net, &ranks, timing);
+            drop(ranks);
+            match mapped {
+                Ok(nodes) => Ok(Mapped { net, nodes }),
+                Err(Memory) => {
+                    drop(net);
+                    Err(Refusal::Memory)
+                }
+            }
+        }
         Err(RankNo::Loop(members)) => Err(Refusal::Loop(net, members)),
-        Err(RankNo::Memory) => Err(Refusal::Memory),
+        Err(RankNo::Memory) => {
+            drop(net);
+            Err(Refusal::Memory)
+        }
     }
 }
 

@@ -107,7 +107,10 @@ pub fn design_from<'a, F: Files>(
     };
     match timing_from(alloc, files, words, &net) {
         Ok(timing) => Ok(Timed { net, timing }),
-        Err(no) => Err(no),
+        Err(no) => {
+            drop(net);
+            Err(no)
+        }
     }
 }
 

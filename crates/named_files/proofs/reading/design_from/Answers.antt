@@ -36,9 +36,9 @@ returns-in-Err-clause-step g c =
     let words = c.args.words.now in
     first_stops _ _ (AfterNetlistFile words.netlist) (netlist_file_so words.netlist) (timing_then words) _ _ _ (rw c.as_bytes.ensures at c.in-Err.ensures.step)
 
-pub returns-clause-step : goal.returns-clause-step
+pub returns-in-Err-timing_from-clause-step : goal.returns-in-Err-timing_from-clause-step
 unfolding AfterNetlist
-returns-clause-step g c =
+returns-in-Err-timing_from-clause-step g c =
     let words = c.args.words.now in
     let net = c.in-Ok.net in
     both_pass _ _ (AfterNetlistFile words.netlist) (netlist_file_so words.netlist) (timing_then words) net _ _ _ _ _ _ c.in-Ok.ensures.same_names c.in-Ok.ensures.same_bytes (rw c.as_bytes.ensures at c.in-Ok.ensures.step)
