@@ -45,7 +45,16 @@ impl<'a> Given<'a> {
     pub fn into_settings(self) -> List<Setting>
         ensures { result ≡ self.entry.settings }
     {
-        self.settings
+        let Given {
+            settings,
+            functions,
+            nodes,
+            bits,
+        } = self;
+        drop(functions);
+        drop(nodes);
+        drop(bits);
+        settings
     }
 
     /// Adds a port that has its own limit, if it is new, and answers whether it was.
