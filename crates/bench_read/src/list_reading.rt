@@ -1,6 +1,6 @@
 //! The reader of the texts of lists of gates.
 
-ghost use Rattle.std.specs.Prelude.{◌≡◌, ◌≤◌, List as Items, [], ℕ, None, MatchResult, IfOk, length};
+ghost use Rattle.std.specs.Prelude.{◌≡◌, ◌≤◌, List as Items, [], ℕ, None, MatchResult, IfOk, OnOk, length, map};
 ghost use Rattle.limits.specs.declared.TheConstants.{MAX_SIGNALS, MAX_TEXT_BYTES};
 ghost use Rattle.text_lines.specs.Answers.{Answers};
 ghost use Rattle.text_lines.specs.Lines.{parts_of};
@@ -12,7 +12,7 @@ ghost use Rattle.bench_read.specs.code.GateLists.{AreMarks, marked};
 use crate::list_line::read_line;
 use crate::names::Names;
 use crate::refusal::LastNo;
-use net_defs::Netlist;
+use net_defs::{Netlist, Signal};
 use seen_list::{List, Memory};
 use std::alloc::Global;
 use text_lines::Lines;
@@ -84,10 +84,25 @@ fn signal_names(alloc: Global, net: &Netlist) -> Result<Names<'_>, Memory>
     ensures { IfOk result (λ names. names ≡ names_in net.now) }
 {
     let mut names = Names::new(alloc);
-    for signal in net.signals.as_slice() {
+    match add_names(net.signals.as_slice(), &mut names) {
+        Ok(()) => Ok(names),
+        Err(no) => {
+            drop(names);
+            Err(no)
+        }
+    }
+}
+
+/// Adds the names of the signals, in signal order, to no names.
+fn add_names<'a>(signals: &'a [Signal], names: &mut Names<'a>) -> Result<(), Memory>
+    requires differ { NamesDiffer signals.now }
+    requires none { names.old ≡ [] }
+    ensures { OnOk result (names.new ≡ map (λ signal. signal.name) signals.now) }
+{
+    for signal in signals {
         names.add(signal.name.as_bytes())?;
     }
-    Ok(names)
+    Ok(())
 }
 
 /// The places whose marks are set, in order.

@@ -1,6 +1,6 @@
 //! The netlist that the lines of a draft make.
 
-ghost use Rattle.std.specs.Prelude.{◌≡◌, ◌+◌, ◌<◌, ◌^◌, [], ◌∷◌, ◌++◌, map, take, drop, length, slice_index, IfOk, OnOk};
+ghost use Rattle.std.specs.Prelude.{◌≡◌, ◌+◌, ◌<◌, ◌^◌, [], ◌∷◌, ◌++◌, map, take, drop, length, slice_index, OnOk};
 ghost use Rattle.std.specs.List.{flat_map, range_with_len};
 ghost use Rattle.text_lines.specs.Answers.{Answers};
 ghost use Rattle.bench_read.specs.declared.refusal.BenchNo.TheVariants.{Memory as NoMemory};
@@ -23,29 +23,50 @@ pub fn make_netlist(alloc: Global, draft: &Draft) -> Result<Netlist, BenchNo>
     requires whole { IsWhole draft.now }
     ensures { Answers NoMemory result (uses_fault (placed_in draft.now)) (λ net. net ≡ netlist_of (lines_in draft.now)) }
 {
-    let signals = input_signals(alloc, draft)?;
-    let order = signal_numbers(alloc, draft, signals.len())?;
-    let uses = number_uses(alloc, draft, order.as_slice())?;
     let mut net = Netlist {
-        signals,
+        signals: List::new(alloc),
         printed: List::new(alloc),
         blocks: List::new(alloc),
     };
-    add_lines(alloc, draft, &mut net, uses.as_slice())?;
-    Ok(net)
-}
-
-/// The inputs in file order.
-fn input_signals(alloc: Global, draft: &Draft) -> Result<List<Signal>, Memory>
-    ensures { IfOk result (λ signals. signals ≡ map input_signal (flat_map input_names (lines_in draft.now))) }
-{
-    let mut signals = List::new(alloc);
-    'lines: for (_at, line) in DraftLines::new(draft) {
-        if let DraftLine::Input { name } = line {
-            push_signal(alloc, &mut signals, name, Driver::Input)?;
+    match fill_netlist(alloc, draft, &mut net) {
+        Ok(()) => Ok(net),
+        Err(no) => {
+            drop(net);
+            Err(no)
         }
     }
-    Ok(signals)
+}
+
+/// Adds all that the lines make to an empty netlist, or answers the refusal of the first use that no line drives.
+fn fill_netlist(alloc: Global, draft: &Draft, net: &mut Netlist) -> Result<(), BenchNo>
+    requires whole { IsWhole draft.now }
+    requires signals { net.old.signals ≡ [] }
+    requires printed { net.old.printed ≡ [] }
+    requires memories { net.old.blocks ≡ [] }
+    ensures { Answers NoMemory result (uses_fault (placed_in draft.now)) (λ _. net.new ≡ netlist_of (lines_in draft.now)) }
+{
+    add_inputs(alloc, draft, &mut net.signals)?;
+    let order = signal_numbers(alloc, draft, net.signals.len())?;
+    let uses = number_uses(alloc, draft, order.as_slice());
+    drop(order);
+    let uses = uses?;
+    let added = add_lines(alloc, draft, net, uses.as_slice());
+    drop(uses);
+    added?;
+    Ok(())
+}
+
+/// Adds the inputs in file order to no signals.
+fn add_inputs(alloc: Global, draft: &Draft, signals: &mut List<Signal>) -> Result<(), Memory>
+    requires { signals.old ≡ [] }
+    ensures { OnOk result (signals.new ≡ map input_signal (flat_map input_names (lines_in draft.now))) }
+{
+    'lines: for (_at, line) in DraftLines::new(draft) {
+        if let DraftLine::Input { name } = line {
+            push_signal(alloc, signals, name, Driver::Input)?;
+        }
+    }
+    Ok(())
 }
 
 /// Adds what the lines make beside inputs, whose uses have these numbers, to a netlist of the inputs.
@@ -98,11 +119,16 @@ fn push_signal(
 ) -> Result<(), Memory>
     ensures { OnOk result (signals.new ≡ signals.old ++ record { name = name.now; driver = driver } ∷ []) }
 {
-    signals.push(Signal {
-        name: Text::from_bytes(alloc, name)?,
-        driver,
-    })?;
-    Ok(())
+    match Text::from_bytes(alloc, name) {
+        Ok(name) => {
+            signals.push(Signal { name, driver })?;
+            Ok(())
+        }
+        Err(no) => {
+            drop(driver);
+            Err(no)
+        }
+    }
 }
 
 /// Adds a memory of so many address bits, and the signals that it drives.
@@ -121,10 +147,12 @@ fn add_memory(
     push_range(&mut numbers, net.signals.len(), outs.len())?;
     push_bits(alloc, &mut net.signals, net.blocks.len() as u32, outs)?;
     let (address, word) = others_of(uses).split_at(address.min(others_of(uses).len()));
+    let address = List::from_slice(alloc, address)?;
+    let word = List::from_slice(alloc, word)?;
     net.blocks.push(Block {
         we: first_of(uses),
-        address: List::from_slice(alloc, address)?,
-        word: List::from_slice(alloc, word)?,
+        address,
+        word,
         outs: numbers,
     })?;
     Ok(())

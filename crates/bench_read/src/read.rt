@@ -49,7 +49,9 @@ fn read_text(alloc: Global, bytes: &[u8]) -> Result<Netlist, BenchNo>
 {
     check_bytes(bytes)?;
     let draft = read_rows(alloc, bytes)?;
-    make_netlist(alloc, &draft)
+    let net = make_netlist(alloc, &draft);
+    drop(draft);
+    net
 }
 
 /// Refuses the first fault of the bytes.

@@ -29,10 +29,25 @@ pub fn read_rows<'a>(alloc: Global, text: &'a [u8]) -> Result<Draft<'a>, BenchNo
     ensures { Answers NoMemory result (rows_fault (rows_of text.now)) (IsDraftOf (rows_of text.now)) }
 {
     let mut draft = Draft::new(alloc);
-    'lines: for (at, part) in Lines::new(text) {
-        read_line(alloc, at, part, &mut draft)?;
+    match read_lines(alloc, text, &mut draft) {
+        Ok(()) => Ok(draft),
+        Err(no) => {
+            drop(draft);
+            Err(no)
+        }
     }
-    Ok(draft)
+}
+
+/// Adds what the lines of the text say to a draft of no lines, or answers the fault of the first line that has one.
+fn read_lines<'a>(alloc: Global, text: &'a [u8], draft: &mut Draft<'a>) -> Result<(), BenchNo>
+    requires short { length text.now < 2 ^ 32 }
+    requires none { Stores draft.old [] }
+    ensures { Answers NoMemory result (rows_fault (rows_of text.now)) (λ _. IsDraftOf (rows_of text.now) draft.new) }
+{
+    'lines: for (at, part) in Lines::new(text) {
+        read_line(alloc, at, part, draft)?;
+    }
+    Ok(())
 }
 
 /// Adds what one line says, if it says anything, or answers its fault.

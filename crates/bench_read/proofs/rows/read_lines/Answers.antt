@@ -3,7 +3,7 @@ use Rattle.bench_read.proofs.Common.{err_from_is_err_and, first-zero, rows_in, r
 use Rattle.bench_read.proofs.FirstLemmas.{first_stays}
 use Rattle.bench_read.proofs.RowLemmas.{rows_none}
 use Rattle.bench_read.proofs.DraftLemmas.{seam, read_all}
-use Rattle.bench_read.proofs.rows.read_rows.Goals as goal
+use Rattle.bench_read.proofs.rows.read_lines.Goals as goal
 
 pub lines-init : goal.lines-init
 unfolding rows_of rows_fault placed_of
@@ -11,7 +11,7 @@ lines-init c = record {
   done = [];
   rows = ap rows_in (sym (c.into_iter-at-iterator.ensures.into_iter_gives ∙ c.new-at-items.ensures));
   no_fault = first-zero _;
-  stores = c.new-draft.ensures;
+  stores = c.requires.none;
 }
 
 pub read_line-requires-clause-few : goal.read_line-requires-clause-few

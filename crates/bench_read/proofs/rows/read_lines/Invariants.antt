@@ -1,5 +1,5 @@
 use Rattle.bench_read.proofs.DraftLemmas.{HasRead}
-use Rattle.bench_read.proofs.rows.read_rows.Given as goal
+use Rattle.bench_read.proofs.rows.read_lines.Given as goal
 
 abbrev pub invariant-lines : goal.invariant-lines
 invariant-lines l = HasRead l.text l.at-iterator l.draft
