@@ -3,7 +3,7 @@
 //! many are seen.
 #![tactic(auto)]
 
-ghost use Rattle.std.specs.Prelude.{◌≡◌, ◌∷◌, [], ◌++◌, IfOk, OnOk, count_by, length, map};
+ghost use Rattle.std.specs.Prelude.{◌≡◌, ◌∷◌, [], ◌++◌, IfOk, OnOk, count_by, decimal, length, map};
 ghost use Rattle.net_defs.specs.Canonical.{name_of};
 ghost use Rattle.std.specs.List.{enumerate_from};
 ghost use Rattle.fault_lines.specs.Lines.{column_name, detected_line, fault_lines, is_detected, place_words, stuck_digit, verdict_line};
@@ -119,10 +119,16 @@ fn detected_line(alloc: Global, seen: usize, all: usize) -> Result<Text, Memory>
     ensures { IfOk result (λ line. line ≡ detected_line seen all) }
 {
     let mut line = Text::new(alloc);
-    line.push_bytes(b"detected ")?;
-    line.push_bytes(Buffer::new().format(seen).as_bytes())?;
-    line.push_bytes(b" of ")?;
-    line.push_bytes(Buffer::new().format(all).as_bytes())?;
+    push_count(&mut line, b"detected ", seen)?;
+    push_count(&mut line, b" of ", all)?;
     line.push_bytes(b"\n")?;
     Ok(line)
+}
+
+/// Adds a word and a number.
+fn push_count(line: &mut Text, word: &[u8], count: usize) -> Result<(), Memory>
+    ensures { OnOk result (line.new ≡ line.old ++ (word.now ++ decimal count)) }
+{
+    line.push_bytes(word)?;
+    line.push_bytes(Buffer::new().format(count).as_bytes())
 }

@@ -275,7 +275,10 @@ fn logic_with(tables: &mut List<Table>, tasks: &mut List<Task>, said: Line) -> R
     match said {
         Line::Table(table) => tables.push(table),
         Line::Work { task, item: _ } => tasks.push(task),
-        _ => Ok(()),
+        other => {
+            drop(other);
+            Ok(())
+        }
     }
 }
 
@@ -289,7 +292,10 @@ fn array_with(
     match said {
         Line::Block(block) => blocks.push(block),
         Line::Bit { bit, item: _ } => outs.push(bit),
-        _ => Ok(()),
+        other => {
+            drop(other);
+            Ok(())
+        }
     }
 }
 
@@ -303,6 +309,9 @@ fn host_with(
     match said {
         Line::Input { input, item: _ } => inputs.push(input),
         Line::Print(source) => printed.push(source),
-        _ => Ok(()),
+        other => {
+            drop(other);
+            Ok(())
+        }
     }
 }

@@ -146,10 +146,9 @@ fn block_of(
     if address as usize + word as usize != others.len() {
         return Ok(None);
     }
-    let work = BlockWork {
-        we: *we,
-        address: List::from_slice(alloc, &others[..address as usize])?,
-        word: List::from_slice(alloc, &others[address as usize..])?,
-    };
-    Ok(Some(Line::Block(work)))
+    let (address, word) = others.split_at(address as usize);
+    let address = List::from_slice(alloc, address)?;
+    let word = List::from_slice(alloc, word)?;
+    let we = *we;
+    Ok(Some(Line::Block(BlockWork { we, address, word })))
 }

@@ -189,18 +189,28 @@ pub fn push_task(text: &mut Text, task: &Task, item: u32) -> Result<(), Memory>
             b,
             c,
             d,
-        } => {
-            text.push_bytes(b"eval")?;
-            push_numbers(text, &[*slot, *table])?;
-            push_sources(text, &[*a, *b, *c, *d])?;
-            push_item(text, item)
-        }
-        Task::Hold { slot, from } => {
-            push_named(text, b"hold", *slot)?;
-            push_source(text, from)?;
-            push_item(text, item)
-        }
+        } => push_eval(text, &[*slot, *table], &[*a, *b, *c, *d], item),
+        Task::Hold { slot, from } => push_hold(text, *slot, from, item),
     }
+}
+
+/// Adds the line of an evaluation.
+fn push_eval(text: &mut Text, numbers: &[u32], sources: &[Source], item: u32) -> Result<(), Memory>
+    ensures { OnOk result (text.new ≡ text.old ++ codes "eval" ++ flat_map (λ n. spaced (decimal n)) numbers.now ++ flat_map (λ source. spaced (source_word source)) sources.now ++ spaced (decimal item) ++ codes "\n") }
+{
+    text.push_bytes(b"eval")?;
+    push_numbers(text, numbers)?;
+    push_sources(text, sources)?;
+    push_item(text, item)
+}
+
+/// Adds the line of a holding task.
+fn push_hold(text: &mut Text, slot: u32, from: &Source, item: u32) -> Result<(), Memory>
+    ensures { OnOk result (text.new ≡ text.old ++ codes "hold" ++ spaced (decimal slot) ++ spaced (source_word from.now) ++ spaced (decimal item) ++ codes "\n") }
+{
+    push_named(text, b"hold", slot)?;
+    push_source(text, from)?;
+    push_item(text, item)
 }
 
 /// Adds a space, the number of an item and the end of the line.

@@ -34,7 +34,9 @@ pub fn report(
     ensures { IfOk result (IsReport net.now nodes.now homes.now plan.now) }
 {
     let figures = Figures::new(alloc, nodes, homes, plan, switch)?;
-    report_of(alloc, net, nodes, homes, plan, &figures)
+    let text = report_of(alloc, net, nodes, homes, plan, &figures);
+    drop(figures);
+    text
 }
 
 /// The report with these figures.
