@@ -48,7 +48,13 @@ pub fn fault_all<R: Threads + Sync>(
     ensures named { IfOk result (All (IsNamed net.now stim.now)) }
 {
     let schedule = make_schedule(alloc, net, timing, ranks.order.as_slice())?;
-    let mut groups = make_groups(alloc, net)?;
+    let mut groups = match make_groups(alloc, net) {
+        Ok(groups) => groups,
+        Err(no) => {
+            drop(schedule);
+            return Err(no);
+        }
+    };
     run_groups(
         rt,
         alloc,
@@ -59,7 +65,10 @@ pub fn fault_all<R: Threads + Sync>(
         stim,
         workers,
     );
-    gather(alloc, groups.as_slice(), net, timing, stim)
+    drop(schedule);
+    let verdicts = gather(alloc, groups.as_slice(), net, timing, stim);
+    drop(groups);
+    verdicts
 }
 
 /// Runs all groups, each in one of the threads.

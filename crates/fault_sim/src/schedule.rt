@@ -29,10 +29,9 @@ pub(crate) fn make_schedule(
     requires order { IsOrder net.now timing.now order.now }
     ensures { IfOk result (IsSchedule net.now timing.now) }
 {
-    Ok(Schedule {
-        program: make_program(alloc, net, timing, order)?,
-        sources: make_sources(alloc, net, timing)?,
-    })
+    let sources = make_sources(alloc, net, timing)?;
+    let program = make_program(alloc, net, timing, order)?;
+    Ok(Schedule { program, sources })
 }
 
 /// The signals that are no gates, and the late gates.

@@ -54,8 +54,17 @@ fn run_from_start(
     ensures { IfOk result (AreRowsOf net.now timing.now stim.now) }
 {
     let mut state = initial_state(alloc, net, timing)?;
-    let mut ports = make_ports(alloc, net)?;
-    printed_rows(alloc, &mut state, &mut ports, net, timing, stim, schedule)
+    let mut ports = match make_ports(alloc, net) {
+        Ok(ports) => ports,
+        Err(no) => {
+            drop(state);
+            return Err(no);
+        }
+    };
+    let rows = printed_rows(alloc, &mut state, &mut ports, net, timing, stim, schedule);
+    drop(state);
+    drop(ports);
+    rows
 }
 
 /// Makes the rows and runs all cycles.
