@@ -106,10 +106,16 @@ fn begin(
     ensures work { IfOk result (IsWork nodes.now) }
     ensures homes { IfOk result (λ work. work.homes ≡ homes.now) }
 {
-    let uses = uses_of(alloc, nodes, homes, takes)?;
-    let count = count_crossings(nodes, homes, &uses);
-    let copied = copy_of(homes)?;
     let loads = loads_of(alloc, nodes, homes)?;
+    let copied = copy_of(homes)?;
+    let uses = match uses_of(alloc, nodes, homes, takes) {
+        Ok(uses) => uses,
+        Err(no) => {
+            drop(copied);
+            return Err(no);
+        }
+    };
+    let count = count_crossings(nodes, homes, &uses);
     with_room(alloc, nodes, copied, uses, loads, count)
 }
 
@@ -129,8 +135,22 @@ fn with_room(
     ensures work { IfOk result (IsWork nodes.now) }
     ensures homes { IfOk result (λ work. work.homes ≡ homes) }
 {
-    let spread = List::filled(alloc, false, nodes.items.len())?;
-    let at = List::filled(alloc, 0, homes.logic as usize)?;
+    let spread = match List::filled(alloc, false, nodes.items.len()) {
+        Ok(spread) => spread,
+        Err(no) => {
+            drop(homes);
+            drop(uses);
+            return Err(no);
+        }
+    };
+    let at = match List::filled(alloc, 0, homes.logic as usize) {
+        Ok(at) => at,
+        Err(no) => {
+            drop(homes);
+            drop(uses);
+            return Err(no);
+        }
+    };
     let touched = List::new(alloc);
     Ok(Work {
         homes,

@@ -40,7 +40,19 @@ impl Work {
     pub(crate) fn into_homes(self) -> Homes
         ensures { result ≡ self.homes }
     {
-        self.homes
+        let Work {
+            homes,
+            uses,
+            loads,
+            spread,
+            pulls,
+            count: _,
+        } = self;
+        drop(uses);
+        drop(loads);
+        drop(spread);
+        drop(pulls);
+        homes
     }
 }
 

@@ -142,10 +142,15 @@ fn port_image(
     ensures work { IfOk result (λ image. IsWorkFor nodes.now homes.now plan.now.slots port items.now image.work) }
     ensures links { IfOk result (AreLinksOf links.now) }
 {
-    let outs = links_out(alloc, links.sends.as_slice())?;
     let ins = links_in(alloc, links.receipts.as_slice())?;
-    let work = work_of(alloc, nodes, homes, plan, memories, port, items)?;
-    Ok(PortImage { work, outs, ins })
+    let outs = links_out(alloc, links.sends.as_slice())?;
+    match work_of(alloc, nodes, homes, plan, memories, port, items) {
+        Ok(work) => Ok(PortImage { work, outs, ins }),
+        Err(no) => {
+            drop(outs);
+            Err(no)
+        }
+    }
 }
 
 /// What a port does for its items.

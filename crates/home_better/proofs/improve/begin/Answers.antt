@@ -9,7 +9,7 @@ pub with_room-requires-clause-homes : goal.with_room-requires-clause-homes
 with_room-requires-clause-homes c = subst (AreHomes c.args.nodes.now) (sym c.in_ok-copied.ensures) c.requires.homes
 
 pub with_room-requires-clause-uses : goal.with_room-requires-clause-uses
-with_room-requires-clause-uses c = subst (λ h. AreUses c.args.nodes.now h c.in_ok-uses.uses) (sym c.in_ok-copied.ensures) c.in_ok-uses.ensures
+with_room-requires-clause-uses c = subst (λ h. AreUses c.args.nodes.now h c.in-Ok.uses) (sym c.in_ok-copied.ensures) c.in-Ok.ensures
 
 pub with_room-requires-clause-loads : goal.with_room-requires-clause-loads
 with_room-requires-clause-loads c = subst (λ h. AreLoads c.args.nodes.now h c.in_ok-loads.loads) (sym c.in_ok-copied.ensures) c.in_ok-loads.ensures

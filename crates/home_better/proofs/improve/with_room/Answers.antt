@@ -9,8 +9,8 @@ returns-clause-work c = record {
   are = c.requires.homes;
   uses = c.requires.uses;
   loads = c.requires.loads;
-  spread = none_spread c.args.nodes.now c.args.homes c.in_ok-spread.spread (c.in_ok-spread.ensures ∙ ap (λ n. replicate n false) c.len.ensures);
-  size = ap length c.in_ok-at.ensures ∙ length-replicate c.args.homes.logic 0;
-  touched = none_touched (record { at = c.in_ok-at.at; touched = c.new-touched.result }) c.args.homes.logic c.in_ok-at.ensures c.new-touched.ensures;
+  spread = none_spread c.args.nodes.now c.args.homes c.in-Ok.spread (c.in-Ok.ensures ∙ ap (λ n. replicate n false) c.len.ensures);
+  size = ap length c.in-Ok-filled.ensures ∙ length-replicate c.args.homes.logic 0;
+  touched = none_touched (record { at = c.in-Ok-filled.at; touched = c.new-touched.result }) c.args.homes.logic c.in-Ok-filled.ensures c.new-touched.ensures;
   count = c.requires.count;
 }
