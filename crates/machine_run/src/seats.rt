@@ -79,9 +79,16 @@ fn seat<'a>(
     ensures seat { IfOk result (λ seat. (workers : ℕ) → IsSeatOf (at_first image.now stim.now workers window) seat) }
     ensures port { IfOk result (λ seat. seat.run.pass.port ≡ pass.port) }
 {
-    let port = AnyPort::new(alloc, image, stim, pass.port(), window)?;
-    let run = Running::new(pass, port);
-    Ok(Seated { bar, run })
+    match AnyPort::new(alloc, image, stim, pass.port(), window) {
+        Ok(port) => {
+            let run = Running::new(pass, port);
+            Ok(Seated { bar, run })
+        }
+        Err(no) => {
+            drop(pass);
+            Err(no)
+        }
+    }
 }
 
 /// Which of so many workers a port is dealt to.
@@ -117,9 +124,22 @@ fn deal<'a, G: Gate>(
     let mut passes = passes;
     'passes: while let Some(pass) = passes.pop() {
         let worker = worker_of(pass.port() as usize, crew.len());
-        let member = seat(alloc, bar, image, stim, pass, window)?;
-        give_to(crew, worker, member)?;
+        let member = match seat(alloc, bar, image, stim, pass, window) {
+            Ok(member) => member,
+            Err(no) => {
+                drop(passes);
+                return Err(no);
+            }
+        };
+        match give_to(crew, worker, member) {
+            Ok(()) => {}
+            Err(no) => {
+                drop(passes);
+                return Err(no);
+            }
+        }
     }
+    drop(passes);
     Ok(())
 }
 
@@ -143,7 +163,21 @@ pub(crate) fn workers_of<'a, G: Gate>(
     requires some_cycles { 1 ≤ window }
     ensures { IfOk result (AreDealt (at_first image.now stim.now workers window) 0) }
 {
-    let mut crew = idle_crew(alloc, workers)?;
-    deal(alloc, bar, image, stim, passes, window, crew.as_mut_slice())?;
-    Ok(crew)
+    match idle_crew(alloc, workers) {
+        Ok(idle) => {
+            let mut crew = idle;
+            let room = crew.as_mut_slice();
+            match deal(alloc, bar, image, stim, passes, window, room) {
+                Ok(()) => Ok(crew),
+                Err(no) => {
+                    drop(crew);
+                    Err(no)
+                }
+            }
+        }
+        Err(no) => {
+            drop(passes);
+            Err(no)
+        }
+    }
 }

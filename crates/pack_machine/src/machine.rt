@@ -50,14 +50,29 @@ pub fn run_pack<R: Threads + Wait + Sync, G: Gate + Send>(
     ensures kept { AreInPlace gates.old gates.new }
 {
     let (bar, passes) = PackBar::make(rt, alloc, image, lanes)?;
-    let mut rows = blank_lanes(alloc, image, lanes)?;
-    let mut crew = workers_of(alloc, &bar, image, lanes, passes, workers)?;
+    let mut rows = match blank_lanes(alloc, image, lanes) {
+        Ok(rows) => rows,
+        Err(no) => {
+            drop(passes);
+            drop(bar);
+            return Err(no);
+        }
+    };
+    let mut crew = match workers_of(alloc, &bar, image, lanes, passes, workers) {
+        Ok(crew) => crew,
+        Err(no) => {
+            drop(rows);
+            return Err(no);
+        }
+    };
     run_with(rt, crew.as_mut_slice(), gates);
     fill_lanes(
         rows.as_mut_slice(),
         lanes,
         host(crew.as_slice(), image, lanes),
     );
+    drop(crew);
+    drop(bar);
     Ok(rows)
 }
 

@@ -34,9 +34,16 @@ fn seat<'a>(
     ensures seat { IfOk result (λ seat. (workers : ℕ) → IsSeatOf (at_first image.now lanes.now workers) seat) }
     ensures port { IfOk result (λ seat. seat.run.port ≡ pass.port) }
 {
-    let port = PackPort::new(alloc, image, lanes, pass.port())?;
-    let run = PackRunning::new(pass, port);
-    Ok(PackSeated { bar, run })
+    match PackPort::new(alloc, image, lanes, pass.port()) {
+        Ok(port) => {
+            let run = PackRunning::new(pass, port);
+            Ok(PackSeated { bar, run })
+        }
+        Err(no) => {
+            drop(pass);
+            Err(no)
+        }
+    }
 }
 
 /// Deals the ports of all passes to the workers, the last port first.
@@ -60,9 +67,22 @@ fn deal<'a, G: Gate>(
     let mut passes = passes;
     'passes: while let Some(pass) = passes.pop() {
         let worker = worker_of(pass.port() as usize, crew.len());
-        let member = seat(alloc, bar, image, lanes, pass)?;
-        give_to(crew, worker, member)?;
+        let member = match seat(alloc, bar, image, lanes, pass) {
+            Ok(member) => member,
+            Err(no) => {
+                drop(passes);
+                return Err(no);
+            }
+        };
+        match give_to(crew, worker, member) {
+            Ok(()) => {}
+            Err(no) => {
+                drop(passes);
+                return Err(no);
+            }
+        }
     }
+    drop(passes);
     Ok(())
 }
 

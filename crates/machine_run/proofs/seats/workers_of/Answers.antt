@@ -23,18 +23,18 @@ pub deal-requires-clause-passes : goal.deal-requires-clause-passes
 deal-requires-clause-passes g c = c.requires.passes
 
 pub deal-requires-clause-some : goal.deal-requires-clause-some
-deal-requires-clause-some g c = omega (arith, c.requires.some, ap length c.as_mut_slice.ensures.value, c.in_ok-crew.ensures.count)
+deal-requires-clause-some g c = omega (arith, c.requires.some, ap length c.as_mut_slice-room.ensures.value, c.in-Ok.ensures.count)
 
 pub deal-requires-clause-idle : goal.deal-requires-clause-idle
 deal-requires-clause-idle g c =
-    let idle : AreIdle (length c.in_ok-crew.crew) c.in_ok-crew.crew = subst (λ n. AreIdle n c.in_ok-crew.crew) (sym c.in_ok-crew.ensures.count) c.in_ok-crew.ensures in
-    subst (λ ws. AreIdle (length ws) ws) (sym c.as_mut_slice.ensures.value) idle
+    let idle : AreIdle (length c.in-Ok.idle) c.in-Ok.idle = subst (λ n. AreIdle n c.in-Ok.idle) (sym c.in-Ok.ensures.count) c.in-Ok.ensures in
+    subst (λ ws. AreIdle (length ws) ws) (sym c.as_mut_slice-room.ensures.value) idle
 
 pub deal-requires-clause-some_cycles : goal.deal-requires-clause-some_cycles
 deal-requires-clause-some_cycles g c = c.requires.some_cycles
 
-pub returns : goal.returns
-returns g c =
+pub returns-in-Ok-deal : goal.returns-in-Ok-deal
+returns-in-Ok-deal g c =
     subst (AreDealt (at_first c.args.image.now c.args.stim.now c.args.workers c.args.window) 0)
-    (sym (take_at c.deal.new.crew (drop (length c.deal.new.crew) c.in_ok-crew.crew) (length c.in_ok-crew.crew) (omega (arith, c.in_ok-deal.ensures.count, ap length c.as_mut_slice.ensures.value))))
-    (subst (λ n. AreDealt (at_first c.args.image.now c.args.stim.now n c.args.window) 0 c.deal.new.crew) (omega (arith, ap length c.as_mut_slice.ensures.value, c.in_ok-crew.ensures.count)) c.in_ok-deal.ensures)
+    (sym (take_at c.deal.new.crew (drop (length c.deal.new.crew) c.in-Ok.idle) (length c.in-Ok.idle) (omega (arith, c.in-Ok-deal.ensures.count, ap length c.as_mut_slice-room.ensures.value))))
+    (subst (λ n. AreDealt (at_first c.args.image.now c.args.stim.now n c.args.window) 0 c.deal.new.crew) (omega (arith, ap length c.as_mut_slice-room.ensures.value, c.in-Ok.ensures.count)) c.in-Ok-deal.ensures)

@@ -15,38 +15,38 @@ use Rattle.pack_machine.proofs.machine.run_pack.Goals as goal
 pub run_with-requires-after_bounds : goal.run_with-requires-after_bounds
 run_with-requires-after_bounds g c κs within =
     subst (λ ws. AllCanRunWith seated.ghosts g.G.Gate ws c.args.gates.now) (sym c.as_mut_slice.ensures.value)
-    (can_run c.args.image.now c.args.lanes.now c.args.workers c.requires.image c.requires.lanes c.in_ok-crew.crew c.in_ok-crew.ensures g.G.Gate c.args.gates.now c.requires.enough c.requires.tell)
+    (can_run c.args.image.now c.args.lanes.now c.args.workers c.requires.image c.requires.lanes c.in-Ok-workers_of.crew c.in-Ok-workers_of.ensures g.G.Gate c.args.gates.now c.requires.enough c.requires.tell)
 
 pub host-requires-clause-ends : goal.host-requires-clause-ends
 host-requires-clause-ends g c =
     let run = subst (λ ws. AllHaveRunWith seated.ghosts g.G.Gate ws c.args.gates.now c.run_with.new.workers c.run_with.new.gates) c.as_mut_slice.ensures.value c.run_with.ensures in
-    let count : length c.run_with.new.workers ≡ length c.in_ok-crew.crew = run.worker_count in
+    let count : length c.run_with.new.workers ≡ length c.in-Ok-workers_of.crew = run.worker_count in
     subst (EndsWithHost c.args.image.now c.args.lanes.now)
-    (sym (c.as_slice.ensures ∙ take_at c.run_with.new.workers (drop (length c.run_with.new.workers) c.in_ok-crew.crew) (length c.in_ok-crew.crew) (omega (arith, count))))
-    (host_ended c.args.image.now c.args.lanes.now c.args.workers c.requires.image c.requires.lanes c.in_ok-crew.crew c.in_ok-crew.ensures g.G.Gate c.args.gates.now c.run_with.new.workers c.run_with.new.gates run c.requires.enough)
+    (sym (c.as_slice.ensures ∙ take_at c.run_with.new.workers (drop (length c.run_with.new.workers) c.in-Ok-workers_of.crew) (length c.in-Ok-workers_of.crew) (omega (arith, count))))
+    (host_ended c.args.image.now c.args.lanes.now c.args.workers c.requires.image c.requires.lanes c.in-Ok-workers_of.crew c.in-Ok-workers_of.ensures g.G.Gate c.args.gates.now c.run_with.new.workers c.run_with.new.gates run c.requires.enough)
 
 pub returns-clause-rows : goal.returns-clause-rows
 returns-clause-rows g c =
     subst (AreLanesShown c.args.image.now c.args.lanes.now)
-    (sym (take_at c.fill_lanes.new.rows (drop (length c.fill_lanes.new.rows) c.in_ok-rows.rows) (length c.in_ok-rows.rows) (omega (arith, c.in_ok-rows.ensures.count, c.fill_lanes.ensures.count))))
+    (sym (take_at c.fill_lanes.new.rows (drop (length c.fill_lanes.new.rows) c.in-Ok.rows) (length c.in-Ok.rows) (omega (arith, c.in-Ok.ensures.count, c.fill_lanes.ensures.count))))
     (subst (λ x. AreLanesShown x c.args.lanes.now c.fill_lanes.new.rows) c.host.ensures.image_is c.fill_lanes.ensures)
 
 pub returns-clause-visits : goal.returns-clause-visits
 returns-clause-visits g c =
     let run = subst (λ ws. AllHaveRunWith seated.ghosts g.G.Gate ws c.args.gates.now c.run_with.new.workers c.run_with.new.gates) c.as_mut_slice.ensures.value c.run_with.ensures in
-    have_visits c.args.image.now c.args.lanes.now c.args.workers c.requires.image c.requires.lanes c.in_ok-crew.crew c.in_ok-crew.ensures g.G.Gate c.args.gates.now c.run_with.new.workers c.run_with.new.gates run c.requires.enough
+    have_visits c.args.image.now c.args.lanes.now c.args.workers c.requires.image c.requires.lanes c.in-Ok-workers_of.crew c.in-Ok-workers_of.ensures g.G.Gate c.args.gates.now c.run_with.new.workers c.run_with.new.gates run c.requires.enough
 
 pub returns-clause-kept : goal.returns-clause-kept
 returns-clause-kept g c =
     let run = subst (λ ws. AllHaveRunWith seated.ghosts g.G.Gate ws c.args.gates.now c.run_with.new.workers c.run_with.new.gates) c.as_mut_slice.ensures.value c.run_with.ensures in
-    in_place c.args.image.now c.args.lanes.now c.args.workers c.requires.image c.requires.lanes c.in_ok-crew.crew c.in_ok-crew.ensures g.G.Gate c.args.gates.now c.run_with.new.workers c.run_with.new.gates run c.requires.enough
+    in_place c.args.image.now c.args.lanes.now c.args.workers c.requires.image c.requires.lanes c.in-Ok-workers_of.crew c.in-Ok-workers_of.ensures g.G.Gate c.args.gates.now c.run_with.new.workers c.run_with.new.gates run c.requires.enough
 
 pub host-requires-clause-some : goal.host-requires-clause-some
 host-requires-clause-some g c =
     let run = subst (λ ws. AllHaveRunWith seated.ghosts g.G.Gate ws c.args.gates.now c.run_with.new.workers c.run_with.new.gates) c.as_mut_slice.ensures.value c.run_with.ensures in
-    let count : length c.run_with.new.workers ≡ length c.in_ok-crew.crew = run.worker_count in
-    let is = c.as_slice.ensures ∙ take_at c.run_with.new.workers (drop (length c.run_with.new.workers) c.in_ok-crew.crew) (length c.in_ok-crew.crew) (omega (arith, count)) in
-    omega (arith, ap length is, count, c.in_ok-crew.ensures.count, c.requires.some_workers)
+    let count : length c.run_with.new.workers ≡ length c.in-Ok-workers_of.crew = run.worker_count in
+    let is = c.as_slice.ensures ∙ take_at c.run_with.new.workers (drop (length c.run_with.new.workers) c.in-Ok-workers_of.crew) (length c.in-Ok-workers_of.crew) (omega (arith, count)) in
+    omega (arith, ap length is, count, c.in-Ok-workers_of.ensures.count, c.requires.some_workers)
 
 pub fill_lanes-requires-clause-host : goal.fill_lanes-requires-clause-host
 fill_lanes-requires-clause-host g c = subst (λ (x : Image). IsHostAtEnd x c.args.lanes.now c.host.result.now) (sym c.host.ensures.image_is) c.host.ensures
@@ -57,7 +57,7 @@ fill_lanes-requires-clause-lanes g c = subst (λ (x : Image). AreLanes x.columns
 pub fill_lanes-requires-clause-room : goal.fill_lanes-requires-clause-room
 fill_lanes-requires-clause-room g c =
     subst (λ (x : Image). HaveRoom x c.args.lanes.now c.as_mut_slice-2.result.now) (sym c.host.ensures.image_is)
-    (subst (HaveRoom c.args.image.now c.args.lanes.now) (sym c.as_mut_slice-2.ensures.value) c.in_ok-rows.ensures)
+    (subst (HaveRoom c.args.image.now c.args.lanes.now) (sym c.as_mut_slice-2.ensures.value) c.in-Ok.ensures)
 
 pub returns-in_err-bar-clause-rows : goal.returns-in_err-bar-clause-rows
 returns-in_err-bar-clause-rows g c = let p = err_from_is_err_and c.from_residual.result c.from_residual.ensures.1 in rw p.1 tt
@@ -71,29 +71,29 @@ returns-in_err-bar-clause-refused g c = let p = err_from_is_err_and c.from_resid
 pub returns-in_err-bar-clause-kept : goal.returns-in_err-bar-clause-kept
 returns-in_err-bar-clause-kept g c = in_place_none c.args.gates.now
 
-pub returns-in_err-rows-clause-rows : goal.returns-in_err-rows-clause-rows
-returns-in_err-rows-clause-rows g c = let p = err_from_is_err_and c.from_residual-in_err-rows.result c.from_residual-in_err-rows.ensures.1 in rw p.1 tt
+pub returns-in-Err-clause-rows : goal.returns-in-Err-clause-rows
+returns-in-Err-clause-rows g c = tt
 
-pub returns-in_err-rows-clause-visits : goal.returns-in_err-rows-clause-visits
-returns-in_err-rows-clause-visits g c = let p = err_from_is_err_and c.from_residual-in_err-rows.result c.from_residual-in_err-rows.ensures.1 in rw p.1 tt
+pub returns-in-Err-clause-visits : goal.returns-in-Err-clause-visits
+returns-in-Err-clause-visits g c = tt
 
-pub returns-in_err-rows-clause-refused : goal.returns-in_err-rows-clause-refused
-returns-in_err-rows-clause-refused g c = let p = err_from_is_err_and c.from_residual-in_err-rows.result c.from_residual-in_err-rows.ensures.1 in rw p.1 refl
+pub returns-in-Err-clause-refused : goal.returns-in-Err-clause-refused
+returns-in-Err-clause-refused g c = refl
 
-pub returns-in_err-rows-clause-kept : goal.returns-in_err-rows-clause-kept
-returns-in_err-rows-clause-kept g c = in_place_none c.args.gates.now
+pub returns-in-Err-clause-kept : goal.returns-in-Err-clause-kept
+returns-in-Err-clause-kept g c = in_place_none c.args.gates.now
 
-pub returns-in_err-crew-clause-rows : goal.returns-in_err-crew-clause-rows
-returns-in_err-crew-clause-rows g c = let p = err_from_is_err_and c.from_residual-in_err-crew.result c.from_residual-in_err-crew.ensures.1 in rw p.1 tt
+pub returns-in-Err-workers_of-clause-rows : goal.returns-in-Err-workers_of-clause-rows
+returns-in-Err-workers_of-clause-rows g c = tt
 
-pub returns-in_err-crew-clause-visits : goal.returns-in_err-crew-clause-visits
-returns-in_err-crew-clause-visits g c = let p = err_from_is_err_and c.from_residual-in_err-crew.result c.from_residual-in_err-crew.ensures.1 in rw p.1 tt
+pub returns-in-Err-workers_of-clause-visits : goal.returns-in-Err-workers_of-clause-visits
+returns-in-Err-workers_of-clause-visits g c = tt
 
-pub returns-in_err-crew-clause-refused : goal.returns-in_err-crew-clause-refused
-returns-in_err-crew-clause-refused g c = let p = err_from_is_err_and c.from_residual-in_err-crew.result c.from_residual-in_err-crew.ensures.1 in rw p.1 refl
+pub returns-in-Err-workers_of-clause-refused : goal.returns-in-Err-workers_of-clause-refused
+returns-in-Err-workers_of-clause-refused g c = refl
 
-pub returns-in_err-crew-clause-kept : goal.returns-in_err-crew-clause-kept
-returns-in_err-crew-clause-kept g c = in_place_none c.args.gates.now
+pub returns-in-Err-workers_of-clause-kept : goal.returns-in-Err-workers_of-clause-kept
+returns-in-Err-workers_of-clause-kept g c = in_place_none c.args.gates.now
 
 pub make-requires-clause-image : goal.make-requires-clause-image
 make-requires-clause-image g c = c.requires.image

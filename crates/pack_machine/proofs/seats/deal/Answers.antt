@@ -22,13 +22,13 @@ passes-preserved g c =
     record {
       passes = less.1;
       few = omega (arith, less.0, c.passes.invariant.few);
-      dealt = dealt_more crew (length c.pop.new.self) c.worker_of-worker.result c.passes.crew c.give_to.new.crew c.in_ok-member.member
+      dealt = dealt_more crew (length c.pop.new.self) c.worker_of-worker.result c.passes.crew c.give_to.new.crew c.in-Ok.member
           (subst (λ m. AreDealt crew m c.passes.crew) less.0 c.passes.invariant.dealt)
-          (c.in_ok-member.ensures.seat (length c.args.crew.now))
-          (c.in_ok-member.ensures.port ∙ less.2.port_is)
+          (c.in-Ok.ensures.seat (length c.args.crew.now))
+          (c.in-Ok.ensures.port ∙ less.2.port_is)
           (omega (arith, less.0, c.passes.invariant.few))
           (c.worker_of-worker.ensures.is ∙ (ap (λ m. c.port.result % m) c.passes.invariant.dealt.count ∙ ap (λ q. q % length c.args.crew.now) (c.port.ensures ∙ less.2.port_is)))
-          c.in_ok-give_to.ensures;
+          c.in-Ok-give_to.ensures;
     }
 
 pub passes-init : goal.passes-init
