@@ -95,6 +95,10 @@ pub fn accepted<'a>(
     drop(claims);
     match checked {
         Ok(()) => Ok(Built { net, image }),
-        Err(no) => Err(of_match(no)),
+        Err(no) => {
+            drop(image);
+            drop(net);
+            Err(of_match(no))
+        }
     }
 }
