@@ -74,8 +74,15 @@ fn exec_telling<'a, R: Threads + Wait + Sync, F: Files, O: Sink, G: Gate + Send>
         Err(no) => return Err(no),
     };
     match items_of(alloc, net, &timing) {
-        Ok(mapped) => exec_mapped(rt, alloc, files, words, image, &timing, mapped, out, gates),
-        Err(no) => Err(no),
+        Ok(mapped) => {
+            let result = exec_mapped(rt, alloc, files, words, image, &timing, mapped, out, gates);
+            drop(timing);
+            result
+        }
+        Err(no) => {
+            drop(timing);
+            Err(no)
+        }
     }
 }
 

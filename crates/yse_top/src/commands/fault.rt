@@ -43,10 +43,14 @@ pub fn fault<'a, R: Threads + Sync, F: Files>(
     match ranked(alloc, net, &timing) {
         Ok(design) => {
             let listed = faults_of(rt, alloc, files, words, &timing, &design);
+            drop(timing);
             drop(design);
             listed
         }
-        Err(no) => Err(no),
+        Err(no) => {
+            drop(timing);
+            Err(no)
+        }
     }
 }
 
@@ -75,7 +79,9 @@ fn faults_of<'a, R: Threads + Sync, F: Files>(
         Ok(stimulus) => stimulus,
         Err(no) => return Err(no),
     };
-    match lines_of(rt, alloc, words, timing, design, &stimulus) {
+    let lines = lines_of(rt, alloc, words, timing, design, &stimulus);
+    drop(stimulus);
+    match lines {
         Ok(lines) => Ok(Output::Lines(lines)),
         Err(Memory) => Err(Refusal::Memory),
     }

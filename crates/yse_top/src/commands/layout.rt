@@ -43,7 +43,11 @@ pub fn lay_out<'a, F: Files>(
     ensures writable { IfOk result CanWrite }
 {
     match machine_from(alloc, files, &words.machine) {
-        Ok(machine) => lay_out_on(alloc, files, words, &machine, sheet),
+        Ok(machine) => {
+            let result = lay_out_on(alloc, files, words, &machine, sheet);
+            drop(machine);
+            result
+        }
         Err(no) => Err(no),
     }
 }
@@ -68,9 +72,14 @@ fn lay_out_on<'a, F: Files>(
     };
     let planned = match designed(alloc, net, machine, &timing, words.homes) {
         Ok(planned) => planned,
-        Err(no) => return Err(no),
+        Err(no) => {
+            drop(timing);
+            return Err(no);
+        }
     };
-    match sheet_of(alloc, planned, machine, &timing, words.homes, sheet) {
+    let text = sheet_of(alloc, planned, machine, &timing, words.homes, sheet);
+    drop(timing);
+    match text {
         Ok(text) => Ok(Output::Text(text)),
         Err(Memory) => Err(Refusal::Memory),
     }

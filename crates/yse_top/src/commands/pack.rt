@@ -80,7 +80,9 @@ fn pack_telling<'a, R: Threads + Wait + Sync, F: Files, G: Gate + Send>(
         Ok(machine) => machine,
         Err(no) => return Err(no),
     };
-    pack_on(rt, alloc, files, words, &machine, gates)
+    let result = pack_on(rt, alloc, files, words, &machine, gates);
+    drop(machine);
+    result
 }
 
 /// The same on a machine.
@@ -106,8 +108,15 @@ fn pack_on<'a, R: Threads + Wait + Sync, F: Files, G: Gate + Send>(
         Err(no) => return Err(no),
     };
     match compiled(alloc, net, machine, &timing, words.homes) {
-        Ok(built) => pack_built(rt, alloc, files, words, machine, &timing, built, gates),
-        Err(no) => Err(no),
+        Ok(built) => {
+            let result = pack_built(rt, alloc, files, words, machine, &timing, built, gates);
+            drop(timing);
+            result
+        }
+        Err(no) => {
+            drop(timing);
+            Err(no)
+        }
     }
 }
 

@@ -36,16 +36,23 @@ pub fn refer<'a, F: Files>(
     };
     let design = match ordered(alloc, net, &timing) {
         Ok(design) => design,
-        Err(no) => return Err(no),
+        Err(no) => {
+            drop(timing);
+            return Err(no);
+        }
     };
     let stimulus = match stimulus_in(alloc, files, words.stimulus.as_bytes(), &design.net) {
         Ok(stimulus) => stimulus,
         Err(no) => {
+            drop(timing);
             drop(design);
             return Err(no);
         }
     };
-    kept(alloc, &timing, design, &stimulus)
+    let result = kept(alloc, &timing, design, &stimulus);
+    drop(timing);
+    drop(stimulus);
+    result
 }
 
 /// The trace of a simulation under a stimulus, if its cells are few enough to be kept.

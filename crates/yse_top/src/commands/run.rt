@@ -76,7 +76,9 @@ fn run_telling<'a, R: Threads + Wait + Sync, F: Files, O: Sink, G: Gate + Send>(
         Ok(machine) => machine,
         Err(no) => return Err(no),
     };
-    run_on(rt, alloc, files, words, pace, &machine, out, gates)
+    let result = run_on(rt, alloc, files, words, pace, &machine, out, gates);
+    drop(machine);
+    result
 }
 
 /// The same on a machine.
@@ -105,10 +107,17 @@ fn run_on<'a, R: Threads + Wait + Sync, F: Files, O: Sink, G: Gate + Send>(
         Err(no) => return Err(no),
     };
     match compiled(alloc, net, machine, &timing, words.homes) {
-        Ok(built) => run_built(
-            rt, alloc, files, words, pace, machine, &timing, built, out, gates,
-        ),
-        Err(no) => Err(no),
+        Ok(built) => {
+            let result = run_built(
+                rt, alloc, files, words, pace, machine, &timing, built, out, gates,
+            );
+            drop(timing);
+            result
+        }
+        Err(no) => {
+            drop(timing);
+            Err(no)
+        }
     }
 }
 
@@ -256,7 +265,9 @@ fn in_order<'a, F: Files>(
             return Err(no);
         }
     };
-    match by_order(alloc, words, machine, timing, built, stimulus, &order) {
+    let ended = by_order(alloc, words, machine, timing, built, stimulus, &order);
+    drop(order);
+    match ended {
         Ok(output) => Ok(output),
         Err(Memory) => Err(Refusal::Memory),
     }

@@ -15,8 +15,8 @@ returns-in-Err-clause-expected g c =
     let end = ExecTelling g.G.Gate c.args.gates.now c.args.gates.now (Ok tt) words in
     design_stops _ _ words (OnImage words c.args.image.now end) _ _ _ c.in-Err.ensures.step
 
-pub returns-clause-expected : goal.returns-clause-expected
-returns-clause-expected g c =
+pub returns-in-Err-items_of-clause-expected : goal.returns-in-Err-items_of-clause-expected
+returns-in-Err-items_of-clause-expected g c =
     let words = c.args.words.now in
     let name = c.args.image.now in
     let net = c.in-Ok.timed.net in
@@ -32,13 +32,13 @@ returns-in-Ok-items_of-clause-expected g c =
     let net = c.in-Ok.timed.net in
     let timing = c.in-Ok.timed.timing in
     let same = c.in-Ok-items_of.ensures.same in
-    let end = ExecTelling g.G.Gate c.args.gates.now c.exec_mapped.new.gates (written_by c.exec_mapped.result) words in
+    let end = ExecTelling g.G.Gate c.args.gates.now c.exec_mapped-result.new.gates (written_by c.exec_mapped-result.result) words in
     design_on _ _ words (OnImage words name end) c.in-Ok.timed _ _ _ _ _ _ c.in-Ok.ensures.same_names c.in-Ok.ensures.same_bytes c.in-Ok.ensures.step
     (follows_on _ _ (HasNoLoop net timing) (λ passed. AfterImage name net timing (RunsImage words end net timing)) tt _ _ _ c.in-Ok-items_of.ensures.acyclic
-    (rw same at c.exec_mapped.ensures.expected))
+    (rw same at c.exec_mapped-result.ensures.expected))
 
 pub returns-in-Err-clause-kept : goal.returns-in-Err-clause-kept
 returns-in-Err-clause-kept g c = gates_kept _ _ _
 
-pub returns-clause-kept : goal.returns-clause-kept
-returns-clause-kept g c = gates_kept _ _ _
+pub returns-in-Err-items_of-clause-kept : goal.returns-in-Err-items_of-clause-kept
+returns-in-Err-items_of-clause-kept g c = gates_kept _ _ _

@@ -11,8 +11,8 @@ returns-in-Err-clause-expected g c =
     let words = c.args.words.now in
     design_stops _ _ words (FaultsIn words.stimulus) _ _ _ c.in-Err.ensures.step
 
-pub returns-clause-expected : goal.returns-clause-expected
-returns-clause-expected g c =
+pub returns-in-Err-ranked-clause-expected : goal.returns-in-Err-ranked-clause-expected
+returns-in-Err-ranked-clause-expected g c =
     let words = c.args.words.now in
     let net = c.in-Ok.timed.net in
     let timing = c.in-Ok.timed.timing in

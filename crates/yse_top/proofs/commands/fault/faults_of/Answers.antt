@@ -20,18 +20,18 @@ returns-in-Err-stimulus_in-clause-expected g c =
     follows_on _ _ (HasFewSignals net) (λ few. AfterStimulus words.stimulus net ends) tt _ _ _ c.in-Ok.ensures
     (stimulus_stops _ _ words.stimulus net ends _ _ _ (rw c.as_bytes.ensures at c.in-Err-stimulus_in.ensures.step))
 
-pub returns-in-Ok-lines_of-clause-expected : goal.returns-in-Ok-lines_of-clause-expected
-returns-in-Ok-lines_of-clause-expected g c =
+pub returns-in-Ok-lines-clause-expected : goal.returns-in-Ok-lines-clause-expected
+returns-in-Ok-lines-clause-expected g c =
     let words = c.args.words.now in
     let net = c.args.design.now.net in
     let ends = ListsFaults net c.args.timing.now in
     let stimulus = c.in-Ok-stimulus_in.stimulus in
     follows_on _ _ (HasFewSignals net) (λ few. AfterStimulus words.stimulus net ends) tt _ _ _ c.in-Ok.ensures
     (stimulus_on _ _ words.stimulus net ends stimulus _ _ _ _ _ _ c.in-Ok-stimulus_in.ensures.same_names c.in-Ok-stimulus_in.ensures.same_bytes (rw c.as_bytes.ensures at c.in-Ok-stimulus_in.ensures.step)
-    (follows_here _ _ _ _ (ends stimulus) (refl, inl (_, c.in-Ok-lines_of.ensures, refl))))
+    (follows_here _ _ _ _ (ends stimulus) (refl, inl (_, c.in-Ok-lines.ensures, refl))))
 
-pub returns-clause-expected : goal.returns-clause-expected
-returns-clause-expected g c =
+pub returns-in-Err-lines-clause-expected : goal.returns-in-Err-lines-clause-expected
+returns-in-Err-lines-clause-expected g c =
     let words = c.args.words.now in
     let net = c.args.design.now.net in
     let ends = ListsFaults net c.args.timing.now in

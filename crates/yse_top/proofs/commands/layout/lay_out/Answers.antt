@@ -12,4 +12,4 @@ pub returns-in-Ok-clause-expected : goal.returns-in-Ok-clause-expected
 returns-in-Ok-clause-expected g c =
     let words = c.args.words.now in
     machine_on _ _ words.machine (ExpectedLayoutOn c.args.sheet words) c.in-Ok.machine _ _ _ _ _ _ c.in-Ok.ensures.same_names c.in-Ok.ensures.same_bytes c.in-Ok.ensures.step
-    c.lay_out_on.ensures.expected
+    c.lay_out_on-result.ensures.expected

@@ -20,8 +20,8 @@ returns-in-Err-designed-clause-expected g c =
     design_on _ _ words (LaysOut c.args.sheet words.homes machine) design _ _ _ _ _ _ c.in-Ok.ensures.same_names c.in-Ok.ensures.same_bytes c.in-Ok.ensures.step
     (follows_unfit _ _ words.homes design.net machine design.timing end _ _ c.in-Err-designed.ensures.refused)
 
-pub returns-in-Ok-sheet_of-clause-expected : goal.returns-in-Ok-sheet_of-clause-expected
-returns-in-Ok-sheet_of-clause-expected g c =
+pub returns-in-Ok-text-clause-expected : goal.returns-in-Ok-text-clause-expected
+returns-in-Ok-text-clause-expected g c =
     let words = c.args.words.now in
     let machine = c.args.machine.now in
     let design = c.in-Ok.timed in
@@ -29,10 +29,10 @@ returns-in-Ok-sheet_of-clause-expected g c =
     let end = Ends (Writes (IsSheetOf c.args.sheet words.homes design.net machine design.timing)) in
     design_on _ _ words (LaysOut c.args.sheet words.homes machine) design _ _ _ _ _ _ c.in-Ok.ensures.same_names c.in-Ok.ensures.same_bytes c.in-Ok.ensures.step
     (follows_fit _ _ words.homes design.net machine design.timing end _ _ _ fit.acyclic fit.fits
-    (follows_here _ _ _ _ end (refl, inl (_, rw fit.same at c.in-Ok-sheet_of.ensures, refl))))
+    (follows_here _ _ _ _ end (refl, inl (_, rw fit.same at c.in-Ok-text.ensures, refl))))
 
-pub returns-clause-expected : goal.returns-clause-expected
-returns-clause-expected g c =
+pub returns-in-Err-text-clause-expected : goal.returns-in-Err-text-clause-expected
+returns-in-Err-text-clause-expected g c =
     let words = c.args.words.now in
     let machine = c.args.machine.now in
     let design = c.in-Ok.timed in

@@ -14,9 +14,9 @@ returns-in-Err-clause-expected g c =
 pub returns-clause-expected : goal.returns-clause-expected
 returns-clause-expected g c =
     let words = c.args.words.now in
-    let end = LanesTelling g.G.Gate c.args.gates.now c.pack_on.new.gates words in
+    let end = LanesTelling g.G.Gate c.args.gates.now c.pack_on-result.new.gates words in
     machine_on _ _ words.machine (PacksOn words end) c.in-Ok.machine _ _ _ _ _ _ c.in-Ok.ensures.same_names c.in-Ok.ensures.same_bytes c.in-Ok.ensures.step
-    c.pack_on.ensures.expected
+    c.pack_on-result.ensures.expected
 
 pub returns-in-Err-clause-kept : goal.returns-in-Err-clause-kept
 returns-in-Err-clause-kept g c = gates_kept _ _ _

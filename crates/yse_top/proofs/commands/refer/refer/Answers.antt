@@ -39,4 +39,4 @@ returns-clause-expected g c =
     (follows_on _ _ (HasNoLoop net timing) (λ passed. AfterStimulus words.stimulus net (KeepsTrace net timing)) tt _ _ _ c.in-Ok-ordered.ensures.acyclic
     (stimulus_on _ _ words.stimulus net (KeepsTrace net timing) stimulus _ _ _ _ _ _ c.in-Ok-stimulus_in.ensures.same_names c.in-Ok-stimulus_in.ensures.same_bytes
     (rw same at (rw c.as_bytes.ensures at c.in-Ok-stimulus_in.ensures.step))
-    (follows_here _ _ _ _ (KeepsTrace net timing stimulus) (rw same at c.kept.ensures.expected))))
+    (follows_here _ _ _ _ (KeepsTrace net timing stimulus) (rw same at c.kept-result.ensures.expected))))

@@ -36,9 +36,9 @@ returns-in-Err-order_in-clause-expected g c =
     follows_on _ _ (HasFewCells net stimulus) (λ few. AfterOrderFile file machine then) tt _ _ _ c.in-Ok.ensures
     (stopped _ _ (AfterOrderFile file machine) (order_so file machine) then _ _ _ c.in-Err-order_in.ensures.step)
 
-pub returns-in-Ok-by_order-clause-expected : goal.returns-in-Ok-by_order-clause-expected
+pub returns-in-Ok-ended-clause-expected : goal.returns-in-Ok-ended-clause-expected
 unfolding EndsBy
-returns-in-Ok-by_order-clause-expected g c =
+returns-in-Ok-ended-clause-expected g c =
     let file = c.args.file.now in
     let machine = c.args.machine.now in
     let net = c.args.built.net in
@@ -47,11 +47,11 @@ returns-in-Ok-by_order-clause-expected g c =
     let order = c.in-Ok-order_in.order in
     follows_on _ _ (HasFewCells net stimulus) (λ few. AfterOrderFile file machine then) tt _ _ _ c.in-Ok.ensures
     (passed_on _ _ (AfterOrderFile file machine) (order_so file machine) order then _ _ _ _ _ _ c.in-Ok-order_in.ensures.same_names c.in-Ok-order_in.ensures.same_bytes c.in-Ok-order_in.ensures.step
-    (follows_here _ _ _ _ (then order) (refl, inl c.in-Ok-by_order.ensures.ended)))
+    (follows_here _ _ _ _ (then order) (refl, inl c.in-Ok-ended.ensures.ended)))
 
-pub returns-clause-expected : goal.returns-clause-expected
+pub returns-in-Err-ended-clause-expected : goal.returns-in-Err-ended-clause-expected
 unfolding EndsBy
-returns-clause-expected g c =
+returns-in-Err-ended-clause-expected g c =
     let file = c.args.file.now in
     let machine = c.args.machine.now in
     let net = c.args.built.net in

@@ -16,9 +16,9 @@ returns-in-Err-clause-expected g c =
 pub returns-clause-expected : goal.returns-clause-expected
 returns-clause-expected g c =
     let words = c.args.words.now in
-    let end = EndsTelling g.G.Gate c.args.gates.now c.run_on.new.gates (written_by c.run_on.result) c.args.pace words in
+    let end = EndsTelling g.G.Gate c.args.gates.now c.run_on-result.new.gates (written_by c.run_on-result.result) c.args.pace words in
     machine_on _ _ words.machine (ExpectedOn words end) c.in-Ok.machine _ _ _ _ _ _ c.in-Ok.ensures.same_names c.in-Ok.ensures.same_bytes c.in-Ok.ensures.step
-    c.run_on.ensures.expected
+    c.run_on-result.ensures.expected
 
 pub returns-in-Err-clause-kept : goal.returns-in-Err-clause-kept
 returns-in-Err-clause-kept g c = gates_kept _ _ _
