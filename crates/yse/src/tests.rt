@@ -5,6 +5,7 @@ ghost use Rattle.std.specs.Prelude.{length, ◌≤◌};
 ghost use Rattle.limits.specs.declared.TheConstants.{MAX_WORKERS};
 ghost use Rattle.yse_top.specs.Visited.{AllCanTell};
 
+mod below;
 mod blocks;
 mod calls;
 mod faults;
@@ -17,7 +18,9 @@ mod mixed;
 mod orders;
 mod own_limits;
 mod packs;
+mod readings;
 mod threads;
+mod watch;
 
 use crew_run::Gate;
 use edge_io::{MemFiles, MemSink, NamedBytes, NullSink, PlainFiles};
@@ -55,7 +58,9 @@ const FILES: &str = "net.bench net.stim";
 const RUNS: &str =
     "run --workers 1 --banks 1|run --workers 1 --banks 2|run --workers 1 --banks 8|run --workers 2 --banks 1|run --workers 2 --banks 2|run --workers 2 --banks 8|run --workers 7 --banks 1|run --workers 7 --banks 2|run --workers 7 --banks 8|run --workers 64 --banks 1|run --workers 64 --banks 2|run --workers 64 --banks 8";
 
+/// Adds a word; `''` is the empty word.
 fn push_word(alloc: Global, words: &mut Vec<String>, word: &str) -> Result<(), AllocError> {
+    let word = if word == "''" { "" } else { word };
     words.push(String::from_str(alloc, word)?)?;
     Ok(())
 }

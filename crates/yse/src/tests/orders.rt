@@ -1,5 +1,5 @@
-//! Runs in given orders: those that suffice, those that end before the run does, order texts that are
-//! refused, and the banks by which ports may run ahead.
+//! Runs in given orders: those that suffice, those that end before the run does, and the banks by which ports may run
+//! ahead.
 
 use super::{C17, Case, EASY, RAM, S27, Texts, all_end, all_print, end_of, texts_of};
 use seen_list::{Memory, Text};
@@ -44,31 +44,6 @@ const CASES: &[Case] = &[
         status: 11,
         output: "cycle 22 23\n1 10\n2 00\n",
         line: "order: ended with 2 of 3 rows done\n",
-    },
-    // Order texts that are refused.
-    Case {
-        calls: "order --banks 1",
-        words: ORDERED,
-        netlist: C17,
-        stimulus: C17_ROWS,
-        machine: TWO_LOGIC,
-        more: "4\n",
-        failing: (0, 0),
-        status: 12,
-        output: "",
-        line: "order: line 1: no such port\n",
-    },
-    Case {
-        calls: "order --banks 1",
-        words: ORDERED,
-        netlist: C17,
-        stimulus: C17_ROWS,
-        machine: TWO_LOGIC,
-        more: "# none\n3 * 0\n",
-        failing: (0, 0),
-        status: 12,
-        output: "",
-        line: "order: line 2: syntax\n",
     },
     // The host alone: it runs ahead of its reader by as many turns as there are banks.
     Case {

@@ -2,24 +2,21 @@
 //! turns that are made before a row is written.
 
 ghost use Rattle.crew_run.specs.Crews.{CanTell};
-ghost use Rattle.std.specs.Prelude.{All, IfOk, Option, Some, length, slice_get, true, ℕ, ◌+◌, ◌<◌, ◌^◌, ◌≡◌, ◌≤◌};
+ghost use Rattle.std.specs.Prelude.{IfOk, Option, Some, length, slice_get, ℕ, ◌≡◌};
 
+use super::watch::{Shared, Watch, WatchGate, watch_gate};
 use super::{
     C17, Case, EASY, Edges, Ended, FILES, GATES, RUNS, S27, Texts, all_end, end_of, end_with, four,
     has_ended, texts_of,
 };
-use crew_run::{CountGate, Gate};
+use crew_run::Gate;
 use seen_list::{List, Memory};
 use std::alloc::Global;
-use std::hint;
 use std::marker::Sync;
 use std::sync::Wait;
-use std::sync::atomic::{AtomicBool, AtomicU64, Ordering};
+use std::sync::atomic::Ordering;
 use std::test::Fail;
 use std::thread::Threads;
-
-/// How often a hold tries at most.
-const TRIES: u32 = 50_000_000;
 
 const S27_ROWS: &str = "0000\n0001\n0000\n1000\n0001\n";
 
@@ -75,124 +72,6 @@ const CASES: &[Case] = &[
 #[test]
 fn workers_print_the_same(rt: HostRuntime) {
     assert!(rt; all_end(&rt, rt.alloc(), CASES));
-}
-
-/// What a gate does beside counting the turns that it is told of.
-#[derive(Clone, Copy)]
-enum Watch {
-    /// Nothing.
-    Nothing,
-    /// It holds its first call until the other worker was told of a turn.
-    Pair,
-    /// The first worker's holds the host's turn 3, until the second worker was told of a later turn.
-    Hold,
-    /// The first worker's holds its first call until the second worker was told of a turn past the third.
-    Ahead,
-}
-
-/// What the gates of a call share: a flag of the first worker and one of the others, and how many turns all gates
-/// were told of.
-#[derive(Drop)]
-struct Shared {
-    one: AtomicBool,
-    two: AtomicBool,
-    told: AtomicU64,
-}
-
-impl Shared {
-    fn new() -> Shared {
-        Shared {
-            one: AtomicBool::new(false),
-            two: AtomicBool::new(false),
-            told: AtomicU64::new(0),
-        }
-    }
-}
-
-/// Counts the turns for itself and for all gates, and holds its worker in one call at most. It says whether a try of the
-/// hold found what it looked for.
-#[derive(Drop)]
-struct WatchGate<'a> {
-    counts: CountGate,
-    watch: Watch,
-    first: bool,
-    mine: &'a AtomicBool,
-    other: &'a AtomicBool,
-    told: &'a AtomicU64,
-    held: bool,
-    found: bool,
-}
-
-/// Whether the flag was found set before the tries ran out.
-fn is_met(flag: &AtomicBool) -> bool {
-    for _ in 0..TRIES {
-        if flag.load(Ordering::SeqCst) {
-            return true;
-        }
-        hint::spin_loop();
-    }
-    false
-}
-
-impl Watch {
-    /// Whether the flag of the worker is to be set in a turn.
-    fn marks(self, turn: u64) -> bool {
-        match self {
-            Watch::Nothing => false,
-            Watch::Pair => true,
-            Watch::Hold | Watch::Ahead => turn > 3,
-        }
-    }
-
-    /// Whether a call is to be held, of the first worker or not, where one was held before or not. The host is
-    /// port 2.
-    fn holds(self, first: bool, held: bool, port: u32, turn: u64) -> bool {
-        match self {
-            Watch::Nothing => false,
-            Watch::Pair => !held,
-            Watch::Hold => first && port == 2 && turn == 3,
-            Watch::Ahead => first && !held,
-        }
-    }
-}
-
-impl<'a> Gate for WatchGate<'a> {
-    ghost times = { λ g. ⟦<CountGate as Gate>⟧.times g.counts };
-
-    ghost latest = { λ g. ⟦<CountGate as Gate>⟧.latest g.counts };
-
-    fn at(&mut self, port: u32, turn: u64) {
-        self.counts.at(port, turn);
-        self.told.fetch_add(1, Ordering::SeqCst);
-        if self.watch.marks(turn) {
-            self.mine.store(true, Ordering::SeqCst);
-        }
-        if self.watch.holds(self.first, self.held, port, turn) {
-            self.held = true;
-            self.found = is_met(self.other);
-        }
-    }
-}
-
-/// A gate that was told nothing.
-fn watch_gate<'a>(watch: Watch, first: bool, shared: &'a Shared) -> WatchGate<'a>
-    ensures { All (λ n. n ≤ 2 ^ 62) (⟦<WatchGate<'a> as Gate>⟧.times result) }
-{
-    let (mine, other) = if first {
-        (&shared.one, &shared.two)
-    } else {
-        (&shared.two, &shared.one)
-    };
-    WatchGate {
-        counts: CountGate::new(),
-        watch,
-        first,
-        mine,
-        other,
-        told: &shared.told,
-        held: false,
-        found: false,
-    }
 }
 
 /// The gates of a call: the first worker's, and those of the others.

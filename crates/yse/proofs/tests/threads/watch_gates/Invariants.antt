@@ -1,7 +1,7 @@
 use Rattle.std.specs.Prelude.{Some, Option, length, slice_get, ℕ, ◌≡◌}
 use Rattle.crew_run.specs.Crews.{CanTell}
-use Rattle.yse.specs.declared.tests.threads.WatchGate.{WatchGate}
-use Rattle.yse.specs.contracts.tests.threads.WatchGateGate.TheImpl as watch_gate
+use Rattle.yse.specs.declared.tests.watch.WatchGate.{WatchGate}
+use Rattle.yse.specs.contracts.tests.watch.WatchGateGate.TheImpl as watch_gate
 use Rattle.yse.proofs.tests.threads.watch_gates.Given as goal
 
 abbrev pub invariant-gates : goal.invariant-gates

@@ -1,0 +1,395 @@
+//! What is read of texts: of netlists as `show` prints them, of stimuli and lanes as inputs that are printed, and of
+//! orders for a run of no cycles; or the refusal. And images of netlists, whose settings of the switch were worked out by
+//! hand.
+
+use super::{EASY, Texts, ends};
+use std::alloc::Global;
+use std::marker::Sync;
+use std::sync::Wait;
+use std::thread::Threads;
+
+/// The file that a text is.
+#[derive(Clone, Copy)]
+enum Place {
+    Netlist,
+    Stimulus,
+    Machine,
+    Order,
+}
+
+/// A call, its netlist and its machine, what its texts are, and how a refusal begins and its status. Then texts, with `|`
+/// between them, and behind `=>` what each comes to.
+#[derive(Clone, Copy)]
+struct Reading {
+    call: &'static str,
+    netlist: &'static str,
+    machine: &'static str,
+    place: Place,
+    refusal: &'static str,
+    status: u8,
+    cases: &'static str,
+}
+
+/// Inputs that are printed.
+const FIVE: &str =
+    "INPUT(a)\nINPUT(b)\nINPUT(c)\nINPUT(d)\nINPUT(e)\nOUTPUT(a)\nOUTPUT(b)\nOUTPUT(c)\nOUTPUT(d)\nOUTPUT(e)\n";
+
+const ONE: &str = "INPUT(a)\nOUTPUT(a)\n";
+
+const READINGS: &[Reading] = &[
+    // First stand netlists: words as names, any letter case, forward references, CRLF, comments with any byte, blanks
+    // anywhere, a last line without its LF, and a name of 255 bytes. A CR is a bad byte unless LF or the end of the text
+    // comes next. Of a bad byte and a name of 256 bytes the first is told.
+    Reading {
+        call: "show net.bench",
+        netlist: "",
+        machine: "",
+        place: Place::Netlist,
+        refusal: "netlist: ",
+        status: 5,
+        cases: "\
+=> \
+|output(z)\nz=buf(a)\ninput(a)\n=> INPUT(a)\nOUTPUT(z)\nz = BUFF(a)\n\
+|INPUT(INPUT)\r\nAND = OR(INPUT, b) # \u{ff}\r\n\r\nb=nand\t( INPUT ,INPUT)\r\n#\r=> INPUT(INPUT)\nAND = OR(INPUT, b)\nb = NAND(INPUT, INPUT)\n\
+|INPUT(a)\nz = NOT(y)\ny = BUFF(a)\nOUTPUT(z)\nOUTPUT(a)\nOUTPUT(z)=> INPUT(a)\nOUTPUT(z)\nOUTPUT(a)\nOUTPUT(z)\nz = NOT(y)\ny = BUFF(a)\n\
+|[q0, q1] = ram(we; a0, a1; d0, d1)\nINPUT(we)\nq=Dff(q1)\nINPUT(a0)\nINPUT(a1)\nINPUT(d0)\nINPUT(d1)\n[ r ]=RAM(q;q;q0)=> INPUT(we)\nINPUT(a0)\nINPUT(a1)\nINPUT(d0)\nINPUT(d1)\n[q0, q1] = RAM(we; a0, a1; d0, d1)\nq = DFF(q1)\n[r] = RAM(q; q; q0)\n\
+|INPUT(e)\nINPUT(a)\nt = TRI(e, a)\ny = BUS(t)\nx = xor(a, e)\nw = XNOR(a, x)\nv = NOR(a)\n=> INPUT(e)\nINPUT(a)\nt = TRI(e, a)\ny = BUS(t)\nx = XOR(a, e)\nw = XNOR(a, x)\nv = NOR(a)\n\
+|INPUT(nnnnnnnnnnnnnnnnnnnnnnnnnnnnnnnnnnnnnnnnnnnnnnnnnnnnnnnnnnnnnnnnnnnnnnnnnnnnnnnnnnnnnnnnnnnnnnnnnnnnnnnnnnnnnnnnnnnnnnnnnnnnnnnnnnnnnnnnnnnnnnnnnnnnnnnnnnnnnnnnnnnnnnnnnnnnnnnnnnnnnnnnnnnnnnnnnnnnnnnnnnnnnnnnnnnnnnnnnnnnnnnnnnnnnnnnnnnnnnnnnnnnnnnnnnnnnnn)=> INPUT(nnnnnnnnnnnnnnnnnnnnnnnnnnnnnnnnnnnnnnnnnnnnnnnnnnnnnnnnnnnnnnnnnnnnnnnnnnnnnnnnnnnnnnnnnnnnnnnnnnnnnnnnnnnnnnnnnnnnnnnnnnnnnnnnnnnnnnnnnnnnnnnnnnnnnnnnnnnnnnnnnnnnnnnnnnnnnnnnnnnnnnnnnnnnnnnnnnnnnnnnnnnnnnnnnnnnnnnnnnnnnnnnnnnnnnnnnnnnnnnnnnnnnnnnnnnnnnn)\n\
+|INPUT(a)\nz = NOT a\n=> netlist: line 2: syntax\n\
+|z = RAM(a)\n=> netlist: line 1: unknown kind\n\
+|[q] = AND(a; b; c)\n=> netlist: line 1: unknown kind\n\
+|INPUT(a)\n[q, r] = RAM(a; a; a, a, a)\n=> netlist: line 2: wrong number of operands\n\
+|INPUT(a)\n\n[q, q] = RAM(a; a; a, a)\n=> netlist: line 3: q driven twice, first at line 3\n\
+|x = NOT(u)\ny = NOT(v)\nx = BUFF(w)\n=> netlist: line 3: x driven twice, first at line 1\n\
+|x = AND(x, v)\ny = NOT(u)\n=> netlist: line 1: v has no driver\n\
+|OUTPUT(z)\n=> netlist: line 1: z has no driver\n\
+|FOO(z)\n=> netlist: line 1: syntax\n\
+|[q] = RAM(a; b, ; c)\n=> netlist: line 1: syntax\n\
+|[q] = RAM(a, b; b; c)\n=> netlist: line 1: syntax\n\
+|z = AND()\n=> netlist: line 1: syntax\n\
+|z = AND(a,)\n=> netlist: line 1: syntax\n\
+|z = TRI(a)\n=> netlist: line 1: wrong number of operands\n\
+|z = DFF(a, a)\n=> netlist: line 1: wrong number of operands\n\
+|INPUT(a)\nOUTPUT(z)\nz = AND(a, b)\n=> netlist: line 3: b has no driver\n\
+|INPUT(a)\na = NOT(a)\n=> netlist: line 2: a driven twice, first at line 1\n\
+|INPUT(a)\nz = MAJ(a, a, a)\ny = NOT(a, a)\n=> netlist: line 2: unknown kind\n\
+|INPUT(a)\nz = NOT(a, a)\n=> netlist: line 2: wrong number of operands\n\
+|INPUT(a\nz = MAJ(a)\n=> netlist: line 1: syntax\n\
+|aaaaa(aaaaaaaaaaaaaaaaaaaaaaaaaaaaaaaaaaaaaaaaaaaaaaaaaaaaaaaaaaaaaaaaaaaaaaaaaaaaaaaaaaaaaaaaaaaaaaaaaaaaaaaaaaaaaaaaaaaaaaaaaaaaaaaaaaaaaaaaaaaaaaaaaaaaaaaaaaaaaaaaaaaaaaaaaaaaaaaaaaaaaaaaaaaaaaaaaaaaaaaaaaaaaaaaaaaaaaaaaaaaaaaaaaaaaaaaaaaaaaaaaaaaaaaaaaaaaaaa)=> netlist: line 1: name too long\n\
+|aaaa\0(aaaaaaaaaaaaaaaaaaaaaaaaaaaaaaaaaaaaaaaaaaaaaaaaaaaaaaaaaaaaaaaaaaaaaaaaaaaaaaaaaaaaaaaaaaaaaaaaaaaaaaaaaaaaaaaaaaaaaaaaaaaaaaaaaaaaaaaaaaaaaaaaaaaaaaaaaaaaaaaaaaaaaaaaaaaaaaaaaaaaaaaaaaaaaaaaaaaaaaaaaaaaaaaaaaaaaaaaaaaaaaaaaaaaaaaaaaaaaaaaaaaaaaaaaaaaaaaa)=> netlist: line 1, column 5: bad byte\n\
+|aaaa\n(aaaaaaaaaaaaaaaaaaaaaaaaaaaaaaaaaaaaaaaaaaaaaaaaaaaaaaaaaaaaaaaaaaaaaaaaaaaaaaaaaaaaaaaaaaaaaaaaaaaaaaaaaaaaaaaaaaaaaaaaaaaaaaaaaaaaaaaaaaaaaaaaaaaaaaaaaaaaaaaaaaaaaaaaaaaaaaaaaaaaaaaaaaaaaaaaaaaaaaaaaaaaaaaaaaaaaaaaaaaaaaaaaaaaaaaaaaaaaaaaaaaaaaaaaaaaaaaa\x7f=> netlist: line 2: name too long\n\
+|INPUT(a)\nz = NOT(a\x01)\n=> netlist: line 2, column 10: bad byte\n\
+|a\rb=> netlist: line 1, column 2: bad byte\n\
+|a\r\r\n=> netlist: line 1, column 2: bad byte\n\
+|# \u{ff}\r\n\u{e9}=> netlist: line 2, column 1: bad byte\n\
+|\n\n \x7f=> netlist: line 3, column 2: bad byte\n",
+    },
+    // Rows of five values, and of none.
+    Reading {
+        call: "refer net.bench net.stim",
+        netlist: FIVE,
+        machine: "",
+        place: Place::Stimulus,
+        refusal: "stimulus: ",
+        status: 9,
+        cases: "\
+11111\n00000\nxxxxx\n=> cycle a b c d e\n1 11111\n2 00000\n3 xxxxx\n\
+|=> cycle a b c d e\n\
+| 1 x\tX zZ*\t000000000000000000000003 # \u{ff}\r\n\n \t# 9\n0 0000\r=> cycle a b c d e\n1 1xxzz\n2 1xxzz\n3 1xxzz\n4 00000\n\
+|111 * 0=> stimulus: line 1: bad repeat\n\
+|112 * 0=> stimulus: line 1: bad character\n\
+|11111 * 1000001=> stimulus: line 1: bad repeat\n\
+|11111 * 18446744073709551617=> stimulus: line 1: bad repeat\n\
+|\n# 9\n11111 * 3 * 4=> stimulus: line 3: bad repeat\n\
+|11111 * 3 4=> stimulus: line 1: bad repeat\n\
+|11111 *=> stimulus: line 1: bad repeat\n\
+|11111\n1\n2=> stimulus: line 2: 1 values, 5 wanted\n\
+|* 3=> stimulus: line 1: 0 values, 5 wanted\n\
+|-=> stimulus: line 1: bad character\n",
+    },
+    Reading {
+        call: "refer net.bench net.stim",
+        netlist: "",
+        machine: "",
+        place: Place::Stimulus,
+        refusal: "stimulus: ",
+        status: 9,
+        cases: "\
+- * 2=> cycle\n1 \n2 \n\
+|0=> stimulus: line 1: bad character\n\
+|* 3=> stimulus: line 1: 0 values, 1 wanted\n\
+|- -=> stimulus: line 1: 2 values, 1 wanted\n",
+    },
+    // Lanes of rows of five values, of one, and of none.
+    Reading {
+        call: "pack net.bench net.stim",
+        netlist: FIVE,
+        machine: "",
+        place: Place::Stimulus,
+        refusal: "stimulus: ",
+        status: 9,
+        cases: "\
+lane\n11111\n00000\nlane\nxxxxx\n=> lane 1\ncycle a b c d e\n1 11111\n2 00000\nlane 2\ncycle a b c d e\n1 xxxxx\n\
+|=> \
+|# none\n\n \t\r\n=> \
+|11111=> stimulus: line 1: no lane\n\
+|# 1\n\n112\nlane\n=> stimulus: line 3: no lane\n\
+|lane\n11111\nlane\n1\n2=> stimulus: line 4: 1 values, 5 wanted\n",
+    },
+    Reading {
+        call: "pack net.bench net.stim",
+        netlist: ONE,
+        machine: "",
+        place: Place::Stimulus,
+        refusal: "stimulus: ",
+        status: 9,
+        cases: "\
+lane\n1 * 2\nlane\n0 * 2=> lane 1\ncycle a\n1 1\n2 1\nlane 2\ncycle a\n1 0\n2 0\n\
+|lane * 2\n=> stimulus: line 1: no lane\n\
+|Lane\n=> stimulus: line 1: no lane\n\
+|lanes\n=> stimulus: line 1: no lane\n\
+|lane\n1\nLANE\n=> stimulus: line 3: bad character\n\
+|lane\n1\nlane * 2\n=> stimulus: line 3: bad character\n\
+|lane\n1\nlane\n# 1\n1 * 0\n=> stimulus: line 5: bad repeat\n\
+|lane\n1\nlane\n1 * 1000000\n1\n=> stimulus: too many cycles\n\
+|lane\nlane\nlane\nlane\nlane\nlane\nlane\nlane\nlane\nlane\nlane\nlane\nlane\nlane\nlane\nlane\nlane\nlane\nlane\nlane\nlane\nlane\nlane\nlane\nlane\nlane\nlane\nlane\nlane\nlane\n\nlane\n2\n=> stimulus: line 32: more than 30 lanes\n\
+|lane\nlane\n1\n0 0\nlane\n=> stimulus: line 4: 2 values, 1 wanted\n\
+|lane\n0 * 1000000\n1 * 1000000\n=> stimulus: too many cycles\n",
+    },
+    Reading {
+        call: "pack net.bench net.stim",
+        netlist: "",
+        machine: "",
+        place: Place::Stimulus,
+        refusal: "stimulus: ",
+        status: 9,
+        cases: "\
+# two\n \tlane # one\r\n\nlane\n- * 2\n# lane\n=> lane 1\ncycle\nlane 2\ncycle\n1 \n2 \n",
+    },
+    // Orders of four ports, and of two.
+    Reading {
+        call: "order net.bench net.stim --machine net.machine --order net.more",
+        netlist: "",
+        machine: "logic 2\n",
+        place: Place::Order,
+        refusal: "order: ",
+        status: 12,
+        cases: "\
+=> cycle\n\
+|2*1000\n3 * 1000=> cycle\n\
+| 00000000000000000000003\t* 000000000000000000001000000 # \u{ff}\r\n\n \t# 9\n\t1\r=> cycle\n\
+|4=> order: line 1: no such port\n\
+|0\n\n18446744073709551617=> order: line 3: no such port\n\
+|0 * 0=> order: line 1: syntax\n\
+|0 * 1000001=> order: line 1: syntax\n\
+|4 * 0=> order: line 1: syntax\n\
+|0\n0 1=> order: line 2: syntax\n\
+|* 3=> order: line 1: syntax\n\
+|1 *=> order: line 1: syntax\n\
+|1 * 2 * 3=> order: line 1: syntax\n\
+|1 * 2 3=> order: line 1: syntax\n\
+|-1=> order: line 1: syntax\n\
+|4\nx=> order: line 1: no such port\n\
+|x\n4=> order: line 1: syntax\n",
+    },
+    Reading {
+        call: "order net.bench net.stim --machine net.machine --order net.more",
+        netlist: "",
+        machine: "logic 1\narray 0\n",
+        place: Place::Order,
+        refusal: "order: ",
+        status: 12,
+        cases: "\
+1 * 100\n0 * 100\n=> cycle\n",
+    },
+    // Machines that are refused: texts of the first version, then those of the second. A port is there if a later line
+    // says so.
+    Reading {
+        call: "plan net.bench --machine net.machine",
+        netlist: "",
+        machine: "",
+        place: Place::Machine,
+        refusal: "machine: ",
+        status: 6,
+        cases: "\
+logic 0\n=> machine: line 1: out of range\n\
+|logic 254\narray 2\n=> machine: 257 ports, limit is 256\n\
+|slots 5\nslots 5\n=> machine: line 2: given twice\n\
+|slots 5\nslots 0\n=> machine: line 2: given twice\n\
+|wheels 4\n=> machine: line 1: syntax\n\
+|\n\nslots 5 6=> machine: line 3: syntax\n\
+|logic 99999999999999999999\n=> machine: line 1: out of range\n\
+|slots 65537\nwheels 4\n=> machine: line 1: out of range\n\
+|logic 255\narray 0\n=> machine: line 1: out of range\n\
+|array 65\n=> machine: line 1: out of range\n\
+|functions 4097\n=> machine: line 1: out of range\n\
+|bits 16777217\n=> machine: line 1: out of range\n\
+|nodes 5\n=> machine: line 1: syntax\n\
+|functions 0 5\n=> machine: line 1: syntax\n\
+|logic 4\nversion 2\n=> machine: line 2: syntax\n\
+|version 3\n=> machine: line 1: syntax\n\
+|version 1\n=> machine: line 1: syntax\n\
+|version 2 2\n=> machine: line 1: syntax\n\
+|version 2\nversion 2\n=> machine: line 2: syntax\n\
+|version 2\nlogic 0 5\n=> machine: line 2: syntax\n\
+|version 2\nnodes 0 1 5\n=> machine: line 2: syntax\n\
+|version 2\nnodes -1 5\n=> machine: line 2: syntax\n\
+|version 2\nnodes 0\n=> machine: line 2: out of range\n\
+|version 2\nnodes 4194305\n=> machine: line 2: out of range\n\
+|version 2\nnodes 0 0\n=> machine: line 2: out of range\n\
+|version 2\nnodes 0 4194305\n=> machine: line 2: out of range\n\
+|version 2\nfunctions 0 4097\n=> machine: line 2: out of range\n\
+|version 2\nbits 0 16777217\n=> machine: line 2: out of range\n\
+|version 2\nnodes 5\nnodes 0 5\nnodes 6\n=> machine: line 4: given twice\n\
+|version 2\nnodes 0 5\nnodes 00 6\n=> machine: line 3: given twice\n\
+|version 2\nnodes 1 5\nnodes 1 0\n=> machine: line 3: given twice\n\
+|version 2\nbits 18446744073709551616 5\nbits 018446744073709551616 5\n=> machine: line 3: given twice\n\
+|version 2\nbits 18446744073709551616 5\nbits 18446744073709551617 5\nlogic 0\n=> machine: line 4: out of range\n\
+|version 2\nlogic 2\nnodes 2 5=> machine: line 3: no such port\n\
+|version 2\nbits 0 5\nbits 1 5\nfunctions 4 5\n=> machine: line 3: no such port\n\
+|version 2\nbits 18446744073709551616 5\n=> machine: line 2: no such port\n\
+|version 2\nnodes 4 5\nwheels 4\n=> machine: line 3: syntax\n\
+|version 2\nnodes 254 5\nlogic 254\narray 2\n=> machine: 257 ports, limit is 256\n",
+    },
+    // C17 on two logic processors and an array processor: the host is port 3, and has the inputs in slots 0 to 4. The gates
+    // `11`, `16`, `22` and `23`, in slots 4 to 7, are read at other ports too.
+    Reading {
+        call: "compile net.bench --machine net.machine",
+        netlist: "",
+        machine: "logic 2\narray 1\n",
+        place: Place::Netlist,
+        refusal: "overfull: ",
+        status: 8,
+        cases: "\
+INPUT(1)\nINPUT(2)\nINPUT(3)\nINPUT(6)\nINPUT(7)\nOUTPUT(22)\nOUTPUT(23)\n10 = NAND(1, 3)\n11 = NAND(3, 6)\n16 = NAND(2, 11)\n19 = NAND(11, 7)\n22 = NAND(10, 16)\n23 = NAND(16, 19)\n\
+=> yse-image 1\n\
+slots 8 units 1 init x columns 5 ports 4\n\
+port logic\n\
+table a9a9a155a9a9a155 a9a9a155a9a9a155 a9a9a155a9a9a155 a9a9a155a9a9a155 a9a9a155a9a9a155 a9a9a155a9a9a155 a9a9a155a9a9a155 a9a9a155a9a9a155\n\
+eval 3 0 g0 g2 c0 c0 5\n\
+eval 5 0 g1 g4 c0 c0 7\n\
+eval 6 0 o3 o5 c0 c0 9\n\
+send 5 1\n\
+send 6 3\n\
+take 0 3\n\
+take 1 3\n\
+take 2 3\n\
+take 4 1\n\
+port logic\n\
+table a9a9a155a9a9a155 a9a9a155a9a9a155 a9a9a155a9a9a155 a9a9a155a9a9a155 a9a9a155a9a9a155 a9a9a155a9a9a155 a9a9a155a9a9a155 a9a9a155a9a9a155\n\
+eval 4 0 g2 g3 c0 c0 6\n\
+eval 5 0 o4 g4 c0 c0 8\n\
+eval 7 0 g5 o5 c0 c0 10\n\
+send 4 0\n\
+send 7 3\n\
+take 2 3\n\
+take 3 3\n\
+take 4 3\n\
+take 5 0\n\
+port array\n\
+port host\n\
+in 0 0 0\n\
+in 1 1 1\n\
+in 2 2 2\n\
+in 3 3 3\n\
+in 4 4 4\n\
+print g6\n\
+print g7\n\
+send 0 0\n\
+send 1 0\n\
+send 2 0 1\n\
+send 3 1\n\
+send 4 1\n\
+take 6 0\n\
+take 7 1\n\
+end\n",
+    },
+    // A memory, at port 1, sends its output in slot 0, while it receives the first input.
+    Reading {
+        call: "compile net.bench --machine net.machine",
+        netlist: "",
+        machine: "logic 1\narray 1\n",
+        place: Place::Netlist,
+        refusal: "overfull: ",
+        status: 8,
+        cases: "\
+INPUT(w)\nINPUT(a)\nINPUT(d)\nOUTPUT(q)\n[q] = RAM(w; a; d)\n\
+=> yse-image 1\n\
+slots 3 units 1 init x columns 3 ports 3\n\
+port logic\n\
+port array\n\
+block 1 1 G0 G1 G2\n\
+out 0 0 0 3\n\
+send 0 2\n\
+take 0 2\n\
+take 1 2\n\
+take 2 2\n\
+port host\n\
+in 0 0 0\n\
+in 1 1 1\n\
+in 2 2 2\n\
+print g0\n\
+send 0 1\n\
+send 1 1\n\
+send 2 1\n\
+take 0 1\n\
+end\n",
+    },
+];
+
+fn readings() -> &'static [Reading] {
+    READINGS
+}
+
+/// The files of a call with this text.
+fn texts_with(reading: &Reading, text: &'static str) -> Texts<'static> {
+    let (netlist, machine) = (reading.netlist.as_bytes(), reading.machine.as_bytes());
+    let text = text.as_bytes();
+    match reading.place {
+        Place::Netlist => [text, b"", machine, b""],
+        Place::Stimulus => [netlist, text, machine, b""],
+        Place::Machine => [netlist, b"", text, b""],
+        Place::Order => [netlist, b"", machine, text],
+    }
+}
+
+/// Whether a text comes to what its case says.
+fn is_read<R: Threads + Wait + Sync>(
+    rt: &R,
+    alloc: Global,
+    reading: &Reading,
+    case: &'static str,
+) -> bool {
+    let (text, told) = case.split_once("=> ").unwrap_or((case, "a case"));
+    let told_bytes = told.as_bytes();
+    let wanted: (u8, &[u8], &[u8]) = if told.starts_with(reading.refusal) {
+        (reading.status, b"", told_bytes)
+    } else {
+        (0, told_bytes, b"")
+    };
+    ends(
+        rt,
+        alloc,
+        &[reading.call],
+        &texts_with(reading, text),
+        &EASY,
+        wanted,
+    )
+}
+
+/// Whether all texts of a call do.
+fn are_read<R: Threads + Wait + Sync>(rt: &R, alloc: Global, reading: &'static Reading) -> bool {
+    for case in reading.cases.split('|') {
+        if !is_read(rt, alloc, reading, case) {
+            return false;
+        }
+    }
+    true
+}
+
+#[test]
+fn texts_are_read_as_stated(rt: HostRuntime) {
+    for reading in readings() {
+        assert!(rt; are_read(&rt, rt.alloc(), reading));
+    }
+}
