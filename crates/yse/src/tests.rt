@@ -21,6 +21,7 @@ mod packs;
 mod readings;
 mod threads;
 mod watch;
+mod words;
 
 use crew_run::Gate;
 use edge_io::{MemFiles, MemSink, NamedBytes, NullSink, PlainFiles};
@@ -45,9 +46,6 @@ const RAM: &str =
 
 const WIDE: &str =
     "INPUT(a1)\nINPUT(a2)\nINPUT(a3)\nINPUT(a4)\nINPUT(a5)\nINPUT(a6)\nINPUT(a7)\nINPUT(a8)\nINPUT(a9)\nINPUT(a10)\nINPUT(a11)\nINPUT(a12)\nINPUT(a13)\nINPUT(a14)\nINPUT(a15)\nINPUT(a16)\nINPUT(a17)\nOUTPUT(z)\nz = AND(a1, a2, a3, a4, a5, a6, a7, a8, a9, a10, a11, a12, a13, a14, a15, a16, a17)\n";
-
-const USAGE: &str =
-    "usage: yse (run/refer/order) NETLIST STIMULUS [options], yse plan NETLIST [options], yse show NETLIST, yse large GATES CYCLES [options]\n";
 
 /// The gates of a call.
 const GATES: usize = 64;
@@ -269,7 +267,19 @@ fn has_ended(ended: &Ended, status: u8, output: &[u8], line: &[u8]) -> bool {
     ended.status == status && ended.out.taken() == output && ended.err.taken() == line
 }
 
-/// Whether a call ends with this status, this output and this line.
+/// Whether a call ended with this status, this output and this line.
+fn is_end(ended: Result<Ended, Memory>, wanted: (u8, &[u8], &[u8])) -> bool {
+    match ended {
+        Ok(ended) => {
+            let right = has_ended(&ended, wanted.0, wanted.1, wanted.2);
+            drop(ended);
+            right
+        }
+        Err(_) => false,
+    }
+}
+
+/// Whether a call ends so.
 fn ends<R: Threads + Wait + Sync>(
     rt: &R,
     alloc: Global,
@@ -278,14 +288,7 @@ fn ends<R: Threads + Wait + Sync>(
     edges: &Edges,
     wanted: (u8, &[u8], &[u8]),
 ) -> bool {
-    match end_of(rt, alloc, lines, texts, edges) {
-        Ok(ended) => {
-            let right = has_ended(&ended, wanted.0, wanted.1, wanted.2);
-            drop(ended);
-            right
-        }
-        Err(_) => false,
-    }
+    is_end(end_of(rt, alloc, lines, texts, edges), wanted)
 }
 
 /// Calls, with `|` between them, with the same words behind each, over the texts of a netlist, a stimulus, a machine and what else a call reads.

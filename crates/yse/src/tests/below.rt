@@ -4,7 +4,6 @@
 
 mod items;
 mod of_bench_text;
-mod of_cmd_words;
 mod of_crew_run;
 mod of_edge_io;
 mod of_func_table;

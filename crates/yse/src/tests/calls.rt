@@ -1,6 +1,6 @@
 //! Whole calls: what the commands end with, each over the same files.
 
-use super::{C17, Case, FILES, LATCH, RAM, S27, USAGE, WIDE, all_end};
+use super::{C17, Case, FILES, LATCH, RAM, S27, WIDE, all_end};
 
 const SHARE: &str =
     "INPUT(e)\nINPUT(a)\nINPUT(f)\nINPUT(b)\nOUTPUT(y)\nt = TRI(e, a)\nu = TRI(f, b)\ny = BUS(t, u)\n";
@@ -329,7 +329,7 @@ fn small_netlists_end_as_stated(rt: HostRuntime) {
     assert!(rt; all_end(&rt, rt.alloc(), SMALL));
 }
 
-/// Calls that print a text, and words.
+/// Calls that print a text, and a file that is not there.
 const TEXTS: &[Case] = &[
     // A text is one piece: there is no second write that could fail.
     Case {
@@ -380,19 +380,6 @@ const TEXTS: &[Case] = &[
         status: 3,
         output: "",
         line: "read fault: other\n",
-    },
-    // Words of no form.
-    Case {
-        calls: "",
-        words: "",
-        netlist: "",
-        stimulus: "",
-        machine: "",
-        more: "",
-        failing: (0, 0),
-        status: 2,
-        output: "",
-        line: USAGE,
     },
     // Options before the files and behind them, and what stands behind `--`.
     Case {

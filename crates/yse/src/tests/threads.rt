@@ -7,7 +7,7 @@ ghost use Rattle.std.specs.Prelude.{IfOk, Option, Some, length, slice_get, ℕ, 
 use super::watch::{Shared, Watch, WatchGate, watch_gate};
 use super::{
     C17, Case, EASY, Edges, Ended, FILES, GATES, RUNS, S27, Texts, all_end, end_of, end_with, four,
-    has_ended, texts_of,
+    is_end, texts_of,
 };
 use crew_run::Gate;
 use seen_list::{List, Memory};
@@ -104,18 +104,6 @@ type Finding = (bool, (bool, bool), (bool, bool));
 /// What is watched, the words of a call, its netlist, its stimulus or lanes, its machine, and its trace.
 type Watching = (Watch, &'static str, [&'static str; 3], &'static str);
 
-/// Whether a call ended with this output and with nothing else.
-fn has_printed(ended: Result<Ended, Memory>, output: &str) -> bool {
-    match ended {
-        Ok(ended) => {
-            let right = has_ended(&ended, 0, output.as_bytes(), b"");
-            drop(ended);
-            right
-        }
-        Err(_) => false,
-    }
-}
-
 /// The call of a row, whose file `net.more` has these bytes.
 fn watched<R: Threads + Wait + Sync>(
     rt: &R,
@@ -136,7 +124,7 @@ fn watched<R: Threads + Wait + Sync>(
     let one = held(gates.as_slice().first());
     let two = held(gates.as_slice().get(1));
     drop(gates);
-    Ok((has_printed(ended, row.3), one, two))
+    Ok((is_end(ended, (0, row.3.as_bytes(), b"")), one, two))
 }
 
 /// A machine of two logic processors and no array processor, where the second of two workers has the second of
