@@ -6,9 +6,10 @@ DIST = yse-dist
 
 .PHONY: build run try test examples install dist
 
-# Proves every crate that the program stands on, and leaves a copy of the executable at ./yse. The
-# gate sets aside what lies under crates/*/out while it runs; the copy stays.
+# Proves every crate that the program stands on, as many at once as there are processors, and leaves a copy of the
+# executable at ./yse. The gate sets aside what lies under crates/*/out while it runs; the copy stays.
 build:
+	tools/prove
 	cd crates/yse && rt run -- run data/c17.bench data/c17.stim
 	cp $(BUILT) $(YSE).new && mv $(YSE).new $(YSE)
 	@echo "the executable is $(YSE)"
@@ -21,9 +22,9 @@ run: build
 try:
 	cd crates/yse && rt try -- run data/c17.bench data/c17.stim
 
-# The gate: every proof, every edit that must fail, every test, and the program's stored run.
+# The gate: what the documents list, every proof, every edit that must fail, every test, and the program's stored run.
 test:
-	rt ci
+	.ci/run
 
 # Simulates each example, compares its trace with the stored one, and tries the scripts among the examples.
 examples: build
