@@ -10,7 +10,7 @@ use Rattle.logic_four.proofs.KindLemmas.{canonical, any_case, some_operands}
 use Rattle.text_lines.specs.Names.{IsName, is_mark, is_name_byte}
 use Rattle.bench_text.specs.Tokens.{first_fault as byte_fault}
 use Rattle.bench_text.specs.declared.token.Mark.TheVariants.{Open, Close, Semi, Equals, Left, Right}
-use Rattle.bench_line.specs.Forms as forms
+use Rattle.bench_text.specs.Forms as forms
 use Rattle.bench_read.specs.Lines.{driven, used, Line, Input, Output, Gate, Register, Memory}
 use Rattle.bench_read.proofs.PieceLemmas.{line_cut, part_plain, no_fault, AreClean, AreRead, none_read, sign_read, word_read, listed_read}
 

@@ -1,9 +1,9 @@
 -- The names of other modules that several proofs of this crate cite, passed on from one place. Declares nothing.
-pub use Rattle.bench_line.specs.Decoding.{form_of}
-pub use Rattle.bench_line.specs.Forms.{Form, all_of}
-pub use Rattle.bench_line.specs.Rows.{Row, is_some, row_of, rows_in}
-unfoldable pub use Rattle.bench_line.specs.Rows.{rows_of}
-pub use Rattle.bench_line.specs.Spelling.{Piece, Sign, Word, commas, listed, spelled}
+pub use Rattle.bench_text.specs.Decoding.{form_of}
+pub use Rattle.bench_text.specs.Forms.{Form, all_of}
+pub use Rattle.bench_text.specs.Rows.{Row, is_some, row_of, rows_in}
+unfoldable pub use Rattle.bench_text.specs.Rows.{rows_of}
+pub use Rattle.bench_text.specs.Spelling.{Piece, Sign, Word, commas, listed, spelled}
 pub use Rattle.bench_read.specs.code.Drafting.{driven_names, lines_in, placed_in, used_names}
 unfoldable pub use Rattle.bench_read.specs.code.Drafts.{lines_by}
 pub use Rattle.bench_read.specs.Faults.{is_undriven, row_fault, said_fault}

@@ -6,8 +6,8 @@ use Rattle.std.specs.List.{AllByRecursion, flat_map, enumerate_from, onto_first}
 use Rattle.std.proofs.lemmas.List.Sums.{length-filter, count_by-le-length}
 use Rattle.text_lines.specs.Lines.{lines_of, parts_of}
 use Rattle.text_lines.specs.Names.{IsName}
-use Rattle.bench_line.specs.Forms.{Names, all_of, Form}
-use Rattle.bench_line.specs.Forms as forms
+use Rattle.bench_text.specs.Forms.{Names, all_of, Form}
+use Rattle.bench_text.specs.Forms as forms
 use Rattle.bench_read.specs.Lines.{Line, Input, Output, Gate, Register, Memory, driven}
 use Rattle.bench_read.specs.Saying.{is_word, said_by_register, said_by_gate, said_by_memory, said_by_form, Say}
 use Rattle.bench_read.proofs.FoundLemmas.{AreMemoryBits, memory_bits}

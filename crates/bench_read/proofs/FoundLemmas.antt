@@ -6,9 +6,9 @@ use Rattle.std.proofs.lemmas.Bool.{eqb-true}
 use Rattle.std.proofs.lemmas.List.{nil_from_length}
 use Rattle.limits.specs.declared.TheConstants.{MAX_ADDRESS_BITS, MAX_GATE_OPERANDS, MAX_WORD_BITS}
 use Rattle.logic_four.specs.declared.Kind.TheVariants as kind
-use Rattle.bench_line.specs.declared.form.Head.{Head}
-use Rattle.bench_line.specs.declared.form.Head.TheVariants as head
-use Rattle.bench_line.specs.Heads.{HasHead, FoundForm}
+use Rattle.bench_text.specs.declared.form.Head.{Head}
+use Rattle.bench_text.specs.declared.form.Head.TheVariants as head
+use Rattle.bench_text.specs.Heads.{HasHead, FoundForm}
 use Rattle.bench_read.specs.declared.draft.Act.TheVariants as act
 use Rattle.bench_read.specs.Lines as lines
 use Rattle.bench_read.specs.code.Storing.{act_by_kind, act_by_head, act_of, name_in, driven_by, printed_by, IsFound}

@@ -12,8 +12,8 @@ use Rattle.bench_text.specs.declared.token.Token.{Token}
 use Rattle.bench_text.specs.Spans.{AreBytesOf, StandsIn}
 use Rattle.bench_text.specs.Tokens.{fault_at, first_fault, tokens_of}
 use Rattle.bench_text.proofs.SpanLemmas.{list_read}
-use Rattle.bench_line.specs.Rows.{Row, rows_of, placed_pieces, piece_of}
-use Rattle.bench_line.proofs.TokenLemmas.{rows_are_tokens}
+use Rattle.bench_text.specs.Rows.{Row, rows_of, placed_pieces, piece_of}
+use Rattle.bench_text.proofs.TokenLemmas.{rows_are_tokens}
 
 -- a piece is a mark, or a word that is a name
 abbrev pub IsNamed : Piece → Type 0

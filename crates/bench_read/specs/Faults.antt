@@ -11,7 +11,7 @@ use Rattle.bench_read.specs.declared.refusal.Many.TheVariants.{Signals, Operands
 use Rattle.bench_read.specs.declared.refusal.BenchNo.{BenchNo}
 use Rattle.bench_read.specs.declared.refusal.BenchNo.TheVariants.{Text, DrivenTwice, Undriven, TooMany, Memory}
 use Rattle.bench_read.specs.Lines.{Line, all_driven, operand_count}
-use Rattle.bench_line.specs.Rows.{Row, rows_of}
+use Rattle.bench_text.specs.Rows.{Row, rows_of}
 use Rattle.bench_read.specs.Placed.{Placed, Named, said_at, placed_of, driven_in, drivers_of, uses_of}
 
 -- ---- the second pass: lines

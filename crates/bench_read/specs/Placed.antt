@@ -4,7 +4,7 @@ use Rattle.std.specs.List.{flat_map, filter_map}
 use Rattle.std.specs.Result.{result_ok}
 use Rattle.bench_read.specs.declared.refusal.BenchNo.{BenchNo}
 use Rattle.bench_read.specs.Lines.{Line, driven, used}
-use Rattle.bench_line.specs.Rows.{Row}
+use Rattle.bench_text.specs.Rows.{Row}
 use Rattle.bench_read.specs.Saying.{said}
 
 -- a line, with its number in the text

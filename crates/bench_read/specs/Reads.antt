@@ -5,7 +5,7 @@ use Rattle.limits.specs.declared.TheConstants.{MAX_OPERANDS, MAX_SIGNALS}
 use Rattle.bench_text.specs.Tokens.{first_fault as byte_fault}
 use Rattle.net_defs.specs.declared.netlist.Netlist.{Netlist}
 use Rattle.bench_read.specs.Lines.{Line, all_driven, all_used, operand_count}
-use Rattle.bench_line.specs.Rows.{rows_of}
+use Rattle.bench_text.specs.Rows.{rows_of}
 use Rattle.bench_read.specs.Saying.{Say}
 use Rattle.bench_read.specs.Netlists.{netlist_of}
 

@@ -6,13 +6,13 @@ use Rattle.logic_four.specs.Kinds.{kind_of, allows_operands}
 use Rattle.bench_read.specs.declared.refusal.BenchNo.{BenchNo}
 use Rattle.bench_read.specs.declared.refusal.BenchNo.TheVariants.{Syntax, UnknownKind, Arity}
 use Rattle.limits.specs.declared.TheConstants.{MAX_ADDRESS_BITS, MAX_WORD_BITS}
-use Rattle.bench_line.specs.Forms.{Names, all_of, Form}
-use Rattle.bench_line.specs.Forms as forms
+use Rattle.bench_text.specs.Forms.{Names, all_of, Form}
+use Rattle.bench_text.specs.Forms as forms
 use Rattle.bench_read.specs.Lines.{Line}
 use Rattle.bench_read.specs.Lines as lines
-use Rattle.bench_line.specs.Spelling.{spelled}
-use Rattle.bench_line.specs.Rows.{Row}
-use Rattle.bench_line.specs.Decoding.{form_of}
+use Rattle.bench_text.specs.Spelling.{spelled}
+use Rattle.bench_text.specs.Rows.{Row}
+use Rattle.bench_text.specs.Decoding.{form_of}
 
 -- whether a memory may have so many address names, data names and outputs
 abbrev pub allows_memory : ℕ → ℕ → ℕ → Bool

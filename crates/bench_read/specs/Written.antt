@@ -10,10 +10,10 @@ use Rattle.net_defs.specs.declared.netlist.Block.{Block}
 use Rattle.net_defs.specs.declared.netlist.Driver.{Driver}
 use Rattle.net_defs.specs.declared.netlist.Driver.TheVariants as driver
 use Rattle.net_defs.specs.Canonical.{name_of}
-use Rattle.bench_line.specs.Forms.{Names, Form}
-use Rattle.bench_line.specs.Forms as forms
+use Rattle.bench_text.specs.Forms.{Names, Form}
+use Rattle.bench_text.specs.Forms as forms
 use Rattle.bench_read.specs.Lines.{Line, Input, Output, Gate, Register, Memory}
-use Rattle.bench_line.specs.Spelling.{Piece, Sign, Word, spelled}
+use Rattle.bench_text.specs.Spelling.{Piece, Sign, Word, spelled}
 
 -- ---- the lines of a netlist
 

@@ -7,7 +7,7 @@ ghost use Rattle.net_defs.specs.declared.netlist.Netlist.{Netlist};
 ghost use Rattle.net_defs.specs.Canonical.{canonical_text};
 ghost use Rattle.net_defs.specs.Valid.{IsValid};
 ghost use Rattle.text_lines.specs.Answers.{IsReader};
-ghost use Rattle.bench_line.specs.Rows.{Row};
+ghost use Rattle.bench_text.specs.Rows.{Row};
 ghost use Rattle.bench_read.specs.declared.refusal.BenchNo.{BenchNo};
 ghost use Rattle.bench_read.specs.Faults.{first_fault};
 ghost use Rattle.bench_read.specs.Lines.{Line};

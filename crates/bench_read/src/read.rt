@@ -9,7 +9,7 @@ ghost use Rattle.bench_text.specs.declared.token.TextNo.TheVariants as text_no;
 ghost use Rattle.bench_text.specs.Tokens.{first_fault as byte_fault};
 ghost use Rattle.bench_read.specs.declared.refusal.BenchNo.TheVariants.{Memory as NoMemory, Text};
 ghost use Rattle.bench_read.specs.Faults.{of_text, first_fault};
-ghost use Rattle.bench_line.specs.Rows.{rows_of};
+ghost use Rattle.bench_text.specs.Rows.{rows_of};
 ghost use Rattle.bench_read.specs.Placed.{placed_of};
 ghost use Rattle.bench_read.specs.code.Placed.{lines_at};
 ghost use Rattle.bench_read.specs.Netlists.{netlist_of};

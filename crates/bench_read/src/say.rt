@@ -6,7 +6,7 @@ ghost use Rattle.bench_read.specs.code.Storing.{act_by_head, act_by_port, act_by
 
 use crate::draft::Act;
 use crate::refusal::BenchNo;
-use bench_line::form::Head;
+use bench_text::form::Head;
 use limits::{MAX_ADDRESS_BITS, MAX_WORD_BITS};
 use logic_four::{Kind, allows, kind_of};
 

@@ -1,4 +1,9 @@
 pub mod Bytes
 pub mod code
+pub mod Decoding
+pub mod Forms
+pub mod Heads
+pub mod Rows
 pub mod Spans
+pub mod Spelling
 pub mod Tokens

@@ -32,7 +32,7 @@ use Rattle.port_walk.specs.Placed.{IsEnding, IsNextOf, IsReceiving, IsSending, P
 use Rattle.event_core.specs.Core.{Applies, state_of}
 use Rattle.event_core.specs.code.Core.{IsUpcoming}
 use Rattle.event_core.specs.Kept.{IsKept, IsSeat, view_of}
-use Rattle.send_row.specs.Sources.{IsSource}
+use Rattle.event_defs.specs.Sources.{IsSource}
 use Rattle.event_core.specs.Seats.{place_in}
 use Rattle.event_core.specs.code.Seats.{HasPutRoom, HasTakeRoom, IsNextIn}
 use Rattle.event_core.specs.declared.core_run.Core.TheInside.{Inside}

@@ -30,7 +30,7 @@ use Rattle.event_core.proofs.CoreLemmas.{ending_here, few_turns, here, here_turn
 use Rattle.event_core.specs.Core.{Applies, state_of}
 use Rattle.event_core.specs.code.Core.{IsUpcoming}
 use Rattle.event_core.specs.Kept.{IsKept, IsSeat, view_of}
-use Rattle.send_row.specs.Sources.{IsSource}
+use Rattle.event_defs.specs.Sources.{IsSource}
 use Rattle.event_core.specs.Seats.{place_in}
 use Rattle.event_core.specs.code.Seats.{HasWritten, IsWordRead, seat_asked, seat_put, seat_taken, seat_told}
 use Rattle.event_core.specs.declared.core_run.Core.TheInside.{Inside}

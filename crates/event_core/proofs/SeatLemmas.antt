@@ -5,7 +5,7 @@ use Rattle.std.proofs.lemmas.Option.{get_or_from_slice_get, slice_get-get_or}
 use Rattle.image_defs.specs.declared.image.LinkIn.{LinkIn}
 use Rattle.image_defs.specs.declared.image.LinkOut.{LinkOut}
 use Rattle.event_defs.proofs.AlikeLemmas.{told}
-use Rattle.send_row.proofs.SourceLemmas.{entry_there}
+use Rattle.event_defs.proofs.SourceLemmas.{entry_there}
 use Rattle.port_walk.specs.Placed.{CanPut, CanTake, HasPut, HasTaken, IsNextReceipt, IsNextSend, IsReceiving, IsSending, PlacedPort, in_next_turn}
 use Rattle.event_core.specs.code.Seats.{AtSeat, HasPutRoom, HasTakeRoom, seat_put, seat_taken, seat_told}
 use Rattle.event_core.specs.declared.seats.Seat.{Seat}

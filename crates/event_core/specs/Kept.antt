@@ -12,7 +12,7 @@ use Rattle.event_defs.specs.Row.{send_count, sends_before}
 use Rattle.event_core.specs.declared.core_run.Core.TheInside.{Inside}
 use Rattle.event_core.specs.declared.seats.Seat.{Seat}
 use Rattle.event_core.specs.Core.{CoreView, IsSoundCore}
-use Rattle.send_row.specs.Sources.{AreSources}
+use Rattle.event_defs.specs.Sources.{AreSources}
 use Rattle.event_core.specs.Seats.{place_in}
 
 abbrev pub view_of : Inside → CoreView

@@ -11,7 +11,7 @@ ghost use Rattle.event_defs.specs.declared.place.CoreStep.TheVariants.{Moved};
 ghost use Rattle.event_defs.specs.declared.place.Action.TheVariants as action;
 ghost use Rattle.event_defs.specs.declared.place.Event.TheVariants as event;
 ghost use Rattle.port_host.specs.Rows.{printed_sources};
-ghost use Rattle.send_row.specs.Sources.{AreFirsts};
+ghost use Rattle.event_defs.specs.Sources.{AreFirsts};
 ghost use Rattle.event_core.specs.Core.{Applies, AreDone, HasRun, IsIdle, IsRoundOf, IsSoundCore, IsStart, SparesReaders, TakesThisTurn, left_of, rows_of};
 ghost use Rattle.event_core.specs.code.Core.{IsReady, IsUpcoming};
 
@@ -90,7 +90,7 @@ impl<'a> Core<'a> {
         ensures start { IfOk result (IsStart image.now stim.now banks) }
         ensures sound { IfOk result IsSoundCore }
     {
-        let firsts = send_row::first_sends(alloc, image)?;
+        let firsts = event_defs::first_sends(alloc, image)?;
         Core::begin(alloc, image, stim, banks, firsts.as_slice())
     }
 

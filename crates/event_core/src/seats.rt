@@ -6,7 +6,7 @@ ghost use Rattle.image_defs.specs.WellFormed.{IsWellFormed};
 ghost use Rattle.image_defs.specs.declared.image.LinkIn.{LinkIn};
 ghost use Rattle.image_defs.specs.declared.image.LinkOut.{LinkOut};
 ghost use Rattle.port_walk.specs.Placed.{CanPut, CanTake, CanTakeValue, IsEnding, IsReceiving, IsSending};
-ghost use Rattle.send_row.specs.Sources.{AreFirsts};
+ghost use Rattle.event_defs.specs.Sources.{AreFirsts};
 ghost use Rattle.event_core.specs.code.Made.{AreFirstSeats, IsFirstSeat, whole_run};
 ghost use Rattle.event_core.specs.code.Seats.{AtSeat, HasPutRoom, HasTakeRoom, HasWritten, IsNextIn, IsWordRead, seat_asked, seat_put, seat_taken, seat_told};
 
@@ -51,7 +51,7 @@ fn first_seat<'a>(
     ensures { IfOk result (IsFirstSeat image.now stim.now banks p) }
 {
     let known = List::filled(alloc, 0, image.ports.len())?;
-    let sources = send_row::sources_of(alloc, image, firsts, p)?;
+    let sources = event_defs::sources_of(alloc, image, firsts, p)?;
     let port = AnyPort::new(alloc, image, stim, p as u32, window)?;
     Ok(Seat {
         port,

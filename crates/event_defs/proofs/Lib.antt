@@ -9,6 +9,7 @@ pub mod PaceLemmas
 pub mod RowLemmas
 pub mod RunLemmas
 pub mod SlotLemmas
+pub mod SourceLemmas
 pub mod StampLemmas
 pub mod StuckLemmas
 pub mod SumLemmas

@@ -6,4 +6,5 @@ pub mod Next
 pub mod Places
 pub mod Row
 pub mod Sound
+pub mod Sources
 pub mod Steps

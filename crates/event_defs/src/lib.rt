@@ -4,10 +4,13 @@
 //! what it does next, what one step of one port makes of the whole state, which states are sound,
 //! and how many events a run has. They take three numbers as they come: the banks of words of each
 //! send, 1 to 8, the last turn that the ports execute, and the ports in the order in which they
-//! step, which is any order.
+//! step, which is any order. And the sends of an image in one row, port after port: how many come before each port,
+//! and for each receipt the number of the send that it comes from.
 #![tactic(auto)]
 
 pub mod law;
 mod place;
+mod sources;
 
 pub use place::{Action, CoreStep, Event, Place};
+pub use sources::{first_sends, source_of, sources_of};

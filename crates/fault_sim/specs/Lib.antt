@@ -1,3 +1,4 @@
 pub mod code
 pub mod Faults
+pub mod Lines
 pub mod Verdicts

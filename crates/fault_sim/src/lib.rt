@@ -1,5 +1,6 @@
 //! Stuck faults: where a stimulus shows that a signal has the same value at every turn. Many faulty
-//! designs run side by side with the good one, in groups that are dealt to threads.
+//! designs run side by side with the good one, in groups that are dealt to threads. The lines of the
+//! verdicts are made here too.
 #![tactic(auto)]
 
 ghost use Rattle.fault_sim.specs.Faults.{StepsAsStuck, StuckStepsRight, HasOneFaulty};
@@ -11,6 +12,7 @@ mod edge;
 mod faults;
 mod force;
 mod group;
+mod lines;
 mod look;
 mod program;
 mod run;
@@ -22,6 +24,7 @@ mod turn;
 pub use all::fault_all;
 pub use faults::{Fault, Verdict};
 pub use group::fault_group;
+pub use lines::fault_lines;
 
 /// A law: where the netlist has no loop, each fault has exactly one faulty simulation, and its steps are
 /// those in which the stuck signal has its value and all else is as ever. It does nothing.

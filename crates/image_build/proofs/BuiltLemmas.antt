@@ -17,9 +17,9 @@ use Rattle.image_defs.specs.declared.image.Image.{Image}
 use Rattle.image_defs.specs.Places as places
 use Rattle.image_defs.specs.Places.{Each, IsPort, item_slots, in_slots}
 use Rattle.image_defs.specs.WellFormed.{IsHost, IsPortImage, IsWellFormed}
-use Rattle.image_match.specs.Matches.{claims_of, IsClaim, ClaimsIn, ImplementsClaim, PrintsItems, Matches}
-use Rattle.image_match.specs.Shows.{ShowsItems}
-use Rattle.image_match.proofs.MatchLemmas.{shows_items}
+use Rattle.image_defs.specs.Matches.{claims_of, IsClaim, ClaimsIn, ImplementsClaim, PrintsItems, Matches}
+use Rattle.image_defs.specs.Shows.{ShowsItems}
+use Rattle.image_defs.proofs.MatchLemmas.{shows_items}
 use Rattle.plan_defs.specs.declared.plan.Homes.{Homes}
 use Rattle.plan_defs.specs.declared.plan.Plan.{Plan}
 use Rattle.plan_defs.specs.declared.switch.Switch.{Switch}

@@ -16,8 +16,8 @@ use Rattle.image_defs.specs.declared.image.Work.TheVariants.{Logic, Array, Host}
 use Rattle.image_defs.specs.declared.image.PortImage.{PortImage}
 use Rattle.image_defs.specs.declared.image.Image.{Image}
 use Rattle.image_defs.specs.Places.{Stands, IsPort, item_slots, task_slot}
-use Rattle.image_match.specs.Matches.{claims_of, IsClaim, ClaimsIn}
-use Rattle.image_match.proofs.MatchLemmas.{maps_same}
+use Rattle.image_defs.specs.Matches.{claims_of, IsClaim, ClaimsIn}
+use Rattle.image_defs.proofs.MatchLemmas.{maps_same}
 use Rattle.plan_defs.specs.declared.plan.Homes.{Homes}
 use Rattle.plan_defs.specs.declared.plan.Plan.{Plan}
 use Rattle.plan_defs.specs.declared.switch.Switch.{Switch}

@@ -15,7 +15,7 @@ use Rattle.switch_set.specs.Links.{IsSlotList}
 use Rattle.switch_set.specs.Order.{items_of, IsSlotOrder}
 use Rattle.switch_set.proofs.ListLemmas.{listed_none, listed_same, listed_more}
 use Rattle.switch_set.proofs.SwitchLemmas.{item_low, here_is, lower, kept, added, old_or}
-use Rattle.image_match.specs.Matches.{claims_of}
+use Rattle.image_defs.specs.Matches.{claims_of}
 use Rattle.image_build.specs.PortItems.{IsAt, ArePlanClaims}
 use Rattle.image_build.specs.Plans.{IsPlanned}
 use Rattle.image_build.specs.code.Plans.{AreItemsAmong}

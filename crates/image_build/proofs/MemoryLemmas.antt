@@ -11,7 +11,7 @@ use Rattle.plan_defs.specs.declared.plan.Homes.{Homes}
 use Rattle.plan_defs.specs.Homes.{block_home, ports_of}
 use Rattle.plan_defs.specs.code.Lists.{ListsBelow}
 use Rattle.plan_defs.proofs.ListLemmas.{listed_none, listed_more, listed_not}
-use Rattle.image_match.specs.Matches.{claims_of}
+use Rattle.image_defs.specs.Matches.{claims_of}
 use Rattle.image_build.specs.declared.memories.Memories.{Memories}
 use Rattle.image_build.specs.Built.{ArePortMemories}
 use Rattle.image_build.specs.code.Layouts.{block_for, AreBlocks}

@@ -14,7 +14,7 @@ use Rattle.plan_defs.specs.declared.plan.Plan.{Plan}
 use Rattle.plan_defs.specs.Homes.{home_of, block_home, host_of, MayHouse}
 use Rattle.plan_defs.specs.Slots.{slot_of}
 use Rattle.image_defs.specs.declared.image.OutBit.{OutBit}
-use Rattle.image_match.specs.Matches.{claims_of}
+use Rattle.image_defs.specs.Matches.{claims_of}
 use Rattle.image_build.specs.declared.memories.Memories.{Memories}
 use Rattle.image_build.specs.PortItems.{IsAt, ArePortItems}
 use Rattle.image_build.specs.code.Layouts.{IsBitFor}

@@ -10,7 +10,7 @@ use Rattle.plan_defs.specs.declared.plan.Homes.{Homes}
 use Rattle.plan_defs.specs.declared.plan.Plan.{Plan}
 use Rattle.plan_defs.specs.declared.switch.PortLinks.{PortLinks}
 use Rattle.plan_defs.specs.declared.switch.Switch.{Switch}
-use Rattle.image_match.specs.Matches.{claims_of}
+use Rattle.image_defs.specs.Matches.{claims_of}
 use Rattle.image_build.specs.Built.{AreLinksOf}
 use Rattle.image_build.specs.code.Layouts.{IsWorkFor}
 use Rattle.image_build.specs.code.Plans.{AreFirstPorts}

@@ -20,7 +20,7 @@ use Rattle.image_defs.specs.declared.image.Image.{Image}
 use Rattle.image_defs.specs.Places.{Stands, IsPort, in_slots, sender_in}
 use Rattle.image_defs.specs.WellFormed.{IsThere, IsBefore, IsOfLast, IsOperand, IsPast, IsPresent}
 use Rattle.image_defs.proofs.PlaceLemmas.{sender_found}
-use Rattle.image_match.specs.Matches.{ClaimsIn, is_last, Carries}
+use Rattle.image_defs.specs.Matches.{ClaimsIn, is_last, Carries}
 use Rattle.plan_defs.specs.declared.plan.Homes.{Homes}
 use Rattle.plan_defs.specs.declared.plan.Plan.{Plan}
 use Rattle.plan_defs.specs.declared.switch.Receipt.{Receipt}

@@ -28,7 +28,7 @@ use Rattle.image_defs.specs.declared.image.PortImage.{PortImage}
 use Rattle.image_defs.specs.declared.image.Image.{Image}
 use Rattle.image_defs.specs.Places.{Each, IsPort, printed_of}
 use Rattle.image_defs.specs.WellFormed.{IsPast, IsPresent, IsTask, IsBlock, IsBit, IsWork}
-use Rattle.image_match.specs.Matches.{claims_of, IsClaim, Carries, CarryAll, MemoryImplements, TaskImplements, BitImplements, InputImplements, Implements}
+use Rattle.image_defs.specs.Matches.{claims_of, IsClaim, Carries, CarryAll, MemoryImplements, TaskImplements, BitImplements, InputImplements, Implements}
 use Rattle.plan_defs.specs.declared.plan.Homes.{Homes}
 use Rattle.plan_defs.specs.declared.plan.Plan.{Plan}
 use Rattle.plan_defs.specs.declared.switch.Switch.{Switch}

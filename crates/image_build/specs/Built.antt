@@ -24,7 +24,7 @@ use Rattle.image_defs.specs.declared.image.Image.{Image}
 use Rattle.image_defs.specs.Places.{IsPort, item_slots}
 use Rattle.image_defs.specs.WellFormed.{IsWellFormed}
 use Rattle.image_defs.specs.Frames.{image_value, shown}
-use Rattle.image_match.specs.Matches.{claims_of, IsClaim, Matches, MemoryImplements}
+use Rattle.image_defs.specs.Matches.{claims_of, IsClaim, Matches, MemoryImplements}
 use Rattle.plan_defs.specs.declared.plan.Homes.{Homes}
 use Rattle.plan_defs.specs.declared.plan.Plan.{Plan}
 use Rattle.plan_defs.specs.declared.switch.Sending.{Sending}

@@ -5,7 +5,7 @@ use Rattle.plan_defs.specs.declared.plan.Homes.{Homes}
 use Rattle.plan_defs.specs.Homes.{home_of, ports_of}
 use Rattle.plan_defs.specs.Slots.{slot_of}
 use Rattle.switch_set.specs.Links.{IsSlotList}
-use Rattle.image_match.specs.Matches.{claims_of}
+use Rattle.image_defs.specs.Matches.{claims_of}
 
 -- item i is at the port
 abbrev pub IsAt : NodeNet → Homes → ℕ → ℕ → Type 0

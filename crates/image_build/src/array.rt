@@ -2,7 +2,7 @@
 
 ghost use Rattle.std.specs.Prelude.{◌≡◌, ◌<◌, ◌≤◌, ℕ, IfOk, Some, length, slice_get};
 ghost use Rattle.plan_defs.specs.Homes.{host_of};
-ghost use Rattle.image_match.specs.Matches.{claims_of};
+ghost use Rattle.image_defs.specs.Matches.{claims_of};
 ghost use Rattle.node_defs.specs.declared.items.Item.TheVariants.{BlockBit};
 ghost use Rattle.node_defs.specs.Takes.{BlockTakes};
 ghost use Rattle.image_build.specs.PortItems.{ArePortItems};

@@ -3,7 +3,7 @@
 ghost use Rattle.std.specs.Prelude.{◌≡◌, ◌<◌, ◌^◌, ◌++◌, ◌∷◌, [], IfOk, OnOk, length, slice_set};
 ghost use Rattle.node_defs.specs.WellFormed.{IsWellFormed};
 ghost use Rattle.plan_defs.specs.Homes.{AreHomes};
-ghost use Rattle.image_match.specs.Matches.{claims_of};
+ghost use Rattle.image_defs.specs.Matches.{claims_of};
 ghost use Rattle.image_build.specs.code.Plans.{AreMemories};
 
 use crate::port_items::{empty_lists, push_to};

@@ -1,7 +1,7 @@
 //! The items of each port.
 
 ghost use Rattle.std.specs.Prelude.{◌≡◌, ◌<◌, ◌∷◌, ◌++◌, [], IfOk, OnOk, length, replicate, slice_set};
-ghost use Rattle.image_match.specs.Matches.{claims_of};
+ghost use Rattle.image_defs.specs.Matches.{claims_of};
 ghost use Rattle.image_build.specs.PortItems.{ArePlanClaims};
 ghost use Rattle.image_build.specs.Plans.{IsPlanned};
 

@@ -3,7 +3,7 @@
 ghost use Rattle.std.specs.Prelude.{◌≡◌, ◌<◌, ℕ, Contains, IfOk, length, map};
 ghost use Rattle.image_build.specs.code.Layouts.{source_of as taken_from, feed_source as fed_from};
 ghost use Rattle.node_defs.specs.Takes.{FeedTakes};
-ghost use Rattle.image_match.specs.Matches.{is_last as is_of_last};
+ghost use Rattle.image_defs.specs.Matches.{is_last as is_of_last};
 
 use image_defs::Source;
 use node_defs::{Feed, Tag};

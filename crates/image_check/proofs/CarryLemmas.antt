@@ -9,10 +9,10 @@ use Rattle.node_defs.specs.declared.items.Tag.TheVariants.{Last}
 use Rattle.node_defs.specs.declared.items.NodeBlock.{NodeBlock}
 use Rattle.image_defs.specs.declared.image.Source.{Source}
 use Rattle.image_defs.specs.declared.image.BlockWork.{BlockWork}
-use Rattle.image_match.specs.Matches.{CarryAll, MemoryImplements}
+use Rattle.image_defs.specs.Matches.{CarryAll, MemoryImplements}
 use Rattle.image_check.specs.declared.claims.OnePort.{OnePort}
 use Rattle.image_check.specs.declared.nodes.Operands.{Operands}
-use Rattle.image_check.specs.Claimed.{lists_of}
+use Rattle.image_defs.specs.Claimed.{lists_of}
 use Rattle.image_check.specs.code.OnePorts.{CarriesAt, CarryFour}
 
 -- the first n sources carry the first n items

@@ -7,11 +7,11 @@ use Rattle.list_laws.proofs.Places.{one_there, within_some}
 use Rattle.image_defs.specs.declared.image.PortImage.{PortImage}
 use Rattle.image_defs.specs.declared.image.Image.{Image}
 use Rattle.image_defs.specs.Places.{IsPort, item_slots}
-use Rattle.image_match.specs.Matches.{IsClaim, ClaimsIn, claims_of}
-use Rattle.image_check.specs.declared.file.PortClaims.{PortClaims}
-use Rattle.image_check.specs.declared.file.Claims.{Claims}
+use Rattle.image_defs.specs.Matches.{IsClaim, ClaimsIn, claims_of}
+use Rattle.image_defs.specs.declared.file.PortClaims.{PortClaims}
+use Rattle.image_defs.specs.declared.file.Claims.{Claims}
 use Rattle.image_check.specs.declared.shapes.Shape.{Shape}
-use Rattle.image_check.specs.Claimed.{lists_of}
+use Rattle.image_defs.specs.Claimed.{lists_of}
 use Rattle.image_check.specs.code.OnePorts.{AreLaidOut, ClaimedIn}
 use Rattle.image_check.specs.code.Shapes.{IsShapeOf, IsRising}
 use Rattle.image_check.proofs.SearchLemmas.{one_place}

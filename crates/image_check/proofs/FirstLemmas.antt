@@ -14,12 +14,12 @@ use Rattle.image_defs.specs.declared.image.Image.{Image}
 use Rattle.image_defs.specs.declared.image.PortImage.{PortImage}
 use Rattle.image_defs.specs.declared.image.Source.{Source}
 use Rattle.image_defs.specs.Places.{IsPort, IsItemIn, item_slots, host_of}
-use Rattle.image_match.specs.Matches.{IsClaim, ImplementsClaim, PrintsItems, Matches, claims_of}
-use Rattle.image_check.specs.declared.file.PortClaims.{PortClaims}
-use Rattle.image_check.specs.declared.file.ImageFile.{ImageFile}
+use Rattle.image_defs.specs.Matches.{IsClaim, ImplementsClaim, PrintsItems, Matches, claims_of}
+use Rattle.image_defs.specs.declared.file.PortClaims.{PortClaims}
+use Rattle.image_defs.specs.declared.file.ImageFile.{ImageFile}
 use Rattle.image_check.specs.declared.claims.OnePort.{OnePort}
 use Rattle.image_check.specs.declared.shapes.Shape.{Shape}
-use Rattle.image_check.specs.Claimed.{lists_of, HasClaims, HasTiming, PlaceMatches, ColumnMatches, IsFirstPlace}
+use Rattle.image_defs.specs.Claimed.{lists_of, HasClaims, HasTiming, PlaceMatches, ColumnMatches, IsFirstPlace}
 use Rattle.image_check.specs.code.Differences.{AsClaimed, AllAsClaimed, IsFirstOther, IsFirstSlot, PrintsAt, IsFirstUnprinted}
 use Rattle.image_check.specs.code.OnePorts.{IsOnePort, AreLaidOut, CarriesAt}
 use Rattle.image_check.specs.code.Shapes.{IsShapeOf}

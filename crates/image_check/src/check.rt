@@ -2,12 +2,12 @@
 
 ghost use Rattle.std.specs.Prelude.{ℕ};
 ghost use Rattle.image_defs.specs.WellFormed.{IsWellFormed};
-ghost use Rattle.image_match.specs.Matches.{Matches};
+ghost use Rattle.image_defs.specs.Matches.{Matches};
 ghost use Rattle.image_check.specs.Check.{Says, IsOkOrMemory};
-ghost use Rattle.image_check.specs.Claimed.{lists_of, HasClaims, HasTiming, PlaceMatches};
+ghost use Rattle.image_defs.specs.Claimed.{lists_of, HasClaims, HasTiming, PlaceMatches};
 ghost use Rattle.image_check.specs.code.Shapes.{AreShapesOf};
 
-use crate::file::ImageFile;
+use image_defs::ImageFile;
 use crate::places::{first_column, first_place};
 use crate::ports::is_well_formed;
 use crate::shapes::{Shape, shapes};

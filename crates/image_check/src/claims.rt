@@ -4,16 +4,15 @@ ghost use Rattle.std.specs.Prelude.{◌≡◌, ◌↔◌, IsTrue, Some, length, 
 ghost use Rattle.std.specs.List.Sorted.{IsStrictlyIncreasing};
 ghost use Rattle.node_defs.specs.declared.items.Feed.TheVariants.{From, Fixed};
 ghost use Rattle.image_defs.specs.Places.{sender_in};
-ghost use Rattle.image_match.specs.Matches.{IsClaim, CarryAll};
-ghost use Rattle.image_match.specs.Matches.{is_last as is_of_last};
-ghost use Rattle.image_check.specs.Claimed.{lists_of};
+ghost use Rattle.image_defs.specs.Matches.{IsClaim, CarryAll};
+ghost use Rattle.image_defs.specs.Matches.{is_last as is_of_last};
+ghost use Rattle.image_defs.specs.Claimed.{lists_of};
 ghost use Rattle.image_check.specs.code.OnePorts.{IsOnePort, ClaimedIn, ClaimsAt, CarriesAt};
 ghost use Rattle.node_defs.specs.declared.items.Tag.TheVariants.{Last};
 
-use crate::file::{Claims, ImageFile};
+use image_defs::{Claims, ImageFile, PortImage, Source};
 use crate::search::{place_of, sender_of};
 use crate::shapes::Shape;
-use image_defs::{PortImage, Source};
 use logic_four::V4;
 use node_defs::{Feed, Tag};
 

@@ -5,7 +5,6 @@
 
 mod check;
 mod claims;
-mod file;
 mod form;
 mod links;
 mod memories;
@@ -19,4 +18,3 @@ mod timing;
 mod works;
 
 pub use check::{CheckNo, check_image};
-pub use file::{Claims, ImageFile, PortClaims};

@@ -3,8 +3,8 @@
 
 ghost use Rattle.std.specs.Prelude.{◌≡◌, ◌↔◌, IsTrue, IfSome, Some};
 ghost use Rattle.image_defs.specs.Places.{blocks_of};
-ghost use Rattle.image_match.specs.Matches.{Implements, BitImplements, MemoryImplements};
-ghost use Rattle.image_check.specs.Claimed.{lists_of};
+ghost use Rattle.image_defs.specs.Matches.{Implements, BitImplements, MemoryImplements};
+ghost use Rattle.image_defs.specs.Claimed.{lists_of};
 ghost use Rattle.image_check.specs.code.Differences.{AsClaimed};
 ghost use Rattle.image_check.specs.code.Memories.{IsMemory, IsMemoryAt, AreSameMemories};
 ghost use Rattle.image_check.specs.code.OnePorts.{IsOnePort};

@@ -6,8 +6,8 @@ ghost use Rattle.node_defs.specs.declared.items.Item.TheVariants.{Node, Latch};
 ghost use Rattle.node_defs.specs.declared.items.NodeNet.{NodeNet};
 ghost use Rattle.func_table.specs.Entries.{AreAlike};
 ghost use Rattle.image_defs.specs.Places.{blocks_of};
-ghost use Rattle.image_match.specs.Matches.{Implements, ImplementsClaim, TaskImplements, InputImplements};
-ghost use Rattle.image_check.specs.Claimed.{lists_of};
+ghost use Rattle.image_defs.specs.Matches.{Implements, ImplementsClaim, TaskImplements, InputImplements};
+ghost use Rattle.image_defs.specs.Claimed.{lists_of};
 ghost use Rattle.image_check.specs.code.Memories.{AreSameMemories};
 ghost use Rattle.image_check.specs.code.OnePorts.{IsOnePort, IsLike, AreSame, CarryFour};
 

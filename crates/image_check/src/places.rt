@@ -3,18 +3,17 @@
 ghost use Rattle.std.specs.Prelude.{◌≡◌, ◌<◌, ◌≤◌, ℕ, MatchOption, length};
 ghost use Rattle.limits.specs.declared.TheConstants.{MAX_PORTS};
 ghost use Rattle.image_defs.specs.Places.{IsPort, item_slots};
-ghost use Rattle.image_match.specs.Matches.{claims_of};
-ghost use Rattle.image_check.specs.Claimed.{lists_of, HasClaims, PlaceMatches, ColumnMatches, IsFirstPlace, IsFirstColumn};
+ghost use Rattle.image_defs.specs.Matches.{claims_of};
+ghost use Rattle.image_defs.specs.Claimed.{lists_of, HasClaims, PlaceMatches, ColumnMatches, IsFirstPlace, IsFirstColumn};
 ghost use Rattle.image_check.specs.code.Differences.{AllAsClaimed, IsFirstOther, IsFirstSlot, PrintsAt, IsFirstUnprinted, PrintsAsMany};
 ghost use Rattle.image_check.specs.code.OnePorts.{IsOnePort, AreLaidOut};
 
 use crate::claims::{OnePort, carries_item};
-use crate::file::ImageFile;
+use image_defs::{ImageFile, Source};
 use crate::memories::pair_at;
 use crate::nodes::is_as_claimed;
 use crate::shapes::Shape;
 use crate::timing::printed_sources;
-use image_defs::Source;
 use node_defs::{NodeNet, Tag};
 
 /// A place of an image: an item of a port, by its slot.

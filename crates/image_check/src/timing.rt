@@ -4,7 +4,7 @@ ghost use Rattle.std.specs.Prelude.{◌≡◌, ◌↔◌, ◌≤◌, IsTrue, cou
 ghost use Rattle.image_defs.specs.Places.{printed_of};
 ghost use Rattle.node_defs.specs.WellFormed.{is_input};
 ghost use Rattle.node_defs.specs.WellFormed.{column_count as columns_of};
-ghost use Rattle.image_check.specs.Claimed.{HasTiming};
+ghost use Rattle.image_defs.specs.Claimed.{HasTiming};
 ghost use Rattle.image_check.specs.code.Differences.{PrintsAsMany};
 
 use image_defs::{Image, Source, Work};

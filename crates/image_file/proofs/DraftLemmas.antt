@@ -8,7 +8,7 @@ use Rattle.image_defs.specs.declared.image.Work.{Work}
 use Rattle.image_defs.specs.declared.image.Work.TheVariants.{Logic, Array, Host}
 use Rattle.image_defs.specs.declared.image.PortImage.{PortImage}
 use Rattle.image_defs.specs.Places.{item_slots}
-use Rattle.image_check.specs.declared.file.PortClaims.{PortClaims}
+use Rattle.image_defs.specs.declared.file.PortClaims.{PortClaims}
 use Rattle.image_lines.specs.declared.line.PortKind.{PortKind}
 use Rattle.image_lines.specs.declared.line.PortKind.TheVariants as kinds
 use Rattle.image_lines.specs.declared.line.Sizes.{Sizes}

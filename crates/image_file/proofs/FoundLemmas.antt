@@ -4,7 +4,7 @@ use Rattle.std.specs.List.{flat_map, join_with_byte}
 use Rattle.std.proofs.lemmas.Grind.{flat_map-append}
 use Rattle.std.proofs.lemmas.List.Elements.{All-nil, All-cons, All-append}
 use Rattle.std.proofs.lemmas.List.Splits.{join_with_byte-slice_split}
-use Rattle.image_check.specs.declared.file.ImageFile.{ImageFile}
+use Rattle.image_defs.specs.declared.file.ImageFile.{ImageFile}
 use Rattle.image_lines.specs.declared.line.Line.{Line}
 use Rattle.image_lines.specs.declared.line.LineNo.{LineNo}
 use Rattle.image_lines.specs.Forms.{line_read}

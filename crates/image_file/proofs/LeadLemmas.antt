@@ -19,7 +19,7 @@ use Rattle.image_defs.specs.declared.image.LinkIn.{LinkIn}
 use Rattle.image_defs.specs.declared.image.Work.{Work}
 use Rattle.image_defs.specs.declared.image.Work.TheVariants.{Logic, Array, Host}
 use Rattle.image_defs.specs.declared.image.PortImage.{PortImage}
-use Rattle.image_check.specs.declared.file.PortClaims.{PortClaims}
+use Rattle.image_defs.specs.declared.file.PortClaims.{PortClaims}
 use Rattle.image_lines.specs.declared.line.Sizes.{Sizes}
 use Rattle.image_lines.specs.declared.line.Line.{Line}
 use Rattle.image_lines.specs.declared.line.Line.TheVariants as line

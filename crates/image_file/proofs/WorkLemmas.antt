@@ -7,7 +7,7 @@ use Rattle.image_defs.specs.declared.image.Work.{Work}
 use Rattle.image_defs.specs.declared.image.Work.TheVariants.{Logic, Array, Host}
 use Rattle.image_defs.specs.declared.image.PortImage.{PortImage}
 use Rattle.image_defs.specs.Places.{item_slots, task_slot}
-use Rattle.image_check.specs.declared.file.PortClaims.{PortClaims}
+use Rattle.image_defs.specs.declared.file.PortClaims.{PortClaims}
 use Rattle.image_lines.specs.declared.line.Line.{Line}
 use Rattle.image_lines.specs.declared.line.Line.TheVariants as line
 use Rattle.image_file.specs.Files.{claimed, work_lines, port_lines, all_port_lines, kind_of}

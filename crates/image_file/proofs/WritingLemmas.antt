@@ -11,8 +11,8 @@ use Rattle.image_defs.specs.declared.image.OutBit.{OutBit}
 use Rattle.image_defs.specs.declared.image.InColumn.{InColumn}
 use Rattle.image_defs.specs.declared.image.Work.TheVariants.{Logic, Array, Host}
 use Rattle.image_defs.specs.declared.image.PortImage.{PortImage}
-use Rattle.image_check.specs.declared.file.PortClaims.{PortClaims}
-use Rattle.image_check.specs.declared.file.ImageFile.{ImageFile}
+use Rattle.image_defs.specs.declared.file.PortClaims.{PortClaims}
+use Rattle.image_defs.specs.declared.file.ImageFile.{ImageFile}
 use Rattle.image_lines.specs.declared.line.Line.{Line}
 use Rattle.image_lines.specs.declared.line.Line.TheVariants as line
 use Rattle.image_lines.specs.Words.{line_text}

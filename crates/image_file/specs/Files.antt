@@ -5,8 +5,8 @@ use Rattle.image_defs.specs.declared.image.Work.{Work}
 use Rattle.image_defs.specs.declared.image.Work.TheVariants.{Logic, Array, Host}
 use Rattle.image_defs.specs.declared.image.PortImage.{PortImage}
 use Rattle.image_defs.specs.declared.image.Image.{Image}
-use Rattle.image_check.specs.declared.file.PortClaims.{PortClaims}
-use Rattle.image_check.specs.declared.file.ImageFile.{ImageFile}
+use Rattle.image_defs.specs.declared.file.PortClaims.{PortClaims}
+use Rattle.image_defs.specs.declared.file.ImageFile.{ImageFile}
 use Rattle.image_lines.specs.declared.line.PortKind.{PortKind}
 use Rattle.image_lines.specs.declared.line.PortKind.TheVariants as kinds
 use Rattle.image_lines.specs.declared.line.Sizes.{Sizes}

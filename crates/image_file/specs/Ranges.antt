@@ -8,8 +8,8 @@ use Rattle.image_defs.specs.declared.image.Work.{Work}
 use Rattle.image_defs.specs.declared.image.Work.TheVariants.{Logic, Array, Host}
 use Rattle.image_defs.specs.declared.image.PortImage.{PortImage}
 use Rattle.image_defs.specs.Places.{blocks_of}
-use Rattle.image_check.specs.declared.file.ImageFile.{ImageFile}
-use Rattle.image_check.specs.Claimed.{HasClaims}
+use Rattle.image_defs.specs.declared.file.ImageFile.{ImageFile}
+use Rattle.image_defs.specs.Claimed.{HasClaims}
 use Rattle.image_lines.specs.Ranges.{IsInRange}
 use Rattle.image_file.specs.Files.{file_lines, image_text}
 

@@ -3,7 +3,7 @@ use Rattle.std.specs.Prelude.{ℕ, suc, ◌&&◌, Bool, List, [], ◌∷◌, Opt
 use Rattle.std.specs.List.{slice_split}
 use Rattle.std.specs.Result.{result_err}
 use Rattle.text_lines.specs.Bytes.{is_line_feed}
-use Rattle.image_check.specs.declared.file.ImageFile.{ImageFile}
+use Rattle.image_defs.specs.declared.file.ImageFile.{ImageFile}
 use Rattle.image_lines.specs.declared.line.Line.{Line}
 use Rattle.image_lines.specs.declared.line.LineNo.{LineNo}
 use Rattle.image_lines.specs.Forms.{line_read}

@@ -1,7 +1,6 @@
 //! An image text as far as it has been read.
 
-use image_check::{ImageFile, PortClaims};
-use image_defs::PortImage;
+use image_defs::{ImageFile, PortClaims, PortImage};
 use image_lines::Sizes;
 use seen_list::List;
 

@@ -2,7 +2,7 @@
 
 ghost use Rattle.std.specs.Prelude.{◌≡◌, ◌⊎◌, List as Items, ℕ, Some, None};
 ghost use Rattle.text_lines.specs.Answers.{IsReader};
-ghost use Rattle.image_check.specs.declared.file.ImageFile.{ImageFile};
+ghost use Rattle.image_defs.specs.declared.file.ImageFile.{ImageFile};
 ghost use Rattle.image_file.specs.declared.refusal.ImageNo.{ImageNo};
 ghost use Rattle.image_file.specs.Files.{image_text};
 ghost use Rattle.image_file.specs.Ranges.{IsInRanges, Reads};

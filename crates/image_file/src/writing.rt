@@ -4,12 +4,11 @@ ghost use Rattle.std.specs.Prelude.{◌≡◌, ◌++◌, IfOk, OnOk};
 ghost use Rattle.std.specs.List.{flat_map, zip};
 ghost use Rattle.image_lines.specs.Words.{line_text};
 ghost use Rattle.image_lines.specs.declared.line.Line.TheVariants as line;
-ghost use Rattle.image_check.specs.Claimed.{HasClaims};
+ghost use Rattle.image_defs.specs.Claimed.{HasClaims};
 ghost use Rattle.image_file.specs.Files.{image_text, work_lines, port_lines, kind_of};
 
 use func_table::Table;
-use image_check::{ImageFile, PortClaims};
-use image_defs::{BlockWork, InColumn, LinkIn, LinkOut, OutBit, PortImage, Source, Task, Work};
+use image_defs::{BlockWork, ImageFile, InColumn, LinkIn, LinkOut, OutBit, PortClaims, PortImage, Source, Task, Work};
 use image_lines::{
     PortKind, push_bit, push_block, push_end, push_head, push_input, push_port, push_print,
     push_send, push_table, push_take, push_task, push_version,

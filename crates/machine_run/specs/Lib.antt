@@ -1,7 +1,10 @@
+pub mod Blocks
 pub mod code
 pub mod Crews
 pub mod Dealt
 pub mod Gates
 pub mod Kept
+pub mod Lines
 pub mod Shown
+pub mod Stops
 pub mod Visits

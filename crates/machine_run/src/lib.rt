@@ -1,17 +1,27 @@
 //! A whole machine, run by a crew of workers over one crossbar: each port is dealt to one of them, which
 //! steps it to the end of a block of cycles, in a thread of its own where one can be made. Once all ports are
-//! there, they go on with the next block.
+//! there, they go on with the next block. The rows of a block are written before the next is begun: so a run
+//! keeps the printed cells of one block and no more, however many cycles it has, and its first rows are
+//! written while later ones are still to be computed.
 #![tactic(auto)]
 
+mod blocks;
 mod crew;
 mod gates;
+mod lines;
 mod machine;
 mod rows;
 mod seats;
 mod steps;
+mod window;
 
+pub use blocks::run_blocks;
 pub use crew::Crew;
 pub use gates::count_gates;
 pub use machine::run_machine;
 pub use rows::blank_rows;
 pub use seats::{give_to, idle_crew, worker_of};
+
+/// The most cycles of a block. A cycle of `n` cells, its inputs and its printed columns, makes a block shorter
+/// where `MAX_CELLS / n` is less, down to one cycle.
+pub const MAX_BLOCK: u32 = 4096;

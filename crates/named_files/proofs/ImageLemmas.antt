@@ -12,7 +12,7 @@ use Rattle.node_defs.proofs.MemberLemmas.{member_at}
 use Rattle.image_defs.specs.declared.image.PortImage.{PortImage}
 use Rattle.image_defs.specs.Places.{host_of}
 use Rattle.image_defs.specs.WellFormed.{IsWellFormed}
-use Rattle.image_match.specs.Matches.{Matches}
+use Rattle.image_defs.specs.Matches.{Matches}
 use Rattle.port_host.specs.Rows.{printed_sources}
 use Rattle.yse_compile.specs.Compiled.{ShowsReference}
 use Rattle.named_files.specs.Images.{IsImageOf}

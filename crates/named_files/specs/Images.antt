@@ -14,7 +14,7 @@ use Rattle.image_file.specs.Ranges.{Reads}
 use Rattle.image_file.specs.Reading.{first_fault}
 use Rattle.image_check.specs.declared.check.CheckNo.{CheckNo}
 use Rattle.image_check.specs.declared.check.CheckNo.TheVariants.{Memory}
-use Rattle.image_check.specs.declared.file.ImageFile.{ImageFile}
+use Rattle.image_defs.specs.declared.file.ImageFile.{ImageFile}
 use Rattle.image_check.specs.Check.{Says}
 use Rattle.refusal_lines.specs.declared.status.Status.TheVariants as status
 use Rattle.named_files.specs.Checks.{ReadsAs}

@@ -1,7 +1,7 @@
 //! The checks of an image that comes from elsewhere: its text, and whether the netlist accepts it.
 
 ghost use Rattle.std.specs.Prelude.{◌≡◌, ◌≤◌, Ok, length, IfOk, IfErr, OnOk};
-ghost use Rattle.image_check.specs.Claimed.{HasClaims};
+ghost use Rattle.image_defs.specs.Claimed.{HasClaims};
 ghost use Rattle.limits.specs.declared.TheConstants.{MAX_TEXT_BYTES};
 ghost use Rattle.net_defs.specs.Valid.{IsValid, IsValidTiming};
 ghost use Rattle.node_defs.specs.Order.{AreItems};
@@ -10,7 +10,8 @@ ghost use Rattle.named_files.specs.Images.{IsImageOf, IsAccepted, IsImageFileOf}
 ghost use Rattle.named_files.specs.Refused.{Satisfies, refused_of};
 
 use crate::checks::Built;
-use image_check::{ImageFile, check_image};
+use image_check::check_image;
+use image_defs::ImageFile;
 use image_file::read_image;
 use net_defs::{Netlist, Timing};
 use node_defs::NodeNet;

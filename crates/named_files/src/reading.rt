@@ -2,7 +2,7 @@
 
 ghost use Rattle.std.specs.Prelude.{◌≡◌, ◌≤◌, length, IfOk, Some};
 ghost use Rattle.cmd_words.specs.Forms.{IsRunInRange};
-ghost use Rattle.image_check.specs.Claimed.{HasClaims};
+ghost use Rattle.image_defs.specs.Claimed.{HasClaims};
 ghost use Rattle.limits.specs.declared.TheConstants.{MAX_TEXT_BYTES};
 ghost use Rattle.machine_text.specs.Machines.{IsValid as IsValidMachine, ports_of};
 ghost use Rattle.net_defs.specs.Valid.{IsValid, IsValidStimulus, IsValidTiming, input_count};
@@ -16,7 +16,7 @@ use crate::checks::{lanes_of, list_of, machine_of, netlist_of, order_of, stimulu
 use crate::images::image_file_of;
 use cmd_words::RunWords;
 use edge_io::{Files, ReadNo, read_file};
-use image_check::ImageFile;
+use image_defs::ImageFile;
 use limits::MAX_TEXT_BYTES;
 use machine_text::Machine;
 use net_defs::{Netlist, Stimulus, Timing};

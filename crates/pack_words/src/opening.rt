@@ -3,7 +3,7 @@
 ghost use Rattle.std.specs.Prelude.{IfOk, IfSome, length, replicate, true, ◌++◌, ◌+◌, ◌<◌, ◌^◌, ◌≡◌};
 ghost use Rattle.image_defs.specs.WellFormed.{IsWellFormed};
 ghost use Rattle.event_defs.specs.Row.{send_count};
-ghost use Rattle.send_row.specs.Sources.{AreFirsts};
+ghost use Rattle.event_defs.specs.Sources.{AreFirsts};
 ghost use Rattle.stim_text.specs.Lanes.{AreLanes};
 ghost use Rattle.pack_words.specs.code.Opening.{IsOpened, IsTemplate, IsWinner};
 ghost use Rattle.pack_words.specs.Passes.{AreFirstPasses, IsFirstPass, IsMade};
@@ -14,7 +14,7 @@ use crate::rule::{Copied, Names, PackKey, PackView};
 use atomic_table::{Seat, Table};
 use image_defs::Image;
 use seen_list::{List, Memory};
-use send_row::first_sends;
+use event_defs::first_sends;
 use slot_words::{UNCLAIMED, links};
 use std::alloc::{AllocError, Global};
 use std::snapshot::Snapshot;

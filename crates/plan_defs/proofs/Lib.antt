@@ -1,7 +1,9 @@
+pub mod AddLemmas
 pub mod CountLemmas
 pub mod ListLemmas
 pub mod PlanLemmas
 pub mod PortLemmas
+pub mod PutLemmas
 pub mod ReaderLemmas
 pub mod UserLemmas
 pub mod WellFormedLemmas

@@ -6,8 +6,8 @@ use Rattle.std.proofs.lemmas.Option.{slice_get_within, get_or_from_slice_get, sl
 use Rattle.std.proofs.lemmas.List.{get_or_append_left, length-append}
 use Rattle.std.proofs.Math.Seq.{get_or-append_seam}
 use Rattle.list_laws.proofs.Ranges.{last_or}
-use Rattle.bit_rows.specs.declared.BitRows.{BitRows}
-use Rattle.bit_rows.specs.Bits.{HasBit}
+use Rattle.plan_defs.specs.declared.bit_rows.BitRows.{BitRows}
+use Rattle.plan_defs.specs.Bits.{HasBit}
 use Rattle.node_defs.specs.declared.items.NodeNet.{NodeNet}
 use Rattle.plan_defs.specs.declared.plan.Homes.{Homes}
 use Rattle.plan_defs.specs.Homes.{home_of}

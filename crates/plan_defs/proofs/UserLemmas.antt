@@ -4,9 +4,9 @@ use Rattle.std.specs.List.{Contains}
 use Rattle.std.proofs.lemmas.Option.{slice_get_within, slice_get-get_or}
 use Rattle.std.proofs.lemmas.List.{get_or_default}
 use Rattle.list_laws.proofs.Ranges.{last_or}
-use Rattle.bit_rows.specs.declared.BitRows.{BitRows}
-use Rattle.bit_rows.specs.Bits.{HasBit, IsShaped, Adds}
-use Rattle.bit_rows.proofs.AddLemmas.{adds_both, adds_same}
+use Rattle.plan_defs.specs.declared.bit_rows.BitRows.{BitRows}
+use Rattle.plan_defs.specs.Bits.{HasBit, IsShaped, Adds}
+use Rattle.plan_defs.proofs.AddLemmas.{adds_both, adds_same}
 use Rattle.node_defs.specs.declared.items.Item.{Item}
 use Rattle.node_defs.specs.declared.items.NodeBlock.{NodeBlock}
 use Rattle.node_defs.specs.declared.items.NodeNet.{NodeNet}

@@ -1,3 +1,4 @@
+pub mod Bits
 pub mod code
 pub mod Homes
 pub mod Lists

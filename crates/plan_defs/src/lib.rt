@@ -1,14 +1,16 @@
 //! Plans: at which port each item is, and in which slot of a turn. The definitions are in `specs/`:
 //! which homes are homes of these items, which ports read an item, the first-fit plan, when a design
-//! fits a machine, and the settings of the switch.
+//! fits a machine, and the settings of the switch. And rows of bits, in which sets of slots are kept.
 #![tactic(auto)]
 
+mod bit_rows;
 pub mod law;
 mod plan;
 mod readers;
 mod switch;
 mod users;
 
+pub use bit_rows::BitRows;
 pub use plan::{Homes, Plan};
 pub use readers::Readers;
 pub use switch::{PortLinks, Receipt, Sending, Switch};

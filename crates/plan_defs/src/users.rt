@@ -1,15 +1,15 @@
 //! The ports that use each item, as rows of bits.
 
 ghost use Rattle.std.specs.Prelude.{◌≡◌, ℕ, ◌<◌, Contains, IfOk};
-ghost use Rattle.bit_rows.specs.Bits.{Adds};
+ghost use Rattle.plan_defs.specs.Bits.{Adds};
 ghost use Rattle.node_defs.specs.Takes.{FeedTakes, IsOneOf, Takes, BlockTakes};
 ghost use Rattle.node_defs.specs.WellFormed.{IsWellFormed};
 ghost use Rattle.plan_defs.specs.Homes.{AreHomes};
 ghost use Rattle.plan_defs.specs.Readers.{ItemTakes, MemoryTakes};
 ghost use Rattle.plan_defs.specs.code.UserRows.{HasPlace, AreUsers};
 
+use crate::BitRows;
 use crate::plan::Homes;
-use bit_rows::BitRows;
 use node_defs::{Feed, Feeds, Item, NodeBlock, NodeNet};
 use seen_list::Memory;
 use std::alloc::Global;

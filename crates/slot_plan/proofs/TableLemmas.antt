@@ -4,9 +4,9 @@ use Rattle.std.proofs.lemmas.Option.{slice_get_within}
 use Rattle.std.proofs.lemmas.List.{length-append, get_or_append_left}
 use Rattle.std.proofs.Math.Seq.{get_or-append_seam}
 use Rattle.list_laws.proofs.Ranges.{last_or}
-use Rattle.bit_rows.specs.declared.BitRows.{BitRows}
-use Rattle.bit_rows.specs.Bits.{HasBit, IsShaped, Adds}
-use Rattle.bit_rows.proofs.AddLemmas.{adds_both, adds_same}
+use Rattle.plan_defs.specs.declared.bit_rows.BitRows.{BitRows}
+use Rattle.plan_defs.specs.Bits.{HasBit, IsShaped, Adds}
+use Rattle.plan_defs.proofs.AddLemmas.{adds_both, adds_same}
 use Rattle.node_defs.specs.declared.items.Feeds.{Feeds}
 use Rattle.node_defs.specs.declared.items.Item.{Item}
 use Rattle.node_defs.specs.declared.items.Item.TheVariants.{Input, BlockBit, Node, Latch}

@@ -1,7 +1,7 @@
 //! The different tables that the nodes of each port use.
 
 ghost use Rattle.std.specs.Prelude.{◌≡◌, ◌+◌, ◌-◌, ◌*◌, ◌^◌, ◌<◌, ◌≤◌, ℕ, IfOk, IfSome, IsNone, if◌then◌else◌, length};
-ghost use Rattle.bit_rows.specs.Bits.{HasBit, Adds};
+ghost use Rattle.plan_defs.specs.Bits.{HasBit, Adds};
 ghost use Rattle.node_defs.specs.WellFormed.{IsWellFormed};
 ghost use Rattle.plan_defs.specs.Homes.{AreHomes};
 ghost use Rattle.plan_defs.specs.Tables.{UsesTable, FitsTables};
@@ -10,7 +10,7 @@ ghost use Rattle.plan_defs.specs.code.UserRows.{HasPlace};
 ghost use Rattle.slot_plan.specs.UsedTables.{AreTableCounts};
 ghost use Rattle.slot_plan.specs.code.UsedTables.{HasTable, AreUsed, CountsBelow, IsFirstCrowded};
 
-use bit_rows::BitRows;
+use plan_defs::BitRows;
 use machine_text::{Limited, Machine};
 use node_defs::{Item, NodeNet};
 use plan_defs::Homes;

@@ -13,8 +13,8 @@ use Rattle.image_defs.specs.declared.image.PortImage.{PortImage}
 use Rattle.event_defs.proofs.PaceLemmas.{same_port}
 use Rattle.event_defs.proofs.RowLemmas.{number_within, send_within}
 use Rattle.event_defs.specs.Row.{sends_before}
-use Rattle.send_row.proofs.SourceLemmas.{before_few, entry_there, outs_few}
-use Rattle.send_row.specs.Sources.{AreFirsts, IsSource}
+use Rattle.event_defs.proofs.SourceLemmas.{before_few, entry_there, outs_few}
+use Rattle.event_defs.specs.Sources.{AreFirsts, IsSource}
 use Rattle.slot_words.specs.declared.links.Link.{Link}
 use Rattle.slot_words.specs.Layout.{send_word}
 use Rattle.slot_words.specs.Links.{AreReceiptLinks, AreSendLinks, IsSourceWord}

@@ -14,7 +14,7 @@ use Rattle.event_defs.proofs.StampLemmas.{starts_coded, starts_stamped}
 use Rattle.event_defs.specs.Places.{start}
 use Rattle.event_defs.specs.Row.{send_count, word_in}
 use Rattle.event_defs.specs.Sound.{AreCoded, AreStamped}
-use Rattle.send_row.proofs.SourceLemmas.{before_few}
+use Rattle.event_defs.proofs.SourceLemmas.{before_few}
 use Rattle.slot_words.proofs.LookLemmas.{looks_first}
 use Rattle.slot_words.proofs.OwnLemmas.{owned_first}
 use Rattle.slot_words.proofs.TimeLemmas.{progress_within}

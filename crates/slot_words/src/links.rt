@@ -3,12 +3,12 @@
 ghost use Rattle.std.specs.Prelude.{IfOk, length, ℕ, ◌%◌, ◌*◌, ◌+◌, ◌<◌, ◌^◌, ◌≡◌, ◌≤◌};
 ghost use Rattle.limits.specs.declared.TheConstants.{MAX_BANKS, MAX_PORTS};
 ghost use Rattle.image_defs.specs.WellFormed.{IsWellFormed};
-ghost use Rattle.send_row.specs.Sources.{AreFirsts};
+ghost use Rattle.event_defs.specs.Sources.{AreFirsts};
 ghost use Rattle.slot_words.specs.Links.{AreReceiptLinksOf, AreSendLinksOf, HasSlot};
 
 use image_defs::Image;
 use seen_list::{List, Memory};
-use send_row::source_of;
+use event_defs::source_of;
 use std::alloc::Global;
 
 /// A slot in which a port sends or receives, and the word of bank 0 of what is sent there.

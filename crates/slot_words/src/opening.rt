@@ -5,7 +5,7 @@ ghost use Rattle.limits.specs.declared.TheConstants.{MAX_BANKS};
 ghost use Rattle.net_defs.specs.Valid.{IsValidStimulus};
 ghost use Rattle.image_defs.specs.WellFormed.{IsWellFormed};
 ghost use Rattle.event_defs.specs.Row.{send_count};
-ghost use Rattle.send_row.specs.Sources.{AreFirsts};
+ghost use Rattle.event_defs.specs.Sources.{AreFirsts};
 ghost use Rattle.slot_words.specs.code.Opening.{IsOpened, IsTemplate, IsWinner};
 ghost use Rattle.slot_words.specs.Passes.{AreFirstPasses, IsFirstPass, IsMade};
 
@@ -17,7 +17,7 @@ use atomic_table::{Seat, Table};
 use image_defs::Image;
 use net_defs::Stimulus;
 use seen_list::{List, Memory};
-use send_row::first_sends;
+use event_defs::first_sends;
 use std::alloc::{AllocError, Global};
 use std::snapshot::Snapshot;
 use std::sync::Wait;

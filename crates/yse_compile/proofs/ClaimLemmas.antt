@@ -8,10 +8,10 @@ use Rattle.plan_defs.specs.Homes.{ports_of}
 use Rattle.plan_defs.specs.Slots.{slot_of}
 use Rattle.switch_set.proofs.SameLemmas.{same_slots}
 use Rattle.image_defs.specs.Places.{Each, item_slots}
-use Rattle.image_match.specs.Matches.{claims_of, Matches}
-use Rattle.image_check.specs.declared.file.Claims.{Claims}
-use Rattle.image_check.specs.declared.file.PortClaims.{PortClaims}
-use Rattle.image_check.specs.Claimed.{lists_of, HasClaims}
+use Rattle.image_defs.specs.Matches.{claims_of, Matches}
+use Rattle.image_defs.specs.declared.file.Claims.{Claims}
+use Rattle.image_defs.specs.declared.file.PortClaims.{PortClaims}
+use Rattle.image_defs.specs.Claimed.{lists_of, HasClaims}
 use Rattle.image_check.proofs.ClaimLemmas.{claims_there}
 use Rattle.image_file.specs.Ranges.{tables_of}
 use Rattle.image_build.specs.PortItems.{IsAt, ArePortItems, ArePlanClaims}

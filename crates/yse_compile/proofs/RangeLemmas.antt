@@ -19,9 +19,9 @@ use Rattle.image_defs.specs.declared.image.Work.{Work}
 use Rattle.image_defs.specs.declared.image.Work.TheVariants.{Logic, Array, Host}
 use Rattle.image_defs.specs.declared.image.PortImage.{PortImage}
 use Rattle.image_defs.specs.Places.{Each, IsPort, blocks_of}
-use Rattle.image_match.specs.Matches.{IsClaim, Implements}
-use Rattle.image_check.specs.declared.file.Claims.{Claims}
-use Rattle.image_check.specs.declared.file.PortClaims.{PortClaims}
+use Rattle.image_defs.specs.Matches.{IsClaim, Implements}
+use Rattle.image_defs.specs.declared.file.Claims.{Claims}
+use Rattle.image_defs.specs.declared.file.PortClaims.{PortClaims}
 use Rattle.image_check.proofs.ClaimLemmas.{claims_there}
 use Rattle.image_lines.specs.Ranges.{IsSmall}
 use Rattle.image_file.specs.Ranges.{is_array, is_array_port, tables_of, bits_of, IsInRanges}

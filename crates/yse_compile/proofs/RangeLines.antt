@@ -17,8 +17,8 @@ use Rattle.image_defs.specs.declared.image.Work.TheVariants.{Logic, Array, Host}
 use Rattle.image_defs.specs.declared.image.PortImage.{PortImage}
 use Rattle.image_defs.specs.Places.{Each, IsPort, item_slots, task_slot, blocks_of}
 use Rattle.image_defs.specs.WellFormed.{IsThere, IsTask, IsBlock, IsWork, IsLinkOut, IsLinkIn, ReceivesFrom, IsPortImage, IsWellFormed}
-use Rattle.image_check.specs.declared.file.PortClaims.{PortClaims}
-use Rattle.image_check.specs.declared.file.ImageFile.{ImageFile}
+use Rattle.image_defs.specs.declared.file.PortClaims.{PortClaims}
+use Rattle.image_defs.specs.declared.file.ImageFile.{ImageFile}
 use Rattle.image_lines.specs.declared.line.Line.{Line}
 use Rattle.image_lines.specs.declared.line.Line.TheVariants as line
 use Rattle.image_lines.specs.Ranges.{IsSmall, IsSmallSource, IsSmallTask, IsInRange}

@@ -28,7 +28,7 @@ use Rattle.image_defs.specs.declared.image.Work.{Work}
 use Rattle.image_defs.specs.declared.image.Work.TheVariants.{Logic, Array, Host}
 use Rattle.image_defs.specs.declared.image.Image.{Image}
 use Rattle.image_defs.specs.Places.{item_slots, task_slot}
-use Rattle.image_match.specs.Matches.{claims_of, IsClaim, Implements, TaskImplements}
+use Rattle.image_defs.specs.Matches.{claims_of, IsClaim, Implements, TaskImplements}
 use Rattle.image_file.specs.Ranges.{tables_of}
 use Rattle.image_build.specs.Built.{Evaluates, AreInOrderOfUse, IsOrdered}
 

@@ -8,9 +8,9 @@ use Rattle.plan_defs.specs.Slots.{slot_of, IsFirstFitPlan}
 use Rattle.plan_defs.specs.Switches.{IsSwitch}
 use Rattle.image_defs.specs.declared.image.PortImage.{PortImage}
 use Rattle.image_defs.specs.Places.{Each, IsPort, item_slots}
-use Rattle.image_match.specs.Matches.{claims_of, Matches}
-use Rattle.image_check.specs.declared.file.Claims.{Claims}
-use Rattle.image_check.specs.Claimed.{lists_of, HasClaims}
+use Rattle.image_defs.specs.Matches.{claims_of, Matches}
+use Rattle.image_defs.specs.declared.file.Claims.{Claims}
+use Rattle.image_defs.specs.Claimed.{lists_of, HasClaims}
 use Rattle.image_file.specs.Ranges.{tables_of}
 use Rattle.image_build.specs.PortItems.{ArePlanClaims}
 use Rattle.image_build.specs.Built.{IsBuilt}

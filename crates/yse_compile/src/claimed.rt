@@ -1,13 +1,13 @@
 //! The claims of a compiled design.
 
 ghost use Rattle.std.specs.Prelude.{◌≡◌, IfOk};
-ghost use Rattle.image_check.specs.Claimed.{lists_of};
+ghost use Rattle.image_defs.specs.Claimed.{lists_of};
 ghost use Rattle.yse_compile.specs.Claims.{IsPlaced, AreClaimsOf};
 
 use crate::compiler::Compiled;
 use crate::words::read_words;
 use image_build::port_items::port_items;
-use image_check::{Claims, PortClaims};
+use image_defs::{Claims, PortClaims};
 use seen_list::{List, Memory};
 use std::alloc::Global;
 

@@ -12,17 +12,17 @@ ghost use Rattle.node_defs.specs.declared.items.NodeNet.{NodeNet};
 ghost use Rattle.node_defs.specs.Order.{AreItems};
 ghost use Rattle.image_defs.specs.declared.image.Image.{Image};
 ghost use Rattle.image_defs.specs.WellFormed.{IsWellFormed};
-ghost use Rattle.image_match.specs.Matches.{Matches};
+ghost use Rattle.image_defs.specs.Matches.{Matches};
 ghost use Rattle.yse_compile.specs.declared.compiler.Compiled.{Compiled};
 ghost use Rattle.yse_compile.specs.Chosen.{IsDesign};
 ghost use Rattle.yse_compile.specs.Compiled.{ShowsReference};
-ghost use Rattle.image_check.specs.declared.file.Claims.{Claims};
+ghost use Rattle.image_defs.specs.declared.file.Claims.{Claims};
 ghost use Rattle.image_check.specs.Check.{Says};
 ghost use Rattle.image_file.specs.Ranges.{IsInRanges};
 ghost use Rattle.yse_compile.specs.Claims.{IsPlaced, AreClaimsOf};
 
 use crate::inputs::same_inputs;
-use image_match::law::matched_values;
+use image_defs::law::matched_values;
 use node_defs::law::{one_run, values_are_reference};
 use plan_defs::law::items_are_well_formed;
 

@@ -26,17 +26,17 @@ use Rattle.image_defs.specs.declared.image.Task.{Task}
 use Rattle.image_defs.specs.declared.image.Task.TheVariants.{Eval, Hold}
 use Rattle.image_defs.specs.declared.image.Work.{Work}
 use Rattle.image_defs.specs.declared.image.Work.TheVariants.{Logic, Array, Host}
-use Rattle.image_match.specs.Matches.{BitImplements, ImplementsClaim, Implements, InputImplements, Matches, TaskImplements}
+use Rattle.image_defs.specs.Matches.{BitImplements, ImplementsClaim, Implements, InputImplements, Matches, TaskImplements}
 use Rattle.image_check.specs.declared.check.CheckNo.{CheckNo}
 use Rattle.image_check.specs.declared.check.CheckNo.TheVariants as no
-use Rattle.image_check.specs.declared.file.ImageFile.{ImageFile}
+use Rattle.image_defs.specs.declared.file.ImageFile.{ImageFile}
 use Rattle.image_check.specs.Check.{Says}
 use Rattle.image_file.specs.Files.{image_text}
 use Rattle.image_file.specs.Ranges.{IsInRanges, Reads}
 use Rattle.image_file.specs.Reading.{first_fault}
 use Rattle.image_file.specs.declared.refusal.ImageNo.{ImageNo}
 use Rattle.text_lines.specs.Answers.{IsReader}
-use Rattle.image_check.specs.Claimed.{lists_of, HasTiming, PlaceMatches, ColumnMatches, IsFirstPlace, IsFirstColumn}
+use Rattle.image_defs.specs.Claimed.{lists_of, HasTiming, PlaceMatches, ColumnMatches, IsFirstPlace, IsFirstColumn}
 use Rattle.refusal_lines.specs.declared.status.Status.TheVariants as status
 use Rattle.refusal_lines.specs.Lines.{match_line}
 use Rattle.named_files.specs.Checks.{After}

@@ -3,7 +3,7 @@ use Rattle.machine_text.specs.Machines.{ports_of}
 use Rattle.std.proofs.Common.{◌≡◌, ◌∙◌, sym, ap, refl, ℕ, zero, suc, ◌+◌, ◌*◌, ◌≤◌, List, length, Option, Result, Ok, Err, arith}
 use Rattle.std.specs.Prelude.{min}
 use Rattle.std.proofs.Math.Nat.{le-mul_of_pos_right}
-use Rattle.block_run.specs.Blocks.{AreVisitsOfRun, block_cycles, turns_of_blocks, window_of}
+use Rattle.machine_run.specs.Blocks.{AreVisitsOfRun, block_cycles, turns_of_blocks, window_of}
 use Rattle.crew_run.specs.declared.gate.Gate as gate
 use Rattle.edge_io.specs.declared.writing.WriteNo.{WriteNo}
 use Rattle.image_defs.specs.declared.image.Image.{Image}

@@ -5,7 +5,7 @@ use Rattle.std.specs.List.{flat_map, enumerate_from}
 use Rattle.crew_run.specs.declared.gate.Gate as gate
 use Rattle.edge_io.specs.declared.counts.FileCounts.{FileCounts}
 use Rattle.image_defs.specs.declared.image.Image.{Image}
-use Rattle.kept_lines.specs.Lines.{FitLines, lane_line, lane_text, lanes_text, trace_text}
+use Rattle.trace_text.specs.Lines.{FitLines, lane_line, lane_text, lanes_text, trace_text}
 use Rattle.machine_run.specs.Shown.{AreShown}
 use Rattle.machine_run.specs.Visits.{AreVisitsOf}
 use Rattle.machine_text.specs.declared.machine.Machine.{Machine}

@@ -5,7 +5,7 @@ use Rattle.std.specs.List.{flat_map, range_with_len}
 use Rattle.std.proofs.lemmas.List.{ext_get_or, length_push, length-map}
 use Rattle.std.proofs.lemmas.List.FromFn.{get_or-map-range_with_len, length-map-range_with_len}
 use Rattle.std.proofs.lemmas.Option.{slice_get_within}
-use Rattle.block_run.specs.Lines.{bytes_of_run, cells_shown}
+use Rattle.machine_run.specs.Lines.{bytes_of_run, cells_shown}
 use Rattle.list_laws.proofs.Places.{at_front, seam_at}
 use Rattle.logic_four.specs.declared.V4.{V4}
 use Rattle.logic_four.specs.declared.V4.TheVariants.{Undef}

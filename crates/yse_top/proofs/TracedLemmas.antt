@@ -17,7 +17,7 @@ use Rattle.net_defs.specs.Valid.{input_count}
 use Rattle.stim_text.specs.declared.order.Order.{Order}
 use Rattle.stim_text.specs.Stimuli as stim
 use Rattle.image_defs.specs.declared.image.Image.{Image}
-use Rattle.image_check.specs.declared.file.ImageFile.{ImageFile}
+use Rattle.image_defs.specs.declared.file.ImageFile.{ImageFile}
 use Rattle.machine_text.specs.declared.machine.Machine.{Machine}
 use Rattle.machine_text.specs.Machines.{default_machine}
 use Rattle.yse_top.specs.declared.output.Output.{Output}

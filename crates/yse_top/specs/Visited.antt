@@ -1,6 +1,6 @@
 -- What the gates were told by a whole call.
 use Rattle.std.specs.Prelude.{◌≡◌, ◌<◌, ◌⊎◌, ◌+◌, ◌*◌, ℕ, List, length, min, Option, Some, None, Result, Ok, Err, slice_get}
-use Rattle.block_run.specs.Blocks.{block_cycles}
+use Rattle.machine_run.specs.Blocks.{block_cycles}
 use Rattle.crew_run.specs.declared.gate.Gate as gate
 use Rattle.crew_run.specs.Crews.{CanTell}
 use Rattle.edge_io.specs.Names.{OfTold}
@@ -19,7 +19,7 @@ use Rattle.net_defs.specs.Valid.{input_count}
 use Rattle.cmd_words.specs.declared.command.Command.{Command}
 use Rattle.cmd_words.specs.declared.command.Command.TheVariants as command
 use Rattle.cmd_words.specs.declared.command.RunWords.{RunWords}
-use Rattle.image_check.specs.declared.file.ImageFile.{ImageFile}
+use Rattle.image_defs.specs.declared.file.ImageFile.{ImageFile}
 use Rattle.image_file.specs.Ranges as image_file
 use Rattle.limits.specs.declared.TheConstants.{MAX_WORKERS}
 use Rattle.refusal_lines.specs.declared.status.Status.{Status}

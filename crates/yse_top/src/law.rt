@@ -1,6 +1,6 @@
 //! What holds of every whole call. The functions do nothing: their clauses are the laws.
 
-ghost use Rattle.image_check.specs.declared.file.Claims.{Claims};
+ghost use Rattle.image_defs.specs.declared.file.Claims.{Claims};
 ghost use Rattle.machine_text.specs.declared.machine.Machine.{Machine};
 ghost use Rattle.machine_text.specs.Machines.{IsValid as IsValidMachine};
 ghost use Rattle.net_defs.specs.declared.netlist.Netlist.{Netlist};

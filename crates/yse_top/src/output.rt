@@ -6,7 +6,7 @@ ghost use Rattle.edge_io.specs.Writing.{Takes};
 
 use edge_io::{Sink, WriteNo};
 use image_defs::Image;
-use kept_lines::{LaneMark, write_lanes, write_texts, write_trace};
+use trace_text::{LaneMark, write_lanes, write_texts, write_trace};
 use net_defs::{Netlist, Rows, Stimulus};
 use refusal_lines::write_piece;
 use seen_list::{List, Text};

@@ -1,7 +1,7 @@
 -- What the draft of a text is, and what stands in it.
 use Rattle.std.specs.Prelude.{◌≡◌, ℕ, ◌≤◌, List, map, length}
 use Rattle.limits.specs.declared.TheConstants.{MAX_OPERANDS, MAX_SIGNALS}
-use Rattle.bench_line.specs.Rows.{Row}
+use Rattle.bench_text.specs.Rows.{Row}
 use Rattle.bench_read.specs.declared.draft.Draft.{Draft}
 use Rattle.bench_read.specs.code.Drafts.{lines_by}
 use Rattle.bench_read.specs.Lines.{Line, all_driven, all_used, operand_count}

@@ -2,9 +2,9 @@
 use Rattle.std.specs.Prelude.{◌≡◌, ℕ, ◌+◌, List, [], ◌∷◌, ◌++◌, map, length, ◌==◌, codes, Option, Some, None, Result, Ok, Err, if◌then◌else◌}
 use Rattle.logic_four.specs.declared.Kind.{Kind}
 use Rattle.logic_four.specs.Kinds.{kind_of, allows_operands}
-use Rattle.bench_line.specs.Rows.{Row}
-use Rattle.bench_line.specs.declared.form.Head.{Head}
-use Rattle.bench_line.specs.declared.form.Head.TheVariants as head
+use Rattle.bench_text.specs.Rows.{Row}
+use Rattle.bench_text.specs.declared.form.Head.{Head}
+use Rattle.bench_text.specs.declared.form.Head.TheVariants as head
 use Rattle.bench_read.specs.declared.refusal.BenchNo.{BenchNo}
 use Rattle.bench_read.specs.declared.refusal.BenchNo.TheVariants.{Syntax, UnknownKind, Arity}
 use Rattle.bench_read.specs.declared.draft.Act.{Act}

@@ -7,7 +7,7 @@ use Rattle.image_defs.specs.declared.image.Image.{Image}
 use Rattle.image_defs.specs.declared.image.PortImage.{PortImage}
 use Rattle.event_defs.specs.Row.{sends_before}
 use Rattle.port_walk.specs.Placed.{at_start}
-use Rattle.send_row.specs.Sources.{AreSources}
+use Rattle.event_defs.specs.Sources.{AreSources}
 use Rattle.event_core.specs.declared.seats.Seat.{Seat}
 
 -- the window of a port that runs all cycles in one block

@@ -7,9 +7,9 @@ use Rattle.image_defs.specs.declared.image.Source.{Source}
 use Rattle.image_defs.specs.declared.image.PortImage.{PortImage}
 use Rattle.image_defs.specs.declared.image.Image.{Image}
 use Rattle.image_defs.specs.Places.{IsPort, IsItemIn, printed_of, host_of}
-use Rattle.image_match.specs.Matches.{ImplementsClaim}
+use Rattle.image_defs.specs.Matches.{ImplementsClaim}
 use Rattle.image_check.specs.declared.claims.OnePort.{OnePort}
-use Rattle.image_check.specs.Claimed.{lists_of, PlaceMatches}
+use Rattle.image_defs.specs.Claimed.{lists_of, PlaceMatches}
 use Rattle.image_check.specs.code.OnePorts.{CarriesAt}
 
 -- item number i of the port is as item x

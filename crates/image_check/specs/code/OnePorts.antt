@@ -7,11 +7,11 @@ use Rattle.node_defs.specs.declared.items.Feeds.{Feeds}
 use Rattle.image_defs.specs.declared.image.Source.{Source}
 use Rattle.image_defs.specs.declared.image.Image.{Image}
 use Rattle.image_defs.specs.Places.{IsPort}
-use Rattle.image_match.specs.Matches.{IsClaim, ClaimsIn, Carries}
+use Rattle.image_defs.specs.Matches.{IsClaim, ClaimsIn, Carries}
 use Rattle.image_check.specs.declared.shapes.Shape.{Shape}
 use Rattle.image_check.specs.declared.claims.OnePort.{OnePort}
 use Rattle.image_check.specs.declared.nodes.Operands.{Operands}
-use Rattle.image_check.specs.Claimed.{lists_of}
+use Rattle.image_defs.specs.Claimed.{lists_of}
 use Rattle.image_check.specs.code.Shapes.{AreShapesOf, AreRising}
 
 -- these are the slots of the image's ports, and they rise

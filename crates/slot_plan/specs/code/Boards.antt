@@ -1,8 +1,8 @@
 -- Which slots of which ports are taken.
 use Rattle.std.specs.Prelude.{◌≡◌, ◌⊎◌, ℕ, ◌+◌, ◌*◌, ◌^◌, ◌<◌, ◌≤◌, List, length, Contains, Option, Some, None}
 use Rattle.limits.specs.declared.TheConstants.{MAX_PORTS}
-use Rattle.bit_rows.specs.declared.BitRows.{BitRows}
-use Rattle.bit_rows.specs.Bits.{HasBit}
+use Rattle.plan_defs.specs.declared.bit_rows.BitRows.{BitRows}
+use Rattle.plan_defs.specs.Bits.{HasBit}
 use Rattle.plan_defs.specs.Lists.{IsLeastFree}
 use Rattle.slot_plan.specs.declared.board.Board.{Board}
 

@@ -1,6 +1,6 @@
 -- What is known once so many items have their slots.
 use Rattle.std.specs.Prelude.{◌≡◌, ◌⊎◌, ◌↔◌, ℕ, ◌+◌, ◌*◌, ◌<◌, ◌≤◌, List, length}
-use Rattle.bit_rows.specs.Bits.{HasBit}
+use Rattle.plan_defs.specs.Bits.{HasBit}
 use Rattle.node_defs.specs.declared.items.NodeNet.{NodeNet}
 use Rattle.plan_defs.specs.declared.plan.Homes.{Homes}
 use Rattle.plan_defs.specs.Homes.{home_of, ports_of}

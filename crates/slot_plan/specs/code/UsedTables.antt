@@ -1,7 +1,7 @@
 -- Beside specs/UsedTables.antt, what only private functions and proofs cite.
 use Rattle.std.specs.Prelude.{◌≡◌, ◌↔◌, ℕ, ◌+◌, ◌*◌, ◌<◌, ◌≤◌, List, length}
-use Rattle.bit_rows.specs.declared.BitRows.{BitRows}
-use Rattle.bit_rows.specs.Bits.{HasBit}
+use Rattle.plan_defs.specs.declared.bit_rows.BitRows.{BitRows}
+use Rattle.plan_defs.specs.Bits.{HasBit}
 use Rattle.machine_text.specs.declared.machine.Machine.{Machine}
 use Rattle.node_defs.specs.declared.items.Item.{Item}
 use Rattle.node_defs.specs.declared.items.Item.TheVariants.{Input, BlockBit, Node, Latch}

@@ -1,6 +1,6 @@
 -- The output of a request.
 use Rattle.std.specs.Prelude.{◌≡◌, ⊤, ℕ, ◌<◌, ◌^◌, List, length, Option, Result, Ok}
-use Rattle.block_run.specs.Lines.{bytes_of_run}
+use Rattle.machine_run.specs.Lines.{bytes_of_run}
 use Rattle.edge_io.specs.Writing.{Takes, joined}
 use Rattle.edge_io.specs.declared.writing.WriteNo.{WriteNo}
 use Rattle.net_defs.specs.declared.netlist.Netlist.{Netlist}
@@ -9,8 +9,8 @@ use Rattle.net_defs.specs.declared.stimulus.Stimulus.{Stimulus}
 use Rattle.net_defs.specs.declared.trace.Rows.{Rows}
 use Rattle.net_defs.specs.Reference.{IsSimulation}
 use Rattle.net_defs.specs.Steps.{State}
-use Rattle.kept_lines.specs.Lines.{FitLines, FitsLine, HasMarkRoom, lanes_text, trace_text}
-pub use Rattle.kept_lines.specs.Lines.{cycle_lines}
+use Rattle.trace_text.specs.Lines.{FitLines, FitsLine, HasMarkRoom, lanes_text, trace_text}
+pub use Rattle.trace_text.specs.Lines.{cycle_lines}
 use Rattle.ref_sim.specs.Runs.{AreCells}
 use Rattle.yse_top.specs.declared.output.Output.{Output}
 use Rattle.yse_top.specs.declared.output.Output.TheVariants as output

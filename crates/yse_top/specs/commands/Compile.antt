@@ -4,7 +4,7 @@ use Rattle.machine_text.specs.declared.machine.Machine.{Machine}
 use Rattle.net_defs.specs.declared.homes.HomeChoice.{HomeChoice}
 use Rattle.net_defs.specs.declared.netlist.Netlist.{Netlist}
 use Rattle.net_defs.specs.declared.timing.Timing.{Timing}
-use Rattle.image_check.specs.declared.file.ImageFile.{ImageFile}
+use Rattle.image_defs.specs.declared.file.ImageFile.{ImageFile}
 use Rattle.image_file.specs.Files.{image_text}
 use Rattle.yse_compile.specs.declared.choose.Chosen.{Chosen}
 use Rattle.yse_compile.specs.Chosen.{IsChosen}

@@ -8,7 +8,7 @@ use Rattle.net_defs.specs.declared.stimulus.Stimulus.{Stimulus}
 use Rattle.net_defs.specs.declared.timing.Timing.{Timing}
 use Rattle.image_defs.specs.declared.image.Image.{Image}
 use Rattle.image_file.specs.Files.{image_text}
-use Rattle.image_check.specs.declared.file.ImageFile.{ImageFile}
+use Rattle.image_defs.specs.declared.file.ImageFile.{ImageFile}
 use Rattle.cmd_words.specs.declared.command.RunWords.{RunWords}
 use Rattle.named_files.specs.Checks.{After, AfterFile, HasNoLoop}
 use Rattle.named_files.specs.Outcome.{Outcome, out_of_memory}

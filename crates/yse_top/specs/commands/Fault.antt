@@ -1,7 +1,7 @@
 -- `fault`: where each stuck fault of a netlist is first seen under a stimulus. No cells are kept, so they have no limit.
 use Rattle.std.specs.Prelude.{◌≡◌, ℕ, List}
 use Rattle.edge_io.specs.Writing.{joined}
-use Rattle.fault_lines.specs.Lines.{fault_lines}
+use Rattle.fault_sim.specs.Lines.{fault_lines}
 use Rattle.fault_sim.specs.declared.faults.Verdict.{Verdict}
 use Rattle.fault_sim.specs.Verdicts.{AreAllVerdicts}
 use Rattle.net_defs.specs.declared.netlist.Netlist.{Netlist}

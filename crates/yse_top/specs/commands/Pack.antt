@@ -1,7 +1,7 @@
 -- `pack`: the traces of up to 30 simulations, by one run of the compiled machine. The cells of all cycles are kept, and
 -- each lane has its own content of each memory, so both have a limit.
 use Rattle.std.specs.Prelude.{◌≡◌, ℕ, ◌+◌, List, [], ◌∷◌, ◌++◌}
-use Rattle.kept_lines.specs.Lines.{lane_line}
+use Rattle.trace_text.specs.Lines.{lane_line}
 use Rattle.machine_text.specs.declared.machine.Machine.{Machine}
 use Rattle.net_defs.specs.declared.netlist.Netlist.{Netlist}
 use Rattle.net_defs.specs.declared.stimulus.Stimulus.{Stimulus}

@@ -5,7 +5,7 @@ ghost use Rattle.net_defs.specs.Valid.{IsValid};
 ghost use Rattle.yse_compile.specs.Chosen.{IsChosen};
 ghost use Rattle.yse_top.specs.commands.Compile.{IsImageTextOf};
 
-use image_check::ImageFile;
+use image_defs::ImageFile;
 use image_file::write_image;
 use machine_text::Machine;
 use named_files::{Built, Planned, built_of};

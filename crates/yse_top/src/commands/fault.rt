@@ -14,7 +14,7 @@ ghost use Rattle.named_files.specs.Files.{AfterStimulus};
 use crate::output::Output;
 use cmd_words::RunWords;
 use edge_io::Files;
-use fault_lines::fault_lines;
+use fault_sim::fault_lines;
 use fault_sim::fault_all;
 use named_files::{Timed, WithRanks, design_from, few_signals, ranked, stimulus_in};
 use net_defs::{Stimulus, Timing};

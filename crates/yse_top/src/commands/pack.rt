@@ -5,7 +5,7 @@ ghost use Rattle.machine_text.specs.Machines.{IsValid as IsValidMachine};
 ghost use Rattle.net_defs.specs.Valid.{IsValid, input_count};
 ghost use Rattle.cmd_words.specs.Forms.{IsRunInRange};
 ghost use Rattle.limits.specs.declared.TheConstants.{MAX_WORKERS};
-ghost use Rattle.kept_lines.specs.Lines.{HasMarkRoom};
+ghost use Rattle.trace_text.specs.Lines.{HasMarkRoom};
 ghost use Rattle.machine_run.specs.Visits.{AreInPlace, AreVisitsOf};
 ghost use Rattle.trace_text.specs.Line.{HasRoom};
 ghost use Rattle.stim_text.specs.Lanes.{AreLanes, longest};
@@ -23,7 +23,7 @@ use crate::output::{LaneTraces, Output};
 use cmd_words::RunWords;
 use crew_run::Gate;
 use edge_io::Files;
-use kept_lines::LaneMark;
+use trace_text::LaneMark;
 use machine_text::Machine;
 use named_files::{
     Built, Timed, compiled, design_from, few_bits, few_lane_cells, lanes_in, machine_from,

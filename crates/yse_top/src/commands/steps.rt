@@ -23,7 +23,7 @@ ghost use Rattle.yse_top.specs.code.Refusals.{ended_with};
 ghost use Rattle.yse_top.specs.Visited.{AllCanTell, AreRunVisits};
 
 use crate::output::{Ending, Output, Trace, Written};
-use block_run::run_blocks;
+use machine_run::run_blocks;
 use cmd_words::RunWords;
 use crew_run::Gate;
 use edge_io::Sink;

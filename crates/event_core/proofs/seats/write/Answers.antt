@@ -1,7 +1,7 @@
 use Rattle.std.proofs.Common.{◌<◌, ◌≡◌, ◌∙◌, ◌+◌, ◌*◌, length, set, ap, ap₂, sym, subst, arith}
 use Rattle.logic_four.specs.Values.{code_of}
 use Rattle.event_defs.specs.Row.{word_place}
-use Rattle.send_row.proofs.SourceLemmas.{entry_there}
+use Rattle.event_defs.proofs.SourceLemmas.{entry_there}
 use Rattle.port_walk.specs.Placed.{IsNextSend}
 use Rattle.event_core.specs.declared.seats.Seat.{Seat}
 use Rattle.event_core.proofs.SeatLemmas.{seat_read, below_product, write_room}

@@ -1,6 +1,6 @@
 use Rattle.std.proofs.Common.{◌≡◌, ◌∙◌, [], subst, arith}
 use Rattle.std.proofs.lemmas.List.{get_or_default}
-use Rattle.image_match.specs.Matches.{claims_of}
+use Rattle.image_defs.specs.Matches.{claims_of}
 use Rattle.image_build.specs.code.Layouts.{AreBlocks}
 use Rattle.image_build.proofs.MemoryLemmas.{numbers_low}
 use Rattle.image_build.proofs.array.array_work.Goals as goal

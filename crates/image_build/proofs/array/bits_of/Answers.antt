@@ -2,7 +2,7 @@ use Rattle.std.proofs.Common.{◌<◌, get_or, arith, length, subst, sym}
 use Rattle.std.proofs.lemmas.Result.{err_from_is_err_and}
 use Rattle.node_defs.specs.declared.items.Item.TheVariants.{Input}
 use Rattle.node_defs.specs.WellFormed.{NamesParts}
-use Rattle.image_match.specs.Matches.{claims_of}
+use Rattle.image_defs.specs.Matches.{claims_of}
 use Rattle.image_build.specs.code.Layouts.{IsBitFor}
 use Rattle.image_build.specs.code.Plans.{IsBitAt}
 use Rattle.image_build.proofs.GrowLemmas.{made_all, made_next}

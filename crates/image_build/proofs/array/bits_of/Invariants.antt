@@ -1,5 +1,5 @@
 use Rattle.std.proofs.Common.{take}
-use Rattle.image_match.specs.Matches.{claims_of}
+use Rattle.image_defs.specs.Matches.{claims_of}
 use Rattle.image_build.specs.code.Layouts.{AreBits}
 use Rattle.image_build.proofs.array.bits_of.Given as goal
 

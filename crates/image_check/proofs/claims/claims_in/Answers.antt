@@ -1,4 +1,4 @@
-use Rattle.image_check.specs.Claimed.{lists_of}
+use Rattle.image_defs.specs.Claimed.{lists_of}
 use Rattle.image_check.proofs.ClaimLemmas.{claimed_by_place}
 use Rattle.image_check.proofs.claims.claims_in.Goals as goal
 

@@ -1,6 +1,6 @@
 use Rattle.std.proofs.Common.{◌≡◌, Some, slice_get, refl, sym}
 use Rattle.std.proofs.lemmas.Option.{slice_get_past}
-use Rattle.image_check.specs.Claimed.{lists_of}
+use Rattle.image_defs.specs.Claimed.{lists_of}
 use Rattle.list_laws.proofs.Places.{indexed}
 use Rattle.image_check.proofs.ClaimLemmas.{items_rise, claims_by_shape, claims_no_shape}
 use Rattle.image_check.proofs.claims.claims_item.Goals as goal

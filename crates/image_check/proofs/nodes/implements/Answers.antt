@@ -2,8 +2,8 @@ use Rattle.std.proofs.Common.{Bool, IfSome, List, None, Some, false, slice_get, 
 use Rattle.std.specs.Bool.{IsTrue}
 use Rattle.image_defs.specs.Places.{blocks_of}
 use Rattle.image_defs.specs.declared.image.Work.{Work}
-use Rattle.image_match.specs.Matches.{BitImplements, InputImplements, TaskImplements}
-use Rattle.image_check.specs.Claimed.{lists_of}
+use Rattle.image_defs.specs.Matches.{BitImplements, InputImplements, TaskImplements}
+use Rattle.image_defs.specs.Claimed.{lists_of}
 use Rattle.image_check.specs.code.Memories.{AreSameMemories}
 use Rattle.image_check.proofs.nodes.implements.Goals as goal
 

@@ -1,5 +1,5 @@
 use Rattle.std.proofs.Common.{arith}
-use Rattle.image_check.specs.Claimed.{lists_of}
+use Rattle.image_defs.specs.Claimed.{lists_of}
 use Rattle.image_check.proofs.FirstLemmas.{first_place_at, places_all, places_more}
 use Rattle.image_check.proofs.places.first_place.Goals as goal
 

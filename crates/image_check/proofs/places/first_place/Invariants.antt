@@ -1,5 +1,5 @@
 use Rattle.std.proofs.Common.{ℕ, ◌<◌}
-use Rattle.image_check.specs.Claimed.{lists_of, PlaceMatches}
+use Rattle.image_defs.specs.Claimed.{lists_of, PlaceMatches}
 use Rattle.image_check.proofs.places.first_place.Given as goal
 
 abbrev pub invariant-ports : goal.invariant-ports

@@ -1,7 +1,7 @@
 use Rattle.std.proofs.lemmas.Slice.Zip.{Zip-more, either_empty_from_Zip}
 use Rattle.std.specs.List.{flat_map}
 use Rattle.image_defs.specs.declared.image.PortImage.{PortImage}
-use Rattle.image_check.specs.declared.file.PortClaims.{PortClaims}
+use Rattle.image_defs.specs.declared.file.PortClaims.{PortClaims}
 use Rattle.image_lines.specs.Words.{line_text}
 use Rattle.image_file.specs.Files.{port_lines}
 use Rattle.image_file.proofs.WritingLemmas.{pair_more, pairs_end}

@@ -1,5 +1,5 @@
 -- The image is one of the netlist whose items it matches.
-use Rattle.image_check.specs.Claimed.{lists_of}
+use Rattle.image_defs.specs.Claimed.{lists_of}
 use Rattle.named_files.proofs.ImageLemmas.{image_of}
 use Rattle.named_files.proofs.images.accepted.Goals as goal
 

@@ -1,5 +1,5 @@
 use Rattle.std.proofs.Common.{◌≡◌, ◌≢◌, ◌+◌, ◌*◌, subst, arith}
-use Rattle.bit_rows.specs.Bits.{HasBit}
+use Rattle.plan_defs.specs.Bits.{HasBit}
 use Rattle.plan_defs.specs.code.Lists.{ListsBelow}
 use Rattle.plan_defs.proofs.ListLemmas.{listed_past}
 use Rattle.plan_defs.proofs.ReaderLemmas.{word_none}

@@ -1,6 +1,6 @@
 use Rattle.std.proofs.Common.{◌≡◌, ◌⊎◌, inl, inr, refl, subst}
 use Rattle.std.specs.List.{Contains}
-use Rattle.bit_rows.specs.Bits.{Adds}
+use Rattle.plan_defs.specs.Bits.{Adds}
 use Rattle.plan_defs.proofs.UserLemmas.{place_kept, adds_either}
 use Rattle.plan_defs.proofs.users.mark_block.Goals as goal
 

@@ -1,5 +1,5 @@
 use Rattle.std.proofs.Common.{◌≡◌}
-use Rattle.bit_rows.specs.Bits.{Adds}
+use Rattle.plan_defs.specs.Bits.{Adds}
 use Rattle.plan_defs.proofs.UserLemmas.{IsAmong}
 use Rattle.plan_defs.proofs.users.mark_list.Given as goal
 

@@ -1,5 +1,5 @@
 use Rattle.std.proofs.Common.{arith}
-use Rattle.bit_rows.specs.Bits.{HasBit}
+use Rattle.plan_defs.specs.Bits.{HasBit}
 use Rattle.slot_plan.proofs.TableLemmas.{counted_none, counted_more, counted_few}
 use Rattle.slot_plan.proofs.tables.count.Goals as goal
 

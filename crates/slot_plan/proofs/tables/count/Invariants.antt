@@ -1,4 +1,4 @@
-use Rattle.bit_rows.specs.Bits.{HasBit}
+use Rattle.plan_defs.specs.Bits.{HasBit}
 use Rattle.slot_plan.specs.code.UsedTables.{CountsBelow}
 use Rattle.slot_plan.proofs.tables.count.Given as goal
 

@@ -1,5 +1,5 @@
 use Rattle.std.proofs.Common.{◌≡◌}
-use Rattle.bit_rows.specs.Bits.{Adds}
+use Rattle.plan_defs.specs.Bits.{Adds}
 use Rattle.slot_plan.proofs.TableLemmas.{UsesTableBelow}
 use Rattle.slot_plan.proofs.tables.mark_tables.Given as goal
 

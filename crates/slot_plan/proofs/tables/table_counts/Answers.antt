@@ -1,5 +1,5 @@
 use Rattle.std.proofs.Common.{length, subst}
-use Rattle.bit_rows.specs.Bits.{HasBit}
+use Rattle.plan_defs.specs.Bits.{HasBit}
 use Rattle.slot_plan.specs.code.UsedTables.{CountsBelow}
 use Rattle.slot_plan.proofs.TableLemmas.{uses_are, counted_few, counts_none, counts_more}
 use Rattle.slot_plan.proofs.tables.table_counts.Goals as goal

@@ -1,7 +1,7 @@
 use Rattle.std.proofs.Common.{List, ap, arith, length, subst, ◌≡◌}
 use Rattle.std.proofs.lemmas.Option.{slice_get-get_or}
 use Rattle.image_defs.specs.declared.image.LinkIn.{LinkIn}
-use Rattle.send_row.proofs.SourceLemmas.{ins_of, link_in}
+use Rattle.event_defs.proofs.SourceLemmas.{ins_of, link_in}
 use Rattle.slot_words.proofs.MadeLemmas.{receipts_more, source_small, source_word}
 use Rattle.slot_words.specs.Links.{AreReceiptLinks}
 use Rattle.slot_words.proofs.links.receipt_links.Goals as goal

@@ -1,6 +1,6 @@
 use Rattle.std.proofs.Common.{◌≡◌, sym, subst}
 use Rattle.std.proofs.lemmas.Result.{IfOk-weaker}
-use Rattle.image_check.specs.Claimed.{lists_of}
+use Rattle.image_defs.specs.Claimed.{lists_of}
 use Rattle.image_build.specs.PortItems.{ArePlanClaims}
 use Rattle.yse_compile.specs.Claims.{AreClaimsOf}
 use Rattle.yse_compile.proofs.ClaimLemmas.{plan_claims_are}

@@ -21,7 +21,7 @@ use Rattle.net_defs.specs.Time.{turn_count}
 use Rattle.net_defs.specs.Trace.{IsTrace}
 use Rattle.image_defs.specs.declared.image.Image.{Image}
 use Rattle.image_defs.specs.WellFormed.{IsWellFormed}
-use Rattle.image_check.specs.declared.file.ImageFile.{ImageFile}
+use Rattle.image_defs.specs.declared.file.ImageFile.{ImageFile}
 use Rattle.image_file.specs.Ranges as image_file
 use Rattle.image_file.specs.Reading as image_faults
 use Rattle.event_defs.specs.Linked.{AreLinkedAlike}
@@ -41,7 +41,7 @@ use Rattle.refusal_lines.specs.declared.status.Status.TheVariants as status
 use Rattle.stim_text.specs.LaneTexts as lane_texts
 use Rattle.stim_text.specs.declared.lanes.Lanes.{Lanes}
 use Rattle.edge_io.specs.Writing.{joined}
-use Rattle.fault_lines.specs.Lines.{fault_lines}
+use Rattle.fault_sim.specs.Lines.{fault_lines}
 use Rattle.fault_sim.specs.Verdicts.{HasOneList, HaveOneList}
 use Rattle.refusal_lines.specs.declared.TheConstants.{MAX_FAULT_SIGNALS, MAX_PACK_BITS}
 use Rattle.named_files.specs.Checks.{After, Ends, Writes, IsLanesOf, HasFewBits, HasFewLaneCells, HasFewSignals, cell_count, lane_cell_count, memory_bits, IsMachineOf, IsNetlistOf, HasNoLoop, HasRoom, IsStimulusOf, HasFewCells, IsListOf, IsOrderOf, listing}

@@ -1,5 +1,5 @@
 use Rattle.std.proofs.Common.{◌≡◌}
-use Rattle.bit_rows.specs.Bits.{Adds}
+use Rattle.plan_defs.specs.Bits.{Adds}
 use Rattle.slot_plan.specs.code.Boards.{IsBoard}
 use Rattle.slot_plan.proofs.BoardLemmas.{IsRowTo}
 use Rattle.slot_plan.proofs.board.Board.take.Given as goal

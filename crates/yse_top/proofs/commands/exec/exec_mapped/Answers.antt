@@ -1,6 +1,6 @@
 -- The image, whether the netlist accepts it, and what comes of it.
 use Rattle.std.proofs.Common.{Ok}
-use Rattle.image_check.specs.declared.file.ImageFile.{ImageFile}
+use Rattle.image_defs.specs.declared.file.ImageFile.{ImageFile}
 use Rattle.image_defs.specs.declared.image.Image.{Image}
 use Rattle.net_defs.specs.declared.netlist.Netlist.{Netlist}
 use Rattle.net_defs.specs.declared.timing.Timing.{Timing}

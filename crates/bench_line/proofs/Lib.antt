@@ -1,3 +1,0 @@
-mod PartLemmas
-pub mod SpellingLemmas
-pub mod TokenLemmas

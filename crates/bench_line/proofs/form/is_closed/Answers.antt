@@ -1,6 +1,0 @@
-use Rattle.std.proofs.Common.{ap, ◌∙◌}
-use Rattle.bench_line.specs.Decoding.{option_no_more}
-use Rattle.bench_line.proofs.form.is_closed.Goals as goal
-
-pub returns-in-Some : goal.returns-in-Some
-returns-in-Some c = c.no_more.ensures ∙ ap option_no_more c.in-Some.ensures

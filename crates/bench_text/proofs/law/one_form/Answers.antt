@@ -1,0 +1,5 @@
+use Rattle.bench_text.proofs.SpellingLemmas.{one_form}
+use Rattle.bench_text.proofs.law.one_form.Goals as goal
+
+pub returns : goal.returns
+returns c = one_form

@@ -1,9 +1,0 @@
-use Rattle.std.proofs.Common.{rules}
-use Rattle.std.proofs.lemmas.Grind.{common_steps}
-use Rattle.bit_rows.proofs.BitRows.new.Goals as goal
-
-pub returns-clause-none : goal.returns-clause-none
-returns-clause-none c = search (rules, common_steps)
-
-pub returns-clause-shape : goal.returns-clause-shape
-returns-clause-shape c = search (rules, common_steps)

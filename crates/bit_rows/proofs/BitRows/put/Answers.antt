@@ -1,7 +1,0 @@
-use Rattle.std.proofs.Common.{◌≡◌}
-use Rattle.bit_rows.proofs.PutLemmas.{put_adds}
-use Rattle.bit_rows.proofs.BitRows.put.Goals as goal
-
-pub returns : goal.returns
-returns c =
-    rw c.set.ensures (rw c.place-place.ensures (rw c.as_slice-2.ensures (put_adds c.args.self.now c.args.row c.args.bit c.requires.within c.requires.room)))

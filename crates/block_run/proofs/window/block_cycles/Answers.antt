@@ -1,5 +1,0 @@
-use Rattle.std.proofs.Common.{rules}
-use Rattle.block_run.proofs.window.block_cycles.Goals as goal
-
-pub returns : goal.returns
-returns c = search rules

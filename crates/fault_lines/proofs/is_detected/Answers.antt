@@ -1,5 +1,0 @@
-use Rattle.std.proofs.Common.{refl}
-use Rattle.fault_lines.proofs.is_detected.Goals as goal
-
-pub returns-in-Seen : goal.returns-in-Seen
-returns-in-Seen c = rw c.in-Seen.is refl

@@ -1,6 +1,0 @@
-use Rattle.std.proofs.lemmas.List.{append_assoc}
-use Rattle.fault_lines.proofs.push_seen.Goals as goal
-
-pub returns : goal.returns
-returns c =
-    simp (c.in_ok-push_bytes-3.ensures.ok, c.column_name.ensures, c.in_ok-push_bytes-2.ensures.ok, c.in_ok-push_bytes.ensures.ok, c.as_bytes.ensures.value, c.format.ensures.text, append_assoc)

@@ -1,0 +1,133 @@
+//! The lines of the verdicts on all stuck faults of a netlist: for each fault the name of its signal, the digit at
+//! which it is stuck, and the cycle and the printed name where it is first seen, or `-`; and a last line on how
+//! many are seen.
+
+ghost use Rattle.std.specs.Prelude.{◌≡◌, ◌∷◌, [], ◌++◌, IfOk, OnOk, count_by, decimal, length, map};
+ghost use Rattle.net_defs.specs.Canonical.{name_of};
+ghost use Rattle.std.specs.List.{enumerate_from};
+ghost use Rattle.fault_sim.specs.Lines.{column_name, detected_line, fault_lines, is_detected, place_words, stuck_digit, verdict_line};
+
+use crate::Verdict;
+use itoa::Buffer;
+use net_defs::{Netlist, name_of};
+use seen_list::{List, Memory, Text};
+use std::alloc::Global;
+
+/// The lines of the verdicts, two for each signal in signal order, that on stuck at 0 first, and the last line.
+pub fn fault_lines(alloc: Global, net: &Netlist, verdicts: &[Verdict]) -> Result<List<Text>, Memory>
+    ensures { IfOk result (λ lines. lines ≡ fault_lines net.now verdicts.now) }
+{
+    let mut lines = verdict_lines(alloc, net, verdicts)?;
+    lines.push(detected_line(alloc, detected(verdicts), verdicts.len())?)?;
+    Ok(lines)
+}
+
+/// The lines of the verdicts.
+fn verdict_lines(alloc: Global, net: &Netlist, verdicts: &[Verdict]) -> Result<List<Text>, Memory>
+    ensures { IfOk result (λ lines. lines ≡ map (λ p. verdict_line net.now p.0 p.1) (enumerate_from 0 verdicts.now)) }
+{
+    let mut lines = List::new(alloc);
+    'verdicts: for k in 0..verdicts.len() {
+        lines.push(verdict_line(alloc, net, k, verdicts[k])?)?;
+    }
+    Ok(lines)
+}
+
+/// The line of verdict `k`.
+#[tactic(auto, unfolding(crate::specs::Lines::verdict_line))]
+fn verdict_line(alloc: Global, net: &Netlist, k: usize, verdict: Verdict) -> Result<Text, Memory>
+    ensures { IfOk result (λ line. line ≡ verdict_line net.now k verdict) }
+{
+    let mut line = Text::new(alloc);
+    line.push_bytes(signal_name(net, k / 2))?;
+    line.push_bytes(b" ")?;
+    line.push_bytes(stuck_digit(k))?;
+    line.push_bytes(b" ")?;
+    push_place(&mut line, net, verdict)?;
+    line.push_bytes(b"\n")?;
+    Ok(line)
+}
+
+/// The name of a signal, given by its number.
+fn signal_name(net: &Netlist, signal: usize) -> &[u8]
+    ensures { result.now ≡ name_of net.now signal }
+{
+    match net.signals.get(signal) {
+        Some(signal) => signal.name.as_bytes(),
+        None => b"",
+    }
+}
+
+fn stuck_digit(k: usize) -> &'static [u8]
+    ensures { result.now ≡ stuck_digit k }
+{
+    if k % 2 == 0 { b"0" } else { b"1" }
+}
+
+/// Adds where a fault is first seen.
+fn push_place(line: &mut Text, net: &Netlist, verdict: Verdict) -> Result<(), Memory>
+    ensures { OnOk result (line.new ≡ line.old ++ place_words net.now verdict) }
+{
+    match verdict {
+        Verdict::Seen { cycle, column } => push_seen(line, net, cycle, column),
+        Verdict::Unseen => {
+            line.push_bytes(b"-")?;
+            Ok(())
+        }
+    }
+}
+
+fn push_seen(line: &mut Text, net: &Netlist, cycle: u32, column: u32) -> Result<(), Memory>
+    ensures { OnOk result (line.new ≡ line.old ++ place_words net.now (Verdict.Seen cycle column)) }
+{
+    line.push_bytes(Buffer::new().format(cycle).as_bytes())?;
+    line.push_bytes(b" ")?;
+    line.push_bytes(column_name(net, column))?;
+    Ok(())
+}
+
+/// The printed name of a column, counted from 0.
+fn column_name(net: &Netlist, column: u32) -> &[u8]
+    ensures { result.now ≡ column_name net.now column }
+{
+    match net.printed.get(column as usize) {
+        Some(signal) => name_of(net, *signal),
+        None => b"",
+    }
+}
+
+/// How many faults are seen.
+fn detected(verdicts: &[Verdict]) -> usize
+    ensures { result ≡ count_by is_detected verdicts.now }
+{
+    verdicts
+        .iter()
+        .filter(|verdict| is_detected(verdict))
+        .count()
+}
+
+fn is_detected(verdict: &Verdict) -> bool
+    ensures { result ≡ is_detected verdict.now }
+{
+    matches!(verdict, Verdict::Seen { .. })
+}
+
+/// The last line.
+#[tactic(auto, unfolding(crate::specs::Lines::detected_line))]
+fn detected_line(alloc: Global, seen: usize, all: usize) -> Result<Text, Memory>
+    ensures { IfOk result (λ line. line ≡ detected_line seen all) }
+{
+    let mut line = Text::new(alloc);
+    push_count(&mut line, b"detected ", seen)?;
+    push_count(&mut line, b" of ", all)?;
+    line.push_bytes(b"\n")?;
+    Ok(line)
+}
+
+/// Adds a word and a number.
+fn push_count(line: &mut Text, word: &[u8], count: usize) -> Result<(), Memory>
+    ensures { OnOk result (line.new ≡ line.old ++ (word.now ++ decimal count)) }
+{
+    line.push_bytes(word)?;
+    line.push_bytes(Buffer::new().format(count).as_bytes())
+}

@@ -1,2 +1,0 @@
-mod Example
-pub mod MatchLemmas

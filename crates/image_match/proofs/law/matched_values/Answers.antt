@@ -1,6 +1,0 @@
-use Rattle.image_match.proofs.MatchLemmas as lemmas
-use Rattle.image_match.proofs.law.matched_values.Goals as goal
-
-pub returns : goal.returns
-returns c image claims nodes timing fits matches stimulus values are =
-    lemmas.shows_items image claims nodes timing stimulus values fits matches are

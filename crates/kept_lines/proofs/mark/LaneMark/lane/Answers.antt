@@ -1,7 +1,0 @@
-use Rattle.std.proofs.Common.{refl}
-use Rattle.kept_lines.specs.Lines.{lane_line}
-use Rattle.kept_lines.proofs.mark.LaneMark.lane.Goals as goal
-
-pub returns : goal.returns
-unfolding lane_line
-returns c = rw (c.push.ensures, c.push_number.ensures.bytes, c.push_bytes.ensures, c.clear.ensures, ← c.self.view_is) refl

@@ -1,5 +1,0 @@
-use Rattle.send_row.specs.code.Sources.{CountsSends}
-use Rattle.send_row.proofs.sources.first_sends.Given as goal
-
-abbrev pub invariant-ports : goal.invariant-ports
-invariant-ports l = CountsSends l.image l.p l.sends l.firsts
