@@ -3,7 +3,7 @@
 
 ghost use Rattle.std.specs.Prelude.{length, ◌≤◌};
 ghost use Rattle.limits.specs.declared.TheConstants.{MAX_WORKERS};
-ghost use Rattle.yse_top.specs.Visited.{AllCanTell};
+ghost use Rattle.yse_commands.specs.Visited.{AllCanTell};
 
 mod below;
 mod blocks;

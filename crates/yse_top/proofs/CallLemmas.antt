@@ -5,16 +5,13 @@ use Rattle.edge_io.specs.Counts.{raised}
 use Rattle.edge_io.specs.declared.counts.FileCounts.{FileCounts}
 use Rattle.cmd_words.specs.declared.command.Command.{Command}
 use Rattle.cmd_words.specs.Forms.{HasForm}
-use Rattle.yse_top.specs.declared.output.Output.{Output}
-use Rattle.yse_top.specs.declared.output.Output.TheVariants as output
 use Rattle.refusal_lines.specs.declared.refusal.Refusal.TheVariants as refusal
-use Rattle.refusal_lines.specs.declared.status.Status.TheVariants as status
-use Rattle.yse_top.specs.Expected.{Expected}
+use Rattle.yse_commands.specs.Expected.{Expected}
 use Rattle.yse_top.specs.Law.{IsProper}
 use Rattle.named_files.specs.Outcome.{Outcome}
 use Rattle.named_files.specs.Readings.{Reading, AreReadings}
-use Rattle.yse_top.specs.code.Refusals.{Follows, ended_with}
-use Rattle.yse_top.proofs.ChainLemmas.{follows_here}
+use Rattle.yse_commands.specs.Refusals.{Follows}
+use Rattle.yse_commands.proofs.ChainLemmas.{follows_here}
 
 module _ (names : Option (List ℕ → Bool)) (bytes : Option (List ℕ → List ℕ)) (old new : FileCounts) where
   -- they are of no form
@@ -36,12 +33,3 @@ module _ (names : Option (List ℕ → Bool)) (bytes : Option (List ℕ → List
     where
       few : {n : ℕ} → n ≡ length (take n files) → n ≤ length files
       few {n} e = omega (arith, e, length-take n files)
-
--- an output is no fault of writing by itself
-pub ended_no_fault : (output : Output) → (ended_with output).status ≡ status.WriteFault → ⊥
-ended_no_fault (output.Text text) is = cc
-ended_no_fault (output.Trace trace) is = cc
-ended_no_fault (output.Unfinished trace ending) is = cc
-ended_no_fault (output.Written run) is = cc
-ended_no_fault (output.Lanes traces) is = cc
-ended_no_fault (output.Lines lines) is = cc

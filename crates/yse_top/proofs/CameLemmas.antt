@@ -6,8 +6,8 @@ use Rattle.cmd_words.specs.Asked.{asked}
 use Rattle.refusal_lines.specs.declared.status.Status.{Status}
 use Rattle.refusal_lines.specs.declared.status.Status.TheVariants as status
 use Rattle.yse_top.specs.code.Came.{CameTo}
-use Rattle.yse_top.specs.Ends.{AreToldBy, IsDoneOrMemory, MayWrite}
-use Rattle.yse_top.specs.Expected.{Expected}
+use Rattle.yse_commands.specs.Ends.{AreToldBy, IsDoneOrMemory, MayWrite}
+use Rattle.yse_commands.specs.Expected.{Expected}
 use Rattle.yse_top.specs.Law.{IsProper, TellsWords}
 use Rattle.named_files.specs.Outcome.{done}
 use Rattle.named_files.specs.Readings.{Reading}

@@ -7,7 +7,7 @@ use Rattle.edge_io.specs.Names.{is_absent, OfTold}
 use Rattle.edge_io.specs.declared.counts.FileCounts.{FileCounts}
 use Rattle.refusal_lines.specs.declared.status.Status.{Status}
 use Rattle.refusal_lines.specs.declared.status.Status.TheVariants as status
-use Rattle.yse_top.specs.Ends.{AreToldBy, IsDoneOrMemory}
+use Rattle.yse_commands.specs.Ends.{AreToldBy, IsDoneOrMemory}
 use Rattle.yse_top.specs.Law.{IsProper, AgreeOn}
 use Rattle.named_files.specs.Outcome.{Outcome, done}
 use Rattle.named_files.specs.Readings.{Reading, IsReading, AreReadings}

@@ -18,7 +18,7 @@ use Rattle.event_defs.specs.Steps.{CoreState, AllDone, rows_done}
 use Rattle.stim_text.specs.declared.order.Order.{Order}
 use Rattle.yse_top.specs.Law.{Equal}
 use Rattle.named_files.specs.Images.{IsMachineImage}
-use Rattle.yse_top.specs.Orders.{IsAfterOrder, EndsIn, EndsInOrder}
+use Rattle.yse_commands.specs.Orders.{IsAfterOrder, EndsIn, EndsInOrder}
 use Rattle.named_files.specs.Outcome.{Outcome, done, unfinished}
 use Rattle.yse_top.proofs.ProperLemmas.{IsEnding, IsOfEnd, alike}
 

@@ -10,6 +10,7 @@ use Rattle.yse_top.specs.Law.{AreAlike, AgreeOn, Equal, HasCause, IsProper}
 use Rattle.refusal_lines.specs.Lines.{too_long_line}
 use Rattle.named_files.specs.Outcome.{Outcome, done, refusal, out_of_memory}
 use Rattle.named_files.specs.Readings.{Reading}
+use Rattle.yse_commands.proofs.AnswerLemmas.{never_both, passed_once, passes, refused_once, refuses}
 
 -- ---- outcomes
 
@@ -197,22 +198,6 @@ proper_after Same same {X} files Checked Next check on = record { one = one; beg
     cause readings o (inr (none, inr memory)) = cause_memory readings o none memory
 
 -- ---- a file
-
--- the two answers of the check of a text's length
-abbrev pub passes : List ℕ → Result (List ℕ) Outcome
-passes text = Ok text
-
-abbrev pub refuses : Outcome → Result (List ℕ) Outcome
-refuses outcome = Err outcome
-
-pub passed_once : (text other : List ℕ) → passes text ≡ passes other → text ≡ other
-passed_once text other e = cc
-
-pub refused_once : (o p : Outcome) → refuses o ≡ refuses p → o ≡ p
-refused_once o p e = cc
-
-pub never_both : (text : List ℕ) (o : Outcome) → passes text ≡ refuses o → ⊥
-never_both text o e = cc
 
 -- the length of a text
 pub text_check : (file bytes : List ℕ) → IsCheck (λ result. text_of file bytes ≡ result)

@@ -38,7 +38,7 @@ use Rattle.yse_compile.proofs.PlanExists.{slots_end, tables_counted}
 use Rattle.yse_compile.proofs.SameHomes.{before_kept}
 use Rattle.yse_compile.proofs.SamePlans.{plan_kept, reader_kept}
 use Rattle.yse_compile.proofs.SameTables.{tables_few}
-use Rattle.yse_top.specs.commands.Plan.{IsReportOf, crossings_line, told_of_homes}
+use Rattle.yse_commands.specs.commands.Plan.{IsReportOf, crossings_line, told_of_homes}
 use Rattle.yse_top.proofs.ChoiceLemmas.{HasHomes}
 
 -- ---- the figures of the same items

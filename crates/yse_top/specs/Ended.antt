@@ -6,15 +6,15 @@ use Rattle.crew_run.specs.declared.gate.Gate as gate
 use Rattle.edge_io.specs.declared.counts.FileCounts.{FileCounts}
 use Rattle.refusal_lines.specs.declared.status.Status.{Status}
 use Rattle.refusal_lines.specs.declared.status.Status.TheVariants.{Done, Memory}
-use Rattle.yse_top.specs.Ends.{EndsAs}
-use Rattle.yse_top.specs.Expected.{Expected}
+use Rattle.yse_commands.specs.Ends.{EndsAs}
+use Rattle.yse_commands.specs.Expected.{Expected}
 use Rattle.refusal_lines.specs.Lines.{memory_line}
 use Rattle.named_files.specs.Outcome.{Outcome}
 use Rattle.named_files.specs.Readings.{Reading, AreReadings}
 use Rattle.refusal_lines.specs.Statuses.{status_number}
-use Rattle.yse_top.specs.Traced.{IsTraceOfFiles}
-use Rattle.yse_top.specs.Visited.{TellsGates}
-use Rattle.yse_top.specs.Words.{traced_by}
+use Rattle.yse_commands.specs.Traced.{IsTraceOfFiles}
+use Rattle.yse_commands.specs.Visited.{TellsGates}
+use Rattle.yse_commands.specs.Words.{traced_by}
 
 -- The exit status is the number of the status that the call of these words ended with: after status 0 of a
 -- simulation the output is the trace of its files, the outcome is an expected one, and the gates were told.

@@ -1,7 +1,7 @@
 -- The laws of whole calls: what is expected is one outcome, and there is one, whatever the files hold.
 use Rattle.std.specs.Prelude.{◌⊎◌, ◌≡◌, ◌≢◌, ◌↔◌, ℕ, List, [], ◌∷◌, ◌++◌, ◌+◌, length, take, map, Option, Some, None, slice_get}
 use Rattle.refusal_lines.specs.declared.status.Status.TheVariants as ends
-use Rattle.yse_top.specs.Expected.{Expected}
+use Rattle.yse_commands.specs.Expected.{Expected}
 use Rattle.refusal_lines.specs.Lines.{read_fault_line}
 use Rattle.named_files.specs.Outcome.{Outcome}
 use Rattle.named_files.specs.Readings.{Reading}
@@ -11,10 +11,10 @@ use Rattle.machine_text.specs.declared.machine.Machine.{Machine}
 use Rattle.net_defs.specs.declared.homes.HomeChoice.{HomeChoice}
 use Rattle.net_defs.specs.declared.netlist.Netlist.{Netlist}
 use Rattle.net_defs.specs.declared.timing.Timing.{Timing}
-use Rattle.yse_top.specs.commands.Compile.{IsImageTextOf}
+use Rattle.yse_commands.specs.commands.Compile.{IsImageTextOf}
 use Rattle.cmd_words.specs.Asked.{asked}
 use Rattle.cmd_words.specs.Forms.{HasForm}
-use Rattle.yse_top.specs.Words.{files_named, IsSettled}
+use Rattle.yse_commands.specs.Words.{files_named, IsSettled}
 
 -- two outcomes with the same status, with outputs that are the same in this sense, and with the same line unless it
 -- names a loop

@@ -1,11 +1,4 @@
 pub mod code
-pub mod commands
 pub mod Ended
-pub mod Ends
-pub mod Expected
 pub mod Given
 pub mod Law
-pub mod Orders
-pub mod Traced
-pub mod Visited
-pub mod Words

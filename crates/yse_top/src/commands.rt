@@ -1,30 +1,15 @@
-//! What a command comes to before anything is written: one module for each command.
+//! What a command comes to before anything is written.
 
 ghost use Rattle.std.specs.Prelude.{◌≡◌, ◌≤◌, Some, IfOk, length, true};
 ghost use Rattle.cmd_words.specs.Forms.{IsInRange};
 ghost use Rattle.limits.specs.declared.TheConstants.{MAX_WORKERS};
 ghost use Rattle.machine_run.specs.Visits.{AreInPlace};
-ghost use Rattle.yse_top.specs.Expected.{ExpectedOf};
-ghost use Rattle.yse_top.specs.code.Outputs.{CanEnd};
-ghost use Rattle.yse_top.specs.code.Refusals.{Follows, MayTake, status_told};
-ghost use Rattle.yse_top.specs.Visited.{AllCanTell, TellsGates};
-ghost use Rattle.yse_top.specs.code.Visited.{HasWorkers, has_limit, order_file};
+ghost use Rattle.yse_commands.specs.Expected.{ExpectedOf};
+ghost use Rattle.yse_commands.specs.Outputs.{CanEnd};
+ghost use Rattle.yse_commands.specs.Refusals.{Follows, MayTake, status_told};
+ghost use Rattle.yse_commands.specs.Visited.{AllCanTell, TellsGates};
+ghost use Rattle.yse_commands.specs.Telling.{HasWorkers, has_limit, order_file};
 
-mod compile;
-mod exec;
-mod fault;
-mod large;
-mod layout;
-mod pack;
-mod plan;
-mod refer;
-mod run;
-mod show;
-mod steps;
-
-use crate::commands::layout::Sheet;
-use crate::commands::steps::Pace;
-use crate::output::Output;
 use cmd_words::{Command, RunWords};
 use crew_run::Gate;
 use edge_io::{Files, Sink};
@@ -33,6 +18,15 @@ use std::alloc::Global;
 use std::marker::{Send, Sync};
 use std::sync::Wait;
 use std::thread::Threads;
+use yse_commands::exec::exec;
+use yse_commands::fault::fault;
+use yse_commands::large::large;
+use yse_commands::output::Output;
+use yse_commands::pack::pack;
+use yse_commands::refer::refer;
+use yse_commands::run::run;
+use yse_commands::show::show;
+use yse_commands::{Pace, Sheet, lay_out};
 
 /// The output of a command, and else the refusal. A run has written its output to `out`; else `out` is not called.
 pub fn prepare<'a, R: Threads + Wait + Sync, F: Files, O: Sink, G: Gate + Send>(
@@ -54,22 +48,22 @@ pub fn prepare<'a, R: Threads + Wait + Sync, F: Files, O: Sink, G: Gate + Send>(
     ensures in_place { AreInPlace gates.old gates.new }
 {
     match command {
-        Command::Run(words) => run::run(rt, alloc, files, words, Pace::Workers, out, gates),
-        Command::Refer(words) => refer::refer(alloc, files, words),
-        Command::Order(words) => run::run(rt, alloc, files, words, pace_of(words), out, gates),
-        Command::Plan(words) => layout::lay_out(alloc, files, words, Sheet::Report),
-        Command::Compile(words) => layout::lay_out(alloc, files, words, Sheet::Image),
+        Command::Run(words) => run(rt, alloc, files, words, Pace::Workers, out, gates),
+        Command::Refer(words) => refer(alloc, files, words),
+        Command::Order(words) => run(rt, alloc, files, words, pace_of(words), out, gates),
+        Command::Plan(words) => lay_out(alloc, files, words, Sheet::Report),
+        Command::Compile(words) => lay_out(alloc, files, words, Sheet::Image),
         Command::Exec { words, image } => {
-            exec::exec(rt, alloc, files, words, image.as_bytes(), out, gates)
+            exec(rt, alloc, files, words, image.as_bytes(), out, gates)
         }
-        Command::Pack(words) => pack::pack(rt, alloc, files, words, gates),
-        Command::Fault(words) => fault::fault(rt, alloc, files, words),
-        Command::Show { netlist } => show::show(alloc, files, netlist.as_bytes()),
+        Command::Pack(words) => pack(rt, alloc, files, words, gates),
+        Command::Fault(words) => fault(rt, alloc, files, words),
+        Command::Show { netlist } => show(alloc, files, netlist.as_bytes()),
         Command::Large {
             gates: count,
             cycles,
             workers,
-        } => large::large(rt, alloc, *count, *cycles, *workers, gates),
+        } => large(rt, alloc, *count, *cycles, *workers, gates),
     }
 }
 

@@ -2,15 +2,16 @@
 
 ghost use Rattle.std.specs.Prelude.{◌≡◌, OnErr};
 ghost use Rattle.std.specs.Io.KnownBytes.{append_known};
-ghost use Rattle.yse_top.specs.code.Endings.{ending_in, status_after, IsTold};
-ghost use Rattle.yse_top.specs.Ends.{EndsAs, MayWrite};
-ghost use Rattle.yse_top.specs.code.Outputs.{bytes_of, CanEnd, HasTaken, wrote_in};
-ghost use Rattle.yse_top.specs.code.Refusals.{ended_with};
+ghost use Rattle.yse_commands.specs.code.Endings.{status_after, IsTold};
+ghost use Rattle.yse_commands.specs.Outputs.{ending_in};
+ghost use Rattle.yse_commands.specs.Ends.{EndsAs, MayWrite};
+ghost use Rattle.yse_commands.specs.Outputs.{bytes_of, CanEnd, HasTaken, wrote_in};
+ghost use Rattle.yse_commands.specs.Refusals.{ended_with};
 ghost use Rattle.edge_io.specs.Writing.{TakesLine};
 
-use crate::output::{Ending, Output, write_output};
 use edge_io::Sink;
 use refusal_lines::{Status, tell_write_fault, write_unfinished_line};
+use yse_commands::output::{Ending, Output, write_output};
 
 /// Writes an output to `out`, as far as it is not written, and then a line to `err` where its run was not
 /// finished, and answers the status. A fault of `err` changes nothing.

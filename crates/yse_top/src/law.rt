@@ -10,7 +10,7 @@ ghost use Rattle.yse_compile.specs.declared.compiler.Compiled.{Compiled};
 ghost use Rattle.yse_compile.specs.Claims.{AreClaimsOf};
 ghost use Rattle.yse_compile.specs.Chosen.{IsDesign};
 ghost use Rattle.yse_top.specs.Law.{AreProper, HaveOutcomes, TellsWords};
-ghost use Rattle.yse_top.specs.commands.Exec.{IsTaken};
+ghost use Rattle.yse_commands.specs.commands.Exec.{IsTaken};
 
 use bench_read::law::{reads_or_faults as netlists_or_faults, texts_read_as_valid};
 use bench_read::list_law::reads_or_faults as lists_or_faults;

@@ -8,21 +8,20 @@ ghost use Rattle.edge_io.specs.Counts.{raised, Rose};
 ghost use Rattle.cmd_words.specs.Asked.{asked};
 ghost use Rattle.limits.specs.declared.TheConstants.{MAX_WORKERS};
 ghost use Rattle.machine_run.specs.Visits.{AreInPlace};
-ghost use Rattle.yse_top.specs.Ends.{EndsAs, IsDoneOrMemory, MayWrite, AreToldBy};
-ghost use Rattle.yse_top.specs.Expected.{Expected};
+ghost use Rattle.yse_commands.specs.Ends.{EndsAs, IsDoneOrMemory, MayWrite, AreToldBy};
+ghost use Rattle.yse_commands.specs.Expected.{Expected};
 ghost use Rattle.refusal_lines.specs.Lines.{memory_line};
 ghost use Rattle.named_files.specs.Outcome.{Outcome, done};
 ghost use Rattle.named_files.specs.Readings.{Reading, AreReadings};
-ghost use Rattle.yse_top.specs.Traced.{IsOutputOfFiles};
-ghost use Rattle.yse_top.specs.Visited.{AllCanTell, TellsGates};
-ghost use Rattle.yse_top.specs.Words.{files_named};
+ghost use Rattle.yse_commands.specs.Traced.{IsOutputOfFiles};
+ghost use Rattle.yse_commands.specs.Visited.{AllCanTell, TellsGates};
+ghost use Rattle.yse_commands.specs.Words.{files_named};
 ghost use Rattle.edge_io.specs.Writing.{TakesLine};
 
 mod call;
 mod commands;
 mod ending;
 pub mod law;
-mod output;
 mod program;
 
 use call::call;

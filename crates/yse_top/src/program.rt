@@ -6,7 +6,7 @@ ghost use Rattle.std.specs.Process.{exit_status};
 ghost use Rattle.edge_io.specs.Writing.{TakesLine};
 ghost use Rattle.limits.specs.declared.TheConstants.{MAX_WORKERS};
 ghost use Rattle.refusal_lines.specs.Statuses.{status_number};
-ghost use Rattle.yse_top.specs.Visited.{AllCanTell};
+ghost use Rattle.yse_commands.specs.Visited.{AllCanTell};
 ghost use Rattle.yse_top.specs.Given.{Gives};
 ghost use Rattle.yse_top.specs.code.Given.{words_in};
 ghost use Rattle.yse_top.specs.Ended.{EndsBy, EndsForMemory};

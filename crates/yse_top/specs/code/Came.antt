@@ -3,7 +3,7 @@ use Rattle.std.specs.Prelude.{◌≡◌, ℕ, Bool, List, Option}
 use Rattle.edge_io.specs.declared.counts.FileCounts.{FileCounts}
 use Rattle.refusal_lines.specs.declared.status.Status.{Status}
 use Rattle.refusal_lines.specs.declared.status.Status.TheVariants as status
-use Rattle.yse_top.specs.Ends.{EndsAs, MayWrite}
+use Rattle.yse_commands.specs.Ends.{EndsAs, MayWrite}
 use Rattle.named_files.specs.Outcome.{Outcome}
 use Rattle.named_files.specs.Readings.{Reading, AreReadings}
 

@@ -5,13 +5,13 @@ use Rattle.cmd_words.specs.declared.command.Command.{Command}
 use Rattle.cmd_words.specs.Forms.{HasForm}
 use Rattle.cmd_words.specs.declared.command.WordNo.TheVariants.{Usage, Memory}
 use Rattle.refusal_lines.specs.declared.refusal.Refusal.TheVariants as refusal
-use Rattle.yse_top.specs.Ends.{MayWrite}
-use Rattle.yse_top.specs.Expected.{Expected}
+use Rattle.yse_commands.specs.Ends.{MayWrite}
+use Rattle.yse_commands.specs.Expected.{Expected}
 use Rattle.named_files.specs.Refused.{refused_of}
-use Rattle.yse_top.specs.Traced.{IsOutputOfFiles}
-use Rattle.yse_top.specs.Visited.{TellsGates}
+use Rattle.yse_commands.specs.Traced.{IsOutputOfFiles}
+use Rattle.yse_commands.specs.Visited.{TellsGates}
 use Rattle.yse_top.proofs.CallLemmas.{follows_usage, follows_no_memory}
-use Rattle.yse_top.proofs.VisitedLemmas.{refused_writes}
+use Rattle.yse_commands.proofs.VisitedLemmas.{refused_writes}
 use Rattle.edge_io.proofs.WritingLemmas.{append_known-nil}
 use Rattle.yse_top.proofs.call.call.Goals as goal
 

@@ -1,12 +1,12 @@
 -- The outcome that the command came to, the trace, and what the gates were told.
 use Rattle.std.proofs.Common.{◌∙◌, sym, ap, subst, inl, Some}
-use Rattle.yse_top.specs.Ends.{MayWrite}
-use Rattle.yse_top.specs.code.Outputs.{bytes_of}
-use Rattle.yse_top.specs.code.Refusals.{ended_with}
+use Rattle.yse_commands.specs.Ends.{MayWrite}
+use Rattle.yse_commands.specs.Outputs.{bytes_of}
+use Rattle.yse_commands.specs.Refusals.{ended_with}
 use Rattle.named_files.specs.Refused.{refused_of}
-use Rattle.yse_top.specs.Visited.{TellsGates}
-use Rattle.yse_top.proofs.TracedLemmas.{traced}
-use Rattle.yse_top.proofs.VisitedLemmas.{output_writes, refused_writes, told_fails, told_writes, tells_ended}
+use Rattle.yse_commands.specs.Visited.{TellsGates}
+use Rattle.yse_commands.proofs.TracedLemmas.{traced}
+use Rattle.yse_commands.proofs.VisitedLemmas.{output_writes, refused_writes, told_fails, told_writes, tells_ended}
 use Rattle.edge_io.proofs.WritingLemmas.{append_known-nil}
 use Rattle.yse_top.proofs.call.obey.Goals as goal
 

@@ -1,7 +1,7 @@
 -- A generated design needs no file.
 use Rattle.std.proofs.Common.{rules}
-use Rattle.yse_top.specs.commands.Large.{ExpectedLarge}
-use Rattle.yse_top.proofs.ChainLemmas.{follows_here}
+use Rattle.yse_commands.specs.commands.Large.{ExpectedLarge}
+use Rattle.yse_commands.proofs.ChainLemmas.{follows_here}
 use Rattle.yse_top.proofs.commands.prepare.Goals as goal
 
 pub returns-in-Large-clause-expected : goal.returns-in-Large-clause-expected

@@ -47,29 +47,29 @@ use Rattle.refusal_lines.specs.declared.TheConstants.{MAX_FAULT_SIGNALS, MAX_PAC
 use Rattle.named_files.specs.Checks.{After, Ends, Writes, IsLanesOf, HasFewBits, HasFewLaneCells, HasFewSignals, cell_count, lane_cell_count, memory_bits, IsMachineOf, IsNetlistOf, HasNoLoop, HasRoom, IsStimulusOf, HasFewCells, IsListOf, IsOrderOf, listing}
 use Rattle.cmd_words.specs.Forms.{HasForm, IsInRange}
 use Rattle.refusal_lines.specs.declared.status.Status.{Status}
-use Rattle.yse_top.specs.Expected.{Expected, ExpectedOf, Asks}
+use Rattle.yse_commands.specs.Expected.{Expected, ExpectedOf, Asks}
 use Rattle.yse_top.specs.Law.{AreImageTexts, Equal, IsProper, HasOutcome, SameOutput}
 use Rattle.refusal_lines.specs.Lines.{usage_line, machine_line, netlist_line, stimulus_line, cells_line, bits_limit_line, signals_line, lanes_line, order_line, list_line, image_line}
 use Rattle.named_files.specs.Outcome.{Outcome, refusal}
 use Rattle.named_files.specs.Readings.{Reading}
-use Rattle.yse_top.specs.Orders.{EndsInOrder}
-use Rattle.yse_top.specs.Words.{files_of, files_named, IsSettled}
-use Rattle.yse_top.specs.commands.Exec.{AfterImage, AfterMatch, ExpectedExec, OnImage, RunsImage, WritesTraceOf}
+use Rattle.yse_commands.specs.Orders.{EndsInOrder}
+use Rattle.yse_commands.specs.Words.{files_of, files_named, IsSettled}
+use Rattle.yse_commands.specs.commands.Exec.{AfterImage, AfterMatch, ExpectedExec, OnImage, RunsImage, WritesTraceOf}
 use Rattle.named_files.specs.Images.{IsAccepted, IsImageFileOf}
-use Rattle.yse_top.specs.commands.Fault.{ExpectedFault, FaultsIn, IsFaultList, ListsFaults}
-use Rattle.yse_top.specs.commands.Large.{ExpectedLarge}
+use Rattle.yse_commands.specs.commands.Fault.{ExpectedFault, FaultsIn, IsFaultList, ListsFaults}
+use Rattle.yse_commands.specs.commands.Large.{ExpectedLarge}
 use Rattle.named_files.specs.Files.{AfterLanes, AfterList, AfterMachine, AfterNetlist, AfterStimulus}
-use Rattle.yse_top.specs.commands.Pack.{AreLaneTraces, ExpectedPack, KeepsLanes, KeepsLanesOn, PacksIn, PacksOn}
-use Rattle.yse_top.specs.commands.Compile.{IsImageTextOf}
-use Rattle.yse_top.specs.commands.Layout.{ExpectedLayout, ExpectedLayoutOn, IsSheetOf, LaysOut}
-use Rattle.yse_top.specs.commands.Plan.{IsReportOf}
-use Rattle.yse_top.specs.declared.commands.layout.Sheet.{Sheet}
-use Rattle.yse_top.specs.declared.commands.layout.Sheet.TheVariants as sheet
-use Rattle.yse_top.specs.commands.Run.{AfterCells, AfterFit, AfterLoop, WritesTrace, EndsBy, EndsWithin, ExpectedRun, ExpectedOn, ExpectedRefer, KeepsTrace, OnTiming}
-use Rattle.yse_top.specs.commands.Show.{ExpectedShow}
+use Rattle.yse_commands.specs.commands.Pack.{AreLaneTraces, ExpectedPack, KeepsLanes, KeepsLanesOn, PacksIn, PacksOn}
+use Rattle.yse_commands.specs.commands.Compile.{IsImageTextOf}
+use Rattle.yse_commands.specs.commands.Layout.{ExpectedLayout, ExpectedLayoutOn, IsSheetOf, LaysOut}
+use Rattle.yse_commands.specs.commands.Plan.{IsReportOf}
+use Rattle.yse_commands.specs.declared.layout.Sheet.{Sheet}
+use Rattle.yse_commands.specs.declared.layout.Sheet.TheVariants as sheet
+use Rattle.yse_commands.specs.commands.Run.{AfterCells, AfterFit, AfterLoop, WritesTrace, EndsBy, EndsWithin, ExpectedRun, ExpectedOn, ExpectedRefer, KeepsTrace, OnTiming}
+use Rattle.yse_commands.specs.commands.Show.{ExpectedShow}
 use Rattle.yse_top.proofs.AcceptedLemmas.{accepted_single, interchangeable}
 use Rattle.yse_top.proofs.CommandLemmas.{IsCommand, command_after, command_single, command_file, command_ends, not_words}
-use Rattle.yse_top.proofs.LaneLemmas.{traces_only, traces_some}
+use Rattle.yse_top.proofs.TraceLemmas.{traces_only, traces_some}
 use Rattle.yse_top.proofs.OrderLemmas.{DecidesOrder, done_alike, order_ending}
 use Rattle.yse_top.proofs.OutcomeLemmas.{outcome_after, outcome_writes}
 use Rattle.yse_top.proofs.ProperLemmas.{IsCheck, IsSingle, IsAnswered, alike, memory_status, proper_after, writes_ending}

@@ -1,0 +1,69 @@
+-- The outcome that an output is, by where its run ended.
+use Rattle.std.proofs.Common.{◌≡◌, sym, refl, subst, ℕ, List, [], Option, Some, None, Ok}
+use Rattle.yse_commands.specs.declared.output.Ending.{Ending}
+use Rattle.yse_commands.specs.declared.output.Output.{Output}
+use Rattle.yse_commands.specs.declared.output.Output.TheVariants as output
+use Rattle.refusal_lines.specs.declared.status.Status.TheVariants as status
+use Rattle.yse_commands.specs.code.Endings.{status_after, IsTold}
+use Rattle.yse_commands.specs.Outputs.{ending_in}
+use Rattle.yse_commands.specs.Ends.{MayWrite}
+use Rattle.yse_commands.specs.Outputs.{bytes_of}
+use Rattle.named_files.specs.Outcome.{done}
+use Rattle.yse_commands.specs.Refusals.{ended_with}
+use Rattle.edge_io.specs.Writing.{TakesLine}
+use Rattle.edge_io.proofs.WritingLemmas.{writes_none, tells_written}
+
+pub ended_status : (output : Output) → status_after (ending_in output) ≡ (ended_with output).status
+ended_status (output.Text text) = refl
+ended_status (output.Trace trace) = refl
+ended_status (output.Unfinished trace ending) = refl
+ended_status (output.Written run) = refl
+ended_status (output.Lanes traces) = refl
+ended_status (output.Lines lines) = refl
+
+pub ended_output : (output : Output) → bytes_of output ≡ (ended_with output).output
+ended_output (output.Text text) = refl
+ended_output (output.Trace trace) = refl
+ended_output (output.Unfinished trace ending) = refl
+ended_output (output.Written run) = refl
+ended_output (output.Lanes traces) = refl
+ended_output (output.Lines lines) = refl
+
+-- an output after which nothing is told is the whole one
+pub whole_output : (output : Output) → status_after (ending_in output) ≡ status.Done → ended_with output ≡ done (bytes_of output)
+whole_output (output.Text text) is = refl
+whole_output (output.Trace trace) is = refl
+whole_output (output.Unfinished trace ending) is = cc
+whole_output (output.Written run) is = refl
+whole_output (output.Lanes traces) is = refl
+whole_output (output.Lines lines) is = refl
+
+-- an output is no fault of writing by itself
+pub ended_no_fault : (output : Output) → (ended_with output).status ≡ status.WriteFault → ⊥
+ended_no_fault (output.Text text) is = cc
+ended_no_fault (output.Trace trace) is = cc
+ended_no_fault (output.Unfinished trace ending) is = cc
+ended_no_fault (output.Written run) is = cc
+ended_no_fault (output.Lanes traces) is = cc
+ended_no_fault (output.Lines lines) is = cc
+
+module _ {E : Type 0} (taken : E → Option (List ℕ)) (faults : E → ℕ) where
+  -- nothing is told where nothing is to be told
+  quiet : (old new : E) → new ≡ old → TakesLine (taken old) (taken new) (faults old) (faults new) []
+  quiet old new same = subst (λ (s : E). TakesLine (taken old) (taken s) (faults old) (faults s) []) (sym same) (tells_written (taken old) (taken old) (faults old) (faults old) (Ok tt) [] (writes_none (taken old) (faults old)))
+
+  pub told_line : (output : Output) (old new : E) → IsTold old new (taken old) (taken new) (faults old) (faults new) (ending_in output) → TakesLine (taken old) (taken new) (faults old) (faults new) (ended_with output).line
+  told_line (output.Text text) old new told = quiet old new told
+  told_line (output.Trace trace) old new told = quiet old new told
+  told_line (output.Unfinished trace ending) old new told = told
+  told_line (output.Written run) old new told = quiet old new told
+  told_line (output.Lanes traces) old new told = quiet old new told
+  told_line (output.Lines lines) old new told = quiet old new told
+
+  pub told_nothing : (ending : Option Ending) (old new : E) → status_after ending ≡ status.Done → IsTold old new (taken old) (taken new) (faults old) (faults new) ending → new ≡ old
+  told_nothing None old new is told = told
+  told_nothing (Some ending) old new is told = cc
+
+pub may_write : (ending : Option Ending) → MayWrite (status_after ending)
+may_write None = tt
+may_write (Some ending) = tt

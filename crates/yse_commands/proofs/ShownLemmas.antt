@@ -1,0 +1,123 @@
+-- The cells that the host keeps are the printed values of the reference simulation.
+use Rattle.std.proofs.Common.{◌≡◌, ◌∙◌, inl, inr, ℕ, zero, suc, ◌+◌, ◌-◌, ◌<◌, ◌≤◌, List, [], ◌∷◌, ◌++◌, length, Some, slice_get, sym, ap, subst, refl, arith}
+use Rattle.std.proofs.lemmas.Bool.{cases_lt}
+use Rattle.std.specs.List.{flat_map, range_with_len}
+use Rattle.std.proofs.lemmas.List.{ext_get_or, length_push, length-map}
+use Rattle.std.proofs.lemmas.List.FromFn.{get_or-map-range_with_len, length-map-range_with_len}
+use Rattle.std.proofs.lemmas.Option.{slice_get_within}
+use Rattle.machine_run.specs.Lines.{bytes_of_run, cells_shown}
+use Rattle.list_laws.proofs.Places.{at_front, seam_at}
+use Rattle.logic_four.specs.declared.V4.{V4}
+use Rattle.logic_four.specs.declared.V4.TheVariants.{Undef}
+use Rattle.logic_four.specs.Values.{value_at}
+use Rattle.net_defs.specs.declared.netlist.Netlist.{Netlist}
+use Rattle.net_defs.specs.declared.timing.Timing.{Timing}
+use Rattle.net_defs.specs.declared.stimulus.Stimulus.{Stimulus}
+use Rattle.net_defs.specs.declared.trace.CellRow.{CellRow}
+use Rattle.net_defs.specs.declared.trace.Rows.{Rows}
+use Rattle.net_defs.specs.Time.{cycle_count}
+use Rattle.net_defs.specs.Steps.{State}
+use Rattle.net_defs.specs.Trace.{header_line, cells_of, cycle_line, trace_to, IsTrace}
+use Rattle.image_defs.specs.declared.image.Image.{Image}
+use Rattle.image_defs.specs.Frames.{shown}
+use Rattle.net_defs.specs.Valid.{IsValidStimulus}
+use Rattle.port_host.specs.Rows.{printed_sources}
+use Rattle.machine_run.specs.Shown.{AreShown}
+use Rattle.named_files.specs.Images.{IsImageOf}
+use Rattle.seen_list.specs.Filling.{Filling}
+use Rattle.trace_text.specs.Line.{HasRoom}
+use Rattle.yse_commands.specs.Outputs.{CanPrint, cycle_lines}
+use Rattle.yse_commands.proofs.TraceLemmas.{printed_front}
+
+pub shown_none : (image : Image) (stimulus : Stimulus) → AreShown image stimulus 0 []
+shown_none image stimulus = record {
+  cycles_are = refl;
+  width = λ c row at. (let low = slice_get_within {A = CellRow} [] c row at in absurd (omega (arith, low)));
+  cells = λ c j row at low. (let past = slice_get_within {A = CellRow} [] c row at in absurd (omega (arith, past)));
+}
+
+-- the row of one more cycle
+pub shown_more : (image : Image) (stimulus : Stimulus) (n : ℕ) (rows : List CellRow) (cells : List V4) → AreShown image stimulus n rows → length cells ≡ length (printed_sources image)
+    → ((j : ℕ) → j < length cells → value_at cells j ≡ shown image stimulus (n + 1) j) → AreShown image stimulus (n + 1) (rows ++ record { cells = cells } ∷ [])
+shown_more image stimulus n rows cells so_far wide are = record {
+  cycles_are = length_push rows (record { cells = cells }) ∙ ap (λ k. k + 1) so_far.cycles_are;
+  width = λ c row at. elim (cases_lt c (length rows)) [
+    | inl inside ↦ so_far.width c row (sym (at_front rows (record { cells = cells } ∷ []) c inside) ∙ at)
+    | inr past ↦ subst (λ (r : CellRow). length r.cells ≡ length (printed_sources image)) (sym (last c row past at).1) wide
+  ];
+  cells = λ c j row at low. elim (cases_lt c (length rows)) [
+    | inl inside ↦ so_far.cells c j row (sym (at_front rows (record { cells = cells } ∷ []) c inside) ∙ at) low
+    | inr past ↦
+        let is = last c row past at in
+        ap (λ (r : CellRow). value_at r.cells j) is.1 ∙ are j (omega (arith, low, wide)) ∙ ap (λ k. shown image stimulus (k + 1) j) (sym is.0)
+  ];
+} where
+  last : (c : ℕ) (row : CellRow) → length rows ≤ c → slice_get (rows ++ record { cells = cells } ∷ []) c ≡ Some row → (c ≡ n) × (row ≡ record { cells = cells })
+  last c row past at =
+      let low = slice_get_within (rows ++ record { cells = cells } ∷ []) c row at in
+      let here : c ≡ length rows = omega (arith, low, past, length_push rows (record { cells = cells })) in
+      (here ∙ so_far.cycles_are, cc (ap (slice_get (rows ++ record { cells = cells } ∷ [])) here, seam_at {X = CellRow} rows (record { cells = cells }) [], at))
+
+-- what is shown of the first cycles are the trace's cells
+pub cells_are : (net : Netlist) (timing : Timing) (stimulus : Stimulus) (image : Image) (n : ℕ) (rows : List CellRow) (of : IsImageOf net timing image) → AreShown image stimulus n rows → n ≤ cycle_count stimulus
+    → (c : ℕ) (row : CellRow) → slice_get rows c ≡ Some row → row.cells ≡ cells_of net timing (of.shows stimulus).states (c + 1)
+cells_are net timing stimulus image n rows of are few c row at =
+    let low = slice_get_within rows c row at in
+    let wide = are.width c row at ∙ of.printed in
+    ext_get_or Undef row.cells (cells_of net timing (of.shows stimulus).states (c + 1)) (wide ∙ sym (length-map net.printed _)) (λ j inside.
+    are.cells c j row at (omega (arith, inside, are.width c row at))
+    ∙ (of.shows stimulus).cells (c + 1) j (omega (arith, low, are.cycles_are, few)) (omega (arith, inside, wide)))
+
+-- the header and the rows of the first cycles are the trace up to them
+pub front_shown : (net : Netlist) (timing : Timing) (stimulus : Stimulus) (image : Image) (n : ℕ) (rows : List CellRow) (of : IsImageOf net timing image) → AreShown image stimulus n rows → n ≤ cycle_count stimulus
+    → header_line net ++ cycle_lines rows ≡ trace_to net timing (of.shows stimulus).states n
+front_shown net timing stimulus image n rows of are few =
+    printed_front net timing (of.shows stimulus).states n rows are.cycles_are (cells_are net timing stimulus image n rows of are few)
+
+-- and those of all cycles are the trace
+pub trace_shown : (net : Netlist) (timing : Timing) (stimulus : Stimulus) (image : Image) (rows : List CellRow) → IsImageOf net timing image → AreShown image stimulus (cycle_count stimulus) rows
+    → IsTrace net timing stimulus (header_line net ++ cycle_lines rows)
+trace_shown net timing stimulus image rows of are = record {
+  states = (of.shows stimulus).states;
+  simulation = (of.shows stimulus).simulation;
+  printed = front_shown net timing stimulus image (cycle_count stimulus) rows of are (omega arith);
+}
+
+-- lines of cells that agree in each cycle
+lines_alike : (f g : ℕ → List V4) (from n last : ℕ) → from + n ≤ last → ((c : ℕ) → c < last → f (c + 1) ≡ g (c + 1))
+    → flat_map (λ c. cycle_line (c + 1) (f (c + 1))) (range_with_len from n) ≡ flat_map (λ c. cycle_line (c + 1) (g (c + 1))) (range_with_len from n)
+lines_alike f g from zero last within same = refl
+lines_alike f g from (suc n) last within same =
+    ap (λ cells. cycle_line (from + 1) cells ++ flat_map (λ c. cycle_line (c + 1) (f (c + 1))) (range_with_len (from + 1) n)) (same from (omega (arith, within)))
+    ∙ ap (λ lines. cycle_line (from + 1) (g (from + 1)) ++ lines) (lines_alike f g (from + 1) n last (omega (arith, within)) same)
+
+-- what a run of the image writes is the trace
+pub run_trace : (net : Netlist) (timing : Timing) (stimulus : Stimulus) (image : Image) → IsImageOf net timing image → IsTrace net timing stimulus (bytes_of_run net image stimulus)
+run_trace net timing stimulus image of = record {
+  states = states;
+  simulation = (of.shows stimulus).simulation;
+  printed =
+      ap (λ n. header_line net ++ flat_map (λ c. cycle_line (c + 1) (cells_shown image stimulus (c + 1))) (range_with_len 0 n)) (all (cycle_count stimulus))
+      ∙ ap (λ lines. header_line net ++ lines) (lines_alike (cells_shown image stimulus) (cells_of net timing states) 0 (cycle_count stimulus) (cycle_count stimulus) (omega arith) same);
+} where
+  all : (n : ℕ) → n - 0 ≡ n
+  all n = omega arith
+
+  states : List State
+  states = (of.shows stimulus).states
+
+  same : (c : ℕ) → c < cycle_count stimulus → cells_shown image stimulus (c + 1) ≡ cells_of net timing states (c + 1)
+  same c low =
+      let many = length-map-range_with_len (λ j. shown image stimulus (c + 1) j) 0 (length (printed_sources image)) in
+      ext_get_or Undef (cells_shown image stimulus (c + 1)) (cells_of net timing states (c + 1)) (many ∙ of.printed ∙ sym (length-map net.printed _)) (λ j inside.
+      get_or-map-range_with_len (λ j. shown image stimulus (c + 1) j) 0 (length (printed_sources image)) j j Undef (omega (arith, inside, many)) (omega arith)
+      ∙ (of.shows stimulus).cells (c + 1) j (omega (arith, low)) (omega (arith, inside, many, of.printed)))
+
+-- the rows of the first cycles fit the line
+pub shown_prints : (net : Netlist) (timing : Timing) (stimulus : Stimulus) (image : Image) (n : ℕ) (rows : Rows) (line : Filling) → HasRoom net line → IsValidStimulus stimulus → IsImageOf net timing image → AreShown image stimulus n rows.rows → n ≤ cycle_count stimulus
+    → CanPrint (record { net = net; rows = rows; line = line })
+shown_prints net timing stimulus image n rows line room valid of are few = record {
+  room = room;
+  cells = λ c row at. are.width c row at ∙ of.printed;
+  cycles = omega (arith, are.cycles_are, valid.cycles, few);
+}

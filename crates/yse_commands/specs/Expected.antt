@@ -1,0 +1,39 @@
+-- What a whole call comes to, given the words and what was read: the chain of checks of its command.
+use Rattle.std.specs.Prelude.{◌≡◌, true, false, ℕ, List, None, Result, Ok, Err}
+use Rattle.cmd_words.specs.declared.command.Command.{Command}
+use Rattle.cmd_words.specs.declared.command.Command.TheVariants as command
+use Rattle.cmd_words.specs.Forms.{HasForm}
+use Rattle.yse_commands.specs.declared.layout.Sheet.TheVariants as sheet
+use Rattle.refusal_lines.specs.declared.status.Status.TheVariants as status
+use Rattle.named_files.specs.Checks.{After}
+use Rattle.refusal_lines.specs.Lines.{usage_line}
+use Rattle.named_files.specs.Outcome.{Outcome, refusal}
+use Rattle.named_files.specs.Readings.{Reading}
+use Rattle.yse_commands.specs.commands.Exec.{ExpectedExec}
+use Rattle.yse_commands.specs.commands.Fault.{ExpectedFault}
+use Rattle.yse_commands.specs.commands.Large.{ExpectedLarge}
+use Rattle.yse_commands.specs.commands.Layout.{ExpectedLayout}
+use Rattle.yse_commands.specs.commands.Pack.{ExpectedPack}
+use Rattle.yse_commands.specs.commands.Run.{ExpectedRun, ExpectedRefer}
+use Rattle.yse_commands.specs.commands.Show.{ExpectedShow}
+
+abbrev pub ExpectedOf : Command → List Reading → Outcome → Type 0
+ExpectedOf (command.Run words) readings outcome = ExpectedRun words false None readings outcome
+ExpectedOf (command.Refer words) readings outcome = ExpectedRefer words readings outcome
+ExpectedOf (command.Order words) readings outcome = ExpectedRun words true words.order readings outcome
+ExpectedOf (command.Plan words) readings outcome = ExpectedLayout sheet.Report words readings outcome
+ExpectedOf (command.Compile words) readings outcome = ExpectedLayout sheet.Image words readings outcome
+ExpectedOf (command.Exec words image) readings outcome = ExpectedExec words image readings outcome
+ExpectedOf (command.Pack words) readings outcome = ExpectedPack words readings outcome
+ExpectedOf (command.Fault words) readings outcome = ExpectedFault words readings outcome
+ExpectedOf (command.Show netlist) readings outcome = ExpectedShow netlist readings outcome
+ExpectedOf (command.Large gates cycles workers) readings outcome = ExpectedLarge gates cycles readings outcome
+
+-- the command of whose form the words are; words of no form are refused
+abbrev pub Asks : List (List ℕ) → Result Command Outcome → Type 0
+Asks words (Ok command) = HasForm words command
+Asks words (Err outcome) = ((command : Command) → HasForm words command → ⊥) × (outcome ≡ refusal status.Words usage_line)
+
+-- these words come to this outcome, where the files that are begun read as these readings, in their order
+unfoldable pub Expected : List (List ℕ) → List Reading → Outcome → Type 0
+Expected words = After (Asks words) ExpectedOf

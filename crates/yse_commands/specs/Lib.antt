@@ -1,0 +1,11 @@
+pub mod code
+pub mod commands
+pub mod Ends
+pub mod Expected
+pub mod Orders
+pub mod Outputs
+pub mod Refusals
+pub mod Telling
+pub mod Traced
+pub mod Visited
+pub mod Words

@@ -1,0 +1,80 @@
+-- What the output of a simulation is, by what its files told.
+use Rattle.std.specs.Prelude.{ℕ, List, Option, Some, None, IfSome, ◌≡◌}
+use Rattle.edge_io.specs.Names.{OfTold}
+use Rattle.net_defs.specs.declared.netlist.Netlist.{Netlist}
+use Rattle.net_defs.specs.declared.stimulus.Stimulus.{Stimulus}
+use Rattle.net_defs.specs.declared.timing.Timing.{Timing}
+use Rattle.net_defs.specs.Trace.{IsTrace}
+use Rattle.net_defs.specs.Valid.{input_count}
+use Rattle.bench_read.specs.GateLists as gate_lists
+use Rattle.bench_read.specs.Reads as bench
+use Rattle.stim_text.specs.Stimuli as stim
+use Rattle.stim_text.specs.declared.lanes.Lanes.{Lanes}
+use Rattle.stim_text.specs.LaneTexts.{ReadsAsLanes}
+use Rattle.cmd_words.specs.declared.command.Command.{Command}
+use Rattle.cmd_words.specs.declared.command.Command.TheVariants as command
+use Rattle.cmd_words.specs.declared.command.RunWords.{RunWords}
+use Rattle.named_files.specs.Checks.{listing}
+use Rattle.yse_commands.specs.Words.{traced_by}
+use Rattle.yse_commands.specs.commands.Fault.{IsFaultList}
+use Rattle.yse_commands.specs.commands.Pack.{AreLaneTraces}
+
+-- The text of the netlist file, and the netlist that it reads as; the text of the stimulus file, and the
+-- stimulus that it reads as for the netlist's inputs. Where the store tells the bytes of its files, the texts
+-- are those bytes.
+pub record AreOfFiles (bytes : Option (List ℕ → List ℕ)) (words : RunWords) (net : Netlist) (stimulus : Stimulus) : Type 0 where
+  pub netlist_text : List ℕ
+  pub netlist_told : OfTold bytes words.netlist (λ told. netlist_text ≡ told)
+  pub netlist_reads : bench.Reads netlist_text net
+  pub stimulus_text : List ℕ
+  pub stimulus_told : OfTold bytes words.stimulus (λ told. stimulus_text ≡ told)
+  pub stimulus_reads : stim.Reads (input_count net) stimulus_text stimulus
+
+-- The timing of the words; where they name the file of a list, with the gates listed that its text lists.
+abbrev pub IsTimingOfFile : Option (List ℕ → List ℕ) → Option (List ℕ) → Netlist → Timing → Timing → Type 0
+IsTimingOfFile bytes None net given timing = timing ≡ given
+IsTimingOfFile bytes (Some file) net given timing =
+    (text : List ℕ) × (listed : List ℕ) × OfTold bytes file (λ told. text ≡ told) × gate_lists.Reads net text listed × (timing ≡ listing given listed)
+
+-- the output is the trace of the netlist and the stimulus of the files, in the timing of the words and
+-- their list
+pub record IsTraceOfFiles (bytes : Option (List ℕ → List ℕ)) (output : List ℕ) (words : RunWords) : Type 0 where
+  pub net : Netlist
+  pub stimulus : Stimulus
+  pub are : AreOfFiles bytes words net stimulus
+  pub timing : Timing
+  pub timing_is : IsTimingOfFile bytes words.last net words.timing timing
+  pub trace : IsTrace net timing stimulus output
+
+-- The same of a file of lanes: the lanes that its text reads as.
+pub record AreLanesOfFiles (bytes : Option (List ℕ → List ℕ)) (words : RunWords) (net : Netlist) (lanes : Lanes) : Type 0 where
+  pub netlist_text : List ℕ
+  pub netlist_told : OfTold bytes words.netlist (λ told. netlist_text ≡ told)
+  pub netlist_reads : bench.Reads netlist_text net
+  pub lanes_text : List ℕ
+  pub lanes_told : OfTold bytes words.stimulus (λ told. lanes_text ≡ told)
+  pub lanes_read : ReadsAsLanes (input_count net) lanes_text lanes
+
+-- the output is, for each lane of the files, the trace of its own stimulus
+pub record AreTracesOfFiles (bytes : Option (List ℕ → List ℕ)) (output : List ℕ) (words : RunWords) : Type 0 where
+  pub net : Netlist
+  pub lanes : Lanes
+  pub are : AreLanesOfFiles bytes words net lanes
+  pub timing : Timing
+  pub timing_is : IsTimingOfFile bytes words.last net words.timing timing
+  pub traces : AreLaneTraces net timing lanes output
+
+-- the output lists where each stuck fault of the netlist of the files is first seen under their stimulus
+pub record IsFaultListOfFiles (bytes : Option (List ℕ → List ℕ)) (output : List ℕ) (words : RunWords) : Type 0 where
+  pub net : Netlist
+  pub stimulus : Stimulus
+  pub are : AreOfFiles bytes words net stimulus
+  pub timing : Timing
+  pub timing_is : IsTimingOfFile bytes words.last net words.timing timing
+  pub list : IsFaultList net timing stimulus output
+
+-- what the output of a command is, by what its files told
+abbrev pub IsOutputOfFiles : Option (List ℕ → List ℕ) → List ℕ → Option Command → Type 0
+IsOutputOfFiles bytes output (Some (command.Pack words)) = AreTracesOfFiles bytes output words
+IsOutputOfFiles bytes output (Some (command.Fault words)) = IsFaultListOfFiles bytes output words
+IsOutputOfFiles bytes output asked = IfSome (traced_by asked) (IsTraceOfFiles bytes output)

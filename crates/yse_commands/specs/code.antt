@@ -1,0 +1,5 @@
+pub mod Endings
+pub mod Orders
+pub mod Printed
+pub mod Stepped
+pub mod Visited

@@ -1,0 +1,18 @@
+//! The commands: what each comes to before its output is written, one module for each.
+#![tactic(auto)]
+
+mod compile;
+pub mod exec;
+pub mod fault;
+pub mod large;
+mod layout;
+pub mod output;
+pub mod pack;
+mod plan;
+pub mod refer;
+pub mod run;
+pub mod show;
+mod steps;
+
+pub use layout::{Sheet, lay_out};
+pub use steps::Pace;

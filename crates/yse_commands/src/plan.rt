@@ -1,0 +1,73 @@
+//! The report of a plan, and what is told of better homes.
+
+ghost use Rattle.std.specs.Prelude.{◌≡◌, ◌++◌, IfOk, OnOk};
+ghost use Rattle.net_defs.specs.Valid.{IsValid};
+ghost use Rattle.yse_compile.specs.Chosen.{IsChosen};
+ghost use Rattle.yse_commands.specs.commands.Plan.{IsReportOf, crossings_line, homes_word, told_of_homes};
+
+use itoa::Buffer;
+use machine_text::Machine;
+use named_files::Planned;
+use net_defs::{HomeChoice, Timing};
+use plan_defs::law::items_are_well_formed;
+use plan_text::report;
+use seen_list::{Memory, Text};
+use std::alloc::Global;
+use yse_compile::Chosen;
+
+/// The report of a design, with a line on the crossings where better homes were asked for.
+pub fn report_of(
+    alloc: Global,
+    planned: &Planned,
+    _machine: &Machine,
+    _timing: &Timing,
+    choice: HomeChoice,
+) -> Result<Text, Memory>
+    requires valid { IsValid planned.now.net }
+    requires chosen { IsChosen planned.now.net _machine.now _timing.now choice planned.now.chosen }
+    ensures { IfOk result (IsReportOf choice planned.now.net _machine.now _timing.now) }
+{
+    items_are_well_formed();
+    let compiled = &planned.chosen.compiled;
+    let mut text = report(
+        alloc,
+        &planned.net,
+        &compiled.nodes,
+        &compiled.homes,
+        &compiled.plan,
+        &compiled.switch,
+    )?;
+    push_homes(&mut text, choice, &planned.chosen)?;
+    Ok(text)
+}
+
+/// Adds what is told of the homes.
+fn push_homes(text: &mut Text, choice: HomeChoice, chosen: &Chosen) -> Result<(), Memory>
+    ensures { OnOk result (text.new ≡ text.old ++ told_of_homes choice chosen.now) }
+{
+    match choice {
+        HomeChoice::Plain => Ok(()),
+        HomeChoice::Better => push_crossings(text, chosen.before, chosen.after, chosen.better),
+    }
+}
+
+/// Adds the line of the crossings.
+#[tactic(auto, unfolding(crate::specs::commands::Plan::crossings_line))]
+fn push_crossings(text: &mut Text, before: u64, after: u64, better: bool) -> Result<(), Memory>
+    ensures { OnOk result (text.new ≡ text.old ++ crossings_line before after better) }
+{
+    text.push_bytes(b"crossings ")?;
+    text.push_bytes(Buffer::new().format(before).as_bytes())?;
+    text.push_bytes(b" better ")?;
+    text.push_bytes(Buffer::new().format(after).as_bytes())?;
+    text.push_bytes(b" used ")?;
+    text.push_bytes(homes_word(better))?;
+    text.push_bytes(b"\n")?;
+    Ok(())
+}
+
+fn homes_word(better: bool) -> &'static [u8]
+    ensures { result.now ≡ homes_word better }
+{
+    if better { b"better" } else { b"plain" }
+}

@@ -1,0 +1,36 @@
+//! `show`: the canonical text of a netlist.
+
+ghost use Rattle.std.specs.Prelude.{IfOk};
+ghost use Rattle.yse_commands.specs.Outputs.{CanWrite};
+ghost use Rattle.yse_commands.specs.Refusals.{Follows};
+ghost use Rattle.yse_commands.specs.commands.Show.{ExpectedShow};
+
+use crate::output::Output;
+use edge_io::Files;
+use named_files::netlist_in;
+use net_defs::show as canonical_text;
+use refusal_lines::Refusal;
+use seen_list::Memory;
+use std::alloc::Global;
+
+/// The canonical text of the netlist of a file.
+pub fn show<'a, F: Files>(
+    alloc: Global,
+    files: &mut F,
+    file: &'a [u8],
+) -> Result<Output, Refusal<'a>>
+    ensures expected { Follows (F.names files.old) (F.bytes files.old) (F.counts files.old) (F.counts files.new)
+        result (ExpectedShow file.now) }
+    ensures writable { IfOk result CanWrite }
+{
+    let net = match netlist_in(alloc, files, file) {
+        Ok(net) => net,
+        Err(no) => return Err(no),
+    };
+    let text = canonical_text(alloc, &net);
+    drop(net);
+    match text {
+        Ok(text) => Ok(Output::Text(text)),
+        Err(Memory) => Err(Refusal::Memory),
+    }
+}
