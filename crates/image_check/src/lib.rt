@@ -7,6 +7,7 @@ mod check;
 mod claims;
 mod file;
 mod form;
+pub mod law;
 mod links;
 mod memories;
 mod nodes;
