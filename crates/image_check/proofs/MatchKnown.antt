@@ -1,5 +1,5 @@
 -- Whether the places and columns of an image match the items that they claim is known.
-use Rattle.std.proofs.Common.{◌≡◌, ◌∙◌, inl, inr, Bool, ℕ, List, length, refl, sym, ap}
+use Rattle.std.proofs.Common.{◌≡◌, ◌∙◌, inl, inr, ℕ, List, length, refl, sym, ap}
 use Rattle.std.specs.Prelude.{Some, slice_get}
 use Rattle.std.proofs.lemmas.Bool.{cases_eq}
 use Rattle.logic_four.specs.Values.{code_of, value_of}
@@ -30,7 +30,7 @@ use Rattle.image_defs.specs.declared.image.Work.TheVariants.{Logic, Array, Host}
 use Rattle.image_defs.specs.declared.image.LinkIn.{LinkIn}
 use Rattle.image_defs.specs.declared.image.PortImage.{PortImage}
 use Rattle.image_defs.specs.declared.image.Image.{Image}
-use Rattle.image_defs.specs.Places.{IsPort, IsItemIn, item_slots, printed_of, sender_in, host_of}
+use Rattle.image_defs.specs.Places.{IsPort, item_slots, printed_of, sender_in, host_of}
 use Rattle.image_match.specs.Matches.{IsClaim, ClaimsIn, Carries, CarryAll, MemoryImplements, TaskImplements, BitImplements, InputImplements, Implements, ImplementsClaim, claims_of, is_last}
 use Rattle.image_check.specs.Claimed.{HasTiming, PlaceMatches, ColumnMatches}
 use Rattle.image_check.proofs.KnownLemmas.{IsKnown, known_both, known_then, known_same, known_bool, known_some, known_any, known_is, known_all, known_member, known_each}
