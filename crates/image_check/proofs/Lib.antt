@@ -7,3 +7,7 @@ pub mod PortLemmas
 pub mod ClaimLemmas
 pub mod CarryLemmas
 pub mod FirstLemmas
+pub mod KnownLemmas
+pub mod FormKnown
+pub mod MatchKnown
+pub mod AnswerLemmas

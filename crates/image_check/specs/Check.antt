@@ -1,5 +1,5 @@
 -- What the check of an image that comes from elsewhere says.
-use Rattle.std.specs.Prelude.{◌≡◌, ℕ, Result, Ok, Err}
+use Rattle.std.specs.Prelude.{◌≡◌, ◌≢◌, ◌⊎◌, ℕ, Result, Ok, Err}
 use Rattle.net_defs.specs.declared.timing.Timing.{Timing}
 use Rattle.node_defs.specs.declared.items.NodeNet.{NodeNet}
 use Rattle.image_defs.specs.WellFormed.{IsWellFormed}
@@ -25,3 +25,8 @@ Says file nodes timing (Err no.Memory) = Unit {0}
 abbrev pub IsOkOrMemory : Result (Unit {0}) CheckNo → Type 0
 IsOkOrMemory (Ok done) = Unit {0}
 IsOkOrMemory (Err why) = why ≡ no.Memory
+
+-- the image is accepted, or there is a refusal of it, which is no want of memory
+abbrev pub HasAnswer : ImageFile → NodeNet → Timing → Type 0
+HasAnswer file nodes timing =
+    Says file nodes timing (Ok tt) ⊎ ((why : CheckNo) × (why ≢ no.Memory) × Says file nodes timing (Err why))

@@ -6,6 +6,7 @@
 mod check;
 mod claims;
 mod form;
+pub mod law;
 mod links;
 mod memories;
 mod nodes;

@@ -7,6 +7,7 @@ use Rattle.std.specs.Ordering.{is_lt}
 use Rattle.std.proofs.lemmas.Bool.{cases_eq, cases_lt, lt-ltb, le-ltb}
 use Rattle.std.proofs.lemmas.Option.{slice_get_within}
 use Rattle.std.proofs.lemmas.List.{length-map}
+use Rattle.std.proofs.lemmas.List.Elements.{All-nil}
 use Rattle.std.proofs.lemmas.List.MinMax.{ranks_by}
 use Rattle.logic_four.specs.declared.V4.TheVariants.{Zero}
 use Rattle.logic_four.specs.declared.Kind.{Kind}
@@ -38,6 +39,7 @@ use Rattle.node_defs.specs.Items.{own, IsNamed, wire_tag, StandFor, IsNodeBlock}
 use Rattle.node_defs.specs.Order.{AreItems}
 use Rattle.node_map.specs.declared.keys.Key.{Key}
 use Rattle.node_map.specs.declared.numbering.Numbering.{Numbering}
+use Rattle.node_map.specs.Words.{HasWords}
 use Rattle.node_map.specs.code.Wires.{operands_of, helpers_at, rank_at, AreOwnRanks}
 use Rattle.node_map.specs.code.Places.{start_of, keys_to, key_cmp, name_of, flat_in, AreKeyed, AreRight, AreFlat, IsNumbering}
 use Rattle.node_map.specs.code.Tables.{Keeps}
@@ -180,6 +182,7 @@ module _ (net : Netlist) (numbering : Numbering) (numbered : IsNumbering net num
       item : Item
       different : AreDifferent tables
       kept : Keeps old tables
+      words : All HasWords old → All HasWords tables
       node : IsNodeAt numbering.names old tables late s (operands_of net s) kind place item
 
     node_there : (old : List Table) (kind : Kind) (place : ℕ) → AreDifferent old → AllowsOperands kind (length (operands_of net s)) → place ≤ helpers_at net s
@@ -195,6 +198,7 @@ module _ (net : Netlist) (numbering : Numbering) (numbered : IsNumbering net num
             item = Node shelf.1.number feeds.0;
             different = shelf.1.different;
             kept = shelf.1.kept;
+            words = shelf.1.words;
             node = made_node numbering.names old shelf.0 late s (operands_of net s) kind place shelf.1.number feeds.0 shelf.1.has shelf.1.added feeds.1;
           },
         )
@@ -205,11 +209,12 @@ module _ (net : Netlist) (numbering : Numbering) (numbered : IsNumbering net num
       item : Item
       different : AreDifferent tables
       kept : Keeps old tables
+      words : All HasWords old → All HasWords tables
       made : IsMadeItem net timing numbering.names old tables key item
 
     -- an item that needs no table
     plain_step : (old : List Table) (key : Key) (item : Item) → AreDifferent old → IsMadeItem net timing numbering.names old old key item → (tables : List Table) × IsStep old key tables
-    plain_step old key item different made = (old, record { item = item; different = different; kept = λ n table at. at; made = made })
+    plain_step old key item different made = (old, record { item = item; different = different; kept = λ n table at. at; words = λ all. all; made = made })
 
     by_driver : (old : List Table) (key : Key) (drives : Driver) → AreDifferent old → key.signal < length net.signals → key.place ≤ helpers_at net key.signal
         → driver_at net key.signal ≡ Some drives → IsDrivable net key.signal drives → (tables : List Table) × IsStep old key tables
@@ -230,6 +235,7 @@ module _ (net : Netlist) (numbering : Numbering) (numbered : IsNumbering net num
             item = step.1.item;
             different = step.1.different;
             kept = step.1.kept;
+            words = step.1.words;
             made = made_gate net timing numbering.names old step.0 key kind ops step.1.item driven among step.1.node;
           },
         )
@@ -244,6 +250,7 @@ module _ (net : Netlist) (numbering : Numbering) (numbered : IsNumbering net num
     record AreMadeTo (keys : List Key) (n : ℕ) (tables : List Table) : Type 0 where
       items : List Item
       different : AreDifferent tables
+      words : All HasWords tables
       to : MadeTo net timing numbering.names tables keys n items
 
     -- with the item of the next key
@@ -252,6 +259,7 @@ module _ (net : Netlist) (numbering : Numbering) (numbered : IsNumbering net num
     made_next keys n old before key there tables step = record {
       items = before.items ++ step.item ∷ [];
       different = step.different;
+      words = step.words before.words;
       to = rw add-one at (made_more net timing numbering.names old tables keys n before.items key step.item before.to there step.kept step.made);
     }
 
@@ -261,6 +269,7 @@ module _ (net : Netlist) (numbering : Numbering) (numbered : IsNumbering net num
       record {
         items = [];
         different = λ i j d before below. absurd (omega (arith, below));
+        words = All-nil HasWords;
         to = made_begun net timing numbering.names [] keys refl;
       },
     )
@@ -270,10 +279,10 @@ module _ (net : Netlist) (numbering : Numbering) (numbered : IsNumbering net num
         let step : _ = step_there before.0 key.0 before.1.different (keyed.signal n key.0 key.1) (keyed.place n key.0 key.1) in
         (step.0, made_next keys n before.0 before.1 key.0 key.1 step.0 step.1)
 
-    pub all_made : (keys : List Key) → AreKeyed net keys → (tables : List Table) × (items : List Item) × AreDifferent tables × AreMade net timing numbering.names tables keys items
+    pub all_made : (keys : List Key) → AreKeyed net keys → (tables : List Table) × (items : List Item) × AreDifferent tables × AreMade net timing numbering.names tables keys items × All HasWords tables
     all_made keys keyed =
         let all : _ = made_to keys keyed (length keys) (omega arith) in
-        (all.0, all.1.items, all.1.different, made_all net timing numbering.names all.0 keys (length keys) all.1.items refl all.1.to)
+        (all.0, all.1.items, all.1.different, made_all net timing numbering.names all.0 keys (length keys) all.1.items refl all.1.to, all.1.words)
 
 -- ---- the first node
 
@@ -328,7 +337,7 @@ first_there net keys keyed = elim (first_to keys (length keys) (omega arith)) [
 
 -- ---- the items of a netlist
 
-pub items_there : (net : Netlist) (timing : Timing) (order : List ℕ) → IsValid net → IsOrder net timing order → (nodes : NodeNet) × AreItems net timing nodes
+pub items_there : (net : Netlist) (timing : Timing) (order : List ℕ) → IsValid net → IsOrder net timing order → (nodes : NodeNet) × AreItems net timing nodes × All HasWords nodes.tables
 items_there net timing order valid is_order =
     let ranks : _ = own_there net timing order valid is_order in
     let keys : _ = keys_there net timing ranks.0 valid in
@@ -340,4 +349,5 @@ items_there net timing order valid is_order =
       record { items = made.1; names = numbering.0.names; tables = made.0; printed = printed; blocks = blocks; first_node = first.0 },
       made_items net timing ranks.0 keys.0 numbering.0.names made.0 made.1 first.0 ranks.1 keys.1 keys.2 numbering.2 made.3 first.1.within first.1.nodes printed blocks made.2
           (stand_there net numbering.0 numbering.1 net.printed valid.printed) (blocks_there net numbering.0 numbering.1 valid),
+      made.4,
     )

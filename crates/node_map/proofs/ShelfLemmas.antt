@@ -1,10 +1,11 @@
 -- There is a table of each kind, and a shelf that has it.
-use Rattle.std.proofs.Common.{◌≡◌, ◌≢◌, ◌∙◌, ◌⊎◌, inl, inr, ℕ, zero, suc, ◌+◌, ◌*◌, ◌/◌, ◌%◌, ◌^◌, ◌<◌, ◌≤◌, List, [], ◌∷◌, ◌++◌, length, get_or, set, replicate, refl, sym, ap, arith}
+use Rattle.std.proofs.Common.{◌≡◌, ◌≢◌, ◌∙◌, ◌⊎◌, inl, inr, ℕ, zero, suc, ◌+◌, ◌-◌, ◌*◌, ◌/◌, ◌%◌, ◌^◌, ◌<◌, ◌≤◌, List, [], ◌∷◌, ◌++◌, length, get_or, set, replicate, refl, sym, ap, subst, arith, mul_comm}
 use Rattle.std.specs.Prelude.{Some, slice_get}
 use Rattle.std.specs.List.{All}
 use Rattle.std.proofs.lemmas.Bool.{cases_eq}
 use Rattle.std.proofs.lemmas.List.{length-set, length-replicate}
-use Rattle.std.proofs.lemmas.List.Elements.{All-nil, All-cons}
+use Rattle.std.proofs.lemmas.List.Elements.{All-nil, All-cons, All-push, All-set, All-replicate}
+use Rattle.std.proofs.lemmas.Nat.{shr_below, mul-add-lt, mod_below, pow_pos, pow-add}
 use Rattle.std.proofs.lemmas.List.Quantifiers.{all_pairs_push}
 use Rattle.logic_four.specs.declared.V4.{V4}
 use Rattle.logic_four.specs.declared.Kind.{Kind}
@@ -19,6 +20,7 @@ use Rattle.func_table.specs.Shelf.{AreDifferent, IsNumbered}
 use Rattle.func_table.proofs.EntryLemmas.{entries_more, entries_are_answers}
 use Rattle.list_laws.proofs.Places.{seam_at}
 use Rattle.list_laws.proofs.Ranges.{last_or}
+use Rattle.node_map.specs.Words.{HasWords}
 use Rattle.node_map.specs.code.Tables.{Keeps, AddsOnly, HasTable}
 use Rattle.node_map.proofs.TableLemmas.{numbered_keeps, numbered_adds}
 
@@ -27,6 +29,7 @@ use Rattle.node_map.proofs.TableLemmas.{numbered_keeps, numbered_adds}
 -- the words with another value in a place
 record IsPut (words : List ℕ) (place : ℕ) (v : V4) (new : List ℕ) : Type 0 where
   as_long : length new ≡ length words
+  whole : All (λ word. word < 2 ^ 64) new
   here : packed_value new place ≡ v
   others : (other : ℕ) → other ≢ place → packed_value new other ≡ packed_value words other
 
@@ -34,33 +37,48 @@ record IsPut (words : List ℕ) (place : ℕ) (v : V4) (new : List ℕ) : Type 0
 abbrev with_code : ℕ → ℕ → ℕ → ℕ
 with_code word i code = (word / 2 ^ (2 * i) / 4 * 4 + code) * 2 ^ (2 * i) + word % 2 ^ (2 * i)
 
-put : (words : List ℕ) (place : ℕ) (v : V4) → place < 32 * length words → (new : List ℕ) × IsPut words place v new
-put words place v within =
+-- it has no more bits than the word had
+code_whole : (word i code : ℕ) → word < 2 ^ 64 → i < 32 → code < 4 → with_code word i code < 2 ^ 64
+code_whole word i code whole column few = below (62 - 2 * i) (omega (arith, column)) where
+  below : (r : ℕ) → r + 2 + 2 * i ≡ 64 → with_code word i code < 2 ^ 64
+  below r bits =
+      let above : word / 2 ^ (2 * i) < 2 ^ (r + 2) = shr_below word (r + 2) (2 * i) (subst (λ n. word < 2 ^ n) (sym bits) whole) in
+      let high : word / 2 ^ (2 * i) / 4 < 2 ^ r = shr_below (word / 2 ^ (2 * i)) r 2 above in
+      let front : word / 2 ^ (2 * i) / 4 * 4 + code < 4 * 2 ^ r = mul-add-lt (word / 2 ^ (2 * i) / 4) 4 code (2 ^ r) high few in
+      let all : with_code word i code < 2 ^ (2 * i) * (4 * 2 ^ r) =
+          mul-add-lt (word / 2 ^ (2 * i) / 4 * 4 + code) (2 ^ (2 * i)) (word % 2 ^ (2 * i)) (4 * 2 ^ r) front (mod_below word (2 ^ (2 * i)) (pow_pos (2 * i))) in
+      let room : 2 ^ 64 ≡ 2 ^ (2 * i) * (4 * 2 ^ r) =
+          ap (λ n. 2 ^ n) (sym bits) ∙ pow-add 2 (r + 2) (2 * i) ∙ ap (λ n. n * 2 ^ (2 * i)) (pow-add 2 r 2) ∙ mul_comm (2 ^ r * 4) (2 ^ (2 * i)) ∙ ap (λ n. 2 ^ (2 * i) * n) (mul_comm (2 ^ r) 4) in
+      subst (λ n. with_code word i code < n) (sym room) all
+
+put : (words : List ℕ) (place : ℕ) (v : V4) → All (λ word. word < 2 ^ 64) words → place < 32 * length words → (new : List ℕ) × IsPut words place v new
+put words place v whole within =
     let old : ℕ = get_or words (place / 32) 0 in
     let word : ℕ = with_code old (place % 32) (code_of v) in
     let column : place % 32 < 32 = omega arith in (
       set words (place / 32) word,
       record {
         as_long = length-set words (place / 32) word;
+        whole = All-set (λ (w : ℕ). w < 2 ^ 64) words (place / 32) word (code_whole old (place % 32) (code_of v) (whole (place / 32) 0 (omega (arith, within))) column (code_of_small v)) whole;
         here = value-set_same words place word v within (code_in-replaced_same old (place % 32) (code_of v) column (code_of_small v));
         others = λ other apart. value-set_other words place word other within
             (λ k small differs. code_in-replaced_other old (place % 32) (code_of v) k column (code_of_small v) differs) apart;
       },
     )
 
-words_to : (f : ℕ → V4) (n : ℕ) → n ≤ 256 → (words : List ℕ) × (length words ≡ 8) × ((e : ℕ) → e < n → packed_value words e ≡ f e)
-words_to f zero few = (replicate 8 0, length-replicate {A = ℕ} 8 0, λ e below. absurd (omega (arith, below)))
+words_to : (f : ℕ → V4) (n : ℕ) → n ≤ 256 → (words : List ℕ) × (length words ≡ 8) × ((e : ℕ) → e < n → packed_value words e ≡ f e) × All (λ word. word < 2 ^ 64) words
+words_to f zero few = (replicate 8 0, length-replicate {A = ℕ} 8 0, λ e below. absurd (omega (arith, below)), All-replicate (λ (word : ℕ). word < 2 ^ 64) 8 0 (omega arith))
 words_to f (suc n) few =
     let before : _ = words_to f n (omega (arith, few)) in
-    let new : _ = put before.0 n (f n) (omega (arith, few, before.1)) in
-    (new.0, new.1.as_long ∙ before.1, λ e below. entries_more f before.0 new.0 n before.2 new.1.here new.1.others e (omega (arith, below)))
+    let new : _ = put before.0 n (f n) before.3 (omega (arith, few, before.1)) in
+    (new.0, new.1.as_long ∙ before.1, λ e below. entries_more f before.0 new.0 n before.2 new.1.here new.1.others e (omega (arith, below)), new.1.whole)
 
 -- there is a table of each kind
-table_of : (kind : Kind) (n : ℕ) → (table : Table) × IsTableOf kind n table
+table_of : (kind : Kind) (n : ℕ) → (table : Table) × IsTableOf kind n table × HasWords table
 unfolding entry_for entry_of
 table_of kind n =
     let all : _ = words_to (answer_at kind n) 256 (omega arith) in
-    (record { words = all.0 }, entries_are_answers kind n all.0 all.2)
+    (record { words = all.0 }, entries_are_answers kind n all.0 all.2, record { eight = all.1; words = all.3 })
 
 -- ---- equal tables
 
@@ -109,6 +127,7 @@ pub record IsShelved (old : List Table) (kind : Kind) (operands : ℕ) (new : Li
   pub kept : Keeps old new
   pub added : AddsOnly old new number
   pub has : HasTable new kind operands number
+  pub words : All HasWords old → All HasWords new
 
 pub shelved : (old : List Table) (kind : Kind) (operands : ℕ) → AreDifferent old → (new : List Table) × IsShelved old kind operands new
 shelved old kind operands different =
@@ -122,6 +141,7 @@ shelved old kind operands different =
           kept = λ n table at. at;
           added = λ t past within. absurd (none t past within);
           has = (found.1, found.2, alike_answers found.1 made.0 kind operands found.3 made.1);
+          words = λ all. all;
         },
       )
       | inr others ↦
@@ -133,6 +153,7 @@ shelved old kind operands different =
               kept = numbered_keeps made.0 old (old ++ made.0 ∷ []) (length old) is;
               added = numbered_adds made.0 old (old ++ made.0 ∷ []) (length old) is;
               has = (made.0, seam_at old made.0 [], made.1);
+              words = λ all. All-push HasWords old made.0 all made.2;
             },
           )
     ]

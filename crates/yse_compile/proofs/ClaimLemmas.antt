@@ -17,7 +17,8 @@ use Rattle.image_file.specs.Ranges.{tables_of}
 use Rattle.image_build.specs.PortItems.{IsAt, ArePortItems, ArePlanClaims}
 use Rattle.image_build.specs.Built.{IsBuilt}
 use Rattle.yse_compile.specs.declared.compiler.Compiled.{Compiled}
-use Rattle.yse_compile.specs.Claims.{IsPlaced, HasWords, AreClaimsOf}
+use Rattle.node_map.specs.Words.{HasWords}
+use Rattle.yse_compile.specs.Claims.{IsPlaced, AreClaimsOf}
 
 module _ (nodes : NodeNet) (homes : Homes) (slots : List ℕ) where
   one_port : (p : ℕ) (xs ys : List ℕ) → ArePortItems nodes homes slots p xs → ArePortItems nodes homes slots p ys → xs ≡ ys

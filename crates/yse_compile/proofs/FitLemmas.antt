@@ -19,7 +19,7 @@ use Rattle.yse_compile.specs.declared.compiler.CompNo.{CompNo}
 use Rattle.yse_compile.specs.declared.compiler.CompNo.TheVariants.{Bits, Nodes, Slots, Functions}
 use Rattle.yse_compile.specs.Designs.{IsAcyclic, DesignFits}
 use Rattle.yse_compile.specs.Compiled.{IsRight, IsOverfull}
-use Rattle.yse_compile.proofs.KnownLemmas.{first_or_all}
+use Rattle.image_check.proofs.KnownLemmas.{first_or_all}
 use Rattle.yse_compile.proofs.SamePlans.{plan_kept}
 use Rattle.yse_compile.proofs.SameTables.{tables_few}
 

@@ -19,7 +19,7 @@ use Rattle.plan_defs.specs.Readers.{ItemTakes, MemoryTakes, IsUser, IsReader}
 use Rattle.plan_defs.specs.Slots.{slot_of, IsTooEarly, IsHeld, IsHeard, IsBlocked}
 use Rattle.plan_defs.specs.Tables.{UsesTable}
 use Rattle.plan_defs.proofs.PortLemmas.{reader_port}
-use Rattle.yse_compile.proofs.KnownLemmas.{IsKnown, known_either, known_both, known_same, known_most, known_below, known_contained, known_member}
+use Rattle.image_check.proofs.KnownLemmas.{IsKnown, known_either, known_both, known_same, known_most, known_below, known_contained, known_member}
 
 -- ---- operands
 

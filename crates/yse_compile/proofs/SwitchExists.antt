@@ -24,7 +24,8 @@ use Rattle.plan_defs.proofs.PlanLemmas.{one_at_home, one_received}
 use Rattle.plan_defs.proofs.PortLemmas.{reader_port}
 use Rattle.switch_set.specs.Links.{IsSlotList}
 use Rattle.switch_set.proofs.ListLemmas.{listed_none, listed_same, listed_more}
-use Rattle.yse_compile.proofs.KnownLemmas.{IsKnown, known_both, known_same, known_less, known_below, listed_to}
+use Rattle.image_check.proofs.KnownLemmas.{IsKnown, known_both, known_same, known_less, known_below}
+use Rattle.yse_compile.proofs.KnownLemmas.{listed_to}
 use Rattle.yse_compile.proofs.KnownUses.{reader_known}
 use Rattle.yse_compile.proofs.PlanExists.{slots_end}
 

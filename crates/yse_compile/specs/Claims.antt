@@ -1,6 +1,5 @@
 -- The claims of a compiled design: which item of the netlist stands at each place of its image.
-use Rattle.std.specs.Prelude.{◌≡◌, ℕ, ◌^◌, ◌<◌, length, map, All}
-use Rattle.func_table.specs.declared.table.Table.{Table}
+use Rattle.std.specs.Prelude.{◌≡◌, ℕ, map}
 use Rattle.net_defs.specs.declared.timing.Timing.{Timing}
 use Rattle.node_defs.specs.WellFormed.{IsWellFormed}
 use Rattle.plan_defs.specs.Homes.{AreHomes}
@@ -12,6 +11,7 @@ use Rattle.image_defs.specs.Matches.{claims_of, Matches}
 use Rattle.image_defs.specs.declared.file.Claims.{Claims}
 use Rattle.image_defs.specs.Claimed.{lists_of, HasClaims}
 use Rattle.image_file.specs.Ranges.{tables_of}
+use Rattle.node_map.specs.Words.{HasWords}
 use Rattle.image_build.specs.PortItems.{ArePlanClaims}
 use Rattle.image_build.specs.Built.{IsBuilt}
 use Rattle.yse_compile.specs.declared.compiler.Compiled.{Compiled}
@@ -25,11 +25,6 @@ pub record IsPlaced (compiled : Compiled) : Type 0 where
   pub routed : IsSwitch compiled.nodes compiled.homes compiled.plan.slots compiled.switch
   pub timing : Timing
   pub built : IsBuilt compiled.nodes compiled.homes compiled.plan compiled.switch timing compiled.image
-
--- the table has eight words of 64 bits
-pub record HasWords (table : Table) : Type 0 where
-  pub eight : length table.words ≡ 8
-  pub words : All (λ word. word < 2 ^ 64) table.words
 
 -- each place of the image claims the item that the plan puts there
 pub record AreClaimsOf (compiled : Compiled) (claims : Claims) : Type 0 where

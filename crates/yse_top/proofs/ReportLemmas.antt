@@ -32,7 +32,8 @@ use Rattle.plan_text.proofs.OneLemmas.{flat_below, reports_agree}
 use Rattle.yse_compile.proofs.SwitchExists.{readers_there}
 use Rattle.yse_compile.specs.declared.choose.Chosen.{Chosen}
 use Rattle.yse_compile.specs.Chosen.{HomesFit, IsUsed}
-use Rattle.yse_compile.proofs.KnownLemmas.{IsKnown, known_below, known_both, known_same, listed_to}
+use Rattle.image_check.proofs.KnownLemmas.{IsKnown, known_below, known_both, known_same}
+use Rattle.yse_compile.proofs.KnownLemmas.{listed_to}
 use Rattle.yse_compile.proofs.KnownUses.{reader_known}
 use Rattle.yse_compile.proofs.PlanExists.{slots_end, tables_counted}
 use Rattle.yse_compile.proofs.SameHomes.{before_kept}
