@@ -14,8 +14,8 @@ ghost use Rattle.yse_commands.specs.Telling.{KeepsGates, TellsOfExec};
 ghost use Rattle.named_files.specs.Images.{IsImageOf};
 ghost use Rattle.yse_commands.specs.commands.Exec.{AfterImage, ExecutesBy, ExpectedExec, RunsImage};
 
-use crate::steps::by_workers;
 use crate::output::Output;
+use crate::steps::by_workers;
 use cmd_words::RunWords;
 use crew_run::Gate;
 use edge_io::{Files, Sink};

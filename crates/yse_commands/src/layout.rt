@@ -10,8 +10,8 @@ ghost use Rattle.yse_commands.specs.Refusals.{Follows};
 ghost use Rattle.yse_commands.specs.commands.Layout.{ExpectedLayout, ExpectedLayoutOn, IsSheetOf};
 
 use crate::compile::image_text_of;
-use crate::plan::report_of;
 use crate::output::Output;
+use crate::plan::report_of;
 use cmd_words::RunWords;
 use edge_io::Files;
 use machine_text::Machine;

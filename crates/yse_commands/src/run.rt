@@ -14,8 +14,8 @@ ghost use Rattle.yse_commands.specs.Telling.{KeepsGates, TellsOfRun, has_limit, 
 ghost use Rattle.named_files.specs.Files.{AfterMachine, AfterStimulus};
 ghost use Rattle.yse_commands.specs.commands.Run.{EndsWithin, ExpectedOn, ExpectedRun, KeepsTrace};
 
-use crate::steps::{Pace, by_order, by_rounds, by_workers};
 use crate::output::Output;
+use crate::steps::{Pace, by_order, by_rounds, by_workers};
 use cmd_words::RunWords;
 use crew_run::Gate;
 use edge_io::{Files, Sink};
