@@ -8,10 +8,10 @@ use Rattle.node_defs.specs.declared.items.NodeNet.{NodeNet}
 use Rattle.image_defs.specs.declared.image.PortImage.{PortImage}
 use Rattle.image_defs.specs.Places.{IsPort, IsItemIn, item_slots}
 use Rattle.image_defs.specs.WellFormed.{IsWellFormed}
-use Rattle.image_check.specs.declared.file.ImageFile.{ImageFile}
+use Rattle.image_defs.specs.declared.file.ImageFile.{ImageFile}
 use Rattle.image_check.specs.declared.check.CheckNo.TheVariants as no
 use Rattle.image_check.specs.Check.{HasAnswer}
-use Rattle.image_check.specs.Claimed.{lists_of, HasClaims, HasTiming, PlaceMatches, ColumnMatches}
+use Rattle.image_defs.specs.Claimed.{lists_of, HasClaims, HasTiming, PlaceMatches, ColumnMatches}
 use Rattle.image_check.specs.code.Differences.{IsFirstSlot}
 use Rattle.image_check.proofs.FirstLemmas.{all_match, first_place_at}
 use Rattle.image_check.proofs.FormKnown.{form_known, stands_known}

@@ -31,8 +31,8 @@ use Rattle.image_defs.specs.declared.image.LinkIn.{LinkIn}
 use Rattle.image_defs.specs.declared.image.PortImage.{PortImage}
 use Rattle.image_defs.specs.declared.image.Image.{Image}
 use Rattle.image_defs.specs.Places.{IsPort, item_slots, printed_of, sender_in, host_of}
-use Rattle.image_match.specs.Matches.{IsClaim, ClaimsIn, Carries, CarryAll, MemoryImplements, TaskImplements, BitImplements, InputImplements, Implements, ImplementsClaim, claims_of, is_last}
-use Rattle.image_check.specs.Claimed.{HasTiming, PlaceMatches, ColumnMatches}
+use Rattle.image_defs.specs.Matches.{IsClaim, ClaimsIn, Carries, CarryAll, MemoryImplements, TaskImplements, BitImplements, InputImplements, Implements, ImplementsClaim, claims_of, is_last}
+use Rattle.image_defs.specs.Claimed.{HasTiming, PlaceMatches, ColumnMatches}
 use Rattle.image_check.proofs.KnownLemmas.{IsKnown, known_both, known_then, known_same, known_bool, known_some, known_any, known_is, known_all, known_member, known_each}
 
 -- ---- values and tables
