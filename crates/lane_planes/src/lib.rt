@@ -1,4 +1,4 @@
-//! Thirty values in two words, and the gates and tables that work on all of them at once.
+//! The values of all lanes in two words, and the gates and tables that work on all of them at once.
 #![tactic(auto)]
 
 mod formula;
@@ -17,8 +17,7 @@ pub use pairs::{forced, settle_planes};
 pub use planes::Planes;
 pub use tables::{TableForm, eval_form, eval_planes, form_of};
 
-/// The lanes of planes.
-pub const LANES: usize = 30;
+use limits::LANES;
 
-/// A word whose 30 lower bits are 1, one for each lane.
-const ALL: u32 = 0x3FFF_FFFF;
+/// A word whose lower bits are 1, one for each lane.
+const ALL: u32 = (1 << LANES) - 1;

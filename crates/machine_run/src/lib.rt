@@ -21,7 +21,3 @@ pub use gates::count_gates;
 pub use machine::run_machine;
 pub use rows::blank_rows;
 pub use seats::{give_to, idle_crew, worker_of};
-
-/// The most cycles of a block. A cycle of `n` cells, its inputs and its printed columns, makes a block shorter
-/// where `MAX_CELLS / n` is less, down to one cycle.
-pub const MAX_BLOCK: u32 = 4096;

@@ -5,6 +5,7 @@ ghost use Rattle.std.specs.Prelude.{length, ◌≤◌};
 ghost use Rattle.limits.specs.declared.TheConstants.{MAX_WORKERS};
 ghost use Rattle.yse_commands.specs.Visited.{AllCanTell};
 
+mod at_limits;
 mod below;
 mod blocks;
 mod calls;

@@ -30,7 +30,7 @@ use edge_io::{Files, Sink};
 use law::calls_are_proper;
 pub use program::{ended, exit_code};
 use refusal_lines::{Refusal, refuse};
-pub use refusal_lines::{MAX_FAULT_SIGNALS, MAX_PACK_BITS, Status};
+pub use refusal_lines::Status;
 use std::alloc::Global;
 use std::marker::{Send, Sync};
 use std::sync::Wait;

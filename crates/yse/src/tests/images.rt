@@ -125,6 +125,52 @@ print g1\n\
 send 0 0\n\
 take 1 0\n";
 
+/// The gate has another constant as its second operand.
+const CONST_ONE: &str = "\
+yse-image 1\n\
+slots 2 units 1 init x columns 1 ports 2\n\
+port logic\n\
+table a4a4a4a4a4a4a4a4 a4a4a4a4a4a4a4a4 a4a4a4a4a4a4a4a4 a4a4a4a4a4a4a4a4 a4a4a4a4a4a4a4a4 a4a4a4a4a4a4a4a4 a4a4a4a4a4a4a4a4 a4a4a4a4a4a4a4a4\n\
+eval 1 0 g0 c1 c0 c0 1\n\
+send 1 1\n\
+take 0 1\n\
+port host\n\
+in 0 0 0\n\
+print g1\n\
+send 0 0\n\
+take 1 0\n\
+end\n";
+
+const CONST_UNDEF: &str = "\
+yse-image 1\n\
+slots 2 units 1 init x columns 1 ports 2\n\
+port logic\n\
+table a4a4a4a4a4a4a4a4 a4a4a4a4a4a4a4a4 a4a4a4a4a4a4a4a4 a4a4a4a4a4a4a4a4 a4a4a4a4a4a4a4a4 a4a4a4a4a4a4a4a4 a4a4a4a4a4a4a4a4 a4a4a4a4a4a4a4a4\n\
+eval 1 0 g0 cx c0 c0 1\n\
+send 1 1\n\
+take 0 1\n\
+port host\n\
+in 0 0 0\n\
+print g1\n\
+send 0 0\n\
+take 1 0\n\
+end\n";
+
+const CONST_HIGH: &str = "\
+yse-image 1\n\
+slots 2 units 1 init x columns 1 ports 2\n\
+port logic\n\
+table a4a4a4a4a4a4a4a4 a4a4a4a4a4a4a4a4 a4a4a4a4a4a4a4a4 a4a4a4a4a4a4a4a4 a4a4a4a4a4a4a4a4 a4a4a4a4a4a4a4a4 a4a4a4a4a4a4a4a4 a4a4a4a4a4a4a4a4\n\
+eval 1 0 g0 cz c0 c0 1\n\
+send 1 1\n\
+take 0 1\n\
+port host\n\
+in 0 0 0\n\
+print g1\n\
+send 0 0\n\
+take 1 0\n\
+end\n";
+
 /// Images of the buffer.
 const CASES: &[Case] = &[
     // The image is written word for word.
@@ -136,6 +182,31 @@ const CASES: &[Case] = &[
         machine: "logic 1\narray 0\n",
         more: "",
         failing: (0, 0),
+        status: 0,
+        output: IMAGE,
+        line: "",
+    },
+    // It is one piece: nothing is written where the first write fails, and there is no second one.
+    Case {
+        calls: "compile",
+        words: "net.bench --machine net.machine",
+        netlist: NETLIST,
+        stimulus: "",
+        machine: "logic 1\narray 0\n",
+        more: "",
+        failing: (0, 1),
+        status: 4,
+        output: "",
+        line: "write fault\n",
+    },
+    Case {
+        calls: "compile",
+        words: "net.bench --machine net.machine",
+        netlist: NETLIST,
+        stimulus: "",
+        machine: "logic 1\narray 0\n",
+        more: "",
+        failing: (0, 2),
         status: 0,
         output: IMAGE,
         line: "",
@@ -188,6 +259,43 @@ const CASES: &[Case] = &[
         status: 15,
         output: "",
         line: "image: timing differs\n",
+    },
+    // Another constant where the gate has no operand.
+    Case {
+        calls: "exec",
+        words: "net.bench net.more net.stim",
+        netlist: NETLIST,
+        stimulus: ROWS,
+        machine: "",
+        more: CONST_ONE,
+        failing: (0, 0),
+        status: 15,
+        output: "",
+        line: "image: port 0 slot 1 does not match\n",
+    },
+    Case {
+        calls: "exec",
+        words: "net.bench net.more net.stim",
+        netlist: NETLIST,
+        stimulus: ROWS,
+        machine: "",
+        more: CONST_UNDEF,
+        failing: (0, 0),
+        status: 15,
+        output: "",
+        line: "image: port 0 slot 1 does not match\n",
+    },
+    Case {
+        calls: "exec",
+        words: "net.bench net.more net.stim",
+        netlist: NETLIST,
+        stimulus: ROWS,
+        machine: "",
+        more: CONST_HIGH,
+        failing: (0, 0),
+        status: 15,
+        output: "",
+        line: "image: port 0 slot 1 does not match\n",
     },
     // The input is printed in place of the gate.
     Case {
@@ -282,11 +390,13 @@ fn images_of_a_buffer_end_as_stated(rt: HostRuntime) {
     assert!(rt; all_end(&rt, rt.alloc(), CASES));
 }
 
-/// A design: its texts, the options of its timing, the words of an execution, and the trace.
+/// A design: its texts, the options of its timing and homes, the words of an execution, and the trace. The list of its gates is
+/// `net.more` where it is compiled, and `net.machine` where its image is executed.
 #[derive(Clone, Copy)]
 struct Design {
     netlist: &'static str,
     machine: &'static str,
+    list: &'static str,
     stimulus: &'static str,
     options: &'static str,
     exec: &'static str,
@@ -296,6 +406,7 @@ struct Design {
 const BUFFER: Design = Design {
     netlist: NETLIST,
     machine: "logic 1\narray 0\n",
+    list: "",
     stimulus: ROWS,
     options: "",
     exec: "net.bench net.more net.stim",
@@ -305,6 +416,7 @@ const BUFFER: Design = Design {
 const GATES_ALONE: Design = Design {
     netlist: C17,
     machine: "logic 2\n",
+    list: "",
     stimulus: "11111\n00000\nxxxxx\n",
     options: "",
     exec: "net.bench net.more net.stim",
@@ -314,6 +426,7 @@ const GATES_ALONE: Design = Design {
 const REGISTERS: Design = Design {
     netlist: S27,
     machine: "logic 2\n",
+    list: "",
     stimulus: "0000\n0001\n0000\n1000\n0001\n",
     options: "--init 0",
     exec: "net.bench net.more net.stim --init 0",
@@ -323,6 +436,7 @@ const REGISTERS: Design = Design {
 const TOGGLE: Design = Design {
     netlist: "OUTPUT(q)\nn = NOT(q)\nq = DFF(n)\n",
     machine: "logic 2\n",
+    list: "",
     stimulus: "- * 4\n",
     options: "--init 0",
     exec: "net.bench net.more net.stim --init 0",
@@ -332,6 +446,7 @@ const TOGGLE: Design = Design {
 const MEMORY: Design = Design {
     netlist: RAM,
     machine: "",
+    list: "",
     stimulus: "1101\n0100\n0100\n1100\n0100\n0100\n",
     options: "",
     exec: "net.bench net.more net.stim",
@@ -341,6 +456,7 @@ const MEMORY: Design = Design {
 const WIDE_GATE: Design = Design {
     netlist: WIDE,
     machine: "",
+    list: "",
     stimulus: "11111111111111111\n11111111111111110\n",
     options: "--mode unit --units 2",
     exec: "net.bench net.more net.stim --mode unit --units 2",
@@ -350,10 +466,31 @@ const WIDE_GATE: Design = Design {
 const LOOP: Design = Design {
     netlist: LATCH,
     machine: "",
+    list: "",
     stimulus: "01\n11\n10\n",
     options: "--mode unit --units 4",
     exec: "net.bench net.more net.stim --mode unit --units 4",
     trace: "cycle q p\n1 10\n2 10\n3 01\n",
+};
+
+const LISTED: Design = Design {
+    netlist: LATCH,
+    machine: "version 2\nlogic 2\nnodes 0 1\n",
+    list: "q\n",
+    stimulus: "01\n11\n10\n",
+    options: "--mode mixed --last net.more --units 2",
+    exec: "net.bench net.more net.stim --mode mixed --last net.machine --units 2",
+    trace: "cycle q p\n1 10\n2 10\n3 01\n",
+};
+
+const BETTER: Design = Design {
+    netlist: C17,
+    machine: "version 2\nlogic 2\nnodes 1 3\n",
+    list: "",
+    stimulus: "11111\n00000\nxxxxx\n",
+    options: "--homes better",
+    exec: "net.bench net.more net.stim",
+    trace: "cycle 22 23\n1 10\n2 00\n3 xx\n",
 };
 
 /// The call that compiles a design.
@@ -364,13 +501,14 @@ fn compile_of<R: Threads + Wait + Sync>(
 ) -> Result<Ended, Memory> {
     let lines = ["compile net.bench --machine net.machine", design.options];
     let (netlist, machine) = (design.netlist.as_bytes(), design.machine.as_bytes());
-    end_of(rt, alloc, &lines, &[netlist, b"", machine, b""], &EASY)
+    let texts = [netlist, b"", machine, design.list.as_bytes()];
+    end_of(rt, alloc, &lines, &texts, &EASY)
 }
 
 /// The texts of an execution.
 fn texts_with<'a>(design: &Design, image: &'a [u8]) -> Texts<'a> {
     let (netlist, stimulus) = (design.netlist.as_bytes(), design.stimulus.as_bytes());
-    four(netlist, stimulus, b"", image)
+    four(netlist, stimulus, design.list.as_bytes(), image)
 }
 
 /// Executions with so many workers and banks.
@@ -391,7 +529,16 @@ fn is_run_by_all<R: Threads + Wait + Sync>(
     Ok(printed)
 }
 
-const DESIGNS: &[Design] = &[BUFFER, GATES_ALONE, REGISTERS, MEMORY, WIDE_GATE, LOOP];
+const DESIGNS: &[Design] = &[
+    BUFFER,
+    GATES_ALONE,
+    REGISTERS,
+    MEMORY,
+    WIDE_GATE,
+    LOOP,
+    LISTED,
+    BETTER,
+];
 
 fn designs() -> &'static [Design] {
     DESIGNS

@@ -149,6 +149,31 @@ const REFUSED: &[Case] = &[
         output: "",
         line: "last list: line 2: syntax\n",
     },
+    // A mark ends no name here, and the case of letters is kept.
+    Case {
+        calls: ALL,
+        words: ONE_UNIT,
+        netlist: C17,
+        stimulus: "11111\n",
+        machine: "",
+        more: "22\n23,\n",
+        failing: (0, 0),
+        status: 13,
+        output: "",
+        line: "last list: line 2: syntax\n",
+    },
+    Case {
+        calls: ALL,
+        words: ONE_UNIT,
+        netlist: S27,
+        stimulus: "0000\n",
+        machine: "",
+        more: "G17\ng17\n",
+        failing: (0, 0),
+        status: 13,
+        output: "",
+        line: "last list: line 2: no such gate\n",
+    },
     // A register and the output of a memory are no gates.
     Case {
         calls: ALL,
@@ -293,6 +318,19 @@ const TURNS: &[Case] = &[
         failing: (0, 0),
         status: 0,
         output: "slots 3\nl0 items 1 tables 1 takes 2\nl1 items 1 tables 1 takes 2\nl2 items 0 tables 0 takes 0\nl3 items 0 tables 0 takes 0\na0 items 0 bits 0 takes 0\nh items 2 takes 2\ns h 0 l0\nr h 1 l1\nq l0 0 l1 h\np l1 2 l0 h\n",
+        line: "",
+    },
+    // A gate of five operands that is listed has helpers of the same turn, and the gate that reads it comes after it.
+    Case {
+        calls: "plan",
+        words: PLAN,
+        netlist: "INPUT(a)\nINPUT(b)\nOUTPUT(y)\nz = NAND(a, b, a, b, a)\ny = NOT(z)\n",
+        stimulus: "",
+        machine: "",
+        more: "z\n",
+        failing: (0, 0),
+        status: 0,
+        output: "slots 4\nl0 items 1 tables 1 takes 2\nl1 items 1 tables 1 takes 1\nl2 items 1 tables 1 takes 2\nl3 items 1 tables 1 takes 1\na0 items 0 bits 0 takes 0\nh items 2 takes 1\na h 0 l0 l1\nb h 1 l0\nz/0 l0 0 l2\nz/1 l1 1 l2\nz l2 2 l3\ny l3 3 h\n",
         line: "",
     },
     Case {

@@ -14,6 +14,9 @@ const TWO_MEMORIES: &str = "INPUT(a)\n[q] = RAM(a; a; a)\n[r, s] = RAM(a; a; a, 
 const LARGE: &str =
     "INPUT(a)\n[q0, q1] = RAM(a; a, a, a, a, a, a, a, a, a, a, a, a, a, a, a, a; a, a)\nz = AND(a, a)\ny = OR(a, a)\n";
 
+/// A register, and a gate of five operands, which has two helpers.
+const REGISTER_AND_HELPERS: &str = "INPUT(a)\nr = DFF(z)\nz = NAND(a, r, a, r, a)\n";
+
 const CASES: &[Case] = &[
     // Nodes go past a port that is full.
     Case {
@@ -114,6 +117,57 @@ const CASES: &[Case] = &[
         status: 8,
         output: "",
         line: "overfull: bits of memory q0: 131072 needed, 65536 left\n",
+    },
+    // A register and two helpers are nodes too.
+    Case {
+        calls: "plan",
+        words: PLANNED,
+        netlist: REGISTER_AND_HELPERS,
+        stimulus: "",
+        machine: "version 2\nlogic 1\narray 0\nnodes 4\n",
+        more: "",
+        failing: (0, 0),
+        status: 0,
+        output: "slots 4\nl0 items 4 tables 3 takes 1\nh items 1 takes 0\na h 0 l0\nr l0 0\nz/1 l0 1\nz/0 l0 2\nz l0 3\n",
+        line: "",
+    },
+    Case {
+        calls: "plan",
+        words: PLANNED,
+        netlist: REGISTER_AND_HELPERS,
+        stimulus: "",
+        machine: "version 2\nlogic 1\narray 0\nnodes 3\n",
+        more: "",
+        failing: (0, 0),
+        status: 8,
+        output: "",
+        line: "overfull: nodes: 4 needed, limit is 3\n",
+    },
+    // The most bits that are left are those of the second of three array processors.
+    Case {
+        calls: "plan",
+        words: PLANNED,
+        netlist: "INPUT(a)\n[q] = RAM(a; a; a)\n[r, s, t] = RAM(a; a, a; a, a, a)\n",
+        stimulus: "",
+        machine: "version 2\nlogic 1\narray 3\nbits 0 3\nbits 1 11\nbits 2 5\n",
+        more: "",
+        failing: (0, 0),
+        status: 8,
+        output: "",
+        line: "overfull: bits of memory r: 12 needed, 11 left\n",
+    },
+    // The first processor has one function, and the second one more than it may have.
+    Case {
+        calls: "plan",
+        words: PLANNED,
+        netlist: "INPUT(a)\nINPUT(b)\nw = AND(a, b)\nx = OR(a, b)\ny = AND(b, a)\nz = XOR(a, b)\n",
+        stimulus: "",
+        machine: "version 2\nlogic 2\nfunctions 1\n",
+        more: "",
+        failing: (0, 0),
+        status: 8,
+        output: "",
+        line: "overfull: functions of logic port 1: 2 needed, limit is 1\n",
     },
     // A limit of a port that is not there, after every fault of a line and the number of the ports.
     Case {

@@ -1,5 +1,5 @@
 //! What is read of texts: of netlists as `show` prints them, of stimuli and lanes as inputs that are printed, and of
-//! orders for a run of no cycles; or the refusal. And images of netlists, whose settings of the switch were worked out by
+//! orders for a run of no cycles; or the refusal. Images that are refused. And images of netlists, whose settings of the switch were worked out by
 //! hand.
 
 use super::{EASY, Texts, ends};
@@ -8,13 +8,13 @@ use std::marker::Sync;
 use std::sync::Wait;
 use std::thread::Threads;
 
-/// The file that a text is.
+/// The file that a text is: a fourth one is an order or an image.
 #[derive(Clone, Copy)]
 enum Place {
     Netlist,
     Stimulus,
     Machine,
-    Order,
+    More,
 }
 
 /// A call, its netlist and its machine, what its texts are, and how a refusal begins and its status. Then texts, with `|`
@@ -63,6 +63,8 @@ const READINGS: &[Reading] = &[
 |x = NOT(u)\ny = NOT(v)\nx = BUFF(w)\n=> netlist: line 3: x driven twice, first at line 1\n\
 |x = AND(x, v)\ny = NOT(u)\n=> netlist: line 1: v has no driver\n\
 |OUTPUT(z)\n=> netlist: line 1: z has no driver\n\
+|INPUT(1=> netlist: line 1: syntax\n\
+|INPUT(1)\nINPUT(2)\nINPUT(3)\nINPUT(6)\nINPUT(7)\nOUTPUT(22)\n=> netlist: line 6: 22 has no driver\n\
 |FOO(z)\n=> netlist: line 1: syntax\n\
 |[q] = RAM(a; b, ; c)\n=> netlist: line 1: syntax\n\
 |[q] = RAM(a, b; b; c)\n=> netlist: line 1: syntax\n\
@@ -171,7 +173,7 @@ lane\n1 * 2\nlane\n0 * 2=> lane 1\ncycle a\n1 1\n2 1\nlane 2\ncycle a\n1 0\n2 0\
         call: "order net.bench net.stim --machine net.machine --order net.more",
         netlist: "",
         machine: "logic 2\n",
-        place: Place::Order,
+        place: Place::More,
         refusal: "order: ",
         status: 12,
         cases: "\
@@ -196,7 +198,7 @@ lane\n1 * 2\nlane\n0 * 2=> lane 1\ncycle a\n1 1\n2 1\nlane 2\ncycle a\n1 0\n2 0\
         call: "order net.bench net.stim --machine net.machine --order net.more",
         netlist: "",
         machine: "logic 1\narray 0\n",
-        place: Place::Order,
+        place: Place::More,
         refusal: "order: ",
         status: 12,
         cases: "\
@@ -248,8 +250,42 @@ logic 0\n=> machine: line 1: out of range\n\
 |version 2\nlogic 2\nnodes 2 5=> machine: line 3: no such port\n\
 |version 2\nbits 0 5\nbits 1 5\nfunctions 4 5\n=> machine: line 3: no such port\n\
 |version 2\nbits 18446744073709551616 5\n=> machine: line 2: no such port\n\
+|version 2\nlogic 2\nfunctions 2 5\n=> machine: line 3: no such port\n\
 |version 2\nnodes 4 5\nwheels 4\n=> machine: line 3: syntax\n\
 |version 2\nnodes 254 5\nlogic 254\narray 2\n=> machine: 257 ports, limit is 256\n",
+    },
+    // Images at their limits, each with its line; what is within them ends before its `end`.
+    Reading {
+        call: "exec net.bench net.more net.stim",
+        netlist: ONE,
+        machine: "",
+        place: Place::More,
+        refusal: "image: ",
+        status: 14,
+        cases: "\
+yse-image 1\nslots 65536 units 1 init x columns 1 ports 3\n=> image: line 3: syntax\n\
+|yse-image 1\nslots 65537 units 1 init x columns 1 ports 3\n=> image: line 2: out of range\n\
+|yse-image 1\nslots 2 units 0 init x columns 1 ports 3\n=> image: line 2: out of range\n\
+|yse-image 1\nslots 2 units 4096 init x columns 1 ports 3\n=> image: line 3: syntax\n\
+|yse-image 1\nslots 2 units 4097 init x columns 1 ports 3\n=> image: line 2: out of range\n\
+|yse-image 1\nslots 2 units 1 init x columns 1048576 ports 3\n=> image: line 3: syntax\n\
+|yse-image 1\nslots 2 units 1 init x columns 1048577 ports 3\n=> image: line 2: out of range\n\
+|yse-image 1\nslots 2 units 1 init x columns 1 ports 0\n=> image: line 2: out of range\n\
+|yse-image 1\nslots 2 units 1 init x columns 1 ports 256\n=> image: line 3: syntax\n\
+|yse-image 1\nslots 2 units 1 init x columns 1 ports 257\n=> image: line 2: out of range\n\
+|yse-image 1\nslots 2 units 1 init x columns 1 ports 3\nport logic\ntable a4a4a4a4a4a4a4a4 a4a4a4a4a4a4a4a4 a4a4a4a4a4a4a4a4 a4a4a4a4a4a4a4a4 a4a4a4a4a4a4a4a4 a4a4a4a4a4a4a4a4 a4a4a4a4a4a4a4a4 a4a4a4a4a4a4a4a4\neval 1 0 g0 c0 c0 c0 4294967295\n=> image: line 6: syntax\n\
+|yse-image 1\nslots 2 units 1 init x columns 1 ports 3\nport logic\ntable a4a4a4a4a4a4a4a4 a4a4a4a4a4a4a4a4 a4a4a4a4a4a4a4a4 a4a4a4a4a4a4a4a4 a4a4a4a4a4a4a4a4 a4a4a4a4a4a4a4a4 a4a4a4a4a4a4a4a4 a4a4a4a4a4a4a4a4\neval 1 0 g0 c0 c0 c0 4294967296\n=> image: line 5: out of range\n\
+|yse-image 1\nslots 2 units 1 init x columns 1 ports 3\nport array\nblock 0 1 g0 g0\n=> image: line 4: out of range\n\
+|yse-image 1\nslots 2 units 1 init x columns 1 ports 3\nport array\nblock 16 1 g0 g0 g0 g0 g0 g0 g0 g0 g0 g0 g0 g0 g0 g0 g0 g0 g0 g0\n=> image: line 5: syntax\n\
+|yse-image 1\nslots 2 units 1 init x columns 1 ports 3\nport array\nblock 17 1 g0 g0 g0 g0 g0 g0 g0 g0 g0 g0 g0 g0 g0 g0 g0 g0 g0 g0 g0\n=> image: line 4: out of range\n\
+|yse-image 1\nslots 2 units 1 init x columns 1 ports 3\nport array\nblock 1 0 g0 g0\n=> image: line 4: out of range\n\
+|yse-image 1\nslots 2 units 1 init x columns 1 ports 3\nport array\nblock 1 64 g0 g0 g0 g0 g0 g0 g0 g0 g0 g0 g0 g0 g0 g0 g0 g0 g0 g0 g0 g0 g0 g0 g0 g0 g0 g0 g0 g0 g0 g0 g0 g0 g0 g0 g0 g0 g0 g0 g0 g0 g0 g0 g0 g0 g0 g0 g0 g0 g0 g0 g0 g0 g0 g0 g0 g0 g0 g0 g0 g0 g0 g0 g0 g0 g0 g0\n=> image: line 5: syntax\n\
+|yse-image 1\nslots 2 units 1 init x columns 1 ports 3\nport array\nblock 1 65 g0 g0 g0 g0 g0 g0 g0 g0 g0 g0 g0 g0 g0 g0 g0 g0 g0 g0 g0 g0 g0 g0 g0 g0 g0 g0 g0 g0 g0 g0 g0 g0 g0 g0 g0 g0 g0 g0 g0 g0 g0 g0 g0 g0 g0 g0 g0 g0 g0 g0 g0 g0 g0 g0 g0 g0 g0 g0 g0 g0 g0 g0 g0 g0 g0 g0 g0\n=> image: line 4: out of range\n\
+|yse-image 1\nslots 2 units 1 init x columns 1 ports 3\nport array\nblock 16 64 g0 g0 g0 g0 g0 g0 g0 g0 g0 g0 g0 g0 g0 g0 g0 g0 g0 g0 g0 g0 g0 g0 g0 g0 g0 g0 g0 g0 g0 g0 g0 g0 g0 g0 g0 g0 g0 g0 g0 g0 g0 g0 g0 g0 g0 g0 g0 g0 g0 g0 g0 g0 g0 g0 g0 g0 g0 g0 g0 g0 g0 g0 g0 g0 g0 g0 g0 g0 g0 g0 g0 g0 g0 g0 g0 g0 g0 g0 g0 g0 g0\nblock 16 64 g0 g0 g0 g0 g0 g0 g0 g0 g0 g0 g0 g0 g0 g0 g0 g0 g0 g0 g0 g0 g0 g0 g0 g0 g0 g0 g0 g0 g0 g0 g0 g0 g0 g0 g0 g0 g0 g0 g0 g0 g0 g0 g0 g0 g0 g0 g0 g0 g0 g0 g0 g0 g0 g0 g0 g0 g0 g0 g0 g0 g0 g0 g0 g0 g0 g0 g0 g0 g0 g0 g0 g0 g0 g0 g0 g0 g0 g0 g0 g0 g0\nblock 16 64 g0 g0 g0 g0 g0 g0 g0 g0 g0 g0 g0 g0 g0 g0 g0 g0 g0 g0 g0 g0 g0 g0 g0 g0 g0 g0 g0 g0 g0 g0 g0 g0 g0 g0 g0 g0 g0 g0 g0 g0 g0 g0 g0 g0 g0 g0 g0 g0 g0 g0 g0 g0 g0 g0 g0 g0 g0 g0 g0 g0 g0 g0 g0 g0 g0 g0 g0 g0 g0 g0 g0 g0 g0 g0 g0 g0 g0 g0 g0 g0 g0\nblock 16 64 g0 g0 g0 g0 g0 g0 g0 g0 g0 g0 g0 g0 g0 g0 g0 g0 g0 g0 g0 g0 g0 g0 g0 g0 g0 g0 g0 g0 g0 g0 g0 g0 g0 g0 g0 g0 g0 g0 g0 g0 g0 g0 g0 g0 g0 g0 g0 g0 g0 g0 g0 g0 g0 g0 g0 g0 g0 g0 g0 g0 g0 g0 g0 g0 g0 g0 g0 g0 g0 g0 g0 g0 g0 g0 g0 g0 g0 g0 g0 g0 g0\n=> image: line 8: syntax\n\
+|yse-image 1\nslots 2 units 1 init x columns 1 ports 3\nport array\nblock 16 64 g0 g0 g0 g0 g0 g0 g0 g0 g0 g0 g0 g0 g0 g0 g0 g0 g0 g0 g0 g0 g0 g0 g0 g0 g0 g0 g0 g0 g0 g0 g0 g0 g0 g0 g0 g0 g0 g0 g0 g0 g0 g0 g0 g0 g0 g0 g0 g0 g0 g0 g0 g0 g0 g0 g0 g0 g0 g0 g0 g0 g0 g0 g0 g0 g0 g0 g0 g0 g0 g0 g0 g0 g0 g0 g0 g0 g0 g0 g0 g0 g0\nblock 16 64 g0 g0 g0 g0 g0 g0 g0 g0 g0 g0 g0 g0 g0 g0 g0 g0 g0 g0 g0 g0 g0 g0 g0 g0 g0 g0 g0 g0 g0 g0 g0 g0 g0 g0 g0 g0 g0 g0 g0 g0 g0 g0 g0 g0 g0 g0 g0 g0 g0 g0 g0 g0 g0 g0 g0 g0 g0 g0 g0 g0 g0 g0 g0 g0 g0 g0 g0 g0 g0 g0 g0 g0 g0 g0 g0 g0 g0 g0 g0 g0 g0\nblock 16 64 g0 g0 g0 g0 g0 g0 g0 g0 g0 g0 g0 g0 g0 g0 g0 g0 g0 g0 g0 g0 g0 g0 g0 g0 g0 g0 g0 g0 g0 g0 g0 g0 g0 g0 g0 g0 g0 g0 g0 g0 g0 g0 g0 g0 g0 g0 g0 g0 g0 g0 g0 g0 g0 g0 g0 g0 g0 g0 g0 g0 g0 g0 g0 g0 g0 g0 g0 g0 g0 g0 g0 g0 g0 g0 g0 g0 g0 g0 g0 g0 g0\nblock 16 64 g0 g0 g0 g0 g0 g0 g0 g0 g0 g0 g0 g0 g0 g0 g0 g0 g0 g0 g0 g0 g0 g0 g0 g0 g0 g0 g0 g0 g0 g0 g0 g0 g0 g0 g0 g0 g0 g0 g0 g0 g0 g0 g0 g0 g0 g0 g0 g0 g0 g0 g0 g0 g0 g0 g0 g0 g0 g0 g0 g0 g0 g0 g0 g0 g0 g0 g0 g0 g0 g0 g0 g0 g0 g0 g0 g0 g0 g0 g0 g0 g0\nblock 16 64 g0 g0 g0 g0 g0 g0 g0 g0 g0 g0 g0 g0 g0 g0 g0 g0 g0 g0 g0 g0 g0 g0 g0 g0 g0 g0 g0 g0 g0 g0 g0 g0 g0 g0 g0 g0 g0 g0 g0 g0 g0 g0 g0 g0 g0 g0 g0 g0 g0 g0 g0 g0 g0 g0 g0 g0 g0 g0 g0 g0 g0 g0 g0 g0 g0 g0 g0 g0 g0 g0 g0 g0 g0 g0 g0 g0 g0 g0 g0 g0 g0\n=> image: line 8: out of range\n\
+|yse-image 1\nslots 2 units 1 init x columns 1 ports 65\nport array\nport array\nport array\nport array\nport array\nport array\nport array\nport array\nport array\nport array\nport array\nport array\nport array\nport array\nport array\nport array\nport array\nport array\nport array\nport array\nport array\nport array\nport array\nport array\nport array\nport array\nport array\nport array\nport array\nport array\nport array\nport array\nport array\nport array\nport array\nport array\nport array\nport array\nport array\nport array\nport array\nport array\nport array\nport array\nport array\nport array\nport array\nport array\nport array\nport array\nport array\nport array\nport array\nport array\nport array\nport array\nport array\nport array\nport array\nport array\nport array\nport array\nport array\nport array\n=> image: line 67: syntax\n\
+|yse-image 1\nslots 2 units 1 init x columns 1 ports 66\nport array\nport array\nport array\nport array\nport array\nport array\nport array\nport array\nport array\nport array\nport array\nport array\nport array\nport array\nport array\nport array\nport array\nport array\nport array\nport array\nport array\nport array\nport array\nport array\nport array\nport array\nport array\nport array\nport array\nport array\nport array\nport array\nport array\nport array\nport array\nport array\nport array\nport array\nport array\nport array\nport array\nport array\nport array\nport array\nport array\nport array\nport array\nport array\nport array\nport array\nport array\nport array\nport array\nport array\nport array\nport array\nport array\nport array\nport array\nport array\nport array\nport array\nport array\nport array\nport array\n=> image: line 67: out of range\n\
+|yse-image 1\nslots 2 units 1 init x columns 1 ports 1\nport logic\nport logic\n=> image: line 4: syntax\n",
     },
     // C17 on two logic processors and an array processor: the host is port 3, and has the inputs in slots 0 to 4. The gates
     // `11`, `16`, `22` and `23`, in slots 4 to 7, are read at other ports too.
@@ -304,6 +340,75 @@ take 6 0\n\
 take 7 1\n\
 end\n",
     },
+    // S27 on two logic processors: registers that read this turn's value of a node of their own port, or the last turn's
+    // of another one, and tables that differ.
+    Reading {
+        call: "compile net.bench --machine net.machine --init 0",
+        netlist: "",
+        machine: "logic 2\narray 0\n",
+        place: Place::Netlist,
+        refusal: "overfull: ",
+        status: 8,
+        cases: "\
+INPUT(G0)\nINPUT(G1)\nINPUT(G2)\nINPUT(G3)\nOUTPUT(G17)\nG5 = DFF(G10)\nG6 = DFF(G11)\nG7 = DFF(G13)\nG14 = NOT(G0)\nG17 = NOT(G11)\nG8 = AND(G14, G6)\nG15 = OR(G12, G8)\nG16 = OR(G3, G8)\nG9 = NAND(G16, G15)\nG10 = NOR(G14, G11)\nG11 = NOR(G5, G9)\nG12 = NOR(G1, G7)\nG13 = NOR(G2, G12)\n\
+=> yse-image 1\n\
+slots 9 units 1 init 0 columns 4 ports 3\n\
+port logic\n\
+table a8a8a400a8a8a400 a8a8a400a8a8a400 a8a8a400a8a8a400 a8a8a400a8a8a400 a8a8a400a8a8a400 a8a8a400a8a8a400 a8a8a400a8a8a400 a8a8a400a8a8a400\n\
+table a6a655a4a6a655a4 a6a655a4a6a655a4 a6a655a4a6a655a4 a6a655a4a6a655a4 a6a655a4a6a655a4 a6a655a4a6a655a4 a6a655a4a6a655a4 a6a655a4a6a655a4\n\
+table a2a200a1a2a200a1 a2a200a1a2a200a1 a2a200a1a2a200a1 a2a200a1a2a200a1 a2a200a1a2a200a1 a2a200a1a2a200a1 a2a200a1a2a200a1 a2a200a1a2a200a1\n\
+hold 0 O8 4\n\
+hold 2 O6 6\n\
+eval 4 0 g1 g0 c0 c0 8\n\
+eval 5 1 g3 o4 c0 c0 10\n\
+eval 6 2 g2 g3 c0 c0 12\n\
+eval 7 2 o0 g6 c0 c0 14\n\
+eval 8 2 g1 o7 c0 c0 16\n\
+send 2 1\n\
+send 4 1\n\
+send 5 1\n\
+send 7 1\n\
+take 0 1\n\
+take 1 1\n\
+take 2 2\n\
+take 3 1\n\
+take 6 1\n\
+port logic\n\
+table a1a1a1a1a1a1a1a1 a1a1a1a1a1a1a1a1 a1a1a1a1a1a1a1a1 a1a1a1a1a1a1a1a1 a1a1a1a1a1a1a1a1 a1a1a1a1a1a1a1a1 a1a1a1a1a1a1a1a1 a1a1a1a1a1a1a1a1\n\
+table a2a200a1a2a200a1 a2a200a1a2a200a1 a2a200a1a2a200a1 a2a200a1a2a200a1 a2a200a1a2a200a1 a2a200a1a2a200a1 a2a200a1a2a200a1 a2a200a1a2a200a1\n\
+table a6a655a4a6a655a4 a6a655a4a6a655a4 a6a655a4a6a655a4 a6a655a4a6a655a4 a6a655a4a6a655a4 a6a655a4a6a655a4 a6a655a4a6a655a4 a6a655a4a6a655a4\n\
+table a9a9a155a9a9a155 a9a9a155a9a9a155 a9a9a155a9a9a155 a9a9a155a9a9a155 a9a9a155a9a9a155 a9a9a155a9a9a155 a9a9a155a9a9a155 a9a9a155a9a9a155\n\
+hold 0 G7 5\n\
+eval 1 0 g0 c0 c0 c0 7\n\
+eval 3 1 g1 g2 c0 c0 9\n\
+eval 5 2 g3 g4 c0 c0 11\n\
+eval 6 3 o5 g5 c0 c0 13\n\
+eval 8 0 g7 c0 c0 c0 15\n\
+send 0 0\n\
+send 1 0\n\
+send 3 0\n\
+send 6 0\n\
+send 8 2\n\
+take 0 2\n\
+take 1 2\n\
+take 2 0\n\
+take 3 2\n\
+take 4 0\n\
+take 5 0\n\
+take 7 0\n\
+port host\n\
+in 0 0 0\n\
+in 1 1 1\n\
+in 2 2 2\n\
+in 3 3 3\n\
+print g8\n\
+send 0 1\n\
+send 1 1\n\
+send 2 0\n\
+send 3 1\n\
+take 8 1\n\
+end\n",
+    },
     // A memory, at port 1, sends its output in slot 0, while it receives the first input.
     Reading {
         call: "compile net.bench --machine net.machine",
@@ -349,7 +454,7 @@ fn texts_with(reading: &Reading, text: &'static str) -> Texts<'static> {
         Place::Netlist => [text, b"", machine, b""],
         Place::Stimulus => [netlist, text, machine, b""],
         Place::Machine => [netlist, b"", text, b""],
-        Place::Order => [netlist, b"", machine, text],
+        Place::More => [netlist, b"", machine, text],
     }
 }
 

@@ -98,8 +98,20 @@ fn held(gate: Option<&Option<WatchGate<'_>>>) -> (bool, bool) {
     }
 }
 
-/// Whether a call prints what it should, and whether the gates of the first two workers held them, and found something.
-type Finding = (bool, (bool, bool), (bool, bool));
+/// How many gates held their workers.
+fn held_in_all(gates: &[Option<WatchGate<'_>>]) -> usize {
+    let mut count = 0usize;
+    for gate in gates {
+        if held(Some(gate)).0 {
+            count = count.saturating_add(1);
+        }
+    }
+    count
+}
+
+/// Whether a call prints what it should, whether the gates of the first two workers held them, and found something, and
+/// how many gates held their workers.
+type Finding = (bool, (bool, bool), (bool, bool), usize);
 
 /// What is watched, the words of a call, its netlist, its stimulus or lanes, its machine, and its trace.
 type Watching = (Watch, &'static str, [&'static str; 3], &'static str);
@@ -123,8 +135,9 @@ fn watched<R: Threads + Wait + Sync>(
     let ended = end_with(rt, alloc, &[row.1], &texts, &EASY, gates.as_mut_slice());
     let one = held(gates.as_slice().first());
     let two = held(gates.as_slice().get(1));
+    let all = held_in_all(gates.as_slice());
     drop(gates);
-    Ok((is_end(ended, (0, row.3.as_bytes(), b"")), one, two))
+    Ok((is_end(ended, (0, row.3.as_bytes(), b"")), one, two, all))
 }
 
 /// A machine of two logic processors and no array processor, where the second of two workers has the second of
@@ -158,7 +171,17 @@ const WATCHED: &[(Watching, Finding)] = &[
             [S27, S27_ROWS, ""],
             S27_TRACE,
         ),
-        (true, (true, true), (true, true)),
+        (true, (true, true), (true, true), 2),
+    ),
+    // Where no workers are given, four are told of turns.
+    (
+        (
+            Watch::Pair,
+            "run net.bench net.stim --init 0",
+            [S27, S27_ROWS, ""],
+            S27_TRACE,
+        ),
+        (true, (true, true), (true, true), 4),
     ),
     (
         (
@@ -167,7 +190,7 @@ const WATCHED: &[(Watching, Finding)] = &[
             [S27, "lane\n0000\n0001\n0000\n1000\n0001\n", ""],
             "lane 1\ncycle G17\n1 1\n2 0\n3 0\n4 1\n5 1\n",
         ),
-        (true, (true, true), (true, true)),
+        (true, (true, true), (true, true), 2),
     ),
     // While the host is held at its third turn, the port that takes values from it does not get past that turn.
     (
@@ -177,7 +200,7 @@ const WATCHED: &[(Watching, Finding)] = &[
             [C17, "11111 * 10\n", TWO_LOGIC],
             C17_TRACE,
         ),
-        (true, (true, false), (false, false)),
+        (true, (true, false), (false, false), 1),
     ),
     (
         (
@@ -186,7 +209,7 @@ const WATCHED: &[(Watching, Finding)] = &[
             [C17, "lane\n11111 * 10\n", TWO_LOGIC],
             C17_LANE_TRACE,
         ),
-        (true, (true, false), (false, false)),
+        (true, (true, false), (false, false), 1),
     ),
     // The host, which takes no value of the buffer, is told of its fourth turn while the worker of the only logic
     // processor is held before its first, with eight banks and not with one.
@@ -197,7 +220,7 @@ const WATCHED: &[(Watching, Finding)] = &[
             BUFFER,
             BUFFER_TRACE,
         ),
-        (true, (true, true), (false, false)),
+        (true, (true, true), (false, false), 1),
     ),
     (
         (
@@ -206,7 +229,7 @@ const WATCHED: &[(Watching, Finding)] = &[
             BUFFER,
             BUFFER_TRACE,
         ),
-        (true, (true, false), (false, false)),
+        (true, (true, false), (false, false), 1),
     ),
 ];
 
@@ -221,29 +244,63 @@ fn workers_wait_for_one_another(rt: HostRuntime) {
     }
 }
 
-/// A run of the image that is in the last file.
-const OF_IMAGE: Watching = (
-    Watch::Hold,
-    "exec net.bench net.more net.stim --workers 2",
-    [C17, "11111 * 10\n", ""],
-    C17_TRACE,
-);
+/// Runs of the images that are compiled of their netlists for their machines, and what their gates find: as with runs of
+/// what was compiled.
+const OF_IMAGES: &[(Watching, Finding)] = &[
+    (
+        (
+            Watch::Hold,
+            "exec net.bench net.more net.stim --workers 2",
+            [C17, "11111 * 10\n", TWO_LOGIC],
+            C17_TRACE,
+        ),
+        (true, (true, false), (false, false), 1),
+    ),
+    (
+        (
+            Watch::Ahead,
+            "exec net.bench net.more net.stim --workers 2 --banks 8",
+            BUFFER,
+            BUFFER_TRACE,
+        ),
+        (true, (true, true), (false, false), 1),
+    ),
+    (
+        (
+            Watch::Ahead,
+            "exec net.bench net.more net.stim --workers 2",
+            BUFFER,
+            BUFFER_TRACE,
+        ),
+        (true, (true, false), (false, false), 1),
+    ),
+];
 
-/// What the gates find at the run of the image that is compiled of c17 for two logic processors.
-fn watched_image<R: Threads + Wait + Sync>(rt: &R, alloc: Global) -> Result<Finding, Memory> {
+fn of_images() -> &'static [(Watching, Finding)] {
+    OF_IMAGES
+}
+
+/// What the gates find at the run of the image that is compiled of a row's netlist.
+fn watched_image<R: Threads + Wait + Sync>(
+    rt: &R,
+    alloc: Global,
+    row: &Watching,
+) -> Result<Finding, Memory> {
     let compile = ["compile net.bench --machine net.machine"];
-    let texts: Texts<'_> = [C17.as_bytes(), b"", TWO_LOGIC.as_bytes(), b""];
+    let [netlist, _, machine] = row.2;
+    let texts: Texts<'_> = [netlist.as_bytes(), b"", machine.as_bytes(), b""];
     let compiled = end_of(rt, alloc, &compile, &texts, &EASY)?;
-    let found = watched(rt, alloc, &OF_IMAGE, compiled.out.taken());
+    let found = watched(rt, alloc, row, compiled.out.taken());
     drop(compiled);
     found
 }
 
-/// A worker that runs an image from a file waits as one that runs what was compiled.
+/// Workers that run an image from a file wait as those that run what was compiled.
 #[test]
-fn a_worker_waits_for_the_host_of_an_image(rt: HostRuntime) {
-    let found = (true, (true, false), (false, false));
-    assert!(rt; watched_image(&rt, rt.alloc()) == Ok(found));
+fn workers_of_images_wait_for_one_another(rt: HostRuntime) {
+    for (row, held) in of_images() {
+        assert!(rt; watched_image(&rt, rt.alloc(), row) == Ok(*held));
+    }
 }
 
 /// How many turns the gates are told of in a run of three blocks, where this write fails (0: none).

@@ -11,13 +11,29 @@ use node_defs::NodeNet;
 use node_map::map_nodes;
 use plan_defs::law::items_are_well_formed;
 use rank_find::rank;
+use seen_list::List;
 use std::alloc::Global;
 
-/// Rank order.
+/// Rank order, where registers hold 0 at first.
 pub(crate) fn rank_order(alloc: Global) -> Timing
     ensures { IsValidTiming result }
 {
-    Timing::unlisted(alloc, Mode::Rank, 1, Init::Undef)
+    Timing::unlisted(alloc, Mode::Rank, 1, Init::Zero)
+}
+
+/// The timing of a word: `rank` order, `unit` delay with 9 turns a cycle, or `mixed` mode with 2, in which signal 2 alone is
+/// listed. None where there is no memory.
+pub(crate) fn timing_of(alloc: Global, word: &str) -> Option<Timing>
+    ensures { IfSome result IsValidTiming }
+{
+    if word == "rank" {
+        return Some(rank_order(alloc));
+    }
+    if word == "unit" {
+        return Some(Timing::unlisted(alloc, Mode::Unit, 9, Init::Undef));
+    }
+    let listed = List::from_slice(alloc, &[2]).ok()?;
+    Some(Timing::unlisted(alloc, Mode::Mixed, 2, Init::Undef).listing(listed))
 }
 
 /// None where a text is no netlist, or where there is no memory.

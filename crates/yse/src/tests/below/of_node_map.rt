@@ -2,13 +2,13 @@
 
 ghost use Rattle.net_defs.specs.Valid.{IsValid};
 
-use super::items::{items_of, netlist_of, rank_order};
+use super::items::{items_of, netlist_of, timing_of};
 use super::wanted::{Wanted, parts_of};
-use net_defs::{Init, Mode, Netlist, Timing};
+use net_defs::Netlist;
 use node_defs::{Feed, Feeds, Item, ItemName, NodeNet, Tag};
 use std::alloc::Global;
 
-/// Netlists, each in rank order or in unit delay with 9 turns a cycle, with `|` between them. Behind `=>` stand the
+/// Netlists, each in the timing that its word names, with `|` between them. Behind `=>` stand the
 /// number of the first node, the number of tables, and a line for each item from there on: the number of its signal, and
 /// of a helper a `.` and its own number; then its table and its operands, or `register` and its operand. A `'` marks a
 /// value of the last turn. In unit delay only the first of three levels reads the last turn.
@@ -37,6 +37,12 @@ z = AND(a, b, c, d, e, f, g, h, i, j, k, l, m, n, o, p, q)\n\
 17.5: 0 of 17 18 19 20\n\
 17.6: 1 of 21\n\
 17: 2 of 22 23\n\
+|mixed: INPUT(a)\nINPUT(b)\nz = NAND(a, b, a, b, a)\ny = NOT(z)\n\
+=> items 2 4\n\
+2.0: 0 of 0' 1' 0' 1'\n\
+2.1: 1 of 0'\n\
+2: 2 of 2 3\n\
+3: 3 of 4\n\
 |rank: INPUT(1)\nINPUT(2)\nINPUT(3)\nINPUT(6)\nINPUT(7)\n\
 10 = NAND(1, 3)\n11 = NAND(3, 6)\n16 = NAND(2, 11)\n19 = NAND(11, 7)\n22 = NAND(10, 16)\n23 = NAND(16, 19)\n\
 => items 5 1\n\
@@ -132,28 +138,16 @@ fn tell_nodes(wanted: &mut Wanted<'_>, nodes: &NodeNet) {
     tell_items(wanted, nodes.first_node as usize, items, names);
 }
 
-/// The items of a netlist in rank order, or in unit delay with 9 turns a cycle.
-fn mapped(alloc: Global, net: &Netlist, mode: &str) -> Option<NodeNet>
-    requires { IsValid net.now }
-{
-    if mode == "rank" {
-        items_of(alloc, net, &rank_order(alloc))
-    } else {
-        items_of(
-            alloc,
-            net,
-            &Timing::unlisted(alloc, Mode::Unit, 9, Init::Undef),
-        )
-    }
-}
-
 /// Tells the items of a netlist, if it has an order.
 fn tell_mapped(alloc: Global, wanted: &mut Wanted<'_>, net: &Netlist, mode: &str)
     requires { IsValid net.now }
 {
-    if let Some(nodes) = mapped(alloc, net, mode) {
-        tell_nodes(wanted, &nodes);
-        drop(nodes);
+    if let Some(timing) = timing_of(alloc, mode) {
+        if let Some(nodes) = items_of(alloc, net, &timing) {
+            tell_nodes(wanted, &nodes);
+            drop(nodes);
+        }
+        drop(timing);
     }
 }
 

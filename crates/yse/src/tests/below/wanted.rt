@@ -72,7 +72,7 @@ pub(crate) fn tell_netlist(alloc: Global, wanted: &mut Wanted<'_>, net: &Netlist
     }
 }
 
-fn tell_values(wanted: &mut Wanted<'_>, values: &[V4]) {
+pub(crate) fn tell_values(wanted: &mut Wanted<'_>, values: &[V4]) {
     for value in values {
         wanted.tell(&[to_char(*value)]);
     }
