@@ -3,13 +3,12 @@ use Rattle.std.specs.Prelude.{List, Option, Result, Ok, Err, length, max, min, �
 use Rattle.crew_run.specs.declared.gate.Gate as gate
 use Rattle.edge_io.specs.declared.writing.WriteNo.{WriteNo}
 use Rattle.image_defs.specs.declared.image.Image.{Image}
-use Rattle.limits.specs.declared.TheConstants.{MAX_CELLS}
+use Rattle.limits.specs.declared.TheConstants.{MAX_BLOCK, MAX_CELLS}
 use Rattle.machine_run.specs.Visits.{AreVisitsOf}
 use Rattle.net_defs.specs.Time.{cycle_count}
 use Rattle.net_defs.specs.declared.stimulus.Stimulus.{Stimulus}
 use Rattle.port_host.specs.Rows.{printed_sources}
 use Rattle.slot_words.specs.Rule.{turns_of}
-use Rattle.block_run.specs.declared.TheConstants.{MAX_BLOCK}
 
 -- the cycles of a block in which each cycle has so many cells
 abbrev pub block_cycles : ℕ → ℕ

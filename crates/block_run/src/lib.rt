@@ -8,7 +8,3 @@ mod lines;
 mod window;
 
 pub use blocks::run_blocks;
-
-/// The most cycles of a block. A cycle of `n` cells, its inputs and its printed columns, makes a block shorter
-/// where `MAX_CELLS / n` is less, down to one cycle.
-pub const MAX_BLOCK: u32 = 4096;

@@ -4,9 +4,8 @@ ghost use Rattle.std.specs.Prelude.{length, ◌≡◌};
 ghost use Rattle.block_run.specs.Blocks.{block_cycles, window_of};
 ghost use Rattle.port_host.specs.Rows.{printed_sources};
 
-use crate::MAX_BLOCK;
 use image_defs::Image;
-use limits::MAX_CELLS;
+use limits::{MAX_BLOCK, MAX_CELLS};
 
 /// The cycles of a block in which each cycle has so many cells.
 fn block_cycles(cells: u64) -> u32

@@ -1,6 +1,6 @@
 -- The options of each command, and what the values of options say.
 use Rattle.std.specs.Prelude.{◌==◌, ◌&&◌, ℕ, Bool, true, not, is_some, List, [], ◌∷◌, length, nat_le, if◌then◌else◌, Option, Some, None, codes, bytes_eq}
-use Rattle.limits.specs.declared.TheConstants.{MAX_LARGE_CYCLES, MAX_LARGE_GATES, MAX_UNITS, MAX_BANKS, MAX_WORKERS}
+use Rattle.limits.specs.declared.TheConstants.{DEFAULT_BANKS, DEFAULT_UNITS, DEFAULT_WORKERS, MAX_LARGE_CYCLES, MAX_LARGE_GATES, MAX_UNITS, MAX_BANKS, MAX_WORKERS}
 use Rattle.text_lines.specs.Numbers.{number_of, within}
 use Rattle.net_defs.specs.declared.homes.HomeChoice.{HomeChoice}
 use Rattle.net_defs.specs.declared.homes.HomeChoice.TheVariants.{Plain, Better}
@@ -112,15 +112,15 @@ timing_with _ _ _ _ = None
 -- the timing that the values of options say: 1 to 4,096 turns a cycle, and 1 where none are given
 abbrev pub timing_by : (Word → Option Word) → Option Timing
 timing_by value =
-    timing_with (mode_of (value (codes "mode"))) (count_or MAX_UNITS 1 (value (codes "units"))) (init_of (value (codes "init"))) (value (codes "last"))
+    timing_with (mode_of (value (codes "mode"))) (count_or MAX_UNITS DEFAULT_UNITS (value (codes "units"))) (init_of (value (codes "init"))) (value (codes "last"))
 
 -- the words of each send: 1 to 8, and 1 where none are given
 abbrev pub banks_by : (Word → Option Word) → Option ℕ
-banks_by value = count_or MAX_BANKS 1 (value (codes "banks"))
+banks_by value = count_or MAX_BANKS DEFAULT_BANKS (value (codes "banks"))
 
 -- the workers: 1 to 64, and 4 where none are given
 abbrev pub workers_by : (Word → Option Word) → Option ℕ
-workers_by value = count_or MAX_WORKERS 4 (value (codes "workers"))
+workers_by value = count_or MAX_WORKERS DEFAULT_WORKERS (value (codes "workers"))
 
 -- the homes that the nodes get
 abbrev pub homes_by : (Word → Option Word) → Option HomeChoice

@@ -6,7 +6,10 @@ ghost use Rattle.cmd_words.specs.Settings.{count_of, count_or, mode_of, init_of,
 
 use crate::parsing::value;
 use clap::ArgMatches;
-use limits::{MAX_BANKS, MAX_LARGE_CYCLES, MAX_LARGE_GATES, MAX_UNITS, MAX_WORKERS};
+use limits::{
+    DEFAULT_BANKS, DEFAULT_UNITS, DEFAULT_WORKERS, MAX_BANKS, MAX_LARGE_CYCLES, MAX_LARGE_GATES,
+    MAX_UNITS, MAX_WORKERS,
+};
 use net_defs::{HomeChoice, Init, Mode, Timing};
 use std::alloc::Global;
 use text_lines::numbers::number_within;
@@ -19,7 +22,7 @@ pub fn timing(alloc: Global, matches: &ArgMatches<'_>) -> Option<Timing>
     ensures { result ≡ timing_by (value_found matches.now) }
 {
     let mode = mode_of(value(matches, "mode"));
-    let units = count_or(value(matches, "units"), MAX_UNITS, 1);
+    let units = count_or(value(matches, "units"), MAX_UNITS, DEFAULT_UNITS);
     let init = init_of(value(matches, "init"));
     timing_with(alloc, mode, units, init, value(matches, "last"))
 }
@@ -28,14 +31,14 @@ pub fn timing(alloc: Global, matches: &ArgMatches<'_>) -> Option<Timing>
 pub fn banks(matches: &ArgMatches<'_>) -> Option<u32>
     ensures { result ≡ banks_by (value_found matches.now) }
 {
-    count_or(value(matches, "banks"), MAX_BANKS, 1)
+    count_or(value(matches, "banks"), MAX_BANKS, DEFAULT_BANKS)
 }
 
 /// The workers that are to step the machine's ports.
 pub fn workers(matches: &ArgMatches<'_>) -> Option<u32>
     ensures { result ≡ workers_by (value_found matches.now) }
 {
-    count_or(value(matches, "workers"), MAX_WORKERS, 4)
+    count_or(value(matches, "workers"), MAX_WORKERS, DEFAULT_WORKERS)
 }
 
 /// The homes that the nodes are to get.

@@ -1,6 +1,7 @@
 //! All faults of a netlist, in groups that are dealt to threads.
 
 ghost use Rattle.std.specs.Prelude.{◌≡◌, ◌+◌, ◌<◌, ◌≤◌, ◌^◌, length, All, IfOk};
+ghost use Rattle.limits.specs.declared.TheConstants.{MAX_WORKERS};
 ghost use Rattle.net_defs.specs.Valid.{IsValid, IsValidTiming, IsValidStimulus};
 ghost use Rattle.net_defs.specs.Loops.{AreRanks};
 ghost use Rattle.fault_sim.specs.Faults.{faults_from};
@@ -11,14 +12,15 @@ ghost use Rattle.fault_sim.specs.code.Groups.{group_faults, IsGroup, AreGroups, 
 use crate::group::scheduled_group;
 use crate::schedule::{Schedule, make_schedule};
 use crate::{Fault, Verdict};
+use limits::LANES;
 use logic_four::V4;
 use net_defs::{Netlist, Ranks, Stimulus, Timing};
 use seen_list::{List, Memory};
 use std::alloc::Global;
 use std::thread::{self, Threads};
 
-/// The signals of a group. Each has two faults, and there is room for 29.
-const SIGNALS: usize = 14;
+/// The signals of a group. Each has two faults, each of which takes a lane beside that of the good design.
+const SIGNALS: usize = (LANES - 1) / 2;
 
 /// Faults that run side by side, and the verdicts on them once they are made.
 #[derive(Drop)]
@@ -43,7 +45,7 @@ pub fn fault_all<R: Threads + Sync>(
     requires timing { IsValidTiming timing.now }
     requires ranks { AreRanks net.now timing.now ranks.now }
     requires stimulus { IsValidStimulus stim.now }
-    requires workers { (1 ≤ workers) × (workers ≤ 64) }
+    requires workers { (1 ≤ workers) × (workers ≤ MAX_WORKERS) }
     ensures verdicts { IfOk result (AreAllVerdicts net.now timing.now stim.now) }
     ensures named { IfOk result (All (IsNamed net.now stim.now)) }
 {
@@ -143,9 +145,9 @@ fn make_groups(alloc: Global, net: &Netlist) -> Result<List<Group>, Memory>
 
 /// How many of the signals that are left make a group.
 fn group_size(left: usize) -> usize
-    ensures few { result ≤ 14 }
+    ensures few { result ≤ SIGNALS }
     ensures within { result ≤ left }
-    ensures whole { result < left → result ≡ 14 }
+    ensures whole { result < left → result ≡ SIGNALS }
 {
     if left < SIGNALS { left } else { SIGNALS }
 }

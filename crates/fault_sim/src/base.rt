@@ -1,6 +1,7 @@
 //! What the sources have in a turn: the signals that no gate of this turn gives a value.
 
 ghost use Rattle.std.specs.Prelude.{◌≡◌, ◌<◌, ◌≤◌, ℕ, true, length, slice_get, Some, IsTrue};
+ghost use Rattle.limits.specs.declared.TheConstants.{LANES};
 ghost use Rattle.net_defs.specs.declared.netlist.Signal.{Signal};
 ghost use Rattle.net_defs.specs.Time.{value_at};
 ghost use Rattle.logic_four.specs.Values.{settled};
@@ -34,7 +35,7 @@ pub(crate) fn set_bases(
     requires last { length last.now ≡ length net.now.signals }
     requires sources { AreSources net.now timing.now (length net.now.signals) sources.now }
     requires forces { length forces.now ≡ length net.now.signals }
-    ensures { (k : ℕ) → k < 30 → AreBases net.now timing.now turn inputs.now (lane_row k last.now) (lane_row k now.old) (lane_row k forces.now) sources.now (length sources.now) (lane_row k now.new) }
+    ensures { (k : ℕ) → k < LANES → AreBases net.now timing.now turn inputs.now (lane_row k last.now) (lane_row k now.old) (lane_row k forces.now) sources.now (length sources.now) (lane_row k now.new) }
 {
     'sources: for s in sources {
         let here = now.as_slice()[*s as usize];
@@ -58,7 +59,7 @@ fn base_of(
     requires last { length last.now ≡ length net.now.signals }
     requires signal { IsSignal net.now s }
     requires source { is_source net.now timing.now s ≡ true }
-    ensures { (k : ℕ) → k < 30 → (signal : Signal) → slice_get net.now.signals s ≡ Some signal
+    ensures { (k : ℕ) → k < LANES → (signal : Signal) → slice_get net.now.signals s ≡ Some signal
         → lane_of result k ≡ base_value timing.now turn inputs.now (lane_row k last.now) (lane_of here k) s signal.driver }
 {
     let found = &net.signals.as_slice()[s as usize];
@@ -81,7 +82,7 @@ fn base_driven(
     requires signal { IsSignal net.now s }
     requires late { IsTrue (is_gate_driver driver.now) → is_late net.now timing.now s ≡ true }
     requires drivable { IsDrivable net.now s driver.now }
-    ensures { (k : ℕ) → k < 30 → lane_of result k ≡ base_value timing.now turn inputs.now (lane_row k last.now) (lane_of here k) s driver.now }
+    ensures { (k : ℕ) → k < LANES → lane_of result k ≡ base_value timing.now turn inputs.now (lane_row k last.now) (lane_of here k) s driver.now }
 {
     match driver {
         Driver::Input => in_all_lanes(input_value(inputs, s)),
@@ -96,7 +97,7 @@ fn register_of(last: &[Planes], timing: &Timing, s: u32, turn: u32, op: u32) -> 
     requires timing { IsValidTiming timing.now }
     requires signal { s < length last.now }
     requires operand { op < length last.now }
-    ensures { (k : ℕ) → k < 30 → lane_of result k ≡ registered timing.now turn (settled (value_at (lane_row k last.now) op)) (value_at (lane_row k last.now) s) }
+    ensures { (k : ℕ) → k < LANES → lane_of result k ≡ registered timing.now turn (settled (value_at (lane_row k last.now) op)) (value_at (lane_row k last.now) s) }
 {
     registered(
         timing,
@@ -109,7 +110,7 @@ fn register_of(last: &[Planes], timing: &Timing, s: u32, turn: u32, op: u32) -> 
 /// What a register or a memory output has.
 fn registered(timing: &Timing, turn: u32, new: Planes, kept: Planes) -> Planes
     requires { IsValidTiming timing.now }
-    ensures { (k : ℕ) → k < 30 → lane_of result k ≡ registered timing.now turn (lane_of new k) (lane_of kept k) }
+    ensures { (k : ℕ) → k < LANES → lane_of result k ≡ registered timing.now turn (lane_of new k) (lane_of kept k) }
 {
     if turn == 1 {
         in_all_lanes(initial_value(timing.init))

@@ -1,6 +1,7 @@
 //! The memories of each lane at an edge, lane by lane.
 
 ghost use Rattle.std.specs.Prelude.{◌≡◌, ◌≢◌, ◌+◌, ◌++◌, ◌<◌, ◌≤◌, ℕ, [], length, slice_index, slice_index_or, All, IfOk, OnOk, replicate};
+ghost use Rattle.limits.specs.declared.TheConstants.{LANES};
 ghost use Rattle.net_defs.specs.Time.{value_at};
 ghost use Rattle.net_defs.specs.Valid.{IsValid};
 ghost use Rattle.lane_planes.specs.Lanes.{lane_row};
@@ -94,7 +95,7 @@ pub(crate) fn edge_lanes(
     faults: &[Fault],
 )
     requires valid { IsValid net.now }
-    requires few { length faults.now ≤ 29 }
+    requires few { length faults.now < LANES }
     requires now { length now.old ≡ length net.now.signals }
     requires last { length last.now ≡ length net.now.signals }
     requires lanes { length memories.old ≡ length faults.now + 1 }
@@ -128,14 +129,14 @@ fn edge_lane(
     l: u32,
 )
     requires valid { IsValid net.now }
-    requires lane { l < 30 }
+    requires lane { l < LANES }
     requires now { length now.old ≡ length net.now.signals }
     requires last { length last.now ≡ length net.now.signals }
     requires shaped { AreShaped net.now words.old }
     requires room { IsRoom net.now room.old }
     ensures now { length now.new ≡ length now.old }
     ensures answered { HasAnswered net.now (record { row = lane_row l last.now; words = words.old }) (lane_row l now.new) words.new }
-    ensures others { (k : ℕ) → k < 30 → k ≢ l → lane_row k now.new ≡ lane_row k now.old }
+    ensures others { (k : ℕ) → k < LANES → k ≢ l → lane_row k now.new ≡ lane_row k now.old }
     ensures room { IsRoom net.now room.new }
 {
     copy_lane(&mut room.values, last, room.reads.as_slice(), l);
@@ -145,7 +146,7 @@ fn edge_lane(
 
 /// Copies what one lane has at these signals to their places of the last turn.
 fn copy_lane(values: &mut List<V4>, last: &[Planes], reads: &[u32], l: u32)
-    requires lane { l < 30 }
+    requires lane { l < LANES }
     requires long { length values.old ≡ length last.now + length last.now + 1 }
     requires within { All (λ s. s < length last.now) reads.now }
     ensures long { length values.new ≡ length values.old }
@@ -159,12 +160,12 @@ fn copy_lane(values: &mut List<V4>, last: &[Planes], reads: &[u32], l: u32)
 
 /// Puts the values that these signals have in this turn into one lane.
 fn put_lane(now: &mut List<Planes>, values: &[V4], outs: &[u32], l: u32)
-    requires lane { l < 30 }
+    requires lane { l < LANES }
     requires long { length now.old ≤ length values.now }
     requires within { All (λ s. s < length now.old) outs.now }
     ensures long { length now.new ≡ length now.old }
     ensures lane { (k : ℕ) → k < length outs.now → value_at (lane_row l now.new) (slice_index outs.now k) ≡ value_at values.now (slice_index outs.now k) }
-    ensures others { (k : ℕ) → k < 30 → k ≢ l → lane_row k now.new ≡ lane_row k now.old }
+    ensures others { (k : ℕ) → k < LANES → k ≢ l → lane_row k now.new ≡ lane_row k now.old }
 {
     'outs: for s in outs {
         let p = now.as_slice()[*s as usize];

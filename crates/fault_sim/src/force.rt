@@ -1,6 +1,7 @@
 //! What each signal is stuck at, lane by lane.
 
-ghost use Rattle.std.specs.Prelude.{◌≤◌, length, All, IfOk};
+ghost use Rattle.std.specs.Prelude.{◌<◌, ◌≤◌, length, All, IfOk};
+ghost use Rattle.limits.specs.declared.TheConstants.{LANES};
 ghost use Rattle.fault_sim.specs.Faults.{IsFault};
 ghost use Rattle.fault_sim.specs.code.Lanes.{AreForces, AreFree};
 
@@ -17,7 +18,7 @@ pub(crate) fn make_forces(
     net: &Netlist,
     faults: &[Fault],
 ) -> Result<List<Planes>, Memory>
-    requires few { length faults.now ≤ 29 }
+    requires few { length faults.now < LANES }
     requires faults { All (IsFault net.now) faults.now }
     ensures { IfOk result (AreForces net.now faults.now) }
 {

@@ -1,6 +1,7 @@
 //! A group of faults beside the good design.
 
-ghost use Rattle.std.specs.Prelude.{◌≡◌, ◌≤◌, ℕ, length, All, IfOk};
+ghost use Rattle.std.specs.Prelude.{◌<◌, ◌≡◌, ◌≤◌, ℕ, length, All, IfOk};
+ghost use Rattle.limits.specs.declared.TheConstants.{LANES};
 ghost use Rattle.net_defs.specs.Valid.{IsValid, IsValidTiming, IsValidStimulus};
 ghost use Rattle.net_defs.specs.Loops.{AreRanks};
 ghost use Rattle.net_defs.specs.Steps.{first_state};
@@ -21,7 +22,7 @@ use net_defs::{Netlist, Ranks, Stimulus, Timing};
 use seen_list::{List, Memory};
 use std::alloc::Global;
 
-/// The verdicts on up to 29 faults, each in its own place. They run side by side with the good design,
+/// The verdicts on fewer faults than there are lanes, each in its own place. They run side by side with the good design,
 /// until each is seen or the stimulus ends.
 pub fn fault_group(
     alloc: Global,
@@ -35,7 +36,7 @@ pub fn fault_group(
     requires timing { IsValidTiming timing.now }
     requires ranks { AreRanks net.now timing.now ranks.now }
     requires stimulus { IsValidStimulus stim.now }
-    requires few { length faults.now ≤ 29 }
+    requires few { length faults.now < LANES }
     requires faults { All (IsFault net.now) faults.now }
     ensures { IfOk result (AreVerdicts net.now timing.now stim.now faults.now) }
 {
@@ -56,7 +57,7 @@ pub(crate) fn scheduled_group(
     requires timing { IsValidTiming timing.now }
     requires schedule { IsSchedule net.now timing.now schedule.now }
     requires stimulus { IsValidStimulus stim.now }
-    requires few { length faults.now ≤ 29 }
+    requires few { length faults.now < LANES }
     requires faults { All (IsFault net.now) faults.now }
     ensures { IfOk result (AreVerdicts net.now timing.now stim.now faults.now) }
 {
@@ -89,7 +90,7 @@ fn run_from_start(
     requires timing { IsValidTiming timing.now }
     requires schedule { IsSchedule net.now timing.now schedule.now }
     requires stimulus { IsValidStimulus stim.now }
-    requires few { length faults.now ≤ 29 }
+    requires few { length faults.now < LANES }
     requires faults { All (IsFault net.now) faults.now }
     requires forces { AreForces net.now faults.now forces.now }
     requires ready { IsReady net.now faults.now state.old }

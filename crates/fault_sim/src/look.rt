@@ -1,6 +1,7 @@
 //! What the printed names tell of each fault at the end of a cycle.
 
 ghost use Rattle.std.specs.Prelude.{◌≡◌, ◌+◌, ◌<◌, ◌≤◌, ◌^◌, length, All};
+ghost use Rattle.limits.specs.declared.TheConstants.{LANES};
 ghost use Rattle.net_defs.specs.Valid.{IsSignal};
 ghost use Rattle.fault_sim.specs.Verdicts.{differs};
 ghost use Rattle.lane_planes.specs.Lanes.{lane_row};
@@ -30,7 +31,7 @@ fn is_decided(verdict: Verdict) -> bool
 
 /// Looks at the values of the last turn of a cycle.
 pub(crate) fn look(verdicts: &mut List<Verdict>, row: &[Planes], net: &Netlist, cycle: u32)
-    requires few { length verdicts.old ≤ 29 }
+    requires few { length verdicts.old < LANES }
     requires printed { All (IsSignal net.now) net.now.printed }
     requires columns { length net.now.printed < 2 ^ 32 }
     requires long { length row.now ≡ length net.now.signals }
@@ -45,7 +46,7 @@ pub(crate) fn look(verdicts: &mut List<Verdict>, row: &[Planes], net: &Netlist, 
 
 /// The verdict on the fault of a lane after a cycle.
 fn looked(verdict: Verdict, row: &[Planes], net: &Netlist, at: u32, cycle: u32) -> Verdict
-    requires lane { at < 30 }
+    requires lane { at < LANES }
     requires printed { All (IsSignal net.now) net.now.printed }
     requires columns { length net.now.printed < 2 ^ 32 }
     requires long { length row.now ≡ length net.now.signals }
@@ -62,7 +63,7 @@ fn looked(verdict: Verdict, row: &[Planes], net: &Netlist, at: u32, cycle: u32) 
 
 /// The first column in which a lane differs from the good design.
 fn first_column(row: &[Planes], net: &Netlist, at: u32) -> Option<u32>
-    requires lane { at < 30 }
+    requires lane { at < LANES }
     requires printed { All (IsSignal net.now) net.now.printed }
     requires columns { length net.now.printed < 2 ^ 32 }
     requires long { length row.now ≡ length net.now.signals }

@@ -1,6 +1,7 @@
 //! The gates as operations on two places of a row.
 
 ghost use Rattle.std.specs.Prelude.{◌≡◌, ◌≢◌, ◌∷◌, [], ◌++◌, ◌<◌, ℕ, length, map, All, Contains, IfOk, OnOk, IsTrue};
+ghost use Rattle.limits.specs.declared.TheConstants.{LANES};
 ghost use Rattle.logic_four.specs.Gates.{gate_value};
 ghost use Rattle.logic_four.specs.Kinds.{AllowsOperands};
 ghost use Rattle.logic_four.specs.Folds.{takes_many};
@@ -31,7 +32,7 @@ pub(crate) fn do_ops(now: &mut [Planes], forces: &[Planes], program: &[PairOp])
     requires within { All (IsWithin (length now.old)) program.now }
     requires forces { length forces.now ≡ length now.old }
     ensures long { length now.new ≡ length now.old }
-    ensures lanes { (k : ℕ) → k < 30 → lane_row k now.new ≡ follow_forced (lane_row k forces.now) program.now (lane_row k now.old) }
+    ensures lanes { (k : ℕ) → k < LANES → lane_row k now.new ≡ follow_forced (lane_row k forces.now) program.now (lane_row k now.old) }
 {
     'ops: for op in program {
         let answer = gate_two(op.form, now[op.a as usize], now[op.b as usize]);

@@ -1,7 +1,7 @@
 //! A group of runs side by side, over all cycles.
 
 ghost use Rattle.std.specs.Prelude.{◌≡◌, ◌+◌, ◌*◌, ◌<◌, ◌≤◌, ◌^◌, ℕ, [], length, All, slice_index_or};
-ghost use Rattle.limits.specs.declared.TheConstants.{MAX_CYCLES};
+ghost use Rattle.limits.specs.declared.TheConstants.{LANES, MAX_CYCLES};
 ghost use Rattle.net_defs.specs.declared.stimulus.Stimulus.{Stimulus};
 ghost use Rattle.net_defs.specs.Time.{cycle_rows, cycle_count};
 ghost use Rattle.net_defs.specs.Valid.{IsValid, IsValidTiming, IsValidStimulus};
@@ -38,7 +38,7 @@ pub(crate) fn run(
     requires timing { IsValidTiming timing.now }
     requires schedule { IsSchedule net.now timing.now schedule.now }
     requires stimulus { IsValidStimulus stim.now }
-    requires few { length faults.now ≤ 29 }
+    requires few { length faults.now < LANES }
     requires faults { All (IsFault net.now) faults.now }
     requires forces { AreForces net.now faults.now forces.now }
     requires ready { IsReady net.now faults.now state.old }
@@ -73,7 +73,7 @@ fn run_row(
     requires valid { IsValid net.now }
     requires timing { IsValidTiming timing.now }
     requires schedule { IsSchedule net.now timing.now schedule.now }
-    requires few { length faults.now ≤ 29 }
+    requires few { length faults.now < LANES }
     requires faults { All (IsFault net.now) faults.now }
     requires forces { AreForces net.now faults.now forces.now }
     requires ready { IsReady net.now faults.now state.old }
@@ -124,7 +124,7 @@ fn run_cycle(
     requires valid { IsValid net.now }
     requires timing { IsValidTiming timing.now }
     requires schedule { IsSchedule net.now timing.now schedule.now }
-    requires few { length faults.now ≤ 29 }
+    requires few { length faults.now < LANES }
     requires faults { All (IsFault net.now) faults.now }
     requires forces { AreForces net.now faults.now forces.now }
     requires ready { IsReady net.now faults.now state.old }

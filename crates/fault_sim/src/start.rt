@@ -1,6 +1,7 @@
 //! The state before the first turn.
 
 ghost use Rattle.std.specs.Prelude.{◌≡◌, ◌<◌, ◌≤◌, ℕ, length, replicate, IfOk};
+ghost use Rattle.limits.specs.declared.TheConstants.{LANES};
 ghost use Rattle.logic_four.specs.declared.V4.TheVariants.{Undef};
 ghost use Rattle.lane_planes.specs.Lanes.{lane_row};
 ghost use Rattle.net_defs.specs.Steps.{first_state};
@@ -27,7 +28,7 @@ pub(crate) fn first_state(
     faults: &[Fault],
 ) -> Result<LaneState, Memory>
     requires valid { IsValid net.now }
-    requires few { length faults.now ≤ 29 }
+    requires few { length faults.now < LANES }
     ensures ready { IfOk result (IsReady net.now faults.now) }
     ensures first { IfOk result (λ state. (l : ℕ) → l ≤ length faults.now
         → lane_state l state ≡ first_state (lane_net net.now faults.now l) timing.now) }
@@ -43,7 +44,7 @@ pub(crate) fn first_state(
 /// So many planes that are undefined in every lane.
 fn undefined(alloc: Global, count: usize) -> Result<List<Planes>, Memory>
     ensures long { IfOk result (λ row. length row ≡ count) }
-    ensures each { IfOk result (λ row. (l : ℕ) → l < 30 → lane_row l row ≡ replicate count Undef) }
+    ensures each { IfOk result (λ row. (l : ℕ) → l < LANES → lane_row l row ≡ replicate count Undef) }
 {
     let row = List::filled(alloc, in_all_lanes(V4::Undef), count)?;
     Ok(row)

@@ -1,6 +1,7 @@
 //! One turn of many runs side by side.
 
 ghost use Rattle.std.specs.Prelude.{◌≡◌, ◌<◌, ◌≤◌, ℕ, length, All};
+ghost use Rattle.limits.specs.declared.TheConstants.{LANES};
 ghost use Rattle.net_defs.specs.declared.stimulus.Stimulus.{Stimulus};
 ghost use Rattle.net_defs.specs.Steps.{IsRightStep};
 ghost use Rattle.net_defs.specs.Valid.{IsValid, IsValidTiming};
@@ -37,7 +38,7 @@ pub(crate) fn turn(
     requires valid { IsValid net.now }
     requires timing { IsValidTiming timing.now }
     requires schedule { IsSchedule net.now timing.now schedule.now }
-    requires few { length faults.now ≤ 29 }
+    requires few { length faults.now < LANES }
     requires faults { All (IsFault net.now) faults.now }
     requires forces { AreForces net.now faults.now forces.now }
     requires ready { IsReady net.now faults.now state.old }
@@ -82,7 +83,7 @@ fn if_edge(
 )
     requires valid { IsValid net.now }
     requires timing { IsValidTiming timing.now }
-    requires few { length faults.now ≤ 29 }
+    requires few { length faults.now < LANES }
     requires ready { IsReady net.now faults.now state.old }
     requires room { IsRoom net.now room.old }
     ensures now { length state.new.now ≡ length net.now.signals }
@@ -107,7 +108,7 @@ fn set_gates(now: &mut List<Planes>, schedule: &Schedule, forces: &[Planes])
     requires within { All (IsWithin (length now.old)) schedule.now.program }
     requires forces { length forces.now ≡ length now.old }
     ensures long { length now.new ≡ length now.old }
-    ensures lanes { (k : ℕ) → k < 30 → lane_row k now.new ≡ follow_forced (lane_row k forces.now) schedule.now.program (lane_row k now.old) }
+    ensures lanes { (k : ℕ) → k < LANES → lane_row k now.new ≡ follow_forced (lane_row k forces.now) schedule.now.program (lane_row k now.old) }
 {
     do_ops(now.as_mut_slice(), forces, schedule.program.as_slice());
 }

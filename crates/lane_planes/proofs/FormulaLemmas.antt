@@ -1,9 +1,10 @@
 -- The formula for two operands answers as the gates do.
-use Rattle.std.proofs.Common.{◌≡◌, ℕ, ◌+◌, ◌-◌, ◌%◌, ◌<◌, bit_and, bit_or, Bool, true, false, ◌&&◌, if◌then◌else◌, [], ◌∷◌, refl, sym, subst}
+use Rattle.std.proofs.Common.{◌^◌, ◌≡◌, ℕ, ◌+◌, ◌-◌, ◌%◌, ◌<◌, bit_and, bit_or, Bool, true, false, ◌&&◌, if◌then◌else◌, [], ◌∷◌, refl, sym, subst}
 use Rattle.std.specs.Prelude.{min, max}
 use Rattle.std.specs.Int.{bit_at}
 use Rattle.std.specs.Int.RustNames.{bit_xor}
 use Rattle.std.proofs.lemmas.Bool.{and_parts}
+use Rattle.limits.specs.declared.TheConstants.{LANES}
 use Rattle.logic_four.specs.declared.V4.{V4}
 use Rattle.logic_four.specs.declared.V4.TheVariants.{Zero, One, Undef, HighZ}
 use Rattle.logic_four.specs.declared.Kind.{Kind}
@@ -54,9 +55,9 @@ other_is Bus v w = two_same (join_pair Bus) (gate_pair Bus) refl v w
 abbrev bit_of : Bool → ℕ
 bit_of all = if all then 1 else 0
 
-pub mask_word : {k : ℕ} (all : Bool) (mask : ℕ) → k < 30 → mask ≡ (if all then 1073741823 else 0) → Word k mask (bit_of all)
+pub mask_word : {k : ℕ} (all : Bool) (mask : ℕ) → k < LANES → mask ≡ (if all then (2 ^ LANES - 1) else 0) → Word k mask (bit_of all)
 mask_word {k} all mask low is = subst (λ n. Word k n (bit_of all)) (sym is) (by_test all) where
-  by_test : (all : Bool) → Word k (if all then 1073741823 else 0) (bit_of all)
+  by_test : (all : Bool) → Word k (if all then (2 ^ LANES - 1) else 0) (bit_of all)
   by_test true = all_ones low
   by_test false = no_ones
 
@@ -78,7 +79,7 @@ paired_bits true p q k = in_lanes p q k (λ x y z w. bits (low_bit 1 x y z w) (h
 paired_bits false p q k = in_lanes p q k (λ x y z w. bits (low_bit 0 x y z w) (high_bit 0 x y z w)) (λ v w. and_value (v ∷ w ∷ [])) refl
 
 -- the words that the formula makes
-module _ {k : ℕ} (low : k < 30) (p q : Planes) (mask m : ℕ) (is : Word k mask m) where
+module _ {k : ℕ} (low : k < LANES) (p q : Planes) (mask m : ℕ) (is : Word k mask m) where
   pub turned_low : Word k (bit_and (bit_xor p.low mask) (4294967295 - p.high)) (min ((bit_at p.low k + m) % 2) (1 - bit_at p.high k))
   turned_low = apart low (differ (low_word p k) is) (high_word p k)
 

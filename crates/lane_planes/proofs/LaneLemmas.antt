@@ -6,6 +6,7 @@ use Rattle.std.proofs.lemmas.Nat.Bits.{bit_at-lt, shr_and_one, same_from_bits_be
 use Rattle.std.proofs.Math.Bridge.{le_prop}
 use Rattle.std.proofs.lemmas.Bool.{and_parts}
 use Rattle.std.proofs.lemmas.Bool.Decides.{eqb_tells}
+use Rattle.limits.specs.declared.TheConstants.{LANES}
 use Rattle.logic_four.specs.declared.V4.{V4}
 use Rattle.logic_four.specs.Values.{value_of, code_of}
 use Rattle.logic_four.proofs.PackedLemmas.{code_from_value}
@@ -86,37 +87,37 @@ same_bits x y z w h i j m e =
     (omega arith, omega arith)
 
 -- planes with the same words
-abbrev made : (a b : ℕ) → a < 2 ^ 30 → b < 2 ^ 30 → Planes
+abbrev made : (a b : ℕ) → a < 2 ^ LANES → b < 2 ^ LANES → Planes
 made a b h i = record { low = a; high = b; low_small = h; high_small = i }
 
-same_made : (a b : ℕ) (h h' : a < 2 ^ 30) (i i' : b < 2 ^ 30) → made a b h i ≡ made a b h' i'
+same_made : (a b : ℕ) (h h' : a < 2 ^ LANES) (i i' : b < 2 ^ LANES) → made a b h i ≡ made a b h' i'
 same_made a b h h' i i' = ap₂ (made a b) (le_prop h h') (le_prop i i')
 
 pub same_words : (p q : Planes) → p.low ≡ q.low → p.high ≡ q.high → p ≡ q
 same_words p q low high =
-    subst (λ a. (h : a < 2 ^ 30) → p ≡ made a q.high h q.high_small) low
-    (λ h. subst (λ b. (i : b < 2 ^ 30) → p ≡ made p.low b h i) high
+    subst (λ a. (h : a < 2 ^ LANES) → p ≡ made a q.high h q.high_small) low
+    (λ h. subst (λ b. (i : b < 2 ^ LANES) → p ≡ made p.low b h i) high
     (λ i. same_made p.low p.high p.low_small h p.high_small i) q.high_small) q.low_small
 
 pub same_planes : (p q : Planes) → AreAlike p q → p ≡ q
 unfolding lane_of
 same_planes p q alike =
-    let parts : (k : ℕ) → k < 30 → (bit_at p.low k ≡ bit_at q.low k) × (bit_at p.high k ≡ bit_at q.high k) =
+    let parts : (k : ℕ) → k < LANES → (bit_at p.low k ≡ bit_at q.low k) × (bit_at p.high k ≡ bit_at q.high k) =
     λ k low.
     same_bits (bit_at p.low k) (bit_at p.high k) (bit_at q.low k) (bit_at q.high k) (bit_at-lt p.low k) (bit_at-lt p.high k) (bit_at-lt q.low k) (bit_at-lt q.high k)
     (alike k low) in
-    same_words p q (same_from_bits_below 30 p.low q.low p.low_small q.low_small (λ k low. (parts k low).0))
-    (same_from_bits_below 30 p.high q.high p.high_small q.high_small (λ k low. (parts k low).1))
+    same_words p q (same_from_bits_below LANES p.low q.low p.low_small q.low_small (λ k low. (parts k low).0))
+    (same_from_bits_below LANES p.high q.high p.high_small q.high_small (λ k low. (parts k low).1))
 
 -- what holds of the lanes so far and of one more holds of all of them, where the words keep the others
-pub one_more_lane : (P : ℕ → V4 → Type 0) (k low high low_on high_on : ℕ) (v : V4) → k < 30 → ((j : ℕ) → j < k → P j (bits (bit_at low j) (bit_at high j))) → P k v
-    → bit_at low_on k ≡ code_of v % 2 → ((j : ℕ) → j < 30 → j ≢ k → bit_at low_on j ≡ bit_at low j)
-    → bit_at high_on k ≡ code_of v / 2 → ((j : ℕ) → j < 30 → j ≢ k → bit_at high_on j ≡ bit_at high j)
+pub one_more_lane : (P : ℕ → V4 → Type 0) (k low high low_on high_on : ℕ) (v : V4) → k < LANES → ((j : ℕ) → j < k → P j (bits (bit_at low j) (bit_at high j))) → P k v
+    → bit_at low_on k ≡ code_of v % 2 → ((j : ℕ) → j < LANES → j ≢ k → bit_at low_on j ≡ bit_at low j)
+    → bit_at high_on k ≡ code_of v / 2 → ((j : ℕ) → j < LANES → j ≢ k → bit_at high_on j ≡ bit_at high j)
     → (j : ℕ) → j < k + 1 → P j (bits (bit_at low_on j) (bit_at high_on j))
 one_more_lane P k low high low_on high_on v within so_far here low_here low_others high_here high_others j below = elim (eqb_tells j k) [
   | inl same ↦ rw (same.1, low_here, high_here, value_of_bits v) here
   | inr apart ↦
       let before : j < k = omega (arith, below, apart.1) in
-      let inside : j < 30 = omega (arith, before, within) in
+      let inside : j < LANES = omega (arith, before, within) in
       rw (low_others j inside apart.1, high_others j inside apart.1) (so_far j before)
 ]

@@ -6,33 +6,34 @@ use Rattle.std.specs.Int.RustNames.{bit_xor}
 use Rattle.std.specs.Int.Bits.{and_lt}
 use Rattle.std.proofs.lemmas.Nat.{or_lt, xor_lt, and_le_l}
 use Rattle.std.proofs.lemmas.Nat.Bits.{bit_at_and, bit_at_or, bit_at_xor, bit_at_not, bit_at_ones, bit_at-zero}
+use Rattle.limits.specs.declared.TheConstants.{LANES}
 use Rattle.lane_planes.specs.declared.planes.Planes.{Planes}
 
--- a word of thirty bits whose bit k is x
+-- a word of a bit a lane whose bit k is x
 pub record Word (k n x : ℕ) : Type 0 where
-  pub small : n < 2 ^ 30
+  pub small : n < 2 ^ LANES
   pub bit : bit_at n k ≡ x
 
 pub both : {k a b x y : ℕ} → Word k a x → Word k b y → Word k (bit_and a b) (min x y)
 both {k} {a} {b} first second = record {
-  small = and_lt 30 a b first.small second.small;
+  small = and_lt LANES a b first.small second.small;
   bit = bit_at_and a b k ∙ ap₂ min first.bit second.bit;
 }
 
 pub either : {k a b x y : ℕ} → Word k a x → Word k b y → Word k (bit_or a b) (max x y)
 either {k} {a} {b} first second = record {
-  small = or_lt 30 a b first.small second.small;
+  small = or_lt LANES a b first.small second.small;
   bit = bit_at_or a b k ∙ ap₂ max first.bit second.bit;
 }
 
 pub differ : {k a b x y : ℕ} → Word k a x → Word k b y → Word k (bit_xor a b) ((x + y) % 2)
 differ {k} {a} {b} first second = record {
-  small = xor_lt 30 a b first.small second.small;
+  small = xor_lt LANES a b first.small second.small;
   bit = bit_at_xor a b k ∙ ap₂ (λ x y. (x + y) % 2) first.bit second.bit;
 }
 
 -- those of a that b lacks
-pub apart : {k a b x y : ℕ} → k < 30 → Word k a x → Word k b y → Word k (bit_and a (4294967295 - b)) (min x (1 - y))
+pub apart : {k a b x y : ℕ} → k < LANES → Word k a x → Word k b y → Word k (bit_and a (4294967295 - b)) (min x (1 - y))
 apart {k} {a} {b} low first second = record {
   small = and_small a (4294967295 - b) first.small;
   bit =
@@ -40,12 +41,12 @@ apart {k} {a} {b} low first second = record {
       ∙ ap₂ min first.bit
       (bit_at_not w32 b k (omega (arith, second.small)) (omega (arith, low)) ∙ ap (λ y. 1 - y) second.bit);
 } where
-  and_small : (a b : ℕ) → a < 2 ^ 30 → bit_and a b < 2 ^ 30
+  and_small : (a b : ℕ) → a < 2 ^ LANES → bit_and a b < 2 ^ LANES
   and_small a b small = omega (arith, small, and_le_l a b)
 
 -- the word of ones
-pub all_ones : {k : ℕ} → k < 30 → Word k 1073741823 1
-all_ones {k} low = record { small = omega arith; bit = bit_at_ones 30 k low }
+pub all_ones : {k : ℕ} → k < LANES → Word k (2 ^ LANES - 1) 1
+all_ones {k} low = record { small = omega arith; bit = bit_at_ones LANES k low }
 
 pub no_ones : {k : ℕ} → Word k 0 0
 no_ones {k} = record { small = omega arith; bit = bit_at-zero k }

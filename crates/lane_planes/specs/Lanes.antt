@@ -1,6 +1,7 @@
 -- The values that stand side by side in planes.
 use Rattle.std.specs.Prelude.{◌≡◌, ℕ, ◌+◌, ◌*◌, ◌<◌, List, map, if◌then◌else◌}
 use Rattle.std.specs.Int.{bit_at}
+use Rattle.limits.specs.declared.TheConstants.{LANES}
 use Rattle.logic_four.specs.declared.V4.{V4}
 use Rattle.logic_four.specs.Values.{value_of}
 use Rattle.logic_four.specs.Gates.{is_known}
@@ -20,4 +21,4 @@ forced_value v force = if is_known force then force else v
 
 -- two planes have the same value in each lane
 abbrev pub AreAlike : Planes → Planes → Type 0
-AreAlike p q = (k : ℕ) → k < 30 → lane_of p k ≡ lane_of q k
+AreAlike p q = (k : ℕ) → k < LANES → lane_of p k ≡ lane_of q k

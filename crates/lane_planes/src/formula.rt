@@ -1,6 +1,7 @@
 //! Gates of two operands in all lanes at once, by one formula for the usual kinds.
 
-ghost use Rattle.std.specs.Prelude.{◌≡◌, ◌∷◌, [], ◌<◌, ℕ, if◌then◌else◌};
+ghost use Rattle.std.specs.Prelude.{◌-◌, ◌^◌, ◌≡◌, ◌∷◌, [], ◌<◌, ℕ, if◌then◌else◌};
+ghost use Rattle.limits.specs.declared.TheConstants.{LANES};
 ghost use Rattle.logic_four.specs.Gates.{gate_value};
 ghost use Rattle.lane_planes.specs.Lanes.{lane_of};
 ghost use Rattle.lane_planes.specs.Formula.{is_usual, turns_operands, turns_answer, is_parity, turned, paired, pair_value, pair_form};
@@ -35,7 +36,7 @@ pub fn pair_form(kind: Kind) -> PairForm
 /// by the kind: where a processor guesses wrong at one, it loses more time than all the rest takes.
 #[inline]
 pub fn gate_two(form: PairForm, p: Planes, q: Planes) -> Planes
-    ensures { (k : ℕ) → k < 30 → lane_of result k ≡ pair_value form (lane_of p k) (lane_of q k) }
+    ensures { (k : ℕ) → k < LANES → lane_of result k ≡ pair_value form (lane_of p k) (lane_of q k) }
 {
     if is_usual(form.kind) {
         usual_two(form, p, q)
@@ -47,7 +48,7 @@ pub fn gate_two(form: PairForm, p: Planes, q: Planes) -> Planes
 /// The formula.
 #[inline]
 fn usual_two(form: PairForm, p: Planes, q: Planes) -> Planes
-    ensures { (k : ℕ) → k < 30 → lane_of result k ≡ turned form.turns_answer (paired form.is_parity
+    ensures { (k : ℕ) → k < LANES → lane_of result k ≡ turned form.turns_answer (paired form.is_parity
         (turned form.turns_operands (lane_of p k)) (turned form.turns_operands (lane_of q k))) }
 {
     let one = turned(form.turns_operands, p);
@@ -57,7 +58,7 @@ fn usual_two(form: PairForm, p: Planes, q: Planes) -> Planes
 
 /// The answer of any kind, step by step. `Not` and `Buf` look at the first operand alone.
 fn other_two(kind: Kind, p: Planes, q: Planes) -> Planes
-    ensures { (k : ℕ) → k < 30 → lane_of result k ≡ gate_value kind (lane_of p k ∷ lane_of q k ∷ []) }
+    ensures { (k : ℕ) → k < LANES → lane_of result k ≡ gate_value kind (lane_of p k ∷ lane_of q k ∷ []) }
 {
     answered(kind, joined(kind, first_operand(kind, p), q))
 }
@@ -105,7 +106,7 @@ fn is_parity(kind: Kind) -> bool
 /// All lanes, or none.
 #[inline]
 fn mask_of(all: bool) -> u32
-    ensures { result ≡ (if all then 1073741823 else 0) }
+    ensures { result ≡ (if all then (2 ^ LANES - 1) else 0) }
 {
     if all { ALL } else { 0 }
 }
@@ -113,7 +114,7 @@ fn mask_of(all: bool) -> u32
 /// The planes with each lane inverted, or settled.
 #[inline]
 fn turned(inverts: bool, p: Planes) -> Planes
-    ensures { (k : ℕ) → k < 30 → lane_of result k ≡ turned inverts (lane_of p k) }
+    ensures { (k : ℕ) → k < LANES → lane_of result k ≡ turned inverts (lane_of p k) }
 {
     let mask = mask_of(inverts);
     Planes {
@@ -125,7 +126,7 @@ fn turned(inverts: bool, p: Planes) -> Planes
 /// XOR of two operands in each lane, or AND.
 #[inline]
 fn paired(parity: bool, p: Planes, q: Planes) -> Planes
-    ensures { (k : ℕ) → k < 30 → lane_of result k ≡ paired parity (lane_of p k) (lane_of q k) }
+    ensures { (k : ℕ) → k < LANES → lane_of result k ≡ paired parity (lane_of p k) (lane_of q k) }
 {
     let mask = mask_of(parity);
     let high = (p.high | q.high) & (((p.low | p.high) | mask) & ((q.low | q.high) | mask));

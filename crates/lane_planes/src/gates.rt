@@ -2,6 +2,7 @@
 
 ghost use Rattle.std.specs.Prelude.{◌≡◌, ◌∷◌, [], ◌-◌, ◌<◌, ◌≤◌, ℕ, length, map, take, All};
 ghost use Rattle.std.specs.List.{fold};
+ghost use Rattle.limits.specs.declared.TheConstants.{LANES};
 ghost use Rattle.logic_four.specs.Kinds.{AllowsOperands};
 ghost use Rattle.logic_four.specs.Values.{value_at};
 ghost use Rattle.logic_four.specs.Gates.{gate_value};
@@ -16,7 +17,7 @@ use logic_four::Kind;
 /// The first operand of a gate of this kind, as further ones are joined to it by `joined`.
 #[inline]
 pub fn first_operand(kind: Kind, p: Planes) -> Planes
-    ensures { (k : ℕ) → k < 30 → lane_of result k ≡ first_of kind (lane_of p k) }
+    ensures { (k : ℕ) → k < LANES → lane_of result k ≡ first_of kind (lane_of p k) }
 {
     match kind {
         Kind::Tri | Kind::Bus => p,
@@ -27,7 +28,7 @@ pub fn first_operand(kind: Kind, p: Planes) -> Planes
 /// The operands so far of a gate of this kind, and one more.
 #[inline]
 pub fn joined(kind: Kind, so_far: Planes, p: Planes) -> Planes
-    ensures { (k : ℕ) → k < 30 → lane_of result k ≡ join_of kind (lane_of so_far k) (lane_of p k) }
+    ensures { (k : ℕ) → k < LANES → lane_of result k ≡ join_of kind (lane_of so_far k) (lane_of p k) }
 {
     match kind {
         Kind::And | Kind::Nand => and_two(so_far, p),
@@ -42,7 +43,7 @@ pub fn joined(kind: Kind, so_far: Planes, p: Planes) -> Planes
 /// What a gate of this kind answers once all its operands are joined.
 #[inline]
 pub fn answered(kind: Kind, base: Planes) -> Planes
-    ensures { (k : ℕ) → k < 30 → lane_of result k ≡ answer_of kind (lane_of base k) }
+    ensures { (k : ℕ) → k < LANES → lane_of result k ≡ answer_of kind (lane_of base k) }
 {
     match kind {
         Kind::Nand | Kind::Nor | Kind::Xnor | Kind::Not => inverted(base),
@@ -54,7 +55,7 @@ pub fn answered(kind: Kind, base: Planes) -> Planes
 #[inline]
 fn joined_four(kind: Kind, operands: u32, first: Planes, b: Planes, c: Planes, d: Planes) -> Planes
     requires { operands ≤ 4 }
-    ensures { (k : ℕ) → k < 30 → lane_of result k ≡ fold (join_of kind) (lane_of first k) (take (operands - 1) (lane_of b k ∷ lane_of c k ∷ lane_of d k ∷ [])) }
+    ensures { (k : ℕ) → k < LANES → lane_of result k ≡ fold (join_of kind) (lane_of first k) (take (operands - 1) (lane_of b k ∷ lane_of c k ∷ lane_of d k ∷ [])) }
 {
     match operands {
         0 | 1 => first,
@@ -70,7 +71,7 @@ fn joined_four(kind: Kind, operands: u32, first: Planes, b: Planes, c: Planes, d
 pub fn gate_planes(kind: Kind, operands: u32, a: Planes, b: Planes, c: Planes, d: Planes) -> Planes
     requires few { operands ≤ 4 }
     requires allowed { AllowsOperands kind operands }
-    ensures { (k : ℕ) → k < 30 → lane_of result k ≡ gate_value kind (take operands (lane_of a k ∷ lane_of b k ∷ lane_of c k ∷ lane_of d k ∷ [])) }
+    ensures { (k : ℕ) → k < LANES → lane_of result k ≡ gate_value kind (take operands (lane_of a k ∷ lane_of b k ∷ lane_of c k ∷ lane_of d k ∷ [])) }
 {
     if operands == 2 {
         return gate_two(pair_form(kind), a, b);
@@ -81,7 +82,7 @@ pub fn gate_planes(kind: Kind, operands: u32, a: Planes, b: Planes, c: Planes, d
 
 /// The operands of a gate of this kind joined, of some so far and others.
 fn joined_all(kind: Kind, so_far: Planes, others: &[Planes]) -> Planes
-    ensures { (k : ℕ) → k < 30 → lane_of result k ≡ fold (join_of kind) (lane_of so_far k) (lane_row k others.now) }
+    ensures { (k : ℕ) → k < LANES → lane_of result k ≡ fold (join_of kind) (lane_of so_far k) (lane_row k others.now) }
 {
     let mut base = so_far;
     'others: for p in others {
@@ -93,7 +94,7 @@ fn joined_all(kind: Kind, so_far: Planes, others: &[Planes]) -> Planes
 /// What a gate of this kind answers in each lane for all these operands.
 pub fn gate_all(kind: Kind, operands: &[Planes]) -> Planes
     requires { AllowsOperands kind (length operands.now) }
-    ensures { (k : ℕ) → k < 30 → lane_of result k ≡ gate_value kind (lane_row k operands.now) }
+    ensures { (k : ℕ) → k < LANES → lane_of result k ≡ gate_value kind (lane_row k operands.now) }
 {
     let base = joined_all(kind, first_operand(kind, operands[0]), &operands[1..]);
     answered(kind, base)
@@ -103,7 +104,7 @@ pub fn gate_all(kind: Kind, operands: &[Planes]) -> Planes
 #[inline]
 fn joined_over(kind: Kind, so_far: Planes, row: &[Planes], others: &[u32]) -> Planes
     requires { All (λ o. o < length row.now) others.now }
-    ensures { (k : ℕ) → k < 30 → lane_of result k ≡ fold (join_of kind) (lane_of so_far k) (map (value_at (lane_row k row.now)) others.now) }
+    ensures { (k : ℕ) → k < LANES → lane_of result k ≡ fold (join_of kind) (lane_of so_far k) (map (value_at (lane_row k row.now)) others.now) }
 {
     let mut base = so_far;
     'others: for o in others {
@@ -117,7 +118,7 @@ fn joined_over(kind: Kind, so_far: Planes, row: &[Planes], others: &[u32]) -> Pl
 pub fn gate_over(kind: Kind, row: &[Planes], operands: &[u32]) -> Planes
     requires allowed { AllowsOperands kind (length operands.now) }
     requires within { All (λ o. o < length row.now) operands.now }
-    ensures { (k : ℕ) → k < 30 → lane_of result k ≡ gate_value kind (map (value_at (lane_row k row.now)) operands.now) }
+    ensures { (k : ℕ) → k < LANES → lane_of result k ≡ gate_value kind (map (value_at (lane_row k row.now)) operands.now) }
 {
     let first = first_operand(kind, row[operands[0] as usize]);
     let base = joined_over(kind, first, row, &operands[1..]);

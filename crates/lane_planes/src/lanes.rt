@@ -2,15 +2,17 @@
 
 ghost use Rattle.std.specs.Prelude.{◌≡◌, ◌≢◌, ◌<◌, ◌^◌, ℕ};
 ghost use Rattle.std.specs.Int.{bit_at};
+ghost use Rattle.limits.specs.declared.TheConstants.{LANES};
 ghost use Rattle.lane_planes.specs.Lanes.{lane_of};
 
-use crate::{ALL, LANES, Planes};
+use crate::{ALL, Planes};
+use limits::LANES;
 use logic_four::{V4, code, decoded};
 
 /// The value of a lane.
 #[inline]
 pub fn lane(p: Planes, k: u32) -> V4
-    requires { k < 30 }
+    requires { k < LANES }
     ensures { result ≡ lane_of p k }
 {
     decoded(((p.low >> k) & 1) as u64 + 2 * ((p.high >> k) & 1) as u64)
@@ -19,12 +21,12 @@ pub fn lane(p: Planes, k: u32) -> V4
 /// The word with another bit in a lane.
 #[inline]
 fn with_bit(word: u32, k: u32, bit: u32) -> u32
-    requires lane { k < 30 }
-    requires word { word < 2 ^ 30 }
+    requires lane { k < LANES }
+    requires word { word < 2 ^ LANES }
     requires bit { bit < 2 }
-    ensures small { result < 2 ^ 30 }
+    ensures small { result < 2 ^ LANES }
     ensures here { bit_at result k ≡ bit }
-    ensures others { (j : ℕ) → j < 30 → j ≢ k → bit_at result j ≡ bit_at word j }
+    ensures others { (j : ℕ) → j < LANES → j ≢ k → bit_at result j ≡ bit_at word j }
 {
     (word & !(1 << k)) | (bit << k)
 }
@@ -32,9 +34,9 @@ fn with_bit(word: u32, k: u32, bit: u32) -> u32
 /// The planes with another value in a lane.
 #[inline]
 pub fn with_lane(p: Planes, k: u32, v: V4) -> Planes
-    requires { k < 30 }
+    requires { k < LANES }
     ensures here { lane_of result k ≡ v }
-    ensures others { (j : ℕ) → j < 30 → j ≢ k → lane_of result j ≡ lane_of p j }
+    ensures others { (j : ℕ) → j < LANES → j ≢ k → lane_of result j ≡ lane_of p j }
 {
     let code = code(v) as u32;
     Planes {
@@ -47,8 +49,8 @@ pub fn with_lane(p: Planes, k: u32, v: V4) -> Planes
 #[inline]
 fn in_all(bit: u32) -> u32
     requires { bit < 2 }
-    ensures small { result < 2 ^ 30 }
-    ensures each { (k : ℕ) → k < 30 → bit_at result k ≡ bit }
+    ensures small { result < 2 ^ LANES }
+    ensures each { (k : ℕ) → k < LANES → bit_at result k ≡ bit }
 {
     bit * ALL
 }
@@ -56,7 +58,7 @@ fn in_all(bit: u32) -> u32
 /// The planes with this value in every lane.
 #[inline]
 pub fn in_all_lanes(v: V4) -> Planes
-    ensures { (k : ℕ) → k < 30 → lane_of result k ≡ v }
+    ensures { (k : ℕ) → k < LANES → lane_of result k ≡ v }
 {
     let code = code(v) as u32;
     Planes {
@@ -67,8 +69,8 @@ pub fn in_all_lanes(v: V4) -> Planes
 
 /// The planes whose every lane `k` has the value that `f` gives for `k`.
 pub fn in_each_lane<F: Fn(u32) -> V4 + Drop>(f: F) -> Planes
-    requires { (k : ℕ) → k < 30 → F.pre f k }
-    ensures { (k : ℕ) → k < 30 → F.post f k (lane_of result k) }
+    requires { (k : ℕ) → k < LANES → F.pre f k }
+    ensures { (k : ℕ) → k < LANES → F.post f k (lane_of result k) }
 {
     let mut low = 0;
     let mut high = 0;

@@ -1,6 +1,7 @@
 //! Tables in all lanes at once.
 
 ghost use Rattle.std.specs.Prelude.{◌≡◌, ◌<◌, ℕ, IsTrue};
+ghost use Rattle.limits.specs.declared.TheConstants.{LANES};
 ghost use Rattle.func_table.specs.Entries.{entry_for};
 ghost use Rattle.lane_planes.specs.Lanes.{lane_of};
 ghost use Rattle.lane_planes.specs.Forms.{IsForm};
@@ -73,11 +74,11 @@ pub fn form_of(table: &Table) -> TableForm
 
 /// What a table answers in each lane for four operands, looked up lane by lane.
 fn look_up(table: &Table, a: Planes, b: Planes, c: Planes, d: Planes) -> Planes
-    ensures { (k : ℕ) → k < 30 → lane_of result k ≡ entry_for table.now (lane_of a k) (lane_of b k) (lane_of c k) (lane_of d k) }
+    ensures { (k : ℕ) → k < LANES → lane_of result k ≡ entry_for table.now (lane_of a k) (lane_of b k) (lane_of c k) (lane_of d k) }
 {
     in_each_lane(
         |k: u32| -> V4
-            requires { k < 30 }
+            requires { k < LANES }
             ensures { result ≡ entry_for table.entry.now (lane_of a k) (lane_of b k) (lane_of c k) (lane_of d k) }
         { table.eval(lane(a, k), lane(b, k), lane(c, k), lane(d, k)) },
     )
@@ -94,7 +95,7 @@ pub fn eval_form(
     d: Planes,
 ) -> Planes
     requires { IsForm table.now form }
-    ensures { (k : ℕ) → k < 30 → lane_of result k ≡ entry_for table.now (lane_of a k) (lane_of b k) (lane_of c k) (lane_of d k) }
+    ensures { (k : ℕ) → k < LANES → lane_of result k ≡ entry_for table.now (lane_of a k) (lane_of b k) (lane_of c k) (lane_of d k) }
 {
     match form {
         TableForm::Gate { kind, operands } => gate_planes(kind, operands, a, b, c, d),
@@ -105,7 +106,7 @@ pub fn eval_form(
 /// What a table answers in each lane for four operands. It finds the table's form first, which takes
 /// much longer than the answer: `eval_form` does without.
 pub fn eval_planes(table: &Table, a: Planes, b: Planes, c: Planes, d: Planes) -> Planes
-    ensures { (k : ℕ) → k < 30 → lane_of result k ≡ entry_for table.now (lane_of a k) (lane_of b k) (lane_of c k) (lane_of d k) }
+    ensures { (k : ℕ) → k < LANES → lane_of result k ≡ entry_for table.now (lane_of a k) (lane_of b k) (lane_of c k) (lane_of d k) }
 {
     eval_form(form_of(table), table, a, b, c, d)
 }

@@ -5,7 +5,9 @@ ghost use Rattle.limits.specs.declared.TheConstants.{MAX_LARGE_CYCLES, MAX_LARGE
 ghost use Rattle.crew_run.specs.Crews.{CanTell};
 ghost use Rattle.machine_run.specs.Visits.{AreInPlace, AreVisitsOf};
 ghost use Rattle.large_run.specs.code.Designs.{IsDesign};
+ghost use Rattle.machine_text.specs.Machines.{ports_of};
 ghost use Rattle.large_run.specs.Runs.{IsSummaryOf};
+ghost use Rattle.large_run.specs.Setting.{large_machine};
 
 use crate::counts::summed_up;
 use crate::design::{Design, large_design};
@@ -38,10 +40,10 @@ pub fn large<R: Threads + Wait + Sync, G: Gate + Send>(
     requires enough { workers ≤ length gates.old }
     requires tell { (i : ℕ) (gate : Option G) → i < workers → slice_get gates.old i ≡ Some gate → CanTell G.Gate.own gate }
     ensures summary { IfOk result (IsSummaryOf gates_count cycles) }
-    // Sixteen logic processors and the host are 17 ports, and a cycle is one turn.
-    ensures visits { OnOk result (AreVisitsOf G.Gate.own 17 cycles workers gates.old gates.new) }
+    // The ports are those of the machine of large designs, and a cycle is one turn.
+    ensures visits { OnOk result (AreVisitsOf G.Gate.own (ports_of large_machine) cycles workers gates.old gates.new) }
     // Memory is refused before the run, or after the whole of it.
-    ensures refused { OnErr result ((gates.new ≡ gates.old) ⊎ AreVisitsOf G.Gate.own 17 cycles workers gates.old gates.new) }
+    ensures refused { OnErr result ((gates.new ≡ gates.old) ⊎ AreVisitsOf G.Gate.own (ports_of large_machine) cycles workers gates.old gates.new) }
     ensures kept { AreInPlace gates.old gates.new }
 {
     let design = large_design(alloc, gates_count, cycles)?;
@@ -65,8 +67,8 @@ fn summary_of<R: Threads + Wait + Sync, G: Gate + Send>(
     requires enough { workers ≤ length gates.old }
     requires tell { (i : ℕ) (gate : Option G) → i < workers → slice_get gates.old i ≡ Some gate → CanTell G.Gate.own gate }
     ensures summary { IfOk result (IsSummaryOf _gates_count _cycles) }
-    ensures visits { OnOk result (AreVisitsOf G.Gate.own 17 _cycles workers gates.old gates.new) }
-    ensures refused { OnErr result ((gates.new ≡ gates.old) ⊎ AreVisitsOf G.Gate.own 17 _cycles workers gates.old gates.new) }
+    ensures visits { OnOk result (AreVisitsOf G.Gate.own (ports_of large_machine) _cycles workers gates.old gates.new) }
+    ensures refused { OnErr result ((gates.new ≡ gates.old) ⊎ AreVisitsOf G.Gate.own (ports_of large_machine) _cycles workers gates.old gates.new) }
     ensures kept { AreInPlace gates.old gates.new }
 {
     same_inputs();

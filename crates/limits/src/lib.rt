@@ -76,6 +76,43 @@ pub const MAX_LARGE_GATES: u32 = 30_000;
 /// The most cycles that a generated design is run for.
 pub const MAX_LARGE_CYCLES: u32 = 10_000;
 
+/// The lanes of a packed run: how many simulations of one design run side by side.
+pub const LANES: usize = 30;
+
+/// The most bits of all memories of a design whose lanes run at once: each lane has its own content.
+pub const MAX_PACK_BITS: u64 = 16_777_216;
+
+/// The most signals of a netlist whose stuck faults are listed.
+pub const MAX_FAULT_SIGNALS: u64 = 65_536;
+
+/// The most cycles of a block, after which the rows of a run are written. A cycle of `n` cells, its inputs and
+/// its printed columns, makes a block shorter where `MAX_CELLS / n` is less, down to one cycle.
+pub const MAX_BLOCK: u32 = 4096;
+
+/// The turns of a cycle where none are given.
+pub const DEFAULT_UNITS: u32 = 1;
+
+/// The banks of a crossbar where none are given.
+pub const DEFAULT_BANKS: u32 = 1;
+
+/// The workers where none are given.
+pub const DEFAULT_WORKERS: u32 = 4;
+
+/// The logic processors of a machine whose text gives none.
+pub const DEFAULT_LOGIC: u32 = 4;
+
+/// The array processors of a machine whose text gives none.
+pub const DEFAULT_ARRAY: u32 = 1;
+
+/// The functions of a logic processor whose machine's text gives none.
+pub const DEFAULT_FUNCTIONS: u32 = 256;
+
+/// The bits of an array processor whose machine's text gives none.
+pub const DEFAULT_ARRAY_BITS: u32 = 65_536;
+
+/// The logic processors of the machine that a generated design is run on.
+pub const LARGE_LOGIC: u32 = 16;
+
 /// Whether a text of so many bytes may be read.
 pub fn fits_text(bytes: usize) -> bool
     ensures { IsTrue result ↔ (bytes ≤ MAX_TEXT_BYTES) }

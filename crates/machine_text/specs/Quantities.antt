@@ -1,7 +1,7 @@
 -- The quantities of a machine: their words, ranges and defaults.
 use Rattle.std.specs.Prelude.{ℕ, Bool, true, false, List, Option, Some, None, if◌then◌else◌, codes, nat_le, ◌&&◌}
 use Rattle.std.specs.Str.{str_eq_ignore_ascii_case}
-use Rattle.limits.specs.declared.TheConstants.{MAX_LOGIC, MAX_ARRAY, MAX_SLOTS, MAX_FUNCTIONS, MAX_ARRAY_BITS, MAX_NODES}
+use Rattle.limits.specs.declared.TheConstants.{DEFAULT_LOGIC, DEFAULT_ARRAY, DEFAULT_FUNCTIONS, DEFAULT_ARRAY_BITS, MAX_LOGIC, MAX_ARRAY, MAX_SLOTS, MAX_FUNCTIONS, MAX_ARRAY_BITS, MAX_NODES}
 use Rattle.machine_text.specs.declared.machine.Limited.{Limited}
 use Rattle.machine_text.specs.declared.machine.Limited.TheVariants as limited
 use Rattle.machine_text.specs.declared.quantity.Version.{Version}
@@ -63,11 +63,11 @@ most_of Bits = MAX_ARRAY_BITS
 most_of Nodes = MAX_NODES
 
 abbrev pub default_of : Quantity → ℕ
-default_of Logic = 4
-default_of Array = 1
+default_of Logic = DEFAULT_LOGIC
+default_of Array = DEFAULT_ARRAY
 default_of Slots = MAX_SLOTS
-default_of Functions = 256
-default_of Bits = 65536
+default_of Functions = DEFAULT_FUNCTIONS
+default_of Bits = DEFAULT_ARRAY_BITS
 default_of Nodes = MAX_NODES
 
 abbrev pub in_range : Quantity → ℕ → Bool

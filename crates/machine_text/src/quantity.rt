@@ -100,11 +100,11 @@ impl Quantity {
         ensures { result ≡ default_of self }
     {
         match self {
-            Quantity::Logic => 4,
-            Quantity::Array => 1,
+            Quantity::Logic => limits::DEFAULT_LOGIC,
+            Quantity::Array => limits::DEFAULT_ARRAY,
             Quantity::Slots | Quantity::Nodes => self.most(),
-            Quantity::Functions => 256,
-            Quantity::Bits => 65_536,
+            Quantity::Functions => limits::DEFAULT_FUNCTIONS,
+            Quantity::Bits => limits::DEFAULT_ARRAY_BITS,
         }
     }
 }

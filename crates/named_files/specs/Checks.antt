@@ -3,8 +3,7 @@
 -- outcome of the call.
 use Rattle.std.specs.Prelude.{◌≡◌, ◌⊎◌, ℕ, ◌+◌, ◌*◌, ◌^◌, ◌<◌, ◌≤◌, nat_le, if◌then◌else◌, List, [], ◌∷◌, length, Option, Some, None, Result, Ok, Err}
 use Rattle.std.specs.List.{sum_by}
-use Rattle.limits.specs.declared.TheConstants.{MAX_CELLS, MAX_TEXT_BYTES}
-use Rattle.refusal_lines.specs.declared.TheConstants.{MAX_FAULT_SIGNALS, MAX_PACK_BITS}
+use Rattle.limits.specs.declared.TheConstants.{LANES, MAX_CELLS, MAX_FAULT_SIGNALS, MAX_PACK_BITS, MAX_TEXT_BYTES}
 use Rattle.net_defs.specs.declared.netlist.Block.{Block}
 use Rattle.net_defs.specs.declared.homes.HomeChoice.{HomeChoice}
 use Rattle.net_defs.specs.declared.netlist.Netlist.{Netlist}
@@ -20,7 +19,6 @@ use Rattle.bench_read.specs.GateLists as gate_lists
 use Rattle.bench_read.specs.Reads as bench_reads
 use Rattle.stim_text.specs.Stimuli as stim
 use Rattle.stim_text.specs.declared.lanes.Lanes.{Lanes}
-use Rattle.stim_text.specs.declared.lanes.TheConstants.{MAX_LANES}
 use Rattle.stim_text.specs.Lanes.{longest}
 use Rattle.stim_text.specs.LaneTexts as lane_texts
 use Rattle.stim_text.specs.declared.order.Order.{Order}
@@ -139,9 +137,9 @@ cell_count net stimulus = cycle_count stimulus * (input_count net + length net.p
 abbrev pub HasFewCells : Netlist → Stimulus → Result (Unit {0}) Outcome → Type 0
 HasFewCells net stimulus = IsWithin MAX_CELLS (cell_count net stimulus) cells_line
 
--- a cell for each of 30 lanes, each input and each printed name in each cycle of the longest lane
+-- a cell for each of LANES lanes, each input and each printed name in each cycle of the longest lane
 abbrev pub lane_cell_count : Netlist → Lanes → ℕ
-lane_cell_count net lanes = MAX_LANES * longest lanes * (input_count net + length net.printed)
+lane_cell_count net lanes = LANES * longest lanes * (input_count net + length net.printed)
 
 -- there are not too many cells of lanes
 abbrev pub HasFewLaneCells : Netlist → Lanes → Result (Unit {0}) Outcome → Type 0

@@ -8,10 +8,10 @@ ghost use Rattle.stim_text.specs.Lanes.{AreLanes, longest};
 ghost use Rattle.named_files.specs.Checks.{HasFewBits, HasFewLaneCells, HasFewSignals, block_bits, lane_cell_count, memory_bits};
 ghost use Rattle.named_files.specs.Refused.{Satisfies};
 
-use limits::MAX_CELLS;
+use limits::{LANES, MAX_CELLS, MAX_FAULT_SIGNALS, MAX_PACK_BITS};
 use net_defs::{Block, Netlist};
-use refusal_lines::{MAX_FAULT_SIGNALS, MAX_PACK_BITS, Refusal};
-use stim_text::{Lanes, MAX_LANES};
+use refusal_lines::Refusal;
+use stim_text::Lanes;
 
 /// Whether there are not too many cells of lanes.
 pub fn few_lane_cells<'a>(net: &Netlist, lanes: &Lanes) -> Result<(), Refusal<'a>>
@@ -27,14 +27,14 @@ pub fn few_lane_cells<'a>(net: &Netlist, lanes: &Lanes) -> Result<(), Refusal<'a
     }
 }
 
-/// A cell for each of 30 lanes, each input and each printed name in each cycle of the longest lane.
+/// A cell for each of `LANES` lanes, each input and each printed name in each cycle of the longest lane.
 fn lane_cell_count(net: &Netlist, lanes: &Lanes) -> u64
     requires valid { IsValid net.now }
     requires lanes { AreLanes (input_count net.now) lanes.now }
     ensures { result ≡ lane_cell_count net.now lanes.now }
 {
     let columns = u64::from(net.inputs()) + net.printed.len() as u64;
-    MAX_LANES as u64 * u64::from(lane_cycles(lanes)) * columns
+    LANES as u64 * u64::from(lane_cycles(lanes)) * columns
 }
 
 /// The cycles of the longest lane, which are no more than a stimulus may have.

@@ -2,6 +2,7 @@
 use Rattle.std.proofs.Common.{◌≡◌, ◌∙◌, ℕ, ◌-◌, ◌<◌, true, false, if◌then◌else◌, List, length, map, get_or, slice_get, sym, ap, subst, refl, arith}
 use Rattle.std.proofs.Math.Nat.{add-sub_cancel}
 use Rattle.std.proofs.lemmas.Option.{slice_get_within}
+use Rattle.limits.specs.declared.TheConstants.{LANES}
 use Rattle.net_defs.specs.Time.{is_edge, initial_value}
 use Rattle.lane_planes.specs.declared.planes.Planes.{Planes}
 use Rattle.lane_planes.specs.Lanes.{lane_of}
@@ -73,8 +74,8 @@ module _ (a : Inside) (slot i : ℕ) (d : OutBit) (ready : IsReady a) (can : InE
       (slice_get_within a.bits.now a.bank.executed (get_or a.bits.now i d) (plain.next_bit (lane_array 0 a) slot i d (ready.each 0 (omega arith)) (can 0 (omega arith)) same).there)
 
   -- what its memories answered is what the item has, in each lane
-  pub next_answers : (answer values : Planes) → ((l : ℕ) → l < 30 → lane_of answer l ≡ answered_bit (lane_memories l a.memories) (get_or a.bits.now i d))
-      → ((l : ℕ) → l < 30 → IsHeld (lane_port l a.bank) slot (lane_of answer l) (lane_of values l)) → (l : ℕ) → l < 30 → lane_of values l ≡ value_in (lane_port l a.bank) slot
+  pub next_answers : (answer values : Planes) → ((l : ℕ) → l < LANES → lane_of answer l ≡ answered_bit (lane_memories l a.memories) (get_or a.bits.now i d))
+      → ((l : ℕ) → l < LANES → IsHeld (lane_port l a.bank) slot (lane_of answer l) (lane_of values l)) → (l : ℕ) → l < LANES → lane_of values l ≡ value_in (lane_port l a.bank) slot
   next_answers answer values is held l low =
       plain.next_answers (lane_array l a) slot (get_or a.bits.now i d) (lane_of answer l) (lane_of values l) (ready.each l low) (can l low)
       (plain.next_bit (lane_array l a) slot i d (ready.each l low) (can l low) same) (is l low) (held l low)

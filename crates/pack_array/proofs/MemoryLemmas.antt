@@ -4,6 +4,7 @@ use Rattle.std.specs.Option.{option_map}
 use Rattle.std.proofs.lemmas.Bool.{cases_eq}
 use Rattle.std.proofs.lemmas.List.{length-map, length-set, length-replicate, length_push, get_or-replicate, map-set}
 use Rattle.std.proofs.lemmas.Option.{slice_get-map, slice_get_within}
+use Rattle.limits.specs.declared.TheConstants.{LANES}
 use Rattle.list_laws.proofs.Places.{one_there, at_front, seam_at}
 use Rattle.list_laws.proofs.Ranges.{last_or}
 use Rattle.logic_four.specs.declared.V4.{V4}
@@ -30,12 +31,12 @@ pub lane_long : (l : ℕ) (memory : PackMemory) → length (lane_values l memory
 lane_long l memory = length-map memory.outs (λ p. lane_of p l)
 
 -- a memory before the first edge
-pub first_of : (v : V4) (block : BlockWork) (memory : PackMemory) → memory.cells ≡ replicate 30 (initial_words (length block.address) (length block.word) v)
+pub first_of : (v : V4) (block : BlockWork) (memory : PackMemory) → memory.cells ≡ replicate LANES (initial_words (length block.address) (length block.word) v)
     → length memory.address ≡ length block.address → length memory.word ≡ length block.word → length memory.answers ≡ length block.word → length memory.outs ≡ length block.word
     → IsFirst v block memory
 first_of v block memory cells address word answers outs = record {
   whole = record {
-    lanes = ap length cells ∙ length-replicate 30 words;
+    lanes = ap length cells ∙ length-replicate LANES words;
     answers = answers;
     fits = λ l low. record {
       shape = subst (HasShape (length block.address) (length block.word)) (sym (words_are l low)) (first_shape (length block.address) (length block.word) v);
@@ -49,14 +50,14 @@ first_of v block memory cells address word answers outs = record {
   words : List (List V4)
   words = initial_words (length block.address) (length block.word) v
 
-  words_are : (l : ℕ) → l < 30 → (lane_memory l memory).cells ≡ words
-  words_are l low = ap (λ list. get_or list l []) cells ∙ get_or-replicate 30 l words [] low
+  words_are : (l : ℕ) → l < LANES → (lane_memory l memory).cells ≡ words
+  words_are l low = ap (λ list. get_or list l []) cells ∙ get_or-replicate LANES l words [] low
 
 -- the words of a lane changed, and those of the others stayed
 pub whole_after : (block : BlockWork) (k : ℕ) (old new : PackMemory) → IsWhole block old → length new.cells ≡ length old.cells
     → length new.address ≡ length block.address → length new.word ≡ length block.word → length new.answers ≡ length block.word → length new.outs ≡ length old.outs
     → HasShape (length block.address) (length block.word) (lane_memory k new).cells
-    → ((l : ℕ) → l < 30 → l ≢ k → (lane_memory l new).cells ≡ (lane_memory l old).cells) → IsWhole block new
+    → ((l : ℕ) → l < LANES → l ≢ k → (lane_memory l new).cells ≡ (lane_memory l old).cells) → IsWhole block new
 whole_after block k old new whole cells address word answers outs shape others = record {
   lanes = cells ∙ whole.lanes;
   answers = answers;
@@ -67,15 +68,15 @@ whole_after block k old new whole cells address word answers outs shape others =
     outs = lane_long l new ∙ outs ∙ sym (lane_long l old) ∙ (whole.fits l low).outs;
   };
 } where
-  shape_at : (l : ℕ) → l < 30 → HasShape (length block.address) (length block.word) (lane_memory l new).cells
+  shape_at : (l : ℕ) → l < LANES → HasShape (length block.address) (length block.word) (lane_memory l new).cells
   shape_at l low = elim (cases_eq l k) [
     | inl same ↦ subst (λ n. HasShape (length block.address) (length block.word) (lane_memory n new).cells) (sym same) shape
     | inr other ↦ subst (HasShape (length block.address) (length block.word)) (sym (others l low other)) (whole.fits l low).shape
   ]
 
 -- one lane more went through an edge
-pub acted_lane : (view : PackPortView) (block : BlockWork) (k : ℕ) (old now new : PackMemory) → k < 30 → HasActed view block k old now
-    → Acted (lane_port k view) block (lane_memory k now) (lane_memory k new) → ((l : ℕ) → l < 30 → l ≢ k → Stays l now new) → HasActed view block (k + 1) old new
+pub acted_lane : (view : PackPortView) (block : BlockWork) (k : ℕ) (old now new : PackMemory) → k < LANES → HasActed view block k old now
+    → Acted (lane_port k view) block (lane_memory k now) (lane_memory k new) → ((l : ℕ) → l < LANES → l ≢ k → Stays l now new) → HasActed view block (k + 1) old new
 acted_lane view block k old now new low so_far here others = record {
   acted = λ l before. elim (last_or l k before) [
     | inl earlier ↦ stayed l earlier
@@ -125,14 +126,14 @@ module _ (blocks : List BlockWork) (now : List PackMemory) (m : ℕ) (block : Bl
   }
 
   -- one memory more went through an edge, in each lane
-  pub have_more : (view : PackPortView) (old : List PackMemory) (one : PackMemory) → HaveActed view blocks m old now → slice_get now m ≡ Some one → HasActed view block 30 one new → HaveActed view blocks (m + 1) old (set now m new)
+  pub have_more : (view : PackPortView) (old : List PackMemory) (one : PackMemory) → HaveActed view blocks m old now → slice_get now m ≡ Some one → HasActed view block LANES one new → HaveActed view blocks (m + 1) old (set now m new)
   have_more view old one so_far there acted l low =
       subst (AreActed (lane_port l view) blocks (m + 1) (lane_memories l old)) (sym (map-set (lane_memory l) now m new))
       (acted_more blocks (lane_memories l now) m block (lane_memory l new) here (lane_port l view) (lane_memories l old) (lane_memory l one) (so_far l low)
       (lane_there l now m one there) (acted.acted l low))
 
 -- in each lane they are what plain ones are
-pub lane_fit : (l : ℕ) → l < 30 → (blocks : List BlockWork) (memories : List PackMemory) → AreWhole blocks memories → plain.AreFit blocks (lane_memories l memories)
+pub lane_fit : (l : ℕ) → l < LANES → (blocks : List BlockWork) (memories : List PackMemory) → AreWhole blocks memories → plain.AreFit blocks (lane_memories l memories)
 lane_fit l low blocks memories all = record {
   long = length-map memories (lane_memory l) ∙ all.long;
   each = λ b block memory at there. of_lane b block memory at (at_map (lane_memory l) memories b memory there);
@@ -140,7 +141,7 @@ lane_fit l low blocks memories all = record {
   of_lane : (b : ℕ) (block : BlockWork) (memory : MemoryState) → slice_get blocks b ≡ Some block → (one : PackMemory) × (slice_get memories b ≡ Some one) × (lane_memory l one ≡ memory) → plain.FitsMemory block memory
   of_lane b block memory at (one, there, same) = subst (plain.FitsMemory block) same ((all.each b block one at there).fits l low)
 
-pub lane_first : (l : ℕ) → l < 30 → (v : V4) (blocks : List BlockWork) (memories : List PackMemory) → AreFirst v blocks memories → plain_code.AreFirst v blocks (lane_memories l memories)
+pub lane_first : (l : ℕ) → l < LANES → (v : V4) (blocks : List BlockWork) (memories : List PackMemory) → AreFirst v blocks memories → plain_code.AreFirst v blocks (lane_memories l memories)
 lane_first l low v blocks memories all = record {
   long = length-map memories (lane_memory l) ∙ all.long;
   each = λ b block memory at there. of_lane b block memory at (at_map (lane_memory l) memories b memory there);

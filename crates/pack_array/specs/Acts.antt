@@ -1,6 +1,7 @@
 -- What the memories of a packed array processor do at an edge: in each lane what those of a plain one do,
 -- with words of its own.
 use Rattle.std.specs.Prelude.{◌≡◌, ℕ, ◌<◌, List, [], length, map, Some, slice_get, slice_index_or}
+use Rattle.limits.specs.declared.TheConstants.{LANES}
 use Rattle.image_defs.specs.declared.image.BlockWork.{BlockWork}
 use Rattle.port_array.specs.declared.memory.MemoryState.{MemoryState}
 use Rattle.port_array.specs.Acts.{FitsMemory}
@@ -22,9 +23,9 @@ lane_memories l memories = map (lane_memory l) memories
 
 -- there is a memory for each lane, of the shape and with the room that the work wants
 pub record IsWhole (block : BlockWork) (memory : PackMemory) : Type 0 where
-  pub lanes : length memory.cells ≡ 30
+  pub lanes : length memory.cells ≡ LANES
   pub answers : length memory.answers ≡ length block.word
-  pub fits : (l : ℕ) → l < 30 → FitsMemory block (lane_memory l memory)
+  pub fits : (l : ℕ) → l < LANES → FitsMemory block (lane_memory l memory)
 
 -- ---- all memories of a port
 

@@ -1,5 +1,6 @@
 -- What a packed array processor keeps: in each lane what a plain one keeps.
 use Rattle.std.specs.Prelude.{◌≡◌, ℕ, ◌<◌}
+use Rattle.limits.specs.declared.TheConstants.{LANES}
 use Rattle.image_defs.specs.declared.image.PortImage.{PortImage}
 use Rattle.image_defs.specs.declared.image.Work.TheVariants.{Array}
 use Rattle.image_defs.specs.Places.{IsPort}
@@ -23,4 +24,4 @@ pub record IsReady (a : Inside) : Type 0 where
   pub is : IsPort a.bank.image a.bank.port seat
   pub work : seat.work ≡ Array a.blocks.now a.bits.now
   pub whole : AreWhole a.blocks.now a.memories
-  pub each : (l : ℕ) → l < 30 → plain_kept.IsReady (lane_array l a)
+  pub each : (l : ℕ) → l < LANES → plain_kept.IsReady (lane_array l a)

@@ -1,7 +1,7 @@
 //! The memories of a packed array processor, and what they do at an edge, lane by lane.
 
 ghost use Rattle.std.specs.Prelude.{◌≡◌, ◌≢◌, ◌<◌, ◌≤◌, ℕ, true, false, [], length, map, replicate, set, slice_index_or, IfOk};
-ghost use Rattle.limits.specs.declared.TheConstants.{MAX_ADDRESS_BITS, MAX_WORD_BITS};
+ghost use Rattle.limits.specs.declared.TheConstants.{LANES, MAX_ADDRESS_BITS, MAX_WORD_BITS};
 ghost use Rattle.logic_four.specs.Memory.{memory_act, initial_words, HasShape};
 ghost use Rattle.net_defs.specs.Time.{is_edge};
 ghost use Rattle.lane_planes.specs.Lanes.{lane_of};
@@ -14,7 +14,8 @@ ghost use Rattle.pack_array.specs.code.Acts.{IsFirst, Stays, HasActed, ReadPast,
 
 use array_cells::Cells;
 use image_defs::{BlockWork, OutBit, Source};
-use lane_planes::{LANES, Planes, in_all_lanes, lane, with_lane};
+use lane_planes::{Planes, in_all_lanes, lane, with_lane};
+use limits::LANES;
 use logic_four::V4;
 use pack_bank::PackBank;
 use seen_list::{List, Memory};
@@ -34,7 +35,7 @@ pub(crate) struct PackMemory {
 /// The words of a memory in each lane, with `v` in every bit.
 fn make_cells(alloc: Global, block: &BlockWork, v: V4) -> Result<List<Cells>, Memory>
     requires { HasFewBits block.now }
-    ensures { IfOk result (λ cells. cells ≡ replicate 30 (initial_words (length block.now.address) (length block.now.word) v)) }
+    ensures { IfOk result (λ cells. cells ≡ replicate LANES (initial_words (length block.now.address) (length block.now.word) v)) }
 {
     let address_bits = block.address.len() as u32;
     let word_bits = block.word.len() as u32;
@@ -78,7 +79,7 @@ pub(crate) fn make_memories(
 
 /// What a source had in a lane in the last turn.
 fn take_past(bank: &PackBank<'_>, source: Source, k: u32) -> V4
-    requires lane { k < 30 }
+    requires lane { k < LANES }
     requires past { IsPastAt (lane_port k bank.now) source }
     ensures { result ≡ past_of (lane_port k bank.now) source }
 {
@@ -87,7 +88,7 @@ fn take_past(bank: &PackBank<'_>, source: Source, k: u32) -> V4
 
 /// Takes what the sources had in a lane in the last turn.
 fn fill(room: &mut List<V4>, sources: &[Source], bank: &PackBank<'_>, k: u32)
-    requires lane { k < 30 }
+    requires lane { k < LANES }
     requires long { length room.old ≡ length sources.now }
     requires past { Each (IsPastAt (lane_port k bank.now)) sources.now }
     ensures { room.new ≡ map (past_of (lane_port k bank.now)) sources.now }
@@ -99,10 +100,10 @@ fn fill(room: &mut List<V4>, sources: &[Source], bank: &PackBank<'_>, k: u32)
 
 /// Puts a value into a lane of the planes in a place.
 fn put_value(planes: &mut List<Planes>, i: usize, k: u32, v: V4)
-    requires lane { k < 30 }
+    requires lane { k < LANES }
     requires within { i < length planes.old }
     ensures here { lane_values k planes.new ≡ set (lane_values k planes.old) i v }
-    ensures others { (l : ℕ) → l < 30 → l ≢ k → lane_values l planes.new ≡ lane_values l planes.old }
+    ensures others { (l : ℕ) → l < LANES → l ≢ k → lane_values l planes.new ≡ lane_values l planes.old }
     ensures long { length planes.new ≡ length planes.old }
 {
     let changed = with_lane(planes.as_slice()[i], k, v);
@@ -111,10 +112,10 @@ fn put_value(planes: &mut List<Planes>, i: usize, k: u32, v: V4)
 
 /// Puts values into a lane, one into the planes of each place.
 fn put_values(planes: &mut List<Planes>, k: u32, values: &[V4])
-    requires lane { k < 30 }
+    requires lane { k < LANES }
     requires long { length planes.old ≡ length values.now }
     ensures here { lane_values k planes.new ≡ values.now }
-    ensures others { (l : ℕ) → l < 30 → l ≢ k → lane_values l planes.new ≡ lane_values l planes.old }
+    ensures others { (l : ℕ) → l < LANES → l ≢ k → lane_values l planes.new ≡ lane_values l planes.old }
     ensures long { length planes.new ≡ length planes.old }
 {
     'places: for i in 0..values.len() {
@@ -144,11 +145,11 @@ fn edge_cells(
 
 /// Takes the memory of a lane through an edge.
 fn edge_lane(memory: &mut PackMemory, block: &BlockWork, bank: &PackBank<'_>, k: u32)
-    requires lane { k < 30 }
+    requires lane { k < LANES }
     requires past { ReadsPast (lane_port k bank.now) block.now }
     requires whole { IsWhole block.now memory.old }
     ensures acted { Acted (lane_port k bank.now) block.now (lane_memory k memory.old) (lane_memory k memory.new) }
-    ensures others { (l : ℕ) → l < 30 → l ≢ k → Stays l memory.old memory.new }
+    ensures others { (l : ℕ) → l < LANES → l ≢ k → Stays l memory.old memory.new }
     ensures whole { IsWhole block.now memory.new }
 {
     let enable = take_past(bank, block.we, k);
@@ -167,9 +168,9 @@ fn edge_lane(memory: &mut PackMemory, block: &BlockWork, bank: &PackBank<'_>, k:
 
 /// Takes a memory through an edge, in each lane.
 fn edge(memory: &mut PackMemory, block: &BlockWork, bank: &PackBank<'_>)
-    requires past { (l : ℕ) → l < 30 → ReadsPast (lane_port l bank.now) block.now }
+    requires past { (l : ℕ) → l < LANES → ReadsPast (lane_port l bank.now) block.now }
     requires whole { IsWhole block.now memory.old }
-    ensures acted { HasActed bank.now block.now 30 memory.old memory.new }
+    ensures acted { HasActed bank.now block.now LANES memory.old memory.new }
     ensures whole { IsWhole block.now memory.new }
 {
     'lanes: for k in 0..LANES as u32 {
@@ -192,7 +193,7 @@ fn edge_all(memories: &mut [PackMemory], blocks: &[BlockWork], bank: &PackBank<'
 /// What the memory of an output bit answered for it at the last edge, in each lane.
 pub(crate) fn answered(memories: &[PackMemory], bit: OutBit) -> Planes
     requires { FitsBit (lane_memories 0 memories.now) bit }
-    ensures { (l : ℕ) → l < 30 → lane_of result l ≡ answered_bit (lane_memories l memories.now) bit }
+    ensures { (l : ℕ) → l < LANES → lane_of result l ≡ answered_bit (lane_memories l memories.now) bit }
 {
     memories[bit.block as usize].outs.as_slice()[bit.bit as usize]
 }

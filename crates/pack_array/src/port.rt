@@ -1,6 +1,7 @@
 //! A packed array processor in its run.
 
 ghost use Rattle.std.specs.Prelude.{◌≡◌, ◌<◌, ℕ, map, slice_get, IfOk};
+ghost use Rattle.limits.specs.declared.TheConstants.{LANES};
 ghost use Rattle.lane_planes.specs.Lanes.{lane_of};
 ghost use Rattle.stim_text.specs.Lanes.{AreLanes};
 ghost use Rattle.image_defs.specs.WellFormed.{IsWellFormed, IsPortOf, IsArray};
@@ -110,7 +111,7 @@ impl<'a> PackArray<'a> {
     /// Executes the item in a slot, and answers its value in each lane.
     pub fn execute(&mut self, slot: u32) -> Planes
         requires { InEachLane (λ view. CanExecute view slot) self.old }
-        ensures value { (l : ℕ) → l < 30 → lane_of result l ≡ value_in (lane_port l self.old) slot }
+        ensures value { (l : ℕ) → l < LANES → lane_of result l ≡ value_in (lane_port l self.old) slot }
         ensures view { self.new ≡ after_execute self.old }
     {
         let bit = self.bits[self.bank.executed()];
@@ -122,7 +123,7 @@ impl<'a> PackArray<'a> {
 
     /// Receives the values that are sent in a slot.
     pub fn receive(&mut self, slot: u32, v: Planes)
-        requires { (l : ℕ) → l < 30 → CanReceive (lane_port l self.old) slot (lane_of v l) }
+        requires { (l : ℕ) → l < LANES → CanReceive (lane_port l self.old) slot (lane_of v l) }
         ensures { self.new ≡ after_receive self.old }
     {
         self.bank.receive(slot, v);

@@ -1,6 +1,6 @@
 -- The banks of a packed port keep in each lane what a plain port's keep.
 use Rattle.std.proofs.Common.{◌≡◌, ◌∙◌, Bool, ℕ, ◌+◌, ◌*◌, ◌<◌, ◌≤◌, true, false, set, sym, ap, subst, refl, arith}
-use Rattle.limits.specs.declared.TheConstants.{MAX_SLOTS}
+use Rattle.limits.specs.declared.TheConstants.{LANES, MAX_SLOTS}
 use Rattle.lane_planes.specs.declared.planes.Planes.{Planes}
 use Rattle.lane_planes.specs.Lanes.{lane_of}
 use Rattle.net_defs.specs.Time.{is_edge}
@@ -21,8 +21,8 @@ use Rattle.pack_bank.specs.Views.{lane_port, InEachLane}
 
 -- ---- what is read
 
-pub read_right : (a : Inside) (operand : Operand) (v : Planes) → IsKept a → ((l : ℕ) → l < 30 → lane_of v l ≡ numbered (in_lane l a.places) operand.number)
-    → (l : ℕ) → l < 30 → IsRead (lane_port l (view_of a)) operand (lane_of v l)
+pub read_right : (a : Inside) (operand : Operand) (v : Planes) → IsKept a → ((l : ℕ) → l < LANES → lane_of v l ≡ numbered (in_lane l a.places) operand.number)
+    → (l : ℕ) → l < LANES → IsRead (lane_port l (view_of a)) operand (lane_of v l)
 read_right a operand v kept lanes l low =
     subst (IsRead (lane_port l (view_of a)) operand) (sym (lanes l low)) (plain.read_right (lane_bank l a) operand (kept.each l low))
 
@@ -39,7 +39,7 @@ item_bounds a slot kept each =
     let low : slot < a.image.now.slots = plain.slot_low a.image.now a.port can.port a.executed slot fits can.is can.next in
     (plain.item_low a.image.now a.port can.port a.executed slot fits can.is can.next, low, omega (arith, low, kept.count))
 
-pub receipt_bounds : (a : Inside) (slot : ℕ) (v : Planes) → IsKept a → ((l : ℕ) → l < 30 → CanReceive (lane_port l (view_of a)) slot (lane_of v l))
+pub receipt_bounds : (a : Inside) (slot : ℕ) (v : Planes) → IsKept a → ((l : ℕ) → l < LANES → CanReceive (lane_port l (view_of a)) slot (lane_of v l))
     → (a.received ≤ slot) × (slot < a.image.now.slots) × (a.image.now.slots + slot < count a.places)
 receipt_bounds a slot v kept each =
     let can : CanReceive (lane_port 0 (view_of a)) slot (lane_of v 0) = each 0 (omega arith) in
@@ -77,8 +77,8 @@ kept_begun a kept can = record {
 }
 
 pub kept_executed : (a : Inside) (slot : ℕ) (v : Planes) (places : PackTurns) → IsKept a → InEachLane (λ view. CanExecute view slot) (view_of a)
-    → ((l : ℕ) → l < 30 → lane_of v l ≡ value_in (lane_port l (view_of a)) slot) → count places ≡ count a.places
-    → ((l : ℕ) → l < 30 → in_lane l places ≡ record (in_lane l a.places) { this = set (in_lane l a.places).this slot (lane_of v l) })
+    → ((l : ℕ) → l < LANES → lane_of v l ≡ value_in (lane_port l (view_of a)) slot) → count places ≡ count a.places
+    → ((l : ℕ) → l < LANES → in_lane l places ≡ record (in_lane l a.places) { this = set (in_lane l a.places).this slot (lane_of v l) })
     → IsKept (record a { executed = a.executed + 1; places = places })
 kept_executed a slot v places kept can value long lanes = record {
   lanes = kept.lanes;
@@ -88,9 +88,9 @@ kept_executed a slot v places kept can value long lanes = record {
       (plain.kept_executed (lane_bank l a) slot (lane_of v l) (kept.each l low) (can l low) (value l low));
 }
 
-pub kept_received : (a : Inside) (slot : ℕ) (v : Planes) (places : PackTurns) → IsKept a → ((l : ℕ) → l < 30 → CanReceive (lane_port l (view_of a)) slot (lane_of v l))
+pub kept_received : (a : Inside) (slot : ℕ) (v : Planes) (places : PackTurns) → IsKept a → ((l : ℕ) → l < LANES → CanReceive (lane_port l (view_of a)) slot (lane_of v l))
     → count places ≡ count a.places
-    → ((l : ℕ) → l < 30 → in_lane l places ≡ record (in_lane l a.places) { this = set (in_lane l a.places).this (a.image.now.slots + slot) (lane_of v l) })
+    → ((l : ℕ) → l < LANES → in_lane l places ≡ record (in_lane l a.places) { this = set (in_lane l a.places).this (a.image.now.slots + slot) (lane_of v l) })
     → IsKept (record a { received = a.received + 1; places = places })
 kept_received a slot v places kept can long lanes = record {
   lanes = kept.lanes;
@@ -102,7 +102,7 @@ kept_received a slot v places kept can long lanes = record {
 
 pub kept_ended : (a : Inside) (edge : Bool) (places : PackTurns) → IsKept a → InEachLane CanEnd (view_of a) → edge ≡ is_edge a.image.now.units (a.turn + 1)
     → count places ≡ count a.places
-    → ((l : ℕ) → l < 30 → in_lane l places ≡ record { this = (in_lane l a.places).past; past = (in_lane l a.places).this })
+    → ((l : ℕ) → l < LANES → in_lane l places ≡ record { this = (in_lane l a.places).past; past = (in_lane l a.places).this })
     → IsKept (record a { turn = a.turn + 1; begun = false; at_edge = edge; executed = 0; received = 0; places = places })
 kept_ended a edge places kept can is_right long lanes = record {
   lanes = kept.lanes;

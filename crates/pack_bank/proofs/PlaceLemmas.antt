@@ -2,6 +2,7 @@
 use Rattle.std.proofs.Common.{Bool, true, false, not, ◌≡◌, ◌∙◌, ℕ, zero, suc, ◌+◌, ◌*◌, ◌/◌, ◌<◌, List, [], ◌∷◌, ◌++◌, length, map, set, get_or, replicate, refl, sym, ap, ap₂, subst, arith}
 use Rattle.std.specs.Int.Bits.{bit_xor}
 use Rattle.std.proofs.lemmas.List.{length-append, length-map, length-replicate, get_or-map, map-append, map-set}
+use Rattle.limits.specs.declared.TheConstants.{LANES}
 use Rattle.logic_four.specs.declared.V4.{V4}
 use Rattle.logic_four.specs.declared.V4.TheVariants.{Zero, One, Undef, HighZ}
 use Rattle.logic_four.specs.Values.{value_at}
@@ -62,8 +63,8 @@ blank_lane l slots p constants is are =
     ∙ plain.turns_blank slots
 
 -- the planes before the first turn
-pub blank_right : (slots : ℕ) (p : Planes) (constants flat : List Planes) → flat ≡ replicate (4 * slots) p ++ constants → ((l : ℕ) → l < 30 → lane_of p l ≡ Undef)
-    → ((l : ℕ) → l < 30 → lane_values l constants ≡ doubled) → AreBlank slots (record { flat = flat; second = false })
+pub blank_right : (slots : ℕ) (p : Planes) (constants flat : List Planes) → flat ≡ replicate (4 * slots) p ++ constants → ((l : ℕ) → l < LANES → lane_of p l ≡ Undef)
+    → ((l : ℕ) → l < LANES → lane_values l constants ≡ doubled) → AreBlank slots (record { flat = flat; second = false })
 blank_right slots p constants flat made is are = subst (λ xs. AreBlank slots (record { flat = xs; second = false })) (sym made) record {
   count = omega (arith, long);
   lanes = λ l low. blank_lane l slots p constants (is l low) (are l low);

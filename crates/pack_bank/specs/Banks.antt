@@ -1,5 +1,6 @@
 -- What the banks of a packed port have: in each lane what a plain port's have.
 use Rattle.std.specs.Prelude.{◌≡◌, ℕ, ◌<◌}
+use Rattle.limits.specs.declared.TheConstants.{LANES}
 use Rattle.image_defs.specs.WellFormed.{IsWellFormed}
 use Rattle.port_bank.specs.Flat.{place_count}
 use Rattle.port_bank.specs.declared.bank.Bank.TheInside as plain
@@ -30,4 +31,4 @@ lane_bank l a = record {
 pub record IsKept (a : Inside) : Type 0 where
   pub lanes : AreLanes a.image.now.columns a.lanes.now
   pub count : count a.places ≡ place_count a.image.now.slots
-  pub each : (l : ℕ) → l < 30 → plain_banks.IsKept (lane_bank l a)
+  pub each : (l : ℕ) → l < LANES → plain_banks.IsKept (lane_bank l a)

@@ -2,6 +2,7 @@
 -- has executed and received in it. A packed port is as many plain ports as there are lanes, which go step
 -- by step together; nothing but the stimulus of a lane tells them apart.
 use Rattle.std.specs.Prelude.{ℕ, ◌+◌, ◌<◌, Bool, true, false}
+use Rattle.limits.specs.declared.TheConstants.{LANES}
 use Rattle.stim_text.specs.declared.lanes.Lanes.{Lanes}
 use Rattle.stim_text.specs.Lanes.{lane_stimulus}
 use Rattle.image_defs.specs.declared.image.Image.{Image}
@@ -30,7 +31,7 @@ lane_port l view = record {
 
 -- it holds of the plain port of each lane
 abbrev pub InEachLane : (PortView → Type 0) → PackPortView → Type 0
-InEachLane P view = (l : ℕ) → l < 30 → P (lane_port l view)
+InEachLane P view = (l : ℕ) → l < LANES → P (lane_port l view)
 
 -- a packed port before its first turn
 abbrev pub at_first : Image → Lanes → ℕ → PackPortView

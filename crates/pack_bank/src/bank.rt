@@ -1,6 +1,7 @@
 //! The memory of a packed port in its run.
 
 ghost use Rattle.std.specs.Prelude.{◌≡◌, ◌*◌, ◌<◌, ℕ, IfOk};
+ghost use Rattle.limits.specs.declared.TheConstants.{LANES};
 ghost use Rattle.net_defs.specs.Time.{is_edge};
 ghost use Rattle.lane_planes.specs.Lanes.{lane_of};
 ghost use Rattle.stim_text.specs.Lanes.{AreLanes};
@@ -109,7 +110,7 @@ impl<'a> PackBank<'a> {
     #[inline]
     pub fn read(&self, operand: Operand) -> Planes
         requires { operand.number < 2 * place_count self.now.image.slots }
-        ensures { (l : ℕ) → l < 30 → IsRead (lane_port l self.now) operand (lane_of result l) }
+        ensures { (l : ℕ) → l < LANES → IsRead (lane_port l self.now) operand (lane_of result l) }
     {
         self.places.value(operand.number)
     }
@@ -117,7 +118,7 @@ impl<'a> PackBank<'a> {
     /// In each lane the value of a source.
     pub fn take(&self, source: Source) -> Planes
         requires { IsWithin self.now.image.slots source }
-        ensures { (l : ℕ) → l < 30 → IsTaken (lane_port l self.now) source (lane_of result l) }
+        ensures { (l : ℕ) → l < LANES → IsTaken (lane_port l self.now) source (lane_of result l) }
     {
         self.read(operand_of(self.image.slots, source))
     }
@@ -126,7 +127,7 @@ impl<'a> PackBank<'a> {
     #[inline]
     pub fn held(&self, slot: u32, new: Planes) -> Planes
         requires { slot < self.now.image.slots }
-        ensures { (l : ℕ) → l < 30 → IsHeld (lane_port l self.now) slot (lane_of new l) (lane_of result l) }
+        ensures { (l : ℕ) → l < LANES → IsHeld (lane_port l self.now) slot (lane_of new l) (lane_of result l) }
     {
         if self.turn == 1 {
             in_all_lanes(initial_value(self.image.init))
@@ -149,7 +150,7 @@ impl<'a> PackBank<'a> {
     #[inline]
     pub fn execute(&mut self, slot: u32, v: Planes)
         requires can { InEachLane (λ view. CanExecute view slot) self.old }
-        requires value { (l : ℕ) → l < 30 → lane_of v l ≡ value_in (lane_port l self.old) slot }
+        requires value { (l : ℕ) → l < LANES → lane_of v l ≡ value_in (lane_port l self.old) slot }
         ensures { self.new ≡ after_execute self.old }
     {
         self.places.set(slot, v);
@@ -159,7 +160,7 @@ impl<'a> PackBank<'a> {
     /// Keeps the values that are received in a slot.
     #[inline]
     pub fn receive(&mut self, slot: u32, v: Planes)
-        requires { (l : ℕ) → l < 30 → CanReceive (lane_port l self.old) slot (lane_of v l) }
+        requires { (l : ℕ) → l < LANES → CanReceive (lane_port l self.old) slot (lane_of v l) }
         ensures { self.new ≡ after_receive self.old }
     {
         self.places.set(self.image.slots + slot, v);

@@ -1,7 +1,7 @@
 //! Places of two planes each.
 
 ghost use Rattle.std.specs.Prelude.{◌≡◌, ◌+◌, ◌*◌, ◌^◌, ◌<◌, ◌≤◌, ℕ, length, set, IfOk};
-ghost use Rattle.limits.specs.declared.TheConstants.{MAX_SLOTS};
+ghost use Rattle.limits.specs.declared.TheConstants.{LANES, MAX_SLOTS};
 ghost use Rattle.logic_four.specs.Values.{value_at};
 ghost use Rattle.lane_planes.specs.Lanes.{lane_of};
 ghost use Rattle.port_bank.specs.code.Banks.{blank};
@@ -48,7 +48,7 @@ fn number_of(second: bool) -> u32
 
 /// The planes that have one value in all lanes, by the value's code, each twice.
 fn constants() -> [Planes; 8]
-    ensures { (l : ℕ) → l < 30 → lane_values l result ≡ doubled }
+    ensures { (l : ℕ) → l < LANES → lane_values l result ≡ doubled }
 {
     let zero = in_all_lanes(V4::Zero);
     let one = in_all_lanes(V4::One);
@@ -77,7 +77,7 @@ impl Places {
     #[inline]
     pub(crate) fn value(&self, number: u32) -> Planes
         requires { number < 2 * count self.now }
-        ensures { (l : ℕ) → l < 30 → lane_of result l ≡ numbered (in_lane l self.now) number }
+        ensures { (l : ℕ) → l < LANES → lane_of result l ≡ numbered (in_lane l self.now) number }
     {
         self.flat.as_slice()[(number ^ number_of(self.second)) as usize]
     }
@@ -87,7 +87,7 @@ impl Places {
     pub(crate) fn past(&self, place: u32) -> Planes
         requires few { place < 2 ^ 31 }
         requires there { place < count self.now }
-        ensures { (l : ℕ) → l < 30 → lane_of result l ≡ value_at (in_lane l self.now).past place }
+        ensures { (l : ℕ) → l < LANES → lane_of result l ≡ value_at (in_lane l self.now).past place }
     {
         self.value(2 * place + 1)
     }
@@ -97,7 +97,7 @@ impl Places {
     pub(crate) fn set(&mut self, place: u32, v: Planes)
         requires { place < count self.old }
         ensures count { count self.new ≡ count self.old }
-        ensures lanes { (l : ℕ) → l < 30 → in_lane l self.new ≡ record (in_lane l self.old) { this = set (in_lane l self.old).this place (lane_of v l) } }
+        ensures lanes { (l : ℕ) → l < LANES → in_lane l self.new ≡ record (in_lane l self.old) { this = set (in_lane l self.old).this place (lane_of v l) } }
     {
         self.flat
             .set(2 * place as usize + number_of(self.second) as usize, v);
@@ -107,7 +107,7 @@ impl Places {
     #[inline]
     pub(crate) fn swap(&mut self)
         ensures count { count self.new ≡ count self.old }
-        ensures lanes { (l : ℕ) → l < 30 → in_lane l self.new ≡ record { this = (in_lane l self.old).past; past = (in_lane l self.old).this } }
+        ensures lanes { (l : ℕ) → l < LANES → in_lane l self.new ≡ record { this = (in_lane l self.old).past; past = (in_lane l self.old).this } }
     {
         self.second = !self.second;
     }

@@ -1,6 +1,7 @@
 -- The cells that are printed, in each lane.
 use Rattle.std.proofs.Common.{◌≡◌, ◌∙◌, ℕ, ◌+◌, ◌<◌, ◌≤◌, List, length, get_or, set, sym, subst, refl, arith}
 use Rattle.std.proofs.lemmas.List.{length-map, length-set, map-set, get_or-map}
+use Rattle.limits.specs.declared.TheConstants.{LANES}
 use Rattle.logic_four.specs.declared.V4.{V4}
 use Rattle.logic_four.specs.declared.V4.TheVariants.{Undef}
 use Rattle.logic_four.specs.Values.{value_at}
@@ -23,7 +24,7 @@ none_printed view sources start cells = record {
 
 -- one source more
 pub printed_all : (view : PackPortView) (sources : List Source) (j start : ℕ) (d : Source) (p : Planes) (old cells : List Planes) → j < length sources → start + length sources ≤ length old
-    → HasPrintedAll view sources j start old cells → ((l : ℕ) → l < 30 → IsTaken (lane_port l view) (get_or sources j d) (lane_of p l)) → HasPrintedAll view sources (j + 1) start old (set cells (start + j) p)
+    → HasPrintedAll view sources j start old cells → ((l : ℕ) → l < LANES → IsTaken (lane_port l view) (get_or sources j d) (lane_of p l)) → HasPrintedAll view sources (j + 1) start old (set cells (start + j) p)
 printed_all view sources j start d p old cells low room has taken = record {
   long = length-set cells (start + j) p ∙ has.long;
   lanes = λ l few.

@@ -3,7 +3,7 @@ use Rattle.std.proofs.Common.{◌≡◌, ◌≢◌, ◌∙◌, ℕ, ◌+◌, ◌
 use Rattle.std.proofs.Math.Nat.{div-le_of_le-mul}
 use Rattle.std.proofs.lemmas.List.{length-map}
 use Rattle.std.proofs.lemmas.Option.{slice_get_within}
-use Rattle.limits.specs.declared.TheConstants.{MAX_CYCLES}
+use Rattle.limits.specs.declared.TheConstants.{LANES, MAX_CYCLES}
 use Rattle.logic_four.specs.Values.{value_at}
 use Rattle.net_defs.specs.declared.stimulus.Stimulus.{Stimulus}
 use Rattle.net_defs.specs.Time.{cycle_rows, cycle_count}
@@ -117,7 +117,7 @@ column_there a slot i d ready can same =
     (omega (arith, same, slice_get_within a.inputs.now a.bank.executed (get_or a.inputs.now i d) next.there), omega (arith, next.low, one.1.columns, ready.feed_columns))
 
 pub inputs_answer : (a : Inside) (slot i : ℕ) (d : InColumn) (values : Planes) → IsReady a → InEachLane (λ view. CanExecute view slot) a.bank → i ≡ a.bank.executed
-    → IsFed a.feed.columns a.feed.lanes a.feed.cycles (get_or a.inputs.now i d).column values → (l : ℕ) → l < 30 → lane_of values l ≡ value_in (lane_port l a.bank) slot
+    → IsFed a.feed.columns a.feed.lanes a.feed.cycles (get_or a.inputs.now i d).column values → (l : ℕ) → l < LANES → lane_of values l ≡ value_in (lane_port l a.bank) slot
 inputs_answer a slot i d values ready can same fed l low =
     let one = ready.each l low in
     let input = get_or a.inputs.now i d in
@@ -141,7 +141,7 @@ pub printed_there : (a : Inside) → IsReady a → Each (IsWithin a.bank.image.s
 printed_there a ready = let one = ready.each 0 (omega arith) in host.printed_within (lane_host 0 one.0 a) one.1
 
 -- the cycle is one of the run
-cycle_low : (a : Inside) (l : ℕ) (low : l < 30) → IsReady a → a.bank.begun ≡ true → a.feed.cycles < cycle_count (lane_stimulus a.bank.image.columns a.bank.lanes l)
+cycle_low : (a : Inside) (l : ℕ) (low : l < LANES) → IsReady a → a.bank.begun ≡ true → a.feed.cycles < cycle_count (lane_stimulus a.bank.image.columns a.bank.lanes l)
 cycle_low a l low ready begun = let one = ready.each l low in host.runs_here (lane_host l one.0 a) one.1 begun
 
 pub few_cycles : (a : Inside) → IsReady a → a.bank.begun ≡ true → a.feed.cycles < MAX_CYCLES
@@ -149,7 +149,7 @@ few_cycles a ready begun =
     let valid = lane_valid a.bank.image.columns a.bank.lanes 0 ready.lanes in
     omega (arith, cycle_low a 0 (omega arith) ready begun, valid.cycles)
 
-has_room : (a : Inside) (l : ℕ) (low : l < 30) (ready : IsReady a) → a.bank.begun ≡ true → HasRoom (plain_host.view_of (lane_host l (ready.each l low).0 a))
+has_room : (a : Inside) (l : ℕ) (low : l < LANES) (ready : IsReady a) → a.bank.begun ≡ true → HasRoom (plain_host.view_of (lane_host l (ready.each l low).0 a))
 has_room a l low ready begun =
     let one = ready.each l low in
     let few : a.bank.turn ≤ a.bank.image.units * longest a.bank.lanes =
@@ -187,7 +187,7 @@ ready_over a cells feed unit bank ready can kept same within more few moved is =
     cursor : (l : ℕ) → (c : RowCursor) × IsAt (stimulus l) feed.cycles c
     cursor l = cursor_at (stimulus l) (lane_valid a.bank.image.columns a.bank.lanes l ready.lanes) feed.cycles
 
-    ended : (l : ℕ) (low : l < 30) → plain_host.IsReady (lane_host l (cursor l).0 (record a { bank = after_end a.bank; feed = feed; unit = unit; cells = cells }))
+    ended : (l : ℕ) (low : l < LANES) → plain_host.IsReady (lane_host l (cursor l).0 (record a { bank = after_end a.bank; feed = feed; unit = unit; cells = cells }))
     ended l low =
         let one = ready.each l low in
         let begun = (can l low).begun in
@@ -212,7 +212,7 @@ cell_there a cycle column ready first done low =
     let same : row_start (cycle - 1 - 0) (length a.printed.now) ≡ row_start (cycle - 1) (length a.printed.now) = ap (λ n. row_start n (length a.printed.now)) (no_less (cycle - 1)) in
     omega (arith, there, same, low, host.width_is (lane_host 0 one.0 a) one.1, length-map a.cells (λ (q : Planes). lane_of q 0))
 
-pub cell_shows : (a : Inside) (l cycle column : ℕ) → IsReady a → l < 30 → 1 ≤ cycle → cycle ≤ cycles_done a.bank → column < length (printed_sources a.bank.image)
+pub cell_shows : (a : Inside) (l cycle column : ℕ) → IsReady a → l < LANES → 1 ≤ cycle → cycle ≤ cycles_done a.bank → column < length (printed_sources a.bank.image)
     → value_at (in_lane l a.cells) (row_start (cycle - 1) (length a.printed.now) + column) ≡ shown a.bank.image (lane_stimulus a.bank.image.columns a.bank.lanes l) cycle column
 cell_shows a l cycle column ready lane first done low =
     let one = ready.each l lane in

@@ -1,6 +1,7 @@
 -- What the packed host keeps: what the inputs have in this cycle, and in each lane what a plain host keeps that has
 -- room for all rows.
 use Rattle.std.specs.Prelude.{◌≡◌, ℕ, ◌<◌}
+use Rattle.limits.specs.declared.TheConstants.{LANES}
 use Rattle.stim_text.specs.Lanes.{lane_stimulus, longest, AreLanes}
 use Rattle.port_host.specs.declared.cursor.RowCursor.{RowCursor}
 use Rattle.port_host.specs.declared.port.HostPort.TheInside as plain
@@ -30,4 +31,4 @@ pub record IsReady (a : Inside) : Type 0 where
   pub lanes : AreLanes a.bank.image.columns a.bank.lanes
   pub feed_lanes : a.feed.lanes ≡ a.bank.lanes
   pub feed_columns : a.feed.columns ≡ a.bank.image.columns
-  pub each : (l : ℕ) → l < 30 → (cursor : RowCursor) × plain_host.IsReady (lane_host l cursor a)
+  pub each : (l : ℕ) → l < LANES → (cursor : RowCursor) × plain_host.IsReady (lane_host l cursor a)

@@ -1,6 +1,7 @@
 //! The cells that are printed in all lanes: those of all cycles, one row after the other.
 
 ghost use Rattle.std.specs.Prelude.{◌≡◌, ◌≢◌, ◌+◌, ◌*◌, ◌<◌, ◌≤◌, length, IfOk};
+ghost use Rattle.limits.specs.declared.TheConstants.{LANES};
 ghost use Rattle.logic_four.specs.Values.{value_at};
 ghost use Rattle.image_defs.specs.Places.{Each};
 ghost use Rattle.port_bank.specs.Flat.{IsWithin};
@@ -74,7 +75,7 @@ pub(crate) fn keep_row(
 /// A cell of the row from this place on, in a lane.
 pub(crate) fn cell(cells: &[Planes], start: usize, column: usize, number: u32) -> V4
     requires there { start + column < length cells.now }
-    requires lane { number < 30 }
+    requires lane { number < LANES }
     ensures { result ≡ value_at (in_lane number cells.now) (start + column) }
 {
     lane(cells[start + column], number)

@@ -1,7 +1,7 @@
 //! The packed host in its run.
 
 ghost use Rattle.std.specs.Prelude.{ℕ, ◌≡◌, ◌+◌, ◌*◌, ◌<◌, ◌≤◌, length, IfOk};
-ghost use Rattle.limits.specs.declared.TheConstants.{MAX_CYCLES};
+ghost use Rattle.limits.specs.declared.TheConstants.{LANES, MAX_CYCLES};
 ghost use Rattle.image_defs.specs.Places.{host_of};
 ghost use Rattle.image_defs.specs.WellFormed.{IsWellFormed};
 ghost use Rattle.image_defs.specs.Frames.{shown};
@@ -109,7 +109,7 @@ impl<'a> PackHost<'a> {
     /// Executes the item in a slot, and answers its values: those of its input in this cycle.
     pub fn execute(&mut self, slot: u32) -> Planes
         requires { InEachLane (λ view. CanExecute view slot) self.old }
-        ensures values { (l : ℕ) → l < 30
+        ensures values { (l : ℕ) → l < LANES
             → lane_of result l ≡ value_in (lane_port l self.old) slot }
         ensures view { self.new ≡ after_execute self.old }
     {
@@ -121,7 +121,7 @@ impl<'a> PackHost<'a> {
 
     /// Receives the values that are sent in a slot.
     pub fn receive(&mut self, slot: u32, values: Planes)
-        requires { (l : ℕ) → l < 30
+        requires { (l : ℕ) → l < LANES
             → CanReceive (lane_port l self.old) slot (lane_of values l) }
         ensures { self.new ≡ after_receive self.old }
     {
@@ -155,7 +155,7 @@ impl<'a> PackHost<'a> {
     /// The cell of a printed column in a lane, counted from 0, for a cycle that is over, counted from 1:
     /// what the printed source had in that lane at the last turn of the cycle.
     pub fn cell(&self, lane: u32, cycle: u32, column: usize) -> V4
-        requires lane { lane < 30 }
+        requires lane { lane < LANES }
         requires first { 1 ≤ cycle }
         requires done { cycle ≤ cycles_done self.now }
         requires column { column < length (printed_sources self.now.image) }

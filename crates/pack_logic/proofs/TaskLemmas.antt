@@ -2,6 +2,7 @@
 use Rattle.std.proofs.Common.{◌≡◌, ◌∙◌, ℕ, ◌<◌, ◌≤◌, List, length, map, get_or, slice_get, Some, sym, ap, subst, refl, arith}
 use Rattle.std.specs.Option.{option_map}
 use Rattle.std.proofs.lemmas.Option.{slice_get-map, get_or_from_slice_get}
+use Rattle.limits.specs.declared.TheConstants.{LANES}
 use Rattle.lane_planes.specs.declared.planes.Planes.{Planes}
 use Rattle.lane_planes.specs.declared.tables.TableForm.{TableForm}
 use Rattle.lane_planes.specs.Lanes.{lane_of}
@@ -104,8 +105,8 @@ next_fits a slot op default ready each is = of_next (next_task 0 a slot ready ca
 
 -- what is answered for the op that is executed next is the value of the item
 pub next_answers : (a : Inside) (slot : ℕ) (op default : Op) (v : Planes) → IsReady a → InEachLane (λ view. CanExecute view slot) a.bank → op ≡ get_or a.ops a.bank.executed default
-    → ((l : ℕ) → l < 30 → IsAnswer (lane_port l a.bank) a.tables.now op slot (lane_of v l))
-    → (l : ℕ) → l < 30 → lane_of v l ≡ value_in (lane_port l a.bank) slot
+    → ((l : ℕ) → l < LANES → IsAnswer (lane_port l a.bank) a.tables.now op slot (lane_of v l))
+    → (l : ℕ) → l < LANES → lane_of v l ≡ value_in (lane_port l a.bank) slot
 next_answers a slot op default v ready each is answers l low = of_next (next_task l a slot ready can) where
   can : CanExecute (lane_port l a.bank) slot
   can = each l low

@@ -1,6 +1,7 @@
 //! A packed logic processor in its run.
 
 ghost use Rattle.std.specs.Prelude.{◌≡◌, ◌<◌, ℕ, IfOk};
+ghost use Rattle.limits.specs.declared.TheConstants.{LANES};
 ghost use Rattle.lane_planes.specs.Lanes.{lane_of};
 ghost use Rattle.stim_text.specs.Lanes.{AreLanes};
 ghost use Rattle.image_defs.specs.Places.{task_slot};
@@ -57,7 +58,7 @@ fn slot_of(task: &Task) -> u32
 fn answer(bank: &PackBank<'_>, tables: &[Table], op: Op, slot: u32) -> Planes
     requires slot { slot < bank.now.image.slots }
     requires fits { FitsOp tables.now (place_count bank.now.image.slots) op }
-    ensures { (l : ℕ) → l < 30 → IsAnswer (lane_port l bank.now) tables.now op slot (lane_of result l) }
+    ensures { (l : ℕ) → l < LANES → IsAnswer (lane_port l bank.now) tables.now op slot (lane_of result l) }
 {
     match op {
         Op::Look {
@@ -147,7 +148,7 @@ impl<'a> PackLogic<'a> {
     /// Executes the item in a slot, and answers its values.
     pub fn execute(&mut self, slot: u32) -> Planes
         requires { InEachLane (λ view. CanExecute view slot) self.old }
-        ensures value { (l : ℕ) → l < 30 → lane_of result l ≡ value_in (lane_port l self.old) slot }
+        ensures value { (l : ℕ) → l < LANES → lane_of result l ≡ value_in (lane_port l self.old) slot }
         ensures view { self.new ≡ after_execute self.old }
     {
         let op = self.ops.as_slice()[self.bank.executed()];
@@ -158,7 +159,7 @@ impl<'a> PackLogic<'a> {
 
     /// Receives the values that are sent in a slot.
     pub fn receive(&mut self, slot: u32, v: Planes)
-        requires { (l : ℕ) → l < 30 → CanReceive (lane_port l self.old) slot (lane_of v l) }
+        requires { (l : ℕ) → l < LANES → CanReceive (lane_port l self.old) slot (lane_of v l) }
         ensures { self.new ≡ after_receive self.old }
     {
         self.bank.receive(slot, v);

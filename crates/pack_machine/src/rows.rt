@@ -3,7 +3,7 @@
 ghost use Rattle.std.specs.Prelude.{IfOk, length, ℕ, ◌*◌, ◌+◌, ◌<◌, ◌≡◌, ◌≤◌};
 ghost use Rattle.image_defs.specs.Places.{host_of};
 ghost use Rattle.image_defs.specs.WellFormed.{IsWellFormed};
-ghost use Rattle.limits.specs.declared.TheConstants.{MAX_CYCLES};
+ghost use Rattle.limits.specs.declared.TheConstants.{LANES, MAX_CYCLES};
 ghost use Rattle.machine_run.specs.Shown.{AreShown, AreWide};
 ghost use Rattle.pack_words.specs.Rule.{stimulus_of};
 ghost use Rattle.port_host.specs.Rows.{printed_sources};
@@ -36,7 +36,7 @@ pub(crate) fn blank_lanes(alloc: Global, image: &Image, lanes: &Lanes) -> Result
 /// Fills the row of a cycle of a lane, counted from 1.
 fn fill_row(row: &mut CellRow, host: &PackRunning<'_>, lane: u32, cycle: u32)
     requires host { host.now.port ≡ host_of host.now.image }
-    requires lane { lane < 30 }
+    requires lane { lane < LANES }
     requires first { 1 ≤ cycle }
     requires done { host.now.image.units * cycle < host.now.place.turn }
     requires room { length row.old.cells ≡ length (printed_sources host.now.image) }
@@ -50,7 +50,7 @@ fn fill_row(row: &mut CellRow, host: &PackRunning<'_>, lane: u32, cycle: u32)
 /// Fills the rows of the first cycles of a lane.
 fn fill_rows(rows: &mut [CellRow], host: &PackRunning<'_>, lane: u32)
     requires host { host.now.port ≡ host_of host.now.image }
-    requires lane { lane < 30 }
+    requires lane { lane < LANES }
     requires few { length rows.old ≤ MAX_CYCLES }
     requires done { (c : ℕ) → c < length rows.old → host.now.image.units * (c + 1) < host.now.place.turn }
     requires room { AreWide (length rows.old) (length (printed_sources host.now.image)) rows.old }
@@ -64,7 +64,7 @@ fn fill_rows(rows: &mut [CellRow], host: &PackRunning<'_>, lane: u32)
 /// Fills the rows of a lane.
 fn fill_lane(own: &mut Rows, host: &PackRunning<'_>, lane: u32)
     requires host { host.now.port ≡ host_of host.now.image }
-    requires lane { lane < 30 }
+    requires lane { lane < LANES }
     requires few { length own.old.rows ≤ MAX_CYCLES }
     requires done { (c : ℕ) → c < length own.old.rows → host.now.image.units * (c + 1) < host.now.place.turn }
     requires room { AreWide (length own.old.rows) (length (printed_sources host.now.image)) own.old.rows }

@@ -1,6 +1,7 @@
 //! A packed port that runs over a packed crossbar.
 
 ghost use Rattle.std.specs.Prelude.{MatchOption, length, ◌*◌, ◌<◌, ◌≡◌, ◌≢◌, ◌≤◌};
+ghost use Rattle.limits.specs.declared.TheConstants.{LANES};
 ghost use Rattle.image_defs.specs.Frames.{shown};
 ghost use Rattle.image_defs.specs.Places.{host_of};
 ghost use Rattle.port_host.specs.Rows.{printed_sources};
@@ -147,7 +148,7 @@ impl<'a> PackRunning<'a> {
     /// from 1.
     pub fn cell(&self, lane: u32, cycle: u32, column: u32) -> V4
         requires host { self.now.port ≡ host_of self.now.image }
-        requires lane { lane < 30 }
+        requires lane { lane < LANES }
         requires first { 1 ≤ cycle }
         requires done { self.now.image.units * cycle < self.now.place.turn }
         requires column { column < length (printed_sources self.now.image) }
@@ -159,7 +160,7 @@ impl<'a> PackRunning<'a> {
     /// The same, for any number of columns.
     pub fn cell_at(&self, lane: u32, cycle: u32, column: usize) -> V4
         requires host { self.now.port ≡ host_of self.now.image }
-        requires lane { lane < 30 }
+        requires lane { lane < LANES }
         requires first { 1 ≤ cycle }
         requires done { self.now.image.units * cycle < self.now.place.turn }
         requires column { column < length (printed_sources self.now.image) }

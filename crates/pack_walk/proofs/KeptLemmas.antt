@@ -1,5 +1,6 @@
 -- What a packed port with its place keeps from call to call.
 use Rattle.std.proofs.Common.{◌≡◌, ℕ, ◌-◌, ◌<◌, ◌≤◌, List, slice_get, Some, sym, ap, ◌∙◌, subst, refl}
+use Rattle.limits.specs.declared.TheConstants.{LANES}
 use Rattle.logic_four.specs.declared.V4.{V4}
 use Rattle.lane_planes.specs.Lanes.{lane_of}
 use Rattle.image_defs.specs.declared.image.LinkOut.{LinkOut}
@@ -51,7 +52,7 @@ module _ (a : Inside) (kept : IsKept a) (stop : Stop) (at : slice_get a.stops a.
     abbrev value_at : ℕ → ℕ → V4
     value_at l slot = value_in (view_of a) l a.port slot
 
-    next_of : (action : PackAction) → ((l : ℕ) → l < 30 → IsNext a.seat.now (place_of (view_of a) known) 1 a.until (value_at l) (lane_action (value_at l) action)) → IsNextOf (view_of a) known action
+    next_of : (action : PackAction) → ((l : ℕ) → l < LANES → IsNext a.seat.now (place_of (view_of a) known) 1 a.until (value_at l) (lane_action (value_at l) action)) → IsNextOf (view_of a) known action
     next_of action next = record {
       each = λ l low seat is.
           subst (λ n. IsNext seat (place_of (view_of a) known) 1 n (value_at l) (lane_action (value_at l) action)) kept.until_is
@@ -70,7 +71,7 @@ module _ (a : Inside) (kept : IsKept a) (stop : Stop) (at : slice_get a.stops a.
         next_sent (walk_of a) (walks a kept) stop at known a.turn 1 a.until (value_at l) early readers turns (value_at l stop.slot) link (lane_action (value_at l) action) kind bar is same refl (sends (value_at l)))
 
   -- the values of the last item are those of the item in the stop's slot
-  pub holds_values : (early : a.turn ≤ a.until) (link : LinkOut) → slice_get a.seat.now.outs a.sent ≡ Some link → link.slot ≡ stop.slot → (l : ℕ) → l < 30
+  pub holds_values : (early : a.turn ≤ a.until) (link : LinkOut) → slice_get a.seat.now.outs a.sent ≡ Some link → link.slot ≡ stop.slot → (l : ℕ) → l < LANES
       → lane_of a.value l ≡ value_in (view_of a) l a.port stop.slot
   holds_values early link is slot l low =
       let last = last_here (walk_of a) (walks a kept) stop at link is slot in

@@ -1,6 +1,7 @@
 -- From stop to stop: what a packed port may do there, and what it keeps.
 use Rattle.std.proofs.Common.{◌≡◌, ◌↔◌, ℕ, ◌+◌, ◌*◌, ◌<◌, ◌≤◌, Bool, true, false, nat_le, if◌then◌else◌, List, length, take, slice_get, Some, sym, ap, ◌∙◌, subst, refl, arith}
 use Rattle.std.proofs.lemmas.Bool.{le-leb}
+use Rattle.limits.specs.declared.TheConstants.{LANES}
 use Rattle.list_laws.proofs.Places.{one_there}
 use Rattle.lane_planes.specs.declared.planes.Planes.{Planes}
 use Rattle.lane_planes.specs.Lanes.{lane_of}
@@ -101,7 +102,7 @@ module _ (a : Inside) (kept : IsKept a) (stop : Stop) (at : slice_get a.stops a.
   }
 
   -- it may receive the values of the stop's slot
-  pub can_receive : (values : Planes) → CanTake (view_of a) values → (l : ℕ) → l < 30 → CanReceive (lane_port l (view_in a.kind)) stop.slot (lane_of values l)
+  pub can_receive : (values : Planes) → CanTake (view_of a) values → (l : ℕ) → l < LANES → CanReceive (lane_port l (view_in a.kind)) stop.slot (lane_of values l)
   can_receive values can l low =
       let here = receiving_here can.j can.link can.receiving in
       let early = early_of can.receiving.early in

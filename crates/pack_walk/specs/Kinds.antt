@@ -1,5 +1,6 @@
 -- A packed port of any kind, as the definitions see packed ports, and a run of its items.
 use Rattle.std.specs.Prelude.{◌≡◌, ◌↔◌, ℕ, ◌+◌, ◌<◌, Bool, true, false, length}
+use Rattle.limits.specs.declared.TheConstants.{LANES}
 use Rattle.lane_planes.specs.declared.planes.Planes.{Planes}
 use Rattle.lane_planes.specs.Lanes.{lane_of}
 use Rattle.image_defs.specs.declared.image.Image.{Image}
@@ -25,4 +26,4 @@ FitsKind image p kind = (is_host kind ≡ true) ↔ (p + 1 ≡ length image.port
 
 -- where an item is executed this turn, these are in each lane the value of the last one
 abbrev pub AreLastValues : PackPortView → Planes → Type 0
-AreLastValues view values = (l : ℕ) → l < 30 → IsLastValue (lane_port l view) (lane_of values l)
+AreLastValues view values = (l : ℕ) → l < LANES → IsLastValue (lane_port l view) (lane_of values l)

@@ -1,6 +1,7 @@
 -- A packed port with its place in the turn, as contracts see it, and what comes next. It is as many plain
 -- ports as there are lanes, which go event by event together: their values alone differ.
 use Rattle.std.specs.Prelude.{◌≡◌, ℕ, ◌+◌, ◌*◌, ◌<◌, ◌≤◌, List, [], ◌∷◌, ◌++◌}
+use Rattle.limits.specs.declared.TheConstants.{LANES}
 use Rattle.logic_four.specs.declared.V4.{V4}
 use Rattle.lane_planes.specs.declared.planes.Planes.{Planes}
 use Rattle.lane_planes.specs.Lanes.{lane_of}
@@ -40,7 +41,7 @@ value_in view l p slot = image_value view.image (lane_stimulus view.image.column
 
 -- in each lane these are the values that this port has in this slot
 abbrev pub AreValuesOf : PlacedPack → ℕ → ℕ → Planes → Type 0
-AreValuesOf view p slot values = (l : ℕ) → l < 30 → lane_of values l ≡ value_in view l p slot
+AreValuesOf view p slot values = (l : ℕ) → l < LANES → lane_of values l ≡ value_in view l p slot
 
 -- its place, where it knows each port to have finished so many turns
 abbrev pub place_of : PlacedPack → List ℕ → Place
@@ -83,7 +84,7 @@ lane_action value pack.Done = Done
 
 -- this is its next event by what it knows, in each lane; there is one bank
 pub record IsNextOf (view : PlacedPack) (known : List ℕ) (action : PackAction) : Type 0 where
-  pub each : (l : ℕ) → l < 30 → (seat : PortImage) → IsPort view.image view.port seat
+  pub each : (l : ℕ) → l < LANES → (seat : PortImage) → IsPort view.image view.port seat
       → IsNext seat (place_of view known) 1 (last_turn view) (value_in view l view.port) (lane_action (value_in view l view.port) action)
 
 -- these are the values of what it sends next

@@ -1,6 +1,7 @@
 //! The kinds of packed port, behind one contract.
 
 ghost use Rattle.std.specs.Prelude.{◌≡◌, ◌<◌, ℕ, length, IfOk};
+ghost use Rattle.limits.specs.declared.TheConstants.{LANES};
 ghost use Rattle.lane_planes.specs.Lanes.{lane_of};
 ghost use Rattle.stim_text.specs.Lanes.{AreLanes};
 ghost use Rattle.image_defs.specs.WellFormed.{IsWellFormed};
@@ -106,7 +107,7 @@ impl<'a> Kind<'a> {
     /// Receives the values that are sent in a slot.
     #[inline]
     pub(crate) fn receive(&mut self, slot: u32, values: Planes)
-        requires { (l : ℕ) → l < 30 → CanReceive (lane_port l (view_in self.old)) slot (lane_of values l) }
+        requires { (l : ℕ) → l < LANES → CanReceive (lane_port l (view_in self.old)) slot (lane_of values l) }
         ensures view { view_in self.new ≡ after_receive (view_in self.old) }
         ensures kind { is_host self.new ≡ is_host self.old }
     {

@@ -1,5 +1,6 @@
 -- A packed crossbar and a packed pass as contracts see them, and what each call does.
 use Rattle.std.specs.Prelude.{◌≡◌, ◌≢◌, ℕ, ◌+◌, ◌<◌, ◌≤◌, false, List, Some, length, slice_get}
+use Rattle.limits.specs.declared.TheConstants.{LANES}
 use Rattle.lane_planes.specs.Lanes.{lane_of}
 use Rattle.lane_planes.specs.declared.planes.Planes.{Planes}
 use Rattle.stim_text.specs.declared.lanes.Lanes.{Lanes}
@@ -61,7 +62,7 @@ one_step pass place word number = record pass { place = place; steps = pass.step
 
 -- the planes have in each lane what the image has for the lane's stimulus in this turn, port and slot
 abbrev pub AreValues : Image → Lanes → ℕ → ℕ → ℕ → Planes → Type 0
-AreValues image lanes turn p slot planes = (l : ℕ) → l < 30 → lane_of planes l ≡ image_value image (stimulus_of image lanes l) turn p slot
+AreValues image lanes turn p slot planes = (l : ℕ) → l < LANES → lane_of planes l ≡ image_value image (stimulus_of image lanes l) turn p slot
 
 -- ---- making
 

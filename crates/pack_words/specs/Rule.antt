@@ -2,6 +2,7 @@
 -- bank, but for what the words of sends hold: each has the planes of all lanes in the turn of the last Put, which
 -- the sender's place gives, and beside them that turn's stamp alone.
 use Rattle.std.specs.Prelude.{◌≡◌, ℕ, ◌*◌, ◌<◌, ◌≤◌, List, length, map, None}
+use Rattle.limits.specs.declared.TheConstants.{LANES}
 use mathlib.Core.Option.{some}
 use lib.ListN.{get_elem?}
 use Rattle.lane_planes.specs.Lanes.{lane_of}
@@ -70,7 +71,7 @@ plain_view v = record {
 pub record HasPlanes (image : Image) (lanes : Lanes) (p slot turn word : ℕ) : Type 0 where
   pub planes : Planes
   pub is : word ≡ packed turn planes
-  pub values : (l : ℕ) → l < 30 → lane_of planes l ≡ image_value image (stimulus_of image lanes l) turn p slot
+  pub values : (l : ℕ) → l < LANES → lane_of planes l ≡ image_value image (stimulus_of image lanes l) turn p slot
 
 -- the word of a send that was put last in this turn, which is 0 before the first Put
 pub record IsSentIn (image : Image) (lanes : Lanes) (p slot turn word : ℕ) : Type 0 where

@@ -1,5 +1,6 @@
 -- What the rule implies: packed words are thirty crossbars of one bank that step together.
 use Rattle.std.specs.Prelude.{◌≡◌, ◌≢◌, ◌↔◌, ℕ, ◌+◌, ◌*◌, ◌<◌, ◌≤◌, List, length, Some}
+use Rattle.limits.specs.declared.TheConstants.{LANES}
 use mathlib.Core.Option.{some}
 use lib.ListN.{get_elem?}
 use Rattle.logic_four.specs.Values.{code_of}
@@ -21,7 +22,7 @@ use Rattle.pack_words.specs.Words.{packed}
 pub record ArePacked (turn word : ℕ) (plain : ℕ → ℕ) : Type 0 where
   pub planes : Planes
   pub is : word ≡ packed turn planes
-  pub lanes : (l : ℕ) → l < 30 → plain l ≡ 4 * turn + code_of (lane_of planes l)
+  pub lanes : (l : ℕ) → l < LANES → plain l ≡ 4 * turn + code_of (lane_of planes l)
 
 -- the word of a send that was put last in this turn, and the words that it has in the lanes: all are 0 before the
 -- first Put

@@ -6,7 +6,7 @@
 //! its readers took it, and what is taken is in each lane the image's value of this turn.
 //!
 //! The word of a send has in its four lower bits the turn modulo 16 in which it was put last, and above them
-//! the planes of 30 bits each. Since a reader is behind its sender by one turn at most, the turn modulo 16
+//! the planes of a bit a lane each. Since a reader is behind its sender by one turn at most, the turn modulo 16
 //! tells the two apart.
 //!
 //! To run an image on lanes, see `slot_words`: the calls are the same, and what they ask and promise is

@@ -4,6 +4,7 @@ ghost use Rattle.std.specs.Prelude.{◌≡◌};
 ghost use Rattle.pack_words.specs.Words.{IsReadIn, packed};
 
 use lane_planes::Planes;
+use limits::LANES;
 
 /// What a `take` found.
 #[derive(Clone, Copy, PartialEq, Eq)]
@@ -14,13 +15,13 @@ pub enum PackTaken {
     NotYet,
 }
 
-/// The word of planes in a turn: the turn modulo 16 in its four lower bits, and above them the planes of 30
-/// bits each, the lower one first.
+/// The word of planes in a turn: the turn modulo 16 in its four lower bits, and above them the planes of a
+/// bit a lane each, the lower one first.
 #[inline]
 pub fn packed_word(turn: u64, planes: Planes) -> u64
     ensures { result ≡ packed turn planes }
 {
-    turn % 16 + 16 * planes.low as u64 + (1 << 34) * planes.high as u64
+    turn % 16 + 16 * planes.low as u64 + (1 << (LANES + 4)) * planes.high as u64
 }
 
 /// What a word gives in a turn: its planes, if it has the stamp of this turn.
@@ -30,8 +31,8 @@ pub fn read_packed(word: u64, turn: u64) -> PackTaken
 {
     if word % 16 == turn % 16 {
         PackTaken::Value(Planes {
-            low: (word / 16 % (1 << 30)) as u32,
-            high: (word / (1 << 34)) as u32,
+            low: (word / 16 % (1 << LANES)) as u32,
+            high: (word / (1 << (LANES + 4))) as u32,
         })
     } else {
         PackTaken::NotYet

@@ -1,8 +1,7 @@
 -- The line that each refusal writes to the error sink.
 use Rattle.std.specs.Prelude.{ℕ, List, [], ◌∷◌, ◌++◌, Option, Some, None, slice_get, slice_index, codes, decimal}
 use Rattle.std.specs.List.{flat_map}
-use Rattle.limits.specs.declared.TheConstants.{MAX_CELLS, MAX_PORTS, MAX_TEXT_BYTES}
-use Rattle.refusal_lines.specs.declared.TheConstants.{MAX_FAULT_SIGNALS, MAX_PACK_BITS}
+use Rattle.limits.specs.declared.TheConstants.{LANES, MAX_CELLS, MAX_FAULT_SIGNALS, MAX_PACK_BITS, MAX_PORTS, MAX_TEXT_BYTES}
 use Rattle.bench_text.specs.declared.token.TextNo.{TextNo}
 use Rattle.bench_text.specs.declared.token.TextNo.TheVariants as text_no
 use Rattle.bench_read.specs.declared.refusal.Many.{Many}
@@ -158,10 +157,14 @@ stimulus_line (stim_no.Repeat line) = line_fault (codes "stimulus") line (codes 
 stimulus_line stim_no.TooManyCycles = cycles_line
 stimulus_line stim_no.Memory = memory_line
 
+-- a line that begins a lane where there are as many as may be
+unfoldable pub many_lanes_line : ℕ → List ℕ
+many_lanes_line line = joined (codes "stimulus: line " ∷ decimal line ∷ codes ": more than " ∷ decimal LANES ∷ codes " lanes\n" ∷ [])
+
 -- a fault of a text of lanes
 abbrev pub lanes_line : LaneNo → List ℕ
 lanes_line (lane_no.NoLane line) = line_fault (codes "stimulus") line (codes "no lane")
-lanes_line (lane_no.TooMany line) = line_fault (codes "stimulus") line (codes "more than 30 lanes")
+lanes_line (lane_no.TooMany line) = many_lanes_line line
 lanes_line (lane_no.Stim why) = stimulus_line why
 lanes_line lane_no.Memory = memory_line
 

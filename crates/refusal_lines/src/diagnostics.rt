@@ -16,10 +16,9 @@ use crate::lines::{write_memory_line, write_pieces};
 use crate::piece::write_piece;
 use crate::refusal::Refusal;
 use crate::status::Status;
-use crate::{MAX_FAULT_SIGNALS, MAX_PACK_BITS};
 use edge_io::{Sink, WriteNo};
 use itoa::Buffer;
-use limits::{MAX_CELLS, MAX_TEXT_BYTES};
+use limits::{MAX_CELLS, MAX_FAULT_SIGNALS, MAX_PACK_BITS, MAX_TEXT_BYTES};
 
 /// Writes the line of a refusal to `err`, and answers its status. A fault of `err` changes nothing.
 pub fn refuse<E: Sink>(err: &mut E, refusal: Refusal<'_>) -> Status

@@ -15,9 +15,3 @@ pub use refusal::{
     Refusal, of_image, of_lanes, of_list, of_machine, of_match, of_netlist, of_order, of_stimulus,
 };
 pub use status::Status;
-
-/// The most bits of all memories of a design whose lanes run at once: each lane has its own content.
-pub const MAX_PACK_BITS: u64 = 16_777_216;
-
-/// The most signals of a netlist whose stuck faults are listed.
-pub const MAX_FAULT_SIGNALS: u64 = 65_536;

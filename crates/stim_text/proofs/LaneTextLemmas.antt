@@ -11,7 +11,7 @@ use Rattle.std.proofs.lemmas.Option.{slice_get-get_or}
 use Rattle.std.proofs.lemmas.List.Splits.{slice_split-cons_no, length-slice_split}
 use Rattle.list_laws.proofs.Members.{all_back}
 use Rattle.list_laws.proofs.Places.{drop_here}
-use Rattle.limits.specs.declared.TheConstants.{MAX_CYCLES}
+use Rattle.limits.specs.declared.TheConstants.{LANES, MAX_CYCLES}
 use Rattle.text_lines.specs.Answers.{first}
 use Rattle.text_lines.specs.Lines.{parts_of}
 use Rattle.text_lines.proofs.AnswerLemmas.{first_none, none_below}
@@ -19,7 +19,6 @@ use Rattle.net_defs.specs.declared.stimulus.StimRow.{StimRow}
 use Rattle.net_defs.specs.declared.stimulus.Stimulus.{Stimulus}
 use Rattle.net_defs.specs.Valid.{IsValidStimulus}
 use Rattle.stim_text.specs.declared.lanes.Lanes.{Lanes}
-use Rattle.stim_text.specs.declared.lanes.TheConstants.{MAX_LANES}
 use Rattle.stim_text.specs.declared.refusal.LaneNo.{LaneNo}
 use Rattle.stim_text.specs.declared.refusal.LaneNo.TheVariants.{NoLane, TooMany, Stim}
 use Rattle.stim_text.specs.declared.refusal.StimNo.{StimNo}
@@ -35,7 +34,7 @@ use Rattle.stim_text.proofs.RowLemmas.{allowed_from_none, none_from_allowed, fit
 
 -- ---- one line
 
-fault_of_begin : (inputs lanes cycles line : ℕ) (part : List ℕ) → begins_lane part ≡ true → lane_fault inputs lanes cycles line part ≡ cond (ltb lanes MAX_LANES) None (Some (TooMany line))
+fault_of_begin : (inputs lanes cycles line : ℕ) (part : List ℕ) → begins_lane part ≡ true → lane_fault inputs lanes cycles line part ≡ cond (ltb lanes LANES) None (Some (TooMany line))
 unfolding lane_fault
 fault_of_begin inputs lanes cycles line part begins = cond-true _ _ _ begins
 
@@ -95,10 +94,10 @@ line_passes inputs line parts others part read =
 
 -- ---- what the parts of a text are
 
--- the lines before the first lane are blank, the lines of each lane are read, and there are at most 30 lanes
+-- the lines before the first lane are blank, the lines of each lane are read, and there are at most LANES lanes
 AreRead : ℕ → List (List (List ℕ)) → List (List ℕ) → Type 0
 AreRead inputs [] since = All IsBlank since
-AreRead inputs (before ∷ front) since = All IsBlank before × All (IsRead inputs) front × IsRead inputs since × (length front < MAX_LANES)
+AreRead inputs (before ∷ front) since = All IsBlank before × All (IsRead inputs) front × IsRead inputs since × (length front < LANES)
 
 pub none_if : (b : Bool) (e : LaneNo) → cond b None (Some e) ≡ None → b ≡ true
 none_if true e is = refl
@@ -200,11 +199,11 @@ some_cut parts (suc k) within =
     ])
 
 module _ (inputs line : ℕ) (parts before others : List (List ℕ)) (part : List ℕ) (whole : parts ≡ before ++ part ∷ others)
-    (blank : All IsBlank (lines_before parts)) (read : All (IsRead inputs) (lane_lines parts)) (few : lane_count parts ≤ MAX_LANES) where
+    (blank : All IsBlank (lines_before parts)) (read : All (IsRead inputs) (lane_lines parts)) (few : lane_count parts ≤ LANES) where
   begin_passes : (front : List (List (List ℕ))) (since : List (List ℕ)) → IsCut begins_lane before front since → begins_lane part ≡ true → lane_fault inputs (length front) (cycles_of (rows_of since)) line part ≡ None
   begin_passes front since cut cuts =
       fault_of_begin inputs (length front) (cycles_of (rows_of since)) line part cuts
-      ∙ cond-true _ _ _ (lt-ltb (length front) MAX_LANES (omega (
+      ∙ cond-true _ _ _ (lt-ltb (length front) LANES (omega (
         arith,
         few,
         ap lane_count whole,

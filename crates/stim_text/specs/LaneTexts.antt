@@ -2,12 +2,12 @@
 use Rattle.std.specs.Prelude.{◌≡◌, ℕ, ◌+◌, ◌≤◌, ◌==◌, Bool, false, List, [], length, take, drop, map, codes, bytes_eq, slice_index_or, Option, Some, None, if◌then◌else◌, nat_lt, All, IsTrue, count_by}
 use Rattle.std.specs.List.{slice_split, after_last}
 use Rattle.std.specs.Option.{option_map}
+use Rattle.limits.specs.declared.TheConstants.{LANES}
 use Rattle.text_lines.specs.Answers.{first}
 use Rattle.text_lines.specs.Lines.{parts_of}
 use Rattle.text_lines.specs.Words.{words_of}
 use Rattle.net_defs.specs.declared.stimulus.Stimulus.{Stimulus}
 use Rattle.stim_text.specs.declared.lanes.Lanes.{Lanes}
-use Rattle.stim_text.specs.declared.lanes.TheConstants.{MAX_LANES}
 use Rattle.stim_text.specs.declared.refusal.LaneNo.{LaneNo}
 use Rattle.stim_text.specs.declared.refusal.LaneNo.TheVariants.{NoLane, TooMany, Stim}
 use Rattle.stim_text.specs.Repeats.{is_blank_part, only_word}
@@ -47,12 +47,12 @@ abbrev pub stimulus_of : ℕ → List (List ℕ) → Stimulus
 stimulus_of inputs parts = record { columns = inputs; rows = rows_of parts }
 
 -- The text reads as the lanes: no row stands before the first lane, the lanes are what the lines of each
--- make, those read as a stimulus for so many inputs, and there are at most 30 lanes.
+-- make, those read as a stimulus for so many inputs, and there are at most LANES lanes.
 pub record ReadsAsLanes (inputs : ℕ) (text : List ℕ) (lanes : Lanes) : Type 0 where
   pub before : All (λ part. IsTrue (is_blank_part part)) (lines_before (parts_of text))
   pub lanes_are : lanes.lanes ≡ map (stimulus_of inputs) (lane_lines (parts_of text))
   pub each : All (λ parts. LinesRead inputs parts (stimulus_of inputs parts)) (lane_lines (parts_of text))
-  pub few : lane_count (parts_of text) ≤ MAX_LANES
+  pub few : lane_count (parts_of text) ≤ LANES
 
 -- ---- the first fault
 
@@ -60,7 +60,7 @@ pub record ReadsAsLanes (inputs : ℕ) (text : List ℕ) (lanes : Lanes) : Type 
 -- many cycles
 unfoldable pub lane_fault : ℕ → ℕ → ℕ → ℕ → List ℕ → Option LaneNo
 lane_fault inputs lanes cycles line part =
-    if begins_lane part then (if nat_lt lanes MAX_LANES then None else Some (TooMany line))
+    if begins_lane part then (if nat_lt lanes LANES then None else Some (TooMany line))
     else if lanes == 0 then (if is_blank_part part then None else Some (NoLane line))
     else option_map Stim (fault_of inputs cycles line part)
 

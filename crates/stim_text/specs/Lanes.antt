@@ -2,17 +2,17 @@
 -- from 0.
 use Rattle.std.specs.Prelude.{◌≡◌, ℕ, zero, suc, ◌-◌, ◌≤◌, max, List, [], ◌∷◌, ◌++◌, length, replicate, Some, slice_get, unwrap_or}
 use Rattle.std.specs.List.{fold}
+use Rattle.limits.specs.declared.TheConstants.{LANES}
 use Rattle.logic_four.specs.declared.V4.TheVariants.{Undef}
 use Rattle.net_defs.specs.declared.stimulus.StimRow.{StimRow}
 use Rattle.net_defs.specs.declared.stimulus.Stimulus.{Stimulus}
 use Rattle.net_defs.specs.Time.{cycle_count}
 use Rattle.net_defs.specs.Valid.{IsValidStimulus}
 use Rattle.stim_text.specs.declared.lanes.Lanes.{Lanes}
-use Rattle.stim_text.specs.declared.lanes.TheConstants.{MAX_LANES}
 
--- lanes for so many inputs: at most 30, each with a valid stimulus of so many columns
+-- lanes for so many inputs: at most LANES, each with a valid stimulus of so many columns
 pub record AreLanes (columns : ℕ) (lanes : Lanes) : Type 0 where
-  pub few : length lanes.lanes ≤ MAX_LANES
+  pub few : length lanes.lanes ≤ LANES
   pub valid : (l : ℕ) (stimulus : Stimulus) → slice_get lanes.lanes l ≡ Some stimulus → IsValidStimulus stimulus
   pub wide : (l : ℕ) (stimulus : Stimulus) → slice_get lanes.lanes l ≡ Some stimulus → stimulus.columns ≡ columns
 

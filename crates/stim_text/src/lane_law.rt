@@ -19,7 +19,7 @@ pub fn reads_as_one()
         → ReadsAsLanes inputs text lanes → first_lanes_fault inputs text ≡ None }
 {}
 
-/// What a text reads as is lanes: at most 30, each with a valid stimulus.
+/// What a text reads as is lanes: at most `LANES`, each with a valid stimulus.
 pub fn reads_as_lanes()
     ensures { (inputs : ℕ) (text : Items ℕ) (lanes : Lanes) → ReadsAsLanes inputs text lanes → AreLanes inputs lanes }
 {}

@@ -12,11 +12,10 @@ ghost use Rattle.stim_text.specs.Rows.{row_of, fault_of};
 ghost use Rattle.stim_text.specs.LaneTexts.{begins_lane, lane_fault};
 ghost use Rattle.stim_text.specs.code.LaneTexts.{lane_line_of, row_line, times_in};
 
-use crate::lanes::MAX_LANES;
 use crate::refusal::{LaneNo, StimNo};
 use crate::repeat::{is_blank_part, only_word};
 use crate::row::read_row;
-use limits::MAX_CYCLES;
+use limits::{LANES, MAX_CYCLES};
 use net_defs::StimRow;
 use std::alloc::Global;
 
@@ -56,9 +55,9 @@ pub fn read_line(
 
 /// A line that begins a lane after so many.
 fn begin(lanes: usize, line: u32) -> Result<LaneLine, LaneNo>
-    ensures { result ≡ fault_or (if nat_lt lanes MAX_LANES then None else Some (TooMany line)) lane_line.Begins }
+    ensures { result ≡ fault_or (if nat_lt lanes LANES then None else Some (TooMany line)) lane_line.Begins }
 {
-    if lanes < MAX_LANES {
+    if lanes < LANES {
         Ok(LaneLine::Begins)
     } else {
         Err(LaneNo::TooMany { line })

@@ -29,7 +29,7 @@ pub fn read_lanes(alloc: Global, bytes: &[u8], inputs: u32) -> Result<Lanes, Lan
     // What is read is what the text reads as, a refusal is the first fault, or memory ran out.
     ensures answers { Answers NoMemory result (first_lanes_fault inputs bytes.now) (ReadsAsLanes inputs bytes.now) }
 
-    // What is read is at most 30 lanes, each with a valid stimulus for these inputs.
+    // What is read is at most `LANES` lanes, each with a valid stimulus for these inputs.
     ensures lanes { IfOk result (AreLanes inputs) }
 
     // The fault of a lane's line is never that of the memory.

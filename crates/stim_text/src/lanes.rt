@@ -8,10 +8,7 @@ ghost use Rattle.stim_text.specs.Lanes.{longest};
 use net_defs::Stimulus;
 use seen_list::List;
 
-/// The most lanes.
-pub const MAX_LANES: usize = 30;
-
-/// The stimuli of so many lanes, which are counted from 0. All have the same columns.
+/// The stimuli of so many lanes, at most `LANES` of them, counted from 0. All have the same columns.
 #[derive(Drop)]
 pub struct Lanes {
     pub lanes: List<Stimulus>,

@@ -13,7 +13,7 @@
 //!
 //! Text of lanes: a line that has outside its comment the word `lane` alone, with blanks around, begins
 //! a lane, and the lines from there to the next such line are a stimulus text. Before the first lane
-//! each line is blank outside its comment. There are at most 30 lanes, each with cycles of its own.
+//! each line is blank outside its comment. There are at most `LANES` lanes, each with cycles of its own.
 //!
 //! All three formats are this project's profile.
 #![tactic(auto)]
@@ -33,7 +33,7 @@ mod repeat;
 mod row;
 
 pub use lane_reading::read_lanes;
-pub use lanes::{Lanes, MAX_LANES};
+pub use lanes::Lanes;
 pub use order::{Order, OrderLine};
 pub use order_reading::read_order;
 pub use reading::read_stim;

@@ -35,7 +35,7 @@ impl From<Memory> for StimNo {
 pub enum LaneNo {
     /// The line is not blank, and no lane has begun.
     NoLane { line: u32 },
-    /// The line begins a lane where 30 have begun.
+    /// The line begins a lane where `LANES` have begun.
     TooMany { line: u32 },
     /// A line of a lane has this fault, which is never that of the memory. The cycles are those of
     /// the lane.

@@ -1,5 +1,6 @@
 -- Many runs side by side: the good design in lane 0, and a fault in each further lane.
 use Rattle.std.specs.Prelude.{◌≡◌, ℕ, zero, suc, ◌+◌, ◌<◌, ◌≤◌, ◌==◌, if◌then◌else◌, List, [], length, Option, Some, None, slice_get, slice_index_or}
+use Rattle.limits.specs.declared.TheConstants.{LANES}
 use Rattle.logic_four.specs.declared.V4.{V4}
 use Rattle.logic_four.specs.declared.V4.TheVariants.{Undef}
 use Rattle.lane_planes.specs.declared.planes.Planes.{Planes}
@@ -52,7 +53,7 @@ pub record AreForces (net : Netlist) (faults : List Fault) (forces : List Planes
 -- nothing is stuck in any lane
 pub record AreFree (count : ℕ) (forces : List Planes) : Type 0 where
   pub signals : length forces ≡ count
-  pub each : (l : ℕ) → l < 30 → (s : ℕ) → value_at (lane_row l forces) s ≡ Undef
+  pub each : (l : ℕ) → l < LANES → (s : ℕ) → value_at (lane_row l forces) s ≡ Undef
 
 -- the inputs of a turn
 abbrev pub HasInputs : Timing → Stimulus → ℕ → List V4 → Type 0

@@ -1,5 +1,6 @@
 -- Beside specs/Acts.antt, what only private functions and proofs cite.
 use Rattle.std.specs.Prelude.{◌≡◌, ℕ, ◌<◌, ◌≤◌, List, length, Some, slice_get}
+use Rattle.limits.specs.declared.TheConstants.{LANES}
 use Rattle.logic_four.specs.declared.V4.{V4}
 use Rattle.logic_four.specs.Memory.{initial_words}
 use Rattle.image_defs.specs.declared.image.BlockWork.{BlockWork}
@@ -12,7 +13,7 @@ use Rattle.pack_array.specs.Acts.{lane_memory, lane_memories, IsWhole}
 -- in every lane it is a memory before the first edge, with v in every bit
 pub record IsFirst (v : V4) (block : BlockWork) (memory : PackMemory) : Type 0 where
   pub whole : IsWhole block memory
-  pub words : (l : ℕ) → l < 30 → (lane_memory l memory).cells ≡ initial_words (length block.address) (length block.word) v
+  pub words : (l : ℕ) → l < LANES → (lane_memory l memory).cells ≡ initial_words (length block.address) (length block.word) v
 
 -- this lane's words and answers stayed
 pub record Stays (l : ℕ) (old new : PackMemory) : Type 0 where
@@ -23,11 +24,11 @@ pub record Stays (l : ℕ) (old new : PackMemory) : Type 0 where
 -- stayed
 pub record HasActed (view : PackPortView) (block : BlockWork) (n : ℕ) (old new : PackMemory) : Type 0 where
   pub acted : (l : ℕ) → l < n → Acted (lane_port l view) block (lane_memory l old) (lane_memory l new)
-  pub rest : (l : ℕ) → n ≤ l → l < 30 → (lane_memory l new).cells ≡ (lane_memory l old).cells
+  pub rest : (l : ℕ) → n ≤ l → l < LANES → (lane_memory l new).cells ≡ (lane_memory l old).cells
 
 -- all that the memories read is of the last turn
 abbrev pub ReadPast : PackPortView → List BlockWork → Type 0
-ReadPast view blocks = (l : ℕ) → l < 30 → Each (ReadsPast (lane_port l view)) blocks
+ReadPast view blocks = (l : ℕ) → l < LANES → Each (ReadsPast (lane_port l view)) blocks
 
 pub record AreFirst (v : V4) (blocks : List BlockWork) (memories : List PackMemory) : Type 0 where
   pub long : length memories ≡ length blocks
@@ -36,4 +37,4 @@ pub record AreFirst (v : V4) (blocks : List BlockWork) (memories : List PackMemo
 -- in each lane the first n went through an edge, and the others stayed
 abbrev pub HaveActed : PackPortView → List BlockWork → ℕ → List PackMemory → List PackMemory → Type 0
 HaveActed view blocks n old new =
-    (l : ℕ) → l < 30 → AreActed (lane_port l view) blocks n (lane_memories l old) (lane_memories l new)
+    (l : ℕ) → l < LANES → AreActed (lane_port l view) blocks n (lane_memories l old) (lane_memories l new)

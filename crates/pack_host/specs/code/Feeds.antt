@@ -1,5 +1,6 @@
 -- What the inputs have in each lane, cycle by cycle.
 use Rattle.std.specs.Prelude.{◌≡◌, ℕ, ◌+◌, ◌<◌, ◌≤◌, List, [], length, Some, slice_get, slice_index_or}
+use Rattle.limits.specs.declared.TheConstants.{LANES}
 use Rattle.logic_four.specs.declared.V4.{V4}
 use Rattle.logic_four.specs.Values.{value_at}
 use Rattle.net_defs.specs.declared.stimulus.Stimulus.{Stimulus}
@@ -42,7 +43,7 @@ fed columns lanes n column l = value_at (slice_index_or (cycle_rows (own_stimulu
 
 -- in each lane these planes have it
 abbrev pub IsFed : ℕ → Lanes → ℕ → ℕ → Planes → Type 0
-IsFed columns lanes n column planes = (l : ℕ) → l < 30 → lane_of planes l ≡ fed columns lanes n column l
+IsFed columns lanes n column planes = (l : ℕ) → l < LANES → lane_of planes l ≡ fed columns lanes n column l
 
 -- the first so many of these columns have it
 abbrev pub AreFed : ℕ → Lanes → ℕ → ℕ → List Planes → Type 0

@@ -2,12 +2,13 @@
 
 ghost use Rattle.std.specs.Prelude.{◌<◌};
 ghost use Rattle.edge_io.specs.Writing.{Takes};
-ghost use Rattle.refusal_lines.specs.Lines.{cycles_line, lanes_line, stimulus_line, width_line};
+ghost use Rattle.refusal_lines.specs.Lines.{cycles_line, lanes_line, many_lanes_line, stimulus_line, width_line};
 
 use crate::lines::{write_line_fault, write_memory_line, write_pieces};
 use crate::piece::write_piece;
 use edge_io::{Sink, WriteNo};
 use itoa::Buffer;
+use limits::LANES;
 use stim_text::{LaneNo, StimNo};
 
 /// Writes the line of a stimulus that is refused.
@@ -62,13 +63,22 @@ pub fn write_lanes_line<S: Sink>(sink: &mut S, no: &LaneNo) -> Result<(), WriteN
 {
     match no {
         LaneNo::NoLane { line } => write_line_fault(sink, b"stimulus", *line, b"no lane"),
-        LaneNo::TooMany { line } => write_line_fault(
-            sink,
-            b"stimulus",
-            *line,
-            b"more than 30 lanes",
-        ),
+        LaneNo::TooMany { line } => write_many_lanes_line(sink, *line),
         LaneNo::Stim(no) => write_stimulus_line(sink, no),
         LaneNo::Memory => write_memory_line(sink),
     }
+}
+
+#[tactic(auto, unfolding(crate::specs::Lines::many_lanes_line))]
+fn write_many_lanes_line<S: Sink>(sink: &mut S, line: u32) -> Result<(), WriteNo>
+    ensures { Takes (S.taken sink.old) (S.taken sink.new) (S.faults sink.old) (S.faults sink.new)
+        result (many_lanes_line line) }
+{
+    let (mut first, mut second) = (Buffer::new(), Buffer::new());
+    let line = first.format(line).as_bytes();
+    let most = second.format(LANES).as_bytes();
+    write_pieces(
+        sink,
+        &[b"stimulus: line ", line, b": more than ", most, b" lanes\n"],
+    )
 }

@@ -1,4 +1,5 @@
 use Rattle.std.proofs.Common.{◌≡◌, ◌<◌, ◌≤◌, ℕ, length}
+use Rattle.limits.specs.declared.TheConstants.{LANES}
 use Rattle.logic_four.specs.declared.V4.TheVariants.{Undef}
 use Rattle.lane_planes.specs.Lanes.{lane_row}
 use Rattle.net_defs.specs.Time.{value_at}
@@ -9,5 +10,5 @@ abbrev pub invariant-faults : goal.invariant-faults
 invariant-faults l = record {
   signals : length l.forces ≡ length l.net.signals;
   each : (j : ℕ) → j ≤ l.k → (s : ℕ) → value_at (lane_row j l.forces) s ≡ force_at l.faults j s;
-  left : (j : ℕ) → l.k < j → j < 30 → (s : ℕ) → value_at (lane_row j l.forces) s ≡ Undef;
+  left : (j : ℕ) → l.k < j → j < LANES → (s : ℕ) → value_at (lane_row j l.forces) s ≡ Undef;
 }

@@ -1,4 +1,5 @@
 use Rattle.std.proofs.Common.{◌<◌, ◌∙◌, arith}
+use Rattle.limits.specs.declared.TheConstants.{LANES}
 use Rattle.lane_planes.proofs.WordLemmas.{high_word}
 use Rattle.lane_planes.proofs.LaneLemmas.{lane_is}
 use Rattle.lane_planes.proofs.FormulaLemmas.{mask_word, turned_bits, turned_low}
@@ -6,7 +7,7 @@ use Rattle.lane_planes.proofs.formula.turned.Goals as goal
 
 pub invariant_of-result : goal.invariant_of-result
 invariant_of-result c =
-    let here : 0 < 30 = omega arith in
+    let here : 0 < LANES = omega arith in
     let mask = mask_word c.args.inverts c.mask_of-mask.result here c.mask_of-mask.ensures in
     record { low_small = (turned_low here c.args.p c.args.p _ _ mask).small; high_small = (high_word c.args.p 0).small }
 

@@ -1,9 +1,10 @@
 use Rattle.std.proofs.Common.{◌≡◌, ◌<◌, ℕ, take}
 use Rattle.std.specs.List.{fold}
+use Rattle.limits.specs.declared.TheConstants.{LANES}
 use Rattle.lane_planes.specs.Lanes.{lane_of, lane_row}
 use Rattle.lane_planes.specs.Joins.{join_of}
 use Rattle.lane_planes.proofs.gates.joined_all.Given as goal
 
 abbrev pub invariant-others : goal.invariant-others
 invariant-others l =
-    (k : ℕ) → k < 30 → lane_of l.base k ≡ fold (join_of l.kind) (lane_of l.fn.so_far k) (lane_row k (take l.p-index l.others))
+    (k : ℕ) → k < LANES → lane_of l.base k ≡ fold (join_of l.kind) (lane_of l.fn.so_far k) (lane_row k (take l.p-index l.others))

@@ -1,5 +1,6 @@
 use Rattle.std.proofs.Common.{◌<◌, ◌-◌, ◌∙◌, refl, arith}
 use Rattle.std.specs.Prelude.{min, max, ◌∷◌, []}
+use Rattle.limits.specs.declared.TheConstants.{LANES}
 use Rattle.logic_four.specs.Gates.{and_value}
 use Rattle.lane_planes.proofs.WordLemmas.{low_word, high_word, both, either, apart}
 use Rattle.lane_planes.proofs.LaneLemmas.{bits, lane_is, in_lanes}
@@ -7,7 +8,7 @@ use Rattle.lane_planes.proofs.pairs.and_two.Goals as goal
 
 pub invariant_of-result : goal.invariant_of-result
 invariant_of-result c =
-    let here : 0 < 30 = omega arith in
+    let here : 0 < LANES = omega arith in
     record { low_small = (apart here (both (low_word c.args.p 0) (low_word c.args.q 0)) (either (high_word c.args.p 0) (high_word c.args.q 0))).small; high_small = (apart here (both (either (low_word c.args.p 0) (high_word c.args.p 0)) (either (low_word c.args.q 0) (high_word c.args.q 0))) (apart here (both (low_word c.args.p 0) (low_word c.args.q 0)) (either (high_word c.args.p 0) (high_word c.args.q 0)))).small }
 
 pub returns : goal.returns

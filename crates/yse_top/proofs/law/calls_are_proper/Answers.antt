@@ -2,7 +2,7 @@
 use Rattle.std.proofs.Common.{◌≡◌, ◌∙◌, ◌↔◌, ◌⊎◌, inl, inr, ◌≢◌, ◌≤◌, sym, ap, refl, subst, ℕ, Bool, true, false, List, [], ◌∷◌, ◌++◌, length, Option, Some, None, Ok, Err, arith}
 use Rattle.std.specs.Option.{option_to_list}
 use Rattle.std.proofs.lemmas.List.{append-nil}
-use Rattle.limits.specs.declared.TheConstants.{MAX_CELLS, MAX_LARGE_GATES, MAX_TEXT_BYTES}
+use Rattle.limits.specs.declared.TheConstants.{MAX_CELLS, MAX_FAULT_SIGNALS, MAX_LARGE_GATES, MAX_PACK_BITS, MAX_TEXT_BYTES}
 use Rattle.machine_text.specs.declared.machine.Machine.{Machine}
 use Rattle.machine_text.specs.Machines as machine_text
 use Rattle.machine_text.specs.Machines.{IsValid as IsValidMachine, default_machine, ports_of}
@@ -43,7 +43,6 @@ use Rattle.stim_text.specs.declared.lanes.Lanes.{Lanes}
 use Rattle.edge_io.specs.Writing.{joined}
 use Rattle.fault_lines.specs.Lines.{fault_lines}
 use Rattle.fault_sim.specs.Verdicts.{HasOneList, HaveOneList}
-use Rattle.refusal_lines.specs.declared.TheConstants.{MAX_FAULT_SIGNALS, MAX_PACK_BITS}
 use Rattle.named_files.specs.Checks.{After, Ends, Writes, IsLanesOf, HasFewBits, HasFewLaneCells, HasFewSignals, cell_count, lane_cell_count, memory_bits, IsMachineOf, IsNetlistOf, HasNoLoop, HasRoom, IsStimulusOf, HasFewCells, IsListOf, IsOrderOf, listing}
 use Rattle.cmd_words.specs.Forms.{HasForm, IsInRange}
 use Rattle.refusal_lines.specs.declared.status.Status.{Status}

@@ -1,4 +1,5 @@
 use Rattle.std.proofs.Common.{◌≡◌, ℕ, ◌<◌, subst, sym, arith}
+use Rattle.limits.specs.declared.TheConstants.{LANES}
 use Rattle.lane_planes.specs.Lanes.{lane_of}
 use Rattle.image_defs.specs.Ports.{CanExecute, value_in}
 use Rattle.pack_bank.specs.Banks.{view_of}
@@ -14,6 +15,6 @@ overflow_add-self c =
 pub invariant_of-self : goal.invariant_of-self
 invariant_of-self c =
     let can : InEachLane (λ view. CanExecute view c.args.slot) (view_of c.self.inside) = subst (InEachLane (λ view. CanExecute view c.args.slot)) (sym c.self.view_is) c.requires.can in
-    let value : (l : ℕ) → l < 30 → lane_of c.args.v l ≡ value_in (lane_port l (view_of c.self.inside)) c.args.slot =
-    subst (λ (view : PackPortView). (l : ℕ) → l < 30 → lane_of c.args.v l ≡ value_in (lane_port l view) c.args.slot) (sym c.self.view_is) c.requires.value in
+    let value : (l : ℕ) → l < LANES → lane_of c.args.v l ≡ value_in (lane_port l (view_of c.self.inside)) c.args.slot =
+    subst (λ (view : PackPortView). (l : ℕ) → l < LANES → lane_of c.args.v l ≡ value_in (lane_port l view) c.args.slot) (sym c.self.view_is) c.requires.value in
     kept_executed c.self.inside c.args.slot c.args.v c.set.new.self c.self.invariant can value c.set.ensures.count c.set.ensures.lanes

@@ -1,4 +1,5 @@
 use Rattle.std.proofs.Common.{◌≡◌, ℕ, ◌<◌, refl, subst, sym}
+use Rattle.limits.specs.declared.TheConstants.{LANES}
 use Rattle.lane_planes.specs.Lanes.{lane_of}
 use Rattle.image_defs.specs.Ports.{CanExecute, value_in}
 use Rattle.pack_bank.specs.Views.{PackPortView, lane_port, InEachLane}
@@ -21,5 +22,5 @@ pub returns-clause-value : goal.returns-clause-value
 returns-clause-value c =
     let a = c.self.inside in
     let can : InEachLane (λ view. CanExecute view c.args.slot) a.bank = subst (InEachLane (λ view. CanExecute view c.args.slot)) (sym c.self.view_is) c.requires in
-    subst (λ (view : PackPortView). (l : ℕ) → l < 30 → lane_of c.answer-value.result l ≡ value_in (lane_port l view) c.args.slot) c.self.view_is
+    subst (λ (view : PackPortView). (l : ℕ) → l < LANES → lane_of c.answer-value.result l ≡ value_in (lane_port l view) c.args.slot) c.self.view_is
     (next_answers a c.args.slot _ _ c.answer-value.result c.self.invariant can refl (rw (c.as_slice.ensures, c.executed.ensures) at c.answer-value.ensures))
