@@ -6,7 +6,10 @@ ghost use Rattle.cmd_words.specs.Settings.{count_of, count_or, mode_of, init_of,
 
 use crate::parsing::value;
 use clap::ArgMatches;
-use limits::{DEFAULT_BANKS, DEFAULT_UNITS, DEFAULT_WORKERS, MAX_BANKS, MAX_LARGE_CYCLES, MAX_LARGE_GATES, MAX_UNITS, MAX_WORKERS};
+use limits::{
+    DEFAULT_BANKS, DEFAULT_UNITS, DEFAULT_WORKERS, MAX_BANKS, MAX_LARGE_CYCLES, MAX_LARGE_GATES,
+    MAX_UNITS, MAX_WORKERS,
+};
 use net_defs::{HomeChoice, Init, Mode, Timing};
 use std::alloc::Global;
 use text_lines::numbers::number_within;
