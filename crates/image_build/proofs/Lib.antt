@@ -1,9 +1,10 @@
 pub mod BuiltLemmas
 mod ClaimLemmas
 pub mod GrowLemmas
-pub mod ItemLemmas
+mod ItemLemmas
 mod LinkLemmas
 mod MemberLemmas
+pub mod MemoryExists
 pub mod MemoryLemmas
 pub mod OneImage
 mod OrderLemmas
