@@ -1,12 +1,16 @@
-mod BuiltLemmas
+pub mod BuiltLemmas
 mod ClaimLemmas
-mod GrowLemmas
+pub mod GrowLemmas
 mod ItemLemmas
 mod LinkLemmas
 mod MemberLemmas
-mod MemoryLemmas
-mod PlannedLemmas
-mod PortLemmas
+pub mod MemoryExists
+pub mod MemoryLemmas
+pub mod OneImage
+mod OrderLemmas
+pub mod PlacedLemmas
+pub mod PlannedLemmas
+pub mod PortLemmas
 mod SourceLemmas
-mod TaskLemmas
+pub mod TaskLemmas
 mod WorkLemmas

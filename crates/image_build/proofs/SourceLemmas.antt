@@ -39,10 +39,10 @@ use Rattle.image_build.proofs.ClaimLemmas.{port_low, claimed, item_there}
 
 -- ---- where a source is from
 
-own_source : (homes : Homes) (slots : List ℕ) (p o : ℕ) (last : Bool) → home_of homes o ≡ p → source_of homes slots p o last ≡ Own (slot_of slots o) last
+pub own_source : (homes : Homes) (slots : List ℕ) (p o : ℕ) (last : Bool) → home_of homes o ≡ p → source_of homes slots p o last ≡ Own (slot_of slots o) last
 own_source homes slots p o last same = rw (eq-eqb (home_of homes o) p same) refl
 
-got_source : (homes : Homes) (slots : List ℕ) (p o : ℕ) (last : Bool) → home_of homes o ≢ p → source_of homes slots p o last ≡ Got (slot_of slots o) last
+pub got_source : (homes : Homes) (slots : List ℕ) (p o : ℕ) (last : Bool) → home_of homes o ≢ p → source_of homes slots p o last ≡ Got (slot_of slots o) last
 got_source homes slots p o last other = rw (ne_eqb (home_of homes o) p other) refl
 
 -- what it takes of this turn stands before, where its item's slot does

@@ -44,12 +44,12 @@ use Rattle.image_build.proofs.ClaimLemmas.{port_low, claim_at}
 use Rattle.image_build.proofs.SourceLemmas.{early, feed_right, past_right, present_right}
 
 -- the task that looks the node's operands up in table n
-abbrev eval_for : Homes → List ℕ → ℕ → ℕ → ℕ → Feeds → Task
+abbrev pub eval_for : Homes → List ℕ → ℕ → ℕ → ℕ → Feeds → Task
 eval_for homes slots p x n feeds =
     Eval (slot_of slots x) n (feed_source homes slots p feeds.a) (feed_source homes slots p feeds.b) (feed_source homes slots p feeds.c) (feed_source homes slots p feeds.d)
 
 -- the sources from which port p takes items of the last turn
-abbrev pasts : Homes → List ℕ → ℕ → List ℕ → List Source
+abbrev pub pasts : Homes → List ℕ → ℕ → List ℕ → List Source
 pasts homes slots p items = map (λ o. source_of homes slots p o true) items
 
 -- a task names what is there, and does what the item does

@@ -42,7 +42,7 @@ value_known v w =
     known_same (code_of v ≡ code_of w) (v ≡ w) (λ same. sym (value_of-code_of v) ∙ ap value_of same ∙ value_of-code_of w) (λ same. ap code_of same)
     (cases_eq (code_of v) (code_of w))
 
-alike_known : (one other : Table) → IsKnown (AreAlike one other)
+pub alike_known : (one other : Table) → IsKnown (AreAlike one other)
 alike_known one other = known_all (λ e. entry_of one e ≡ entry_of other e) (λ e. value_known (entry_of one e) (entry_of other e)) 256
 
 module _ (image : Image) (claims : List (List ℕ)) (nodes : NodeNet) where

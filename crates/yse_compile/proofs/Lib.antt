@@ -1,12 +1,15 @@
 pub mod ChoiceLemmas
 pub mod ClaimLemmas
+pub mod DesignExists
 pub mod FitLemmas
 pub mod HousedLemmas
+pub mod ImageExists
 pub mod InputLemmas
 pub mod KnownLemmas
 pub mod KnownUses
 pub mod LinkLemmas
 pub mod NodeLemmas
+pub mod OneImage
 pub mod OneNone
 pub mod OneRefusal
 pub mod PlanExists

@@ -1,7 +1,11 @@
 //! Laws of designs and machines: functions that do nothing, whose clauses hold of all of them.
 
-ghost use Rattle.std.specs.Prelude.{◌≡◌, ◌⊎◌, ℕ};
+ghost use Rattle.std.specs.Prelude.{◌≡◌, ◌⊎◌, ℕ, All};
 ghost use Rattle.event_defs.specs.Linked.{AreLinkedAlike};
+ghost use Rattle.image_build.specs.Built.{IsBuilt};
+ghost use Rattle.image_build.specs.Plans.{IsPlanned};
+ghost use Rattle.image_check.specs.declared.file.Claims.{Claims};
+ghost use Rattle.image_defs.specs.declared.image.Image.{Image};
 ghost use Rattle.machine_text.specs.declared.machine.Machine.{Machine};
 ghost use Rattle.machine_text.specs.Machines.{IsValid as IsValidMachine};
 ghost use Rattle.home_better.specs.Better.{IsBetter};
@@ -9,10 +13,11 @@ ghost use Rattle.home_better.specs.Crossings.{crossings};
 ghost use Rattle.net_defs.specs.declared.homes.HomeChoice.{HomeChoice};
 ghost use Rattle.net_defs.specs.declared.netlist.Netlist.{Netlist};
 ghost use Rattle.net_defs.specs.declared.timing.Timing.{Timing};
-ghost use Rattle.net_defs.specs.Valid.{IsValid};
+ghost use Rattle.net_defs.specs.Valid.{IsValid, IsValidTiming};
 ghost use Rattle.node_defs.specs.declared.items.NodeNet.{NodeNet};
 ghost use Rattle.node_defs.specs.Order.{AreItems};
 ghost use Rattle.node_defs.specs.WellFormed.{IsWellFormed};
+ghost use Rattle.node_map.specs.Words.{HasWords};
 ghost use Rattle.plan_defs.specs.declared.plan.Homes.{Homes};
 ghost use Rattle.plan_defs.specs.declared.plan.Plan.{Plan};
 ghost use Rattle.plan_defs.specs.declared.switch.Switch.{Switch};
@@ -22,6 +27,7 @@ ghost use Rattle.plan_defs.specs.Slots.{IsFirstFitPlan};
 ghost use Rattle.plan_defs.specs.Switches.{IsSwitch};
 ghost use Rattle.plan_defs.specs.Tables.{UsesTables};
 ghost use Rattle.slot_plan.specs.Refusals.{IsCrowded, IsLong};
+ghost use Rattle.yse_compile.specs.Claims.{AreClaimsOf};
 ghost use Rattle.yse_compile.specs.Chosen.{FitsBy, FitsEither, HomesFit, IsChosen, IsDesign, IsUsed};
 ghost use Rattle.yse_compile.specs.declared.choose.Chosen.{Chosen};
 ghost use Rattle.yse_compile.specs.declared.compiler.CompNo.{CompNo};
@@ -30,6 +36,7 @@ ghost use Rattle.yse_compile.specs.Compiled.{IsCompiled, IsRight, IsOverfull};
 ghost use Rattle.yse_compile.specs.Designs.{IsAcyclic, DesignFits};
 ghost use Rattle.yse_compile.specs.Designs.{LacksBits, LacksNodes, LacksSlots, LacksFunctions};
 
+use crate::inputs::same_inputs;
 use home_better::law::{one_better, some_better};
 use home_pick::law::{housed_or_refused, one_housing};
 use node_defs::law::one_list;
@@ -376,4 +383,47 @@ pub fn one_linking_chosen()
     one_choice();
     items_are_well_formed();
     one_plan();
+}
+
+/// A law: for items at their homes in their first-fit plan, with the switch's settings for them, there is an image
+/// that is built of them, and the claims of its places. It does nothing.
+pub fn images_exist()
+    ensures { (nodes : NodeNet) (homes : Homes) (plan : Plan) (switch : Switch) (timing : Timing)
+        → IsPlanned nodes homes plan → All HasWords nodes.tables → IsSwitch nodes homes plan.slots switch → IsValidTiming timing
+        → (image : Image) × (claims : Claims) × IsBuilt nodes homes plan switch timing image
+        × AreClaimsOf (record { nodes = nodes; homes = homes; plan = plan; switch = switch; image = image }) claims }
+{}
+
+/// A law: by a choice of homes a netlist is compiled to one image on a machine, with one list of claims, and so to
+/// one text. It does nothing.
+pub fn one_image()
+    ensures { (choice : HomeChoice) (net : Netlist) (machine : Machine) (timing : Timing) (one other : Chosen)
+        (claims claims_too : Claims) → IsValid net
+        → IsChosen net machine timing choice one → IsChosen net machine timing choice other
+        → AreClaimsOf one.compiled claims → AreClaimsOf other.compiled claims_too
+        → (one.compiled.image ≡ other.compiled.image) × (claims ≡ claims_too) }
+{
+    one_list();
+    one_choice();
+    one_linking_chosen();
+    items_are_well_formed();
+    one_plan();
+    same_inputs();
+}
+
+/// A law: where a design fits a machine by a choice of homes, there is a design that has them, and the claims of the
+/// places of its image. It does nothing.
+pub fn designs_exist()
+    ensures { (choice : HomeChoice) (net : Netlist) (machine : Machine) (timing : Timing) (nodes : NodeNet)
+        → IsValid net → IsValidMachine machine → IsValidTiming timing → AreItems net timing nodes
+        → All HasWords nodes.tables → FitsBy choice net machine timing
+        → (chosen : Chosen) × (claims : Claims) × IsChosen net machine timing choice chosen × AreClaimsOf chosen.compiled claims }
+{
+    one_list();
+    items_are_well_formed();
+    planned_or_refused();
+    switch_exists();
+    images_exist();
+    some_better();
+    one_better();
 }
