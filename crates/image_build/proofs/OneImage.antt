@@ -33,7 +33,7 @@ use Rattle.image_defs.specs.Places as places
 use Rattle.image_defs.specs.Places.{Each, IsPort, item_slots, printed_of, task_slot}
 use Rattle.image_defs.specs.WellFormed.{IsWork}
 use Rattle.image_defs.proofs.PlaceLemmas.{rises, place_found}
-use Rattle.image_match.specs.Matches.{claims_of, IsClaim, Carries, TaskImplements, Implements, BitImplements, InputImplements, Matches}
+use Rattle.image_defs.specs.Matches.{claims_of, IsClaim, Carries, TaskImplements, Implements, BitImplements, InputImplements, Matches}
 use Rattle.plan_defs.specs.declared.plan.Homes.{Homes}
 use Rattle.plan_defs.specs.Homes.{block_home, host_of, ports_of}
 use Rattle.plan_defs.specs.Lists.{Lists}

@@ -23,7 +23,7 @@ use Rattle.home_better.specs.Crossings.{crossings}
 use Rattle.home_better.proofs.PassLemmas.{passes_way, start_way}
 use Rattle.home_pick.proofs.HomeLemmas.{homes_are}
 use Rattle.image_defs.specs.declared.image.Image.{Image}
-use Rattle.image_check.specs.declared.file.Claims.{Claims}
+use Rattle.image_defs.specs.declared.file.Claims.{Claims}
 use Rattle.image_build.specs.Built.{IsBuilt}
 use Rattle.image_build.specs.Plans.{IsPlanned}
 use Rattle.yse_compile.specs.declared.choose.Chosen.{Chosen}

@@ -20,10 +20,10 @@ use Rattle.image_defs.specs.declared.image.Work.TheVariants.{Logic, Array, Host}
 use Rattle.image_defs.specs.declared.image.PortImage.{PortImage}
 use Rattle.image_defs.specs.declared.image.Image.{Image}
 use Rattle.image_defs.specs.Places.{Each, IsPort, item_slots}
-use Rattle.image_match.specs.Matches.{claims_of}
-use Rattle.image_check.specs.declared.file.Claims.{Claims}
-use Rattle.image_check.specs.declared.file.PortClaims.{PortClaims}
-use Rattle.image_check.specs.Claimed.{lists_of}
+use Rattle.image_defs.specs.Matches.{claims_of}
+use Rattle.image_defs.specs.declared.file.Claims.{Claims}
+use Rattle.image_defs.specs.declared.file.PortClaims.{PortClaims}
+use Rattle.image_defs.specs.Claimed.{lists_of}
 use Rattle.image_file.specs.Ranges.{tables_of}
 use Rattle.image_build.specs.PortItems.{IsAt, ArePortItems, ArePlanClaims}
 use Rattle.image_build.specs.Built.{IsBuilt, IsOrdered}

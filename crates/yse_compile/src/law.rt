@@ -4,7 +4,7 @@ ghost use Rattle.std.specs.Prelude.{◌≡◌, ◌⊎◌, ℕ, All};
 ghost use Rattle.event_defs.specs.Linked.{AreLinkedAlike};
 ghost use Rattle.image_build.specs.Built.{IsBuilt};
 ghost use Rattle.image_build.specs.Plans.{IsPlanned};
-ghost use Rattle.image_check.specs.declared.file.Claims.{Claims};
+ghost use Rattle.image_defs.specs.declared.file.Claims.{Claims};
 ghost use Rattle.image_defs.specs.declared.image.Image.{Image};
 ghost use Rattle.machine_text.specs.declared.machine.Machine.{Machine};
 ghost use Rattle.machine_text.specs.Machines.{IsValid as IsValidMachine};
