@@ -2,6 +2,7 @@ pub mod SumLemmas
 pub mod BagLemmas
 pub mod ChoiceLemmas
 pub mod CrossingLemmas
+pub mod LimitLemmas
 pub mod LinkLemmas
 pub mod LoadLemmas
 pub mod MoveLemmas
