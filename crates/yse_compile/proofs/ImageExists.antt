@@ -1,60 +1,62 @@
 -- There is an image of items at their homes in their plan, with its claims: each part of its making, in lists of any
 -- length.
-use Rattle.std.proofs.Common.{◌≡◌, ◌∙◌, ◌⊎◌, inl, inr, ℕ, zero, suc, ◌+◌, ◌<◌, ◌≤◌, List, [], ◌∷◌, ◌++◌, length, map, take, get_or, replicate, refl, sym, ap, subst, arith, add-one, true, false}
-use Rattle.std.specs.Prelude.{Some, slice_get, slice_index, slice_set}
+use Rattle.std.proofs.Common.{◌≡◌, ◌∙◌, ◌⊎◌, inl, inr, ℕ, zero, suc, ◌<◌, ◌≤◌, List, [], ◌∷◌, ◌++◌, length, map, take, get_or, refl, sym, ap, subst, arith, add-one, true, false}
+use Rattle.std.specs.Prelude.{Some, slice_get}
 use Rattle.std.specs.List.{All}
 use Rattle.std.proofs.lemmas.Bool.{cases_eq, cases_lt}
-use Rattle.std.proofs.lemmas.List.{length-map, take_all, length_push, get_or_append_left, get_or_push}
+use Rattle.std.proofs.lemmas.List.{take_all, length_push, get_or_append_left, get_or_push}
 use Rattle.std.proofs.lemmas.List.Elements.{All-nil, All-push}
 use Rattle.std.proofs.lemmas.List.Quantifiers.{all_pairs_push}
 use Rattle.std.proofs.lemmas.Option.{slice_get_within, slice_get-get_or}
 use Rattle.list_laws.proofs.Members.{each, each_push, member_at}
-use Rattle.list_laws.proofs.Options.{one_some}
 use Rattle.list_laws.proofs.Places.{seam_at}
 use Rattle.list_laws.proofs.Ranges.{last_or}
 use Rattle.func_table.specs.declared.table.Table.{Table}
 use Rattle.func_table.specs.Entries.{AreAlike, AreOther}
-use Rattle.func_table.specs.Shelf.{AreDifferent, IsNumbered}
+use Rattle.func_table.specs.Shelf.{AreDifferent}
 use Rattle.func_table.proofs.EntryLemmas.{same_table}
 use Rattle.net_defs.specs.declared.timing.Timing.{Timing}
 use Rattle.net_defs.specs.Valid.{IsValidTiming}
-use Rattle.node_defs.specs.declared.items.Feeds.{Feeds}
 use Rattle.node_defs.specs.declared.items.Item.{Item}
 use Rattle.node_defs.specs.declared.items.Item.TheVariants.{Input, BlockBit, Node, Latch}
-use Rattle.node_defs.specs.declared.items.NodeBlock.{NodeBlock}
 use Rattle.node_defs.specs.declared.items.NodeNet.{NodeNet}
 use Rattle.node_defs.specs.WellFormed.{column_count, IsComputed, NamesParts}
 use Rattle.node_map.specs.Words.{HasWords}
 use Rattle.plan_defs.specs.declared.plan.Homes.{Homes}
 use Rattle.plan_defs.specs.declared.plan.Plan.{Plan}
-use Rattle.plan_defs.specs.declared.switch.PortLinks.{PortLinks}
 use Rattle.plan_defs.specs.declared.switch.Switch.{Switch}
-use Rattle.plan_defs.specs.Homes.{home_of, block_home, host_of, ports_of}
+use Rattle.plan_defs.specs.Homes.{home_of, host_of, ports_of}
 use Rattle.plan_defs.specs.Slots.{slot_of}
 use Rattle.plan_defs.specs.Switches.{IsSwitch}
 use Rattle.plan_defs.proofs.PlanLemmas.{one_at_home}
-use Rattle.switch_set.specs.Links.{IsSlotList}
 use Rattle.image_defs.specs.declared.image.Task.{Task}
 use Rattle.image_defs.specs.declared.image.Task.TheVariants.{Eval, Hold}
 use Rattle.image_defs.specs.declared.image.BlockWork.{BlockWork}
-use Rattle.image_defs.specs.declared.image.OutBit.{OutBit}
 use Rattle.image_defs.specs.declared.image.InColumn.{InColumn}
 use Rattle.image_defs.specs.declared.image.Work.{Work}
 use Rattle.image_defs.specs.declared.image.Work.TheVariants.{Logic, Array, Host}
 use Rattle.image_defs.specs.declared.image.PortImage.{PortImage}
 use Rattle.image_defs.specs.declared.image.Image.{Image}
+<<<<<<< ours
 use Rattle.image_defs.specs.Places.{Each, IsPort}
 use Rattle.image_defs.specs.Matches.{claims_of}
 use Rattle.image_defs.specs.declared.file.Claims.{Claims}
 use Rattle.image_defs.specs.declared.file.PortClaims.{PortClaims}
 use Rattle.image_defs.specs.Claimed.{lists_of}
+=======
+use Rattle.image_defs.specs.Places.{Each}
+use Rattle.image_defs.specs.Matches.{claims_of}
+use Rattle.image_defs.specs.declared.file.Claims.{Claims}
+use Rattle.image_defs.specs.declared.file.PortClaims.{PortClaims}
+use Rattle.image_defs.specs.Claimed.{lists_of}
+>>>>>>> theirs
 use Rattle.image_check.proofs.KnownLemmas.{known_both, known_less, known_member}
 use Rattle.image_check.proofs.MatchKnown.{alike_known}
 use Rattle.image_file.specs.Ranges.{tables_of}
 use Rattle.image_build.specs.PortItems.{IsAt, ArePortItems, ArePlanClaims}
 use Rattle.image_build.specs.Plans.{IsPlanned}
-use Rattle.image_build.specs.Built.{Evaluates, AreInOrderOfUse, ArePortMemories, IsBuilt, link_in, link_out}
-use Rattle.image_build.specs.code.Layouts.{source_of, feed_source, AreMadeFor, IsTaskFor, AreTasks, block_for, AreBlocks, IsBitFor, AreBits, IsInputFor, AreInputs, IsWorkFor, IsLaidOut}
+use Rattle.image_build.specs.Built.{ArePortMemories, IsBuilt, link_in, link_out}
+use Rattle.image_build.specs.code.Layouts.{source_of, feed_source, AreMadeFor, IsTaskFor, block_for, AreBlocks, IsBitFor, IsInputFor, IsWorkFor}
 use Rattle.image_build.specs.code.Plans.{IsInputItem, Shelves, AreFirstTasks, AreFirstPorts}
 use Rattle.image_build.proofs.BuiltLemmas.{laid_out_is_built}
 use Rattle.image_build.proofs.GrowLemmas.{made_next, made_all}

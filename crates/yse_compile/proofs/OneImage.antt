@@ -1,5 +1,5 @@
 -- A netlist's compiled images at the same homes are one, and so are their claims.
-use Rattle.std.proofs.Common.{◌≡◌, ◌∙◌, ℕ, List, length, map, Some, slice_get, refl, sym, ap, subst, arith}
+use Rattle.std.proofs.Common.{◌≡◌, ◌∙◌, ℕ, List, length, map, Some, slice_get, sym, ap, subst, arith}
 use Rattle.std.proofs.lemmas.List.{length-map}
 use Rattle.std.proofs.lemmas.Option.{slice_get-map}
 use Rattle.list_laws.proofs.Options.{one_some}
@@ -13,19 +13,24 @@ use Rattle.node_defs.specs.WellFormed.{column_count}
 use Rattle.node_map.specs.Words.{HasWords}
 use Rattle.plan_defs.specs.declared.plan.Homes.{Homes}
 use Rattle.plan_defs.specs.declared.plan.Plan.{Plan}
-use Rattle.plan_defs.specs.Homes.{home_of, ports_of}
-use Rattle.plan_defs.specs.Slots.{slot_of, IsFirstFitPlan}
+use Rattle.plan_defs.specs.Slots.{IsFirstFitPlan}
 use Rattle.image_defs.specs.declared.image.Work.{Work}
 use Rattle.image_defs.specs.declared.image.Work.TheVariants.{Logic, Array, Host}
-use Rattle.image_defs.specs.declared.image.PortImage.{PortImage}
 use Rattle.image_defs.specs.declared.image.Image.{Image}
+<<<<<<< ours
 use Rattle.image_defs.specs.Places.{Each, IsPort, item_slots}
 use Rattle.image_defs.specs.Matches.{claims_of}
 use Rattle.image_defs.specs.declared.file.Claims.{Claims}
 use Rattle.image_defs.specs.declared.file.PortClaims.{PortClaims}
 use Rattle.image_defs.specs.Claimed.{lists_of}
+=======
+use Rattle.image_defs.specs.Places.{Each}
+use Rattle.image_defs.specs.declared.file.Claims.{Claims}
+use Rattle.image_defs.specs.declared.file.PortClaims.{PortClaims}
+use Rattle.image_defs.specs.Claimed.{lists_of}
+>>>>>>> theirs
 use Rattle.image_file.specs.Ranges.{tables_of}
-use Rattle.image_build.specs.PortItems.{IsAt, ArePortItems, ArePlanClaims}
+use Rattle.image_build.specs.PortItems.{ArePlanClaims}
 use Rattle.image_build.specs.Built.{IsBuilt, IsOrdered}
 use Rattle.image_build.proofs.OneImage.{IsBuiltBy, AreAll, one_built}
 use Rattle.image_build.proofs.PlacedLemmas.{same_by}
