@@ -37,19 +37,11 @@ use Rattle.image_defs.specs.declared.image.Work.{Work}
 use Rattle.image_defs.specs.declared.image.Work.TheVariants.{Logic, Array, Host}
 use Rattle.image_defs.specs.declared.image.PortImage.{PortImage}
 use Rattle.image_defs.specs.declared.image.Image.{Image}
-<<<<<<< ours
-use Rattle.image_defs.specs.Places.{Each, IsPort}
-use Rattle.image_defs.specs.Matches.{claims_of}
-use Rattle.image_defs.specs.declared.file.Claims.{Claims}
-use Rattle.image_defs.specs.declared.file.PortClaims.{PortClaims}
-use Rattle.image_defs.specs.Claimed.{lists_of}
-=======
 use Rattle.image_defs.specs.Places.{Each}
 use Rattle.image_defs.specs.Matches.{claims_of}
 use Rattle.image_defs.specs.declared.file.Claims.{Claims}
 use Rattle.image_defs.specs.declared.file.PortClaims.{PortClaims}
 use Rattle.image_defs.specs.Claimed.{lists_of}
->>>>>>> theirs
 use Rattle.image_check.proofs.KnownLemmas.{known_both, known_less, known_member}
 use Rattle.image_check.proofs.MatchKnown.{alike_known}
 use Rattle.image_file.specs.Ranges.{tables_of}

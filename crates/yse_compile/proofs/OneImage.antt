@@ -17,18 +17,10 @@ use Rattle.plan_defs.specs.Slots.{IsFirstFitPlan}
 use Rattle.image_defs.specs.declared.image.Work.{Work}
 use Rattle.image_defs.specs.declared.image.Work.TheVariants.{Logic, Array, Host}
 use Rattle.image_defs.specs.declared.image.Image.{Image}
-<<<<<<< ours
-use Rattle.image_defs.specs.Places.{Each, IsPort, item_slots}
-use Rattle.image_defs.specs.Matches.{claims_of}
-use Rattle.image_defs.specs.declared.file.Claims.{Claims}
-use Rattle.image_defs.specs.declared.file.PortClaims.{PortClaims}
-use Rattle.image_defs.specs.Claimed.{lists_of}
-=======
 use Rattle.image_defs.specs.Places.{Each}
 use Rattle.image_defs.specs.declared.file.Claims.{Claims}
 use Rattle.image_defs.specs.declared.file.PortClaims.{PortClaims}
 use Rattle.image_defs.specs.Claimed.{lists_of}
->>>>>>> theirs
 use Rattle.image_file.specs.Ranges.{tables_of}
 use Rattle.image_build.specs.PortItems.{ArePlanClaims}
 use Rattle.image_build.specs.Built.{IsBuilt, IsOrdered}
