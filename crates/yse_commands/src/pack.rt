@@ -24,7 +24,6 @@ use crate::output::{LaneTraces, Output};
 use cmd_words::RunWords;
 use crew_run::Gate;
 use edge_io::Files;
-use trace_text::LaneMark;
 use machine_text::Machine;
 use named_files::{
     Built, Timed, compiled, design_from, few_bits, few_lane_cells, lanes_in, machine_from,
@@ -38,7 +37,7 @@ use std::marker::{Send, Sync};
 use std::sync::Wait;
 use std::thread::Threads;
 use stim_text::Lanes;
-use trace_text::TraceLine;
+use trace_text::{LaneMark, TraceLine};
 
 /// The traces of all lanes of the stimulus file, by one run on the machine of the named file, or on the default
 /// machine.

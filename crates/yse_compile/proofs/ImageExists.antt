@@ -74,11 +74,15 @@ module _ {nodes : NodeNet} {homes : Homes} {plan : Plan} (planned : IsPlanned no
   claims_to (suc n) = next (claims_to n).0 (claims_to n).1 (claims_to n).2 where
     next : (claims : List (List ℕ)) → length claims ≡ n → ((p : ℕ) → p < n → ArePortItems nodes homes plan.slots p (claims_of claims p))
         → (more : List (List ℕ)) × (length more ≡ suc n) × ((p : ℕ) → p < suc n → ArePortItems nodes homes plan.slots p (claims_of more p))
-    next claims long so_far = (claims ++ (items_there n).0 ∷ [], omega (arith, length_push claims (items_there n).0, long), λ p low. elim (last_or p n (omega (arith, low))) [
-      | inl below ↦ subst (ArePortItems nodes homes plan.slots p) (sym (get_or_append_left claims ((items_there n).0 ∷ []) [] p (omega (arith, below, long)))) (so_far p below)
-      | inr same ↦ subst (λ q. ArePortItems nodes homes plan.slots q (claims_of (claims ++ (items_there n).0 ∷ []) q)) (sym same)
-          (subst (ArePortItems nodes homes plan.slots n) (sym (get_or_push claims (items_there n).0 [] n long)) (items_there n).1)
-    ])
+    next claims long so_far = (
+      claims ++ (items_there n).0 ∷ [],
+      omega (arith, length_push claims (items_there n).0, long),
+      λ p low. elim (last_or p n (omega (arith, low))) [
+        | inl below ↦ subst (ArePortItems nodes homes plan.slots p) (sym (get_or_append_left claims ((items_there n).0 ∷ []) [] p (omega (arith, below, long)))) (so_far p below)
+        | inr same ↦ subst (λ q. ArePortItems nodes homes plan.slots q (claims_of (claims ++ (items_there n).0 ∷ []) q)) (sym same)
+            (subst (ArePortItems nodes homes plan.slots n) (sym (get_or_push claims (items_there n).0 [] n long)) (items_there n).1)
+      ],
+    )
 
   claims_there : (claims : List (List ℕ)) × ArePlanClaims nodes homes plan.slots claims
   claims_there = (let all = claims_to (ports_of homes) in (all.0, record { ports = all.1; items = all.2 }))
@@ -208,35 +212,35 @@ module _ {nodes : NodeNet} {homes : Homes} {plan : Plan} (planned : IsPlanned no
   work_there : (p : ℕ) (items : List ℕ) → p < ports_of homes → ArePortItems nodes homes plan.slots p items → (work : Work) × IsWorkThere p items work
   work_there p items within are = elim (cases_lt p homes.logic) [
     | inl low ↦ (
-      let all = tasks_to p items are low (length items) (omega arith) in (
-        Logic all.0 all.1.tasks,
-        record {
-          is = (low, made_all nodes (IsTaskFor nodes homes plan.slots p all.0) items (length items) all.1.tasks refl all.1.first.tasks_are, all.1.first.in_order);
-          whole = λ n table here. each HasWords all.0 n table all.1.whole here;
-        },
-      ))
+        let all = tasks_to p items are low (length items) (omega arith) in (
+          Logic all.0 all.1.tasks,
+          record {
+            is = (low, made_all nodes (IsTaskFor nodes homes plan.slots p all.0) items (length items) all.1.tasks refl all.1.first.tasks_are, all.1.first.in_order);
+            whole = λ n table here. each HasWords all.0 n table all.1.whole here;
+          },
+        ))
     | inr most ↦ elim (cases_lt p (host_of homes)) [
       | inl high ↦ (
-        let memories = numbers_there planned in
-        let numbers = claims_of memories.0 p in
-        let lists = memories.1 p within in
-        let blocks = blocks_to planned p numbers lists (length numbers) (omega arith) in
-        let outs = made_there planned (IsBitFor plan.slots numbers) p items are (λ x one at is. memories.2 p x one most high at is) in (
-          Array blocks.0 outs.0,
-          record {
-            is = (most, high, numbers, lists, subst (λ xs. AreBlocks nodes homes plan.slots p xs blocks.0) (take_all (length numbers) numbers (omega arith)) blocks.1, outs.1);
-            whole = λ n table here. (let none = slice_get_within {A = Table} [] n table here in absurd (omega (arith, none)));
-          },
-        ))
+          let memories = numbers_there planned in
+          let numbers = claims_of memories.0 p in
+          let lists = memories.1 p within in
+          let blocks = blocks_to planned p numbers lists (length numbers) (omega arith) in
+          let outs = made_there planned (IsBitFor plan.slots numbers) p items are (λ x one at is. memories.2 p x one most high at is) in (
+            Array blocks.0 outs.0,
+            record {
+              is = (most, high, numbers, lists, subst (λ xs. AreBlocks nodes homes plan.slots p xs blocks.0) (take_all (length numbers) numbers (omega arith)) blocks.1, outs.1);
+              whole = λ n table here. (let none = slice_get_within {A = Table} [] n table here in absurd (omega (arith, none)));
+            },
+          ))
       | inr least ↦ (
-        let host : p ≡ host_of homes = omega (arith, within, least) in
-        let inputs = made_there planned (IsInputFor plan.slots) p items are (λ x one at is. input_there planned p x one host at is) in (
-          Host inputs.0 (map (λ o. source_of homes plan.slots p o false) nodes.printed),
-          record {
-            is = (host, inputs.1, refl);
-            whole = λ n table here. (let none = slice_get_within {A = Table} [] n table here in absurd (omega (arith, none)));
-          },
-        ))
+          let host : p ≡ host_of homes = omega (arith, within, least) in
+          let inputs = made_there planned (IsInputFor plan.slots) p items are (λ x one at is. input_there planned p x one host at is) in (
+            Host inputs.0 (map (λ o. source_of homes plan.slots p o false) nodes.printed),
+            record {
+              is = (host, inputs.1, refl);
+              whole = λ n table here. (let none = slice_get_within {A = Table} [] n table here in absurd (omega (arith, none)));
+            },
+          ))
     ]
   ]
 

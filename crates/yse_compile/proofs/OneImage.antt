@@ -37,8 +37,8 @@ same_claims : (one other : Claims) → lists_of one ≡ lists_of other → one �
 same_claims one other same = ap (λ ps. record { ports = ps }) (same_by one.ports other.ports (sym (length-map one.ports (λ (q : PortClaims). q.items)) ∙ ap length same ∙ length-map other.ports (λ (q : PortClaims). q.items)) (λ k p q here there.
     ap (λ xs. record { items = xs }) (one_some p.items q.items
     (sym (read one.ports k p here) ∙ ap (λ xs. slice_get xs k) same ∙ read other.ports k q there)))) where
-  read : (ports : List PortClaims) (k : ℕ) (p : PortClaims) → slice_get ports k ≡ Some p → slice_get (map (λ (q : PortClaims). q.items) ports) k ≡ Some p.items
-  read ports k p here = slice_get-map (λ (q : PortClaims). q.items) ports k ∙ ap (option_map (λ (q : PortClaims). q.items)) here
+      read : (ports : List PortClaims) (k : ℕ) (p : PortClaims) → slice_get ports k ≡ Some p → slice_get (map (λ (q : PortClaims). q.items) ports) k ≡ Some p.items
+      read ports k p here = slice_get-map (λ (q : PortClaims). q.items) ports k ∙ ap (option_map (λ (q : PortClaims). q.items)) here
 
 -- the items of a port are those of the same items
 claims_kept : (one other : NodeNet) (homes : Homes) (slots : List ℕ) (claims : List (List ℕ)) → length one.items ≡ length other.items → ArePlanClaims one homes slots claims → ArePlanClaims other homes slots claims
