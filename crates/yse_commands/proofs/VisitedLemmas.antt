@@ -63,20 +63,24 @@ refused_writes (refusal.MemoryBits bits) may = may
 refused_writes (refusal.Signals signals) may = may
 refused_writes refusal.Memory may = may
 
--- an output may be written
-pub output_writes : (output : Output) → MayWrite (ended_with output).status
-output_writes (output.Text text) = tt
-output_writes (output.Trace trace) = tt
-output_writes (output.Unfinished trace ending) = tt
-output_writes (output.Written run) = tt
-output_writes (output.Lanes traces) = tt
-output_writes (output.Lines lines) = tt
+-- an output is whole where all of it is written
+pub output_whole : (output : Output) → IsWhole (ended_with output).status
+output_whole (output.Text text) = tt
+output_whole (output.Trace trace) = tt
+output_whole (output.Unfinished trace ending) = tt
+output_whole (output.Written run) = tt
+output_whole (output.Lanes traces) = tt
+output_whole (output.Lines lines) = tt
 
 -- where the whole output was written, something was
-whole_writes : (s : Status) → IsWhole s → MayWrite s
+pub whole_writes : (s : Status) → IsWhole s → MayWrite s
 whole_writes status.Done whole = tt
 whole_writes status.Unfinished whole = tt
 whole_writes _ whole = absurd whole
+
+-- an output may be written
+output_writes : (output : Output) → MayWrite (ended_with output).status
+output_writes output = whole_writes (ended_with output).status (output_whole output)
 
 so_far_writes : (wrote : Result (Unit {0}) WriteNo) (outcome : Outcome) → MayWrite outcome.status → MayWrite (status_so_far wrote outcome)
 so_far_writes (Ok done) outcome may = may

@@ -1,5 +1,5 @@
 -- How a call ends in an outcome, by its status and its sinks.
-use Rattle.std.specs.Prelude.{◌≡◌, ◌⊎◌, ⊤, ℕ, List, Bool, false, Option, Some, None, slice_get}
+use Rattle.std.specs.Prelude.{◌≡◌, ◌⊎◌, ◌≤◌, ⊤, ℕ, List, Bool, false, Option, Some, None, slice_get}
 use Rattle.std.specs.Io.KnownBytes.{append_known}
 use Rattle.edge_io.specs.Counts.{Rose}
 use Rattle.edge_io.specs.Names.{is_absent}
@@ -10,18 +10,20 @@ use Rattle.refusal_lines.specs.Lines.{write_fault_line}
 use Rattle.named_files.specs.Outcome.{Outcome}
 use Rattle.named_files.specs.Readings.{Reading}
 
--- The sink has taken the output, and the line is told; or, after a fault of the sink, it has taken a proper
--- prefix of the output, and the line of that fault is told.
-abbrev pub EndsAs : Status → Outcome → Option (List ℕ) → Option (List ℕ) → ℕ → ℕ → (List ℕ → Type 0) → Type 0
-EndsAs result outcome old new faults_old faults_new TakesLine =
-    ((result ≡ outcome.status) × (new ≡ append_known old outcome.output) × TakesLine outcome.line)
-    ⊎ ((result ≡ status.WriteFault) × TakesProperPrefix old new outcome.output × Rose faults_old faults_new × TakesLine write_fault_line)
-
 -- the statuses at which the whole output was written
 abbrev pub IsWhole : Status → Type 0
 IsWhole status.Done = ⊤
 IsWhole status.Unfinished = ⊤
 IsWhole _ = ⊥
+
+-- The sink has taken the output, and the line is told; or, after a fault of the sink, it has taken a proper
+-- prefix of the output, and the line of that fault is told. Such a fault comes only of an outcome that writes: at
+-- the status of an order that ended early, or where nothing is refused and nothing fails.
+pub record EndsAs (result : Status) (outcome : Outcome) (old new : Option (List ℕ)) (faults_old faults_new : ℕ) (TakesLine : List ℕ → Type 0) : Type 0 where
+  pub ends : ((result ≡ outcome.status) × (new ≡ append_known old outcome.output) × TakesLine outcome.line)
+      ⊎ ((result ≡ status.WriteFault) × TakesProperPrefix old new outcome.output × Rose faults_old faults_new × TakesLine write_fault_line)
+  pub writes : result ≡ status.WriteFault → IsWhole outcome.status
+  pub kept : faults_old ≤ faults_new
 
 -- the statuses at which something may have been written
 abbrev pub MayWrite : Status → Type 0
@@ -44,3 +46,13 @@ IsToldBy names (Some bytes) reading = (is_absent names reading.file ≡ false) �
 -- each reading is what a store tells of its file
 abbrev pub AreToldBy : Option (List ℕ → Bool) → Option (List ℕ → List ℕ) → List Reading → Type 0
 AreToldBy names told readings = (place : ℕ) (reading : Reading) → slice_get readings place ≡ Some reading → IsToldBy names told reading
+
+-- a store has the names and the bytes that it had
+pub record KeepsStore (names names' : Option (List ℕ → Bool)) (bytes bytes' : Option (List ℕ → List ℕ)) : Type 0 where
+  pub names : names' ≡ names
+  pub bytes : bytes' ≡ bytes
+
+-- a sink has what it had taken, with something more at its end or nothing, and its count of faults never fell
+pub record KeepsTaken (old new : Option (List ℕ)) (faults_old faults_new : ℕ) : Type 0 where
+  pub taken : (more : List ℕ) × (new ≡ append_known old more)
+  pub faults : faults_old ≤ faults_new

@@ -1,6 +1,6 @@
 //! `exec`: the trace of the reference simulation, by an image from elsewhere.
 
-ghost use Rattle.std.specs.Prelude.{◌≤◌, IfOk, length};
+ghost use Rattle.std.specs.Prelude.{◌≡◌, ◌≤◌, IfOk, length};
 ghost use Rattle.net_defs.specs.Valid.{IsValid};
 ghost use Rattle.node_defs.specs.Order.{AreItems};
 ghost use Rattle.cmd_words.specs.Forms.{IsRunInRange};
@@ -41,6 +41,8 @@ pub fn exec<'a, R: Threads + Wait + Sync, F: Files, O: Sink, G: Gate + Send>(
     requires range { IsRunInRange words.now }
     requires gates { MAX_WORKERS ≤ length gates.old }
     requires tell { AllCanTell G.Gate.own gates.old }
+    ensures same_names { F.names files.new ≡ F.names files.old }
+    ensures same_bytes { F.bytes files.new ≡ F.bytes files.old }
     ensures expected { Follows (F.names files.old) (F.bytes files.old) (F.counts files.old) (F.counts files.new)
         result (ExpectedExec words.now image.now) }
     ensures writable { IfOk result CanEnd }
@@ -64,6 +66,8 @@ fn exec_telling<'a, R: Threads + Wait + Sync, F: Files, O: Sink, G: Gate + Send>
     requires range { IsRunInRange words.now }
     requires gates { MAX_WORKERS ≤ length gates.old }
     requires tell { AllCanTell G.Gate.own gates.old }
+    ensures same_names { F.names files.new ≡ F.names files.old }
+    ensures same_bytes { F.bytes files.new ≡ F.bytes files.old }
     ensures expected { Follows (F.names files.old) (F.bytes files.old) (F.counts files.old) (F.counts files.new)
         result (ExecutesBy words.now image.now (ExecTelling G.Gate.own gates.old gates.new (written_by result) words.now)) }
     ensures writable { IfOk result CanEnd }
@@ -104,6 +108,8 @@ fn exec_mapped<'a, R: Threads + Wait + Sync, F: Files, O: Sink, G: Gate + Send>(
     requires items { AreItems mapped.net timing.now mapped.nodes }
     requires gates { MAX_WORKERS ≤ length gates.old }
     requires tell { AllCanTell G.Gate.own gates.old }
+    ensures same_names { F.names files.new ≡ F.names files.old }
+    ensures same_bytes { F.bytes files.new ≡ F.bytes files.old }
     ensures expected { Follows (F.names files.old) (F.bytes files.old) (F.counts files.old) (F.counts files.new)
         result (AfterImage image.now mapped.net timing.now (RunsImage words.now (ExecTelling G.Gate.own gates.old gates.new (written_by result) words.now) mapped.net timing.now)) }
     ensures writable { IfOk result CanEnd }
@@ -139,6 +145,8 @@ fn exec_built<'a, R: Threads + Wait + Sync, F: Files, O: Sink, G: Gate + Send>(
     requires image { IsImageOf built.net timing.now built.image }
     requires gates { MAX_WORKERS ≤ length gates.old }
     requires tell { AllCanTell G.Gate.own gates.old }
+    ensures same_names { F.names files.new ≡ F.names files.old }
+    ensures same_bytes { F.bytes files.new ≡ F.bytes files.old }
     ensures expected { Follows (F.names files.old) (F.bytes files.old) (F.counts files.old) (F.counts files.new)
         result (RunsImage words.now (ExecTelling G.Gate.own gates.old gates.new (written_by result) words.now) built.net timing.now built.image) }
     ensures writable { IfOk result CanEnd }

@@ -1,6 +1,6 @@
 //! `fault`: where each stuck fault of a netlist is first seen.
 
-ghost use Rattle.std.specs.Prelude.{IfOk};
+ghost use Rattle.std.specs.Prelude.{◌≡◌, IfOk};
 ghost use Rattle.edge_io.specs.Writing.{joined};
 ghost use Rattle.net_defs.specs.Loops.{AreRanks};
 ghost use Rattle.net_defs.specs.Valid.{IsValid, IsValidStimulus, IsValidTiming};
@@ -31,6 +31,8 @@ pub fn fault<'a, R: Threads + Sync, F: Files>(
     words: &'a RunWords,
 ) -> Result<Output, Refusal<'a>>
     requires range { IsRunInRange words.now }
+    ensures same_names { F.names files.new ≡ F.names files.old }
+    ensures same_bytes { F.bytes files.new ≡ F.bytes files.old }
     ensures expected { Follows (F.names files.old) (F.bytes files.old) (F.counts files.old) (F.counts files.new)
         result (ExpectedFault words.now) }
     ensures writable { IfOk result CanWrite }
@@ -66,6 +68,8 @@ fn faults_of<'a, R: Threads + Sync, F: Files>(
     requires timing { IsValidTiming timing.now }
     requires valid { IsValid design.now.net }
     requires ranks { AreRanks design.now.net timing.now design.now.ranks }
+    ensures same_names { F.names files.new ≡ F.names files.old }
+    ensures same_bytes { F.bytes files.new ≡ F.bytes files.old }
     ensures expected { Follows (F.names files.old) (F.bytes files.old) (F.counts files.old) (F.counts files.new)
         result (After (HasFewSignals design.now.net) (λ few. AfterStimulus words.now.stimulus design.now.net (ListsFaults design.now.net timing.now))) }
     ensures writable { IfOk result CanWrite }

@@ -1,6 +1,6 @@
 //! `plan` and `compile`: what a netlist is laid out as on the machine, after the same checks.
 
-ghost use Rattle.std.specs.Prelude.{IfOk};
+ghost use Rattle.std.specs.Prelude.{◌≡◌, IfOk};
 ghost use Rattle.machine_text.specs.Machines.{IsValid as IsValidMachine};
 ghost use Rattle.net_defs.specs.Valid.{IsValid};
 ghost use Rattle.cmd_words.specs.Forms.{IsRunInRange};
@@ -38,6 +38,8 @@ pub fn lay_out<'a, F: Files>(
     sheet: Sheet,
 ) -> Result<Output, Refusal<'a>>
     requires { IsRunInRange words.now }
+    ensures same_names { F.names files.new ≡ F.names files.old }
+    ensures same_bytes { F.bytes files.new ≡ F.bytes files.old }
     ensures expected { Follows (F.names files.old) (F.bytes files.old) (F.counts files.old) (F.counts files.new)
         result (ExpectedLayout sheet words.now) }
     ensures writable { IfOk result CanWrite }
@@ -62,6 +64,8 @@ fn lay_out_on<'a, F: Files>(
 ) -> Result<Output, Refusal<'a>>
     requires range { IsRunInRange words.now }
     requires machine { IsValidMachine machine.now }
+    ensures same_names { F.names files.new ≡ F.names files.old }
+    ensures same_bytes { F.bytes files.new ≡ F.bytes files.old }
     ensures expected { Follows (F.names files.old) (F.bytes files.old) (F.counts files.old) (F.counts files.new)
         result (ExpectedLayoutOn sheet words.now machine.now) }
     ensures writable { IfOk result CanWrite }

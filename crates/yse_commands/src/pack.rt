@@ -51,6 +51,8 @@ pub fn pack<'a, R: Threads + Wait + Sync, F: Files, G: Gate + Send>(
     requires range { IsRunInRange words.now }
     requires gates { MAX_WORKERS ≤ length gates.old }
     requires tell { AllCanTell G.Gate.own gates.old }
+    ensures same_names { F.names files.new ≡ F.names files.old }
+    ensures same_bytes { F.bytes files.new ≡ F.bytes files.old }
     ensures expected { Follows (F.names files.old) (F.bytes files.old) (F.counts files.old) (F.counts files.new)
         result (ExpectedPack words.now) }
     ensures writable { IfOk result CanWrite }
@@ -71,6 +73,8 @@ fn pack_telling<'a, R: Threads + Wait + Sync, F: Files, G: Gate + Send>(
     requires range { IsRunInRange words.now }
     requires gates { MAX_WORKERS ≤ length gates.old }
     requires tell { AllCanTell G.Gate.own gates.old }
+    ensures same_names { F.names files.new ≡ F.names files.old }
+    ensures same_bytes { F.bytes files.new ≡ F.bytes files.old }
     ensures expected { Follows (F.names files.old) (F.bytes files.old) (F.counts files.old) (F.counts files.new)
         result (AfterMachine words.now.machine (PacksOn words.now (LanesTelling G.Gate.own gates.old gates.new words.now))) }
     ensures writable { IfOk result CanWrite }
@@ -98,6 +102,8 @@ fn pack_on<'a, R: Threads + Wait + Sync, F: Files, G: Gate + Send>(
     requires machine { IsValidMachine machine.now }
     requires gates { MAX_WORKERS ≤ length gates.old }
     requires tell { AllCanTell G.Gate.own gates.old }
+    ensures same_names { F.names files.new ≡ F.names files.old }
+    ensures same_bytes { F.bytes files.new ≡ F.bytes files.old }
     ensures expected { Follows (F.names files.old) (F.bytes files.old) (F.counts files.old) (F.counts files.new)
         result (PacksOn words.now (LanesTelling G.Gate.own gates.old gates.new words.now) machine.now) }
     ensures writable { IfOk result CanWrite }
@@ -137,6 +143,8 @@ fn pack_built<'a, R: Threads + Wait + Sync, F: Files, G: Gate + Send>(
     requires made { IsMachineImage words.now.homes built.net machine.now timing.now built.image }
     requires gates { MAX_WORKERS ≤ length gates.old }
     requires tell { AllCanTell G.Gate.own gates.old }
+    ensures same_names { F.names files.new ≡ F.names files.old }
+    ensures same_bytes { F.bytes files.new ≡ F.bytes files.old }
     ensures expected { Follows (F.names files.old) (F.bytes files.old) (F.counts files.old) (F.counts files.new)
         result (After (HasFewBits built.net) (λ few. AfterLanes words.now.stimulus built.net (LanesTelling G.Gate.own gates.old gates.new words.now machine.now timing.now built.net))) }
     ensures writable { IfOk result CanWrite }

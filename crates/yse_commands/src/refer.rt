@@ -27,6 +27,8 @@ pub fn refer<'a, F: Files>(
     words: &'a RunWords,
 ) -> Result<Output, Refusal<'a>>
     requires { IsRunInRange words.now }
+    ensures same_names { F.names files.new ≡ F.names files.old }
+    ensures same_bytes { F.bytes files.new ≡ F.bytes files.old }
     ensures expected { Follows (F.names files.old) (F.bytes files.old) (F.counts files.old) (F.counts files.new)
         result (ExpectedRefer words.now) }
     ensures writable { IfOk result CanWrite }

@@ -44,6 +44,8 @@ pub fn run<'a, R: Threads + Wait + Sync, F: Files, O: Sink, G: Gate + Send>(
     requires range { IsRunInRange words.now }
     requires gates { MAX_WORKERS ≤ length gates.old }
     requires tell { AllCanTell G.Gate.own gates.old }
+    ensures same_names { F.names files.new ≡ F.names files.old }
+    ensures same_bytes { F.bytes files.new ≡ F.bytes files.old }
     ensures expected { Follows (F.names files.old) (F.bytes files.old) (F.counts files.old) (F.counts files.new)
         result (ExpectedRun words.now (has_limit pace.entry) (order_file pace.entry)) }
     ensures writable { IfOk result CanEnd }
@@ -67,6 +69,8 @@ fn run_telling<'a, R: Threads + Wait + Sync, F: Files, O: Sink, G: Gate + Send>(
     requires range { IsRunInRange words.now }
     requires gates { MAX_WORKERS ≤ length gates.old }
     requires tell { AllCanTell G.Gate.own gates.old }
+    ensures same_names { F.names files.new ≡ F.names files.old }
+    ensures same_bytes { F.bytes files.new ≡ F.bytes files.old }
     ensures expected { Follows (F.names files.old) (F.bytes files.old) (F.counts files.old) (F.counts files.new)
         result (AfterMachine words.now.machine (ExpectedOn words.now (EndsTelling G.Gate.own gates.old gates.new (written_by result) pace.entry words.now))) }
     ensures writable { IfOk result CanEnd }
@@ -97,6 +101,8 @@ fn run_on<'a, R: Threads + Wait + Sync, F: Files, O: Sink, G: Gate + Send>(
     requires machine { IsValidMachine machine.now }
     requires gates { MAX_WORKERS ≤ length gates.old }
     requires tell { AllCanTell G.Gate.own gates.old }
+    ensures same_names { F.names files.new ≡ F.names files.old }
+    ensures same_bytes { F.bytes files.new ≡ F.bytes files.old }
     ensures expected { Follows (F.names files.old) (F.bytes files.old) (F.counts files.old) (F.counts files.new)
         result (ExpectedOn words.now (EndsTelling G.Gate.own gates.old gates.new (written_by result) pace.entry words.now) machine.now) }
     ensures writable { IfOk result CanEnd }
@@ -142,6 +148,8 @@ fn run_built<'a, R: Threads + Wait + Sync, F: Files, O: Sink, G: Gate + Send>(
     requires made { IsMachineImage words.now.homes built.net machine.now timing.now built.image }
     requires gates { MAX_WORKERS ≤ length gates.old }
     requires tell { AllCanTell G.Gate.own gates.old }
+    ensures same_names { F.names files.new ≡ F.names files.old }
+    ensures same_bytes { F.bytes files.new ≡ F.bytes files.old }
     ensures expected { Follows (F.names files.old) (F.bytes files.old) (F.counts files.old) (F.counts files.new)
         result (AfterStimulus words.now.stimulus built.net (EndsTelling G.Gate.own gates.old gates.new (written_by result) pace.entry words.now machine.now timing.now built.net)) }
     ensures writable { IfOk result CanEnd }
@@ -184,6 +192,8 @@ fn finish<'a, R: Threads + Wait + Sync, F: Files, O: Sink, G: Gate + Send>(
     requires columns { stimulus.columns ≡ input_count built.net }
     requires gates { MAX_WORKERS ≤ length gates.old }
     requires tell { AllCanTell G.Gate.own gates.old }
+    ensures same_names { F.names files.new ≡ F.names files.old }
+    ensures same_bytes { F.bytes files.new ≡ F.bytes files.old }
     ensures expected { Follows (F.names files.old) (F.bytes files.old) (F.counts files.old) (F.counts files.new)
         result (EndsTelling G.Gate.own gates.old gates.new (written_by result) pace.entry words.now machine.now timing.now built.net stimulus) }
     ensures writable { IfOk result CanEnd }
@@ -248,6 +258,8 @@ fn in_order<'a, F: Files>(
     requires made { IsMachineImage words.now.homes built.net machine.now timing.now built.image }
     requires stimulus { IsValidStimulus stimulus.now }
     requires columns { stimulus.now.columns ≡ input_count built.net }
+    ensures same_names { F.names files.new ≡ F.names files.old }
+    ensures same_bytes { F.bytes files.new ≡ F.bytes files.old }
     ensures expected { Follows (F.names files.old) (F.bytes files.old) (F.counts files.old) (F.counts files.new)
         result (EndsWithin true (Some file.now) words.now machine.now timing.now built.net stimulus.now) }
     ensures writable { IfOk result CanWrite }

@@ -1,6 +1,6 @@
 //! `show`: the canonical text of a netlist.
 
-ghost use Rattle.std.specs.Prelude.{IfOk};
+ghost use Rattle.std.specs.Prelude.{◌≡◌, IfOk};
 ghost use Rattle.yse_commands.specs.Outputs.{CanWrite};
 ghost use Rattle.yse_commands.specs.Refusals.{Follows};
 ghost use Rattle.yse_commands.specs.commands.Show.{ExpectedShow};
@@ -19,6 +19,8 @@ pub fn show<'a, F: Files>(
     files: &mut F,
     file: &'a [u8],
 ) -> Result<Output, Refusal<'a>>
+    ensures same_names { F.names files.new ≡ F.names files.old }
+    ensures same_bytes { F.bytes files.new ≡ F.bytes files.old }
     ensures expected { Follows (F.names files.old) (F.bytes files.old) (F.counts files.old) (F.counts files.new)
         result (ExpectedShow file.now) }
     ensures writable { IfOk result CanWrite }

@@ -1,17 +1,23 @@
 -- How a call ends, by what its words ask for and what came of the command.
-use Rattle.std.proofs.Common.{◌≡◌, ◌∙◌, sym, ap, refl, inl, inr, ℕ, ◌≤◌, Bool, List, length, take, Option, Err, arith}
+use Rattle.std.proofs.Common.{◌≡◌, ◌∙◌, sym, ap, refl, subst, inl, inr, ℕ, ◌≤◌, Bool, List, length, take, Option, Err, arith}
 use Rattle.std.proofs.lemmas.List.{length-map, length-take}
 use Rattle.edge_io.specs.Counts.{raised}
 use Rattle.edge_io.specs.declared.counts.FileCounts.{FileCounts}
 use Rattle.cmd_words.specs.declared.command.Command.{Command}
 use Rattle.cmd_words.specs.Forms.{HasForm}
+use Rattle.refusal_lines.specs.declared.refusal.Refusal.{Refusal}
 use Rattle.refusal_lines.specs.declared.refusal.Refusal.TheVariants as refusal
+use Rattle.refusal_lines.specs.declared.status.Status.{Status}
+use Rattle.yse_commands.specs.Ends.{EndsAs, MayWrite}
 use Rattle.yse_commands.specs.Expected.{Expected}
 use Rattle.yse_top.specs.Law.{IsProper}
 use Rattle.named_files.specs.Outcome.{Outcome}
 use Rattle.named_files.specs.Readings.{Reading, AreReadings}
 use Rattle.yse_commands.specs.Refusals.{Follows}
+use Rattle.named_files.specs.Refused.{refused_of}
+use Rattle.edge_io.proofs.WritingLemmas.{append_known-nil}
 use Rattle.yse_commands.proofs.ChainLemmas.{follows_here}
+use Rattle.yse_commands.proofs.VisitedLemmas.{refused_writes}
 
 module _ (names : Option (List ℕ → Bool)) (bytes : Option (List ℕ → List ℕ)) (old new : FileCounts) where
   -- they are of no form
@@ -33,3 +39,12 @@ module _ (names : Option (List ℕ → Bool)) (bytes : Option (List ℕ → List
     where
       few : {n : ℕ} → n ≡ length (take n files) → n ≤ length files
       few {n} e = omega (arith, e, length-take n files)
+
+-- a refusal writes nothing, and its line is told
+pub refused_ends : (why : Refusal) (result : Status) (old new : Option (List ℕ)) (faults_old faults_new : ℕ) (TakesLine : List ℕ → Type 0) → result ≡ (refused_of why).status → new ≡ old → faults_new ≡ faults_old → TakesLine (refused_of why).line
+    → EndsAs result (refused_of why) old new faults_old faults_new TakesLine
+refused_ends why result old new faults_old faults_new TakesLine is same same_faults line = record {
+  ends = inl (is, same ∙ sym (append_known-nil old), line);
+  writes = λ fault. absurd (refused_writes why (subst MayWrite (sym fault ∙ is) tt));
+  kept = omega (arith, same_faults);
+}

@@ -11,6 +11,7 @@ use Rattle.net_defs.specs.Reference.{HasOneSimulation}
 use Rattle.net_defs.specs.Time.{cycle_count}
 use Rattle.net_defs.specs.Trace.{IsTrace, trace_to}
 use Rattle.machine_text.specs.declared.machine.Machine.{Machine}
+use Rattle.machine_text.specs.Machines.{default_machine, IsValid as IsValidMachine}
 use Rattle.yse_compile.specs.declared.compiler.CompNo.{CompNo}
 use Rattle.yse_compile.specs.Chosen.{FitsBy}
 use Rattle.yse_compile.specs.Compiled.{IsRight, IsOverfull}
@@ -102,6 +103,26 @@ size_check most size line = record {
     some : (most < size) ⊎ (size ≤ most) → ((x : Unit {0}) × IsWithin most size line (Ok x)) ⊎ ((o : Outcome) × IsWithin most size line (Err o))
     some (inl many) = inr (refusal status.Limit (line size), (many, refl))
     some (inr few) = inl (tt, few)
+
+-- ---- the default machine
+
+pub default_is_valid : IsValidMachine default_machine
+default_is_valid = record {
+  logic_least = omega arith;
+  logic_most = omega arith;
+  array_most = omega arith;
+  slots_least = omega arith;
+  slots_most = omega arith;
+  functions_least = omega arith;
+  functions_most = omega arith;
+  bits_least = omega arith;
+  bits_most = omega arith;
+  nodes_least = omega arith;
+  nodes_most = omega arith;
+  own = λ i d low. absurd (omega (arith, low));
+  once = λ i j d low up. absurd (omega (arith, up));
+  ports = omega arith;
+}
 
 -- ---- the trace
 

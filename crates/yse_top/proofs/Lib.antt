@@ -9,4 +9,5 @@ mod OrderLemmas
 mod OutcomeLemmas
 mod ProperLemmas
 mod ReportLemmas
+mod SequelLemmas
 mod TraceLemmas

@@ -1,42 +1,58 @@
 -- How a program ends that makes one call.
-use Rattle.std.specs.Prelude.{◌≡◌, ℕ, Bool, List, Option, IfSome}
+use Rattle.std.specs.Prelude.{◌≡◌, ◌≢◌, ◌≤◌, ◌↔◌, ℕ, List, None, Option, length}
 use Rattle.std.specs.Io.KnownBytes.{append_known}
 use Rattle.cmd_words.specs.Asked.{asked}
 use Rattle.crew_run.specs.declared.gate.Gate as gate
-use Rattle.edge_io.specs.declared.counts.FileCounts.{FileCounts}
+use Rattle.edge_io.specs.Counts.{raised, Rose}
+use Rattle.edge_io.specs.declared.files.Files as files
+use Rattle.edge_io.specs.declared.sink.Sink as sink
+use Rattle.edge_io.specs.Writing.{TakesLine}
+use Rattle.machine_run.specs.Visits.{AreInPlace}
 use Rattle.refusal_lines.specs.declared.status.Status.{Status}
-use Rattle.refusal_lines.specs.declared.status.Status.TheVariants.{Done, Memory}
-use Rattle.yse_commands.specs.Ends.{EndsAs}
-use Rattle.yse_commands.specs.Expected.{Expected}
+use Rattle.refusal_lines.specs.declared.status.Status.TheVariants.{Done, Memory, ReadFault, Words, WriteFault}
 use Rattle.refusal_lines.specs.Lines.{memory_line}
-use Rattle.named_files.specs.Outcome.{Outcome}
-use Rattle.named_files.specs.Readings.{Reading, AreReadings}
 use Rattle.refusal_lines.specs.Statuses.{status_number}
-use Rattle.yse_commands.specs.Traced.{IsTraceOfFiles}
+use Rattle.named_files.specs.Outcome.{Outcome, done}
+use Rattle.named_files.specs.Readings.{Reading, AreReadings}
+use Rattle.yse_commands.specs.Ends.{AreToldBy, EndsAs, IsDoneOrMemory, KeepsStore, KeepsTaken, MayWrite}
+use Rattle.yse_commands.specs.Expected.{Expected}
+use Rattle.yse_commands.specs.Traced.{IsOutputOfFiles}
 use Rattle.yse_commands.specs.Visited.{TellsGates}
-use Rattle.yse_commands.specs.Words.{traced_by}
+use Rattle.yse_commands.specs.Words.{files_named}
 
--- The exit status is the number of the status that the call of these words ended with: after status 0 of a
--- simulation the output is the trace of its files, the outcome is an expected one, and the gates were told.
-pub record EndsBy {G : Type 0} (p : gate.Ghosts G) (names : Option (List ℕ → Bool)) (bytes : Option (List ℕ → List ℕ)) (counts counts' : FileCounts)
-    (taken taken' : Option (List ℕ)) (faults faults' : ℕ) (TakesLine : List ℕ → Type 0) (gates gates' : List (Option G)) (words : List (List ℕ)) (exit : ℕ) : Type 0 where
-  pub status : Status
-  pub number : exit ≡ status_number status
-  pub trace : status ≡ Done → (output : List ℕ) × (taken' ≡ append_known taken output) × IfSome (traced_by (asked words)) (IsTraceOfFiles bytes output)
-  pub readings : List Reading
-  pub outcome : Outcome
-  pub read : AreReadings names bytes counts counts' readings
-  pub expected : Expected words readings outcome
-  pub ends : EndsAs status outcome taken taken' faults faults' TakesLine
-  pub visits : TellsGates p bytes gates gates' status (asked words)
+module _ {F O E G : Type 0} (store : files.Ghosts F) (output : sink.Ghosts O) (told : sink.Ghosts E) (p : gate.Ghosts G) (files_old files_new : F) (out_old out_new : O) (err_old err_new : E) (gates gates' : List (Option G)) where
+  -- The exit status is the number of the status that the call of these words ended with, and what the call promises
+  -- holds of that status: each field is the clause of its name, `readings`, `outcome`, `read`, `is` and `ends` are the
+  -- clause `expected`.
+  pub record EndsBy (words : List (List ℕ)) (exit : ℕ) : Type 0 where
+    pub status : Status
+    pub number : exit ≡ status_number status
+    pub trace : status ≡ Done → (text : List ℕ) × (output.taken out_new ≡ append_known (output.taken out_old) text) × IsOutputOfFiles (store.bytes files_old) text (asked words)
+    pub readings : List Reading
+    pub outcome : Outcome
+    pub read : AreReadings (store.names files_old) (store.bytes files_old) (store.counts files_old) (store.counts files_new) readings
+    pub is : Expected words readings outcome
+    pub ends : EndsAs status outcome (output.taken out_old) (output.taken out_new) (output.faults out_old) (output.faults out_new)
+        (TakesLine (told.taken err_old) (told.taken err_new) (told.faults err_old) (told.faults err_new))
+    pub complete : (others : List Reading) (text : List ℕ) → Expected words others (done text) → AreToldBy (store.names files_old) (store.bytes files_old) others
+        → (Rose (store.counts files_old).faults (store.counts files_new).faults → ⊥) → (Rose (output.faults out_old) (output.faults out_new) → ⊥) → IsDoneOrMemory status
+    pub visits : TellsGates p (store.bytes files_old) gates gates' status (asked words)
+    pub words_refused : status ≢ Memory → (status ≡ Words) ↔ (asked words ≡ None)
+    pub no_output : (MayWrite status → ⊥) → out_new ≡ out_old
+    pub no_line : status ≡ Done → err_new ≡ err_old
+    pub kept_store : KeepsStore (store.names files_old) (store.names files_new) (store.bytes files_old) (store.bytes files_new)
+    pub out_kept : KeepsTaken (output.taken out_old) (output.taken out_new) (output.faults out_old) (output.faults out_new)
+    pub in_place : AreInPlace gates gates'
+    pub read_fault : status ≡ ReadFault → Rose (store.counts files_old).faults (store.counts files_new).faults
+    pub write_fault : status ≡ WriteFault → Rose (output.faults out_old) (output.faults out_new)
+    pub begun : (store.counts files_new).starts ≤ raised (store.counts files_old).starts (length (files_named (asked words)))
+    pub absent : status ≢ ReadFault → (store.counts files_new).absent_starts ≡ (store.counts files_old).absent_starts
 
--- for want of memory to read the words: the exit status is that of want of memory, and its line is told. No
--- file was asked for, nothing was written, and no gate was told
-pub record EndsForMemory {G : Type 0} (counts counts' : FileCounts) (taken taken' : Option (List ℕ)) (faults faults' : ℕ) (TakesLine : List ℕ → Type 0)
-    (gates gates' : List (Option G)) (exit : ℕ) : Type 0 where
-  pub number : exit ≡ status_number Memory
-  pub line : TakesLine memory_line
-  pub files : counts' ≡ counts
-  pub output : taken' ≡ taken
-  pub output_faults : faults' ≡ faults
-  pub untold : gates' ≡ gates
+  -- for want of memory to read the words: the exit status is that of want of memory, and its line is told. No
+  -- file was asked for, nothing was written, and no gate was told
+  pub record EndsForMemory (exit : ℕ) : Type 0 where
+    pub number : exit ≡ status_number Memory
+    pub line : TakesLine (told.taken err_old) (told.taken err_new) (told.faults err_old) (told.faults err_new) memory_line
+    pub files_as_before : files_new ≡ files_old
+    pub output_as_before : out_new ≡ out_old
+    pub untold : gates' ≡ gates

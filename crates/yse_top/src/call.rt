@@ -37,6 +37,8 @@ pub fn call<R: Threads + Wait + Sync, F: Files, O: Sink, E: Sink, G: Gate + Send
 ) -> Status
     requires gates { MAX_WORKERS ≤ length gates.old }
     requires tell { AllCanTell G.Gate.own gates.old }
+    ensures same_names { F.names files.new ≡ F.names files.old }
+    ensures same_bytes { F.bytes files.new ≡ F.bytes files.old }
     ensures came { CameTo (F.names files.old) (F.bytes files.old) (F.counts files.old) (F.counts files.new) (Expected (map string_bytes words.now))
         result (O.taken out.old) (O.taken out.new) (O.faults out.old) (O.faults out.new)
         (TakesLine (E.taken err.old) (E.taken err.new) (E.faults err.old) (E.faults err.new)) }
@@ -72,6 +74,8 @@ fn obey<R: Threads + Wait + Sync, F: Files, O: Sink, E: Sink, G: Gate + Send>(
     requires range { IsInRange command.now }
     requires gates { MAX_WORKERS ≤ length gates.old }
     requires tell { AllCanTell G.Gate.own gates.old }
+    ensures same_names { F.names files.new ≡ F.names files.old }
+    ensures same_bytes { F.bytes files.new ≡ F.bytes files.old }
     ensures came { CameTo (F.names files.old) (F.bytes files.old) (F.counts files.old) (F.counts files.new) (ExpectedOf command.now)
         result (O.taken out.old) (O.taken out.new) (O.faults out.old) (O.faults out.new)
         (TakesLine (E.taken err.old) (E.taken err.new) (E.faults err.old) (E.faults err.new)) }

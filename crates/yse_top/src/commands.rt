@@ -40,6 +40,8 @@ pub fn prepare<'a, R: Threads + Wait + Sync, F: Files, O: Sink, G: Gate + Send>(
     requires range { IsInRange command.now }
     requires gates { MAX_WORKERS ≤ length gates.old }
     requires tell { AllCanTell G.Gate.own gates.old }
+    ensures same_names { F.names files.new ≡ F.names files.old }
+    ensures same_bytes { F.bytes files.new ≡ F.bytes files.old }
     ensures expected { Follows (F.names files.old) (F.bytes files.old) (F.counts files.old) (F.counts files.new)
         result (ExpectedOf command.now) }
     ensures writable { IfOk result CanEnd }

@@ -10,6 +10,7 @@ ghost use Rattle.yse_compile.specs.declared.compiler.Compiled.{Compiled};
 ghost use Rattle.yse_compile.specs.Claims.{AreClaimsOf};
 ghost use Rattle.yse_compile.specs.Chosen.{IsDesign};
 ghost use Rattle.yse_top.specs.Law.{AreProper, HaveOutcomes, TellsWords};
+ghost use Rattle.yse_top.specs.Sequel.{RunsWhatIsCompiled};
 ghost use Rattle.yse_commands.specs.commands.Exec.{IsTaken};
 
 use bench_read::law::{reads_or_faults as netlists_or_faults, texts_read_as_valid};
@@ -88,4 +89,22 @@ pub fn compiled_images_are_taken()
     one_list();
     items_are_well_formed();
     same_inputs();
+}
+
+/// A law: what is compiled is run. After a call of `compile` and one of `run` that ended with status 0, a call of `exec`
+/// with the same netlist, list, mode, turns of a cycle and initial value, of the file that holds what `compile` wrote and
+/// of the stimulus of the run, writes the trace of the run, or ends for want of memory or at a fault that was counted;
+/// unless the image's text is longer than a file may be. It speaks of what was read, so that it holds over real files
+/// too: they held the same, as far as they were read. It does nothing.
+pub fn compiled_images_run()
+    ensures { RunsWhatIsCompiled }
+{
+    calls_are_proper();
+    compiled_images_are_taken();
+    netlists_or_faults();
+    lists_or_faults();
+    stimuli_or_faults();
+    machines_are_valid();
+    texts_read_as_valid();
+    one_simulation();
 }

@@ -8,7 +8,7 @@ ghost use Rattle.edge_io.specs.Counts.{raised, Rose};
 ghost use Rattle.cmd_words.specs.Asked.{asked};
 ghost use Rattle.limits.specs.declared.TheConstants.{MAX_WORKERS};
 ghost use Rattle.machine_run.specs.Visits.{AreInPlace};
-ghost use Rattle.yse_commands.specs.Ends.{EndsAs, IsDoneOrMemory, MayWrite, AreToldBy};
+ghost use Rattle.yse_commands.specs.Ends.{EndsAs, IsDoneOrMemory, KeepsStore, KeepsTaken, MayWrite, AreToldBy};
 ghost use Rattle.yse_commands.specs.Expected.{Expected};
 ghost use Rattle.refusal_lines.specs.Lines.{memory_line};
 ghost use Rattle.named_files.specs.Outcome.{Outcome, done};
@@ -127,6 +127,10 @@ pub fn yse<R: Threads + Wait + Sync, F: Files, O: Sink, E: Sink, G: Gate + Send>
     // No call of a sink at all.
     ensures no_output { (MayWrite result → ⊥) → out.new ≡ out.old }
     ensures no_line { result ≡ Status.Done → err.new ≡ err.old }
+
+    // The names and the bytes of the files stay; `out` keeps what it had taken, and its count of faults never falls.
+    ensures store { KeepsStore (F.names files.old) (F.names files.new) (F.bytes files.old) (F.bytes files.new) }
+    ensures out_kept { KeepsTaken (O.taken out.old) (O.taken out.new) (O.faults out.old) (O.faults out.new) }
 
     // A gate stands in each place where one stood.
     ensures in_place { AreInPlace gates.old gates.new }

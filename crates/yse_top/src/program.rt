@@ -3,7 +3,6 @@
 ghost use Rattle.std.specs.Prelude.{◌≡◌, ◌≤◌, ℕ, List as Items, Option, MatchOption, length};
 ghost use Rattle.std.specs.IoError.{error_kind};
 ghost use Rattle.std.specs.Process.{exit_status};
-ghost use Rattle.edge_io.specs.Writing.{TakesLine};
 ghost use Rattle.limits.specs.declared.TheConstants.{MAX_WORKERS};
 ghost use Rattle.refusal_lines.specs.Statuses.{status_number};
 ghost use Rattle.yse_commands.specs.Visited.{AllCanTell};
@@ -39,11 +38,9 @@ pub fn ended<R: Threads + Wait + Sync, F: Files, O: Sink, E: Sink, G: Gate + Sen
     requires tell { AllCanTell G.Gate.own gates.old }
     ensures called { (given : Option (Items (Items ℕ)))
         × Gives error_kind ErrorKind.OutOfMemory read given
-        × MatchOption given (EndsForMemory (F.counts files.old) (F.counts files.new) (O.taken out.old) (O.taken out.new) (O.faults out.old) (O.faults out.new)
-        (TakesLine (E.taken err.old) (E.taken err.new) (E.faults err.old) (E.faults err.new)) gates.old gates.new (exit_status result))
-        (λ words. EndsBy G.Gate.own (F.names files.old) (F.bytes files.old) (F.counts files.old) (F.counts files.new)
-        (O.taken out.old) (O.taken out.new) (O.faults out.old) (O.faults out.new)
-        (TakesLine (E.taken err.old) (E.taken err.new) (E.faults err.old) (E.faults err.new)) gates.old gates.new words
+        × MatchOption given
+        (EndsForMemory F.Files.own O.Sink.own E.Sink.own G.Gate.own files.old files.new out.old out.new err.old err.new gates.old gates.new (exit_status result))
+        (λ words. EndsBy F.Files.own O.Sink.own E.Sink.own G.Gate.own files.old files.new out.old out.new err.old err.new gates.old gates.new words
         (exit_status result)) }
 {
     match words_given(alloc, read) {

@@ -2,7 +2,7 @@
 use Rattle.std.proofs.Common.{map}
 use Rattle.std.specs.String.{string_bytes}
 use Rattle.yse_top.proofs.CallLemmas.{few_begun}
-use Rattle.yse_top.proofs.CameLemmas.{absent_came, completes_came, fault_came, words_came, write_came}
+use Rattle.yse_top.proofs.CameLemmas.{absent_came, completes_came, fault_came, output_kept, words_came, write_came}
 use Rattle.yse_top.proofs.yse.Goals as goal
 
 pub returns-clause-expected : goal.returns-clause-expected
@@ -28,3 +28,9 @@ returns-clause-begun g c =
 
 pub returns-clause-absent : goal.returns-clause-absent
 returns-clause-absent g c other = absent_came _ _ _ _ (map string_bytes c.args.words.now) _ _ _ _ _ _ _ (c.calls_are_proper.ensures.proper (map string_bytes c.args.words.now)) c.call.ensures.came other
+
+pub returns-clause-store : goal.returns-clause-store
+returns-clause-store g c = record { names = c.call.ensures.same_names; bytes = c.call.ensures.same_bytes }
+
+pub returns-clause-out_kept : goal.returns-clause-out_kept
+returns-clause-out_kept g c = let came = c.call.ensures.came in output_kept _ came.outcome _ _ _ _ came.ends

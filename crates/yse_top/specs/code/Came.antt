@@ -1,18 +1,15 @@
 -- What a call came to.
-use Rattle.std.specs.Prelude.{◌≡◌, ℕ, Bool, List, Option}
+use Rattle.std.specs.Prelude.{ℕ, Bool, List, Option}
 use Rattle.edge_io.specs.declared.counts.FileCounts.{FileCounts}
 use Rattle.refusal_lines.specs.declared.status.Status.{Status}
-use Rattle.refusal_lines.specs.declared.status.Status.TheVariants as status
-use Rattle.yse_commands.specs.Ends.{EndsAs, MayWrite}
+use Rattle.yse_commands.specs.Ends.{EndsAs}
 use Rattle.named_files.specs.Outcome.{Outcome}
 use Rattle.named_files.specs.Readings.{Reading, AreReadings}
 
--- an outcome that a chain of checks expects of what was read, in which the call ended; a fault of writing came where
--- something is written
+-- an outcome that a chain of checks expects of what was read, in which the call ended
 pub record CameTo (names : Option (List ℕ → Bool)) (bytes : Option (List ℕ → List ℕ)) (counts counts' : FileCounts) (Chain : List Reading → Outcome → Type 0) (result : Status) (old new : Option (List ℕ)) (faults_old faults_new : ℕ) (TakesLine : List ℕ → Type 0) : Type 0 where
   pub readings : List Reading
   pub outcome : Outcome
   pub are : AreReadings names bytes counts counts' readings
   pub expected : Chain readings outcome
   pub ends : EndsAs result outcome old new faults_old faults_new TakesLine
-  pub wrote : result ≡ status.WriteFault → MayWrite outcome.status

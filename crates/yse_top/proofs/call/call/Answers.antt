@@ -1,18 +1,15 @@
 -- What the command came to, or why there is none.
-use Rattle.std.proofs.Common.{◌≡◌, ◌∙◌, sym, subst, map, inl, inr}
+use Rattle.std.proofs.Common.{◌≡◌, ◌∙◌, sym, refl, subst, map, inl, inr}
 use Rattle.std.specs.String.{string_bytes}
 use Rattle.cmd_words.specs.declared.command.Command.{Command}
 use Rattle.cmd_words.specs.Forms.{HasForm}
 use Rattle.cmd_words.specs.declared.command.WordNo.TheVariants.{Usage, Memory}
 use Rattle.refusal_lines.specs.declared.refusal.Refusal.TheVariants as refusal
-use Rattle.yse_commands.specs.Ends.{MayWrite}
 use Rattle.yse_commands.specs.Expected.{Expected}
 use Rattle.named_files.specs.Refused.{refused_of}
 use Rattle.yse_commands.specs.Traced.{IsOutputOfFiles}
 use Rattle.yse_commands.specs.Visited.{TellsGates}
-use Rattle.yse_top.proofs.CallLemmas.{follows_usage, follows_no_memory}
-use Rattle.yse_commands.proofs.VisitedLemmas.{refused_writes}
-use Rattle.edge_io.proofs.WritingLemmas.{append_known-nil}
+use Rattle.yse_top.proofs.CallLemmas.{follows_usage, follows_no_memory, refused_ends}
 use Rattle.yse_top.proofs.call.call.Goals as goal
 
 -- ---- a command
@@ -27,7 +24,6 @@ returns-in-Ok-clause-came g c =
       are = came.are;
       expected = inl (c.in-Ok.command, c.in-Ok.ensures.form, came.expected);
       ends = came.ends;
-      wrote = came.wrote;
     }
 
 pub returns-in-Ok-clause-trace : goal.returns-in-Ok-clause-trace
@@ -50,8 +46,7 @@ returns-in-Err-Usage-clause-came g c =
       outcome = refused_of refusal.Words;
       are = follows.are;
       expected = follows.expected;
-      ends = inl (c.refuse.ensures.status, sym (append_known-nil _), c.refuse.ensures.line);
-      wrote = λ is. absurd (refused_writes refusal.Words (subst MayWrite (sym (sym c.refuse.ensures.status ∙ is)) tt));
+      ends = refused_ends refusal.Words c.refuse.result _ _ _ _ _ c.refuse.ensures.status refl refl c.refuse.ensures.line;
     }
   where
     usage_not_memory : Usage ≡ Memory → ⊥
@@ -65,6 +60,5 @@ returns-in-Err-Memory-clause-came g c =
       outcome = refused_of refusal.Memory;
       are = follows.are;
       expected = follows.expected;
-      ends = inl (c.refuse-in-Err-Memory.ensures.status, sym (append_known-nil _), c.refuse-in-Err-Memory.ensures.line);
-      wrote = λ is. absurd (refused_writes refusal.Memory (subst MayWrite (sym (sym c.refuse-in-Err-Memory.ensures.status ∙ is)) tt));
+      ends = refused_ends refusal.Memory c.refuse-in-Err-Memory.result _ _ _ _ _ c.refuse-in-Err-Memory.ensures.status refl refl c.refuse-in-Err-Memory.ensures.line;
     }

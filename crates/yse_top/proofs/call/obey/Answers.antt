@@ -1,13 +1,12 @@
 -- The outcome that the command came to, the trace, and what the gates were told.
-use Rattle.std.proofs.Common.{◌∙◌, sym, ap, subst, inl, Some}
-use Rattle.yse_commands.specs.Ends.{MayWrite}
+use Rattle.std.proofs.Common.{sym, ap, subst, Some}
 use Rattle.yse_commands.specs.Outputs.{bytes_of}
 use Rattle.yse_commands.specs.Refusals.{ended_with}
 use Rattle.named_files.specs.Refused.{refused_of}
 use Rattle.yse_commands.specs.Visited.{TellsGates}
 use Rattle.yse_commands.proofs.TracedLemmas.{traced}
-use Rattle.yse_commands.proofs.VisitedLemmas.{output_writes, refused_writes, told_fails, told_writes, tells_ended}
-use Rattle.edge_io.proofs.WritingLemmas.{append_known-nil}
+use Rattle.yse_commands.proofs.VisitedLemmas.{told_fails, told_writes, tells_ended}
+use Rattle.yse_top.proofs.CallLemmas.{refused_ends}
 use Rattle.yse_top.proofs.call.obey.Goals as goal
 
 -- ---- an output
@@ -21,7 +20,6 @@ returns-in-Ok-clause-came g c =
       are = follows.are;
       expected = follows.expected;
       ends = c.end.ensures.ends c.args.out.now c.in-Ok.ensures.written;
-      wrote = λ is. output_writes c.in-Ok.output;
     }
 
 pub returns-in-Ok-clause-trace : goal.returns-in-Ok-clause-trace
@@ -45,8 +43,7 @@ returns-in-Err-clause-came g c =
       outcome = refused_of why;
       are = follows.are;
       expected = follows.expected;
-      ends = inl (c.refuse.ensures.status, ap (λ s. g.O.Sink.taken s) c.in-Err.ensures.written ∙ sym (append_known-nil _), c.refuse.ensures.line);
-      wrote = λ is. absurd (refused_writes why (subst MayWrite (sym (sym c.refuse.ensures.status ∙ is)) tt));
+      ends = refused_ends why c.refuse.result _ _ _ _ _ c.refuse.ensures.status (ap (λ s. g.O.Sink.taken s) c.in-Err.ensures.written) (ap (λ s. g.O.Sink.faults s) c.in-Err.ensures.written) c.refuse.ensures.line;
     }
 
 pub returns-in-Err-clause-visits : goal.returns-in-Err-clause-visits

@@ -74,7 +74,7 @@ use Rattle.yse_top.proofs.OutcomeLemmas.{outcome_after, outcome_writes}
 use Rattle.yse_top.proofs.ProperLemmas.{IsCheck, IsSingle, IsAnswered, alike, memory_status, proper_after, writes_ending}
 use Rattle.yse_top.proofs.ChoiceLemmas.{HasHomes, has_homes}
 use Rattle.yse_top.proofs.ReportLemmas.{AreOnce, one_report, some_report}
-use Rattle.yse_top.proofs.CheckLemmas.{reads_check, loop_check, IsRoomLaw, room_check, size_check, trace_only, trace_some}
+use Rattle.yse_top.proofs.CheckLemmas.{default_is_valid, reads_check, loop_check, IsRoomLaw, room_check, size_check, trace_only, trace_some}
 use Rattle.yse_top.proofs.law.calls_are_proper.Goals as goal
 
 -- the laws of the layers below
@@ -379,24 +379,6 @@ module _ (laws : Laws) where
       no_command None is = is
       no_command (Some command) is = absurd (refused.0 command ((laws.forms words command).0 is))
   asked_words words readings outcome (inr (none, inr memory)) other = absurd (other (memory_status outcome memory))
-
-default_is_valid : IsValidMachine default_machine
-default_is_valid = record {
-  logic_least = omega arith;
-  logic_most = omega arith;
-  array_most = omega arith;
-  slots_least = omega arith;
-  slots_most = omega arith;
-  functions_least = omega arith;
-  functions_most = omega arith;
-  bits_least = omega arith;
-  bits_most = omega arith;
-  nodes_least = omega arith;
-  nodes_most = omega arith;
-  own = λ i d low. absurd (omega (arith, low));
-  once = λ i j d low up. absurd (omega (arith, up));
-  ports = omega arith;
-}
 
 pub returns : goal.returns
 unfolding Expected

@@ -1,4 +1,4 @@
-use Rattle.std.proofs.Common.{rules}
+-- Each promise of the call is handed on.
 use Rattle.yse_top.proofs.program.ended.Goals as goal
 
 pub returns-in-Ok : goal.returns-in-Ok

@@ -1,0 +1,72 @@
+-- The chains of the three calls, and how the last one ended.
+use Rattle.std.proofs.Common.{◌≡◌, ◌∙◌, sym, ap, subst, ◌⊎◌, inl, inr, List, Some, ℕ}
+use Rattle.std.specs.Io.KnownBytes.{append_known}
+use Rattle.cmd_words.specs.Asked.{asked}
+use Rattle.cmd_words.specs.declared.command.Command.{Command}
+use Rattle.cmd_words.specs.declared.command.Command.TheVariants as command
+use Rattle.cmd_words.specs.Forms.{HasForm}
+use Rattle.named_files.specs.Outcome.{Outcome, done}
+use Rattle.named_files.specs.Readings.{Reading}
+use Rattle.refusal_lines.specs.declared.status.Status.TheVariants as status
+use Rattle.yse_commands.specs.Expected.{Expected, ExpectedOf}
+use Rattle.yse_commands.specs.Words.{files_named}
+use Rattle.yse_top.specs.Law.{TellsWords}
+use Rattle.yse_top.proofs.CheckLemmas.{default_is_valid}
+use Rattle.yse_top.proofs.EndLemmas.{fault_rose}
+use Rattle.yse_top.proofs.ProperLemmas.{memory_status}
+use Rattle.yse_top.proofs.SequelLemmas.{Laws, sequel_ends}
+use Rattle.yse_top.proofs.law.compiled_images_run.Goals as goal
+
+-- the chain of the command that the words ask for
+chain_of : TellsWords → (words : List (List ℕ)) (asked_for : Command) → HasForm words asked_for → (readings : List Reading) (o : Outcome) → Expected words readings o → ExpectedOf asked_for readings o ⊎ (o.status ≡ status.Memory)
+unfolding Expected
+chain_of laws words asked_for has readings o (inl (other, has_too, next)) =
+    inl (subst (λ (c : Command). ExpectedOf c readings o) (same (sym ((laws.forms words other).1 has_too) ∙ (laws.forms words asked_for).1 has)) next)
+  where
+    same : Some other ≡ Some asked_for → other ≡ asked_for
+    same e = cc
+chain_of laws words asked_for has readings o (inr (none, inl refused)) = absurd (refused.0 asked_for has)
+chain_of laws words asked_for has readings o (inr (none, inr memory)) = inr (memory_status o memory)
+
+-- that of a call that ended well
+chain_well : TellsWords → (words : List (List ℕ)) (asked_for : Command) → HasForm words asked_for → (readings : List Reading) (o : Outcome) → o.status ≡ status.Done → Expected words readings o → ExpectedOf asked_for readings o
+chain_well laws words asked_for has readings o well expected = elim (chain_of laws words asked_for has readings o expected) [
+  | inl chain ↦ chain
+  | inr memory ↦ absurd (other (sym well ∙ memory))
+]
+  where
+    other : status.Done ≡ status.Memory → ⊥
+    other e = cc
+
+pub returns : goal.returns
+returns c compiling running executing compile run exec image form_compiling form_running form_executing design same stimulus before after compiled ran leaves first second
+    compiles held_first well short runs held_second well_too names bytes counts counts' third outcome are held_third expected result old new faults_old faults_new TakesLine ends =
+    let told = c.calls_are_proper.ensures.words in
+    let laws : Laws = record {
+      netlists = c.reads_or_faults.ensures.reader;
+      valid_netlists = c.texts_read_as_valid.ensures;
+      lists = c.reads_or_faults-2.ensures.reader;
+      stimuli = c.reads_or_faults-3.ensures.reader;
+      valid_machines = c.reads_as_valid.ensures;
+      default_valid = default_is_valid;
+      one_simulation = c.one_simulation.ensures.without_loop;
+      taken = c.compiled_images_are_taken.ensures;
+    } in
+    let chain = chain_of told executing (command.Exec exec image) form_executing third outcome expected in
+    let end = elim chain [
+      | inl executes ↦ sequel_ends laws before after compile run exec image compiled ran outcome design same stimulus leaves short first second third
+          (chain_well told compiling (command.Compile compile) form_compiling first compiled well compiles) held_first well
+          (chain_well told running (command.Run run) form_running second ran well_too runs) held_second well_too held_third executes
+      | inr memory ↦ inr (inl memory)
+    ] in
+    elim ends.ends [
+      | inl whole ↦ elim end [
+        | inl is ↦ inl (whole.0 ∙ ap (λ (o : Outcome). o.status) is, whole.1 ∙ ap (λ (o : Outcome). append_known old o.output) is)
+        | inr (inl memory) ↦ inr (inl (whole.0 ∙ memory))
+        | inr (inr fault) ↦ inr (inr (inl (
+          whole.0 ∙ fault,
+          fault_rose names bytes counts counts' (files_named (asked executing)) (Expected executing) (c.calls_are_proper.ensures.proper executing) third outcome are expected fault,
+        )))
+      ]
+      | inr cut ↦ inr (inr (inr (cut.0, cut.2)))
+    ]

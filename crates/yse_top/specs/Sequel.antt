@@ -1,0 +1,56 @@
+-- Two calls, one after the other: `compile` writes an image, and `exec` runs what it wrote.
+use Rattle.std.specs.Prelude.{◌≡◌, ◌⊎◌, ◌≤◌, ℕ, Bool, List, Option, Some, IfSome, length, slice_get}
+use Rattle.std.specs.Io.KnownBytes.{append_known}
+use Rattle.cmd_words.specs.declared.command.Command.TheVariants as command
+use Rattle.cmd_words.specs.declared.command.RunWords.{RunWords}
+use Rattle.cmd_words.specs.Forms.{HasForm}
+use Rattle.edge_io.specs.Counts.{Rose}
+use Rattle.edge_io.specs.declared.counts.FileCounts.{FileCounts}
+use Rattle.limits.specs.declared.TheConstants.{MAX_TEXT_BYTES}
+use Rattle.refusal_lines.specs.declared.status.Status.{Status}
+use Rattle.refusal_lines.specs.declared.status.Status.TheVariants as status
+use Rattle.named_files.specs.Outcome.{Outcome}
+use Rattle.named_files.specs.Readings.{Reading, AreReadings}
+use Rattle.yse_commands.specs.Ends.{EndsAs}
+use Rattle.yse_commands.specs.Expected.{Expected}
+
+-- what was read of a file is what it holds
+abbrev pub AreHeld : (List ℕ → List ℕ) → List Reading → Type 0
+AreHeld held readings = (place : ℕ) (reading : Reading) → slice_get readings place ≡ Some reading → IfSome reading.bytes (λ bytes. bytes ≡ held reading.file)
+
+-- the words name the same netlist and the same list, and the same mode, turns of a cycle and initial value
+pub record AreOfOneDesign (words other : RunWords) : Type 0 where
+  pub netlist : words.netlist ≡ other.netlist
+  pub last : words.last ≡ other.last
+  pub timing : words.timing ≡ other.timing
+
+-- the files that the words name hold what they held, and the image's file holds this text
+pub record Leaves (before after : List ℕ → List ℕ) (words : RunWords) (image text : List ℕ) : Type 0 where
+  pub netlist : after words.netlist ≡ before words.netlist
+  pub last : IfSome words.last (λ file. after file ≡ before file)
+  pub image : after image ≡ text
+
+-- a call wrote this output, or ended for want of memory, or at a fault that was counted
+abbrev pub WritesOrFails : List ℕ → Status → FileCounts → FileCounts → Option (List ℕ) → Option (List ℕ) → ℕ → ℕ → Type 0
+WritesOrFails output result counts counts' old new faults_old faults_new =
+    ((result ≡ status.Done) × (new ≡ append_known old output))
+    ⊎ (result ≡ status.Memory)
+    ⊎ ((result ≡ status.ReadFault) × Rose counts.faults counts'.faults)
+    ⊎ ((result ≡ status.WriteFault) × Rose faults_old faults_new)
+
+-- A call of `compile` wrote an image, and a call of `run` with the same netlist, list and timing a trace, by whatever
+-- machine, homes, workers and banks. Then a call of `exec`, of the file that holds exactly what `compile` wrote, and of
+-- the stimulus of the run, writes the trace of the run, but for want of memory and for faults that were counted.
+abbrev pub RunsWhatIsCompiled : Type 0
+RunsWhatIsCompiled =
+    (compiling running executing : List (List ℕ)) (compile run exec : RunWords) (image : List ℕ)
+    → HasForm compiling (command.Compile compile) → HasForm running (command.Run run) → HasForm executing (command.Exec exec image)
+    → AreOfOneDesign compile exec → AreOfOneDesign run exec → run.stimulus ≡ exec.stimulus
+    → (before after : List ℕ → List ℕ) (compiled ran : Outcome) → Leaves before after exec image compiled.output
+    → (first second : List Reading) → Expected compiling first compiled → AreHeld before first → compiled.status ≡ status.Done → length compiled.output ≤ MAX_TEXT_BYTES
+    → Expected running second ran → AreHeld after second → ran.status ≡ status.Done
+    → (names : Option (List ℕ → Bool)) (bytes : Option (List ℕ → List ℕ)) (counts counts' : FileCounts) (third : List Reading) (outcome : Outcome)
+    → AreReadings names bytes counts counts' third → AreHeld after third → Expected executing third outcome
+    → (result : Status) (old new : Option (List ℕ)) (faults_old faults_new : ℕ) (TakesLine : List ℕ → Type 0)
+    → EndsAs result outcome old new faults_old faults_new TakesLine
+    → WritesOrFails ran.output result counts counts' old new faults_old faults_new
