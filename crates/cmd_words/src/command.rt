@@ -39,19 +39,6 @@ pub enum Command {
     Order(RunWords),
     /// How a netlist is laid out on the machine. There is no file of a stimulus.
     Plan(RunWords),
-    /// The text of a netlist's compiled image. There is no file of a stimulus.
-    Compile(RunWords),
-    /// The same trace as `Run`, by an image that was compiled before.
-    Exec {
-        /// The simulation. There is no file of a machine.
-        words: RunWords,
-        /// The file of the image.
-        image: Text,
-    },
-    /// The traces of up to 30 simulations at once, by the compiled machine. The file of the stimulus is one of lanes.
-    Pack(RunWords),
-    /// Where each stuck fault of a netlist is first seen.
-    Fault(RunWords),
     /// The canonical text of a netlist.
     Show {
         /// The file of the netlist.
@@ -66,6 +53,19 @@ pub enum Command {
         /// The workers that step the machine's ports, 1 to 64.
         workers: u32,
     },
+    /// The text of a netlist's compiled image. There is no file of a stimulus.
+    Compile(RunWords),
+    /// The same trace as `Run`, by an image that was compiled before.
+    Exec {
+        /// The simulation. There is no file of a machine.
+        words: RunWords,
+        /// The file of the image.
+        image: Text,
+    },
+    /// The traces of up to 30 simulations at once, by the compiled machine. The file of the stimulus is one of lanes.
+    Pack(RunWords),
+    /// Where each stuck fault of a netlist is first seen.
+    Fault(RunWords),
 }
 
 /// Why words are refused.

@@ -71,8 +71,8 @@ writes_on old mid new f g h (Err e) a b first then =
 -- what is written of a line is told of it
 pub tells_written : (old new : Option (List ℕ)) (f g : ℕ) (r : Result (Unit {0}) WriteNo) (line : List ℕ) → Takes old new f g r line → TakesLine old new f g line
 tells_written old new f g (Ok done) line w =
-    record { front = (length line, w.whole ∙ ap (append_known old) (sym (take-length line))); whole = inr w.whole }
-tells_written old new f g (Err e) line w = record { front = (w.prefix.count, w.prefix.taken); whole = inl w.failed }
+    record { front = (length line, w.whole ∙ ap (append_known old) (sym (take-length line))); whole = inr w.whole; kept = w.kept }
+tells_written old new f g (Err e) line w = record { front = (w.prefix.count, w.prefix.taken); whole = inl w.failed; kept = w.kept }
 
 -- a call that wrote one piece, and another that wrote the next
 pub writes_then : (old mid new : Option (List ℕ)) (f g h : ℕ) (q r : Result (Unit {0}) WriteNo) (done : Unit {0}) (piece a b : List ℕ) → q ≡ Ok done → piece ≡ a → Takes old mid f g q piece → Takes mid new g h r b → Takes old new f h r (a ++ b)

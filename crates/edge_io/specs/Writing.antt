@@ -23,7 +23,9 @@ pub record Takes (old new : Option (List ℕ)) (faults_old faults_new : ℕ) (re
   pub failed : OnErr result (Rose faults_old faults_new)
   pub kept : faults_old ≤ faults_new
 
--- a sink that took `old` and now `new` has taken a front of the line, and all of it unless its faults rose
+-- a sink that took `old` and now `new` has taken a front of the line, and all of it unless its faults rose, which
+-- never fell
 pub record TakesLine (old new : Option (List ℕ)) (faults_old faults_new : ℕ) (line : List ℕ) : Type 0 where
   pub front : (count : ℕ) × (new ≡ append_known old (take count line))
   pub whole : Rose faults_old faults_new ⊎ (new ≡ append_known old line)
+  pub kept : faults_old ≤ faults_new

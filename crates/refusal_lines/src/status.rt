@@ -30,14 +30,14 @@ pub enum Status {
     Unfinished,
     /// An order text is refused.
     OrderText,
+    /// Want of memory.
+    Memory,
     /// The text of a list of gates is refused.
     LastList,
     /// An image text is refused.
     ImageText,
     /// An image does not match the netlist.
     ImageMatch,
-    /// Want of memory.
-    Memory,
 }
 
 impl Status {
@@ -58,10 +58,10 @@ impl Status {
             Status::Limit => 10,
             Status::Unfinished => 11,
             Status::OrderText => 12,
+            Status::Memory => 70,
             Status::LastList => 13,
             Status::ImageText => 14,
             Status::ImageMatch => 15,
-            Status::Memory => 70,
         }
     }
 }

@@ -1,6 +1,7 @@
 -- What the outcome that a call came to says of its status and of the counts.
 use Rattle.std.proofs.Common.{◌≡◌, ◌≢◌, ◌∙◌, ◌↔◌, sym, subst, inl, inr, ℕ, Bool, List, Option, None, take}
 use Rattle.edge_io.specs.Counts.{Rose}
+use Rattle.edge_io.specs.Writing.{TakesLine}
 use Rattle.edge_io.specs.declared.counts.FileCounts.{FileCounts}
 use Rattle.cmd_words.specs.Asked.{asked}
 use Rattle.refusal_lines.specs.declared.status.Status.{Status}
@@ -9,6 +10,7 @@ use Rattle.yse_top.specs.code.Came.{CameTo}
 use Rattle.yse_commands.specs.Ends.{AreToldBy, EndsAs, IsDoneOrMemory, KeepsTaken, MayWrite}
 use Rattle.yse_commands.specs.Expected.{Expected}
 use Rattle.yse_top.specs.Law.{IsProper, TellsWords}
+use Rattle.refusal_lines.specs.Lines.{write_fault_line}
 use Rattle.named_files.specs.Outcome.{Outcome, done}
 use Rattle.named_files.specs.Readings.{Reading}
 use Rattle.yse_commands.proofs.VisitedLemmas.{whole_writes}
@@ -63,7 +65,7 @@ module _ (names : Option (List ℕ → Bool)) (bytes : Option (List ℕ → List
       | inr cut ↦ absurd (written cut.2)
     ]
 
--- what the sink of the output had taken it has, however the call ended
+-- what a sink had taken it has, however the call ended
 module _ (result : Status) (outcome : Outcome) (old new : Option (List ℕ)) (faults_old faults_new : ℕ) where
   pub output_kept : {TakesLine : List ℕ → Type 0} → EndsAs result outcome old new faults_old faults_new TakesLine → KeepsTaken old new faults_old faults_new
   output_kept ended = record {
@@ -73,3 +75,12 @@ module _ (result : Status) (outcome : Outcome) (old new : Option (List ℕ)) (fa
     ];
     faults = ended.kept;
   }
+
+  line_taken : (told told' : Option (List ℕ)) (faults faults' : ℕ) (line : List ℕ) → TakesLine told told' faults faults' line → KeepsTaken told told' faults faults'
+  line_taken told told' faults faults' line takes = record { taken = (take takes.front.0 line, takes.front.1); faults = takes.kept }
+
+  pub line_kept : (told told' : Option (List ℕ)) (faults faults' : ℕ) → EndsAs result outcome old new faults_old faults_new (TakesLine told told' faults faults') → KeepsTaken told told' faults faults'
+  line_kept told told' faults faults' ended = elim ended.ends [
+    | inl whole ↦ line_taken told told' faults faults' outcome.line whole.2
+    | inr cut ↦ line_taken told told' faults faults' write_fault_line cut.3
+  ]

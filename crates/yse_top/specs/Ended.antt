@@ -42,6 +42,7 @@ module _ {F O E G : Type 0} (store : files.Ghosts F) (output : sink.Ghosts O) (t
     pub no_line : status ≡ Done → err_new ≡ err_old
     pub kept_store : KeepsStore (store.names files_old) (store.names files_new) (store.bytes files_old) (store.bytes files_new)
     pub out_kept : KeepsTaken (output.taken out_old) (output.taken out_new) (output.faults out_old) (output.faults out_new)
+    pub err_kept : KeepsTaken (told.taken err_old) (told.taken err_new) (told.faults err_old) (told.faults err_new)
     pub in_place : AreInPlace gates gates'
     pub read_fault : status ≡ ReadFault → Rose (store.counts files_old).faults (store.counts files_new).faults
     pub write_fault : status ≡ WriteFault → Rose (output.faults out_old) (output.faults out_new)

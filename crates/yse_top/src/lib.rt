@@ -128,9 +128,10 @@ pub fn yse<R: Threads + Wait + Sync, F: Files, O: Sink, E: Sink, G: Gate + Send>
     ensures no_output { (MayWrite result → ⊥) → out.new ≡ out.old }
     ensures no_line { result ≡ Status.Done → err.new ≡ err.old }
 
-    // The names and the bytes of the files stay; `out` keeps what it had taken, and its count of faults never falls.
+    // The names and the bytes of the files stay; each sink keeps what it had taken, and its count of faults never falls.
     ensures store { KeepsStore (F.names files.old) (F.names files.new) (F.bytes files.old) (F.bytes files.new) }
     ensures out_kept { KeepsTaken (O.taken out.old) (O.taken out.new) (O.faults out.old) (O.faults out.new) }
+    ensures err_kept { KeepsTaken (E.taken err.old) (E.taken err.new) (E.faults err.old) (E.faults err.new) }
 
     // A gate stands in each place where one stood.
     ensures in_place { AreInPlace gates.old gates.new }

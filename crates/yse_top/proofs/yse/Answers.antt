@@ -2,7 +2,7 @@
 use Rattle.std.proofs.Common.{map}
 use Rattle.std.specs.String.{string_bytes}
 use Rattle.yse_top.proofs.CallLemmas.{few_begun}
-use Rattle.yse_top.proofs.CameLemmas.{absent_came, completes_came, fault_came, output_kept, words_came, write_came}
+use Rattle.yse_top.proofs.CameLemmas.{absent_came, completes_came, fault_came, line_kept, output_kept, words_came, write_came}
 use Rattle.yse_top.proofs.yse.Goals as goal
 
 pub returns-clause-expected : goal.returns-clause-expected
@@ -34,3 +34,6 @@ returns-clause-store g c = record { names = c.call.ensures.same_names; bytes = c
 
 pub returns-clause-out_kept : goal.returns-clause-out_kept
 returns-clause-out_kept g c = let came = c.call.ensures.came in output_kept _ came.outcome _ _ _ _ came.ends
+
+pub returns-clause-err_kept : goal.returns-clause-err_kept
+returns-clause-err_kept g c = let came = c.call.ensures.came in line_kept _ came.outcome _ _ _ _ _ _ _ _ came.ends
