@@ -5,4 +5,4 @@ pub returns-in-NoLane : goal.returns-in-NoLane
 returns-in-NoLane g c = rw c.in-NoLane.is c.write_line_fault.ensures
 
 pub returns-in-TooMany : goal.returns-in-TooMany
-returns-in-TooMany g c = rw c.in-TooMany.is c.write_line_fault-in-TooMany.ensures
+returns-in-TooMany g c = rw c.in-TooMany.is c.write_many_lanes_line.ensures
