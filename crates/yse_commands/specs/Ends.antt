@@ -49,8 +49,8 @@ AreToldBy names told readings = (place : ℕ) (reading : Reading) → slice_get 
 
 -- a store has the names and the bytes that it had
 pub record KeepsStore (names names' : Option (List ℕ → Bool)) (bytes bytes' : Option (List ℕ → List ℕ)) : Type 0 where
-  pub names : names' ≡ names
-  pub bytes : bytes' ≡ bytes
+  pub same_names : names' ≡ names
+  pub same_bytes : bytes' ≡ bytes
 
 -- a sink has what it had taken, with something more at its end or nothing, and its count of faults never fell
 pub record KeepsTaken (old new : Option (List ℕ)) (faults_old faults_new : ℕ) : Type 0 where

@@ -5,6 +5,7 @@ use Rattle.cmd_words.specs.declared.command.Command.TheVariants as command
 use Rattle.cmd_words.specs.declared.command.RunWords.{RunWords}
 use Rattle.cmd_words.specs.Forms.{HasForm}
 use Rattle.edge_io.specs.Counts.{Rose}
+use Rattle.edge_io.specs.Writing.{TakesLine}
 use Rattle.edge_io.specs.declared.counts.FileCounts.{FileCounts}
 use Rattle.limits.specs.declared.TheConstants.{MAX_TEXT_BYTES}
 use Rattle.refusal_lines.specs.declared.status.Status.{Status}
@@ -24,11 +25,11 @@ pub record AreOfOneDesign (words other : RunWords) : Type 0 where
   pub last : words.last ≡ other.last
   pub timing : words.timing ≡ other.timing
 
--- the files that the words name hold what they held, and the image's file holds this text
-pub record Leaves (before after : List ℕ → List ℕ) (words : RunWords) (image text : List ℕ) : Type 0 where
+-- the files that the words name hold what they held, and the file of this name, the image's, holds this text
+pub record Leaves (before after : List ℕ → List ℕ) (words : RunWords) (name text : List ℕ) : Type 0 where
   pub netlist : after words.netlist ≡ before words.netlist
   pub last : IfSome words.last (λ file. after file ≡ before file)
-  pub image : after image ≡ text
+  pub image : after name ≡ text
 
 -- a call wrote this output, or ended for want of memory, or at a fault that was counted
 abbrev pub WritesOrFails : List ℕ → Status → FileCounts → FileCounts → Option (List ℕ) → Option (List ℕ) → ℕ → ℕ → Type 0
@@ -51,6 +52,6 @@ RunsWhatIsCompiled =
     → Expected running second ran → AreHeld after second → ran.status ≡ status.Done
     → (names : Option (List ℕ → Bool)) (bytes : Option (List ℕ → List ℕ)) (counts counts' : FileCounts) (third : List Reading) (outcome : Outcome)
     → AreReadings names bytes counts counts' third → AreHeld after third → Expected executing third outcome
-    → (result : Status) (old new : Option (List ℕ)) (faults_old faults_new : ℕ) (TakesLine : List ℕ → Type 0)
-    → EndsAs result outcome old new faults_old faults_new TakesLine
+    → (result : Status) (old new told told' : Option (List ℕ)) (faults_old faults_new told_faults told_faults' : ℕ)
+    → EndsAs result outcome old new faults_old faults_new (TakesLine told told' told_faults told_faults')
     → WritesOrFails ran.output result counts counts' old new faults_old faults_new

@@ -30,7 +30,7 @@ pub returns-clause-absent : goal.returns-clause-absent
 returns-clause-absent g c other = absent_came _ _ _ _ (map string_bytes c.args.words.now) _ _ _ _ _ _ _ (c.calls_are_proper.ensures.proper (map string_bytes c.args.words.now)) c.call.ensures.came other
 
 pub returns-clause-store : goal.returns-clause-store
-returns-clause-store g c = record { names = c.call.ensures.same_names; bytes = c.call.ensures.same_bytes }
+returns-clause-store g c = record { same_names = c.call.ensures.same_names; same_bytes = c.call.ensures.same_bytes }
 
 pub returns-clause-out_kept : goal.returns-clause-out_kept
 returns-clause-out_kept g c = let came = c.call.ensures.came in output_kept _ came.outcome _ _ _ _ came.ends

@@ -14,7 +14,7 @@ use Rattle.yse_top.specs.Law.{TellsWords}
 use Rattle.yse_top.proofs.CheckLemmas.{default_is_valid}
 use Rattle.yse_top.proofs.EndLemmas.{fault_rose}
 use Rattle.yse_top.proofs.ProperLemmas.{memory_status}
-use Rattle.yse_top.proofs.SequelLemmas.{Laws, sequel_ends}
+use Rattle.yse_top.proofs.SequelLemmas.{IsEndOf, Laws, sequel_ends}
 use Rattle.yse_top.proofs.law.compiled_images_run.Goals as goal
 
 -- the chain of the command that the words ask for
@@ -40,8 +40,8 @@ chain_well laws words asked_for has readings o well expected = elim (chain_of la
 
 pub returns : goal.returns
 returns c compiling running executing compile run exec image form_compiling form_running form_executing design same stimulus before after compiled ran leaves first second
-    compiles held_first well short runs held_second well_too names bytes counts counts' third outcome are held_third expected result old new faults_old faults_new TakesLine ends =
-    let told = c.calls_are_proper.ensures.words in
+    compiles held_first well short runs held_second well_too names bytes counts counts' third outcome are held_third expected result old new told told' faults_old faults_new told_faults told_faults' ends =
+    let words = c.calls_are_proper.ensures.words in
     let laws : Laws = record {
       netlists = c.reads_or_faults.ensures.reader;
       valid_netlists = c.texts_read_as_valid.ensures;
@@ -52,11 +52,11 @@ returns c compiling running executing compile run exec image form_compiling form
       one_simulation = c.one_simulation.ensures.without_loop;
       taken = c.compiled_images_are_taken.ensures;
     } in
-    let chain = chain_of told executing (command.Exec exec image) form_executing third outcome expected in
-    let end = elim chain [
+    let chain = chain_of words executing (command.Exec exec image) form_executing third outcome expected in
+    let end : IsEndOf ran.output outcome = elim chain [
       | inl executes ↦ sequel_ends laws before after compile run exec image compiled ran outcome design same stimulus leaves short first second third
-          (chain_well told compiling (command.Compile compile) form_compiling first compiled well compiles) held_first well
-          (chain_well told running (command.Run run) form_running second ran well_too runs) held_second well_too held_third executes
+          (chain_well words compiling (command.Compile compile) form_compiling first compiled well compiles) held_first well
+          (chain_well words running (command.Run run) form_running second ran well_too runs) held_second well_too held_third executes
       | inr memory ↦ inr (inl memory)
     ] in
     elim ends.ends [
