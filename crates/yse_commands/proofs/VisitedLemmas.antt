@@ -69,7 +69,7 @@ output_writes (output.Text text) = tt
 output_writes (output.Trace trace) = tt
 output_writes (output.Unfinished trace ending) = tt
 output_writes (output.Written run) = tt
-output_writes (output.Lanes traces) = tt
+output_writes (output.Lanes run) = tt
 output_writes (output.Lines lines) = tt
 
 -- where the whole output was written, something was
@@ -99,7 +99,7 @@ is_done (Ok (output.Text text)) whole may = (text, refl)
 is_done (Ok (output.Trace trace)) whole may = (trace_bytes trace, refl)
 is_done (Ok (output.Unfinished trace ending)) whole may = cc
 is_done (Ok (output.Written run)) whole may = (run_bytes run, refl)
-is_done (Ok (output.Lanes traces)) whole may = (lanes_bytes traces, refl)
+is_done (Ok (output.Lanes run)) whole may = (lanes_bytes run, refl)
 is_done (Ok (output.Lines lines)) whole may = (joined lines, refl)
 is_done (Err why) whole may = absurd (refused_writes why may)
 
