@@ -33,10 +33,9 @@ node_has_room nodes machine homes n (Node table feeds) is at = let number : node
 node_has_room nodes machine homes n (Latch op) is at = let number : nodes.first_node + n - nodes.first_node ≡ n = omega arith in turn_has_room nodes machine homes.items n (subst (IsInTurn nodes machine homes.items) number at)
 
 module _ (nodes : NodeNet) (machine : Machine) (homes : Homes) (formed : IsWellFormed nodes) (picked : ArePicked nodes machine homes) (port : ℕ) where
-  few_before : (n : ℕ) → n ≤ node_count nodes → nodes_before nodes homes.items n port ≤ node_limit machine port
-  few_before zero low = omega arith
-  few_before (suc n) low =
-      let before = few_before n (omega (arith, low)) in
+  -- one node more
+  few_more : (n : ℕ) → n < node_count nodes → nodes_before nodes homes.items n port ≤ node_limit machine port → nodes_before nodes homes.items (n + 1) port ≤ node_limit machine port
+  few_more n low before =
       let found : (it : Item) × (slice_get nodes.items (nodes.first_node + n) ≡ Some it) = member_at nodes.items (nodes.first_node + n) (omega (arith, low)) in
       let computed : IsComputed found.0 = (formed.nodes_last (nodes.first_node + n) found.0 found.1).1 (omega arith) in
       let room = node_has_room nodes machine homes n found.0 computed (picked.picked (nodes.first_node + n) found.0 found.1) in
@@ -49,6 +48,12 @@ module _ (nodes : NodeNet) (machine : Machine) (homes : Homes) (formed : IsWellF
             omega (arith, more, one, less)
         | inr apart ↦ (let none : where_at home port 1 ≡ 0 = if_apart home port 1 0 apart in omega (arith, more, none, before))
       ]
+
+  few_before : (n : ℕ) → n ≤ node_count nodes → nodes_before nodes homes.items n port ≤ node_limit machine port
+  few_before zero low = omega arith
+  few_before (suc n) low =
+      let next : n + 1 ≡ suc n = omega arith in
+      subst (λ k. nodes_before nodes homes.items k port ≤ node_limit machine port) next (few_more n (omega (arith, low)) (few_before n (omega (arith, low))))
 
   -- a port has no more nodes than it may have
   picked_few : load_at nodes homes port ≤ node_limit machine port

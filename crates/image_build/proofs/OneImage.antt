@@ -266,26 +266,32 @@ module _ {one other : NodeNet} {homes : Homes} {slots : List ℕ} {claims : List
     } where
       there_by : {x : ℕ} (i n : ℕ) (e : Evaluates tasks i n) (also : Task) → slice_get twins i ≡ Some also → AreEvals homes slots p x tables others (Eval e.slot n e.a e.b e.c e.d) also ⊎ AreHolds (Eval e.slot n e.a e.b e.c e.d) also
           → (m : ℕ) × Evaluates twins i m
-      there_by {x} i n e also is_at (inl evals) = (evals.m, record {
-        slot = slot_of slots x;
-        a = feed_source homes slots p evals.feeds.a;
-        b = feed_source homes slots p evals.feeds.b;
-        c = feed_source homes slots p evals.feeds.c;
-        d = feed_source homes slots p evals.feeds.d;
-        is = is_at ∙ ap Some evals.other;
-      })
+      there_by {x} i n e also is_at (inl evals) = (
+        evals.m,
+        record {
+          slot = slot_of slots x;
+          a = feed_source homes slots p evals.feeds.a;
+          b = feed_source homes slots p evals.feeds.b;
+          c = feed_source homes slots p evals.feeds.c;
+          d = feed_source homes slots p evals.feeds.d;
+          is = is_at ∙ ap Some evals.other;
+        },
+      )
       there_by i n e also is_at (inr holds) = absurd (no_hold e.slot n e.a e.b e.c e.d holds.slot holds.from holds.one)
 
       back_by : {x : ℕ} (i m : ℕ) (e : Evaluates twins i m) (task : Task) → slice_get tasks i ≡ Some task → AreEvals homes slots p x tables others task (Eval e.slot m e.a e.b e.c e.d) ⊎ AreHolds task (Eval e.slot m e.a e.b e.c e.d)
           → (n : ℕ) × Evaluates tasks i n
-      back_by {x} i m e task is_at (inl evals) = (evals.n, record {
-        slot = slot_of slots x;
-        a = feed_source homes slots p evals.feeds.a;
-        b = feed_source homes slots p evals.feeds.b;
-        c = feed_source homes slots p evals.feeds.c;
-        d = feed_source homes slots p evals.feeds.d;
-        is = is_at ∙ ap Some evals.one;
-      })
+      back_by {x} i m e task is_at (inl evals) = (
+        evals.n,
+        record {
+          slot = slot_of slots x;
+          a = feed_source homes slots p evals.feeds.a;
+          b = feed_source homes slots p evals.feeds.b;
+          c = feed_source homes slots p evals.feeds.c;
+          d = feed_source homes slots p evals.feeds.d;
+          is = is_at ∙ ap Some evals.one;
+        },
+      )
       back_by i m e task is_at (inr holds) = absurd (no_hold e.slot m e.a e.b e.c e.d holds.slot holds.from holds.other)
 
       same_in : {x : ℕ} (i n m : ℕ) (e : Evaluates tasks i n) (f : Evaluates twins i m)
@@ -339,7 +345,7 @@ module _ {one other : NodeNet} {homes : Homes} {slots : List ℕ} {claims : List
         let bit_too = bit_named second claims other p twin.ins others also theirs.0 theirs.2 in
         let parts = same_bit one.tables other.tables bit.0 bit.1 bit_too.0 bit_too.1 (subst (λ j. AreSameItem one.tables other.tables j (item.BlockBit bit_too.0 bit_too.1)) bit.2 (subst (AreSameItem one.tables other.tables mine.0) bit_too.2 (same.items claim.0 mine.0 theirs.0 mine.1 theirs.1))) in
         let place : slice_get work_too.ordered.2.numbers out.block ≡ Some bit_too.0 =
-            subst (λ (xs : List ℕ). slice_get xs out.block ≡ Some bit_too.0) numbers_same (work.ordered.2.bits i claim.0 bit.0 bit.1 out here claim.1 (mine.1 ∙ ap Some bit.2) ∙ ap Some parts.0) in
+        subst (λ (xs : List ℕ). slice_get xs out.block ≡ Some bit_too.0) numbers_same (work.ordered.2.bits i claim.0 bit.0 bit.1 out here claim.1 (mine.1 ∙ ap Some bit.2) ∙ ap Some parts.0) in
         let place_too = work_too.ordered.2.bits i claim.0 bit_too.0 bit_too.1 also there claim.1 (theirs.1 ∙ ap Some bit_too.2) in
         let up = rises work_too.ordered.2.numbers work_too.ordered.2.lists.rising in
         same_out out also (mine.3 ∙ sym theirs.3)

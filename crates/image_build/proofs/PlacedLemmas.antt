@@ -107,13 +107,17 @@ module _ {nodes : NodeNet} {homes : Homes} {slots : List ℕ} {claims : List (Li
     pub task_like : (tables : List Table) (x : ℕ) (one : Item) (task : Task) → IsTask port (length tables) task → task_slot task ≡ slot_of slots x → TaskImplements image claims nodes p port.ins tables task one
         → IsTaskLike nodes homes slots p tables x one task
     task_like tables x (item.Node t feeds) (Eval slot n a b c d) formed at (first, second, here, there_too, alike, from_a, from_b, from_c, from_d) = (
-      n, first, second,
+      n,
+      first,
+      second,
       ap (λ s. Eval s n a b c d) at
           ∙ ap (λ s. Eval (slot_of slots x) n s b c d) (carried_source a feeds.a formed.1.there from_a)
           ∙ ap (λ s. Eval (slot_of slots x) n (feed_source homes slots p feeds.a) s c d) (carried_source b feeds.b formed.2.there from_b)
           ∙ ap (λ s. Eval (slot_of slots x) n (feed_source homes slots p feeds.a) (feed_source homes slots p feeds.b) s d) (carried_source c feeds.c formed.3.there from_c)
           ∙ ap (λ s. Eval (slot_of slots x) n (feed_source homes slots p feeds.a) (feed_source homes slots p feeds.b) (feed_source homes slots p feeds.c) s) (carried_source d feeds.d formed.4.there from_d),
-      here, there_too, alike,
+      here,
+      there_too,
+      alike,
     )
     task_like tables x (item.Latch op) (Hold slot from) formed at carries =
         ap (λ s. Hold s from) at ∙ ap (Hold (slot_of slots x)) (carried_source from (From op Last) formed.there carries)

@@ -30,8 +30,8 @@ module _ (file : ImageFile) (nodes : NodeNet) (timing : Timing) where
   slot_or_all : IsWellFormed file.image → (p : ℕ) → ((slot : ℕ) → PlaceMatches file.image (lists_of file.claims) nodes p slot) ⊎ ((slot : ℕ) × IsFirstSlot file.image (lists_of file.claims) nodes p slot)
   slot_or_all formed p = elim (first_or_all Matching (λ slot. Matching slot → ⊥) (place_known file.image (lists_of file.claims) nodes p) file.image.slots) [
     | inl found ↦ (
-      let there = item_there p found.0 found.2 in
-      inr (found.0, record { port = there.0; is = there.1; i = there.2.0; stands = there.2.1; differs = found.2; before = found.3 }))
+        let there = item_there p found.0 found.2 in
+        inr (found.0, record { port = there.0; is = there.1; i = there.2.0; stands = there.2.1; differs = found.2; before = found.3 }))
     | inr all ↦ inl (λ slot i x port is stands claimed. all slot ((formed.ports p port is).item_slots_within i slot stands) i x port is stands claimed)
   ] where
     Matching : ℕ → Type 0

@@ -33,10 +33,10 @@ stands_known {X} each xs x =
 
 rising_known : (xs : List ℕ) → IsKnown (IsStrictlyIncreasing xs)
 rising_known xs =
-      known_same ((k : ℕ) → k < length xs → k + 1 < length xs → slice_index xs k < slice_index xs (k + 1)) (IsStrictlyIncreasing xs)
-      (λ all k low. all k (omega (arith, low)) low) (λ all k within low. all k low)
-      (known_all (λ k. k + 1 < length xs → slice_index xs k < slice_index xs (k + 1))
-      (λ k. known_then (k + 1 < length xs) (slice_index xs k < slice_index xs (k + 1)) (known_less (k + 1) (length xs)) (known_less (slice_index xs k) (slice_index xs (k + 1)))) (length xs))
+    known_same ((k : ℕ) → k < length xs → k + 1 < length xs → slice_index xs k < slice_index xs (k + 1)) (IsStrictlyIncreasing xs)
+    (λ all k low. all k (omega (arith, low)) low) (λ all k within low. all k low)
+    (known_all (λ k. k + 1 < length xs → slice_index xs k < slice_index xs (k + 1))
+    (λ k. known_then (k + 1 < length xs) (slice_index xs k < slice_index xs (k + 1)) (known_less (k + 1) (length xs)) (known_less (slice_index xs k) (slice_index xs (k + 1)))) (length xs))
 
 -- ---- sources
 

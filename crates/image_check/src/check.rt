@@ -7,11 +7,11 @@ ghost use Rattle.image_check.specs.Check.{Says, IsOkOrMemory};
 ghost use Rattle.image_defs.specs.Claimed.{lists_of, HasClaims, HasTiming, PlaceMatches};
 ghost use Rattle.image_check.specs.code.Shapes.{AreShapesOf};
 
-use image_defs::ImageFile;
 use crate::places::{first_column, first_place};
 use crate::ports::is_well_formed;
 use crate::shapes::{Shape, shapes};
 use crate::timing::has_timing;
+use image_defs::ImageFile;
 use net_defs::Timing;
 use node_defs::NodeNet;
 use std::alloc::Global;

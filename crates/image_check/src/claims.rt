@@ -10,9 +10,9 @@ ghost use Rattle.image_defs.specs.Claimed.{lists_of};
 ghost use Rattle.image_check.specs.code.OnePorts.{IsOnePort, ClaimedIn, ClaimsAt, CarriesAt};
 ghost use Rattle.node_defs.specs.declared.items.Tag.TheVariants.{Last};
 
-use image_defs::{Claims, ImageFile, PortImage, Source};
 use crate::search::{place_of, sender_of};
 use crate::shapes::Shape;
+use image_defs::{Claims, ImageFile, PortImage, Source};
 use logic_four::V4;
 use node_defs::{Feed, Tag};
 

@@ -9,11 +9,11 @@ ghost use Rattle.image_check.specs.code.Differences.{AllAsClaimed, IsFirstOther,
 ghost use Rattle.image_check.specs.code.OnePorts.{IsOnePort, AreLaidOut};
 
 use crate::claims::{OnePort, carries_item};
-use image_defs::{ImageFile, Source};
 use crate::memories::pair_at;
 use crate::nodes::is_as_claimed;
 use crate::shapes::Shape;
 use crate::timing::printed_sources;
+use image_defs::{ImageFile, Source};
 use node_defs::{NodeNet, Tag};
 
 /// A place of an image: an item of a port, by its slot.

@@ -11,7 +11,10 @@ ghost use Rattle.image_file.specs.code.Around.{around};
 use crate::draft::{Body, Draft, OpenPort};
 use crate::room::block_bits;
 use func_table::Table;
-use image_defs::{BlockWork, Claims, Image, ImageFile, InColumn, OutBit, PortClaims, PortImage, Source, Task, Work};
+use image_defs::{
+    BlockWork, Claims, Image, ImageFile, InColumn, OutBit, PortClaims, PortImage, Source, Task,
+    Work,
+};
 use image_lines::{Line, PortKind, Sizes};
 use seen_list::{List, Memory};
 use std::alloc::Global;

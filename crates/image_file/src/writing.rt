@@ -8,7 +8,10 @@ ghost use Rattle.image_defs.specs.Claimed.{HasClaims};
 ghost use Rattle.image_file.specs.Files.{image_text, work_lines, port_lines, kind_of};
 
 use func_table::Table;
-use image_defs::{BlockWork, ImageFile, InColumn, LinkIn, LinkOut, OutBit, PortClaims, PortImage, Source, Task, Work};
+use image_defs::{
+    BlockWork, ImageFile, InColumn, LinkIn, LinkOut, OutBit, PortClaims, PortImage, Source, Task,
+    Work,
+};
 use image_lines::{
     PortKind, push_bit, push_block, push_end, push_head, push_input, push_port, push_print,
     push_send, push_table, push_take, push_task, push_version,

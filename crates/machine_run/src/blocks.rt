@@ -18,12 +18,12 @@ ghost use Rattle.net_defs.specs.declared.netlist.Netlist.{Netlist};
 ghost use Rattle.port_host.specs.Rows.{printed_sources};
 ghost use Rattle.trace_text.specs.Line.{HasRoom, row_room};
 
+use crate::Crew;
 use crate::lines::{write_line, write_rows};
 use crate::window::window;
 use crew_run::Gate;
 use edge_io::{Sink, WriteNo};
 use image_defs::Image;
-use crate::Crew;
 use net_defs::{Netlist, Stimulus};
 use seen_list::Memory;
 use slot_words::Crossbar;

@@ -46,9 +46,9 @@ code_whole word i code whole column few = below (62 - 2 * i) (omega (arith, colu
       let high : word / 2 ^ (2 * i) / 4 < 2 ^ r = shr_below (word / 2 ^ (2 * i)) r 2 above in
       let front : word / 2 ^ (2 * i) / 4 * 4 + code < 4 * 2 ^ r = mul-add-lt (word / 2 ^ (2 * i) / 4) 4 code (2 ^ r) high few in
       let all : with_code word i code < 2 ^ (2 * i) * (4 * 2 ^ r) =
-          mul-add-lt (word / 2 ^ (2 * i) / 4 * 4 + code) (2 ^ (2 * i)) (word % 2 ^ (2 * i)) (4 * 2 ^ r) front (mod_below word (2 ^ (2 * i)) (pow_pos (2 * i))) in
+      mul-add-lt (word / 2 ^ (2 * i) / 4 * 4 + code) (2 ^ (2 * i)) (word % 2 ^ (2 * i)) (4 * 2 ^ r) front (mod_below word (2 ^ (2 * i)) (pow_pos (2 * i))) in
       let room : 2 ^ 64 ≡ 2 ^ (2 * i) * (4 * 2 ^ r) =
-          ap (λ n. 2 ^ n) (sym bits) ∙ pow-add 2 (r + 2) (2 * i) ∙ ap (λ n. n * 2 ^ (2 * i)) (pow-add 2 r 2) ∙ mul_comm (2 ^ r * 4) (2 ^ (2 * i)) ∙ ap (λ n. 2 ^ (2 * i) * n) (mul_comm (2 ^ r) 4) in
+      ap (λ n. 2 ^ n) (sym bits) ∙ pow-add 2 (r + 2) (2 * i) ∙ ap (λ n. n * 2 ^ (2 * i)) (pow-add 2 r 2) ∙ mul_comm (2 ^ r * 4) (2 ^ (2 * i)) ∙ ap (λ n. 2 ^ (2 * i) * n) (mul_comm (2 ^ r) 4) in
       subst (λ n. with_code word i code < n) (sym room) all
 
 put : (words : List ℕ) (place : ℕ) (v : V4) → All (λ word. word < 2 ^ 64) words → place < 32 * length words → (new : List ℕ) × IsPut words place v new

@@ -10,10 +10,9 @@ ghost use Rattle.plan_defs.specs.code.UserRows.{HasPlace};
 ghost use Rattle.slot_plan.specs.UsedTables.{AreTableCounts};
 ghost use Rattle.slot_plan.specs.code.UsedTables.{HasTable, AreUsed, CountsBelow, IsFirstCrowded};
 
-use plan_defs::BitRows;
 use machine_text::{Limited, Machine};
 use node_defs::{Item, NodeNet};
-use plan_defs::Homes;
+use plan_defs::{BitRows, Homes};
 use seen_list::{List, Memory};
 use std::alloc::Global;
 

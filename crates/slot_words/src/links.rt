@@ -6,9 +6,9 @@ ghost use Rattle.image_defs.specs.WellFormed.{IsWellFormed};
 ghost use Rattle.event_defs.specs.Sources.{AreFirsts};
 ghost use Rattle.slot_words.specs.Links.{AreReceiptLinksOf, AreSendLinksOf, HasSlot};
 
+use event_defs::source_of;
 use image_defs::Image;
 use seen_list::{List, Memory};
-use event_defs::source_of;
 use std::alloc::Global;
 
 /// A slot in which a port sends or receives, and the word of bank 0 of what is sent there.

@@ -6,12 +6,11 @@ ghost use Rattle.edge_io.specs.Writing.{Takes};
 
 use edge_io::{Sink, WriteNo};
 use image_defs::Image;
-use trace_text::{write_texts, write_trace};
 use net_defs::{Netlist, Rows, Stimulus};
 use refusal_lines::write_piece;
 use seen_list::{List, Text};
 use stim_text::Lanes;
-use trace_text::TraceLine;
+use trace_text::{TraceLine, write_texts, write_trace};
 
 /// The printed values of a netlist, and room for a line of its trace.
 #[derive(Drop)]

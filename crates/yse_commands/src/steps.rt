@@ -23,12 +23,12 @@ ghost use Rattle.yse_commands.specs.Refusals.{ended_with};
 ghost use Rattle.yse_commands.specs.Visited.{AllCanTell, AreRunVisits};
 
 use crate::output::{Ending, Output, Trace, Written};
-use machine_run::run_blocks;
 use cmd_words::RunWords;
 use crew_run::Gate;
 use edge_io::Sink;
 use event_core::{Core, CoreStep};
 use event_defs::law::steps_are_sound;
+use machine_run::run_blocks;
 use machine_text::Machine;
 use named_files::Built;
 use net_defs::{CellRow, Rows, Stimulus, Timing};

@@ -1,5 +1,5 @@
 -- A design that fits by a choice of homes exists, with the claims of its image.
-use Rattle.std.proofs.Common.{◌≡◌, ◌≢◌, ◌∙◌, ◌⊎◌, ◌≤◌, inl, inr, ℕ, Bool, true, false, length, refl, sym, ap, subst, arith}
+use Rattle.std.proofs.Common.{◌≡◌, ◌∙◌, ◌⊎◌, ◌≤◌, inl, inr, true, false, length, refl, sym, ap, subst, arith}
 use Rattle.limits.specs.declared.TheConstants.{MAX_SLOTS}
 use Rattle.machine_text.specs.declared.machine.Machine.{Machine}
 use Rattle.machine_text.specs.Machines.{IsValid as IsValidMachine}
@@ -16,7 +16,6 @@ use Rattle.plan_defs.specs.declared.plan.Plan.{Plan}
 use Rattle.plan_defs.specs.declared.switch.Switch.{Switch}
 use Rattle.plan_defs.specs.Homes.{AreHomes}
 use Rattle.plan_defs.specs.Picks.{ArePicked, AreHoused}
-use Rattle.plan_defs.specs.Slots.{IsFirstFitPlan}
 use Rattle.plan_defs.specs.Switches.{IsSwitch}
 use Rattle.home_better.specs.Better.{IsBetter, KeepsOthers, bound_of}
 use Rattle.home_better.specs.Crossings.{crossings}

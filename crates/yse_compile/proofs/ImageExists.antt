@@ -1,49 +1,43 @@
 -- There is an image of items at their homes in their plan, with its claims: each part of its making, in lists of any
 -- length.
-use Rattle.std.proofs.Common.{◌≡◌, ◌∙◌, ◌⊎◌, inl, inr, ℕ, zero, suc, ◌+◌, ◌<◌, ◌≤◌, List, [], ◌∷◌, ◌++◌, length, map, take, get_or, replicate, refl, sym, ap, subst, arith, add-one, true, false}
-use Rattle.std.specs.Prelude.{Some, slice_get, slice_index, slice_set}
+use Rattle.std.proofs.Common.{◌≡◌, ◌∙◌, ◌⊎◌, inl, inr, ℕ, zero, suc, ◌<◌, ◌≤◌, List, [], ◌∷◌, ◌++◌, length, map, take, get_or, refl, sym, ap, subst, arith, add-one, true, false}
+use Rattle.std.specs.Prelude.{Some, slice_get}
 use Rattle.std.specs.List.{All}
 use Rattle.std.proofs.lemmas.Bool.{cases_eq, cases_lt}
-use Rattle.std.proofs.lemmas.List.{length-map, take_all, length_push, get_or_append_left, get_or_push}
+use Rattle.std.proofs.lemmas.List.{take_all, length_push, get_or_append_left, get_or_push}
 use Rattle.std.proofs.lemmas.List.Elements.{All-nil, All-push}
 use Rattle.std.proofs.lemmas.List.Quantifiers.{all_pairs_push}
 use Rattle.std.proofs.lemmas.Option.{slice_get_within, slice_get-get_or}
 use Rattle.list_laws.proofs.Members.{each, each_push, member_at}
-use Rattle.list_laws.proofs.Options.{one_some}
 use Rattle.list_laws.proofs.Places.{seam_at}
 use Rattle.list_laws.proofs.Ranges.{last_or}
 use Rattle.func_table.specs.declared.table.Table.{Table}
 use Rattle.func_table.specs.Entries.{AreAlike, AreOther}
-use Rattle.func_table.specs.Shelf.{AreDifferent, IsNumbered}
+use Rattle.func_table.specs.Shelf.{AreDifferent}
 use Rattle.func_table.proofs.EntryLemmas.{same_table}
 use Rattle.net_defs.specs.declared.timing.Timing.{Timing}
 use Rattle.net_defs.specs.Valid.{IsValidTiming}
-use Rattle.node_defs.specs.declared.items.Feeds.{Feeds}
 use Rattle.node_defs.specs.declared.items.Item.{Item}
 use Rattle.node_defs.specs.declared.items.Item.TheVariants.{Input, BlockBit, Node, Latch}
-use Rattle.node_defs.specs.declared.items.NodeBlock.{NodeBlock}
 use Rattle.node_defs.specs.declared.items.NodeNet.{NodeNet}
 use Rattle.node_defs.specs.WellFormed.{column_count, IsComputed, NamesParts}
 use Rattle.node_map.specs.Words.{HasWords}
 use Rattle.plan_defs.specs.declared.plan.Homes.{Homes}
 use Rattle.plan_defs.specs.declared.plan.Plan.{Plan}
-use Rattle.plan_defs.specs.declared.switch.PortLinks.{PortLinks}
 use Rattle.plan_defs.specs.declared.switch.Switch.{Switch}
-use Rattle.plan_defs.specs.Homes.{home_of, block_home, host_of, ports_of}
+use Rattle.plan_defs.specs.Homes.{home_of, host_of, ports_of}
 use Rattle.plan_defs.specs.Slots.{slot_of}
 use Rattle.plan_defs.specs.Switches.{IsSwitch}
 use Rattle.plan_defs.proofs.PlanLemmas.{one_at_home}
-use Rattle.switch_set.specs.Links.{IsSlotList}
 use Rattle.image_defs.specs.declared.image.Task.{Task}
 use Rattle.image_defs.specs.declared.image.Task.TheVariants.{Eval, Hold}
 use Rattle.image_defs.specs.declared.image.BlockWork.{BlockWork}
-use Rattle.image_defs.specs.declared.image.OutBit.{OutBit}
 use Rattle.image_defs.specs.declared.image.InColumn.{InColumn}
 use Rattle.image_defs.specs.declared.image.Work.{Work}
 use Rattle.image_defs.specs.declared.image.Work.TheVariants.{Logic, Array, Host}
 use Rattle.image_defs.specs.declared.image.PortImage.{PortImage}
 use Rattle.image_defs.specs.declared.image.Image.{Image}
-use Rattle.image_defs.specs.Places.{Each, IsPort}
+use Rattle.image_defs.specs.Places.{Each}
 use Rattle.image_defs.specs.Matches.{claims_of}
 use Rattle.image_defs.specs.declared.file.Claims.{Claims}
 use Rattle.image_defs.specs.declared.file.PortClaims.{PortClaims}
@@ -53,8 +47,8 @@ use Rattle.image_check.proofs.MatchKnown.{alike_known}
 use Rattle.image_file.specs.Ranges.{tables_of}
 use Rattle.image_build.specs.PortItems.{IsAt, ArePortItems, ArePlanClaims}
 use Rattle.image_build.specs.Plans.{IsPlanned}
-use Rattle.image_build.specs.Built.{Evaluates, AreInOrderOfUse, ArePortMemories, IsBuilt, link_in, link_out}
-use Rattle.image_build.specs.code.Layouts.{source_of, feed_source, AreMadeFor, IsTaskFor, AreTasks, block_for, AreBlocks, IsBitFor, AreBits, IsInputFor, AreInputs, IsWorkFor, IsLaidOut}
+use Rattle.image_build.specs.Built.{ArePortMemories, IsBuilt, link_in, link_out}
+use Rattle.image_build.specs.code.Layouts.{source_of, feed_source, AreMadeFor, IsTaskFor, block_for, AreBlocks, IsBitFor, IsInputFor, IsWorkFor}
 use Rattle.image_build.specs.code.Plans.{IsInputItem, Shelves, AreFirstTasks, AreFirstPorts}
 use Rattle.image_build.proofs.BuiltLemmas.{laid_out_is_built}
 use Rattle.image_build.proofs.GrowLemmas.{made_next, made_all}
@@ -80,11 +74,15 @@ module _ {nodes : NodeNet} {homes : Homes} {plan : Plan} (planned : IsPlanned no
   claims_to (suc n) = next (claims_to n).0 (claims_to n).1 (claims_to n).2 where
     next : (claims : List (List ℕ)) → length claims ≡ n → ((p : ℕ) → p < n → ArePortItems nodes homes plan.slots p (claims_of claims p))
         → (more : List (List ℕ)) × (length more ≡ suc n) × ((p : ℕ) → p < suc n → ArePortItems nodes homes plan.slots p (claims_of more p))
-    next claims long so_far = (claims ++ (items_there n).0 ∷ [], omega (arith, length_push claims (items_there n).0, long), λ p low. elim (last_or p n (omega (arith, low))) [
-      | inl below ↦ subst (ArePortItems nodes homes plan.slots p) (sym (get_or_append_left claims ((items_there n).0 ∷ []) [] p (omega (arith, below, long)))) (so_far p below)
-      | inr same ↦ subst (λ q. ArePortItems nodes homes plan.slots q (claims_of (claims ++ (items_there n).0 ∷ []) q)) (sym same)
-          (subst (ArePortItems nodes homes plan.slots n) (sym (get_or_push claims (items_there n).0 [] n long)) (items_there n).1)
-    ])
+    next claims long so_far = (
+      claims ++ (items_there n).0 ∷ [],
+      omega (arith, length_push claims (items_there n).0, long),
+      λ p low. elim (last_or p n (omega (arith, low))) [
+        | inl below ↦ subst (ArePortItems nodes homes plan.slots p) (sym (get_or_append_left claims ((items_there n).0 ∷ []) [] p (omega (arith, below, long)))) (so_far p below)
+        | inr same ↦ subst (λ q. ArePortItems nodes homes plan.slots q (claims_of (claims ++ (items_there n).0 ∷ []) q)) (sym same)
+            (subst (ArePortItems nodes homes plan.slots n) (sym (get_or_push claims (items_there n).0 [] n long)) (items_there n).1)
+      ],
+    )
 
   claims_there : (claims : List (List ℕ)) × ArePlanClaims nodes homes plan.slots claims
   claims_there = (let all = claims_to (ports_of homes) in (all.0, record { ports = all.1; items = all.2 }))
@@ -214,35 +212,35 @@ module _ {nodes : NodeNet} {homes : Homes} {plan : Plan} (planned : IsPlanned no
   work_there : (p : ℕ) (items : List ℕ) → p < ports_of homes → ArePortItems nodes homes plan.slots p items → (work : Work) × IsWorkThere p items work
   work_there p items within are = elim (cases_lt p homes.logic) [
     | inl low ↦ (
-      let all = tasks_to p items are low (length items) (omega arith) in (
-        Logic all.0 all.1.tasks,
-        record {
-          is = (low, made_all nodes (IsTaskFor nodes homes plan.slots p all.0) items (length items) all.1.tasks refl all.1.first.tasks_are, all.1.first.in_order);
-          whole = λ n table here. each HasWords all.0 n table all.1.whole here;
-        },
-      ))
+        let all = tasks_to p items are low (length items) (omega arith) in (
+          Logic all.0 all.1.tasks,
+          record {
+            is = (low, made_all nodes (IsTaskFor nodes homes plan.slots p all.0) items (length items) all.1.tasks refl all.1.first.tasks_are, all.1.first.in_order);
+            whole = λ n table here. each HasWords all.0 n table all.1.whole here;
+          },
+        ))
     | inr most ↦ elim (cases_lt p (host_of homes)) [
       | inl high ↦ (
-        let memories = numbers_there planned in
-        let numbers = claims_of memories.0 p in
-        let lists = memories.1 p within in
-        let blocks = blocks_to planned p numbers lists (length numbers) (omega arith) in
-        let outs = made_there planned (IsBitFor plan.slots numbers) p items are (λ x one at is. memories.2 p x one most high at is) in (
-          Array blocks.0 outs.0,
-          record {
-            is = (most, high, numbers, lists, subst (λ xs. AreBlocks nodes homes plan.slots p xs blocks.0) (take_all (length numbers) numbers (omega arith)) blocks.1, outs.1);
-            whole = λ n table here. (let none = slice_get_within {A = Table} [] n table here in absurd (omega (arith, none)));
-          },
-        ))
+          let memories = numbers_there planned in
+          let numbers = claims_of memories.0 p in
+          let lists = memories.1 p within in
+          let blocks = blocks_to planned p numbers lists (length numbers) (omega arith) in
+          let outs = made_there planned (IsBitFor plan.slots numbers) p items are (λ x one at is. memories.2 p x one most high at is) in (
+            Array blocks.0 outs.0,
+            record {
+              is = (most, high, numbers, lists, subst (λ xs. AreBlocks nodes homes plan.slots p xs blocks.0) (take_all (length numbers) numbers (omega arith)) blocks.1, outs.1);
+              whole = λ n table here. (let none = slice_get_within {A = Table} [] n table here in absurd (omega (arith, none)));
+            },
+          ))
       | inr least ↦ (
-        let host : p ≡ host_of homes = omega (arith, within, least) in
-        let inputs = made_there planned (IsInputFor plan.slots) p items are (λ x one at is. input_there planned p x one host at is) in (
-          Host inputs.0 (map (λ o. source_of homes plan.slots p o false) nodes.printed),
-          record {
-            is = (host, inputs.1, refl);
-            whole = λ n table here. (let none = slice_get_within {A = Table} [] n table here in absurd (omega (arith, none)));
-          },
-        ))
+          let host : p ≡ host_of homes = omega (arith, within, least) in
+          let inputs = made_there planned (IsInputFor plan.slots) p items are (λ x one at is. input_there planned p x one host at is) in (
+            Host inputs.0 (map (λ o. source_of homes plan.slots p o false) nodes.printed),
+            record {
+              is = (host, inputs.1, refl);
+              whole = λ n table here. (let none = slice_get_within {A = Table} [] n table here in absurd (omega (arith, none)));
+            },
+          ))
     ]
   ]
 

@@ -1,5 +1,5 @@
 -- The least number that is free, and the numbers that have a property, where it is known of each.
-use Rattle.std.proofs.Common.{◌≡◌, ◌⊎◌, inl, inr, ℕ, zero, suc, ◌<◌, List, [], ◌∷◌, ◌++◌, subst}
+use Rattle.std.proofs.Common.{◌⊎◌, inl, inr, ℕ, zero, suc, ◌<◌, List, [], ◌∷◌, ◌++◌, subst}
 use Rattle.std.proofs.Math.Numerals.{add-one}
 use Rattle.image_check.proofs.KnownLemmas.{IsKnown, first_or_all}
 use Rattle.plan_defs.specs.Lists.{IsLeastFree}

@@ -1,5 +1,5 @@
 -- A netlist's compiled images at the same homes are one, and so are their claims.
-use Rattle.std.proofs.Common.{◌≡◌, ◌∙◌, ℕ, List, length, map, Some, slice_get, refl, sym, ap, subst, arith}
+use Rattle.std.proofs.Common.{◌≡◌, ◌∙◌, ℕ, List, length, map, Some, slice_get, sym, ap, subst, arith}
 use Rattle.std.proofs.lemmas.List.{length-map}
 use Rattle.std.proofs.lemmas.Option.{slice_get-map}
 use Rattle.list_laws.proofs.Options.{one_some}
@@ -13,19 +13,16 @@ use Rattle.node_defs.specs.WellFormed.{column_count}
 use Rattle.node_map.specs.Words.{HasWords}
 use Rattle.plan_defs.specs.declared.plan.Homes.{Homes}
 use Rattle.plan_defs.specs.declared.plan.Plan.{Plan}
-use Rattle.plan_defs.specs.Homes.{home_of, ports_of}
-use Rattle.plan_defs.specs.Slots.{slot_of, IsFirstFitPlan}
+use Rattle.plan_defs.specs.Slots.{IsFirstFitPlan}
 use Rattle.image_defs.specs.declared.image.Work.{Work}
 use Rattle.image_defs.specs.declared.image.Work.TheVariants.{Logic, Array, Host}
-use Rattle.image_defs.specs.declared.image.PortImage.{PortImage}
 use Rattle.image_defs.specs.declared.image.Image.{Image}
-use Rattle.image_defs.specs.Places.{Each, IsPort, item_slots}
-use Rattle.image_defs.specs.Matches.{claims_of}
+use Rattle.image_defs.specs.Places.{Each}
 use Rattle.image_defs.specs.declared.file.Claims.{Claims}
 use Rattle.image_defs.specs.declared.file.PortClaims.{PortClaims}
 use Rattle.image_defs.specs.Claimed.{lists_of}
 use Rattle.image_file.specs.Ranges.{tables_of}
-use Rattle.image_build.specs.PortItems.{IsAt, ArePortItems, ArePlanClaims}
+use Rattle.image_build.specs.PortItems.{ArePlanClaims}
 use Rattle.image_build.specs.Built.{IsBuilt, IsOrdered}
 use Rattle.image_build.proofs.OneImage.{IsBuiltBy, AreAll, one_built}
 use Rattle.image_build.proofs.PlacedLemmas.{same_by}
@@ -40,8 +37,8 @@ same_claims : (one other : Claims) → lists_of one ≡ lists_of other → one �
 same_claims one other same = ap (λ ps. record { ports = ps }) (same_by one.ports other.ports (sym (length-map one.ports (λ (q : PortClaims). q.items)) ∙ ap length same ∙ length-map other.ports (λ (q : PortClaims). q.items)) (λ k p q here there.
     ap (λ xs. record { items = xs }) (one_some p.items q.items
     (sym (read one.ports k p here) ∙ ap (λ xs. slice_get xs k) same ∙ read other.ports k q there)))) where
-  read : (ports : List PortClaims) (k : ℕ) (p : PortClaims) → slice_get ports k ≡ Some p → slice_get (map (λ (q : PortClaims). q.items) ports) k ≡ Some p.items
-  read ports k p here = slice_get-map (λ (q : PortClaims). q.items) ports k ∙ ap (option_map (λ (q : PortClaims). q.items)) here
+      read : (ports : List PortClaims) (k : ℕ) (p : PortClaims) → slice_get ports k ≡ Some p → slice_get (map (λ (q : PortClaims). q.items) ports) k ≡ Some p.items
+      read ports k p here = slice_get-map (λ (q : PortClaims). q.items) ports k ∙ ap (option_map (λ (q : PortClaims). q.items)) here
 
 -- the items of a port are those of the same items
 claims_kept : (one other : NodeNet) (homes : Homes) (slots : List ℕ) (claims : List (List ℕ)) → length one.items ≡ length other.items → ArePlanClaims one homes slots claims → ArePlanClaims other homes slots claims

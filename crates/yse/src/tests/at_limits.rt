@@ -109,7 +109,13 @@ const LIMITS: &[Limit] = &[
         12,
         "order: line 1001: too long\n",
     ),
-    (EXEC, Much::Tables(4096), "", 14, "image: line 4100: syntax\n"),
+    (
+        EXEC,
+        Much::Tables(4096),
+        "",
+        14,
+        "image: line 4100: syntax\n",
+    ),
     (
         EXEC,
         Much::Tables(4097),
@@ -195,7 +201,9 @@ fn push_much(alloc: Global, text: &mut Text, much: Much) -> Result<(), Memory> {
             push_times(text, "0\n", ones)
         }
         Much::Tables(count) => {
-            text.push_bytes(b"yse-image 1\nslots 2 units 1 init x columns 1 ports 2\nport logic\n")?;
+            text.push_bytes(
+                b"yse-image 1\nslots 2 units 1 init x columns 1 ports 2\nport logic\n",
+            )?;
             push_times(text, TABLE, count)
         }
     }

@@ -211,8 +211,9 @@ const WATCHED: &[(Watching, Finding)] = &[
         ),
         (true, (true, false), (false, false), 1),
     ),
-    // The host, which takes no value of the buffer, is told of its fourth turn while the worker of the only logic
-    // processor is held before its first, with eight banks and not with one.
+    // The host, which takes no value of the buffer, is told of its third turn while the worker of the only logic
+    // processor is held before its first, with two banks and with eight, and not with one, which is the number where none is
+    // given.
     (
         (
             Watch::Ahead,
@@ -226,6 +227,24 @@ const WATCHED: &[(Watching, Finding)] = &[
         (
             Watch::Ahead,
             "run net.bench net.stim --machine net.machine --workers 2 --banks 1",
+            BUFFER,
+            BUFFER_TRACE,
+        ),
+        (true, (true, false), (false, false), 1),
+    ),
+    (
+        (
+            Watch::Ahead,
+            "run net.bench net.stim --machine net.machine --workers 2 --banks 2",
+            BUFFER,
+            BUFFER_TRACE,
+        ),
+        (true, (true, true), (false, false), 1),
+    ),
+    (
+        (
+            Watch::Ahead,
+            "run net.bench net.stim --machine net.machine --workers 2",
             BUFFER,
             BUFFER_TRACE,
         ),

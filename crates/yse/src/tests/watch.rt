@@ -18,7 +18,7 @@ pub(crate) enum Watch {
     Pair,
     /// The first worker's holds the host's turn 3, until the second worker was told of a later turn.
     Hold,
-    /// The first worker's holds its first call until the second worker was told of a turn past the third.
+    /// The first worker's holds its first call until the second worker was told of a turn past the second.
     Ahead,
 }
 
@@ -72,7 +72,8 @@ impl Watch {
         match self {
             Watch::Nothing => false,
             Watch::Pair => true,
-            Watch::Hold | Watch::Ahead => turn > 3,
+            Watch::Hold => turn > 3,
+            Watch::Ahead => turn > 2,
         }
     }
 

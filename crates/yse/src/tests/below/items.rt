@@ -5,13 +5,12 @@ ghost use Rattle.net_defs.specs.Valid.{IsValid, IsValidTiming};
 ghost use Rattle.node_defs.specs.WellFormed.{IsWellFormed};
 
 use bench_read::law::reads_as_valid;
-use bench_read::read_bench;
+use bench_read::{read_bench, read_last};
 use net_defs::{Init, Mode, Netlist, Timing};
 use node_defs::NodeNet;
 use node_map::map_nodes;
 use plan_defs::law::items_are_well_formed;
 use rank_find::rank;
-use seen_list::List;
 use std::alloc::Global;
 
 /// Rank order, where registers hold 0 at first.
@@ -21,9 +20,10 @@ pub(crate) fn rank_order(alloc: Global) -> Timing
     Timing::unlisted(alloc, Mode::Rank, 1, Init::Zero)
 }
 
-/// The timing of a word: `rank` order, `unit` delay with 9 turns a cycle, or `mixed` mode with 2, in which signal 2 alone is
-/// listed. None where there is no memory.
-pub(crate) fn timing_of(alloc: Global, word: &str) -> Option<Timing>
+/// The timing of a word: `rank` order, `unit` delay with 9 turns a cycle, or mixed mode with 2, in which the gate of this
+/// name is listed. None where there is no such gate or no memory.
+pub(crate) fn timing_of(alloc: Global, word: &str, net: &Netlist) -> Option<Timing>
+    requires { IsValid net.now }
     ensures { IfSome result IsValidTiming }
 {
     if word == "rank" {
@@ -32,7 +32,12 @@ pub(crate) fn timing_of(alloc: Global, word: &str) -> Option<Timing>
     if word == "unit" {
         return Some(Timing::unlisted(alloc, Mode::Unit, 9, Init::Undef));
     }
-    let listed = List::from_slice(alloc, &[2]).ok()?;
+    if word.len() > 1_000_000 {
+        return None;
+    }
+    let Ok(listed) = read_last(alloc, word.as_bytes(), net) else {
+        return None;
+    };
     Some(Timing::unlisted(alloc, Mode::Mixed, 2, Init::Undef).listing(listed))
 }
 

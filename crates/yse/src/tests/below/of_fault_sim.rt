@@ -1,6 +1,6 @@
 //! `fault_group` with ample memory, against the list that `fault` prints of the same rows.
 
-ghost use Rattle.std.specs.Prelude.{All, IfOk, length, ◌+◌, ◌/◌, ◌<◌, ◌≡◌, ◌⊎◌};
+ghost use Rattle.std.specs.Prelude.{All, IfOk, length, ◌+◌, ◌/◌, ◌<◌, ◌≡◌, ◌≤◌, ◌⊎◌};
 ghost use Rattle.limits.specs.declared.TheConstants.{LANES};
 ghost use Rattle.logic_four.specs.declared.V4.TheVariants.{One, Zero};
 ghost use Rattle.net_defs.specs.Valid.{IsValid};
@@ -24,7 +24,8 @@ const MOST: usize = limits::LANES - 1;
 const ROWS: &[u8] = b"11111\n00000\n01010\n";
 
 /// Where the faults of `mixed_faults` are first seen: the cycle and the column, or nowhere.
-const SEEN: &str = "1.0 3.0 2.0 3.0 3.1 2.0 - 1.1 1.0 - 1.1 1.0 1.1 1.1 1.1 2.1 1.1 2.0 3.0 - 3.0 - 1.0 3.0 2.0 3.0 3.1 2.0 -";
+const SEEN: &str =
+    "1.0 3.0 2.0 3.0 3.1 2.0 - 1.1 1.0 - 1.1 1.0 1.1 1.1 1.1 2.1 1.1 2.0 3.0 - 3.0 - 1.0 3.0 2.0 3.0 3.1 2.0 -";
 
 /// A fault of c17 by its number among the 22, that of a signal stuck at 0 before that of the same signal stuck at 1.
 fn fault_of(number: u32) -> Fault
@@ -33,23 +34,17 @@ fn fault_of(number: u32) -> Fault
 {
     Fault {
         signal: number / 2,
-        value: if number % 2 == 0 {
-            V4::Zero
-        } else {
-            V4::One
-        },
+        value: if number % 2 == 0 { V4::Zero } else { V4::One },
     }
 }
 
 /// So many faults of c17 in mixed order: each is the fifth after the one before it, and past the 22 some come twice.
 fn mixed_faults(alloc: Global, net: &Netlist, count: usize) -> Result<List<Fault>, Memory>
-    requires { count < LANES }
+    requires enough { 11 ≤ length net.now.signals }
+    requires few { count < LANES }
     ensures few { IfOk result (λ faults. length faults < LANES) }
     ensures faults { IfOk result (All (IsFault net.now)) }
 {
-    if net.signals.len() < 11 {
-        return Err(Memory);
-    }
     let mut faults = List::new(alloc);
     'faults: for k in 0..count {
         faults.push(fault_of(5 * k as u32 % 22))?;
@@ -79,10 +74,19 @@ fn verdicts(alloc: Global, net: &Netlist, count: usize) -> Option<List<Verdict>>
     requires valid { IsValid net.now }
     requires few { count < LANES }
 {
+    if net.signals.len() < 11 {
+        return None;
+    }
     let timing = rank_order(alloc);
-    let ranks = rank(alloc, net, &timing).ok()?;
-    let stimulus = read_stim(alloc, ROWS, net.inputs()).ok()?;
-    let faults = mixed_faults(alloc, net, count).ok()?;
+    let Ok(ranks) = rank(alloc, net, &timing) else {
+        return None;
+    };
+    let Ok(stimulus) = read_stim(alloc, ROWS, net.inputs()) else {
+        return None;
+    };
+    let Ok(faults) = mixed_faults(alloc, net, count) else {
+        return None;
+    };
     fault_group(alloc, net, &ranks, &timing, &stimulus, faults.as_slice()).ok()
 }
 

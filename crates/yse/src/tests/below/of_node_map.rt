@@ -37,7 +37,7 @@ z = AND(a, b, c, d, e, f, g, h, i, j, k, l, m, n, o, p, q)\n\
 17.5: 0 of 17 18 19 20\n\
 17.6: 1 of 21\n\
 17: 2 of 22 23\n\
-|mixed: INPUT(a)\nINPUT(b)\nz = NAND(a, b, a, b, a)\ny = NOT(z)\n\
+|z: INPUT(a)\nINPUT(b)\nz = NAND(a, b, a, b, a)\ny = NOT(z)\n\
 => items 2 4\n\
 2.0: 0 of 0' 1' 0' 1'\n\
 2.1: 1 of 0'\n\
@@ -142,7 +142,7 @@ fn tell_nodes(wanted: &mut Wanted<'_>, nodes: &NodeNet) {
 fn tell_mapped(alloc: Global, wanted: &mut Wanted<'_>, net: &Netlist, mode: &str)
     requires { IsValid net.now }
 {
-    if let Some(timing) = timing_of(alloc, mode) {
+    if let Some(timing) = timing_of(alloc, mode, net) {
         if let Some(nodes) = items_of(alloc, net, &timing) {
             tell_nodes(wanted, &nodes);
             drop(nodes);

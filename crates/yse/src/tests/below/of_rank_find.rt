@@ -15,7 +15,7 @@ rank: INPUT(s)\nINPUT(r)\nq = NAND(s, p)\np = NAND(r, q)\n\
 => loop 2 3\n\
 |unit: INPUT(s)\nINPUT(r)\nq = NAND(s, p)\np = NAND(r, q)\n\
 => order 2 3\nranks 0 0 0 0\n\
-|mixed: INPUT(s)\nINPUT(r)\nq = NAND(s, p)\np = NAND(r, q)\nz = NOT(p)\n\
+|q: INPUT(s)\nINPUT(r)\nq = NAND(s, p)\np = NAND(r, q)\nz = NOT(p)\n\
 => order 2 3 4\nranks 0 0 0 1 2\n\
 |rank: INPUT(a)\nINPUT(b)\nc = NOT(d)\nd = NOT(e)\ne = AND(a, b)\nf = OR(c, e)\n\
 => order 4 3 2 5\nranks 0 0 2 1 0 3\n\
@@ -48,7 +48,7 @@ fn is_found(alloc: Global, case: &str) -> bool {
     let (mode, text, wanted) = parts_of(case);
     let mut wanted = Wanted::new(wanted);
     if let Some(net) = netlist_of(alloc, text) {
-        if let Some(timing) = timing_of(alloc, mode) {
+        if let Some(timing) = timing_of(alloc, mode, &net) {
             let found = rank(alloc, &net, &timing);
             tell_found(&mut wanted, &found);
             drop(found);

@@ -16,7 +16,7 @@ rank: INPUT(G0)\nINPUT(G1)\nINPUT(G2)\nINPUT(G3)\nOUTPUT(G17)\nG5 = DFF(G10)\nG6
 G17 = NOT(G11)\nG8 = AND(G14, G6)\nG15 = OR(G12, G8)\nG16 = OR(G3, G8)\nG9 = NAND(G16, G15)\nG10 = NOR(G14, G11)\n\
 G11 = NOR(G5, G9)\nG12 = NOR(G1, G7)\nG13 = NOR(G2, G12)\n\
 => 0000\n0001\n0000\n1000\n0001\n=> 1\n0\n0\n1\n1\n\
-|mixed: INPUT(s)\nINPUT(r)\nOUTPUT(q)\nOUTPUT(p)\nq = NAND(s, p)\np = NAND(r, q)\n\
+|q: INPUT(s)\nINPUT(r)\nOUTPUT(q)\nOUTPUT(p)\nq = NAND(s, p)\np = NAND(r, q)\n\
 => 01\n11\n10\n=> 10\n10\n01\n\
 |rank: INPUT(s)\nINPUT(r)\nOUTPUT(q)\nOUTPUT(p)\nq = NAND(s, p)\np = NAND(r, q)\n\
 => 01\n=> loop 2 3\n";
@@ -60,7 +60,7 @@ fn is_simulated(alloc: Global, case: &str) -> bool {
     let (rows, told) = rest.split_once("=> ").unwrap_or((rest, "a case"));
     let mut wanted = Wanted::new(told);
     if let Some(net) = netlist_of(alloc, text) {
-        if let Some(timing) = timing_of(alloc, word) {
+        if let Some(timing) = timing_of(alloc, word, &net) {
             tell_under(alloc, &mut wanted, &net, &timing, rows);
             drop(timing);
         }

@@ -9,5 +9,5 @@ faults-preserved c =
     rw c.in_ok-push.ensures.ok (
       length_push c.faults.faults c.fault_of.result ∙ ap (λ n. n + 1) c.faults.invariant.0,
       All-push (IsFault c.args.net.now) c.faults.faults c.fault_of.result c.faults.invariant.1
-      (record { signal = omega (arith, c.fault_of.ensures.signal); value = c.fault_of.ensures.value }),
+          (record { signal = omega (arith, c.fault_of.ensures.signal, c.requires.enough); value = c.fault_of.ensures.value }),
     )
