@@ -1,11 +1,10 @@
 -- The states of a packed crossbar are in each lane sound states of a core, and steps of packed ports are events there.
-use Rattle.std.proofs.Common.{List, Some, ap, ap₂, arith, get_or, get_or-set_other, get_or-set_same, inl, inr, length, map, refl, set, slice_get, subst, sym, true, ℕ, ◌%◌, ◌*◌, ◌+◌, ◌<◌, ◌∙◌, ◌≡◌, ◌≢◌, ◌≤◌}
+use Rattle.std.proofs.Common.{List, Some, ap, ap₂, arith, get_or, get_or-set_other, get_or-set_same, inl, inr, length, map, refl, set, subst, sym, true, ℕ, ◌%◌, ◌*◌, ◌+◌, ◌<◌, ◌∙◌, ◌≡◌, ◌≢◌, ◌≤◌}
 use Rattle.std.proofs.lemmas.Bool.{cases_eq}
 use mathlib.Core.Option.{some}
 use lib.ListN.{get_elem?}
 use Rattle.limits.specs.declared.TheConstants.{LANES}
 use Rattle.logic_four.specs.Values.{code_of}
-use Rattle.lane_planes.specs.declared.planes.Planes.{Planes}
 use Rattle.net_defs.specs.declared.stimulus.Stimulus.{Stimulus}
 use Rattle.stim_text.specs.declared.lanes.Lanes.{Lanes}
 use Rattle.image_defs.specs.Frames.{image_value}
@@ -16,7 +15,7 @@ use Rattle.image_defs.specs.declared.image.PortImage.{PortImage}
 use Rattle.event_defs.proofs.KeptLemmas.{step_sound}
 use Rattle.event_defs.proofs.PaceLemmas.{latest_missing}
 use Rattle.event_defs.proofs.SlotLemmas.{updated_here, updated_there}
-use Rattle.event_defs.specs.Next.{AsksNext, PutsNext, ReceivesNext, SendsNext, TellsNext}
+use Rattle.event_defs.specs.Next.{AsksNext, ReceivesNext, SendsNext, TellsNext}
 use Rattle.event_defs.specs.Places.{IsSend, after_ask, after_put, after_take, after_tell, known_of, latest}
 use Rattle.event_defs.specs.Row.{send_number, word_place}
 use Rattle.event_defs.specs.Steps.{CoreState, Moves, Reads, Waits, stamp_of, updated, written}
@@ -47,18 +46,20 @@ use Rattle.pack_words.specs.declared.rule.PackKey.{PackKey}
 use Rattle.pack_words.specs.declared.rule.PackView.{PackView}
 use Rattle.pack_run.proofs.LaneLemmas.{both_written, lane_word, not_before, only_bank, plain_before, plain_now, put_word, stamp_last}
 use Rattle.pack_run.specs.Core.{IsCoreEvent, IsCoreStep, IsLaneWord, IsStateIn, IsStateOf, pass_in}
-use Rattle.pack_run.specs.Steps.{AskWaits, Asks, HasAsked, HasTaken, IsEvent, IsWait, Looks, Makes, Puts, TakeWaits, Tells}
+use Rattle.pack_run.specs.Steps.{AskWaits, HasAsked, HasTaken, IsEvent, IsWait, Looks, Makes, Puts, TakeWaits, Tells}
 
 -- the lane's state of a packed crossbar
 pub state_there : (key : PackKey) (s : State (Unit {0}) PackView) (l : ℕ) → l < LANES → Kept key s → (state : CoreState) × IsStateOf key s l state
 state_there key s l low kept =
-    let sound : ArePassesSound key s = rule_sound key s kept in
-    (_, record {
-      sound = sound.sound l;
-      finished = λ r inside. refl;
-      word = λ p i link send. lane_word l (latest (sound.place p) link.slot) (sent_in key.image.value 1 s.words p i 0) (λ l. sound.word l p i 0) low (sound.packs p i link send);
-      stands = λ id p v at port_is. sym (sound.places id p v at port_is).1;
-    })
+    let sound : ArePassesSound key s = rule_sound key s kept in (
+      _,
+      record {
+        sound = sound.sound l;
+        finished = λ r inside. refl;
+        word = λ p i link send. lane_word l (latest (sound.place p) link.slot) (sent_in key.image.value 1 s.words p i 0) (λ l. sound.word l p i 0) low (sound.packs p i link send);
+        stands = λ id p v at port_is. sym (sound.places id p v at port_is).1;
+      },
+    )
 
 -- an event is a counted step, and so is what has to wait
 event_counted : (old : PackPassView) (event : Event) (new : PackPassView) → IsEvent old event new → new.steps ≡ old.steps + 1
@@ -189,8 +190,7 @@ module _ (words : List ℕ) (views : List PackView) (id p : ℕ) (old : PackView
 
       ask_comes : (reader : ℕ) → HasAsked seat (pass_in table p old) (pass_in table p new) reader → now ≡ words → told_in old.image words new.last.word ≡ new.last.number → Comes (Ask reader)
       ask_comes reader has still found =
-          let same = finished_is reader has.asks.next (ap (λ (x : PackPassView). x.last.word) has.asks.is) found in
-          (
+          let same = finished_is reader has.asks.next (ap (λ (x : PackPassView). x.last.word) has.asks.is) found in (
             event_by (Ask reader) (record state { place = updated state.place p (after_ask (state.place p) reader (state.finished reader)) }) (record {
               next = here (λ a. AsksNext seat a 1 reader) has.asks.next;
               moves = here (λ a. a.turn ≤ state.finished reader + 1) (subst (λ n. old.place.turn ≤ n + 1) (sym same) has.enough);
@@ -202,8 +202,7 @@ module _ (words : List ℕ) (views : List PackView) (id p : ℕ) (old : PackView
 
       take_comes : (slot : ℕ) → HasTaken seat (pass_in table p old) (pass_in table p new) slot → now ≡ words → told_in old.image words new.last.word ≡ new.last.number → Comes (Take slot)
       take_comes slot has still found =
-          let bounds = near slot (after_take old.place slot) has.looks found in
-          (
+          let bounds = near slot (after_take old.place slot) has.looks found in (
             event_by (Take slot) (record state { place = updated state.place p (after_take (state.place p) slot) }) (record {
               x = plain slot (after_take old.place slot) has.looks found;
               reads = reads slot (after_take old.place slot) has.looks found;
@@ -371,8 +370,7 @@ module _ (words : List ℕ) (views : List PackView) (id p : ℕ) (old : PackView
     event_in event made still =
         let comes = made_comes made.seat made.is made.early event made.makes (event_counted (pass_in table p old) event (pass_in table p new) made) still in
         let core = comes.0 in
-        let has = comes.1 in
-        (
+        let has = comes.1 in (
           core,
           record {
             sound = step_sound old.image stimulus 1 until kept.runs.image_fits (omega arith) state is.sound p core.step.seat core.step.is (Moved event) core.after core.step.step;
@@ -394,7 +392,7 @@ module _ (words : List ℕ) (views : List PackView) (id p : ℕ) (old : PackView
         record {
           seat = wait.seat;
           is = wait.is;
-          step = (here (λ a. a.turn ≤ until) wait.early, elim wait.waits [ | inl ask ↦ ask_waits wait.seat wait.is wait.early ask found | inr take ↦ take_waits wait.seat wait.is wait.early take found ], refl);
+          step = (here (λ a. a.turn ≤ until) wait.early, elim wait.waits [ inl ask ↦ ask_waits wait.seat wait.is wait.early ask found | inr take ↦ take_waits wait.seat wait.is wait.early take found ], refl);
         }
 
 -- ---- by the key

@@ -1,24 +1,20 @@
 -- A run of lanes: what is expected of it, what it tells, and that what it writes are the traces.
-use Rattle.std.proofs.Common.{◌≡◌, ◌∙◌, sym, ap, ap₂, refl, subst, inl, inr, ℕ, zero, suc, ◌+◌, ◌*◌, List, [], ◌∷◌, ◌++◌, length, Option, None, Some, slice_get, Bool, Result, Ok, arith}
+use Rattle.std.proofs.Common.{◌≡◌, ◌∙◌, sym, ap, refl, subst, inl, inr, ℕ, ◌+◌, ◌*◌, List, [], ◌∷◌, Option, None, Bool, Result, Ok}
 use Rattle.std.specs.Prelude.{IfOk}
 use Rattle.std.specs.List.{flat_map, enumerate_from}
 use Rattle.machine_run.specs.Lines.{bytes_of_run}
 use Rattle.crew_run.specs.declared.gate.Gate as gate
 use Rattle.edge_io.specs.declared.counts.FileCounts.{FileCounts}
 use Rattle.image_defs.specs.declared.image.Image.{Image}
-use Rattle.trace_text.specs.Lines.{lane_line}
 use Rattle.machine_run.specs.Visits.{AreVisitsOf}
 use Rattle.machine_text.specs.declared.machine.Machine.{Machine}
 use Rattle.machine_text.specs.Machines.{ports_of}
 use Rattle.net_defs.specs.declared.netlist.Netlist.{Netlist}
 use Rattle.net_defs.specs.declared.stimulus.Stimulus.{Stimulus}
 use Rattle.net_defs.specs.declared.timing.Timing.{Timing}
-use Rattle.net_defs.specs.Reference.{HasOneSimulation}
-use Rattle.net_defs.specs.Time.{cycle_count}
-use Rattle.net_defs.specs.Valid.{input_count}
 use Rattle.pack_machine.specs.Lines.{bytes_of_lane, bytes_of_lanes}
 use Rattle.stim_text.specs.declared.lanes.Lanes.{Lanes}
-use Rattle.stim_text.specs.Lanes.{AreLanes, longest}
+use Rattle.stim_text.specs.Lanes.{longest}
 use Rattle.cmd_words.specs.declared.command.RunWords.{RunWords}
 use Rattle.yse_commands.specs.declared.steps.Pace.TheVariants.{Workers}
 use Rattle.yse_commands.specs.declared.output.Output.{Output}

@@ -1,5 +1,5 @@
 -- The host of a run that is over.
-use Rattle.std.specs.Prelude.{List, length, ℕ, ◌+◌, ◌≡◌}
+use Rattle.std.specs.Prelude.{List, length, ◌+◌, ◌≡◌}
 use Rattle.crew_run.specs.declared.worker.Worker.{Worker}
 use Rattle.image_defs.specs.Places.{host_of}
 use Rattle.image_defs.specs.declared.image.Image.{Image}

@@ -13,4 +13,4 @@ returns-in-Ok-clause-printed g c = lanes_printed c.args.built.net c.args._timing
 
 pub returns-in-Ok-clause-visits : goal.returns-in-Ok-clause-visits
 returns-in-Ok-clause-visits g c =
-    subst (λ u. AreVisitsOf g.G.Gate (length c.args.built.image.ports) (u * longest c.args.lanes) c.args.words.now.workers c.args.gates.now c.run_pack-wrote.new.gates) c.requires.image.units c.run_pack-wrote.ensures.visits
+    subst (λ u. AreVisitsOf g.G.Gate (length c.args.built.image.ports) (u * longest c.args.lanes) c.args.words.now.workers c.args.gates.now c.run_pack-wrote.new.gates) c.requires.image.units c.in-Ok.ensures.visits
