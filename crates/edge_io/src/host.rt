@@ -87,7 +87,7 @@ impl<'a, R: rt::Files> Files for HostFiles<'a, R> {
 /// A writer, as the host's standard output. It tells no bytes.
 ///
 /// Each write is flushed, so that no byte waits in a buffer of the writer; a flush that fails is a
-/// fault.
+/// fault, and then the writer may have taken bytes that `write` doesn't answer for.
 #[derive(Drop)]
 pub struct HostSink<W: Write + Drop> {
     writer: W,

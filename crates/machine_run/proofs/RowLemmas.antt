@@ -12,8 +12,8 @@ use Rattle.logic_four.specs.declared.V4.{V4}
 use Rattle.net_defs.specs.declared.stimulus.Stimulus.{Stimulus}
 use Rattle.net_defs.specs.declared.trace.CellRow.{CellRow}
 use Rattle.port_host.specs.Rows.{printed_sources}
-use Rattle.machine_run.specs.Shown.{AreShown, AreWide}
-use Rattle.machine_run.specs.code.Shown.{AreFilled}
+use Rattle.machine_run.specs.Shown.{AreShown}
+use Rattle.machine_run.specs.code.Shown.{AreFilled, AreWide}
 
 module _ (image : Image) (stimulus : Stimulus) (cycles n : ℕ) (rows : List CellRow) where
   module _ (row : CellRow) (cells : List V4) (within : n < length rows) (is : row.cells ≡ cells) (long : length cells ≡ length (printed_sources image)) where

@@ -8,7 +8,8 @@ use Rattle.net_defs.specs.declared.trace.CellRow.{CellRow}
 use Rattle.port_host.specs.Rows.{HostView, printed_sources, rows_done}
 use Rattle.slot_words.specs.Rule.{turns_of}
 use Rattle.machine_run.specs.Crews.{CrewView, IsHostOfCrew, at_block_end, at_first, rows_at_end, turns_made}
-use Rattle.machine_run.specs.Shown.{AreShown, AreWide}
+use Rattle.machine_run.specs.Shown.{AreShown}
+use Rattle.machine_run.specs.code.Shown.{AreWide}
 use Rattle.machine_run.specs.Visits.{AreVisitsBetween, AreVisitsOf}
 use Rattle.machine_run.proofs.CrewLemmas.{none_made}
 

@@ -7,11 +7,6 @@ use Rattle.net_defs.specs.declared.stimulus.Stimulus.{Stimulus}
 use Rattle.net_defs.specs.declared.trace.CellRow.{CellRow}
 use Rattle.port_host.specs.Rows.{printed_sources}
 
--- one row for each of so many cycles, of so many cells
-pub record AreWide (cycles cells : ℕ) (rows : List CellRow) : Type 0 where
-  pub cycles_are : length rows ≡ cycles
-  pub width : (c : ℕ) (row : CellRow) → slice_get rows c ≡ Some row → length row.cells ≡ cells
-
 -- the rows of the first cycles, one for each, with the cells that the image shows
 pub record AreShown (image : Image) (stimulus : Stimulus) (cycles : ℕ) (rows : List CellRow) : Type 0 where
   pub cycles_are : length rows ≡ cycles

@@ -19,5 +19,4 @@ pub use blocks::run_blocks;
 pub use crew::Crew;
 pub use gates::count_gates;
 pub use machine::run_machine;
-pub use rows::blank_rows;
 pub use seats::{give_to, idle_crew, worker_of};

@@ -2,7 +2,8 @@
 
 ghost use Rattle.std.specs.Prelude.{IfOk, length, ◌≡◌};
 ghost use Rattle.image_defs.specs.WellFormed.{IsWellFormed};
-ghost use Rattle.machine_run.specs.Shown.{AreShown, AreWide};
+ghost use Rattle.machine_run.specs.Shown.{AreShown};
+ghost use Rattle.machine_run.specs.code.Shown.{AreWide};
 ghost use Rattle.port_host.specs.Rows.{printed_sources, rows_done};
 
 use image_defs::{Image, Work};
@@ -35,7 +36,7 @@ fn blank_row(alloc: Global, width: usize) -> Result<CellRow, Memory>
 }
 
 /// Room for the rows of so many cycles of the image.
-pub fn blank_rows(alloc: Global, image: &Image, cycles: u32) -> Result<Rows, Memory>
+pub(crate) fn blank_rows(alloc: Global, image: &Image, cycles: u32) -> Result<Rows, Memory>
     requires { IsWellFormed image.now }
     ensures { IfOk result (λ rows. AreWide cycles (length (printed_sources image.now)) rows.rows) }
 {

@@ -1,4 +1,4 @@
 mod DealtLemmas
 mod FrameLemmas
-mod RowLemmas
+mod LineLemmas
 mod RunLemmas

@@ -24,7 +24,7 @@ use Rattle.pack_run.specs.declared.seated.PackSeated.{PackSeated}
 use Rattle.pack_words.specs.Rule.{turns_of}
 use Rattle.pack_machine.specs.code.Crews.{at_first}
 use Rattle.pack_machine.specs.code.Dealt.{AreDealt, IsDealtTo, IsSeatOf}
-use Rattle.pack_machine.specs.code.Shown.{EndsWithHost}
+use Rattle.pack_machine.specs.code.Ends.{EndsWithHost}
 
 -- a run has few turns
 turns_few : (image : Image) (lanes : Lanes) → IsWellFormed image → AreLanes image.columns lanes → turns_of image lanes ≤ 2 ^ 62

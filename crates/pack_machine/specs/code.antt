@@ -1,3 +1,4 @@
 pub mod Crews
 pub mod Dealt
-pub mod Shown
+pub mod Ends
+pub mod Lines

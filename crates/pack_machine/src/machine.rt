@@ -2,18 +2,21 @@
 
 ghost use Rattle.std.specs.Prelude.{IfOk, OnErr, OnOk, Option, Some, length, slice_get, ℕ, ◌*◌, ◌<◌, ◌≡◌, ◌≤◌};
 ghost use Rattle.crew_run.specs.Crews.{CanTell};
+ghost use Rattle.edge_io.specs.Writing.{Takes};
 ghost use Rattle.image_defs.specs.WellFormed.{IsWellFormed};
 ghost use Rattle.machine_run.specs.Visits.{AreInPlace, AreVisitsOf};
+ghost use Rattle.port_host.specs.Rows.{printed_sources};
 ghost use Rattle.stim_text.specs.Lanes.{AreLanes, longest};
-ghost use Rattle.pack_machine.specs.Shown.{AreLanesShown};
-ghost use Rattle.pack_machine.specs.code.Shown.{EndsWithHost, IsHostAtEnd};
+ghost use Rattle.pack_machine.specs.Lines.{bytes_of_lanes};
+ghost use Rattle.pack_machine.specs.code.Ends.{EndsWithHost, IsHostAtEnd};
 
-use crate::rows::{blank_lanes, fill_lanes};
+use crate::lines::{line_room, write_lanes};
 use crate::seats::workers_of;
 use crew_run::{Gate, Worker, run_with};
+use edge_io::{Sink, WriteNo};
 use image_defs::Image;
 use machine_run::worker_of;
-use net_defs::Rows;
+use net_defs::Netlist;
 use pack_run::{PackRunning, PackSeated};
 use pack_words::PackBar;
 use seen_list::{List, Memory};
@@ -23,57 +26,66 @@ use std::sync::Wait;
 use std::thread::Threads;
 use stim_text::Lanes;
 
-/// Runs the image under all lanes at once with so many workers, through all turns of the longest lane, and
-/// answers for each lane one row for each of its own cycles, of as many cells as the host prints. Worker `w`
-/// steps the ports `p` of which `p % workers` is `w`, and tells the gate `w` of their turns; the gates past
-/// the workers are not used. A refusal comes before any gate is told. It may wait, so what it promises holds
-/// if it returns.
+/// Runs the image under all lanes at once with so many workers, through all turns of the longest lane, and then
+/// writes for each lane the line with its number and its trace: the header with the netlist's printed names, and a
+/// line for each of its own cycles, one line a piece. What is printed is kept as planes until the run is over, and the
+/// lines are made of them by one row. All memory is taken before the first turn; a refusal for want of it comes before
+/// any write and before any gate is told. After a fault of writing, which is the inner answer, nothing more is written.
+///
+/// Worker `w` steps the ports `p` of which `p % workers` is `w`, and tells the gate `w` of their turns; the gates past
+/// the workers are not used. It may wait, so what it promises holds if it returns.
 ///
 /// Workers run in threads of their own where they can be made, and once all memory is had; no contract
 /// says either.
-pub fn run_pack<R: Threads + Wait + Sync, G: Gate + Send>(
+pub fn run_pack<R: Threads + Wait + Sync, G: Gate + Send, O: Sink>(
     rt: &R,
     alloc: Global,
+    net: &Netlist,
     image: &Image,
     lanes: &Lanes,
     workers: u32,
     gates: &mut [Option<G>],
-) -> Result<List<Rows>, Memory>
+    out: &mut O,
+) -> Result<Result<(), WriteNo>, Memory>
     requires image { IsWellFormed image.now }
     requires lanes { AreLanes image.now.columns lanes.now }
+    requires printed { length net.now.printed ≡ length (printed_sources image.now) }
     requires some_workers { 1 ≤ workers }
     requires enough { workers ≤ length gates.old }
     requires tell { (i : ℕ) (gate : Option G) → i < workers → slice_get gates.old i ≡ Some gate → CanTell G.Gate.own gate }
-    ensures rows { IfOk result (AreLanesShown image.now lanes.now) }
+    ensures written { IfOk result (λ wrote. Takes (O.taken out.old) (O.taken out.new) (O.faults out.old) (O.faults out.new) wrote (bytes_of_lanes net.now image.now lanes.now)) }
     ensures visits { OnOk result (AreVisitsOf G.Gate.own (length image.now.ports) (image.now.units * longest lanes.now) workers gates.old gates.new) }
+    ensures unwritten { OnErr result (out.new ≡ out.old) }
     ensures refused { OnErr result (gates.new ≡ gates.old) }
     ensures kept { AreInPlace gates.old gates.new }
 {
-    let (bar, passes) = PackBar::make(rt, alloc, image, lanes)?;
-    let mut rows = match blank_lanes(alloc, image, lanes) {
-        Ok(rows) => rows,
+    let mut room = line_room(alloc, net)?;
+    let (bar, passes) = match PackBar::make(rt, alloc, image, lanes) {
+        Ok(made) => made,
         Err(no) => {
-            drop(passes);
-            drop(bar);
+            drop(room);
             return Err(no);
         }
     };
     let mut crew = match workers_of(alloc, &bar, image, lanes, passes, workers) {
         Ok(crew) => crew,
         Err(no) => {
-            drop(rows);
+            drop(room);
             return Err(no);
         }
     };
     run_with(rt, crew.as_mut_slice(), gates);
-    fill_lanes(
-        rows.as_mut_slice(),
+    let wrote = write_lanes(
+        out,
+        net,
+        &mut room,
         lanes,
         host(crew.as_slice(), image, lanes),
     );
     drop(crew);
     drop(bar);
-    Ok(rows)
+    drop(room);
+    Ok(wrote)
 }
 
 /// The host, once all ports have made all turns.

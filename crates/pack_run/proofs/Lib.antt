@@ -1,3 +1,5 @@
+mod CoreLemmas
+mod LaneLemmas
 pub mod NextLemmas
 pub mod RunLemmas
 pub mod StepLemmas

@@ -1,4 +1,5 @@
 pub mod code
+pub mod Core
 pub mod Kept
 pub mod Pairs
 pub mod Same

@@ -6,6 +6,7 @@
 //! host has the cells of all cycles of the longest lane. That they get done no contract says.
 #![tactic(auto)]
 
+pub mod law;
 mod running;
 mod seated;
 

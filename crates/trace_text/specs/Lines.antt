@@ -1,10 +1,9 @@
--- The lines of what a run kept: of its trace, and of the traces of lanes.
+-- The lines of what a run kept, and the line of a lane.
 use Rattle.std.specs.Prelude.{◌≡◌, ◌≤◌, ℕ, ◌+◌, List, ◌++◌, length, Some, slice_get, codes, decimal}
 use Rattle.std.specs.List.{enumerate_from, flat_map}
 use Rattle.limits.specs.declared.TheConstants.{MAX_CYCLES}
 use Rattle.net_defs.specs.declared.netlist.Netlist.{Netlist}
 use Rattle.net_defs.specs.declared.trace.CellRow.{CellRow}
-use Rattle.net_defs.specs.declared.trace.Rows.{Rows}
 use Rattle.net_defs.specs.Trace.{header_line, cycle_line}
 use Rattle.seen_list.specs.Filling.{Filling}
 use Rattle.trace_text.specs.Line.{HasRoom}
@@ -25,23 +24,11 @@ pub record FitsLine (net : Netlist) (rows : List CellRow) (line : Filling) : Typ
   pub cells : (c : ℕ) (row : CellRow) → slice_get rows c ≡ Some row → length row.cells ≡ length net.printed
   pub cycles : length rows ≤ MAX_CYCLES
 
--- ---- the traces of lanes
+-- ---- lanes
 
 -- `lane`, and the number of the lane, counted from 1
 unfoldable pub lane_line : ℕ → List ℕ
 lane_line lane = codes "lane " ++ decimal lane ++ codes "\n"
-
--- the line of a lane, and its trace
-abbrev pub lane_text : Netlist → ℕ → List CellRow → List ℕ
-lane_text net lane rows = lane_line lane ++ trace_text net rows
-
--- the lines of all lanes, counted from 1
-abbrev pub lanes_text : Netlist → List Rows → List ℕ
-lanes_text net lanes = flat_map (λ p. lane_text net (p.0 + 1) p.1.rows) (enumerate_from 0 lanes)
-
--- the rows of each lane fit the line's room
-abbrev pub FitLines : Netlist → List Rows → Filling → Type 0
-FitLines net lanes line = (l : ℕ) (rows : Rows) → slice_get lanes l ≡ Some rows → FitsLine net rows.rows line
 
 -- there is room for the line of any lane
 pub record HasMarkRoom (mark : Filling) : Type 0 where

@@ -4,8 +4,8 @@ ghost use Rattle.edge_io.specs.Writing.{Takes};
 
 use edge_io::{Sink, WriteNo, write_whole};
 
-/// Writes one piece.
-pub(crate) fn write_piece<O: Sink>(out: &mut O, piece: &[u8]) -> Result<(), WriteNo>
+/// Writes one piece. It takes no memory.
+pub fn write_piece<O: Sink>(out: &mut O, piece: &[u8]) -> Result<(), WriteNo>
     ensures { Takes (O.taken out.old) (O.taken out.new) (O.faults out.old) (O.faults out.new) result piece.now }
 {
     write_whole(out, piece)

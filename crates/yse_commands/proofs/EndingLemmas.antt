@@ -18,7 +18,7 @@ ended_status (output.Text text) = refl
 ended_status (output.Trace trace) = refl
 ended_status (output.Unfinished trace ending) = refl
 ended_status (output.Written run) = refl
-ended_status (output.Lanes traces) = refl
+ended_status (output.Lanes run) = refl
 ended_status (output.Lines lines) = refl
 
 pub ended_output : (output : Output) → bytes_of output ≡ (ended_with output).output
@@ -26,7 +26,7 @@ ended_output (output.Text text) = refl
 ended_output (output.Trace trace) = refl
 ended_output (output.Unfinished trace ending) = refl
 ended_output (output.Written run) = refl
-ended_output (output.Lanes traces) = refl
+ended_output (output.Lanes run) = refl
 ended_output (output.Lines lines) = refl
 
 -- an output after which nothing is told is the whole one
@@ -35,7 +35,7 @@ whole_output (output.Text text) is = refl
 whole_output (output.Trace trace) is = refl
 whole_output (output.Unfinished trace ending) is = cc
 whole_output (output.Written run) is = refl
-whole_output (output.Lanes traces) is = refl
+whole_output (output.Lanes run) is = refl
 whole_output (output.Lines lines) is = refl
 
 -- an output is no fault of writing by itself
@@ -57,7 +57,7 @@ module _ {E : Type 0} (taken : E → Option (List ℕ)) (faults : E → ℕ) whe
   told_line (output.Trace trace) old new told = quiet old new told
   told_line (output.Unfinished trace ending) old new told = told
   told_line (output.Written run) old new told = quiet old new told
-  told_line (output.Lanes traces) old new told = quiet old new told
+  told_line (output.Lanes run) old new told = quiet old new told
   told_line (output.Lines lines) old new told = quiet old new told
 
   pub told_nothing : (ending : Option Ending) (old new : E) → status_after ending ≡ status.Done → IsTold old new (taken old) (taken new) (faults old) (faults new) ending → new ≡ old

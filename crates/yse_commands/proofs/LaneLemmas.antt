@@ -1,27 +1,20 @@
--- A run of lanes: what is expected of it, what it tells, and that its rows are those of the traces.
-use Rattle.std.proofs.Common.{◌≡◌, ◌∙◌, sym, ap, ap₂, refl, subst, inl, inr, ℕ, zero, suc, ◌+◌, ◌*◌, List, [], ◌∷◌, ◌++◌, length, Option, None, Some, slice_get, Bool, Result, Ok, arith}
+-- A run of lanes: what is expected of it, what it tells, and that what it writes are the traces.
+use Rattle.std.proofs.Common.{◌≡◌, ◌∙◌, sym, ap, refl, subst, inl, inr, ℕ, ◌+◌, ◌*◌, List, [], ◌∷◌, Option, None, Bool, Result, Ok}
 use Rattle.std.specs.Prelude.{IfOk}
 use Rattle.std.specs.List.{flat_map, enumerate_from}
+use Rattle.machine_run.specs.Lines.{bytes_of_run}
 use Rattle.crew_run.specs.declared.gate.Gate as gate
 use Rattle.edge_io.specs.declared.counts.FileCounts.{FileCounts}
 use Rattle.image_defs.specs.declared.image.Image.{Image}
-use Rattle.trace_text.specs.Lines.{FitLines, lane_line, lane_text, lanes_text, trace_text}
-use Rattle.machine_run.specs.Shown.{AreShown}
 use Rattle.machine_run.specs.Visits.{AreVisitsOf}
 use Rattle.machine_text.specs.declared.machine.Machine.{Machine}
 use Rattle.machine_text.specs.Machines.{ports_of}
 use Rattle.net_defs.specs.declared.netlist.Netlist.{Netlist}
 use Rattle.net_defs.specs.declared.stimulus.Stimulus.{Stimulus}
 use Rattle.net_defs.specs.declared.timing.Timing.{Timing}
-use Rattle.net_defs.specs.declared.trace.Rows.{Rows}
-use Rattle.net_defs.specs.Reference.{HasOneSimulation}
-use Rattle.net_defs.specs.Time.{cycle_count}
-use Rattle.net_defs.specs.Valid.{input_count}
-use Rattle.pack_machine.specs.Shown.{AreLanesShown}
-use Rattle.seen_list.specs.Filling.{Filling}
+use Rattle.pack_machine.specs.Lines.{bytes_of_lane, bytes_of_lanes}
 use Rattle.stim_text.specs.declared.lanes.Lanes.{Lanes}
-use Rattle.stim_text.specs.Lanes.{AreLanes, longest}
-use Rattle.trace_text.specs.Line.{HasRoom}
+use Rattle.stim_text.specs.Lanes.{longest}
 use Rattle.cmd_words.specs.declared.command.RunWords.{RunWords}
 use Rattle.yse_commands.specs.declared.steps.Pace.TheVariants.{Workers}
 use Rattle.yse_commands.specs.declared.output.Output.{Output}
@@ -40,7 +33,7 @@ use Rattle.yse_commands.specs.code.Visited.{LanesTelling}
 use Rattle.yse_commands.specs.Telling.{KeepsGates, TellsOfLanes}
 use Rattle.named_files.specs.Files.{AfterLanes, AfterMachine}
 use Rattle.yse_commands.specs.commands.Pack.{AreLaneTraces, AreTracesAfter, ExpectedPack, KeepsLanesOn, PacksIn, PacksOn}
-use Rattle.yse_commands.proofs.ShownLemmas.{shown_prints, trace_shown}
+use Rattle.yse_commands.proofs.ShownLemmas.{run_trace}
 use Rattle.yse_commands.proofs.TracedLemmas.{reached_lanes, same_units}
 use Rattle.yse_commands.proofs.VisitedLemmas.{is_done, told_as}
 use Rattle.named_files.proofs.WeakerLemmas.{after_so, lanes_so, machine_so, netlist_so}
@@ -48,36 +41,20 @@ use Rattle.yse_commands.proofs.WeakerLemmas.{fit_so}
 
 -- ---- the traces of lanes
 
--- lanes whose rows are shown are printed as their traces
-printed_after : (net : Netlist) (timing : Timing) (image : Image) → IsImageOf net timing image → (n : ℕ) (lanes : List Stimulus) (rows : List Rows) → length rows ≡ length lanes
-    → ((l : ℕ) (stimulus : Stimulus) (own : Rows) → slice_get lanes l ≡ Some stimulus → slice_get rows l ≡ Some own → AreShown image stimulus (cycle_count stimulus) own.rows)
-    → AreTracesAfter net timing n lanes (flat_map (λ p. lane_text net (p.0 + 1) p.1.rows) (enumerate_from n rows))
-printed_after net timing image of n [] [] many each = refl
-printed_after net timing image of n [] (own ∷ rows) many each = absurd (omega (arith, many))
-printed_after net timing image of n (stimulus ∷ lanes) [] many each = absurd (omega (arith, many))
-printed_after net timing image of n (stimulus ∷ lanes) (own ∷ rows) many each = (
-  trace_text net own.rows,
-  flat_map (λ p. lane_text net (p.0 + 1) p.1.rows) (enumerate_from (n + 1) rows),
-  trace_shown net timing stimulus image own.rows of (each zero stimulus own refl refl),
-  printed_after net timing image of (n + 1) lanes rows (omega (arith, many)) (λ l s r at there. each (suc l) s r at there),
+-- what a run of lanes writes are their traces
+printed_after : (net : Netlist) (timing : Timing) (image : Image) → IsImageOf net timing image → (n : ℕ) (lanes : List Stimulus)
+    → AreTracesAfter net timing n lanes (flat_map (λ p. bytes_of_lane net image (p.0 + 1) p.1) (enumerate_from n lanes))
+printed_after net timing image of n [] = refl
+printed_after net timing image of n (stimulus ∷ lanes) = (
+  bytes_of_run net image stimulus,
+  flat_map (λ p. bytes_of_lane net image (p.0 + 1) p.1) (enumerate_from (n + 1) lanes),
+  run_trace net timing stimulus image of,
+  printed_after net timing image of (n + 1) lanes,
   refl,
 )
 
-pub lanes_printed : (net : Netlist) (timing : Timing) (lanes : Lanes) (image : Image) (rows : List Rows) → IsImageOf net timing image → AreLanesShown image lanes rows → AreLaneTraces net timing lanes (lanes_text net rows)
-lanes_printed net timing lanes image rows of are = printed_after net timing image of 0 lanes.lanes rows are.count are.each
-
--- a row of lanes has a stimulus
-other_there : {X Y : Type 0} (xs : List X) (ys : List Y) → length ys ≡ length xs → (l : ℕ) (y : Y) → slice_get ys l ≡ Some y → (x : X) × (slice_get xs l ≡ Some x)
-other_there [] [] many l y at = cc
-other_there [] (first ∷ ys) many l y at = absurd (omega (arith, many))
-other_there (x ∷ xs) [] many l y at = cc
-other_there (x ∷ xs) (first ∷ ys) many zero y at = (x, refl)
-other_there (x ∷ xs) (first ∷ ys) many (suc l) y at = other_there xs ys (omega (arith, many)) l y at
-
-pub lanes_fit : (net : Netlist) (timing : Timing) (lanes : Lanes) (image : Image) (rows : List Rows) (line : Filling) → IsImageOf net timing image → AreLanes (input_count net) lanes → HasRoom net line → AreLanesShown image lanes rows → FitLines net rows line
-lanes_fit net timing lanes image rows line of valid room are l own there =
-    let stimulus = other_there lanes.lanes rows are.count l own there in
-    shown_prints net timing stimulus.0 image (cycle_count stimulus.0) own line room (valid.valid l stimulus.0 stimulus.1) of (are.each l stimulus.0 own stimulus.1 there) (omega arith)
+pub lanes_printed : (net : Netlist) (timing : Timing) (lanes : Lanes) (image : Image) → IsImageOf net timing image → AreLaneTraces net timing lanes (bytes_of_lanes net image lanes)
+lanes_printed net timing lanes image of = printed_after net timing image of 0 lanes.lanes
 
 -- ---- the end of a run of lanes
 

@@ -69,7 +69,7 @@ output_whole (output.Text text) = tt
 output_whole (output.Trace trace) = tt
 output_whole (output.Unfinished trace ending) = tt
 output_whole (output.Written run) = tt
-output_whole (output.Lanes traces) = tt
+output_whole (output.Lanes run) = tt
 output_whole (output.Lines lines) = tt
 
 -- where the whole output was written, something was
@@ -103,7 +103,7 @@ is_done (Ok (output.Text text)) whole may = (text, refl)
 is_done (Ok (output.Trace trace)) whole may = (trace_bytes trace, refl)
 is_done (Ok (output.Unfinished trace ending)) whole may = cc
 is_done (Ok (output.Written run)) whole may = (run_bytes run, refl)
-is_done (Ok (output.Lanes traces)) whole may = (lanes_bytes traces, refl)
+is_done (Ok (output.Lanes run)) whole may = (lanes_bytes run, refl)
 is_done (Ok (output.Lines lines)) whole may = (joined lines, refl)
 is_done (Err why) whole may = absurd (refused_writes why may)
 

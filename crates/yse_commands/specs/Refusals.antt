@@ -19,7 +19,7 @@ ended_with (output.Text text) = done text
 ended_with (output.Trace trace) = done (trace_bytes trace)
 ended_with (output.Unfinished trace ending) = unfinished ending.rows ending.cycles (trace_bytes trace)
 ended_with (output.Written run) = done (run_bytes run)
-ended_with (output.Lanes traces) = done (lanes_bytes traces)
+ended_with (output.Lanes run) = done (lanes_bytes run)
 ended_with (output.Lines lines) = done (joined lines)
 
 abbrev pub outcome_of : Result Output Refusal → Outcome

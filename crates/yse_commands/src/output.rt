@@ -1,7 +1,7 @@
 //! The output of a request, and how it is written.
 
 ghost use Rattle.std.specs.Prelude.{IsErr, OnErr};
-ghost use Rattle.yse_commands.specs.Outputs.{bytes_of, lanes_bytes, trace_bytes, CanEnd, CanPrint, CanPrintLanes, HasTaken, wrote_in};
+ghost use Rattle.yse_commands.specs.Outputs.{bytes_of, trace_bytes, CanEnd, CanPrint, HasTaken, wrote_in};
 ghost use Rattle.edge_io.specs.Writing.{Takes};
 
 use edge_io::{Sink, WriteNo};
@@ -9,7 +9,8 @@ use image_defs::Image;
 use net_defs::{Netlist, Rows, Stimulus};
 use refusal_lines::write_piece;
 use seen_list::{List, Text};
-use trace_text::{LaneMark, TraceLine, write_lanes, write_texts, write_trace};
+use stim_text::Lanes;
+use trace_text::{TraceLine, write_texts, write_trace};
 
 /// The printed values of a netlist, and room for a line of its trace.
 #[derive(Drop)]
@@ -19,21 +20,21 @@ pub struct Trace {
     pub line: TraceLine,
 }
 
-/// The printed values of the lanes of a netlist, and room for the line of a lane and for a line of a trace.
-#[derive(Drop)]
-pub struct LaneTraces {
-    pub net: Netlist,
-    pub lanes: List<Rows>,
-    pub line: TraceLine,
-    pub mark: LaneMark,
-}
-
 /// A run that wrote its trace itself, block after block, and what came of the writing.
 #[derive(Drop)]
 pub struct Written {
     pub net: Netlist,
     pub image: Image,
     pub stimulus: Stimulus,
+    pub wrote: Result<(), WriteNo>,
+}
+
+/// A run of lanes that wrote their traces itself, and what came of the writing.
+#[derive(Drop)]
+pub struct WrittenLanes {
+    pub net: Netlist,
+    pub image: Image,
+    pub lanes: Lanes,
     pub wrote: Result<(), WriteNo>,
 }
 
@@ -48,8 +49,8 @@ pub enum Output {
     Unfinished(Trace, Ending),
     /// Nothing more: the run wrote it.
     Written(Written),
-    /// One piece for each line of each lane.
-    Lanes(LaneTraces),
+    /// Nothing more: the run of lanes wrote it.
+    Lanes(WrittenLanes),
     /// One piece for each of these lines.
     Lines(List<Text>),
 }
@@ -73,7 +74,7 @@ pub fn write_output<O: Sink>(out: &mut O, output: &mut Output) -> Result<(), Wri
         Output::Trace(trace) => write_rows(out, trace),
         Output::Unfinished(trace, _) => write_rows(out, trace),
         Output::Written(run) => run.wrote,
-        Output::Lanes(traces) => write_traces(out, traces),
+        Output::Lanes(run) => run.wrote,
         Output::Lines(lines) => write_texts(out, lines.as_slice()),
     }
 }
@@ -84,18 +85,4 @@ fn write_rows<O: Sink>(out: &mut O, trace: &mut Trace) -> Result<(), WriteNo>
         (trace_bytes trace.old) }
 {
     write_trace(out, &trace.net, &mut trace.line, trace.rows.rows.as_slice())
-}
-
-fn write_traces<O: Sink>(out: &mut O, traces: &mut LaneTraces) -> Result<(), WriteNo>
-    requires { CanPrintLanes traces.old }
-    ensures { Takes (O.taken out.old) (O.taken out.new) (O.faults out.old) (O.faults out.new) result
-        (lanes_bytes traces.old) }
-{
-    write_lanes(
-        out,
-        &traces.net,
-        &mut traces.mark,
-        &mut traces.line,
-        traces.lanes.as_slice(),
-    )
 }

@@ -58,7 +58,7 @@ pub fn prepare<'a, R: Threads + Wait + Sync, F: Files, O: Sink, G: Gate + Send>(
         Command::Exec { words, image } => {
             exec(rt, alloc, files, words, image.as_bytes(), out, gates)
         }
-        Command::Pack(words) => pack(rt, alloc, files, words, gates),
+        Command::Pack(words) => pack(rt, alloc, files, words, out, gates),
         Command::Fault(words) => fault(rt, alloc, files, words),
         Command::Show { netlist } => show(alloc, files, netlist.as_bytes()),
         Command::Large {

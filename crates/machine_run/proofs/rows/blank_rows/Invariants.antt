@@ -1,4 +1,4 @@
-use Rattle.machine_run.specs.Shown.{AreWide}
+use Rattle.machine_run.specs.code.Shown.{AreWide}
 use Rattle.machine_run.proofs.rows.blank_rows.Given as goal
 
 abbrev pub invariant-cycles : goal.invariant-cycles

@@ -1,7 +1,6 @@
 use Rattle.std.specs.Prelude.{length}
 use Rattle.port_host.specs.Rows.{printed_sources, rows_done}
-use Rattle.machine_run.specs.Shown.{AreWide}
-use Rattle.machine_run.specs.code.Shown.{AreFilled}
+use Rattle.machine_run.specs.code.Shown.{AreFilled, AreWide}
 use Rattle.machine_run.proofs.rows.fill_rows.Given as goal
 
 abbrev pub invariant-cycles : goal.invariant-cycles

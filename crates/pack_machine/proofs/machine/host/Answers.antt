@@ -1,7 +1,7 @@
 use Rattle.std.proofs.Common.{refl, subst, sym}
 use Rattle.std.proofs.lemmas.Option.{get_or_from_slice_get, slice_get_read, slice_get_within}
 use Rattle.pack_run.specs.declared.seated.PackSeated.{PackSeated}
-use Rattle.pack_machine.specs.code.Shown.{IsHostAtEnd}
+use Rattle.pack_machine.specs.code.Ends.{IsHostAtEnd}
 use Rattle.pack_machine.proofs.RunLemmas.{host_there}
 use Rattle.pack_machine.proofs.machine.host.Goals as goal
 

@@ -1,0 +1,69 @@
+-- Steps of a running packed port as steps of cores: of each lane's, which runs the lane's stimulus with one bank.
+use Rattle.std.specs.Prelude.{List, Some, length, ℕ, ◌*◌, ◌+◌, ◌<◌, ◌≡◌, ◌≤◌}
+use mathlib.Core.Option.{some}
+use lib.ListN.{get_elem?}
+use Rattle.logic_four.specs.Values.{code_of}
+use Rattle.lane_planes.specs.Lanes.{lane_of}
+use Rattle.lane_planes.specs.declared.planes.Planes.{Planes}
+use Rattle.stim_text.specs.declared.lanes.Lanes.{Lanes}
+use Rattle.image_defs.specs.Places.{IsPort}
+use Rattle.image_defs.specs.declared.image.Image.{Image}
+use Rattle.image_defs.specs.declared.image.LinkOut.{LinkOut}
+use Rattle.image_defs.specs.declared.image.PortImage.{PortImage}
+use Rattle.event_defs.specs.Places.{IsSend}
+use Rattle.event_defs.specs.Sound.{IsSound}
+use Rattle.event_defs.specs.Steps.{CoreState, IsStep, stamp_of}
+use Rattle.event_defs.specs.declared.place.CoreStep.{CoreStep}
+use Rattle.event_defs.specs.declared.place.CoreStep.TheVariants.{Moved}
+use Rattle.event_defs.specs.declared.place.Event.{Event}
+use Rattle.atomic_table.specs.Seated.{TableId}
+use Rattle.atomic_table.specs.Table.{State}
+use Rattle.slot_words.specs.Layout.{progress_in, sent_in, turns_told}
+use Rattle.pack_words.specs.Passes.{PackPassView}
+use Rattle.pack_words.specs.Rule.{stimulus_of, turns_of}
+use Rattle.pack_words.specs.Words.{packed}
+use Rattle.pack_words.specs.declared.rule.PackKey.{PackKey}
+use Rattle.pack_words.specs.declared.rule.PackView.{PackView}
+
+-- the core's word of a send says in this lane what the packed word says: both are 0 before the first Put, and then
+-- the core's has the turn and the value of the lane, and the packed word that turn's stamp and planes with the value
+pub record IsLaneWord (l word plain : ℕ) : Type 0 where
+  pub fresh : stamp_of plain ≡ 0 → (word ≡ 0) × (plain ≡ 0)
+  pub put : 1 ≤ stamp_of plain → (planes : Planes) × (word ≡ packed (stamp_of plain) planes) × (plain ≡ 4 * stamp_of plain + code_of (lane_of planes l))
+
+-- the state of a core is the lane's: it is sound for the lane's stimulus, the turns that ports have finished are those
+-- that the words tell, its words of sends say in the lane what the packed words say, and in it each port stands where
+-- its pass does
+pub record IsStateIn (image : Image) (lanes : Lanes) (words : List ℕ) (views : List PackView) (l : ℕ) (state : CoreState) : Type 0 where
+  pub sound : IsSound image (stimulus_of image lanes l) 1 (turns_of image lanes) state
+  pub finished : (r : ℕ) → r < length image.ports → state.finished r ≡ turns_told (progress_in words r)
+  pub word : (p i : ℕ) (link : LinkOut) → IsSend image p i link → IsLaneWord l (sent_in image 1 words p i 0) (state.word p i 0)
+  pub stands : (id p : ℕ) (v : PackView) → get_elem? views id ≡ some v → v.port ≡ Some p → state.place p ≡ v.place
+
+-- the same of a packed crossbar between any two steps
+abbrev pub IsStateOf : PackKey → State (Unit {0}) PackView → ℕ → CoreState → Type 0
+IsStateOf key s l state = IsStateIn key.image.value key.lanes.value s.words s.views l state
+
+-- the pass of port p that a seat has
+abbrev pub pass_in : TableId → ℕ → PackView → PackPassView
+pass_in table p v = record {
+  table = table;
+  port = p;
+  image = v.image;
+  lanes = v.lanes;
+  place = v.place;
+  steps = v.steps;
+  last = v.last;
+}
+
+-- this is the step of the pass's port by the core of a lane
+pub record IsCoreStep (l : ℕ) (pass : PackPassView) (state : CoreState) (answer : CoreStep) (after : CoreState) : Type 0 where
+  pub seat : PortImage
+  pub is : IsPort pass.image pass.port seat
+  pub step : IsStep pass.image (stimulus_of pass.image pass.lanes l) 1 (turns_of pass.image pass.lanes) pass.port seat state answer after
+
+-- the core of the lane makes the same event, and its port stands afterwards where the pass does
+pub record IsCoreEvent (l : ℕ) (old : PackPassView) (event : Event) (new : PackPassView) (state : CoreState) : Type 0 where
+  pub after : CoreState
+  pub step : IsCoreStep l old state (Moved event) after
+  pub stands : after.place old.port ≡ new.place

@@ -1,8 +1,0 @@
--- The line of the lane is written, and then its trace.
-use Rattle.std.proofs.Common.{◌∙◌, ap}
-use Rattle.edge_io.proofs.WritingLemmas.{writes_then}
-use Rattle.trace_text.proofs.lanes.write_lane.Goals as goal
-
-pub returns-in-Ok-clause-written : goal.returns-in-Ok-clause-written
-returns-in-Ok-clause-written g c =
-    writes_then _ _ _ _ _ _ _ _ _ _ _ _ c.in-Ok.is (c.bytes.ensures ∙ ap (λ l. l.bytes) c.lane.ensures) c.write_piece.ensures c.write_trace.ensures.written
