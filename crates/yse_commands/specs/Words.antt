@@ -35,14 +35,3 @@ traced_by (Some (command.Pack words)) = None
 traced_by (Some (command.Fault words)) = None
 traced_by (Some (command.Show netlist)) = None
 traced_by (Some (command.Large gates cycles workers)) = None
-
--- the file of the order in which a command steps the ports
-abbrev pub order_named : Option Command → Option (List ℕ)
-order_named (Some (command.Order words)) = words.order
-order_named _ = None
-
--- what is read settles what a command comes to: it names no file of an order, makes no image and checks none
-abbrev pub IsSettled : Option Command → Type 0
-IsSettled (Some (command.Compile words)) = ⊥
-IsSettled (Some (command.Exec words image)) = ⊥
-IsSettled asked = order_named asked ≡ None

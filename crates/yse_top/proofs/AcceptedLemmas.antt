@@ -30,7 +30,7 @@ use Rattle.image_defs.specs.Matches.{BitImplements, ImplementsClaim, Implements,
 use Rattle.image_check.specs.declared.check.CheckNo.{CheckNo}
 use Rattle.image_check.specs.declared.check.CheckNo.TheVariants as no
 use Rattle.image_defs.specs.declared.file.ImageFile.{ImageFile}
-use Rattle.image_check.specs.Check.{Says}
+use Rattle.image_check.specs.Check.{HasAnswer, Says}
 use Rattle.image_file.specs.Files.{image_text}
 use Rattle.image_file.specs.Ranges.{IsInRanges, Reads}
 use Rattle.image_file.specs.Reading.{first_fault}
@@ -44,7 +44,7 @@ use Rattle.named_files.specs.Outcome.{Outcome, refusal, out_of_memory}
 use Rattle.named_files.specs.Readings.{Reading}
 use Rattle.yse_commands.specs.commands.Exec.{AfterImage, AfterMatch, IsTaken, RunsImage, WritesTraceOf}
 use Rattle.named_files.specs.Images.{IsAccepted, IsImageFileOf}
-use Rattle.yse_top.proofs.ProperLemmas.{IsOfText, IsSingle, alike, short_passes}
+use Rattle.yse_top.proofs.ProperLemmas.{IsCheck, IsOfText, alike, short_passes}
 use Rattle.yse_commands.proofs.TracedLemmas.{whole_text}
 
 -- ---- what holds of an item of one list holds of that item of the other
@@ -197,9 +197,15 @@ module _ (file : ImageFile) (timing : Timing) (one other : NodeNet) (there : Are
   one_refusal (no.Column j) (no.Place q at) known known_too says says_too = absurd (says_too.2.differs (there.place_too q at (says.2 q at)))
   one_refusal (no.Column j) (no.Column k) known known_too says says_too = one_column j k says.3 says_too.3
 
--- the check of an image answers at most once
-pub accepted_single : (net : Netlist) (timing : Timing) (file : ImageFile) → ((one other : NodeNet) → AreItems net timing one → AreItems net timing other → AreInterchangeable file timing one other) → IsSingle (IsAccepted net timing file)
-accepted_single net timing file same = record {
+-- items of the netlist, and what the check says of the image by them
+pub record IsAnsweredBy (net : Netlist) (timing : Timing) (file : ImageFile) : Type 0 where
+  pub nodes : NodeNet
+  pub items : AreItems net timing nodes
+  pub answer : HasAnswer file nodes timing
+
+-- the check of an image answers, and once
+pub accepted_check : (net : Netlist) (timing : Timing) (file : ImageFile) → ((one other : NodeNet) → AreItems net timing one → AreItems net timing other → AreInterchangeable file timing one other) → IsAnsweredBy net timing file → IsCheck (IsAccepted net timing file)
+accepted_check net timing file same by = record {
   values = λ x y passed passed_too. refl;
   either = λ x o passed refused.
       never_both file timing passed.0 refused.0 (same passed.0 refused.0 passed.1 refused.1) (same refused.0 passed.0 refused.1 passed.1) refused.2 refused.3 passed.2 refused.4;
@@ -208,6 +214,10 @@ accepted_single net timing file same = record {
       ∙ ap (λ why. refusal status.ImageMatch (match_line why))
       (one_refusal file timing refused.0 refused_too.0 (same refused.0 refused_too.0 refused.1 refused_too.1) (same refused_too.0 refused.0 refused_too.1 refused.1) refused.2 refused_too.2 refused.3 refused_too.3 refused.4 refused_too.4)
       ∙ sym refused_too.5);
+  some = elim by.answer [
+    | inl says ↦ inl (tt, (by.nodes, by.items, says))
+    | inr refused ↦ inr (refusal status.ImageMatch (match_line refused.0), (by.nodes, by.items, refused.0, refused.1, refused.2, refl))
+  ];
   of_text = λ o refused. subst (λ (p : Outcome). IsOfText p.status) (sym refused.5) tt;
 }
 

@@ -40,7 +40,7 @@ module _ (names : Option (List ℕ → Bool)) (bytes : Option (List ℕ → List
           let refused = laws.refused words came.readings came.outcome came.expected (writes_other came.outcome.status status.Memory (λ m. m) may) in
           (λ w. absurd (writes_other result status.Words (λ m. m) (subst MayWrite (sym is) tt) w), λ none. absurd (writes_other came.outcome.status status.Words (λ m. m) may (refused.1 none)))
 
-  module _ {Same : List ℕ → List ℕ → Type 0} (files : List (List ℕ)) (proper : IsProper Same files (Expected words)) where
+  module _ (files : List (List ℕ)) (proper : IsProper files (Expected words)) where
     pub fault_came : Came → result ≡ status.ReadFault → Rose counts.faults counts'.faults
     fault_came came is = elim came.ends.ends [
       | inl told ↦ fault_rose names bytes counts counts' files (Expected words) proper came.readings came.outcome came.are came.expected (sym told.0 ∙ is)

@@ -18,7 +18,7 @@ use Rattle.yse_compile.specs.Compiled.{IsRight, IsOverfull}
 use Rattle.refusal_lines.specs.declared.status.Status.{Status}
 use Rattle.refusal_lines.specs.declared.status.Status.TheVariants as status
 use Rattle.named_files.specs.Checks.{ReadsAs, HasNoLoop, HasRoom, IsWithin}
-use Rattle.yse_top.specs.Law.{AreAlike, Equal}
+use Rattle.yse_top.specs.Law.{AreAlike}
 use Rattle.refusal_lines.specs.Lines.{loop_line, overfull_line}
 use Rattle.named_files.specs.Outcome.{Outcome, refusal}
 use Rattle.yse_top.proofs.ProperLemmas.{IsCheck, IsOfText, alike}
@@ -48,7 +48,7 @@ reads_check {X} {E} Reads fault reader text s line of_text = record {
 -- ---- loops
 
 -- two refusals for a loop
-loops_alike : (o p : Outcome) (l k : List ℕ) → o ≡ refusal status.Loop l → p ≡ refusal status.Loop k → AreAlike Equal o p
+loops_alike : (o p : Outcome) (l k : List ℕ) → o ≡ refusal status.Loop l → p ≡ refusal status.Loop k → AreAlike o p
 loops_alike o p l k e f = record {
   status = ap (λ (x : Outcome). x.status) e ∙ sym (ap (λ (x : Outcome). x.status) f);
   output = ap (λ (x : Outcome). x.output) e ∙ sym (ap (λ (x : Outcome). x.output) f);

@@ -1,5 +1,5 @@
--- The chain of a command: it is proper, it has the statuses of commands, and where its end is settled by
--- what was read it has an outcome; one lemma for each of the links.
+-- The chain of a command: it is proper, it has the statuses of commands, and it has an outcome; one lemma for each
+-- of the links.
 use Rattle.std.proofs.Common.{◌≡◌, ◌≢◌, sym, subst, inl, inr, ℕ, ◌≤◌, List, [], ◌∷◌, length, Option, Some, None, Result, Ok}
 use Rattle.std.specs.Prelude.{⊤}
 use Rattle.limits.specs.declared.TheConstants.{MAX_TEXT_BYTES}
@@ -10,7 +10,7 @@ use Rattle.yse_top.specs.Law.{IsProper, HasOutcome}
 use Rattle.named_files.specs.Outcome.{Outcome}
 use Rattle.named_files.specs.Readings.{Reading}
 use Rattle.yse_top.proofs.OutcomeLemmas.{outcome_after, outcome_file}
-use Rattle.yse_top.proofs.ProperLemmas.{IsOfText, IsOfEnd, IsCheck, IsSingle, answered, at_most_once, single, IsEnding, memory_status, text_check, passed_short, proper_after, proper_file, proper_ends}
+use Rattle.yse_top.proofs.ProperLemmas.{IsOfText, IsOfEnd, IsCheck, answered, IsEnding, memory_status, text_check, passed_short, proper_after, proper_file, proper_ends}
 
 -- the statuses that a command may have
 abbrev pub IsOfCommand : Status → Type 0
@@ -40,54 +40,45 @@ pub not_words : (s : Status) → IsOfCommand s → s ≢ status.Words
 not_words s is same = subst IsOfCommand same is
 
 -- the chain of a command that reads these files
-pub record IsCommand (Settled : Type 0) (Same : List ℕ → List ℕ → Type 0) (files : List (List ℕ)) (Chain : List Reading → Outcome → Type 0) : Type 0 where
-  pub proper : IsProper Same files Chain
+pub record IsCommand (files : List (List ℕ)) (Chain : List Reading → Outcome → Type 0) : Type 0 where
+  pub proper : IsProper files Chain
   pub statuses : (readings : List Reading) (outcome : Outcome) → Chain readings outcome → IsOfCommand outcome.status
-  pub some : Settled → HasOutcome Chain
+  pub some : HasOutcome Chain
 
-module _ (Settled : Type 0) (Same : List ℕ → List ℕ → Type 0) (same : (output : List ℕ) → Same output output) where
-  statuses_after : {X : Type 0} (files : List (List ℕ)) (Checked : Result X Outcome → Type 0) (Next : X → List Reading → Outcome → Type 0) → IsSingle Checked → ((x : X) → Checked (Ok x) → IsCommand Settled Same files (Next x))
-      → (readings : List Reading) (o : Outcome) → After Checked Next readings o → IsOfCommand o.status
-  statuses_after files Checked Next check on readings o (inl (x, passed, next)) = (on x passed).statuses readings o next
-  statuses_after files Checked Next check on readings o (inr (none, inl refused)) = text_is_command o.status (check.of_text o refused)
-  statuses_after files Checked Next check on readings o (inr (none, inr memory)) = subst IsOfCommand (sym (memory_status o memory)) tt
+statuses_after : {X : Type 0} (files : List (List ℕ)) (Checked : Result X Outcome → Type 0) (Next : X → List Reading → Outcome → Type 0) → IsCheck Checked → ((x : X) → Checked (Ok x) → IsCommand files (Next x))
+    → (readings : List Reading) (o : Outcome) → After Checked Next readings o → IsOfCommand o.status
+statuses_after files Checked Next check on readings o (inl (x, passed, next)) = (on x passed).statuses readings o next
+statuses_after files Checked Next check on readings o (inr (none, inl refused)) = text_is_command o.status (check.of_text o refused)
+statuses_after files Checked Next check on readings o (inr (none, inr memory)) = subst IsOfCommand (sym (memory_status o memory)) tt
 
-  -- a check
-  pub command_after : {X : Type 0} (files : List (List ℕ)) (Checked : Result X Outcome → Type 0) (Next : X → List Reading → Outcome → Type 0) → IsCheck Checked → ((x : X) → Checked (Ok x) → IsCommand Settled Same files (Next x)) → IsCommand Settled Same files (After Checked Next)
-  command_after files Checked Next check on = record {
-    proper = proper_after Same same files Checked Next (answered Checked check).once (λ x passed. (on x passed).proper);
-    statuses = statuses_after files Checked Next (single Checked check) on;
-    some = λ settled. outcome_after Checked Next (answered Checked check) (λ x passed. (on x passed).some settled);
-  }
+-- a check
+pub command_after : {X : Type 0} (files : List (List ℕ)) (Checked : Result X Outcome → Type 0) (Next : X → List Reading → Outcome → Type 0) → IsCheck Checked → ((x : X) → Checked (Ok x) → IsCommand files (Next x)) → IsCommand files (After Checked Next)
+command_after files Checked Next check on = record {
+  proper = proper_after files Checked Next (answered Checked check).once (λ x passed. (on x passed).proper);
+  statuses = statuses_after files Checked Next check on;
+  some = outcome_after Checked Next (answered Checked check) (λ x passed. (on x passed).some);
+}
 
-  -- a check that is not known to answer
-  pub command_single : {X : Type 0} (files : List (List ℕ)) (Checked : Result X Outcome → Type 0) (Next : X → List Reading → Outcome → Type 0) → IsSingle Checked → (Settled → ⊥) → ((x : X) → Checked (Ok x) → IsCommand Settled Same files (Next x)) → IsCommand Settled Same files (After Checked Next)
-  command_single files Checked Next check never on = record {
-    proper = proper_after Same same files Checked Next (at_most_once Checked check) (λ x passed. (on x passed).proper);
-    statuses = statuses_after files Checked Next check on;
-    some = λ settled. absurd (never settled);
-  }
+-- a file
+pub command_file : (file : List ℕ) (files : List (List ℕ)) (Next : List ℕ → List Reading → Outcome → Type 0) → ((text : List ℕ) → length text ≤ MAX_TEXT_BYTES → IsCommand files (Next text)) → IsCommand (file ∷ files) (AfterFile file Next)
+command_file file files Next on = record {
+  proper = proper_file file files Next (λ text short. (on text short).proper);
+  statuses = statuses;
+  some = outcome_file file Next (λ text short. (on text short).some);
+}
+  where
+    statuses : (readings : List Reading) (o : Outcome) → AfterFile file Next readings o → IsOfCommand o.status
+    statuses [] o after = absurd after
+    statuses (reading ∷ readings) o (is, after) = by reading.bytes after
+      where
+        by : (b : Option (List ℕ)) → AfterRead file b Next readings o → IsOfCommand o.status
+        by None (none, fault) = subst (λ (p : Outcome). IsOfCommand p.status) (sym fault) tt
+        by (Some bytes) here = (command_after files (λ result. text_of file bytes ≡ result) Next (text_check file bytes) (λ text passed. on text (passed_short file bytes text passed))).statuses readings o here
 
-  -- a file
-  pub command_file : (file : List ℕ) (files : List (List ℕ)) (Next : List ℕ → List Reading → Outcome → Type 0) → ((text : List ℕ) → length text ≤ MAX_TEXT_BYTES → IsCommand Settled Same files (Next text)) → IsCommand Settled Same (file ∷ files) (AfterFile file Next)
-  command_file file files Next on = record {
-    proper = proper_file Same same file files Next (λ text short. (on text short).proper);
-    statuses = statuses;
-    some = λ settled. outcome_file file Next (λ text short. (on text short).some settled);
-  }
-    where
-      statuses : (readings : List Reading) (o : Outcome) → AfterFile file Next readings o → IsOfCommand o.status
-      statuses [] o after = absurd after
-      statuses (reading ∷ readings) o (is, after) = by reading.bytes after
-        where
-          by : (b : Option (List ℕ)) → AfterRead file b Next readings o → IsOfCommand o.status
-          by None (none, fault) = subst (λ (p : Outcome). IsOfCommand p.status) (sym fault) tt
-          by (Some bytes) here = (command_after files (λ result. text_of file bytes ≡ result) Next (text_check file bytes) (λ text passed. on text (passed_short file bytes text passed))).statuses readings o here
-
-  -- an end
-  pub command_ends : (IsEnd : Outcome → Type 0) → IsEnding Same IsEnd → (Settled → HasOutcome (Ends IsEnd)) → IsCommand Settled Same [] (Ends IsEnd)
-  command_ends IsEnd end some = record { proper = proper_ends Same IsEnd end; statuses = statuses; some = some }
-    where
-      statuses : (readings : List Reading) (o : Outcome) → Ends IsEnd readings o → IsOfCommand o.status
-      statuses readings o (none, inl is) = end_is_command o.status (end.ends o is)
-      statuses readings o (none, inr memory) = subst IsOfCommand (sym (memory_status o memory)) tt
+-- an end
+pub command_ends : (IsEnd : Outcome → Type 0) → IsEnding IsEnd → HasOutcome (Ends IsEnd) → IsCommand [] (Ends IsEnd)
+command_ends IsEnd end some = record { proper = proper_ends IsEnd end; statuses = statuses; some = some }
+  where
+    statuses : (readings : List Reading) (o : Outcome) → Ends IsEnd readings o → IsOfCommand o.status
+    statuses readings o (none, inl is) = end_is_command o.status (end.ends o is)
+    statuses readings o (none, inr memory) = subst IsOfCommand (sym (memory_status o memory)) tt

@@ -26,7 +26,7 @@ done_or_memory s f = absurd (wrong (f (λ e. cc)))
     wrong : s ≡ status.Done → ⊥
     wrong e = cc
 
-module _ {Same : List ℕ → List ℕ → Type 0} (names : Option (List ℕ → Bool)) (bytes : Option (List ℕ → List ℕ)) (old new : FileCounts) (files : List (List ℕ)) (Chain : List Reading → Outcome → Type 0) (proper : IsProper Same files Chain) where
+module _ (names : Option (List ℕ → Bool)) (bytes : Option (List ℕ → List ℕ)) (old new : FileCounts) (files : List (List ℕ)) (Chain : List Reading → Outcome → Type 0) (proper : IsProper files Chain) where
   -- ---- absent names
 
   none_among : (readings : List Reading) → ((place : ℕ) (reading : Reading) → slice_get readings place ≡ Some reading → is_absent names reading.file ≡ false) → count_by (λ reading. is_absent names reading.file) readings ≡ 0

@@ -10,4 +10,5 @@ mod OutcomeLemmas
 mod ProperLemmas
 mod ReportLemmas
 mod SequelLemmas
+mod TextLemmas
 mod TraceLemmas

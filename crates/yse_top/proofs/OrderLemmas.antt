@@ -1,7 +1,11 @@
 -- Where a run in an order ends is one outcome, whichever image the netlist was compiled to.
-use Rattle.std.proofs.Common.{◌≡◌, ◌∙◌, sym, ap, subst, inl, inr, ℕ, List, arith}
-use Rattle.std.proofs.lemmas.Option.{slice_get_within}
+use Rattle.std.proofs.Common.{◌≡◌, ◌∙◌, sym, ap, subst, refl, inl, inr, ℕ, ◌+◌, ◌<◌, List, length, get_or, replicate, arith}
+use Rattle.std.proofs.lemmas.Bool.{cases_eq}
+use Rattle.std.proofs.lemmas.List.Elements.{All-replicate}
+use Rattle.std.proofs.lemmas.Option.{slice_get_within, slice_get-get_or}
+use Rattle.list_laws.proofs.Members.{all_flat_of, each}
 use Rattle.machine_text.specs.declared.machine.Machine.{Machine}
+use Rattle.machine_text.specs.Machines.{ports_of}
 use Rattle.net_defs.specs.declared.homes.HomeChoice.{HomeChoice}
 use Rattle.net_defs.specs.declared.netlist.Netlist.{Netlist}
 use Rattle.net_defs.specs.declared.stimulus.Stimulus.{Stimulus}
@@ -11,15 +15,25 @@ use Rattle.net_defs.specs.Steps.{State}
 use Rattle.net_defs.specs.Time.{cycle_count, turn_count}
 use Rattle.net_defs.specs.Trace.{trace_to}
 use Rattle.image_defs.specs.declared.image.Image.{Image}
+use Rattle.image_defs.specs.declared.image.PortImage.{PortImage}
+use Rattle.image_defs.specs.Places.{Each, IsPort}
+use Rattle.image_defs.specs.WellFormed.{IsWellFormed}
+use Rattle.image_check.proofs.KnownLemmas.{IsKnown, known_each, known_same}
 use Rattle.node_defs.proofs.MemberLemmas.{member_at}
 use Rattle.event_defs.specs.Linked.{AreLinkedAlike}
 use Rattle.event_defs.specs.declared.place.Place.{Place}
-use Rattle.event_defs.specs.Steps.{CoreState, AllDone, rows_done}
+use Rattle.event_defs.specs.declared.place.CoreStep.{CoreStep}
+use Rattle.event_defs.specs.Steps.{CoreState, AreFirstSteps, AllDone, rows_done}
 use Rattle.stim_text.specs.declared.order.Order.{Order}
-use Rattle.yse_top.specs.Law.{Equal}
+use Rattle.stim_text.specs.declared.order.OrderLine.{OrderLine}
+use Rattle.stim_text.specs.Orders.{IsValidOrder, steps_of}
+use Rattle.yse_compile.proofs.DesignExists.{HasDesign}
+use Rattle.yse_top.specs.Law.{HasOutcome}
 use Rattle.named_files.specs.Images.{IsMachineImage}
 use Rattle.yse_commands.specs.Orders.{IsAfterOrder, EndsIn, EndsInOrder}
+use Rattle.named_files.specs.Checks.{Ends}
 use Rattle.named_files.specs.Outcome.{Outcome, done, unfinished}
+use Rattle.yse_top.proofs.OutcomeLemmas.{outcome_ends}
 use Rattle.yse_top.proofs.ProperLemmas.{IsEnding, IsOfEnd, alike}
 
 -- two states of which all that is printed is the same
@@ -70,10 +84,60 @@ module _ (net : Netlist) (timing : Timing) (stimulus : Stimulus) where
   ends_status states image state o (inl (all, is)) = subst (λ (p : Outcome). IsOfEnd p.status) (sym is) tt
   ends_status states image state o (inr (some, is)) = subst (λ (p : Outcome). IsOfEnd p.status) (sym is) tt
 
-  pub order_ending : (order : Order) (banks : ℕ) (choice : HomeChoice) (machine : Machine) → HasOneSimulation net timing stimulus → DecidesOrder order banks choice net machine timing stimulus → IsEnding Equal (EndsInOrder order banks choice net machine timing stimulus)
+  pub order_ending : (order : Order) (banks : ℕ) (choice : HomeChoice) (machine : Machine) → HasOneSimulation net timing stimulus → DecidesOrder order banks choice net machine timing stimulus → IsEnding (EndsInOrder order banks choice net machine timing stimulus)
   order_ending order banks choice machine simulation decides = record {
     one = λ o p is is_too. alike o p (ends_one is.states is_too.states is.image is_too.image is.state is_too.state o p
         (simulation.only is.states is.simulation ∙ sym (simulation.only is_too.states is_too.simulation))
         (decides is.image is_too.image is.state is_too.state is.made is_too.made is.after is_too.after) is.ends is_too.ends);
     ends = λ o is. ends_status is.states is.image is.state o is.ends;
   }
+
+  -- ---- there is an outcome
+
+  -- whether all ports are done
+  done_known : (image : Image) (until : ℕ) (state : CoreState) → IsKnown (AllDone image until state)
+  done_known image until state =
+      known_same ((p : ℕ) (port : PortImage) → IsPort image p port → (state.place p).turn ≡ until + 1) (AllDone image until state) (λ each. record { each = each }) (λ done. done.each)
+      (known_each (λ p port. (state.place p).turn ≡ until + 1) (λ p port. cases_eq (state.place p).turn (until + 1)) image.ports)
+
+  -- the steps of a valid order are of its ports
+  steps_within : (ports : ℕ) (order : Order) → IsValidOrder ports order → Each (λ p. p < ports) (steps_of order)
+  steps_within ports order valid i p at =
+      each (λ (q : ℕ). q < ports) (steps_of order) i p
+      (all_flat_of (λ (q : ℕ). q < ports) (λ (line : OrderLine). replicate line.times line.port) order.lines
+      (λ l d low. All-replicate (λ (q : ℕ). q < ports) (get_or order.lines l d).times (get_or order.lines l d).port (valid.port l (get_or order.lines l d) (slice_get-get_or order.lines l d low)))) at
+
+  pub order_outcome : (order : Order) (banks : ℕ) (choice : HomeChoice) (machine : Machine) → HasOneSimulation net timing stimulus → HasDesign choice net machine timing → IsValidOrder (ports_of machine) order
+      → ((image : Image) → IsWellFormed image → Each (λ p. p < length image.ports) (steps_of order) → (answers : List CoreStep) × (state : CoreState) × AreFirstSteps image stimulus banks (turn_count timing stimulus) (steps_of order) answers state)
+      → HasOutcome (Ends (EndsInOrder order banks choice net machine timing stimulus))
+  order_outcome order banks choice machine simulation has valid steps = told (done_known has.chosen.compiled.image (turn_count timing stimulus) after.1) where
+    count : length has.chosen.compiled.image.ports ≡ ports_of machine
+    count =
+        let design = has.is.design in
+        let ports = design.built.matches.ports in
+        let planned = design.built.planned.ports in
+        let logic = design.logic in
+        let array = design.array in
+        omega (arith, ports, planned, logic, array)
+
+    after : (answers : List CoreStep) × (state : CoreState) × AreFirstSteps has.chosen.compiled.image stimulus banks (turn_count timing stimulus) (steps_of order) answers state
+    after = steps has.chosen.compiled.image has.is.design.built.fits (subst (λ n. Each (λ p. p < n) (steps_of order)) (sym count) (steps_within (ports_of machine) order valid))
+
+    ending : (o : Outcome) → EndsIn net timing stimulus simulation.states has.chosen.compiled.image after.1 o → EndsInOrder order banks choice net machine timing stimulus o
+    ending o ends = record {
+      image = has.chosen.compiled.image;
+      made = record { chosen = has.chosen; is = has.is; image_is = refl };
+      state = after.1;
+      after = record { answers = after.0; steps = after.2 };
+      states = simulation.states;
+      simulation = simulation.exists;
+      ends = ends;
+    }
+
+    told : IsKnown (AllDone has.chosen.compiled.image (turn_count timing stimulus) after.1) → HasOutcome (Ends (EndsInOrder order banks choice net machine timing stimulus))
+    told (inl all) =
+        let o : Outcome = done (to simulation.states (cycle_count stimulus)) in
+        outcome_ends (EndsInOrder order banks choice net machine timing stimulus) o (ending o (inl (all, refl))) tt
+    told (inr some) =
+        let o : Outcome = unfinished (rows_done has.chosen.compiled.image after.1) (cycle_count stimulus) (to simulation.states (rows_done has.chosen.compiled.image after.1)) in
+        outcome_ends (EndsInOrder order banks choice net machine timing stimulus) o (ending o (inr (some, refl))) tt

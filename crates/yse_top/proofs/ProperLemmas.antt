@@ -6,7 +6,7 @@ use Rattle.limits.specs.declared.TheConstants.{MAX_TEXT_BYTES}
 use Rattle.refusal_lines.specs.declared.status.Status.{Status}
 use Rattle.refusal_lines.specs.declared.status.Status.TheVariants as status
 use Rattle.named_files.specs.Checks.{After, AfterRead, AfterFile, Ends, Writes, text_of, read_fault}
-use Rattle.yse_top.specs.Law.{AreAlike, AgreeOn, Equal, HasCause, IsProper}
+use Rattle.yse_top.specs.Law.{AreAlike, AgreeOn, HasCause, IsProper}
 use Rattle.refusal_lines.specs.Lines.{too_long_line}
 use Rattle.named_files.specs.Outcome.{Outcome, done, refusal, out_of_memory}
 use Rattle.named_files.specs.Readings.{Reading}
@@ -35,17 +35,12 @@ IsOfEnd status.Unfinished = ⊤
 IsOfEnd _ = ⊥
 
 -- one outcome is like itself
-pub alike : (one other : Outcome) → one ≡ other → AreAlike Equal one other
+pub alike : (one other : Outcome) → one ≡ other → AreAlike one other
 alike one other same = record {
   status = ap (λ (o : Outcome). o.status) same;
   output = ap (λ (o : Outcome). o.output) same;
   line = λ other_status. ap (λ (o : Outcome). o.line) same;
 }
-
--- the same bytes are the same output
-module _ (Same : List ℕ → List ℕ → Type 0) (same : (output : List ℕ) → Same output output) where
-  pub loosened : (one other : Outcome) → AreAlike Equal one other → AreAlike Same one other
-  loosened one other are = record { status = are.status; output = subst (Same one.output) are.output (same one.output); line = are.line }
 
 -- a status that the text or an end has is no other one
 pub of_text_not : (s other : Status) → IsOfText s → (IsOfText other → ⊥) → s ≢ other
@@ -63,25 +58,15 @@ memory_status o is = ap (λ (o : Outcome). o.status) is
 pub record IsCheck {X : Type 0} (Checked : Result X Outcome → Type 0) : Type 0 where
   pub values : (x y : X) → Checked (Ok x) → Checked (Ok y) → x ≡ y
   pub either : (x : X) (o : Outcome) → Checked (Ok x) → Checked (Err o) → ⊥
-  pub refusals : (o p : Outcome) → Checked (Err o) → Checked (Err p) → AreAlike Equal o p
+  pub refusals : (o p : Outcome) → Checked (Err o) → Checked (Err p) → AreAlike o p
   pub some : ((x : X) × Checked (Ok x)) ⊎ ((o : Outcome) × Checked (Err o))
   pub of_text : (o : Outcome) → Checked (Err o) → IsOfText o.status
-
--- the same, but that it is not known to answer
-pub record IsSingle {X : Type 0} (Checked : Result X Outcome → Type 0) : Type 0 where
-  pub values : (x y : X) → Checked (Ok x) → Checked (Ok y) → x ≡ y
-  pub either : (x : X) (o : Outcome) → Checked (Ok x) → Checked (Err o) → ⊥
-  pub refusals : (o p : Outcome) → Checked (Err o) → Checked (Err p) → AreAlike Equal o p
-  pub of_text : (o : Outcome) → Checked (Err o) → IsOfText o.status
-
-pub single : {X : Type 0} (Checked : Result X Outcome → Type 0) → IsCheck Checked → IsSingle Checked
-single Checked check = record { values = check.values; either = check.either; refusals = check.refusals; of_text = check.of_text }
 
 -- a check answers at most once, and what it refuses is no want of memory and no fault
 pub record IsOnce {X : Type 0} (Checked : Result X Outcome → Type 0) : Type 0 where
   pub values : (x y : X) → Checked (Ok x) → Checked (Ok y) → x ≡ y
   pub either : (x : X) (o : Outcome) → Checked (Ok x) → Checked (Err o) → ⊥
-  pub refusals : (o p : Outcome) → Checked (Err o) → Checked (Err p) → AreAlike Equal o p
+  pub refusals : (o p : Outcome) → Checked (Err o) → Checked (Err p) → AreAlike o p
   pub not_memory : (o : Outcome) → Checked (Err o) → o.status ≢ status.Memory
   pub not_read : (o : Outcome) → Checked (Err o) → o.status ≢ status.ReadFault
   pub not_written : (o : Outcome) → Checked (Err o) → o.status ≢ status.WriteFault
@@ -91,7 +76,7 @@ pub record IsAnswered {X : Type 0} (Checked : Result X Outcome → Type 0) : Typ
   pub once : IsOnce Checked
   pub some : ((x : X) × Checked (Ok x)) ⊎ ((o : Outcome) × Checked (Err o))
 
-pub at_most_once : {X : Type 0} (Checked : Result X Outcome → Type 0) → IsSingle Checked → IsOnce Checked
+at_most_once : {X : Type 0} (Checked : Result X Outcome → Type 0) → IsCheck Checked → IsOnce Checked
 at_most_once Checked check = record {
   values = check.values;
   either = check.either;
@@ -102,11 +87,11 @@ at_most_once Checked check = record {
 }
 
 pub answered : {X : Type 0} (Checked : Result X Outcome → Type 0) → IsCheck Checked → IsAnswered Checked
-answered Checked check = record { once = at_most_once Checked (single Checked check); some = check.some }
+answered Checked check = record { once = at_most_once Checked check; some = check.some }
 
 -- an end is one outcome
-pub record IsEnding (Same : List ℕ → List ℕ → Type 0) (IsEnd : Outcome → Type 0) : Type 0 where
-  pub one : (o p : Outcome) → IsEnd o → IsEnd p → AreAlike Same o p
+pub record IsEnding (IsEnd : Outcome → Type 0) : Type 0 where
+  pub one : (o p : Outcome) → IsEnd o → IsEnd p → AreAlike o p
   pub ends : (o : Outcome) → IsEnd o → IsOfEnd o.status
 
 -- ---- causes
@@ -173,17 +158,17 @@ cause_unread reading file outcome file_is none is = record {
 begun_none : (readings : List Reading) (files : List (List ℕ)) → readings ≡ [] → map (λ reading. reading.file) readings ≡ take (length readings) files
 begun_none readings files none = subst (λ (rs : List Reading). map (λ reading. reading.file) rs ≡ take (length rs) files) (sym none) refl
 
-pub proper_after : (Same : List ℕ → List ℕ → Type 0) → ((output : List ℕ) → Same output output) → {X : Type 0} (files : List (List ℕ)) (Checked : Result X Outcome → Type 0) (Next : X → List Reading → Outcome → Type 0) → IsOnce Checked → ((x : X) → Checked (Ok x) → IsProper Same files (Next x)) → IsProper Same files (After Checked Next)
-proper_after Same same {X} files Checked Next check on = record { one = one; begun = begun; cause = cause }
+pub proper_after : {X : Type 0} (files : List (List ℕ)) (Checked : Result X Outcome → Type 0) (Next : X → List Reading → Outcome → Type 0) → IsOnce Checked → ((x : X) → Checked (Ok x) → IsProper files (Next x)) → IsProper files (After Checked Next)
+proper_after {X} files Checked Next check on = record { one = one; begun = begun; cause = cause }
   where
-    one : (readings others : List Reading) (o p : Outcome) → After Checked Next readings o → After Checked Next others p → AgreeOn readings others → o.status ≢ status.Memory → p.status ≢ status.Memory → AreAlike Same o p
+    one : (readings others : List Reading) (o p : Outcome) → After Checked Next readings o → After Checked Next others p → AgreeOn readings others → o.status ≢ status.Memory → p.status ≢ status.Memory → AreAlike o p
     one readings others o p (inl (x, passed, next)) (inl (y, passed_too, next_too)) agree n m =
         (on x passed).one readings others o p next (subst (λ v. Next v others p) (sym (check.values x y passed passed_too)) next_too) agree n m
     one readings others o p (inl (x, passed, next)) (inr (none, inl refused)) agree n m = absurd (check.either x p passed refused)
     one readings others o p (inl (x, passed, next)) (inr (none, inr memory)) agree n m = absurd (m (memory_status p memory))
     one readings others o p (inr (none, inl refused)) (inl (y, passed, next)) agree n m = absurd (check.either y o passed refused)
     one readings others o p (inr (none, inr memory)) (inl (y, passed, next)) agree n m = absurd (n (memory_status o memory))
-    one readings others o p (inr (none, inl refused)) (inr (none_too, inl refused_too)) agree n m = loosened Same same o p (check.refusals o p refused refused_too)
+    one readings others o p (inr (none, inl refused)) (inr (none_too, inl refused_too)) agree n m = check.refusals o p refused refused_too
     one readings others o p (inr (none, inl refused)) (inr (none_too, inr memory)) agree n m = absurd (m (memory_status p memory))
     one readings others o p (inr (none, inr memory)) (inr (none_too, either_too)) agree n m = absurd (n (memory_status o memory))
 
@@ -233,24 +218,24 @@ short_passes file bytes o short = by (nat_le (length bytes) MAX_TEXT_BYTES) (le-
     by true is e = never_both bytes o e
     by false is e = cc
 
-module _ (Same : List ℕ → List ℕ → Type 0) (same : (output : List ℕ) → Same output output) (file : List ℕ) (files : List (List ℕ)) (Next : List ℕ → List Reading → Outcome → Type 0) where
-  read_proper : ((text : List ℕ) → length text ≤ MAX_TEXT_BYTES → IsProper Same files (Next text)) → (bytes : List ℕ) → IsProper Same files (AfterRead file (Some bytes) Next)
-  read_proper on bytes = proper_after Same same files (λ result. text_of file bytes ≡ result) Next (answered (λ result. text_of file bytes ≡ result) (text_check file bytes)).once (λ text passed. on text (passed_short file bytes text passed))
+module _ (file : List ℕ) (files : List (List ℕ)) (Next : List ℕ → List Reading → Outcome → Type 0) where
+  read_proper : ((text : List ℕ) → length text ≤ MAX_TEXT_BYTES → IsProper files (Next text)) → (bytes : List ℕ) → IsProper files (AfterRead file (Some bytes) Next)
+  read_proper on bytes = proper_after files (λ result. text_of file bytes ≡ result) Next (answered (λ result. text_of file bytes ≡ result) (text_check file bytes)).once (λ text passed. on text (passed_short file bytes text passed))
 
-  pub proper_file : ((text : List ℕ) → length text ≤ MAX_TEXT_BYTES → IsProper Same files (Next text)) → IsProper Same (file ∷ files) (AfterFile file Next)
+  pub proper_file : ((text : List ℕ) → length text ≤ MAX_TEXT_BYTES → IsProper files (Next text)) → IsProper (file ∷ files) (AfterFile file Next)
   proper_file on = record { one = one; begun = begun; cause = cause }
     where
-      one : (readings others : List Reading) (o p : Outcome) → AfterFile file Next readings o → AfterFile file Next others p → AgreeOn readings others → o.status ≢ status.Memory → p.status ≢ status.Memory → AreAlike Same o p
+      one : (readings others : List Reading) (o p : Outcome) → AfterFile file Next readings o → AfterFile file Next others p → AgreeOn readings others → o.status ≢ status.Memory → p.status ≢ status.Memory → AreAlike o p
       one [] others o p after other agree n m = absurd after
       one (reading ∷ readings) [] o p after other agree n m = absurd other
       one (reading ∷ readings) (other ∷ others) o p (is, after) (is_too, after_too) agree n m =
           by reading.bytes (agree zero reading other refl refl (is ∙ sym is_too)) after
         where
-          by : (b : Option (List ℕ)) → b ≡ other.bytes → AfterRead file b Next readings o → AreAlike Same o p
+          by : (b : Option (List ℕ)) → b ≡ other.bytes → AfterRead file b Next readings o → AreAlike o p
           by None alike_bytes (none, fault) = by_none (subst (λ c. AfterRead file c Next others p) (sym alike_bytes) after_too)
             where
-              by_none : AfterRead file None Next others p → AreAlike Same o p
-              by_none (none_too, fault_too) = loosened Same same o p (alike o p (fault ∙ sym fault_too))
+              by_none : AfterRead file None Next others p → AreAlike o p
+              by_none (none_too, fault_too) = alike o p (fault ∙ sym fault_too)
           by (Some bytes) alike_bytes here =
               (read_proper on bytes).one readings others o p here (subst (λ c. AfterRead file c Next others p) (sym alike_bytes) after_too)
               (λ place r q at at_too. agree (suc place) r q at at_too) n m
@@ -273,11 +258,11 @@ module _ (Same : List ℕ → List ℕ → Type 0) (same : (output : List ℕ) �
 
 -- ---- an end
 
-module _ (Same : List ℕ → List ℕ → Type 0) (IsEnd : Outcome → Type 0) where
-  pub proper_ends : IsEnding Same IsEnd → IsProper Same [] (Ends IsEnd)
+module _ (IsEnd : Outcome → Type 0) where
+  pub proper_ends : IsEnding IsEnd → IsProper [] (Ends IsEnd)
   proper_ends end = record { one = one; begun = λ readings o ends. begun_none readings [] ends.0; cause = cause }
     where
-      one : (readings others : List Reading) (o p : Outcome) → Ends IsEnd readings o → Ends IsEnd others p → AgreeOn readings others → o.status ≢ status.Memory → p.status ≢ status.Memory → AreAlike Same o p
+      one : (readings others : List Reading) (o p : Outcome) → Ends IsEnd readings o → Ends IsEnd others p → AgreeOn readings others → o.status ≢ status.Memory → p.status ≢ status.Memory → AreAlike o p
       one readings others o p (none, inl is) (none_too, inl is_too) agree n m = end.one o p is is_too
       one readings others o p (none, inl is) (none_too, inr memory) agree n m = absurd (m (memory_status p memory))
       one readings others o p (none, inr memory) (none_too, either) agree n m = absurd (n (memory_status o memory))
@@ -288,8 +273,8 @@ module _ (Same : List ℕ → List ℕ → Type 0) (IsEnd : Outcome → Type 0) 
       cause readings o (none, inr memory) = cause_memory readings o none memory
 
 -- an output that is one
-pub writes_ending : (Same : List ℕ → List ℕ → Type 0) (IsOutput : List ℕ → Type 0) → ((s t : List ℕ) → IsOutput s → IsOutput t → Same s t) → IsEnding Same (Writes IsOutput)
-writes_ending Same IsOutput only = record {
-  one = λ o p is is_too. subst (λ (q : Outcome). AreAlike Same q p) (sym is.2) (subst (AreAlike Same (done is.0)) (sym is_too.2) (record { status = refl; output = only is.0 is_too.0 is.1 is_too.1; line = λ other. refl }));
+pub writes_ending : (IsOutput : List ℕ → Type 0) → ((s t : List ℕ) → IsOutput s → IsOutput t → s ≡ t) → IsEnding (Writes IsOutput)
+writes_ending IsOutput only = record {
+  one = λ o p is is_too. subst (λ (q : Outcome). AreAlike q p) (sym is.2) (subst (AreAlike (done is.0)) (sym is_too.2) (record { status = refl; output = only is.0 is_too.0 is.1 is_too.1; line = λ other. refl }));
   ends = λ o is. subst (λ (p : Outcome). IsOfEnd p.status) (sym is.2) tt;
 }

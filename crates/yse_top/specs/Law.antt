@@ -1,45 +1,20 @@
 -- The laws of whole calls: what is expected is one outcome, and there is one, whatever the files hold.
-use Rattle.std.specs.Prelude.{◌⊎◌, ◌≡◌, ◌≢◌, ◌↔◌, ℕ, List, [], ◌∷◌, ◌++◌, ◌+◌, length, take, map, Option, Some, None, slice_get}
+use Rattle.std.specs.Prelude.{◌≡◌, ◌≢◌, ◌↔◌, ℕ, List, [], ◌∷◌, ◌++◌, ◌+◌, length, take, map, Option, Some, None, slice_get}
 use Rattle.refusal_lines.specs.declared.status.Status.TheVariants as ends
 use Rattle.yse_commands.specs.Expected.{Expected}
 use Rattle.refusal_lines.specs.Lines.{read_fault_line}
 use Rattle.named_files.specs.Outcome.{Outcome}
 use Rattle.named_files.specs.Readings.{Reading}
 use Rattle.cmd_words.specs.declared.command.Command.{Command}
-use Rattle.cmd_words.specs.declared.command.Command.TheVariants as command
-use Rattle.machine_text.specs.declared.machine.Machine.{Machine}
-use Rattle.net_defs.specs.declared.homes.HomeChoice.{HomeChoice}
-use Rattle.net_defs.specs.declared.netlist.Netlist.{Netlist}
-use Rattle.net_defs.specs.declared.timing.Timing.{Timing}
-use Rattle.yse_commands.specs.commands.Compile.{IsImageTextOf}
 use Rattle.cmd_words.specs.Asked.{asked}
 use Rattle.cmd_words.specs.Forms.{HasForm}
-use Rattle.yse_commands.specs.Words.{files_named, IsSettled}
+use Rattle.yse_commands.specs.Words.{files_named}
 
--- two outcomes with the same status, with outputs that are the same in this sense, and with the same line unless it
--- names a loop
-pub record AreAlike (Same : List ℕ → List ℕ → Type 0) (one other : Outcome) : Type 0 where
+-- two outcomes with the same status, the same output, and the same line unless it names a loop
+pub record AreAlike (one other : Outcome) : Type 0 where
   pub status : one.status ≡ other.status
-  pub output : Same one.output other.output
+  pub output : one.output ≡ other.output
   pub line : one.status ≢ ends.Loop → one.line ≡ other.line
-
--- the same bytes
-abbrev pub Equal : List ℕ → List ℕ → Type 0
-Equal = λ one other. one ≡ other
-
--- texts of images that one design is compiled to
-pub record AreImageTexts (one other : List ℕ) : Type 0 where
-  pub choice : HomeChoice
-  pub net : Netlist
-  pub machine : Machine
-  pub timing : Timing
-  pub one_is : IsImageTextOf choice net machine timing one
-  pub other_is : IsImageTextOf choice net machine timing other
-
--- the same bytes; where words ask for an image, also texts of images that one design is compiled to
-abbrev pub SameOutput : Option Command → List ℕ → List ℕ → Type 0
-SameOutput (Some (command.Compile words)) = λ one other. (one ≡ other) ⊎ AreImageTexts one other
-SameOutput _ = Equal
 
 -- where both lists have a reading of the same file at a place, it is the same reading
 abbrev pub AgreeOn : List Reading → List Reading → Type 0
@@ -60,10 +35,10 @@ pub record HasCause (readings : List Reading) (outcome : Outcome) : Type 0 where
   pub none_written : outcome.status ≢ ends.WriteFault
 
 -- what holds of a chain of checks that reads these files in their order
-pub record IsProper (Same : List ℕ → List ℕ → Type 0) (files : List (List ℕ)) (Chain : List Reading → Outcome → Type 0) : Type 0 where
+pub record IsProper (files : List (List ℕ)) (Chain : List Reading → Outcome → Type 0) : Type 0 where
   -- the same readings come to outcomes that are alike, but for want of memory
   pub one : (readings others : List Reading) (outcome other : Outcome) → Chain readings outcome → Chain others other
-      → AgreeOn readings others → outcome.status ≢ ends.Memory → other.status ≢ ends.Memory → AreAlike Same outcome other
+      → AgreeOn readings others → outcome.status ≢ ends.Memory → other.status ≢ ends.Memory → AreAlike outcome other
   -- the files are begun in their order, and no other
   pub begun : (readings : List Reading) (outcome : Outcome) → Chain readings outcome → map (λ reading. reading.file) readings ≡ take (length readings) files
   pub cause : (readings : List Reading) (outcome : Outcome) → Chain readings outcome → HasCause readings outcome
@@ -74,12 +49,11 @@ pub record HasOutcome (Chain : List Reading → Outcome → Type 0) : Type 0 whe
       → (readings : List Reading) × (outcome : Outcome) × Chain readings outcome × AreGiven give readings × (outcome.status ≢ ends.Memory)
 
 abbrev pub AreProper : Type 0
-AreProper = (words : List (List ℕ)) → IsProper (SameOutput (asked words)) (files_named (asked words)) (Expected words)
+AreProper = (words : List (List ℕ)) → IsProper (files_named (asked words)) (Expected words)
 
--- words that name no file of an order, and neither ask for an image nor name one, come to an outcome; for the others
--- a call shows it for what it read
+-- whatever the words and whatever the files hold, there is an outcome
 abbrev pub HaveOutcomes : Type 0
-HaveOutcomes = (words : List (List ℕ)) → IsSettled (asked words) → HasOutcome (Expected words)
+HaveOutcomes = (words : List (List ℕ)) → HasOutcome (Expected words)
 
 -- the words alone decide whether the status of refused words comes, and they ask for a command exactly where
 -- they are of its form

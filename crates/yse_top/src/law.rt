@@ -14,11 +14,12 @@ ghost use Rattle.yse_top.specs.Sequel.{RunsWhatIsCompiled};
 ghost use Rattle.yse_commands.specs.commands.Exec.{IsTaken};
 
 use bench_read::law::{reads_or_faults as netlists_or_faults, texts_read_as_valid};
-use bench_read::list_law::reads_or_faults as lists_or_faults;
+use bench_read::list_law::{reads_as_ascending, reads_or_faults as lists_or_faults};
 use cmd_words::law::{forms_are_asked, forms_are_in_range};
-use event_defs::law::links_decide;
+use event_defs::law::{links_decide, steps_exist};
 use fault_sim::one_list as one_list_of_verdicts;
 use home_better::law::{one_better, some_better};
+use image_check::law::matches_or_not;
 use image_file::law::reads_or_faults as images_or_faults;
 use large_run::law::one_summary;
 use machine_text::law::{
@@ -31,16 +32,18 @@ use rank_find::order_or_loop;
 use ref_sim::one_simulation;
 use stim_text::lane_law::reads_or_faults as lanes_or_faults;
 use stim_text::law::reads_or_faults as stimuli_or_faults;
-use stim_text::order_law::reads_or_faults as orders_or_faults;
+use stim_text::order_law::{
+    reads_as_valid as orders_are_valid, reads_or_faults as orders_or_faults,
+};
 use yse_compile::inputs::same_inputs;
 use yse_compile::law::{
-    fits_by_or_refused, one_linking_chosen, one_refusal, one_use, planned_or_refused,
+    designs_exist, fits_by_or_refused, one_image, one_linking_chosen, one_refusal, one_use,
+    planned_or_refused,
 };
 use yse_compile::matching::designs_are_in_range;
 
-/// Words come to one outcome over what is read, but that any loop may be named where there are several, that
-/// what is written of an image is a text of it, and that want of memory may come in its place; and, unless they
-/// name an order, or ask for an image or name one, to some outcome, whatever the files hold. The files of the
+/// Words come to one outcome over what is read, but that any loop may be named where there are several, and that
+/// want of memory may come in its place; and they come to some outcome, whatever the files hold. The files of the
 /// command are begun in their order, no other is, and none after one that can't be read. Words ask for a
 /// command exactly where they are of its form.
 pub fn calls_are_proper()
@@ -53,10 +56,12 @@ pub fn calls_are_proper()
     machines_or_faults();
     orders_or_faults();
     lists_or_faults();
+    reads_as_ascending();
     images_or_faults();
     lanes_or_faults();
     same_inputs();
     machines_are_valid();
+    orders_are_valid();
     texts_read_as_valid();
     order_or_loop();
     one_simulation();
@@ -72,6 +77,10 @@ pub fn calls_are_proper()
     one_list_of_verdicts();
     items_are_well_formed();
     links_decide();
+    steps_exist();
+    matches_or_not();
+    designs_exist();
+    one_image();
     one_summary();
     forms_are_asked();
     forms_are_in_range();

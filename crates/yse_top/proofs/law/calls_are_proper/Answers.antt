@@ -6,9 +6,10 @@ use Rattle.limits.specs.declared.TheConstants.{MAX_CELLS, MAX_FAULT_SIGNALS, MAX
 use Rattle.machine_text.specs.declared.machine.Machine.{Machine}
 use Rattle.machine_text.specs.Machines as machine_text
 use Rattle.machine_text.specs.Machines.{IsValid as IsValidMachine, default_machine, ports_of}
-use Rattle.net_defs.specs.Valid.{IsValid, input_count}
+use Rattle.net_defs.specs.Valid.{Ascends, IsValid, IsValidTiming, input_count}
 use Rattle.yse_compile.specs.Chosen.{FitsBy}
 use Rattle.yse_compile.specs.Designs.{IsAcyclic}
+use Rattle.yse_compile.proofs.DesignExists.{HasDesign}
 use Rattle.text_lines.specs.Answers.{IsReader}
 use Rattle.net_defs.specs.declared.homes.HomeChoice.{HomeChoice}
 use Rattle.net_defs.specs.declared.netlist.Netlist.{Netlist}
@@ -21,10 +22,14 @@ use Rattle.net_defs.specs.Time.{turn_count}
 use Rattle.net_defs.specs.Trace.{IsTrace}
 use Rattle.image_defs.specs.declared.image.Image.{Image}
 use Rattle.image_defs.specs.WellFormed.{IsWellFormed}
+use Rattle.image_defs.specs.Places.{Each}
+use Rattle.image_defs.specs.Claimed.{HasClaims}
 use Rattle.image_defs.specs.declared.file.ImageFile.{ImageFile}
 use Rattle.image_file.specs.Ranges as image_file
 use Rattle.image_file.specs.Reading as image_faults
 use Rattle.event_defs.specs.Linked.{AreLinkedAlike}
+use Rattle.event_defs.specs.Steps.{AreFirstSteps, CoreState}
+use Rattle.event_defs.specs.declared.place.CoreStep.{CoreStep}
 use Rattle.stim_text.specs.Orders.{steps_of}
 use Rattle.bench_read.specs.Faults as bench
 use Rattle.bench_read.specs.GateLists as gate_lists
@@ -47,12 +52,12 @@ use Rattle.named_files.specs.Checks.{After, Ends, Writes, IsLanesOf, HasFewBits,
 use Rattle.cmd_words.specs.Forms.{HasForm, IsInRange}
 use Rattle.refusal_lines.specs.declared.status.Status.{Status}
 use Rattle.yse_commands.specs.Expected.{Expected, ExpectedOf, Asks}
-use Rattle.yse_top.specs.Law.{AreImageTexts, Equal, IsProper, HasOutcome, SameOutput}
+use Rattle.yse_top.specs.Law.{IsProper, HasOutcome}
 use Rattle.refusal_lines.specs.Lines.{usage_line, machine_line, netlist_line, stimulus_line, cells_line, bits_limit_line, signals_line, lanes_line, order_line, list_line, image_line}
 use Rattle.named_files.specs.Outcome.{Outcome, refusal}
 use Rattle.named_files.specs.Readings.{Reading}
 use Rattle.yse_commands.specs.Orders.{EndsInOrder}
-use Rattle.yse_commands.specs.Words.{files_of, files_named, IsSettled}
+use Rattle.yse_commands.specs.Words.{files_of, files_named}
 use Rattle.yse_commands.specs.commands.Exec.{AfterImage, AfterMatch, ExpectedExec, OnImage, RunsImage, WritesTraceOf}
 use Rattle.named_files.specs.Images.{IsAccepted, IsImageFileOf}
 use Rattle.yse_commands.specs.commands.Fault.{ExpectedFault, FaultsIn, IsFaultList, ListsFaults}
@@ -66,12 +71,13 @@ use Rattle.yse_commands.specs.declared.layout.Sheet.{Sheet}
 use Rattle.yse_commands.specs.declared.layout.Sheet.TheVariants as sheet
 use Rattle.yse_commands.specs.commands.Run.{AfterCells, AfterFit, AfterLoop, WritesTrace, EndsBy, EndsWithin, ExpectedRun, ExpectedOn, ExpectedRefer, KeepsTrace, OnTiming}
 use Rattle.yse_commands.specs.commands.Show.{ExpectedShow}
-use Rattle.yse_top.proofs.AcceptedLemmas.{accepted_single, interchangeable}
-use Rattle.yse_top.proofs.CommandLemmas.{IsCommand, command_after, command_single, command_file, command_ends, not_words}
+use Rattle.yse_top.proofs.AcceptedLemmas.{accepted_check, interchangeable}
+use Rattle.yse_top.proofs.CommandLemmas.{IsCommand, command_after, command_file, command_ends, not_words}
 use Rattle.yse_top.proofs.TraceLemmas.{traces_only, traces_some}
-use Rattle.yse_top.proofs.OrderLemmas.{DecidesOrder, done_alike, order_ending}
+use Rattle.yse_top.proofs.OrderLemmas.{DecidesOrder, done_alike, order_ending, order_outcome}
+use Rattle.yse_top.proofs.TextLemmas.{HasOneImage, one_text, some_text}
 use Rattle.yse_top.proofs.OutcomeLemmas.{outcome_after, outcome_writes}
-use Rattle.yse_top.proofs.ProperLemmas.{IsCheck, IsSingle, IsAnswered, alike, memory_status, proper_after, writes_ending}
+use Rattle.yse_top.proofs.ProperLemmas.{IsCheck, IsAnswered, alike, memory_status, proper_after, writes_ending}
 use Rattle.yse_top.proofs.ChoiceLemmas.{HasHomes, has_homes}
 use Rattle.yse_top.proofs.ReportLemmas.{AreOnce, one_report, some_report}
 use Rattle.yse_top.proofs.CheckLemmas.{default_is_valid, reads_check, loop_check, IsRoomLaw, room_check, size_check, trace_only, trace_some}
@@ -98,7 +104,13 @@ record Laws : Type 0 where
   once : (choice : HomeChoice) (net : Netlist) (machine : Machine) (timing : Timing) → IsValid net → AreOnce choice net machine timing
   homes : (choice : HomeChoice) (net : Netlist) (machine : Machine) (timing : Timing) → IsValid net → IsValidMachine machine → FitsBy choice net machine timing → HasHomes choice net machine timing
   images : IsReader image_file.Reads image_faults.first_fault
-  accepted : (net : Netlist) (timing : Timing) (file : ImageFile) → IsValid net → IsSingle (IsAccepted net timing file)
+  accepted : (net : Netlist) (timing : Timing) (file : ImageFile) → IsValid net → IsAcyclic net timing → HasClaims file → IsCheck (IsAccepted net timing file)
+  designs : (choice : HomeChoice) (net : Netlist) (machine : Machine) (timing : Timing) → IsValid net → IsValidMachine machine → IsValidTiming timing → IsAcyclic net timing → FitsBy choice net machine timing → HasDesign choice net machine timing
+  one_image : (choice : HomeChoice) (net : Netlist) (machine : Machine) (timing : Timing) → IsValid net → HasOneImage choice net machine timing
+  valid_orders : (ports : ℕ) (text : List ℕ) (order : Order) → orders.Reads ports text order → orders.IsValidOrder ports order
+  ascending : (net : Netlist) (text listed : List ℕ) → gate_lists.Reads net text listed → Ascends listed
+  steps : (image : Image) (stimulus : Stimulus) (banks until : ℕ) (order : List ℕ) → IsWellFormed image → 1 ≤ banks → Each (λ p. p < length image.ports) order
+      → (answers : List CoreStep) × (state : CoreState) × AreFirstSteps image stimulus banks until order answers state
   order_or_loop : (net : Netlist) (timing : Timing) → OrderOrLoop net timing
   never_both : (net : Netlist) (timing : Timing) (order circle : List ℕ) → IsOrder net timing order → IsCircle net timing circle → ⊥
   one_simulation : (net : Netlist) (timing : Timing) (stimulus : Stimulus) → ((circle : List ℕ) → IsCircle net timing circle → ⊥) → HasOneSimulation net timing stimulus
@@ -114,17 +126,6 @@ not_read a b = cc
 
 not_written : {s : Status} → s ≡ status.Words → s ≡ status.WriteFault → ⊥
 not_written a b = cc
-
--- an image is no report
-no_report : sheet.Image ≡ sheet.Report → ⊥
-no_report e = cc
-
-equal : (output : List ℕ) → Equal output output
-equal output = refl
-
-same_output : (asked : Option Command) (output : List ℕ) → SameOutput asked output output
-same_output (Some (command.Compile words)) output = inl refl
-same_output _ output = refl
 
 none_some : {c : Command} → None ≡ Some c → ⊥
 none_some e = cc
@@ -154,186 +155,186 @@ module _ (laws : Laws) where
   image_check : (text : List ℕ) → IsCheck (IsImageFileOf text)
   image_check text = reads_check image_file.Reads image_faults.first_fault laws.images text status.ImageText image_line tt
 
-  module _ (Settled : Type 0) (Same : List ℕ → List ℕ → Type 0) (same : (output : List ℕ) → Same output output) where
-    equal_same : {s t : List ℕ} → s ≡ t → Same s t
-    equal_same {s} e = subst (Same s) e (same s)
+  trace_proper : (net : Netlist) (timing : Timing) (stimulus : Stimulus) → IsAcyclic net timing → IsCommand [] (WritesTrace net timing stimulus)
+  trace_proper net timing stimulus acyclic =
+      let simulation = laws.one_simulation net timing stimulus acyclic in
+      let trace = trace_some net timing stimulus simulation in
+      command_ends (Writes (IsTrace net timing stimulus)) (writes_ending (IsTrace net timing stimulus) (λ s t is is_too. (trace_only net timing stimulus simulation s t is is_too)))
+      (outcome_writes (IsTrace net timing stimulus) trace.0 trace.1)
 
-    trace_proper : (net : Netlist) (timing : Timing) (stimulus : Stimulus) → IsAcyclic net timing → IsCommand Settled Same [] (WritesTrace net timing stimulus)
-    trace_proper net timing stimulus acyclic =
-        let simulation = laws.one_simulation net timing stimulus acyclic in
-        let trace = trace_some net timing stimulus simulation in
-        command_ends Settled Same same (Writes (IsTrace net timing stimulus)) (writes_ending Same (IsTrace net timing stimulus) (λ s t is is_too. equal_same (trace_only net timing stimulus simulation s t is is_too)))
-        (λ settled. outcome_writes (IsTrace net timing stimulus) trace.0 trace.1)
+  stimulus_proper : (file : List ℕ) (files : List (List ℕ)) (net : Netlist) (Next : Stimulus → List Reading → Outcome → Type 0) → ((stimulus : Stimulus) → IsCommand files (Next stimulus)) → IsCommand (file ∷ files) (AfterStimulus file net Next)
+  unfolding AfterStimulus
+  stimulus_proper file files net Next on =
+      command_file file files (λ text. After (IsStimulusOf text net) Next) (λ text short.
+      command_after files (IsStimulusOf text net) Next (stimulus_check text net) (λ stimulus is. on stimulus))
 
-    stimulus_proper : (file : List ℕ) (files : List (List ℕ)) (net : Netlist) (Next : Stimulus → List Reading → Outcome → Type 0) → ((stimulus : Stimulus) → IsCommand Settled Same files (Next stimulus)) → IsCommand Settled Same (file ∷ files) (AfterStimulus file net Next)
-    unfolding AfterStimulus
-    stimulus_proper file files net Next on =
-        command_file Settled Same same file files (λ text. After (IsStimulusOf text net) Next) (λ text short.
-        command_after Settled Same same files (IsStimulusOf text net) Next (stimulus_check text net) (λ stimulus is. on stimulus))
+  cells_proper : (limited : Bool) (files : List (List ℕ)) (net : Netlist) (stimulus : Stimulus) (Next : List Reading → Outcome → Type 0) → IsCommand files Next → IsCommand files (AfterCells limited net stimulus Next)
+  cells_proper false files net stimulus Next on = on
+  cells_proper true files net stimulus Next on =
+      command_after files (HasFewCells net stimulus) (λ few. Next) (size_check MAX_CELLS (cell_count net stimulus) cells_line) (λ few cells. on)
 
-    cells_proper : (limited : Bool) (files : List (List ℕ)) (net : Netlist) (stimulus : Stimulus) (Next : List Reading → Outcome → Type 0) → IsCommand Settled Same files Next → IsCommand Settled Same files (AfterCells limited net stimulus Next)
-    cells_proper false files net stimulus Next on = on
-    cells_proper true files net stimulus Next on =
-        command_after Settled Same same files (HasFewCells net stimulus) (λ few. Next) (size_check MAX_CELLS (cell_count net stimulus) cells_line) (λ few cells. on)
+  machine_proper : (file : Option (List ℕ)) (files : List (List ℕ)) (Next : Machine → List Reading → Outcome → Type 0) → ((machine : Machine) → IsValidMachine machine → IsCommand files (Next machine)) → IsCommand (option_to_list file ++ files) (AfterMachine file Next)
+  unfolding AfterMachine
+  machine_proper None files Next on = on default_machine laws.default_valid
+  machine_proper (Some file) files Next on =
+      command_file file files (λ text. After (IsMachineOf text) Next) (λ text short.
+      command_after files (IsMachineOf text) Next (machine_check text) (λ machine is. on machine (laws.valid_machines text machine is)))
 
-    machine_proper : (file : Option (List ℕ)) (files : List (List ℕ)) (Next : Machine → List Reading → Outcome → Type 0) → ((machine : Machine) → IsValidMachine machine → IsCommand Settled Same files (Next machine)) → IsCommand Settled Same (option_to_list file ++ files) (AfterMachine file Next)
-    unfolding AfterMachine
-    machine_proper None files Next on = on default_machine laws.default_valid
-    machine_proper (Some file) files Next on =
-        command_file Settled Same same file files (λ text. After (IsMachineOf text) Next) (λ text short.
-        command_after Settled Same same files (IsMachineOf text) Next (machine_check text) (λ machine is. on machine (laws.valid_machines text machine is)))
+  list_proper : (last : Option (List ℕ)) (files : List (List ℕ)) (net : Netlist) (timing : Timing) (Next : Timing → List Reading → Outcome → Type 0) → IsValidTiming timing → ((t : Timing) → IsValidTiming t → IsCommand files (Next t)) → IsCommand (option_to_list last ++ files) (AfterList last net timing Next)
+  unfolding AfterList
+  list_proper None files net timing Next timely on = on timing timely
+  list_proper (Some file) files net timing Next timely on =
+      command_file file files (λ text. After (IsListOf text net) (λ listed. Next (listing timing listed))) (λ text short.
+      command_after files (IsListOf text net) (λ listed. Next (listing timing listed)) (list_check text net) (λ listed is. on (listing timing listed) (record { some = timely.some; few = timely.few; rank = timely.rank; ascends = laws.ascending net text listed is })))
 
-    list_proper : (last : Option (List ℕ)) (files : List (List ℕ)) (net : Netlist) (timing : Timing) (Next : Timing → List Reading → Outcome → Type 0) → ((t : Timing) → IsCommand Settled Same files (Next t)) → IsCommand Settled Same (option_to_list last ++ files) (AfterList last net timing Next)
-    unfolding AfterList
-    list_proper None files net timing Next on = on timing
-    list_proper (Some file) files net timing Next on =
-        command_file Settled Same same file files (λ text. After (IsListOf text net) (λ listed. Next (listing timing listed))) (λ text short.
-        command_after Settled Same same files (IsListOf text net) (λ listed. Next (listing timing listed)) (list_check text net) (λ listed is. on (listing timing listed)))
+  loop_proper : (file : List ℕ) (net : Netlist) (timing : Timing) → IsCommand (file ∷ []) (AfterLoop file net timing)
+  loop_proper file net timing =
+      command_after (file ∷ []) (HasNoLoop net timing) (λ passed. AfterStimulus file net (KeepsTrace net timing)) (loop_check net timing (laws.order_or_loop net timing) (laws.never_both net timing)) (λ passed acyclic.
+      stimulus_proper file [] net (KeepsTrace net timing) (λ stimulus. cells_proper true [] net stimulus (WritesTrace net timing stimulus) (trace_proper net timing stimulus acyclic)))
 
-    loop_proper : (file : List ℕ) (net : Netlist) (timing : Timing) → IsCommand Settled Same (file ∷ []) (AfterLoop file net timing)
-    loop_proper file net timing =
-        command_after Settled Same same (file ∷ []) (HasNoLoop net timing) (λ passed. AfterStimulus file net (KeepsTrace net timing)) (loop_check net timing (laws.order_or_loop net timing) (laws.never_both net timing)) (λ passed acyclic.
-        stimulus_proper file [] net (KeepsTrace net timing) (λ stimulus. cells_proper true [] net stimulus (WritesTrace net timing stimulus) (trace_proper net timing stimulus acyclic)))
+  fit_proper : (choice : HomeChoice) (files : List (List ℕ)) (net : Netlist) (machine : Machine) → IsValid net → IsValidMachine machine → (timing : Timing) (Next : List Reading → Outcome → Type 0)
+      → (IsAcyclic net timing → FitsBy choice net machine timing → IsCommand files Next) → IsCommand files (AfterFit choice net machine timing Next)
+  fit_proper choice files net machine valid machine_valid timing Next on =
+      command_after files (HasNoLoop net timing) (λ passed. After (HasRoom choice net machine timing) (λ fits. Next)) (loop_check net timing (laws.order_or_loop net timing) (laws.never_both net timing)) (λ passed acyclic.
+      command_after files (HasRoom choice net machine timing) (λ fits. Next) (room_check choice net machine timing (laws.room choice net machine timing valid machine_valid acyclic)) (λ fits has. on acyclic has))
 
-    fit_proper : (choice : HomeChoice) (files : List (List ℕ)) (net : Netlist) (machine : Machine) → IsValid net → IsValidMachine machine → (timing : Timing) (Next : List Reading → Outcome → Type 0)
-        → (IsAcyclic net timing → FitsBy choice net machine timing → IsCommand Settled Same files Next) → IsCommand Settled Same files (AfterFit choice net machine timing Next)
-    fit_proper choice files net machine valid machine_valid timing Next on =
-        command_after Settled Same same files (HasNoLoop net timing) (λ passed. After (HasRoom choice net machine timing) (λ fits. Next)) (loop_check net timing (laws.order_or_loop net timing) (laws.never_both net timing)) (λ passed acyclic.
-        command_after Settled Same same files (HasRoom choice net machine timing) (λ fits. Next) (room_check choice net machine timing (laws.room choice net machine timing valid machine_valid acyclic)) (λ fits has. on acyclic has))
+  netlist_proper : (words : RunWords) (files : List (List ℕ)) (End : Netlist → Timing → List Reading → Outcome → Type 0) → IsValidTiming words.timing → ((net : Netlist) → IsValid net → (timing : Timing) → IsValidTiming timing → IsCommand files (End net timing))
+      → IsCommand (words.netlist ∷ (option_to_list words.last ++ files)) (AfterNetlist words End)
+  unfolding AfterNetlist
+  netlist_proper words files End timely on =
+      let Listed : Netlist → List Reading → Outcome → Type 0 = λ net. AfterList words.last net words.timing (End net) in
+      let all : List (List ℕ) = option_to_list words.last ++ files in
+      command_file words.netlist all (λ text. After (IsNetlistOf text) Listed) (λ text short.
+      command_after all (IsNetlistOf text) Listed (netlist_check text) (λ net is.
+      list_proper words.last files net words.timing (End net) timely (on net (laws.valid_netlists text net short is))))
 
-    netlist_proper : (words : RunWords) (files : List (List ℕ)) (End : Netlist → Timing → List Reading → Outcome → Type 0) → ((net : Netlist) → IsValid net → (timing : Timing) → IsCommand Settled Same files (End net timing))
-        → IsCommand Settled Same (words.netlist ∷ (option_to_list words.last ++ files)) (AfterNetlist words End)
-    unfolding AfterNetlist
-    netlist_proper words files End on =
-        let Listed : Netlist → List Reading → Outcome → Type 0 = λ net. AfterList words.last net words.timing (End net) in
-        let all : List (List ℕ) = option_to_list words.last ++ files in
-        command_file Settled Same same words.netlist all (λ text. After (IsNetlistOf text) Listed) (λ text short.
-        command_after Settled Same same all (IsNetlistOf text) Listed (netlist_check text) (λ net is.
-        list_proper words.last files net words.timing (End net) (on net (laws.valid_netlists text net short is))))
+  refer_proper : (words : RunWords) → IsValidTiming words.timing → IsCommand (words.netlist ∷ (option_to_list words.last ++ (words.stimulus ∷ []))) (ExpectedRefer words)
+  refer_proper words timely = netlist_proper words (words.stimulus ∷ []) (AfterLoop words.stimulus) timely (λ net valid timing valid_timing. loop_proper words.stimulus net timing)
 
-    refer_proper : (words : RunWords) → IsCommand Settled Same (words.netlist ∷ (option_to_list words.last ++ (words.stimulus ∷ []))) (ExpectedRefer words)
-    refer_proper words = netlist_proper words (words.stimulus ∷ []) (AfterLoop words.stimulus) (λ net valid. loop_proper words.stimulus net)
+  lanes_proper : (net : Netlist) (timing : Timing) (lanes : Lanes) → IsAcyclic net timing → IsCommand [] (KeepsLanes net timing lanes)
+  lanes_proper net timing lanes acyclic =
+      let one : (stimulus : Stimulus) → HasOneSimulation net timing stimulus = λ stimulus. laws.one_simulation net timing stimulus acyclic in
+      let traces = traces_some net timing one 0 lanes.lanes in
+      command_after [] (HasFewLaneCells net lanes) (λ few. Ends (Writes (AreLaneTraces net timing lanes))) (size_check MAX_CELLS (lane_cell_count net lanes) cells_line) (λ few cells.
+      command_ends (Writes (AreLaneTraces net timing lanes)) (writes_ending (AreLaneTraces net timing lanes) (λ s t is is_too. (traces_only net timing one 0 lanes.lanes s t is is_too)))
+      (outcome_writes (AreLaneTraces net timing lanes) traces.0 traces.1))
 
-    lanes_proper : (net : Netlist) (timing : Timing) (lanes : Lanes) → IsAcyclic net timing → IsCommand Settled Same [] (KeepsLanes net timing lanes)
-    lanes_proper net timing lanes acyclic =
-        let one : (stimulus : Stimulus) → HasOneSimulation net timing stimulus = λ stimulus. laws.one_simulation net timing stimulus acyclic in
-        let traces = traces_some net timing one 0 lanes.lanes in
-        command_after Settled Same same [] (HasFewLaneCells net lanes) (λ few. Ends (Writes (AreLaneTraces net timing lanes))) (size_check MAX_CELLS (lane_cell_count net lanes) cells_line) (λ few cells.
-        command_ends Settled Same same (Writes (AreLaneTraces net timing lanes)) (writes_ending Same (AreLaneTraces net timing lanes) (λ s t is is_too. equal_same (traces_only net timing one 0 lanes.lanes s t is is_too)))
-        (λ settled. outcome_writes (AreLaneTraces net timing lanes) traces.0 traces.1))
+  packs_proper : (words : RunWords) (machine : Machine) → IsValidMachine machine → (net : Netlist) → IsValid net → (timing : Timing) → IsCommand (words.stimulus ∷ []) (PacksIn words KeepsLanesOn machine net timing)
+  unfolding AfterLanes
+  packs_proper words machine machine_valid net valid timing =
+      let files : List (List ℕ) = words.stimulus ∷ [] in
+      let Then : List Reading → Outcome → Type 0 = AfterLanes words.stimulus net (KeepsLanesOn machine timing net) in
+      fit_proper words.homes files net machine valid machine_valid timing (After (HasFewBits net) (λ few. Then)) (λ acyclic fits.
+      command_after files (HasFewBits net) (λ few. Then) (size_check MAX_PACK_BITS (memory_bits net) bits_limit_line) (λ few bits.
+      command_file words.stimulus [] (λ text. After (IsLanesOf text net) (KeepsLanes net timing)) (λ text short.
+      command_after [] (IsLanesOf text net) (KeepsLanes net timing) (lanes_check text net) (λ lanes is. lanes_proper net timing lanes acyclic))))
 
-    packs_proper : (words : RunWords) (machine : Machine) → IsValidMachine machine → (net : Netlist) → IsValid net → (timing : Timing) → IsCommand Settled Same (words.stimulus ∷ []) (PacksIn words KeepsLanesOn machine net timing)
-    unfolding AfterLanes
-    packs_proper words machine machine_valid net valid timing =
-        let files : List (List ℕ) = words.stimulus ∷ [] in
-        let Then : List Reading → Outcome → Type 0 = AfterLanes words.stimulus net (KeepsLanesOn machine timing net) in
-        fit_proper words.homes files net machine valid machine_valid timing (After (HasFewBits net) (λ few. Then)) (λ acyclic fits.
-        command_after Settled Same same files (HasFewBits net) (λ few. Then) (size_check MAX_PACK_BITS (memory_bits net) bits_limit_line) (λ few bits.
-        command_file Settled Same same words.stimulus [] (λ text. After (IsLanesOf text net) (KeepsLanes net timing)) (λ text short.
-        command_after Settled Same same [] (IsLanesOf text net) (KeepsLanes net timing) (lanes_check text net) (λ lanes is. lanes_proper net timing lanes acyclic))))
+  pack_proper : (words : RunWords) → IsValidTiming words.timing → IsCommand (option_to_list words.machine ++ (words.netlist ∷ (option_to_list words.last ++ (words.stimulus ∷ [])))) (ExpectedPack words)
+  pack_proper words timely =
+      machine_proper words.machine (words.netlist ∷ (option_to_list words.last ++ (words.stimulus ∷ []))) (PacksOn words KeepsLanesOn) (λ machine machine_valid.
+      netlist_proper words (words.stimulus ∷ []) (PacksIn words KeepsLanesOn machine) timely (λ net valid timing valid_timing. packs_proper words machine machine_valid net valid timing))
 
-    pack_proper : (words : RunWords) → IsCommand Settled Same (option_to_list words.machine ++ (words.netlist ∷ (option_to_list words.last ++ (words.stimulus ∷ [])))) (ExpectedPack words)
-    pack_proper words =
-        machine_proper words.machine (words.netlist ∷ (option_to_list words.last ++ (words.stimulus ∷ []))) (PacksOn words KeepsLanesOn) (λ machine machine_valid.
-        netlist_proper words (words.stimulus ∷ []) (PacksIn words KeepsLanesOn machine) (packs_proper words machine machine_valid))
+  list_of_faults : (net : Netlist) (timing : Timing) (stimulus : Stimulus) → HasOneList net timing stimulus → IsCommand [] (ListsFaults net timing stimulus)
+  list_of_faults net timing stimulus one =
+      command_ends (Writes (IsFaultList net timing stimulus)) (writes_ending (IsFaultList net timing stimulus) (λ s t is is_too. (only s t is is_too)))
+      (outcome_writes (IsFaultList net timing stimulus) (joined (fault_lines net one.verdicts)) (record { verdicts = one.verdicts; are = one.exists; printed = refl }))
+    where
+      only : (s t : List ℕ) → IsFaultList net timing stimulus s → IsFaultList net timing stimulus t → s ≡ t
+      only s t is is_too = is.printed ∙ ap (λ verdicts. joined (fault_lines net verdicts)) (one.only is.verdicts is.are ∙ sym (one.only is_too.verdicts is_too.are)) ∙ sym is_too.printed
 
-    list_of_faults : (net : Netlist) (timing : Timing) (stimulus : Stimulus) → HasOneList net timing stimulus → IsCommand Settled Same [] (ListsFaults net timing stimulus)
-    list_of_faults net timing stimulus one =
-        command_ends Settled Same same (Writes (IsFaultList net timing stimulus)) (writes_ending Same (IsFaultList net timing stimulus) (λ s t is is_too. equal_same (only s t is is_too)))
-        (λ settled. outcome_writes (IsFaultList net timing stimulus) (joined (fault_lines net one.verdicts)) (record { verdicts = one.verdicts; are = one.exists; printed = refl }))
-      where
-        only : (s t : List ℕ) → IsFaultList net timing stimulus s → IsFaultList net timing stimulus t → s ≡ t
-        only s t is is_too = is.printed ∙ ap (λ verdicts. joined (fault_lines net verdicts)) (one.only is.verdicts is.are ∙ sym (one.only is_too.verdicts is_too.are)) ∙ sym is_too.printed
+  faults_proper : (file : List ℕ) (net : Netlist) (timing : Timing) → IsCommand (file ∷ []) (FaultsIn file net timing)
+  faults_proper file net timing =
+      let Then : List Reading → Outcome → Type 0 = AfterStimulus file net (ListsFaults net timing) in
+      command_after (file ∷ []) (HasNoLoop net timing) (λ passed. After (HasFewSignals net) (λ few. Then)) (loop_check net timing (laws.order_or_loop net timing) (laws.never_both net timing)) (λ passed acyclic.
+      command_after (file ∷ []) (HasFewSignals net) (λ few. Then) (size_check MAX_FAULT_SIGNALS (length net.signals) signals_line) (λ few signals.
+      stimulus_proper file [] net (ListsFaults net timing) (λ stimulus. list_of_faults net timing stimulus (laws.verdicts net timing stimulus acyclic))))
 
-    faults_proper : (file : List ℕ) (net : Netlist) (timing : Timing) → IsCommand Settled Same (file ∷ []) (FaultsIn file net timing)
-    faults_proper file net timing =
-        let Then : List Reading → Outcome → Type 0 = AfterStimulus file net (ListsFaults net timing) in
-        command_after Settled Same same (file ∷ []) (HasNoLoop net timing) (λ passed. After (HasFewSignals net) (λ few. Then)) (loop_check net timing (laws.order_or_loop net timing) (laws.never_both net timing)) (λ passed acyclic.
-        command_after Settled Same same (file ∷ []) (HasFewSignals net) (λ few. Then) (size_check MAX_FAULT_SIGNALS (length net.signals) signals_line) (λ few signals.
-        stimulus_proper file [] net (ListsFaults net timing) (λ stimulus. list_of_faults net timing stimulus (laws.verdicts net timing stimulus acyclic))))
+  fault_proper : (words : RunWords) → IsValidTiming words.timing → IsCommand (words.netlist ∷ (option_to_list words.last ++ (words.stimulus ∷ []))) (ExpectedFault words)
+  fault_proper words timely = netlist_proper words (words.stimulus ∷ []) (FaultsIn words.stimulus) timely (λ net valid timing valid_timing. faults_proper words.stimulus net timing)
 
-    fault_proper : (words : RunWords) → IsCommand Settled Same (words.netlist ∷ (option_to_list words.last ++ (words.stimulus ∷ []))) (ExpectedFault words)
-    fault_proper words = netlist_proper words (words.stimulus ∷ []) (FaultsIn words.stimulus) (λ net valid. faults_proper words.stimulus net)
+  sheet_proper : (asked : Sheet) (choice : HomeChoice) (net : Netlist) (machine : Machine) (timing : Timing) → IsValid net → IsValidMachine machine → IsValidTiming timing → IsAcyclic net timing → FitsBy choice net machine timing
+      → IsCommand [] (Ends (Writes (IsSheetOf asked choice net machine timing)))
+  sheet_proper sheet.Report choice net machine timing valid machine_valid timely acyclic fits =
+      let once = laws.once choice net machine timing valid in
+      let report = some_report choice net machine timing once (laws.homes choice net machine timing valid machine_valid fits) in
+      command_ends (Writes (IsReportOf choice net machine timing)) (writes_ending (IsReportOf choice net machine timing) (one_report choice net machine timing once))
+      (outcome_writes (IsReportOf choice net machine timing) report.0 report.1)
+  sheet_proper sheet.Image choice net machine timing valid machine_valid timely acyclic fits =
+      let text = some_text choice net machine timing (laws.designs choice net machine timing valid machine_valid timely acyclic fits) in
+      command_ends (Writes (IsImageTextOf choice net machine timing)) (writes_ending (IsImageTextOf choice net machine timing) (one_text choice net machine timing (laws.one_image choice net machine timing valid)))
+      (outcome_writes (IsImageTextOf choice net machine timing) text.0 text.1)
 
-    sheet_proper : (asked : Sheet) (choice : HomeChoice) (net : Netlist) (machine : Machine) (timing : Timing) → IsValid net → IsValidMachine machine → FitsBy choice net machine timing
-        → (Settled → asked ≡ sheet.Report) → (asked ≡ sheet.Image → (s t : List ℕ) → AreImageTexts s t → Same s t) → IsCommand Settled Same [] (Ends (Writes (IsSheetOf asked choice net machine timing)))
-    sheet_proper sheet.Report choice net machine timing valid machine_valid fits can texts =
-        let once = laws.once choice net machine timing valid in
-        let report = some_report choice net machine timing once (laws.homes choice net machine timing valid machine_valid fits) in
-        command_ends Settled Same same (Writes (IsReportOf choice net machine timing)) (writes_ending Same (IsReportOf choice net machine timing) (λ s t is is_too. equal_same (one_report choice net machine timing once s t is is_too)))
-        (λ settled. outcome_writes (IsReportOf choice net machine timing) report.0 report.1)
-    sheet_proper sheet.Image choice net machine timing valid machine_valid fits can texts =
-        command_ends Settled Same same (Writes (IsImageTextOf choice net machine timing)) (writes_ending Same (IsImageTextOf choice net machine timing) (λ s t is is_too. texts refl s t (record { choice = choice; net = net; machine = machine; timing = timing; one_is = is; other_is = is_too })))
-        (λ settled. absurd (no_report (can settled)))
+  layout_proper : (asked : Sheet) (words : RunWords) → IsValidTiming words.timing → IsCommand (option_to_list words.machine ++ (words.netlist ∷ option_to_list words.last)) (ExpectedLayout asked words)
+  layout_proper asked words timely =
+      machine_proper words.machine (words.netlist ∷ option_to_list words.last) (ExpectedLayoutOn asked words) (λ machine machine_valid.
+      subst (λ (files : List (List ℕ)). IsCommand (words.netlist ∷ files) (ExpectedLayoutOn asked words machine)) (append-nil (option_to_list words.last))
+      (netlist_proper words [] (LaysOut asked words.homes machine) timely (λ net valid timing valid_timing.
+      fit_proper words.homes [] net machine valid machine_valid timing (Ends (Writes (IsSheetOf asked words.homes net machine timing))) (λ acyclic fits.
+      sheet_proper asked words.homes net machine timing valid machine_valid valid_timing acyclic fits))))
 
-    layout_proper : (asked : Sheet) (words : RunWords) → (Settled → asked ≡ sheet.Report) → (asked ≡ sheet.Image → (s t : List ℕ) → AreImageTexts s t → Same s t) → IsCommand Settled Same (option_to_list words.machine ++ (words.netlist ∷ option_to_list words.last)) (ExpectedLayout asked words)
-    layout_proper asked words can texts =
-        machine_proper words.machine (words.netlist ∷ option_to_list words.last) (ExpectedLayoutOn asked words) (λ machine machine_valid.
-        subst (λ (files : List (List ℕ)). IsCommand Settled Same (words.netlist ∷ files) (ExpectedLayoutOn asked words machine)) (append-nil (option_to_list words.last))
-        (netlist_proper words [] (LaysOut asked words.homes machine) (λ net valid timing.
-        fit_proper words.homes [] net machine valid machine_valid timing (Ends (Writes (IsSheetOf asked words.homes net machine timing))) (λ acyclic fits.
-        sheet_proper asked words.homes net machine timing valid machine_valid fits can texts))))
+  large_proper : (gates cycles : ℕ) → gates ≤ MAX_LARGE_GATES → IsCommand [] (ExpectedLarge gates cycles)
+  large_proper gates cycles few =
+      let summary = laws.summaries gates cycles few in
+      command_ends (Writes (IsSummaryOf gates cycles)) (writes_ending (IsSummaryOf gates cycles) (λ s t is is_too. (laws.one_summary gates cycles s t few is is_too)))
+      (outcome_writes (IsSummaryOf gates cycles) summary.0 summary.1)
 
-    large_proper : (gates cycles : ℕ) → gates ≤ MAX_LARGE_GATES → IsCommand Settled Same [] (ExpectedLarge gates cycles)
-    large_proper gates cycles few =
-        let summary = laws.summaries gates cycles few in
-        command_ends Settled Same same (Writes (IsSummaryOf gates cycles)) (writes_ending Same (IsSummaryOf gates cycles) (λ s t is is_too. equal_same (laws.one_summary gates cycles s t few is is_too)))
-        (λ settled. outcome_writes (IsSummaryOf gates cycles) summary.0 summary.1)
+  show_proper : (file : List ℕ) → IsCommand (file ∷ []) (ExpectedShow file)
+  unfolding ExpectedShow
+  show_proper file =
+      command_file file [] (λ text. After (IsNetlistOf text) (λ net. Ends (Writes (λ output. output ≡ canonical_text net)))) (λ text short.
+      command_after [] (IsNetlistOf text) (λ net. Ends (Writes (λ output. output ≡ canonical_text net))) (netlist_check text) (λ net is.
+      command_ends (Writes (λ output. output ≡ canonical_text net)) (writes_ending (λ output. output ≡ canonical_text net) (λ s t e f. (e ∙ sym f)))
+      (outcome_writes (λ output. output ≡ canonical_text net) (canonical_text net) refl)))
 
-    show_proper : (file : List ℕ) → IsCommand Settled Same (file ∷ []) (ExpectedShow file)
-    unfolding ExpectedShow
-    show_proper file =
-        command_file Settled Same same file [] (λ text. After (IsNetlistOf text) (λ net. Ends (Writes (λ output. output ≡ canonical_text net)))) (λ text short.
-        command_after Settled Same same [] (IsNetlistOf text) (λ net. Ends (Writes (λ output. output ≡ canonical_text net))) (netlist_check text) (λ net is.
-        command_ends Settled Same same (Writes (λ output. output ≡ canonical_text net)) (writes_ending Same (λ output. output ≡ canonical_text net) (λ s t e f. equal_same (e ∙ sym f)))
-        (λ settled. outcome_writes (λ output. output ≡ canonical_text net) (canonical_text net) refl)))
-
-  -- whether an image is accepted is shown by a call
-  image_proper : (words : RunWords) (name : List ℕ) (net : Netlist) → IsValid net → (timing : Timing) → IsCommand ⊥ Equal (name ∷ words.stimulus ∷ []) (OnImage words name WritesTraceOf net timing)
+  image_proper : (words : RunWords) (name : List ℕ) (net : Netlist) → IsValid net → (timing : Timing) → IsCommand (name ∷ words.stimulus ∷ []) (OnImage words name WritesTraceOf net timing)
   unfolding AfterImage
   image_proper words name net valid timing =
       let Run : Image → List Reading → Outcome → Type 0 = RunsImage words WritesTraceOf net timing in
-      command_after ⊥ Equal equal (name ∷ words.stimulus ∷ []) (HasNoLoop net timing) (λ passed. AfterImage name net timing Run) (loop_check net timing (laws.order_or_loop net timing) (laws.never_both net timing)) (λ passed acyclic.
-      command_file ⊥ Equal equal name (words.stimulus ∷ []) (λ text. After (IsImageFileOf text) (λ file. AfterMatch net timing file Run)) (λ text short.
-      command_after ⊥ Equal equal (words.stimulus ∷ []) (IsImageFileOf text) (λ file. AfterMatch net timing file Run) (image_check text) (λ file is.
-      command_single ⊥ Equal equal (words.stimulus ∷ []) (IsAccepted net timing file) (λ accepted. Run file.image) (laws.accepted net timing file valid) (λ never. never) (λ accepted matches.
-      stimulus_proper ⊥ Equal equal words.stimulus [] net (WritesTraceOf file.image timing net) (λ stimulus. trace_proper ⊥ Equal equal net timing stimulus acyclic)))))
+      command_after (name ∷ words.stimulus ∷ []) (HasNoLoop net timing) (λ passed. AfterImage name net timing Run) (loop_check net timing (laws.order_or_loop net timing) (laws.never_both net timing)) (λ passed acyclic.
+      command_file name (words.stimulus ∷ []) (λ text. After (IsImageFileOf text) (λ file. AfterMatch net timing file Run)) (λ text short.
+      command_after (words.stimulus ∷ []) (IsImageFileOf text) (λ file. AfterMatch net timing file Run) (image_check text) (λ file is.
+      command_after (words.stimulus ∷ []) (IsAccepted net timing file) (λ accepted. Run file.image) (laws.accepted net timing file valid acyclic is.ranges.claims) (λ accepted matches.
+      stimulus_proper words.stimulus [] net (WritesTraceOf file.image timing net) (λ stimulus. trace_proper net timing stimulus acyclic)))))
 
-  exec_proper : (words : RunWords) (name : List ℕ) → IsCommand ⊥ Equal (words.netlist ∷ (option_to_list words.last ++ (name ∷ words.stimulus ∷ []))) (ExpectedExec words name)
-  exec_proper words name = netlist_proper ⊥ Equal equal words (name ∷ words.stimulus ∷ []) (OnImage words name WritesTraceOf) (image_proper words name)
+  exec_proper : (words : RunWords) (name : List ℕ) → IsValidTiming words.timing → IsCommand (words.netlist ∷ (option_to_list words.last ++ (name ∷ words.stimulus ∷ []))) (ExpectedExec words name)
+  exec_proper words name timely = netlist_proper words (name ∷ words.stimulus ∷ []) (OnImage words name WritesTraceOf) timely (λ net valid timing valid_timing. image_proper words name net valid timing)
 
-  -- without an order file there is an outcome
-  ends_proper : (file : Option (List ℕ)) (words : RunWords) (machine : Machine) (timing : Timing) (net : Netlist) (stimulus : Stimulus) → 1 ≤ words.banks → IsValid net → IsAcyclic net timing → IsCommand (file ≡ None) Equal (option_to_list file) (EndsBy file words machine timing net stimulus)
+  -- with an order file the state after the steps of the order tells the outcome
+  ends_proper : (file : Option (List ℕ)) (words : RunWords) (machine : Machine) (timing : Timing) (net : Netlist) (stimulus : Stimulus) → 1 ≤ words.banks → IsValid net → IsValidMachine machine → IsValidTiming timing → IsAcyclic net timing
+      → FitsBy words.homes net machine timing → IsCommand (option_to_list file) (EndsBy file words machine timing net stimulus)
   unfolding EndsBy
-  ends_proper None words machine timing net stimulus banks valid acyclic = trace_proper (None ≡ None) Equal equal net timing stimulus acyclic
-  ends_proper (Some file) words machine timing net stimulus banks valid acyclic =
-      command_file (Some file ≡ None) Equal equal file [] (λ text. After (IsOrderOf text machine) (λ order. Ends (EndsInOrder order words.banks words.homes net machine timing stimulus))) (λ text short.
-      command_after (Some file ≡ None) Equal equal [] (IsOrderOf text machine) (λ order. Ends (EndsInOrder order words.banks words.homes net machine timing stimulus)) (order_check text machine) (λ order is.
-      command_ends (Some file ≡ None) Equal equal (EndsInOrder order words.banks words.homes net machine timing stimulus)
-      (order_ending net timing stimulus order words.banks words.homes machine (laws.one_simulation net timing stimulus acyclic) (laws.decides order words.banks words.homes net machine timing stimulus banks valid))
-      (λ none. cc)))
+  ends_proper None words machine timing net stimulus banks valid machine_valid timely acyclic fits = trace_proper net timing stimulus acyclic
+  ends_proper (Some file) words machine timing net stimulus banks valid machine_valid timely acyclic fits =
+      command_file file [] (λ text. After (IsOrderOf text machine) (λ order. Ends (EndsInOrder order words.banks words.homes net machine timing stimulus))) (λ text short.
+      command_after [] (IsOrderOf text machine) (λ order. Ends (EndsInOrder order words.banks words.homes net machine timing stimulus)) (order_check text machine) (λ order is.
+      let simulation = laws.one_simulation net timing stimulus acyclic in
+      command_ends (EndsInOrder order words.banks words.homes net machine timing stimulus)
+      (order_ending net timing stimulus order words.banks words.homes machine simulation (laws.decides order words.banks words.homes net machine timing stimulus banks valid))
+      (order_outcome net timing stimulus order words.banks words.homes machine simulation (laws.designs words.homes net machine timing valid machine_valid timely acyclic fits)
+      (laws.valid_orders (ports_of machine) text order is) (λ image well within. laws.steps image stimulus words.banks (turn_count timing stimulus) (steps_of order) well banks within))))
 
-  on_proper : (words : RunWords) (limited : Bool) (order : Option (List ℕ)) → 1 ≤ words.banks → (machine : Machine) → IsValidMachine machine → IsCommand (order ≡ None) Equal (words.netlist ∷ (option_to_list words.last ++ (words.stimulus ∷ option_to_list order))) (ExpectedOn words (EndsWithin limited order words) machine)
-  on_proper words limited order banks machine machine_valid =
-      netlist_proper (order ≡ None) Equal equal words (words.stimulus ∷ option_to_list order) (OnTiming words (EndsWithin limited order words) machine) (λ net valid timing.
-      fit_proper (order ≡ None) Equal equal words.homes (words.stimulus ∷ option_to_list order) net machine valid machine_valid timing (AfterStimulus words.stimulus net (EndsWithin limited order words machine timing net)) (λ acyclic fits.
-      stimulus_proper (order ≡ None) Equal equal words.stimulus (option_to_list order) net (EndsWithin limited order words machine timing net) (λ stimulus.
-      cells_proper (order ≡ None) Equal equal limited (option_to_list order) net stimulus (EndsBy order words machine timing net stimulus) (ends_proper order words machine timing net stimulus banks valid acyclic))))
+  on_proper : (words : RunWords) (limited : Bool) (order : Option (List ℕ)) → 1 ≤ words.banks → IsValidTiming words.timing → (machine : Machine) → IsValidMachine machine
+      → IsCommand (words.netlist ∷ (option_to_list words.last ++ (words.stimulus ∷ option_to_list order))) (ExpectedOn words (EndsWithin limited order words) machine)
+  on_proper words limited order banks timely machine machine_valid =
+      netlist_proper words (words.stimulus ∷ option_to_list order) (OnTiming words (EndsWithin limited order words) machine) timely (λ net valid timing valid_timing.
+      fit_proper words.homes (words.stimulus ∷ option_to_list order) net machine valid machine_valid timing (AfterStimulus words.stimulus net (EndsWithin limited order words machine timing net)) (λ acyclic fits.
+      stimulus_proper words.stimulus (option_to_list order) net (EndsWithin limited order words machine timing net) (λ stimulus.
+      cells_proper limited (option_to_list order) net stimulus (EndsBy order words machine timing net stimulus) (ends_proper order words machine timing net stimulus banks valid machine_valid valid_timing acyclic fits))))
 
-  run_proper : (words : RunWords) (limited : Bool) (order : Option (List ℕ)) → 1 ≤ words.banks → IsCommand (order ≡ None) Equal (option_to_list words.machine ++ (words.netlist ∷ (option_to_list words.last ++ (words.stimulus ∷ option_to_list order)))) (ExpectedRun words limited order)
-  run_proper words limited order banks = machine_proper (order ≡ None) Equal equal words.machine (words.netlist ∷ (option_to_list words.last ++ (words.stimulus ∷ option_to_list order))) (ExpectedOn words (EndsWithin limited order words)) (on_proper words limited order banks)
+  run_proper : (words : RunWords) (limited : Bool) (order : Option (List ℕ)) → 1 ≤ words.banks → IsValidTiming words.timing → IsCommand (option_to_list words.machine ++ (words.netlist ∷ (option_to_list words.last ++ (words.stimulus ∷ option_to_list order)))) (ExpectedRun words limited order)
+  run_proper words limited order banks timely = machine_proper words.machine (words.netlist ∷ (option_to_list words.last ++ (words.stimulus ∷ option_to_list order))) (ExpectedOn words (EndsWithin limited order words)) (on_proper words limited order banks timely)
 
-  command_proper : (asked : Command) → IsInRange asked → IsCommand (IsSettled (Some asked)) (SameOutput (Some asked)) (files_of asked) (ExpectedOf asked)
-  command_proper (command.Run words) range = run_proper words false None range.banks_some
-  command_proper (command.Refer words) range = refer_proper (None ≡ None) Equal equal words
-  command_proper (command.Order words) range = run_proper words true words.order range.banks_some
-  command_proper (command.Plan words) range = layout_proper (None ≡ None) Equal equal sheet.Report words (λ settled. refl) (λ image. absurd (no_report (sym image)))
-  command_proper (command.Compile words) range = layout_proper ⊥ (SameOutput (Some (command.Compile words))) (λ output. inl refl) sheet.Image words (λ never. absurd never) (λ image s t texts. inr texts)
-  command_proper (command.Exec words image) range = exec_proper words image
-  command_proper (command.Pack words) range = pack_proper (None ≡ None) Equal equal words
-  command_proper (command.Fault words) range = fault_proper (None ≡ None) Equal equal words
-  command_proper (command.Show file) range = show_proper (None ≡ None) Equal equal file
-  command_proper (command.Large gates cycles workers) range = large_proper (None ≡ None) Equal equal gates cycles range.gates_few
+  command_proper : (asked : Command) → IsInRange asked → IsCommand (files_of asked) (ExpectedOf asked)
+  command_proper (command.Run words) range = run_proper words false None range.banks_some range.timing
+  command_proper (command.Refer words) range = refer_proper words range.timing
+  command_proper (command.Order words) range = run_proper words true words.order range.banks_some range.timing
+  command_proper (command.Plan words) range = layout_proper sheet.Report words range.timing
+  command_proper (command.Compile words) range = layout_proper sheet.Image words range.timing
+  command_proper (command.Exec words image) range = exec_proper words image range.timing
+  command_proper (command.Pack words) range = pack_proper words range.timing
+  command_proper (command.Fault words) range = fault_proper words range.timing
+  command_proper (command.Show file) range = show_proper file
+  command_proper (command.Large gates cycles workers) range = large_proper gates cycles range.gates_few
 
   -- ---- words
 
@@ -360,15 +361,15 @@ module _ (laws : Laws) where
       some None is = inr (refusal status.Words usage_line, ((λ command has. none_some (sym is ∙ asked_as words command has)), refl))
       some (Some command) is = inl (command, (laws.forms words command).0 is)
 
-  asked_proper : (words : List (List ℕ)) → IsProper (SameOutput (asked words)) (files_named (asked words)) (After (Asks words) ExpectedOf)
+  asked_proper : (words : List (List ℕ)) → IsProper (files_named (asked words)) (After (Asks words) ExpectedOf)
   asked_proper words =
-      proper_after (SameOutput (asked words)) (same_output (asked words)) (files_named (asked words)) (Asks words) ExpectedOf (words_check words).once
-      (λ command has. subst (λ a. IsProper (SameOutput a) (files_named a) (ExpectedOf command)) (sym (asked_as words command has)) (command_proper command (laws.in_range words command has)).proper)
+      proper_after (files_named (asked words)) (Asks words) ExpectedOf (words_check words).once
+      (λ command has. subst (λ a. IsProper (files_named a) (ExpectedOf command)) (sym (asked_as words command has)) (command_proper command (laws.in_range words command has)).proper)
 
-  asked_some : (words : List (List ℕ)) → IsSettled (asked words) → HasOutcome (After (Asks words) ExpectedOf)
-  asked_some words none =
+  asked_some : (words : List (List ℕ)) → HasOutcome (After (Asks words) ExpectedOf)
+  asked_some words =
       outcome_after (Asks words) ExpectedOf (words_check words)
-      (λ command has. (command_proper command (laws.in_range words command has)).some (subst IsSettled (asked_as words command has) none))
+      (λ command has. (command_proper command (laws.in_range words command has)).some)
 
   asked_words : (words : List (List ℕ)) (readings : List Reading) (outcome : Outcome) → After (Asks words) ExpectedOf readings outcome → outcome.status ≢ status.Memory → (outcome.status ≡ status.Words) ↔ (asked words ≡ None)
   asked_words words readings outcome (inl (command, has, next)) other =
@@ -401,9 +402,24 @@ returns c =
       images = c.reads_or_faults-6.ensures.reader;
       lanes = c.reads_or_faults-7.ensures.reader;
       verdicts = c.one_list-2.ensures;
-      accepted = λ net timing file valid. accepted_single net timing file (λ one other items items_too.
+      accepted = λ net timing file valid acyclic has. accepted_check net timing file (λ one other items items_too.
           interchangeable file timing one other (c.one_list.ensures net timing one other items items_too) (c.items_are_well_formed.ensures net timing other valid items_too)
-          (c.same_inputs.ensures net timing one valid items ∙ sym (c.same_inputs.ensures net timing other valid items_too)));
+          (c.same_inputs.ensures net timing one valid items ∙ sym (c.same_inputs.ensures net timing other valid items_too)))
+          (elim (c.order_or_loop.ensures.one net timing) [
+            | inl (order, is) ↦ (let items = c.items_exist.ensures net timing order valid is in record { nodes = items.0; items = items.1; answer = c.matches_or_not.ensures file items.0 timing has })
+            | inr (loop, is) ↦ absurd (acyclic loop is.circle)
+          ]);
+      designs = λ choice net machine timing valid machine_valid timely acyclic fits. elim (c.order_or_loop.ensures.one net timing) [
+        | inl (order, is) ↦ (
+          let items = c.items_exist.ensures net timing order valid is in
+          let made = c.designs_exist.ensures choice net machine timing items.0 valid machine_valid timely items.1 items.2 fits in
+          record { chosen = made.0; claims = made.1; is = made.2; are = made.3 })
+        | inr (loop, is) ↦ absurd (acyclic loop is.circle)
+      ];
+      one_image = λ choice net machine timing valid one other claims claims_too is is_too are are_too. c.one_image.ensures choice net machine timing one other claims claims_too valid is is_too are are_too;
+      valid_orders = c.reads_as_valid-2.ensures.valid;
+      ascending = c.reads_as_ascending.ensures;
+      steps = c.steps_exist.ensures;
       valid_machines = c.reads_as_valid.ensures;
       default_valid = default_is_valid;
       valid_netlists = c.texts_read_as_valid.ensures;
