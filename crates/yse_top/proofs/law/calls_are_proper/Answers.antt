@@ -1,5 +1,5 @@
 -- The chain of each command, link by link.
-use Rattle.std.proofs.Common.{◌≡◌, ◌∙◌, ◌↔◌, ◌⊎◌, inl, inr, ◌≢◌, ◌≤◌, sym, ap, refl, subst, ℕ, Bool, true, false, List, [], ◌∷◌, ◌++◌, length, Option, Some, None, Ok, Err, arith}
+use Rattle.std.proofs.Common.{◌≡◌, ◌∙◌, ◌↔◌, ◌⊎◌, inl, inr, ◌≢◌, ◌<◌, ◌≤◌, sym, ap, refl, subst, ℕ, Bool, true, false, List, [], ◌∷◌, ◌++◌, length, Option, Some, None, Ok, Err, arith}
 use Rattle.std.specs.Option.{option_to_list}
 use Rattle.std.proofs.lemmas.List.{append-nil}
 use Rattle.limits.specs.declared.TheConstants.{MAX_CELLS, MAX_FAULT_SIGNALS, MAX_LARGE_GATES, MAX_PACK_BITS, MAX_TEXT_BYTES}
@@ -92,6 +92,7 @@ record Laws : Type 0 where
   valid_netlists : (text : List ℕ) (net : Netlist) → length text ≤ MAX_TEXT_BYTES → bench_reads.Reads text net → IsValid net
   room : (choice : HomeChoice) (net : Netlist) (machine : Machine) (timing : Timing) → IsValid net → IsValidMachine machine → ((circle : List ℕ) → IsCircle net timing circle → ⊥) → IsRoomLaw choice net machine timing
   stimuli : (inputs : ℕ) → IsReader (stim.Reads inputs) (stim.first_fault inputs)
+  valid_orders : (ports : ℕ) (text : List ℕ) (order : Order) → orders.Reads ports text order → orders.IsValidOrder ports order
   orders : (ports : ℕ) → IsReader (orders.Reads ports) (orders.first_fault ports)
   lanes : (inputs : ℕ) → IsReader (lane_texts.ReadsAsLanes inputs) (lane_texts.first_lanes_fault inputs)
   verdicts : HaveOneList
@@ -107,7 +108,6 @@ record Laws : Type 0 where
   accepted : (net : Netlist) (timing : Timing) (file : ImageFile) → IsValid net → IsAcyclic net timing → HasClaims file → IsCheck (IsAccepted net timing file)
   designs : (choice : HomeChoice) (net : Netlist) (machine : Machine) (timing : Timing) → IsValid net → IsValidMachine machine → IsValidTiming timing → IsAcyclic net timing → FitsBy choice net machine timing → HasDesign choice net machine timing
   one_image : (choice : HomeChoice) (net : Netlist) (machine : Machine) (timing : Timing) → IsValid net → HasOneImage choice net machine timing
-  valid_orders : (ports : ℕ) (text : List ℕ) (order : Order) → orders.Reads ports text order → orders.IsValidOrder ports order
   ascending : (net : Netlist) (text listed : List ℕ) → gate_lists.Reads net text listed → Ascends listed
   steps : (image : Image) (stimulus : Stimulus) (banks until : ℕ) (order : List ℕ) → IsWellFormed image → 1 ≤ banks → Each (λ p. p < length image.ports) order
       → (answers : List CoreStep) × (state : CoreState) × AreFirstSteps image stimulus banks until order answers state
@@ -411,9 +411,9 @@ returns c =
           ]);
       designs = λ choice net machine timing valid machine_valid timely acyclic fits. elim (c.order_or_loop.ensures.one net timing) [
         | inl (order, is) ↦ (
-            let items = c.items_exist.ensures net timing order valid is in
-            let made = c.designs_exist.ensures choice net machine timing items.0 valid machine_valid timely items.1 items.2 fits in
-            record { chosen = made.0; claims = made.1; is = made.2; are = made.3 })
+          let items = c.items_exist.ensures net timing order valid is in
+          let made = c.designs_exist.ensures choice net machine timing items.0 valid machine_valid timely items.1 items.2 fits in
+          record { chosen = made.0; claims = made.1; is = made.2; are = made.3 })
         | inr (loop, is) ↦ absurd (acyclic loop is.circle)
       ];
       one_image = λ choice net machine timing valid one other claims claims_too is is_too are are_too. c.one_image.ensures choice net machine timing one other claims claims_too valid is is_too are are_too;
