@@ -411,9 +411,9 @@ returns c =
           ]);
       designs = λ choice net machine timing valid machine_valid timely acyclic fits. elim (c.order_or_loop.ensures.one net timing) [
         | inl (order, is) ↦ (
-          let items = c.items_exist.ensures net timing order valid is in
-          let made = c.designs_exist.ensures choice net machine timing items.0 valid machine_valid timely items.1 items.2 fits in
-          record { chosen = made.0; claims = made.1; is = made.2; are = made.3 })
+            let items = c.items_exist.ensures net timing order valid is in
+            let made = c.designs_exist.ensures choice net machine timing items.0 valid machine_valid timely items.1 items.2 fits in
+            record { chosen = made.0; claims = made.1; is = made.2; are = made.3 })
         | inr (loop, is) ↦ absurd (acyclic loop is.circle)
       ];
       one_image = λ choice net machine timing valid one other claims claims_too is is_too are are_too. c.one_image.ensures choice net machine timing one other claims claims_too valid is is_too are are_too;
