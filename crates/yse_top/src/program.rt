@@ -1,6 +1,7 @@
 //! A whole call with the words that were read, as a program makes it.
 
-ghost use Rattle.std.specs.Prelude.{◌≡◌, ◌≤◌, ℕ, List as Items, Option, MatchOption, length};
+ghost use Rattle.std.specs.Prelude.{◌≡◌, ◌≤◌, ℕ, List as Items, Option, MatchOption, length, map};
+ghost use Rattle.std.specs.String.{string_bytes};
 ghost use Rattle.std.specs.IoError.{error_kind};
 ghost use Rattle.std.specs.Process.{exit_status};
 ghost use Rattle.limits.specs.declared.TheConstants.{MAX_WORKERS};
@@ -44,9 +45,27 @@ pub fn ended<R: Threads + Wait + Sync, F: Files, O: Sink, E: Sink, G: Gate + Sen
         (exit_status result)) }
 {
     match words_given(alloc, read) {
-        Ok(words) => exit_code(yse(rt, alloc, words.as_slice(), files, out, err, gates)),
+        Ok(words) => called(rt, alloc, words.as_slice(), files, out, err, gates),
         Err(Memory) => exit_code(out_of_memory(err)),
     }
+}
+
+/// A whole call with these words: the exit status is the number of its status.
+fn called<R: Threads + Wait + Sync, F: Files, O: Sink, E: Sink, G: Gate + Send>(
+    rt: &R,
+    alloc: Global,
+    words: &[String],
+    files: &mut F,
+    out: &mut O,
+    err: &mut E,
+    gates: &mut [Option<G>],
+) -> ExitCode
+    requires gates { MAX_WORKERS ≤ length gates.old }
+    requires tell { AllCanTell G.Gate.own gates.old }
+    ensures { EndsBy F.Files.own O.Sink.own E.Sink.own G.Gate.own files.old files.new out.old out.new err.old err.new gates.old gates.new
+        (map string_bytes words.now) (exit_status result) }
+{
+    exit_code(yse(rt, alloc, words, files, out, err, gates))
 }
 
 /// The exit status of a call: the number of its status.

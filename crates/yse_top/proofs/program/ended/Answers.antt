@@ -1,35 +1,6 @@
--- Each promise of the call is handed on.
-use Rattle.std.proofs.Common.{Some}
-use Rattle.yse_top.specs.Given.{bytes_of}
+-- The call that was made is that of the words that were read.
+use Rattle.std.proofs.Common.{rules}
 use Rattle.yse_top.proofs.program.ended.Goals as goal
 
 pub returns-in-Ok : goal.returns-in-Ok
-returns-in-Ok g c = record {
-  called = (
-    Some (bytes_of c.in-Ok.words),
-    c.in-Ok.ensures,
-    record {
-      status = c.yse.result;
-      number = c.exit_code.ensures;
-      trace = c.yse.ensures.trace;
-      readings = c.yse.ensures.expected.0;
-      outcome = c.yse.ensures.expected.1;
-      read = c.yse.ensures.expected.2;
-      is = c.yse.ensures.expected.3;
-      ends = c.yse.ensures.expected.4;
-      complete = c.yse.ensures.complete;
-      visits = c.yse.ensures.visits;
-      words_refused = c.yse.ensures.words;
-      no_output = c.yse.ensures.no_output;
-      no_line = c.yse.ensures.no_line;
-      kept_store = c.yse.ensures.store;
-      out_kept = c.yse.ensures.out_kept;
-      err_kept = c.yse.ensures.err_kept;
-      in_place = c.yse.ensures.in_place;
-      read_fault = c.yse.ensures.read_fault;
-      write_fault = c.yse.ensures.write_fault;
-      begun = c.yse.ensures.begun;
-      absent = c.yse.ensures.absent;
-    },
-  );
-}
+returns-in-Ok g c = search rules
