@@ -1,4 +1,5 @@
-//! The tokens of a netlist text in the ISCAS'89 `.bench` format.
+//! The tokens of a netlist text in the ISCAS'89 `.bench` format, and the form that the marks and names of a line
+//! spell.
 //!
 //! A token is one of the bytes `(` `)` `,` `=` `;` `[` `]`, or a name: a longest run of the bytes
 //! 0x21 to 0x7E other than these and `#`. Blanks and line ends may stand between tokens; no line needs

@@ -4,12 +4,16 @@ ghost use Rattle.std.specs.Prelude.{replicate, slice_index, ◌<◌, ◌≡◌};
 ghost use Rattle.limits.specs.declared.TheConstants.{MAX_PORTS};
 
 use crate::gate::Gate;
+use limits::MAX_PORTS;
+
+/// The ports that a gate counts.
+const PORTS: usize = MAX_PORTS as usize;
 
 /// A gate that only counts.
 #[derive(Drop)]
 pub struct CountGate {
-    times: [u64; 256],
-    latest: [u64; 256],
+    times: [u64; PORTS],
+    latest: [u64; PORTS],
 }
 
 impl Gate for CountGate {
@@ -31,8 +35,8 @@ impl CountGate {
         ensures latest { ⟦<CountGate as Gate>⟧.latest result ≡ replicate MAX_PORTS 0 }
     {
         CountGate {
-            times: [0; 256],
-            latest: [0; 256],
+            times: [0; PORTS],
+            latest: [0; PORTS],
         }
     }
 

@@ -1,11 +1,11 @@
-//! Events: how the ports of an image run beside one another and share nothing but words. Each port
-//! steps by single events; a word holds a turn and the code of a value, and a port's progress word
-//! the number of turns that it has finished. The definitions are in `specs/`: where a port stands,
-//! what it does next, what one step of one port makes of the whole state, which states are sound,
-//! and how many events a run has. They take three numbers as they come: the banks of words of each
-//! send, 1 to 8, the last turn that the ports execute, and the ports in the order in which they
-//! step, which is any order. And the sends of an image in one row, port after port: how many come before each port,
-//! and for each receipt the number of the send that it comes from.
+//! Events: what ports do to the words that they share, which states are sound, and what an order of steps comes to.
+//! The ports of an image run beside one another and share nothing but these words. Each port steps by single
+//! events; a word holds a turn and the code of a value, and a port's progress word the number of turns that it has
+//! finished. The definitions are in `specs/`: where a port stands, what it does next, what one step of one port
+//! makes of the whole state, which states are sound, and how many events a run has. They take three numbers as they
+//! come: the banks of words of each send, 1 to 8, the last turn that the ports execute, and the ports in the order
+//! in which they step, which is any order. And the sends of an image in one row, port after port: how many come
+//! before each port, and for each receipt the number of the send that it comes from.
 #![tactic(auto)]
 
 pub mod law;

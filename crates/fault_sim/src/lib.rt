@@ -1,6 +1,6 @@
-//! Stuck faults: where a stimulus shows that a signal has the same value at every turn. Many faulty
-//! designs run side by side with the good one, in groups that are dealt to threads. The lines of the
-//! verdicts are made here too.
+//! Stuck faults: up to thirty designs side by side, and where each fault is first seen. A stuck signal has the same
+//! value at every turn. Many faulty designs run side by side with the good one, in groups that are dealt to
+//! threads. The lines of the verdicts are made here too.
 #![tactic(auto)]
 
 ghost use Rattle.fault_sim.specs.Faults.{StepsAsStuck, StuckStepsRight, HasOneFaulty};

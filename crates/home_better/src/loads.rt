@@ -1,6 +1,7 @@
 //! How many nodes each logic port has and may have.
 
 ghost use Rattle.std.specs.Prelude.{◌≡◌, ◌≤◌, ◌<◌, ℕ, IfOk, max, min, length};
+ghost use Rattle.limits.specs.declared.TheConstants.{MAX_LOGIC};
 ghost use Rattle.node_defs.specs.WellFormed.{IsWellFormed};
 ghost use Rattle.plan_defs.specs.Homes.{AreHomes};
 ghost use Rattle.plan_defs.specs.Picks.{node_count as nodes_of};
@@ -66,7 +67,7 @@ fn most_of(_nodes: &NodeNet, _homes: &Homes, loads: &[u32]) -> u32
 fn share(nodes: u32, logic: u32) -> u32
     requires nodes { nodes < 2147483648 }
     requires some { 1 ≤ logic }
-    requires logic { logic ≤ 254 }
+    requires logic { logic ≤ MAX_LOGIC }
     ensures { result ≡ fair_share nodes logic }
 {
     nodes / logic + nodes / (8 * logic) + 1

@@ -11,3 +11,4 @@ pub mod KnownLemmas
 pub mod FormKnown
 pub mod MatchKnown
 pub mod AnswerLemmas
+pub mod OneLemmas

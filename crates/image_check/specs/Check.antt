@@ -21,6 +21,11 @@ Says file nodes timing (Err (no.Column j)) =
     × ((p slot : ℕ) → PlaceMatches file.image (lists_of file.claims) nodes p slot) × IsFirstColumn file.image (lists_of file.claims) nodes j
 Says file nodes timing (Err no.Memory) = Unit {0}
 
+-- two answers of the check of this image, neither of them want of memory, are the same
+abbrev pub HasOneAnswer : ImageFile → NodeNet → Timing → Type 0
+HasOneAnswer file nodes timing =
+    (one other : Result (Unit {0}) CheckNo) → one ≢ Err no.Memory → other ≢ Err no.Memory → Says file nodes timing one → Says file nodes timing other → one ≡ other
+
 -- the image is accepted, or there was not enough memory to check it
 abbrev pub IsOkOrMemory : Result (Unit {0}) CheckNo → Type 0
 IsOkOrMemory (Ok done) = Unit {0}

@@ -12,6 +12,7 @@ ghost use Rattle.large_run.specs.Setting.{large_machine};
 use crate::counts::summed_up;
 use crate::design::{Design, large_design};
 use crew_run::Gate;
+use limits::DEFAULT_BANKS;
 use machine_run::run_machine;
 use seen_list::{Memory, Text};
 use std::alloc::Global;
@@ -19,9 +20,6 @@ use std::marker::{Send, Sync};
 use std::sync::Wait;
 use std::thread::Threads;
 use yse_compile::inputs::same_inputs;
-
-/// One word for each item that is sent.
-const BANKS: u32 = 1;
 
 /// The summary of a run over so many cycles, up to 10,000, of a netlist of so many gates, up to 30,000,
 /// with so many workers, each of which tells its gate of the turns that its ports make. Only want of
@@ -77,7 +75,7 @@ fn summary_of<R: Threads + Wait + Sync, G: Gate + Send>(
         alloc,
         &design.compiled.image,
         &design.rows,
-        BANKS,
+        DEFAULT_BANKS,
         workers,
         gates,
     )?;

@@ -1,6 +1,7 @@
-//! Items: what a netlist is for the compiler. An input, a memory output, a register, and each gate of
-//! at most four operands is one item; a wider gate is several. Each item has one value a turn. The
-//! definitions, which items are those of a netlist and which values they have, are in `specs/`.
+//! Items, which a netlist is for the compiler, and their values, as definitions with their laws. An input, a memory
+//! output, a register, and each gate of at most four operands is one item; a wider gate is several. Each item has
+//! one value a turn. The definitions, which items are those of a netlist and which values they have, are in
+//! `specs/`.
 #![tactic(auto)]
 
 mod groups;

@@ -1,7 +1,7 @@
-//! A whole machine that runs up to thirty stimuli at once: the packed ports of an image, each dealt to one
-//! worker of a crew, which steps it over one packed crossbar through the turns of the longest stimulus, in a
-//! thread of its own where one can be made. The host keeps what is printed in all lanes at once, and once the run is
-//! over the trace of each lane is written from that.
+//! A whole machine that runs up to thirty stimuli at once: packed ports on the threads of a crew, and then the
+//! trace of each lane. Each port of the image is dealt to one worker of the crew, which steps it over one packed
+//! crossbar through the turns of the longest stimulus, in a thread of its own where one can be made. The host keeps
+//! what is printed in all lanes at once, and once the run is over the trace of each lane is written from that.
 #![tactic(auto)]
 
 mod lines;

@@ -1,6 +1,7 @@
-//! Plans: at which port each item is, and in which slot of a turn. The definitions are in `specs/`:
-//! which homes are homes of these items, which ports read an item, the first-fit plan, when a design
-//! fits a machine, and the settings of the switch. And rows of bits, in which sets of slots are kept.
+//! Homes, readers, the first-fit plan, when it fits a machine, and the switch, as definitions; and rows of bits. A
+//! plan says at which port each item is, and in which slot of a turn. The definitions are in `specs/`: which homes
+//! are homes of these items, which ports read an item, the first-fit plan, when a design fits a machine, and the
+//! settings of the switch. Sets of slots are kept in rows of bits.
 #![tactic(auto)]
 
 mod bit_rows;

@@ -1,6 +1,5 @@
-//! What the ports of an image have in common: the flat memory of a port in its run, which has the
-//! values of its own items, those that it receives and the constants in places of their own, and
-//! the place of each source.
+//! The flat memory of a port in its run: places for its own items, for what it receives and for the constants, and
+//! the place of each source. All ports of an image have it in common.
 #![tactic(auto)]
 
 mod bank;

@@ -1,5 +1,5 @@
-//! The stimulus text, which has the values of the inputs in each cycle, and the order text, which says
-//! whose step comes when.
+//! The stimulus text, the text of lanes and the order text. A stimulus has the values of the inputs in each cycle,
+//! a text of lanes several stimuli, and an order says whose step comes when.
 //!
 //! Stimulus text: a line outside its comment is blank, or it is a row: the values of the inputs in
 //! file order, each one of `0`, `1`, `x`, `X`, `z` and `Z`, with blanks anywhere, and then, where the

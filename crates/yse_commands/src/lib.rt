@@ -1,4 +1,5 @@
-//! The commands: what each comes to before its output is written, one module for each.
+//! The commands: a function for each, which follows its chain of checks and answers its output or its refusal, one
+//! module for each.
 #![tactic(auto)]
 
 mod compile;

@@ -30,7 +30,7 @@ use Rattle.image_defs.specs.Matches.{BitImplements, ImplementsClaim, Implements,
 use Rattle.image_check.specs.declared.check.CheckNo.{CheckNo}
 use Rattle.image_check.specs.declared.check.CheckNo.TheVariants as no
 use Rattle.image_defs.specs.declared.file.ImageFile.{ImageFile}
-use Rattle.image_check.specs.Check.{HasAnswer, Says}
+use Rattle.image_check.specs.Check.{HasAnswer, HasOneAnswer, Says}
 use Rattle.image_file.specs.Files.{image_text}
 use Rattle.image_file.specs.Ranges.{IsInRanges, Reads}
 use Rattle.image_file.specs.Reading.{first_fault}
@@ -117,85 +117,52 @@ module _ (image : Image) (claims : List (List ℕ)) (one other : NodeNet) (same 
 
 -- ---- one answer of the check
 
--- what an accepted image has
-module _ (image : Image) (claims : List (List ℕ)) (nodes : NodeNet) (timing : Timing) (matches : Matches image claims nodes timing) where
-  matched_timing : HasTiming image nodes timing
-  matched_timing = record {
-    units = matches.units;
-    init = matches.init;
-    columns = matches.columns;
-    printed = λ host is. (matches.printed host is).as_many;
-  }
-
-  matched_place : (p slot : ℕ) → PlaceMatches image claims nodes p slot
-  matched_place p slot k x port is stands claimed = matches.items p k x port is claimed
-
-  matched_column : (j : ℕ) → ColumnMatches image claims nodes j
-  matched_column j x host source is stands item = (matches.printed host is).each j x source stands item
-
 -- two lists of the items of a netlist, in which what holds of one holds of the other
 pub record AreInterchangeable (file : ImageFile) (timing : Timing) (one other : NodeNet) : Type 0 where
   pub timing_too : HasTiming file.image one timing → HasTiming file.image other timing
   pub place_too : (p slot : ℕ) → PlaceMatches file.image (lists_of file.claims) one p slot → PlaceMatches file.image (lists_of file.claims) other p slot
   pub column_too : (j : ℕ) → ColumnMatches file.image (lists_of file.claims) one j → ColumnMatches file.image (lists_of file.claims) other j
+  pub as_many : length one.printed ≡ length other.printed
 
 pub interchangeable : (file : ImageFile) (timing : Timing) (one other : NodeNet) → AreSameItems one other → IsWellFormedNet other → column_count one ≡ column_count other → AreInterchangeable file timing one other
 interchangeable file timing one other same formed columns = record {
   timing_too = timing_too file.image (lists_of file.claims) one other same formed timing columns;
   place_too = place_too file.image (lists_of file.claims) one other same formed;
   column_too = column_too file.image (lists_of file.claims) one other same formed;
+  as_many = ap length same.printed;
 }
 
 module _ (file : ImageFile) (timing : Timing) (one other : NodeNet) (there : AreInterchangeable file timing one other) (back : AreInterchangeable file timing other one) where
-  -- an image is not both accepted and refused
-  never_both : (why : CheckNo) → why ≢ no.Memory → Says file one timing (Ok tt) → Says file other timing (Err why) → ⊥
-  never_both no.Form known (formed, matches) refused = refused formed
-  never_both no.Timing known (formed, matches) refused = refused.1 (there.timing_too (matched_timing file.image (lists_of file.claims) one timing matches))
-  never_both (no.Place p slot) known (formed, matches) refused = refused.2.differs (there.place_too p slot (matched_place file.image (lists_of file.claims) one timing matches p slot))
-  never_both (no.Column j) known (formed, matches) refused = refused.3.differs (there.column_too j (matched_column file.image (lists_of file.claims) one timing matches j))
-  never_both no.Memory known says refused = known refl
+  -- what is refused by one list is refused so by the other
+  refused_too : (why : CheckNo) → Says file other timing (Err why) → Says file one timing (Err why)
+  refused_too no.Form refused = refused
+  refused_too no.Timing refused = (refused.0, λ has. refused.1 (there.timing_too has))
+  refused_too (no.Place p slot) (formed, has, first) = (formed, back.timing_too has, record {
+    port = first.port;
+    is = first.is;
+    i = first.i;
+    stands = first.stands;
+    differs = λ matches. first.differs (there.place_too p slot matches);
+    before = λ q at comes. back.place_too q at (first.before q at comes);
+  })
+  refused_too (no.Column j) (formed, has, places, first) = (formed, back.timing_too has, (λ p slot. back.place_too p slot (places p slot)), record {
+    within = subst (λ n. j < n) (sym there.as_many) first.within;
+    differs = λ matches. first.differs (there.column_too j matches);
+    before = λ k low. back.column_too k (first.before k low);
+  })
+  refused_too no.Memory refused = refused
 
-  -- one place is the first that differs, and one column
-  one_place : (p slot q at : ℕ) → IsFirstPlace file.image (lists_of file.claims) one p slot → IsFirstPlace file.image (lists_of file.claims) other q at → no.Place p slot ≡ no.Place q at
-  one_place p slot q at first second = by_port (cases_lt p q) (cases_lt q p)
-    where
-      by_slot : p ≡ q → (slot < at) ⊎ (at ≤ slot) → (at < slot) ⊎ (slot ≤ at) → no.Place p slot ≡ no.Place q at
-      by_slot same (inl before) next = absurd (first.differs (back.place_too p slot (second.before p slot (inr (same, before)))))
-      by_slot same (inr most) (inl before) = absurd (second.differs (there.place_too q at (first.before q at (inr (sym same, before)))))
-      by_slot same (inr most) (inr least) = let at_same : slot ≡ at = omega (arith, most, least) in ap (λ x. no.Place x slot) same ∙ ap (no.Place q) at_same
+  -- an image is not both accepted and refused, and it is refused for one cause
+  never_both : HasOneAnswer file one timing → (why : CheckNo) → why ≢ no.Memory → Says file one timing (Ok tt) → Says file other timing (Err why) → ⊥
+  never_both once why known says refused =
+      let same : Ok tt ≡ Err why = once (Ok tt) (Err why) (λ is. cc) (λ is. let e : why ≡ no.Memory = cc in known e) says (refused_too why refused) in
+      cc
 
-      by_port : (p < q) ⊎ (q ≤ p) → (q < p) ⊎ (p ≤ q) → no.Place p slot ≡ no.Place q at
-      by_port (inl before) next = absurd (first.differs (back.place_too p slot (second.before p slot (inl before))))
-      by_port (inr most) (inl before) = absurd (second.differs (there.place_too q at (first.before q at (inl before))))
-      by_port (inr most) (inr least) = by_slot (omega (arith, most, least)) (cases_lt slot at) (cases_lt at slot)
-
-  one_column : (j k : ℕ) → IsFirstColumn file.image (lists_of file.claims) one j → IsFirstColumn file.image (lists_of file.claims) other k → no.Column j ≡ no.Column k
-  one_column j k first second = by (cases_lt j k) (cases_lt k j)
-    where
-      by : (j < k) ⊎ (k ≤ j) → (k < j) ⊎ (j ≤ k) → no.Column j ≡ no.Column k
-      by (inl before) next = absurd (first.differs (back.column_too j (second.before j before)))
-      by (inr most) (inl before) = absurd (second.differs (there.column_too k (first.before k before)))
-      by (inr most) (inr least) = let same : j ≡ k = omega (arith, most, least) in ap no.Column same
-
-  one_refusal : (why also : CheckNo) → why ≢ no.Memory → also ≢ no.Memory → Says file one timing (Err why) → Says file other timing (Err also) → why ≡ also
-  one_refusal no.Memory also known known_too says says_too = absurd (known refl)
-  one_refusal why no.Memory known known_too says says_too = absurd (known_too refl)
-  one_refusal no.Form no.Form known known_too says says_too = refl
-  one_refusal no.Form no.Timing known known_too says says_too = absurd (says says_too.0)
-  one_refusal no.Form (no.Place q at) known known_too says says_too = absurd (says says_too.0)
-  one_refusal no.Form (no.Column k) known known_too says says_too = absurd (says says_too.0)
-  one_refusal no.Timing no.Form known known_too says says_too = absurd (says_too says.0)
-  one_refusal no.Timing no.Timing known known_too says says_too = refl
-  one_refusal no.Timing (no.Place q at) known known_too says says_too = absurd (says.1 (back.timing_too says_too.1))
-  one_refusal no.Timing (no.Column k) known known_too says says_too = absurd (says.1 (back.timing_too says_too.1))
-  one_refusal (no.Place p slot) no.Form known known_too says says_too = absurd (says_too says.0)
-  one_refusal (no.Place p slot) no.Timing known known_too says says_too = absurd (says_too.1 (there.timing_too says.1))
-  one_refusal (no.Place p slot) (no.Place q at) known known_too says says_too = one_place p slot q at says.2 says_too.2
-  one_refusal (no.Place p slot) (no.Column k) known known_too says says_too = absurd (says.2.differs (back.place_too p slot (says_too.2 p slot)))
-  one_refusal (no.Column j) no.Form known known_too says says_too = absurd (says_too says.0)
-  one_refusal (no.Column j) no.Timing known known_too says says_too = absurd (says_too.1 (there.timing_too says.1))
-  one_refusal (no.Column j) (no.Place q at) known known_too says says_too = absurd (says_too.2.differs (there.place_too q at (says.2 q at)))
-  one_refusal (no.Column j) (no.Column k) known known_too says says_too = one_column j k says.3 says_too.3
+  one_refusal : HasOneAnswer file one timing → (why also : CheckNo) → why ≢ no.Memory → also ≢ no.Memory → Says file one timing (Err why) → Says file other timing (Err also) → why ≡ also
+  one_refusal once why also known known_too says says_too =
+      let same : Err why ≡ Err also =
+      once (Err why) (Err also) (λ is. let e : why ≡ no.Memory = cc in known e) (λ is. let e : also ≡ no.Memory = cc in known_too e) says (refused_too also says_too) in
+      cc
 
 -- items of the netlist, and what the check says of the image by them
 pub record IsAnsweredBy (net : Netlist) (timing : Timing) (file : ImageFile) : Type 0 where
@@ -204,15 +171,16 @@ pub record IsAnsweredBy (net : Netlist) (timing : Timing) (file : ImageFile) : T
   pub answer : HasAnswer file nodes timing
 
 -- the check of an image answers, and once
-pub accepted_check : (net : Netlist) (timing : Timing) (file : ImageFile) → ((one other : NodeNet) → AreItems net timing one → AreItems net timing other → AreInterchangeable file timing one other) → IsAnsweredBy net timing file → IsCheck (IsAccepted net timing file)
-accepted_check net timing file same by = record {
+pub accepted_check : (net : Netlist) (timing : Timing) (file : ImageFile) → ((one other : NodeNet) → AreItems net timing one → AreItems net timing other → AreInterchangeable file timing one other)
+    → ((nodes : NodeNet) → HasOneAnswer file nodes timing) → IsAnsweredBy net timing file → IsCheck (IsAccepted net timing file)
+accepted_check net timing file same once by = record {
   values = λ x y passed passed_too. refl;
   either = λ x o passed refused.
-      never_both file timing passed.0 refused.0 (same passed.0 refused.0 passed.1 refused.1) (same refused.0 passed.0 refused.1 passed.1) refused.2 refused.3 passed.2 refused.4;
+      never_both file timing passed.0 refused.0 (same passed.0 refused.0 passed.1 refused.1) (same refused.0 passed.0 refused.1 passed.1) (once passed.0) refused.2 refused.3 passed.2 refused.4;
   refusals = λ o p refused refused_too.
       alike o p (refused.5
       ∙ ap (λ why. refusal status.ImageMatch (match_line why))
-      (one_refusal file timing refused.0 refused_too.0 (same refused.0 refused_too.0 refused.1 refused_too.1) (same refused_too.0 refused.0 refused_too.1 refused.1) refused.2 refused_too.2 refused.3 refused_too.3 refused.4 refused_too.4)
+      (one_refusal file timing refused.0 refused_too.0 (same refused.0 refused_too.0 refused.1 refused_too.1) (same refused_too.0 refused.0 refused_too.1 refused.1) (once refused.0) refused.2 refused_too.2 refused.3 refused_too.3 refused.4 refused_too.4)
       ∙ sym refused_too.5);
   some = elim by.answer [
     | inl says ↦ inl (tt, (by.nodes, by.items, says))
@@ -225,7 +193,7 @@ accepted_check net timing file same by = record {
 
 -- it is taken, where its text is what is read
 module _ (net : Netlist) (timing : Timing) (nodes : NodeNet) (file : ImageFile) (reader : IsReader Reads first_fault) (same : (one other : NodeNet) → AreItems net timing one → AreItems net timing other → AreInterchangeable file timing one other)
-    (items : AreItems net timing nodes) (ranges : IsInRanges file) (says : Says file nodes timing (Ok tt)) where
+    (once : HasOneAnswer file nodes timing) (items : AreItems net timing nodes) (ranges : IsInRanges file) (says : Says file nodes timing (Ok tt)) where
   reads : Reads (image_text file) file
   reads = record { is = refl; ranges = ranges }
 
@@ -233,7 +201,7 @@ module _ (net : Netlist) (timing : Timing) (nodes : NodeNet) (file : ImageFile) 
   goes_on : (Next : Image → List Reading → Outcome → Type 0) (readings : List Reading) (outcome : Outcome) → AfterMatch net timing file Next readings outcome → Next file.image readings outcome ⊎ (outcome ≡ out_of_memory)
   goes_on Next readings outcome (inl (passed, accepted, next)) = inl next
   goes_on Next readings outcome (inr (none, inl refused)) =
-      absurd (never_both file timing nodes refused.0 (same nodes refused.0 items refused.1) (same refused.0 nodes refused.1 items) refused.2 refused.3 says refused.4)
+      absurd (never_both file timing nodes refused.0 (same nodes refused.0 items refused.1) (same refused.0 nodes refused.1 items) once refused.2 refused.3 says refused.4)
   goes_on Next readings outcome (inr (none, inr memory)) = inr memory
 
   -- no answer of the reader but the file

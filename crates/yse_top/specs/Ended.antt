@@ -22,8 +22,8 @@ use Rattle.yse_commands.specs.Words.{files_named}
 
 module _ {F O E G : Type 0} (store : files.Ghosts F) (output : sink.Ghosts O) (told : sink.Ghosts E) (p : gate.Ghosts G) (files_old files_new : F) (out_old out_new : O) (err_old err_new : E) (gates gates' : List (Option G)) where
   -- The exit status is the number of the status that the call of these words ended with, and what the call promises
-  -- holds of that status: each field is the clause of its name, `readings`, `outcome`, `read`, `is` and `ends` are the
-  -- clause `expected`.
+  -- holds of that status: each field is the clause of its name, but that `readings`, `outcome`, `read`, `is` and `ends`
+  -- are the clause `expected`, `words_refused` is `words`, and `kept_store` is `store`.
   pub record EndsBy (words : List (List ℕ)) (exit : ℕ) : Type 0 where
     pub status : Status
     pub number : exit ≡ status_number status

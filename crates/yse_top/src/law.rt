@@ -94,6 +94,7 @@ pub fn compiled_images_are_taken()
         → AreClaimsOf compiled claims → IsTaken net timing (record { image = compiled.image; claims = claims }) }
 {
     images_or_faults();
+    matches_or_not();
     designs_are_in_range();
     one_list();
     items_are_well_formed();

@@ -100,6 +100,8 @@ const LIMITS: &[Limit] = &[
         10,
         "limit: 16777218 memory bits, at most 16777216\n",
     ),
+    ("large 30000 1 --workers 1", Much::Inputs(0), "", 0, ""),
+    ("large 1 10000 --workers 1", Much::Inputs(0), "", 0, ""),
     // Each cycle writes at an address that is undefined.
     (RUN, Much::Memories(1, 0), "1x * 100000\n", 0, ""),
     (

@@ -300,9 +300,9 @@ fn were_told(gates: &[Option<CountGate>], told: &[(usize, u32, u64, u64)]) -> bo
 }
 
 /// The tries of the third member. They end in the second phase in the calling thread. This rests on constants of
-/// `crew_run`: with three workers that have members the first such phase has three times `SOLO_STEPS` steps, 3,000,000,
-/// the second one twice as many, and a round without a move is one step. A phase in threads ends after
-/// `FIRST_IDLE_ROUNDS` rounds without a move, and `MOST_SOLO_STEPS` is not met.
+/// `crew_run`: with three workers up to the last that has a member the first such phase has three times `SOLO_STEPS`
+/// steps, 3,000,000, the second one twice as many, and a round without a move is one step. A phase in threads ends
+/// after `FIRST_IDLE_ROUNDS` rounds without a move, and `MOST_SOLO_STEPS` is not met.
 const TRIES: u64 = 4_000_000;
 
 fn run_rounds<R: Threads + Wait + Sync>(rt: &R, alloc: Global) -> Result<bool, Memory> {

@@ -405,8 +405,9 @@ returns c =
       accepted = λ net timing file valid acyclic has. accepted_check net timing file (λ one other items items_too.
           interchangeable file timing one other (c.one_list.ensures net timing one other items items_too) (c.items_are_well_formed.ensures net timing other valid items_too)
           (c.same_inputs.ensures net timing one valid items ∙ sym (c.same_inputs.ensures net timing other valid items_too)))
+          (λ nodes. c.matches_or_not.ensures.one file nodes timing)
           (elim (c.order_or_loop.ensures.one net timing) [
-            | inl (order, is) ↦ (let items = c.items_exist.ensures net timing order valid is in record { nodes = items.0; items = items.1; answer = c.matches_or_not.ensures file items.0 timing has })
+            | inl (order, is) ↦ (let items = c.items_exist.ensures net timing order valid is in record { nodes = items.0; items = items.1; answer = c.matches_or_not.ensures.some file items.0 timing has })
             | inr (loop, is) ↦ absurd (acyclic loop is.circle)
           ]);
       designs = λ choice net machine timing valid machine_valid timely acyclic fits. elim (c.order_or_loop.ensures.one net timing) [
