@@ -19,13 +19,14 @@ use Rattle.event_defs.specs.Next.{AsksNext, ReceivesNext, SendsNext, TellsNext}
 use Rattle.event_defs.specs.Places.{IsSend, after_ask, after_put, after_take, after_tell, known_of, latest}
 use Rattle.event_defs.specs.Row.{send_number, word_place}
 use Rattle.event_defs.specs.Steps.{CoreState, Moves, Reads, Waits, stamp_of, updated, written}
-use Rattle.event_defs.specs.declared.place.CoreStep.TheVariants.{Moved, NotYet}
+use Rattle.event_defs.specs.declared.place.CoreStep.TheVariants.{Done, Moved, NotYet}
 use Rattle.event_defs.specs.declared.place.Event.{Event}
 use Rattle.event_defs.specs.declared.place.Event.TheVariants.{Ask, Put, Take, Tell}
 use Rattle.event_defs.specs.declared.place.Place.{Place}
 use Rattle.atomic_table.proofs.Lists.{at_map, at_set}
 use Rattle.atomic_table.specs.Seated.{TableId}
 use Rattle.atomic_table.specs.Table.{Act, State, stepped}
+use Rattle.slot_words.proofs.LinkLemmas.{member_at}
 use Rattle.slot_words.proofs.LookLemmas.{counted_look, told_progress, told_sent}
 use Rattle.slot_words.proofs.SoundLemmas.{told_none}
 use Rattle.slot_words.proofs.StepLemmas.{near_sender, sent_read}
@@ -45,7 +46,8 @@ use Rattle.pack_words.specs.Words.{packed}
 use Rattle.pack_words.specs.declared.rule.PackKey.{PackKey}
 use Rattle.pack_words.specs.declared.rule.PackView.{PackView}
 use Rattle.pack_run.proofs.LaneLemmas.{both_written, lane_word, not_before, only_bank, plain_before, plain_now, put_word, stamp_last}
-use Rattle.pack_run.specs.Core.{IsCoreEvent, IsCoreStep, IsLaneWord, IsStateIn, IsStateOf, pass_in}
+use Rattle.pack_run.specs.Core.{IsCoreEvent, IsCoreStep, IsLaneWord, IsStateIn, IsStateOf, ShowsIn, pass_in}
+use Rattle.pack_run.specs.Pairs.{HasMadeAll}
 use Rattle.pack_run.specs.Steps.{AskWaits, HasAsked, HasTaken, IsEvent, IsWait, Looks, Makes, Puts, TakeWaits, Tells}
 
 -- the lane's state of a packed crossbar
@@ -111,12 +113,34 @@ module _ (words : List ℕ) (views : List PackView) (id p : ℕ) (old : PackView
   here : (P : Place → Type 0) → P old.place → P (state.place p)
   here P it = subst P (sym here_is) it
 
+  -- what has made all turns is done there
+  done_in : HasMadeAll (pass_in table p old) → IsCoreStep l (pass_in table p old) state Done state
+  done_in made =
+      let seat = member_at old.image.ports p mine.inside in
+      record { seat = seat.0; is = seat.1; step = (here (λ a. a.turn ≡ until + 1) made, refl) }
+
   module _ (word number : ℕ) (new : PackView) (after_kept : IsKept old.image old.lanes (set words word number) (set views id new)) where
     abbrev now : List ℕ
     now = set words word number
 
     told : new.steps ≡ old.steps + 1 → told_in old.image now new.last.word ≡ new.last.number
     told counted = counted_look old.image words now (map plain_view views) id (plain_view old) (plain_view new) kept.looks at_plain counted (looks_after old.image now views id new after_kept.looks)
+
+    -- what words that tell what the step saw have in its word
+    module _ (ws : List ℕ) (found : told_in old.image ws new.last.word ≡ new.last.number) where
+      turns_found : (r : ℕ) → r < length old.image.ports → new.last.word ≡ progress_word r → turns_told (progress_in ws r) ≡ new.last.number
+      turns_found r inside at_word = sym (told_progress old.image ws r inside) ∙ subst (λ w. told_in old.image ws w ≡ new.last.number) at_word found
+
+      sent_found : (q i : ℕ) (link : LinkOut) → IsSend old.image q i link → new.last.word ≡ send_word old.image 1 q i 0 → sent_in old.image 1 ws q i 0 ≡ new.last.number
+      sent_found q i link send at_word =
+          sym (told_sent old.image 1 ws q i 0 ∙ sent_read old.image 1 ws q i 0 link send (omega arith)) ∙ subst (λ w. told_in old.image ws w ≡ new.last.number) at_word found
+
+    -- and so has a state that has those words
+    shown : (after : CoreState) → HasWords old.image l p now after → told_in old.image now new.last.word ≡ new.last.number → ShowsIn l (pass_in table p old) after new.last
+    shown after has found = record {
+      progress = λ r inside at_word. has.finished r inside ∙ turns_found now found r inside at_word;
+      sent = λ q i link send at_word. subst (λ n. IsLaneWord l n (after.word q i 0)) (sent_found now found q i link send at_word) (has.word q i link send);
+    }
 
     module _ (seat : PortImage) (at : IsPort old.image p seat) (early : old.place.turn ≤ until) where
       begun : 1 ≤ turn
@@ -128,7 +152,7 @@ module _ (words : List ℕ) (views : List PackView) (id p : ℕ) (old : PackView
       finished_is : (reader : ℕ) → AsksNext seat old.place 1 reader → new.last.word ≡ progress_word reader → told_in old.image words new.last.word ≡ new.last.number → state.finished reader ≡ new.last.number
       finished_is reader next at_word found =
           let inside = asked_in old.image kept.runs.image_fits p seat at old.place 1 reader next in
-          is.finished reader inside ∙ (sym (told_progress old.image words reader inside) ∙ subst (λ w. told_in old.image words w ≡ new.last.number) at_word found)
+          is.finished reader inside ∙ turns_found words found reader inside at_word
 
       -- what a Take found says in the lane what the state's word says
       module _ (slot : ℕ) (place : Place) (looks : Looks seat (pass_in table p old) (pass_in table p new) slot place) (found : told_in old.image words new.last.word ≡ new.last.number) where
@@ -139,9 +163,7 @@ module _ (words : List ℕ) (views : List PackView) (id p : ℕ) (old : PackView
         plain_is = ap (state.word looks.next.link.sender looks.i) (only_bank turn)
 
         number_is : sent_in old.image 1 words looks.next.link.sender looks.i 0 ≡ new.last.number
-        number_is =
-            sym (told_sent old.image 1 words looks.next.link.sender looks.i 0 ∙ sent_read old.image 1 words looks.next.link.sender looks.i 0 looks.source.sent looks.source.send (omega arith))
-            ∙ subst (λ w. told_in old.image words w ≡ new.last.number) (ap (λ (x : PackPassView). x.last.word) looks.is) found
+        number_is = sent_found words found looks.next.link.sender looks.i looks.source.sent looks.source.send (ap (λ (x : PackPassView). x.last.word) looks.is)
 
         says : IsLaneWord l new.last.number plain
         says = subst (λ n. IsLaneWord l n plain) number_is (subst (IsLaneWord l (sent_in old.image 1 words looks.next.link.sender looks.i 0)) (sym plain_is)
@@ -173,9 +195,6 @@ module _ (words : List ℕ) (views : List PackView) (id p : ℕ) (old : PackView
       placed : (f : Place → Place) → new.place ≡ f old.place → updated state.place p (f (state.place p)) p ≡ new.place
       placed f is_new = updated_here state.place p (f (state.place p)) ∙ (ap f here_is ∙ sym is_new)
 
-      abbrev event_by : (event : Event) (after : CoreState) → Moves old.image 1 p seat state stimulus event after → after.place p ≡ new.place → IsCoreEvent l (pass_in table p old) event (pass_in table p new) state
-      event_by event after moves stands = record { after = after; step = record { seat = seat; is = at; step = (here (λ a. a.turn ≤ until) early, moves) }; stands = stands }
-
       -- the words after an event that leaves them
       looked : now ≡ words → (place : ℕ → Place) → HasWords old.image l p now (record state { place = place })
       looked still place = record {
@@ -185,41 +204,52 @@ module _ (words : List ℕ) (views : List PackView) (id p : ℕ) (old : PackView
       }
 
       -- what an event comes to
-      abbrev Comes : Event → Type 0
-      Comes event = (core : IsCoreEvent l (pass_in table p old) event (pass_in table p new) state) × HasWords old.image l p now core.after × ((q : ℕ) → q ≢ p → core.after.place q ≡ state.place q)
+      record Comes (event : Event) : Type 0 where
+        after : CoreState
+        moves : Moves old.image 1 p seat state stimulus event after
+        stands : after.place p ≡ new.place
+        has : HasWords old.image l p now after
+        others : (q : ℕ) → q ≢ p → after.place q ≡ state.place q
 
       ask_comes : (reader : ℕ) → HasAsked seat (pass_in table p old) (pass_in table p new) reader → now ≡ words → told_in old.image words new.last.word ≡ new.last.number → Comes (Ask reader)
       ask_comes reader has still found =
-          let same = finished_is reader has.asks.next (ap (λ (x : PackPassView). x.last.word) has.asks.is) found in (
-            event_by (Ask reader) (record state { place = updated state.place p (after_ask (state.place p) reader (state.finished reader)) }) (record {
+          let same = finished_is reader has.asks.next (ap (λ (x : PackPassView). x.last.word) has.asks.is) found in
+          record {
+            after = record state { place = updated state.place p (after_ask (state.place p) reader (state.finished reader)) };
+            moves = record {
               next = here (λ a. AsksNext seat a 1 reader) has.asks.next;
               moves = here (λ a. a.turn ≤ state.finished reader + 1) (subst (λ n. old.place.turn ≤ n + 1) (sym same) has.enough);
               is = refl;
-            }) (placed (λ a. after_ask a reader (state.finished reader)) (ap (λ (x : PackPassView). x.place) has.asks.is ∙ ap (λ n. after_ask old.place reader n) (sym same))),
-            looked still (updated state.place p (after_ask (state.place p) reader (state.finished reader))),
-            (λ q away. updated_there state.place p q (after_ask (state.place p) reader (state.finished reader)) away),
-          )
+            };
+            stands = placed (λ a. after_ask a reader (state.finished reader)) (ap (λ (x : PackPassView). x.place) has.asks.is ∙ ap (λ n. after_ask old.place reader n) (sym same));
+            has = looked still (updated state.place p (after_ask (state.place p) reader (state.finished reader)));
+            others = λ q away. updated_there state.place p q (after_ask (state.place p) reader (state.finished reader)) away;
+          }
 
       take_comes : (slot : ℕ) → HasTaken seat (pass_in table p old) (pass_in table p new) slot → now ≡ words → told_in old.image words new.last.word ≡ new.last.number → Comes (Take slot)
       take_comes slot has still found =
-          let bounds = near slot (after_take old.place slot) has.looks found in (
-            event_by (Take slot) (record state { place = updated state.place p (after_take (state.place p) slot) }) (record {
+          let bounds = near slot (after_take old.place slot) has.looks found in
+          record {
+            after = record state { place = updated state.place p (after_take (state.place p) slot) };
+            moves = record {
               x = plain slot (after_take old.place slot) has.looks found;
               reads = reads slot (after_take old.place slot) has.looks found;
               moves = plain_now l new.last.number (plain slot (after_take old.place slot) has.looks found) turn (says slot (after_take old.place slot) has.looks found) begun bounds.0 bounds.1
                   (has.now ∙ ap (λ t. t % 16) (sym turn_is));
               is = refl;
-            }) (placed (λ a. after_take a slot) (ap (λ (x : PackPassView). x.place) has.looks.is)),
-            looked still (updated state.place p (after_take (state.place p) slot)),
-            (λ q away. updated_there state.place p q (after_take (state.place p) slot) away),
-          )
+            };
+            stands = placed (λ a. after_take a slot) (ap (λ (x : PackPassView). x.place) has.looks.is);
+            has = looked still (updated state.place p (after_take (state.place p) slot));
+            others = λ q away. updated_there state.place p q (after_take (state.place p) slot) away;
+          }
 
       -- a Tell: the progress word that tells the turn afterwards is the one that was written, since it told one less
       tell_comes : Tells seat (pass_in table p old) (pass_in table p new) → told_in old.image now new.last.word ≡ new.last.number → Comes Tell
-      tell_comes tells found = (
-        event_by Tell (record state { place = updated state.place p (after_tell (state.place p)); finished = updated state.finished p turn })
-            (record { next = here (λ a. TellsNext seat a) tells.next; is = refl }) (placed after_tell (ap (λ (x : PackPassView). x.place) tells.is)),
-        record {
+      tell_comes tells found = record {
+        after = record state { place = updated state.place p (after_tell (state.place p)); finished = updated state.finished p turn };
+        moves = record { next = here (λ a. TellsNext seat a) tells.next; is = refl };
+        stands = placed after_tell (ap (λ (x : PackPassView). x.place) tells.is);
+        has = record {
           finished = λ r inside. elim (cases_eq r p) [
             | inl same ↦ subst (λ r. updated state.finished p turn r ≡ turns_told (progress_in now r)) (sym same) (updated_here state.finished p turn ∙ sym tells_turn)
             | inr other ↦ updated_there state.finished p r turn other ∙ (is.finished r inside ∙ ap turns_told (sym (get_or-set_other words word r number 0 (λ e. other (e ∙ word_is)))))
@@ -227,13 +257,11 @@ module _ (words : List ℕ) (views : List PackView) (id p : ℕ) (old : PackView
           word = λ q k link send. subst (λ (f : ℕ → ℕ → ℕ → ℕ). IsLaneWord l (f q k 0) (state.word q k 0))
               (sym (progress_set old.image 1 words word number (subst (λ w. w < length old.image.ports) (sym word_is) mine.inside))) (is.word q k link send);
           claimed = λ free. let no_turn = told_none (progress_in now p) free in absurd (omega (arith, begun, tells_turn, no_turn));
-        },
-        (λ q away. updated_there state.place p q (after_tell (state.place p)) away),
-      ) where
+        };
+        others = λ q away. updated_there state.place p q (after_tell (state.place p)) away;
+      } where
         tells_turn : turns_told (progress_in now p) ≡ turn
-        tells_turn = sym (told_progress old.image now p mine.inside)
-            ∙ (subst (λ w. told_in old.image now w ≡ new.last.number) (ap (λ (x : PackPassView). x.last.word) tells.is) found
-            ∙ (ap (λ (x : PackPassView). x.last.number) tells.is ∙ sym turn_is))
+        tells_turn = turns_found now found p mine.inside (ap (λ (x : PackPassView). x.last.word) tells.is) ∙ (ap (λ (x : PackPassView). x.last.number) tells.is ∙ sym turn_is)
 
         word_is : word ≡ p
         word_is = elim (cases_eq word p) [
@@ -303,8 +331,9 @@ module _ (words : List ℕ) (views : List PackView) (id p : ℕ) (old : PackView
             })
 
         put_comes : Comes (Put slot)
-        put_comes = (
-          event_by (Put slot) (record state { place = updated state.place p (after_put (state.place p) slot); word = written state.word p puts.next.i (turn % 1) (value turn) }) (record {
+        put_comes = record {
+          after = record state { place = updated state.place p (after_put (state.place p) slot); word = written state.word p puts.next.i (turn % 1) (value turn) };
+          moves = record {
             next = record {
               i = puts.next.i;
               link = puts.next.link;
@@ -313,10 +342,11 @@ module _ (words : List ℕ) (views : List PackView) (id p : ℕ) (old : PackView
               ready = here (λ a. (r : ℕ) → Stands puts.next.link.readers r → a.turn ≤ known_of a r + 1) puts.next.ready;
             };
             is = refl;
-          }) (placed (λ a. after_put a slot) (ap (λ (x : PackPassView). x.place) puts.is)),
-          put_words (updated state.place p (after_put (state.place p) slot)),
-          (λ q away. updated_there state.place p q (after_put (state.place p) slot) away),
-        )
+          };
+          stands = placed (λ a. after_put a slot) (ap (λ (x : PackPassView). x.place) puts.is);
+          has = put_words (updated state.place p (after_put (state.place p) slot));
+          others = λ q away. updated_there state.place p q (after_put (state.place p) slot) away;
+        }
 
       made_comes : (event : Event) → Makes seat (pass_in table p old) (pass_in table p new) event → new.steps ≡ old.steps + 1 → (is_look event ≡ true → now ≡ words) → Comes event
       made_comes (Ask reader) makes counted still = ask_comes reader makes (still refl) (subst (λ ws. told_in old.image ws new.last.word ≡ new.last.number) (still refl) (told counted))
@@ -368,20 +398,25 @@ module _ (words : List ℕ) (views : List PackView) (id p : ℕ) (old : PackView
     event_in : (event : Event) → IsEvent (pass_in table p old) event (pass_in table p new) → (is_look event ≡ true → now ≡ words)
         → (core : IsCoreEvent l (pass_in table p old) event (pass_in table p new) state) × IsStateIn old.image old.lanes now (set views id new) l core.after
     event_in event made still =
-        let comes = made_comes made.seat made.is made.early event made.makes (event_counted (pass_in table p old) event (pass_in table p new) made) still in
-        let core = comes.0 in
-        let has = comes.1 in (
+        let counted = event_counted (pass_in table p old) event (pass_in table p new) made in
+        let comes = made_comes made.seat made.is made.early event made.makes counted still in
+        let core : IsCoreEvent l (pass_in table p old) event (pass_in table p new) state = record {
+          after = comes.after;
+          step = record { seat = made.seat; is = made.is; step = (here (λ a. a.turn ≤ until) made.early, comes.moves) };
+          stands = comes.stands;
+          shows = shown comes.after comes.has (told counted);
+        } in (
           core,
           record {
-            sound = step_sound old.image stimulus 1 until kept.runs.image_fits (omega arith) state is.sound p core.step.seat core.step.is (Moved event) core.after core.step.step;
-            finished = has.finished;
-            word = has.word;
+            sound = step_sound old.image stimulus 1 until kept.runs.image_fits (omega arith) state is.sound p made.seat made.is (Moved event) comes.after core.step.step;
+            finished = comes.has.finished;
+            word = comes.has.word;
             stands = λ other q v at port. elim (at_set views id other new v at) [
               | inl t ↦
-                  let same : Some p ≡ Some q = sym (same_seat (after_kept.owned.seen p mine.inside has.claimed)) ∙ (ap (λ (v : PackView). v.port) t.1 ∙ port) in
+                  let same : Some p ≡ Some q = sym (same_seat (after_kept.owned.seen p mine.inside comes.has.claimed)) ∙ (ap (λ (v : PackView). v.port) t.1 ∙ port) in
                   let same_q : p ≡ q = cc in
-                  subst (λ q. core.after.place q ≡ v.place) same_q (core.stands ∙ ap (λ (v : PackView). v.place) t.1)
-              | inr t ↦ comes.2 q (other_port other q (plain_view v) (at_map plain_view views other v t.1) port t.0) ∙ is.stands other q v t.1 port
+                  subst (λ q. comes.after.place q ≡ v.place) same_q (comes.stands ∙ ap (λ (v : PackView). v.place) t.1)
+              | inr t ↦ comes.others q (other_port other q (plain_view v) (at_map plain_view views other v t.1) port t.0) ∙ is.stands other q v t.1 port
             ];
           },
         )
@@ -408,21 +443,25 @@ module _ (key : PackKey) (s : State (Unit {0}) PackView) (id p : ℕ) (old : Pac
   of_key : (P : Image → Lanes → Type 0) → P old.image old.lanes → P key.image.value key.lanes.value
   of_key P it = subst (P key.image.value) same.1 (subst (λ i. P i old.lanes) same.0 it)
 
-  module _ (l : ℕ) (low : l < LANES) (word number : ℕ) (held : List (ℕ × Unit {0})) (new : PackView) (act : Act (Unit {0})) (after : Kept key (stepped s word number id held new act)) (state : CoreState) (is : IsStateOf key s l state) where
-    kept_now : IsKept old.image old.lanes s.words s.views
-    kept_now = of_view (λ i m. IsKept i m s.words s.views) kept
+  kept_now : IsKept old.image old.lanes s.words s.views
+  kept_now = of_view (λ i m. IsKept i m s.words s.views) kept
 
-    kept_after : IsKept old.image old.lanes (set s.words word number) (set s.views id new)
-    kept_after = of_view (λ i m. IsKept i m (set s.words word number) (set s.views id new)) after
-
+  module _ (l : ℕ) (low : l < LANES) (state : CoreState) (is : IsStateOf key s l state) where
     state_now : IsStateIn old.image old.lanes s.words s.views l state
     state_now = of_view (λ i m. IsStateIn i m s.words s.views l state) is
 
-    pub event_there : (event : Event) → IsEvent (pass_in table p old) event (pass_in table p new) → (is_look event ≡ true → set s.words word number ≡ s.words)
-        → (core : IsCoreEvent l (pass_in table p old) event (pass_in table p new) state) × IsStateOf key (stepped s word number id held new act) l core.after
-    event_there event made still =
-        let both = event_in s.words s.views id p old table kept_now there port_is l low state state_now word number new kept_after event made still in
-        (both.0, of_key (λ i m. IsStateIn i m (set s.words word number) (set s.views id new) l both.0.after) both.1)
+    pub done_there : HasMadeAll (pass_in table p old) → IsCoreStep l (pass_in table p old) state Done state
+    done_there made = done_in s.words s.views id p old table kept_now there port_is l low state state_now made
 
-    pub wait_there : IsWait (pass_in table p old) (pass_in table p new) → set s.words word number ≡ s.words → IsCoreStep l (pass_in table p old) state NotYet state
-    wait_there wait still = wait_in s.words s.views id p old table kept_now there port_is l low state state_now word number new kept_after wait still
+    module _ (word number : ℕ) (held : List (ℕ × Unit {0})) (new : PackView) (act : Act (Unit {0})) (after : Kept key (stepped s word number id held new act)) where
+      kept_after : IsKept old.image old.lanes (set s.words word number) (set s.views id new)
+      kept_after = of_view (λ i m. IsKept i m (set s.words word number) (set s.views id new)) after
+
+      pub event_there : (event : Event) → IsEvent (pass_in table p old) event (pass_in table p new) → (is_look event ≡ true → set s.words word number ≡ s.words)
+          → (core : IsCoreEvent l (pass_in table p old) event (pass_in table p new) state) × IsStateOf key (stepped s word number id held new act) l core.after
+      event_there event made still =
+          let both = event_in s.words s.views id p old table kept_now there port_is l low state state_now word number new kept_after event made still in
+          (both.0, of_key (λ i m. IsStateIn i m (set s.words word number) (set s.views id new) l both.0.after) both.1)
+
+      pub wait_there : IsWait (pass_in table p old) (pass_in table p new) → set s.words word number ≡ s.words → IsCoreStep l (pass_in table p old) state NotYet state
+      wait_there wait still = wait_in s.words s.views id p old table kept_now there port_is l low state state_now word number new kept_after wait still

@@ -18,10 +18,11 @@ use Rattle.event_defs.specs.declared.place.CoreStep.TheVariants.{Moved}
 use Rattle.event_defs.specs.declared.place.Event.{Event}
 use Rattle.atomic_table.specs.Seated.{TableId}
 use Rattle.atomic_table.specs.Table.{State}
-use Rattle.slot_words.specs.Layout.{progress_in, sent_in, turns_told}
+use Rattle.slot_words.specs.Layout.{progress_in, progress_word, send_word, sent_in, turns_told}
 use Rattle.pack_words.specs.Passes.{PackPassView}
 use Rattle.pack_words.specs.Rule.{stimulus_of, turns_of}
 use Rattle.pack_words.specs.Words.{packed}
+use Rattle.pack_words.specs.declared.rule.Look.{Look}
 use Rattle.pack_words.specs.declared.rule.PackKey.{PackKey}
 use Rattle.pack_words.specs.declared.rule.PackView.{PackView}
 
@@ -30,6 +31,12 @@ use Rattle.pack_words.specs.declared.rule.PackView.{PackView}
 pub record IsLaneWord (l word plain : ℕ) : Type 0 where
   pub fresh : stamp_of plain ≡ 0 → (word ≡ 0) × (plain ≡ 0)
   pub put : 1 ≤ stamp_of plain → (planes : Planes) × (word ≡ packed (stamp_of plain) planes) × (plain ≡ 4 * stamp_of plain + code_of (lane_of planes l))
+
+-- in this state of a lane's core the word of the look says what the look found: a progress word has its number, and a
+-- word of a send says in the lane what the number says
+pub record ShowsIn (l : ℕ) (pass : PackPassView) (state : CoreState) (look : Look) : Type 0 where
+  pub progress : (r : ℕ) → r < length pass.image.ports → look.word ≡ progress_word r → state.finished r ≡ look.number
+  pub sent : (p i : ℕ) (link : LinkOut) → IsSend pass.image p i link → look.word ≡ send_word pass.image 1 p i 0 → IsLaneWord l look.number (state.word p i 0)
 
 -- the state of a core is the lane's: it is sound for the lane's stimulus, the turns that ports have finished are those
 -- that the words tell, its words of sends say in the lane what the packed words say, and in it each port stands where
@@ -62,8 +69,10 @@ pub record IsCoreStep (l : ℕ) (pass : PackPassView) (state : CoreState) (answe
   pub is : IsPort pass.image pass.port seat
   pub step : IsStep pass.image (stimulus_of pass.image pass.lanes l) 1 (turns_of pass.image pass.lanes) pass.port seat state answer after
 
--- the core of the lane makes the same event, and its port stands afterwards where the pass does
+-- the core of the lane makes the same event; its port stands afterwards where the pass does, and the word of the pass's
+-- last step, which the event read or wrote, says there what the pass found or left in it
 pub record IsCoreEvent (l : ℕ) (old : PackPassView) (event : Event) (new : PackPassView) (state : CoreState) : Type 0 where
   pub after : CoreState
   pub step : IsCoreStep l old state (Moved event) after
   pub stands : after.place old.port ≡ new.place
+  pub shows : ShowsIn l old after new.last
