@@ -137,19 +137,28 @@ module _ (file : ImageFile) (timing : Timing) (one other : NodeNet) (there : Are
   refused_too : (why : CheckNo) → Says file other timing (Err why) → Says file one timing (Err why)
   refused_too no.Form refused = refused
   refused_too no.Timing refused = (refused.0, λ has. refused.1 (there.timing_too has))
-  refused_too (no.Place p slot) (formed, has, first) = (formed, back.timing_too has, record {
-    port = first.port;
-    is = first.is;
-    i = first.i;
-    stands = first.stands;
-    differs = λ matches. first.differs (there.place_too p slot matches);
-    before = λ q at comes. back.place_too q at (first.before q at comes);
-  })
-  refused_too (no.Column j) (formed, has, places, first) = (formed, back.timing_too has, (λ p slot. back.place_too p slot (places p slot)), record {
-    within = subst (λ n. j < n) (sym there.as_many) first.within;
-    differs = λ matches. first.differs (there.column_too j matches);
-    before = λ k low. back.column_too k (first.before k low);
-  })
+  refused_too (no.Place p slot) (formed, has, first) = (
+    formed,
+    back.timing_too has,
+    record {
+      port = first.port;
+      is = first.is;
+      i = first.i;
+      stands = first.stands;
+      differs = λ matches. first.differs (there.place_too p slot matches);
+      before = λ q at comes. back.place_too q at (first.before q at comes);
+    },
+  )
+  refused_too (no.Column j) (formed, has, places, first) = (
+    formed,
+    back.timing_too has,
+    (λ p slot. back.place_too p slot (places p slot)),
+    record {
+      within = subst (λ n. j < n) (sym there.as_many) first.within;
+      differs = λ matches. first.differs (there.column_too j matches);
+      before = λ k low. back.column_too k (first.before k low);
+    },
+  )
   refused_too no.Memory refused = refused
 
   -- an image is not both accepted and refused, and it is refused for one cause
