@@ -1,30 +1,16 @@
 -- What the gates were told by the time when the output of a command is had.
-use Rattle.std.specs.Prelude.{◌≡◌, ◌*◌, ⊤, ℕ, Bool, true, false, List, length, Option, Some, None, Result, Ok, Err, IfOk, OnErr}
+use Rattle.std.specs.Prelude.{◌≡◌, ⊤, ℕ, Bool, true, false, List, Option, Some, None, Result, Ok, Err, IfOk, OnErr}
 use Rattle.crew_run.specs.declared.gate.Gate as gate
-use Rattle.edge_io.specs.declared.writing.WriteNo.{WriteNo}
 use Rattle.edge_io.specs.declared.writing.WriteNo.TheVariants.{Failed}
-use Rattle.machine_run.specs.Visits.{AreInPlace, AreVisitsOf}
-use Rattle.machine_text.specs.declared.machine.Machine.{Machine}
-use Rattle.machine_text.specs.Machines.{ports_of}
-use Rattle.net_defs.specs.declared.netlist.Netlist.{Netlist}
-use Rattle.net_defs.specs.declared.stimulus.Stimulus.{Stimulus}
-use Rattle.net_defs.specs.declared.timing.Timing.{Timing}
+use Rattle.machine_run.specs.Visits.{AreInPlace}
 use Rattle.cmd_words.specs.declared.command.RunWords.{RunWords}
-use Rattle.image_defs.specs.declared.image.Image.{Image}
 use Rattle.yse_commands.specs.declared.steps.Pace.{Pace}
 use Rattle.yse_commands.specs.declared.steps.Pace.TheVariants as pace
 use Rattle.yse_commands.specs.declared.output.Output.{Output}
 use Rattle.refusal_lines.specs.declared.refusal.Refusal.{Refusal}
-use Rattle.refusal_lines.specs.declared.status.Status.TheVariants as status
 use Rattle.yse_commands.specs.Outputs.{ending_in}
-use Rattle.named_files.specs.Outcome.{Outcome}
-use Rattle.named_files.specs.Readings.{Reading}
 use Rattle.yse_commands.specs.Refusals.{status_told}
-use Rattle.stim_text.specs.declared.lanes.Lanes.{Lanes}
-use Rattle.stim_text.specs.Lanes.{longest}
-use Rattle.yse_commands.specs.commands.Pack.{KeepsLanes}
-use Rattle.yse_commands.specs.commands.Run.{EndsWithin, WritesTrace}
-use Rattle.yse_commands.specs.Visited.{AreTold, AreRunVisits, AreVisitsOfFiles, AreVisitsOfImage, AreVisitsOfLanes}
+use Rattle.yse_commands.specs.Visited.{AreTold, AreVisitsOfFiles, AreVisitsOfImage, AreVisitsOfLanes}
 
 -- the order that the ports step in, where it is that of a file
 abbrev pub order_file : Pace → Option (List ℕ)

@@ -1,7 +1,6 @@
 -- An image is accepted or refused once, whichever numbers the tables of the netlist's items have.
-use Rattle.std.proofs.Common.{◌≡◌, ◌≢◌, ◌∙◌, sym, ap, refl, subst, ◌⊎◌, inl, inr, ℕ, ◌<◌, ◌≤◌, List, length, Some, None, Ok, Err, arith}
+use Rattle.std.proofs.Common.{◌≡◌, ◌≢◌, ◌∙◌, sym, ap, refl, subst, ◌⊎◌, inl, inr, ℕ, ◌<◌, List, length, Some, None, Ok, Err}
 use Rattle.std.specs.Prelude.{slice_get}
-use Rattle.std.proofs.lemmas.Bool.{cases_lt}
 use Rattle.net_defs.specs.declared.netlist.Netlist.{Netlist}
 use Rattle.net_defs.specs.declared.timing.Timing.{Timing}
 use Rattle.func_table.specs.declared.table.Table.{Table}
@@ -26,7 +25,7 @@ use Rattle.image_defs.specs.declared.image.Task.{Task}
 use Rattle.image_defs.specs.declared.image.Task.TheVariants.{Eval, Hold}
 use Rattle.image_defs.specs.declared.image.Work.{Work}
 use Rattle.image_defs.specs.declared.image.Work.TheVariants.{Logic, Array, Host}
-use Rattle.image_defs.specs.Matches.{BitImplements, ImplementsClaim, Implements, InputImplements, Matches, TaskImplements}
+use Rattle.image_defs.specs.Matches.{BitImplements, ImplementsClaim, Implements, InputImplements, TaskImplements}
 use Rattle.image_check.specs.declared.check.CheckNo.{CheckNo}
 use Rattle.image_check.specs.declared.check.CheckNo.TheVariants as no
 use Rattle.image_defs.specs.declared.file.ImageFile.{ImageFile}
@@ -36,7 +35,7 @@ use Rattle.image_file.specs.Ranges.{IsInRanges, Reads}
 use Rattle.image_file.specs.Reading.{first_fault}
 use Rattle.image_file.specs.declared.refusal.ImageNo.{ImageNo}
 use Rattle.text_lines.specs.Answers.{IsReader}
-use Rattle.image_defs.specs.Claimed.{lists_of, HasTiming, PlaceMatches, ColumnMatches, IsFirstPlace, IsFirstColumn}
+use Rattle.image_defs.specs.Claimed.{lists_of, HasTiming, PlaceMatches, ColumnMatches}
 use Rattle.refusal_lines.specs.declared.status.Status.TheVariants as status
 use Rattle.refusal_lines.specs.Lines.{match_line}
 use Rattle.named_files.specs.Checks.{After}

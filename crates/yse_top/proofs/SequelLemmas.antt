@@ -1,6 +1,6 @@
 -- A compiled image that was written is run as the design itself: what the calls that ended well read is read again.
-use Rattle.std.proofs.Common.{◌≡◌, ◌≢◌, ◌∙◌, sym, ap, refl, subst, ◌⊎◌, inl, inr, ℕ, zero, suc, ◌≤◌, List, [], ◌∷◌, length, Option, Some, None, Result, Ok, Err, Bool, false}
-use Rattle.std.specs.Prelude.{slice_get, IfSome}
+use Rattle.std.proofs.Common.{◌≡◌, ◌≢◌, ◌∙◌, sym, ap, refl, subst, ◌⊎◌, inl, inr, ℕ, zero, suc, ◌≤◌, List, [], ◌∷◌, length, Option, Some, None, Result, Ok, Err, false}
+use Rattle.std.specs.Prelude.{IfSome}
 use Rattle.limits.specs.declared.TheConstants.{MAX_TEXT_BYTES}
 use Rattle.bench_read.specs.Faults as bench_faults
 use Rattle.bench_read.specs.GateLists as gate_lists

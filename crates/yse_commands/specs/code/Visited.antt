@@ -1,9 +1,8 @@
 -- Beside specs/Visited.antt, what only private functions and proofs cite.
-use Rattle.std.specs.Prelude.{◌≡◌, ◌*◌, ⊤, ℕ, Bool, true, false, List, length, Option, Some, None, Result, Ok, Err, IfOk, OnErr}
+use Rattle.std.specs.Prelude.{◌≡◌, ◌*◌, List, length, Option, Result}
 use Rattle.crew_run.specs.declared.gate.Gate as gate
 use Rattle.edge_io.specs.declared.writing.WriteNo.{WriteNo}
-use Rattle.edge_io.specs.declared.writing.WriteNo.TheVariants.{Failed}
-use Rattle.machine_run.specs.Visits.{AreInPlace, AreVisitsOf}
+use Rattle.machine_run.specs.Visits.{AreVisitsOf}
 use Rattle.machine_text.specs.declared.machine.Machine.{Machine}
 use Rattle.machine_text.specs.Machines.{ports_of}
 use Rattle.net_defs.specs.declared.netlist.Netlist.{Netlist}
@@ -12,20 +11,15 @@ use Rattle.net_defs.specs.declared.timing.Timing.{Timing}
 use Rattle.cmd_words.specs.declared.command.RunWords.{RunWords}
 use Rattle.image_defs.specs.declared.image.Image.{Image}
 use Rattle.yse_commands.specs.declared.steps.Pace.{Pace}
-use Rattle.yse_commands.specs.declared.steps.Pace.TheVariants as pace
-use Rattle.yse_commands.specs.declared.output.Output.{Output}
-use Rattle.refusal_lines.specs.declared.refusal.Refusal.{Refusal}
 use Rattle.refusal_lines.specs.declared.status.Status.TheVariants as status
-use Rattle.yse_commands.specs.Outputs.{ending_in}
 use Rattle.named_files.specs.Outcome.{Outcome}
 use Rattle.named_files.specs.Readings.{Reading}
-use Rattle.yse_commands.specs.Refusals.{status_told}
 use Rattle.stim_text.specs.declared.lanes.Lanes.{Lanes}
 use Rattle.stim_text.specs.Lanes.{longest}
 use Rattle.yse_commands.specs.commands.Pack.{KeepsLanes}
 use Rattle.yse_commands.specs.commands.Run.{EndsWithin, WritesTrace}
 use Rattle.yse_commands.specs.Telling.{HasWorkers, has_limit, order_file}
-use Rattle.yse_commands.specs.Visited.{AreTold, AreRunVisits, AreVisitsOfFiles, AreVisitsOfImage, AreVisitsOfLanes}
+use Rattle.yse_commands.specs.Visited.{AreRunVisits}
 
 module _ {G : Type 0} (p : gate.Ghosts G) (gates gates' : List (Option G)) where
   -- the end of a run; where workers stepped the ports, they told the gates

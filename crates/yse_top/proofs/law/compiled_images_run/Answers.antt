@@ -5,7 +5,7 @@ use Rattle.cmd_words.specs.Asked.{asked}
 use Rattle.cmd_words.specs.declared.command.Command.{Command}
 use Rattle.cmd_words.specs.declared.command.Command.TheVariants as command
 use Rattle.cmd_words.specs.Forms.{HasForm}
-use Rattle.named_files.specs.Outcome.{Outcome, done}
+use Rattle.named_files.specs.Outcome.{Outcome}
 use Rattle.named_files.specs.Readings.{Reading}
 use Rattle.refusal_lines.specs.declared.status.Status.TheVariants as status
 use Rattle.yse_commands.specs.Expected.{Expected, ExpectedOf}
