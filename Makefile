@@ -1,17 +1,14 @@
 # Thin targets over the kit's command rt.
-BUILT = crates/yse/out/yse
 YSE = ./yse
 PREFIX = /usr/local
 DIST = yse-dist
 
 .PHONY: build run try test examples install dist
 
-# Proves every crate that the program stands on, as many at once as there are processors, and leaves a copy of the
-# executable at ./yse. The gate sets aside what lies under crates/*/out while it runs; the copy stays.
+# Proves every crate that the program stands on, as many at once as there are processors, and leaves the executable at
+# ./yse.
 build:
-	tools/prove
-	cd crates/yse && rt run -- run data/c17.bench data/c17.stim
-	cp $(BUILT) $(YSE).new && mv $(YSE).new $(YSE)
+	tools/prove $(YSE)
 	@echo "the executable is $(YSE)"
 
 # Simulates c17 and prints its trace.
