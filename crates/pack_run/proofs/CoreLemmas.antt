@@ -26,7 +26,7 @@ use Rattle.event_defs.specs.declared.place.Place.{Place}
 use Rattle.atomic_table.proofs.Lists.{at_map, at_set}
 use Rattle.atomic_table.specs.Seated.{TableId}
 use Rattle.atomic_table.specs.Table.{Act, State, stepped}
-use Rattle.slot_words.proofs.LinkLemmas.{member_at}
+use Rattle.list_laws.proofs.Members.{member_at}
 use Rattle.slot_words.proofs.LookLemmas.{counted_look, told_progress, told_sent}
 use Rattle.slot_words.proofs.SoundLemmas.{told_none}
 use Rattle.slot_words.proofs.StepLemmas.{near_sender, sent_read}
