@@ -3,8 +3,9 @@
 use Rattle.std.proofs.Common.{List, Some, ap, append-nil, arith, get_or-set_other, get_or-set_same, inl, inr, length, length-set, map, mod-lt, mul-le-mul, refl, slice_get, slice_index_or, slice_set, subst, sym, take, take_all, ℕ, ◌*◌, ◌++◌, ◌+◌, ◌<◌, ◌^◌, ◌∙◌, ◌≡◌, ◌≤◌}
 use Rattle.std.proofs.lemmas.Bool.{cases_eq}
 use Rattle.std.proofs.lemmas.List.{drop_all, length-map, map-set}
-use Rattle.std.proofs.lemmas.Option.{get_or_from_slice_get, slice_get-get_or, slice_get_cases, slice_get_within}
+use Rattle.std.proofs.lemmas.Option.{get_or_from_slice_get, slice_get-get_or, slice_get_within}
 use Rattle.std.specs.List.{refill}
+use Rattle.list_laws.proofs.Members.{member_at}
 use Rattle.net_defs.specs.Time.{cycle_count, turn_count}
 use Rattle.net_defs.specs.Valid.{IsValidStimulus}
 use Rattle.net_defs.specs.declared.stimulus.Stimulus.{Stimulus}
@@ -17,7 +18,6 @@ use Rattle.image_defs.specs.declared.image.LinkIn.{LinkIn}
 use Rattle.image_defs.specs.declared.image.LinkOut.{LinkOut}
 use Rattle.image_defs.specs.declared.image.PortImage.{PortImage}
 use Rattle.event_defs.proofs.KeptLemmas.{step_sound}
-use Rattle.event_defs.proofs.PaceLemmas.{inside}
 use Rattle.event_defs.proofs.RowLemmas.{number_within, place_within, send_within, set_updated}
 use Rattle.event_defs.proofs.SlotLemmas.{to_map}
 use Rattle.event_defs.specs.Next.{EndsNext, IsNext, ReceivesNext, SendsNext}
@@ -37,12 +37,6 @@ use Rattle.event_core.specs.Seats.{place_in}
 use Rattle.event_core.specs.code.Seats.{HasPutRoom, HasTakeRoom, IsNextIn}
 use Rattle.event_core.specs.declared.core_run.Core.TheInside.{Inside}
 use Rattle.event_core.specs.declared.seats.Seat.{Seat}
-
-pub member_at : {X : Type 0} (xs : List X) (i : ℕ) → i < length xs → (x : X) × (slice_get xs i ≡ Some x)
-member_at xs i inside = elim (slice_get_cases xs i).1 [
-  | inl there ↦ (there.0, there.2)
-  | inr past ↦ let far = past.0 in absurd (omega arith)
-]
 
 -- a list whose loan ends with one member in another's place
 pub reseated : {X : Type 0} (xs now new : List X) (p : ℕ) (x : X) → now ≡ xs → new ≡ slice_set now p x → refill (length xs) xs new ≡ slice_set xs p x
@@ -111,9 +105,6 @@ module _ (a : Inside) (kept : IsKept a) (p : ℕ) (within : p < length a.image.n
 
   pub here_turn : (state.place p).turn ≡ seat.port.turn
   here_turn = ap (λ (x : Place). x.turn) here
-
-  abbrev as_port : PlacedPort
-  as_port = record seat.port { image = image; stimulus = stimulus; port = p; first_row = 0; until = until }
 
   -- ---- what is next
 

@@ -3,4 +3,3 @@ mod EventLemmas
 mod RoundLemmas
 mod SeatLemmas
 mod StartLemmas
-mod SweepLemmas

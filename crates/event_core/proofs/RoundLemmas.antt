@@ -3,6 +3,7 @@ use Rattle.std.proofs.Common.{List, Some, [], ap, ap₂, arith, length, map-id, 
 use Rattle.std.proofs.lemmas.List.FromFn.{map-range_with_len_more}
 use Rattle.std.proofs.lemmas.Option.{get_or_from_slice_get, slice_get-get_or, slice_get_within}
 use Rattle.std.specs.List.{range_with_len}
+use Rattle.list_laws.proofs.Members.{member_at}
 use Rattle.image_defs.specs.Places.{Each, IsPort, host_of}
 use Rattle.image_defs.specs.declared.image.Image.{Image}
 use Rattle.image_defs.specs.declared.image.PortImage.{PortImage}
@@ -16,7 +17,7 @@ use Rattle.event_defs.specs.declared.place.Event.TheVariants as event
 use Rattle.event_defs.specs.declared.place.CoreStep.{CoreStep}
 use Rattle.event_defs.specs.declared.place.CoreStep.TheVariants.{Moved}
 use Rattle.port_walk.specs.Placed.{PlacedPort}
-use Rattle.event_core.proofs.CoreLemmas.{here_turn, is_seat, member_at, same_seat, seat_in, seat_there}
+use Rattle.event_core.proofs.CoreLemmas.{here_turn, is_seat, same_seat, seat_in, seat_there}
 use Rattle.event_core.specs.Core.{Applies, AreDone, CoreView, IsRoundOf, IsSoundCore, SparesReaders, TakesThisTurn, left_of, rows_of, state_of, turns_of}
 use Rattle.event_core.specs.code.Core.{HasStepped, IsReady}
 use Rattle.event_core.specs.Kept.{IsKept, IsSeat, view_of}

@@ -1,5 +1,5 @@
 -- A core as contracts see it, and what its steps do.
-use Rattle.std.specs.Prelude.{Bool, List, false, length, slice_index_or, true, ℕ, ◌*◌, ◌+◌, ◌↔◌, ◌≡◌, ◌≤◌, ◌⊎◌}
+use Rattle.std.specs.Prelude.{List, length, slice_index_or, ℕ, ◌*◌, ◌+◌, ◌≡◌, ◌≤◌}
 use Rattle.logic_four.specs.Values.{code_of}
 use Rattle.net_defs.specs.Time.{turn_count}
 use Rattle.net_defs.specs.declared.stimulus.Stimulus.{Stimulus}
@@ -13,7 +13,7 @@ use Rattle.event_defs.specs.Next.{PutsNext}
 use Rattle.event_defs.specs.Places.{start}
 use Rattle.event_defs.specs.Row.{word_in}
 use Rattle.event_defs.specs.Sound.{IsSound}
-use Rattle.event_defs.specs.Steps.{AllDone, AreSteps, CoreState, IsRound, IsStep, Reads, Waits, first_state, rows_done}
+use Rattle.event_defs.specs.Steps.{AllDone, CoreState, IsRound, IsStep, Reads, first_state, rows_done}
 use Rattle.event_defs.specs.declared.place.CoreStep.{CoreStep}
 use Rattle.event_defs.specs.declared.place.CoreStep.TheVariants.{Moved}
 use Rattle.event_defs.specs.declared.place.Event.TheVariants.{Put, Take}
@@ -86,18 +86,6 @@ pub record IsRoundOf (old : CoreView) (moved : ℕ) (new : CoreView) : Type 0 wh
   pub round : IsRound old.image old.stimulus old.banks (turns_of old) (state_of old) answers (state_of new)
   pub moved_are : moved_in answers ≡ moved
   pub still : moved ≡ 0 → new ≡ old
-
--- steps of these ports, one after another, of which some moved or none; where none did nothing changed
-pub record HasRun (old : CoreView) (order : List ℕ) (moved : Bool) (new : CoreView) : Type 0 where
-  pub same : IsSameCore old new
-  pub answers : List CoreStep
-  pub steps : AreSteps old.image old.stimulus old.banks (turns_of old) order (state_of old) answers (state_of new)
-  pub some : (moved ≡ true) ↔ (1 ≤ moved_in answers)
-  pub still : moved ≡ false → new ≡ old
-
--- port p does not move: it has finished its last turn, or must wait at its next event
-pub record IsIdle (view : CoreView) (p : ℕ) : Type 0 where
-  pub each : (port : PortImage) → IsPort view.image p port → (((state_of view).place p).turn ≡ turns_of view + 1) ⊎ Waits view.image view.banks p port (state_of view)
 
 -- all ports have finished their last turn
 abbrev pub AreDone : CoreView → Type 0

@@ -12,7 +12,7 @@ ghost use Rattle.event_defs.specs.declared.place.Action.TheVariants as action;
 ghost use Rattle.event_defs.specs.declared.place.Event.TheVariants as event;
 ghost use Rattle.port_host.specs.Rows.{printed_sources};
 ghost use Rattle.event_defs.specs.Sources.{AreFirsts};
-ghost use Rattle.event_core.specs.Core.{Applies, AreDone, HasRun, IsIdle, IsRoundOf, IsSoundCore, IsStart, SparesReaders, TakesThisTurn, left_of, rows_of};
+ghost use Rattle.event_core.specs.Core.{Applies, AreDone, IsRoundOf, IsSoundCore, IsStart, SparesReaders, TakesThisTurn, left_of, rows_of};
 ghost use Rattle.event_core.specs.code.Core.{IsReady, IsUpcoming};
 
 use crate::rows;
@@ -160,40 +160,6 @@ impl<'a> Core<'a> {
         let mut moved = 0;
         'ports: for port in 0..self.image.ports.len() as u32 {
             moved += moves(self.apply(port));
-        }
-        moved
-    }
-
-    /// The events of a port of the image until it does not move. Answers whether it moved at all.
-    pub fn run_port(&mut self, port: u32) -> bool
-        requires { port < length self.old.image.ports }
-        ensures run { (times : ℕ) × HasRun self.old (replicate times port) result self.new }
-        ensures idle { (result ≡ false) ↔ IsIdle self.old port }
-        ensures end { IsIdle self.new port }
-        ensures left { (if result then 1 else 0) + left_of self.new ≤ left_of self.old }
-        ensures sound { IsSoundCore self.new }
-    {
-        let _ = &self.image;
-        let mut moved = false;
-        'steps: loop {
-            match self.apply(port) {
-                CoreStep::Moved(_) => moved = true,
-                CoreStep::NotYet | CoreStep::Done => return moved,
-            }
-        }
-    }
-
-    /// The events of each port until it does not move, in ascending order of the ports. Answers
-    /// whether any port moved.
-    pub fn sweep(&mut self) -> bool
-        ensures run { (order : List ℕ) × HasRun self.old order result self.new }
-        ensures done { (result ≡ false) ↔ AreDone self.old }
-        ensures left { (if result then 1 else 0) + left_of self.new ≤ left_of self.old }
-        ensures sound { IsSoundCore self.new }
-    {
-        let mut moved = false;
-        'runs: for port in 0..self.image.ports.len() as u32 {
-            moved |= self.run_port(port);
         }
         moved
     }

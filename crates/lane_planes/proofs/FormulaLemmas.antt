@@ -1,12 +1,10 @@
 -- The formula for two operands answers as the gates do.
-use Rattle.std.proofs.Common.{◌^◌, ◌≡◌, ℕ, ◌+◌, ◌-◌, ◌%◌, ◌<◌, bit_and, bit_or, Bool, true, false, ◌&&◌, if◌then◌else◌, [], ◌∷◌, refl, sym, subst}
+use Rattle.std.proofs.Common.{◌^◌, ◌≡◌, ℕ, ◌+◌, ◌-◌, ◌%◌, ◌<◌, bit_and, bit_or, Bool, true, false, if◌then◌else◌, [], ◌∷◌, refl, sym, subst}
 use Rattle.std.specs.Prelude.{min, max}
 use Rattle.std.specs.Int.{bit_at}
 use Rattle.std.specs.Int.RustNames.{bit_xor}
-use Rattle.std.proofs.lemmas.Bool.{and_parts}
 use Rattle.limits.specs.declared.TheConstants.{LANES}
 use Rattle.logic_four.specs.declared.V4.{V4}
-use Rattle.logic_four.specs.declared.V4.TheVariants.{Zero, One, Undef, HighZ}
 use Rattle.logic_four.specs.declared.Kind.{Kind}
 use Rattle.logic_four.specs.declared.Kind.TheVariants.{And, Nand, Or, Nor, Xor, Xnor, Not, Buf, Tri, Bus}
 use Rattle.logic_four.specs.Values.{settled, inverse}

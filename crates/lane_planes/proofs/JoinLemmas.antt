@@ -1,5 +1,5 @@
 -- Operands joined one after the other make what the gate makes of all.
-use Rattle.std.proofs.Common.{◌≡◌, ◌∙◌, ◌≤◌, ℕ, zero, suc, ◌+◌, ◌-◌, List, [], ◌∷◌, ◌++◌, length, map, take, drop, get_or, eqb-true, refl, sym, ap, arith}
+use Rattle.std.proofs.Common.{◌≡◌, ◌∙◌, ◌≤◌, ℕ, zero, suc, ◌+◌, ◌-◌, List, [], ◌∷◌, length, map, take, drop, get_or, eqb-true, refl, sym, ap, arith}
 use Rattle.std.specs.Prelude.{◌<◌, IsTrue, All}
 use Rattle.std.specs.List.{fold}
 use Rattle.std.proofs.lemmas.List.{length-map, get_or-map, map-append, take_more}
@@ -89,18 +89,6 @@ four_joined kind (suc (suc zero)) a b c d few allowed = one_by_one kind a (b ∷
 four_joined kind (suc (suc (suc zero))) a b c d few allowed = one_by_one kind a (b ∷ c ∷ []) allowed
 four_joined kind (suc (suc (suc (suc zero)))) a b c d few allowed = one_by_one kind a (b ∷ c ∷ d ∷ []) allowed
 four_joined kind (suc (suc (suc (suc (suc n))))) a b c d few allowed = absurd (omega (arith, few))
-
--- all operands of a list, in one lane
-pub all_joined : (kind : Kind) (k : ℕ) (operands : List Planes) (first : Planes) → first ≡ get_or operands 0 first
-    → AllowsOperands kind (length operands)
-    → answer_of kind (fold (join_of kind) (first_of kind (lane_of first k)) (lane_row k (take (length operands - 1) (drop 1 operands))))
-    ≡ gate_value kind (lane_row k operands)
-all_joined kind k [] first is allowed = absurd (omega (arith, some_operands kind 0 allowed))
-all_joined kind k (p ∷ rest) first is allowed =
-    let less : suc (length rest) - 1 ≡ length rest = omega arith in
-    let whole : take (suc (length rest) - 1) rest ≡ rest = rw less (take-length rest) in
-    let long : length (lane_row k rest) + 1 ≡ suc (length rest) = omega (arith, length-map rest (λ p. lane_of p k)) in
-    rw (is, whole) (sym (one_by_one kind (lane_of p k) (lane_row k rest) (rw long allowed)))
 
 -- the operands at some places of a row, in one lane
 pub all_over : (kind : Kind) (k : ℕ) (row : List Planes) (operands : List ℕ) (first : Planes) → first ≡ get_or row (get_or operands 0 0) first

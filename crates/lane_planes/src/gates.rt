@@ -80,26 +80,6 @@ pub fn gate_planes(kind: Kind, operands: u32, a: Planes, b: Planes, c: Planes, d
     answered(kind, base)
 }
 
-/// The operands of a gate of this kind joined, of some so far and others.
-fn joined_all(kind: Kind, so_far: Planes, others: &[Planes]) -> Planes
-    ensures { (k : ℕ) → k < LANES → lane_of result k ≡ fold (join_of kind) (lane_of so_far k) (lane_row k others.now) }
-{
-    let mut base = so_far;
-    'others: for p in others {
-        base = joined(kind, base, *p);
-    }
-    base
-}
-
-/// What a gate of this kind answers in each lane for all these operands.
-pub fn gate_all(kind: Kind, operands: &[Planes]) -> Planes
-    requires { AllowsOperands kind (length operands.now) }
-    ensures { (k : ℕ) → k < LANES → lane_of result k ≡ gate_value kind (lane_row k operands.now) }
-{
-    let base = joined_all(kind, first_operand(kind, operands[0]), &operands[1..]);
-    answered(kind, base)
-}
-
 /// The operands of a gate of this kind joined, of some so far and others by their places in a row.
 #[inline]
 fn joined_over(kind: Kind, so_far: Planes, row: &[Planes], others: &[u32]) -> Planes

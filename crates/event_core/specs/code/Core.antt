@@ -1,5 +1,5 @@
 -- Beside specs/Core.antt, what only private functions and proofs cite.
-use Rattle.std.specs.Prelude.{Bool, List, false, ℕ, ◌<◌, ◌≡◌, ◌≤◌}
+use Rattle.std.specs.Prelude.{List, ℕ, ◌≡◌, ◌≤◌}
 use Rattle.std.specs.List.{range_with_len}
 use Rattle.image_defs.specs.Frames.{image_value}
 use Rattle.image_defs.specs.Places.{IsPort}
@@ -10,7 +10,7 @@ use Rattle.event_defs.specs.Next.{IsNext}
 use Rattle.event_defs.specs.Steps.{AreSteps}
 use Rattle.event_defs.specs.declared.place.Action.{Action}
 use Rattle.event_defs.specs.declared.place.CoreStep.{CoreStep}
-use Rattle.event_core.specs.Core.{CoreView, turns_of, state_of, IsSoundCore, IsSameCore, HasRun, IsIdle}
+use Rattle.event_core.specs.Core.{CoreView, turns_of, state_of, IsSoundCore, IsSameCore}
 
 -- this is the next event of port p
 pub record IsUpcoming (view : CoreView) (p : ℕ) (action : Action) : Type 0 where
@@ -31,9 +31,3 @@ pub record HasStepped (old : CoreView) (n moved : ℕ) (new : CoreView) : Type 0
   pub moved_are : moved_in answers ≡ moved
   pub few : moved ≤ n
   pub still : moved ≡ 0 → new ≡ old
-
--- each of the first n ports has run, and where none moved each of them is idle
-pub record HasSwept (old : CoreView) (n : ℕ) (moved : Bool) (new : CoreView) : Type 0 where
-  pub order : List ℕ
-  pub run : HasRun old order moved new
-  pub idle : moved ≡ false → (p : ℕ) → p < n → IsIdle old p

@@ -1,4 +1,3 @@
-use borrow.Author.Rules.{scaled_Fits}
 use Rattle.logic_four.proofs.KindLemmas.{some_operands}
 use Rattle.lane_planes.proofs.JoinLemmas.{all_over, rest_within}
 use Rattle.lane_planes.proofs.gates.gate_over.Goals as goal
