@@ -1,0 +1,2 @@
+-- The texts of `help`.
+pub mod Texts
