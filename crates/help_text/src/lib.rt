@@ -1,21 +1,13 @@
-//! The texts of `help`.
+//! What `help` prints: of all commands in brief, or of one command. The options of each are those of the list that the
+//! reader of words goes by.
 #![tactic(auto)]
 
-ghost use Rattle.std.specs.Prelude.{◌≡◌};
-ghost use Rattle.help_text.specs.Texts.{does_of};
+mod brief;
+mod detail;
+mod forms;
+pub mod law;
+mod options;
+mod text;
 
-use cmd_words::Topic;
-
-/// Probe.
-pub const RUN_DOES: &str = "the trace, by the compiled machine";
-pub const OTHER_DOES: &str = "another";
-
-/// What a command does.
-pub fn does(topic: &Topic) -> &'static str
-    ensures { result.now ≡ does_of topic.now }
-{
-    match topic {
-        Topic::Run => RUN_DOES,
-        _ => OTHER_DOES,
-    }
-}
+pub use forms::form;
+pub use text::help_text;
