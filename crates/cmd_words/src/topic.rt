@@ -1,8 +1,7 @@
 //! The commands as what help can be asked of.
 
-ghost use Rattle.std.specs.Prelude.{◌≡◌};
+ghost use Rattle.std.specs.Prelude.{◌≡◌, map};
 ghost use Rattle.cmd_words.specs.Topics.{options_of, topic_of, topics, word_of};
-ghost use Rattle.cmd_words.specs.code.Parses.{texts_in};
 
 use crate::options::{COMPILE, EXEC, FAULT, HELP, LARGE, ORDER, PACK, PLAN, REFER, RUN, SHOW};
 
@@ -66,7 +65,7 @@ impl Topic {
 
     /// The names of the command's options: the list that `read_words` goes by.
     pub fn options(&self) -> &'static [&'static str]
-        ensures { texts_in result.now ≡ options_of self.now }
+        ensures { map (λ text. text.now) result.now ≡ options_of self.now }
     {
         match self {
             Topic::Run => RUN.as_slice(),

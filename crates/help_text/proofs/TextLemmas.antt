@@ -1,5 +1,5 @@
 -- Where the form of a command stands, and which options stand in it.
-use Rattle.std.proofs.Common.{◌≡◌, true, ◌∙◌, ℕ, ◌<◌, ◌+◌, List, [], ◌∷◌, ◌++◌, take, drop, get_or, length, refl, sym, ap, append_assoc, codes, arith}
+use Rattle.std.proofs.Common.{◌≡◌, true, ◌∙◌, ℕ, ◌<◌, ◌+◌, List, ◌++◌, take, drop, get_or, length, refl, ap, append_assoc, codes, arith}
 use Rattle.std.specs.List.{flat_map}
 use Rattle.list_laws.proofs.Maps.{flat_map_at}
 use Rattle.cmd_words.specs.Topics.{options_of, topics}

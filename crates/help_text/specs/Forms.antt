@@ -1,5 +1,5 @@
 -- The form of a command: its word, what it takes, and each option of its list.
-use Rattle.std.specs.Prelude.{◌+◌, ◌-◌, ℕ, List, [], ◌∷◌, ◌++◌, map, take, drop, length, nat_lt, if◌then◌else◌, codes, bytes_eq}
+use Rattle.std.specs.Prelude.{◌-◌, ℕ, List, [], ◌∷◌, ◌++◌, map, take, drop, length, nat_lt, if◌then◌else◌, codes, bytes_eq}
 use Rattle.cmd_words.specs.Arguments.{Word}
 use Rattle.cmd_words.specs.Topics.{options_of, word_of}
 use Rattle.cmd_words.specs.declared.topic.Topic.{Topic}
@@ -11,7 +11,9 @@ head_of topic = codes "yse " ++ (word_of topic ++ operands topic)
 
 -- an option: `[--NAME VALUE]`
 unfoldable pub bracketed : Word → List ℕ
-bracketed name = codes "[--" ++ (name ++ (codes " " ++ (value_word name ++ codes "]")))
+bracketed name =
+    codes "[--"
+    ++ (name ++ (codes " " ++ (value_word name ++ codes "]")))
 
 -- a part behind a blank where so many columns are left of the line, and else on a further line, behind four blanks
 abbrev pub placed : ℕ → List ℕ → List ℕ
@@ -40,4 +42,5 @@ before_blank (byte ∷ bytes) = if nat_lt 32 byte then byte ∷ before_blank byt
 -- the names of options in a text: each begins behind `[--`, and ends at a blank
 unfoldable pub names_in : List ℕ → List Word
 names_in [] = []
-names_in (byte ∷ bytes) = if bytes_eq (take 3 (byte ∷ bytes)) (codes "[--") then before_blank (drop 2 bytes) ∷ names_in bytes else names_in bytes
+names_in (byte ∷ bytes) = if bytes_eq (take 3 (byte ∷ bytes)) (codes "[--")
+    then before_blank (drop 2 bytes) ∷ names_in bytes else names_in bytes

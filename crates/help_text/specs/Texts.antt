@@ -11,7 +11,8 @@ use Rattle.help_text.specs.declared.text.TheConstants.{HEAD, STATUSES}
 -- what is said of an option
 unfoldable pub option_line : Word → List ℕ
 option_line name =
-    codes "  --" ++ (name ++ (codes " " ++ (value_word name ++ (codes ": " ++ (says name ++ codes "\n")))))
+    codes "  --"
+    ++ (name ++ (codes " " ++ (value_word name ++ (codes ": " ++ (says name ++ codes "\n")))))
 
 -- the text of one command: its form, its options, what it prints, and an example
 unfoldable pub about : Topic → List ℕ
