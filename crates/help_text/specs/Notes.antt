@@ -17,7 +17,7 @@ operands topic.Show = codes " NETLIST"
 operands topic.Large = codes " GATES CYCLES"
 operands topic.Compile = codes " NETLIST"
 operands topic.Exec = codes " NETLIST IMAGE STIMULUS"
-operands topic.Pack = codes " NETLIST LANES"
+operands topic.Pack = codes " NETLIST STIMULI"
 operands topic.Fault = codes " NETLIST STIMULUS"
 operands topic.Help = codes " [COMMAND]"
 

@@ -56,8 +56,8 @@ Example: yse exec c17.bench hand.image c17.stim
 ";
 
 pub const PACK: &str =
-    "Prints for each lane a line with its number, and its trace. A line `lane` begins
-each stimulus in the file.
+    "Prints for each lane a line with its number, and its trace. In the file a line
+`lane` begins each stimulus.
 
 Example: ./join-lanes c17.stim c17.stim | yse pack c17.bench /dev/stdin
 ";

@@ -47,7 +47,7 @@ fn operands(topic: &Topic) -> &'static str
         Topic::Plan | Topic::Show | Topic::Compile => " NETLIST",
         Topic::Large => " GATES CYCLES",
         Topic::Exec => " NETLIST IMAGE STIMULUS",
-        Topic::Pack => " NETLIST LANES",
+        Topic::Pack => " NETLIST STIMULI",
         Topic::Help => " [COMMAND]",
     }
 }
