@@ -8,8 +8,8 @@ use Rattle.net_defs.specs.declared.timing.Timing.{Timing}
 use Rattle.cmd_words.specs.declared.command.RunWords.{RunWords}
 use Rattle.cmd_words.specs.declared.command.WordNo.{WordNo}
 use Rattle.cmd_words.specs.Arguments.{Word, value_given}
-use Rattle.cmd_words.specs.Asked.{IsRefusal, Values, image_by, of_image, of_large, of_netlist, of_two_files, large_by, run_by, run_with, says}
-use Rattle.cmd_words.specs.code.Parses.{arguments_found, both_of, one_of, three_of, value_found, settings_by, IsParsedAs}
+use Rattle.cmd_words.specs.Asked.{IsRefusal, Values, image_by, of_image, of_large, of_netlist, of_topic, of_two_files, large_by, run_by, run_with, says}
+use Rattle.cmd_words.specs.code.Parses.{arguments_found, both_of, of_word, one_of, perhaps_one_of, three_of, value_found, settings_by, IsParsedAs}
 use Rattle.cmd_words.specs.Settings.{timing_by, banks_by, workers_by, homes_by}
 use Rattle.cmd_words.specs.Uses.{Found}
 
@@ -63,6 +63,17 @@ pub says_netlist : (names words : List Word) (matches : ArgMatches) (netlist : W
     → Some netlist ≡ one_of (arguments_found matches) → says names of_netlist words ≡ run_by netlist [] (value_found matches)
 says_netlist names words matches netlist is one =
     says_found names words of_netlist matches is ∙ one_is (arguments_found matches) (value_found matches) netlist (sym one)
+
+-- no word, or one, is what help is asked of
+topic_is : (arguments : List Word) (value : Values) (word : Option Word) → perhaps_one_of arguments ≡ Some word → of_topic arguments value ≡ of_word word
+topic_is [] value word e = ap of_word (one_some None word e)
+topic_is (one ∷ []) value word e = ap of_word (one_some (Some one) word e)
+topic_is (one ∷ other ∷ others) value word e = cc
+
+pub says_topic : (names words : List Word) (matches : ArgMatches) (word : Option Word) → IsParsedAs names words matches
+    → Some word ≡ perhaps_one_of (arguments_found matches) → says names of_topic words ≡ of_word word
+says_topic names words matches word is perhaps =
+    says_found names words of_topic matches is ∙ topic_is (arguments_found matches) (value_found matches) word (sym perhaps)
 
 -- what is refused asks for no command
 pub made_refused : {T U : Type 0} (make : T → U) (answer : Option T) (refusal : WordNo) → IsRefusal answer refusal → IsRefusal (option_map make answer) refusal

@@ -1,19 +1,22 @@
 -- The command that words ask for is the one whose form they have.
 use Rattle.std.proofs.Common.{◌≡◌, inl, inr, ℕ, Bool, true, false, List, [], ◌∷◌, Option, Some, None, option_map, refl, sym, ap, ap₂, ◌∙◌, codes}
-use Rattle.std.specs.Prelude.{bytes_eq, flat_map, if◌then◌else◌, option_and_then, Result, Ok, Err, MatchResult}
+use Rattle.std.specs.Prelude.{bytes_eq, cond, find, flat_map, if◌then◌else◌, option_and_then, Result, Ok, Err, MatchResult}
 use Rattle.std.specs.List.{AllByRecursion, list_all}
 use Rattle.std.proofs.lemmas.Slice.Eq.{bytes_eq-Decides}
 use Rattle.list_laws.proofs.Options.{one_some}
 use Rattle.net_defs.specs.declared.homes.HomeChoice.{HomeChoice}
 use Rattle.net_defs.specs.declared.timing.Timing.{Timing}
 use Rattle.cmd_words.specs.declared.command.Command.{Command}
-use Rattle.cmd_words.specs.declared.command.Command.TheVariants.{Run, Refer, Order, Plan, Compile, Exec, Pack, Fault, Show, Large}
+use Rattle.cmd_words.specs.declared.command.Command.TheVariants.{Run, Refer, Order, Plan, Compile, Exec, Pack, Fault, Show, Large, Help}
 use Rattle.cmd_words.specs.declared.command.RunWords.{RunWords}
 use Rattle.cmd_words.specs.declared.command.WordNo.{WordNo}
 use Rattle.cmd_words.specs.Arguments.{Word, Piece, alone, spaced, joined, options_of, IsPiece, AreArguments, value_given}
-use Rattle.cmd_words.specs.Asked.{Values, asked, of_image, of_large, of_netlist, of_one_file, of_two_files, large_with, run_by, run_with, says, Answers}
-use Rattle.cmd_words.specs.Forms.{HasForm, HasNoForm, IsCall, IsLarge, IsRun}
-use Rattle.cmd_words.specs.Settings.{run_options, refer_options, order_options, plan_options, compile_options, exec_options, pack_options, fault_options, show_options, large_options, timing_by, banks_by, workers_by, homes_by, gates_of, cycles_of}
+use Rattle.cmd_words.specs.Asked.{Values, asked, of_image, of_large, of_netlist, of_one_file, of_topic, of_two_files, large_with, run_by, run_with, says, Answers}
+use Rattle.cmd_words.specs.Forms.{HasForm, HasNoForm, IsCall, IsLarge, IsOfTopic, IsRun}
+use Rattle.cmd_words.specs.Settings.{run_options, refer_options, order_options, plan_options, compile_options, exec_options, pack_options, fault_options, show_options, large_options, help_options, timing_by, banks_by, workers_by, homes_by, gates_of, cycles_of}
+use Rattle.cmd_words.specs.declared.topic.Topic.{Topic}
+use Rattle.cmd_words.specs.declared.topic.Topic.TheVariants as topic
+use Rattle.cmd_words.specs.Topics.{topic_of, topic_words, topics, word_of}
 use Rattle.cmd_words.specs.Uses.{Found, parsed}
 use Rattle.cmd_words.proofs.ArgumentLemmas.{arguments_from, parsed_from}
 use Rattle.cmd_words.proofs.LookLemmas.{is_proper}
@@ -66,6 +69,24 @@ large_says words gates cycles workers form =
     ∙ ap₂ (λ gates cycles. large_with gates cycles (workers_by (value_given form.given))) form.gates_are form.cycles_are
     ∙ ap (large_with (Some gates) (Some cycles)) form.workers_are
 
+-- the word of a command is that of it alone
+named_topic : (topic : Topic) → topic_of (word_of topic) ≡ Some topic
+named_topic topic.Run = refl
+named_topic topic.Refer = refl
+named_topic topic.Order = refl
+named_topic topic.Plan = refl
+named_topic topic.Show = refl
+named_topic topic.Large = refl
+named_topic topic.Compile = refl
+named_topic topic.Exec = refl
+named_topic topic.Pack = refl
+named_topic topic.Fault = refl
+named_topic topic.Help = refl
+
+topic_said : (value : Values) (topic : Option Topic) → of_topic (topic_words topic) value ≡ Some topic
+topic_said value None = refl
+topic_said value (Some topic) = ap (option_map Some) (named_topic topic)
+
 pub asked_from : (words : List Word) (command : Command) → HasForm words command → asked words ≡ Some command
 unfolding asked
 asked_from words (Run run) form = rw (form.call.words_are) (ap (option_map Run) (run_says run_options refl (codes "run") words run form))
@@ -78,6 +99,8 @@ asked_from words (Pack run) form = rw (form.call.words_are) (ap (option_map Pack
 asked_from words (Fault run) form = rw (form.call.words_are) (ap (option_map Fault) (run_says fault_options refl (codes "fault") words run form))
 asked_from words (Show netlist) form = rw (form.words_are) (ap (option_map Show) (call_says show_options refl of_one_file (codes "show") words (netlist ∷ []) [] form))
 asked_from words (Large gates cycles workers) form = rw (form.call.words_are) (large_says words gates cycles workers form)
+asked_from words (Help topic) form =
+    rw (form.words_are) (ap (option_map Help) (call_says help_options refl of_topic (codes "help") words (topic_words topic) [] form ∙ topic_said (value_given []) topic))
 
 -- ---- from what is asked to the form
 
@@ -328,6 +351,35 @@ large_form words command e =
       workers_are = made.by.workers_are;
     })
 
+-- what is found of a word is a command of this word
+found_topic : (word : Word) (others : List Topic) (topic : Topic) → find (λ topic. bytes_eq word (word_of topic)) others ≡ Some topic → word ≡ word_of topic
+found_topic word [] topic e = cc
+found_topic word (first ∷ others) topic e = go (bytes_eq word (word_of first)) refl (λ e. found_topic word others topic e) e
+  where
+    go : (same : Bool) → bytes_eq word (word_of first) ≡ same → (find (λ topic. bytes_eq word (word_of topic)) others ≡ Some topic → word ≡ word_of topic)
+        → cond same (Some first) (find (λ topic. bytes_eq word (word_of topic)) others) ≡ Some topic → word ≡ word_of topic
+    go true is later e = (bytes_eq-Decides word (word_of first)).0 is ∙ ap word_of (one_some first topic e)
+    go false is later e = later e
+
+topic_back : (arguments : List Word) (value : Values) (topic : Option Topic) → of_topic arguments value ≡ Some topic → arguments ≡ topic_words topic
+topic_back [] value topic e = ap topic_words (one_some None topic e)
+topic_back (word ∷ []) value topic e = go (topic_of word) refl e
+  where
+    go : (found : Option Topic) → topic_of word ≡ found → option_map Some found ≡ Some topic → word ∷ [] ≡ topic_words topic
+    go None is e = cc
+    go (Some one) is e = ap (λ (word : Word). word ∷ []) (found_topic word topics one is) ∙ ap topic_words (one_some (Some one) topic e)
+topic_back (one ∷ other ∷ others) value topic e = cc
+
+help_form : (words : List Word) (topic : Option Topic) → says help_options of_topic words ≡ Some topic → IsCall (codes "help") help_options (codes "help" ∷ words) (topic_words topic) []
+help_form words topic e =
+    let so = says_back help_options of_topic words topic e in
+    let none : so.found.given ≡ [] = so.arguments.given_are ∙ no_options so.arguments.pieces so.arguments.pieces_are in
+    record {
+      others = words;
+      words_are = refl;
+      arguments_are = rw (topic_back so.found.arguments (value_given so.found.given) topic so.answers, none) at so.arguments;
+    }
+
 -- a command is the one that is named, or one of the others
 picked : (name text : Word) (words : List Word) (given rest : Option Command) (command : Command)
     → (if bytes_eq name text then given else rest) ≡ Some command
@@ -359,7 +411,8 @@ form_from (name ∷ words) command e =
     picked name (codes "pack") words _ _ command e (made (codes "pack" ∷ words) Pack (says pack_options of_two_files words) command (run_form pack_options (codes "pack") words)) (λ e.
     picked name (codes "fault") words _ _ command e (made (codes "fault" ∷ words) Fault (says fault_options of_two_files words) command (run_form fault_options (codes "fault") words)) (λ e.
     picked name (codes "show") words _ _ command e (made (codes "show" ∷ words) Show (says show_options of_one_file words) command (show_form words)) (λ e.
-    picked name (codes "large") words _ _ command e (large_form words command) (λ e. cc))))))))))
+    picked name (codes "large") words _ _ command e (large_form words command) (λ e.
+    picked name (codes "help") words _ _ command e (made (codes "help" ∷ words) Help (says help_options of_topic words) command (help_form words)) (λ e. cc)))))))))))
 
 -- ---- the contract
 
@@ -372,3 +425,17 @@ read_by_form words (Err refusal) (inr usage) = inr (usage.0, λ command form. le
 
 pub one_form : (words : List Word) (one other : Command) → HasForm words one → HasForm words other → one ≡ other
 one_form words one other first second = one_some one other (sym (asked_from words one first) ∙ asked_from words other second)
+
+-- the call of a form
+pub of_command : (words : List Word) (command : Command) → HasForm words command → IsOfTopic words command
+of_command words (Run run) form = (_, _, form.call)
+of_command words (Refer run) form = (_, _, form.call)
+of_command words (Order run) form = (_, _, form.call)
+of_command words (Plan run) form = (_, _, form.0.call)
+of_command words (Compile run) form = (_, _, form.0.call)
+of_command words (Exec run image) form = (_, _, form.call)
+of_command words (Pack run) form = (_, _, form.call)
+of_command words (Fault run) form = (_, _, form.call)
+of_command words (Show netlist) form = (_, _, form)
+of_command words (Large gates cycles workers) form = (_, _, form.call)
+of_command words (Help topic) form = (_, _, form)

@@ -3,12 +3,14 @@ use Rattle.std.specs.Prelude.{◌≡◌, ◌⊎◌, ℕ, List, [], ◌∷◌, if
 use Rattle.net_defs.specs.declared.homes.HomeChoice.{HomeChoice}
 use Rattle.net_defs.specs.declared.timing.Timing.{Timing}
 use Rattle.cmd_words.specs.declared.command.Command.{Command}
-use Rattle.cmd_words.specs.declared.command.Command.TheVariants.{Run, Refer, Order, Plan, Compile, Exec, Pack, Fault, Show, Large}
+use Rattle.cmd_words.specs.declared.command.Command.TheVariants.{Run, Refer, Order, Plan, Compile, Exec, Pack, Fault, Show, Large, Help}
 use Rattle.cmd_words.specs.declared.command.RunWords.{RunWords}
 use Rattle.cmd_words.specs.declared.command.WordNo.{WordNo}
 use Rattle.cmd_words.specs.declared.command.WordNo.TheVariants.{Usage, Memory}
 use Rattle.cmd_words.specs.Arguments.{Word, value_given}
-use Rattle.cmd_words.specs.Settings.{run_options, refer_options, order_options, plan_options, compile_options, exec_options, pack_options, fault_options, show_options, large_options, timing_by, banks_by, workers_by, homes_by, gates_of, cycles_of}
+use Rattle.cmd_words.specs.Settings.{run_options, refer_options, order_options, plan_options, compile_options, exec_options, pack_options, fault_options, show_options, large_options, help_options, timing_by, banks_by, workers_by, homes_by, gates_of, cycles_of}
+use Rattle.cmd_words.specs.declared.topic.Topic.{Topic}
+use Rattle.cmd_words.specs.Topics.{topic_of}
 use Rattle.cmd_words.specs.Uses.{parsed}
 
 -- the value of each option that is given
@@ -69,6 +71,12 @@ abbrev pub of_large : List Word → Values → Option Command
 of_large (gates ∷ cycles ∷ []) value = large_by gates cycles value
 of_large _ value = None
 
+-- what help is asked of: all commands, or the one of a word
+abbrev pub of_topic : List Word → Values → Option (Option Topic)
+of_topic [] value = Some None
+of_topic (word ∷ []) value = option_map Some (topic_of word)
+of_topic _ value = None
+
 -- what the words behind the name of a command say, by what their arguments and values say
 abbrev pub says : {T : Type 0} → List Word → (List Word → Values → Option T) → List Word → Option T
 says names reading words = option_and_then (λ found. reading found.arguments (value_given found.given)) (parsed names words)
@@ -85,6 +93,7 @@ asked_by name words =
     else if bytes_eq name (codes "fault") then option_map Fault (says fault_options of_two_files words)
     else if bytes_eq name (codes "show") then option_map Show (says show_options of_one_file words)
     else if bytes_eq name (codes "large") then says large_options of_large words
+    else if bytes_eq name (codes "help") then option_map Help (says help_options of_topic words)
     else None
 
 -- the command of the words, and none where they are of no form

@@ -2,14 +2,15 @@
 use Rattle.std.specs.Prelude.{◌≡◌, ◌↔◌, ◌⊎◌, ◌≤◌, ⊤, ℕ, List, [], ◌∷◌, Some, codes}
 use Rattle.net_defs.specs.Valid.{IsValidTiming}
 use Rattle.cmd_words.specs.declared.command.Command.{Command}
-use Rattle.cmd_words.specs.declared.command.Command.TheVariants.{Run, Refer, Order, Plan, Compile, Exec, Pack, Fault, Show, Large}
+use Rattle.cmd_words.specs.declared.command.Command.TheVariants.{Run, Refer, Order, Plan, Compile, Exec, Pack, Fault, Show, Large, Help}
 use Rattle.cmd_words.specs.declared.command.RunWords.{RunWords}
 use Rattle.cmd_words.specs.declared.command.WordNo.{WordNo}
 use Rattle.cmd_words.specs.declared.command.WordNo.TheVariants.{Usage, Memory}
 use Rattle.limits.specs.declared.TheConstants.{MAX_LARGE_CYCLES, MAX_LARGE_GATES, MAX_BANKS, MAX_WORKERS}
 use Rattle.cmd_words.specs.Arguments.{Word, AreArguments, value_given}
 use Rattle.cmd_words.specs.Asked.{asked}
-use Rattle.cmd_words.specs.Settings.{run_options, refer_options, order_options, plan_options, compile_options, exec_options, pack_options, fault_options, show_options, large_options, timing_by, banks_by, workers_by, homes_by, gates_of, cycles_of}
+use Rattle.cmd_words.specs.Settings.{run_options, refer_options, order_options, plan_options, compile_options, exec_options, pack_options, fault_options, show_options, large_options, help_options, timing_by, banks_by, workers_by, homes_by, gates_of, cycles_of}
+use Rattle.cmd_words.specs.Topics.{options_of, topic_for, topic_words, word_of}
 
 -- the name of a command, and behind it these positional arguments and options
 pub record IsCall (name : Word) (options words arguments : List Word) (given : List (Word × Word)) : Type 0 where
@@ -51,6 +52,7 @@ HasForm words (Pack run) = IsRun (codes "pack") pack_options words (run.netlist 
 HasForm words (Fault run) = IsRun (codes "fault") fault_options words (run.netlist ∷ run.stimulus ∷ []) run
 HasForm words (Show netlist) = IsCall (codes "show") show_options words (netlist ∷ []) []
 HasForm words (Large gates cycles workers) = IsLarge words gates cycles workers
+HasForm words (Help topic) = IsCall (codes "help") help_options words (topic_words topic) []
 
 -- why words are refused: memory ran out, or they are of the form of no command
 abbrev pub HasNoForm : List Word → WordNo → Type 0
@@ -87,6 +89,7 @@ IsInRange (Pack run) = IsRunInRange run
 IsInRange (Fault run) = IsRunInRange run
 IsInRange (Show netlist) = ⊤
 IsInRange (Large gates cycles workers) = IsLargeInRange gates cycles workers
+IsInRange (Help topic) = ⊤
 
 -- ---- laws
 
@@ -101,3 +104,12 @@ AreFormsAsked = (words : List Word) (command : Command) → asked words ≡ Some
 -- what has the form of a command is in range
 abbrev pub AreFormsInRange : Type 0
 AreFormsInRange = (words : List Word) (command : Command) → HasForm words command → IsInRange command
+
+-- the words begin with the word of a command, and the options among them are of its list
+abbrev pub IsOfTopic : List Word → Command → Type 0
+IsOfTopic words command =
+    (arguments : List Word) × (given : List (Word × Word)) × IsCall (word_of (topic_for command)) (options_of (topic_for command)) words arguments given
+
+-- each form is one of its command's word and options
+abbrev pub AreFormsOfTopics : Type 0
+AreFormsOfTopics = (words : List Word) (command : Command) → HasForm words command → IsOfTopic words command

@@ -43,6 +43,9 @@ show_options = []
 abbrev pub large_options : List Word
 large_options = codes "workers" ∷ []
 
+abbrev pub help_options : List Word
+help_options = []
+
 -- ---- what one value says
 
 -- a number of at most ten digits, from 1 to `most`

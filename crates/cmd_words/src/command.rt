@@ -1,5 +1,6 @@
 //! Commands, and why words are no command.
 
+use crate::topic::Topic;
 use net_defs::{HomeChoice, Timing};
 use seen_list::{Memory, Text};
 
@@ -66,6 +67,8 @@ pub enum Command {
     Pack(RunWords),
     /// Where each stuck fault of a netlist is first seen.
     Fault(RunWords),
+    /// What a command is called with and what it prints, or the same of all in brief. There are no files.
+    Help(Option<Topic>),
 }
 
 /// Why words are refused.

@@ -7,6 +7,8 @@ mod options;
 mod parsing;
 mod reading;
 mod settings;
+mod topic;
 
 pub use command::{Command, RunWords, WordNo};
 pub use reading::read_words;
+pub use topic::{Topic, all_topics};

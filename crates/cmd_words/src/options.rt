@@ -31,3 +31,6 @@ pub static SHOW: [&str; 0] = [];
 
 /// The options of `large`.
 pub static LARGE: [&str; 1] = ["workers"];
+
+/// The options of `help`: none.
+pub static HELP: [&str; 0] = [];

@@ -5,7 +5,7 @@ ghost use Rattle.std.specs.String.{string_bytes};
 ghost use Rattle.clap.specs.Words.{app_of, kind_of, rule_of};
 ghost use Rattle.cmd_words.specs.Arguments.{has_name};
 ghost use Rattle.cmd_words.specs.Asked.{IsRefusal};
-ghost use Rattle.cmd_words.specs.code.Parses.{files_id, files_rule, option_rule, app_with, one_of, both_of, three_of, texts_in, has_no_short, is_short, arguments_found, value_found, IsParsedAs, refusal_of};
+ghost use Rattle.cmd_words.specs.code.Parses.{files_id, files_rule, option_rule, app_with, one_of, perhaps_one_of, both_of, three_of, texts_in, has_no_short, is_short, arguments_found, value_found, IsParsedAs, refusal_of};
 ghost use Rattle.cmd_words.specs.Uses.{parsed};
 
 use crate::command::WordNo;
@@ -74,6 +74,17 @@ pub fn one_argument<'b, 'a>(matches: &'b ArgMatches<'a>) -> Option<&'a str>
 {
     match matches.get_strs(FILES) {
         Some([one]) => Some(*one),
+        _ => None,
+    }
+}
+
+/// No positional argument, or one.
+pub fn perhaps_argument<'b, 'a>(matches: &'b ArgMatches<'a>) -> Option<Option<&'a str>>
+    ensures { option_map (option_map (λ one. one.now)) result ≡ perhaps_one_of (arguments_found matches.now) }
+{
+    match matches.get_strs(FILES) {
+        None | Some([]) => Some(None),
+        Some([one]) => Some(Some(*one)),
         _ => None,
     }
 }

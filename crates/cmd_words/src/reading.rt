@@ -5,15 +5,18 @@ ghost use Rattle.std.specs.String.{string_bytes};
 ghost use Rattle.cmd_words.specs.declared.command.Command.TheVariants as command;
 ghost use Rattle.cmd_words.specs.declared.command.WordNo.TheVariants.{Memory as NoMemory};
 ghost use Rattle.cmd_words.specs.Arguments.{has_name};
-ghost use Rattle.cmd_words.specs.Asked.{Answers, asked, asked_by, says, image_by, of_two_files, of_netlist, of_one_file, of_image, of_large, run_by, large_by};
+ghost use Rattle.cmd_words.specs.Asked.{Answers, asked, asked_by, says, image_by, of_two_files, of_netlist, of_one_file, of_image, of_large, of_topic, run_by, large_by};
 ghost use Rattle.cmd_words.specs.Forms.{HasForm, HasNoForm, IsInRange};
-ghost use Rattle.cmd_words.specs.code.Parses.{files_id, texts_in, value_found, settings_by};
-ghost use Rattle.cmd_words.specs.Settings.{run_options, refer_options, order_options, plan_options, compile_options, exec_options, pack_options, fault_options, show_options, large_options};
+ghost use Rattle.cmd_words.specs.code.Parses.{files_id, texts_in, of_word, value_found, settings_by};
+ghost use Rattle.cmd_words.specs.Settings.{run_options, refer_options, order_options, plan_options, compile_options, exec_options, pack_options, fault_options, show_options, large_options, help_options};
 
 use crate::command::{Command, RunWords, WordNo};
-use crate::options::{COMPILE, EXEC, FAULT, LARGE, ORDER, PACK, PLAN, REFER, RUN, SHOW};
-use crate::parsing::{one_argument, parse, three_arguments, two_arguments, value};
+use crate::options::{COMPILE, EXEC, FAULT, HELP, LARGE, ORDER, PACK, PLAN, REFER, RUN, SHOW};
+use crate::parsing::{
+    one_argument, parse, perhaps_argument, three_arguments, two_arguments, value,
+};
 use crate::settings::{banks, cycles_of, gates_of, homes, timing, workers};
+use crate::topic::{Topic, topic_of};
 use clap::ArgMatches;
 use net_defs::{HomeChoice, Timing};
 use seen_list::Text;
@@ -65,6 +68,8 @@ fn read_command(alloc: Global, name: &[u8], words: &[String]) -> Result<Command,
         show(alloc, words)
     } else if name == b"large".as_slice() {
         large(alloc, words)
+    } else if name == b"help".as_slice() {
+        help(alloc, words)
     } else {
         Err(WordNo::Usage)
     }
@@ -156,6 +161,15 @@ fn large(alloc: Global, words: &[String]) -> Result<Command, WordNo>
     generated(alloc, words, LARGE.as_slice())
 }
 
+fn help(alloc: Global, words: &[String]) -> Result<Command, WordNo>
+    ensures { Answers result (option_map command.Help (says help_options of_topic (map string_bytes words.now))) }
+{
+    match topic(alloc, words, HELP.as_slice()) {
+        Ok(topic) => Ok(Command::Help(topic)),
+        Err(no) => Err(no),
+    }
+}
+
 // ---- what commands have in common
 
 /// Two files and the options of a simulation.
@@ -233,6 +247,37 @@ fn generated<'a>(
     match two_arguments(&matches) {
         Some((gates, cycles)) => large_words(gates, cycles, &matches),
         None => Err(WordNo::Usage),
+    }
+}
+
+/// The word of a command, or none.
+fn topic<'a>(
+    alloc: Global,
+    words: &'a [String],
+    options: &'a [&'a str],
+) -> Result<Option<Topic>, WordNo>
+    requires { has_name (texts_in options.now) files_id ≡ false }
+    ensures { Answers result (says (texts_in options.entry.now) of_topic (map string_bytes words.entry.now)) }
+{
+    let matches = parse(alloc, words, options)?;
+    let found = perhaps_argument(&matches);
+    drop(matches);
+    match found {
+        Some(word) => topic_named(word),
+        None => Err(WordNo::Usage),
+    }
+}
+
+/// The command of a word, where there is one.
+fn topic_named(word: Option<&str>) -> Result<Option<Topic>, WordNo>
+    ensures { Answers result (of_word (option_map (λ word. word.now) word.entry)) }
+{
+    match word {
+        None => Ok(None),
+        Some(word) => match topic_of(word.as_bytes()) {
+            Some(topic) => Ok(Some(topic)),
+            None => Err(WordNo::Usage),
+        },
     }
 }
 

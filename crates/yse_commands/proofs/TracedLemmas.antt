@@ -31,6 +31,7 @@ use Rattle.yse_commands.specs.Outputs.{bytes_of}
 use Rattle.named_files.specs.Readings.{Reading}
 use Rattle.yse_commands.specs.Refusals.{Follows}
 use Rattle.stim_text.specs.declared.lanes.Lanes.{Lanes}
+use Rattle.help_text.specs.Texts.{text_of as help_of}
 use Rattle.yse_commands.specs.Traced.{AreLanesOfFiles, AreOfFiles, AreTracesOfFiles, IsFaultListOfFiles, IsOutputOfFiles, IsTimingOfFile, IsTraceOfFiles}
 use Rattle.yse_commands.specs.Orders.{EndsIn, EndsInOrder}
 use Rattle.yse_commands.specs.code.Endings.{status_after}
@@ -461,6 +462,7 @@ module _ (bytes : Option (List ℕ → List ℕ)) where
   command_traced (command.Exec words image) readings output are expected = exec_traced words image readings output are expected
   command_traced (command.Pack words) readings output are expected = pack_traced words readings output are expected
   command_traced (command.Fault words) readings output are expected = fault_traced words readings output are expected
+  command_traced (command.Help topic) readings output are expected = wrote_so (λ output. output ≡ help_of topic) readings output expected
   command_traced _ readings output are expected = tt
 
   pub traced : (names : Option (List ℕ → Bool)) (old new : FileCounts) (command : Command) (output : Output) → status_after (ending_in output) ≡ status.Done → Follows names bytes old new (Ok output) (ExpectedOf command) → IsOutputOfFiles bytes (bytes_of output) (Some command)

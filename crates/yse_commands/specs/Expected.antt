@@ -11,6 +11,7 @@ use Rattle.named_files.specs.Outcome.{Outcome, refusal}
 use Rattle.named_files.specs.Readings.{Reading}
 use Rattle.yse_commands.specs.commands.Exec.{ExpectedExec}
 use Rattle.yse_commands.specs.commands.Fault.{ExpectedFault}
+use Rattle.yse_commands.specs.commands.Help.{ExpectedHelp}
 use Rattle.yse_commands.specs.commands.Large.{ExpectedLarge}
 use Rattle.yse_commands.specs.commands.Layout.{ExpectedLayout}
 use Rattle.yse_commands.specs.commands.Pack.{ExpectedPack}
@@ -28,6 +29,7 @@ ExpectedOf (command.Pack words) readings outcome = ExpectedPack words readings o
 ExpectedOf (command.Fault words) readings outcome = ExpectedFault words readings outcome
 ExpectedOf (command.Show netlist) readings outcome = ExpectedShow netlist readings outcome
 ExpectedOf (command.Large gates cycles workers) readings outcome = ExpectedLarge gates cycles readings outcome
+ExpectedOf (command.Help topic) readings outcome = ExpectedHelp topic readings outcome
 
 -- the command of whose form the words are; words of no form are refused
 abbrev pub Asks : List (List ℕ) → Result Command Outcome → Type 0

@@ -14,6 +14,7 @@ use Rattle.stim_text.specs.LaneTexts.{ReadsAsLanes}
 use Rattle.cmd_words.specs.declared.command.Command.{Command}
 use Rattle.cmd_words.specs.declared.command.Command.TheVariants as command
 use Rattle.cmd_words.specs.declared.command.RunWords.{RunWords}
+use Rattle.help_text.specs.Texts.{text_of}
 use Rattle.named_files.specs.Checks.{listing}
 use Rattle.yse_commands.specs.Words.{traced_by}
 use Rattle.yse_commands.specs.commands.Fault.{IsFaultList}
@@ -77,4 +78,5 @@ pub record IsFaultListOfFiles (bytes : Option (List ℕ → List ℕ)) (output :
 abbrev pub IsOutputOfFiles : Option (List ℕ → List ℕ) → List ℕ → Option Command → Type 0
 IsOutputOfFiles bytes output (Some (command.Pack words)) = AreTracesOfFiles bytes output words
 IsOutputOfFiles bytes output (Some (command.Fault words)) = IsFaultListOfFiles bytes output words
+IsOutputOfFiles bytes output (Some (command.Help topic)) = output ≡ text_of topic
 IsOutputOfFiles bytes output asked = IfSome (traced_by asked) (IsTraceOfFiles bytes output)

@@ -17,6 +17,7 @@ files_of (command.Pack words) = option_to_list words.machine ++ (words.netlist �
 files_of (command.Fault words) = words.netlist ∷ (option_to_list words.last ++ (words.stimulus ∷ []))
 files_of (command.Show netlist) = netlist ∷ []
 files_of (command.Large gates cycles workers) = []
+files_of (command.Help topic) = []
 
 abbrev pub files_named : Option Command → List (List ℕ)
 files_named None = []
@@ -35,3 +36,4 @@ traced_by (Some (command.Pack words)) = None
 traced_by (Some (command.Fault words)) = None
 traced_by (Some (command.Show netlist)) = None
 traced_by (Some (command.Large gates cycles workers)) = None
+traced_by (Some (command.Help topic)) = None

@@ -1,6 +1,7 @@
 pub mod Compile
 pub mod Exec
 pub mod Fault
+pub mod Help
 pub mod Large
 pub mod Layout
 pub mod Pack

@@ -5,6 +5,7 @@
 mod compile;
 pub mod exec;
 pub mod fault;
+pub mod help;
 pub mod large;
 mod layout;
 pub mod output;

@@ -20,6 +20,7 @@ use std::sync::Wait;
 use std::thread::Threads;
 use yse_commands::exec::exec;
 use yse_commands::fault::fault;
+use yse_commands::help::help;
 use yse_commands::large::large;
 use yse_commands::output::Output;
 use yse_commands::pack::pack;
@@ -66,6 +67,7 @@ pub fn prepare<'a, R: Threads + Wait + Sync, F: Files, O: Sink, G: Gate + Send>(
             cycles,
             workers,
         } => large(rt, alloc, *count, *cycles, *workers, gates),
+        Command::Help(topic) => help(alloc, topic),
     }
 }
 

@@ -16,6 +16,8 @@ use Rattle.cmd_words.specs.declared.command.WordNo.TheVariants.{Usage, Memory}
 use Rattle.cmd_words.specs.Arguments.{Word, dashes, value_given}
 use Rattle.cmd_words.specs.Asked.{Values}
 use Rattle.cmd_words.specs.Settings.{timing_by, banks_by, workers_by, homes_by}
+use Rattle.cmd_words.specs.declared.topic.Topic.{Topic}
+use Rattle.cmd_words.specs.Topics.{topic_of}
 use Rattle.cmd_words.specs.Uses.{Found, parsed}
 
 -- ---- the command
@@ -93,6 +95,17 @@ one_of _ = None
 abbrev pub both_of : List Word → Option (Word × Word)
 both_of (one ∷ other ∷ []) = Some (one, other)
 both_of _ = None
+
+-- no positional argument or one
+abbrev pub perhaps_one_of : List Word → Option (Option Word)
+perhaps_one_of [] = Some None
+perhaps_one_of (one ∷ []) = Some (Some one)
+perhaps_one_of _ = None
+
+-- what help is asked of, by the word where there is one
+abbrev pub of_word : Option Word → Option (Option Topic)
+of_word None = Some None
+of_word (Some word) = option_map Some (topic_of word)
 
 -- three positional arguments, where there are so many
 abbrev pub three_of : List Word → Option (Word × Word × Word)

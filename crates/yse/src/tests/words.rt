@@ -24,7 +24,8 @@ const REFUSED: &str = "\
 |refer a b --mode mixed|order a b --mode unit --last l|run a b --last l|show a --mode mixed --last l\
 |run a b --mode unit --units 4097|run a b --mode unit --units +7|run a b --mode Unit\
 |run a b --init 1|order a b --banks 0|order a b --banks 9|order a b --banks|run a b --workers 0\
-|run a b --workers=65|large 2|large 2 2 2|large 0 1|large 30001 1|large 1 10001";
+|run a b --workers=65|large 2|large 2 2 2|large 0 1|large 30001 1|large 1 10001\
+|help Run|help c17.bench|help run run|help ''|help --mode rank|help --help";
 
 /// Calls that read the netlist `a` first: options before, between and behind the files, as two words and as one, and `--`,
 /// of which a second one is a file.
@@ -90,6 +91,30 @@ const CASES: &[Case] = &[
         status: 0,
         output: "gates 2 nodes 2 slots 9 crossings 5\nzeros 2 ones 2 xs 0 zs 0\n",
         line: "",
+    },
+    Case {
+        calls: "help show|help -- show",
+        words: "",
+        netlist: "",
+        stimulus: "",
+        machine: "",
+        more: "",
+        failing: (0, 0),
+        status: 0,
+        output: "yse show NETLIST\n\nPrints a line for each input, printed name, gate, register and memory.\n\nExample: yse show s27.bench\n",
+        line: "",
+    },
+    Case {
+        calls: "help show",
+        words: "",
+        netlist: "",
+        stimulus: "",
+        machine: "",
+        more: "",
+        failing: (0, 1),
+        status: 4,
+        output: "",
+        line: "write fault\n",
     },
     // Values that begin with `-`, and one with an `=` in it.
     Case {

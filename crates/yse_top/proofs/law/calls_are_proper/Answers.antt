@@ -57,10 +57,13 @@ use Rattle.refusal_lines.specs.Lines.{usage_line, machine_line, netlist_line, st
 use Rattle.named_files.specs.Outcome.{Outcome, refusal}
 use Rattle.named_files.specs.Readings.{Reading}
 use Rattle.yse_commands.specs.Orders.{EndsInOrder}
+use Rattle.cmd_words.specs.declared.topic.Topic.{Topic}
+use Rattle.help_text.specs.Texts.{text_of}
 use Rattle.yse_commands.specs.Words.{files_of, files_named}
 use Rattle.yse_commands.specs.commands.Exec.{AfterImage, AfterMatch, ExpectedExec, OnImage, RunsImage, WritesTraceOf}
 use Rattle.named_files.specs.Images.{IsAccepted, IsImageFileOf}
 use Rattle.yse_commands.specs.commands.Fault.{ExpectedFault, FaultsIn, IsFaultList, ListsFaults}
+use Rattle.yse_commands.specs.commands.Help.{ExpectedHelp}
 use Rattle.yse_commands.specs.commands.Large.{ExpectedLarge}
 use Rattle.named_files.specs.Files.{AfterLanes, AfterList, AfterMachine, AfterNetlist, AfterStimulus}
 use Rattle.yse_commands.specs.commands.Pack.{AreLaneTraces, ExpectedPack, KeepsLanes, KeepsLanesOn, PacksIn, PacksOn}
@@ -278,6 +281,11 @@ module _ (laws : Laws) where
       command_ends (Writes (IsSummaryOf gates cycles)) (writes_ending (IsSummaryOf gates cycles) (λ s t is is_too. (laws.one_summary gates cycles s t few is is_too)))
       (outcome_writes (IsSummaryOf gates cycles) summary.0 summary.1)
 
+  help_proper : (topic : Option Topic) → IsCommand [] (ExpectedHelp topic)
+  help_proper topic =
+      command_ends (Writes (λ output. output ≡ text_of topic)) (writes_ending (λ output. output ≡ text_of topic) (λ s t e f. (e ∙ sym f)))
+      (outcome_writes (λ output. output ≡ text_of topic) (text_of topic) refl)
+
   show_proper : (file : List ℕ) → IsCommand (file ∷ []) (ExpectedShow file)
   unfolding ExpectedShow
   show_proper file =
@@ -335,6 +343,7 @@ module _ (laws : Laws) where
   command_proper (command.Fault words) range = fault_proper words range.timing
   command_proper (command.Show file) range = show_proper file
   command_proper (command.Large gates cycles workers) range = large_proper gates cycles range.gates_few
+  command_proper (command.Help topic) range = help_proper topic
 
   -- ---- words
 

@@ -1,0 +1,3 @@
+-- Lemmas on the texts.
+mod FormLemmas
+mod TextLemmas

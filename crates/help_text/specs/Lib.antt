@@ -1,0 +1,4 @@
+-- The texts of `help`.
+pub mod Notes
+pub mod Forms
+pub mod Texts

@@ -1,0 +1,13 @@
+//! What `help` prints: of all commands in brief, or of one command. The options of each are those of the list that the
+//! reader of words goes by.
+#![tactic(auto)]
+
+mod brief;
+mod detail;
+mod forms;
+pub mod law;
+mod options;
+mod text;
+
+pub use forms::form;
+pub use text::help_text;

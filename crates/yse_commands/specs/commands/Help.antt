@@ -1,0 +1,11 @@
+-- `help`: the text of a command, or of all. Nothing is refused.
+use Rattle.std.specs.Prelude.{◌≡◌, List, Option}
+use Rattle.cmd_words.specs.declared.topic.Topic.{Topic}
+use Rattle.help_text.specs.Texts.{text_of}
+use Rattle.named_files.specs.Checks.{Ends, Writes}
+use Rattle.named_files.specs.Outcome.{Outcome}
+use Rattle.named_files.specs.Readings.{Reading}
+
+-- the text, without a file
+abbrev pub ExpectedHelp : Option Topic → List Reading → Outcome → Type 0
+ExpectedHelp topic = Ends (Writes (λ output. output ≡ text_of topic))

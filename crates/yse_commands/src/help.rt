@@ -1,0 +1,24 @@
+//! `help`: what a command is called with and what it prints, or the same of all in brief.
+
+ghost use Rattle.std.specs.Prelude.{[], IfOk};
+ghost use Rattle.yse_commands.specs.Outputs.{CanWrite};
+ghost use Rattle.yse_commands.specs.Refusals.{outcome_of};
+ghost use Rattle.yse_commands.specs.commands.Help.{ExpectedHelp};
+
+use crate::output::Output;
+use cmd_words::Topic;
+use help_text::help_text;
+use refusal_lines::Refusal;
+use seen_list::Memory;
+use std::alloc::Global;
+
+/// The text of a command, or of all.
+pub fn help<'a>(alloc: Global, topic: &Option<Topic>) -> Result<Output, Refusal<'a>>
+    ensures expected { ExpectedHelp topic.now [] (outcome_of result) }
+    ensures writable { IfOk result CanWrite }
+{
+    match help_text(alloc, topic) {
+        Ok(text) => Ok(Output::Text(text)),
+        Err(Memory) => Err(Refusal::Memory),
+    }
+}
