@@ -73,7 +73,7 @@ module _ (crew : CrewView) (fits : IsWellFormed crew.image) (done : crew.rows �
     port = λ a b is gone. ap (λ r. r.pass.port) gone.run;
     seat = λ a b is gone. record {
       image = ap (λ r. r.pass.image) gone.run ∙ is.image;
-      stimulus = ap (λ r. r.pass.stimulus) gone.run ∙ is.stimulus;
+      stimulus = ap (λ r. r.pass.feed) gone.run ∙ is.stimulus;
       window = ap (λ r. r.window) gone.run ∙ is.window;
       first_row = ap (λ r. r.first_row) gone.run ∙ next_first a is;
       until = ap (λ r. r.until) gone.run ∙ next_until a is;
@@ -83,9 +83,9 @@ module _ (crew : CrewView) (fits : IsWellFormed crew.image) (done : crew.rows �
     next_first : (a : Seated) → IsSeatOf crew a → a.run.first_row + a.run.window ≡ crew.rows
     next_first a is = omega (arith, is.first_row, is.window, whole)
 
-    next_until : (a : Seated) → IsSeatOf crew a → block_end a.run.pass.image a.run.pass.stimulus (a.run.first_row + a.run.window) a.run.window ≡ crew.image.units * rows_at_end (in_next_block crew)
+    next_until : (a : Seated) → IsSeatOf crew a → block_end a.run.pass.image a.run.pass.feed (a.run.first_row + a.run.window) a.run.window ≡ crew.image.units * rows_at_end (in_next_block crew)
     next_until a is =
-        ap (λ i. block_end i a.run.pass.stimulus (a.run.first_row + a.run.window) a.run.window) is.image
+        ap (λ i. block_end i a.run.pass.feed (a.run.first_row + a.run.window) a.run.window) is.image
         ∙ ap (λ s. block_end crew.image s (a.run.first_row + a.run.window) a.run.window) is.stimulus
         ∙ ap (λ f. block_end crew.image crew.stimulus f a.run.window) (next_first a is)
         ∙ ap (λ w. block_end crew.image crew.stimulus crew.rows w) is.window

@@ -8,7 +8,7 @@ use Rattle.limits.specs.declared.TheConstants.{MAX_CYCLES, MAX_UNITS}
 use Rattle.net_defs.specs.Time.{cycle_count}
 use Rattle.net_defs.specs.Valid.{IsValidStimulus}
 use Rattle.net_defs.specs.declared.stimulus.Stimulus.{Stimulus}
-use Rattle.slot_words.specs.Rule.{turns_of}
+use Rattle.slot_words.specs.plain.Words.{turns_of}
 use Rattle.machine_run.specs.Crews.{CrewView, at_block_end, at_first, rows_at_end, turns_left, turns_made}
 
 -- a run has few turns

@@ -8,7 +8,7 @@ use Rattle.crew_run.proofs.Places.{each_push, member_at, one_some, set_other, se
 use Rattle.crew_run.specs.declared.worker.Worker.{Worker}
 use Rattle.image_defs.specs.Places.{host_of}
 use Rattle.port_run.specs.declared.seated.Seated.{Seated}
-use Rattle.slot_words.specs.Passes.{AreFirstPasses, CrossbarView, IsFirstPass, PassView}
+use Rattle.slot_words.specs.plain.Passes.{AreFirstPasses, CrossbarView, IsFirstPass, PassView}
 use Rattle.machine_run.specs.Crews.{CrewView}
 use Rattle.machine_run.specs.Dealt.{AreDealt, AreDealtFrom, AreIdle, HasGained, HasPortOf, IsDealtFrom, IsMember, IsSeatOf}
 

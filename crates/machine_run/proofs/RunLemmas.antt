@@ -15,7 +15,7 @@ use Rattle.net_defs.specs.Time.{cycle_count}
 use Rattle.net_defs.specs.Trace.{header_line}
 use Rattle.net_defs.specs.declared.netlist.Netlist.{Netlist}
 use Rattle.net_defs.specs.declared.stimulus.Stimulus.{Stimulus}
-use Rattle.slot_words.specs.Rule.{turns_of}
+use Rattle.slot_words.specs.plain.Words.{turns_of}
 use Rattle.machine_run.specs.Blocks.{cycles_of_blocks, turns_of_blocks, window_of}
 use Rattle.machine_run.specs.Lines.{cells_shown, lines_between}
 use Rattle.machine_run.specs.Stops.{before_block, block_lines}

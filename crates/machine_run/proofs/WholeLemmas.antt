@@ -6,7 +6,7 @@ use Rattle.net_defs.specs.Time.{cycle_count}
 use Rattle.net_defs.specs.declared.stimulus.Stimulus.{Stimulus}
 use Rattle.net_defs.specs.declared.trace.CellRow.{CellRow}
 use Rattle.port_host.specs.Rows.{HostView, printed_sources, rows_done}
-use Rattle.slot_words.specs.Rule.{turns_of}
+use Rattle.slot_words.specs.plain.Words.{turns_of}
 use Rattle.machine_run.specs.Crews.{CrewView, IsHostOfCrew, at_block_end, at_first, rows_at_end, turns_made}
 use Rattle.machine_run.specs.Shown.{AreShown}
 use Rattle.machine_run.specs.code.Shown.{AreWide}

@@ -8,7 +8,7 @@ use Rattle.machine_run.specs.Visits.{AreVisitsOf}
 use Rattle.net_defs.specs.Time.{cycle_count}
 use Rattle.net_defs.specs.declared.stimulus.Stimulus.{Stimulus}
 use Rattle.port_host.specs.Rows.{printed_sources}
-use Rattle.slot_words.specs.Rule.{turns_of}
+use Rattle.slot_words.specs.plain.Words.{turns_of}
 
 -- the cycles of a block in which each cycle has so many cells
 abbrev pub block_cycles : ℕ → ℕ

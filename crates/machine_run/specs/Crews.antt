@@ -4,7 +4,7 @@ use Rattle.image_defs.specs.declared.image.Image.{Image}
 use Rattle.net_defs.specs.Time.{cycle_count}
 use Rattle.net_defs.specs.declared.stimulus.Stimulus.{Stimulus}
 use Rattle.port_host.specs.Rows.{HostView, rows_done}
-use Rattle.slot_words.specs.Rule.{turns_of}
+use Rattle.slot_words.specs.plain.Words.{turns_of}
 
 -- so many workers that step the ports of an image under a stimulus, in blocks of so many cycles (its window): the
 -- block comes after the first `first_row` cycles, and all ports have made the turns of the first `rows` cycles

@@ -8,7 +8,7 @@ use Rattle.machine_run.specs.Crews.{CrewView, rows_at_end, turns_made}
 -- a port of the crew's run, in the block of the crew, after the turns that the crew has made
 pub record IsSeatOf (crew : CrewView) (seat : Seated) : Type 0 where
   pub image : seat.run.pass.image ≡ crew.image
-  pub stimulus : seat.run.pass.stimulus ≡ crew.stimulus
+  pub stimulus : seat.run.pass.feed ≡ crew.stimulus
   pub window : seat.run.window ≡ crew.window
   pub first_row : seat.run.first_row ≡ crew.first_row
   pub until : seat.run.until ≡ crew.image.units * rows_at_end crew

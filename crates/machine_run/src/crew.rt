@@ -6,7 +6,7 @@ ghost use Rattle.machine_run.specs.Crews.{IsHostOfCrew, at_block_end, at_first, 
 ghost use Rattle.machine_run.specs.Visits.{AllCanTellTurns, AreInPlace, AreVisitsBetween};
 ghost use Rattle.net_defs.specs.Time.{cycle_count};
 ghost use Rattle.net_defs.specs.Valid.{IsValidStimulus};
-ghost use Rattle.slot_words.specs.Passes.{AreFirstPasses};
+ghost use Rattle.slot_words.specs.plain.Passes.{AreFirstPasses};
 
 use crate::seats::{worker_of, workers_of};
 use crate::steps::go_on_all;
@@ -73,7 +73,7 @@ impl<'a, G: Gate> Crew<'a, G> {
         requires valid { IsValidStimulus stim.now }
         requires columns { stim.now.columns ≡ image.now.columns }
         requires image { bar.now.image ≡ image.now }
-        requires stimulus { bar.now.stimulus ≡ stim.now }
+        requires stimulus { bar.now.feed ≡ stim.now }
         requires passes { AreFirstPasses bar.now (length image.now.ports) passes }
         requires some { 1 ≤ workers }
         requires some_cycles { 1 ≤ window }

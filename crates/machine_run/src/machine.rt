@@ -10,7 +10,7 @@ ghost use Rattle.machine_run.specs.Visits.{AreInPlace, AreVisitsOf};
 ghost use Rattle.net_defs.specs.Time.{cycle_count};
 ghost use Rattle.net_defs.specs.Valid.{IsValidStimulus};
 ghost use Rattle.port_host.specs.Rows.{printed_sources};
-ghost use Rattle.slot_words.specs.Rule.{turns_of};
+ghost use Rattle.slot_words.specs.plain.Words.{turns_of};
 
 use crate::crew::Crew;
 use crate::rows::{blank_rows, fill_rows};

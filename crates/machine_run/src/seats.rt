@@ -3,7 +3,7 @@
 ghost use Rattle.std.specs.Prelude.{IfOk, OnOk, [], length, ◌%◌, ◌++◌, ◌<◌, ◌∷◌, ◌≡◌, ◌≤◌, ℕ};
 ghost use Rattle.net_defs.specs.Valid.{IsValidStimulus};
 ghost use Rattle.image_defs.specs.WellFormed.{IsWellFormed};
-ghost use Rattle.slot_words.specs.Passes.{AreFirstPasses, IsFirstPass};
+ghost use Rattle.slot_words.specs.plain.Passes.{AreFirstPasses, IsFirstPass};
 ghost use Rattle.machine_run.specs.Crews.{at_first};
 ghost use Rattle.machine_run.specs.Dealt.{AreDealt, AreIdle, HasGained, IsSeatOf};
 
@@ -72,7 +72,7 @@ fn seat<'a>(
     requires valid { IsValidStimulus stim.now }
     requires columns { stim.now.columns ≡ image.now.columns }
     requires image { bar.now.image ≡ image.now }
-    requires stimulus { bar.now.stimulus ≡ stim.now }
+    requires stimulus { bar.now.feed ≡ stim.now }
     requires first { IsFirstPass bar.now pass.port pass }
     requires there { pass.port < length image.now.ports }
     requires some_cycles { 1 ≤ window }
@@ -114,7 +114,7 @@ fn deal<'a, G: Gate>(
     requires valid { IsValidStimulus stim.now }
     requires columns { stim.now.columns ≡ image.now.columns }
     requires image { bar.now.image ≡ image.now }
-    requires stimulus { bar.now.stimulus ≡ stim.now }
+    requires stimulus { bar.now.feed ≡ stim.now }
     requires passes { AreFirstPasses bar.now (length image.now.ports) passes }
     requires some_cycles { 1 ≤ window }
     requires some { 1 ≤ length crew.old }
@@ -157,7 +157,7 @@ pub(crate) fn workers_of<'a, G: Gate>(
     requires valid { IsValidStimulus stim.now }
     requires columns { stim.now.columns ≡ image.now.columns }
     requires image { bar.now.image ≡ image.now }
-    requires stimulus { bar.now.stimulus ≡ stim.now }
+    requires stimulus { bar.now.feed ≡ stim.now }
     requires passes { AreFirstPasses bar.now (length image.now.ports) passes }
     requires some { 1 ≤ workers }
     requires some_cycles { 1 ≤ window }

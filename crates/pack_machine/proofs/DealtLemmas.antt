@@ -5,7 +5,7 @@ use Rattle.image_defs.specs.Places.{host_of}
 use Rattle.machine_run.proofs.DealtLemmas.{each_less, more_dealt, none_dealt}
 use Rattle.machine_run.specs.Dealt.{AreIdle, HasGained}
 use Rattle.pack_run.specs.declared.seated.PackSeated.{PackSeated}
-use Rattle.pack_words.specs.Passes.{AreFirstPasses, BarView, IsFirstPass, PackPassView}
+use Rattle.slot_words.specs.packed.Passes.{AreFirstPasses, BarView, IsFirstPass, PackPassView}
 use Rattle.pack_machine.specs.code.Crews.{PackCrew}
 use Rattle.pack_machine.specs.code.Dealt.{AreDealt, IsSeatOf}
 

@@ -18,7 +18,7 @@ use Rattle.logic_four.specs.declared.V4.TheVariants.{Undef}
 use Rattle.logic_four.specs.Values.{value_at}
 use Rattle.net_defs.specs.declared.netlist.Netlist.{Netlist}
 use Rattle.net_defs.specs.declared.stimulus.Stimulus.{Stimulus}
-use Rattle.pack_words.specs.Rule.{stimulus_of, turns_of}
+use Rattle.slot_words.specs.packed.Words.{stimulus_of, turns_of}
 use Rattle.port_host.specs.Rows.{printed_sources}
 use Rattle.seen_list.specs.Filling.{Filling}
 use Rattle.stim_text.proofs.LaneLemmas.{lane_input}

@@ -21,7 +21,7 @@ use Rattle.stim_text.specs.declared.lanes.Lanes.{Lanes}
 use Rattle.pack_run.specs.Pairs.{last_turn}
 use Rattle.pack_run.specs.contracts.seated.PackSeatedStepper.TheImpl as seated
 use Rattle.pack_run.specs.declared.seated.PackSeated.{PackSeated}
-use Rattle.pack_words.specs.Rule.{turns_of}
+use Rattle.slot_words.specs.packed.Words.{turns_of}
 use Rattle.pack_machine.specs.code.Crews.{at_first}
 use Rattle.pack_machine.specs.code.Dealt.{AreDealt, IsDealtTo, IsSeatOf}
 use Rattle.pack_machine.specs.code.Ends.{EndsWithHost}
@@ -38,7 +38,7 @@ module _ {G : Type 0} (image : Image) (lanes : Lanes) (workers : ℕ) (fits : Is
   last_is : (i : ℕ) (w : Worker PackSeated G) → slice_get ws i ≡ Some w → (k : ℕ) (a : PackSeated) → slice_get w.members k ≡ Some a → last_turn a.run ≡ turns_of image lanes
   last_is i w at k a there =
       let is = (each i w at k a there).seat_is in
-      ap (λ (x : Image). turns_of x a.run.lanes) is.image ∙ ap (turns_of image) is.lanes
+      ap (λ (x : Image). turns_of x a.run.feed) is.image ∙ ap (turns_of image) is.lanes
 
   turn_is : (i : ℕ) (w : Worker PackSeated G) → slice_get ws i ≡ Some w → (k : ℕ) (a : PackSeated) → slice_get w.members k ≡ Some a → a.run.place.turn ≡ 1
   turn_is i w at k a there = (each i w at k a there).seat_is.turn
@@ -72,7 +72,7 @@ module _ {G : Type 0} (image : Image) (lanes : Lanes) (workers : ℕ) (fits : Is
   module _ (p : gate.Ghosts G) (gates : List (Option G)) (ws' : List (Worker PackSeated G)) (gates' : List (Option G)) (run : AllHaveRunWith seated.ghosts p ws gates ws' gates') (enough : workers ≤ length gates) where
     pub have_visits : AreVisitsOf p (length image.ports) (turns_of image lanes) workers gates gates'
     have_visits = all_visited seated.ghosts p (IsSeatOf (at_first image lanes workers)) workers (length image.ports) (host_of image) 0 (turns_of image lanes) (omega arith)
-        (λ a is. (is.turn, ap (λ (x : Image). turns_of x a.run.lanes) is.image ∙ ap (turns_of image) is.lanes)) ws dealt gates ws' gates' run
+        (λ a is. (is.turn, ap (λ (x : Image). turns_of x a.run.feed) is.image ∙ ap (turns_of image) is.lanes)) ws dealt gates ws' gates' run
 
     pub in_place : AreInPlace gates gates'
     in_place = visited_in_place p (length image.ports) 0 (turns_of image lanes) workers gates gates' run.gate_count have_visits
@@ -92,7 +92,7 @@ module _ {G : Type 0} (image : Image) (lanes : Lanes) (workers : ℕ) (fits : Is
         let same = ran.same 0 has.seat b has.member.member_is here in
         let was = (each w has.member.worker at 0 has.seat has.member.member_is).seat_is in
         let image_is : b.run.image ≡ image = same.image ∙ was.image in
-        let lanes_are : b.run.lanes ≡ lanes = same.lanes ∙ was.lanes in
+        let lanes_are : b.run.feed ≡ lanes = same.lanes ∙ was.lanes in
         let count : workers ≡ length ws' = sym (run.worker_count ∙ dealt.count) in
         record {
           has = record {
@@ -104,7 +104,7 @@ module _ {G : Type 0} (image : Image) (lanes : Lanes) (workers : ℕ) (fits : Is
             image_is = image_is;
             lanes_are = lanes_are;
             port = same.port ∙ has.port_is ∙ ap host_of (sym image_is);
-            turn = ran.done 0 b here ∙ ap (λ t. t + 1) (ap (λ (x : Image). turns_of x b.run.lanes) image_is ∙ ap (turns_of image) lanes_are);
+            turn = ran.done 0 b here ∙ ap (λ t. t + 1) (ap (λ (x : Image). turns_of x b.run.feed) image_is ∙ ap (turns_of image) lanes_are);
           };
         }
 

@@ -40,11 +40,11 @@ pub(crate) fn line_room(alloc: Global, net: &Netlist) -> Result<LaneLines, Memor
 
 /// Fills a row with the cells of a cycle of a lane, which is counted from 1.
 fn fill_row(row: &mut List<V4>, host: &PackRunning<'_>, lane: u32, cycle: u32)
-    requires host { IsHostAtEnd host.now.image host.now.lanes host.now }
-    requires lanes { AreLanes host.now.image.columns host.now.lanes }
-    requires lane { lane < length host.now.lanes.lanes }
+    requires host { IsHostAtEnd host.now.image host.now.feed host.now }
+    requires lanes { AreLanes host.now.image.columns host.now.feed }
+    requires lane { lane < length host.now.feed.lanes }
     requires first { 1 ≤ cycle }
-    requires done { cycle ≤ longest host.now.lanes }
+    requires done { cycle ≤ longest host.now.feed }
     requires room { length row.old ≡ length (printed_sources host.now.image) }
     ensures { row.new ≡ cells_in_lane host.now lane cycle }
 {
@@ -62,10 +62,10 @@ fn write_rows<O: Sink>(
     lane: u32,
     cycles: u32,
 ) -> Result<(), WriteNo>
-    requires host { IsHostAtEnd host.now.image host.now.lanes host.now }
-    requires lanes { AreLanes host.now.image.columns host.now.lanes }
-    requires lane { lane < length host.now.lanes.lanes }
-    requires done { cycles ≤ longest host.now.lanes }
+    requires host { IsHostAtEnd host.now.image host.now.feed host.now }
+    requires lanes { AreLanes host.now.image.columns host.now.feed }
+    requires lane { lane < length host.now.feed.lanes }
+    requires done { cycles ≤ longest host.now.feed }
     requires room { HasLineRoom _net.now host.now.image room.old }
     ensures room { HasLineRoom _net.now host.now.image room.new }
     ensures written { Takes (O.taken out.old) (O.taken out.new) (O.faults out.old) (O.faults out.new) result (lines_between (cells_in_lane host.now lane) 0 cycles) }
@@ -89,13 +89,13 @@ fn write_trace<O: Sink>(
     lane: u32,
     cycles: u32,
 ) -> Result<(), WriteNo>
-    requires host { IsHostAtEnd host.now.image host.now.lanes host.now }
-    requires lanes { AreLanes host.now.image.columns host.now.lanes }
-    requires lane { lane < length host.now.lanes.lanes }
-    requires all { cycles ≡ cycle_count (own_stimulus host.now.image.columns host.now.lanes lane) }
+    requires host { IsHostAtEnd host.now.image host.now.feed host.now }
+    requires lanes { AreLanes host.now.image.columns host.now.feed }
+    requires lane { lane < length host.now.feed.lanes }
+    requires all { cycles ≡ cycle_count (own_stimulus host.now.image.columns host.now.feed lane) }
     requires room { HasLineRoom net.now host.now.image room.old }
     ensures room { HasLineRoom net.now host.now.image room.new }
-    ensures written { Takes (O.taken out.old) (O.taken out.new) (O.faults out.old) (O.faults out.new) result (bytes_of_run net.now host.now.image (own_stimulus host.now.image.columns host.now.lanes lane)) }
+    ensures written { Takes (O.taken out.old) (O.taken out.new) (O.faults out.old) (O.faults out.new) result (bytes_of_run net.now host.now.image (own_stimulus host.now.image.columns host.now.feed lane)) }
 {
     room.line.header(net);
     match write_piece(out, room.line.bytes()) {
@@ -113,9 +113,9 @@ fn write_lane<O: Sink>(
     lane: u32,
     stim: &Stimulus,
 ) -> Result<(), WriteNo>
-    requires host { IsHostAtEnd host.now.image host.now.lanes host.now }
-    requires lanes { AreLanes host.now.image.columns host.now.lanes }
-    requires lane { slice_get host.now.lanes.lanes lane ≡ Some stim.now }
+    requires host { IsHostAtEnd host.now.image host.now.feed host.now }
+    requires lanes { AreLanes host.now.image.columns host.now.feed }
+    requires lane { slice_get host.now.feed.lanes lane ≡ Some stim.now }
     requires room { HasLineRoom net.now host.now.image room.old }
     ensures room { HasLineRoom net.now host.now.image room.new }
     ensures written { Takes (O.taken out.old) (O.taken out.new) (O.faults out.old) (O.faults out.new) result (bytes_of_lane net.now host.now.image (lane + 1) stim.now) }

@@ -18,7 +18,7 @@ use image_defs::Image;
 use machine_run::worker_of;
 use net_defs::Netlist;
 use pack_run::{PackRunning, PackSeated};
-use pack_words::PackBar;
+use slot_words::pack_words::PackBar;
 use seen_list::{List, Memory};
 use std::alloc::Global;
 use std::marker::{Send, Sync};

@@ -4,7 +4,7 @@ ghost use Rattle.std.specs.Prelude.{IfOk, OnOk, length, ◌<◌, ◌≡◌, ◌�
 ghost use Rattle.image_defs.specs.WellFormed.{IsWellFormed};
 ghost use Rattle.machine_run.specs.Dealt.{AreIdle};
 ghost use Rattle.stim_text.specs.Lanes.{AreLanes};
-ghost use Rattle.pack_words.specs.Passes.{AreFirstPasses, IsFirstPass};
+ghost use Rattle.slot_words.specs.packed.Passes.{AreFirstPasses, IsFirstPass};
 ghost use Rattle.pack_machine.specs.code.Crews.{at_first};
 ghost use Rattle.pack_machine.specs.code.Dealt.{AreDealt, IsSeatOf};
 
@@ -12,7 +12,7 @@ use crew_run::{Gate, Worker};
 use image_defs::Image;
 use machine_run::{give_to, idle_crew, worker_of};
 use pack_run::{PackPort, PackRunning, PackSeated};
-use pack_words::{PackBar, PackPass};
+use slot_words::pack_words::{PackBar, PackPass};
 use seen_list::{List, Memory};
 use std::alloc::Global;
 use stim_text::Lanes;
@@ -28,7 +28,7 @@ fn seat<'a>(
     requires fits { IsWellFormed image.now }
     requires lanes { AreLanes image.now.columns lanes.now }
     requires image { bar.now.image ≡ image.now }
-    requires same_lanes { bar.now.lanes ≡ lanes.now }
+    requires same_lanes { bar.now.feed ≡ lanes.now }
     requires first { IsFirstPass bar.now pass.port pass }
     requires there { pass.port < length image.now.ports }
     ensures seat { IfOk result (λ seat. (workers : ℕ) → IsSeatOf (at_first image.now lanes.now workers) seat) }
@@ -58,7 +58,7 @@ fn deal<'a, G: Gate>(
     requires fits { IsWellFormed image.now }
     requires lanes { AreLanes image.now.columns lanes.now }
     requires image { bar.now.image ≡ image.now }
-    requires same_lanes { bar.now.lanes ≡ lanes.now }
+    requires same_lanes { bar.now.feed ≡ lanes.now }
     requires passes { AreFirstPasses bar.now (length image.now.ports) passes }
     requires some { 1 ≤ length crew.old }
     requires idle { AreIdle (length crew.old) crew.old }
@@ -98,7 +98,7 @@ pub(crate) fn workers_of<'a, G: Gate>(
     requires fits { IsWellFormed image.now }
     requires lanes { AreLanes image.now.columns lanes.now }
     requires image { bar.now.image ≡ image.now }
-    requires same_lanes { bar.now.lanes ≡ lanes.now }
+    requires same_lanes { bar.now.feed ≡ lanes.now }
     requires passes { AreFirstPasses bar.now (length image.now.ports) passes }
     requires some { 1 ≤ workers }
     ensures { IfOk result (AreDealt (at_first image.now lanes.now workers) 0) }

@@ -1,5 +1,5 @@
 -- The states of a packed crossbar are in each lane sound states of a core, and steps of packed ports are events there.
-use Rattle.std.proofs.Common.{List, Some, ap, ap₂, arith, get_or, get_or-set_other, get_or-set_same, inl, inr, length, map, refl, set, subst, sym, true, ℕ, ◌%◌, ◌*◌, ◌+◌, ◌<◌, ◌∙◌, ◌≡◌, ◌≢◌, ◌≤◌}
+use Rattle.std.proofs.Common.{List, Some, ap, ap₂, arith, get_or, get_or-set_other, get_or-set_same, inl, inr, length, refl, set, subst, sym, true, ℕ, ◌%◌, ◌*◌, ◌+◌, ◌<◌, ◌∙◌, ◌≡◌, ◌≢◌, ◌≤◌}
 use Rattle.std.proofs.lemmas.Bool.{cases_eq}
 use mathlib.Core.Option.{some}
 use lib.ListN.{get_elem?}
@@ -23,7 +23,7 @@ use Rattle.event_defs.specs.declared.place.CoreStep.TheVariants.{Done, Moved, No
 use Rattle.event_defs.specs.declared.place.Event.{Event}
 use Rattle.event_defs.specs.declared.place.Event.TheVariants.{Ask, Put, Take, Tell}
 use Rattle.event_defs.specs.declared.place.Place.{Place}
-use Rattle.atomic_table.proofs.Lists.{at_map, at_set}
+use Rattle.atomic_table.proofs.Lists.{at_set}
 use Rattle.atomic_table.specs.Seated.{TableId}
 use Rattle.atomic_table.specs.Table.{Act, State, stepped}
 use Rattle.list_laws.proofs.Members.{member_at}
@@ -32,19 +32,14 @@ use Rattle.slot_words.proofs.SoundLemmas.{told_none}
 use Rattle.slot_words.proofs.StepLemmas.{near_sender, sent_read}
 use Rattle.slot_words.proofs.TimeLemmas.{progress_kept, progress_set, send_room, sent_set}
 use Rattle.slot_words.specs.Layout.{progress_in, progress_word, send_word, sent_in, told_in, turns_told}
-use Rattle.slot_words.specs.Rule.{HasPass, IsPassOf}
+use Rattle.slot_words.specs.Rule.{HasPass, IsKept, IsPassOf}
 use Rattle.slot_words.specs.declared.rule.TheConstants.{UNCLAIMED}
-use Rattle.slot_words.specs.declared.rule.View.{View}
 use Rattle.port_run.proofs.NextLemmas.{asked_in}
 use Rattle.port_run.specs.Core.{is_look}
-use Rattle.pack_words.proofs.SoundLemmas.{rule_sound}
-use Rattle.pack_words.proofs.StepLemmas.{looks_after, plain_set}
-use Rattle.pack_words.specs.Passes.{PackPassView}
-use Rattle.pack_words.specs.Rule.{IsKept, Kept, plain_view, stimulus_of, turns_of}
-use Rattle.pack_words.specs.Sound.{ArePassesSound}
-use Rattle.pack_words.specs.Words.{packed}
-use Rattle.pack_words.specs.declared.rule.PackKey.{PackKey}
-use Rattle.pack_words.specs.declared.rule.PackView.{PackView}
+use Rattle.slot_words.proofs.PackedLemmas.{one_kept, rule_sound}
+use Rattle.slot_words.specs.packed.Passes.{PackPassView}
+use Rattle.slot_words.specs.packed.Sound.{ArePassesSound, Kept, PackKey, PackView}
+use Rattle.slot_words.specs.packed.Words.{packed, packs, stimulus_of, turns_of}
 use Rattle.pack_run.proofs.LaneLemmas.{both_written, lane_word, not_before, only_bank, plain_before, plain_now, put_word, stamp_last}
 use Rattle.pack_run.specs.Core.{IsCoreEvent, IsCoreStep, IsLaneWord, IsStateIn, IsStateOf, ShowsIn, pass_in}
 use Rattle.pack_run.specs.Pairs.{HasMadeAll}
@@ -84,25 +79,22 @@ record HasWords (image : Image) (l p : ℕ) (now : List ℕ) (state : CoreState)
 
 -- ---- by the image and lanes of a view
 
-module _ (words : List ℕ) (views : List PackView) (id p : ℕ) (old : PackView) (table : TableId) (kept : IsKept old.image old.lanes words views) (there : get_elem? views id ≡ some old) (port_is : old.port ≡ Some p)
-    (l : ℕ) (low : l < LANES) (state : CoreState) (is : IsStateIn old.image old.lanes words views l state) where
+module _ (words : List ℕ) (views : List PackView) (id p : ℕ) (old : PackView) (table : TableId) (kept : IsKept packs old.image old.feed 1 words views) (there : get_elem? views id ≡ some old) (port_is : old.port ≡ Some p)
+    (l : ℕ) (low : l < LANES) (state : CoreState) (is : IsStateIn old.image old.feed words views l state) where
   abbrev image : Image
   image = old.image
 
   abbrev stimulus : Stimulus
-  stimulus = stimulus_of old.image old.lanes l
+  stimulus = stimulus_of old.image old.feed l
 
   abbrev until : ℕ
-  until = turns_of old.image old.lanes
+  until = turns_of old.image old.feed
 
   abbrev turn : ℕ
   turn = (state.place p).turn
 
-  at_plain : get_elem? (map plain_view views) id ≡ some (plain_view old)
-  at_plain = at_map plain_view views id old there
-
-  mine : IsPassOf old.image words kept.place kept.owner id p (plain_view old)
-  mine = kept.owned.mine id p (plain_view old) at_plain port_is
+  mine : IsPassOf old.image words kept.place kept.owner id p old
+  mine = kept.owned.mine id p old there port_is
 
   here_is : state.place p ≡ old.place
   here_is = is.stands id p old there port_is
@@ -119,12 +111,12 @@ module _ (words : List ℕ) (views : List PackView) (id p : ℕ) (old : PackView
       let seat = member_at old.image.ports p mine.inside in
       record { seat = seat.0; is = seat.1; step = (here (λ a. a.turn ≡ until + 1) made, refl) }
 
-  module _ (word number : ℕ) (new : PackView) (after_kept : IsKept old.image old.lanes (set words word number) (set views id new)) where
+  module _ (word number : ℕ) (new : PackView) (after_kept : IsKept packs old.image old.feed 1 (set words word number) (set views id new)) where
     abbrev now : List ℕ
     now = set words word number
 
     told : new.steps ≡ old.steps + 1 → told_in old.image now new.last.word ≡ new.last.number
-    told counted = counted_look old.image words now (map plain_view views) id (plain_view old) (plain_view new) kept.looks at_plain counted (looks_after old.image now views id new after_kept.looks)
+    told counted = counted_look old.image words now views id old new kept.looks there counted after_kept.looks
 
     -- what words that tell what the step saw have in its word
     module _ (ws : List ℕ) (found : told_in old.image ws new.last.word ≡ new.last.number) where
@@ -281,10 +273,10 @@ module _ (words : List ℕ) (views : List PackView) (id p : ℕ) (old : PackView
         abbrev own : ℕ
         own = send_word old.image 1 p puts.next.i 0
 
-        abbrev packs : ℕ
-        packs = packed old.place.turn puts.planes
+        abbrev own_word : ℕ
+        own_word = packed old.place.turn puts.planes
 
-        has_put : get_or now own 0 ≡ packs
+        has_put : get_or now own 0 ≡ own_word
         has_put = sym (told_sent old.image 1 now p puts.next.i 0)
             ∙ (subst (λ w. told_in old.image now w ≡ new.last.number) (ap (λ (x : PackPassView). x.last.word) puts.is) found
             ∙ ap (λ (x : PackPassView). x.last.number) puts.is)
@@ -299,7 +291,7 @@ module _ (words : List ℕ) (views : List PackView) (id p : ℕ) (old : PackView
         put_there = elim (cases_eq word own) [
           | inl same ↦ same
           | inr other ↦
-              let before : sent_in old.image 1 words p puts.next.i 0 ≡ packs =
+              let before : sent_in old.image 1 words p puts.next.i 0 ≡ own_word =
               sym (sent_read old.image 1 words p puts.next.i 0 puts.next.link send (omega arith)) ∙ (sym (get_or-set_other words word own number 0 (λ e. other (sym e))) ∙ has_put) in
               absurd (not_before l old.place.turn (state.word p puts.next.i 0) puts.planes (subst (λ n. IsLaneWord l n (state.word p puts.next.i 0)) before (is.word p puts.next.i puts.next.link send)) older)
         ]
@@ -307,9 +299,9 @@ module _ (words : List ℕ) (views : List PackView) (id p : ℕ) (old : PackView
         room : own < length words
         room = subst (λ n. own < n) (sym kept.long) (send_room old.image 1 p puts.next.i 0 puts.next.link send (omega arith))
 
-        now_is : now ≡ set words own packs
+        now_is : now ≡ set words own own_word
         now_is =
-            let is_number : number ≡ packs = sym (get_or-set_same words own number 0 room) ∙ subst (λ w. get_or (set words w number) own 0 ≡ packs) put_there has_put in
+            let is_number : number ≡ own_word = sym (get_or-set_same words own number 0 room) ∙ subst (λ w. get_or (set words w number) own 0 ≡ own_word) put_there has_put in
             ap₂ (λ w n. set words w n) put_there is_number
 
         abbrev value : ℕ → ℕ
@@ -320,14 +312,14 @@ module _ (words : List ℕ) (views : List PackView) (id p : ℕ) (old : PackView
             let row : ℕ = word_place 1 (send_number old.image p puts.next.i) 0 in
             let first : 1 ≤ old.place.turn = omega (arith, begun, turn_is) in
             subst (λ ws. HasWords old.image l p ws (record { place = place; finished = state.finished; word = written state.word p puts.next.i (turn % 1) (value turn) })) (sym now_is) (record {
-              finished = λ r inside. is.finished r inside ∙ ap turns_told (sym (progress_kept old.image 1 words row packs r inside));
+              finished = λ r inside. is.finished r inside ∙ ap turns_told (sym (progress_kept old.image 1 words row own_word r inside));
               word = λ q k link sends.
-                  subst (λ b. IsLaneWord l (sent_in old.image 1 (set words own packs) q k 0) (written state.word p puts.next.i b (value turn) q k 0)) (sym (only_bank turn))
-                  (subst (λ t. IsLaneWord l (sent_in old.image 1 (set words own packs) q k 0) (written state.word p puts.next.i 0 (value t) q k 0)) (sym turn_is)
-                  (subst (λ (f : ℕ → ℕ → ℕ → ℕ). IsLaneWord l (f q k 0) (written state.word p puts.next.i 0 (value old.place.turn) q k 0)) (sym (sent_set old.image 1 words p puts.next.i 0 packs puts.next.link send (omega arith) kept.long))
-                  (both_written l (sent_in old.image 1 words) state.word p puts.next.i packs (value old.place.turn)
+                  subst (λ b. IsLaneWord l (sent_in old.image 1 (set words own own_word) q k 0) (written state.word p puts.next.i b (value turn) q k 0)) (sym (only_bank turn))
+                  (subst (λ t. IsLaneWord l (sent_in old.image 1 (set words own own_word) q k 0) (written state.word p puts.next.i 0 (value t) q k 0)) (sym turn_is)
+                  (subst (λ (f : ℕ → ℕ → ℕ → ℕ). IsLaneWord l (f q k 0) (written state.word p puts.next.i 0 (value old.place.turn) q k 0)) (sym (sent_set old.image 1 words p puts.next.i 0 own_word puts.next.link send (omega arith) kept.long))
+                  (both_written l (sent_in old.image 1 words) state.word p puts.next.i own_word (value old.place.turn)
                   (put_word l old.place.turn puts.planes (image_value old.image stimulus old.place.turn p slot) first (puts.values l low)) q k (is.word q k link sends))));
-              claimed = λ free. mine.claimed (sym (progress_kept old.image 1 words row packs p mine.inside) ∙ free);
+              claimed = λ free. mine.claimed (sym (progress_kept old.image 1 words row own_word p mine.inside) ∙ free);
             })
 
         put_comes : Comes (Put slot)
@@ -382,21 +374,21 @@ module _ (words : List ℕ) (views : List PackView) (id p : ℕ) (old : PackView
     -- ---- the state after an event
 
     -- a seat other than this has another port
-    other_port : (other q : ℕ) (v : View) → get_elem? (map plain_view views) other ≡ some v → v.port ≡ Some q → other ≢ id → q ≢ p
+    other_port : (other q : ℕ) (v : PackView) → get_elem? views other ≡ some v → v.port ≡ Some q → other ≢ id → q ≢ p
     other_port other q v at has away same =
         let theirs = kept.owned.mine other p v at (has ∙ ap Some same) in
         away (theirs.owner_is ∙ sym mine.owner_is)
 
     -- the seat has its port still
-    same_seat : HasPass (map plain_view (set views id new)) after_kept.owner p → new.port ≡ Some p
+    same_seat : HasPass (set views id new) after_kept.owner p → new.port ≡ Some p
     same_seat has =
-        elim (at_set (map plain_view views) id (after_kept.owner p) (plain_view new) has.view (subst (λ vs. get_elem? vs (after_kept.owner p) ≡ some has.view) (plain_set views id new) has.at)) [
-          | inl t ↦ ap (λ (v : View). v.port) t.1 ∙ has.port_is
+        elim (at_set views id (after_kept.owner p) new has.view has.at) [
+          | inl t ↦ ap (λ (v : PackView). v.port) t.1 ∙ has.port_is
           | inr t ↦ absurd (other_port (after_kept.owner p) p has.view t.1 has.port_is t.0 refl)
         ]
 
     event_in : (event : Event) → IsEvent (pass_in table p old) event (pass_in table p new) → (is_look event ≡ true → now ≡ words)
-        → (core : IsCoreEvent l (pass_in table p old) event (pass_in table p new) state) × IsStateIn old.image old.lanes now (set views id new) l core.after
+        → (core : IsCoreEvent l (pass_in table p old) event (pass_in table p new) state) × IsStateIn old.image old.feed now (set views id new) l core.after
     event_in event made still =
         let counted = event_counted (pass_in table p old) event (pass_in table p new) made in
         let comes = made_comes made.seat made.is made.early event made.makes counted still in
@@ -416,7 +408,7 @@ module _ (words : List ℕ) (views : List PackView) (id p : ℕ) (old : PackView
                   let same : Some p ≡ Some q = sym (same_seat (after_kept.owned.seen p mine.inside comes.has.claimed)) ∙ (ap (λ (v : PackView). v.port) t.1 ∙ port) in
                   let same_q : p ≡ q = cc in
                   subst (λ q. comes.after.place q ≡ v.place) same_q (comes.stands ∙ ap (λ (v : PackView). v.place) t.1)
-              | inr t ↦ comes.others q (other_port other q (plain_view v) (at_map plain_view views other v t.1) port t.0) ∙ is.stands other q v t.1 port
+              | inr t ↦ comes.others q (other_port other q v t.1 port t.0) ∙ is.stands other q v t.1 port
             ];
           },
         )
@@ -433,29 +425,29 @@ module _ (words : List ℕ) (views : List PackView) (id p : ℕ) (old : PackView
 -- ---- by the key
 
 module _ (key : PackKey) (s : State (Unit {0}) PackView) (id p : ℕ) (old : PackView) (table : TableId) (kept : Kept key s) (there : get_elem? s.views id ≡ some old) (port_is : old.port ≡ Some p) where
-  same : (old.image ≡ key.image.value) × (old.lanes ≡ key.lanes.value)
-  same = kept.same id old there
+  same : (old.image ≡ key.image.value) × (old.feed ≡ key.feed.value)
+  same = let every = kept.owned.same id old there in (every.0, every.1)
 
   -- what holds of the key's image and lanes holds of the view's, and the other way round
-  of_view : (P : Image → Lanes → Type 0) → P key.image.value key.lanes.value → P old.image old.lanes
-  of_view P it = subst (λ i. P i old.lanes) (sym same.0) (subst (P key.image.value) (sym same.1) it)
+  of_view : (P : Image → Lanes → Type 0) → P key.image.value key.feed.value → P old.image old.feed
+  of_view P it = subst (λ i. P i old.feed) (sym same.0) (subst (P key.image.value) (sym same.1) it)
 
-  of_key : (P : Image → Lanes → Type 0) → P old.image old.lanes → P key.image.value key.lanes.value
-  of_key P it = subst (P key.image.value) same.1 (subst (λ i. P i old.lanes) same.0 it)
+  of_key : (P : Image → Lanes → Type 0) → P old.image old.feed → P key.image.value key.feed.value
+  of_key P it = subst (P key.image.value) same.1 (subst (λ i. P i old.feed) same.0 it)
 
-  kept_now : IsKept old.image old.lanes s.words s.views
-  kept_now = of_view (λ i m. IsKept i m s.words s.views) kept
+  kept_now : IsKept packs old.image old.feed 1 s.words s.views
+  kept_now = of_view (λ i m. IsKept packs i m 1 s.words s.views) (one_kept key s kept)
 
   module _ (l : ℕ) (low : l < LANES) (state : CoreState) (is : IsStateOf key s l state) where
-    state_now : IsStateIn old.image old.lanes s.words s.views l state
+    state_now : IsStateIn old.image old.feed s.words s.views l state
     state_now = of_view (λ i m. IsStateIn i m s.words s.views l state) is
 
     pub done_there : HasMadeAll (pass_in table p old) → IsCoreStep l (pass_in table p old) state Done state
     done_there made = done_in s.words s.views id p old table kept_now there port_is l low state state_now made
 
     module _ (word number : ℕ) (held : List (ℕ × Unit {0})) (new : PackView) (act : Act (Unit {0})) (after : Kept key (stepped s word number id held new act)) where
-      kept_after : IsKept old.image old.lanes (set s.words word number) (set s.views id new)
-      kept_after = of_view (λ i m. IsKept i m (set s.words word number) (set s.views id new)) after
+      kept_after : IsKept packs old.image old.feed 1 (set s.words word number) (set s.views id new)
+      kept_after = of_view (λ i m. IsKept packs i m 1 (set s.words word number) (set s.views id new)) (one_kept key (stepped s word number id held new act) after)
 
       pub event_there : (event : Event) → IsEvent (pass_in table p old) event (pass_in table p new) → (is_look event ≡ true → set s.words word number ≡ s.words)
           → (core : IsCoreEvent l (pass_in table p old) event (pass_in table p new) state) × IsStateOf key (stepped s word number id held new act) l core.after

@@ -12,9 +12,9 @@ use Rattle.event_defs.proofs.WordLemmas.{stamp_in as stamp_of_put}
 use Rattle.event_defs.specs.Sound.{AreStamps}
 use Rattle.event_defs.specs.Steps.{written}
 use Rattle.event_defs.specs.Steps as core
-use Rattle.pack_words.proofs.WordLemmas.{packed_stamp}
-use Rattle.pack_words.specs.Sound.{IsPackOf}
-use Rattle.pack_words.specs.Words.{packed, stamp_in, stamp_of}
+use Rattle.slot_words.specs.packed.Laws.{packed_stamp}
+use Rattle.slot_words.specs.packed.Sound.{IsPackOf}
+use Rattle.slot_words.specs.packed.Words.{packed, stamp_in, stamp_of}
 use Rattle.pack_run.specs.Core.{IsLaneWord}
 
 pub only_bank : (turn : ℕ) → turn % 1 ≡ 0

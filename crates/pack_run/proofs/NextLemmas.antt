@@ -15,17 +15,16 @@ use Rattle.event_defs.specs.declared.place.Event.TheVariants.{Ask, Put, Take, Te
 use Rattle.event_defs.specs.declared.place.Place.{Place}
 use Rattle.slot_words.specs.Layout.{progress_word}
 use Rattle.port_run.proofs.NextLemmas.{asked_in, asks_again, past_ports}
-use Rattle.pack_words.proofs.WordLemmas.{packed_stamp}
-use Rattle.pack_words.specs.Passes.{IsFit, IsRunning, PackPassView, one_step}
-use Rattle.pack_words.specs.Rule.{stimulus_of, turns_of}
-use Rattle.pack_words.specs.Words.{packed, stamp_in, stamp_of}
+use Rattle.slot_words.specs.packed.Laws.{packed_stamp}
+use Rattle.slot_words.specs.packed.Passes.{IsFit, IsRunning, PackPassView, one_step}
+use Rattle.slot_words.specs.packed.Words.{packed, stamp_in, stamp_of, stimulus_of, turns_of}
 use Rattle.pack_run.specs.Steps.{AskWaits, IsEvent, IsShort, IsWait, Makes, TakeWaits, word_at}
 
 -- ---- one next event
 
 -- the value in the first lane, by which events are told apart
 abbrev value_first : PackPassView → ℕ → V4
-value_first pass slot = image_value pass.image (stimulus_of pass.image pass.lanes 0) pass.place.turn pass.port slot
+value_first pass slot = image_value pass.image (stimulus_of pass.image pass.feed 0) pass.place.turn pass.port slot
 
 abbrev action_of : PackPassView → Event → Action
 action_of pass (Ask reader) = action.Ask reader
@@ -35,7 +34,7 @@ action_of pass Tell = action.Tell
 
 module _ (old new : PackPassView) (fit : IsFit old) where
   abbrev Next : PortImage → Action → Type 0
-  Next seat a = IsNext seat old.place 1 (turns_of old.image old.lanes) (value_first old) a
+  Next seat a = IsNext seat old.place 1 (turns_of old.image old.feed) (value_first old) a
 
   makes_next : (seat : PortImage) (e : Event) → IsRunning old → Makes seat old new e → Next seat (action_of old e)
   makes_next seat (Ask reader) early makes = (early, makes.asks.next)
@@ -45,7 +44,7 @@ module _ (old new : PackPassView) (fit : IsFit old) where
 
   one : (seat other : PortImage) (a b : Action) → IsPort old.image old.port seat → IsPort old.image old.port other → Next seat a → Next other b → a ≡ b
   one seat other a b is other_is next other_next =
-      one_next old.image fit.runs.image_fits old.port seat is old.place 1 (turns_of old.image old.lanes) (value_first old) a b next
+      one_next old.image fit.runs.image_fits old.port seat is old.place 1 (turns_of old.image old.feed) (value_first old) a b next
       (subst (λ s. Next s b) (same_port old.image old.port other seat other_is is) other_next)
 
   ask_not_waits : (e : Event) (seat other : PortImage) → IsPort old.image old.port seat → IsPort old.image old.port other → IsRunning old → Makes seat old new e → AskWaits other old new → ⊥

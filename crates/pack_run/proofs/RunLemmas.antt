@@ -8,18 +8,17 @@ use Rattle.event_defs.specs.declared.place.Event.TheVariants as event
 use Rattle.event_defs.specs.declared.place.Place.{Place}
 use Rattle.crew_run.specs.declared.stepper.Step.{Step}
 use Rattle.crew_run.specs.declared.stepper.Step.TheVariants.{Done, Moved, NotYet}
-use Rattle.slot_words.proofs.LinkLemmas.{member_at}
+use Rattle.list_laws.proofs.Members.{member_at}
 use Rattle.slot_words.specs.Layout.{progress_word}
 use Rattle.port_run.proofs.NextLemmas.{asked_in}
 use Rattle.pack_walk.specs.Placed.{CanPut, CanTake, HasPut, HasTaken, IsNextOf, IsNextValue, IsReceiving, IsSending, PlacedPack, at_start, lane_action, value_in}
 use Rattle.pack_walk.specs.declared.action.PackAction.{PackAction}
 use Rattle.pack_walk.specs.declared.action.PackAction.TheVariants as action
-use Rattle.pack_words.specs.Passes.{AreValues, HasLooked, IsFit, IsPut, IsTake, PackPassView, WasSentBefore, one_step}
-use Rattle.pack_words.specs.Passes as pass
-use Rattle.pack_words.specs.Rule.{HasPlanes, turns_of}
-use Rattle.pack_words.specs.Words.{packed}
-use Rattle.pack_words.specs.declared.words.PackTaken.{PackTaken}
-use Rattle.pack_words.specs.declared.words.PackTaken.TheVariants as taken
+use Rattle.slot_words.specs.packed.Passes.{AreValues, HasLooked, IsFit, IsPut, IsTake, PackPassView, WasSentBefore, one_step}
+use Rattle.slot_words.specs.packed.Passes as pass
+use Rattle.slot_words.specs.packed.Words.{HasPlanes, packed, turns_of}
+use Rattle.slot_words.specs.declared.pack_words.words.PackTaken.{PackTaken}
+use Rattle.slot_words.specs.declared.pack_words.words.PackTaken.TheVariants as taken
 use Rattle.pack_run.specs.Pairs.{AreBegun, placed}
 use Rattle.pack_run.specs.Steps.{Asks, IsStepOf, Looks, word_at}
 use Rattle.pack_run.specs.code.Steps.{IsAnswer, IsNextAction, IsUpcoming}
@@ -27,10 +26,10 @@ use Rattle.pack_run.specs.code.Steps.{IsAnswer, IsNextAction, IsUpcoming}
 -- before the first event the port is at the place of the pass
 pub placed_first : (old : PackPassView) (port : PlacedPack) → AreBegun old port → port ≡ placed old
 placed_first old port begun =
-    begun.port_is ∙ ap {A = Place} {B = PlacedPack} (λ (x : Place). record (at_start old.image old.lanes old.port) { turn = x.turn; puts = x.puts; takes = x.takes }) (sym begun.place_is)
+    begun.port_is ∙ ap {A = Place} {B = PlacedPack} (λ (x : Place). record (at_start old.image old.feed old.port) { turn = x.turn; puts = x.puts; takes = x.takes }) (sym begun.place_is)
 
 -- what the port says comes next in the first lane comes next
-next_in : (seat : PortImage) (old : PackPassView) (next : PackAction) → IsNext seat old.place 1 (turns_of old.image old.lanes) (value_in (placed old) 0 old.port) (lane_action (value_in (placed old) 0 old.port) next) → IsNextAction seat old next
+next_in : (seat : PortImage) (old : PackPassView) (next : PackAction) → IsNext seat old.place 1 (turns_of old.image old.feed) (value_in (placed old) 0 old.port) (lane_action (value_in (placed old) 0 old.port) next) → IsNextAction seat old next
 next_in seat old (action.Ask reader) is = is
 next_in seat old (action.Put slot) is = (is.0, is.1)
 next_in seat old (action.Take slot) is = is
@@ -76,12 +75,12 @@ module _ (old : PackPassView) (slot : ℕ) (next : IsUpcoming old (action.Put sl
   may_put port port_is = subst CanPut (sym port_is) (record { i = next.next.1.i; link = next.next.1.link; sending = sending })
 
   -- the values that the port has next are those of the image
-  pub put_values : (port : PlacedPack) (values : Planes) → port ≡ placed old → IsNextValue port values → AreValues old.image old.lanes old.place.turn old.port slot values
+  pub put_values : (port : PlacedPack) (values : Planes) → port ≡ placed old → IsNextValue port values → AreValues old.image old.feed old.place.turn old.port slot values
   put_values port values port_is is =
       let here : IsNextValue (placed old) values = subst (λ p. IsNextValue p values) port_is is in
-      subst (λ s. AreValues old.image old.lanes old.place.turn old.port s values) next.next.1.slot_is (here.each next.next.1.i next.next.1.link sending)
+      subst (λ s. AreValues old.image old.feed old.place.turn old.port s values) next.next.1.slot_is (here.each next.next.1.i next.next.1.link sending)
 
-  pub can_put : (values : Planes) → AreValues old.image old.lanes old.place.turn old.port slot values → pass.CanPut old slot values
+  pub can_put : (values : Planes) → AreValues old.image old.feed old.place.turn old.port slot values → pass.CanPut old slot values
   can_put values are = record {
     i = next.next.1.i;
     link = next.next.1.link;
@@ -92,7 +91,7 @@ module _ (old : PackPassView) (slot : ℕ) (next : IsUpcoming old (action.Put sl
     values = are;
   }
 
-  module _ (values : Planes) (are : AreValues old.image old.lanes old.place.turn old.port slot values) (new : PackPassView) (put : IsPut old slot values new) where
+  module _ (values : Planes) (are : AreValues old.image old.feed old.place.turn old.port slot values) (new : PackPassView) (put : IsPut old slot values new) where
     put_is : new ≡ one_step old (after_put old.place slot) (word_at old old.port next.next.1.i) (packed old.place.turn values)
     put_is = put.each next.next.1.i next.next.1.link (record { port = next.seat; is = next.is; link_is = next.next.1.sends.is }) next.next.1.slot_is
 
@@ -146,7 +145,7 @@ module _ (old : PackPassView) (slot : ℕ) (next : IsUpcoming old (action.Take s
           makes = record {
             looks = looks (taken.Value values) found (after_take old.place slot) (took_is ∙ ap (λ s. one_step old (after_take old.place s) (word_at old next.next.1.link.sender found.i) new.last.number) next.next.1.slot_is);
             now = found.found.0;
-            found = subst (λ s. HasPlanes old.image old.lanes next.next.1.link.sender s old.place.turn new.last.number) next.next.1.slot_is
+            found = subst (λ s. HasPlanes old.image old.feed next.next.1.link.sender s old.place.turn new.last.number) next.next.1.slot_is
                 (record { planes = values; is = found.found.1; values = found.found.2 });
           };
         },
@@ -173,7 +172,7 @@ module _ (old : PackPassView) (slot : ℕ) (next : IsUpcoming old (action.Take s
           slot = slot;
           looks = looks taken.NotYet missed old.place missed.found.2;
           other = missed.found.0;
-          before = subst (λ s. WasSentBefore old.image old.lanes next.next.1.link.sender s old.place.turn new.last.number) next.next.1.slot_is missed.found.1;
+          before = subst (λ s. WasSentBefore old.image old.feed next.next.1.link.sender s old.place.turn new.last.number) next.next.1.slot_is missed.found.1;
         });
       }
 

@@ -7,8 +7,8 @@ use Rattle.crew_run.specs.Steps as step
 use Rattle.crew_run.specs.Steps.{steps_of}
 use Rattle.crew_run.specs.declared.stepper.Step.{Step}
 use Rattle.crew_run.specs.declared.stepper.Step.TheVariants.{Done, Moved, NotYet}
-use Rattle.pack_words.specs.Passes.{BarView, IsFit, IsOf, PackPassView, one_step}
-use Rattle.pack_words.specs.Rule.{turns_of}
+use Rattle.slot_words.specs.packed.Passes.{BarView, IsFit, IsOf, PackPassView, one_step}
+use Rattle.slot_words.specs.packed.Words.{turns_of}
 use Rattle.pack_run.proofs.NextLemmas.{event_not_short, event_not_wait, wait_short}
 use Rattle.pack_run.specs.Pairs.{HasMadeAll}
 use Rattle.pack_run.specs.Same.{IsSame, Takes}
@@ -20,7 +20,8 @@ pub record IsNext (old new : PackPassView) (made : ℕ) : Type 0 where
   pub table : new.table ≡ old.table
   pub port : new.port ≡ old.port
   pub image : new.image ≡ old.image
-  pub lanes : new.lanes ≡ old.lanes
+  pub lanes : new.feed ≡ old.feed
+  pub banks : new.banks ≡ old.banks
   pub steps : new.steps ≡ old.steps + made
 
 module _ (old new : PackPassView) where
@@ -29,7 +30,8 @@ module _ (old new : PackPassView) where
     table = ap (λ (p : PackPassView). p.table) is;
     port = ap (λ (p : PackPassView). p.port) is;
     image = ap (λ (p : PackPassView). p.image) is;
-    lanes = ap (λ (p : PackPassView). p.lanes) is;
+    lanes = ap (λ (p : PackPassView). p.feed) is;
+    banks = ap (λ (p : PackPassView). p.banks) is;
     steps = ap (λ (p : PackPassView). p.steps) is;
   }
 
@@ -48,12 +50,12 @@ module _ (old new : PackPassView) where
   pub step_next : (answer : Step) → IsStepOf old answer new → IsNext old new (steps_of answer)
   step_next Moved is = event_next is.0 is.1
   step_next NotYet is = wait_next is
-  step_next Done is = subst (λ n. IsNext old n 0) (sym is.1) (record { table = refl; port = refl; image = refl; lanes = refl; steps = omega arith })
+  step_next Done is = subst (λ n. IsNext old n 0) (sym is.1) (record { table = refl; port = refl; image = refl; lanes = refl; banks = refl; steps = omega arith })
 
   pub step_of : (bar : BarView) (answer : Step) → IsOf bar old → IsStepOf old answer new → IsOf bar new
   step_of bar answer own is =
       let next = step_next answer is in
-      record { table = next.table ∙ own.table; image = next.image ∙ own.image; lanes = next.lanes ∙ own.lanes }
+      record { table = next.table ∙ own.table; image = next.image ∙ own.image; feed = next.lanes ∙ own.feed; banks = next.banks ∙ own.banks }
 
   -- an event raises the turn where it ends it
   event_turn : (e : Event) → IsEvent old e new → new.place.turn ≡ old.place.turn + (if ends_turn e then 1 else 0)

@@ -19,12 +19,10 @@ use Rattle.event_defs.specs.declared.place.Event.{Event}
 use Rattle.atomic_table.specs.Seated.{TableId}
 use Rattle.atomic_table.specs.Table.{State}
 use Rattle.slot_words.specs.Layout.{progress_in, progress_word, send_word, sent_in, turns_told}
-use Rattle.pack_words.specs.Passes.{PackPassView}
-use Rattle.pack_words.specs.Rule.{stimulus_of, turns_of}
-use Rattle.pack_words.specs.Words.{packed}
-use Rattle.pack_words.specs.declared.rule.Look.{Look}
-use Rattle.pack_words.specs.declared.rule.PackKey.{PackKey}
-use Rattle.pack_words.specs.declared.rule.PackView.{PackView}
+use Rattle.slot_words.specs.packed.Passes.{PackPassView}
+use Rattle.slot_words.specs.packed.Words.{packed, stimulus_of, turns_of}
+use Rattle.slot_words.specs.declared.rule.Look.{Look}
+use Rattle.slot_words.specs.packed.Sound.{PackKey, PackView}
 
 -- the core's word of a send says in this lane what the packed word says: both are 0 before the first Put, and then
 -- the core's has the turn and the value of the lane, and the packed word that turn's stamp and planes with the value
@@ -49,7 +47,7 @@ pub record IsStateIn (image : Image) (lanes : Lanes) (words : List ℕ) (views :
 
 -- the same of a packed crossbar between any two steps
 abbrev pub IsStateOf : PackKey → State (Unit {0}) PackView → ℕ → CoreState → Type 0
-IsStateOf key s l state = IsStateIn key.image.value key.lanes.value s.words s.views l state
+IsStateOf key s l state = IsStateIn key.image.value key.feed.value s.words s.views l state
 
 -- the pass of port p that a seat has
 abbrev pub pass_in : TableId → ℕ → PackView → PackPassView
@@ -57,7 +55,8 @@ pass_in table p v = record {
   table = table;
   port = p;
   image = v.image;
-  lanes = v.lanes;
+  feed = v.feed;
+  banks = v.banks;
   place = v.place;
   steps = v.steps;
   last = v.last;
@@ -67,7 +66,7 @@ pass_in table p v = record {
 pub record IsCoreStep (l : ℕ) (pass : PackPassView) (state : CoreState) (answer : CoreStep) (after : CoreState) : Type 0 where
   pub seat : PortImage
   pub is : IsPort pass.image pass.port seat
-  pub step : IsStep pass.image (stimulus_of pass.image pass.lanes l) 1 (turns_of pass.image pass.lanes) pass.port seat state answer after
+  pub step : IsStep pass.image (stimulus_of pass.image pass.feed l) 1 (turns_of pass.image pass.feed) pass.port seat state answer after
 
 -- the core of the lane makes the same event; its port stands afterwards where the pass does, and the word of the pass's
 -- last step, which the event read or wrote, says there what the pass found or left in it

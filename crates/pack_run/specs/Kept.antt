@@ -1,6 +1,6 @@
 -- What holds of the fields of a running packed port.
 use Rattle.std.specs.Prelude.{◌≡◌}
-use Rattle.pack_words.specs.Passes.{PackPassView}
+use Rattle.slot_words.specs.packed.Passes.{PackPassView}
 use Rattle.pack_run.specs.Pairs.{placed}
 use Rattle.pack_run.specs.declared.running.PackRunning.TheInside.{Inside}
 

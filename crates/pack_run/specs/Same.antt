@@ -1,7 +1,7 @@
 -- Running packed ports that may stand for one another, as a crew sees them.
 use Rattle.std.specs.Prelude.{Bool, ◌≡◌}
 use Rattle.event_defs.specs.declared.place.Event.{Event}
-use Rattle.pack_words.specs.Passes.{BarView, PackPassView}
+use Rattle.slot_words.specs.packed.Passes.{BarView, PackPassView}
 use Rattle.pack_run.specs.Pairs.{last_turn}
 use Rattle.port_run.specs.Steps.{ends_turn}
 use Rattle.pack_run.specs.Steps.{IsEvent}
@@ -11,7 +11,7 @@ pub record IsSame (one_bar : BarView) (one : PackPassView) (other_bar : BarView)
   pub bar : other_bar ≡ one_bar
   pub port : other.port ≡ one.port
   pub image : other.image ≡ one.image
-  pub lanes : other.lanes ≡ one.lanes
+  pub lanes : other.feed ≡ one.feed
   pub last_turn : last_turn other ≡ last_turn one
 
 -- one event leads from the first to the second, and it ends the turn where the truth is true

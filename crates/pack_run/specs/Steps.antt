@@ -13,9 +13,8 @@ use Rattle.crew_run.specs.declared.stepper.Step.{Step}
 use Rattle.crew_run.specs.declared.stepper.Step.TheVariants.{Done, Moved, NotYet}
 use Rattle.slot_words.specs.Layout.{progress_word, send_word}
 use Rattle.port_run.specs.Steps.{IsSource}
-use Rattle.pack_words.specs.Passes.{AreValues, IsRunning, PackPassView, WasSentBefore, one_step}
-use Rattle.pack_words.specs.Rule.{HasPlanes}
-use Rattle.pack_words.specs.Words.{packed, stamp_in, stamp_of}
+use Rattle.slot_words.specs.packed.Passes.{AreValues, IsRunning, PackPassView, WasSentBefore, one_step}
+use Rattle.slot_words.specs.packed.Words.{HasPlanes, packed, stamp_in, stamp_of}
 use Rattle.pack_run.specs.Pairs.{HasMadeAll}
 
 -- the word of send number i of port p
@@ -34,7 +33,7 @@ module _ (seat : PortImage) (old new : PackPassView) where
   pub record Puts (slot : ℕ) : Type 0 where
     pub next : PutsNext seat old.place 1 slot
     pub planes : Planes
-    pub values : AreValues old.image old.lanes old.place.turn old.port slot planes
+    pub values : AreValues old.image old.feed old.place.turn old.port slot planes
     pub is : new ≡ one_step old (after_put old.place slot) (word_at old old.port next.i) (packed old.place.turn planes)
 
   -- it looked at the word of what it receives, and stands there afterwards
@@ -58,7 +57,7 @@ module _ (seat : PortImage) (old new : PackPassView) where
   pub record HasTaken (slot : ℕ) : Type 0 where
     pub looks : Looks slot (after_take old.place slot)
     pub now : stamp_of new.last.number ≡ stamp_in old.place.turn
-    pub found : HasPlanes old.image old.lanes looks.next.link.sender slot old.place.turn new.last.number
+    pub found : HasPlanes old.image old.feed looks.next.link.sender slot old.place.turn new.last.number
 
   -- this event was made
   abbrev pub Makes : Event → Type 0
@@ -78,7 +77,7 @@ module _ (seat : PortImage) (old new : PackPassView) where
     pub slot : ℕ
     pub looks : Looks slot old.place
     pub other : stamp_of new.last.number ≢ stamp_in old.place.turn
-    pub before : WasSentBefore old.image old.lanes looks.next.link.sender slot old.place.turn new.last.number
+    pub before : WasSentBefore old.image old.feed looks.next.link.sender slot old.place.turn new.last.number
 
 -- ---- steps
 

@@ -10,16 +10,14 @@ ghost use Rattle.event_defs.specs.declared.place.Event.{Event};
 ghost use Rattle.atomic_table.specs.Seated.{TableId};
 ghost use Rattle.atomic_table.specs.Table.{Act, State, stepped};
 ghost use Rattle.port_run.specs.Core.{is_look};
-ghost use Rattle.pack_words.specs.Rule.{Kept};
-ghost use Rattle.pack_words.specs.declared.rule.PackKey.{PackKey};
-ghost use Rattle.pack_words.specs.declared.rule.PackView.{PackView};
+ghost use Rattle.slot_words.specs.packed.Sound.{Kept, PackKey, PackView};
 ghost use Rattle.pack_run.specs.Core.{IsCoreEvent, IsCoreStep, IsStateOf, pass_in};
 ghost use Rattle.pack_run.specs.Pairs.{HasMadeAll};
 ghost use Rattle.pack_run.specs.Steps.{IsEvent, IsWait};
 
 /// A law: each step of a packed port is, in each lane, the step of a core of all turns on a sound state: the same
 /// event, and what it read or wrote; a wait; or none, where all turns are made. Between any two steps of the seats of
-/// a packed crossbar, as its rule says (`pack_words::law::rule_is_kept`), its words and the places of its passes are
+/// a packed crossbar, as its rule says (`slot_words::pack_words::law::rule_is_kept`), its words and the places of its passes are
 /// in each lane a sound state of a core that runs the lane's stimulus with one bank. Take a step of a seat by which
 /// its pass makes an event; where the event looks, the step leaves the words as they are. Then the core's step of the
 /// port makes the same event in each lane's state, and the core's state afterwards is the lane's of the crossbar after

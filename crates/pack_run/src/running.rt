@@ -6,8 +6,8 @@ ghost use Rattle.image_defs.specs.Frames.{shown};
 ghost use Rattle.image_defs.specs.Places.{host_of};
 ghost use Rattle.port_host.specs.Rows.{printed_sources};
 ghost use Rattle.pack_walk.specs.declared.action.PackAction.TheVariants as action;
-ghost use Rattle.pack_words.specs.Passes.{IsFit, IsOf};
-ghost use Rattle.pack_words.specs.Rule.{stimulus_of};
+ghost use Rattle.slot_words.specs.packed.Passes.{IsFit, IsOf};
+ghost use Rattle.slot_words.specs.packed.Words.{stimulus_of};
 ghost use Rattle.pack_run.specs.Pairs.{AreBegun, last_turn};
 ghost use Rattle.pack_run.specs.Steps.{IsStepOf};
 ghost use Rattle.pack_run.specs.code.Steps.{IsAnswer, IsUpcoming};
@@ -15,7 +15,7 @@ ghost use Rattle.pack_run.specs.code.Steps.{IsAnswer, IsUpcoming};
 use crew_run::Step;
 use logic_four::V4;
 use pack_walk::{PackAction, PackPlaced};
-use pack_words::{PackBar, PackPass, PackTaken};
+use slot_words::pack_words::{PackBar, PackPass, PackTaken};
 use std::marker::Model;
 
 /// A packed port with its pass, both at the same place. A contract sees the pass, and so whose image and
@@ -27,7 +27,7 @@ pub struct PackRunning<'a> {
 }
 
 impl<'a> Model for PackRunning<'a> {
-    ghost use Rattle.pack_words.specs.Passes.{PackPassView};
+    ghost use Rattle.slot_words.specs.packed.Passes.{PackPassView};
 
     ghost Value = { PackPassView };
 
@@ -152,7 +152,7 @@ impl<'a> PackRunning<'a> {
         requires first { 1 ≤ cycle }
         requires done { self.now.image.units * cycle < self.now.place.turn }
         requires column { column < length (printed_sources self.now.image) }
-        ensures { result ≡ shown self.now.image (stimulus_of self.now.image self.now.lanes lane) cycle column }
+        ensures { result ≡ shown self.now.image (stimulus_of self.now.image self.now.feed lane) cycle column }
     {
         self.cell_at(lane, cycle, column as usize)
     }
@@ -164,7 +164,7 @@ impl<'a> PackRunning<'a> {
         requires first { 1 ≤ cycle }
         requires done { self.now.image.units * cycle < self.now.place.turn }
         requires column { column < length (printed_sources self.now.image) }
-        ensures { result ≡ shown self.now.image (stimulus_of self.now.image self.now.lanes lane) cycle column }
+        ensures { result ≡ shown self.now.image (stimulus_of self.now.image self.now.feed lane) cycle column }
     {
         // A cycle has a turn, since a pass is of a well-formed image.
         let _known = self.pass.known();

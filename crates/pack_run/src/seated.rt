@@ -1,10 +1,10 @@
 //! A running packed port beside its packed crossbar.
 
-ghost use Rattle.pack_words.specs.Passes.{IsOf};
+ghost use Rattle.slot_words.specs.packed.Passes.{IsOf};
 
 use crate::running::PackRunning;
 use crew_run::{Step, Stepper};
-use pack_words::PackBar;
+use slot_words::pack_words::PackBar;
 
 /// A running packed port with the packed crossbar that gave its pass: a member of a crew. Its turns are those
 /// of the longest lane, its steps those of the pass, and its events the same in each lane.

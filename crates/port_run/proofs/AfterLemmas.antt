@@ -30,18 +30,19 @@ use Rattle.slot_words.proofs.SoundLemmas.{told_none}
 use Rattle.slot_words.proofs.StepLemmas.{sent_read}
 use Rattle.slot_words.proofs.TimeLemmas.{progress_kept, progress_set, send_room, sent_set}
 use Rattle.slot_words.specs.Layout.{progress_in, send_word, sent_in, told_in, turns_told}
-use Rattle.slot_words.specs.Passes.{PassView}
-use Rattle.slot_words.specs.Rule.{HasPass, IsKept, IsPassOf, turns_of}
-use Rattle.slot_words.specs.declared.rule.View.{View}
+use Rattle.slot_words.specs.plain.Passes.{PassView}
+use Rattle.slot_words.specs.Rule.{HasPass, IsKept, IsPassOf}
+use Rattle.slot_words.specs.plain.Words.{plain, turns_of}
+use Rattle.slot_words.specs.plain.Sound.{PlainView}
 use Rattle.port_run.specs.Core.{IsCoreEvent, is_look, pass_in}
 use Rattle.port_run.specs.Steps.{IsEvent, Makes}
 
 -- the state of a core has these words, and in it the ports stand where these passes do
-pub record IsStateIn (image : Image) (stimulus : Stimulus) (banks : ℕ) (words : List ℕ) (views : List View) (state : CoreState) : Type 0 where
+pub record IsStateIn (image : Image) (stimulus : Stimulus) (banks : ℕ) (words : List ℕ) (views : List PlainView) (state : CoreState) : Type 0 where
   pub sound : IsSound image stimulus banks (turns_of image stimulus) state
   pub finished : (r : ℕ) → r < length image.ports → state.finished r ≡ turns_told (progress_in words r)
   pub word : state.word ≡ sent_in image banks words
-  pub stands : (id p : ℕ) (v : View) → get_elem? views id ≡ some v → v.port ≡ Some p → state.place p ≡ v.place
+  pub stands : (id p : ℕ) (v : PlainView) → get_elem? views id ≡ some v → v.port ≡ Some p → state.place p ≡ v.place
 
 -- the words are the state's, and the progress word of port p isn't that of a port that is free
 record HasWords (image : Image) (banks p free : ℕ) (now : List ℕ) (state : CoreState) : Type 0 where
@@ -49,8 +50,8 @@ record HasWords (image : Image) (banks p free : ℕ) (now : List ℕ) (state : C
   word : state.word ≡ sent_in image banks now
   claimed : progress_in now p ≢ free
 
-module _ (words : List ℕ) (views : List View) (id p : ℕ) (old : View) (kept : IsKept old.image old.stimulus old.banks words views) (there : get_elem? views id ≡ some old) (port_is : old.port ≡ Some p)
-    (state : CoreState) (is : IsStateIn old.image old.stimulus old.banks words views state) where
+module _ (words : List ℕ) (views : List PlainView) (id p : ℕ) (old : PlainView) (kept : IsKept plain old.image old.feed old.banks words views) (there : get_elem? views id ≡ some old) (port_is : old.port ≡ Some p)
+    (state : CoreState) (is : IsStateIn old.image old.feed old.banks words views state) where
   mine : IsPassOf old.image words kept.place kept.owner id p old
   mine = kept.owned.mine id p old there port_is
 
@@ -145,9 +146,9 @@ module _ (words : List ℕ) (views : List View) (id p : ℕ) (old : View) (kept 
           claimed = λ is_free. let no_turn = none (progress_in (set words word number) p) is_free in absurd (omega (arith, begun, told));
         }
 
-      module _ (table : TableId) (new : View) (after : CoreState) where
+      module _ (table : TableId) (new : PlainView) (after : CoreState) where
         -- the words afterwards, by the core's step and by the word that the step named
-        made_words : (event : Event) → Makes seat (pass_in table p old) (pass_in table p new) event → Moves old.image old.banks p seat state old.stimulus event after
+        made_words : (event : Event) → Makes seat (pass_in table p old) (pass_in table p new) event → Moves old.image old.banks p seat state old.feed event after
             → (is_look event ≡ true → set words word number ≡ words) → told_in old.image (set words word number) new.last.word ≡ new.last.number → HasWords old.image old.banks p free (set words word number) after
         made_words (Ask reader) makes moves still told = subst (HasWords old.image old.banks p free (set words word number)) (sym moves.is) (looked (set words word number) _ (still refl))
         made_words (Take slot) makes moves still told = subst (HasWords old.image old.banks p free (set words word number)) (sym moves.is) (looked (set words word number) _ (still refl))
@@ -158,27 +159,27 @@ module _ (words : List ℕ) (views : List View) (id p : ℕ) (old : View) (kept 
             (tell_words (sym (told_progress old.image (set words word number) p mine.inside) ∙ (ap (told_in old.image (set words word number)) (sym word_is) ∙ (told ∙ number_is))) _)
         made_words (Put slot) makes moves still told =
             let turn : ℕ = (state.place p).turn in
-            let value : ℕ = 4 * turn + code_of (image_value old.image old.stimulus turn p slot) in
+            let value : ℕ = 4 * turn + code_of (image_value old.image old.feed turn p slot) in
             let twin = same_send old.image kept.runs.image_fits p makes.next.i moves.next.i makes.next.link moves.next.link
             (record { port = seat; is = at; link_is = makes.next.sends.is }) (record { port = seat; is = at; link_is = moves.next.sends.is }) (makes.next.slot_is ∙ sym moves.next.slot_is) in
             let word_is : new.last.word ≡ send_word old.image old.banks p moves.next.i (turn % old.banks) =
             ap (λ (x : PassView). x.last.word) makes.is ∙ (ap (λ i. send_word old.image old.banks p i (old.place.turn % old.banks)) twin.0
             ∙ ap (λ (a : Place). send_word old.image old.banks p moves.next.i (a.turn % old.banks)) (sym here_is)) in
-            let number_is : new.last.number ≡ value = ap (λ (x : PassView). x.last.number) makes.is ∙ ap (λ (a : Place). 4 * a.turn + code_of (image_value old.image old.stimulus a.turn p slot)) (sym here_is) in
+            let number_is : new.last.number ≡ value = ap (λ (x : PassView). x.last.number) makes.is ∙ ap (λ (a : Place). 4 * a.turn + code_of (image_value old.image old.feed a.turn p slot)) (sym here_is) in
             subst (HasWords old.image old.banks p free (set words word number)) (sym moves.is)
-            (put_words moves.next.i moves.next.link moves.next.sends value (stamp_in turn (image_value old.image old.stimulus turn p slot))
+            (put_words moves.next.i moves.next.link moves.next.sends value (stamp_in turn (image_value old.image old.feed turn p slot))
             (sym (told_sent old.image old.banks (set words word number) p moves.next.i (turn % old.banks)) ∙ (ap (told_in old.image (set words word number)) (sym word_is) ∙ (told ∙ number_is))) _)
 
         -- the other ports stand where they stood
-        others_stand : (event : Event) → Moves old.image old.banks p seat state old.stimulus event after → (q : ℕ) → q ≢ p → after.place q ≡ state.place q
+        others_stand : (event : Event) → Moves old.image old.banks p seat state old.feed event after → (q : ℕ) → q ≢ p → after.place q ≡ state.place q
         others_stand (Ask reader) moves q other = ap (λ (s : CoreState). s.place q) moves.is ∙ updated_there state.place p q _ other
         others_stand (Put slot) moves q other = ap (λ (s : CoreState). s.place q) moves.is ∙ updated_there state.place p q _ other
         others_stand (Take slot) moves q other = ap (λ (s : CoreState). s.place q) moves.is ∙ updated_there state.place p q _ other
         others_stand Tell moves q other = ap (λ (s : CoreState). s.place q) moves.is ∙ updated_there state.place p q _ other
 
-  module _ (table : TableId) (word number : ℕ) (new : View) (now : IsKept old.image old.stimulus old.banks (set words word number) (set views id new)) where
+  module _ (table : TableId) (word number : ℕ) (new : PlainView) (now : IsKept plain old.image old.feed old.banks (set words word number) (set views id new)) where
     -- a seat other than this has another port
-    other_port : (other q : ℕ) (v : View) → get_elem? views other ≡ some v → v.port ≡ Some q → other ≢ id → q ≢ p
+    other_port : (other q : ℕ) (v : PlainView) → get_elem? views other ≡ some v → v.port ≡ Some q → other ≢ id → q ≢ p
     other_port other q v at has away same =
         let theirs = kept.owned.mine other p v at (has ∙ ap Some same) in
         away (theirs.owner_is ∙ sym mine.owner_is)
@@ -187,27 +188,27 @@ module _ (words : List ℕ) (views : List View) (id p : ℕ) (old : View) (kept 
     same_seat : HasPass (set views id new) now.owner p → new.port ≡ Some p
     same_seat has =
         elim (at_set views id (now.owner p) new has.view has.at) [
-          | inl t ↦ ap (λ (v : View). v.port) t.1 ∙ has.port_is
+          | inl t ↦ ap (λ (v : PlainView). v.port) t.1 ∙ has.port_is
           | inr t ↦ absurd (other_port (now.owner p) p has.view t.1 has.port_is t.0 refl)
         ]
 
-    pub after_there : (until : ℕ) (event : Event) → IsEvent until (pass_in table p old) event (pass_in table p new) → (core : IsCoreEvent (turns_of old.image old.stimulus) (pass_in table p old) event (pass_in table p new) state)
+    pub after_there : (until : ℕ) (event : Event) → IsEvent until (pass_in table p old) event (pass_in table p new) → (core : IsCoreEvent (turns_of old.image old.feed) (pass_in table p old) event (pass_in table p new) state)
         → (is_look event ≡ true → set words word number ≡ words) → told_in old.image (set words word number) new.last.word ≡ new.last.number
-        → IsStateIn old.image old.stimulus old.banks (set words word number) (set views id new) core.after
+        → IsStateIn old.image old.feed old.banks (set words word number) (set views id new) core.after
     after_there until event made core still told =
         let seat : PortImage = core.step.seat in
         let at : IsPort old.image p seat = core.step.is in
         let makes : Makes seat (pass_in table p old) (pass_in table p new) event = subst (λ s. Makes s (pass_in table p old) (pass_in table p new) event) (same_port old.image p made.seat seat made.is at) made.makes in
         let has = made_words _ told_none mine.claimed seat at word number table new core.after event makes core.step.step.1 still told in
         record {
-          sound = step_sound old.image old.stimulus old.banks (turns_of old.image old.stimulus) kept.runs.image_fits kept.runs.some state is.sound p seat at (Moved event) core.after core.step.step;
+          sound = step_sound old.image old.feed old.banks (turns_of old.image old.feed) kept.runs.image_fits kept.runs.some state is.sound p seat at (Moved event) core.after core.step.step;
           finished = has.finished;
           word = has.word;
           stands = λ other q v here port. elim (at_set views id other new v here) [
             | inl t ↦
-                let same : Some p ≡ Some q = sym (same_seat (now.owned.seen p mine.inside has.claimed)) ∙ (ap (λ (v : View). v.port) t.1 ∙ port) in
+                let same : Some p ≡ Some q = sym (same_seat (now.owned.seen p mine.inside has.claimed)) ∙ (ap (λ (v : PlainView). v.port) t.1 ∙ port) in
                 let same_q : p ≡ q = cc in
-                subst (λ q. core.after.place q ≡ v.place) same_q (core.stands ∙ ap (λ (v : View). v.place) t.1)
+                subst (λ q. core.after.place q ≡ v.place) same_q (core.stands ∙ ap (λ (v : PlainView). v.place) t.1)
             | inr t ↦ others_stand _ told_none mine.claimed seat at word number table new core.after event core.step.step.1 q (other_port other q v t.1 port t.0) ∙ is.stands other q v t.1 port
           ];
         }

@@ -18,11 +18,11 @@ use Rattle.event_defs.specs.declared.place.Event.{Event}
 use Rattle.event_defs.specs.declared.place.Event.TheVariants.{Ask, Put, Take, Tell}
 use Rattle.event_defs.specs.declared.place.Place.{Place}
 use Rattle.event_defs.specs.declared.place.CoreStep.TheVariants.{NotYet, Done}
-use Rattle.slot_words.proofs.LinkLemmas.{member_at}
+use Rattle.list_laws.proofs.Members.{member_at}
 use Rattle.slot_words.proofs.StepLemmas.{same_places}
 use Rattle.port_run.proofs.NextLemmas.{asked_again, asked_in}
 use Rattle.slot_words.specs.Layout.{progress_word, send_word}
-use Rattle.slot_words.specs.Passes.{IsFit, PassView}
+use Rattle.slot_words.specs.plain.Passes.{IsFit, PassView}
 use Rattle.port_run.specs.Core.{IsCoreEvent, IsCoreStep, Shows, StandsIn, is_look}
 use Rattle.port_run.specs.Pairs.{HasMade}
 use Rattle.port_run.specs.Steps.{AskWaits, HasAsked, HasTaken, IsEvent, IsWait, Looks, Makes, Puts, TakeWaits, Tells, value_there, word_now}
@@ -36,7 +36,7 @@ module _ (old : PassView) (fit : IsFit old) (state : CoreState) (stands : Stands
   placed f new after after_is new_is = ap (λ g. g old.port) after_is ∙ (updated_here state.place old.port (f (state.place old.port)) ∙ (ap f stands ∙ sym new_is))
 
   module _ (seat : PortImage) (is : IsPort old.image old.port seat) (turns : ℕ) (early : old.place.turn ≤ turns) (new : PassView) where
-    event_by : (e : Event) (after : CoreState) → Moves old.image old.banks old.port seat state old.stimulus e after → StandsIn new after → Shows old after new.last → IsCoreEvent turns old e new state
+    event_by : (e : Event) (after : CoreState) → Moves old.image old.banks old.port seat state old.feed e after → StandsIn new after → Shows old after new.last → IsCoreEvent turns old e new state
     event_by e after moves stands_there shows = record { after = after; step = record { seat = seat; is = is; step = (here (λ a. a.turn ≤ turns) early, moves) }; stands = stands_there; shows = shows }
 
     -- no progress word is one of a send
@@ -90,7 +90,7 @@ module _ (old : PassView) (fit : IsFit old) (state : CoreState) (stands : Stands
     put_shows : (slot : ℕ) (puts : Puts seat old new slot) (place : ℕ → Place) → Shows old (record {
       place = place;
       finished = state.finished;
-      word = written state.word old.port puts.next.i ((state.place old.port).turn % old.banks) (4 * (state.place old.port).turn + code_of (image_value old.image old.stimulus (state.place old.port).turn old.port slot));
+      word = written state.word old.port puts.next.i ((state.place old.port).turn % old.banks) (4 * (state.place old.port).turn + code_of (image_value old.image old.feed (state.place old.port).turn old.port slot));
     }) new.last
     put_shows slot puts place = record {
       progress = λ r inside at. absurd (progress_apart r old.port puts.next.i (old.place.turn % old.banks) inside (sym at ∙ look_word));
@@ -103,7 +103,7 @@ module _ (old : PassView) (fit : IsFit old) (state : CoreState) (stands : Stands
       look_word = ap (λ (x : PassView). x.last.word) puts.is
 
       x : ℕ
-      x = 4 * (state.place old.port).turn + code_of (image_value old.image old.stimulus (state.place old.port).turn old.port slot)
+      x = 4 * (state.place old.port).turn + code_of (image_value old.image old.feed (state.place old.port).turn old.port slot)
 
       bank : ℕ
       bank = (state.place old.port).turn % old.banks
@@ -116,7 +116,7 @@ module _ (old : PassView) (fit : IsFit old) (state : CoreState) (stands : Stands
 
       here_is : word old.port puts.next.i (old.place.turn % old.banks) ≡ new.last.number
       here_is = subst (λ t. word old.port puts.next.i (t % old.banks) ≡ new.last.number) turn_is
-          (at_own ∙ (ap (λ t. 4 * t + code_of (image_value old.image old.stimulus t old.port slot)) turn_is ∙ sym (ap (λ (x : PassView). x.last.number) puts.is)))
+          (at_own ∙ (ap (λ t. 4 * t + code_of (image_value old.image old.feed t old.port slot)) turn_is ∙ sym (ap (λ (x : PassView). x.last.number) puts.is)))
 
     puts_event : (slot : ℕ) → Puts seat old new slot → IsCoreEvent turns old (Put slot) new state
     puts_event slot puts =
@@ -129,7 +129,7 @@ module _ (old : PassView) (fit : IsFit old) (state : CoreState) (stands : Stands
         } in
         let after : CoreState = record state {
           place = updated state.place old.port (after_put (state.place old.port) slot);
-          word = written state.word old.port puts.next.i ((state.place old.port).turn % old.banks) (4 * (state.place old.port).turn + code_of (image_value old.image old.stimulus (state.place old.port).turn old.port slot));
+          word = written state.word old.port puts.next.i ((state.place old.port).turn % old.banks) (4 * (state.place old.port).turn + code_of (image_value old.image old.feed (state.place old.port).turn old.port slot));
         } in
         event_by (Put slot) after (record { next = next; is = refl }) (same_port_stands (ap (λ (x : PassView). x.port) puts.is) after (placed (λ a. after_put a slot) new after refl (ap (λ (x : PassView). x.place) puts.is)))
         (put_shows slot puts after.place)

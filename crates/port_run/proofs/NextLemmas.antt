@@ -18,7 +18,7 @@ use Rattle.event_defs.specs.declared.place.Event.{Event}
 use Rattle.event_defs.specs.declared.place.Event.TheVariants.{Ask, Put, Take, Tell}
 use Rattle.event_defs.specs.declared.place.Place.{Place}
 use Rattle.slot_words.specs.Layout.{progress_word, send_word}
-use Rattle.slot_words.specs.Passes.{IsFit, PassView, one_step}
+use Rattle.slot_words.specs.plain.Passes.{IsFit, PassView, one_step}
 use Rattle.port_run.specs.Steps.{AskWaits, IsEvent, IsShort, IsWait, Makes, TakeWaits, value_there, word_now}
 
 -- the words of sends stand behind those of ports

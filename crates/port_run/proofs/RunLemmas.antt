@@ -16,10 +16,10 @@ use Rattle.crew_run.specs.declared.stepper.Step.TheVariants.{Done, Moved, NotYet
 use Rattle.port_host.specs.Rows.{HostView}
 use Rattle.port_walk.specs.Placed.{CanTakeValue, HasPut, HasTaken, IsHostIn, IsNextOf, IsReceiving, IsSending, PlacedPort, at_start, block_end, in_next_block}
 use Rattle.port_walk.proofs.BlockLemmas.{end_low}
-use Rattle.slot_words.proofs.LinkLemmas.{member_at}
+use Rattle.list_laws.proofs.Members.{member_at}
 use Rattle.slot_words.specs.Layout.{progress_word}
-use Rattle.slot_words.specs.Rule.{turns_of}
-use Rattle.slot_words.specs.Passes.{HasLooked, IsFit, IsPut, IsTake, PassView, one_step}
+use Rattle.slot_words.specs.plain.Words.{turns_of}
+use Rattle.slot_words.specs.plain.Passes.{HasLooked, IsFit, IsPut, IsTake, PassView, one_step}
 use Rattle.slot_words.specs.declared.crossbar.Taken.{Taken}
 use Rattle.slot_words.specs.declared.crossbar.Taken.TheVariants as taken
 use Rattle.port_run.specs.Pairs.{AreBegun, IsHostOf, RunView, first_block, next_block, placed, with_pass}
@@ -37,15 +37,15 @@ abbrev run_at : PassView → PlacedPort → RunView
 run_at pass port = record { pass = pass; window = port.window; first_row = port.first_row; until = port.until }
 
 -- before the first event
-placed_first : (pass : PassView) (window : ℕ) (port : PlacedPort) → pass.place ≡ start (length pass.image.ports) → port ≡ at_start pass.image pass.stimulus pass.port window → port ≡ placed (run_at pass port)
+placed_first : (pass : PassView) (window : ℕ) (port : PlacedPort) → pass.place ≡ start (length pass.image.ports) → port ≡ at_start pass.image pass.feed pass.port window → port ≡ placed (run_at pass port)
 placed_first pass window port place is =
     subst (λ p. p ≡ placed (run_at pass p)) (sym is)
-    (ap {A = Place} {B = PlacedPort} (λ (x : Place). record (at_start pass.image pass.stimulus pass.port window) { turn = x.turn; puts = x.puts; takes = x.takes }) (sym place))
+    (ap {A = Place} {B = PlacedPort} (λ (x : Place). record (at_start pass.image pass.feed pass.port window) { turn = x.turn; puts = x.puts; takes = x.takes }) (sym place))
 
 pub kept_first : (a : Inside) → AreBegun a.pass a.port → IsKept a
 kept_first a begun = record {
   port = placed_first a.pass a.port.window a.port begun.place_is begun.port_is;
-  until = ap (λ (p : PlacedPort). p.until) begun.port_is ∙ ap (λ n. block_end a.pass.image a.pass.stimulus n a.port.window) (sym (ap (λ (p : PlacedPort). p.first_row) begun.port_is));
+  until = ap (λ (p : PlacedPort). p.until) begun.port_is ∙ ap (λ n. block_end a.pass.image a.pass.feed n a.port.window) (sym (ap (λ (p : PlacedPort). p.first_row) begun.port_is));
 }
 
 pub block_first : (pass : PassView) (port : PlacedPort) → AreBegun pass port → run_at pass port ≡ first_block pass port.window
@@ -62,7 +62,7 @@ kept_after a new port answer kept step is =
     let next = step_next a.port.until a.pass new answer step in
     subst (λ p. IsKept (record a { pass = new; port = p })) (sym is) (record {
       port = refl;
-      until = subst (λ i. a.port.until ≡ block_end i new.stimulus a.port.first_row a.port.window) (sym next.image)
+      until = subst (λ i. a.port.until ≡ block_end i new.feed a.port.first_row a.port.window) (sym next.image)
           (subst (λ s. a.port.until ≡ block_end a.pass.image s a.port.first_row a.port.window) (sym next.stimulus) kept.until);
     })
 
@@ -75,11 +75,11 @@ block_next a run port kept same is =
     ap (run_at a.pass) (is ∙ ap in_next_block kept.port) ∙ ap next_block same
 
 -- the last turn of a block is one of the run
-pub few_turns : (run : RunView) → run.until ≡ block_end run.pass.image run.pass.stimulus run.first_row run.window → run.until ≤ turns_of run.pass.image run.pass.stimulus
-few_turns run until = omega (arith, until, end_low run.pass.image run.pass.stimulus run.first_row run.window)
+pub few_turns : (run : RunView) → run.until ≡ block_end run.pass.image run.pass.feed run.first_row run.window → run.until ≤ turns_of run.pass.image run.pass.feed
+few_turns run until = omega (arith, until, end_low run.pass.image run.pass.feed run.first_row run.window)
 
 -- what the port says comes next does
-pub upcoming : (run : RunView) (port : PlacedPort) (known : List ℕ) (banks : ℕ) (next : Action) → port ≡ placed run → run.until ≡ block_end run.pass.image run.pass.stimulus run.first_row run.window
+pub upcoming : (run : RunView) (port : PlacedPort) (known : List ℕ) (banks : ℕ) (next : Action) → port ≡ placed run → run.until ≡ block_end run.pass.image run.pass.feed run.first_row run.window
     → known ≡ run.pass.place.known → banks ≡ run.pass.banks → IsFit run.pass → IsNextOf port known banks next → IsUpcoming run.until run.pass next
 upcoming run port known banks next port_is until known_is banks_are fit is =
     let pass : PassView = run.pass in
@@ -190,7 +190,7 @@ module _ (run : RunView) (slot : ℕ) (next : IsUpcoming run.until run.pass (act
 
 -- ---- the host
 
-pub host_of_run : {X : Type 0} (seen : X → HostView) (run : RunView) (port : PlacedPort) (host : Option X) → port ≡ placed run → run.until ≡ block_end run.pass.image run.pass.stimulus run.first_row run.window → IsFit run.pass
+pub host_of_run : {X : Type 0} (seen : X → HostView) (run : RunView) (port : PlacedPort) (host : Option X) → port ≡ placed run → run.until ≡ block_end run.pass.image run.pass.feed run.first_row run.window → IsFit run.pass
     → MatchOption host (port.port ≢ host_of port.image) (λ h. IsHostIn port (seen h)) → MatchOption host (run.pass.port ≢ host_of run.pass.image) (λ h. IsHostOf run (seen h))
 host_of_run seen run port None port_is until fit is = subst (λ (p : PlacedPort). p.port ≢ host_of p.image) port_is is
 host_of_run seen run port (Some host) port_is until fit is =
@@ -205,7 +205,7 @@ host_of_run seen run port (Some host) port_is until fit is =
       first_row = here.first_row;
       all_rows = λ done.
           ap₂ (λ (t : ℕ) (i : Image). (t - 1) / i.units) (here.turn ∙ (done ∙ ap (λ n. n + 1) until)) here.image
-          ∙ rows run.pass.image.units (min (run.first_row + run.window) (cycle_count run.pass.stimulus)) fit.runs.image_fits.units.0;
+          ∙ rows run.pass.image.units (min (run.first_row + run.window) (cycle_count run.pass.feed)) fit.runs.image_fits.units.0;
     } where
       rows : (units cycles : ℕ) → 1 ≤ units → (units * cycles + 1 - 1) / units ≡ cycles
       rows units cycles some =

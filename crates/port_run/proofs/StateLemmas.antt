@@ -10,20 +10,20 @@ use Rattle.event_defs.specs.declared.place.Place.{Place}
 use Rattle.atomic_table.specs.Seated.{TableId}
 use Rattle.atomic_table.specs.Table.{Act, State, stepped}
 use Rattle.slot_words.proofs.LookLemmas.{counted_look, told_progress, told_sent}
-use Rattle.slot_words.proofs.SoundLemmas.{rule_sound}
+use Rattle.slot_words.proofs.PlainLemmas.{rule_sound}
 use Rattle.slot_words.proofs.StepLemmas.{sent_read}
 use Rattle.slot_words.specs.Layout.{told_in}
-use Rattle.slot_words.specs.Passes.{IsFit, PassView}
-use Rattle.slot_words.specs.Rule.{ArePassesSound, IsKept, IsPassOf, Kept, turns_of}
-use Rattle.slot_words.specs.declared.rule.Key.{Key}
+use Rattle.slot_words.specs.plain.Passes.{IsFit, PassView}
+use Rattle.slot_words.specs.plain.Sound.{ArePassesSound, Kept, PlainKey, PlainView}
+use Rattle.slot_words.specs.Rule.{IsKept, IsPassOf}
+use Rattle.slot_words.specs.plain.Words.{plain, turns_of}
 use Rattle.slot_words.specs.declared.rule.Look.{Look}
-use Rattle.slot_words.specs.declared.rule.View.{View}
 use Rattle.port_run.proofs.AfterLemmas.{IsStateIn, after_there}
 use Rattle.port_run.proofs.CoreLemmas.{core_event, core_wait}
 use Rattle.port_run.specs.Core.{IsCoreEvent, IsCoreStep, IsStateOf, Shows, is_look, pass_in}
 use Rattle.port_run.specs.Steps.{IsEvent, IsWait}
 
-pub state_there : (key : Key) (s : State (Unit {0}) View) → Kept key s → (state : CoreState) × IsStateOf key s state
+pub state_there : (key : PlainKey) (s : State (Unit {0}) PlainView) → Kept key s → (state : CoreState) × IsStateOf key s state
 state_there key s kept =
     let sound : ArePassesSound key s = rule_sound key s kept in
     (_, record { sound = sound.sound; finished = λ r low. refl; word = refl; stands = λ id p v at port_is. sym (sound.places id p v at port_is).1 })
@@ -43,8 +43,8 @@ wait_counted until old new wait = elim wait.waits [
 
 -- ---- by the image, stimulus and banks of a view
 
-module _ (words : List ℕ) (views : List View) (id p : ℕ) (old : View) (table : TableId) (kept : IsKept old.image old.stimulus old.banks words views) (there : get_elem? views id ≡ some old) (port_is : old.port ≡ Some p)
-    (state : CoreState) (is : IsStateIn old.image old.stimulus old.banks words views state) where
+module _ (words : List ℕ) (views : List PlainView) (id p : ℕ) (old : PlainView) (table : TableId) (kept : IsKept plain old.image old.feed old.banks words views) (there : get_elem? views id ≡ some old) (port_is : old.port ≡ Some p)
+    (state : CoreState) (is : IsStateIn old.image old.feed old.banks words views state) where
   mine : IsPassOf old.image words kept.place kept.owner id p old
   mine = kept.owned.mine id p old there port_is
 
@@ -64,7 +64,7 @@ module _ (words : List ℕ) (views : List View) (id p : ℕ) (old : View) (table
         ∙ subst (λ w. told_in old.image words w ≡ look.number) at told);
   }
 
-  module _ (word number : ℕ) (new : View) (after : IsKept old.image old.stimulus old.banks (set words word number) (set views id new)) where
+  module _ (word number : ℕ) (new : PlainView) (after : IsKept plain old.image old.feed old.banks (set words word number) (set views id new)) where
     told : new.steps ≡ old.steps + 1 → told_in old.image (set words word number) new.last.word ≡ new.last.number
     told counted = counted_look old.image words (set words word number) views id old new kept.looks there counted after.looks
 
@@ -72,50 +72,50 @@ module _ (words : List ℕ) (views : List View) (id p : ℕ) (old : View) (table
     still_shown : new.steps ≡ old.steps + 1 → set words word number ≡ words → Shows (pass_in table p old) state new.last
     still_shown counted still = shown new.last (subst (λ ws. told_in old.image ws new.last.word ≡ new.last.number) still (told counted))
 
-    event_in : (until : ℕ) (event : Event) → until ≤ turns_of old.image old.stimulus → IsEvent until (pass_in table p old) event (pass_in table p new) → (is_look event ≡ true → set words word number ≡ words)
-        → (core : IsCoreEvent (turns_of old.image old.stimulus) (pass_in table p old) event (pass_in table p new) state) × IsStateIn old.image old.stimulus old.banks (set words word number) (set views id new) core.after
+    event_in : (until : ℕ) (event : Event) → until ≤ turns_of old.image old.feed → IsEvent until (pass_in table p old) event (pass_in table p new) → (is_look event ≡ true → set words word number ≡ words)
+        → (core : IsCoreEvent (turns_of old.image old.feed) (pass_in table p old) event (pass_in table p new) state) × IsStateIn old.image old.feed old.banks (set words word number) (set views id new) core.after
     event_in until event few made still =
         let counted : new.steps ≡ old.steps + 1 = event_counted until (pass_in table p old) event (pass_in table p new) made in
-        let core : IsCoreEvent (turns_of old.image old.stimulus) (pass_in table p old) event (pass_in table p new) state =
-        core_event until (turns_of old.image old.stimulus) (pass_in table p old) (pass_in table p new) event state few fits made (is.stands id p old there port_is) (λ looks. still_shown counted (still looks)) in
+        let core : IsCoreEvent (turns_of old.image old.feed) (pass_in table p old) event (pass_in table p new) state =
+        core_event until (turns_of old.image old.feed) (pass_in table p old) (pass_in table p new) event state few fits made (is.stands id p old there port_is) (λ looks. still_shown counted (still looks)) in
         (core, after_there words views id p old kept there port_is state is table word number new after until event made core still (told counted))
 
-    wait_in : (until : ℕ) → until ≤ turns_of old.image old.stimulus → IsWait until (pass_in table p old) (pass_in table p new) → set words word number ≡ words → IsCoreStep (turns_of old.image old.stimulus) (pass_in table p old) state NotYet state
-    wait_in until few wait still = core_wait until (turns_of old.image old.stimulus) (pass_in table p old) (pass_in table p new) state few fits wait (is.stands id p old there port_is) (still_shown (wait_counted until (pass_in table p old) (pass_in table p new) wait) still)
+    wait_in : (until : ℕ) → until ≤ turns_of old.image old.feed → IsWait until (pass_in table p old) (pass_in table p new) → set words word number ≡ words → IsCoreStep (turns_of old.image old.feed) (pass_in table p old) state NotYet state
+    wait_in until few wait still = core_wait until (turns_of old.image old.feed) (pass_in table p old) (pass_in table p new) state few fits wait (is.stands id p old there port_is) (still_shown (wait_counted until (pass_in table p old) (pass_in table p new) wait) still)
 
 -- ---- by the key
 
-module _ (key : Key) (s : State (Unit {0}) View) (id p : ℕ) (old : View) (table : TableId) (kept : Kept key s) (there : get_elem? s.views id ≡ some old) (port_is : old.port ≡ Some p) where
-  same : (old.image ≡ key.image.value) × (old.stimulus ≡ key.stimulus.value) × (old.banks ≡ key.banks)
+module _ (key : PlainKey) (s : State (Unit {0}) PlainView) (id p : ℕ) (old : PlainView) (table : TableId) (kept : Kept key s) (there : get_elem? s.views id ≡ some old) (port_is : old.port ≡ Some p) where
+  same : (old.image ≡ key.image.value) × (old.feed ≡ key.feed.value) × (old.banks ≡ key.banks)
   same = kept.owned.same id old there
 
-  state_in : (state : CoreState) → IsStateOf key s state → IsStateIn old.image old.stimulus old.banks s.words s.views state
+  state_in : (state : CoreState) → IsStateOf key s state → IsStateIn old.image old.feed old.banks s.words s.views state
   state_in state is =
-      subst (λ i. IsStateIn i old.stimulus old.banks s.words s.views state) (sym same.0)
+      subst (λ i. IsStateIn i old.feed old.banks s.words s.views state) (sym same.0)
       (subst (λ m. IsStateIn key.image.value m old.banks s.words s.views state) (sym same.1)
-      (subst (λ b. IsStateIn key.image.value key.stimulus.value b s.words s.views state) (sym same.2)
+      (subst (λ b. IsStateIn key.image.value key.feed.value b s.words s.views state) (sym same.2)
       (record { sound = is.sound; finished = is.finished; word = is.word; stands = is.stands })))
 
-  state_of : (now : State (Unit {0}) View) (state : CoreState) → IsStateIn old.image old.stimulus old.banks now.words now.views state → IsStateOf key now state
+  state_of : (now : State (Unit {0}) PlainView) (state : CoreState) → IsStateIn old.image old.feed old.banks now.words now.views state → IsStateOf key now state
   state_of now state is =
-      let there : IsStateIn key.image.value key.stimulus.value key.banks now.words now.views state =
-      subst (λ b. IsStateIn key.image.value key.stimulus.value b now.words now.views state) same.2
+      let there : IsStateIn key.image.value key.feed.value key.banks now.words now.views state =
+      subst (λ b. IsStateIn key.image.value key.feed.value b now.words now.views state) same.2
       (subst (λ m. IsStateIn key.image.value m old.banks now.words now.views state) same.1
-      (subst (λ i. IsStateIn i old.stimulus old.banks now.words now.views state) same.0 is)) in
+      (subst (λ i. IsStateIn i old.feed old.banks now.words now.views state) same.0 is)) in
       record { sound = there.sound; finished = there.finished; word = there.word; stands = there.stands }
 
-  kept_in : (words : List ℕ) (views : List View) → IsKept key.image.value key.stimulus.value key.banks words views → IsKept old.image old.stimulus old.banks words views
+  kept_in : (words : List ℕ) (views : List PlainView) → IsKept plain key.image.value key.feed.value key.banks words views → IsKept plain old.image old.feed old.banks words views
   kept_in words views new =
-      subst (λ i. IsKept i old.stimulus old.banks words views) (sym same.0)
-      (subst (λ m. IsKept key.image.value m old.banks words views) (sym same.1)
-      (subst (λ b. IsKept key.image.value key.stimulus.value b words views) (sym same.2) new))
+      subst (λ i. IsKept plain i old.feed old.banks words views) (sym same.0)
+      (subst (λ m. IsKept plain key.image.value m old.banks words views) (sym same.1)
+      (subst (λ b. IsKept plain key.image.value key.feed.value b words views) (sym same.2) new))
 
-  module _ (word number : ℕ) (held : List (ℕ × Unit {0})) (new : View) (act : Act (Unit {0})) (state : CoreState) (after : Kept key (stepped s word number id held new act)) (is : IsStateOf key s state) where
-    pub event_there : (until : ℕ) (event : Event) → until ≤ turns_of old.image old.stimulus → IsEvent until (pass_in table p old) event (pass_in table p new) → (is_look event ≡ true → set s.words word number ≡ s.words)
-        → (core : IsCoreEvent (turns_of old.image old.stimulus) (pass_in table p old) event (pass_in table p new) state) × IsStateOf key (stepped s word number id held new act) core.after
+  module _ (word number : ℕ) (held : List (ℕ × Unit {0})) (new : PlainView) (act : Act (Unit {0})) (state : CoreState) (after : Kept key (stepped s word number id held new act)) (is : IsStateOf key s state) where
+    pub event_there : (until : ℕ) (event : Event) → until ≤ turns_of old.image old.feed → IsEvent until (pass_in table p old) event (pass_in table p new) → (is_look event ≡ true → set s.words word number ≡ s.words)
+        → (core : IsCoreEvent (turns_of old.image old.feed) (pass_in table p old) event (pass_in table p new) state) × IsStateOf key (stepped s word number id held new act) core.after
     event_there until event few made still =
         let both = event_in s.words s.views id p old table (kept_in s.words s.views kept) there port_is state (state_in state is) word number new (kept_in (set s.words word number) (set s.views id new) after) until event few made still in
         (both.0, state_of (stepped s word number id held new act) both.0.after both.1)
 
-    pub wait_there : (until : ℕ) → until ≤ turns_of old.image old.stimulus → IsWait until (pass_in table p old) (pass_in table p new) → set s.words word number ≡ s.words → IsCoreStep (turns_of old.image old.stimulus) (pass_in table p old) state NotYet state
+    pub wait_there : (until : ℕ) → until ≤ turns_of old.image old.feed → IsWait until (pass_in table p old) (pass_in table p new) → set s.words word number ≡ s.words → IsCoreStep (turns_of old.image old.feed) (pass_in table p old) state NotYet state
     wait_there until few wait still = wait_in s.words s.views id p old table (kept_in s.words s.views kept) there port_is state (state_in state is) word number new (kept_in (set s.words word number) (set s.views id new) after) until few wait still

@@ -7,7 +7,7 @@ use Rattle.crew_run.specs.Steps as step
 use Rattle.crew_run.specs.Steps.{steps_of}
 use Rattle.crew_run.specs.declared.stepper.Step.{Step}
 use Rattle.crew_run.specs.declared.stepper.Step.TheVariants.{Done, Moved, NotYet}
-use Rattle.slot_words.specs.Passes.{CrossbarView, IsFit, IsOf, PassView, one_step}
+use Rattle.slot_words.specs.plain.Passes.{CrossbarView, IsFit, IsOf, PassView, one_step}
 use Rattle.port_run.proofs.NextLemmas.{event_not_short, event_not_wait, wait_short}
 use Rattle.port_run.specs.Pairs.{HasMade, RunView, with_pass}
 use Rattle.port_run.specs.Same.{IsSame, Takes}
@@ -18,7 +18,7 @@ pub record IsNext (old new : PassView) (made : ℕ) : Type 0 where
   pub table : new.table ≡ old.table
   pub port : new.port ≡ old.port
   pub image : new.image ≡ old.image
-  pub stimulus : new.stimulus ≡ old.stimulus
+  pub stimulus : new.feed ≡ old.feed
   pub banks : new.banks ≡ old.banks
   pub steps : new.steps ≡ old.steps + made
 
@@ -28,7 +28,7 @@ module _ (until : ℕ) (old new : PassView) where
     table = ap (λ (p : PassView). p.table) is;
     port = ap (λ (p : PassView). p.port) is;
     image = ap (λ (p : PassView). p.image) is;
-    stimulus = ap (λ (p : PassView). p.stimulus) is;
+    stimulus = ap (λ (p : PassView). p.feed) is;
     banks = ap (λ (p : PassView). p.banks) is;
     steps = ap (λ (p : PassView). p.steps) is;
   }
@@ -53,7 +53,7 @@ module _ (until : ℕ) (old new : PassView) where
   pub step_of : (bar : CrossbarView) (answer : Step) → IsOf bar old → IsStepOf until old answer new → IsOf bar new
   step_of bar answer own is =
       let next = step_next answer is in
-      record { table = next.table ∙ own.table; image = next.image ∙ own.image; stimulus = next.stimulus ∙ own.stimulus; banks = next.banks ∙ own.banks }
+      record { table = next.table ∙ own.table; image = next.image ∙ own.image; feed = next.stimulus ∙ own.feed; banks = next.banks ∙ own.banks }
 
   -- an event raises the turn where it ends it
   event_turn : (e : Event) → IsEvent until old e new → new.place.turn ≡ old.place.turn + (if ends_turn e then 1 else 0)

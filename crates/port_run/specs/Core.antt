@@ -15,11 +15,10 @@ use Rattle.event_defs.specs.declared.place.Event.TheVariants.{Ask, Put, Take, Te
 use Rattle.atomic_table.specs.Seated.{TableId}
 use Rattle.atomic_table.specs.Table.{State}
 use Rattle.slot_words.specs.Layout.{progress_in, progress_word, send_word, sent_in, turns_told}
-use Rattle.slot_words.specs.Passes.{PassView}
-use Rattle.slot_words.specs.Rule.{turns_of}
-use Rattle.slot_words.specs.declared.rule.Key.{Key}
+use Rattle.slot_words.specs.plain.Passes.{PassView}
+use Rattle.slot_words.specs.plain.Words.{turns_of}
+use Rattle.slot_words.specs.plain.Sound.{PlainKey, PlainView}
 use Rattle.slot_words.specs.declared.rule.Look.{Look}
-use Rattle.slot_words.specs.declared.rule.View.{View}
 
 -- in this state of a core the word of the look has the number that the look found
 pub record Shows (pass : PassView) (state : CoreState) (look : Look) : Type 0 where
@@ -41,7 +40,7 @@ StandsIn pass state = state.place pass.port ≡ pass.place
 pub record IsCoreStep (turns : ℕ) (pass : PassView) (state : CoreState) (answer : CoreStep) (after : CoreState) : Type 0 where
   pub seat : PortImage
   pub is : IsPort pass.image pass.port seat
-  pub step : IsStep pass.image pass.stimulus pass.banks turns pass.port seat state answer after
+  pub step : IsStep pass.image pass.feed pass.banks turns pass.port seat state answer after
 
 -- the core makes the same event; its port stands afterwards where the pass does, and the word of the pass's last
 -- step, which the event read or wrote, has the number that it found or left there
@@ -54,12 +53,12 @@ pub record IsCoreEvent (turns : ℕ) (old : PassView) (event : Event) (new : Pas
 -- ---- the states of a crossbar
 
 -- the pass of port p that a seat has
-abbrev pub pass_in : TableId → ℕ → View → PassView
+abbrev pub pass_in : TableId → ℕ → PlainView → PassView
 pass_in table p v = record {
   table = table;
   port = p;
   image = v.image;
-  stimulus = v.stimulus;
+  feed = v.feed;
   banks = v.banks;
   place = v.place;
   steps = v.steps;
@@ -67,8 +66,8 @@ pass_in table p v = record {
 }
 
 -- the state of the core is sound, it has the words of the crossbar, and in it each port stands where its pass does
-pub record IsStateOf (key : Key) (s : State (Unit {0}) View) (state : CoreState) : Type 0 where
-  pub sound : IsSound key.image.value key.stimulus.value key.banks (turns_of key.image.value key.stimulus.value) state
+pub record IsStateOf (key : PlainKey) (s : State (Unit {0}) PlainView) (state : CoreState) : Type 0 where
+  pub sound : IsSound key.image.value key.feed.value key.banks (turns_of key.image.value key.feed.value) state
   pub finished : (r : ℕ) → r < length key.image.value.ports → state.finished r ≡ turns_told (progress_in s.words r)
   pub word : state.word ≡ sent_in key.image.value key.banks s.words
-  pub stands : (id p : ℕ) (v : View) → get_elem? s.views id ≡ some v → v.port ≡ Some p → state.place p ≡ v.place
+  pub stands : (id p : ℕ) (v : PlainView) → get_elem? s.views id ≡ some v → v.port ≡ Some p → state.place p ≡ v.place

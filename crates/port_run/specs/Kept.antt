@@ -10,4 +10,4 @@ view_of a = record { pass = a.pass; window = a.port.window; first_row = a.port.f
 -- the port is at the place of the pass, and its block is one of its image and stimulus
 pub record IsKept (a : Inside) : Type 0 where
   pub port : a.port ≡ placed (view_of a)
-  pub until : a.port.until ≡ block_end a.pass.image a.pass.stimulus a.port.first_row a.port.window
+  pub until : a.port.until ≡ block_end a.pass.image a.pass.feed a.port.first_row a.port.window

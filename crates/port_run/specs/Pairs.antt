@@ -5,7 +5,7 @@ use Rattle.image_defs.specs.Places.{host_of}
 use Rattle.event_defs.specs.Places.{start}
 use Rattle.port_host.specs.Rows.{HostView, rows_done}
 use Rattle.port_walk.specs.Placed.{PlacedPort, at_start, block_end}
-use Rattle.slot_words.specs.Passes.{PassView}
+use Rattle.slot_words.specs.plain.Passes.{PassView}
 
 -- a running port: its pass, the most cycles of a block (its window), the cycles before its block, and the last
 -- turn of the block
@@ -19,7 +19,7 @@ pub record RunView : Type 0 where
 abbrev pub placed : RunView → PlacedPort
 placed run = record {
   image = run.pass.image;
-  stimulus = run.pass.stimulus;
+  stimulus = run.pass.feed;
   port = run.pass.port;
   window = run.window;
   first_row = run.first_row;
@@ -32,17 +32,17 @@ placed run = record {
 -- both are of one port, image and stimulus, before their first event
 pub record AreBegun (pass : PassView) (port : PlacedPort) : Type 0 where
   pub place_is : pass.place ≡ start (length pass.image.ports)
-  pub port_is : port ≡ at_start pass.image pass.stimulus pass.port port.window
+  pub port_is : port ≡ at_start pass.image pass.feed pass.port port.window
 
 -- a pass at the start of its first block
 abbrev pub first_block : PassView → ℕ → RunView
-first_block pass window = record { pass = pass; window = window; first_row = 0; until = block_end pass.image pass.stimulus 0 window }
+first_block pass window = record { pass = pass; window = window; first_row = 0; until = block_end pass.image pass.feed 0 window }
 
 -- at the start of its next block
 abbrev pub next_block : RunView → RunView
 next_block run = record run {
   first_row = run.first_row + run.window;
-  until = block_end run.pass.image run.pass.stimulus (run.first_row + run.window) run.window;
+  until = block_end run.pass.image run.pass.feed (run.first_row + run.window) run.window;
 }
 
 -- its pass has come this far in the same block
@@ -62,9 +62,9 @@ IsDone run = HasMade run.until run.pass
 pub record IsHostOf (run : RunView) (host : HostView) : Type 0 where
   pub is_host : run.pass.port ≡ host_of run.pass.image
   pub image : host.port.image ≡ run.pass.image
-  pub stimulus : host.port.stimulus ≡ run.pass.stimulus
+  pub stimulus : host.port.stimulus ≡ run.pass.feed
   pub port : host.port.port ≡ run.pass.port
   pub turn : host.port.turn ≡ run.pass.place.turn
   pub window : host.window ≡ run.window
   pub first_row : host.first_row ≡ run.first_row
-  pub all_rows : IsDone run → rows_done host.port ≡ min (run.first_row + run.window) (cycle_count run.pass.stimulus)
+  pub all_rows : IsDone run → rows_done host.port ≡ min (run.first_row + run.window) (cycle_count run.pass.feed)

@@ -1,7 +1,7 @@
 -- Running ports that may stand for one another, as a crew sees them.
 use Rattle.std.specs.Prelude.{Bool, ◌≡◌}
 use Rattle.event_defs.specs.declared.place.Event.{Event}
-use Rattle.slot_words.specs.Passes.{CrossbarView}
+use Rattle.slot_words.specs.plain.Passes.{CrossbarView}
 use Rattle.port_run.specs.Pairs.{RunView}
 use Rattle.port_run.specs.Steps.{IsEvent, ends_turn}
 
@@ -10,7 +10,7 @@ pub record IsSame (one_bar : CrossbarView) (one : RunView) (other_bar : Crossbar
   pub bar : other_bar ≡ one_bar
   pub port : other.pass.port ≡ one.pass.port
   pub image : other.pass.image ≡ one.pass.image
-  pub stimulus : other.pass.stimulus ≡ one.pass.stimulus
+  pub stimulus : other.pass.feed ≡ one.pass.feed
   pub window : other.window ≡ one.window
   pub first_row : other.first_row ≡ one.first_row
   pub until : other.until ≡ one.until

@@ -18,12 +18,12 @@ use Rattle.event_defs.specs.declared.place.Place.{Place}
 use Rattle.crew_run.specs.declared.stepper.Step.{Step}
 use Rattle.crew_run.specs.declared.stepper.Step.TheVariants.{Done, Moved, NotYet}
 use Rattle.slot_words.specs.Layout.{progress_word, send_word}
-use Rattle.slot_words.specs.Passes.{PassView, one_step}
+use Rattle.slot_words.specs.plain.Passes.{PassView, one_step}
 use Rattle.port_run.specs.Pairs.{HasMade}
 
 -- what the image has in a slot of the pass's port in its turn
 abbrev pub value_there : PassView → ℕ → V4
-value_there pass slot = image_value pass.image pass.stimulus pass.place.turn pass.port slot
+value_there pass slot = image_value pass.image pass.feed pass.place.turn pass.port slot
 
 -- the word of a send in the turn of the pass
 abbrev pub word_now : PassView → ℕ → ℕ → ℕ

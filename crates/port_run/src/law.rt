@@ -12,10 +12,9 @@ ghost use Rattle.event_defs.specs.declared.place.CoreStep.TheVariants.{Done, Not
 ghost use Rattle.event_defs.specs.declared.place.Event.{Event};
 ghost use Rattle.atomic_table.specs.Seated.{TableId};
 ghost use Rattle.atomic_table.specs.Table.{Act, State, stepped};
-ghost use Rattle.slot_words.specs.Passes.{IsFit, PassView};
-ghost use Rattle.slot_words.specs.Rule.{Kept, turns_of};
-ghost use Rattle.slot_words.specs.declared.rule.Key.{Key};
-ghost use Rattle.slot_words.specs.declared.rule.View.{View};
+ghost use Rattle.slot_words.specs.plain.Passes.{IsFit, PassView};
+ghost use Rattle.slot_words.specs.plain.Sound.{Kept, PlainKey, PlainView};
+ghost use Rattle.slot_words.specs.plain.Words.{turns_of};
 ghost use Rattle.port_run.specs.Core.{IsCoreEvent, IsCoreStep, IsStateOf, Shows, StandsIn, is_look, pass_in};
 ghost use Rattle.port_run.specs.Pairs.{HasMade};
 ghost use Rattle.port_run.specs.Steps.{IsEvent, IsWait, value_there};
@@ -45,25 +44,25 @@ pub fn steps_are_the_cores()
 /// the crossbar after the step. Where a pass has to wait, the core's step of the port has to wait in that
 /// state, though the pass may have learnt there a greater number of turns.
 pub fn steps_are_events_of_sound_states()
-    ensures state { (key : Key) (s : State (Unit {0}) View) → Kept key s
+    ensures state { (key : PlainKey) (s : State (Unit {0}) PlainView) → Kept key s
         → (state : CoreState) × IsStateOf key s state }
-    ensures event { (key : Key) (s : State (Unit {0}) View) (word number id p : ℕ) (held : List (ℕ × Unit {0}))
-        (old new : View) (act : Act (Unit {0})) (table : TableId) (until : ℕ) (event : Event) (state : CoreState)
-        → until ≤ turns_of old.image old.stimulus
+    ensures event { (key : PlainKey) (s : State (Unit {0}) PlainView) (word number id p : ℕ) (held : List (ℕ × Unit {0}))
+        (old new : PlainView) (act : Act (Unit {0})) (table : TableId) (until : ℕ) (event : Event) (state : CoreState)
+        → until ≤ turns_of old.image old.feed
         → Kept key s → get_elem? s.views id ≡ some old → old.port ≡ Some p
         → Kept key (stepped s word number id held new act)
         → IsEvent until (pass_in table p old) event (pass_in table p new)
         → (is_look event ≡ true → slice_set s.words word number ≡ s.words) → IsStateOf key s state
-        → (core : IsCoreEvent (turns_of old.image old.stimulus) (pass_in table p old) event (pass_in table p new) state)
+        → (core : IsCoreEvent (turns_of old.image old.feed) (pass_in table p old) event (pass_in table p new) state)
         × IsStateOf key (stepped s word number id held new act) core.after }
-    ensures wait { (key : Key) (s : State (Unit {0}) View) (word number id p : ℕ) (held : List (ℕ × Unit {0}))
-        (old new : View) (act : Act (Unit {0})) (table : TableId) (until : ℕ) (state : CoreState)
-        → until ≤ turns_of old.image old.stimulus
+    ensures wait { (key : PlainKey) (s : State (Unit {0}) PlainView) (word number id p : ℕ) (held : List (ℕ × Unit {0}))
+        (old new : PlainView) (act : Act (Unit {0})) (table : TableId) (until : ℕ) (state : CoreState)
+        → until ≤ turns_of old.image old.feed
         → Kept key s → get_elem? s.views id ≡ some old → old.port ≡ Some p
         → Kept key (stepped s word number id held new act)
         → IsWait until (pass_in table p old) (pass_in table p new)
         → slice_set s.words word number ≡ s.words → IsStateOf key s state
-        → IsCoreStep (turns_of old.image old.stimulus) (pass_in table p old) state NotYet state }
+        → IsCoreStep (turns_of old.image old.feed) (pass_in table p old) state NotYet state }
 {}
 
 /// A law: a step that has to wait leaves the next event, though an Ask may have learnt a greater number of

@@ -3,8 +3,8 @@
 ghost use Rattle.std.specs.Prelude.{MatchOption, ◌+◌, ◌<◌, ◌≡◌, ◌≢◌, ◌≤◌, ◌↔◌, IsTrue};
 ghost use Rattle.image_defs.specs.Places.{host_of};
 ghost use Rattle.event_defs.specs.declared.place.Action.TheVariants as action;
-ghost use Rattle.slot_words.specs.Passes.{IsFit, IsOf};
-ghost use Rattle.slot_words.specs.Rule.{turns_of};
+ghost use Rattle.slot_words.specs.plain.Passes.{IsFit, IsOf};
+ghost use Rattle.slot_words.specs.plain.Words.{turns_of};
 ghost use Rattle.port_walk.specs.Placed.{CanGoOn};
 ghost use Rattle.port_run.specs.Pairs.{AreBegun, IsHostOf, first_block, next_block, placed, with_pass};
 ghost use Rattle.port_run.specs.Steps.{IsStepOf};
@@ -89,7 +89,7 @@ impl<'a> Running<'a> {
         ensures block { self.new ≡ with_pass self.old self.new.pass }
         ensures own { IsOf bar.now self.new.pass }
         ensures fit { IsFit self.old.pass }
-        ensures few { self.old.until ≤ turns_of self.old.pass.image self.old.pass.stimulus }
+        ensures few { self.old.until ≤ turns_of self.old.pass.image self.old.pass.feed }
     {
         match self.port.next(self.pass.known(), self.pass.banks()) {
             Action::Done => Step::Done,

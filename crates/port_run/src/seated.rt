@@ -1,6 +1,6 @@
 //! A running port beside its crossbar.
 
-ghost use Rattle.slot_words.specs.Passes.{IsOf};
+ghost use Rattle.slot_words.specs.plain.Passes.{IsOf};
 
 use crate::running::Running;
 use crew_run::{Step, Stepper};

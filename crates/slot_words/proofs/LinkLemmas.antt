@@ -1,7 +1,8 @@
 -- Links by their slots.
 use Rattle.std.proofs.Common.{List, Some, ap, arith, get_or, inl, inr, length, slice_get, subst, sym, ℕ, ◌+◌, ◌<◌, ◌∙◌, ◌≡◌}
 use Rattle.std.proofs.lemmas.Bool.{cases_eq}
-use Rattle.std.proofs.lemmas.Option.{get_or_from_slice_get, slice_get-get_or, slice_get_cases, slice_get_within}
+use Rattle.std.proofs.lemmas.Option.{get_or_from_slice_get, slice_get-get_or, slice_get_within}
+use Rattle.list_laws.proofs.Members.{member_at}
 use Rattle.image_defs.specs.Places.{IsPort}
 use Rattle.image_defs.specs.WellFormed.{IsWellFormed}
 use Rattle.image_defs.specs.declared.image.Image.{Image}
@@ -13,13 +14,6 @@ use Rattle.event_defs.specs.Places.{IsSend}
 use Rattle.slot_words.specs.declared.links.Link.{Link}
 use Rattle.slot_words.specs.Layout.{send_word}
 use Rattle.slot_words.specs.Links.{AreReceiptLinksOf, AreSendLinksOf, HasSlot, IsSourceWord}
-
--- each place of a list has a member
-pub member_at : {X : Type 0} (xs : List X) (k : ℕ) → k < length xs → (x : X) × (slice_get xs k ≡ Some x)
-member_at xs k inside = elim (slice_get_cases xs k).1 [
-  | inl t ↦ (t.0, t.2)
-  | inr t ↦ absurd (omega (arith, inside, t.0))
-]
 
 pub slot_here : (links : List Link) (slot k : ℕ) (d : Link) → k < length links → (get_or links k d).slot ≡ slot → HasSlot links slot k
 slot_here links slot k d inside e = record { link = get_or links k d; is = slice_get-get_or links k d inside; slot_is = e }

@@ -5,7 +5,6 @@ use Rattle.std.proofs.lemmas.List.Sums.{sum_by-set, sum_by_push}
 use mathlib.Core.Option.{some, some-injective, some-ne-none}
 use lib.ListN.{get_elem?}
 use Rattle.atomic_table.proofs.Lists.{at_longer, at_set, at_snoc, set_else, set_here}
-use Rattle.net_defs.specs.declared.stimulus.Stimulus.{Stimulus}
 use Rattle.image_defs.specs.declared.image.Image.{Image}
 use Rattle.event_defs.specs.Row.{send_number, word_place}
 use Rattle.event_defs.specs.declared.place.Place.{Place}
@@ -36,56 +35,56 @@ at_index [] i a d at = absurd (some-ne-none a (sym at))
 at_index (x ∷ xs) zero a d at = some-injective x a at
 at_index (x ∷ xs) (suc i) a d at = at_index xs i a d at
 
-steps_set : (views : List View) (id : ℕ) (v w : View) → get_elem? views id ≡ some v → steps_in (set views id w) + v.steps ≡ steps_in views + w.steps
-steps_set views id v w at = subst (λ (u : View). steps_in (set views id w) + u.steps ≡ steps_in views + w.steps) (at_index views id v v at) (sum_by-set (λ (u : View). u.steps) views id w v (within views id v at))
+steps_set : {D : Type 0} (views : List (View D)) (id : ℕ) (v w : View D) → get_elem? views id ≡ some v → steps_in (set views id w) + v.steps ≡ steps_in views + w.steps
+steps_set {D = D} views id v w at = subst (λ (u : View D). steps_in (set views id w) + u.steps ≡ steps_in views + w.steps) (at_index views id v v at) (sum_by-set (λ (u : View D). u.steps) views id w v (within views id v at))
 
-no_port : {A : Type 0} (p : ℕ) (v : View) → v.port ≡ Some p → v.port ≡ None → A
+no_port : {A D : Type 0} (p : ℕ) (v : View D) → v.port ≡ Some p → v.port ≡ None → A
 no_port p v some_port none = let e : None ≡ Some p = sym none ∙ some_port in absurd (cc)
 
-module _ (image : Image) where
+module _ {D : Type 0} (image : Image) where
   -- a port's own step: what it saw is in the word that it names
-  pub looks_stepped : (words now : List ℕ) (views : List View) (id : ℕ) (v : View) (x : Place) (word number : ℕ) → AreLooks image words views → get_elem? views id ≡ some v → (p : ℕ) → v.port ≡ Some p → told_in image now word ≡ number
+  pub looks_stepped : (words now : List ℕ) (views : List (View D)) (id : ℕ) (v : View D) (x : Place) (word number : ℕ) → AreLooks image words views → get_elem? views id ≡ some v → (p : ℕ) → v.port ≡ Some p → told_in image now word ≡ number
       → AreLooks image now (set views id (after_step v (steps_in views + 1) x word number))
   looks_stepped words now views id v x word number looks at p port_is told = record {
     past = λ j u here. elim (at_set views id j w u here) [
-      | inl t ↦ let at_is : steps_in views + 1 ≡ u.at = ap (λ (u : View). u.at) t.1 in omega (arith, grown)
+      | inl t ↦ let at_is : steps_in views + 1 ≡ u.at = ap (λ (u : View D). u.at) t.1 in omega (arith, grown)
       | inr t ↦ let before = looks.past j u t.1 in omega (arith, grown)
     ];
     idle = λ j u here none. elim (at_set views id j w u here) [
-      | inl t ↦ no_port p w port_is (ap (λ (u : View). u.port) t.1 ∙ none)
+      | inl t ↦ no_port p w port_is (ap (λ (u : View D). u.port) t.1 ∙ none)
       | inr t ↦ looks.idle j u t.1 none
     ];
     last = λ some_step. record { id = id; view = w; there = set_here views id w (within views id v at); last = sym grown };
     seen = λ j u here some_step is_last. elim (at_set views id j w u here) [
-      | inl t ↦ subst (λ (u : View). told_in image now u.last.word ≡ u.last.number) t.1 told
+      | inl t ↦ subst (λ (u : View D). told_in image now u.last.word ≡ u.last.number) t.1 told
       | inr t ↦ let before = looks.past j u t.1 in absurd (omega (arith, grown))
     ];
   } where
-    w : View
+    w : View D
     w = after_step v (steps_in views + 1) x word number
 
     grown : steps_in (set views id w) ≡ steps_in views + 1
     grown = let sum : steps_in (set views id w) + v.steps ≡ steps_in views + (v.steps + 1) = steps_set views id v w at in omega arith
 
   -- Name: an unclaimed word tells of no turns, and so it does when it is claimed
-  pub looks_claimed : (words : List ℕ) (views : List View) (id p : ℕ) (v : View) → AreLooks image words views → get_elem? views id ≡ some v → p < length image.ports → p < length words → progress_in words p ≡ UNCLAIMED
+  pub looks_claimed : (words : List ℕ) (views : List (View D)) (id p : ℕ) (v : View D) → AreLooks image words views → get_elem? views id ≡ some v → p < length image.ports → p < length words → progress_in words p ≡ UNCLAIMED
       → AreLooks image (set words p 0) (set views id (claimed_by v p))
   looks_claimed words views id p v looks at inside room free = record {
     past = λ j u here. elim (at_set views id j w u here) [
-      | inl t ↦ let before = looks.past id v at in let at_is : v.at ≡ u.at = ap (λ (u : View). u.at) t.1 in omega (arith, same)
+      | inl t ↦ let before = looks.past id v at in let at_is : v.at ≡ u.at = ap (λ (u : View D). u.at) t.1 in omega (arith, same)
       | inr t ↦ let before = looks.past j u t.1 in omega (arith, same)
     ];
     idle = λ j u here none. elim (at_set views id j w u here) [
-      | inl t ↦ no_port p w refl (ap (λ (u : View). u.port) t.1 ∙ none)
+      | inl t ↦ no_port p w refl (ap (λ (u : View D). u.port) t.1 ∙ none)
       | inr t ↦ looks.idle j u t.1 none
     ];
     last = λ some_step. last (looks.last (omega (arith, same)));
     seen = λ j u here some_step is_last. elim (at_set views id j w u here) [
-      | inl t ↦ subst (λ (u : View). told_in image (set words p 0) u.last.word ≡ u.last.number) t.1 (tells v.last.word ∙ looks.seen id v at (omega (arith, same)) (let at_is : v.at ≡ u.at = ap (λ (u : View). u.at) t.1 in omega (arith, same)))
+      | inl t ↦ subst (λ (u : View D). told_in image (set words p 0) u.last.word ≡ u.last.number) t.1 (tells v.last.word ∙ looks.seen id v at (omega (arith, same)) (let at_is : v.at ≡ u.at = ap (λ (u : View D). u.at) t.1 in omega (arith, same)))
       | inr t ↦ tells u.last.word ∙ looks.seen j u t.1 (omega (arith, same)) (omega (arith, same))
     ];
   } where
-    w : View
+    w : View D
     w = claimed_by v p
 
     same : steps_in (set views id w) ≡ steps_in views
@@ -102,35 +101,35 @@ module _ (image : Image) where
     last has = elim (cases_eq has.id id) [
       | inl here ↦
           let v_is : v ≡ has.view = some-injective v has.view (sym at ∙ (ap (get_elem? views) (sym here) ∙ has.there)) in
-          record { id = id; view = w; there = set_here views id w (within views id v at); last = ap (λ (u : View). u.at) v_is ∙ (has.last ∙ sym same) }
+          record { id = id; view = w; there = set_here views id w (within views id v at); last = ap (λ (u : View D). u.at) v_is ∙ (has.last ∙ sym same) }
       | inr away ↦ record { id = has.id; view = has.view; there = set_else views id has.id w away ∙ has.there; last = has.last ∙ sym same }
     ]
 
   -- Split: the second seat has made no step
-  pub looks_split : (words : List ℕ) (views : List View) (id : ℕ) (v : View) → AreLooks image words views → get_elem? views id ≡ some v → v.port ≡ None → AreLooks image words (views ++ v ∷ [])
+  pub looks_split : (words : List ℕ) (views : List (View D)) (id : ℕ) (v : View D) → AreLooks image words views → get_elem? views id ≡ some v → v.port ≡ None → AreLooks image words (views ++ v ∷ [])
   looks_split words views id v looks at none = record {
     past = λ j u here. elim (at_snoc views v u j here) [
       | inl old ↦ let before = looks.past j u old in omega (arith, same)
-      | inr new ↦ let before = looks.past id v at in let at_is : v.at ≡ u.at = ap (λ (u : View). u.at) new in omega (arith, same)
+      | inr new ↦ let before = looks.past id v at in let at_is : v.at ≡ u.at = ap (λ (u : View D). u.at) new in omega (arith, same)
     ];
     idle = λ j u here free. elim (at_snoc views v u j here) [
       | inl old ↦ looks.idle j u old free
-      | inr new ↦ subst (λ (u : View). u.steps ≡ 0) new (looks.idle id v at none)
+      | inr new ↦ subst (λ (u : View D). u.steps ≡ 0) new (looks.idle id v at none)
     ];
     last = λ some_step. let has = looks.last (omega (arith, same)) in record { id = has.id; view = has.view; there = at_longer views (v ∷ []) has.id has.view has.there; last = has.last ∙ sym same };
     seen = λ j u here some_step is_last. elim (at_snoc views v u j here) [
       | inl old ↦ looks.seen j u old (omega (arith, same)) (omega (arith, same))
-      | inr new ↦ subst (λ (u : View). told_in image words u.last.word ≡ u.last.number) new (looks.seen id v at (omega (arith, same)) (let at_is : v.at ≡ u.at = ap (λ (u : View). u.at) new in omega (arith, same)))
+      | inr new ↦ subst (λ (u : View D). told_in image words u.last.word ≡ u.last.number) new (looks.seen id v at (omega (arith, same)) (let at_is : v.at ≡ u.at = ap (λ (u : View D). u.at) new in omega (arith, same)))
     ];
   } where
     same : steps_in (views ++ v ∷ []) ≡ steps_in views
-    same = let sum = sum_by_push (λ (u : View). u.steps) views v in let sum' : steps_in (views ++ v ∷ []) ≡ steps_in views + v.steps = sum in let no_step = looks.idle id v at none in omega arith
+    same = let sum = sum_by_push (λ (u : View D). u.steps) views v in let sum' : steps_in (views ++ v ∷ []) ≡ steps_in views + v.steps = sum in let no_step = looks.idle id v at none in omega arith
 
   -- before the first step
-  pub looks_first : (stimulus : Stimulus) (banks : ℕ) (words : List ℕ) → AreLooks image words (unseated image stimulus banks ∷ [])
-  looks_first stimulus banks words = record {
-    past = λ j u here. subst (λ (u : View). u.at ≤ 0) (only_one (unseated image stimulus banks) j u here) (omega arith);
-    idle = λ j u here free. subst (λ (u : View). u.steps ≡ 0) (only_one (unseated image stimulus banks) j u here) refl;
+  pub looks_first : (feed : D) (banks : ℕ) (words : List ℕ) → AreLooks image words (unseated image feed banks ∷ [])
+  looks_first feed banks words = record {
+    past = λ j u here. subst (λ (u : View D). u.at ≤ 0) (only_one (unseated image feed banks) j u here) (omega arith);
+    idle = λ j u here free. subst (λ (u : View D). u.steps ≡ 0) (only_one (unseated image feed banks) j u here) refl;
     last = λ some_step. absurd (omega arith);
     seen = λ j u here some_step is_last. absurd (omega arith);
   }
@@ -138,10 +137,10 @@ module _ (image : Image) where
 -- ---- a step that is counted
 
 -- the seat made the last step of all, since all others made theirs before
-pub counted_look : (image : Image) (words now : List ℕ) (views : List View) (id : ℕ) (v w : View) → AreLooks image words views → get_elem? views id ≡ some v → w.steps ≡ v.steps + 1 → AreLooks image now (set views id w)
+pub counted_look : {D : Type 0} (image : Image) (words now : List ℕ) (views : List (View D)) (id : ℕ) (v w : View D) → AreLooks image words views → get_elem? views id ≡ some v → w.steps ≡ v.steps + 1 → AreLooks image now (set views id w)
     → told_in image now w.last.word ≡ w.last.number
-counted_look image words now views id v w looks at counted after = elim (at_set views id has.id w has.view has.there) [
-  | inl t ↦ after.seen id w (set_here views id w (within views id v at)) (omega (arith, grown)) (ap (λ (u : View). u.at) t.1 ∙ has.last)
+counted_look {D = D} image words now views id v w looks at counted after = elim (at_set views id has.id w has.view has.there) [
+  | inl t ↦ after.seen id w (set_here views id w (within views id v at)) (omega (arith, grown)) (ap (λ (u : View D). u.at) t.1 ∙ has.last)
   | inr t ↦ let before = looks.past has.id has.view t.1 in let is = has.last in absurd (omega (arith, grown))
 ] where
   grown : steps_in (set views id w) ≡ steps_in views + 1

@@ -5,26 +5,25 @@ use Rattle.std.proofs.lemmas.Option.{slice_get_within}
 use Rattle.list_laws.proofs.Places.{at_front, seam_at}
 use Rattle.std.proofs.Math.Seq.{drop-append_seam}
 use Rattle.std.proofs.lemmas.List.{get_or-replicate, get_or_append_left, length-replicate, length_push}
-use Rattle.net_defs.specs.declared.stimulus.Stimulus.{Stimulus}
 use Rattle.image_defs.specs.WellFormed.{IsWellFormed}
 use Rattle.image_defs.specs.declared.image.Image.{Image}
 use Rattle.event_defs.proofs.PaceLemmas.{starts}
 use Rattle.event_defs.proofs.RowLemmas.{words_zero}
-use Rattle.event_defs.proofs.StampLemmas.{starts_coded, starts_stamped}
 use Rattle.event_defs.specs.Places.{start}
 use Rattle.event_defs.specs.Row.{send_count, word_in}
-use Rattle.event_defs.specs.Sound.{AreCoded, AreStamped}
 use Rattle.event_defs.proofs.SourceLemmas.{before_few}
 use Rattle.slot_words.proofs.LookLemmas.{looks_first}
 use Rattle.slot_words.proofs.OwnLemmas.{owned_first}
+use Rattle.slot_words.proofs.SentLemmas.{starts_sent}
 use Rattle.slot_words.proofs.TimeLemmas.{progress_within}
-use Rattle.slot_words.specs.declared.crossbar.Crossbar.TheInside as bar
+use Rattle.slot_words.specs.declared.feed.Feed.{Ghosts}
+use Rattle.slot_words.specs.declared.words.Words.TheInside as bar
 use Rattle.slot_words.specs.declared.rule.TheConstants.{UNCLAIMED}
 use Rattle.slot_words.specs.declared.rule.View.{View}
-use Rattle.slot_words.specs.Held.{HasWords, crossbar_of}
+use Rattle.slot_words.specs.Held.{HasWords, words_of}
 use Rattle.slot_words.specs.Layout.{progress_in, sent_in, word_count}
-use Rattle.slot_words.specs.Passes.{AreFirstPasses, CrossbarView, IsFirstPass, PassView}
-use Rattle.slot_words.specs.Rule.{IsKept, IsRunnable, turns_of, unseated}
+use Rattle.slot_words.specs.Passes.{AreFirstPasses, IsFirstPass, PassView, WordsView}
+use Rattle.slot_words.specs.Rule.{AreSent, IsKept, IsRunnable, unseated}
 
 -- words of sends are few
 pub few_words : (image : Image) (banks : ℕ) → IsWellFormed image → banks ≤ 8 → send_count image * banks < 2 ^ 32
@@ -59,34 +58,33 @@ module _ (image : Image) (banks : ℕ) where
   pub first_made : (ports sent : ℕ) (words : List ℕ) → ports ≡ length image.ports → sent ≡ send_count image * banks → words ≡ replicate ports UNCLAIMED ++ replicate sent 0 → words ≡ first_words
   first_made ports sent words ports_are sent_is words_are = words_are ∙ ap₂ (λ n m. replicate n UNCLAIMED ++ replicate {A = ℕ} m 0) ports_are sent_is
 
-module _ (image : Image) (stimulus : Stimulus) (banks : ℕ) (runs : IsRunnable image stimulus banks) where
-  first_kept : IsKept image stimulus banks (first_words image banks) (unseated image stimulus banks ∷ [])
+module _ {F D : Type 0} (g : Ghosts F D) (image : Image) (feed : D) (banks : ℕ) (runs : IsRunnable g image feed banks) where
+  first_kept : IsKept g image feed banks (first_words image banks) (unseated image feed banks ∷ [])
   first_kept = record {
     place = λ p. start (length image.ports);
     owner = λ p. 0;
     runs = runs;
     long = first_long image banks;
-    owned = owned_first image stimulus banks (first_words image banks) (first_free image banks);
+    owned = owned_first image feed banks (first_words image banks) (first_free image banks);
     timed = record {
       progress = λ p inside claimed. absurd (claimed (first_free image banks p inside));
-      paced = starts image runs.image_fits banks (turns_of image stimulus) runs.some;
-      stamps = subst (AreStamped image banks (λ p. start (length image.ports))) (sym (none_sent image banks)) (starts_stamped image runs.image_fits banks);
+      paced = starts image runs.image_fits banks (g.turns image feed) runs.some;
     };
-    coded = subst (AreCoded image stimulus banks) (sym (none_sent image banks)) (starts_coded image runs.image_fits banks stimulus);
-    looks = looks_first image stimulus banks (first_words image banks);
+    sent = subst (AreSent g image feed banks (λ p. start (length image.ports))) (sym (none_sent image banks)) (starts_sent g image feed banks);
+    looks = looks_first image feed banks (first_words image banks);
   }
 
   pub opened_kept : (ports sent : ℕ) (words : List ℕ) → ports ≡ length image.ports → sent ≡ send_count image * banks → words ≡ replicate ports UNCLAIMED ++ replicate sent 0
-      → IsKept image stimulus banks words (unseated image stimulus banks ∷ [])
+      → IsKept g image feed banks words (unseated image feed banks ∷ [])
   opened_kept ports sent words ports_are sent_is words_are =
-      subst (λ ws. IsKept image stimulus banks ws (unseated image stimulus banks ∷ [])) (sym (first_made image banks ports sent words ports_are sent_is words_are)) first_kept
+      subst (λ ws. IsKept g image feed banks ws (unseated image feed banks ∷ [])) (sym (first_made image banks ports sent words ports_are sent_is words_are)) first_kept
 
 -- the progress words are some of the crossbar's
-pub claim_room : (b : bar.Inside) → HasWords b → (p : ℕ) → p < length (crossbar_of b).image.ports → p < b.table.shared.table_id.words
-claim_room b has p inside = progress_within b.table.shared.key.image.value b.table.shared.key.banks b.table.shared.table_id.words p has.words inside
+pub claim_room : {D F : Type 0} (g : Ghosts F D) (b : bar.Inside D F) → HasWords g b → (p : ℕ) → p < length (words_of b).image.ports → p < b.table.shared.table_id.words
+claim_room g b has p inside = progress_within b.table.shared.key.image.value b.table.shared.key.banks b.table.shared.table_id.words p has.words inside
 
-pub no_port : (v : View) (image : Image) (stimulus : Stimulus) (banks : ℕ) → v ≡ unseated image stimulus banks → v.port ≡ None
-no_port v image stimulus banks e = ap (λ (u : View). u.port) e
+pub no_port : {D : Type 0} (v : View D) (image : Image) (feed : D) (banks : ℕ) → v ≡ unseated image feed banks → v.port ≡ None
+no_port {D = D} v image feed banks e = ap (λ (u : View D). u.port) e
 
 -- a list with one more
 pub each_more : {X : Type 0} (Holds : ℕ → X → Type 0) (n : ℕ) (xs next : List X) (one : X) → length xs ≡ n → ((p : ℕ) (x : X) → slice_get xs p ≡ Some x → Holds p x) → Holds n one → next ≡ xs ++ one ∷ []
@@ -108,5 +106,5 @@ each_more Holds n xs next one long each is pushed = (
   grown = ap length pushed ∙ (length_push xs one ∙ omega (arith, long))
 
 -- one more pass
-pub passes_more : (made : CrossbarView) (n : ℕ) (passes next : List PassView) (one : PassView) → AreFirstPasses made n passes → IsFirstPass made n one → next ≡ passes ++ one ∷ [] → AreFirstPasses made (n + 1) next
+pub passes_more : {D : Type 0} (made : WordsView D) (n : ℕ) (passes next : List (PassView D)) (one : PassView D) → AreFirstPasses made n passes → IsFirstPass made n one → next ≡ passes ++ one ∷ [] → AreFirstPasses made (n + 1) next
 passes_more made n passes next one are is pushed = let more = each_more (IsFirstPass made) n passes next one are.long are.each is pushed in record { long = more.0; each = more.1 }

@@ -1,5 +1,5 @@
 -- The turns of places and words: each kind of step keeps them in pace. No value stands here.
-use Rattle.std.proofs.Common.{List, Some, ap, arith, false, get_or-set_other, get_or-set_same, inl, inr, length, mod-lt, refl, set, slice_get, subst, sym, ℕ, ◌%◌, ◌*◌, ◌+◌, ◌-◌, ◌<◌, ◌∙◌, ◌≡◌, ◌≢◌, ◌≤◌}
+use Rattle.std.proofs.Common.{List, Some, ap, arith, false, get_or-set_other, get_or-set_same, inl, inr, length, refl, set, slice_get, subst, sym, ℕ, ◌*◌, ◌+◌, ◌<◌, ◌∙◌, ◌≡◌, ◌≢◌, ◌≤◌}
 use Rattle.std.proofs.lemmas.Bool.{cases_eq}
 use Rattle.std.proofs.lemmas.List.{drop-set-add, drop-set-lt, length-drop}
 use Rattle.std.proofs.lemmas.Option.{slice_get_within}
@@ -9,19 +9,17 @@ use Rattle.image_defs.specs.declared.image.Image.{Image}
 use Rattle.image_defs.specs.declared.image.LinkIn.{LinkIn}
 use Rattle.image_defs.specs.declared.image.LinkOut.{LinkOut}
 use Rattle.image_defs.specs.declared.image.PortImage.{PortImage}
-use Rattle.event_defs.proofs.PaceLemmas.{CanStand, asks, latest_put, puts, send_at, stands, takes, tells}
+use Rattle.event_defs.proofs.PaceLemmas.{CanStand, asks, puts, stands, takes, tells}
 use Rattle.event_defs.proofs.RowLemmas.{number_within, place_within, send_within, word_set}
 use Rattle.event_defs.proofs.SlotLemmas.{each_updated, updated_here, updated_there}
-use Rattle.event_defs.proofs.StampLemmas.{stamped_put, stamped_still}
 use Rattle.event_defs.specs.Next.{EndsNext}
 use Rattle.event_defs.specs.Places.{IsSend, after_ask, after_put, after_take, after_tell, is_in, known_of, latest, start}
 use Rattle.event_defs.specs.Row.{send_count, send_number, word_in, word_place}
-use Rattle.event_defs.specs.Sound.{AreStamped}
-use Rattle.event_defs.specs.Steps.{stamp_of, updated, written}
+use Rattle.event_defs.specs.Steps.{updated, written}
 use Rattle.event_defs.specs.declared.place.Place.{Place}
 use Rattle.slot_words.specs.declared.rule.TheConstants.{UNCLAIMED}
 use Rattle.slot_words.specs.Layout.{progress_in, send_word, sent_in, word_count}
-use Rattle.slot_words.specs.Rule.{AreInTurn, AreTimed}
+use Rattle.slot_words.specs.Rule.{AreInTurn}
 
 module _ (image : Image) (banks : ℕ) (words : List ℕ) where
   -- a progress word written leaves the words of sends, and a word of a send the progress words
@@ -112,57 +110,3 @@ module _ (image : Image) (fits : IsWellFormed image) (banks until : ℕ) (words 
     ];
     paced = turns.paced;
   }
-
--- ---- and the turns that words of sends name
-
-pub turns_in : (image : Image) (banks until : ℕ) (words : List ℕ) (place : ℕ → Place) → AreTimed image banks until words place → AreInTurn image banks until words place
-turns_in image banks until words place timed = record { progress = timed.progress; paced = timed.paced }
-
--- with the turns of the words of sends
-pub with_stamps : (image : Image) (banks until : ℕ) (words : List ℕ) (place : ℕ → Place) → AreInTurn image banks until words place → AreStamped image banks place (sent_in image banks words) → AreTimed image banks until words place
-with_stamps image banks until words place turns stamps = record { progress = turns.progress; paced = turns.paced; stamps = stamps }
-
-module _ (image : Image) (fits : IsWellFormed image) (banks until : ℕ) (words : List ℕ) (place : ℕ → Place) (timed : AreTimed image banks until words place) where
-  turns : AreInTurn image banks until words place
-  turns = turns_in image banks until words place timed
-
-  module _ (p : ℕ) (port : PortImage) (is : IsPort image p port) where
-    inside : p < length image.ports
-    inside = slice_get_within image.ports p port is
-
-    pub timed_ask : (r n : ℕ) → r < length image.ports → n + 1 ≤ (place r).turn → AreTimed image banks until words (updated place p (after_ask (place p) r n))
-    timed_ask r n r_in fresh = with_stamps image banks until words (updated place p (after_ask (place p) r n)) (turns_ask image fits banks until words place turns p port is r n r_in fresh)
-        (stamped_still image fits banks place (sent_in image banks words) p (after_ask (place p) r n) timed.stamps (λ i link s. refl))
-
-    pub timed_take : (j : ℕ) (link : LinkIn) → slice_get port.ins j ≡ Some link → is_in link.slot (place p).takes ≡ false → (place p).turn ≤ until → (place p).turn ≤ latest (place link.sender) link.slot
-        → AreTimed image banks until words (updated place p (after_take (place p) link.slot))
-    timed_take j link at missing early fresh = with_stamps image banks until words (updated place p (after_take (place p) link.slot)) (turns_take image fits banks until words place turns p port is j link at missing early fresh)
-        (stamped_still image fits banks place (sent_in image banks words) p (after_take (place p) link.slot) timed.stamps (λ i sent s. refl))
-
-    -- the word of what is put has this turn
-    pub timed_put : (i x : ℕ) (link : LinkOut) → slice_get port.outs i ≡ Some link → 1 ≤ banks → length words ≡ word_count image banks → is_in link.slot (place p).puts ≡ false → (place p).turn ≤ until
-        → ((r : ℕ) → Stands link.readers r → (place p).turn ≤ known_of (place p) r + banks) → stamp_of x ≡ (place p).turn
-        → AreTimed image banks until (set words (send_word image banks p i ((place p).turn % banks)) x) (updated place p (after_put (place p) link.slot))
-    timed_put i x link at some long missing early ready stamp =
-        with_stamps image banks until (set words (send_word image banks p i ((place p).turn % banks)) x) (updated place p (after_put (place p) link.slot))
-        (turns_put image fits banks until words place turns p port is i (word_place banks (send_number image p i) ((place p).turn % banks)) x link at missing early ready)
-        (subst (AreStamped image banks (updated place p (after_put (place p) link.slot)))
-        (sym (sent_set image banks words p i ((place p).turn % banks) x link send (mod-lt (place p).turn some) long))
-        (stamped_put image fits banks place (sent_in image banks words) p i x link timed.stamps send begun missing stamp)) where
-          send : IsSend image p i link
-          send = record { port = port; is = is; link_is = at }
-
-          begun : 1 ≤ (place p).turn
-          begun = (timed.paced.places p port is).begun
-
-    pub timed_tell : p < length words → EndsNext port (place p).puts (place p).takes → (place p).turn ≤ until
-        → AreTimed image banks until (set words p (place p).turn) (updated place p (after_tell (place p)))
-    timed_tell room next early = with_stamps image banks until (set words p (place p).turn) (updated place p (after_tell (place p))) (turns_tell image fits banks until words place turns p port is room next early)
-        (subst (AreStamped image banks (updated place p (after_tell (place p)))) (sym (progress_set image banks words p (place p).turn inside))
-        (stamped_still image fits banks place (sent_in image banks words) p (after_tell (place p)) timed.stamps (λ i link s. minus ∙ sym (latest_put (place p) link.slot (next.all_put i link (send_at image p i link port s is)))))) where
-          minus : (place p).turn + 1 - 1 ≡ (place p).turn
-          minus = omega arith
-
-  pub timed_claim : (p : ℕ) → p < length image.ports → p < length words → place p ≡ start (length image.ports) → AreTimed image banks until (set words p 0) place
-  timed_claim p inside room fresh = with_stamps image banks until (set words p 0) place (turns_claim image fits banks until words place turns p room fresh)
-      (subst (AreStamped image banks place) (sym (progress_set image banks words p 0 inside)) timed.stamps)

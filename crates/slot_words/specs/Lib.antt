@@ -1,6 +1,9 @@
 pub mod code
+pub mod Feeds
 pub mod Held
 pub mod Layout
 pub mod Links
+pub mod packed
 pub mod Passes
+pub mod plain
 pub mod Rule

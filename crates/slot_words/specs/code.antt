@@ -1,3 +1,4 @@
 pub mod Opening
-pub mod Passes
+pub mod PackedWords
+pub mod PlainWords
 pub mod Plays

@@ -1,4 +1,4 @@
-//! Laws of the rule: functions that do nothing, whose clauses hold of all states that meet it.
+//! Laws of the rule of a crossbar: functions that do nothing, whose clauses hold of all states that meet it.
 
 ghost use Rattle.std.specs.Prelude.{List, ℕ, Some, slice_set, ◌+◌, ◌≡◌, ◌≤◌};
 ghost use mathlib.Core.Option.{some};
@@ -7,19 +7,20 @@ ghost use Rattle.image_defs.specs.Places.{Stands};
 ghost use Rattle.image_defs.specs.declared.image.LinkOut.{LinkOut};
 ghost use Rattle.event_defs.specs.Places.{IsSend, known_of};
 ghost use Rattle.atomic_table.specs.Table.{Act, State, stepped};
-ghost use Rattle.slot_words.specs.declared.rule.Key.{Key};
-ghost use Rattle.slot_words.specs.declared.rule.View.{View};
 ghost use Rattle.slot_words.specs.Layout.{progress_in, told_in, turns_told};
-ghost use Rattle.slot_words.specs.Rule.{AreDistinct, AreLooks, ArePassesSound, Kept};
+ghost use Rattle.slot_words.specs.Rule.{AreDistinct, AreLooks};
+ghost use Rattle.slot_words.specs.plain.Sound.{ArePassesSound, Kept, PlainKey, PlainView};
 
+use crate::crossbar::Plain;
 use crate::rule::{Key, Law, View};
 use atomic_table::TableRule;
+use net_defs::Stimulus;
 
 /// A law: what the table holds between any two steps is the rule by its four parts, and nothing else. It does
 /// nothing.
 pub fn rule_is_kept()
-    ensures kept { (key : Key) (s : State (Unit {0}) View) → ⟦<Law as TableRule<(), View, Key>>⟧.holds key s → Kept key s }
-    ensures held { (key : Key) (s : State (Unit {0}) View) → Kept key s → ⟦<Law as TableRule<(), View, Key>>⟧.holds key s }
+    ensures kept { (key : PlainKey) (s : State (Unit {0}) PlainView) → ⟦<Law<Plain> as TableRule<(), View<Stimulus>, Key<Stimulus>>>⟧.holds key s → Kept key s }
+    ensures held { (key : PlainKey) (s : State (Unit {0}) PlainView) → Kept key s → ⟦<Law<Plain> as TableRule<(), View<Stimulus>, Key<Stimulus>>>⟧.holds key s }
 {}
 
 /// A law: between any two steps, all seats have the key's image, stimulus and banks, the words and the
@@ -27,19 +28,19 @@ pub fn rule_is_kept()
 /// its pass, no two seats have one port's pass, and the word that the last step of all saw tells what
 /// that step saw there.
 pub fn rule_is_sound()
-    ensures sound { (key : Key) (s : State (Unit {0}) View) → ⟦<Law as TableRule<(), View, Key>>⟧.holds key s → ArePassesSound key s }
-    ensures distinct { (key : Key) (s : State (Unit {0}) View) → ⟦<Law as TableRule<(), View, Key>>⟧.holds key s → AreDistinct s.views }
-    ensures looks { (key : Key) (s : State (Unit {0}) View) → ⟦<Law as TableRule<(), View, Key>>⟧.holds key s → AreLooks key.image.value s.words s.views }
+    ensures sound { (key : PlainKey) (s : State (Unit {0}) PlainView) → ⟦<Law<Plain> as TableRule<(), View<Stimulus>, Key<Stimulus>>>⟧.holds key s → ArePassesSound key s }
+    ensures distinct { (key : PlainKey) (s : State (Unit {0}) PlainView) → ⟦<Law<Plain> as TableRule<(), View<Stimulus>, Key<Stimulus>>>⟧.holds key s → AreDistinct s.views }
+    ensures looks { (key : PlainKey) (s : State (Unit {0}) PlainView) → ⟦<Law<Plain> as TableRule<(), View<Stimulus>, Key<Stimulus>>>⟧.holds key s → AreLooks key.image.value s.words s.views }
 {}
 
 /// A law: looks are looks. Whatever a step of a seat reads or writes, and whatever is told of it: where
 /// the rule holds before it and after it and it is counted among the seat's steps, the word that the
 /// seat's `last` names tells after the step what `last` says that it saw there.
 pub fn counted_steps_look()
-    ensures { (key : Key) (s : State (Unit {0}) View) (word number id : ℕ) (held : List (ℕ × Unit {0}))
-        (old new : View) (act : Act (Unit {0})) → ⟦<Law as TableRule<(), View, Key>>⟧.holds key s
+    ensures { (key : PlainKey) (s : State (Unit {0}) PlainView) (word number id : ℕ) (held : List (ℕ × Unit {0}))
+        (old new : PlainView) (act : Act (Unit {0})) → ⟦<Law<Plain> as TableRule<(), View<Stimulus>, Key<Stimulus>>>⟧.holds key s
         → get_elem? s.views id ≡ some old → new.steps ≡ old.steps + 1
-        → ⟦<Law as TableRule<(), View, Key>>⟧.holds key (stepped s word number id held new act)
+        → ⟦<Law<Plain> as TableRule<(), View<Stimulus>, Key<Stimulus>>>⟧.holds key (stepped s word number id held new act)
         → told_in key.image.value (slice_set s.words word number) new.last.word ≡ new.last.number }
 {}
 
@@ -47,8 +48,8 @@ pub fn counted_steps_look()
 /// is overwritten, which is as many turns before as there are banks. So it has taken that word, since
 /// `tell` asks for all takes of the turn.
 pub fn puts_spare_readers()
-    ensures { (key : Key) (s : State (Unit {0}) View) → ⟦<Law as TableRule<(), View, Key>>⟧.holds key s
-        → (id p i r : ℕ) (v : View) (link : LinkOut) → get_elem? s.views id ≡ some v → v.port ≡ Some p
+    ensures { (key : PlainKey) (s : State (Unit {0}) PlainView) → ⟦<Law<Plain> as TableRule<(), View<Stimulus>, Key<Stimulus>>>⟧.holds key s
+        → (id p i r : ℕ) (v : PlainView) (link : LinkOut) → get_elem? s.views id ≡ some v → v.port ≡ Some p
         → IsSend v.image p i link → Stands link.readers r → v.place.turn ≤ known_of v.place r + v.banks
         → v.place.turn ≤ turns_told (progress_in s.words r) + v.banks }
 {}

@@ -1,4 +1,4 @@
-//! The words of a crossbar, which threads share under one rule: none is overwritten before its readers took it.
+//! The words of crossbars, which threads share under one rule: none is overwritten before its readers took it.
 //! Each port of an image runs by itself and shares with the others only the words of a crossbar: one progress word
 //! for each port, and for each send so many words as there are banks. A step is one load or one store of one word.
 //! The rule holds between any two steps of all threads, in whatever order they fall: no word is overwritten before
@@ -8,8 +8,12 @@
 //!
 //! Words are numbered. Word `p` is port `p`'s progress word, which holds the number of turns that the
 //! port has finished. Behind them stand the words of all sends, port after port, send after send, bank
-//! after bank. The word of bank `k % banks` of a send holds `4 * k` and the code of a value for the last
-//! turn `k` of that bank in which the send was put.
+//! after bank. The word of bank `k % banks` of a send holds a number of the last turn `k` of that bank in
+//! which the send was put.
+//!
+//! What such a number holds is said by a `Feed`; the rule knows only which number may be sent when, and that a
+//! number tells its own turn from those before. There are two: plain words hold `4 * k` and the code of a value
+//! (`Crossbar`), and packed words the planes of all lanes with `k` modulo 16 (`pack_words`).
 //!
 //! To share words under this rule in another project, say who sends to whom in which slot of a turn, and
 //! what, as the links and the work of an image. `Crossbar::make` gives the words and one `Pass` for each port. Lend the crossbar
@@ -17,21 +21,24 @@
 //! of its sends once, takes each of its receipts once, in any order that suits it, and tells that the turn
 //! is over. Before a put in a turn `k` greater than `banks` it asks each reader of the send until it knows
 //! it to have finished turn `k - banks`; a `take` that finds nothing yet is tried again. All this is asked
-//! by the contracts, so a program that breaks it doesn't check. Of what values are, the rule knows nothing
-//! but that the image has one for each turn, port and slot. So what is shared under it are the values that
+//! by the contracts, so a program that breaks it doesn't check. So what is shared under it are the values that
 //! a well-formed image computes from its stimulus, and no others: a `put` is asked to put that value.
 //!
 //! No contract says that a thread ever moves, which of two threads is first, or how fast either is.
 #![tactic(auto)]
 
 mod crossbar;
+mod feed;
 pub mod law;
 pub mod links;
 mod opening;
+pub mod pack_words;
 mod pass;
 mod rule;
 mod steps;
+mod words;
 
-pub use crossbar::{Crossbar, Taken};
-pub use pass::Pass;
+pub use crossbar::{Crossbar, Pass, Plain, Taken};
+pub use feed::Feed;
 pub use rule::UNCLAIMED;
+pub use words::Words;

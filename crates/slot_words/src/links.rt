@@ -52,6 +52,7 @@ fn search(links: &[Link], slot: u32) -> usize
 }
 
 /// The word of a turn's bank, by the word of bank 0.
+#[inline]
 pub fn word_in_turn(word: u32, turn: u64, banks: u32) -> usize
     requires some { 1 ≤ banks }
     ensures { result ≡ word + turn % banks }

@@ -1,24 +1,24 @@
-//! Making a crossbar and its passes.
+//! Making words and their passes.
 
 ghost use Rattle.std.specs.Prelude.{IfOk, IfSome, length, replicate, ◌++◌, ◌+◌, ◌<◌, ◌^◌, ◌≡◌, ◌≤◌};
-ghost use Rattle.limits.specs.declared.TheConstants.{MAX_BANKS};
-ghost use Rattle.net_defs.specs.Valid.{IsValidStimulus};
 ghost use Rattle.image_defs.specs.WellFormed.{IsWellFormed};
 ghost use Rattle.event_defs.specs.Row.{send_count};
 ghost use Rattle.event_defs.specs.Sources.{AreFirsts};
 ghost use Rattle.slot_words.specs.code.Opening.{IsOpened, IsTemplate, IsWinner};
 ghost use Rattle.slot_words.specs.Passes.{AreFirstPasses, IsFirstPass, IsMade};
+ghost use Rattle.slot_words.specs.Rule.{IsRunnable};
 
-use crate::crossbar::Crossbar;
+use crate::feed::Feed;
 use crate::links;
 use crate::pass::Pass;
 use crate::rule::{Copied, Key, Names, UNCLAIMED, View};
+use crate::words::Words;
 use atomic_table::{Seat, Table};
 use event_defs::first_sends;
 use image_defs::Image;
-use net_defs::Stimulus;
 use seen_list::{List, Memory};
 use std::alloc::{AllocError, Global};
+use std::marker::PhantomData;
 use std::snapshot::Snapshot;
 use std::sync::Wait;
 
@@ -34,39 +34,40 @@ fn first_words(alloc: Global, ports: usize, sent: usize) -> Result<Vec<u64>, All
 }
 
 /// The words, and a seat that is no port's.
-fn open(
+fn open<D, F: Feed<D>>(
     alloc: Global,
     image: &Image,
-    stim: &Stimulus,
+    feed: &D,
     banks: u32,
     sends: u32,
-) -> Result<(Crossbar, Seat<(), View>), Memory>
-    requires image { IsWellFormed image.now }
-    requires stimulus { IsValidStimulus stim.now }
-    requires some { 1 ≤ banks }
-    requires few { banks ≤ MAX_BANKS }
+) -> Result<(Words<D, F>, Seat<(), View<D>>), Memory>
+    requires runs { IsRunnable F.Feed image.now feed.now banks }
     requires sends { sends ≡ send_count image.now }
-    ensures { IfOk result (λ opened. IsOpened image.now stim.now banks opened.0 opened.1) }
+    ensures { IfOk result (λ opened. IsOpened F.Feed image.now feed.now banks opened.0 opened.1) }
 {
     let key = Key {
         image: Snapshot::of(image),
-        stimulus: Snapshot::of(stim),
+        feed: Snapshot::of(feed),
         banks,
     };
     let Ok(words) = first_words(alloc, image.ports.len(), sends as usize * banks as usize) else {
         return Err(Memory);
     };
     match Table::of_words(alloc, words.as_slice(), &key) {
-        Ok((table, seat)) => Ok((Crossbar { table, banks }, seat)),
+        Ok((table, seat)) => Ok((Words { table, banks }, seat)),
         Err(_) => Err(Memory),
     }
 }
 
 /// A seat that claims a port, or `None` where the port was claimed before.
-fn claim(bar: &Crossbar, template: &mut Seat<(), View>, p: u32) -> Option<Seat<(), View>>
-    requires template { IsTemplate bar.now template.old }
+fn claim<D, F: Feed<D>>(
+    bar: &Words<D, F>,
+    template: &mut Seat<(), View<D>>,
+    p: u32,
+) -> Option<Seat<(), View<D>>>
+    requires template { IsTemplate F.Feed bar.now template.old }
     requires there { p < length bar.now.image.ports }
-    ensures template { IsTemplate bar.now template.new }
+    ensures template { IsTemplate F.Feed bar.now template.new }
     ensures seat { IfSome result (IsWinner bar.now p) }
 {
     let shared = &bar.table.shared;
@@ -76,14 +77,14 @@ fn claim(bar: &Crossbar, template: &mut Seat<(), View>, p: u32) -> Option<Seat<(
 }
 
 /// The pass of a port, by its seat.
-fn pass_of(
+fn pass_of<D, F: Feed<D>>(
     alloc: Global,
-    bar: &Crossbar,
+    bar: &Words<D, F>,
     image: &Image,
     firsts: &[u32],
     p: u32,
-    seat: Seat<(), View>,
-) -> Result<Pass, Memory>
+    seat: Seat<(), View<D>>,
+) -> Result<Pass<D, F>, Memory>
     requires image { image.now ≡ bar.now.image }
     requires firsts { AreFirsts image.now (length image.now.ports + 1) firsts.now }
     requires there { p < length image.now.ports }
@@ -101,21 +102,22 @@ fn pass_of(
         receipts: links::receipt_links(alloc, image, firsts, banks, p as usize)?,
         last_send: 0,
         last_receipt: 0,
+        feed: PhantomData,
     })
 }
 
 /// The passes of all ports, in their order, or `None` where some port was claimed before.
-fn deal(
+fn deal<D, F: Feed<D>>(
     alloc: Global,
-    bar: &Crossbar,
+    bar: &Words<D, F>,
     image: &Image,
     firsts: &[u32],
-    template: Seat<(), View>,
-) -> Result<Option<List<Pass>>, Memory>
+    template: Seat<(), View<D>>,
+) -> Result<Option<List<Pass<D, F>>>, Memory>
     requires fits { IsWellFormed image.now }
     requires image { image.now ≡ bar.now.image }
     requires firsts { AreFirsts image.now (length image.now.ports + 1) firsts.now }
-    requires template { IsTemplate bar.now template }
+    requires template { IsTemplate F.Feed bar.now template }
     ensures { IfOk result (λ dealt. IfSome dealt (AreFirstPasses bar.now (length image.now.ports))) }
 {
     let mut template = template;
@@ -130,22 +132,19 @@ fn deal(
 }
 
 /// The words and the passes of all ports, or `None` where some port was claimed before.
-fn try_make(
+fn try_make<D, F: Feed<D>>(
     alloc: Global,
     image: &Image,
-    stim: &Stimulus,
+    feed: &D,
     banks: u32,
     firsts: &[u32],
-) -> Result<Option<(Crossbar, List<Pass>)>, Memory>
-    requires image { IsWellFormed image.now }
-    requires stimulus { IsValidStimulus stim.now }
-    requires some { 1 ≤ banks }
-    requires few { banks ≤ MAX_BANKS }
+) -> Result<Option<(Words<D, F>, List<Pass<D, F>>)>, Memory>
+    requires runs { IsRunnable F.Feed image.now feed.now banks }
     requires firsts { AreFirsts image.now (length image.now.ports + 1) firsts.now }
-    ensures { IfOk result (λ tried. IfSome tried (λ made. IsMade image.now stim.now banks made.0 made.1)) }
+    ensures { IfOk result (λ tried. IfSome tried (λ made. IsMade image.now feed.now banks made.0 made.1)) }
 {
     let sends = firsts[image.ports.len()];
-    let (bar, template) = open(alloc, image, stim, banks, sends)?;
+    let (bar, template) = open(alloc, image, feed, banks, sends)?;
     match deal(alloc, &bar, image, firsts, template) {
         Ok(Some(passes)) => Ok(Some((bar, passes))),
         Ok(None) => Ok(None),
@@ -154,23 +153,20 @@ fn try_make(
 }
 
 /// The words and the passes, with new words until no port was claimed before.
-fn make_by<R: Wait>(
+fn make_by<D, F: Feed<D>, R: Wait>(
     rt: &R,
     alloc: Global,
     image: &Image,
-    stim: &Stimulus,
+    feed: &D,
     banks: u32,
     firsts: &[u32],
-) -> Result<(Crossbar, List<Pass>), Memory>
-    requires image { IsWellFormed image.now }
-    requires stimulus { IsValidStimulus stim.now }
-    requires some { 1 ≤ banks }
-    requires few { banks ≤ MAX_BANKS }
+) -> Result<(Words<D, F>, List<Pass<D, F>>), Memory>
+    requires runs { IsRunnable F.Feed image.now feed.now banks }
     requires firsts { AreFirsts image.now (length image.now.ports + 1) firsts.now }
-    ensures { IfOk result (λ made. IsMade image.now stim.now banks made.0 made.1) }
+    ensures { IfOk result (λ made. IsMade image.now feed.now banks made.0 made.1) }
 {
     'tries: for _ in rt.forever() {
-        match try_make(alloc, image, stim, banks, firsts) {
+        match try_make(alloc, image, feed, banks, firsts) {
             Ok(Some(made)) => return Ok(made),
             Ok(None) => {}
             Err(no) => return Err(no),
@@ -179,25 +175,21 @@ fn make_by<R: Wait>(
     unreachable!()
 }
 
-impl Crossbar {
-    /// The words of an image with a stimulus, and one pass for each port, in their order, each before its
-    /// first event. It may begin again with new words, without a bound on how often, so what it promises
-    /// holds if it returns.
+impl<D, F: Feed<D>> Words<D, F> {
+    /// The words of an image with a feed, and one pass for each port, in their order, each before its first
+    /// event. It may begin again with new words, without a bound on how often, so what it promises holds if
+    /// it returns.
     pub fn make<R: Wait>(
         rt: &R,
         alloc: Global,
         image: &Image,
-        stim: &Stimulus,
+        feed: &D,
         banks: u32,
-    ) -> Result<(Crossbar, List<Pass>), Memory>
-        requires image { IsWellFormed image.now }
-        requires stimulus { IsValidStimulus stim.now }
-        requires columns { stim.now.columns ≡ image.now.columns }
-        requires some { 1 ≤ banks }
-        requires few { banks ≤ MAX_BANKS }
-        ensures { IfOk result (λ made. IsMade image.now stim.now banks made.0 made.1) }
+    ) -> Result<(Words<D, F>, List<Pass<D, F>>), Memory>
+        requires runs { IsRunnable F.Feed image.now feed.now banks }
+        ensures { IfOk result (λ made. IsMade image.now feed.now banks made.0 made.1) }
     {
         let firsts = first_sends(alloc, image)?;
-        make_by(rt, alloc, image, stim, banks, firsts.as_slice())
+        make_by(rt, alloc, image, feed, banks, firsts.as_slice())
     }
 }

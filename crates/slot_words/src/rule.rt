@@ -2,27 +2,29 @@
 
 ghost use Rattle.std.specs.Prelude.{ℕ};
 
+use crate::feed::Feed;
 use atomic_table::{Play, Split, TableRule};
 use event_defs::Place;
 use image_defs::Image;
-use net_defs::Stimulus;
+use std::marker::PhantomData;
 use std::snapshot::Snapshot;
 
 /// What a progress word holds while no pass is its port's. Turns never come near it.
 pub const UNCLAIMED: u64 = u64::MAX;
 
-/// A word of the crossbar, by its place, and the number that a step found or left there.
+/// A word of a crossbar, by its place, and the number that a step found or left there.
 pub struct Look {
     pub word: u64,
     pub number: u64,
 }
 
-/// What a pass is and knows: its port, where it stands, how many steps it has made and what the last of
-/// them saw, and `at`, how many steps all passes had made with that one. No value of it is made.
-pub struct View {
+/// What a pass is and knows: its port, its image and what that is fed with, where it stands, how many steps
+/// it has made and what the last of them saw, and `at`, how many steps all passes had made with that one. No
+/// value of it is made.
+pub struct View<D> {
     pub port: Option<u32>,
     pub image: Image,
-    pub stimulus: Stimulus,
+    pub feed: D,
     pub banks: u32,
     pub place: Place,
     pub steps: u64,
@@ -32,19 +34,21 @@ pub struct View {
 
 /// What is fixed when a crossbar is made.
 #[derive(Drop)]
-pub struct Key {
+pub struct Key<D> {
     pub image: Snapshot<Image>,
-    pub stimulus: Snapshot<Stimulus>,
+    pub feed: Snapshot<D>,
     pub banks: u32,
 }
 
-/// The rule.
-pub struct Law;
+/// The rule of the words of a feed.
+pub struct Law<F> {
+    feed: PhantomData<F>,
+}
 
-impl TableRule<(), View, Key> for Law {
+impl<D, F: Feed<D>> TableRule<(), View<D>, Key<D>> for Law<F> {
     ghost use Rattle.slot_words.specs.Rule.{Kept, nobody};
 
-    ghost holds = { Kept };
+    ghost holds = { Kept F.Feed };
 
     ghost first = { nobody };
 }
@@ -52,7 +56,7 @@ impl TableRule<(), View, Key> for Law {
 /// A second seat, which knows as much. It costs a load of word 0.
 pub(crate) struct Copied;
 
-impl Split<View> for Copied {
+impl<D> Split<View<D>> for Copied {
     ghost left = { λ v. v };
 
     ghost right = { λ v. v };
@@ -61,7 +65,7 @@ impl Split<View> for Copied {
 /// A seat claims the port of the word.
 pub(crate) struct Names;
 
-impl Play<(), View> for Names {
+impl<D> Play<(), View<D>> for Names {
     ghost use Rattle.slot_words.specs.code.Plays.{Claims};
 
     ghost then = { Claims };
@@ -70,7 +74,7 @@ impl Play<(), View> for Names {
 /// A pass looks how many turns a reader has finished.
 pub(crate) struct Asks;
 
-impl Play<(), View> for Asks {
+impl<D> Play<(), View<D>> for Asks {
     ghost use Rattle.slot_words.specs.code.Plays.{Learns};
 
     ghost then = { Learns };
@@ -79,25 +83,27 @@ impl Play<(), View> for Asks {
 /// A pass writes the word of what it sends.
 pub(crate) struct Puts;
 
-impl Play<(), View> for Puts {
+impl<D> Play<(), View<D>> for Puts {
     ghost use Rattle.slot_words.specs.code.Plays.{Writes};
 
     ghost then = { Writes };
 }
 
 /// A pass reads the word of what it receives.
-pub(crate) struct Takes;
+pub(crate) struct Takes<F> {
+    feed: PhantomData<F>,
+}
 
-impl Play<(), View> for Takes {
+impl<D, F: Feed<D>> Play<(), View<D>> for Takes<F> {
     ghost use Rattle.slot_words.specs.code.Plays.{Reads};
 
-    ghost then = { Reads };
+    ghost then = { Reads F.Feed };
 }
 
 /// A pass ends its turn.
 pub(crate) struct Tells;
 
-impl Play<(), View> for Tells {
+impl<D> Play<(), View<D>> for Tells {
     ghost use Rattle.slot_words.specs.code.Plays.{Ends};
 
     ghost then = { Ends };

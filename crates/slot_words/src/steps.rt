@@ -5,18 +5,19 @@ ghost use mathlib.Core.Option.{none};
 ghost use Rattle.atomic_table.specs.Table.{step};
 ghost use Rattle.slot_words.specs.code.Plays.{Ends, Learns, MayAsk, MayPut, MayTake, MayTell, Reads, Writes};
 
+use crate::feed::Feed;
 use crate::rule::{Asks, Key, Law, Puts, Takes, Tells, View};
 use atomic_table::{Seat, Shared};
 
 /// Loads a reader's progress word.
-pub(crate) fn ask(
-    shared: &Shared<(), View, Key, Law>,
-    seat: &mut Seat<(), View>,
+pub(crate) fn ask<D, F: Feed<D>>(
+    shared: &Shared<(), View<D>, Key<D>, Law<F>>,
+    seat: &mut Seat<(), View<D>>,
     word: usize,
 ) -> u64
     requires own { seat.old.table_id ≡ shared.now.table_id }
     requires inside { word < shared.now.table_id.words }
-    requires may { MayAsk shared.now.key shared.now.table_id.slots seat.old.id seat.old.me word }
+    requires may { MayAsk F.Feed shared.now.key shared.now.table_id.slots seat.old.id seat.old.me word }
     ensures table { seat.new.table_id ≡ seat.old.table_id }
     ensures id { seat.new.id ≡ seat.old.id }
     ensures learns { Learns (step shared.now.table_id.slots word 0 0 none) seat.old.me result seat.new.me }
@@ -25,15 +26,15 @@ pub(crate) fn ask(
 }
 
 /// Stores a number in a word of a send.
-pub(crate) fn put(
-    shared: &Shared<(), View, Key, Law>,
-    seat: &mut Seat<(), View>,
+pub(crate) fn put<D, F: Feed<D>>(
+    shared: &Shared<(), View<D>, Key<D>, Law<F>>,
+    seat: &mut Seat<(), View<D>>,
     word: usize,
     number: u64,
 )
     requires own { seat.old.table_id ≡ shared.now.table_id }
     requires inside { word < shared.now.table_id.words }
-    requires may { MayPut shared.now.key shared.now.table_id.slots seat.old.id seat.old.me word number }
+    requires may { MayPut F.Feed shared.now.key shared.now.table_id.slots seat.old.id seat.old.me word number }
     ensures table { seat.new.table_id ≡ seat.old.table_id }
     ensures id { seat.new.id ≡ seat.old.id }
     ensures writes { Writes (step shared.now.table_id.slots word number 0 none) seat.old.me number seat.new.me }
@@ -42,31 +43,31 @@ pub(crate) fn put(
 }
 
 /// Loads a word of a send.
-pub(crate) fn take(
-    shared: &Shared<(), View, Key, Law>,
-    seat: &mut Seat<(), View>,
+pub(crate) fn take<D, F: Feed<D>>(
+    shared: &Shared<(), View<D>, Key<D>, Law<F>>,
+    seat: &mut Seat<(), View<D>>,
     word: usize,
 ) -> u64
     requires own { seat.old.table_id ≡ shared.now.table_id }
     requires inside { word < shared.now.table_id.words }
-    requires may { MayTake shared.now.key shared.now.table_id.slots seat.old.id seat.old.me word }
+    requires may { MayTake F.Feed shared.now.key shared.now.table_id.slots seat.old.id seat.old.me word }
     ensures table { seat.new.table_id ≡ seat.old.table_id }
     ensures id { seat.new.id ≡ seat.old.id }
-    ensures reads { Reads (step shared.now.table_id.slots word 0 0 none) seat.old.me result seat.new.me }
+    ensures reads { Reads F.Feed (step shared.now.table_id.slots word 0 0 none) seat.old.me result seat.new.me }
 {
-    shared.load::<Takes>(seat, word)
+    shared.load::<Takes<F>>(seat, word)
 }
 
 /// Stores a turn in the own progress word.
-pub(crate) fn tell(
-    shared: &Shared<(), View, Key, Law>,
-    seat: &mut Seat<(), View>,
+pub(crate) fn tell<D, F: Feed<D>>(
+    shared: &Shared<(), View<D>, Key<D>, Law<F>>,
+    seat: &mut Seat<(), View<D>>,
     word: usize,
     turn: u64,
 )
     requires own { seat.old.table_id ≡ shared.now.table_id }
     requires inside { word < shared.now.table_id.words }
-    requires may { MayTell shared.now.key shared.now.table_id.slots seat.old.id seat.old.me word turn }
+    requires may { MayTell F.Feed shared.now.key shared.now.table_id.slots seat.old.id seat.old.me word turn }
     ensures table { seat.new.table_id ≡ seat.old.table_id }
     ensures id { seat.new.id ≡ seat.old.id }
     ensures ends { Ends (step shared.now.table_id.slots word turn 0 none) seat.old.me turn seat.new.me }

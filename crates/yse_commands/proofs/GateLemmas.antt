@@ -16,7 +16,7 @@ use Rattle.net_defs.specs.declared.timing.Timing.{Timing}
 use Rattle.net_defs.specs.Time.{cycle_count}
 use Rattle.net_defs.specs.Valid.{input_count}
 use Rattle.port_host.specs.Rows.{printed_sources}
-use Rattle.slot_words.specs.Rule.{turns_of}
+use Rattle.slot_words.specs.plain.Words.{turns_of}
 use Rattle.yse_commands.specs.declared.steps.Pace.{Pace}
 use Rattle.refusal_lines.specs.declared.refusal.Refusal.{Refusal}
 use Rattle.named_files.specs.Images.{IsImageOf, IsMachineImage}

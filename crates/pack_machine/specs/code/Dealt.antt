@@ -9,7 +9,7 @@ use Rattle.pack_machine.specs.code.Crews.{PackCrew}
 -- a port of the crew's run, in the turn of the crew
 pub record IsSeatOf (crew : PackCrew) (seat : PackSeated) : Type 0 where
   pub image : seat.run.image ≡ crew.image
-  pub lanes : seat.run.lanes ≡ crew.lanes
+  pub lanes : seat.run.feed ≡ crew.lanes
   pub turn : seat.run.place.turn ≡ crew.turn
 
 -- what is dealt to worker w of a crew: one of its ports, from this number on

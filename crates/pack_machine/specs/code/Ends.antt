@@ -4,15 +4,15 @@ use Rattle.crew_run.specs.declared.worker.Worker.{Worker}
 use Rattle.image_defs.specs.Places.{host_of}
 use Rattle.image_defs.specs.declared.image.Image.{Image}
 use Rattle.pack_run.specs.declared.seated.PackSeated.{PackSeated}
-use Rattle.pack_words.specs.Passes.{PackPassView}
-use Rattle.pack_words.specs.Rule.{turns_of}
+use Rattle.slot_words.specs.packed.Passes.{PackPassView}
+use Rattle.slot_words.specs.packed.Words.{turns_of}
 use Rattle.stim_text.specs.declared.lanes.Lanes.{Lanes}
 use Rattle.pack_machine.specs.code.Dealt.{HasPort}
 
 -- this is the host of a run of the image on lanes, which has made all turns
 pub record IsHostAtEnd (image : Image) (lanes : Lanes) (run : PackPassView) : Type 0 where
   pub image_is : run.image ≡ image
-  pub lanes_are : run.lanes ≡ lanes
+  pub lanes_are : run.feed ≡ lanes
   pub port : run.port ≡ host_of run.image
   pub turn : run.place.turn ≡ turns_of image lanes + 1
 

@@ -9,7 +9,7 @@ use Rattle.port_host.specs.Rows.{printed_sources}
 use Rattle.stim_text.specs.Lanes.{own_stimulus}
 use Rattle.trace_text.specs.Line.{HasRoom}
 use Rattle.pack_machine.specs.declared.lines.LaneLines.{LaneLines}
-use Rattle.pack_words.specs.Passes.{PackPassView}
+use Rattle.slot_words.specs.packed.Passes.{PackPassView}
 
 -- there is room for the line of any lane, for each line of a trace of the netlist, and for the cells of a row, which are
 -- those of the printed names
@@ -21,4 +21,4 @@ pub record HasLineRoom (net : Netlist) (image : Image) (room : LaneLines) : Type
 
 -- the cells that the image of a host shows for a cycle of a lane's own stimulus; lanes are counted from 0, cycles from 1
 abbrev pub cells_in_lane : PackPassView → ℕ → ℕ → List V4
-cells_in_lane host lane = cells_shown host.image (own_stimulus host.image.columns host.lanes lane)
+cells_in_lane host lane = cells_shown host.image (own_stimulus host.image.columns host.feed lane)

@@ -7,7 +7,7 @@ use Rattle.crew_run.specs.declared.stepper.Step.{Step}
 use Rattle.port_run.specs.code.Steps as plain
 use Rattle.pack_walk.specs.declared.action.PackAction.{PackAction}
 use Rattle.pack_walk.specs.declared.action.PackAction.TheVariants as action
-use Rattle.pack_words.specs.Passes.{IsFit, IsRunning, PackPassView}
+use Rattle.slot_words.specs.packed.Passes.{IsFit, IsRunning, PackPassView}
 use Rattle.pack_run.specs.Pairs.{HasMadeAll}
 
 -- this is what the pass does next

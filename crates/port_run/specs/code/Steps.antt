@@ -6,14 +6,14 @@ use Rattle.event_defs.specs.Next.{IsNext}
 use Rattle.event_defs.specs.declared.place.Action.{Action}
 use Rattle.crew_run.specs.declared.stepper.Step.{Step}
 use Rattle.crew_run.specs.declared.stepper.Step.TheVariants.{Done, Moved, NotYet}
-use Rattle.slot_words.specs.Passes.{IsFit, PassView}
-use Rattle.slot_words.specs.Rule.{turns_of}
+use Rattle.slot_words.specs.plain.Passes.{IsFit, PassView}
+use Rattle.slot_words.specs.plain.Words.{turns_of}
 use Rattle.port_run.specs.Steps.{value_there}
 
 -- this is the next event of its place in a block that has this last turn
 pub record IsUpcoming (until : ℕ) (pass : PassView) (action : Action) : Type 0 where
   pub fit : IsFit pass
-  pub few : until ≤ turns_of pass.image pass.stimulus
+  pub few : until ≤ turns_of pass.image pass.feed
   pub seat : PortImage
   pub is : IsPort pass.image pass.port seat
   pub next : IsNext seat pass.place pass.banks until (value_there pass) action

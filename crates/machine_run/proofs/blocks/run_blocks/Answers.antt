@@ -138,7 +138,7 @@ pub new-requires-2-clause-image : goal.new-requires-2-clause-image
 new-requires-2-clause-image g c = c.in_ok-bar.ensures.image_is
 
 pub new-requires-2-clause-stimulus : goal.new-requires-2-clause-stimulus
-new-requires-2-clause-stimulus g c = c.in_ok-bar.ensures.stimulus_is
+new-requires-2-clause-stimulus g c = c.in_ok-bar.ensures.feed_is
 
 pub new-requires-2-clause-passes : goal.new-requires-2-clause-passes
 new-requires-2-clause-passes g c = c.in_ok-bar.ensures.all

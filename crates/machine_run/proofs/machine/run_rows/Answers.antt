@@ -81,7 +81,7 @@ pub new-requires-clause-image : goal.new-requires-clause-image
 new-requires-clause-image g c = c.in_ok-bar.ensures.image_is
 
 pub new-requires-clause-stimulus : goal.new-requires-clause-stimulus
-new-requires-clause-stimulus g c = c.in_ok-bar.ensures.stimulus_is
+new-requires-clause-stimulus g c = c.in_ok-bar.ensures.feed_is
 
 pub new-requires-clause-passes : goal.new-requires-clause-passes
 new-requires-clause-passes g c = c.in_ok-bar.ensures.all

@@ -1,5 +1,5 @@
 use Rattle.std.proofs.Common.{ap, arith, length, refl, subst, sym, ◌∙◌, ◌%◌}
-use Rattle.slot_words.specs.Passes.{IsFirstPass}
+use Rattle.slot_words.specs.plain.Passes.{IsFirstPass}
 use Rattle.machine_run.proofs.DealtLemmas.{dealt_more, dealt_none, passes_less}
 use Rattle.machine_run.specs.Crews.{at_first}
 use Rattle.machine_run.specs.Dealt.{AreDealt}

@@ -1,5 +1,5 @@
 use Rattle.std.proofs.Common.{length, ◌≤◌}
-use Rattle.slot_words.specs.Passes.{AreFirstPasses}
+use Rattle.slot_words.specs.plain.Passes.{AreFirstPasses}
 use Rattle.machine_run.specs.Crews.{at_first}
 use Rattle.machine_run.specs.Dealt.{AreDealt}
 use Rattle.machine_run.proofs.seats.deal.Given as goal

@@ -14,7 +14,7 @@ pub write_trace-requires-clause-lane : goal.write_trace-requires-clause-lane
 write_trace-requires-clause-lane g c = slice_get_within _ _ _ c.requires.lane
 
 pub write_trace-requires-clause-all : goal.write_trace-requires-clause-all
-write_trace-requires-clause-all g c = c.cycles.ensures ∙ ap cycle_count (sym (own_is c.args.host.now.image.columns c.args.host.now.lanes c.args.lane _ c.requires.lane))
+write_trace-requires-clause-all g c = c.cycles.ensures ∙ ap cycle_count (sym (own_is c.args.host.now.image.columns c.args.host.now.feed c.args.lane _ c.requires.lane))
 
 pub write_trace-requires-clause-room : goal.write_trace-requires-clause-room
 write_trace-requires-clause-room g c = marked _ _ _ _ (ap (λ l. l.room) c.lane.ensures) c.requires.room
@@ -22,7 +22,7 @@ write_trace-requires-clause-room g c = marked _ _ _ _ (ap (λ l. l.room) c.lane.
 pub returns-in-Ok-clause-written : goal.returns-in-Ok-clause-written
 returns-in-Ok-clause-written g c =
     writes_then _ _ _ _ _ _ _ _ _ _ _ _ c.in-Ok.is (c.bytes.ensures ∙ ap (λ l. l.bytes) c.lane.ensures) c.write_piece.ensures
-    (writes_same _ _ _ _ _ _ _ (ap (bytes_of_run c.args.net.now c.args.host.now.image) (own_is c.args.host.now.image.columns c.args.host.now.lanes c.args.lane _ c.requires.lane)) c.write_trace.ensures.written)
+    (writes_same _ _ _ _ _ _ _ (ap (bytes_of_run c.args.net.now c.args.host.now.image) (own_is c.args.host.now.image.columns c.args.host.now.feed c.args.lane _ c.requires.lane)) c.write_trace.ensures.written)
 
 pub returns-in-Err-clause-written : goal.returns-in-Err-clause-written
 returns-in-Err-clause-written g c = writes_stop _ _ _ _ _ _ _ _ _ c.in-Err.is (c.bytes.ensures ∙ ap (λ l. l.bytes) c.lane.ensures) c.write_piece.ensures

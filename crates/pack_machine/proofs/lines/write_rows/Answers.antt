@@ -19,15 +19,15 @@ fill_row-requires-clause-done g c = omega (arith, c.rows-test.true, c.requires.d
 pub row-requires-clause-room : goal.row-requires-clause-room
 row-requires-clause-room g c =
     rw c.as_slice.ensures (row_fits c.args._net.now c.args.host.now.image c.rows.room _
-    (cells_wide c.args.host.now.image (own_stimulus c.args.host.now.image.columns c.args.host.now.lanes c.args.lane) (c.rows.c + 1) _ c.fill_row.ensures) c.rows.invariant.room)
+    (cells_wide c.args.host.now.image (own_stimulus c.args.host.now.image.columns c.args.host.now.feed c.args.lane) (c.rows.c + 1) _ c.fill_row.ensures) c.rows.invariant.room)
 
 pub row-requires-clause-cycle : goal.row-requires-clause-cycle
-row-requires-clause-cycle g c = omega (arith, c.rows-test.true, c.requires.done, longest_few c.args.host.now.image.columns c.args.host.now.lanes c.requires.lanes)
+row-requires-clause-cycle g c = omega (arith, c.rows-test.true, c.requires.done, longest_few c.args.host.now.image.columns c.args.host.now.feed c.requires.lanes)
 
 pub returns-in-Err-clause-room : goal.returns-in-Err-clause-room
 returns-in-Err-clause-room g c =
     room_written c.args._net.now c.args.host.now.image c.rows.room _ _ (ap (λ l. l.room) c.row.ensures)
-    (cells_wide c.args.host.now.image (own_stimulus c.args.host.now.image.columns c.args.host.now.lanes c.args.lane) (c.rows.c + 1) _ c.fill_row.ensures) c.rows.invariant.room
+    (cells_wide c.args.host.now.image (own_stimulus c.args.host.now.image.columns c.args.host.now.feed c.args.lane) (c.rows.c + 1) _ c.fill_row.ensures) c.rows.invariant.room
 
 pub returns-in-Err-clause-written : goal.returns-in-Err-clause-written
 returns-in-Err-clause-written g c =
@@ -41,7 +41,7 @@ rows-preserved g c =
     let bytes : c.row.new.self.bytes ≡ lines_between cells c.rows.c (c.rows.c + 1) = ap (λ l. l.bytes) c.row.ensures ∙ (ap (cycle_line (c.rows.c + 1)) (c.as_slice.ensures ∙ c.fill_row.ensures) ∙ sym (lines_one cells c.rows.c)) in
     record {
       room = room_written c.args._net.now c.args.host.now.image c.rows.room _ _ (ap (λ l. l.room) c.row.ensures)
-          (cells_wide c.args.host.now.image (own_stimulus c.args.host.now.image.columns c.args.host.now.lanes c.args.lane) (c.rows.c + 1) _ c.fill_row.ensures) c.rows.invariant.room;
+          (cells_wide c.args.host.now.image (own_stimulus c.args.host.now.image.columns c.args.host.now.feed c.args.lane) (c.rows.c + 1) _ c.fill_row.ensures) c.rows.invariant.room;
       few = omega (arith, c.rows-test.true);
       written = lines_written cells _ _ _ _ _ _ 0 c.rows.c (c.rows.c + 1) c.rows.invariant.written (omega arith) (omega arith) c.write_piece.result (subst (Takes _ _ _ _ _) (c.bytes.ensures ∙ bytes) c.write_piece.ensures) c.in_default.is;
     }

@@ -8,7 +8,7 @@ use Rattle.pack_machine.specs.code.Lines.{cells_in_lane}
 use Rattle.pack_machine.proofs.lines.write_trace.Goals as goal
 
 pub write_rows-requires-clause-done : goal.write_rows-requires-clause-done
-write_rows-requires-clause-done g c = omega (arith, c.requires.all, own_cycles c.args.host.now.image.columns c.args.host.now.lanes c.args.lane)
+write_rows-requires-clause-done g c = omega (arith, c.requires.all, own_cycles c.args.host.now.image.columns c.args.host.now.feed c.args.lane)
 
 pub write_rows-requires-clause-room : goal.write_rows-requires-clause-room
 write_rows-requires-clause-room g c = headed _ _ _ _ (ap (λ l. l.room) c.header.ensures) c.requires.room

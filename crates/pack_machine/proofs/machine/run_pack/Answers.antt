@@ -101,7 +101,7 @@ pub workers_of-requires-clause-image : goal.workers_of-requires-clause-image
 workers_of-requires-clause-image g c = c.in-Ok.ensures.image_is
 
 pub workers_of-requires-clause-same_lanes : goal.workers_of-requires-clause-same_lanes
-workers_of-requires-clause-same_lanes g c = c.in-Ok.ensures.lanes_are
+workers_of-requires-clause-same_lanes g c = c.in-Ok.ensures.feed_is
 
 pub workers_of-requires-clause-passes : goal.workers_of-requires-clause-passes
 workers_of-requires-clause-passes g c = c.in-Ok.ensures.all

@@ -1,5 +1,5 @@
 use Rattle.std.proofs.Common.{ap, arith, length, refl, subst, sym, ◌∙◌, ◌%◌}
-use Rattle.pack_words.specs.Passes.{IsFirstPass}
+use Rattle.slot_words.specs.packed.Passes.{IsFirstPass}
 use Rattle.pack_machine.proofs.DealtLemmas.{dealt_more, dealt_none, passes_less}
 use Rattle.pack_machine.specs.code.Crews.{at_first}
 use Rattle.pack_machine.specs.code.Dealt.{AreDealt}

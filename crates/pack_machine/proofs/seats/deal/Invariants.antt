@@ -1,5 +1,5 @@
 use Rattle.std.proofs.Common.{length, ◌≤◌}
-use Rattle.pack_words.specs.Passes.{AreFirstPasses}
+use Rattle.slot_words.specs.packed.Passes.{AreFirstPasses}
 use Rattle.pack_machine.specs.code.Crews.{at_first}
 use Rattle.pack_machine.specs.code.Dealt.{AreDealt}
 use Rattle.pack_machine.proofs.seats.deal.Given as goal

@@ -1,11 +1,13 @@
-use Rattle.slot_words.proofs.SoundLemmas.{rule_distinct, rule_sound}
+use Rattle.slot_words.proofs.PlainLemmas.{rule_sound}
+use Rattle.slot_words.proofs.SoundLemmas.{rule_distinct}
+use Rattle.slot_words.specs.plain.Words.{plain}
 use Rattle.slot_words.proofs.law.rule_is_sound.Goals as goal
 
 pub returns-clause-sound : goal.returns-clause-sound
 returns-clause-sound c = rule_sound
 
 pub returns-clause-distinct : goal.returns-clause-distinct
-returns-clause-distinct c = rule_distinct
+returns-clause-distinct c = rule_distinct plain
 
 pub returns-clause-looks : goal.returns-clause-looks
 returns-clause-looks c key s kept = kept.looks

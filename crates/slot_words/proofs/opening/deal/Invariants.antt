@@ -3,4 +3,4 @@ use Rattle.slot_words.specs.Passes.{AreFirstPasses}
 use Rattle.slot_words.proofs.opening.deal.Given as goal
 
 abbrev pub invariant-ports : goal.invariant-ports
-invariant-ports l = IsTemplate l.bar l.template × AreFirstPasses l.bar l.p l.passes
+invariant-ports g l = IsTemplate g.F.Feed l.bar l.template × AreFirstPasses l.bar l.p l.passes

@@ -2,7 +2,7 @@
 
 use lane_planes::{in_all_lanes, with_lane};
 use logic_four::V4;
-use pack_words::{PackTaken, packed_word, read_packed};
+use slot_words::pack_words::{PackTaken, packed_word, read_packed};
 
 /// The word of turn 17 with lane 0 at 1, lane 1 undefined and the others at 0, and what it gives in some turns.
 #[test]

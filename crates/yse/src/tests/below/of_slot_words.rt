@@ -5,7 +5,7 @@ ghost use Rattle.net_defs.specs.Valid.{IsValid, IsValidStimulus};
 ghost use Rattle.machine_text.specs.Machines as machines;
 ghost use Rattle.image_defs.specs.WellFormed.{IsWellFormed};
 ghost use Rattle.event_defs.specs.declared.place.Action.TheVariants as action;
-ghost use Rattle.slot_words.specs.Passes.{AreFirstPasses, IsFirstPass, IsOf};
+ghost use Rattle.slot_words.specs.plain.Passes.{AreFirstPasses, IsFirstPass, IsOf};
 ghost use Rattle.port_run.specs.Kept.{IsKept};
 ghost use Rattle.port_run.specs.code.Steps.{IsUpcoming};
 
@@ -112,7 +112,7 @@ fn hand_of<'a>(
     requires valid { IsValidStimulus stim.now }
     requires columns { stim.now.columns ≡ image.now.columns }
     requires image { bar.now.image ≡ image.now }
-    requires stimulus { bar.now.stimulus ≡ stim.now }
+    requires stimulus { bar.now.feed ≡ stim.now }
     requires first { IsFirstPass bar.now pass.port pass }
     requires there { pass.port < length image.now.ports }
 {
@@ -139,7 +139,7 @@ fn push_hand<'a>(
     requires valid { IsValidStimulus stim.now }
     requires columns { stim.now.columns ≡ image.now.columns }
     requires image { bar.now.image ≡ image.now }
-    requires stimulus { bar.now.stimulus ≡ stim.now }
+    requires stimulus { bar.now.feed ≡ stim.now }
     requires first { IsFirstPass bar.now pass.port pass }
     requires there { pass.port < length image.now.ports }
 {
@@ -158,7 +158,7 @@ fn all_hands<'a>(
     requires valid { IsValidStimulus stim.now }
     requires columns { stim.now.columns ≡ image.now.columns }
     requires image { bar.now.image ≡ image.now }
-    requires stimulus { bar.now.stimulus ≡ stim.now }
+    requires stimulus { bar.now.feed ≡ stim.now }
     requires passes { AreFirstPasses bar.now (length image.now.ports) passes }
 {
     let mut passes = passes;

@@ -22,4 +22,4 @@ returns c =
     let a = c.self.inside in
     let next = subst (λ o. IsUpcoming o (action.Ask c.args.reader)) (sym c.self.view_is) c.requires.next in
     subst (λ o. IsStepOf o c.asked.result c.ask-finished.new.pass) c.self.view_is
-    (asked_step a.pass c.args.reader next c.ask-finished.new.pass c.ask-finished.result c.turn.result c.ask-finished.ensures.step c.turn.ensures c.asked.result c.asked.ensures)
+    (asked_step a.pass c.args.reader next c.ask-finished.new.pass c.ask-finished.result c.turn.result c.ask-finished.ensures.step c.turn.ensures.turn c.asked.result c.asked.ensures)

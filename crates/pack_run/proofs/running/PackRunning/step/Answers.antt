@@ -1,6 +1,6 @@
 use Rattle.std.proofs.Common.{ap, length, refl, subst, sym, ◌∙◌}
 use Rattle.pack_walk.specs.Placed.{PlacedPack}
-use Rattle.pack_words.specs.Passes.{IsFit}
+use Rattle.slot_words.specs.packed.Passes.{IsFit}
 use Rattle.pack_run.specs.Pairs.{HasMadeAll}
 use Rattle.pack_run.specs.code.Steps.{IsUpcoming}
 use Rattle.pack_run.proofs.RunLemmas.{upcoming}

@@ -17,7 +17,7 @@ invariant_of-self c =
     let a = c.self.inside in
     let next = subst (λ (x : RunView). IsUpcoming x.until x.pass (action.Ask c.args.reader)) (sym c.self.view_is) c.requires.next in
     kept_after a c.ask-finished.new.pass a.port c.asked.result c.self.invariant
-    (asked_step a.port.until a.pass c.args.reader next c.ask-finished.new.pass c.ask-finished.result c.turn.result c.banks.result c.ask-finished.ensures.step c.turn.ensures c.banks.ensures c.asked.result c.asked.ensures)
+    (asked_step a.port.until a.pass c.args.reader next c.ask-finished.new.pass c.ask-finished.result c.turn.result c.banks.result c.ask-finished.ensures.step c.turn.ensures.turn c.banks.ensures c.asked.result c.asked.ensures)
     (c.self.invariant.port ∙ sym (ap (λ pass. placed (with_pass (view_of a) pass)) c.ask-finished.ensures.step))
 
 pub returns-clause-step : goal.returns-clause-step
@@ -25,7 +25,7 @@ returns-clause-step c =
     let a = c.self.inside in
     let next = subst (λ (x : RunView). IsUpcoming x.until x.pass (action.Ask c.args.reader)) (sym c.self.view_is) c.requires.next in
     subst (λ (x : RunView). IsStepOf x.until x.pass c.asked.result c.ask-finished.new.pass) c.self.view_is
-    (asked_step a.port.until a.pass c.args.reader next c.ask-finished.new.pass c.ask-finished.result c.turn.result c.banks.result c.ask-finished.ensures.step c.turn.ensures c.banks.ensures c.asked.result c.asked.ensures)
+    (asked_step a.port.until a.pass c.args.reader next c.ask-finished.new.pass c.ask-finished.result c.turn.result c.banks.result c.ask-finished.ensures.step c.turn.ensures.turn c.banks.ensures c.asked.result c.asked.ensures)
 
 pub returns-clause-block : goal.returns-clause-block
 returns-clause-block c =

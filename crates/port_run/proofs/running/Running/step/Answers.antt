@@ -1,7 +1,7 @@
 use Rattle.std.proofs.Common.{ap, length, refl, subst, sym, ◌∙◌, ◌≤◌}
 use Rattle.port_walk.specs.Placed.{PlacedPort}
-use Rattle.slot_words.specs.Passes.{IsFit}
-use Rattle.slot_words.specs.Rule.{turns_of}
+use Rattle.slot_words.specs.plain.Passes.{IsFit}
+use Rattle.slot_words.specs.plain.Words.{turns_of}
 use Rattle.port_run.specs.Kept.{view_of}
 use Rattle.port_run.specs.Pairs.{IsDone, RunView}
 use Rattle.port_run.specs.code.Steps.{IsUpcoming}
@@ -64,7 +64,7 @@ pub returns-in-Done-clause-fit : goal.returns-in-Done-clause-fit
 returns-in-Done-clause-fit c = subst (λ (x : RunView). IsFit x.pass) c.self.view_is c.known.ensures.fit
 
 pub returns-in-Done-clause-few : goal.returns-in-Done-clause-few
-returns-in-Done-clause-few c = subst (λ (x : RunView). x.until ≤ turns_of x.pass.image x.pass.stimulus) c.self.view_is (few_turns (view_of c.self.inside) c.self.invariant.until)
+returns-in-Done-clause-few c = subst (λ (x : RunView). x.until ≤ turns_of x.pass.image x.pass.feed) c.self.view_is (few_turns (view_of c.self.inside) c.self.invariant.until)
 
 pub returns-in-Ask-clause-step : goal.returns-in-Ask-clause-step
 returns-in-Ask-clause-step c = c.ask.ensures.step
@@ -79,7 +79,7 @@ pub returns-in-Ask-clause-fit : goal.returns-in-Ask-clause-fit
 returns-in-Ask-clause-fit c = subst (λ (x : RunView). IsFit x.pass) c.self.view_is c.known.ensures.fit
 
 pub returns-in-Ask-clause-few : goal.returns-in-Ask-clause-few
-returns-in-Ask-clause-few c = subst (λ (x : RunView). x.until ≤ turns_of x.pass.image x.pass.stimulus) c.self.view_is (few_turns (view_of c.self.inside) c.self.invariant.until)
+returns-in-Ask-clause-few c = subst (λ (x : RunView). x.until ≤ turns_of x.pass.image x.pass.feed) c.self.view_is (few_turns (view_of c.self.inside) c.self.invariant.until)
 
 pub returns-in-Put-clause-step : goal.returns-in-Put-clause-step
 returns-in-Put-clause-step c = c.put.ensures.step
@@ -94,7 +94,7 @@ pub returns-in-Put-clause-fit : goal.returns-in-Put-clause-fit
 returns-in-Put-clause-fit c = subst (λ (x : RunView). IsFit x.pass) c.self.view_is c.known.ensures.fit
 
 pub returns-in-Put-clause-few : goal.returns-in-Put-clause-few
-returns-in-Put-clause-few c = subst (λ (x : RunView). x.until ≤ turns_of x.pass.image x.pass.stimulus) c.self.view_is (few_turns (view_of c.self.inside) c.self.invariant.until)
+returns-in-Put-clause-few c = subst (λ (x : RunView). x.until ≤ turns_of x.pass.image x.pass.feed) c.self.view_is (few_turns (view_of c.self.inside) c.self.invariant.until)
 
 pub returns-in-Take-clause-step : goal.returns-in-Take-clause-step
 returns-in-Take-clause-step c = c.take.ensures.step
@@ -109,7 +109,7 @@ pub returns-in-Take-clause-fit : goal.returns-in-Take-clause-fit
 returns-in-Take-clause-fit c = subst (λ (x : RunView). IsFit x.pass) c.self.view_is c.known.ensures.fit
 
 pub returns-in-Take-clause-few : goal.returns-in-Take-clause-few
-returns-in-Take-clause-few c = subst (λ (x : RunView). x.until ≤ turns_of x.pass.image x.pass.stimulus) c.self.view_is (few_turns (view_of c.self.inside) c.self.invariant.until)
+returns-in-Take-clause-few c = subst (λ (x : RunView). x.until ≤ turns_of x.pass.image x.pass.feed) c.self.view_is (few_turns (view_of c.self.inside) c.self.invariant.until)
 
 pub returns-in-Tell-clause-step : goal.returns-in-Tell-clause-step
 returns-in-Tell-clause-step c = c.tell.ensures.step
@@ -124,4 +124,4 @@ pub returns-in-Tell-clause-fit : goal.returns-in-Tell-clause-fit
 returns-in-Tell-clause-fit c = subst (λ (x : RunView). IsFit x.pass) c.self.view_is c.known.ensures.fit
 
 pub returns-in-Tell-clause-few : goal.returns-in-Tell-clause-few
-returns-in-Tell-clause-few c = subst (λ (x : RunView). x.until ≤ turns_of x.pass.image x.pass.stimulus) c.self.view_is (few_turns (view_of c.self.inside) c.self.invariant.until)
+returns-in-Tell-clause-few c = subst (λ (x : RunView). x.until ≤ turns_of x.pass.image x.pass.feed) c.self.view_is (few_turns (view_of c.self.inside) c.self.invariant.until)

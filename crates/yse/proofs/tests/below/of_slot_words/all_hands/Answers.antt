@@ -3,7 +3,7 @@ use Rattle.std.proofs.Common.{List, ap, arith, length, slice_get, subst, sym, â„
 use Rattle.std.proofs.lemmas.List.{length_push}
 use Rattle.std.proofs.lemmas.Option.{slice_get_within}
 use Rattle.list_laws.proofs.Places.{at_front, seam_at}
-use Rattle.slot_words.specs.Passes.{AreFirstPasses, CrossbarView, IsFirstPass, PassView}
+use Rattle.slot_words.specs.plain.Passes.{AreFirstPasses, CrossbarView, IsFirstPass, PassView}
 use Rattle.yse.proofs.tests.below.of_slot_words.all_hands.Goals as goal
 
 -- the last of the passes

@@ -1,5 +1,5 @@
 use Rattle.std.proofs.Common.{length, ◌≤◌}
-use Rattle.slot_words.specs.Passes.{AreFirstPasses}
+use Rattle.slot_words.specs.plain.Passes.{AreFirstPasses}
 use Rattle.yse.proofs.tests.below.of_slot_words.all_hands.Given as goal
 
 abbrev pub invariant-passes : goal.invariant-passes

@@ -1,6 +1,0 @@
-use Rattle.pack_words.specs.code.Opening.{IsTemplate}
-use Rattle.pack_words.specs.Passes.{AreFirstPasses}
-use Rattle.pack_words.proofs.opening.deal.Given as goal
-
-abbrev pub invariant-ports : goal.invariant-ports
-invariant-ports l = IsTemplate l.bar l.template × AreFirstPasses l.bar l.p l.passes

@@ -1,4 +1,0 @@
-use Rattle.pack_words.proofs.steps.tell.Goals as goal
-
-pub store-requires : goal.store-requires
-store-requires c = (c.requires.own, c.requires.inside, c.requires.may)

@@ -1,0 +1,4 @@
+pub mod Laws
+pub mod Passes
+pub mod Sound
+pub mod Words
