@@ -16,7 +16,7 @@ use Rattle.net_defs.specs.Steps.{State}
 use Rattle.net_defs.specs.Loops.{IsOrder, IsCircle}
 use Rattle.rank_find.proofs.Existence.{order_or_loop}
 use Rattle.ref_sim.proofs.Simulations.{one_along}
-use Rattle.fault_sim.specs.declared.faults.Fault.{Fault}
+use Rattle.net_defs.specs.declared.faults.Fault.{Fault}
 use Rattle.fault_sim.specs.declared.faults.Verdict.{Verdict}
 use Rattle.fault_sim.specs.declared.faults.Verdict.TheVariants.{Seen, Unseen}
 use Rattle.fault_sim.specs.Faults.{IsFault, all_faults}

@@ -9,7 +9,7 @@ use Rattle.net_defs.specs.Time.{value_at, cycle_count}
 use Rattle.net_defs.specs.Steps.{State}
 use Rattle.net_defs.specs.Trace.{cells_of}
 use Rattle.net_defs.specs.Reference.{IsSimulation}
-use Rattle.fault_sim.specs.declared.faults.Fault.{Fault}
+use Rattle.net_defs.specs.declared.faults.Fault.{Fault}
 use Rattle.fault_sim.specs.declared.faults.Verdict.{Verdict}
 use Rattle.fault_sim.specs.declared.faults.Verdict.TheVariants.{Seen, Unseen}
 use Rattle.net_defs.specs.Loops.{IsCircle}

@@ -22,9 +22,10 @@ mod state;
 mod turn;
 
 pub use all::fault_all;
-pub use faults::{Fault, Verdict};
+pub use faults::Verdict;
 pub use group::fault_group;
 pub use lines::fault_lines;
+pub use net_defs::Fault;
 
 /// A law: where the netlist has no loop, each fault has exactly one faulty simulation, and its steps are
 /// those in which the stuck signal has its value and all else is as ever. It does nothing.

@@ -5,7 +5,7 @@ use Rattle.limits.specs.declared.TheConstants.{LANES}
 use Rattle.net_defs.specs.declared.netlist.Netlist.{Netlist}
 use Rattle.net_defs.specs.declared.timing.Timing.{Timing}
 use Rattle.net_defs.specs.declared.stimulus.Stimulus.{Stimulus}
-use Rattle.fault_sim.specs.declared.faults.Fault.{Fault}
+use Rattle.net_defs.specs.declared.faults.Fault.{Fault}
 use Rattle.fault_sim.specs.declared.all.Group.{Group}
 use Rattle.fault_sim.specs.Faults.{IsFault, faults_from}
 use Rattle.fault_sim.specs.Verdicts.{AreVerdicts}
