@@ -12,12 +12,14 @@ mod MakingLemmas
 mod MarkLemmas
 mod NameLemmas
 mod NumberLemmas
+mod OnceLemmas
 mod PieceLemmas
 mod PlainLemmas
 mod ReadLemmas
 mod RowLemmas
 mod SaidLemmas
 mod ShapeLemmas
+mod StuckLemmas
 mod TwiceLemmas
 mod UseLemmas
 mod ValidLemmas

@@ -1,8 +1,7 @@
 -- Which gates a list text names, and its first fault.
-use Rattle.std.specs.Prelude.{◌≡◌, ◌≢◌, ℕ, ◌+◌, ◌&&◌, ◌⊎◌, Bool, List, [], ◌∷◌, length, take, map, filter, slice_index_or, Option, Some, None, if◌then◌else◌, nat_le, bytes_eq, All, AllPairs}
+use Rattle.std.specs.Prelude.{◌≡◌, ◌≢◌, ℕ, ◌&&◌, ◌⊎◌, Bool, List, [], ◌∷◌, length, map, filter, Option, Some, None, if◌then◌else◌, nat_le, bytes_eq, All, AllPairs}
 use Rattle.std.specs.List.{list_all, filter_map, position, range_with_len}
 use Rattle.limits.specs.declared.TheConstants.{MAX_NAME_BYTES}
-use Rattle.text_lines.specs.Answers.{first}
 use Rattle.text_lines.specs.Lines.{parts_of}
 use Rattle.text_lines.specs.Names.{is_name_byte}
 use Rattle.text_lines.specs.Words.{words_of}
@@ -11,6 +10,7 @@ use Rattle.net_defs.specs.Loops.{is_gate}
 use Rattle.net_defs.specs.Steps.{is_listed}
 use Rattle.bench_read.specs.declared.refusal.LastNo.{LastNo}
 use Rattle.bench_read.specs.declared.refusal.LastNo.TheVariants.{Syntax, NoGate, Twice}
+use Rattle.bench_read.specs.Once.{first_fault_of}
 
 -- ---- names
 
@@ -75,10 +75,6 @@ words_fault net named line (word ∷ other ∷ words) = Some (Syntax line)
 unfoldable pub fault_of : Netlist → List ℕ → ℕ → List ℕ → Option LastNo
 fault_of net named line part = words_fault net named line (words_of part)
 
--- the fault of the line at a place among the lines, counted from 0
-abbrev pub fault_at : Netlist → List (List ℕ) → ℕ → Option LastNo
-fault_at net parts i = fault_of net (gates_of net (take i parts)) (i + 1) (slice_index_or parts i [])
-
 -- the fault of the first line that has one
 abbrev pub first_fault : Netlist → List ℕ → Option LastNo
-first_fault net text = first (fault_at net (parts_of text)) (length (parts_of text))
+first_fault net text = first_fault_of (gate_of net) (fault_of net) (parts_of text)

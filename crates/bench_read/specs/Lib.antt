@@ -3,7 +3,9 @@ pub mod Faults
 pub mod GateLists
 pub mod Lines
 pub mod Netlists
+pub mod Once
 pub mod Placed
 pub mod Reads
 pub mod Saying
+pub mod StuckLists
 pub mod Written

@@ -1,8 +1,9 @@
-//! The netlist of a text in the ISCAS'89 `.bench` format, or the text's first fault; and the gates
-//! that a list names by a line for each, or the list's first fault.
+//! The netlist of a text in the ISCAS'89 `.bench` format, or the text's first fault; and the gates, or
+//! the stuck faults, that a list names by a line for each, or the list's first fault.
 //!
 //! List text: a line outside its comment is blank, or it is the name of a gate, with blanks around.
-//! No gate is named twice. The format is this project's profile.
+//! No gate is named twice. In a list of stuck faults it is the name of a signal, then `0` or `1`, and
+//! then perhaps `-`. The formats are this project's profile.
 #![tactic(auto)]
 
 mod draft;
@@ -19,7 +20,11 @@ mod read;
 mod refusal;
 mod rows;
 mod say;
+pub mod stuck_law;
+mod stuck_line;
+mod stuck_reading;
 
 pub use list_reading::read_last;
 pub use read::read_bench;
-pub use refusal::{BenchNo, LastNo, Many};
+pub use refusal::{BenchNo, FaultNo, LastNo, Many};
+pub use stuck_reading::read_faults;

@@ -49,7 +49,7 @@ pub fn read_line(
 
 /// Whether the word is a name: 1 to 255 bytes that may stand in one.
 #[tactic(auto, unfolding(crate::specs::GateLists::is_name))]
-fn is_name(word: &[u8]) -> bool
+pub(crate) fn is_name(word: &[u8]) -> bool
     ensures { result ≡ is_name word.now }
 {
     1 <= word.len() && word.len() <= MAX_NAME_BYTES && has_name_bytes(word)

@@ -79,7 +79,7 @@ fn mark_lines(
 }
 
 /// The names of the signals, in signal order.
-fn signal_names(alloc: Global, net: &Netlist) -> Result<Names<'_>, Memory>
+pub(crate) fn signal_names(alloc: Global, net: &Netlist) -> Result<Names<'_>, Memory>
     requires { NamesDiffer net.now.signals }
     ensures { IfOk result (λ names. names ≡ names_in net.now) }
 {

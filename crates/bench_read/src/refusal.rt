@@ -1,4 +1,4 @@
-//! Why a netlist text, or the text of a list of gates, is refused.
+//! Why a netlist text, or the text of a list of gates or of stuck faults, is refused.
 
 ghost use Rattle.std.specs.Prelude.{◌≡◌};
 ghost use Rattle.bench_read.specs.Faults.{of_text};
@@ -72,6 +72,30 @@ impl From<Memory> for LastNo {
 
     fn from(_refused: Memory) -> LastNo {
         LastNo::Memory
+    }
+}
+
+/// Why the text of a list of stuck faults is refused. Lines are counted from 1.
+#[derive(Clone, Copy)]
+pub enum FaultNo {
+    /// The line is neither blank, nor a name and `0` or `1`, with or without a `-` after them.
+    Syntax { line: u32 },
+    /// No signal of the netlist has the line's name.
+    NoSignal { line: u32 },
+    /// An earlier line has the line's fault.
+    Twice { line: u32 },
+    /// There was not enough memory to read the text.
+    Memory,
+}
+
+impl From<Memory> for FaultNo {
+    ghost use Rattle.std.specs.Prelude.{◌≡◌};
+    ghost use Rattle.bench_read.specs.declared.refusal.FaultNo.TheVariants.{Memory as NoMemory};
+
+    ghost from_gives = { λ _ e. e ≡ NoMemory };
+
+    fn from(_refused: Memory) -> FaultNo {
+        FaultNo::Memory
     }
 }
 

@@ -94,6 +94,7 @@ run_of netlist stimulus value settings = record {
   banks = settings.1;
   workers = settings.2;
   homes = settings.3;
+  faults = value (codes "faults");
 }
 
 pub run_set : (netlist stimulus : Word) (value : Values) → run_by netlist stimulus value ≡ option_map (run_of netlist stimulus value) (settings_by value)

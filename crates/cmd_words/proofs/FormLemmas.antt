@@ -31,17 +31,17 @@ call_says names proper reading name words arguments given call =
 
 -- the simulation of values
 run_is : (run : RunWords) (value : Values) → run.machine ≡ value (codes "machine") → run.order ≡ value (codes "order")
-    → run.last ≡ value (codes "last") → timing_by value ≡ Some run.timing → banks_by value ≡ Some run.banks → workers_by value ≡ Some run.workers → homes_by value ≡ Some run.homes → run_by run.netlist run.stimulus value ≡ Some run
-run_is run value machine order last timing banks workers homes =
+    → run.last ≡ value (codes "last") → timing_by value ≡ Some run.timing → banks_by value ≡ Some run.banks → workers_by value ≡ Some run.workers → homes_by value ≡ Some run.homes → run.faults ≡ value (codes "faults") → run_by run.netlist run.stimulus value ≡ Some run
+run_is run value machine order last timing banks workers homes faults =
     ap₂ (λ timing banks. run_with run.netlist run.stimulus value timing banks (workers_by value) (homes_by value)) timing banks
     ∙ ap₂ (run_with run.netlist run.stimulus value (Some run.timing) (Some run.banks)) workers homes
-    ∙ ap₂ (λ machine order. Some (record run { machine = machine; order = order; last = value (codes "last") })) (sym machine) (sym order)
-    ∙ ap (λ last. Some (record run { last = last })) (sym last)
+    ∙ ap₂ (λ machine order. Some (record run { machine = machine; order = order; last = value (codes "last"); faults = value (codes "faults") })) (sym machine) (sym order)
+    ∙ ap₂ (λ last faults. Some (record run { last = last; faults = faults })) (sym last) (sym faults)
 
 form_run : (name : Word) (names words arguments : List Word) (run : RunWords) → (form : IsRun name names words arguments run)
     → run_by run.netlist run.stimulus (value_given form.given) ≡ Some run
 form_run name names words arguments run form =
-    run_is run (value_given form.given) form.machine form.order form.last form.timing form.banks form.workers form.homes
+    run_is run (value_given form.given) form.machine form.order form.last form.timing form.banks form.workers form.homes form.faults
 
 run_says : (names : List Word) → list_all is_proper names ≡ true → (name : Word) (words : List Word) (run : RunWords) → (form : IsRun name names words (run.netlist ∷ run.stimulus ∷ []) run)
     → says names of_two_files form.call.others ≡ Some run
@@ -136,6 +136,7 @@ record IsRunBy (arguments : List Word) (value : Values) (run : RunWords) : Type 
   pub banks : banks_by value ≡ Some run.banks
   pub workers : workers_by value ≡ Some run.workers
   pub homes : homes_by value ≡ Some run.homes
+  pub faults : run.faults ≡ value (codes "faults")
 
 run_back : (netlist stimulus : Word) (value : Values) (run : RunWords) → run_by netlist stimulus value ≡ Some run → IsRunBy (netlist ∷ stimulus ∷ []) value run
 run_back netlist stimulus value run e = go (timing_by value) (banks_by value) (workers_by value) (homes_by value) refl refl refl refl e
@@ -153,6 +154,7 @@ run_back netlist stimulus value run e = go (timing_by value) (banks_by value) (w
           banks = banks;
           workers = workers;
           homes = homes;
+          faults = value (codes "faults");
         }) run e in
         record {
           arguments_are = ap (λ (run : RunWords). run.netlist ∷ run.stimulus ∷ []) is;
@@ -163,6 +165,7 @@ run_back netlist stimulus value run e = go (timing_by value) (banks_by value) (w
           banks = b ∙ ap (λ (run : RunWords). Some run.banks) is;
           workers = w ∙ ap (λ (run : RunWords). Some run.workers) is;
           homes = h ∙ ap (λ (run : RunWords). Some run.homes) is;
+          faults = sym (ap (λ (run : RunWords). run.faults) is);
         }
     go (Some timing) (Some banks) (Some workers) None t b w h e = cc
     go (Some timing) (Some banks) None homes t b w h e = cc
@@ -190,6 +193,7 @@ run_form names name words run e =
       banks = is.banks;
       workers = is.workers;
       homes = is.homes;
+      faults = is.faults;
     }
 
 -- two lists of two words
@@ -209,7 +213,7 @@ layout_back (netlist ∷ []) value run e =
     record {
       arguments_are = ap (λ (word : Word). word ∷ []) same.0;
       none = sym same.1;
-      is = record { arguments_are = refl; machine = is.machine; order = is.order; last = is.last; timing = is.timing; banks = is.banks; workers = is.workers; homes = is.homes };
+      is = record { arguments_are = refl; machine = is.machine; order = is.order; last = is.last; timing = is.timing; banks = is.banks; workers = is.workers; homes = is.homes; faults = is.faults };
     }
 layout_back [] value run e = cc
 layout_back (one ∷ other ∷ others) value run e = cc
@@ -229,6 +233,7 @@ layout_form names name words run e =
         banks = by.is.banks;
         workers = by.is.workers;
         homes = by.is.homes;
+        faults = by.is.faults;
       },
       by.none,
     )
@@ -255,7 +260,7 @@ image_back (netlist ∷ image ∷ stimulus ∷ []) value command e = go (run_by 
           image = image;
           command_is = sym (one_some (Exec run image) command e);
           arguments_are = ap₂ (λ (netlist stimulus : Word). netlist ∷ image ∷ stimulus ∷ []) same.0 same.1;
-          is = record { arguments_are = refl; machine = is.machine; order = is.order; last = is.last; timing = is.timing; banks = is.banks; workers = is.workers; homes = is.homes };
+          is = record { arguments_are = refl; machine = is.machine; order = is.order; last = is.last; timing = is.timing; banks = is.banks; workers = is.workers; homes = is.homes; faults = is.faults };
         }
 image_back [] value command e = cc
 image_back (one ∷ []) value command e = cc
@@ -276,6 +281,7 @@ image_form words command e =
       banks = made.is.banks;
       workers = made.is.workers;
       homes = made.is.homes;
+      faults = made.is.faults;
     })
 
 one_back : (arguments : List Word) (value : Values) (netlist : Word) → of_one_file arguments value ≡ Some netlist → arguments ≡ netlist ∷ []

@@ -28,6 +28,7 @@ run_with netlist stimulus value (Some timing) (Some banks) (Some workers) (Some 
   banks = banks;
   workers = workers;
   homes = homes;
+  faults = value (codes "faults");
 })
 run_with netlist stimulus value _ _ _ _ = None
 

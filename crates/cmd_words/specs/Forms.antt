@@ -29,6 +29,7 @@ pub record IsRun (name : Word) (options words arguments : List Word) (run : RunW
   pub banks : banks_by (value_given given) ≡ Some run.banks
   pub workers : workers_by (value_given given) ≡ Some run.workers
   pub homes : homes_by (value_given given) ≡ Some run.homes
+  pub faults : run.faults ≡ value_given given (codes "faults")
 
 -- the call of a generated design: two words that are numbers, and the workers
 pub record IsLarge (words : List Word) (gates cycles workers : ℕ) : Type 0 where

@@ -35,7 +35,7 @@ abbrev pub pack_options : List Word
 pack_options = codes "machine" ∷ codes "mode" ∷ codes "last" ∷ codes "units" ∷ codes "init" ∷ codes "workers" ∷ []
 
 abbrev pub fault_options : List Word
-fault_options = codes "mode" ∷ codes "last" ∷ codes "units" ∷ codes "init" ∷ codes "workers" ∷ []
+fault_options = codes "mode" ∷ codes "last" ∷ codes "units" ∷ codes "init" ∷ codes "workers" ∷ codes "faults" ∷ []
 
 abbrev pub show_options : List Word
 show_options = []

@@ -27,6 +27,8 @@ pub struct RunWords {
     pub workers: u32,
     /// The homes that the nodes get.
     pub homes: HomeChoice,
+    /// The file of the list of stuck faults, of `fault` alone, where `None` stands for all of the netlist.
+    pub faults: Option<Text>,
 }
 
 /// What words ask for.
@@ -65,7 +67,7 @@ pub enum Command {
     },
     /// The traces of up to 30 simulations at once, by the compiled machine. The file of the stimulus is one of lanes.
     Pack(RunWords),
-    /// Where each stuck fault of a netlist is first seen.
+    /// Where stuck faults of a netlist are first seen.
     Fault(RunWords),
     /// What a command is called with and what it prints, or the same of all in brief. There are no files.
     Help(Option<Topic>),

@@ -24,7 +24,7 @@ pub static EXEC: [&str; 6] = ["mode", "last", "units", "init", "workers", "banks
 pub static PACK: [&str; 6] = ["machine", "mode", "last", "units", "init", "workers"];
 
 /// The options of `fault`.
-pub static FAULT: [&str; 5] = ["mode", "last", "units", "init", "workers"];
+pub static FAULT: [&str; 6] = ["mode", "last", "units", "init", "workers", "faults"];
 
 /// The options of `show`: none.
 pub static SHOW: [&str; 0] = [];

@@ -294,7 +294,7 @@ fn run_words(
         return Err(WordNo::Usage);
     };
     let (netlist, stimulus) = argument_texts(alloc, netlist, stimulus)?;
-    let (machine, order, last) = option_texts(alloc, matches)?;
+    let (machine, order, last, faults) = option_texts(alloc, matches)?;
     Ok(RunWords {
         netlist,
         stimulus,
@@ -305,6 +305,7 @@ fn run_words(
         banks,
         workers,
         homes,
+        faults,
     })
 }
 
@@ -328,18 +329,20 @@ fn argument_texts(alloc: Global, netlist: &str, stimulus: &str) -> Result<(Text,
     Ok((netlist, stimulus))
 }
 
-/// The names of files that options give, of a machine, an order and a list of gates.
+/// The names of files that options give: of a machine, an order, a list of gates and a list of stuck faults.
 fn option_texts(
     alloc: Global,
     matches: &ArgMatches<'_>,
-) -> Result<(Option<Text>, Option<Text>, Option<Text>), WordNo>
+) -> Result<(Option<Text>, Option<Text>, Option<Text>, Option<Text>), WordNo>
     ensures { MatchResult result (λ texts. (texts.0 ≡ value_found matches.now (codes "machine"))
-        × (texts.1 ≡ value_found matches.now (codes "order")) × (texts.2 ≡ value_found matches.now (codes "last"))) (λ no. no ≡ NoMemory) }
+        × (texts.1 ≡ value_found matches.now (codes "order")) × (texts.2 ≡ value_found matches.now (codes "last"))
+        × (texts.3 ≡ value_found matches.now (codes "faults"))) (λ no. no ≡ NoMemory) }
 {
     let machine = text(alloc, value(matches, "machine"))?;
     let order = text(alloc, value(matches, "order"))?;
     let last = text(alloc, value(matches, "last"))?;
-    Ok((machine, order, last))
+    let faults = text(alloc, value(matches, "faults"))?;
+    Ok((machine, order, last, faults))
 }
 
 /// What three files and the values of options ask for.

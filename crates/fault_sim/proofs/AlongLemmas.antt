@@ -15,7 +15,7 @@ use Rattle.net_defs.specs.Time.{value_at}
 use Rattle.net_defs.specs.Steps.{is_late}
 use Rattle.net_defs.specs.Loops.{is_gate}
 use Rattle.ref_sim.proofs.Along.{gate_driven as gate_answers, gate_at, settle_gate, along, settle_late, settle_early, late_or}
-use Rattle.fault_sim.specs.declared.faults.Fault.{Fault}
+use Rattle.net_defs.specs.declared.faults.Fault.{Fault}
 use Rattle.fault_sim.specs.Faults.{constant, stuck, IsFault}
 use Rattle.fault_sim.specs.code.Faults.{order_for}
 use Rattle.fault_sim.specs.code.Turns.{gate_driven, gate_of, forced_along}

@@ -12,7 +12,7 @@ use Rattle.lane_planes.specs.declared.planes.Planes.{Planes}
 use Rattle.lane_planes.specs.Lanes.{lane_of, lane_row}
 use Rattle.net_defs.specs.Time.{value_at}
 use Rattle.ref_sim.proofs.Rows.{put_value}
-use Rattle.fault_sim.specs.declared.faults.Fault.{Fault}
+use Rattle.net_defs.specs.declared.faults.Fault.{Fault}
 use Rattle.fault_sim.specs.code.Lanes.{force_at, AreFree}
 
 -- a place more

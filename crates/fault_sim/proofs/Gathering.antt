@@ -1,10 +1,11 @@
 -- Verdicts of several groups of faults, and all faults in groups.
-use Rattle.std.proofs.Common.{◌≡◌, ◌∙◌, inl, inr, ℕ, zero, suc, ◌+◌, ◌-◌, ◌<◌, ◌≤◌, true, List, [], ◌∷◌, ◌++◌, length, take, get_or, append-nil, append_assoc, length-append, refl, sym, ap, ap₂, subst, arith}
+use Rattle.std.proofs.Common.{◌≡◌, ◌∙◌, inl, inr, ℕ, zero, suc, ◌+◌, ◌-◌, ◌<◌, ◌≤◌, true, List, [], ◌∷◌, ◌++◌, length, length-drop, take, drop, get_or, append-nil, append_assoc, length-append, refl, sym, ap, ap₂, subst, arith}
 use Rattle.std.specs.List.{slice_get, All, flat_map, range_with_len}
-use Rattle.std.proofs.lemmas.List.{take_all}
+use Rattle.std.proofs.Math.Seq.{take-add}
+use Rattle.std.proofs.lemmas.List.{take_all, length-take-le}
 use Rattle.std.proofs.lemmas.Bool.{cases_lt}
 use Rattle.std.proofs.lemmas.Option.{slice_get_within, slice_get-get_or}
-use Rattle.std.proofs.lemmas.List.Elements.{All-nil, All-cons, All-append}
+use Rattle.std.proofs.lemmas.List.Elements.{All-nil, All-cons, All-append, All-take, All-drop}
 use Rattle.std.proofs.lemmas.List.Concat.{flat_map-append}
 use Rattle.list_laws.proofs.Maps.{flat_map_grown}
 use Rattle.list_laws.proofs.Places.{at_front, slice_past}
@@ -12,8 +13,9 @@ use Rattle.list_laws.proofs.Ranges.{range_append}
 use Rattle.net_defs.specs.declared.netlist.Netlist.{Netlist}
 use Rattle.net_defs.specs.declared.timing.Timing.{Timing}
 use Rattle.net_defs.specs.declared.stimulus.Stimulus.{Stimulus}
+use Rattle.limits.specs.declared.TheConstants.{LANES}
 use Rattle.logic_four.specs.declared.V4.TheVariants.{Zero, One}
-use Rattle.fault_sim.specs.declared.faults.Fault.{Fault}
+use Rattle.net_defs.specs.declared.faults.Fault.{Fault}
 use Rattle.fault_sim.specs.declared.faults.Verdict.{Verdict}
 use Rattle.fault_sim.specs.declared.faults.Verdict.TheVariants.{Seen, Unseen}
 use Rattle.fault_sim.specs.declared.all.Group.{Group}
@@ -80,14 +82,11 @@ pub faults_append : (a n m : ℕ) → faults_from a (n + m) ≡ faults_from a n 
 faults_append a n m = ap (flat_map faults_at) (range_append a n m) ∙ flat_map-append faults_at (range_with_len a n) (range_with_len (a + n) m)
 
 -- the faults of one signal more
-pub faults_more : (begun k : ℕ) (faults once twice : List Fault) → faults ≡ faults_from begun k → once ≡ faults ++ record { signal = begun + k; value = Zero } ∷ [] → twice ≡ once ++ record { signal = begun + k; value = One } ∷ [] → twice ≡ faults_from begun (k + 1)
-faults_more begun k faults once twice is first second =
-    second ∙ (ap (λ xs. xs ++ record { signal = begun + k; value = One } ∷ []) (first ∙ ap (λ xs. xs ++ record { signal = begun + k; value = Zero } ∷ []) is)
-    ∙ (append_assoc (faults_from begun k) (record { signal = begun + k; value = Zero } ∷ []) (record { signal = begun + k; value = One } ∷ []) ∙ sym (faults_append begun k 1)))
-
-pub faults_long : (a n : ℕ) → length (faults_from a n) ≡ n + n
-faults_long a zero = refl
-faults_long a (suc n) = let rest = faults_long (a + 1) n in omega (arith, rest)
+pub faults_more : (k : ℕ) (faults once twice : List Fault) → faults ≡ faults_from 0 k → once ≡ faults ++ record { signal = k; value = Zero } ∷ [] → twice ≡ once ++ record { signal = k; value = One } ∷ [] → twice ≡ faults_from 0 (k + 1)
+faults_more k faults once twice is first second =
+    second ∙ (ap (λ xs. xs ++ record { signal = k; value = One } ∷ []) (first ∙ ap (λ xs. xs ++ record { signal = k; value = Zero } ∷ []) is)
+    ∙ (append_assoc (faults_from 0 k) (record { signal = k; value = Zero } ∷ []) (record { signal = k; value = One } ∷ [])
+    ∙ sym (faults_append 0 k 1 ∙ ap (λ n. faults_from 0 k ++ faults_from n 1) (omega arith))))
 
 -- each of them is a fault of the netlist
 pub faults_are : (net : Netlist) (a n : ℕ) → a + n ≤ length net.signals → All (IsFault net) (faults_from a n)
@@ -96,16 +95,19 @@ faults_are net a (suc n) within =
     All-cons (IsFault net) (record { signal = a; value = Zero }) (record { signal = a; value = One } ∷ faults_from (a + 1) n) (record { signal = omega (arith, within); value = inl refl })
     (All-cons (IsFault net) (record { signal = a; value = One }) (faults_from (a + 1) n) (record { signal = omega (arith, within); value = inr refl }) (faults_are net (a + 1) n (omega (arith, within))))
 
--- one group more
-pub groups_more : (net : Netlist) (begun more : ℕ) (groups : List Group) (group : Group) → AreGroups net begun groups → group.faults ≡ faults_from begun more → more ≤ 14 → begun + more ≤ length net.signals → AreGroups net (begun + more) (groups ++ group ∷ [])
-groups_more net begun more groups group are is few within = record {
-  faults =
-      flat_map-append (λ g. g.faults) groups (group ∷ [])
-      ∙ (ap₂ (λ a b. a ++ b) are.faults (append-nil group.faults ∙ is)
-      ∙ sym (faults_append 0 begun more ∙ ap (λ n. faults_from 0 begun ++ faults_from n more) (omega arith)));
-  each = All-append (IsGroup net) groups (group ∷ []) are.each
-      (All-cons (IsGroup net) group [] (record {
-        few = omega (arith, ap length is, faults_long begun more, few);
-        faults = subst (All (IsFault net)) (sym is) (faults_are net begun more within);
-      }) (All-nil (IsGroup net)));
-}
+-- one group more, of the faults from one place to another
+pub groups_more : (net : Netlist) (faults : List Fault) (begun end : ℕ) (groups : List Group) (group : Group) → AreGroups net (take begun faults) groups → group.faults ≡ take (end - begun) (drop begun faults) → begun ≤ end → end ≤ length faults → end - begun < LANES → All (IsFault net) faults → AreGroups net (take end faults) (groups ++ group ∷ [])
+groups_more net faults begun end groups group are is grows within few all =
+    let past : begun + (end - begun) ≡ end = omega (arith, grows) in
+    record {
+      faults =
+          flat_map-append (λ g. g.faults) groups (group ∷ [])
+          ∙ ap₂ (λ a b. a ++ b) are.faults (append-nil group.faults ∙ is)
+          ∙ sym (take-add begun (end - begun) faults)
+          ∙ ap (λ n. take n faults) past;
+      each = All-append (IsGroup net) groups (group ∷ []) are.each
+          (All-cons (IsGroup net) group [] (record {
+            few = omega (arith, ap length is, length-take-le (end - begun) (drop begun faults) (omega (arith, length-drop begun faults, within)), few);
+            faults = subst (All (IsFault net)) (sym is) (All-take (IsFault net) (end - begun) (drop begun faults) (All-drop (IsFault net) begun faults all));
+          }) (All-nil (IsGroup net)));
+    }

@@ -16,7 +16,7 @@ use Rattle.net_defs.specs.Steps.{State}
 use Rattle.net_defs.specs.Loops.{IsOrder, IsCircle}
 use Rattle.rank_find.proofs.Existence.{order_or_loop}
 use Rattle.ref_sim.proofs.Simulations.{one_along}
-use Rattle.fault_sim.specs.declared.faults.Fault.{Fault}
+use Rattle.net_defs.specs.declared.faults.Fault.{Fault}
 use Rattle.fault_sim.specs.declared.faults.Verdict.{Verdict}
 use Rattle.fault_sim.specs.declared.faults.Verdict.TheVariants.{Seen, Unseen}
 use Rattle.fault_sim.specs.Faults.{IsFault, all_faults}
@@ -135,14 +135,16 @@ module _ (net : Netlist) (timing : Timing) (stimulus : Stimulus) (order : List �
       (second.each k (get_or faults k default) (get_or others k Unseen) at (slice_get-get_or others k Unseen within))
       (first.each k (get_or faults k default) (get_or some k Unseen) at (slice_get-get_or some k Unseen (omega (arith, inside, first.count)))))
 
-  one_in_order : HasOneList net timing stimulus
-  one_in_order =
-      let are : All (IsFault net) (all_faults net) = faults_are net 0 (length net.signals) (omega arith) in
-      let made = verdicts_on (all_faults net) are in
-      record { verdicts = made.0; exists = made.1; only = λ others is. only_verdicts (all_faults net) made.0 others are made.1 is }
+  one_in_order : (faults : List Fault) → All (IsFault net) faults → HasOneList net timing stimulus faults
+  one_in_order faults are =
+      let made = verdicts_on faults are in
+      record { verdicts = made.0; exists = made.1; only = λ others is. only_verdicts faults made.0 others are made.1 is }
 
-pub one_list : (net : Netlist) (timing : Timing) (stimulus : Stimulus) → ((members : List ℕ) → IsCircle net timing members → ⊥) → HasOneList net timing stimulus
-one_list net timing stimulus none = elim (order_or_loop net timing) [
-  | inl order ↦ one_in_order net timing stimulus order.0 order.1
+pub one_list : (net : Netlist) (timing : Timing) (stimulus : Stimulus) (faults : List Fault) → ((members : List ℕ) → IsCircle net timing members → ⊥) → All (IsFault net) faults → HasOneList net timing stimulus faults
+one_list net timing stimulus faults none are = elim (order_or_loop net timing) [
+  | inl order ↦ one_in_order net timing stimulus order.0 order.1 faults are
   | inr loop ↦ absurd (none loop.0 loop.1.circle)
 ]
+
+pub all_are : (net : Netlist) → All (IsFault net) (all_faults net)
+all_are net = faults_are net 0 (length net.signals) (omega arith)

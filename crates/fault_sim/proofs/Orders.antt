@@ -14,7 +14,7 @@ use Rattle.net_defs.specs.Loops.{is_gate, IsGate, is_gate_driver, gate_operands,
 use Rattle.net_defs.specs.Reference.{HasOneSimulation}
 use Rattle.rank_find.proofs.Existence.{order_or_loop}
 use Rattle.ref_sim.proofs.Simulations.{one_along}
-use Rattle.fault_sim.specs.declared.faults.Fault.{Fault}
+use Rattle.net_defs.specs.declared.faults.Fault.{Fault}
 use Rattle.fault_sim.specs.Faults.{constant, stuck, IsFault}
 use Rattle.fault_sim.specs.code.Faults.{order_for}
 use Rattle.fault_sim.proofs.Stuck.{stuck_here, stuck_else}

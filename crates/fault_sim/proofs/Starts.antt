@@ -15,7 +15,7 @@ use Rattle.net_defs.specs.declared.stimulus.Stimulus.{Stimulus}
 use Rattle.net_defs.specs.Time.{initial_value}
 use Rattle.net_defs.specs.Steps.{State, first_state}
 use Rattle.ref_sim.specs.States.{initial_memories, AreShaped}
-use Rattle.fault_sim.specs.declared.faults.Fault.{Fault}
+use Rattle.net_defs.specs.declared.faults.Fault.{Fault}
 use Rattle.fault_sim.specs.declared.state.LaneState.{LaneState}
 use Rattle.fault_sim.specs.code.Lanes.{lane_net, lane_state}
 use Rattle.fault_sim.specs.code.Runs.{StandsInLanes}

@@ -20,7 +20,7 @@ use Rattle.net_defs.specs.Time.{value_at, is_edge, initial_value}
 use Rattle.net_defs.specs.Steps.{State, is_late, values_of, driven, registered, output_bit, words_of, words_after, IsRightStep}
 use Rattle.net_defs.specs.Loops.{is_gate, IsGate, is_gate_driver, IsOrder}
 use Rattle.ref_sim.proofs.Along.{along, along_length, along_keeps, along_gate, late_or}
-use Rattle.fault_sim.specs.declared.faults.Fault.{Fault}
+use Rattle.net_defs.specs.declared.faults.Fault.{Fault}
 use Rattle.fault_sim.specs.Faults.{constant, stuck, IsFault}
 use Rattle.fault_sim.specs.code.Faults.{order_for}
 use Rattle.fault_sim.specs.code.Lanes.{HasInputs}

@@ -16,7 +16,7 @@ use Rattle.net_defs.specs.declared.stimulus.Stimulus.{Stimulus}
 use Rattle.net_defs.specs.Time.{value_at}
 use Rattle.net_defs.specs.Canonical.{name_of}
 use Rattle.net_defs.specs.Steps.{State, driven, IsRightStep}
-use Rattle.fault_sim.specs.declared.faults.Fault.{Fault}
+use Rattle.net_defs.specs.declared.faults.Fault.{Fault}
 use Rattle.fault_sim.specs.Faults.{constant, stuck, IsFault, IsStuckStep}
 
 -- the signal with its new driver

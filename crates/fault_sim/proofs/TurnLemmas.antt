@@ -19,7 +19,7 @@ use Rattle.net_defs.specs.Time.{value_at, is_edge}
 use Rattle.net_defs.specs.Steps.{State, output_bit, act_of, words_of, words_after, IsRightStep}
 use Rattle.net_defs.specs.Loops.{IsOrder}
 use Rattle.ref_sim.specs.States.{AreShaped}
-use Rattle.fault_sim.specs.declared.faults.Fault.{Fault}
+use Rattle.net_defs.specs.declared.faults.Fault.{Fault}
 use Rattle.fault_sim.specs.declared.state.LaneState.{LaneState}
 use Rattle.fault_sim.specs.Faults.{IsFault}
 use Rattle.fault_sim.specs.code.Lanes.{lane_net, force_at, HasInputs, AreForces}

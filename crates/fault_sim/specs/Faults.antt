@@ -1,6 +1,6 @@
 -- Stuck faults, and the faulty design: one signal has the same value at every turn, and all else is as
 -- it was.
-use Rattle.std.specs.Prelude.{◌≡◌, ◌≢◌, ◌⊎◌, ℕ, List, [], ◌∷◌, length, Some, slice_get, slice_set}
+use Rattle.std.specs.Prelude.{◌≡◌, ◌≢◌, ℕ, List, [], ◌∷◌, length, Some, slice_get, slice_set}
 use Rattle.std.specs.List.{flat_map, range_with_len}
 use Rattle.logic_four.specs.declared.V4.{V4}
 use Rattle.logic_four.specs.declared.V4.TheVariants.{Zero, One, Undef, HighZ}
@@ -14,11 +14,11 @@ use Rattle.net_defs.specs.declared.timing.Timing.{Timing}
 use Rattle.net_defs.specs.declared.stimulus.Stimulus.{Stimulus}
 use Rattle.net_defs.specs.Time.{value_at}
 use Rattle.net_defs.specs.Canonical.{name_of}
-use Rattle.net_defs.specs.Valid.{IsSignal}
+pub use Rattle.net_defs.specs.Valid.{IsFault}
 use Rattle.net_defs.specs.Steps.{State, driven, words_of, words_after, IsRightStep}
 use Rattle.net_defs.specs.Loops.{IsCircle}
 use Rattle.net_defs.specs.Reference.{HasOneSimulation}
-use Rattle.fault_sim.specs.declared.faults.Fault.{Fault}
+use Rattle.net_defs.specs.declared.faults.Fault.{Fault}
 
 -- a driver that gives 1 where the value is 1, and else 0: an AND of no operands is 1, and an OR of none 0
 abbrev pub constant : V4 → Driver
@@ -32,11 +32,6 @@ abbrev pub stuck : Netlist → Fault → Netlist
 stuck net fault = record net {
   signals = slice_set net.signals fault.signal (record { name = name_of net fault.signal; driver = constant fault.value });
 }
-
--- a signal of the netlist, stuck at 0 or at 1
-pub record IsFault (net : Netlist) (fault : Fault) : Type 0 where
-  pub signal : IsSignal net fault.signal
-  pub value : (fault.value ≡ Zero) ⊎ (fault.value ≡ One)
 
 -- the two faults of a signal
 abbrev pub faults_at : ℕ → List Fault

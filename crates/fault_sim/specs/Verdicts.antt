@@ -1,7 +1,7 @@
 -- Where a fault is first seen.
-use Rattle.std.specs.Prelude.{◌≡◌, ℕ, ◌<◌, ◌≤◌, Bool, true, false, List, length, Some, slice_get}
+use Rattle.std.specs.Prelude.{◌≡◌, ℕ, ◌<◌, ◌≤◌, Bool, true, false, List, length, Some, slice_get, All}
 use Rattle.logic_four.specs.declared.V4.{V4}
-use Rattle.logic_four.specs.declared.V4.TheVariants.{Zero, One, Undef, HighZ}
+use Rattle.logic_four.specs.declared.V4.TheVariants.{Zero, One}
 use Rattle.net_defs.specs.declared.netlist.Netlist.{Netlist}
 use Rattle.net_defs.specs.declared.timing.Timing.{Timing}
 use Rattle.net_defs.specs.declared.stimulus.Stimulus.{Stimulus}
@@ -9,11 +9,11 @@ use Rattle.net_defs.specs.Time.{value_at, cycle_count}
 use Rattle.net_defs.specs.Steps.{State}
 use Rattle.net_defs.specs.Trace.{cells_of}
 use Rattle.net_defs.specs.Reference.{IsSimulation}
-use Rattle.fault_sim.specs.declared.faults.Fault.{Fault}
+use Rattle.net_defs.specs.declared.faults.Fault.{Fault}
 use Rattle.fault_sim.specs.declared.faults.Verdict.{Verdict}
 use Rattle.fault_sim.specs.declared.faults.Verdict.TheVariants.{Seen, Unseen}
 use Rattle.net_defs.specs.Loops.{IsCircle}
-use Rattle.fault_sim.specs.Faults.{stuck, all_faults}
+use Rattle.fault_sim.specs.Faults.{IsFault, stuck, all_faults}
 
 -- a tester sees that the second value is wrong where the first is right: one is 0, and the other 1
 abbrev pub differs : V4 → V4 → Bool
@@ -69,14 +69,18 @@ abbrev pub IsNamed : Netlist → Stimulus → Verdict → Type 0
 IsNamed net stimulus (Seen cycle column) = (1 ≤ cycle) × (cycle ≤ cycle_count stimulus) × (column < length net.printed)
 IsNamed net stimulus Unseen = Unit {0}
 
--- there is one list of verdicts, and no second one
-pub record HasOneList (net : Netlist) (timing : Timing) (stimulus : Stimulus) : Type 0 where
+-- there is one list of verdicts on these faults, and no second one
+pub record HasOneList (net : Netlist) (timing : Timing) (stimulus : Stimulus) (faults : List Fault) : Type 0 where
   pub verdicts : List Verdict
-  pub exists : AreAllVerdicts net timing stimulus verdicts
-  pub only : (others : List Verdict) → AreAllVerdicts net timing stimulus others → others ≡ verdicts
+  pub exists : AreVerdicts net timing stimulus faults verdicts
+  pub only : (others : List Verdict) → AreVerdicts net timing stimulus faults others → others ≡ verdicts
 
 -- so it is where the netlist has no loop
 abbrev pub HaveOneList : Type 0
 HaveOneList =
-    (net : Netlist) (timing : Timing) (stimulus : Stimulus)
-    → ((members : List ℕ) → IsCircle net timing members → ⊥) → HasOneList net timing stimulus
+    (net : Netlist) (timing : Timing) (stimulus : Stimulus) (faults : List Fault)
+    → ((members : List ℕ) → IsCircle net timing members → ⊥) → All (IsFault net) faults → HasOneList net timing stimulus faults
+
+-- all stuck faults of a netlist are stuck faults of it
+abbrev pub AreAllFaults : Type 0
+AreAllFaults = (net : Netlist) → All (IsFault net) (all_faults net)

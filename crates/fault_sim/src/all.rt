@@ -1,10 +1,10 @@
-//! All faults of a netlist, in groups that are dealt to threads.
+//! The faults of a list, or all of a netlist, in groups that are dealt to threads.
 
 ghost use Rattle.std.specs.Prelude.{◌≡◌, ◌+◌, ◌<◌, ◌≤◌, ◌^◌, length, All, IfOk};
 ghost use Rattle.limits.specs.declared.TheConstants.{MAX_WORKERS};
 ghost use Rattle.net_defs.specs.Valid.{IsValid, IsValidTiming, IsValidStimulus};
 ghost use Rattle.net_defs.specs.Loops.{AreRanks};
-ghost use Rattle.fault_sim.specs.Faults.{faults_from};
+ghost use Rattle.fault_sim.specs.Faults.{IsFault, all_faults};
 ghost use Rattle.fault_sim.specs.Verdicts.{AreAllVerdicts, AreVerdicts, IsNamed};
 ghost use Rattle.fault_sim.specs.code.Programs.{IsSchedule};
 ghost use Rattle.fault_sim.specs.code.Groups.{group_faults, IsGroup, AreGroups, IsDone, IsRun, AreRun};
@@ -19,8 +19,8 @@ use seen_list::{List, Memory};
 use std::alloc::Global;
 use std::thread::{self, Threads};
 
-/// The signals of a group. Each has two faults, each of which takes a lane beside that of the good design.
-const SIGNALS: usize = (LANES - 1) / 2;
+/// The faults of a group. Each takes a lane beside that of the good design.
+const FAULTS: usize = LANES - 1;
 
 /// Faults that run side by side, and the verdicts on them once they are made.
 #[derive(Drop)]
@@ -49,8 +49,43 @@ pub fn fault_all<R: Threads + Sync>(
     ensures verdicts { IfOk result (AreAllVerdicts net.now timing.now stim.now) }
     ensures named { IfOk result (All (IsNamed net.now stim.now)) }
 {
+    let faults = all_faults(alloc, net)?;
+    let verdicts = fault_list(
+        rt,
+        alloc,
+        net,
+        ranks,
+        timing,
+        stim,
+        faults.as_slice(),
+        workers,
+    );
+    drop(faults);
+    verdicts
+}
+
+/// The verdicts on these faults, each in its own place. They are the same for every number of workers.
+pub fn fault_list<R: Threads + Sync>(
+    rt: &R,
+    alloc: Global,
+    net: &Netlist,
+    ranks: &Ranks,
+    timing: &Timing,
+    stim: &Stimulus,
+    faults: &[Fault],
+    workers: u32,
+) -> Result<List<Verdict>, Memory>
+    requires valid { IsValid net.now }
+    requires timing { IsValidTiming timing.now }
+    requires ranks { AreRanks net.now timing.now ranks.now }
+    requires stimulus { IsValidStimulus stim.now }
+    requires faults { All (IsFault net.now) faults.now }
+    requires workers { (1 ≤ workers) × (workers ≤ MAX_WORKERS) }
+    ensures verdicts { IfOk result (AreVerdicts net.now timing.now stim.now faults.now) }
+    ensures named { IfOk result (All (IsNamed net.now stim.now)) }
+{
     let schedule = make_schedule(alloc, net, timing, ranks.order.as_slice())?;
-    let mut groups = match make_groups(alloc, net) {
+    let mut groups = match make_groups(alloc, net, faults) {
         Ok(groups) => groups,
         Err(no) => {
             drop(schedule);
@@ -127,51 +162,52 @@ fn run_group(
     }
 }
 
-/// The groups of all faults, without verdicts.
-fn make_groups(alloc: Global, net: &Netlist) -> Result<List<Group>, Memory>
-    requires { IsValid net.now }
-    ensures { IfOk result (AreGroups net.now (length net.now.signals)) }
+/// The groups of these faults, without verdicts.
+fn make_groups(alloc: Global, net: &Netlist, faults: &[Fault]) -> Result<List<Group>, Memory>
+    requires { All (IsFault net.now) faults.now }
+    ensures { IfOk result (AreGroups net.now faults.now) }
 {
     let mut groups = List::new(alloc);
-    let count = net.signals.len();
     let mut begun = 0;
-    'groups: for _group in 0..count.div_ceil(SIGNALS) {
-        let signals = group_size(count - begun);
-        groups.push(make_group(alloc, begun, signals)?)?;
-        begun += signals;
+    'groups: for _group in 0..faults.len().div_ceil(FAULTS) {
+        let end = begun + group_size(faults.len() - begun);
+        groups.push(make_group(alloc, &faults[begun..end])?)?;
+        begun = end;
     }
     Ok(groups)
 }
 
-/// How many of the signals that are left make a group.
+/// How many of the faults that are left make a group.
 fn group_size(left: usize) -> usize
-    ensures few { result ≤ SIGNALS }
+    ensures few { result ≤ FAULTS }
     ensures within { result ≤ left }
-    ensures whole { result < left → result ≡ SIGNALS }
+    ensures whole { result < left → result ≡ FAULTS }
 {
-    if left < SIGNALS { left } else { SIGNALS }
+    if left < FAULTS { left } else { FAULTS }
 }
 
-/// The group of the faults of so many signals.
-fn make_group(alloc: Global, begun: usize, signals: usize) -> Result<Group, Memory>
-    requires few { begun + signals < 2 ^ 32 }
-    ensures faults { IfOk result (λ group. group.faults ≡ faults_from begun signals) }
+/// The group of these faults.
+fn make_group(alloc: Global, faults: &[Fault]) -> Result<Group, Memory>
+    ensures faults { IfOk result (λ group. group.faults ≡ faults.now) }
 {
+    let mut some = List::new(alloc);
+    some.extend_from_slice(faults)?;
     Ok(Group {
-        faults: faults_of(alloc, begun, signals)?,
+        faults: some,
         verdicts: List::new(alloc),
         is_done: false,
     })
 }
 
-/// The faults of so many signals from one on.
-fn faults_of(alloc: Global, begun: usize, signals: usize) -> Result<List<Fault>, Memory>
-    requires few { begun + signals < 2 ^ 32 }
-    ensures { IfOk result (λ faults. faults ≡ faults_from begun signals) }
+/// All stuck faults of a netlist: two for each signal in signal order, that at 0 first.
+pub fn all_faults(alloc: Global, net: &Netlist) -> Result<List<Fault>, Memory>
+    requires valid { IsValid net.now }
+    ensures are { IfOk result (λ faults. faults ≡ all_faults net.now) }
+    ensures faults { IfOk result (All (IsFault net.now)) }
 {
     let mut faults = List::new(alloc);
-    'signals: for k in 0..signals {
-        let signal = (begun + k) as u32;
+    'signals: for k in 0..net.signals.len() {
+        let signal = k as u32;
         faults.push(Fault {
             signal,
             value: V4::Zero,

@@ -1,47 +1,65 @@
-//! The lines of the verdicts on all stuck faults of a netlist: for each fault the name of its signal, the digit at
+//! The lines of the verdicts on stuck faults of a netlist: for each fault the name of its signal, the digit at
 //! which it is stuck, and the cycle and the printed name where it is first seen, or `-`; and a last line on how
 //! many are seen.
 
 ghost use Rattle.std.specs.Prelude.{◌≡◌, ◌∷◌, [], ◌++◌, IfOk, OnOk, count_by, decimal, length, map};
 ghost use Rattle.net_defs.specs.Canonical.{name_of};
-ghost use Rattle.std.specs.List.{enumerate_from};
+ghost use Rattle.std.specs.List.{zip};
 ghost use Rattle.fault_sim.specs.Lines.{column_name, detected_line, fault_lines, is_detected, place_words, stuck_digit, verdict_line};
 
-use crate::Verdict;
+use crate::{Fault, Verdict};
 use itoa::Buffer;
+use logic_four::V4;
 use net_defs::{Netlist, name_of};
 use seen_list::{List, Memory, Text};
 use std::alloc::Global;
 
-/// The lines of the verdicts, two for each signal in signal order, that on stuck at 0 first, and the last line.
-pub fn fault_lines(alloc: Global, net: &Netlist, verdicts: &[Verdict]) -> Result<List<Text>, Memory>
-    ensures { IfOk result (λ lines. lines ≡ fault_lines net.now verdicts.now) }
+/// The lines of the verdicts on these faults, and the last line.
+pub fn fault_lines(
+    alloc: Global,
+    net: &Netlist,
+    faults: &[Fault],
+    verdicts: &[Verdict],
+) -> Result<List<Text>, Memory>
+    requires count { length verdicts.now ≡ length faults.now }
+    ensures { IfOk result (λ lines. lines ≡ fault_lines net.now faults.now verdicts.now) }
 {
-    let mut lines = verdict_lines(alloc, net, verdicts)?;
+    let mut lines = verdict_lines(alloc, net, faults, verdicts)?;
     lines.push(detected_line(alloc, detected(verdicts), verdicts.len())?)?;
     Ok(lines)
 }
 
 /// The lines of the verdicts.
-fn verdict_lines(alloc: Global, net: &Netlist, verdicts: &[Verdict]) -> Result<List<Text>, Memory>
-    ensures { IfOk result (λ lines. lines ≡ map (λ p. verdict_line net.now p.0 p.1) (enumerate_from 0 verdicts.now)) }
+fn verdict_lines(
+    alloc: Global,
+    net: &Netlist,
+    faults: &[Fault],
+    verdicts: &[Verdict],
+) -> Result<List<Text>, Memory>
+    requires count { length verdicts.now ≡ length faults.now }
+    ensures { IfOk result (λ lines. lines ≡ map (λ p. verdict_line net.now p.0 p.1) (zip faults.now verdicts.now)) }
 {
     let mut lines = List::new(alloc);
     'verdicts: for k in 0..verdicts.len() {
-        lines.push(verdict_line(alloc, net, k, verdicts[k])?)?;
+        lines.push(verdict_line(alloc, net, faults[k], verdicts[k])?)?;
     }
     Ok(lines)
 }
 
-/// The line of verdict `k`.
+/// The line of the verdict on a fault.
 #[tactic(auto, unfolding(crate::specs::Lines::verdict_line))]
-fn verdict_line(alloc: Global, net: &Netlist, k: usize, verdict: Verdict) -> Result<Text, Memory>
-    ensures { IfOk result (λ line. line ≡ verdict_line net.now k verdict) }
+fn verdict_line(
+    alloc: Global,
+    net: &Netlist,
+    fault: Fault,
+    verdict: Verdict,
+) -> Result<Text, Memory>
+    ensures { IfOk result (λ line. line ≡ verdict_line net.now fault verdict) }
 {
     let mut line = Text::new(alloc);
-    line.push_bytes(signal_name(net, k / 2))?;
+    line.push_bytes(signal_name(net, fault.signal as usize))?;
     line.push_bytes(b" ")?;
-    line.push_bytes(stuck_digit(k))?;
+    line.push_bytes(stuck_digit(fault.value))?;
     line.push_bytes(b" ")?;
     push_place(&mut line, net, verdict)?;
     line.push_bytes(b"\n")?;
@@ -58,10 +76,13 @@ fn signal_name(net: &Netlist, signal: usize) -> &[u8]
     }
 }
 
-fn stuck_digit(k: usize) -> &'static [u8]
-    ensures { result.now ≡ stuck_digit k }
+fn stuck_digit(value: V4) -> &'static [u8]
+    ensures { result.now ≡ stuck_digit value }
 {
-    if k % 2 == 0 { b"0" } else { b"1" }
+    match value {
+        V4::One => b"1",
+        V4::Zero | V4::Undef | V4::HighZ => b"0",
+    }
 }
 
 /// Adds where a fault is first seen.

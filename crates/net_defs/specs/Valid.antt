@@ -1,8 +1,9 @@
 -- Valid netlists, timings and stimuli, by plain facts that mention no text. The limits are this
 -- project's profile.
-use Rattle.std.specs.Prelude.{◌≡◌, ℕ, ◌+◌, ◌^◌, ◌<◌, ◌≤◌, Bool, true, false, List, length, IsTrue, Some, slice_get, slice_index, count_by, All}
+use Rattle.std.specs.Prelude.{◌≡◌, ◌⊎◌, ℕ, ◌+◌, ◌^◌, ◌<◌, ◌≤◌, Bool, true, false, List, length, IsTrue, Some, slice_get, slice_index, count_by, All}
 use Rattle.std.specs.List.{sum_by, range_with_len}
 use Rattle.limits.specs.declared.TheConstants.{MAX_SIGNALS, MAX_OPERANDS, MAX_ADDRESS_BITS, MAX_WORD_BITS, MAX_UNITS, MAX_CYCLES}
+use Rattle.logic_four.specs.declared.V4.TheVariants.{Zero, One}
 use Rattle.logic_four.specs.Kinds.{AllowsOperands}
 pub use Rattle.text_lines.specs.Names.{IsName}
 use Rattle.net_defs.specs.declared.netlist.Netlist.{Netlist}
@@ -10,6 +11,7 @@ use Rattle.net_defs.specs.declared.netlist.Signal.{Signal}
 use Rattle.net_defs.specs.declared.netlist.Block.{Block}
 use Rattle.net_defs.specs.declared.netlist.Driver.{Driver}
 use Rattle.net_defs.specs.declared.netlist.Driver.TheVariants.{Input, Gate, Dff, BlockBit}
+use Rattle.net_defs.specs.declared.faults.Fault.{Fault}
 use Rattle.net_defs.specs.declared.timing.Timing.{Timing}
 use Rattle.net_defs.specs.declared.timing.Mode.TheVariants as mode
 use Rattle.net_defs.specs.declared.stimulus.StimRow.{StimRow}
@@ -101,6 +103,11 @@ pub record IsValid (net : Netlist) : Type 0 where
       + sum_by memory_operand_count net.blocks
       ≤ MAX_OPERANDS
   pub few_printed : length net.printed < 2 ^ 32
+
+-- a stuck fault of the netlist: a signal of it, stuck at 0 or at 1
+pub record IsFault (net : Netlist) (fault : Fault) : Type 0 where
+  pub signal : IsSignal net fault.signal
+  pub value : (fault.value ≡ Zero) ⊎ (fault.value ≡ One)
 
 -- each number is greater than those before it
 abbrev pub Ascends : List ℕ → Type 0

@@ -4,6 +4,7 @@
 #![tactic(auto)]
 
 mod canonical;
+mod faults;
 mod homes;
 mod loops;
 mod netlist;
@@ -13,6 +14,7 @@ mod timing;
 mod trace;
 
 pub use canonical::{name_of, show};
+pub use faults::Fault;
 pub use homes::HomeChoice;
 pub use loops::{is_gate, is_late, waits_for};
 pub use netlist::{Block, Driver, Netlist, Signal};

@@ -10,6 +10,8 @@ use Rattle.bench_read.specs.declared.refusal.BenchNo.{BenchNo}
 use Rattle.bench_read.specs.declared.refusal.BenchNo.TheVariants as bench_no
 use Rattle.bench_read.specs.declared.refusal.LastNo.{LastNo}
 use Rattle.bench_read.specs.declared.refusal.LastNo.TheVariants as last_no
+use Rattle.bench_read.specs.declared.refusal.FaultNo.{FaultNo}
+use Rattle.bench_read.specs.declared.refusal.FaultNo.TheVariants as fault_no
 use Rattle.machine_text.specs.declared.machine.MachNo.{MachNo}
 use Rattle.machine_text.specs.declared.machine.MachNo.TheVariants as mach_no
 use Rattle.yse_compile.specs.declared.compiler.CompNo.{CompNo}
@@ -187,6 +189,14 @@ list_line (last_no.Syntax line) = line_fault (codes "last list") line (codes "sy
 list_line (last_no.NoGate line) = line_fault (codes "last list") line (codes "no such gate")
 list_line (last_no.Twice line) = line_fault (codes "last list") line (codes "given twice")
 list_line last_no.Memory = memory_line
+
+-- ---- lists of stuck faults
+
+abbrev pub faults_line : FaultNo → List ℕ
+faults_line (fault_no.Syntax line) = line_fault (codes "fault list") line (codes "syntax")
+faults_line (fault_no.NoSignal line) = line_fault (codes "fault list") line (codes "no such signal")
+faults_line (fault_no.Twice line) = line_fault (codes "fault list") line (codes "given twice")
+faults_line fault_no.Memory = memory_line
 
 -- ---- images
 

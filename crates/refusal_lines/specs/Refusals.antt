@@ -6,6 +6,8 @@ use Rattle.bench_read.specs.declared.refusal.BenchNo.{BenchNo}
 use Rattle.bench_read.specs.declared.refusal.BenchNo.TheVariants as bench_no
 use Rattle.bench_read.specs.declared.refusal.LastNo.{LastNo}
 use Rattle.bench_read.specs.declared.refusal.LastNo.TheVariants as last_no
+use Rattle.bench_read.specs.declared.refusal.FaultNo.{FaultNo}
+use Rattle.bench_read.specs.declared.refusal.FaultNo.TheVariants as fault_no
 use Rattle.stim_text.specs.declared.refusal.StimNo.{StimNo}
 use Rattle.stim_text.specs.declared.refusal.StimNo.TheVariants as stim_no
 use Rattle.stim_text.specs.declared.refusal.LaneNo.{LaneNo}
@@ -20,7 +22,7 @@ use Rattle.refusal_lines.specs.declared.refusal.Refusal.{Refusal}
 use Rattle.refusal_lines.specs.declared.refusal.Refusal.TheVariants as refusal
 use Rattle.refusal_lines.specs.declared.status.Status.{Status}
 use Rattle.refusal_lines.specs.declared.status.Status.TheVariants as status
-use Rattle.refusal_lines.specs.Lines.{usage_line, read_fault_line, memory_line, too_long_line, machine_line, netlist_line, loop_line, overfull_line, stimulus_line, cells_line, bits_limit_line, signals_line, lanes_line, order_line, list_line, image_line, match_line}
+use Rattle.refusal_lines.specs.Lines.{usage_line, read_fault_line, memory_line, too_long_line, machine_line, netlist_line, loop_line, overfull_line, stimulus_line, cells_line, bits_limit_line, signals_line, lanes_line, order_line, list_line, faults_line, image_line, match_line}
 
 abbrev pub line_of : Refusal → List ℕ
 line_of refusal.Words = usage_line
@@ -34,6 +36,7 @@ line_of (refusal.Stimulus why) = stimulus_line why
 line_of (refusal.Cells cells) = cells_line cells
 line_of (refusal.OrderText why) = order_line why
 line_of (refusal.LastList why) = list_line why
+line_of (refusal.FaultList why) = faults_line why
 line_of (refusal.ImageText why) = image_line why
 line_of (refusal.ImageMatch why) = match_line why
 line_of (refusal.Lanes why) = lanes_line why
@@ -53,6 +56,7 @@ status_of (refusal.Stimulus why) = status.Stimulus
 status_of (refusal.Cells cells) = status.Limit
 status_of (refusal.OrderText why) = status.OrderText
 status_of (refusal.LastList why) = status.LastList
+status_of (refusal.FaultList why) = status.FaultList
 status_of (refusal.ImageText why) = status.ImageText
 status_of (refusal.ImageMatch why) = status.ImageMatch
 status_of (refusal.Lanes why) = status.Stimulus
@@ -84,6 +88,11 @@ of_order why = refusal.OrderText why
 abbrev pub of_list : LastNo → Refusal
 of_list last_no.Memory = refusal.Memory
 of_list why = refusal.LastList why
+
+-- the refusal of the text of a list of stuck faults
+abbrev pub of_faults : FaultNo → Refusal
+of_faults fault_no.Memory = refusal.Memory
+of_faults why = refusal.FaultList why
 
 -- the refusal of an image text
 abbrev pub of_image : ImageNo → Refusal

@@ -20,3 +20,4 @@ status_number status.Memory = 70
 status_number status.LastList = 13
 status_number status.ImageText = 14
 status_number status.ImageMatch = 15
+status_number status.FaultList = 16

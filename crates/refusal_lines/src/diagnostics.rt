@@ -6,7 +6,7 @@ ghost use Rattle.refusal_lines.specs.Lines.{limit_line, read_fault_line, too_lon
 ghost use Rattle.refusal_lines.specs.Refusals.{line_of, status_of};
 
 use crate::lines::image::{write_image_line, write_match_line};
-use crate::lines::list::write_list_line;
+use crate::lines::list::{write_faults_line, write_list_line};
 use crate::lines::machine::write_machine_line;
 use crate::lines::netlist::{write_loop_line, write_netlist_line};
 use crate::lines::order::write_order_line;
@@ -55,6 +55,7 @@ fn status_of(refusal: &Refusal<'_>) -> Status
             Status::Limit,
         Refusal::OrderText(_) => Status::OrderText,
         Refusal::LastList(_) => Status::LastList,
+        Refusal::FaultList(_) => Status::FaultList,
         Refusal::ImageText(_) => Status::ImageText,
         Refusal::ImageMatch(_) => Status::ImageMatch,
         Refusal::Memory => Status::Memory,
@@ -77,6 +78,7 @@ fn write_line<S: Sink>(sink: &mut S, refusal: &Refusal<'_>) -> Result<(), WriteN
         Refusal::Cells(cells) => write_limit_line(sink, b" cells", *cells, MAX_CELLS),
         Refusal::OrderText(no) => write_order_line(sink, no),
         Refusal::LastList(no) => write_list_line(sink, no),
+        Refusal::FaultList(no) => write_faults_line(sink, no),
         Refusal::ImageText(no) => write_image_line(sink, no),
         Refusal::ImageMatch(no) => write_match_line(sink, no),
         Refusal::Lanes(no) => write_lanes_line(sink, no),

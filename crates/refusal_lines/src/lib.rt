@@ -12,6 +12,7 @@ pub use diagnostics::{refuse, tell_write_fault};
 pub use lines::order::write_unfinished_line;
 pub use piece::write_piece;
 pub use refusal::{
-    Refusal, of_image, of_lanes, of_list, of_machine, of_match, of_netlist, of_order, of_stimulus,
+    Refusal, of_faults, of_image, of_lanes, of_list, of_machine, of_match, of_netlist, of_order,
+    of_stimulus,
 };
 pub use status::Status;

@@ -1,9 +1,9 @@
 //! Why a call ends before its output. A fault of writing is no refusal.
 
 ghost use Rattle.std.specs.Prelude.{◌≡◌};
-ghost use Rattle.refusal_lines.specs.Refusals.{of_image, of_lanes, of_list, of_machine, of_match, of_netlist, of_order, of_stimulus};
+ghost use Rattle.refusal_lines.specs.Refusals.{of_faults, of_image, of_lanes, of_list, of_machine, of_match, of_netlist, of_order, of_stimulus};
 
-use bench_read::{BenchNo, LastNo};
+use bench_read::{BenchNo, FaultNo, LastNo};
 use image_check::CheckNo;
 use image_file::ImageNo;
 use machine_text::MachNo;
@@ -37,6 +37,8 @@ pub enum Refusal<'a> {
     OrderText(OrderNo),
     /// The text is no list of the netlist's gates.
     LastList(LastNo),
+    /// The text is no list of the netlist's stuck faults.
+    FaultList(FaultNo),
     /// The text is no image.
     ImageText(ImageNo),
     /// The image does not match the netlist.
@@ -108,6 +110,16 @@ pub fn of_list<'a>(no: LastNo) -> Refusal<'a>
     match no {
         LastNo::Memory => Refusal::Memory,
         other => Refusal::LastList(other),
+    }
+}
+
+/// The refusal of the text of a list of stuck faults.
+pub fn of_faults<'a>(no: FaultNo) -> Refusal<'a>
+    ensures { result ≡ of_faults no }
+{
+    match no {
+        FaultNo::Memory => Refusal::Memory,
+        other => Refusal::FaultList(other),
     }
 }
 

@@ -38,10 +38,12 @@ pub enum Status {
     ImageText,
     /// An image does not match the netlist.
     ImageMatch,
+    /// The text of a list of stuck faults is refused.
+    FaultList,
 }
 
 impl Status {
-    /// The exit status: 0, 2 to 15, or 70.
+    /// The exit status: 0, 2 to 16, or 70.
     pub fn number(&self) -> u8
         ensures { result ≡ status_number self.now }
     {
@@ -62,6 +64,7 @@ impl Status {
             Status::LastList => 13,
             Status::ImageText => 14,
             Status::ImageMatch => 15,
+            Status::FaultList => 16,
         }
     }
 }

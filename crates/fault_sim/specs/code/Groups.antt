@@ -1,13 +1,13 @@
 -- Groups of faults that run side by side.
-use Rattle.std.specs.Prelude.{◌<◌, ◌≡◌, ◌≤◌, ℕ, true, List, length, Some, slice_get, All}
+use Rattle.std.specs.Prelude.{◌<◌, ◌≡◌, ℕ, true, List, length, Some, slice_get, All}
 use Rattle.std.specs.List.{flat_map}
 use Rattle.limits.specs.declared.TheConstants.{LANES}
 use Rattle.net_defs.specs.declared.netlist.Netlist.{Netlist}
 use Rattle.net_defs.specs.declared.timing.Timing.{Timing}
 use Rattle.net_defs.specs.declared.stimulus.Stimulus.{Stimulus}
-use Rattle.fault_sim.specs.declared.faults.Fault.{Fault}
+use Rattle.net_defs.specs.declared.faults.Fault.{Fault}
 use Rattle.fault_sim.specs.declared.all.Group.{Group}
-use Rattle.fault_sim.specs.Faults.{IsFault, faults_from}
+use Rattle.fault_sim.specs.Faults.{IsFault}
 use Rattle.fault_sim.specs.Verdicts.{AreVerdicts}
 
 -- the faults fit into the lanes beside the good design
@@ -19,9 +19,9 @@ pub record IsGroup (net : Netlist) (group : Group) : Type 0 where
 abbrev pub group_faults : List Group → List Fault
 group_faults groups = flat_map (λ group. group.faults) groups
 
--- the groups of the faults of the first so many signals
-pub record AreGroups (net : Netlist) (signals : ℕ) (groups : List Group) : Type 0 where
-  pub faults : group_faults groups ≡ faults_from 0 signals
+-- the groups of these faults
+pub record AreGroups (net : Netlist) (all : List Fault) (groups : List Group) : Type 0 where
+  pub faults : group_faults groups ≡ all
   pub each : All (IsGroup net) groups
 
 -- where a group is done, its verdicts are those on its faults

@@ -12,7 +12,7 @@ use Rattle.net_defs.specs.Steps.{State, values_of}
 use Rattle.net_defs.specs.Loops.{IsOrder}
 use Rattle.net_defs.specs.Reference.{IsSimulation}
 use Rattle.ref_sim.specs.code.Runs.{StandsAt}
-use Rattle.fault_sim.specs.declared.faults.Fault.{Fault}
+use Rattle.net_defs.specs.declared.faults.Fault.{Fault}
 use Rattle.fault_sim.specs.declared.faults.Verdict.{Verdict}
 use Rattle.fault_sim.specs.declared.faults.Verdict.TheVariants.{Seen, Unseen}
 use Rattle.fault_sim.specs.declared.state.LaneState.{LaneState}

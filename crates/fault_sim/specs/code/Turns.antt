@@ -17,7 +17,7 @@ use Rattle.net_defs.specs.Steps.{State, values_of, late_in, is_late, registered,
 use Rattle.ref_sim.specs.Sequences.{place_count}
 use Rattle.ref_sim.specs.Rams.{ArePorts}
 use Rattle.ref_sim.specs.States.{WroteMemories}
-use Rattle.fault_sim.specs.declared.faults.Fault.{Fault}
+use Rattle.net_defs.specs.declared.faults.Fault.{Fault}
 use Rattle.fault_sim.specs.declared.state.LaneState.{LaneState}
 use Rattle.fault_sim.specs.declared.edge.EdgeRoom.{EdgeRoom}
 

@@ -8,7 +8,7 @@ use Rattle.text_lines.proofs.AnswerLemmas.{fault_or_ok, fault_or_err}
 use Rattle.text_lines.proofs.LineLemmas.{next_line, no_next_line}
 use Rattle.bench_read.specs.GateLists.{gates_of, gate_of, fault_of}
 use Rattle.bench_read.specs.code.GateLists.{AreMarks}
-use Rattle.bench_read.proofs.MarkLemmas.{marked_none, marked_blank, marked_more, marked_fault, marked_all}
+use Rattle.bench_read.proofs.OnceLemmas.{marked_none, marked_blank, marked_more, marked_fault, marked_all}
 use Rattle.bench_read.proofs.list_reading.mark_lines.Goals as goal
 
 pub loop-line-init : goal.loop-line-init
@@ -40,7 +40,7 @@ loop-line-preserved-in-Some-2 c =
     rw (length_push, c.set.ensures) (record {
       within = omega (arith, next.within);
       left = next.rest;
-      marked = marked_more c.in-Some-2.gate c.loop-line.invariant.marked next answer.0 (sym answer.1 ∙ c.in-Some-2.is) (omega (arith, inside, c.loop-line.invariant.marked.are.signals));
+      marked = marked_more c.in-Some-2.gate c.loop-line.invariant.marked next answer.0 (sym answer.1 ∙ c.in-Some-2.is) (omega (arith, inside, c.loop-line.invariant.marked.are.count));
     })
 
 pub returns-in_err-gate : goal.returns-in_err-gate
@@ -49,7 +49,7 @@ returns-in_err-gate c =
     let named = gates_of c.args.net.now (take (length c.loop-line.yielded) (parts_of c.args.bytes.now)) in
     let are = subst (AreMarks c.args.net.now named) (sym c.as_slice.ensures) c.loop-line.invariant.marked.are in
     let p = err_from_is_err_and c.from_residual.result c.from_residual.ensures.1 in
-    rw (p.1, p.2) (inr (marked_fault c.args.bytes.now c.in_err-gate.field-0.0 c.loop-line.invariant.marked next (fault_or_err _ _ _ (c.in_err-gate.ensures.answers named are))))
+    rw (p.1, p.2) (inr (marked_fault (parts_of c.args.bytes.now) c.in_err-gate.field-0.0 c.loop-line.invariant.marked next (fault_or_err _ _ _ (c.in_err-gate.ensures.answers named are))))
 
 pub returns : goal.returns
-returns c = marked_all c.args.bytes.now c.loop-line.invariant.marked c.loop-line.invariant.within (no_next_line _ _ _ c.loop-line.invariant.left c.in-None.ensures.steps.0)
+returns c = marked_all (parts_of c.args.bytes.now) c.loop-line.invariant.marked c.loop-line.invariant.within (no_next_line _ _ _ c.loop-line.invariant.left c.in-None.ensures.steps.0)

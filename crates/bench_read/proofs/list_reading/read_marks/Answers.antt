@@ -1,5 +1,6 @@
-use Rattle.bench_read.proofs.MarkLemmas.{no_marks}
+use Rattle.std.proofs.Common.{length}
+use Rattle.bench_read.proofs.OnceLemmas.{no_marks_of}
 use Rattle.bench_read.proofs.list_reading.read_marks.Goals as goal
 
 pub mark_lines-taken-requires-clause-unmarked : goal.mark_lines-taken-requires-clause-unmarked
-mark_lines-taken-requires-clause-unmarked c = rw (c.in_ok-marks.ensures, c.len.ensures) (no_marks c.args.net.now)
+mark_lines-taken-requires-clause-unmarked c = rw (c.in_ok-marks.ensures, c.len.ensures) (no_marks_of (λ s. s) (length c.args.net.now.signals))

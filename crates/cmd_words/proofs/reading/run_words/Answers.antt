@@ -12,5 +12,5 @@ returns-in_default c =
 pub returns : goal.returns
 returns c =
     let value = value_found c.args.matches.now in
-    rw (c.in_ok-netlist.ensures.0, c.in_ok-netlist.ensures.1, c.in_ok-machine.ensures.0, c.in_ok-machine.ensures.1, c.in_ok-machine.ensures.2)
+    rw (c.in_ok-netlist.ensures.0, c.in_ok-netlist.ensures.1, c.in_ok-machine.ensures.0, c.in_ok-machine.ensures.1, c.in_ok-machine.ensures.2, c.in_ok-machine.ensures.3)
     (run_set c.args.netlist.now c.args.stimulus.now value ∙ ap (option_map (run_of c.args.netlist.now c.args.stimulus.now value)) (sym c.in-Some.ensures))

@@ -1,10 +1,10 @@
-use Rattle.std.proofs.Common.{◌≡◌, ◌*◌, ◌≤◌, ◌<◌, length}
+use Rattle.std.proofs.Common.{◌≡◌, ◌*◌, ◌≤◌, ◌<◌, length, take}
 use Rattle.fault_sim.specs.code.Groups.{AreGroups}
 use Rattle.fault_sim.proofs.all.make_groups.Given as goal
 
 abbrev pub invariant-groups : goal.invariant-groups
 invariant-groups l = record {
-  groups : AreGroups l.net l.begun l.groups;
-  within : l.begun ≤ length l.net.signals;
-  whole : l.begun < length l.net.signals → l.begun ≡ 14 * l._group;
+  groups : AreGroups l.net (take l.begun l.faults) l.groups;
+  within : l.begun ≤ length l.faults;
+  whole : l.begun < length l.faults → l.begun ≡ 29 * l._group;
 }

@@ -1,7 +1,7 @@
 use Rattle.std.proofs.Common.{◌∙◌, ◌<◌, ap, get_or, arith, length}
 use Rattle.std.proofs.lemmas.List.{length-set, get_or_default}
 use Rattle.logic_four.specs.declared.V4.TheVariants.{Zero}
-use Rattle.fault_sim.specs.declared.faults.Fault.{Fault}
+use Rattle.net_defs.specs.declared.faults.Fault.{Fault}
 use Rattle.fault_sim.proofs.ForceLemmas.{each_more, left_more}
 use Rattle.fault_sim.proofs.force.make_forces.Goals as goal
 

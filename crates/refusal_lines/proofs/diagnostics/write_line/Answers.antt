@@ -33,6 +33,9 @@ returns-in-OrderText g c = rw c.in-OrderText.is c.write_order_line.ensures
 pub returns-in-LastList : goal.returns-in-LastList
 returns-in-LastList g c = rw c.in-LastList.is c.write_list_line.ensures
 
+pub returns-in-FaultList : goal.returns-in-FaultList
+returns-in-FaultList g c = rw c.in-FaultList.is c.write_faults_line.ensures
+
 pub returns-in-ImageText : goal.returns-in-ImageText
 returns-in-ImageText g c = rw c.in-ImageText.is c.write_image_line.ensures
 
