@@ -61,6 +61,7 @@ value_word name =
     else if bytes_eq name (codes "banks") then codes "B"
     else if bytes_eq name (codes "homes") then codes "plain|better"
     else if bytes_eq name (codes "order") then codes "FILE"
+    else if bytes_eq name (codes "faults") then codes "FILE"
     else codes "VALUE"
 
 -- what an option means
@@ -75,4 +76,5 @@ says name =
     else if bytes_eq name (codes "banks") then options.BANKS.now
     else if bytes_eq name (codes "homes") then options.HOMES.now
     else if bytes_eq name (codes "order") then options.ORDER.now
+    else if bytes_eq name (codes "faults") then options.FAULTS.now
     else []

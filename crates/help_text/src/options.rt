@@ -21,6 +21,8 @@ pub const HOMES: &str = "how gates get their processors; default plain";
 
 pub const ORDER: &str = "which processor steps when; by default each in turn";
 
+pub const FAULTS: &str = "the list of faults that are tried; by default all";
+
 /// What stands for the value of an option in a form, by the option's name.
 #[tactic(auto, unfolding(crate::specs::Notes::value_word))]
 pub fn value_word(name: &str) -> &'static str
@@ -44,6 +46,8 @@ pub fn value_word(name: &str) -> &'static str
     } else if name == b"homes".as_slice() {
         "plain|better"
     } else if name == b"order".as_slice() {
+        "FILE"
+    } else if name == b"faults".as_slice() {
         "FILE"
     } else {
         "VALUE"
@@ -74,6 +78,8 @@ pub fn says(name: &str) -> &'static str
         HOMES
     } else if name == b"order".as_slice() {
         ORDER
+    } else if name == b"faults".as_slice() {
+        FAULTS
     } else {
         ""
     }

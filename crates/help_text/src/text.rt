@@ -34,6 +34,7 @@ Statuses, each but 0 with a line on standard error:
   13  the list of gates is refused
   14  the image's text is refused
   15  the image does not match the netlist or the words
+  16  the list of faults is refused
   70  want of memory
 ";
 
