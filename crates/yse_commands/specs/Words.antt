@@ -14,7 +14,7 @@ files_of (command.Plan words) = option_to_list words.machine ++ (words.netlist �
 files_of (command.Compile words) = option_to_list words.machine ++ (words.netlist ∷ option_to_list words.last)
 files_of (command.Exec words image) = words.netlist ∷ (option_to_list words.last ++ (image ∷ words.stimulus ∷ []))
 files_of (command.Pack words) = option_to_list words.machine ++ (words.netlist ∷ (option_to_list words.last ++ (words.stimulus ∷ [])))
-files_of (command.Fault words) = words.netlist ∷ (option_to_list words.last ++ (words.stimulus ∷ []))
+files_of (command.Fault words) = words.netlist ∷ (option_to_list words.last ++ (option_to_list words.faults ++ (words.stimulus ∷ [])))
 files_of (command.Show netlist) = netlist ∷ []
 files_of (command.Large gates cycles workers) = []
 
