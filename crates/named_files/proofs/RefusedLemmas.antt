@@ -4,7 +4,10 @@ use Rattle.bench_read.specs.declared.refusal.BenchNo.{BenchNo}
 use Rattle.bench_read.specs.declared.refusal.BenchNo.TheVariants as bench_no
 use Rattle.bench_read.specs.declared.refusal.LastNo.{LastNo}
 use Rattle.bench_read.specs.declared.refusal.LastNo.TheVariants as last_no
+use Rattle.bench_read.specs.declared.refusal.FaultNo.{FaultNo}
+use Rattle.bench_read.specs.declared.refusal.FaultNo.TheVariants as fault_no
 use Rattle.bench_read.specs.Faults as bench
+use Rattle.bench_read.specs.StuckLists as stuck_lists
 use Rattle.bench_read.specs.GateLists as gate_lists
 use Rattle.machine_text.specs.declared.machine.MachNo.{MachNo}
 use Rattle.machine_text.specs.declared.machine.MachNo.TheVariants as mach_no
@@ -12,7 +15,7 @@ use Rattle.machine_text.specs.declared.machine.Machine.{Machine}
 use Rattle.machine_text.specs.Machines.{first_fault, ports_of}
 use Rattle.net_defs.specs.declared.netlist.Netlist.{Netlist}
 use Rattle.net_defs.specs.Valid.{input_count}
-use Rattle.refusal_lines.specs.Refusals.{of_lanes, of_list, of_machine, of_netlist, of_order, of_stimulus}
+use Rattle.refusal_lines.specs.Refusals.{of_faults, of_lanes, of_list, of_machine, of_netlist, of_order, of_stimulus}
 use Rattle.stim_text.specs.declared.refusal.LaneNo.{LaneNo}
 use Rattle.stim_text.specs.declared.refusal.LaneNo.TheVariants as lane_no
 use Rattle.stim_text.specs.declared.refusal.OrderNo.{OrderNo}
@@ -22,7 +25,7 @@ use Rattle.stim_text.specs.declared.refusal.StimNo.TheVariants as stim_no
 use Rattle.stim_text.specs.LaneTexts as lane_texts
 use Rattle.stim_text.specs.Orders as orders
 use Rattle.stim_text.specs.Stimuli as stim
-use Rattle.named_files.specs.Checks.{IsLanesOf, IsListOf, IsMachineOf, IsNetlistOf, IsOrderOf, IsStimulusOf, Refuses}
+use Rattle.named_files.specs.Checks.{IsFaultListOf, IsLanesOf, IsListOf, IsMachineOf, IsNetlistOf, IsOrderOf, IsStimulusOf, Refuses}
 use Rattle.named_files.specs.Refused.{refused_of}
 
 pub machine_refused : (text : List ℕ) (why : MachNo) → (why ≡ mach_no.Memory) ⊎ (first_fault text ≡ Some why) → Refuses (IsMachineOf text) (refused_of (of_machine why))
@@ -39,6 +42,11 @@ pub list_refused : (text : List ℕ) (net : Netlist) (why : LastNo) → (why ≡
 list_refused text net why (inl same) = inr (ap (λ w. refused_of (of_list w)) same)
 list_refused text net last_no.Memory (inr fault) = inr refl
 list_refused text net why (inr fault) = inl (why, fault, refl)
+
+pub faults_refused : (text : List ℕ) (net : Netlist) (why : FaultNo) → (why ≡ fault_no.Memory) ⊎ (stuck_lists.first_fault net text ≡ Some why) → Refuses (IsFaultListOf text net) (refused_of (of_faults why))
+faults_refused text net why (inl same) = inr (ap (λ w. refused_of (of_faults w)) same)
+faults_refused text net fault_no.Memory (inr fault) = inr refl
+faults_refused text net why (inr fault) = inl (why, fault, refl)
 
 pub stimulus_refused : (text : List ℕ) (net : Netlist) (why : StimNo) → (why ≡ stim_no.Memory) ⊎ (stim.first_fault (input_count net) text ≡ Some why) → Refuses (IsStimulusOf text net) (refused_of (of_stimulus why))
 stimulus_refused text net why (inl same) = inr (ap (λ w. refused_of (of_stimulus w)) same)

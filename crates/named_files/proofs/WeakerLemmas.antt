@@ -2,6 +2,7 @@
 use Rattle.std.proofs.Common.{◌≡◌, inl, inr, ℕ, List, [], ◌∷◌, Option, Some, None, Result}
 use Rattle.image_defs.specs.declared.file.ImageFile.{ImageFile}
 use Rattle.machine_text.specs.declared.machine.Machine.{Machine}
+use Rattle.net_defs.specs.declared.faults.Fault.{Fault}
 use Rattle.net_defs.specs.declared.netlist.Netlist.{Netlist}
 use Rattle.net_defs.specs.declared.stimulus.Stimulus.{Stimulus}
 use Rattle.net_defs.specs.declared.timing.Timing.{Timing}
@@ -9,12 +10,12 @@ use Rattle.cmd_words.specs.declared.command.RunWords.{RunWords}
 use Rattle.stim_text.specs.declared.lanes.Lanes.{Lanes}
 use Rattle.stim_text.specs.declared.order.Order.{Order}
 use Rattle.named_files.specs.declared.reading.Timed.{Timed}
-use Rattle.named_files.specs.Checks.{After, AfterFile, AfterRead, IsLanesOf, IsListOf, IsMachineOf, IsNetlistOf, IsOrderOf, IsStimulusOf, listing, text_of}
+use Rattle.named_files.specs.Checks.{After, AfterFile, AfterRead, IsFaultListOf, IsLanesOf, IsListOf, IsMachineOf, IsNetlistOf, IsOrderOf, IsStimulusOf, listing, text_of}
 use Rattle.named_files.specs.Outcome.{Outcome}
 use Rattle.named_files.specs.Passing.{AfterImageFile, AfterNetlistFile, AfterOrderFile, AfterTimed}
 use Rattle.named_files.specs.Readings.{Reading}
 use Rattle.named_files.specs.Images.{IsImageFileOf}
-use Rattle.named_files.specs.Files.{AfterLanes, AfterList, AfterMachine, AfterNetlist, AfterStimulus}
+use Rattle.named_files.specs.Files.{AfterFaultList, AfterLanes, AfterList, AfterMachine, AfterNetlist, AfterStimulus}
 
 -- what follows one end follows the other
 abbrev pub Implies : (List Reading → Outcome → Type 0) → (List Reading → Outcome → Type 0) → Type 0
@@ -46,6 +47,12 @@ unfolding AfterList
 list_so None net timing One Other so = so timing
 list_so (Some file) net timing One Other so =
     checked_so file (λ text. IsListOf text net) (λ listed. One (listing timing listed)) (λ listed. Other (listing timing listed)) (λ listed. so (listing timing listed))
+
+pub faults_so : (file : Option (List ℕ)) (net : Netlist) (One Other : Option (List Fault) → List Reading → Outcome → Type 0) → ((listed : Option (List Fault)) → Implies (One listed) (Other listed)) → Implies (AfterFaultList file net One) (AfterFaultList file net Other)
+unfolding AfterFaultList
+faults_so None net One Other so = so None
+faults_so (Some file) net One Other so =
+    checked_so file (λ text. IsFaultListOf text net) (λ faults. One (Some faults)) (λ faults. Other (Some faults)) (λ faults. so (Some faults))
 
 pub machine_so : (file : Option (List ℕ)) (One Other : Machine → List Reading → Outcome → Type 0) → ((machine : Machine) → Implies (One machine) (Other machine)) → Implies (AfterMachine file One) (AfterMachine file Other)
 unfolding AfterMachine

@@ -16,6 +16,8 @@ use Rattle.net_defs.specs.Time.{cycle_count}
 use Rattle.net_defs.specs.Valid.{input_count}
 use Rattle.bench_read.specs.Faults as bench
 use Rattle.bench_read.specs.GateLists as gate_lists
+use Rattle.bench_read.specs.StuckLists as stuck_lists
+use Rattle.net_defs.specs.declared.faults.Fault.{Fault}
 use Rattle.bench_read.specs.Reads as bench_reads
 use Rattle.stim_text.specs.Stimuli as stim
 use Rattle.stim_text.specs.declared.lanes.Lanes.{Lanes}
@@ -27,7 +29,7 @@ use Rattle.yse_compile.specs.declared.compiler.CompNo.{CompNo}
 use Rattle.yse_compile.specs.Chosen.{FitsBy}
 use Rattle.yse_compile.specs.Compiled.{IsRight, IsOverfull}
 use Rattle.refusal_lines.specs.declared.status.Status.TheVariants as status
-use Rattle.refusal_lines.specs.Lines.{read_fault_line, too_long_line, machine_line, netlist_line, loop_line, overfull_line, stimulus_line, cells_line, bits_limit_line, signals_line, lanes_line, order_line, list_line}
+use Rattle.refusal_lines.specs.Lines.{read_fault_line, too_long_line, machine_line, netlist_line, faults_line, loop_line, overfull_line, stimulus_line, cells_line, bits_limit_line, signals_line, lanes_line, order_line, list_line}
 use Rattle.named_files.specs.Outcome.{Outcome, done, refusal, out_of_memory}
 use Rattle.named_files.specs.Readings.{Reading}
 
@@ -101,6 +103,11 @@ IsOrderOf text machine =
 abbrev pub IsListOf : List ℕ → Netlist → Result (List ℕ) Outcome → Type 0
 IsListOf text net =
     ReadsAs (gate_lists.Reads net text) (gate_lists.first_fault net text) (λ why. refusal status.LastList (list_line why))
+
+-- the list of a text for the stuck faults of a netlist
+abbrev pub IsFaultListOf : List ℕ → Netlist → Result (List Fault) Outcome → Type 0
+IsFaultListOf text net =
+    ReadsAs (stuck_lists.Reads net text) (stuck_lists.first_fault net text) (λ why. refusal status.FaultList (faults_line why))
 
 -- the timing with these gates listed
 abbrev pub listing : Timing → List ℕ → Timing

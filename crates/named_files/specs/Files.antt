@@ -2,11 +2,12 @@
 use Rattle.std.specs.Prelude.{List, ℕ, Option, Some, None}
 use Rattle.machine_text.specs.declared.machine.Machine.{Machine}
 use Rattle.machine_text.specs.Machines.{default_machine}
+use Rattle.net_defs.specs.declared.faults.Fault.{Fault}
 use Rattle.net_defs.specs.declared.netlist.Netlist.{Netlist}
 use Rattle.net_defs.specs.declared.stimulus.Stimulus.{Stimulus}
 use Rattle.net_defs.specs.declared.timing.Timing.{Timing}
 use Rattle.cmd_words.specs.declared.command.RunWords.{RunWords}
-use Rattle.named_files.specs.Checks.{After, AfterFile, IsMachineOf, IsNetlistOf, IsStimulusOf, IsListOf, listing, IsLanesOf}
+use Rattle.named_files.specs.Checks.{After, AfterFile, IsMachineOf, IsNetlistOf, IsStimulusOf, IsListOf, IsFaultListOf, listing, IsLanesOf}
 use Rattle.named_files.specs.Outcome.{Outcome}
 use Rattle.named_files.specs.Readings.{Reading}
 use Rattle.stim_text.specs.declared.lanes.Lanes.{Lanes}
@@ -23,6 +24,13 @@ AfterList None net timing Next = Next timing
 AfterList (Some file) net timing Next =
     AfterFile file (λ text.
     After (IsListOf text net) (λ listed. Next (listing timing listed)))
+
+-- where the file of a list of stuck faults is named, that file and its text; else there is no list
+unfoldable pub AfterFaultList : Option (List ℕ) → Netlist → (Option (List Fault) → List Reading → Outcome → Type 0) → List Reading → Outcome → Type 0
+AfterFaultList None net Next = Next None
+AfterFaultList (Some file) net Next =
+    AfterFile file (λ text.
+    After (IsFaultListOf text net) (λ faults. Next (Some faults)))
 
 -- the stimulus file and its text
 unfoldable pub AfterStimulus : List ℕ → Netlist → (Stimulus → List Reading → Outcome → Type 0) → List Reading → Outcome → Type 0

@@ -1,27 +1,29 @@
 //! The checks of what was read: one function a check.
 
-ghost use Rattle.std.specs.Prelude.{◌≡◌, ◌≤◌, Ok, Err, length, IfOk, IfErr, OnOk};
+ghost use Rattle.std.specs.Prelude.{◌≡◌, ◌≤◌, Ok, Err, length, All, IfOk, IfErr, OnOk};
 ghost use Rattle.limits.specs.declared.TheConstants.{MAX_TEXT_BYTES};
 ghost use Rattle.net_defs.specs.Loops.{AreRanks, IsOrder};
 ghost use Rattle.machine_text.specs.Machines.{IsValid as IsValidMachine, ports_of};
 ghost use Rattle.net_defs.specs.declared.stimulus.Stimulus.{Stimulus};
-ghost use Rattle.net_defs.specs.Valid.{Ascends, IsValid, IsValidStimulus, IsValidTiming, input_count};
+ghost use Rattle.net_defs.specs.Valid.{Ascends, IsFault, IsValid, IsValidStimulus, IsValidTiming, input_count};
 ghost use Rattle.yse_compile.specs.Chosen.{IsChosen, FitsBy};
 ghost use Rattle.yse_compile.specs.Compiled.{ShowsReference, IsOverfull, IsRight};
-ghost use Rattle.named_files.specs.Checks.{Refuses, IsLanesOf, IsListOf, IsMachineOf, IsNetlistOf, IsOrderOf, IsStimulusOf, HasNoLoop, HasRoom, HasFewCells, cell_count, RefusesDesign};
+ghost use Rattle.named_files.specs.Checks.{Refuses, IsFaultListOf, IsLanesOf, IsListOf, IsMachineOf, IsNetlistOf, IsOrderOf, IsStimulusOf, HasNoLoop, HasRoom, HasFewCells, cell_count, RefusesDesign};
 ghost use Rattle.stim_text.specs.Lanes.{AreLanes};
 ghost use Rattle.stim_text.specs.Orders.{IsValidOrder};
 ghost use Rattle.named_files.specs.Images.{IsImageOf, IsMachineImage};
 ghost use Rattle.named_files.specs.Refused.{Satisfies, refused_of};
 
 use bench_read::law::reads_as_valid;
-use bench_read::{read_bench, read_last};
+use bench_read::{read_bench, read_faults, read_last};
 use image_defs::Image;
 use limits::MAX_CELLS;
 use machine_text::{Machine, read_machine};
-use net_defs::{HomeChoice, Netlist, Ranks, Stimulus, Timing};
+use net_defs::{Fault, HomeChoice, Netlist, Ranks, Stimulus, Timing};
 use rank_find::{RankNo, order, rank};
-use refusal_lines::{Refusal, of_lanes, of_list, of_machine, of_netlist, of_order, of_stimulus};
+use refusal_lines::{
+    Refusal, of_faults, of_lanes, of_list, of_machine, of_netlist, of_order, of_stimulus,
+};
 use seen_list::List;
 use std::alloc::Global;
 use stim_text::{Lanes, Order, read_lanes, read_order, read_stim};
@@ -112,6 +114,23 @@ pub fn list_of<'a>(alloc: Global, text: List<u8>, net: &Netlist) -> Result<List<
     match read_last(alloc, text.as_slice(), net) {
         Ok(listed) => Ok(listed),
         Err(no) => Err(of_list(no)),
+    }
+}
+
+/// The stuck faults that a text lists, which is given up once it is read.
+pub fn faults_of<'a>(
+    alloc: Global,
+    text: List<u8>,
+    net: &Netlist,
+) -> Result<List<Fault>, Refusal<'a>>
+    requires valid { IsValid net.now }
+    requires short { length text ≤ MAX_TEXT_BYTES }
+    ensures checked { Satisfies result (IsFaultListOf text net.now) }
+    ensures faults { IfOk result (All (IsFault net.now)) }
+{
+    match read_faults(alloc, text.as_slice(), net) {
+        Ok(faults) => Ok(faults),
+        Err(no) => Err(of_faults(no)),
     }
 }
 

@@ -12,6 +12,7 @@ pub use checks::{
 };
 pub use images::{Mapped, accepted, items_of};
 pub use reading::{
-    Timed, design_from, image_in, lanes_in, machine_from, netlist_in, order_in, stimulus_in,
+    Timed, design_from, faults_from, image_in, lanes_in, machine_from, netlist_in, order_in,
+    stimulus_in,
 };
 pub use sizes::{few_bits, few_lane_cells, few_signals};

@@ -1,25 +1,25 @@
 //! The files that a request names: each is begun, read and checked, one step of a call for each.
 
-ghost use Rattle.std.specs.Prelude.{◌≡◌, ◌≤◌, length, IfOk, Some};
+ghost use Rattle.std.specs.Prelude.{◌≡◌, ◌≤◌, length, All, IfOk, IfSome, Some};
 ghost use Rattle.cmd_words.specs.Forms.{IsRunInRange};
 ghost use Rattle.image_defs.specs.Claimed.{HasClaims};
 ghost use Rattle.limits.specs.declared.TheConstants.{MAX_TEXT_BYTES};
 ghost use Rattle.machine_text.specs.Machines.{IsValid as IsValidMachine, ports_of};
-ghost use Rattle.net_defs.specs.Valid.{IsValid, IsValidStimulus, IsValidTiming, input_count};
+ghost use Rattle.net_defs.specs.Valid.{IsFault, IsValid, IsValidStimulus, IsValidTiming, input_count};
 ghost use Rattle.stim_text.specs.Lanes.{AreLanes};
 ghost use Rattle.stim_text.specs.Orders.{IsValidOrder};
 ghost use Rattle.named_files.specs.Passing.{AfterImageFile, AfterNetlistFile, AfterOrderFile, AfterTimed, Passes};
 ghost use Rattle.named_files.specs.code.Texts.{GivesText};
-ghost use Rattle.named_files.specs.Files.{AfterLanes, AfterList, AfterMachine, AfterStimulus};
+ghost use Rattle.named_files.specs.Files.{AfterFaultList, AfterLanes, AfterList, AfterMachine, AfterStimulus};
 
-use crate::checks::{lanes_of, list_of, machine_of, netlist_of, order_of, stimulus_of};
+use crate::checks::{faults_of, lanes_of, list_of, machine_of, netlist_of, order_of, stimulus_of};
 use crate::images::image_file_of;
 use cmd_words::RunWords;
 use edge_io::{Files, ReadNo, read_file};
 use image_defs::ImageFile;
 use limits::MAX_TEXT_BYTES;
 use machine_text::Machine;
-use net_defs::{Netlist, Stimulus, Timing};
+use net_defs::{Fault, Netlist, Stimulus, Timing};
 use refusal_lines::Refusal;
 use seen_list::{List, Text};
 use std::alloc::Global;
@@ -176,6 +176,50 @@ fn timing_in<'a, F: Files>(
     };
     match list_of(alloc, text, net) {
         Ok(listed) => Ok(timing.listing(listed)),
+        Err(no) => Err(no),
+    }
+}
+
+/// The stuck faults that the file of a list names, where there is such a file.
+pub fn faults_from<'a, F: Files>(
+    alloc: Global,
+    files: &mut F,
+    file: &'a Option<Text>,
+    net: &Netlist,
+) -> Result<Option<List<Fault>>, Refusal<'a>>
+    requires { IsValid net.now }
+    ensures same_names { F.names files.new ≡ F.names files.old }
+    ensures same_bytes { F.bytes files.new ≡ F.bytes files.old }
+    ensures step { Passes (F.names files.old) (F.bytes files.old) (F.counts files.old) (F.counts files.new)
+        (AfterFaultList file.now net.now) result }
+    ensures faults { IfOk result (λ listed. IfSome listed (All (IsFault net.now))) }
+{
+    match file {
+        None => Ok(None),
+        Some(file) => faults_in(alloc, files, file.as_bytes(), net),
+    }
+}
+
+/// The stuck faults that this file names.
+fn faults_in<'a, F: Files>(
+    alloc: Global,
+    files: &mut F,
+    file: &'a [u8],
+    net: &Netlist,
+) -> Result<Option<List<Fault>>, Refusal<'a>>
+    requires { IsValid net.now }
+    ensures same_names { F.names files.new ≡ F.names files.old }
+    ensures same_bytes { F.bytes files.new ≡ F.bytes files.old }
+    ensures step { Passes (F.names files.old) (F.bytes files.old) (F.counts files.old) (F.counts files.new)
+        (AfterFaultList (Some file.now) net.now) result }
+    ensures faults { IfOk result (λ listed. IfSome listed (All (IsFault net.now))) }
+{
+    let text = match read_text(alloc, files, file) {
+        Ok(text) => text,
+        Err(no) => return Err(no),
+    };
+    match faults_of(alloc, text, net) {
+        Ok(faults) => Ok(Some(faults)),
         Err(no) => Err(no),
     }
 }

@@ -5,6 +5,8 @@ use Rattle.limits.specs.declared.TheConstants.{MAX_TEXT_BYTES}
 use Rattle.edge_io.specs.Names.{OfTold}
 use Rattle.edge_io.specs.declared.counts.FileCounts.{FileCounts}
 use Rattle.net_defs.specs.declared.homes.HomeChoice.{HomeChoice}
+use Rattle.fault_sim.specs.Faults.{all_faults}
+use Rattle.net_defs.specs.declared.faults.Fault.{Fault}
 use Rattle.net_defs.specs.declared.netlist.Netlist.{Netlist}
 use Rattle.net_defs.specs.declared.stimulus.Stimulus.{Stimulus}
 use Rattle.net_defs.specs.declared.timing.Timing.{Timing}
@@ -23,7 +25,7 @@ use Rattle.machine_text.specs.Machines.{default_machine}
 use Rattle.yse_commands.specs.declared.output.Output.{Output}
 use Rattle.refusal_lines.specs.declared.status.Status.{Status}
 use Rattle.refusal_lines.specs.declared.status.Status.TheVariants as status
-use Rattle.named_files.specs.Checks.{After, AfterRead, AfterFile, Ends, Writes, text_of, IsLanesOf, HasFewBits, HasFewLaneCells, HasFewSignals, IsMachineOf, IsNetlistOf, HasNoLoop, HasRoom, IsStimulusOf, HasFewCells, IsListOf, IsOrderOf, listing}
+use Rattle.named_files.specs.Checks.{After, AfterRead, AfterFile, Ends, Writes, text_of, IsFaultListOf, IsLanesOf, HasFewBits, HasFewLaneCells, HasFewSignals, IsMachineOf, IsNetlistOf, HasNoLoop, HasRoom, IsStimulusOf, HasFewCells, IsListOf, IsOrderOf, listing}
 use Rattle.yse_commands.specs.Expected.{ExpectedOf}
 use Rattle.named_files.specs.Outcome.{Outcome, done, refusal}
 use Rattle.refusal_lines.specs.Lines.{too_long_line}
@@ -32,13 +34,13 @@ use Rattle.named_files.specs.Readings.{Reading}
 use Rattle.yse_commands.specs.Refusals.{Follows}
 use Rattle.stim_text.specs.declared.lanes.Lanes.{Lanes}
 use Rattle.help_text.specs.Texts.{text_of as help_of}
-use Rattle.yse_commands.specs.Traced.{AreLanesOfFiles, AreOfFiles, AreTracesOfFiles, IsFaultListOfFiles, IsOutputOfFiles, IsTimingOfFile, IsTraceOfFiles}
+use Rattle.yse_commands.specs.Traced.{AreFaultsOfFile, AreLanesOfFiles, AreOfFiles, AreTracesOfFiles, IsFaultListOfFiles, IsOutputOfFiles, IsTimingOfFile, IsTraceOfFiles}
 use Rattle.yse_commands.specs.Orders.{EndsIn, EndsInOrder}
 use Rattle.yse_commands.specs.code.Endings.{status_after}
 use Rattle.yse_commands.specs.Outputs.{ending_in}
 use Rattle.yse_commands.specs.Visited.{IsImageOfFile, IsMachineOfFile}
-use Rattle.yse_commands.specs.commands.Fault.{ExpectedFault, FaultsIn, IsFaultList, ListsFaults}
-use Rattle.named_files.specs.Files.{AfterLanes, AfterList, AfterMachine, AfterNetlist, AfterStimulus}
+use Rattle.yse_commands.specs.commands.Fault.{AfterListed, ExpectedFault, FaultsIn, IsFaultList, ListsFaults, listed_or_all}
+use Rattle.named_files.specs.Files.{AfterFaultList, AfterLanes, AfterList, AfterMachine, AfterNetlist, AfterStimulus}
 use Rattle.yse_commands.specs.commands.Pack.{AreLaneTraces, ExpectedPack, KeepsLanesOn, PacksIn, PacksOn}
 use Rattle.yse_commands.specs.commands.Exec.{AfterImage, AfterMatch, ExecutesBy, ExpectedExec, OnImage, RunsImage, WritesTraceOf}
 use Rattle.named_files.specs.Images.{IsAccepted, IsImageFileOf}
@@ -437,22 +439,57 @@ module _ (bytes : Option (List ℕ → List ℕ)) where
         traces = wrote_so (AreLaneTraces end.net end.timing end.lanes) end.others output few.2;
       }
 
+  -- the stuck faults of a list
+  record ReachedFaults (words : RunWords) (net : Netlist) (Next : Option (List Fault) → List Reading → Outcome → Type 0) (output : List ℕ) : Type 0 where
+    listed : Option (List Fault)
+    faults_are : AreFaultsOfFile bytes words.faults net (listed_or_all net listed)
+    others : List Reading
+    are : AreTold others
+    next : Next listed others (done output)
+
+  reached_faults : (words : RunWords) (net : Netlist) (Next : Option (List Fault) → List Reading → Outcome → Type 0) (readings : List Reading) (output : List ℕ) → AreTold readings → AfterFaultList words.faults net Next readings (done output) → ReachedFaults words net Next output
+  unfolding AfterFaultList
+  reached_faults words net Next readings output are expected = by words.faults refl expected
+    where
+      by : (file : Option (List ℕ)) → words.faults ≡ file → AfterFaultList file net Next readings (done output) → ReachedFaults words net Next output
+      by None is expected = record {
+        listed = None;
+        faults_are = subst (λ f. AreFaultsOfFile bytes f net (all_faults net)) (sym is) refl;
+        others = readings;
+        are = are;
+        next = expected;
+      }
+      by (Some file) is expected =
+          let first = gave file (λ text. After (IsFaultListOf text net) (λ faults. Next (Some faults))) readings output are expected in
+          let list = passed (IsFaultListOf first.text net) (λ faults. Next (Some faults)) first.others output (λ e. not_done _ status.FaultList output e.2 refl (λ e. cc)) first.next in
+          record {
+            listed = Some list.0;
+            faults_are = subst (λ f. AreFaultsOfFile bytes f net list.0) (sym is) (first.text, first.told, list.1);
+            others = first.others;
+            are = first.are;
+            next = list.2;
+          }
+
   fault_traced : (words : RunWords) (readings : List Reading) (output : List ℕ) → AreTold readings → ExpectedFault words readings (done output) → IsFaultListOfFiles bytes output words
   fault_traced words readings output are expected =
-      let on = reached_netlist words (FaultsIn words.stimulus) readings output are expected in
+      let on = reached_netlist words (FaultsIn words) readings output are expected in
       let net = on.net in
       let timing = on.timing in
-      let Then : List Reading → Outcome → Type 0 = AfterStimulus words.stimulus net (ListsFaults net timing) in
+      let Then : List Reading → Outcome → Type 0 = AfterFaultList words.faults net (AfterListed words.stimulus net timing) in
       let order = passed (HasNoLoop net timing) (λ passed. After (HasFewSignals net) (λ few. Then)) on.others output (λ e. not_done _ status.Loop output e.2 refl (λ e. cc)) on.ends in
       let few = passed (HasFewSignals net) (λ few. Then) on.others output (λ e. not_done _ status.Limit output e.1 refl (λ e. cc)) order.2 in
-      let end = reached_stimulus words net (ListsFaults net timing) on.others output on.told few.2 in
+      let list = reached_faults words net (AfterListed words.stimulus net timing) on.others output on.told few.2 in
+      let faults = listed_or_all net list.listed in
+      let end = reached_stimulus words net (ListsFaults net timing faults) list.others output list.are list.next in
       record {
         net = net;
         stimulus = end.stimulus;
-        are = of_files words on.text on.text_told net on.reads (ListsFaults net timing) output end;
+        are = of_files words on.text on.text_told net on.reads (ListsFaults net timing faults) output end;
         timing = timing;
         timing_is = on.timing_is;
-        list = wrote_so (IsFaultList net timing end.stimulus) end.others output end.ends;
+        faults = faults;
+        faults_are = list.faults_are;
+        list = wrote_so (IsFaultList net timing end.stimulus faults) end.others output end.ends;
       }
 
   command_traced : (command : Command) (readings : List Reading) (output : List ℕ) → AreTold readings → ExpectedOf command readings (done output) → IsOutputOfFiles bytes output (Some command)

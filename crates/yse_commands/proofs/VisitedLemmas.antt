@@ -56,6 +56,7 @@ refused_writes (refusal.Stimulus why) may = may
 refused_writes (refusal.Cells cells) may = may
 refused_writes (refusal.OrderText why) may = may
 refused_writes (refusal.LastList why) may = may
+refused_writes (refusal.FaultList why) may = may
 refused_writes (refusal.ImageText why) may = may
 refused_writes (refusal.ImageMatch why) may = may
 refused_writes (refusal.Lanes why) may = may

@@ -1,6 +1,7 @@
 -- What the output of a simulation is, by what its files told.
 use Rattle.std.specs.Prelude.{ℕ, List, Option, Some, None, IfSome, ◌≡◌}
 use Rattle.edge_io.specs.Names.{OfTold}
+use Rattle.net_defs.specs.declared.faults.Fault.{Fault}
 use Rattle.net_defs.specs.declared.netlist.Netlist.{Netlist}
 use Rattle.net_defs.specs.declared.stimulus.Stimulus.{Stimulus}
 use Rattle.net_defs.specs.declared.timing.Timing.{Timing}
@@ -8,6 +9,8 @@ use Rattle.net_defs.specs.Trace.{IsTrace}
 use Rattle.net_defs.specs.Valid.{input_count}
 use Rattle.bench_read.specs.GateLists as gate_lists
 use Rattle.bench_read.specs.Reads as bench
+use Rattle.bench_read.specs.StuckLists as stuck_lists
+use Rattle.fault_sim.specs.Faults.{all_faults}
 use Rattle.stim_text.specs.Stimuli as stim
 use Rattle.stim_text.specs.declared.lanes.Lanes.{Lanes}
 use Rattle.stim_text.specs.LaneTexts.{ReadsAsLanes}
@@ -65,14 +68,21 @@ pub record AreTracesOfFiles (bytes : Option (List ℕ → List ℕ)) (output : L
   pub timing_is : IsTimingOfFile bytes words.last net words.timing timing
   pub traces : AreLaneTraces net timing lanes output
 
--- the output lists where each stuck fault of the netlist of the files is first seen under their stimulus
+-- All stuck faults of the netlist; where the words name the file of a list, those that its text lists.
+abbrev pub AreFaultsOfFile : Option (List ℕ → List ℕ) → Option (List ℕ) → Netlist → List Fault → Type 0
+AreFaultsOfFile bytes None net faults = faults ≡ all_faults net
+AreFaultsOfFile bytes (Some file) net faults = (text : List ℕ) × OfTold bytes file (λ told. text ≡ told) × stuck_lists.Reads net text faults
+
+-- the output lists where each of these stuck faults of the netlist of the files is first seen under their stimulus
 pub record IsFaultListOfFiles (bytes : Option (List ℕ → List ℕ)) (output : List ℕ) (words : RunWords) : Type 0 where
   pub net : Netlist
   pub stimulus : Stimulus
   pub are : AreOfFiles bytes words net stimulus
   pub timing : Timing
   pub timing_is : IsTimingOfFile bytes words.last net words.timing timing
-  pub list : IsFaultList net timing stimulus output
+  pub faults : List Fault
+  pub faults_are : AreFaultsOfFile bytes words.faults net faults
+  pub list : IsFaultList net timing stimulus faults output
 
 -- what the output of a command is, by what its files told
 abbrev pub IsOutputOfFiles : Option (List ℕ → List ℕ) → List ℕ → Option Command → Type 0

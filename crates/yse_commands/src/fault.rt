@@ -1,22 +1,22 @@
-//! `fault`: where each stuck fault of a netlist is first seen.
+//! `fault`: where stuck faults of a netlist are first seen.
 
-ghost use Rattle.std.specs.Prelude.{◌≡◌, IfOk};
+ghost use Rattle.std.specs.Prelude.{◌≡◌, All, IfOk, IfSome};
 ghost use Rattle.edge_io.specs.Writing.{joined};
 ghost use Rattle.net_defs.specs.Loops.{AreRanks};
-ghost use Rattle.net_defs.specs.Valid.{IsValid, IsValidStimulus, IsValidTiming};
+ghost use Rattle.net_defs.specs.Valid.{IsFault, IsValid, IsValidStimulus, IsValidTiming};
 ghost use Rattle.cmd_words.specs.Forms.{IsRunInRange};
 ghost use Rattle.yse_commands.specs.Outputs.{CanWrite};
 ghost use Rattle.yse_commands.specs.Refusals.{Follows};
 ghost use Rattle.named_files.specs.Checks.{After, HasFewSignals};
-ghost use Rattle.yse_commands.specs.commands.Fault.{ExpectedFault, IsFaultList, ListsFaults};
-ghost use Rattle.named_files.specs.Files.{AfterStimulus};
+ghost use Rattle.yse_commands.specs.commands.Fault.{AfterListed, ExpectedFault, IsFaultList, listed_or_all};
+ghost use Rattle.named_files.specs.Files.{AfterFaultList};
 
 use crate::output::Output;
 use cmd_words::RunWords;
 use edge_io::Files;
-use fault_sim::{fault_all, fault_lines};
-use named_files::{Timed, WithRanks, design_from, few_signals, ranked, stimulus_in};
-use net_defs::{Stimulus, Timing};
+use fault_sim::{all_faults, fault_lines, fault_list};
+use named_files::{Timed, WithRanks, design_from, faults_from, few_signals, ranked, stimulus_in};
+use net_defs::{Fault, Netlist, Stimulus, Timing};
 use refusal_lines::Refusal;
 use seen_list::{List, Memory, Text};
 use std::alloc::Global;
@@ -71,18 +71,46 @@ fn faults_of<'a, R: Threads + Sync, F: Files>(
     ensures same_names { F.names files.new ≡ F.names files.old }
     ensures same_bytes { F.bytes files.new ≡ F.bytes files.old }
     ensures expected { Follows (F.names files.old) (F.bytes files.old) (F.counts files.old) (F.counts files.new)
-        result (After (HasFewSignals design.now.net) (λ few. AfterStimulus words.now.stimulus design.now.net (ListsFaults design.now.net timing.now))) }
+        result (After (HasFewSignals design.now.net) (λ few.
+        AfterFaultList words.now.faults design.now.net (AfterListed words.now.stimulus design.now.net timing.now))) }
     ensures writable { IfOk result CanWrite }
 {
     match few_signals(&design.net) {
         Ok(()) => {}
         Err(no) => return Err(no),
     }
+    match faults_from(alloc, files, &words.faults, &design.net) {
+        Ok(listed) => listed_of(rt, alloc, files, words, timing, design, listed),
+        Err(no) => Err(no),
+    }
+}
+
+/// The same with the list of faults that was read.
+fn listed_of<'a, R: Threads + Sync, F: Files>(
+    rt: &R,
+    alloc: Global,
+    files: &mut F,
+    words: &'a RunWords,
+    timing: &Timing,
+    design: &WithRanks,
+    listed: Option<List<Fault>>,
+) -> Result<Output, Refusal<'a>>
+    requires range { IsRunInRange words.now }
+    requires timing { IsValidTiming timing.now }
+    requires valid { IsValid design.now.net }
+    requires ranks { AreRanks design.now.net timing.now design.now.ranks }
+    requires listed { IfSome listed (All (IsFault design.now.net)) }
+    ensures same_names { F.names files.new ≡ F.names files.old }
+    ensures same_bytes { F.bytes files.new ≡ F.bytes files.old }
+    ensures expected { Follows (F.names files.old) (F.bytes files.old) (F.counts files.old) (F.counts files.new)
+        result (AfterListed words.now.stimulus design.now.net timing.now listed) }
+    ensures writable { IfOk result CanWrite }
+{
     let stimulus = match stimulus_in(alloc, files, words.stimulus.as_bytes(), &design.net) {
         Ok(stimulus) => stimulus,
         Err(no) => return Err(no),
     };
-    let lines = lines_of(rt, alloc, words, timing, design, &stimulus);
+    let lines = lines_of(rt, alloc, words, timing, design, listed, &stimulus);
     drop(stimulus);
     match lines {
         Ok(lines) => Ok(Output::Lines(lines)),
@@ -90,23 +118,44 @@ fn faults_of<'a, R: Threads + Sync, F: Files>(
     }
 }
 
-/// The lines of the list.
+/// The lines of the verdicts.
 fn lines_of<R: Threads + Sync>(
     rt: &R,
     alloc: Global,
     words: &RunWords,
     timing: &Timing,
     design: &WithRanks,
+    listed: Option<List<Fault>>,
     stimulus: &Stimulus,
 ) -> Result<List<Text>, Memory>
     requires range { IsRunInRange words.now }
     requires timing { IsValidTiming timing.now }
     requires valid { IsValid design.now.net }
     requires ranks { AreRanks design.now.net timing.now design.now.ranks }
+    requires listed { IfSome listed (All (IsFault design.now.net)) }
     requires stimulus { IsValidStimulus stimulus.now }
-    ensures { IfOk result (λ lines. IsFaultList design.now.net timing.now stimulus.now (joined lines)) }
+    ensures { IfOk result (λ lines. IsFaultList design.now.net timing.now stimulus.now (listed_or_all design.now.net listed) (joined lines)) }
 {
     let (net, ranks) = (&design.net, &design.ranks);
-    let verdicts = fault_all(rt, alloc, net, ranks, timing, stimulus, words.workers)?;
-    fault_lines(alloc, net, verdicts.as_slice())
+    let faults = listed_or_all(alloc, net, listed)?;
+    let some = faults.as_slice();
+    let verdicts = fault_list(rt, alloc, net, ranks, timing, stimulus, some, words.workers)?;
+    fault_lines(alloc, net, some, verdicts.as_slice())
+}
+
+/// The stuck faults of a list, and all of the netlist where there is no list.
+fn listed_or_all(
+    alloc: Global,
+    net: &Netlist,
+    listed: Option<List<Fault>>,
+) -> Result<List<Fault>, Memory>
+    requires valid { IsValid net.now }
+    requires listed { IfSome listed (All (IsFault net.now)) }
+    ensures are { IfOk result (λ faults. faults ≡ listed_or_all net.now listed) }
+    ensures faults { IfOk result (All (IsFault net.now)) }
+{
+    match listed {
+        Some(faults) => Ok(faults),
+        None => all_faults(alloc, net),
+    }
 }

@@ -29,6 +29,7 @@ text_is_command status.OrderText is = tt
 text_is_command status.LastList is = tt
 text_is_command status.ImageText is = tt
 text_is_command status.ImageMatch is = tt
+text_is_command status.FaultList is = tt
 text_is_command _ is = absurd is
 
 end_is_command : (s : Status) → IsOfEnd s → IsOfCommand s

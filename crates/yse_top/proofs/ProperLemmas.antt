@@ -26,6 +26,7 @@ IsOfText status.OrderText = ⊤
 IsOfText status.LastList = ⊤
 IsOfText status.ImageText = ⊤
 IsOfText status.ImageMatch = ⊤
+IsOfText status.FaultList = ⊤
 IsOfText _ = ⊥
 
 -- the statuses that an end may have

@@ -15,6 +15,7 @@ ghost use Rattle.yse_commands.specs.commands.Exec.{IsTaken};
 
 use bench_read::law::{reads_or_faults as netlists_or_faults, texts_read_as_valid};
 use bench_read::list_law::{reads_as_ascending, reads_or_faults as lists_or_faults};
+use bench_read::stuck_law::{reads_as_faults, reads_or_faults as stuck_lists_or_faults};
 use cmd_words::law::{forms_are_asked, forms_are_in_range};
 use event_defs::law::{links_decide, steps_exist};
 use fault_sim::one_list as one_list_of_verdicts;
@@ -59,6 +60,8 @@ pub fn calls_are_proper()
     reads_as_ascending();
     images_or_faults();
     lanes_or_faults();
+    stuck_lists_or_faults();
+    reads_as_faults();
     same_inputs();
     machines_are_valid();
     orders_are_valid();

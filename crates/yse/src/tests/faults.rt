@@ -10,6 +10,8 @@ const BUS: &str =
 
 const CALLS: &str = "fault --workers 1|fault --workers 2|fault --workers 7";
 
+const LISTED: &str = "net.bench net.stim --faults net.more";
+
 const CASES: &[Case] = &[
     Case {
         calls: CALLS,
@@ -122,7 +124,241 @@ const CASES: &[Case] = &[
     },
 ];
 
+/// Lists of faults that are simulated.
+const LISTS: &[Case] = &[
+    // Faults of a list, in its order: those lines are the ones that all faults give.
+    Case {
+        calls: CALLS,
+        words: LISTED,
+        netlist: C17,
+        stimulus: "11111\n",
+        machine: "",
+        more: "22 0\n1 1\n1 0 -\n",
+        failing: (0, 0),
+        status: 0,
+        output: "22 0 1 22\n1 1 -\n1 0 1 22\ndetected 2 of 3\n",
+        line: "",
+    },
+    // No fault, and no line.
+    Case {
+        calls: CALLS,
+        words: LISTED,
+        netlist: C17,
+        stimulus: "11111\n",
+        machine: "",
+        more: "",
+        failing: (0, 0),
+        status: 0,
+        output: "detected 0 of 0\n",
+        line: "",
+    },
+    // Comments, blanks, a line end of two bytes, and a last line without one.
+    Case {
+        calls: CALLS,
+        words: LISTED,
+        netlist: C17,
+        stimulus: "11111\n",
+        machine: "",
+        more: "# left over\n\n \t10  1\t-  # seen\r\n22 1",
+        failing: (0, 0),
+        status: 0,
+        output: "10 1 1 22\n22 1 -\ndetected 1 of 2\n",
+        line: "",
+    },
+    // Both faults of a signal.
+    Case {
+        calls: CALLS,
+        words: LISTED,
+        netlist: C17,
+        stimulus: "11111\n",
+        machine: "",
+        more: "22 1\n22 0\n",
+        failing: (0, 0),
+        status: 0,
+        output: "22 1 -\n22 0 1 22\ndetected 1 of 2\n",
+        line: "",
+    },
+    // Lists that are refused.
+    Case {
+        calls: CALLS,
+        words: LISTED,
+        netlist: C17,
+        stimulus: "11111\n",
+        machine: "",
+        more: "1 2\n",
+        failing: (0, 0),
+        status: 16,
+        output: "",
+        line: "fault list: line 1: syntax\n",
+    },
+    Case {
+        calls: CALLS,
+        words: LISTED,
+        netlist: C17,
+        stimulus: "11111\n",
+        machine: "",
+        more: "1\n",
+        failing: (0, 0),
+        status: 16,
+        output: "",
+        line: "fault list: line 1: syntax\n",
+    },
+    Case {
+        calls: CALLS,
+        words: LISTED,
+        netlist: C17,
+        stimulus: "11111\n",
+        machine: "",
+        more: "\n1 0 - -\n",
+        failing: (0, 0),
+        status: 16,
+        output: "",
+        line: "fault list: line 2: syntax\n",
+    },
+    Case {
+        calls: CALLS,
+        words: LISTED,
+        netlist: C17,
+        stimulus: "11111\n",
+        machine: "",
+        more: "1 0 +\n",
+        failing: (0, 0),
+        status: 16,
+        output: "",
+        line: "fault list: line 1: syntax\n",
+    },
+    Case {
+        calls: CALLS,
+        words: LISTED,
+        netlist: C17,
+        stimulus: "11111\n",
+        machine: "",
+        more: "1 0 1 22\n",
+        failing: (0, 0),
+        status: 16,
+        output: "",
+        line: "fault list: line 1: syntax\n",
+    },
+    Case {
+        calls: CALLS,
+        words: LISTED,
+        netlist: C17,
+        stimulus: "11111\n",
+        machine: "",
+        more: "a=b 0\n",
+        failing: (0, 0),
+        status: 16,
+        output: "",
+        line: "fault list: line 1: syntax\n",
+    },
+    Case {
+        calls: CALLS,
+        words: LISTED,
+        netlist: C17,
+        stimulus: "11111\n",
+        machine: "",
+        more: "q 0\n",
+        failing: (0, 0),
+        status: 16,
+        output: "",
+        line: "fault list: line 1: no such signal\n",
+    },
+    Case {
+        calls: CALLS,
+        words: LISTED,
+        netlist: C17,
+        stimulus: "11111\n",
+        machine: "",
+        more: "1 0\n1 0 -\n",
+        failing: (0, 0),
+        status: 16,
+        output: "",
+        line: "fault list: line 2: given twice\n",
+    },
+    // The first line with a fault, and of its faults the first.
+    Case {
+        calls: CALLS,
+        words: LISTED,
+        netlist: C17,
+        stimulus: "11111\n",
+        machine: "",
+        more: "1 0\n1 0\nq 0\n1 2\n",
+        failing: (0, 0),
+        status: 16,
+        output: "",
+        line: "fault list: line 2: given twice\n",
+    },
+    Case {
+        calls: CALLS,
+        words: LISTED,
+        netlist: C17,
+        stimulus: "11111\n",
+        machine: "",
+        more: "q 2\n",
+        failing: (0, 0),
+        status: 16,
+        output: "",
+        line: "fault list: line 1: syntax\n",
+    },
+    // The list comes after loop, and before the stimulus.
+    Case {
+        calls: CALLS,
+        words: LISTED,
+        netlist: "OUTPUT(a)\na = NOT(a)\n",
+        stimulus: "-\n",
+        machine: "",
+        more: "1 2\n",
+        failing: (0, 0),
+        status: 7,
+        output: "",
+        line: "loop: a\n",
+    },
+    Case {
+        calls: CALLS,
+        words: LISTED,
+        netlist: C17,
+        stimulus: "1\n",
+        machine: "",
+        more: "q 0\n",
+        failing: (0, 0),
+        status: 16,
+        output: "",
+        line: "fault list: line 1: no such signal\n",
+    },
+    // A list that is not there.
+    Case {
+        calls: CALLS,
+        words: "net.bench net.stim --faults other",
+        netlist: C17,
+        stimulus: "1\n",
+        machine: "",
+        more: "",
+        failing: (0, 0),
+        status: 3,
+        output: "",
+        line: "read fault: other\n",
+    },
+    // A line a piece.
+    Case {
+        calls: CALLS,
+        words: LISTED,
+        netlist: C17,
+        stimulus: "11111\n",
+        machine: "",
+        more: "22 0\n1 1\n",
+        failing: (0, 2),
+        status: 4,
+        output: "22 0 1 22\n",
+        line: "write fault\n",
+    },
+];
+
 #[test]
 fn faults_are_seen_as_in_edited_netlists(rt: HostRuntime) {
     assert!(rt; all_end(&rt, rt.alloc(), CASES));
+}
+
+#[test]
+fn lists_of_faults_end_as_stated(rt: HostRuntime) {
+    assert!(rt; all_end(&rt, rt.alloc(), LISTS));
 }

@@ -1,9 +1,11 @@
--- `fault`: where each stuck fault of a netlist is first seen under a stimulus. No cells are kept, so they have no limit.
-use Rattle.std.specs.Prelude.{◌≡◌, ℕ, List}
+-- `fault`: where stuck faults of a netlist are first seen under a stimulus. No cells are kept, so they have no limit.
+use Rattle.std.specs.Prelude.{◌≡◌, ℕ, List, Option, Some, None}
 use Rattle.edge_io.specs.Writing.{joined}
 use Rattle.fault_sim.specs.Lines.{fault_lines}
 use Rattle.fault_sim.specs.declared.faults.Verdict.{Verdict}
-use Rattle.fault_sim.specs.Verdicts.{AreAllVerdicts}
+use Rattle.fault_sim.specs.Faults.{all_faults}
+use Rattle.fault_sim.specs.Verdicts.{AreVerdicts}
+use Rattle.net_defs.specs.declared.faults.Fault.{Fault}
 use Rattle.net_defs.specs.declared.netlist.Netlist.{Netlist}
 use Rattle.net_defs.specs.declared.stimulus.Stimulus.{Stimulus}
 use Rattle.net_defs.specs.declared.timing.Timing.{Timing}
@@ -11,24 +13,34 @@ use Rattle.cmd_words.specs.declared.command.RunWords.{RunWords}
 use Rattle.named_files.specs.Checks.{After, Ends, Writes, HasFewSignals, HasNoLoop}
 use Rattle.named_files.specs.Outcome.{Outcome}
 use Rattle.named_files.specs.Readings.{Reading}
-use Rattle.named_files.specs.Files.{AfterNetlist, AfterStimulus}
+use Rattle.named_files.specs.Files.{AfterFaultList, AfterNetlist, AfterStimulus}
 
--- the output is a line for each of the verdicts on all stuck faults, and a last one on how many are seen
-pub record IsFaultList (net : Netlist) (timing : Timing) (stimulus : Stimulus) (output : List ℕ) : Type 0 where
+-- the stuck faults of a list, and all of the netlist where there is no list
+abbrev pub listed_or_all : Netlist → Option (List Fault) → List Fault
+listed_or_all net None = all_faults net
+listed_or_all net (Some faults) = faults
+
+-- the output is a line for each of the verdicts on these stuck faults, and a last one on how many are seen
+pub record IsFaultList (net : Netlist) (timing : Timing) (stimulus : Stimulus) (faults : List Fault) (output : List ℕ) : Type 0 where
   pub verdicts : List Verdict
-  pub are : AreAllVerdicts net timing stimulus verdicts
-  pub printed : output ≡ joined (fault_lines net verdicts)
+  pub are : AreVerdicts net timing stimulus faults verdicts
+  pub printed : output ≡ joined (fault_lines net faults verdicts)
 
 -- the list is written
-abbrev pub ListsFaults : Netlist → Timing → Stimulus → List Reading → Outcome → Type 0
-ListsFaults net timing stimulus = Ends (Writes (IsFaultList net timing stimulus))
+abbrev pub ListsFaults : Netlist → Timing → List Fault → Stimulus → List Reading → Outcome → Type 0
+ListsFaults net timing faults stimulus = Ends (Writes (IsFaultList net timing stimulus faults))
 
--- the loop, the number of signals, the stimulus, and then the list
-abbrev pub FaultsIn : List ℕ → Netlist → Timing → List Reading → Outcome → Type 0
-FaultsIn stimulus net timing =
+-- the stimulus, and then the list
+abbrev pub AfterListed : List ℕ → Netlist → Timing → Option (List Fault) → List Reading → Outcome → Type 0
+AfterListed stimulus net timing listed = AfterStimulus stimulus net (ListsFaults net timing (listed_or_all net listed))
+
+-- the loop, the number of signals, the list of faults, the stimulus, and then the list
+abbrev pub FaultsIn : RunWords → Netlist → Timing → List Reading → Outcome → Type 0
+FaultsIn words net timing =
     After (HasNoLoop net timing) (λ passed.
-    After (HasFewSignals net) (λ few. AfterStimulus stimulus net (ListsFaults net timing)))
+    After (HasFewSignals net) (λ few.
+    AfterFaultList words.faults net (AfterListed words.stimulus net timing)))
 
 -- the netlist, and then the list of its faults
 abbrev pub ExpectedFault : RunWords → List Reading → Outcome → Type 0
-ExpectedFault words = AfterNetlist words (FaultsIn words.stimulus)
+ExpectedFault words = AfterNetlist words (FaultsIn words)

@@ -1,7 +1,7 @@
 -- The design, the loop, and the list.
 use Rattle.named_files.specs.Checks.{After, HasFewSignals, HasNoLoop}
-use Rattle.yse_commands.specs.commands.Fault.{FaultsIn, ListsFaults}
-use Rattle.named_files.specs.Files.{AfterStimulus}
+use Rattle.yse_commands.specs.commands.Fault.{AfterListed, FaultsIn}
+use Rattle.named_files.specs.Files.{AfterFaultList}
 use Rattle.yse_commands.proofs.ChainLemmas.{follows_on, follows_refusal}
 use Rattle.yse_commands.proofs.PassingLemmas.{design_on, design_stops}
 use Rattle.yse_commands.proofs.fault.fault.Goals as goal
@@ -9,15 +9,15 @@ use Rattle.yse_commands.proofs.fault.fault.Goals as goal
 pub returns-in-Err-clause-expected : goal.returns-in-Err-clause-expected
 returns-in-Err-clause-expected g c =
     let words = c.args.words.now in
-    design_stops _ _ words (FaultsIn words.stimulus) _ _ _ c.in-Err.ensures.step
+    design_stops _ _ words (FaultsIn words) _ _ _ c.in-Err.ensures.step
 
 pub returns-in-Err-ranked-clause-expected : goal.returns-in-Err-ranked-clause-expected
 returns-in-Err-ranked-clause-expected g c =
     let words = c.args.words.now in
     let net = c.in-Ok.timed.net in
     let timing = c.in-Ok.timed.timing in
-    let then = AfterStimulus words.stimulus net (ListsFaults net timing) in
-    design_on _ _ words (FaultsIn words.stimulus) c.in-Ok.timed _ _ _ _ _ _ c.in-Ok.ensures.same_names c.in-Ok.ensures.same_bytes c.in-Ok.ensures.step
+    let then = AfterFaultList words.faults net (AfterListed words.stimulus net timing) in
+    design_on _ _ words (FaultsIn words) c.in-Ok.timed _ _ _ _ _ _ c.in-Ok.ensures.same_names c.in-Ok.ensures.same_bytes c.in-Ok.ensures.step
     (follows_refusal _ _ (HasNoLoop net timing) (λ passed. After (HasFewSignals net) (λ few. then)) _ _ c.in-Err-ranked.ensures.looped)
 
 pub returns-in-Ok-ranked-clause-expected : goal.returns-in-Ok-ranked-clause-expected
@@ -26,7 +26,7 @@ returns-in-Ok-ranked-clause-expected g c =
     let net = c.in-Ok.timed.net in
     let timing = c.in-Ok.timed.timing in
     let same = c.in-Ok-ranked.ensures.same in
-    let then = AfterStimulus words.stimulus net (ListsFaults net timing) in
-    design_on _ _ words (FaultsIn words.stimulus) c.in-Ok.timed _ _ _ _ _ _ c.in-Ok.ensures.same_names c.in-Ok.ensures.same_bytes c.in-Ok.ensures.step
+    let then = AfterFaultList words.faults net (AfterListed words.stimulus net timing) in
+    design_on _ _ words (FaultsIn words) c.in-Ok.timed _ _ _ _ _ _ c.in-Ok.ensures.same_names c.in-Ok.ensures.same_bytes c.in-Ok.ensures.step
     (follows_on _ _ (HasNoLoop net timing) (λ passed. After (HasFewSignals net) (λ few. then)) tt _ _ _ c.in-Ok-ranked.ensures.acyclic
     (rw same at c.faults_of-listed.ensures.expected))

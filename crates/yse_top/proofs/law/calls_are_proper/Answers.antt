@@ -1,16 +1,18 @@
 -- The chain of each command, link by link.
 use Rattle.std.proofs.Common.{◌≡◌, ◌∙◌, ◌↔◌, ◌⊎◌, inl, inr, ◌≢◌, ◌<◌, ◌≤◌, sym, ap, refl, subst, ℕ, Bool, true, false, List, [], ◌∷◌, ◌++◌, length, Option, Some, None, Ok, Err}
+use Rattle.std.specs.List.{All}
 use Rattle.std.specs.Option.{option_to_list}
 use Rattle.std.proofs.lemmas.List.{append-nil}
 use Rattle.limits.specs.declared.TheConstants.{MAX_CELLS, MAX_FAULT_SIGNALS, MAX_LARGE_GATES, MAX_PACK_BITS, MAX_TEXT_BYTES}
 use Rattle.machine_text.specs.declared.machine.Machine.{Machine}
 use Rattle.machine_text.specs.Machines as machine_text
 use Rattle.machine_text.specs.Machines.{IsValid as IsValidMachine, default_machine, ports_of}
-use Rattle.net_defs.specs.Valid.{Ascends, IsValid, IsValidTiming, input_count}
+use Rattle.net_defs.specs.Valid.{Ascends, IsFault, IsValid, IsValidTiming, input_count}
 use Rattle.yse_compile.specs.Chosen.{FitsBy}
 use Rattle.yse_compile.specs.Designs.{IsAcyclic}
 use Rattle.yse_compile.proofs.DesignExists.{HasDesign}
 use Rattle.text_lines.specs.Answers.{IsReader}
+use Rattle.net_defs.specs.declared.faults.Fault.{Fault}
 use Rattle.net_defs.specs.declared.homes.HomeChoice.{HomeChoice}
 use Rattle.net_defs.specs.declared.netlist.Netlist.{Netlist}
 use Rattle.net_defs.specs.declared.stimulus.Stimulus.{Stimulus}
@@ -33,6 +35,7 @@ use Rattle.event_defs.specs.declared.place.CoreStep.{CoreStep}
 use Rattle.stim_text.specs.Orders.{steps_of}
 use Rattle.bench_read.specs.Faults as bench
 use Rattle.bench_read.specs.GateLists as gate_lists
+use Rattle.bench_read.specs.StuckLists as stuck_lists
 use Rattle.bench_read.specs.Reads as bench_reads
 use Rattle.stim_text.specs.declared.order.Order.{Order}
 use Rattle.stim_text.specs.Orders as orders
@@ -47,13 +50,13 @@ use Rattle.stim_text.specs.LaneTexts as lane_texts
 use Rattle.stim_text.specs.declared.lanes.Lanes.{Lanes}
 use Rattle.edge_io.specs.Writing.{joined}
 use Rattle.fault_sim.specs.Lines.{fault_lines}
-use Rattle.fault_sim.specs.Verdicts.{HasOneList, HaveOneList}
-use Rattle.named_files.specs.Checks.{After, Ends, Writes, IsLanesOf, HasFewBits, HasFewLaneCells, HasFewSignals, cell_count, lane_cell_count, memory_bits, IsMachineOf, IsNetlistOf, HasNoLoop, HasRoom, IsStimulusOf, HasFewCells, IsListOf, IsOrderOf, listing}
+use Rattle.fault_sim.specs.Verdicts.{AreAllFaults, HasOneList, HaveOneList}
+use Rattle.named_files.specs.Checks.{After, Ends, Writes, IsFaultListOf, IsLanesOf, HasFewBits, HasFewLaneCells, HasFewSignals, cell_count, lane_cell_count, memory_bits, IsMachineOf, IsNetlistOf, HasNoLoop, HasRoom, IsStimulusOf, HasFewCells, IsListOf, IsOrderOf, listing}
 use Rattle.cmd_words.specs.Forms.{HasForm, IsInRange}
 use Rattle.refusal_lines.specs.declared.status.Status.{Status}
 use Rattle.yse_commands.specs.Expected.{Expected, ExpectedOf, Asks}
 use Rattle.yse_top.specs.Law.{IsProper, HasOutcome}
-use Rattle.refusal_lines.specs.Lines.{usage_line, machine_line, netlist_line, stimulus_line, cells_line, bits_limit_line, signals_line, lanes_line, order_line, list_line, image_line}
+use Rattle.refusal_lines.specs.Lines.{usage_line, machine_line, netlist_line, stimulus_line, cells_line, bits_limit_line, signals_line, lanes_line, order_line, list_line, faults_line, image_line}
 use Rattle.named_files.specs.Outcome.{Outcome, refusal}
 use Rattle.named_files.specs.Readings.{Reading}
 use Rattle.yse_commands.specs.Orders.{EndsInOrder}
@@ -62,10 +65,10 @@ use Rattle.help_text.specs.Texts.{text_of}
 use Rattle.yse_commands.specs.Words.{files_of, files_named}
 use Rattle.yse_commands.specs.commands.Exec.{AfterImage, AfterMatch, ExpectedExec, OnImage, RunsImage, WritesTraceOf}
 use Rattle.named_files.specs.Images.{IsAccepted, IsImageFileOf}
-use Rattle.yse_commands.specs.commands.Fault.{ExpectedFault, FaultsIn, IsFaultList, ListsFaults}
+use Rattle.yse_commands.specs.commands.Fault.{AfterListed, ExpectedFault, FaultsIn, IsFaultList, ListsFaults, listed_or_all}
 use Rattle.yse_commands.specs.commands.Help.{ExpectedHelp}
 use Rattle.yse_commands.specs.commands.Large.{ExpectedLarge}
-use Rattle.named_files.specs.Files.{AfterLanes, AfterList, AfterMachine, AfterNetlist, AfterStimulus}
+use Rattle.named_files.specs.Files.{AfterFaultList, AfterLanes, AfterList, AfterMachine, AfterNetlist, AfterStimulus}
 use Rattle.yse_commands.specs.commands.Pack.{AreLaneTraces, ExpectedPack, KeepsLanes, KeepsLanesOn, PacksIn, PacksOn}
 use Rattle.yse_commands.specs.commands.Compile.{IsImageTextOf}
 use Rattle.yse_commands.specs.commands.Layout.{ExpectedLayout, ExpectedLayoutOn, IsSheetOf, LaysOut}
@@ -99,6 +102,9 @@ record Laws : Type 0 where
   orders : (ports : ℕ) → IsReader (orders.Reads ports) (orders.first_fault ports)
   lanes : (inputs : ℕ) → IsReader (lane_texts.ReadsAsLanes inputs) (lane_texts.first_lanes_fault inputs)
   verdicts : HaveOneList
+  all_faults : AreAllFaults
+  stuck_lists : (net : Netlist) → IsReader (stuck_lists.Reads net) (stuck_lists.first_fault net)
+  stuck : (net : Netlist) (text : List ℕ) (faults : List Fault) → stuck_lists.Reads net text faults → All (IsFault net) faults
   lists : (net : Netlist) → IsReader (gate_lists.Reads net) (gate_lists.first_fault net)
   forms : (words : List (List ℕ)) (command : Command) → (asked words ≡ Some command) ↔ HasForm words command
   in_range : (words : List (List ℕ)) (command : Command) → HasForm words command → IsInRange command
@@ -154,6 +160,9 @@ module _ (laws : Laws) where
 
   list_check : (text : List ℕ) (net : Netlist) → IsCheck (IsListOf text net)
   list_check text net = reads_check (gate_lists.Reads net) (gate_lists.first_fault net) (laws.lists net) text status.LastList list_line tt
+
+  faults_check : (text : List ℕ) (net : Netlist) → IsCheck (IsFaultListOf text net)
+  faults_check text net = reads_check (stuck_lists.Reads net) (stuck_lists.first_fault net) (laws.stuck_lists net) text status.FaultList faults_line tt
 
   image_check : (text : List ℕ) → IsCheck (IsImageFileOf text)
   image_check text = reads_check image_file.Reads image_faults.first_fault laws.images text status.ImageText image_line tt
@@ -237,23 +246,36 @@ module _ (laws : Laws) where
       machine_proper words.machine (words.netlist ∷ (option_to_list words.last ++ (words.stimulus ∷ []))) (PacksOn words KeepsLanesOn) (λ machine machine_valid.
       netlist_proper words (words.stimulus ∷ []) (PacksIn words KeepsLanesOn machine) timely (λ net valid timing valid_timing. packs_proper words machine machine_valid net valid timing))
 
-  list_of_faults : (net : Netlist) (timing : Timing) (stimulus : Stimulus) → HasOneList net timing stimulus → IsCommand [] (ListsFaults net timing stimulus)
-  list_of_faults net timing stimulus one =
-      command_ends (Writes (IsFaultList net timing stimulus)) (writes_ending (IsFaultList net timing stimulus) (λ s t is is_too. (only s t is is_too)))
-      (outcome_writes (IsFaultList net timing stimulus) (joined (fault_lines net one.verdicts)) (record { verdicts = one.verdicts; are = one.exists; printed = refl }))
+  list_of_faults : (net : Netlist) (timing : Timing) (faults : List Fault) (stimulus : Stimulus) → HasOneList net timing stimulus faults → IsCommand [] (ListsFaults net timing faults stimulus)
+  list_of_faults net timing faults stimulus one =
+      command_ends (Writes (IsFaultList net timing stimulus faults)) (writes_ending (IsFaultList net timing stimulus faults) (λ s t is is_too. (only s t is is_too)))
+      (outcome_writes (IsFaultList net timing stimulus faults) (joined (fault_lines net faults one.verdicts)) (record { verdicts = one.verdicts; are = one.exists; printed = refl }))
     where
-      only : (s t : List ℕ) → IsFaultList net timing stimulus s → IsFaultList net timing stimulus t → s ≡ t
-      only s t is is_too = is.printed ∙ ap (λ verdicts. joined (fault_lines net verdicts)) (one.only is.verdicts is.are ∙ sym (one.only is_too.verdicts is_too.are)) ∙ sym is_too.printed
+      only : (s t : List ℕ) → IsFaultList net timing stimulus faults s → IsFaultList net timing stimulus faults t → s ≡ t
+      only s t is is_too = is.printed ∙ ap (λ verdicts. joined (fault_lines net faults verdicts)) (one.only is.verdicts is.are ∙ sym (one.only is_too.verdicts is_too.are)) ∙ sym is_too.printed
 
-  faults_proper : (file : List ℕ) (net : Netlist) (timing : Timing) → IsCommand (file ∷ []) (FaultsIn file net timing)
-  faults_proper file net timing =
-      let Then : List Reading → Outcome → Type 0 = AfterStimulus file net (ListsFaults net timing) in
-      command_after (file ∷ []) (HasNoLoop net timing) (λ passed. After (HasFewSignals net) (λ few. Then)) (loop_check net timing (laws.order_or_loop net timing) (laws.never_both net timing)) (λ passed acyclic.
-      command_after (file ∷ []) (HasFewSignals net) (λ few. Then) (size_check MAX_FAULT_SIGNALS (length net.signals) signals_line) (λ few signals.
-      stimulus_proper file [] net (ListsFaults net timing) (λ stimulus. list_of_faults net timing stimulus (laws.verdicts net timing stimulus acyclic))))
+  listed_proper : (file : List ℕ) (net : Netlist) (timing : Timing) → IsAcyclic net timing → (listed : Option (List Fault)) → All (IsFault net) (listed_or_all net listed) → IsCommand (file ∷ []) (AfterListed file net timing listed)
+  listed_proper file net timing acyclic listed are =
+      let faults = listed_or_all net listed in
+      stimulus_proper file [] net (ListsFaults net timing faults) (λ stimulus. list_of_faults net timing faults stimulus (laws.verdicts net timing stimulus faults acyclic are))
 
-  fault_proper : (words : RunWords) → IsValidTiming words.timing → IsCommand (words.netlist ∷ (option_to_list words.last ++ (words.stimulus ∷ []))) (ExpectedFault words)
-  fault_proper words timely = netlist_proper words (words.stimulus ∷ []) (FaultsIn words.stimulus) timely (λ net valid timing valid_timing. faults_proper words.stimulus net timing)
+  faults_listed : (file : Option (List ℕ)) (files : List (List ℕ)) (net : Netlist) (Next : Option (List Fault) → List Reading → Outcome → Type 0) → ((listed : Option (List Fault)) → All (IsFault net) (listed_or_all net listed) → IsCommand files (Next listed)) → IsCommand (option_to_list file ++ files) (AfterFaultList file net Next)
+  unfolding AfterFaultList
+  faults_listed None files net Next on = on None (laws.all_faults net)
+  faults_listed (Some file) files net Next on =
+      command_file file files (λ text. After (IsFaultListOf text net) (λ faults. Next (Some faults))) (λ text short.
+      command_after files (IsFaultListOf text net) (λ faults. Next (Some faults)) (faults_check text net) (λ faults is. on (Some faults) (laws.stuck net text faults is)))
+
+  faults_proper : (words : RunWords) (net : Netlist) (timing : Timing) → IsCommand (option_to_list words.faults ++ (words.stimulus ∷ [])) (FaultsIn words net timing)
+  faults_proper words net timing =
+      let files : List (List ℕ) = option_to_list words.faults ++ (words.stimulus ∷ []) in
+      let Then : List Reading → Outcome → Type 0 = AfterFaultList words.faults net (AfterListed words.stimulus net timing) in
+      command_after files (HasNoLoop net timing) (λ passed. After (HasFewSignals net) (λ few. Then)) (loop_check net timing (laws.order_or_loop net timing) (laws.never_both net timing)) (λ passed acyclic.
+      command_after files (HasFewSignals net) (λ few. Then) (size_check MAX_FAULT_SIGNALS (length net.signals) signals_line) (λ few signals.
+      faults_listed words.faults (words.stimulus ∷ []) net (AfterListed words.stimulus net timing) (listed_proper words.stimulus net timing acyclic)))
+
+  fault_proper : (words : RunWords) → IsValidTiming words.timing → IsCommand (words.netlist ∷ (option_to_list words.last ++ (option_to_list words.faults ++ (words.stimulus ∷ [])))) (ExpectedFault words)
+  fault_proper words timely = netlist_proper words (option_to_list words.faults ++ (words.stimulus ∷ [])) (FaultsIn words) timely (λ net valid timing valid_timing. faults_proper words net timing)
 
   sheet_proper : (asked : Sheet) (choice : HomeChoice) (net : Netlist) (machine : Machine) (timing : Timing) → IsValid net → IsValidMachine machine → IsValidTiming timing → IsAcyclic net timing → FitsBy choice net machine timing
       → IsCommand [] (Ends (Writes (IsSheetOf asked choice net machine timing)))
@@ -410,7 +432,10 @@ returns c =
           done_alike (turn_count timing stimulus) image other one two linked same.1 same.2;
       images = c.reads_or_faults-6.ensures.reader;
       lanes = c.reads_or_faults-7.ensures.reader;
-      verdicts = c.one_list-2.ensures;
+      verdicts = c.one_list-2.ensures.one;
+      all_faults = c.one_list-2.ensures.all;
+      stuck_lists = c.reads_or_faults-8.ensures.reader;
+      stuck = c.reads_as_faults.ensures;
       accepted = λ net timing file valid acyclic has. accepted_check net timing file (λ one other items items_too.
           interchangeable file timing one other (c.one_list.ensures net timing one other items items_too) (c.items_are_well_formed.ensures net timing other valid items_too)
           (c.same_inputs.ensures net timing one valid items ∙ sym (c.same_inputs.ensures net timing other valid items_too)))
