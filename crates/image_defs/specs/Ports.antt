@@ -1,6 +1,6 @@
 -- How far a port has come, as contracts see it: whose image and stimulus it runs, its turn, and what it
 -- has executed and received in it. Nothing here says what a port keeps.
-use Rattle.std.specs.Prelude.{◌≡◌, ℕ, ◌+◌, ◌<◌, ◌≤◌, Bool, true, false, length, Option, Some, None, slice_get}
+use Rattle.std.specs.Prelude.{◌≡◌, ℕ, ◌+◌, ◌<◌, ◌≤◌, Bool, true, false, length, Some, slice_get}
 use Rattle.logic_four.specs.declared.V4.{V4}
 use Rattle.net_defs.specs.declared.stimulus.Stimulus.{Stimulus}
 use Rattle.net_defs.specs.Time.{turn_count}
@@ -79,10 +79,3 @@ pub record CanEnd (view : PortView) : Type 0 where
   pub is : IsPort view.image view.port port
   pub executed_all : view.executed ≡ length (item_slots port.work)
   pub received_all : view.received ≡ length port.ins
-
--- the slot of the next item that the port executes in its turn, and none where it has executed all
-abbrev pub next_item : PortView → Option ℕ
-next_item view = of_port (slice_get view.image.ports view.port) where
-  of_port : Option PortImage → Option ℕ
-  of_port None = None
-  of_port (Some port) = slice_get (item_slots port.work) view.executed

@@ -16,7 +16,7 @@ use Rattle.image_defs.specs.Places.{IsPort}
 use Rattle.image_defs.specs.WellFormed.{IsWellFormed}
 use Rattle.image_defs.specs.Frames.{frame}
 use Rattle.image_defs.specs.Ports as port_views
-use Rattle.image_defs.specs.Ports.{PortView, CanExecute, value_in, next_item}
+use Rattle.image_defs.specs.Ports.{PortView, CanExecute, value_in}
 use Rattle.port_bank.specs.Reads.{IsHeld}
 use Rattle.port_array.specs.code.Acts.{answered_bit, FitsBit}
 use Rattle.port_array.specs.declared.port.ArrayPort.TheInside as one
@@ -138,8 +138,3 @@ ready_ended a bank ready begun same = record {
   whole = ready.whole;
   each = λ l low. ended_one (lane_array l a) (lane_port l bank) (ready.each l low) begun (ap (lane_port l) same);
 }
-
--- ---- what is next
-
-pub next_is : (a : Inside) → IsReady a → next_item (lane_port 0 a.bank) ≡ slice_get (map (λ bit. bit.slot) a.bits.now) a.bank.executed
-next_is a ready = rw (ready.is, ready.work) refl

@@ -8,12 +8,11 @@ ghost use Rattle.stim_text.specs.Lanes.{AreLanes};
 ghost use Rattle.image_defs.specs.WellFormed.{IsWellFormed};
 ghost use Rattle.image_defs.specs.Ports.{value_in, CanBegin, CanExecute, CanReceive, CanEnd};
 ghost use Rattle.port_bank.specs.Flat.{place_count, IsWithin};
-ghost use Rattle.port_bank.specs.Links.{next_link};
 ghost use Rattle.port_bank.specs.Reads.{IsRead, IsHeld, IsTaken};
 ghost use Rattle.pack_bank.specs.Views.{lane_port, at_first, after_begin, after_execute, after_receive, after_end, InEachLane};
 
 use crate::places::Places;
-use image_defs::{Image, LinkIn, Source};
+use image_defs::{Image, Source};
 use lane_planes::{Planes, in_all_lanes};
 use net_defs::{initial_value, is_edge};
 use port_bank::steps::{Operand, operand_of};
@@ -81,21 +80,6 @@ impl<'a> PackBank<'a> {
         ensures { result ≡ self.now.executed }
     {
         self.executed
-    }
-
-    /// What the port receives next in this turn, and `None` where it has received all. It is the same in
-    /// each lane.
-    #[inline]
-    pub fn next_link(&self) -> Option<LinkIn>
-        ensures { result ≡ next_link (lane_port 0 self.now) }
-    {
-        match self.image.ports.get(self.port as usize) {
-            Some(seat) => match seat.ins.get(self.received) {
-                Some(link) => Some(*link),
-                None => None,
-            },
-            None => None,
-        }
     }
 
     /// Whether registers and memories take new values in this turn.

@@ -131,9 +131,6 @@ inputs_answer a slot i d values ready can same fed l low =
 
 -- ---- the end of a turn
 
-pub cycles_here : (a : Inside) → IsReady a → cycles_done a.bank ≡ a.feed.cycles
-cycles_here a ready = let one = ready.each 0 (omega arith) in host.rows_here (lane_host 0 one.0 a) one.1
-
 pub units_here : (a : Inside) → IsReady a → a.unit < a.units
 units_here a ready = (ready.each 0 (omega arith)).1.on.unit
 

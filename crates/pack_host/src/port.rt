@@ -145,13 +145,6 @@ impl<'a> PackHost<'a> {
         self.bank.end_turn();
     }
 
-    /// The number of cycles that are over, each of which has its cells.
-    pub fn cycles_done(&self) -> u32
-        ensures { result ≡ cycles_done self.now }
-    {
-        self.feed.cycles()
-    }
-
     /// The cell of a printed column in a lane, counted from 0, for a cycle that is over, counted from 1:
     /// what the printed source had in that lane at the last turn of the cycle.
     pub fn cell(&self, lane: u32, cycle: u32, column: usize) -> V4

@@ -4,10 +4,8 @@ ghost use Rattle.std.specs.Prelude.{◌≡◌, ◌<◌, ℕ, IfOk};
 ghost use Rattle.limits.specs.declared.TheConstants.{LANES};
 ghost use Rattle.lane_planes.specs.Lanes.{lane_of};
 ghost use Rattle.stim_text.specs.Lanes.{AreLanes};
-ghost use Rattle.image_defs.specs.Places.{task_slot};
 ghost use Rattle.image_defs.specs.WellFormed.{IsWellFormed, IsPortOf, IsLogic};
-ghost use Rattle.image_defs.specs.Ports.{value_in, next_item, CanBegin, CanExecute, CanReceive, CanEnd};
-ghost use Rattle.port_bank.specs.Links.{next_link};
+ghost use Rattle.image_defs.specs.Ports.{value_in, CanBegin, CanExecute, CanReceive, CanEnd};
 ghost use Rattle.port_bank.specs.Flat.{place_count};
 ghost use Rattle.pack_bank.specs.Views.{lane_port, at_first, after_begin, after_execute, after_receive, after_end, InEachLane};
 ghost use Rattle.pack_logic.specs.code.Ops.{FitsOp};
@@ -15,7 +13,7 @@ ghost use Rattle.pack_logic.specs.code.Tasks.{IsAnswer};
 
 use crate::op::{Op, forms_of, ops_of};
 use func_table::Table;
-use image_defs::{Image, LinkIn, Task, Work};
+use image_defs::{Image, Task, Work};
 use lane_planes::{Planes, eval_form, settle_planes};
 use pack_bank::PackBank;
 use seen_list::{List, Memory};
@@ -43,14 +41,6 @@ impl<'a> Model for PackLogic<'a> {
     ghost view = { λ a. a.bank };
 
     ghost invariant = { IsReady };
-}
-
-fn slot_of(task: &Task) -> u32
-    ensures { result ≡ task_slot task.now }
-{
-    match task {
-        Task::Eval { slot, .. } | Task::Hold { slot, .. } => *slot,
-    }
 }
 
 /// In each lane the value of the item in a slot whose task is laid flat so.
@@ -116,25 +106,6 @@ impl<'a> PackLogic<'a> {
             Work::Array { .. } => unreachable!(),
             Work::Host { .. } => unreachable!(),
         }
-    }
-
-    /// The slot of the next item of this turn, and `None` where all are executed. It is the same in each
-    /// lane.
-    pub fn next_slot(&self) -> Option<u32>
-        ensures { result ≡ next_item (lane_port 0 self.now) }
-    {
-        match self.tasks.get(self.bank.executed()) {
-            Some(task) => Some(slot_of(task)),
-            None => None,
-        }
-    }
-
-    /// What the port receives next in this turn, and `None` where it has received all. It is the same in
-    /// each lane.
-    pub fn next_link(&self) -> Option<LinkIn>
-        ensures { result ≡ next_link (lane_port 0 self.now) }
-    {
-        self.bank.next_link()
     }
 
     /// Begins a turn.

@@ -1,6 +1,5 @@
 pub mod Banks
 pub mod code
 pub mod Flat
-pub mod Links
 pub mod Places
 pub mod Reads

@@ -6,12 +6,11 @@ ghost use Rattle.net_defs.specs.Valid.{IsValidStimulus};
 ghost use Rattle.image_defs.specs.WellFormed.{IsWellFormed};
 ghost use Rattle.image_defs.specs.Ports.{at_first, after_begin, after_execute, after_receive, after_end, value_in, CanBegin, CanExecute, CanReceive, CanEnd};
 ghost use Rattle.port_bank.specs.Flat.{place_count, IsWithin};
-ghost use Rattle.port_bank.specs.Links.{next_link};
 ghost use Rattle.port_bank.specs.Reads.{IsRead, IsHeld, IsTaken};
 
 use crate::places::Places;
 use crate::steps::{Operand, got_place, operand_of};
-use image_defs::{Image, LinkIn, Source};
+use image_defs::{Image, Source};
 use logic_four::V4;
 use net_defs::{Stimulus, initial_value, is_edge};
 use seen_list::Memory;
@@ -77,20 +76,6 @@ impl<'a> Bank<'a> {
         ensures { result ≡ self.now.executed }
     {
         self.executed
-    }
-
-    /// What the port receives next in this turn, and `None` where it has received all.
-    #[inline]
-    pub fn next_link(&self) -> Option<LinkIn>
-        ensures { result ≡ next_link self.now }
-    {
-        match self.image.ports.get(self.port as usize) {
-            Some(seat) => match seat.ins.get(self.received) {
-                Some(link) => Some(*link),
-                None => None,
-            },
-            None => None,
-        }
     }
 
     /// Whether registers and memories take new values in this turn.

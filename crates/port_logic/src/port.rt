@@ -2,17 +2,15 @@
 
 ghost use Rattle.std.specs.Prelude.{◌≡◌, ◌<◌, length, IfOk};
 ghost use Rattle.net_defs.specs.Valid.{IsValidStimulus};
-ghost use Rattle.image_defs.specs.Places.{task_slot};
 ghost use Rattle.image_defs.specs.WellFormed.{IsWellFormed, IsPortOf, IsLogic};
-ghost use Rattle.image_defs.specs.Ports.{at_first, after_begin, after_execute, after_receive, after_end, value_in, next_item, CanBegin, CanExecute, CanReceive, CanEnd};
-ghost use Rattle.port_bank.specs.Links.{next_link};
+ghost use Rattle.image_defs.specs.Ports.{at_first, after_begin, after_execute, after_receive, after_end, value_in, CanBegin, CanExecute, CanReceive, CanEnd};
 ghost use Rattle.port_bank.specs.Flat.{place_count};
 ghost use Rattle.port_logic.specs.code.Ops.{FitsOp};
 ghost use Rattle.port_logic.specs.code.Tasks.{IsAnswer};
 
 use crate::op::{Op, ops_of};
 use func_table::Table;
-use image_defs::{Image, LinkIn, Task, Work};
+use image_defs::{Image, Task, Work};
 use logic_four::{V4, code, packed, settle};
 use net_defs::Stimulus;
 use port_bank::Bank;
@@ -40,14 +38,6 @@ impl<'a> Model for LogicPort<'a> {
     ghost view = { λ a. a.bank };
 
     ghost invariant = { IsReady };
-}
-
-fn slot_of(task: &Task) -> u32
-    ensures { result ≡ task_slot task.now }
-{
-    match task {
-        Task::Eval { slot, .. } | Task::Hold { slot, .. } => *slot,
-    }
 }
 
 /// The value of the item in a slot whose task is laid flat so.
@@ -105,23 +95,6 @@ impl<'a> LogicPort<'a> {
             Work::Array { .. } => unreachable!(),
             Work::Host { .. } => unreachable!(),
         }
-    }
-
-    /// The slot of the next item of this turn, and `None` where all are executed.
-    pub fn next_slot(&self) -> Option<u32>
-        ensures { result ≡ next_item self.now }
-    {
-        match self.tasks.get(self.bank.executed()) {
-            Some(task) => Some(slot_of(task)),
-            None => None,
-        }
-    }
-
-    /// What the port receives next in this turn, and `None` where it has received all.
-    pub fn next_link(&self) -> Option<LinkIn>
-        ensures { result ≡ next_link self.now }
-    {
-        self.bank.next_link()
     }
 
     /// Begins a turn.
