@@ -16,13 +16,13 @@ use Rattle.image_defs.specs.Places.{IsPort}
 use Rattle.image_defs.specs.WellFormed.{IsWellFormed}
 use Rattle.image_defs.specs.Frames.{frame}
 use Rattle.image_defs.specs.Ports as port_views
-use Rattle.image_defs.specs.Ports.{PortView, CanExecute, value_in}
+use Rattle.image_defs.specs.Ports.{at_first, after_begin, after_execute, after_receive, after_end, PortView, CanExecute, value_in}
 use Rattle.port_bank.specs.Reads.{IsHeld}
 use Rattle.port_array.specs.code.Acts.{answered_bit, FitsBit}
 use Rattle.port_array.specs.declared.port.ArrayPort.TheInside as one
 use Rattle.port_array.specs.Kept as one_kept
 use Rattle.port_array.proofs.KeptLemmas as plain
-use Rattle.pack_bank.specs.Views.{PackPortView, lane_port, at_first, after_begin, after_execute, after_receive, after_end, InEachLane}
+use Rattle.pack_bank.specs.Views.{PackPortView, lane_port, InEachLane}
 use Rattle.pack_array.specs.declared.memory.PackMemory.{PackMemory}
 use Rattle.pack_array.specs.declared.port.PackArray.TheInside.{Inside}
 use Rattle.pack_array.specs.Acts.{lane_memories, AreWhole}

@@ -5,8 +5,8 @@ ghost use Rattle.limits.specs.declared.TheConstants.{LANES};
 ghost use Rattle.lane_planes.specs.Lanes.{lane_of};
 ghost use Rattle.stim_text.specs.Lanes.{AreLanes};
 ghost use Rattle.image_defs.specs.WellFormed.{IsWellFormed, IsPortOf, IsArray};
-ghost use Rattle.image_defs.specs.Ports.{value_in, CanBegin, CanExecute, CanReceive, CanEnd};
-ghost use Rattle.pack_bank.specs.Views.{lane_port, at_first, after_begin, after_execute, after_receive, after_end, InEachLane};
+ghost use Rattle.image_defs.specs.Ports.{at_first, after_begin, after_execute, after_receive, after_end, value_in, CanBegin, CanExecute, CanReceive, CanEnd};
+ghost use Rattle.pack_bank.specs.Views.{lane_port, InEachLane};
 
 use crate::memory::{PackMemory, answered, begin_memories, make_memories};
 use image_defs::{BlockWork, Image, OutBit, Work};

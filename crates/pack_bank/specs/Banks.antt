@@ -12,7 +12,7 @@ use Rattle.pack_bank.specs.declared.bank.PackBank.TheInside.{Inside}
 
 -- what contracts see of a packed bank
 abbrev pub view_of : Inside → PackPortView
-view_of a = record { image = a.image.now; lanes = a.lanes.now; port = a.port; turn = a.turn; begun = a.begun; executed = a.executed; received = a.received }
+view_of a = record { image = a.image.now; stimulus = a.lanes.now; port = a.port; turn = a.turn; begun = a.begun; executed = a.executed; received = a.received }
 
 -- the plain bank of a lane
 abbrev pub lane_bank : ℕ → Inside → plain.Inside

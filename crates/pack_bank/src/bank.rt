@@ -6,10 +6,10 @@ ghost use Rattle.net_defs.specs.Time.{is_edge};
 ghost use Rattle.lane_planes.specs.Lanes.{lane_of};
 ghost use Rattle.stim_text.specs.Lanes.{AreLanes};
 ghost use Rattle.image_defs.specs.WellFormed.{IsWellFormed};
-ghost use Rattle.image_defs.specs.Ports.{value_in, CanBegin, CanExecute, CanReceive, CanEnd};
+ghost use Rattle.image_defs.specs.Ports.{at_first, after_begin, after_execute, after_receive, after_end, value_in, CanBegin, CanExecute, CanReceive, CanEnd};
 ghost use Rattle.port_bank.specs.Flat.{place_count, IsWithin};
 ghost use Rattle.port_bank.specs.Reads.{IsRead, IsHeld, IsTaken};
-ghost use Rattle.pack_bank.specs.Views.{lane_port, at_first, after_begin, after_execute, after_receive, after_end, InEachLane};
+ghost use Rattle.pack_bank.specs.Views.{lane_port, InEachLane};
 
 use crate::places::Places;
 use image_defs::{Image, Source};

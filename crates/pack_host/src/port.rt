@@ -5,11 +5,11 @@ ghost use Rattle.limits.specs.declared.TheConstants.{LANES, MAX_CYCLES};
 ghost use Rattle.image_defs.specs.Places.{host_of};
 ghost use Rattle.image_defs.specs.WellFormed.{IsWellFormed};
 ghost use Rattle.image_defs.specs.Frames.{shown};
-ghost use Rattle.image_defs.specs.Ports.{value_in, CanBegin, CanExecute, CanReceive, CanEnd};
+ghost use Rattle.image_defs.specs.Ports.{at_first, after_begin, after_execute, after_receive, after_end, value_in, CanBegin, CanExecute, CanReceive, CanEnd};
 ghost use Rattle.lane_planes.specs.Lanes.{lane_of};
 ghost use Rattle.stim_text.specs.Lanes.{lane_stimulus, AreLanes};
 ghost use Rattle.port_host.specs.Rows.{printed_sources};
-ghost use Rattle.pack_bank.specs.Views.{lane_port, at_first, after_begin, after_execute, after_receive, after_end, InEachLane};
+ghost use Rattle.pack_bank.specs.Views.{lane_port, InEachLane};
 ghost use Rattle.pack_host.specs.Turns.{cycles_done};
 ghost use Rattle.pack_host.specs.code.Turns.{turn_at};
 
@@ -153,7 +153,7 @@ impl<'a> PackHost<'a> {
         requires done { cycle ≤ cycles_done self.now }
         requires column { column < length (printed_sources self.now.image) }
         ensures { result ≡ shown self.now.image
-            (lane_stimulus self.now.image.columns self.now.lanes lane) cycle column }
+            (lane_stimulus self.now.image.columns self.now.stimulus lane) cycle column }
     {
         let start = row_start(cycle - 1, self.printed.len(), self.cells.len());
         cell(self.cells.as_slice(), start, column, lane)

@@ -14,7 +14,7 @@ use Rattle.image_defs.specs.declared.image.Image.{Image}
 use Rattle.image_defs.specs.Places.{task_slot, IsPort}
 use Rattle.image_defs.specs.WellFormed.{IsWellFormed, IsTask}
 use Rattle.image_defs.specs.Steps.{task_value, item_value, value_of_member}
-use Rattle.image_defs.specs.Ports.{CanExecute, value_in}
+use Rattle.image_defs.specs.Ports.{at_first, CanExecute, value_in}
 use Rattle.port_bank.specs.Flat.{place_count}
 use Rattle.port_bank.specs.Reads.{now_in, past_in}
 use Rattle.port_bank.proofs.BankLemmas.{slot_low}
@@ -23,7 +23,7 @@ use Rattle.port_logic.specs.declared.port.LogicPort.TheInside as plain
 use Rattle.port_logic.specs.Ops as plain_ops
 use Rattle.port_logic.specs.Tasks as plain_tasks
 use Rattle.port_logic.proofs.TaskLemmas as plain_lemmas
-use Rattle.pack_bank.specs.Views.{lane_port, at_first, InEachLane}
+use Rattle.pack_bank.specs.Views.{lane_port, InEachLane}
 use Rattle.pack_logic.specs.declared.port.PackLogic.TheInside.{Inside}
 use Rattle.pack_logic.specs.declared.op.Op.{Op}
 use Rattle.pack_logic.specs.Ops.{op_of, AreForms}

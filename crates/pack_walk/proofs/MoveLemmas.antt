@@ -127,11 +127,11 @@ module _ (a : Inside) (kept : IsKept a) (stop : Stop) (at : slice_get a.stops a.
 
 -- it may enter the turn in each lane
 pub can_enter : (image : Image) (p : ℕ) (seat : PortImage) → IsPortImage image p seat → IsPort image p seat → (slots : List ℕ) (stops : List Stop) → slots ≡ item_slots seat.work → AreStops (out_slots seat.outs) (in_slots seat.ins) image.slots slots stops
-    → (view : PackPortView) (items : List ℕ) (first : Stop) (runs : Bool) → view.image ≡ image → view.port ≡ p → view.begun ≡ false → view.executed ≡ 0 → (runs ≡ true → view.turn ≤ view.image.units * longest view.lanes)
+    → (view : PackPortView) (items : List ℕ) (first : Stop) (runs : Bool) → view.image ≡ image → view.port ≡ p → view.begun ≡ false → view.executed ≡ 0 → (runs ≡ true → view.turn ≤ view.image.units * longest view.stimulus)
     → items ≡ slots → slice_get stops 0 ≡ Some first → InEachLane (λ v. CanEnter v items first.items runs) view
 can_enter image p seat good is slots stops slots_are stops_are view items first runs image_is port_is fresh none more same at l low =
     plain.can_enter image p seat good is slots stops slots_are stops_are (lane_port l view) items first runs image_is port_is fresh none
-    (λ runs. subst (λ n. view.turn ≤ n) (sym (lane_turns view.image.columns view.lanes l (timing_of view.image))) (more runs)) same at
+    (λ runs. subst (λ n. view.turn ≤ n) (sym (lane_turns view.image.columns view.stimulus l (timing_of view.image))) (more runs)) same at
 
 -- what it keeps where it has entered a turn
 pub record IsFresh (b : Inside) : Type 0 where

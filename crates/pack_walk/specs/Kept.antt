@@ -24,7 +24,7 @@ view_of a = record {
 -- the packed port within, which has executed so many items: it is in the same turn, which has begun if it is one
 -- that the port executes
 abbrev pub inner : Inside → ℕ → PackPortView
-inner a executed = record { image = a.image.now; lanes = a.lanes.now; port = a.port; turn = a.turn; begun = nat_le a.turn a.until; executed = executed; received = a.took }
+inner a executed = record { image = a.image.now; stimulus = a.lanes.now; port = a.port; turn = a.turn; begun = nat_le a.turn a.until; executed = executed; received = a.took }
 
 pub record IsKept (a : Inside) : Type 0 where
   pub image : IsWellFormed a.image.now

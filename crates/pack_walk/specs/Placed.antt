@@ -125,6 +125,6 @@ in_next_turn view = record view { turn = view.turn + 1; puts = []; takes = [] }
 pub record IsHostIn (view : PlacedPack) (host : PackPortView) : Type 0 where
   pub is_host : view.port ≡ host_of view.image
   pub image : host.image ≡ view.image
-  pub lanes : host.lanes ≡ view.lanes
+  pub lanes : host.stimulus ≡ view.lanes
   pub port : host.port ≡ view.port
   pub turn : host.turn ≡ view.turn

@@ -5,9 +5,9 @@ ghost use Rattle.limits.specs.declared.TheConstants.{LANES};
 ghost use Rattle.lane_planes.specs.Lanes.{lane_of};
 ghost use Rattle.stim_text.specs.Lanes.{AreLanes};
 ghost use Rattle.image_defs.specs.WellFormed.{IsWellFormed};
-ghost use Rattle.image_defs.specs.Ports.{CanBegin, CanReceive, CanEnd};
+ghost use Rattle.image_defs.specs.Ports.{after_begin, after_receive, after_end, CanBegin, CanReceive, CanEnd};
 ghost use Rattle.port_walk.specs.code.Kinds.{CanRun, CanEnter};
-ghost use Rattle.pack_bank.specs.Views.{lane_port, after_begin, after_receive, after_end, InEachLane};
+ghost use Rattle.pack_bank.specs.Views.{lane_port, InEachLane};
 ghost use Rattle.pack_walk.specs.Kinds.{view_in, is_host, AreLastValues};
 ghost use Rattle.pack_walk.specs.code.Kinds.{IsFirst, HasRun, HasEntered};
 
