@@ -1,5 +1,5 @@
 -- A packed array processor keeps in each lane what a plain one keeps.
-use Rattle.std.proofs.Common.{◌≡◌, ◌∙◌, ℕ, ◌-◌, ◌<◌, true, false, if◌then◌else◌, List, length, map, get_or, slice_get, sym, ap, subst, refl, arith}
+use Rattle.std.proofs.Common.{◌≡◌, ◌∙◌, ℕ, ◌-◌, ◌<◌, true, false, if◌then◌else◌, List, length, get_or, sym, ap, subst, arith}
 use Rattle.std.proofs.Math.Nat.{add-sub_cancel}
 use Rattle.std.proofs.lemmas.Option.{slice_get_within}
 use Rattle.limits.specs.declared.TheConstants.{LANES}
@@ -22,7 +22,7 @@ use Rattle.port_array.specs.code.Acts.{answered_bit, FitsBit}
 use Rattle.port_array.specs.declared.port.ArrayPort.TheInside as one
 use Rattle.port_array.specs.Kept as one_kept
 use Rattle.port_array.proofs.KeptLemmas as plain
-use Rattle.pack_bank.specs.Views.{PackPortView, lane_port, InEachLane}
+use Rattle.port_bank.specs.Packed.{PackPortView, lane_port, InEachLane}
 use Rattle.pack_array.specs.declared.memory.PackMemory.{PackMemory}
 use Rattle.pack_array.specs.declared.port.PackArray.TheInside.{Inside}
 use Rattle.pack_array.specs.Acts.{lane_memories, AreWhole}

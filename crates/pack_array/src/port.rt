@@ -6,13 +6,13 @@ ghost use Rattle.lane_planes.specs.Lanes.{lane_of};
 ghost use Rattle.stim_text.specs.Lanes.{AreLanes};
 ghost use Rattle.image_defs.specs.WellFormed.{IsWellFormed, IsPortOf, IsArray};
 ghost use Rattle.image_defs.specs.Ports.{at_first, after_begin, after_execute, after_receive, after_end, value_in, CanBegin, CanExecute, CanReceive, CanEnd};
-ghost use Rattle.pack_bank.specs.Views.{lane_port, InEachLane};
+ghost use Rattle.port_bank.specs.Packed.{lane_port, InEachLane};
 
 use crate::memory::{PackMemory, answered, begin_memories, make_memories};
 use image_defs::{BlockWork, Image, OutBit, Work};
 use lane_planes::Planes;
 use net_defs::initial_value;
-use pack_bank::PackBank;
+use port_bank::Bank;
 use seen_list::{List, Memory};
 use std::alloc::Global;
 use std::marker::Model;
@@ -22,14 +22,14 @@ use stim_text::Lanes;
 /// come.
 #[derive(Drop)]
 pub struct PackArray<'a> {
-    bank: PackBank<'a>,
+    bank: Bank<'a, Planes>,
     blocks: &'a [BlockWork],
     bits: &'a [OutBit],
     memories: List<PackMemory>,
 }
 
 impl<'a> Model for PackArray<'a> {
-    ghost use Rattle.pack_bank.specs.Views.{PackPortView};
+    ghost use Rattle.port_bank.specs.Packed.{PackPortView};
 
     ghost Value = { PackPortView };
 
@@ -59,7 +59,7 @@ impl<'a> PackArray<'a> {
             Work::Logic { .. } => unreachable!(),
             Work::Array { blocks, outs } => {
                 let memories = make_memories(alloc, blocks.as_slice(), initial_value(image.init))?;
-                let bank = PackBank::new(alloc, image, lanes, port)?;
+                let bank = Bank::new(alloc, image, lanes, port)?;
                 Ok(PackArray {
                     bank,
                     blocks: blocks.as_slice(),

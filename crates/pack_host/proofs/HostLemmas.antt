@@ -26,7 +26,7 @@ use Rattle.port_host.specs.declared.port.HostPort.TheInside as plain
 use Rattle.port_host.specs.Kept as plain_host
 use Rattle.port_host.specs.Rows.{printed_sources, row_start, HasRoom, IsAt, IsOn}
 use Rattle.port_host.proofs.HostLemmas as host
-use Rattle.pack_bank.specs.Views.{PackPortView, lane_port, InEachLane}
+use Rattle.port_bank.specs.Packed.{PackPortView, lane_port, InEachLane}
 use Rattle.pack_host.specs.Cells.{in_lane}
 use Rattle.pack_host.specs.code.Cells.{HasPrintedAll}
 use Rattle.pack_host.specs.code.Feeds.{FeedView, IsFed}

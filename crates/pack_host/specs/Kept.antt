@@ -6,7 +6,7 @@ use Rattle.stim_text.specs.Lanes.{lane_stimulus, longest, AreLanes}
 use Rattle.port_host.specs.declared.cursor.RowCursor.{RowCursor}
 use Rattle.port_host.specs.declared.port.HostPort.TheInside as plain
 use Rattle.port_host.specs.Kept as plain_host
-use Rattle.pack_bank.specs.Views.{PackPortView, lane_port}
+use Rattle.port_bank.specs.Packed.{PackPortView, lane_port}
 use Rattle.pack_host.specs.Cells.{in_lane}
 use Rattle.pack_host.specs.declared.port.PackHost.TheInside.{Inside}
 

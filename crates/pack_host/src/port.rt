@@ -9,7 +9,7 @@ ghost use Rattle.image_defs.specs.Ports.{at_first, after_begin, after_execute, a
 ghost use Rattle.lane_planes.specs.Lanes.{lane_of};
 ghost use Rattle.stim_text.specs.Lanes.{lane_stimulus, AreLanes};
 ghost use Rattle.port_host.specs.Rows.{printed_sources};
-ghost use Rattle.pack_bank.specs.Views.{lane_port, InEachLane};
+ghost use Rattle.port_bank.specs.Packed.{lane_port, InEachLane};
 ghost use Rattle.pack_host.specs.Turns.{cycles_done};
 ghost use Rattle.pack_host.specs.code.Turns.{turn_at};
 
@@ -18,7 +18,7 @@ use crate::feed::Feed;
 use image_defs::{Image, InColumn, Source, Work};
 use lane_planes::Planes;
 use logic_four::V4;
-use pack_bank::PackBank;
+use port_bank::Bank;
 use seen_list::{List, Memory};
 use std::alloc::Global;
 use std::marker::Model;
@@ -28,7 +28,7 @@ use stim_text::Lanes;
 /// and lanes it runs, and how far it has come.
 #[derive(Drop)]
 pub struct PackHost<'a> {
-    bank: PackBank<'a>,
+    bank: Bank<'a, Planes>,
     feed: Feed<'a>,
     units: u32,
     unit: u32,
@@ -38,7 +38,7 @@ pub struct PackHost<'a> {
 }
 
 impl<'a> Model for PackHost<'a> {
-    ghost use Rattle.pack_bank.specs.Views.{PackPortView};
+    ghost use Rattle.port_bank.specs.Packed.{PackPortView};
 
     ghost Value = { PackPortView };
 
@@ -84,7 +84,7 @@ impl<'a> PackHost<'a> {
             Work::Host { inputs, printed } => {
                 let cells = room(alloc, lanes.cycles(), printed.len())?;
                 let feed = Feed::new(alloc, lanes, image.columns)?;
-                let bank = PackBank::new(alloc, image, lanes, port as u32)?;
+                let bank = Bank::new(alloc, image, lanes, port as u32)?;
                 Ok(PackHost {
                     bank,
                     feed,

@@ -22,7 +22,7 @@ use Rattle.port_walk.specs.Stops.{AreStops, counts}
 use Rattle.port_walk.proofs.BlockLemmas.{le_late}
 use Rattle.port_walk.proofs.MoveLemmas as plain
 use Rattle.port_walk.proofs.WalkLemmas.{IsAfter, IsReceiptHere, IsSendHere, all_done, can_run_on, ends_at, puts_more, receives_at, sends_at, takes_more}
-use Rattle.pack_bank.specs.Views.{PackPortView, lane_port, InEachLane}
+use Rattle.port_bank.specs.Packed.{PackPortView, lane_port, InEachLane}
 use Rattle.pack_walk.specs.declared.placed.PackPlaced.TheInside.{Inside}
 use Rattle.pack_walk.specs.declared.kind.Kind.{Kind}
 use Rattle.pack_walk.specs.Kept.{view_of, inner, IsKept}

@@ -6,7 +6,7 @@ use Rattle.image_defs.specs.WellFormed.{IsWellFormed}
 use Rattle.port_walk.specs.declared.stops.Stop.{Stop}
 use Rattle.port_walk.specs.Rows.{AreReaders}
 use Rattle.port_walk.specs.Stops.{counts, AreStops}
-use Rattle.pack_bank.specs.Views.{PackPortView}
+use Rattle.port_bank.specs.Packed.{PackPortView}
 use Rattle.pack_walk.specs.declared.placed.PackPlaced.TheInside.{Inside}
 use Rattle.pack_walk.specs.Kinds.{view_in, FitsKind, AreLastValues}
 use Rattle.pack_walk.specs.Placed.{PlacedPack}

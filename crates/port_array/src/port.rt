@@ -18,7 +18,7 @@ use std::marker::Model;
 /// has come.
 #[derive(Drop)]
 pub struct ArrayPort<'a> {
-    bank: Bank<'a>,
+    bank: Bank<'a, V4>,
     blocks: &'a [BlockWork],
     bits: &'a [OutBit],
     memories: List<MemoryState>,

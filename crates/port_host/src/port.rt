@@ -23,7 +23,7 @@ use std::marker::Model;
 /// it has given up.
 #[derive(Drop)]
 pub struct HostPort<'a> {
-    bank: Bank<'a>,
+    bank: Bank<'a, V4>,
     stim: &'a Stimulus,
     units: u32,
     inputs: &'a [InColumn],

@@ -2,7 +2,7 @@ use Rattle.std.proofs.Common.{◌≡◌, ◌↔◌, ◌∙◌, ◌+◌, ◌*◌,
 use Rattle.std.proofs.lemmas.Bool.{leb-true}
 use Rattle.stim_text.specs.Lanes.{longest}
 use Rattle.image_defs.specs.Places.{item_slots}
-use Rattle.pack_bank.specs.Views.{PackPortView}
+use Rattle.port_bank.specs.Packed.{PackPortView}
 use Rattle.pack_walk.specs.Kinds.{view_in}
 use Rattle.port_walk.proofs.KindLemmas.{seat_there}
 use Rattle.pack_walk.proofs.MoveLemmas.{can_enter, kept_fresh}

@@ -5,7 +5,7 @@ use Rattle.limits.specs.declared.TheConstants.{MAX_CYCLES, MAX_UNITS}
 use Rattle.stim_text.specs.Lanes.{longest}
 use Rattle.stim_text.proofs.LaneLemmas.{longest_few}
 use Rattle.image_defs.specs.Ports.{after_end}
-use Rattle.pack_bank.specs.Views.{PackPortView}
+use Rattle.port_bank.specs.Packed.{PackPortView}
 use Rattle.pack_walk.specs.Kinds.{view_in}
 use Rattle.pack_walk.specs.Kept.{view_of, inner}
 use Rattle.pack_walk.specs.Placed.{IsEnding}
