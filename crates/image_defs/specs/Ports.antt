@@ -1,6 +1,6 @@
 -- How far a port has come, as contracts see it: whose image and stimulus it runs, its turn, and what it
 -- has executed and received in it. Nothing here says what a port keeps.
-use Rattle.std.specs.Prelude.{◌≡◌, ℕ, ◌+◌, ◌<◌, ◌≤◌, Bool, true, false, length, Option, Some, None, slice_get}
+use Rattle.std.specs.Prelude.{◌≡◌, ℕ, ◌+◌, ◌<◌, ◌≤◌, Bool, true, false, length, Some, slice_get}
 use Rattle.logic_four.specs.declared.V4.{V4}
 use Rattle.net_defs.specs.declared.stimulus.Stimulus.{Stimulus}
 use Rattle.net_defs.specs.Time.{turn_count}
@@ -12,31 +12,47 @@ use Rattle.image_defs.specs.Steps.{timing_of}
 use Rattle.image_defs.specs.Frames.{image_value}
 
 -- a port in its turn, counted from 1: whether the turn has begun, how many of the port's items it has
--- executed in it, and how many values it has received in it, both in slot order
-pub record PortView : Type 0 where
+-- executed in it, and how many values it has received in it, both in slot order. A plain port runs one stimulus,
+-- and a packed one a stimulus in each of its lanes.
+pub record View (S : Type 0) : Type 0 where
   pub image : Image
-  pub stimulus : Stimulus
+  pub stimulus : S
   pub port : ℕ
   pub turn : ℕ
   pub begun : Bool
   pub executed : ℕ
   pub received : ℕ
 
+abbrev pub PortView : Type 0
+PortView = View Stimulus
+
+-- the plain port of a lane, counted from 0, where this is the stimulus of each lane, by the number of columns
+abbrev pub lane_port : {S : Type 0} → (ℕ → S → ℕ → Stimulus) → ℕ → View S → PortView
+lane_port stimulus l view = record {
+  image = view.image;
+  stimulus = stimulus view.image.columns view.stimulus l;
+  port = view.port;
+  turn = view.turn;
+  begun = view.begun;
+  executed = view.executed;
+  received = view.received;
+}
+
 -- a port before its first turn
-abbrev pub at_first : Image → Stimulus → ℕ → PortView
+abbrev pub at_first : {S : Type 0} → Image → S → ℕ → View S
 at_first image stimulus port = record { image = image; stimulus = stimulus; port = port; turn = 1; begun = false; executed = 0; received = 0 }
 
 -- the port after it has begun its turn, executed an item, received a value, ended its turn
-abbrev pub after_begin : PortView → PortView
+abbrev pub after_begin : {S : Type 0} → View S → View S
 after_begin view = record view { begun = true }
 
-abbrev pub after_execute : PortView → PortView
+abbrev pub after_execute : {S : Type 0} → View S → View S
 after_execute view = record view { executed = view.executed + 1 }
 
-abbrev pub after_receive : PortView → PortView
+abbrev pub after_receive : {S : Type 0} → View S → View S
 after_receive view = record view { received = view.received + 1 }
 
-abbrev pub after_end : PortView → PortView
+abbrev pub after_end : {S : Type 0} → View S → View S
 after_end view = record view { turn = view.turn + 1; begun = false; executed = 0; received = 0 }
 
 -- the number of turns that the port runs
@@ -79,10 +95,3 @@ pub record CanEnd (view : PortView) : Type 0 where
   pub is : IsPort view.image view.port port
   pub executed_all : view.executed ≡ length (item_slots port.work)
   pub received_all : view.received ≡ length port.ins
-
--- the slot of the next item that the port executes in its turn, and none where it has executed all
-abbrev pub next_item : PortView → Option ℕ
-next_item view = of_port (slice_get view.image.ports view.port) where
-  of_port : Option PortImage → Option ℕ
-  of_port None = None
-  of_port (Some port) = slice_get (item_slots port.work) view.executed

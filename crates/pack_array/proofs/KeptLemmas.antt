@@ -1,5 +1,5 @@
 -- A packed array processor keeps in each lane what a plain one keeps.
-use Rattle.std.proofs.Common.{◌≡◌, ◌∙◌, ℕ, ◌-◌, ◌<◌, true, false, if◌then◌else◌, List, length, map, get_or, slice_get, sym, ap, subst, refl, arith}
+use Rattle.std.proofs.Common.{◌≡◌, ◌∙◌, ℕ, ◌-◌, ◌<◌, true, false, if◌then◌else◌, List, length, get_or, sym, ap, subst, arith}
 use Rattle.std.proofs.Math.Nat.{add-sub_cancel}
 use Rattle.std.proofs.lemmas.Option.{slice_get_within}
 use Rattle.limits.specs.declared.TheConstants.{LANES}
@@ -16,13 +16,13 @@ use Rattle.image_defs.specs.Places.{IsPort}
 use Rattle.image_defs.specs.WellFormed.{IsWellFormed}
 use Rattle.image_defs.specs.Frames.{frame}
 use Rattle.image_defs.specs.Ports as port_views
-use Rattle.image_defs.specs.Ports.{PortView, CanExecute, value_in, next_item}
+use Rattle.image_defs.specs.Ports.{at_first, after_begin, after_execute, after_receive, after_end, PortView, CanExecute, value_in}
 use Rattle.port_bank.specs.Reads.{IsHeld}
 use Rattle.port_array.specs.code.Acts.{answered_bit, FitsBit}
 use Rattle.port_array.specs.declared.port.ArrayPort.TheInside as one
 use Rattle.port_array.specs.Kept as one_kept
 use Rattle.port_array.proofs.KeptLemmas as plain
-use Rattle.pack_bank.specs.Views.{PackPortView, lane_port, at_first, after_begin, after_execute, after_receive, after_end, InEachLane}
+use Rattle.port_bank.specs.Packed.{PackPortView, lane_port, InEachLane}
 use Rattle.pack_array.specs.declared.memory.PackMemory.{PackMemory}
 use Rattle.pack_array.specs.declared.port.PackArray.TheInside.{Inside}
 use Rattle.pack_array.specs.Acts.{lane_memories, AreWhole}
@@ -138,8 +138,3 @@ ready_ended a bank ready begun same = record {
   whole = ready.whole;
   each = λ l low. ended_one (lane_array l a) (lane_port l bank) (ready.each l low) begun (ap (lane_port l) same);
 }
-
--- ---- what is next
-
-pub next_is : (a : Inside) → IsReady a → next_item (lane_port 0 a.bank) ≡ slice_get (map (λ bit. bit.slot) a.bits.now) a.bank.executed
-next_is a ready = rw (ready.is, ready.work) refl

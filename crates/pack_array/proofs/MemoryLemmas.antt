@@ -18,8 +18,8 @@ use Rattle.port_array.specs.Acts as plain
 use Rattle.port_array.specs.code.Acts as plain_code
 use Rattle.port_array.specs.code.Acts.{act_at, Acted, AreActed}
 use Rattle.port_array.proofs.MemoryLemmas.{set_place, acted_more}
-use Rattle.pack_bank.specs.Places.{lane_values}
-use Rattle.pack_bank.specs.Views.{PackPortView, lane_port}
+use Rattle.lane_planes.specs.Lanes.{lane_row}
+use Rattle.port_bank.specs.Packed.{PackPortView, lane_port}
 use Rattle.pack_array.specs.declared.memory.PackMemory.{PackMemory}
 use Rattle.pack_array.specs.Acts.{lane_memory, lane_memories, IsWhole, AreWhole}
 use Rattle.pack_array.specs.code.Acts.{IsFirst, Stays, HasActed, AreFirst, HaveActed}
@@ -27,7 +27,7 @@ use Rattle.pack_array.specs.code.Acts.{IsFirst, Stays, HasActed, AreFirst, HaveA
 -- ---- one memory
 
 -- as long in each lane as the planes
-pub lane_long : (l : ℕ) (memory : PackMemory) → length (lane_values l memory.outs) ≡ length memory.outs
+pub lane_long : (l : ℕ) (memory : PackMemory) → length (lane_row l memory.outs) ≡ length memory.outs
 lane_long l memory = length-map memory.outs (λ p. lane_of p l)
 
 -- a memory before the first edge

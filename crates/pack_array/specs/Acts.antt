@@ -5,7 +5,7 @@ use Rattle.limits.specs.declared.TheConstants.{LANES}
 use Rattle.image_defs.specs.declared.image.BlockWork.{BlockWork}
 use Rattle.port_array.specs.declared.memory.MemoryState.{MemoryState}
 use Rattle.port_array.specs.Acts.{FitsMemory}
-use Rattle.pack_bank.specs.Places.{lane_values}
+use Rattle.lane_planes.specs.Lanes.{lane_row}
 use Rattle.pack_array.specs.declared.memory.PackMemory.{PackMemory}
 
 -- the plain memory of a lane
@@ -14,7 +14,7 @@ lane_memory l memory = record {
   cells = slice_index_or memory.cells l [];
   address = memory.address;
   word = memory.word;
-  outs = lane_values l memory.outs;
+  outs = lane_row l memory.outs;
 }
 
 -- the plain memories of a lane

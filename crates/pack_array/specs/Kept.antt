@@ -6,7 +6,7 @@ use Rattle.image_defs.specs.declared.image.Work.TheVariants.{Array}
 use Rattle.image_defs.specs.Places.{IsPort}
 use Rattle.port_array.specs.declared.port.ArrayPort.TheInside as plain
 use Rattle.port_array.specs.Kept as plain_kept
-use Rattle.pack_bank.specs.Views.{lane_port}
+use Rattle.port_bank.specs.Packed.{lane_port}
 use Rattle.pack_array.specs.Acts.{lane_memories, AreWhole}
 use Rattle.pack_array.specs.declared.port.PackArray.TheInside.{Inside}
 

@@ -7,8 +7,8 @@ ghost use Rattle.net_defs.specs.Time.{is_edge};
 ghost use Rattle.lane_planes.specs.Lanes.{lane_of};
 ghost use Rattle.image_defs.specs.Places.{Each};
 ghost use Rattle.port_array.specs.code.Acts.{past_of, answered_bit, FitsBit, IsPastAt, ReadsPast, HasFewBits, Acted};
-ghost use Rattle.pack_bank.specs.Places.{lane_values};
-ghost use Rattle.pack_bank.specs.Views.{lane_port};
+ghost use Rattle.lane_planes.specs.Lanes.{lane_row};
+ghost use Rattle.port_bank.specs.Packed.{lane_port};
 ghost use Rattle.pack_array.specs.Acts.{lane_memory, lane_memories, IsWhole, AreWhole};
 ghost use Rattle.pack_array.specs.code.Acts.{IsFirst, Stays, HasActed, ReadPast, AreFirst, HaveActed};
 
@@ -17,7 +17,7 @@ use image_defs::{BlockWork, OutBit, Source};
 use lane_planes::{Planes, in_all_lanes, lane, with_lane};
 use limits::LANES;
 use logic_four::V4;
-use pack_bank::PackBank;
+use port_bank::Bank;
 use seen_list::{List, Memory};
 use std::alloc::Global;
 
@@ -78,7 +78,7 @@ pub(crate) fn make_memories(
 }
 
 /// What a source had in a lane in the last turn.
-fn take_past(bank: &PackBank<'_>, source: Source, k: u32) -> V4
+fn take_past(bank: &Bank<'_, Planes>, source: Source, k: u32) -> V4
     requires lane { k < LANES }
     requires past { IsPastAt (lane_port k bank.now) source }
     ensures { result ≡ past_of (lane_port k bank.now) source }
@@ -87,7 +87,7 @@ fn take_past(bank: &PackBank<'_>, source: Source, k: u32) -> V4
 }
 
 /// Takes what the sources had in a lane in the last turn.
-fn fill(room: &mut List<V4>, sources: &[Source], bank: &PackBank<'_>, k: u32)
+fn fill(room: &mut List<V4>, sources: &[Source], bank: &Bank<'_, Planes>, k: u32)
     requires lane { k < LANES }
     requires long { length room.old ≡ length sources.now }
     requires past { Each (IsPastAt (lane_port k bank.now)) sources.now }
@@ -102,8 +102,8 @@ fn fill(room: &mut List<V4>, sources: &[Source], bank: &PackBank<'_>, k: u32)
 fn put_value(planes: &mut List<Planes>, i: usize, k: u32, v: V4)
     requires lane { k < LANES }
     requires within { i < length planes.old }
-    ensures here { lane_values k planes.new ≡ set (lane_values k planes.old) i v }
-    ensures others { (l : ℕ) → l < LANES → l ≢ k → lane_values l planes.new ≡ lane_values l planes.old }
+    ensures here { lane_row k planes.new ≡ set (lane_row k planes.old) i v }
+    ensures others { (l : ℕ) → l < LANES → l ≢ k → lane_row l planes.new ≡ lane_row l planes.old }
     ensures long { length planes.new ≡ length planes.old }
 {
     let changed = with_lane(planes.as_slice()[i], k, v);
@@ -114,8 +114,8 @@ fn put_value(planes: &mut List<Planes>, i: usize, k: u32, v: V4)
 fn put_values(planes: &mut List<Planes>, k: u32, values: &[V4])
     requires lane { k < LANES }
     requires long { length planes.old ≡ length values.now }
-    ensures here { lane_values k planes.new ≡ values.now }
-    ensures others { (l : ℕ) → l < LANES → l ≢ k → lane_values l planes.new ≡ lane_values l planes.old }
+    ensures here { lane_row k planes.new ≡ values.now }
+    ensures others { (l : ℕ) → l < LANES → l ≢ k → lane_row l planes.new ≡ lane_row l planes.old }
     ensures long { length planes.new ≡ length planes.old }
 {
     'places: for i in 0..values.len() {
@@ -144,7 +144,7 @@ fn edge_cells(
 }
 
 /// Takes the memory of a lane through an edge.
-fn edge_lane(memory: &mut PackMemory, block: &BlockWork, bank: &PackBank<'_>, k: u32)
+fn edge_lane(memory: &mut PackMemory, block: &BlockWork, bank: &Bank<'_, Planes>, k: u32)
     requires lane { k < LANES }
     requires past { ReadsPast (lane_port k bank.now) block.now }
     requires whole { IsWhole block.now memory.old }
@@ -167,7 +167,7 @@ fn edge_lane(memory: &mut PackMemory, block: &BlockWork, bank: &PackBank<'_>, k:
 }
 
 /// Takes a memory through an edge, in each lane.
-fn edge(memory: &mut PackMemory, block: &BlockWork, bank: &PackBank<'_>)
+fn edge(memory: &mut PackMemory, block: &BlockWork, bank: &Bank<'_, Planes>)
     requires past { (l : ℕ) → l < LANES → ReadsPast (lane_port l bank.now) block.now }
     requires whole { IsWhole block.now memory.old }
     ensures acted { HasActed bank.now block.now LANES memory.old memory.new }
@@ -179,7 +179,7 @@ fn edge(memory: &mut PackMemory, block: &BlockWork, bank: &PackBank<'_>)
 }
 
 /// Takes each memory through an edge.
-fn edge_all(memories: &mut [PackMemory], blocks: &[BlockWork], bank: &PackBank<'_>)
+fn edge_all(memories: &mut [PackMemory], blocks: &[BlockWork], bank: &Bank<'_, Planes>)
     requires past { ReadPast bank.now blocks.now }
     requires whole { AreWhole blocks.now memories.old }
     ensures acted { HaveActed bank.now blocks.now (length blocks.now) memories.old memories.new }
@@ -202,7 +202,7 @@ pub(crate) fn answered(memories: &[PackMemory], bit: OutBit) -> Planes
 pub(crate) fn begin_memories(
     memories: &mut List<PackMemory>,
     blocks: &[BlockWork],
-    bank: &PackBank<'_>,
+    bank: &Bank<'_, Planes>,
 )
     requires past { ReadPast bank.now blocks.now }
     requires whole { AreWhole blocks.now memories.old }

@@ -1,19 +1,18 @@
 //! A packed array processor in its run.
 
-ghost use Rattle.std.specs.Prelude.{◌≡◌, ◌<◌, ℕ, map, slice_get, IfOk};
+ghost use Rattle.std.specs.Prelude.{◌≡◌, ◌<◌, ℕ, IfOk};
 ghost use Rattle.limits.specs.declared.TheConstants.{LANES};
 ghost use Rattle.lane_planes.specs.Lanes.{lane_of};
 ghost use Rattle.stim_text.specs.Lanes.{AreLanes};
 ghost use Rattle.image_defs.specs.WellFormed.{IsWellFormed, IsPortOf, IsArray};
-ghost use Rattle.image_defs.specs.Ports.{value_in, next_item, CanBegin, CanExecute, CanReceive, CanEnd};
-ghost use Rattle.port_bank.specs.Links.{next_link};
-ghost use Rattle.pack_bank.specs.Views.{lane_port, at_first, after_begin, after_execute, after_receive, after_end, InEachLane};
+ghost use Rattle.image_defs.specs.Ports.{at_first, after_begin, after_execute, after_receive, after_end, value_in, CanBegin, CanExecute, CanReceive, CanEnd};
+ghost use Rattle.port_bank.specs.Packed.{lane_port, InEachLane};
 
 use crate::memory::{PackMemory, answered, begin_memories, make_memories};
-use image_defs::{BlockWork, Image, LinkIn, OutBit, Work};
+use image_defs::{BlockWork, Image, OutBit, Work};
 use lane_planes::Planes;
 use net_defs::initial_value;
-use pack_bank::PackBank;
+use port_bank::Bank;
 use seen_list::{List, Memory};
 use std::alloc::Global;
 use std::marker::Model;
@@ -23,14 +22,14 @@ use stim_text::Lanes;
 /// come.
 #[derive(Drop)]
 pub struct PackArray<'a> {
-    bank: PackBank<'a>,
+    bank: Bank<'a, Planes>,
     blocks: &'a [BlockWork],
     bits: &'a [OutBit],
     memories: List<PackMemory>,
 }
 
 impl<'a> Model for PackArray<'a> {
-    ghost use Rattle.pack_bank.specs.Views.{PackPortView};
+    ghost use Rattle.port_bank.specs.Packed.{PackPortView};
 
     ghost Value = { PackPortView };
 
@@ -39,16 +38,6 @@ impl<'a> Model for PackArray<'a> {
     ghost view = { λ a. a.bank };
 
     ghost invariant = { IsReady };
-}
-
-/// The slot of the output bit in a place, and `None` past the last one.
-fn slot_at(bits: &[OutBit], i: usize) -> Option<u32>
-    ensures { result ≡ slice_get (map (λ bit. bit.slot) bits.now) i }
-{
-    match bits.get(i) {
-        Some(bit) => Some(bit.slot),
-        None => None,
-    }
 }
 
 impl<'a> PackArray<'a> {
@@ -70,7 +59,7 @@ impl<'a> PackArray<'a> {
             Work::Logic { .. } => unreachable!(),
             Work::Array { blocks, outs } => {
                 let memories = make_memories(alloc, blocks.as_slice(), initial_value(image.init))?;
-                let bank = PackBank::new(alloc, image, lanes, port)?;
+                let bank = Bank::new(alloc, image, lanes, port)?;
                 Ok(PackArray {
                     bank,
                     blocks: blocks.as_slice(),
@@ -80,22 +69,6 @@ impl<'a> PackArray<'a> {
             }
             Work::Host { .. } => unreachable!(),
         }
-    }
-
-    /// The slot of the next item of this turn, and `None` where all are executed. It is the same in each
-    /// lane.
-    pub fn next_slot(&self) -> Option<u32>
-        ensures { result ≡ next_item (lane_port 0 self.now) }
-    {
-        slot_at(self.bits, self.bank.executed())
-    }
-
-    /// What the port receives next in this turn, and `None` where it has received all. It is the same in
-    /// each lane.
-    pub fn next_link(&self) -> Option<LinkIn>
-        ensures { result ≡ next_link (lane_port 0 self.now) }
-    {
-        self.bank.next_link()
     }
 
     /// Begins a turn. In the first turn of a cycle, but for turn 1, the memories of each lane read and

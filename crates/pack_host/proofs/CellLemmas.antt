@@ -11,7 +11,7 @@ use Rattle.image_defs.specs.declared.image.Source.{Source}
 use Rattle.port_bank.specs.Reads.{IsTaken}
 use Rattle.port_host.specs.code.Rows.{HasPrinted}
 use Rattle.port_host.proofs.RowLemmas.{printed_more}
-use Rattle.pack_bank.specs.Views.{PackPortView, lane_port}
+use Rattle.port_bank.specs.Packed.{PackPortView, lane_port}
 use Rattle.pack_host.specs.Cells.{in_lane}
 use Rattle.pack_host.specs.code.Cells.{HasPrintedAll}
 

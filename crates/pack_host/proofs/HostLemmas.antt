@@ -14,7 +14,7 @@ use Rattle.image_defs.specs.declared.image.Image.{Image}
 use Rattle.image_defs.specs.Places.{Each, host_of, IsPort}
 use Rattle.image_defs.specs.WellFormed.{IsWellFormed}
 use Rattle.image_defs.specs.Frames.{shown}
-use Rattle.image_defs.specs.Ports.{CanExecute, CanEnd, last_turn, value_in}
+use Rattle.image_defs.specs.Ports.{at_first, after_end, CanExecute, CanEnd, last_turn, value_in}
 use Rattle.lane_planes.specs.declared.planes.Planes.{Planes}
 use Rattle.lane_planes.specs.Lanes.{lane_of}
 use Rattle.stim_text.specs.declared.lanes.Lanes.{Lanes}
@@ -26,7 +26,7 @@ use Rattle.port_host.specs.declared.port.HostPort.TheInside as plain
 use Rattle.port_host.specs.Kept as plain_host
 use Rattle.port_host.specs.Rows.{printed_sources, row_start, HasRoom, IsAt, IsOn}
 use Rattle.port_host.proofs.HostLemmas as host
-use Rattle.pack_bank.specs.Views.{PackPortView, lane_port, InEachLane, at_first, after_end}
+use Rattle.port_bank.specs.Packed.{PackPortView, lane_port, InEachLane}
 use Rattle.pack_host.specs.Cells.{in_lane}
 use Rattle.pack_host.specs.code.Cells.{HasPrintedAll}
 use Rattle.pack_host.specs.code.Feeds.{FeedView, IsFed}
@@ -43,14 +43,14 @@ use Rattle.pack_host.proofs.FeedLemmas.{fed_padded}
 pub ready_new : (a : Inside) (image : Image) (lanes : Lanes) (seat : PortImage) → a.bank ≡ at_first image lanes (host_of image) → IsWellFormed image → AreLanes image.columns lanes → IsPort image (host_of image) seat
     → seat.work ≡ Host a.inputs.now a.printed.now → a.feed ≡ record { lanes = lanes; columns = image.columns; cycles = 0 } → a.units ≡ image.units → a.unit ≡ 0 → length a.cells ≡ longest lanes * length a.printed.now → IsReady a
 ready_new a image lanes seat bank fits are is work feed units unit room = record {
-  lanes = subst (λ (v : PackPortView). AreLanes v.image.columns v.lanes) (sym bank) are;
-  feed_lanes = ap (λ (f : FeedView). f.lanes) feed ∙ ap (λ (v : PackPortView). v.lanes) (sym bank);
+  lanes = subst (λ (v : PackPortView). AreLanes v.image.columns v.stimulus) (sym bank) are;
+  feed_lanes = ap (λ (f : FeedView). f.lanes) feed ∙ ap (λ (v : PackPortView). v.stimulus) (sym bank);
   feed_columns = ap (λ (f : FeedView). f.columns) feed ∙ ap (λ (v : PackPortView). v.image.columns) (sym bank);
   each = λ l low. (
     (cursor l).0,
     host.ready_first (lane_host l (cursor l).0 a) image (stimulus l) seat (ap (lane_port l) bank) fits (lane_valid image.columns lanes l are) (lane_columns image.columns lanes l are) is work
-        (ap (λ (v : PackPortView). lane_stimulus v.image.columns v.lanes l) bank) units refl (on l) first
-        (length-map a.cells (λ (q : Planes). lane_of q l) ∙ (room ∙ ap (λ (v : PackPortView). longest v.lanes * length a.printed.now) (sym bank))),
+        (ap (λ (v : PackPortView). lane_stimulus v.image.columns v.stimulus l) bank) units refl (on l) first
+        (length-map a.cells (λ (q : Planes). lane_of q l) ∙ (room ∙ ap (λ (v : PackPortView). longest v.stimulus * length a.printed.now) (sym bank))),
   );
 } where
   stimulus : ℕ → Stimulus
@@ -121,7 +121,7 @@ pub inputs_answer : (a : Inside) (slot i : ℕ) (d : InColumn) (values : Planes)
 inputs_answer a slot i d values ready can same fed l low =
     let one = ready.each l low in
     let input = get_or a.inputs.now i d in
-    let stimulus = lane_stimulus a.bank.image.columns a.bank.lanes l in
+    let stimulus = lane_stimulus a.bank.image.columns a.bank.stimulus l in
     host.next_answers (lane_host l one.0 a) slot input (lane_of values l) one.1 (can l low) (host.next_input (lane_host l one.0 a) slot i d one.1 (can l low) same)
     (fed l low
     ∙ (fed_padded a.feed.columns a.feed.lanes a.feed.cycles input.column l
@@ -131,9 +131,6 @@ inputs_answer a slot i d values ready can same fed l low =
 
 -- ---- the end of a turn
 
-pub cycles_here : (a : Inside) → IsReady a → cycles_done a.bank ≡ a.feed.cycles
-cycles_here a ready = let one = ready.each 0 (omega arith) in host.rows_here (lane_host 0 one.0 a) one.1
-
 pub units_here : (a : Inside) → IsReady a → a.unit < a.units
 units_here a ready = (ready.each 0 (omega arith)).1.on.unit
 
@@ -141,20 +138,20 @@ pub printed_there : (a : Inside) → IsReady a → Each (IsWithin a.bank.image.s
 printed_there a ready = let one = ready.each 0 (omega arith) in host.printed_within (lane_host 0 one.0 a) one.1
 
 -- the cycle is one of the run
-cycle_low : (a : Inside) (l : ℕ) (low : l < LANES) → IsReady a → a.bank.begun ≡ true → a.feed.cycles < cycle_count (lane_stimulus a.bank.image.columns a.bank.lanes l)
+cycle_low : (a : Inside) (l : ℕ) (low : l < LANES) → IsReady a → a.bank.begun ≡ true → a.feed.cycles < cycle_count (lane_stimulus a.bank.image.columns a.bank.stimulus l)
 cycle_low a l low ready begun = let one = ready.each l low in host.runs_here (lane_host l one.0 a) one.1 begun
 
 pub few_cycles : (a : Inside) → IsReady a → a.bank.begun ≡ true → a.feed.cycles < MAX_CYCLES
 few_cycles a ready begun =
-    let valid = lane_valid a.bank.image.columns a.bank.lanes 0 ready.lanes in
+    let valid = lane_valid a.bank.image.columns a.bank.stimulus 0 ready.lanes in
     omega (arith, cycle_low a 0 (omega arith) ready begun, valid.cycles)
 
 has_room : (a : Inside) (l : ℕ) (low : l < LANES) (ready : IsReady a) → a.bank.begun ≡ true → HasRoom (plain_host.view_of (lane_host l (ready.each l low).0 a))
 has_room a l low ready begun =
     let one = ready.each l low in
-    let few : a.bank.turn ≤ a.bank.image.units * longest a.bank.lanes =
-    subst (λ n. a.bank.turn ≤ a.bank.image.units * n) (lane_cycles a.bank.image.columns a.bank.lanes l) (one.1.running begun) in
-    let done : a.bank.turn / a.bank.image.units ≤ longest a.bank.lanes = div-le_of_le-mul a.bank.image.units few in
+    let few : a.bank.turn ≤ a.bank.image.units * longest a.bank.stimulus =
+    subst (λ n. a.bank.turn ≤ a.bank.image.units * n) (lane_cycles a.bank.image.columns a.bank.stimulus l) (one.1.running begun) in
+    let done : a.bank.turn / a.bank.image.units ≤ longest a.bank.stimulus = div-le_of_le-mul a.bank.image.units few in
     let same : (a.bank.turn + 1 - 1) / a.bank.image.units ≡ a.bank.turn / a.bank.image.units = ap (λ n. n / a.bank.image.units) (omega arith) in
     omega (arith, done, same)
 
@@ -182,10 +179,10 @@ ready_over a cells feed unit bank ready can kept same within more few moved is =
     })
   where
     stimulus : ℕ → Stimulus
-    stimulus l = lane_stimulus a.bank.image.columns a.bank.lanes l
+    stimulus l = lane_stimulus a.bank.image.columns a.bank.stimulus l
 
     cursor : (l : ℕ) → (c : RowCursor) × IsAt (stimulus l) feed.cycles c
-    cursor l = cursor_at (stimulus l) (lane_valid a.bank.image.columns a.bank.lanes l ready.lanes) feed.cycles
+    cursor l = cursor_at (stimulus l) (lane_valid a.bank.image.columns a.bank.stimulus l ready.lanes) feed.cycles
 
     ended : (l : ℕ) (low : l < LANES) → plain_host.IsReady (lane_host l (cursor l).0 (record a { bank = after_end a.bank; feed = feed; unit = unit; cells = cells }))
     ended l low =
@@ -213,7 +210,7 @@ cell_there a cycle column ready first done low =
     omega (arith, there, same, low, host.width_is (lane_host 0 one.0 a) one.1, length-map a.cells (λ (q : Planes). lane_of q 0))
 
 pub cell_shows : (a : Inside) (l cycle column : ℕ) → IsReady a → l < LANES → 1 ≤ cycle → cycle ≤ cycles_done a.bank → column < length (printed_sources a.bank.image)
-    → value_at (in_lane l a.cells) (row_start (cycle - 1) (length a.printed.now) + column) ≡ shown a.bank.image (lane_stimulus a.bank.image.columns a.bank.lanes l) cycle column
+    → value_at (in_lane l a.cells) (row_start (cycle - 1) (length a.printed.now) + column) ≡ shown a.bank.image (lane_stimulus a.bank.image.columns a.bank.stimulus l) cycle column
 cell_shows a l cycle column ready lane first done low =
     let one = ready.each l lane in
     ap (λ n. value_at (in_lane l a.cells) (row_start n (length a.printed.now) + column)) (sym (no_less (cycle - 1)))

@@ -12,7 +12,7 @@ ghost use Rattle.pack_host.specs.code.Cells.{HasPrintedAll};
 use image_defs::Source;
 use lane_planes::{Planes, in_all_lanes, lane};
 use logic_four::V4;
-use pack_bank::PackBank;
+use port_bank::Bank;
 use seen_list::{List, Memory};
 use std::alloc::Global;
 
@@ -35,7 +35,7 @@ pub(crate) fn row_start(rows: u32, width: usize, count: usize) -> usize
 }
 
 /// Puts what the sources have into the cells from this place on.
-fn print(cells: &mut List<Planes>, start: usize, sources: &[Source], bank: &PackBank<'_>)
+fn print(cells: &mut List<Planes>, start: usize, sources: &[Source], bank: &Bank<'_, Planes>)
     requires room { start + length sources.now ≤ length cells.old }
     requires within { Each (IsWithin bank.now.image.slots) sources.now }
     ensures { HasPrintedAll bank.now sources.now (length sources.now) start cells.old cells.new }
@@ -54,7 +54,7 @@ pub(crate) fn keep_row(
     unit: u32,
     rows: u32,
     sources: &[Source],
-    bank: &PackBank<'_>,
+    bank: &Bank<'_, Planes>,
 )
     requires unit { unit < units }
     requires room { unit + 1 ≡ units

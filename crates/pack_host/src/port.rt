@@ -5,11 +5,11 @@ ghost use Rattle.limits.specs.declared.TheConstants.{LANES, MAX_CYCLES};
 ghost use Rattle.image_defs.specs.Places.{host_of};
 ghost use Rattle.image_defs.specs.WellFormed.{IsWellFormed};
 ghost use Rattle.image_defs.specs.Frames.{shown};
-ghost use Rattle.image_defs.specs.Ports.{value_in, CanBegin, CanExecute, CanReceive, CanEnd};
+ghost use Rattle.image_defs.specs.Ports.{at_first, after_begin, after_execute, after_receive, after_end, value_in, CanBegin, CanExecute, CanReceive, CanEnd};
 ghost use Rattle.lane_planes.specs.Lanes.{lane_of};
 ghost use Rattle.stim_text.specs.Lanes.{lane_stimulus, AreLanes};
 ghost use Rattle.port_host.specs.Rows.{printed_sources};
-ghost use Rattle.pack_bank.specs.Views.{lane_port, at_first, after_begin, after_execute, after_receive, after_end, InEachLane};
+ghost use Rattle.port_bank.specs.Packed.{lane_port, InEachLane};
 ghost use Rattle.pack_host.specs.Turns.{cycles_done};
 ghost use Rattle.pack_host.specs.code.Turns.{turn_at};
 
@@ -18,7 +18,7 @@ use crate::feed::Feed;
 use image_defs::{Image, InColumn, Source, Work};
 use lane_planes::Planes;
 use logic_four::V4;
-use pack_bank::PackBank;
+use port_bank::Bank;
 use seen_list::{List, Memory};
 use std::alloc::Global;
 use std::marker::Model;
@@ -28,7 +28,7 @@ use stim_text::Lanes;
 /// and lanes it runs, and how far it has come.
 #[derive(Drop)]
 pub struct PackHost<'a> {
-    bank: PackBank<'a>,
+    bank: Bank<'a, Planes>,
     feed: Feed<'a>,
     units: u32,
     unit: u32,
@@ -38,7 +38,7 @@ pub struct PackHost<'a> {
 }
 
 impl<'a> Model for PackHost<'a> {
-    ghost use Rattle.pack_bank.specs.Views.{PackPortView};
+    ghost use Rattle.port_bank.specs.Packed.{PackPortView};
 
     ghost Value = { PackPortView };
 
@@ -84,7 +84,7 @@ impl<'a> PackHost<'a> {
             Work::Host { inputs, printed } => {
                 let cells = room(alloc, lanes.cycles(), printed.len())?;
                 let feed = Feed::new(alloc, lanes, image.columns)?;
-                let bank = PackBank::new(alloc, image, lanes, port as u32)?;
+                let bank = Bank::new(alloc, image, lanes, port as u32)?;
                 Ok(PackHost {
                     bank,
                     feed,
@@ -145,13 +145,6 @@ impl<'a> PackHost<'a> {
         self.bank.end_turn();
     }
 
-    /// The number of cycles that are over, each of which has its cells.
-    pub fn cycles_done(&self) -> u32
-        ensures { result ≡ cycles_done self.now }
-    {
-        self.feed.cycles()
-    }
-
     /// The cell of a printed column in a lane, counted from 0, for a cycle that is over, counted from 1:
     /// what the printed source had in that lane at the last turn of the cycle.
     pub fn cell(&self, lane: u32, cycle: u32, column: usize) -> V4
@@ -160,7 +153,7 @@ impl<'a> PackHost<'a> {
         requires done { cycle ≤ cycles_done self.now }
         requires column { column < length (printed_sources self.now.image) }
         ensures { result ≡ shown self.now.image
-            (lane_stimulus self.now.image.columns self.now.lanes lane) cycle column }
+            (lane_stimulus self.now.image.columns self.now.stimulus lane) cycle column }
     {
         let start = row_start(cycle - 1, self.printed.len(), self.cells.len());
         cell(self.cells.as_slice(), start, column, lane)

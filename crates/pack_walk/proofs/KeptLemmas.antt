@@ -12,7 +12,7 @@ use Rattle.port_walk.specs.declared.stops.Stop.{Stop}
 use Rattle.port_walk.specs.declared.stops.StopKind.TheVariants.{Send, Receive, End}
 use Rattle.port_walk.specs.Readers.{IsSendAction}
 use Rattle.port_walk.proofs.WalkLemmas.{IsWalk, Walk, end_here, last_here, next_sent, receipt_here, same_seat}
-use Rattle.pack_bank.specs.Views.{PackPortView, lane_port}
+use Rattle.port_bank.specs.Packed.{PackPortView, lane_port}
 use Rattle.pack_walk.specs.declared.action.PackAction.{PackAction}
 use Rattle.pack_walk.specs.declared.action.PackAction.TheVariants as pack
 use Rattle.pack_walk.specs.declared.placed.PackPlaced.TheInside.{Inside}

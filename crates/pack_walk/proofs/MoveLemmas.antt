@@ -22,7 +22,7 @@ use Rattle.port_walk.specs.Stops.{AreStops, counts}
 use Rattle.port_walk.proofs.BlockLemmas.{le_late}
 use Rattle.port_walk.proofs.MoveLemmas as plain
 use Rattle.port_walk.proofs.WalkLemmas.{IsAfter, IsReceiptHere, IsSendHere, all_done, can_run_on, ends_at, puts_more, receives_at, sends_at, takes_more}
-use Rattle.pack_bank.specs.Views.{PackPortView, lane_port, InEachLane}
+use Rattle.port_bank.specs.Packed.{PackPortView, lane_port, InEachLane}
 use Rattle.pack_walk.specs.declared.placed.PackPlaced.TheInside.{Inside}
 use Rattle.pack_walk.specs.declared.kind.Kind.{Kind}
 use Rattle.pack_walk.specs.Kept.{view_of, inner, IsKept}
@@ -127,11 +127,11 @@ module _ (a : Inside) (kept : IsKept a) (stop : Stop) (at : slice_get a.stops a.
 
 -- it may enter the turn in each lane
 pub can_enter : (image : Image) (p : ℕ) (seat : PortImage) → IsPortImage image p seat → IsPort image p seat → (slots : List ℕ) (stops : List Stop) → slots ≡ item_slots seat.work → AreStops (out_slots seat.outs) (in_slots seat.ins) image.slots slots stops
-    → (view : PackPortView) (items : List ℕ) (first : Stop) (runs : Bool) → view.image ≡ image → view.port ≡ p → view.begun ≡ false → view.executed ≡ 0 → (runs ≡ true → view.turn ≤ view.image.units * longest view.lanes)
+    → (view : PackPortView) (items : List ℕ) (first : Stop) (runs : Bool) → view.image ≡ image → view.port ≡ p → view.begun ≡ false → view.executed ≡ 0 → (runs ≡ true → view.turn ≤ view.image.units * longest view.stimulus)
     → items ≡ slots → slice_get stops 0 ≡ Some first → InEachLane (λ v. CanEnter v items first.items runs) view
 can_enter image p seat good is slots stops slots_are stops_are view items first runs image_is port_is fresh none more same at l low =
     plain.can_enter image p seat good is slots stops slots_are stops_are (lane_port l view) items first runs image_is port_is fresh none
-    (λ runs. subst (λ n. view.turn ≤ n) (sym (lane_turns view.image.columns view.lanes l (timing_of view.image))) (more runs)) same at
+    (λ runs. subst (λ n. view.turn ≤ n) (sym (lane_turns view.image.columns view.stimulus l (timing_of view.image))) (more runs)) same at
 
 -- what it keeps where it has entered a turn
 pub record IsFresh (b : Inside) : Type 0 where

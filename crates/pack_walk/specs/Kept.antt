@@ -6,7 +6,7 @@ use Rattle.image_defs.specs.WellFormed.{IsWellFormed}
 use Rattle.port_walk.specs.declared.stops.Stop.{Stop}
 use Rattle.port_walk.specs.Rows.{AreReaders}
 use Rattle.port_walk.specs.Stops.{counts, AreStops}
-use Rattle.pack_bank.specs.Views.{PackPortView}
+use Rattle.port_bank.specs.Packed.{PackPortView}
 use Rattle.pack_walk.specs.declared.placed.PackPlaced.TheInside.{Inside}
 use Rattle.pack_walk.specs.Kinds.{view_in, FitsKind, AreLastValues}
 use Rattle.pack_walk.specs.Placed.{PlacedPack}
@@ -24,7 +24,7 @@ view_of a = record {
 -- the packed port within, which has executed so many items: it is in the same turn, which has begun if it is one
 -- that the port executes
 abbrev pub inner : Inside → ℕ → PackPortView
-inner a executed = record { image = a.image.now; lanes = a.lanes.now; port = a.port; turn = a.turn; begun = nat_le a.turn a.until; executed = executed; received = a.took }
+inner a executed = record { image = a.image.now; stimulus = a.lanes.now; port = a.port; turn = a.turn; begun = nat_le a.turn a.until; executed = executed; received = a.took }
 
 pub record IsKept (a : Inside) : Type 0 where
   pub image : IsWellFormed a.image.now

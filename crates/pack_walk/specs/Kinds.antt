@@ -5,7 +5,7 @@ use Rattle.lane_planes.specs.declared.planes.Planes.{Planes}
 use Rattle.lane_planes.specs.Lanes.{lane_of}
 use Rattle.image_defs.specs.declared.image.Image.{Image}
 use Rattle.port_walk.specs.Kinds.{IsLastValue}
-use Rattle.pack_bank.specs.Views.{PackPortView, lane_port}
+use Rattle.port_bank.specs.Packed.{PackPortView, lane_port}
 use Rattle.pack_walk.specs.declared.kind.Kind.{Kind}
 use Rattle.pack_walk.specs.declared.kind.Kind.TheVariants.{Logic, Array, Host}
 

@@ -17,7 +17,7 @@ use Rattle.event_defs.specs.declared.place.Place.{Place}
 use Rattle.event_defs.specs.declared.place.Action.{Action}
 use Rattle.event_defs.specs.declared.place.Action.TheVariants.{Ask, Put, Take, Tell, Done}
 use Rattle.event_defs.specs.Next.{SendsNext, ReceivesNext, EndsNext, IsNext}
-use Rattle.pack_bank.specs.Views.{PackPortView}
+use Rattle.port_bank.specs.Packed.{PackPortView}
 use Rattle.pack_walk.specs.declared.action.PackAction.{PackAction}
 use Rattle.pack_walk.specs.declared.action.PackAction.TheVariants as pack
 
@@ -125,6 +125,6 @@ in_next_turn view = record view { turn = view.turn + 1; puts = []; takes = [] }
 pub record IsHostIn (view : PlacedPack) (host : PackPortView) : Type 0 where
   pub is_host : view.port ≡ host_of view.image
   pub image : host.image ≡ view.image
-  pub lanes : host.lanes ≡ view.lanes
+  pub lanes : host.stimulus ≡ view.lanes
   pub port : host.port ≡ view.port
   pub turn : host.turn ≡ view.turn

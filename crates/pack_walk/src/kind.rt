@@ -5,9 +5,9 @@ ghost use Rattle.limits.specs.declared.TheConstants.{LANES};
 ghost use Rattle.lane_planes.specs.Lanes.{lane_of};
 ghost use Rattle.stim_text.specs.Lanes.{AreLanes};
 ghost use Rattle.image_defs.specs.WellFormed.{IsWellFormed};
-ghost use Rattle.image_defs.specs.Ports.{CanBegin, CanReceive, CanEnd};
+ghost use Rattle.image_defs.specs.Ports.{after_begin, after_receive, after_end, CanBegin, CanReceive, CanEnd};
 ghost use Rattle.port_walk.specs.code.Kinds.{CanRun, CanEnter};
-ghost use Rattle.pack_bank.specs.Views.{lane_port, after_begin, after_receive, after_end, InEachLane};
+ghost use Rattle.port_bank.specs.Packed.{lane_port, InEachLane};
 ghost use Rattle.pack_walk.specs.Kinds.{view_in, is_host, AreLastValues};
 ghost use Rattle.pack_walk.specs.code.Kinds.{IsFirst, HasRun, HasEntered};
 
@@ -16,7 +16,7 @@ use lane_planes::{Planes, in_all_lanes};
 use logic_four::V4;
 use pack_array::PackArray;
 use pack_host::PackHost;
-use pack_logic::PackLogic;
+use port_logic::LogicPort;
 use seen_list::Memory;
 use std::alloc::Global;
 use stim_text::Lanes;
@@ -24,13 +24,19 @@ use stim_text::Lanes;
 /// A packed port in its run, by its kind.
 #[derive(Drop)]
 pub(crate) enum Kind<'a> {
-    Logic(PackLogic<'a>),
+    Logic(LogicPort<'a, Planes>),
     Array(PackArray<'a>),
     Host(PackHost<'a>),
 }
 
 /// Executes items of a logic processor, as `Kind::run` does.
-fn run_logic(port: &mut PackLogic<'_>, slots: &[u32], from: u32, to: u32, last: Planes) -> Planes
+fn run_logic(
+    port: &mut LogicPort<'_, Planes>,
+    slots: &[u32],
+    from: u32,
+    to: u32,
+    last: Planes,
+) -> Planes
     requires can { InEachLane (λ view. CanRun view slots.now from to) port.old }
     requires last { AreLastValues port.old last }
     ensures run { HasRun port.old port.new to }
@@ -85,7 +91,7 @@ impl<'a> Kind<'a> {
         ensures { IfOk result (IsFirst image.now lanes.now port) }
     {
         match &image.ports.as_slice()[port as usize].work {
-            Work::Logic { .. } => Ok(Kind::Logic(PackLogic::new(alloc, image, lanes, port)?)),
+            Work::Logic { .. } => Ok(Kind::Logic(LogicPort::new(alloc, image, lanes, port)?)),
             Work::Array { .. } => Ok(Kind::Array(PackArray::new(alloc, image, lanes, port)?)),
             Work::Host { .. } => Ok(Kind::Host(PackHost::new(alloc, image, lanes)?)),
         }

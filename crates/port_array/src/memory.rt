@@ -86,7 +86,7 @@ pub(crate) fn make_memories(
 }
 
 /// What a source had in the last turn.
-fn take_past(bank: &Bank<'_>, source: Source) -> V4
+fn take_past(bank: &Bank<'_, V4>, source: Source) -> V4
     requires { IsPastAt bank.now source }
     ensures { result ≡ past_of bank.now source }
 {
@@ -94,7 +94,7 @@ fn take_past(bank: &Bank<'_>, source: Source) -> V4
 }
 
 /// Takes what the sources had in the last turn.
-fn fill(room: &mut List<V4>, sources: &[Source], bank: &Bank<'_>)
+fn fill(room: &mut List<V4>, sources: &[Source], bank: &Bank<'_, V4>)
     requires long { length room.old ≡ length sources.now }
     requires past { Each (IsPastAt bank.now) sources.now }
     ensures { room.new ≡ map (past_of bank.now) sources.now }
@@ -105,7 +105,7 @@ fn fill(room: &mut List<V4>, sources: &[Source], bank: &Bank<'_>)
 }
 
 /// Takes a memory through an edge.
-fn edge(memory: &mut MemoryState, block: &BlockWork, bank: &Bank<'_>)
+fn edge(memory: &mut MemoryState, block: &BlockWork, bank: &Bank<'_, V4>)
     requires past { ReadsPast bank.now block.now }
     requires fits { FitsMemory block.now memory.old }
     ensures acted { Acted bank.now block.now memory.old memory.new }
@@ -123,7 +123,7 @@ fn edge(memory: &mut MemoryState, block: &BlockWork, bank: &Bank<'_>)
 }
 
 /// Takes each memory through an edge.
-fn edge_all(memories: &mut [MemoryState], blocks: &[BlockWork], bank: &Bank<'_>)
+fn edge_all(memories: &mut [MemoryState], blocks: &[BlockWork], bank: &Bank<'_, V4>)
     requires past { Each (ReadsPast bank.now) blocks.now }
     requires fit { AreFit blocks.now memories.old }
     ensures acted { AreActed bank.now blocks.now (length blocks.now) memories.old memories.new }
@@ -146,7 +146,7 @@ pub(crate) fn answered(memories: &[MemoryState], bit: OutBit) -> V4
 pub(crate) fn begin_memories(
     memories: &mut List<MemoryState>,
     blocks: &[BlockWork],
-    bank: &Bank<'_>,
+    bank: &Bank<'_, V4>,
 )
     requires past { Each (ReadsPast bank.now) blocks.now }
     requires fit { AreFit blocks.now memories.old }

@@ -3,11 +3,10 @@
 ghost use Rattle.std.specs.Prelude.{◌≡◌, IfOk};
 ghost use Rattle.net_defs.specs.Valid.{IsValidStimulus};
 ghost use Rattle.image_defs.specs.WellFormed.{IsWellFormed, IsPortOf, IsArray};
-ghost use Rattle.image_defs.specs.Ports.{at_first, after_begin, after_execute, after_receive, after_end, value_in, next_item, CanBegin, CanExecute, CanReceive, CanEnd};
-ghost use Rattle.port_bank.specs.Links.{next_link};
+ghost use Rattle.image_defs.specs.Ports.{at_first, after_begin, after_execute, after_receive, after_end, value_in, CanBegin, CanExecute, CanReceive, CanEnd};
 
 use crate::memory::{MemoryState, answered, begin_memories, make_memories};
-use image_defs::{BlockWork, Image, LinkIn, OutBit, Work};
+use image_defs::{BlockWork, Image, OutBit, Work};
 use logic_four::V4;
 use net_defs::{Stimulus, initial_value};
 use port_bank::Bank;
@@ -19,7 +18,7 @@ use std::marker::Model;
 /// has come.
 #[derive(Drop)]
 pub struct ArrayPort<'a> {
-    bank: Bank<'a>,
+    bank: Bank<'a, V4>,
     blocks: &'a [BlockWork],
     bits: &'a [OutBit],
     memories: List<MemoryState>,
@@ -66,23 +65,6 @@ impl<'a> ArrayPort<'a> {
             }
             Work::Host { .. } => unreachable!(),
         }
-    }
-
-    /// The slot of the next item of this turn, and `None` where all are executed.
-    pub fn next_slot(&self) -> Option<u32>
-        ensures { result ≡ next_item self.now }
-    {
-        match self.bits.get(self.bank.executed()) {
-            Some(bit) => Some(bit.slot),
-            None => None,
-        }
-    }
-
-    /// What the port receives next in this turn, and `None` where it has received all.
-    pub fn next_link(&self) -> Option<LinkIn>
-        ensures { result ≡ next_link self.now }
-    {
-        self.bank.next_link()
     }
 
     /// Begins a turn. In the first turn of a cycle, but for turn 1, the memories read and write.

@@ -1,4 +1,4 @@
--- The banks of a port keep the values of its turn and of the turn before.
+-- The bank of a plain port, or of one lane, keeps the values of its turn and of the turn before.
 use Rattle.std.proofs.Common.{◌≡◌, ◌∙◌, ◌⊎◌, inl, inr, Bool, ℕ, zero, suc, ◌+◌, ◌-◌, ◌*◌, ◌<◌, ◌≤◌, true, false, List, [], ◌∷◌, length, replicate, get_or, set, slice_get, Some, sym, ap, subst, refl, arith}
 use Rattle.std.specs.Option.{option_map}
 use Rattle.std.proofs.Math.Nat.{add-sub_cancel}
@@ -25,12 +25,11 @@ use Rattle.image_defs.specs.Ports.{CanExecute, CanReceive, CanEnd, value_in}
 use Rattle.image_defs.proofs.PlaceLemmas.{Rises, rises, sender_found}
 use Rattle.image_defs.proofs.ValueLemmas.{value_meets}
 use Rattle.port_bank.specs.declared.steps.Operand.{Operand}
-use Rattle.port_bank.specs.declared.bank.Bank.TheInside.{Inside}
 use Rattle.port_bank.specs.Flat.{operand_of}
 use Rattle.port_bank.specs.Reads.{IsAtHand, IsRead, value_taken}
 use Rattle.port_bank.specs.code.Places.{numbered}
 use Rattle.port_bank.proofs.PlaceLemmas.{numbered_even, numbered_past, numbered_this}
-use Rattle.port_bank.specs.Banks.{IsRoom, Holds, HoldsAll, view_of, IsKept}
+use Rattle.port_bank.specs.Banks.{IsRoom, Holds, HoldsAll, LaneBank, view_of, IsKeptInLane}
 use Rattle.port_bank.specs.code.Banks.{blank}
 
 -- ---- places
@@ -68,24 +67,24 @@ same_port image p one other is is_other = cc
 
 -- ---- what is read
 
-pub read_right : (a : Inside) (operand : Operand) → IsKept a → IsRead (view_of a) operand (numbered a.places operand.number)
+pub read_right : (a : LaneBank) (operand : Operand) → IsKeptInLane a → IsRead (view_of a) operand (numbered a.places operand.number)
 read_right a operand kept port source is hand at =
     subst (λ o. numbered a.places o.number ≡ value_taken (view_of a) port source) (sym at) (of_source source hand)
   where
     of_link : (old : List V4) (turn i slot : ℕ) (link : LinkIn) → slice_get port.ins i ≡ Some link → link.slot ≡ slot
-        → value_at old (a.image.now.slots + link.slot) ≡ image_value a.image.now a.stim.now turn link.sender link.slot
-        → value_at old (a.image.now.slots + slot) ≡ image_value a.image.now a.stim.now turn (sender_in port.ins slot) slot
+        → value_at old (a.image.slots + link.slot) ≡ image_value a.image a.stimulus turn link.sender link.slot
+        → value_at old (a.image.slots + slot) ≡ image_value a.image a.stimulus turn (sender_in port.ins slot) slot
     of_link old turn i slot link there same got =
-        subst (λ s. value_at old (a.image.now.slots + s) ≡ image_value a.image.now a.stim.now turn (sender_in port.ins s) s) same
-        (got ∙ ap (λ q. image_value a.image.now a.stim.now turn q link.slot) (sym (sender_found port.ins i link (kept.image.ports a.port port is).ins there)))
+        subst (λ s. value_at old (a.image.slots + s) ≡ image_value a.image a.stimulus turn (sender_in port.ins s) s) same
+        (got ∙ ap (λ q. image_value a.image a.stimulus turn q link.slot) (sym (sender_found port.ins i link (kept.image.ports a.port port is).ins there)))
 
-    of_source : (source : Source) → IsAtHand (view_of a) port source → numbered a.places (operand_of a.image.now.slots source).number ≡ value_taken (view_of a) port source
+    of_source : (source : Source) → IsAtHand (view_of a) port source → numbered a.places (operand_of a.image.slots source).number ≡ value_taken (view_of a) port source
     of_source (Own slot true) (i, stands, early) = numbered_past a.places slot ∙ (kept.past port is).own i slot (slice_get_within (item_slots port.work) i slot stands) stands
     of_source (Own slot false) (i, stands, early) = numbered_this a.places slot ∙ (kept.this port is).own i slot (early refl) stands
     of_source (Got slot true) (i, link, there, same, early) =
-        numbered_past a.places (a.image.now.slots + slot) ∙ of_link a.places.past (a.turn - 1) i slot link there same ((kept.past port is).got i link (slice_get_within port.ins i link there) there)
-    of_source (Got slot false) (i, link, there, same, early) = numbered_this a.places (a.image.now.slots + slot) ∙ of_link a.places.this a.turn i slot link there same ((kept.this port is).got i link (early refl) there)
-    of_source (Const v) hand = numbered_even a.places (2 * a.image.now.slots + code_of v) ∙ kept.this_room.constants v
+        numbered_past a.places (a.image.slots + slot) ∙ of_link a.places.past (a.turn - 1) i slot link there same ((kept.past port is).got i link (slice_get_within port.ins i link there) there)
+    of_source (Got slot false) (i, link, there, same, early) = numbered_this a.places (a.image.slots + slot) ∙ of_link a.places.this a.turn i slot link there same ((kept.this port is).got i link (early refl) there)
+    of_source (Const v) hand = numbered_even a.places (2 * a.image.slots + code_of v) ∙ kept.this_room.constants v
 
 -- ---- what is kept
 
@@ -140,8 +139,8 @@ holds_received image stimulus turn p port bank n m link v fits is room holds her
       subst (λ l. value_at (set bank (image.slots + link.slot) v) (image.slots + l.slot) ≡ image_value image stimulus turn l.sender l.slot) same
       (get_or-set_same bank (image.slots + link.slot) v Undef (omega arith) ∙ value)
 
-pub kept_executed : (a : Inside) (slot : ℕ) (v : V4) → IsKept a → CanExecute (view_of a) slot → v ≡ value_in (view_of a) slot
-    → IsKept (record a { executed = a.executed + 1; places = record a.places { this = set a.places.this slot v } })
+pub kept_executed : (a : LaneBank) (slot : ℕ) (v : V4) → IsKeptInLane a → CanExecute (view_of a) slot → v ≡ value_in (view_of a) slot
+    → IsKeptInLane (record a { executed = a.executed + 1; places = record a.places { this = set a.places.this slot v } })
 kept_executed a slot v kept can value = record {
   image = kept.image;
   stimulus = kept.stimulus;
@@ -149,38 +148,38 @@ kept_executed a slot v kept can value = record {
   until = kept.until;
   running = kept.running;
   edge = kept.edge;
-  this_room = let small : slot < a.image.now.slots = slot_low a.image.now a.port can.port a.executed slot kept.image can.is can.next in
-      room_stays a.image.now.slots slot v a.places.this (omega arith) kept.this_room;
+  this_room = let small : slot < a.image.slots = slot_low a.image a.port can.port a.executed slot kept.image can.is can.next in
+      room_stays a.image.slots slot v a.places.this (omega arith) kept.this_room;
   past_room = kept.past_room;
   this = λ port is.
-      holds_executed a.image.now a.stim.now a.turn a.port port a.places.this a.executed a.received slot v kept.image is kept.this_room (kept.this port is)
-      (subst (λ q. IsItemIn q.work a.executed slot) (same_port a.image.now a.port can.port port can.is is) can.next) value;
+      holds_executed a.image a.stimulus a.turn a.port port a.places.this a.executed a.received slot v kept.image is kept.this_room (kept.this port is)
+      (subst (λ q. IsItemIn q.work a.executed slot) (same_port a.image a.port can.port port can.is is) can.next) value;
   past = kept.past;
 }
 
-pub kept_received : (a : Inside) (slot : ℕ) (v : V4) → IsKept a → CanReceive (view_of a) slot v
-    → IsKept (record a { received = a.received + 1; places = record a.places { this = set a.places.this (a.image.now.slots + slot) v } })
+pub kept_received : (a : LaneBank) (slot : ℕ) (v : V4) → IsKeptInLane a → CanReceive (view_of a) slot v
+    → IsKeptInLane (record a { received = a.received + 1; places = record a.places { this = set a.places.this (a.image.slots + slot) v } })
 kept_received a slot v kept can =
-    subst (λ s. IsKept (record a { received = a.received + 1; places = record a.places { this = set a.places.this (a.image.now.slots + s) v } })) can.slot_is record {
+    subst (λ s. IsKeptInLane (record a { received = a.received + 1; places = record a.places { this = set a.places.this (a.image.slots + s) v } })) can.slot_is record {
       image = kept.image;
       stimulus = kept.stimulus;
       first = kept.first;
       until = kept.until;
       running = kept.running;
       edge = kept.edge;
-      this_room = let small : can.link.slot < a.image.now.slots = link_low a.image.now a.port can.port a.received can.link kept.image can.is can.next in
-          room_stays a.image.now.slots (a.image.now.slots + can.link.slot) v a.places.this (omega arith) kept.this_room;
+      this_room = let small : can.link.slot < a.image.slots = link_low a.image a.port can.port a.received can.link kept.image can.is can.next in
+          room_stays a.image.slots (a.image.slots + can.link.slot) v a.places.this (omega arith) kept.this_room;
       past_room = kept.past_room;
       this = λ port is.
-          holds_received a.image.now a.stim.now a.turn a.port port a.places.this a.executed a.received can.link v kept.image is kept.this_room (kept.this port is)
-          (subst (λ q. slice_get q.ins a.received ≡ Some can.link) (same_port a.image.now a.port can.port port can.is is) can.next)
-          (can.value ∙ ap (λ s. image_value a.image.now a.stim.now a.turn can.link.sender s) (sym can.slot_is));
+          holds_received a.image a.stimulus a.turn a.port port a.places.this a.executed a.received can.link v kept.image is kept.this_room (kept.this port is)
+          (subst (λ q. slice_get q.ins a.received ≡ Some can.link) (same_port a.image a.port can.port port can.is is) can.next)
+          (can.value ∙ ap (λ s. image_value a.image a.stimulus a.turn can.link.sender s) (sym can.slot_is));
       past = kept.past;
     }
 
 -- the banks after they have changed places
-pub kept_ended : (a : Inside) (edge : Bool) → IsKept a → CanEnd (view_of a) → edge ≡ is_edge a.image.now.units (a.turn + 1)
-    → IsKept (record a { turn = a.turn + 1; begun = false; at_edge = edge; executed = 0; received = 0; places = record { this = a.places.past; past = a.places.this } })
+pub kept_ended : (a : LaneBank) (edge : Bool) → IsKeptInLane a → CanEnd (view_of a) → edge ≡ is_edge a.image.units (a.turn + 1)
+    → IsKeptInLane (record a { turn = a.turn + 1; begun = false; at_edge = edge; executed = 0; received = 0; places = record { this = a.places.past; past = a.places.this } })
 kept_ended a edge kept can is_right = record {
   image = kept.image;
   stimulus = kept.stimulus;
@@ -192,18 +191,18 @@ kept_ended a edge kept can is_right = record {
   past_room = kept.this_room;
   this = λ port is. record { own = λ i slot low stands. absurd (omega (arith, low)); got = λ i link low there. absurd (omega (arith, low)) };
   past = λ port is.
-      let same : can.port ≡ port = same_port a.image.now a.port can.port port can.is is in
+      let same : can.port ≡ port = same_port a.image a.port can.port port can.is is in
       let items : a.executed ≡ length (item_slots port.work) = can.executed_all ∙ ap (λ q. length (item_slots q.work)) same in
       let receipts : a.received ≡ length port.ins = can.received_all ∙ ap (λ q. length q.ins) same in
-      subst (λ t. HoldsAll a.image.now a.stim.now t a.port port a.places.this) (sym (add-sub_cancel a.turn 1))
-      (subst (λ n. Holds a.image.now a.stim.now a.turn a.port port n (length port.ins) a.places.this) items
-      (subst (λ m. Holds a.image.now a.stim.now a.turn a.port port a.executed m a.places.this) receipts (kept.this port is)));
+      subst (λ t. HoldsAll a.image a.stimulus t a.port port a.places.this) (sym (add-sub_cancel a.turn 1))
+      (subst (λ n. Holds a.image a.stimulus a.turn a.port port n (length port.ins) a.places.this) items
+      (subst (λ m. Holds a.image a.stimulus a.turn a.port port a.executed m a.places.this) receipts (kept.this port is)));
 }
 
 -- the turns of a run
-pub few_turns : (a : Inside) → IsKept a → a.turn ≤ 4096000001
+pub few_turns : (a : LaneBank) → IsKeptInLane a → a.turn ≤ 4096000001
 few_turns a kept =
-    omega (arith, kept.until, mul-le a.image.now.units (cycle_count a.stim.now) 4096 1000000 kept.image.units.1 kept.stimulus.cycles)
+    omega (arith, kept.until, mul-le a.image.units (cycle_count a.stimulus) 4096 1000000 kept.image.units.1 kept.stimulus.cycles)
 
 -- ---- before the first turn
 
@@ -235,19 +234,19 @@ blank_holds image stimulus p port fits is = record {
       blank_at image.slots (image.slots + link.slot) (omega arith) ∙ sym ((value_meets image stimulus fits).first link.sender link.slot);
 }
 
-pub kept_new : (a : Inside) → IsWellFormed a.image.now → IsValidStimulus a.stim.now → a.turn ≡ 1 → a.begun ≡ false → a.at_edge ≡ false → a.executed ≡ 0 → a.received ≡ 0
-    → a.places ≡ record { this = blank a.image.now.slots; past = blank a.image.now.slots } → IsKept a
+pub kept_new : (a : LaneBank) → IsWellFormed a.image → IsValidStimulus a.stimulus → a.turn ≡ 1 → a.begun ≡ false → a.at_edge ≡ false → a.executed ≡ 0 → a.received ≡ 0
+    → a.places ≡ record { this = blank a.image.slots; past = blank a.image.slots } → IsKeptInLane a
 kept_new a fits valid turn begun at_edge executed received places = record {
   image = fits;
   stimulus = valid;
   first = omega arith;
   until = omega arith;
   running = λ is. cc;
-  edge = at_edge ∙ ap (is_edge a.image.now.units) (sym turn);
-  this_room = subst (IsRoom a.image.now.slots) (sym (ap (λ p. p.this) places)) (blank_room a.image.now.slots);
-  past_room = subst (IsRoom a.image.now.slots) (sym (ap (λ p. p.past) places)) (blank_room a.image.now.slots);
+  edge = at_edge ∙ ap (is_edge a.image.units) (sym turn);
+  this_room = subst (IsRoom a.image.slots) (sym (ap (λ p. p.this) places)) (blank_room a.image.slots);
+  past_room = subst (IsRoom a.image.slots) (sym (ap (λ p. p.past) places)) (blank_room a.image.slots);
   this = λ port is. record { own = λ i slot low stands. absurd (omega arith); got = λ i link low there. absurd (omega arith) };
   past = λ port is.
-      subst (λ t. HoldsAll a.image.now a.stim.now (t - 1) a.port port a.places.past) (sym turn)
-      (subst (HoldsAll a.image.now a.stim.now 0 a.port port) (sym (ap (λ p. p.past) places)) (blank_holds a.image.now a.stim.now a.port port fits is));
+      subst (λ t. HoldsAll a.image a.stimulus (t - 1) a.port port a.places.past) (sym turn)
+      (subst (HoldsAll a.image a.stimulus 0 a.port port) (sym (ap (λ p. p.past) places)) (blank_holds a.image a.stimulus a.port port fits is));
 }

@@ -1,5 +1,5 @@
 -- Two values of each place, side by side.
-use Rattle.std.proofs.Common.{Bool, true, false, not, if◌then◌else◌, inl, inr, ◌≡◌, ◌≢◌, ℕ, zero, suc, ◌⊎◌, ◌+◌, ◌-◌, ◌*◌, ◌/◌, ◌%◌, ◌<◌, ◌≤◌, List, [], ◌∷◌, ◌++◌, length, set, get_or, replicate, refl, sym, ap, subst, ◌∙◌, arith, get_or-set_same, get_or-set_other, length-append}
+use Rattle.std.proofs.Common.{Bool, true, false, not, inl, inr, ◌≡◌, ◌≢◌, ℕ, zero, suc, ◌⊎◌, ◌+◌, ◌-◌, ◌*◌, ◌/◌, ◌%◌, ◌<◌, ◌≤◌, List, [], ◌∷◌, ◌++◌, length, set, get_or, replicate, refl, sym, ap, subst, ◌∙◌, arith, get_or-set_same, get_or-set_other, length-append}
 use Rattle.std.specs.Int.Bits.{bit_xor, bit_and, xor_add_and, xor_zero_r}
 use Rattle.std.proofs.lemmas.Nat.{and_mask}
 use Rattle.std.proofs.lemmas.Bool.{cases_eq, cases_lt}
@@ -101,13 +101,6 @@ turned_odd : (place : ℕ) → bit_xor (2 * place + 1) 1 ≡ 2 * place
 turned_odd place = let add : bit_xor (2 * place + 1) 1 + bit_and (2 * place + 1) 1 * 2 ≡ 2 * place + 1 + 1 = xor_add_and (2 * place + 1) 1 in
     omega (arith, add, and_one (2 * place + 1))
 
--- both values of a place are there
-pub both_there : (flat : List V4) (second : Bool) (place number : ℕ) (now : TwoTurns) → IsEven flat → two_turns flat second ≡ now → place < length now.this → number < 2
-    → 2 * place + number < length flat
-both_there flat second place number now even is low few =
-    let there : place < length flat / 2 = omega (arith, low, ap (λ (n : TwoTurns). length n.this) is, length-half flat (number_of second)) in
-    omega (arith, even, there)
-
 pub number_there : (flat : List V4) (second : Bool) (number : ℕ) (now : TwoTurns) → IsEven flat → two_turns flat second ≡ now → number < 2 * length now.this
     → bit_xor number (number_of second) < length flat
 number_there flat second number now even is low =
@@ -153,17 +146,6 @@ set_value flat second place v now even is low =
     by true there = rw (half-set_same flat 1 place v even (omega arith) there, half-set_other flat 1 0 place v (omega arith) (omega arith) (λ e. omega (arith, e))) refl
     by false there = rw (half-set_same flat 0 place v even (omega arith) there, half-set_other flat 0 1 place v (omega arith) (omega arith) (λ e. omega (arith, e))) refl
 
-pub even_set : (flat : List V4) (i : ℕ) (v : V4) → IsEven flat → IsEven (set flat i v)
-even_set flat i v even = rw (length-set flat i v) even
-
--- the lists change places
-pub swapped : (flat : List V4) (second : Bool) (now : TwoTurns) → two_turns flat second ≡ now → two_turns flat (not second) ≡ record { this = now.past; past = now.this }
-swapped flat second now is = subst (λ (n : TwoTurns). two_turns flat (not second) ≡ record { this = n.past; past = n.this }) is (by second)
-  where
-    by : (second : Bool) → two_turns flat (not second) ≡ record { this = half flat (number_of (not second)); past = half flat (number_of second) }
-    by true = refl
-    by false = refl
-
 -- ---- before the first turn
 
 -- the constants, each once and each twice
@@ -188,7 +170,7 @@ constant_at (suc (suc (suc zero))) (suc zero) low few = refl
 constant_at (suc (suc (suc (suc j)))) number low few = absurd (omega (arith, low))
 constant_at j (suc (suc number)) low few = absurd (omega (arith, few))
 
-length_flat : (slots : ℕ) → length (flat_blank slots) ≡ 4 * slots + 8
+pub length_flat : (slots : ℕ) → length (flat_blank slots) ≡ 4 * slots + 8
 length_flat slots = length-append (replicate (4 * slots) Undef) doubled ∙ ap (λ n. n + 8) (length-replicate (4 * slots) Undef)
 
 pub even_blank : (slots : ℕ) → IsEven (flat_blank slots)

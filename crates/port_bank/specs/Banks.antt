@@ -1,5 +1,5 @@
 -- What the banks of a port have: one the values of its turn so far, the other those of the turn before.
-use Rattle.std.specs.Prelude.{◌≡◌, ℕ, ◌+◌, ◌-◌, ◌*◌, ◌<◌, ◌≤◌, true, List, length, Some, slice_get}
+use Rattle.std.specs.Prelude.{◌≡◌, ℕ, ◌+◌, ◌-◌, ◌*◌, ◌<◌, ◌≤◌, Bool, true, List, length, Some, slice_get}
 use Rattle.logic_four.specs.declared.V4.{V4}
 use Rattle.logic_four.specs.Values.{code_of, value_at}
 use Rattle.net_defs.specs.declared.stimulus.Stimulus.{Stimulus}
@@ -11,9 +11,9 @@ use Rattle.image_defs.specs.declared.image.Image.{Image}
 use Rattle.image_defs.specs.Places.{item_slots, IsPort, IsItemIn}
 use Rattle.image_defs.specs.WellFormed.{IsWellFormed}
 use Rattle.image_defs.specs.Frames.{image_value}
-use Rattle.image_defs.specs.Ports.{PortView, last_turn}
+use Rattle.image_defs.specs.Ports.{View, PortView, last_turn}
 use Rattle.port_bank.specs.Flat.{place_count}
-use Rattle.port_bank.specs.declared.bank.Bank.TheInside.{Inside}
+use Rattle.port_bank.specs.Places.{TwoTurns, Turns, count, in_lane}
 
 -- there are all places for so many slots, and the constants stand in theirs
 pub record IsRoom (slots : ℕ) (bank : List V4) : Type 0 where
@@ -30,18 +30,49 @@ pub record Holds (image : Image) (stimulus : Stimulus) (turn p : ℕ) (port : Po
 abbrev pub HoldsAll : Image → Stimulus → ℕ → ℕ → PortImage → List V4 → Type 0
 HoldsAll image stimulus turn p port bank = Holds image stimulus turn p port (length (item_slots port.work)) (length port.ins) bank
 
--- what contracts see of a bank
-abbrev pub view_of : Inside → PortView
-view_of a = record { image = a.image.now; stimulus = a.stim.now; port = a.port; turn = a.turn; begun = a.begun; executed = a.executed; received = a.received }
+-- the bank of a plain port, or that of one lane of a packed port
+pub record LaneBank : Type 0 where
+  pub image : Image
+  pub stimulus : Stimulus
+  pub port : ℕ
+  pub turn : ℕ
+  pub begun : Bool
+  pub at_edge : Bool
+  pub executed : ℕ
+  pub received : ℕ
+  pub places : TwoTurns
 
-pub record IsKept (a : Inside) : Type 0 where
-  pub image : IsWellFormed a.image.now
-  pub stimulus : IsValidStimulus a.stim.now
+-- the plain port whose bank it is
+abbrev pub view_of : LaneBank → PortView
+view_of a = record { image = a.image; stimulus = a.stimulus; port = a.port; turn = a.turn; begun = a.begun; executed = a.executed; received = a.received }
+
+pub record IsKeptInLane (a : LaneBank) : Type 0 where
+  pub image : IsWellFormed a.image
+  pub stimulus : IsValidStimulus a.stimulus
   pub first : 1 ≤ a.turn
   pub until : a.turn ≤ last_turn (view_of a) + 1
   pub running : a.begun ≡ true → a.turn ≤ last_turn (view_of a)
-  pub edge : a.at_edge ≡ is_edge a.image.now.units a.turn
-  pub this_room : IsRoom a.image.now.slots a.places.this
-  pub past_room : IsRoom a.image.now.slots a.places.past
-  pub this : (port : PortImage) → IsPort a.image.now a.port port → Holds a.image.now a.stim.now a.turn a.port port a.executed a.received a.places.this
-  pub past : (port : PortImage) → IsPort a.image.now a.port port → HoldsAll a.image.now a.stim.now (a.turn - 1) a.port port a.places.past
+  pub edge : a.at_edge ≡ is_edge a.image.units a.turn
+  pub this_room : IsRoom a.image.slots a.places.this
+  pub past_room : IsRoom a.image.slots a.places.past
+  pub this : (port : PortImage) → IsPort a.image a.port port → Holds a.image a.stimulus a.turn a.port port a.executed a.received a.places.this
+  pub past : (port : PortImage) → IsPort a.image a.port port → HoldsAll a.image a.stimulus (a.turn - 1) a.port port a.places.past
+
+-- the bank of a lane, counted from 0
+abbrev pub lane_bank : {W S : Type 0} → (W → ℕ → V4) → (ℕ → S → ℕ → Stimulus) → ℕ → View S → Bool → Turns W → LaneBank
+lane_bank lane stimulus l view edge places = record {
+  image = view.image;
+  stimulus = stimulus view.image.columns view.stimulus l;
+  port = view.port;
+  turn = view.turn;
+  begun = view.begun;
+  at_edge = edge;
+  executed = view.executed;
+  received = view.received;
+  places = in_lane lane l places;
+}
+
+-- in each of the lanes stands what a plain port's bank has
+pub record IsKept {W S : Type 0} (lanes : ℕ) (lane : W → ℕ → V4) (stimulus : ℕ → S → ℕ → Stimulus) (view : View S) (edge : Bool) (places : Turns W) : Type 0 where
+  pub count : count places ≡ place_count view.image.slots
+  pub each : (l : ℕ) → l < lanes → IsKeptInLane (lane_bank lane stimulus l view edge places)

@@ -1,6 +1,8 @@
 pub mod Banks
 pub mod code
 pub mod Flat
-pub mod Links
+pub mod Lanes
+pub mod Packed
 pub mod Places
 pub mod Reads
+pub mod Words

@@ -1,39 +1,39 @@
 //! Places of two values each.
 
-ghost use Rattle.std.specs.Prelude.{◌≡◌, ◌*◌, ◌^◌, ◌<◌, ◌≤◌, length, set, IfOk};
+ghost use Rattle.std.specs.Prelude.{◌≡◌, ◌*◌, ◌^◌, ◌<◌, ◌≤◌, ℕ, set, IfOk, OnOk};
 ghost use Rattle.limits.specs.declared.TheConstants.{MAX_SLOTS};
 ghost use Rattle.logic_four.specs.Values.{value_at};
-ghost use Rattle.port_bank.specs.code.Banks.{blank};
-ghost use Rattle.port_bank.specs.Places.{number_of};
-ghost use Rattle.port_bank.specs.code.Places.{numbered};
+ghost use Rattle.port_bank.specs.Places.{number_of, count, in_lane};
+ghost use Rattle.port_bank.specs.code.Places.{numbered, AddsTwice, AreBlank};
 
+use crate::word::Word;
 use logic_four::V4;
 use seen_list::{List, Memory};
 use std::alloc::Global;
 use std::marker::Model;
 
-/// For each place a value of the turn and one of the turn before, side by side, so that both come into the
-/// cache together and one look at the length serves both. A contract sees two lists.
+/// For each place a word of the turn and one of the turn before, side by side, so that both come into the
+/// cache together and one look at the length serves both. A contract sees two lists a lane.
 #[derive(Drop)]
-pub(crate) struct Places {
-    /// The values of place `p` are at `2 * p` and after it.
-    flat: List<V4>,
+pub(crate) struct Places<W> {
+    /// The words of place `p` are at `2 * p` and after it.
+    flat: List<W>,
     /// Whether those of the turn are the second ones.
     second: bool,
 }
 
-impl Model for Places {
-    ghost use Rattle.port_bank.specs.Places.{two_turns, TwoTurns};
+impl<W> Model for Places<W> {
+    ghost use Rattle.port_bank.specs.Places.{Turns};
     ghost use Rattle.port_bank.specs.code.Places.{IsEven};
 
-    ghost Value = { TwoTurns };
+    ghost Value = { Turns W };
 
-    ghost view = { λ a. two_turns a.flat a.second };
+    ghost view = { λ a. record { flat = a.flat; second = a.second } };
 
     ghost invariant = { λ a. IsEven a.flat };
 }
 
-/// 1 for the second one of two values, and 0 for the first.
+/// 1 for the second one of two words, and 0 for the first.
 #[inline]
 pub(crate) fn number_of(second: bool) -> u32
     ensures { result ≡ number_of second }
@@ -41,62 +41,68 @@ pub(crate) fn number_of(second: bool) -> u32
     second as u32
 }
 
-impl Places {
+/// Adds a value twice.
+fn add_twice<W: Word>(flat: &mut List<W>, v: V4) -> Result<(), Memory>
+    ensures { OnOk result (AddsTwice W.lanes W.lane v flat.old flat.new) }
+{
+    let word = W::of(v);
+    flat.push(word)?;
+    flat.push(word)?;
+    Ok(())
+}
+
+impl<W: Word> Places<W> {
     /// The places for so many slots: undefined values, and the constants at the end.
-    pub(crate) fn new(alloc: Global, slots: u32) -> Result<Places, Memory>
+    pub(crate) fn new(alloc: Global, slots: u32) -> Result<Places<W>, Memory>
         requires { slots ≤ MAX_SLOTS }
-        ensures { IfOk result (λ places. places ≡ record { this = blank slots; past = blank slots }) }
+        ensures { IfOk result (AreBlank W.lanes W.lane slots) }
     {
-        let mut flat = List::filled(alloc, V4::Undef, 4 * slots as usize)?;
-        flat.extend_from_slice(&[
-            V4::Zero,
-            V4::Zero,
-            V4::One,
-            V4::One,
-            V4::Undef,
-            V4::Undef,
-            V4::HighZ,
-            V4::HighZ,
-        ])?;
+        let mut flat = List::filled(alloc, W::of(V4::Undef), 4 * slots as usize)?;
+        add_twice(&mut flat, V4::Zero)?;
+        add_twice(&mut flat, V4::One)?;
+        add_twice(&mut flat, V4::Undef)?;
+        add_twice(&mut flat, V4::HighZ)?;
         Ok(Places {
             flat,
             second: false,
         })
     }
 
-    /// The value of this number, which is twice that of a place, and one more for the turn before.
+    /// The word of this number, which is twice that of a place, and one more for the turn before.
     #[inline]
-    pub(crate) fn value(&self, number: u32) -> V4
-        requires { number < 2 * length self.now.this }
-        ensures { result ≡ numbered self.now number }
+    pub(crate) fn value(&self, number: u32) -> W
+        requires { number < 2 * count self.now }
+        ensures { (l : ℕ) → l < W.lanes → W.lane result l ≡ numbered (in_lane W.lane l self.now) number }
     {
         self.flat.as_slice()[(number ^ number_of(self.second)) as usize]
     }
 
-    /// The value of a place in the turn before.
+    /// The word of a place in the turn before.
     #[inline]
-    pub(crate) fn past(&self, place: u32) -> V4
+    pub(crate) fn past(&self, place: u32) -> W
         requires few { place < 2 ^ 31 }
-        requires there { place < length self.now.this }
-        ensures { result ≡ value_at self.now.past place }
+        requires there { place < count self.now }
+        ensures { (l : ℕ) → l < W.lanes → W.lane result l ≡ value_at (in_lane W.lane l self.now).past place }
     {
         self.value(2 * place + 1)
     }
 
-    /// Gives a place its value of the turn.
+    /// Gives a place its word of the turn.
     #[inline]
-    pub(crate) fn set(&mut self, place: u32, v: V4)
-        requires { place < length self.old.this }
-        ensures { self.new ≡ record self.old { this = set self.old.this place v } }
+    pub(crate) fn set(&mut self, place: u32, v: W)
+        requires { place < count self.old }
+        ensures count { count self.new ≡ count self.old }
+        ensures lanes { (l : ℕ) → l < W.lanes → in_lane W.lane l self.new ≡ record (in_lane W.lane l self.old) { this = set (in_lane W.lane l self.old).this place (W.lane v l) } }
     {
         self.flat
             .set(2 * place as usize + number_of(self.second) as usize, v);
     }
 
-    /// Ends the turn: its values are those of the turn before, which are to be overwritten.
+    /// Ends the turn: its words are those of the turn before, which are to be overwritten.
     #[inline]
     pub(crate) fn swap(&mut self)
-        ensures { self.new ≡ record { this = self.old.past; past = self.old.this } }
+        ensures count { count self.new ≡ count self.old }
+        ensures lanes { (l : ℕ) → l < W.lanes → in_lane W.lane l self.new ≡ record { this = (in_lane W.lane l self.old).past; past = (in_lane W.lane l self.old).this } }
     {
         self.second = !self.second;
     }

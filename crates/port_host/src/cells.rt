@@ -32,7 +32,7 @@ pub(crate) fn row_start(rows: u32, width: usize, count: usize) -> usize
 }
 
 /// Puts what the sources have into the cells from this place on.
-fn print(cells: &mut List<V4>, start: usize, sources: &[Source], bank: &Bank<'_>)
+fn print(cells: &mut List<V4>, start: usize, sources: &[Source], bank: &Bank<'_, V4>)
     requires room { start + length sources.now ≤ length cells.old }
     requires within { Each (IsWithin bank.now.image.slots) sources.now }
     ensures { HasPrinted bank.now sources.now (length sources.now) start cells.old cells.new }
@@ -51,7 +51,7 @@ pub(crate) fn keep_row(
     unit: u32,
     rows: u32,
     sources: &[Source],
-    bank: &Bank<'_>,
+    bank: &Bank<'_, V4>,
 )
     requires unit { unit < units }
     requires room { unit + 1 ≡ units

@@ -5,13 +5,12 @@ ghost use Rattle.net_defs.specs.Time.{value_at};
 ghost use Rattle.net_defs.specs.Valid.{IsValidStimulus};
 ghost use Rattle.image_defs.specs.WellFormed.{IsWellFormed};
 ghost use Rattle.image_defs.specs.Frames.{shown};
-ghost use Rattle.image_defs.specs.Ports.{after_begin, after_execute, after_receive, after_end, value_in, next_item, CanBegin, CanExecute, CanReceive, CanEnd};
-ghost use Rattle.port_bank.specs.Links.{next_link};
+ghost use Rattle.image_defs.specs.Ports.{after_begin, after_execute, after_receive, after_end, value_in, CanBegin, CanExecute, CanReceive, CanEnd};
 ghost use Rattle.port_host.specs.Rows.{HasRoom, given_up, host_at_first, moved_to, printed_sources, rows_done};
 
 use crate::cells::{keep_row, room, row, row_start};
 use crate::cursor::{Progress, begin, input_value, turn_over};
-use image_defs::{Image, InColumn, LinkIn, Source, Work};
+use image_defs::{Image, InColumn, Source, Work};
 use logic_four::V4;
 use net_defs::Stimulus;
 use port_bank::Bank;
@@ -24,7 +23,7 @@ use std::marker::Model;
 /// it has given up.
 #[derive(Drop)]
 pub struct HostPort<'a> {
-    bank: Bank<'a>,
+    bank: Bank<'a, V4>,
     stim: &'a Stimulus,
     units: u32,
     inputs: &'a [InColumn],
@@ -84,23 +83,6 @@ impl<'a> HostPort<'a> {
                 })
             }
         }
-    }
-
-    /// The slot of the next item of this turn, and `None` where all are executed.
-    pub fn next_slot(&self) -> Option<u32>
-        ensures { result ≡ next_item self.now.port }
-    {
-        match self.inputs.get(self.bank.executed()) {
-            Some(input) => Some(input.slot),
-            None => None,
-        }
-    }
-
-    /// What the port receives next in this turn, and `None` where it has received all.
-    pub fn next_link(&self) -> Option<LinkIn>
-        ensures { result ≡ next_link self.now.port }
-    {
-        self.bank.next_link()
     }
 
     /// Begins a turn.

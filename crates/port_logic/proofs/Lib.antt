@@ -1,2 +1,2 @@
-pub mod OpLemmas
-pub mod TaskLemmas
+mod OpLemmas
+mod TaskLemmas

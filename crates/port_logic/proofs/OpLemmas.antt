@@ -1,119 +1,131 @@
 -- What a task laid flat answers is the value of the task.
-use Rattle.std.proofs.Common.{◌≡◌, ◌∙◌, ℕ, ◌+◌, ◌*◌, ◌/◌, ◌%◌, ◌^◌, ◌<◌, List, length, slice_get, slice_index, inl, inr, sym, ap, ap₂, arith}
-use Rattle.std.proofs.Math.Nat.{div-div-eq-div-mul}
-use Rattle.std.proofs.lemmas.Nat.{pow-add}
-use Rattle.std.proofs.lemmas.Option.{slice_get_cases}
+use Rattle.std.proofs.Common.{◌≡◌, ◌∙◌, inl, inr, ℕ, ◌+◌, ◌*◌, ◌<◌, ◌≤◌, ◌⊎◌, List, [], ◌∷◌, ◌++◌, length, slice_get, Some, sym, ap, ap₂, subst, refl, arith}
+use Rattle.std.proofs.lemmas.Option.{slice_get_within}
+use Rattle.std.proofs.lemmas.Bool.{cases_lt}
+use Rattle.std.proofs.lemmas.List.{length-append}
+use Rattle.list_laws.proofs.Places.{at_front, seam_at}
 use Rattle.logic_four.specs.declared.V4.{V4}
-use Rattle.logic_four.specs.Values.{code_of, value_of, settled}
-use Rattle.logic_four.specs.Packed.{code_in, packed_value}
-use Rattle.logic_four.proofs.CodeLemmas.{code_of_small}
+use Rattle.logic_four.specs.Values.{settled}
 use Rattle.net_defs.specs.Steps.{registered}
 use Rattle.func_table.specs.declared.table.Table.{Table}
-use Rattle.func_table.specs.Entries.{entry_of, entry_for, looked_up}
+use Rattle.func_table.specs.Entries.{entry_for, looked_up}
 use Rattle.image_defs.specs.declared.image.Source.{Source}
-use Rattle.image_defs.specs.declared.image.Source.TheVariants.{Own, Got, Const}
 use Rattle.image_defs.specs.declared.image.Task.{Task}
 use Rattle.image_defs.specs.declared.image.Task.TheVariants.{Eval, Hold}
 use Rattle.image_defs.specs.Places.{task_slot}
 use Rattle.image_defs.specs.Steps.{past_value, task_value, timing_of}
 use Rattle.image_defs.specs.Ports.{PortView}
 use Rattle.port_bank.specs.declared.steps.Operand.{Operand}
-use Rattle.port_bank.specs.Flat.{place_count, operand_of, IsWithin}
+use Rattle.port_bank.specs.Flat.{place_count, operand_of}
 use Rattle.port_bank.specs.Reads.{IsAtHand, IsRead, IsHeld, now_in, past_in, value_taken}
 use Rattle.port_bank.proofs.TurnLemmas.{place_within, past_at_hand, past_taken}
-use Rattle.port_logic.specs.declared.op.Op.TheVariants.{Pair, Keep}
-use Rattle.port_logic.specs.Ops.{entry_at, word_in, look_of, gate_of, op_of}
-use Rattle.port_logic.specs.code.Ops.{IsTaskWithin, IsTabled, FitsOp}
+use Rattle.port_logic.specs.declared.op.Op.{Op}
+use Rattle.port_logic.specs.declared.op.Op.TheVariants.{Pair, Look, Keep}
+use Rattle.port_logic.specs.Ops.{IsFormIn, IsOp, IsPairOf, AreOpsOf}
+use Rattle.port_logic.specs.code.Ops.{AreFormsOf, IsTaskWithin, IsTabled, FitsOp}
 use Rattle.port_logic.specs.code.Tasks.{IsTaskAtHand, IsAnswer}
 
--- ---- an entry
+module _ {P F : Type 0} (is_pair : Table → V4 → V4 → P → Type 0) (is_form : Table → F → Type 0) where
+  -- ---- an answer
 
-word_of_entry : (x y z w : ℕ) → x < 4 → y < 4 → (x + 4 * y + 16 * z + 64 * w) / 32 ≡ (16 * z + 64 * w) / 32
-word_of_entry x y z w h k = omega arith
+  pub pair_right : (view : PortView) (tables : List Table) (pair : P) (a b : Operand) (slot : ℕ) (x y v : V4) → IsRead view a x → IsRead view b y
+      → ((table : Table) (c d : V4) → is_pair table c d pair → v ≡ entry_for table x y c d) → IsAnswer is_pair is_form view tables (Pair pair a b) slot v
+  pair_right view tables pair a b slot x y v is_x is_y is port i task at stands same hand op = of_task task hand op where
+    of_gate : (table : ℕ) (p q r u : Source) → IsAtHand view port p → IsAtHand view port q → IsPairOf is_pair view.image.slots tables table p q r u pair a b
+        → v ≡ looked_up (slice_get tables table) (value_taken view port p) (value_taken view port q) (value_taken view port r) (value_taken view port u)
+    of_gate table p q r u p_hand q_hand op =
+        is op.read op.third op.fourth op.known
+        ∙ ap₂ (λ s t. entry_for op.read s t op.third op.fourth) (is_x port p at p_hand op.x_is) (is_y port q at q_hand op.y_is)
+        ∙ sym (ap (λ o. looked_up o (value_taken view port p) (value_taken view port q) (value_taken view port r) (value_taken view port u)) op.there
+        ∙ ap₂ (λ s t. entry_for op.read (value_taken view port p) (value_taken view port q) (value_taken view port s) (value_taken view port t)) op.c_is op.d_is)
 
-place_of_entry : (x y z w : ℕ) → x < 4 → y < 4 → (x + 4 * y + 16 * z + 64 * w) % 32 ≡ (16 * z + 64 * w) % 32 + (x + 4 * y)
-place_of_entry x y z w h k = omega arith
-
--- a code of a word that is shifted down
-code_shifted : (word from i : ℕ) → code_in (word / 2 ^ (2 * from)) i ≡ code_in word (from + i)
-code_shifted word from i =
-    ap (λ n. n % 4) (div-div-eq-div-mul word (2 ^ (2 * from)) (2 ^ (2 * i)) ∙ ap (λ n. word / n) (sym (pow-add 2 (2 * from) (2 * i)) ∙ ap (λ n. 2 ^ n) (omega arith)))
-
--- the entry for four operands stands in the word of the last two, as far behind their first as the first two say
-pair_entry : (table : Table) (a b c d : V4) → value_of (code_in (slice_index table.words (entry_at c d / 32) / 2 ^ (2 * (entry_at c d % 32))) (code_of a + 4 * code_of b)) ≡ entry_for table a b c d
-unfolding entry_for entry_of packed_value
-pair_entry table a b c d =
-    ap value_of (code_shifted (slice_index table.words (entry_at c d / 32)) (entry_at c d % 32) (code_of a + 4 * code_of b))
-    ∙ sym (ap₂ (λ k i. value_of (code_in (slice_index table.words k) i))
-    (word_of_entry (code_of a) (code_of b) (code_of c) (code_of d) (code_of_small a) (code_of_small b))
-    (place_of_entry (code_of a) (code_of b) (code_of c) (code_of d) (code_of_small a) (code_of_small b)))
-
--- ---- a gate of two operands
-
-module _ (view : PortView) (tables : List Table) where
-  pub pair_right : (word : ℕ) (a b : Operand) (slot : ℕ) (x y v : V4) → IsRead view a x → IsRead view b y → v ≡ value_of (code_in word (code_of x + 4 * code_of y)) → IsAnswer view tables (Pair word a b) slot v
-  pair_right word a b slot x y v is_x is_y v_is port i task is stands at hand tabled same = of_task task hand tabled same where
-    of_table : (table : ℕ) (p q : Source) (c d : V4) → IsAtHand view port p → IsAtHand view port q → table < length tables
-        → Pair word a b ≡ Pair (word_in (slice_get tables table) (entry_at c d / 32) / 2 ^ (2 * (entry_at c d % 32))) (operand_of view.image.slots p) (operand_of view.image.slots q)
-        → v ≡ looked_up (slice_get tables table) (value_taken view port p) (value_taken view port q) c d
-    of_table table p q c d p_hand q_hand tabled same = elim (slice_get_cases tables table).1 [
-      | inl there ↦
-          let word_is : word ≡ word_in (slice_get tables table) (entry_at c d / 32) / 2 ^ (2 * (entry_at c d % 32)) = cc in
-          let a_is : a ≡ operand_of view.image.slots p = cc in
-          let b_is : b ≡ operand_of view.image.slots q = cc in
-          let taken : x ≡ value_taken view port p = is_x port p is p_hand a_is in
-          let taken' : y ≡ value_taken view port q = is_y port q is q_hand b_is in
-          v_is
-          ∙ ap (λ w. value_of (code_in w (code_of x + 4 * code_of y))) (word_is ∙ ap (λ o. word_in o (entry_at c d / 32) / 2 ^ (2 * (entry_at c d % 32))) there.2)
-          ∙ pair_entry there.0 x y c d
-          ∙ ap₂ (λ s t. entry_for there.0 s t c d) taken taken'
-          ∙ ap (λ o. looked_up o (value_taken view port p) (value_taken view port q) c d) (sym there.2)
-      | inr none ↦ absurd (omega (arith, tabled, none.0))
-    ]
-
-    of_task : (task : Task) → IsTaskAtHand view port task → IsTabled (length tables) task → Pair word a b ≡ op_of view.image.slots tables task
+    of_task : (task : Task) → IsTaskAtHand view port task → IsOp is_pair is_form view.image.slots tables task (Pair pair a b)
         → v ≡ task_value view.image view.turn view.port port.ins (past_in view) (now_in view).value tables task
-    of_task (Eval s table p q (Const c) (Const d)) hand tabled same = of_table table p q c d hand.0 hand.1 tabled same
-    of_task (Eval s table p q (Const c) (Own t l)) hand tabled same = cc
-    of_task (Eval s table p q (Const c) (Got t l)) hand tabled same = cc
-    of_task (Eval s table p q (Own t l) d) hand tabled same = cc
-    of_task (Eval s table p q (Got t l) d) hand tabled same = cc
-    of_task (Hold s source) hand tabled same = cc
+    of_task (Eval s table p q r u) hand op = of_gate table p q r u hand.0 hand.1 op
+    of_task (Hold s source) hand op = absurd op
 
-  -- ---- a register
+  pub look_right : (view : PortView) (tables : List Table) (form : F) (table : ℕ) (a b c d : Operand) (slot : ℕ) (read : Table) (va vb vc vd v : V4)
+      → slice_get tables table ≡ Some read → IsRead view a va → IsRead view b vb → IsRead view c vc → IsRead view d vd → v ≡ entry_for read va vb vc vd
+      → IsAnswer is_pair is_form view tables (Look form table a b c d) slot v
+  look_right view tables form table a b c d slot read va vb vc vd v there ra rb rc rd is port i task its stands at hand op = of_task task hand op where
+    of_task : (task : Task) → IsTaskAtHand view port task → IsOp is_pair is_form view.image.slots tables task (Look form table a b c d)
+        → v ≡ task_value view.image view.turn view.port port.ins (past_in view) (now_in view).value tables task
+    of_task (Hold s source) hand op = absurd op
+    of_task (Eval s t p q r u) hand op =
+        let found : slice_get tables t ≡ Some read = subst (λ k. slice_get tables k ≡ Some read) op.1 there in
+        let ea : va ≡ value_taken view port p = ra port p its hand.0 op.2 in
+        let eb : vb ≡ value_taken view port q = rb port q its hand.1 op.3 in
+        let ec : vc ≡ value_taken view port r = rc port r its hand.2 op.4 in
+        let ed : vd ≡ value_taken view port u = rd port u its hand.3 op.5 in
+        rw (found, is, ea, eb, ec, ed) refl
 
-  -- a gate is no register
-  no_keep : (from : Operand) (s t : ℕ) (p q r u : Source) → Keep from ≡ op_of view.image.slots tables (Eval s t p q r u) → ⊥
-  no_keep from s t p q (Const g) (Const h) same = cc
-  no_keep from s t p q (Const g) (Own n l) same = cc
-  no_keep from s t p q (Const g) (Got n l) same = cc
-  no_keep from s t p q (Own n l) u same = cc
-  no_keep from s t p q (Got n l) u same = cc
-
-  pub held_right : (from : Operand) (slot : ℕ) (read kept : V4) → IsRead view from read → IsHeld view slot (settled read) kept → IsAnswer view tables (Keep from) slot kept
-  held_right from slot read kept is_read is_held port i task is stands at hand tabled same = of_task task at hand same where
-    of_task : (task : Task) → task_slot task ≡ slot → IsTaskAtHand view port task → Keep from ≡ op_of view.image.slots tables task
+  pub keep_right : (view : PortView) (tables : List Table) (from : Operand) (slot : ℕ) (read kept : V4) → IsRead view from read → IsHeld view slot (settled read) kept → IsAnswer is_pair is_form view tables (Keep from) slot kept
+  keep_right view tables from slot read kept is_read is_held port i task is stands at hand op = of_task task at hand op where
+    of_task : (task : Task) → task_slot task ≡ slot → IsTaskAtHand view port task → IsOp is_pair is_form view.image.slots tables task (Keep from)
         → kept ≡ task_value view.image view.turn view.port port.ins (past_in view) (now_in view).value tables task
-    of_task (Eval s t p q r u) at hand same = absurd (no_keep from s t p q r u same)
-    of_task (Hold s source) at hand same =
-        let place : from ≡ operand_of view.image.slots source = cc in
-        let taken : read ≡ past_value view.port port.ins (past_in view).value source = is_read port source is (past_at_hand view port source hand) place ∙ past_taken view port source hand in
+    of_task (Eval s t p q r u) at hand op = absurd op
+    of_task (Hold s source) at hand op =
+        let taken : read ≡ past_value view.port port.ins (past_in view).value source = is_read port source is (past_at_hand view port source hand) op ∙ past_taken view port source hand in
         is_held port i is stands
         ∙ ap (λ v. registered (timing_of view.image) view.turn (settled v) ((past_in view).value view.port slot)) taken
         ∙ ap (λ t. registered (timing_of view.image) view.turn (settled (past_value view.port port.ins (past_in view).value source)) ((past_in view).value view.port t)) (sym at)
 
--- ---- what fits
+  -- ---- what fits
 
--- a task that names what there is fits
-pub op_fits : (slots : ℕ) (tables : List Table) (task : Task) → IsTabled (length tables) task → IsTaskWithin slots task → FitsOp (length tables) (place_count slots) (op_of slots tables task)
-op_fits slots tables (Eval slot table a b c d) tabled within = of_gate c d within.2 within.3 where
-  looks : (c d : Source) → IsWithin slots c → IsWithin slots d → FitsOp (length tables) (place_count slots) (look_of slots table a b c d)
-  looks c d c_in d_in = (tabled, place_within slots a within.0, place_within slots b within.1, place_within slots c c_in, place_within slots d d_in)
+  low_as : (places : ℕ) (one other : Operand) → one ≡ other → other.number < 2 * places → one.number < 2 * places
+  low_as places one other same low = subst (λ o. o.number < 2 * places) (sym same) low
 
-  of_gate : (c d : Source) → IsWithin slots c → IsWithin slots d → FitsOp (length tables) (place_count slots) (gate_of slots tables table a b c d)
-  of_gate (Const v) (Const w) c_in d_in = (place_within slots a within.0, place_within slots b within.1)
-  of_gate (Const v) (Own s l) c_in d_in = looks (Const v) (Own s l) c_in d_in
-  of_gate (Const v) (Got s l) c_in d_in = looks (Const v) (Got s l) c_in d_in
-  of_gate (Own s l) d c_in d_in = looks (Own s l) d c_in d_in
-  of_gate (Got s l) d c_in d_in = looks (Got s l) d c_in d_in
-op_fits slots tables (Hold slot from) tabled within = place_within slots from within
+  -- a task that names what there is fits
+  pub op_fits : (slots : ℕ) (tables : List Table) (task : Task) (op : Op P F) → IsTabled (length tables) task → IsTaskWithin slots task → IsOp is_pair is_form slots tables task op
+      → FitsOp is_form tables (place_count slots) op
+  op_fits slots tables (Eval slot table a b c d) (Pair pair x y) tabled within is =
+      (low_as (place_count slots) x (operand_of slots a) is.x_is (place_within slots a within.0), low_as (place_count slots) y (operand_of slots b) is.y_is (place_within slots b within.1))
+  op_fits slots tables (Eval slot table a b c d) (Look form number x y z w) tabled within is = (
+    subst (λ n. n < length tables) (sym is.1) tabled,
+    subst (λ n. IsFormIn is_form (slice_get tables n) form) (sym is.1) is.0,
+    low_as (place_count slots) x (operand_of slots a) is.2 (place_within slots a within.0),
+    low_as (place_count slots) y (operand_of slots b) is.3 (place_within slots b within.1),
+    low_as (place_count slots) z (operand_of slots c) is.4 (place_within slots c within.2),
+    low_as (place_count slots) w (operand_of slots d) is.5 (place_within slots d within.3),
+  )
+  op_fits slots tables (Eval slot table a b c d) (Keep from) tabled within is = absurd is
+  op_fits slots tables (Hold slot source) (Pair pair x y) tabled within is = absurd is
+  op_fits slots tables (Hold slot source) (Look form number x y z w) tabled within is = absurd is
+  op_fits slots tables (Hold slot source) (Keep from) tabled within is = low_as (place_count slots) from (operand_of slots source) is (place_within slots source within)
+
+  -- ---- lists that grow
+
+  last_one : {A : Type 0} (xs : List A) (x y : A) (i : ℕ) → slice_get (xs ++ x ∷ []) i ≡ Some y → length xs ≤ i → (i ≡ length xs) × (x ≡ y)
+  last_one xs x y i at past =
+      let low : i < length (xs ++ x ∷ []) = slice_get_within (xs ++ x ∷ []) i y at in
+      let here : i ≡ length xs = omega (arith, low, past, length-append xs (x ∷ [])) in
+      let same : Some x ≡ Some y = sym (seam_at xs x []) ∙ ap (slice_get (xs ++ x ∷ [])) (sym here) ∙ at in
+      (here, cc)
+
+  -- what one more table is known as
+  pub forms_more : (tables : List Table) (n : ℕ) (forms : List F) (table : Table) (form : F) → AreFormsOf is_form tables n forms → slice_get tables n ≡ Some table → is_form table form
+      → AreFormsOf is_form tables (n + 1) (forms ++ form ∷ [])
+  forms_more tables n forms table form are there is = record {
+    long = length-append forms (form ∷ []) ∙ ap (λ k. k + 1) are.long;
+    each = λ i other at. of_place i other at (cases_lt i (length forms));
+  } where
+    of_place : (i : ℕ) (other : F) → slice_get (forms ++ form ∷ []) i ≡ Some other → (i < length forms) ⊎ (length forms ≤ i) → IsFormIn is_form (slice_get tables i) other
+    of_place i other at (inl before) = are.each i other (sym (at_front forms (form ∷ []) i before) ∙ at)
+    of_place i other at (inr past) =
+        let last = last_one forms form other i at past in
+        subst (λ k. IsFormIn is_form (slice_get tables k) other) (sym (last.0 ∙ are.long)) (rw there (subst (is_form table) last.1 is))
+
+  -- one more task by places
+  pub ops_more : (slots : ℕ) (tables : List Table) (tasks : List Task) (n : ℕ) (ops : List (Op P F)) (task : Task) (op : Op P F) → AreOpsOf is_pair is_form slots tables tasks n ops → slice_get tasks n ≡ Some task
+      → IsOp is_pair is_form slots tables task op → AreOpsOf is_pair is_form slots tables tasks (n + 1) (ops ++ op ∷ [])
+  ops_more slots tables tasks n ops task op are there is = record {
+    long = length-append ops (op ∷ []) ∙ ap (λ k. k + 1) are.long;
+    each = λ i other its found at. of_place i other its found at (cases_lt i (length ops));
+  } where
+    of_place : (i : ℕ) (other : Task) (its : Op P F) → slice_get tasks i ≡ Some other → slice_get (ops ++ op ∷ []) i ≡ Some its → (i < length ops) ⊎ (length ops ≤ i) → IsOp is_pair is_form slots tables other its
+    of_place i other its found at (inl before) = are.each i other its found (sym (at_front ops (op ∷ []) i before) ∙ at)
+    of_place i other its found at (inr past) =
+        let last = last_one ops op its i at past in
+        let one : Some task ≡ Some other = sym there ∙ ap (slice_get tasks) (sym (last.0 ∙ are.long)) ∙ found in
+        let same : task ≡ other = cc in
+        subst (λ t. IsOp is_pair is_form slots tables t its) same (subst (IsOp is_pair is_form slots tables task) last.1 is)

@@ -1,7 +1,6 @@
 -- The tasks of a logic processor, and the one that is executed next.
-use Rattle.std.proofs.Common.{◌≡◌, ◌∙◌, ℕ, ◌≤◌, List, length, map, slice_get, Some, sym, ap, subst, refl, arith}
-use Rattle.std.specs.Option.{option_map}
-use Rattle.std.proofs.lemmas.Option.{slice_get-map}
+use Rattle.std.proofs.Common.{◌≡◌, ◌∙◌, ℕ, ◌<◌, List, length, get_or, slice_get, Some, sym, ap, subst, arith}
+use Rattle.std.proofs.lemmas.Option.{slice_get_within, slice_get-get_or}
 use Rattle.logic_four.specs.declared.V4.{V4}
 use Rattle.func_table.specs.declared.table.Table.{Table}
 use Rattle.image_defs.specs.declared.image.Source.{Source}
@@ -14,13 +13,16 @@ use Rattle.net_defs.specs.declared.stimulus.Stimulus.{Stimulus}
 use Rattle.image_defs.specs.Places.{Each, task_slot, IsPort, IsItemIn}
 use Rattle.image_defs.specs.WellFormed.{IsWellFormed, IsOperand, IsTask, IsWork}
 use Rattle.image_defs.specs.Steps.{task_value, item_value, value_of_member}
-use Rattle.image_defs.specs.Ports.{PortView, CanExecute, at_first, value_in}
+use Rattle.image_defs.specs.Ports.{View, PortView, CanExecute, lane_port, at_first, value_in}
 use Rattle.image_defs.proofs.PlaceLemmas.{at_map}
 use Rattle.port_bank.specs.Flat.{place_count}
+use Rattle.port_bank.specs.Lanes.{InEach}
 use Rattle.port_bank.specs.Reads.{IsAtHand, now_in, past_in}
+use Rattle.port_bank.proofs.BankLemmas.{slot_low}
+use Rattle.port_bank.proofs.LaneLemmas.{in_lane, in_each}
 use Rattle.port_bank.proofs.TurnLemmas.{item_meets, there_within, operand_at_hand}
-use Rattle.port_logic.specs.declared.port.LogicPort.TheInside.{Inside}
-use Rattle.port_logic.specs.Ops.{op_of}
+use Rattle.port_logic.specs.declared.op.Op.{Op}
+use Rattle.port_logic.specs.Ops.{AreOps}
 use Rattle.port_logic.specs.code.Ops.{IsTaskWithin, IsTabled, FitsOp}
 use Rattle.port_logic.specs.Tasks.{IsReady}
 use Rattle.port_logic.specs.code.Tasks.{IsTaskAtHand, IsAnswer}
@@ -37,7 +39,7 @@ task_tabled : (port : PortImage) (tables : ℕ) (task : Task) → IsTask port ta
 task_tabled port tables (Eval slot table a b c d) right = right.0
 task_tabled port tables (Hold slot from) right = tt
 
-pub task_at_hand : (view : PortView) (slot tables : ℕ) (task : Task) (can : CanExecute view slot) → IsWellFormed view.image → task_slot task ≡ slot → IsTask can.port tables task → IsTaskAtHand view can.port task
+task_at_hand : (view : PortView) (slot tables : ℕ) (task : Task) (can : CanExecute view slot) → IsWellFormed view.image → task_slot task ≡ slot → IsTask can.port tables task → IsTaskAtHand view can.port task
 task_at_hand view slot tables (Eval s table a b c d) can fits at right =
     (right_here a right.1, right_here b right.2, right_here c right.3, right_here d right.4)
   where
@@ -46,7 +48,7 @@ task_at_hand view slot tables (Eval s table a b c d) can fits at right =
 task_at_hand view slot tables (Hold s from) can fits at right = right
 
 -- the work of a logic processor
-pub tasks_right : (image : Image) (p : ℕ) (port : PortImage) (tables : List Table) (tasks : List Task) → IsWellFormed image → IsPort image p port → port.work ≡ Logic tables tasks → Each (IsTask port (length tables)) tasks
+tasks_right : (image : Image) (p : ℕ) (port : PortImage) (tables : List Table) (tasks : List Task) → IsWellFormed image → IsPort image p port → port.work ≡ Logic tables tasks → Each (IsTask port (length tables)) tasks
 tasks_right image p port tables tasks fits is work = subst (IsWork image.columns port) work (fits.ports p port is).work
 
 pub tasks_within : (image : Image) (p : ℕ) (port : PortImage) (tables : List Table) (tasks : List Task) → IsWellFormed image → IsPort image p port → port.work ≡ Logic tables tasks → Each (IsTaskWithin image.slots) tasks
@@ -55,52 +57,76 @@ tasks_within image p port tables tasks fits is work i task there = task_within i
 pub tasks_tabled : (image : Image) (p : ℕ) (port : PortImage) (tables : List Table) (tasks : List Task) → IsWellFormed image → IsPort image p port → port.work ≡ Logic tables tasks → Each (IsTabled (length tables)) tasks
 tasks_tabled image p port tables tasks fits is work i task there = task_tabled port (length tables) task (tasks_right image p port tables tasks fits is work i task there)
 
--- a logic processor before its first turn
-pub ready_first : (a : Inside) (image : Image) (stimulus : Stimulus) (p : ℕ) (seat : PortImage) → a.bank ≡ at_first image stimulus p → IsWellFormed image → IsPort image p seat
-    → seat.work ≡ Logic a.tables.now a.tasks.now → a.ops ≡ map (op_of image.slots a.tables.now) a.tasks.now → IsReady a
-ready_first a image stimulus p seat bank fits is work ops = record {
-  image = subst (λ b. IsWellFormed b.image) (sym bank) fits;
-  first = subst (λ b. 1 ≤ b.turn) (sym bank) (omega arith);
-  seat = seat;
-  is = subst (λ b. IsPort b.image b.port seat) (sym bank) is;
-  work = work;
-  ops = subst (λ b. a.ops ≡ map (op_of b.image.slots a.tables.now) a.tasks.now) (sym bank) ops;
-}
+-- ---- the task that a plain port executes next
 
--- ---- the task that is executed next
+record IsNext (tables : List Table) (tasks : List Task) (port : PortImage) (executed slot : ℕ) : Type 0 where
+  task : Task
+  there : slice_get tasks executed ≡ Some task
+  at : task_slot task ≡ slot
+  right : IsTask port (length tables) task
 
-pub record IsNext (a : Inside) (port : PortImage) (slot : ℕ) : Type 0 where
-  pub task : Task
-  pub there : slice_get a.tasks.now a.bank.executed ≡ Some task
-  pub at : task_slot task ≡ slot
-  pub right : IsTask port (length a.tables.now) task
-  pub op : slice_get a.ops a.bank.executed ≡ Some (op_of a.bank.image.slots a.tables.now task)
-
-same_work : (a : Inside) (port : PortImage) → IsReady a → IsPort a.bank.image a.bank.port port → port.work ≡ Logic a.tables.now a.tasks.now
-same_work a port ready is = let same : ready.seat ≡ port = cc in subst (λ q. q.work ≡ Logic a.tables.now a.tasks.now) same ready.work
-
-pub next_task : (a : Inside) (slot : ℕ) → IsReady a → (can : CanExecute a.bank slot) → IsNext a can.port slot
-next_task a slot ready can = of_task (at_map task_slot a.tasks.now a.bank.executed slot (subst (λ work. IsItemIn work a.bank.executed slot) work can.next)) where
-  work : can.port.work ≡ Logic a.tables.now a.tasks.now
-  work = same_work a can.port ready can.is
-
-  of_task : (task : Task) × (slice_get a.tasks.now a.bank.executed ≡ Some task) × (task_slot task ≡ slot) → IsNext a can.port slot
+next_task : (view : PortView) (slot : ℕ) (tables : List Table) (tasks : List Task) → IsWellFormed view.image → (can : CanExecute view slot) → can.port.work ≡ Logic tables tasks → IsNext tables tasks can.port view.executed slot
+next_task view slot tables tasks fits can work = of_task (at_map task_slot tasks view.executed slot (subst (λ work. IsItemIn work view.executed slot) work can.next)) where
+  of_task : (task : Task) × (slice_get tasks view.executed ≡ Some task) × (task_slot task ≡ slot) → IsNext tables tasks can.port view.executed slot
   of_task (task, there, at) = record {
     task = task;
     there = there;
     at = at;
-    right = tasks_right a.bank.image a.bank.port can.port a.tables.now a.tasks.now ready.image can.is work a.bank.executed task there;
-    op = ap (λ ops. slice_get ops a.bank.executed) ready.ops ∙ slice_get-map (op_of a.bank.image.slots a.tables.now) a.tasks.now a.bank.executed ∙ ap (option_map (op_of a.bank.image.slots a.tables.now)) there;
+    right = tasks_right view.image view.port can.port tables tasks fits can.is work view.executed task there;
   }
 
-pub next_fits : (a : Inside) (slot : ℕ) → IsReady a → (can : CanExecute a.bank slot) → (next : IsNext a can.port slot) → FitsOp (length a.tables.now) (place_count a.bank.image.slots) (op_of a.bank.image.slots a.tables.now next.task)
-next_fits a slot ready can next =
-    op_fits a.bank.image.slots a.tables.now next.task (task_tabled can.port (length a.tables.now) next.task next.right) (task_within a.bank.image a.bank.port can.port (length a.tables.now) next.task ready.image can.is next.right)
+-- ---- what a logic processor keeps
 
-pub next_answers : (a : Inside) (slot : ℕ) (v : V4) → IsReady a → (can : CanExecute a.bank slot) → (next : IsNext a can.port slot)
-    → IsAnswer a.bank a.tables.now (op_of a.bank.image.slots a.tables.now next.task) slot v → v ≡ value_in a.bank slot
-next_answers a slot v ready can next is =
-    is can.port a.bank.executed next.task can.is can.next next.at (task_at_hand a.bank slot (length a.tables.now) next.task can ready.image next.at next.right) (task_tabled can.port (length a.tables.now) next.task next.right) refl
-    ∙ ap (value_of_member (task_value a.bank.image a.bank.turn a.bank.port can.port.ins (past_in a.bank) (now_in a.bank).value a.tables.now)) (sym next.there)
-    ∙ ap (λ work. item_value a.bank.image a.bank.stimulus a.bank.turn (past_in a.bank) (now_in a.bank).value a.bank.port can.port.ins work a.bank.executed) (sym (same_work a can.port ready can.is))
-    ∙ sym (item_meets a.bank can.port a.bank.executed slot ready.image ready.first can.is can.next)
+-- before its first turn
+pub ready_first : {P F S : Type 0} (is_pair : Table → V4 → V4 → P → Type 0) (is_form : Table → F → Type 0) (bank : View S) (tables : List Table) (tasks : List Task) (ops : List (Op P F))
+    (image : Image) (stimulus : S) (p : ℕ) (seat : PortImage) → bank ≡ at_first image stimulus p → IsWellFormed image → IsPort image p seat → seat.work ≡ Logic tables tasks
+    → AreOps is_pair is_form image.slots tables tasks ops → IsReady is_pair is_form bank tables tasks ops
+ready_first is_pair is_form bank tables tasks ops image stimulus p seat first fits is work flat =
+    subst (λ b. IsReady is_pair is_form b tables tasks ops) (sym first) (record { image = fits; first = omega arith; seat = seat; is = is; work = work; flat = flat })
+
+module _ {W P F S : Type 0} (lanes : ℕ) (some : 0 < lanes) (lane : W → ℕ → V4) (stimulus : ℕ → S → ℕ → Stimulus) (is_pair : Table → V4 → V4 → P → Type 0) (is_form : Table → F → Type 0)
+    (bank : View S) (tables : List Table) (tasks : List Task) (ops : List (Op P F)) (ready : IsReady is_pair is_form bank tables tasks ops)
+    (slot : ℕ) (each : InEach lanes (λ l. CanExecute (lane_port stimulus l bank) slot)) where
+  can_in : (l : ℕ) → l < lanes → CanExecute (lane_port stimulus l bank) slot
+  can_in = in_lane lanes (λ l. CanExecute (lane_port stimulus l bank) slot) each
+
+  same_work : (port : PortImage) → IsPort bank.image bank.port port → port.work ≡ Logic tables tasks
+  same_work port is = let same : ready.seat ≡ port = cc in subst (λ q. q.work ≡ Logic tables tasks) same ready.work
+
+  next_in : (l : ℕ) (low : l < lanes) → IsNext tables tasks (can_in l low).port bank.executed slot
+  next_in l low = next_task (lane_port stimulus l bank) slot tables tasks ready.image (can_in l low) (same_work (can_in l low).port (can_in l low).is)
+
+  op_there : (op default : Op P F) (task : Task) → op ≡ get_or ops bank.executed default → slice_get tasks bank.executed ≡ Some task → slice_get ops bank.executed ≡ Some op
+  op_there op default task is there =
+      slice_get-get_or ops bank.executed default (omega (arith, slice_get_within tasks bank.executed task there, ready.flat.long)) ∙ ap (λ o. Some o) (sym is)
+
+  pub next_slot_low : slot < bank.image.slots
+  next_slot_low = let can : CanExecute (lane_port stimulus 0 bank) slot = can_in 0 some in slot_low bank.image bank.port can.port bank.executed slot ready.image can.is can.next
+
+  pub next_low : bank.executed < length ops
+  next_low = let next : IsNext tables tasks (can_in 0 some).port bank.executed slot = next_in 0 some in omega (arith, slice_get_within tasks bank.executed next.task next.there, ready.flat.long)
+
+  pub next_fits : (op default : Op P F) → op ≡ get_or ops bank.executed default → FitsOp is_form tables (place_count bank.image.slots) op
+  next_fits op default is =
+      let can : CanExecute (lane_port stimulus 0 bank) slot = can_in 0 some in
+      let next : IsNext tables tasks (can_in 0 some).port bank.executed slot = next_in 0 some in
+      op_fits is_pair is_form bank.image.slots tables next.task op (task_tabled can.port (length tables) next.task next.right)
+      (task_within bank.image bank.port can.port (length tables) next.task ready.image can.is next.right)
+      (ready.flat.each bank.executed next.task op next.there (op_there op default next.task is next.there))
+
+  -- what is answered for the op that is executed next is the value of the item
+  pub next_answers : (op default : Op P F) (w : W) → op ≡ get_or ops bank.executed default
+      → ((l : ℕ) → l < lanes → IsAnswer is_pair is_form (lane_port stimulus l bank) tables op slot (lane w l))
+      → InEach lanes (λ l. lane w l ≡ value_in (lane_port stimulus l bank) slot)
+  next_answers op default w is answers = in_each lanes (λ l. lane w l ≡ value_in (lane_port stimulus l bank) slot) of_lane where
+    of_next : (l : ℕ) (low : l < lanes) (can : CanExecute (lane_port stimulus l bank) slot) → IsNext tables tasks can.port bank.executed slot → lane w l ≡ value_in (lane_port stimulus l bank) slot
+    of_next l low can next =
+        let view = lane_port stimulus l bank in
+        answers l low can.port bank.executed next.task can.is can.next next.at (task_at_hand view slot (length tables) next.task can ready.image next.at next.right)
+        (ready.flat.each bank.executed next.task op next.there (op_there op default next.task is next.there))
+        ∙ ap (value_of_member (task_value view.image view.turn view.port can.port.ins (past_in view) (now_in view).value tables)) (sym next.there)
+        ∙ ap (λ work. item_value view.image view.stimulus view.turn (past_in view) (now_in view).value view.port can.port.ins work view.executed) (sym (same_work can.port can.is))
+        ∙ sym (item_meets view can.port view.executed slot ready.image ready.first can.is can.next)
+
+    of_lane : (l : ℕ) → l < lanes → lane w l ≡ value_in (lane_port stimulus l bank) slot
+    of_lane l low = of_next l low (can_in l low) (next_in l low)

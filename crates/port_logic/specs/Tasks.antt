@@ -1,17 +1,21 @@
--- What a logic processor keeps, and what it answers for a task.
-use Rattle.std.specs.Prelude.{◌≡◌, ◌≤◌, map}
+-- What a logic processor keeps.
+use Rattle.std.specs.Prelude.{◌≡◌, ◌≤◌, List}
+use Rattle.logic_four.specs.declared.V4.{V4}
+use Rattle.func_table.specs.declared.table.Table.{Table}
+use Rattle.image_defs.specs.declared.image.Task.{Task}
 use Rattle.image_defs.specs.declared.image.Work.TheVariants.{Logic}
 use Rattle.image_defs.specs.declared.image.PortImage.{PortImage}
 use Rattle.image_defs.specs.Places.{IsPort}
+use Rattle.image_defs.specs.Ports.{View}
 use Rattle.image_defs.specs.WellFormed.{IsWellFormed}
-use Rattle.port_logic.specs.declared.port.LogicPort.TheInside.{Inside}
-use Rattle.port_logic.specs.Ops.{op_of}
+use Rattle.port_logic.specs.declared.op.Op.{Op}
+use Rattle.port_logic.specs.Ops.{AreOps}
 
 -- the bank is a logic processor's, and its tasks are laid flat
-pub record IsReady (a : Inside) : Type 0 where
-  pub image : IsWellFormed a.bank.image
-  pub first : 1 ≤ a.bank.turn
+pub record IsReady {P F S : Type 0} (is_pair : Table → V4 → V4 → P → Type 0) (is_form : Table → F → Type 0) (bank : View S) (tables : List Table) (tasks : List Task) (ops : List (Op P F)) : Type 0 where
+  pub image : IsWellFormed bank.image
+  pub first : 1 ≤ bank.turn
   pub seat : PortImage
-  pub is : IsPort a.bank.image a.bank.port seat
-  pub work : seat.work ≡ Logic a.tables.now a.tasks.now
-  pub ops : a.ops ≡ map (op_of a.bank.image.slots a.tables.now) a.tasks.now
+  pub is : IsPort bank.image bank.port seat
+  pub work : seat.work ≡ Logic tables tasks
+  pub flat : AreOps is_pair is_form bank.image.slots tables tasks ops

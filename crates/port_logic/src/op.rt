@@ -1,31 +1,31 @@
-//! Tasks laid flat: each operand is a number of a bank, and a gate whose third and fourth operands are
-//! constants is a part of one word of its table.
+//! Tasks laid flat: each operand is a number of a bank, and each gate says what its table is known as.
 
-ghost use Rattle.std.specs.Prelude.{◌≡◌, ◌<◌, ◌≤◌, length, map, IfOk};
+ghost use Rattle.std.specs.Prelude.{◌<◌, ◌≤◌, length, slice_get, IfOk};
 ghost use Rattle.limits.specs.declared.TheConstants.{MAX_SLOTS};
 ghost use Rattle.image_defs.specs.Places.{Each};
 ghost use Rattle.port_bank.specs.Flat.{IsWithin};
-ghost use Rattle.port_logic.specs.Ops.{pair_of, look_of, gate_of, op_of};
-ghost use Rattle.port_logic.specs.code.Ops.{IsTaskWithin, IsTabled};
+ghost use Rattle.port_logic.specs.Ops.{AreOps, IsFormIn, IsGate, IsOp};
+ghost use Rattle.port_logic.specs.code.Ops.{AreForms, IsLookOf, IsTaskWithin, IsTabled};
 
 use func_table::Table;
 use image_defs::{Source, Task};
-use logic_four::{V4, code};
+use port_bank::Word;
 use port_bank::steps::{Operand, operand_of};
 use seen_list::{List, Memory};
 use std::alloc::Global;
 
 /// What a task does, by operands of a bank.
 #[derive(Clone, Copy)]
-pub(crate) enum Op {
-    /// Looks two operands up in the 16 lowest places of this part of a table.
+pub(crate) enum Op<P, F> {
+    /// Answers two operands, of a gate whose third and fourth operands are constants.
     Pair {
-        word: u64,
+        pair: P,
         a: Operand,
         b: Operand,
     },
-    /// Looks four operands up in the table of this number.
+    /// Answers four operands by the table of this number, which is known as this.
     Look {
+        form: F,
         table: u32,
         a: Operand,
         b: Operand,
@@ -38,32 +38,36 @@ pub(crate) enum Op {
     },
 }
 
-/// That of a gate whose third and fourth operands have these values.
-fn pair_of(slots: u32, tables: &[Table], table: u32, a: Source, b: Source, c: V4, d: V4) -> Op
-    requires few { slots ≤ MAX_SLOTS }
-    requires tabled { table < length tables.now }
-    requires a { IsWithin slots a }
-    requires b { IsWithin slots b }
-    ensures { result ≡ pair_of slots tables.now table a b c d }
+/// What each of the tables is known as, in order.
+pub(crate) fn forms_of<W: Word>(alloc: Global, tables: &[Table]) -> Result<List<W::Form>, Memory>
+    ensures { IfOk result (AreForms W.is_form tables.now) }
 {
-    let entry = 16 * code(c) + 64 * code(d);
-    Op::Pair {
-        word: tables[table as usize].words[(entry / 32) as usize] >> (2 * (entry % 32)),
-        a: operand_of(slots, a),
-        b: operand_of(slots, b),
+    let mut forms = List::new(alloc);
+    'tables: for table in tables {
+        forms.push(W::form_of(table))?;
     }
+    Ok(forms)
 }
 
 /// That of a gate of any operands.
-fn look_of(slots: u32, table: u32, a: Source, b: Source, c: Source, d: Source) -> Op
+fn look_of<W: Word>(
+    slots: u32,
+    form: W::Form,
+    table: u32,
+    a: Source,
+    b: Source,
+    c: Source,
+    d: Source,
+) -> Op<W::Pair, W::Form>
     requires few { slots ≤ MAX_SLOTS }
     requires a { IsWithin slots a }
     requires b { IsWithin slots b }
     requires c { IsWithin slots c }
     requires d { IsWithin slots d }
-    ensures { result ≡ look_of slots table a b c d }
+    ensures { IsLookOf slots form table a b c d result }
 {
     Op::Look {
+        form,
         table,
         a: operand_of(slots, a),
         b: operand_of(slots, b),
@@ -72,41 +76,52 @@ fn look_of(slots: u32, table: u32, a: Source, b: Source, c: Source, d: Source) -
     }
 }
 
-/// That of a gate.
-fn gate_of(
+/// That of a gate whose table is known as this.
+fn gate_of<W: Word>(
     slots: u32,
+    form: W::Form,
     tables: &[Table],
     table: u32,
     a: Source,
     b: Source,
     c: Source,
     d: Source,
-) -> Op
+) -> Op<W::Pair, W::Form>
     requires few { slots ≤ MAX_SLOTS }
     requires tabled { table < length tables.now }
+    requires form { IsFormIn W.is_form (slice_get tables.now table) form }
     requires a { IsWithin slots a }
     requires b { IsWithin slots b }
     requires c { IsWithin slots c }
     requires d { IsWithin slots d }
-    ensures { result ≡ gate_of slots tables.now table a b c d }
+    ensures { IsGate W.is_pair W.is_form slots tables.now table a b c d result }
 {
-    match c {
-        Source::Const(v) => match d {
-            Source::Const(w) => pair_of(slots, tables, table, a, b, v, w),
-            Source::Own { .. } => look_of(slots, table, a, b, c, d),
-            Source::Got { .. } => look_of(slots, table, a, b, c, d),
-        },
-        Source::Own { .. } => look_of(slots, table, a, b, c, d),
-        Source::Got { .. } => look_of(slots, table, a, b, c, d),
+    if let Source::Const(third) = c {
+        if let Source::Const(fourth) = d {
+            if let Some(pair) = W::pair_of(form, &tables[table as usize], third, fourth) {
+                return Op::Pair {
+                    pair,
+                    a: operand_of(slots, a),
+                    b: operand_of(slots, b),
+                };
+            }
+        }
     }
+    look_of::<W>(slots, form, table, a, b, c, d)
 }
 
-/// That of a task, where a turn has so many slots.
-fn op_of(slots: u32, tables: &[Table], task: &Task) -> Op
+/// That of a task, where a turn has so many slots and the tables are known as these.
+fn op_of<W: Word>(
+    slots: u32,
+    tables: &[Table],
+    forms: &[W::Form],
+    task: &Task,
+) -> Op<W::Pair, W::Form>
     requires few { slots ≤ MAX_SLOTS }
+    requires forms { AreForms W.is_form tables.now forms.now }
     requires within { IsTaskWithin slots task.now }
     requires tabled { IsTabled (length tables.now) task.now }
-    ensures { result ≡ op_of slots tables.now task.now }
+    ensures { IsOp W.is_pair W.is_form slots tables.now task.now result }
 {
     match task {
         Task::Eval {
@@ -116,28 +131,39 @@ fn op_of(slots: u32, tables: &[Table], task: &Task) -> Op
             c,
             d,
             ..
-        } => gate_of(slots, tables, *table, *a, *b, *c, *d),
+        } => gate_of::<W>(
+            slots,
+            forms[*table as usize],
+            tables,
+            *table,
+            *a,
+            *b,
+            *c,
+            *d,
+        ),
         Task::Hold { from, .. } => Op::Keep {
             from: operand_of(slots, *from),
         },
     }
 }
 
-/// Those of the tasks, in order, where a turn has so many slots.
-pub(crate) fn ops_of(
+/// Those of the tasks, in order, where a turn has so many slots and the tables are known as these.
+pub(crate) fn ops_of<W: Word>(
     alloc: Global,
     slots: u32,
     tables: &[Table],
+    forms: &[W::Form],
     tasks: &[Task],
-) -> Result<List<Op>, Memory>
+) -> Result<List<Op<W::Pair, W::Form>>, Memory>
     requires few { slots ≤ MAX_SLOTS }
+    requires forms { AreForms W.is_form tables.now forms.now }
     requires within { Each (IsTaskWithin slots) tasks.now }
     requires tabled { Each (IsTabled (length tables.now)) tasks.now }
-    ensures { IfOk result (λ ops. ops ≡ map (op_of slots tables.now) tasks.now) }
+    ensures { IfOk result (AreOps W.is_pair W.is_form slots tables.now tasks.now) }
 {
     let mut ops = List::new(alloc);
     'tasks: for task in tasks {
-        ops.push(op_of(slots, tables, task))?;
+        ops.push(op_of::<W>(slots, tables, forms, task))?;
     }
     Ok(ops)
 }

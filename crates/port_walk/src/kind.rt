@@ -20,13 +20,13 @@ use std::alloc::Global;
 /// A port in its run, by its kind.
 #[derive(Drop)]
 pub(crate) enum Kind<'a> {
-    Logic(LogicPort<'a>),
+    Logic(LogicPort<'a, V4>),
     Array(ArrayPort<'a>),
     Host(HostPort<'a>),
 }
 
 /// Executes items of a logic processor, as `Kind::run` does.
-fn run_logic(port: &mut LogicPort<'_>, slots: &[u32], from: u32, to: u32, last: V4) -> V4
+fn run_logic(port: &mut LogicPort<'_, V4>, slots: &[u32], from: u32, to: u32, last: V4) -> V4
     requires can { CanRun port.old slots.now from to }
     requires last { IsLastValue port.old last }
     ensures run { HasRun port.old port.new to }

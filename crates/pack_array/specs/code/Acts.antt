@@ -6,7 +6,7 @@ use Rattle.logic_four.specs.Memory.{initial_words}
 use Rattle.image_defs.specs.declared.image.BlockWork.{BlockWork}
 use Rattle.image_defs.specs.Places.{Each}
 use Rattle.port_array.specs.code.Acts.{ReadsPast, Acted, AreActed}
-use Rattle.pack_bank.specs.Views.{PackPortView, lane_port}
+use Rattle.port_bank.specs.Packed.{PackPortView, lane_port}
 use Rattle.pack_array.specs.declared.memory.PackMemory.{PackMemory}
 use Rattle.pack_array.specs.Acts.{lane_memory, lane_memories, IsWhole}
 

@@ -4,7 +4,7 @@ use Rattle.limits.specs.declared.TheConstants.{LANES}
 use Rattle.lane_planes.specs.declared.planes.Planes.{Planes}
 use Rattle.image_defs.specs.declared.image.Source.{Source}
 use Rattle.port_host.specs.code.Rows.{HasPrinted}
-use Rattle.pack_bank.specs.Views.{PackPortView, lane_port}
+use Rattle.port_bank.specs.Packed.{PackPortView, lane_port}
 use Rattle.pack_host.specs.Cells.{in_lane}
 
 -- in each lane what the first n sources have stands in the cells from this place on; what is before stays

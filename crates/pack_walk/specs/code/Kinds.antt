@@ -2,7 +2,8 @@
 use Rattle.std.specs.Prelude.{◌≡◌, ℕ, Bool, if◌then◌else◌}
 use Rattle.stim_text.specs.declared.lanes.Lanes.{Lanes}
 use Rattle.image_defs.specs.declared.image.Image.{Image}
-use Rattle.pack_bank.specs.Views.{PackPortView, at_first}
+use Rattle.image_defs.specs.Ports.{at_first}
+use Rattle.port_bank.specs.Packed.{PackPortView}
 use Rattle.pack_walk.specs.declared.kind.Kind.{Kind}
 use Rattle.pack_walk.specs.Kinds.{view_in, FitsKind}
 

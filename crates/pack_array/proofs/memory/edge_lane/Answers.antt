@@ -2,7 +2,7 @@ use Rattle.std.proofs.Common.{◌≡◌, ◌∙◌, [], length, get_or, sym, ap,
 use Rattle.std.proofs.lemmas.List.{length-map, length-set, get_or-set_same, get_or-set_other}
 use Rattle.logic_four.specs.Memory.{memory_act}
 use Rattle.port_array.specs.code.Acts.{past_of, act_at}
-use Rattle.pack_bank.specs.Views.{lane_port}
+use Rattle.port_bank.specs.Packed.{lane_port}
 use Rattle.pack_array.specs.Acts.{lane_memory}
 use Rattle.pack_array.proofs.MemoryLemmas.{lane_long, whole_after}
 use Rattle.pack_array.proofs.memory.edge_lane.Goals as goal

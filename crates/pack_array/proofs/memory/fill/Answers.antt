@@ -3,7 +3,7 @@ use Rattle.std.proofs.lemmas.List.{ext_get_or, length-map, length-set, get_or-ma
 use Rattle.list_laws.proofs.Ranges.{last_or}
 use Rattle.logic_four.specs.declared.V4.TheVariants.{Undef}
 use Rattle.port_array.specs.code.Acts.{past_of}
-use Rattle.pack_bank.specs.Views.{lane_port}
+use Rattle.port_bank.specs.Packed.{lane_port}
 use Rattle.pack_array.proofs.memory.fill.Goals as goal
 
 pub sources-preserved : goal.sources-preserved

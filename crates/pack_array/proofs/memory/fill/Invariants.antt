@@ -1,7 +1,7 @@
 use Rattle.std.proofs.Common.{◌≡◌, ◌<◌, ℕ, get_or, map, length}
 use Rattle.logic_four.specs.declared.V4.TheVariants.{Undef}
 use Rattle.port_array.specs.code.Acts.{past_of}
-use Rattle.pack_bank.specs.Views.{lane_port}
+use Rattle.port_bank.specs.Packed.{lane_port}
 use Rattle.pack_array.proofs.memory.fill.Given as goal
 
 abbrev pub invariant-sources : goal.invariant-sources

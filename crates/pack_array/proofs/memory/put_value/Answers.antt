@@ -2,14 +2,14 @@ use Rattle.std.proofs.Common.{◌∙◌, get_or, set, ap}
 use Rattle.std.proofs.lemmas.List.{map-set}
 use Rattle.std.proofs.Math.Seq.{map-set_same}
 use Rattle.lane_planes.specs.Lanes.{lane_of}
-use Rattle.pack_bank.specs.Places.{lane_values}
+use Rattle.lane_planes.specs.Lanes.{lane_row}
 use Rattle.pack_array.proofs.memory.put_value.Goals as goal
 
 pub returns-clause-here : goal.returns-clause-here
 returns-clause-here c =
     rw c.set.ensures
     (map-set (λ p. lane_of p c.args.k) c.args.planes.now c.args.i c.with_lane-changed.result
-    ∙ ap (λ v. set (lane_values c.args.k c.args.planes.now) c.args.i v) c.with_lane-changed.ensures.here)
+    ∙ ap (λ v. set (lane_row c.args.k c.args.planes.now) c.args.i v) c.with_lane-changed.ensures.here)
 
 pub returns-clause-others : goal.returns-clause-others
 returns-clause-others c l low other =

@@ -3,12 +3,12 @@ use Rattle.std.proofs.lemmas.List.{ext_get_or, length-map, get_or_default, get_o
 use Rattle.list_laws.proofs.Ranges.{last_or}
 use Rattle.logic_four.specs.declared.V4.TheVariants.{Zero, Undef}
 use Rattle.lane_planes.specs.Lanes.{lane_of}
-use Rattle.pack_bank.specs.Places.{lane_values}
+use Rattle.lane_planes.specs.Lanes.{lane_row}
 use Rattle.pack_array.proofs.memory.put_values.Goals as goal
 
 pub places-preserved : goal.places-preserved
 places-preserved c =
-    let now = lane_values c.args.k c.places.planes in
+    let now = lane_row c.args.k c.places.planes in
     let i = c.places.i in
     let long : length now ≡ length c.places.planes = length-map c.places.planes (λ p. lane_of p c.args.k) in
     record {
@@ -26,6 +26,6 @@ places-preserved c =
 
 pub returns-clause-here : goal.returns-clause-here
 returns-clause-here c =
-    ext_get_or Undef (lane_values c.args.k c.places.planes) c.args.values.now
+    ext_get_or Undef (lane_row c.args.k c.places.planes) c.args.values.now
     (length-map c.places.planes (λ p. lane_of p c.args.k) ∙ c.places.invariant.long ∙ c.requires.long) (λ i low.
     c.places.invariant.filled i (omega (arith, low, length-map c.places.planes (λ p. lane_of p c.args.k), c.places.invariant.long, c.requires.long)))

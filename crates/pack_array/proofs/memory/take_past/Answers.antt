@@ -2,7 +2,7 @@ use Rattle.std.proofs.Common.{◌∙◌, sym, ap}
 use Rattle.image_defs.specs.Steps.{value_of_member, past_value}
 use Rattle.port_bank.specs.Reads.{past_in}
 use Rattle.port_bank.proofs.TurnLemmas.{past_at_hand, past_taken}
-use Rattle.pack_bank.specs.Views.{lane_port}
+use Rattle.port_bank.specs.Packed.{lane_port}
 use Rattle.pack_array.proofs.memory.take_past.Goals as goal
 
 pub returns : goal.returns

@@ -4,9 +4,9 @@ use Rattle.std.proofs.lemmas.Option.{slice_get_read}
 use Rattle.list_laws.proofs.Places.{one_there}
 use Rattle.image_defs.specs.declared.image.PortImage.{PortImage}
 use Rattle.image_defs.specs.Places.{IsPort, item_slots}
-use Rattle.image_defs.specs.Ports.{CanExecute, value_in}
+use Rattle.image_defs.specs.Ports.{after_execute, CanExecute, value_in}
 use Rattle.port_walk.specs.code.Kinds.{CanRun}
-use Rattle.pack_bank.specs.Views.{PackPortView, lane_port, after_execute}
+use Rattle.port_bank.specs.Packed.{PackPortView, lane_port}
 use Rattle.pack_walk.proofs.kind.run_logic.Goals as goal
 
 pub items-init : goal.items-init

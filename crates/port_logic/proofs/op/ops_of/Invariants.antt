@@ -1,6 +1,5 @@
-use Rattle.std.proofs.Common.{◌≡◌, map, take}
-use Rattle.port_logic.specs.Ops.{op_of}
+use Rattle.port_logic.specs.Ops.{AreOpsOf}
 use Rattle.port_logic.proofs.op.ops_of.Given as goal
 
 abbrev pub invariant-tasks : goal.invariant-tasks
-invariant-tasks l = l.ops ≡ map (op_of l.slots l.tables) (take l.task-index l.tasks)
+invariant-tasks g l = AreOpsOf g.W.Word.is_pair g.W.Word.is_form l.slots l.tables l.tasks l.task-index l.ops

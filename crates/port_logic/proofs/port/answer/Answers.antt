@@ -1,20 +1,34 @@
-use Rattle.std.proofs.Common.{length, subst, sym}
+use Rattle.std.proofs.Common.{◌≡◌, [], get_or, subst, sym}
+use Rattle.std.proofs.lemmas.Option.{slice_get-get_or}
+use Rattle.logic_four.specs.Values.{settled}
+use Rattle.func_table.specs.Entries.{entry_for}
+use Rattle.image_defs.specs.Ports.{lane_port}
 use Rattle.port_bank.specs.Flat.{place_count}
-use Rattle.port_bank.specs.Reads.{IsHeld}
-use Rattle.port_logic.proofs.OpLemmas.{held_right, pair_right}
+use Rattle.port_bank.specs.Reads.{IsHeld, IsRead}
+use Rattle.port_bank.proofs.LaneLemmas.{in_lane}
 use Rattle.port_logic.specs.code.Ops.{FitsOp}
 use Rattle.port_logic.specs.code.Tasks.{IsAnswer}
+use Rattle.port_logic.proofs.OpLemmas.{keep_right, look_right}
 use Rattle.port_logic.proofs.port.answer.Goals as goal
 
-pub returns-in-Pair : goal.returns-in-Pair
-returns-in-Pair c =
-    subst (λ op. IsAnswer c.args.bank.now c.args.tables.now op c.args.slot c.value_in.result) (sym c.in-Pair.is)
-    (pair_right c.args.bank.now c.args.tables.now c.in-Pair.word c.in-Pair.a c.in-Pair.b c.args.slot _ _ c.value_in.result c.read-a.ensures c.read-b.ensures (rw (c.code.ensures, c.code-in-Pair.ensures) at c.value_in.ensures))
+pub returns-in-Look : goal.returns-in-Look
+returns-in-Look g c l low =
+    let table = get_or c.args.tables.now c.in-Look.table (record { words = [] }) in
+    subst (λ op. IsAnswer g.W.Word.is_pair g.W.Word.is_form (lane_port g.W.Word.stimulus l c.args.bank.now) c.args.tables.now op c.args.slot (g.W.Word.lane c.look.result l)) (sym c.in-Look.is)
+    (look_right g.W.Word.is_pair g.W.Word.is_form (lane_port g.W.Word.stimulus l c.args.bank.now) c.args.tables.now c.in-Look.form c.in-Look.table c.in-Look.a c.in-Look.b c.in-Look.c c.in-Look.d c.args.slot table
+    (g.W.Word.lane c.read-a-in-Look.result l) (g.W.Word.lane c.read-b-in-Look.result l) (g.W.Word.lane c.read-c.result l) (g.W.Word.lane c.read-d.result l) (g.W.Word.lane c.look.result l)
+    (slice_get-get_or c.args.tables.now c.in-Look.table (record { words = [] }) (subst (FitsOp g.W.Word.is_form c.args.tables.now (place_count c.args.bank.now.image.slots)) c.in-Look.is c.requires.fits).0)
+    (in_lane g.W.Word.lanes (λ l. IsRead (lane_port g.W.Word.stimulus l c.args.bank.now) c.in-Look.a (g.W.Word.lane c.read-a-in-Look.result l)) c.read-a-in-Look.ensures l low)
+    (in_lane g.W.Word.lanes (λ l. IsRead (lane_port g.W.Word.stimulus l c.args.bank.now) c.in-Look.b (g.W.Word.lane c.read-b-in-Look.result l)) c.read-b-in-Look.ensures l low)
+    (in_lane g.W.Word.lanes (λ l. IsRead (lane_port g.W.Word.stimulus l c.args.bank.now) c.in-Look.c (g.W.Word.lane c.read-c.result l)) c.read-c.ensures l low)
+    (in_lane g.W.Word.lanes (λ l. IsRead (lane_port g.W.Word.stimulus l c.args.bank.now) c.in-Look.d (g.W.Word.lane c.read-d.result l)) c.read-d.ensures l low)
+    (in_lane g.W.Word.lanes (λ l. g.W.Word.lane c.look.result l ≡ entry_for table (g.W.Word.lane c.read-a-in-Look.result l) (g.W.Word.lane c.read-b-in-Look.result l) (g.W.Word.lane c.read-c.result l) (g.W.Word.lane c.read-d.result l)) c.look.ensures l low))
 
 pub returns-in-Keep : goal.returns-in-Keep
-returns-in-Keep c =
-    subst (λ op. IsAnswer c.args.bank.now c.args.tables.now op c.args.slot c.held.result) (sym c.in-Keep.is)
-    (held_right c.args.bank.now c.args.tables.now c.in-Keep.from c.args.slot c.read.result c.held.result c.read.ensures (subst (λ v. IsHeld c.args.bank.now c.args.slot v c.held.result) c.settle.ensures c.held.ensures))
-
-pub bounds-tables-table : goal.bounds-tables-table
-bounds-tables-table c = (subst (FitsOp (length c.args.tables.now) (place_count c.args.bank.now.image.slots)) c.in-Look.is c.requires.fits).0
+returns-in-Keep g c l low =
+    subst (λ op. IsAnswer g.W.Word.is_pair g.W.Word.is_form (lane_port g.W.Word.stimulus l c.args.bank.now) c.args.tables.now op c.args.slot (g.W.Word.lane c.held.result l)) (sym c.in-Keep.is)
+    (keep_right g.W.Word.is_pair g.W.Word.is_form (lane_port g.W.Word.stimulus l c.args.bank.now) c.args.tables.now c.in-Keep.from c.args.slot (g.W.Word.lane c.read-taken.result l) (g.W.Word.lane c.held.result l)
+    (in_lane g.W.Word.lanes (λ l. IsRead (lane_port g.W.Word.stimulus l c.args.bank.now) c.in-Keep.from (g.W.Word.lane c.read-taken.result l)) c.read-taken.ensures l low)
+    (subst (λ v. IsHeld (lane_port g.W.Word.stimulus l c.args.bank.now) c.args.slot v (g.W.Word.lane c.held.result l))
+    (in_lane g.W.Word.lanes (λ l. g.W.Word.lane c.settled-settled.result l ≡ settled (g.W.Word.lane c.read-taken.result l)) c.settled-settled.ensures l low)
+    (in_lane g.W.Word.lanes (λ l. IsHeld (lane_port g.W.Word.stimulus l c.args.bank.now) c.args.slot (g.W.Word.lane c.settled-settled.result l) (g.W.Word.lane c.held.result l)) c.held.ensures l low)))

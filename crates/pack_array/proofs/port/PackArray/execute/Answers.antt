@@ -1,6 +1,6 @@
 use Rattle.std.proofs.Common.{◌∙◌, ap, subst, sym}
 use Rattle.image_defs.specs.Ports.{CanExecute, value_in}
-use Rattle.pack_bank.specs.Views.{lane_port, InEachLane}
+use Rattle.port_bank.specs.Packed.{lane_port, InEachLane}
 use Rattle.pack_array.proofs.KeptLemmas.{next_fits, next_within, next_answers, ready_executed}
 use Rattle.pack_array.proofs.port.PackArray.execute.Goals as goal
 

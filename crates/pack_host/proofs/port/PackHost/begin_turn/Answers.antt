@@ -1,6 +1,6 @@
 use Rattle.std.proofs.Common.{true, subst, sym}
 use Rattle.image_defs.specs.Ports.{CanBegin}
-use Rattle.pack_bank.specs.Views.{InEachLane}
+use Rattle.port_bank.specs.Packed.{InEachLane}
 use Rattle.pack_host.proofs.HostLemmas.{ready_moved}
 use Rattle.pack_host.proofs.port.PackHost.begin_turn.Goals as goal
 

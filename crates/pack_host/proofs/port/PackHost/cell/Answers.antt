@@ -25,4 +25,4 @@ returns c =
     let low = subst (λ view. c.args.column < length (printed_sources view.image)) (sym c.self.view_is) c.requires.column in
     c.cell.ensures
     ∙ (rw (c.row_start-start.ensures, c.as_slice.ensures) (cell_shows a c.args.lane c.args.cycle c.args.column c.self.invariant c.requires.lane c.requires.first done low)
-    ∙ ap (λ view. shown view.image (lane_stimulus view.image.columns view.lanes c.args.lane) c.args.cycle c.args.column) c.self.view_is)
+    ∙ ap (λ view. shown view.image (lane_stimulus view.image.columns view.stimulus c.args.lane) c.args.cycle c.args.column) c.self.view_is)

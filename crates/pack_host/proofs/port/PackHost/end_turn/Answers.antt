@@ -1,7 +1,7 @@
 use Rattle.std.proofs.Common.{◌≡◌, ◌+◌, length, subst, sym, arith}
 use Rattle.image_defs.specs.Ports.{CanEnd}
 use Rattle.port_host.specs.Rows.{row_start}
-use Rattle.pack_bank.specs.Views.{InEachLane}
+use Rattle.port_bank.specs.Packed.{InEachLane}
 use Rattle.pack_host.specs.code.Cells.{HasPrintedAll}
 use Rattle.pack_host.proofs.HostLemmas.{printed_there, units_here, few_cycles, room_for, ready_over}
 use Rattle.pack_host.proofs.port.PackHost.end_turn.Goals as goal

@@ -1,6 +1,6 @@
 use Rattle.std.proofs.Common.{◌∙◌, ◌+◌, ap, subst, sym}
 use Rattle.image_defs.specs.Ports.{PortView, CanExecute, value_in}
-use Rattle.pack_bank.specs.Views.{lane_port, InEachLane}
+use Rattle.port_bank.specs.Packed.{lane_port, InEachLane}
 use Rattle.pack_host.proofs.HostLemmas.{column_there, inputs_answer, ready_moved, still_runs}
 use Rattle.pack_host.proofs.port.PackHost.execute.Goals as goal
 

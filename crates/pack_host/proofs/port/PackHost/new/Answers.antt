@@ -1,8 +1,8 @@
 use Rattle.std.proofs.Common.{◌≡◌, ◌∙◌, ◌-◌, ◌*◌, ap, refl}
 use Rattle.image_defs.specs.Places.{host_of}
 use Rattle.stim_text.specs.Lanes.{longest}
-use Rattle.pack_bank.specs.Views.{at_first}
 use Rattle.port_host.proofs.HostLemmas.{host_found}
+use Rattle.image_defs.specs.Ports.{at_first}
 use Rattle.pack_host.proofs.HostLemmas.{ready_new}
 use Rattle.pack_host.proofs.port.PackHost.new.Goals as goal
 

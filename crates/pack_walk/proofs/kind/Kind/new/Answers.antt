@@ -2,8 +2,8 @@ use Rattle.std.proofs.Common.{◌≡◌, ◌∙◌, ap, subst, sym, refl, arith,
 use Rattle.image_defs.specs.Places.{host_of}
 use Rattle.image_defs.specs.WellFormed.{IsHost, IsLogic, IsArray}
 use Rattle.port_walk.proofs.KindLemmas.{seat_there, host_last}
-use Rattle.pack_bank.specs.Views.{at_first}
 use Rattle.image_defs.specs.declared.image.Work.TheVariants.{Logic, Array}
+use Rattle.image_defs.specs.Ports.{at_first}
 use Rattle.pack_walk.proofs.kind.Kind.new.Goals as goal
 
 pub returns-in_ok-new-in-Host : goal.returns-in_ok-new-in-Host

@@ -2,7 +2,7 @@ use Rattle.std.proofs.Common.{◌≡◌, ◌↔◌, ◌∙◌, ◌+◌, ◌*◌,
 use Rattle.std.proofs.lemmas.Bool.{leb-true}
 use Rattle.stim_text.specs.Lanes.{longest}
 use Rattle.image_defs.specs.Places.{item_slots}
-use Rattle.pack_bank.specs.Views.{PackPortView}
+use Rattle.port_bank.specs.Packed.{PackPortView}
 use Rattle.pack_walk.specs.Kinds.{view_in}
 use Rattle.port_walk.proofs.KindLemmas.{seat_there}
 use Rattle.pack_walk.proofs.MoveLemmas.{can_enter, kept_fresh}
@@ -32,7 +32,7 @@ enter-value-requires c =
     let begins = c.in_ok-kind.ensures.view in
     can_enter image c.args.port seat good is slots stops slots_are stops_are view c.as_slice-2.result.now first (nat_le 1 until)
     (ap (λ (v : PackPortView). v.image) begins) (ap (λ (v : PackPortView). v.port) begins) (ap (λ (v : PackPortView). v.begun) begins) (ap (λ (v : PackPortView). v.executed) begins)
-    (λ runs. subst (λ (v : PackPortView). v.turn ≤ v.image.units * longest v.lanes) (sym begins) (omega (arith, leb-true 1 until runs, until_is)))
+    (λ runs. subst (λ (v : PackPortView). v.turn ≤ v.image.units * longest v.stimulus) (sym begins) (omega (arith, leb-true 1 until runs, until_is)))
     c.as_slice-2.ensures there
 
 pub invariant_of-result : goal.invariant_of-result

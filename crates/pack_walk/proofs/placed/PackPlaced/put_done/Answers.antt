@@ -1,7 +1,7 @@
 use Rattle.std.proofs.Common.{◌∙◌, ◌+◌, length, take, get_or, ap, subst, sym, refl, arith}
 use Rattle.std.proofs.lemmas.Option.{slice_get_within}
 use Rattle.image_defs.specs.Places.{out_slots}
-use Rattle.pack_bank.specs.Views.{PackPortView}
+use Rattle.port_bank.specs.Packed.{PackPortView}
 use Rattle.pack_walk.specs.Kinds.{view_in}
 use Rattle.pack_walk.specs.Kept.{view_of}
 use Rattle.pack_walk.specs.Placed.{CanPut, HasPut}

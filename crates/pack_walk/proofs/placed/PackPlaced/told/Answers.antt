@@ -4,7 +4,8 @@ use Rattle.std.proofs.Math.Nat.{mul-le-mul}
 use Rattle.limits.specs.declared.TheConstants.{MAX_CYCLES, MAX_UNITS}
 use Rattle.stim_text.specs.Lanes.{longest}
 use Rattle.stim_text.proofs.LaneLemmas.{longest_few}
-use Rattle.pack_bank.specs.Views.{PackPortView, after_end}
+use Rattle.image_defs.specs.Ports.{after_end}
+use Rattle.port_bank.specs.Packed.{PackPortView}
 use Rattle.pack_walk.specs.Kinds.{view_in}
 use Rattle.pack_walk.specs.Kept.{view_of, inner}
 use Rattle.pack_walk.specs.Placed.{IsEnding}
@@ -32,7 +33,7 @@ enter-self-inside-requires c =
     c.end_turn.ensures.view ∙ ap after_end (inner_here a kept (get_or a.stops a.at no_stop) (found (walk_of a) (walks a kept) a.stops refl) early) in
     can_enter a.image.now a.port a.seat.now (good (walk_of a) (walks a kept)) kept.seat a.slots a.stops kept.slots kept.stops (view_in c.end_turn.new.self) c.as_slice-2.result.now first (nat_le (a.turn + 1) a.until)
     (ap (λ (v : PackPortView). v.image) inside) (ap (λ (v : PackPortView). v.port) inside) (ap (λ (v : PackPortView). v.begun) inside) (ap (λ (v : PackPortView). v.executed) inside)
-    (λ runs. subst (λ (v : PackPortView). v.turn ≤ v.image.units * longest v.lanes) (sym inside) (let low = leb-true (a.turn + 1) a.until runs in let until = kept.until_is in omega arith))
+    (λ runs. subst (λ (v : PackPortView). v.turn ≤ v.image.units * longest v.stimulus) (sym inside) (let low = leb-true (a.turn + 1) a.until runs in let until = kept.until_is in omega arith))
     c.as_slice-2.ensures there
 
 pub invariant_of-self : goal.invariant_of-self

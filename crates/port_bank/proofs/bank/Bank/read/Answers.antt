@@ -1,5 +1,10 @@
-use Rattle.port_bank.proofs.BankLemmas.{read_right}
+use Rattle.std.proofs.Common.{subst}
+use Rattle.port_bank.specs.Reads.{IsRead}
+use Rattle.port_bank.specs.Words.{InEachLaneOf}
+use Rattle.port_bank.proofs.LaneBanks.{read_right}
 use Rattle.port_bank.proofs.bank.Bank.read.Goals as goal
 
 pub returns : goal.returns
-returns c = rw (← c.self.view_is, c.value.ensures) (read_right c.self.inside c.args.operand c.self.invariant)
+returns g c =
+    subst (InEachLaneOf g.W.Word c.value.result (λ view v. IsRead view c.args.operand v)) c.self.view_is
+    (read_right g.W.Word.lanes g.met.W.Word.some g.W.Word.lane g.W.Word.stimulus _ _ _ c.args.operand c.value.result c.self.invariant c.value.ensures)

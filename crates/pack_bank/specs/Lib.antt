@@ -1,4 +1,0 @@
-pub mod Banks
-pub mod code
-pub mod Places
-pub mod Views

@@ -1,2 +1,0 @@
-mod OpLemmas
-mod TaskLemmas

@@ -1,7 +1,0 @@
-use Rattle.std.proofs.Common.{arith}
-use Rattle.std.proofs.lemmas.Option.{slice_get-get_or}
-use Rattle.pack_logic.proofs.OpLemmas.{forms_more}
-use Rattle.pack_logic.proofs.op.forms_of.Goals as goal
-
-pub tables-preserved : goal.tables-preserved
-tables-preserved c = rw c.in_ok-push.ensures.ok (forms_more c.args.tables.now c.tables.table-index c.tables.forms _ c.form_of.result c.tables.invariant (slice_get-get_or c.args.tables.now c.tables.table-index _ (omega (arith, c.tables-test.true))) c.form_of.ensures)

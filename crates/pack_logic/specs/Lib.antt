@@ -1,3 +1,0 @@
-pub mod code
-pub mod Ops
-pub mod Tasks
