@@ -5,9 +5,9 @@ ghost use Rattle.help_text.specs.Notes.{says, value_word};
 
 pub const MACHINE: &str = "the machine text; by default 4 logic processors and 1 array";
 
-pub const MODE: &str = "the late gates: none, all or listed; default rank";
+pub const MODE: &str = "gates with a delay: none, all, listed; default rank";
 
-pub const LAST: &str = "the list of late gates, in mode mixed and only there; no default";
+pub const LAST: &str = "the list of these gates, in mode mixed and only there; no default";
 
 pub const UNITS: &str = "the turns of a cycle, 1 to 4096, and 1 in mode rank; default 1";
 
