@@ -103,7 +103,7 @@ record Laws : Type 0 where
   lanes : (inputs : ℕ) → IsReader (lane_texts.ReadsAsLanes inputs) (lane_texts.first_lanes_fault inputs)
   verdicts : HaveOneList
   all_faults : AreAllFaults
-  stuck_lists : (net : Netlist) → IsReader (stuck_lists.Reads net) (stuck_lists.first_fault net)
+  faults_lists : (net : Netlist) → IsReader (stuck_lists.Reads net) (stuck_lists.first_fault net)
   stuck : (net : Netlist) (text : List ℕ) (faults : List Fault) → stuck_lists.Reads net text faults → All (IsFault net) faults
   lists : (net : Netlist) → IsReader (gate_lists.Reads net) (gate_lists.first_fault net)
   forms : (words : List (List ℕ)) (command : Command) → (asked words ≡ Some command) ↔ HasForm words command
@@ -162,7 +162,7 @@ module _ (laws : Laws) where
   list_check text net = reads_check (gate_lists.Reads net) (gate_lists.first_fault net) (laws.lists net) text status.LastList list_line tt
 
   faults_check : (text : List ℕ) (net : Netlist) → IsCheck (IsFaultListOf text net)
-  faults_check text net = reads_check (stuck_lists.Reads net) (stuck_lists.first_fault net) (laws.stuck_lists net) text status.FaultList faults_line tt
+  faults_check text net = reads_check (stuck_lists.Reads net) (stuck_lists.first_fault net) (laws.faults_lists net) text status.FaultList faults_line tt
 
   image_check : (text : List ℕ) → IsCheck (IsImageFileOf text)
   image_check text = reads_check image_file.Reads image_faults.first_fault laws.images text status.ImageText image_line tt
@@ -434,7 +434,7 @@ returns c =
       lanes = c.reads_or_faults-7.ensures.reader;
       verdicts = c.one_list-2.ensures.one;
       all_faults = c.one_list-2.ensures.all;
-      stuck_lists = c.reads_or_faults-8.ensures.reader;
+      faults_lists = c.reads_or_faults-8.ensures.reader;
       stuck = c.reads_as_faults.ensures;
       accepted = λ net timing file valid acyclic has. accepted_check net timing file (λ one other items items_too.
           interchangeable file timing one other (c.one_list.ensures net timing one other items items_too) (c.items_are_well_formed.ensures net timing other valid items_too)
