@@ -6,10 +6,11 @@ use Rattle.cmd_words.specs.declared.command.Command.TheVariants.{Run, Refer, Ord
 use Rattle.cmd_words.specs.declared.command.RunWords.{RunWords}
 use Rattle.cmd_words.specs.declared.command.WordNo.{WordNo}
 use Rattle.cmd_words.specs.declared.command.WordNo.TheVariants.{Usage, Memory}
+use Rattle.cmd_words.specs.declared.topic.Topic.TheVariants as topic
 use Rattle.limits.specs.declared.TheConstants.{MAX_LARGE_CYCLES, MAX_LARGE_GATES, MAX_BANKS, MAX_WORKERS}
 use Rattle.cmd_words.specs.Arguments.{Word, AreArguments, value_given}
 use Rattle.cmd_words.specs.Asked.{asked}
-use Rattle.cmd_words.specs.Settings.{run_options, refer_options, order_options, plan_options, compile_options, exec_options, pack_options, fault_options, show_options, large_options, help_options, timing_by, banks_by, workers_by, homes_by, gates_of, cycles_of}
+use Rattle.cmd_words.specs.Settings.{timing_by, banks_by, workers_by, homes_by, gates_of, cycles_of}
 use Rattle.cmd_words.specs.Topics.{options_of, topic_for, topic_words, word_of}
 
 -- the name of a command, and behind it these positional arguments and options
@@ -36,24 +37,24 @@ pub record IsLarge (words : List Word) (gates cycles workers : ℕ) : Type 0 whe
   pub gates_word : Word
   pub cycles_word : Word
   pub given : List (Word × Word)
-  pub call : IsCall (codes "large") large_options words (gates_word ∷ cycles_word ∷ []) given
+  pub call : IsCall (word_of topic.Large) (options_of topic.Large) words (gates_word ∷ cycles_word ∷ []) given
   pub gates_are : gates_of gates_word ≡ Some gates
   pub cycles_are : cycles_of cycles_word ≡ Some cycles
   pub workers_are : workers_by (value_given given) ≡ Some workers
 
 -- the words are of the form of the command
 abbrev pub HasForm : List Word → Command → Type 0
-HasForm words (Run run) = IsRun (codes "run") run_options words (run.netlist ∷ run.stimulus ∷ []) run
-HasForm words (Refer run) = IsRun (codes "refer") refer_options words (run.netlist ∷ run.stimulus ∷ []) run
-HasForm words (Order run) = IsRun (codes "order") order_options words (run.netlist ∷ run.stimulus ∷ []) run
-HasForm words (Plan run) = IsRun (codes "plan") plan_options words (run.netlist ∷ []) run × (run.stimulus ≡ [])
-HasForm words (Compile run) = IsRun (codes "compile") compile_options words (run.netlist ∷ []) run × (run.stimulus ≡ [])
-HasForm words (Exec run image) = IsRun (codes "exec") exec_options words (run.netlist ∷ image ∷ run.stimulus ∷ []) run
-HasForm words (Pack run) = IsRun (codes "pack") pack_options words (run.netlist ∷ run.stimulus ∷ []) run
-HasForm words (Fault run) = IsRun (codes "fault") fault_options words (run.netlist ∷ run.stimulus ∷ []) run
-HasForm words (Show netlist) = IsCall (codes "show") show_options words (netlist ∷ []) []
+HasForm words (Run run) = IsRun (word_of topic.Run) (options_of topic.Run) words (run.netlist ∷ run.stimulus ∷ []) run
+HasForm words (Refer run) = IsRun (word_of topic.Refer) (options_of topic.Refer) words (run.netlist ∷ run.stimulus ∷ []) run
+HasForm words (Order run) = IsRun (word_of topic.Order) (options_of topic.Order) words (run.netlist ∷ run.stimulus ∷ []) run
+HasForm words (Plan run) = IsRun (word_of topic.Plan) (options_of topic.Plan) words (run.netlist ∷ []) run × (run.stimulus ≡ [])
+HasForm words (Compile run) = IsRun (word_of topic.Compile) (options_of topic.Compile) words (run.netlist ∷ []) run × (run.stimulus ≡ [])
+HasForm words (Exec run image) = IsRun (word_of topic.Exec) (options_of topic.Exec) words (run.netlist ∷ image ∷ run.stimulus ∷ []) run
+HasForm words (Pack run) = IsRun (word_of topic.Pack) (options_of topic.Pack) words (run.netlist ∷ run.stimulus ∷ []) run
+HasForm words (Fault run) = IsRun (word_of topic.Fault) (options_of topic.Fault) words (run.netlist ∷ run.stimulus ∷ []) run
+HasForm words (Show netlist) = IsCall (word_of topic.Show) (options_of topic.Show) words (netlist ∷ []) []
 HasForm words (Large gates cycles workers) = IsLarge words gates cycles workers
-HasForm words (Help topic) = IsCall (codes "help") help_options words (topic_words topic) []
+HasForm words (Help about) = IsCall (word_of topic.Help) (options_of topic.Help) words (topic_words about) []
 
 -- why words are refused: memory ran out, or they are of the form of no command
 abbrev pub HasNoForm : List Word → WordNo → Type 0

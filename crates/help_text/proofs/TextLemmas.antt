@@ -7,7 +7,7 @@ use Rattle.cmd_words.specs.declared.topic.Topic.{Topic}
 use Rattle.cmd_words.specs.declared.topic.Topic.TheVariants as topic
 use Rattle.help_text.specs.Forms.{form_of, head_of, bracketed, filled, names_in}
 use Rattle.help_text.specs.Notes.{does, operands, prints, says, value_word}
-use Rattle.help_text.specs.Texts.{about, entry, fits, narrow, option_line, overview, IsPartOf}
+use Rattle.help_text.specs.Texts.{about, entry, fits, narrow, option_line, overview, says_all, IsPartOf}
 use Rattle.help_text.specs.declared.text.TheConstants.{HEAD, STATUSES}
 
 pub names_told : (topic : Topic) → names_in (form_of topic) ≡ options_of topic
@@ -92,3 +92,36 @@ text_fits topic.Exec = refl
 text_fits topic.Pack = refl
 text_fits topic.Fault = refl
 text_fits topic.Help = refl
+
+-- the texts have no options but those of their forms
+pub names_told_of : (topic : Topic) → names_in (about topic) ≡ options_of topic
+unfolding names_in about form_of head_of bracketed filled operands value_word option_line prints says
+names_told_of topic.Run = refl
+names_told_of topic.Refer = refl
+names_told_of topic.Order = refl
+names_told_of topic.Plan = refl
+names_told_of topic.Show = refl
+names_told_of topic.Large = refl
+names_told_of topic.Compile = refl
+names_told_of topic.Exec = refl
+names_told_of topic.Pack = refl
+names_told_of topic.Fault = refl
+names_told_of topic.Help = refl
+
+pub all_names_told : names_in overview ≡ flat_map options_of topics
+unfolding names_in overview entry form_of head_of bracketed filled operands value_word does
+all_names_told = refl
+
+pub said : (topic : Topic) → says_all topic ≡ true
+unfolding says
+said topic.Run = refl
+said topic.Refer = refl
+said topic.Order = refl
+said topic.Plan = refl
+said topic.Show = refl
+said topic.Large = refl
+said topic.Compile = refl
+said topic.Exec = refl
+said topic.Pack = refl
+said topic.Fault = refl
+said topic.Help = refl

@@ -1,6 +1,6 @@
 -- The whole texts.
-use Rattle.std.specs.Prelude.{◌≡◌, ◌==◌, ◌&&◌, ◌+◌, ℕ, Bool, true, List, [], ◌∷◌, ◌++◌, Option, Some, None, codes, count_by, nat_le, nat_lt, if◌then◌else◌}
-use Rattle.std.specs.List.{flat_map}
+use Rattle.std.specs.Prelude.{◌≡◌, ◌==◌, ◌&&◌, ◌+◌, ℕ, Bool, true, List, [], ◌∷◌, ◌++◌, Option, Some, None, codes, count_by, length, nat_le, nat_lt, if◌then◌else◌}
+use Rattle.std.specs.List.{flat_map, list_all}
 use Rattle.cmd_words.specs.Arguments.{Word}
 use Rattle.cmd_words.specs.Topics.{options_of, topics}
 use Rattle.cmd_words.specs.declared.topic.Topic.{Topic}
@@ -31,13 +31,17 @@ abbrev pub text_of : Option Topic → List ℕ
 text_of None = overview
 text_of (Some topic) = about topic
 
+-- something is said of each option of the command
+abbrev pub says_all : Topic → Bool
+says_all topic = list_all (λ name. nat_lt 0 (length (says name))) (options_of topic)
+
 -- the text is the part, with something before it and behind it or nothing
 abbrev pub IsPartOf : List ℕ → List ℕ → Type 0
 IsPartOf part text = (before behind : List ℕ) × (text ≡ before ++ (part ++ behind))
 
--- each line has at most 80 bytes, where so many stand before this place of the first one; 10 is LF
+-- each line has at most 80 bytes, where so many stand before this place of the first one, and ends with an LF, 10
 unfoldable pub narrow : ℕ → List ℕ → Bool
-narrow before [] = true
+narrow before [] = before == 0
 narrow before (byte ∷ bytes) = if byte == 10 then narrow 0 bytes else nat_lt before 80 && narrow (before + 1) bytes
 
 -- at most 24 lines, of at most 80 bytes each

@@ -63,15 +63,15 @@ Example: ./join-lanes c17.stim c17.stim | yse pack c17.bench /dev/stdin
 ";
 
 pub const FAULT: &str =
-    "Prints for each signal and value its name, the value that it is stuck at, and
-the cycle and the printed name at which that shows, or -; and how many show.
+    "Prints for each fault the signal, the value that it is stuck at, and the cycle
+and the printed name at which that shows, or -; and how many show.
 
 Example: yse fault c17.bench c17.stim
 ";
 
 pub const HELP: &str =
-    "Prints the form of the command, its options, what it prints, and an example; of
-all commands only the form, and the statuses.
+    "Prints the form of the command, its options, what it prints, and an example; or
+of all commands the form and what they do, and the statuses.
 
 Example: yse help run
 ";
