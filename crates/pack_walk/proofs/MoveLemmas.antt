@@ -16,7 +16,8 @@ use Rattle.image_defs.specs.WellFormed.{IsWellFormed, IsPortImage}
 use Rattle.image_defs.specs.Steps.{timing_of}
 use Rattle.image_defs.specs.Ports.{CanReceive, CanEnd}
 use Rattle.port_walk.specs.declared.stops.Stop.{Stop}
-use Rattle.port_walk.specs.code.Kinds.{CanRun, CanEnter}
+use Rattle.port_walk.specs.code.Kinds.{CanEnter}
+use Rattle.port_walk.specs.Runs.{CanRun}
 use Rattle.port_walk.specs.Rows.{AreReaders}
 use Rattle.port_walk.specs.Stops.{AreStops, counts}
 use Rattle.port_walk.proofs.BlockLemmas.{le_late}

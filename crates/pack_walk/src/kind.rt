@@ -6,10 +6,11 @@ ghost use Rattle.lane_planes.specs.Lanes.{lane_of};
 ghost use Rattle.stim_text.specs.Lanes.{AreLanes};
 ghost use Rattle.image_defs.specs.WellFormed.{IsWellFormed};
 ghost use Rattle.image_defs.specs.Ports.{after_begin, after_receive, after_end, CanBegin, CanReceive, CanEnd};
-ghost use Rattle.port_walk.specs.code.Kinds.{CanRun, CanEnter};
+ghost use Rattle.port_walk.specs.code.Kinds.{CanEnter};
+ghost use Rattle.port_walk.specs.Runs.{CanRun, HasRun};
 ghost use Rattle.port_bank.specs.Packed.{lane_port, InEachLane};
 ghost use Rattle.pack_walk.specs.Kinds.{view_in, is_host, AreLastValues};
-ghost use Rattle.pack_walk.specs.code.Kinds.{IsFirst, HasRun, HasEntered};
+ghost use Rattle.pack_walk.specs.code.Kinds.{IsFirst, HasEntered};
 
 use image_defs::{Image, Work};
 use lane_planes::{Planes, in_all_lanes};
@@ -17,6 +18,7 @@ use logic_four::V4;
 use pack_array::PackArray;
 use pack_host::PackHost;
 use port_logic::LogicPort;
+use port_walk::items::run_items;
 use seen_list::Memory;
 use std::alloc::Global;
 use stim_text::Lanes;
@@ -29,27 +31,7 @@ pub(crate) enum Kind<'a> {
     Host(PackHost<'a>),
 }
 
-/// Executes items of a logic processor, as `Kind::run` does.
-fn run_logic(
-    port: &mut LogicPort<'_, Planes>,
-    slots: &[u32],
-    from: u32,
-    to: u32,
-    last: Planes,
-) -> Planes
-    requires can { InEachLane (λ view. CanRun view slots.now from to) port.old }
-    requires last { AreLastValues port.old last }
-    ensures run { HasRun port.old port.new to }
-    ensures last { AreLastValues port.new result }
-{
-    let mut values = last;
-    'items: for i in from..to {
-        values = port.execute(slots[i as usize]);
-    }
-    values
-}
-
-/// Executes items of an array processor, as `Kind::run` does.
+/// Executes items of an array processor, as `run_items` does.
 fn run_array(port: &mut PackArray<'_>, slots: &[u32], from: u32, to: u32, last: Planes) -> Planes
     requires can { InEachLane (λ view. CanRun view slots.now from to) port.old }
     requires last { AreLastValues port.old last }
@@ -63,7 +45,7 @@ fn run_array(port: &mut PackArray<'_>, slots: &[u32], from: u32, to: u32, last: 
     values
 }
 
-/// Executes items of the host, as `Kind::run` does.
+/// Executes items of the host, as `run_items` does.
 fn run_host(host: &mut PackHost<'_>, slots: &[u32], from: u32, to: u32, last: Planes) -> Planes
     requires can { InEachLane (λ view. CanRun view slots.now from to) host.old }
     requires last { AreLastValues host.old last }
@@ -163,7 +145,7 @@ impl<'a> Kind<'a> {
         ensures kind { is_host self.new ≡ is_host self.old }
     {
         match self {
-            Kind::Logic(port) => run_logic(port, slots, from, to, last),
+            Kind::Logic(port) => run_items(port, slots, from, to, last),
             Kind::Array(port) => run_array(port, slots, from, to, last),
             Kind::Host(port) => run_host(port, slots, from, to, last),
         }

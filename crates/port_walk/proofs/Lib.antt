@@ -1,5 +1,6 @@
 pub mod BlockLemmas
 pub mod CursorLemmas
+pub mod ItemLemmas
 pub mod KeptLemmas
 pub mod KindLemmas
 pub mod MoveLemmas

@@ -21,7 +21,8 @@ use Rattle.port_walk.specs.declared.kind.Kind.{Kind}
 use Rattle.port_walk.specs.declared.stops.Stop.{Stop}
 use Rattle.port_walk.specs.Kept.{view_of, inner, IsKept}
 use Rattle.port_walk.specs.Kinds.{view_in, is_host, rows_in, FitsKind, IsLastValue}
-use Rattle.port_walk.specs.code.Kinds.{CanRun, CanEnter}
+use Rattle.port_walk.specs.code.Kinds.{CanEnter}
+use Rattle.port_walk.specs.Runs.{CanRun}
 use Rattle.port_walk.specs.Placed.{IsSending, IsReceiving, IsEnding, CanTakeValue, HasPut, HasTaken, block_end}
 use Rattle.port_walk.specs.Rows.{AreReaders}
 use Rattle.port_walk.specs.Stops.{IsStop, AreStops, counts}

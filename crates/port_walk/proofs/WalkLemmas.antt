@@ -24,7 +24,7 @@ use Rattle.port_walk.specs.declared.readers.Readers.{Readers}
 use Rattle.port_walk.specs.declared.stops.Stop.{Stop}
 use Rattle.port_walk.specs.declared.stops.StopKind.{StopKind}
 use Rattle.port_walk.specs.declared.stops.StopKind.TheVariants.{Send, Receive, End}
-use Rattle.port_walk.specs.code.Kinds.{CanRun}
+use Rattle.port_walk.specs.Runs.{CanRun}
 use Rattle.port_walk.specs.Readers.{IsSendAction}
 use Rattle.port_walk.specs.Rows.{AreReaders, HasFewReaders, IsRow, start_of}
 use Rattle.port_walk.specs.Stops.{ArePlaces, AreStops, IsFront, IsStop, counts, kind_at, slot_at}

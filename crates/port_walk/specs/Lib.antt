@@ -4,4 +4,5 @@ pub mod Kinds
 pub mod Placed
 pub mod Readers
 pub mod Rows
+pub mod Runs
 pub mod Stops

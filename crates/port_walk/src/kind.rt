@@ -4,10 +4,11 @@ ghost use Rattle.std.specs.Prelude.{◌≡◌, ◌<◌, ◌≤◌, length, IfOk}
 ghost use Rattle.net_defs.specs.Valid.{IsValidStimulus};
 ghost use Rattle.image_defs.specs.WellFormed.{IsWellFormed};
 ghost use Rattle.image_defs.specs.Ports.{after_begin, after_receive, after_end, CanBegin, CanReceive, CanEnd};
-ghost use Rattle.port_host.specs.Rows.{moved_to};
 ghost use Rattle.port_walk.specs.Kinds.{view_in, is_host, rows_in, IsLastValue};
-ghost use Rattle.port_walk.specs.code.Kinds.{given_up_in, IsFirst, HasRoomIn, CanRun, HasRun, CanEnter, HasEntered};
+ghost use Rattle.port_walk.specs.code.Kinds.{given_up_in, IsFirst, HasRoomIn, CanEnter, HasEntered};
+ghost use Rattle.port_walk.specs.Runs.{CanRun, HasRun};
 
+use crate::items::run_items;
 use image_defs::{Image, Work};
 use logic_four::V4;
 use net_defs::Stimulus;
@@ -23,49 +24,6 @@ pub(crate) enum Kind<'a> {
     Logic(LogicPort<'a, V4>),
     Array(ArrayPort<'a>),
     Host(HostPort<'a>),
-}
-
-/// Executes items of a logic processor, as `Kind::run` does.
-fn run_logic(port: &mut LogicPort<'_, V4>, slots: &[u32], from: u32, to: u32, last: V4) -> V4
-    requires can { CanRun port.old slots.now from to }
-    requires last { IsLastValue port.old last }
-    ensures run { HasRun port.old port.new to }
-    ensures last { IsLastValue port.new result }
-{
-    let mut value = last;
-    'items: for i in from..to {
-        value = port.execute(slots[i as usize]);
-    }
-    value
-}
-
-/// Executes items of an array processor, as `Kind::run` does.
-fn run_array(port: &mut ArrayPort<'_>, slots: &[u32], from: u32, to: u32, last: V4) -> V4
-    requires can { CanRun port.old slots.now from to }
-    requires last { IsLastValue port.old last }
-    ensures run { HasRun port.old port.new to }
-    ensures last { IsLastValue port.new result }
-{
-    let mut value = last;
-    'items: for i in from..to {
-        value = port.execute(slots[i as usize]);
-    }
-    value
-}
-
-/// Executes items of the host, as `Kind::run` does.
-fn run_host(host: &mut HostPort<'_>, slots: &[u32], from: u32, to: u32, last: V4) -> V4
-    requires can { CanRun host.old.port slots.now from to }
-    requires last { IsLastValue host.old.port last }
-    ensures run { HasRun host.old.port host.new.port to }
-    ensures last { IsLastValue host.new.port result }
-    ensures host { host.new ≡ moved_to host.old host.new.port }
-{
-    let mut value = last;
-    'items: for i in from..to {
-        value = host.execute(slots[i as usize]);
-    }
-    value
 }
 
 impl<'a> Kind<'a> {
@@ -174,9 +132,9 @@ impl<'a> Kind<'a> {
         ensures rows { rows_in self.new ≡ rows_in self.old }
     {
         match self {
-            Kind::Logic(port) => run_logic(port, slots, from, to, last),
-            Kind::Array(port) => run_array(port, slots, from, to, last),
-            Kind::Host(port) => run_host(port, slots, from, to, last),
+            Kind::Logic(port) => run_items(port, slots, from, to, last),
+            Kind::Array(port) => run_items(port, slots, from, to, last),
+            Kind::Host(port) => run_items(port, slots, from, to, last),
         }
     }
 

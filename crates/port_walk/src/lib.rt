@@ -3,6 +3,7 @@
 #![tactic(auto)]
 
 mod any_port;
+pub mod items;
 mod kind;
 pub mod lists;
 pub mod readers;

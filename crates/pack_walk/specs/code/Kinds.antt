@@ -12,10 +12,6 @@ pub record IsFirst (image : Image) (lanes : Lanes) (p : ℕ) (kind : Kind) : Typ
   pub view : view_in kind ≡ at_first image lanes p
   pub fits : FitsKind image p kind
 
--- the items up to number `to` are executed, and nothing else is changed
-abbrev pub HasRun : PackPortView → PackPortView → ℕ → Type 0
-HasRun old new to = new ≡ record old { executed = to }
-
 -- it has begun and these items are executed, if the port is to run it
 abbrev pub HasEntered : PackPortView → PackPortView → ℕ → Bool → Type 0
 HasEntered old new to runs = new ≡ record old { begun = runs; executed = if runs then to else 0 }

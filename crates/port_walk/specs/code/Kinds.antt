@@ -29,22 +29,6 @@ pub record IsFirst (image : Image) (stimulus : Stimulus) (p window : ℕ) (kind 
   pub fits : FitsKind image p kind
   pub rows : is_host kind ≡ true → rows_in kind ≡ Some (window, 0)
 
--- the turn has begun, and the items up to number `to` may be executed from number `from` on: all that
--- comes in the slots before theirs is received
-pub record CanRun (view : PortView) (slots : List ℕ) (from to : ℕ) : Type 0 where
-  pub begun : view.begun ≡ true
-  pub seat : PortImage
-  pub is : IsPort view.image view.port seat
-  pub slots_are : slots ≡ item_slots seat.work
-  pub from_is : view.executed ≡ from
-  pub order : from ≤ to
-  pub within : to ≤ length slots
-  pub received_before : (k slot i : ℕ) (link : LinkIn) → k < to → slice_get slots k ≡ Some slot → slice_get seat.ins i ≡ Some link → link.slot < slot → i < view.received
-
--- the items up to number `to` are executed, and nothing else is changed
-abbrev pub HasRun : PortView → PortView → ℕ → Type 0
-HasRun old new to = new ≡ record old { executed = to }
-
 -- the turn has not begun, and may begin if the port is to run it; then its items below number `to` may be
 -- executed, since nothing comes in the slots before theirs
 pub record CanEnter (view : PortView) (slots : List ℕ) (to : ℕ) (runs : Bool) : Type 0 where

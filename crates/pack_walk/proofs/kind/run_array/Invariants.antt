@@ -1,5 +1,5 @@
 use Rattle.pack_walk.specs.Kinds.{AreLastValues}
-use Rattle.pack_walk.specs.code.Kinds.{HasRun}
+use Rattle.port_walk.specs.Runs.{HasRun}
 use Rattle.pack_walk.proofs.kind.run_array.Given as goal
 
 abbrev pub invariant-items : goal.invariant-items
