@@ -12,8 +12,8 @@ use crew_run::{Gate, Worker};
 use image_defs::Image;
 use machine_run::{give_to, idle_crew, worker_of};
 use pack_run::{PackPort, PackRunning, PackSeated};
-use slot_words::pack_words::{PackBar, PackPass};
 use seen_list::{List, Memory};
+use slot_words::pack_words::{PackBar, PackPass};
 use std::alloc::Global;
 use stim_text::Lanes;
 
