@@ -1,5 +1,5 @@
 -- The rule: what holds of the words and of all passes between any two steps. It has four parts. The first says
--- which pass is which port's, the second speaks of turns alone, the third of the numbers in words of sends alone,
+-- which pass is which port's, the second speaks of turns alone, the third of the numbers in words of sends, by the turn of the last Put,
 -- and the fourth of what passes saw at their last steps. What a send's number may be is the feed's.
 use Rattle.std.specs.Prelude.{◌≡◌, ◌≢◌, ℕ, ◌+◌, ◌%◌, ◌<◌, ◌≤◌, List, length, None, Some}
 use Rattle.std.specs.List.{sum_by}

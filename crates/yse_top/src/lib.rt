@@ -75,9 +75,12 @@ use std::thread::Threads;
 /// its trace. A lane past its own cycles has X at every input. The cells of 30 lanes of as many cycles as the longest
 /// are at most 268,435,456, and the memories of the design have at most 16,777,216 bits in all.
 ///
-/// `fault NETLIST STIMULUS [--mode rank|unit|mixed] [--last FILE] [--units K] [--init x|0] [--workers N]` lists for
-/// each signal and each of 0 and 1 in which cycle and at which printed name it is first seen that the signal is stuck
-/// there, and ends with how many of these faults are seen. It takes netlists of at most 65,536 signals.
+/// `fault NETLIST STIMULUS [--mode rank|unit|mixed] [--last FILE] [--units K] [--init x|0] [--workers N]
+/// [--faults FILE]` lists for each signal and each of 0 and 1, or for each fault of the list, in which cycle and at
+/// which printed name it is first seen that the signal is stuck there, and ends with how many of these faults are seen.
+/// It takes netlists of at most 65,536 signals.
+///
+/// `help [COMMAND]` writes the form of each command and the statuses, or more of one command. It reads no file.
 ///
 /// Worker `w` tells the gate `w` of each turn that begins of the ports that it steps, which are the ports
 /// `p` with `p % N` equal to `w`. Workers wait for one another, so what is promised holds if the call returns.
