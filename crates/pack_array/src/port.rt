@@ -1,6 +1,6 @@
 //! A packed array processor in its run.
 
-ghost use Rattle.std.specs.Prelude.{◌≡◌, ◌<◌, ℕ, IfOk};
+ghost use Rattle.std.specs.Prelude.{◌≡◌, ◌<◌, ℕ, IfOk, None};
 ghost use Rattle.limits.specs.declared.TheConstants.{LANES};
 ghost use Rattle.lane_planes.specs.Lanes.{lane_of};
 ghost use Rattle.stim_text.specs.Lanes.{AreLanes};
@@ -12,7 +12,7 @@ use crate::memory::{PackMemory, answered, begin_memories, make_memories};
 use image_defs::{BlockWork, Image, OutBit, Work};
 use lane_planes::Planes;
 use net_defs::initial_value;
-use port_bank::Bank;
+use port_bank::{Bank, Port};
 use seen_list::{List, Memory};
 use std::alloc::Global;
 use std::marker::Model;
@@ -108,5 +108,29 @@ impl<'a> PackArray<'a> {
         ensures { self.new ≡ after_end self.old }
     {
         self.bank.end_turn();
+    }
+}
+
+impl<'a> Port<Planes> for PackArray<'a> {
+    ghost seen = { λ port. port };
+
+    ghost rows = { λ port. None };
+
+    fn begin_turn(&mut self) {
+        self.begin_turn();
+    }
+
+    #[inline]
+    fn execute(&mut self, slot: u32) -> Planes {
+        self.execute(slot)
+    }
+
+    #[inline]
+    fn receive(&mut self, slot: u32, v: Planes) {
+        self.receive(slot, v);
+    }
+
+    fn end_turn(&mut self) {
+        self.end_turn();
     }
 }

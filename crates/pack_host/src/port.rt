@@ -1,13 +1,13 @@
 //! The packed host in its run.
 
-ghost use Rattle.std.specs.Prelude.{ℕ, ◌≡◌, ◌+◌, ◌*◌, ◌<◌, ◌≤◌, length, IfOk};
+ghost use Rattle.std.specs.Prelude.{ℕ, ◌≡◌, ◌+◌, ◌*◌, ◌<◌, ◌≤◌, length, IfOk, Some};
 ghost use Rattle.limits.specs.declared.TheConstants.{LANES, MAX_CYCLES};
 ghost use Rattle.image_defs.specs.Places.{host_of};
 ghost use Rattle.image_defs.specs.WellFormed.{IsWellFormed};
 ghost use Rattle.image_defs.specs.Frames.{shown};
 ghost use Rattle.image_defs.specs.Ports.{at_first, after_begin, after_execute, after_receive, after_end, value_in, CanBegin, CanExecute, CanReceive, CanEnd};
 ghost use Rattle.lane_planes.specs.Lanes.{lane_of};
-ghost use Rattle.stim_text.specs.Lanes.{lane_stimulus, AreLanes};
+ghost use Rattle.stim_text.specs.Lanes.{lane_stimulus, longest, AreLanes};
 ghost use Rattle.port_host.specs.Rows.{printed_sources};
 ghost use Rattle.port_bank.specs.Packed.{lane_port, InEachLane};
 ghost use Rattle.pack_host.specs.Turns.{cycles_done};
@@ -18,7 +18,7 @@ use crate::feed::Feed;
 use image_defs::{Image, InColumn, Source, Work};
 use lane_planes::Planes;
 use logic_four::V4;
-use port_bank::Bank;
+use port_bank::{Bank, Port};
 use seen_list::{List, Memory};
 use std::alloc::Global;
 use std::marker::Model;
@@ -157,5 +157,29 @@ impl<'a> PackHost<'a> {
     {
         let start = row_start(cycle - 1, self.printed.len(), self.cells.len());
         cell(self.cells.as_slice(), start, column, lane)
+    }
+}
+
+impl<'a> Port<Planes> for PackHost<'a> {
+    ghost seen = { λ host. host };
+
+    ghost rows = { λ host. Some (longest host.stimulus, 0) };
+
+    fn begin_turn(&mut self) {
+        self.begin_turn();
+    }
+
+    #[inline]
+    fn execute(&mut self, slot: u32) -> Planes {
+        self.execute(slot)
+    }
+
+    #[inline]
+    fn receive(&mut self, slot: u32, v: Planes) {
+        self.receive(slot, v);
+    }
+
+    fn end_turn(&mut self) {
+        self.end_turn();
     }
 }

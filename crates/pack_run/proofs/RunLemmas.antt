@@ -12,8 +12,8 @@ use Rattle.list_laws.proofs.Members.{member_at}
 use Rattle.slot_words.specs.Layout.{progress_word}
 use Rattle.port_run.proofs.NextLemmas.{asked_in}
 use Rattle.pack_walk.specs.Placed.{CanPut, CanTake, HasPut, HasTaken, IsNextOf, IsNextValue, IsReceiving, IsSending, PlacedPack, at_start, lane_action, value_in}
-use Rattle.pack_walk.specs.declared.action.PackAction.{PackAction}
-use Rattle.pack_walk.specs.declared.action.PackAction.TheVariants as action
+use Rattle.port_walk.specs.declared.upcoming.Upcoming.{Upcoming}
+use Rattle.port_walk.specs.declared.upcoming.Upcoming.TheVariants as action
 use Rattle.slot_words.specs.packed.Passes.{AreValues, HasLooked, IsFit, IsPut, IsTake, PackPassView, WasSentBefore, one_step}
 use Rattle.slot_words.specs.packed.Passes as pass
 use Rattle.slot_words.specs.packed.Words.{HasPlanes, packed, turns_of}
@@ -29,14 +29,14 @@ placed_first old port begun =
     begun.port_is ∙ ap {A = Place} {B = PlacedPack} (λ (x : Place). record (at_start old.image old.feed old.port) { turn = x.turn; puts = x.puts; takes = x.takes }) (sym begun.place_is)
 
 -- what the port says comes next in the first lane comes next
-next_in : (seat : PortImage) (old : PackPassView) (next : PackAction) → IsNext seat old.place 1 (turns_of old.image old.feed) (value_in (placed old) 0 old.port) (lane_action (value_in (placed old) 0 old.port) next) → IsNextAction seat old next
+next_in : (seat : PortImage) (old : PackPassView) (next : Upcoming) → IsNext seat old.place 1 (turns_of old.image old.feed) (value_in (placed old) 0 old.port) (lane_action (value_in (placed old) 0 old.port) next) → IsNextAction seat old next
 next_in seat old (action.Ask reader) is = is
 next_in seat old (action.Put slot) is = (is.0, is.1)
 next_in seat old (action.Take slot) is = is
 next_in seat old action.Tell is = is
 next_in seat old action.Done is = is
 
-pub upcoming : (old : PackPassView) (port : PlacedPack) (known : List ℕ) (next : PackAction) → port ≡ placed old → known ≡ old.place.known → IsFit old → IsNextOf port known next → IsUpcoming old next
+pub upcoming : (old : PackPassView) (port : PlacedPack) (known : List ℕ) (next : Upcoming) → port ≡ placed old → known ≡ old.place.known → IsFit old → IsNextOf port known next → IsUpcoming old next
 upcoming old port known next port_is known_is fit is =
     let seat = member_at old.image.ports old.port fit.inside in
     let here : IsNextOf (placed old) old.place.known next = subst (λ k. IsNextOf (placed old) k next) known_is (subst (λ p. IsNextOf p known next) port_is is) in

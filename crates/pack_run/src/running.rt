@@ -5,7 +5,7 @@ ghost use Rattle.limits.specs.declared.TheConstants.{LANES};
 ghost use Rattle.image_defs.specs.Frames.{shown};
 ghost use Rattle.image_defs.specs.Places.{host_of};
 ghost use Rattle.port_host.specs.Rows.{printed_sources};
-ghost use Rattle.pack_walk.specs.declared.action.PackAction.TheVariants as action;
+ghost use Rattle.port_walk.specs.declared.upcoming.Upcoming.TheVariants as action;
 ghost use Rattle.slot_words.specs.packed.Passes.{IsFit, IsOf};
 ghost use Rattle.slot_words.specs.packed.Words.{stimulus_of};
 ghost use Rattle.pack_run.specs.Pairs.{AreBegun, last_turn};

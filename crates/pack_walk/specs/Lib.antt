@@ -1,4 +1,3 @@
 pub mod code
 pub mod Kept
-pub mod Kinds
 pub mod Placed

@@ -1,6 +1,6 @@
 -- A packed port with its place in the turn, as contracts see it, and what comes next. It is as many plain
 -- ports as there are lanes, which go event by event together: their values alone differ.
-use Rattle.std.specs.Prelude.{◌≡◌, ℕ, ◌+◌, ◌*◌, ◌<◌, ◌≤◌, List, [], ◌∷◌, ◌++◌}
+use Rattle.std.specs.Prelude.{◌≡◌, ℕ, ◌+◌, ◌*◌, ◌<◌, List, [], ◌∷◌, ◌++◌}
 use Rattle.limits.specs.declared.TheConstants.{LANES}
 use Rattle.logic_four.specs.declared.V4.{V4}
 use Rattle.lane_planes.specs.declared.planes.Planes.{Planes}
@@ -15,11 +15,12 @@ use Rattle.image_defs.specs.Places.{IsPort, host_of}
 use Rattle.image_defs.specs.Frames.{image_value}
 use Rattle.event_defs.specs.declared.place.Place.{Place}
 use Rattle.event_defs.specs.declared.place.Action.{Action}
-use Rattle.event_defs.specs.declared.place.Action.TheVariants.{Ask, Put, Take, Tell, Done}
-use Rattle.event_defs.specs.Next.{SendsNext, ReceivesNext, EndsNext, IsNext}
+use Rattle.event_defs.specs.Next.{IsNext}
 use Rattle.port_bank.specs.Packed.{PackPortView}
-use Rattle.pack_walk.specs.declared.action.PackAction.{PackAction}
-use Rattle.pack_walk.specs.declared.action.PackAction.TheVariants as pack
+use Rattle.port_walk.specs.declared.upcoming.Upcoming.{Upcoming}
+use Rattle.port_walk.specs.Stands.{Stand, action_of}
+use Rattle.port_walk.specs.Stands as stands
+use Rattle.port_walk.specs.Walks.{Walked}
 
 -- a packed port of an image with lanes: its turn, the slots whose items it has sent in this turn, and those in
 -- which it has received
@@ -43,9 +44,17 @@ value_in view l p slot = image_value view.image (lane_stimulus view.image.column
 abbrev pub AreValuesOf : PlacedPack → ℕ → ℕ → Planes → Type 0
 AreValuesOf view p slot values = (l : ℕ) → l < LANES → lane_of values l ≡ value_in view l p slot
 
+-- where it stands in its turn
+abbrev pub stand_of : PlacedPack → Stand
+stand_of view = record { image = view.image; port = view.port; until = last_turn view; turn = view.turn; puts = view.puts; takes = view.takes }
+
 -- its place, where it knows each port to have finished so many turns
 abbrev pub place_of : PlacedPack → List ℕ → Place
-place_of view known = record { turn = view.turn; puts = view.puts; takes = view.takes; known = known }
+place_of view known = stands.place_of (stand_of view) known
+
+-- the port of a walk
+abbrev pub placed : Walked Lanes → PlacedPack
+placed walk = record { image = walk.stand.image; lanes = walk.stimulus; port = walk.stand.port; turn = walk.stand.turn; puts = walk.stand.puts; takes = walk.stand.takes }
 
 -- the port before its first event
 abbrev pub at_start : Image → Lanes → ℕ → PlacedPack
@@ -54,36 +63,23 @@ at_start image lanes port = record { image = image; lanes = lanes; port = port; 
 -- ---- what comes next
 
 -- the next thing that is missing is the Put of this link, number i of what the port sends
-pub record IsSending (view : PlacedPack) (i : ℕ) (link : LinkOut) : Type 0 where
-  pub early : view.turn ≤ last_turn view
-  pub seat : PortImage
-  pub is : IsPort view.image view.port seat
-  pub next : SendsNext seat view.puts view.takes i link
+abbrev pub IsSending : PlacedPack → ℕ → LinkOut → Type 0
+IsSending view i link = stands.IsSending (stand_of view) i link
 
 -- it is the Take of this link, number j of what the port receives
-pub record IsReceiving (view : PlacedPack) (j : ℕ) (link : LinkIn) : Type 0 where
-  pub early : view.turn ≤ last_turn view
-  pub seat : PortImage
-  pub is : IsPort view.image view.port seat
-  pub next : ReceivesNext seat view.puts view.takes j link
+abbrev pub IsReceiving : PlacedPack → ℕ → LinkIn → Type 0
+IsReceiving view j link = stands.IsReceiving (stand_of view) j link
 
 -- nothing is missing in the turn
-pub record IsEnding (view : PlacedPack) : Type 0 where
-  pub early : view.turn ≤ last_turn view
-  pub seat : PortImage
-  pub is : IsPort view.image view.port seat
-  pub next : EndsNext seat view.puts view.takes
+abbrev pub IsEnding : PlacedPack → Type 0
+IsEnding view = stands.IsEnding (stand_of view)
 
 -- the action in a lane, where a Put has the value of that lane
-abbrev pub lane_action : (ℕ → V4) → PackAction → Action
-lane_action value (pack.Ask reader) = Ask reader
-lane_action value (pack.Put slot) = Put slot (value slot)
-lane_action value (pack.Take slot) = Take slot
-lane_action value pack.Tell = Tell
-lane_action value pack.Done = Done
+abbrev pub lane_action : (ℕ → V4) → Upcoming → Action
+lane_action value action = action_of value action
 
 -- this is its next event by what it knows, in each lane; there is one bank
-pub record IsNextOf (view : PlacedPack) (known : List ℕ) (action : PackAction) : Type 0 where
+pub record IsNextOf (view : PlacedPack) (known : List ℕ) (action : Upcoming) : Type 0 where
   pub each : (l : ℕ) → l < LANES → (seat : PortImage) → IsPort view.image view.port seat
       → IsNext seat (place_of view known) 1 (last_turn view) (value_in view l view.port) (lane_action (value_in view l view.port) action)
 
@@ -93,10 +89,8 @@ pub record IsNextValue (view : PlacedPack) (values : Planes) : Type 0 where
 
 -- ---- what a call may do
 
-pub record CanPut (view : PlacedPack) : Type 0 where
-  pub i : ℕ
-  pub link : LinkOut
-  pub sending : IsSending view i link
+abbrev pub CanPut : PlacedPack → Type 0
+CanPut view = stands.CanPut (stand_of view)
 
 -- and these are the values that the sender has there
 pub record CanTake (view : PlacedPack) (values : Planes) : Type 0 where

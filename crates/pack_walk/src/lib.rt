@@ -2,9 +2,8 @@
 //! far as it can, and tells what comes next between it and the other ports.
 #![tactic(auto)]
 
-mod action;
 mod kind;
 mod placed;
 
-pub use action::PackAction;
 pub use placed::PackPlaced;
+pub use port_walk::Upcoming as PackAction;

@@ -1,6 +1,6 @@
 //! An array processor in its run.
 
-ghost use Rattle.std.specs.Prelude.{◌≡◌, IfOk};
+ghost use Rattle.std.specs.Prelude.{◌≡◌, IfOk, None};
 ghost use Rattle.net_defs.specs.Valid.{IsValidStimulus};
 ghost use Rattle.image_defs.specs.WellFormed.{IsWellFormed, IsPortOf, IsArray};
 ghost use Rattle.image_defs.specs.Ports.{at_first, after_begin, after_execute, after_receive, after_end, value_in, CanBegin, CanExecute, CanReceive, CanEnd};
@@ -9,7 +9,7 @@ use crate::memory::{MemoryState, answered, begin_memories, make_memories};
 use image_defs::{BlockWork, Image, OutBit, Work};
 use logic_four::V4;
 use net_defs::{Stimulus, initial_value};
-use port_bank::Bank;
+use port_bank::{Bank, Port};
 use seen_list::{List, Memory};
 use std::alloc::Global;
 use std::marker::Model;
@@ -103,5 +103,29 @@ impl<'a> ArrayPort<'a> {
         ensures { self.new ≡ after_end self.old }
     {
         self.bank.end_turn();
+    }
+}
+
+impl<'a> Port<V4> for ArrayPort<'a> {
+    ghost seen = { λ port. port };
+
+    ghost rows = { λ port. None };
+
+    fn begin_turn(&mut self) {
+        self.begin_turn();
+    }
+
+    #[inline]
+    fn execute(&mut self, slot: u32) -> V4 {
+        self.execute(slot)
+    }
+
+    #[inline]
+    fn receive(&mut self, slot: u32, v: V4) {
+        self.receive(slot, v);
+    }
+
+    fn end_turn(&mut self) {
+        self.end_turn();
     }
 }

@@ -1,4 +1,5 @@
 pub mod BankLemmas
+mod ItemLemmas
 mod LaneBanks
 pub mod LaneLemmas
 mod LanePlaces

@@ -5,4 +5,5 @@ pub mod Lanes
 pub mod Packed
 pub mod Places
 pub mod Reads
+pub mod Runs
 pub mod Words

@@ -4,9 +4,11 @@
 
 mod bank;
 mod places;
+mod port;
 pub mod steps;
 mod word;
 
 pub use bank::Bank;
 pub use lane_planes::Planes;
+pub use port::Port;
 pub use word::Word;

@@ -1,6 +1,6 @@
 //! The host in its run.
 
-ghost use Rattle.std.specs.Prelude.{ℕ, ◌≡◌, ◌<◌, ◌≤◌, length, IfOk};
+ghost use Rattle.std.specs.Prelude.{ℕ, ◌≡◌, ◌<◌, ◌≤◌, length, IfOk, Some};
 ghost use Rattle.net_defs.specs.Time.{value_at};
 ghost use Rattle.net_defs.specs.Valid.{IsValidStimulus};
 ghost use Rattle.image_defs.specs.WellFormed.{IsWellFormed};
@@ -13,7 +13,7 @@ use crate::cursor::{Progress, begin, input_value, turn_over};
 use image_defs::{Image, InColumn, Source, Work};
 use logic_four::V4;
 use net_defs::Stimulus;
-use port_bank::Bank;
+use port_bank::{Bank, Port};
 use seen_list::{List, Memory};
 use std::alloc::Global;
 use std::marker::Model;
@@ -166,5 +166,29 @@ impl<'a> HostPort<'a> {
         let width = self.printed.len();
         let start = row_start(cycle - 1 - self.first_row, width, self.cells.len());
         row(self.cells.as_slice(), start, width)
+    }
+}
+
+impl<'a> Port<V4> for HostPort<'a> {
+    ghost seen = { λ host. host.port };
+
+    ghost rows = { λ host. Some (host.window, host.first_row) };
+
+    fn begin_turn(&mut self) {
+        self.begin_turn();
+    }
+
+    #[inline]
+    fn execute(&mut self, slot: u32) -> V4 {
+        self.execute(slot)
+    }
+
+    #[inline]
+    fn receive(&mut self, slot: u32, v: V4) {
+        self.receive(slot, v);
+    }
+
+    fn end_turn(&mut self) {
+        self.end_turn();
     }
 }

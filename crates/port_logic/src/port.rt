@@ -1,6 +1,6 @@
 //! A logic processor in its run.
 
-ghost use Rattle.std.specs.Prelude.{◌≡◌, ◌<◌, ℕ, IfOk};
+ghost use Rattle.std.specs.Prelude.{◌≡◌, ◌<◌, ℕ, IfOk, None};
 ghost use Rattle.image_defs.specs.WellFormed.{IsWellFormed, IsPortOf, IsLogic};
 ghost use Rattle.image_defs.specs.Ports.{lane_port, at_first, after_begin, after_execute, after_receive, after_end, value_in, CanBegin, CanExecute, CanReceive, CanEnd};
 ghost use Rattle.port_bank.specs.Flat.{place_count};
@@ -11,7 +11,7 @@ ghost use Rattle.port_logic.specs.code.Tasks.{IsAnswer};
 use crate::op::{Op, forms_of, ops_of};
 use func_table::Table;
 use image_defs::{Image, Task, Work};
-use port_bank::{Bank, Word};
+use port_bank::{Bank, Port, Word};
 use seen_list::{List, Memory};
 use std::alloc::Global;
 use std::marker::Model;
@@ -147,5 +147,29 @@ impl<'a, W: Word> LogicPort<'a, W> {
         ensures { self.new ≡ after_end self.old }
     {
         self.bank.end_turn();
+    }
+}
+
+impl<'a, W: Word> Port<W> for LogicPort<'a, W> {
+    ghost seen = { λ port. port };
+
+    ghost rows = { λ port. None };
+
+    fn begin_turn(&mut self) {
+        self.begin_turn();
+    }
+
+    #[inline]
+    fn execute(&mut self, slot: u32) -> W {
+        self.execute(slot)
+    }
+
+    #[inline]
+    fn receive(&mut self, slot: u32, v: W) {
+        self.receive(slot, v);
+    }
+
+    fn end_turn(&mut self) {
+        self.end_turn();
     }
 }

@@ -1,27 +1,34 @@
--- What a port with its place keeps from call to call.
-use Rattle.std.proofs.Common.{◌≡◌, ℕ, ◌-◌, ◌≤◌, List, slice_get, Some, sym, ap, ◌∙◌, subst}
+-- What a walk keeps from call to call.
+use Rattle.std.proofs.Common.{◌≡◌, ℕ, ◌+◌, ◌*◌, ◌-◌, ◌<◌, ◌≤◌, List, slice_get, Some, sym, ap, ◌∙◌, subst, arith}
+use Rattle.std.proofs.Math.Nat.{mul-le-mul}
+use Rattle.limits.specs.declared.TheConstants.{MAX_CYCLES, MAX_UNITS}
+use Rattle.logic_four.specs.declared.V4.{V4}
+use Rattle.net_defs.specs.Valid.{IsValidStimulus}
 use Rattle.image_defs.specs.declared.image.LinkOut.{LinkOut}
-use Rattle.image_defs.specs.declared.image.PortImage.{PortImage}
 use Rattle.image_defs.specs.Places.{IsPort}
 use Rattle.image_defs.specs.Frames.{image_value}
-use Rattle.image_defs.specs.Ports.{PortView}
+use Rattle.image_defs.specs.Ports.{View, lane_port, last_turn, value_in}
 use Rattle.event_defs.specs.declared.place.Action.{Action}
-use Rattle.event_defs.specs.declared.place.Action.TheVariants.{Take, Tell}
 use Rattle.event_defs.specs.Next.{IsNext}
-use Rattle.port_walk.specs.declared.any_port.AnyPort.TheInside.{Inside}
+use Rattle.port_bank.specs.declared.word.Word as word
+use Rattle.port_bank.specs.Runs.{IsLastValue}
+use Rattle.port_bank.specs.Words.{InEachLane, InEachLaneOf}
+use Rattle.port_bank.proofs.LaneLemmas.{in_each, in_lane}
 use Rattle.port_walk.specs.declared.stops.Stop.{Stop}
 use Rattle.port_walk.specs.declared.stops.StopKind.TheVariants.{Send, Receive, End}
-use Rattle.port_walk.specs.Kept.{view_of, inner, IsKept}
-use Rattle.port_walk.specs.Kinds.{view_in}
-use Rattle.port_walk.specs.Placed.{place_of, IsNextOf}
-use Rattle.port_walk.specs.Readers.{IsSendAction}
+use Rattle.port_walk.specs.declared.upcoming.Upcoming.{Upcoming}
+use Rattle.port_walk.specs.declared.upcoming.Upcoming.TheVariants.{Take, Tell}
+use Rattle.port_walk.specs.Kept.{Parts, view_of, inner, IsKept}
+use Rattle.port_walk.specs.Readers.{IsNextOfSend}
+use Rattle.port_walk.specs.Stands.{place_of, action_of, IsNextOf}
 use Rattle.port_walk.proofs.WalkLemmas.{IsWalk, Walk, end_here, last_here, next_sent, receipt_here, same_seat, slot_sent}
 
-abbrev pub walk_of : Inside → Walk
+-- the walk of the port
+abbrev pub walk_of : {W S : Type 0} → Parts W S → Walk
 walk_of a = record {
-  image = a.image.now;
-  port = a.port;
-  seat = a.seat.now;
+  image = a.view.image;
+  port = a.view.port;
+  seat = a.seat;
   items = a.slots;
   stops = a.stops;
   at = a.at;
@@ -29,42 +36,52 @@ walk_of a = record {
   took = a.took;
 }
 
-pub walks : (a : Inside) → IsKept a → IsWalk (walk_of a)
-walks a kept = record {
-  image = kept.image;
-  seat = kept.seat;
-  items = kept.slots;
-  stops = kept.stops;
-  come = kept.come;
-  at = kept.at;
-  sent = kept.sent;
-  took = kept.took;
-}
+module _ {W P F S : Type 0} (m : word.Ghosts W P F S) where
+  pub walks : (a : Parts W S) → IsKept m a → IsWalk (walk_of a)
+  walks a kept = record {
+    image = kept.image;
+    seat = kept.seat;
+    items = kept.slots;
+    stops = kept.stops;
+    come = kept.come;
+    at = kept.at;
+    sent = kept.sent;
+    took = kept.took;
+  }
 
--- ---- the next event
+  -- its turns can be counted
+  pub until_low : 0 < m.lanes → (a : Parts W S) → IsKept m a → a.until ≤ MAX_UNITS * MAX_CYCLES
+  until_low some a kept =
+      let valid : IsValidStimulus (lane_port m.stimulus 0 a.view).stimulus = in_lane m.lanes (λ l. IsValidStimulus (lane_port m.stimulus l a.view).stimulus) kept.valid 0 some in
+      let few : a.until ≤ last_turn (lane_port m.stimulus 0 a.view) = in_lane m.lanes (λ l. a.until ≤ last_turn (lane_port m.stimulus l a.view)) kept.few 0 some in
+      let most = mul-le-mul kept.image.units.1 valid.cycles in
+      omega (arith, few, most)
 
-module _ (a : Inside) (kept : IsKept a) (stop : Stop) (at : slice_get a.stops a.at ≡ Some stop) (known : List ℕ) (banks : ℕ) (early : a.turn ≤ a.until) where
-  next_of : (action : Action) → IsNext a.seat.now (place_of (view_of a) known) banks a.until (image_value a.image.now a.stim.now a.turn a.port) action → IsNextOf (view_of a) known banks action
-  next_of action next = record { each = λ seat is. subst (λ (s : PortImage). IsNext s (place_of (view_of a) known) banks a.until (image_value a.image.now a.stim.now a.turn a.port) action) (same_seat (walk_of a) (walks a kept) seat is) next }
+  module _ (a : Parts W S) (kept : IsKept m a) (stop : Stop) (at : slice_get a.stops a.at ≡ Some stop) where
+    -- ---- the next event
 
-  pub next_take : stop.kind ≡ Receive → IsNextOf (view_of a) known banks (Take stop.slot)
-  next_take kind = let next = receipt_here (walk_of a) (walks a kept) stop at kind in next_of (Take stop.slot) (early, record { j = a.took; link = next.0; slot_is = next.2; receives = next.1 })
+    module _ (known : List ℕ) (banks : ℕ) (early : a.turn ≤ a.until) where
+      next_of : (next : Upcoming) → ((value : ℕ → V4) → IsNext a.seat (place_of (view_of a).stand known) banks a.until value (action_of value next)) → IsNextOf (view_of a).stand known banks next
+      next_of next is_next = record {
+        each = λ value seat is. subst (λ s. IsNext s (place_of (view_of a).stand known) banks a.until value (action_of value next)) (same_seat (walk_of a) (walks a kept) seat is) (is_next value);
+      }
 
-  pub next_tell : stop.kind ≡ End → IsNextOf (view_of a) known banks Tell
-  next_tell kind = next_of Tell (early, end_here (walk_of a) (walks a kept) stop at kind)
+      pub next_take : stop.kind ≡ Receive → IsNextOf (view_of a).stand known banks (Take stop.slot)
+      next_take kind = let next = receipt_here (walk_of a) (walks a kept) stop at kind in next_of (Take stop.slot) (λ value. (early, record { j = a.took; link = next.0; slot_is = next.2; receives = next.1 }))
 
-  -- the value of the last item is that of the item in the stop's slot
-  holds_value : (link : LinkOut) → slice_get a.seat.now.outs a.sent ≡ Some link → link.slot ≡ stop.slot → a.value ≡ image_value a.image.now a.stim.now a.turn a.port stop.slot
-  holds_value link is slot =
-      let last = last_here (walk_of a) (walks a kept) stop at link is slot in
-      let view : PortView = view_in a.kind in
-      let inside : view ≡ inner a view.executed = kept.inner in
-      let at_port : IsPort view.image view.port a.seat.now = subst (λ (v : PortView). IsPort v.image v.port a.seat.now) (sym inside) kept.seat in
-      kept.value.each a.seat.now last.0 stop.slot at_port (last.1 ∙ sym (kept.executed early stop at)) last.2
-      ∙ ap (λ (v : PortView). image_value v.image v.stimulus v.turn v.port stop.slot) inside
+      pub next_tell : stop.kind ≡ End → IsNextOf (view_of a).stand known banks Tell
+      next_tell kind = next_of Tell (λ value. (early, end_here (walk_of a) (walks a kept) stop at kind))
 
-  pub next_put : (readers : List ℕ) (turns : ℕ) (link : LinkOut) (action : Action) → stop.kind ≡ Send → turns ≡ a.turn - banks → slice_get a.seat.now.outs a.sent ≡ Some link → readers ≡ link.readers
-      → IsSendAction readers known turns stop.slot a.value action → IsNextOf (view_of a) known banks action
-  next_put readers turns link action kind bar is same sends = next_of action
-      (next_sent (walk_of a) (walks a kept) stop at known a.turn banks a.until (image_value a.image.now a.stim.now a.turn a.port) early readers turns a.value link action kind bar is same
-      (holds_value link is (slot_sent (walk_of a) (walks a kept) stop at kind link is)) sends)
+      pub next_put : (readers : List ℕ) (turns : ℕ) (link : LinkOut) (next : Upcoming) → stop.kind ≡ Send → turns ≡ a.turn - banks → slice_get a.seat.outs a.sent ≡ Some link → readers ≡ link.readers
+          → IsNextOfSend readers known turns stop.slot next → IsNextOf (view_of a).stand known banks next
+      next_put readers turns link next kind bar is same sends = next_of next (λ value.
+          next_sent (walk_of a) (walks a kept) stop at known a.turn banks a.until value early readers turns link next kind bar is same sends)
+
+    -- the value of the last item is that of the item in the stop's slot
+    pub holds_value : (early : a.turn ≤ a.until) (link : LinkOut) → slice_get a.seat.outs a.sent ≡ Some link → link.slot ≡ stop.slot → (l : ℕ) → l < m.lanes
+        → m.lane a.value l ≡ image_value a.view.image (m.stimulus a.view.image.columns a.view.stimulus l) a.turn a.view.port stop.slot
+    holds_value early link is slot l low =
+        let last = last_here (walk_of a) (walks a kept) stop at link is slot in
+        let one : IsLastValue (lane_port m.stimulus l a.view) (m.lane a.value l) = in_lane m.lanes (λ k. IsLastValue (lane_port m.stimulus k a.view) (m.lane a.value k)) kept.value l low in
+        one.each a.seat last.0 stop.slot kept.seat (last.1 ∙ sym (kept.executed early stop at)) last.2
+        ∙ ap (λ (v : View S). value_in (record (lane_port m.stimulus l a.view) { turn = v.turn }) stop.slot) kept.inner

@@ -1,36 +1,40 @@
 -- The kinds of port before their first turn.
-use Rattle.port_host.specs.Rows.{HostView, host_at_first}
-use Rattle.std.proofs.Common.{◌≡◌, ◌∙◌, ℕ, ◌+◌, ◌<◌, true, List, length, Some, get_or, ap, refl, arith}
+use Rattle.std.proofs.Common.{◌≡◌, ◌∙◌, inl, inr, ℕ, ◌+◌, ◌<◌, List, length, Option, None, Some, get_or, ap, sym, refl, arith}
+use Rattle.std.proofs.lemmas.Bool.Decides.{eqb_tells}
 use Rattle.std.proofs.lemmas.Option.{slice_get_read}
-use Rattle.net_defs.specs.declared.stimulus.Stimulus.{Stimulus}
 use Rattle.image_defs.specs.declared.image.Image.{Image}
 use Rattle.image_defs.specs.declared.image.PortImage.{PortImage}
 use Rattle.image_defs.specs.Places.{IsPort, host_of}
 use Rattle.image_defs.specs.WellFormed.{IsWellFormed, IsHost}
-use Rattle.image_defs.specs.Ports.{at_first}
-use Rattle.port_walk.specs.declared.kind.Kind.{Kind}
-use Rattle.port_walk.specs.declared.kind.Kind.TheVariants.{Host}
-use Rattle.port_walk.specs.Kinds.{is_host, FitsKind}
-use Rattle.port_walk.specs.code.Kinds.{IsFirst}
+use Rattle.port_walk.specs.Kinds.{rows_of}
 
 -- a port that was looked up
 pub seat_there : (image : Image) (p : ℕ) (seat : PortImage) (ports : List PortImage) → p < length image.ports → ports ≡ image.ports → seat ≡ get_or ports p seat → IsPort image p seat
 seat_there image p seat ports within same is = slice_get_read image.ports (length image.ports) p seat refl within (is ∙ ap (λ xs. get_or xs p seat) same)
 
-module _ (image : Image) (good : IsWellFormed image) (p : ℕ) (seat : PortImage) (is : IsPort image p seat) where
-  -- the host is the last port
+-- the last port is the host
+pub host_number : (image : Image) (p : ℕ) → p + 1 ≡ length image.ports → host_of image ≡ p
+host_number image p last = omega (arith, last)
+
+module _ (image : Image) (p : ℕ) (rows : ℕ × ℕ) where
+  pub has_rows : p + 1 ≡ length image.ports → rows_of image p rows ≡ Some rows
+  has_rows last = elim (eqb_tells (p + 1) (length image.ports)) [
+    | inl h ↦ rw h.0 refl
+    | inr h ↦ absurd (h.1 last)
+  ]
+
+  pub has_none : (p + 1 ≡ length image.ports → ⊥) → rows_of image p rows ≡ None
+  has_none other = elim (eqb_tells (p + 1) (length image.ports)) [
+    | inl h ↦ absurd (other h.1)
+    | inr h ↦ rw h.0 refl
+  ]
+
+module _ (image : Image) (good : IsWellFormed image) (p : ℕ) (seat : PortImage) (is : IsPort image p seat) (rows : ℕ × ℕ) where
   pub host_last : IsHost seat.work → p + 1 ≡ length image.ports
   host_last host = (good.host p seat is).0 host
 
-  pub fits_host : (kind : Kind) → is_host kind ≡ true → IsHost seat.work → FitsKind image p kind
-  fits_host kind host work = ((λ _. host_last work), (λ _. host))
+  pub rows_first : IsHost seat.work → Some rows ≡ rows_of image p rows
+  rows_first host = sym (has_rows image p rows (host_last host))
 
-  pub host_first : (stimulus : Stimulus) (window : ℕ) (made : HostView) → IsHost seat.work → made ≡ host_at_first image stimulus window → IsFirst image stimulus p window (Host made)
-  host_first stimulus window made work first =
-      let last = host_last work in
-      let number : host_of image ≡ p = omega arith in
-      record {
-        view = ap (λ host. host.port) first ∙ ap (at_first image stimulus) number;
-        fits = fits_host (Host made) refl work;
-        rows = λ _. ap (λ host. Some (host.window, host.first_row)) first;
-      }
+  pub none_first : (IsHost seat.work → ⊥) → None ≡ rows_of image p rows
+  none_first other = sym (has_none image p rows (λ last. other ((good.host p seat is).1 last)))

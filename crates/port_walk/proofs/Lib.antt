@@ -1,9 +1,9 @@
 pub mod BlockLemmas
-pub mod CursorLemmas
-pub mod ItemLemmas
-pub mod KeptLemmas
+mod CursorLemmas
+mod KeptLemmas
 pub mod KindLemmas
-pub mod MoveLemmas
-pub mod RowLemmas
-pub mod StopLemmas
-pub mod WalkLemmas
+mod MoveLemmas
+mod NextLemmas
+mod RowLemmas
+mod StopLemmas
+mod WalkLemmas

@@ -1,117 +1,139 @@
--- From stop to stop: what a port may do there, and what it keeps.
-use Rattle.std.proofs.Common.{◌≡◌, ◌↔◌, ℕ, ◌+◌, ◌<◌, ◌≤◌, Bool, true, false, nat_le, if◌then◌else◌, List, length, take, get_or, slice_get, Some, sym, ap, ◌∙◌, subst, refl, arith}
-use Rattle.std.proofs.lemmas.Bool.{le-leb}
-use Rattle.std.proofs.lemmas.Option.{slice_get-get_or}
+-- From stop to stop: what a port may do there, and what its walk keeps.
+use Rattle.std.proofs.Common.{◌≡◌, ℕ, ◌+◌, ◌-◌, ◌<◌, ◌≤◌, Bool, true, false, nat_le, if◌then◌else◌, List, length, take, get_or, slice_get, slice_range, Option, Some, sym, ap, ◌∙◌, subst, refl, arith}
+use Rattle.std.specs.List.Sorted.{IsStrictlyIncreasing}
+use Rattle.std.proofs.lemmas.Bool.{le-leb, leb-true}
+use Rattle.std.proofs.lemmas.Option.{slice_get-get_or, slice_get_within}
 use Rattle.list_laws.proofs.Places.{one_there}
-use Rattle.logic_four.specs.declared.V4.{V4}
-use Rattle.net_defs.specs.Time.{cycle_count, turn_count}
 use Rattle.net_defs.specs.Valid.{IsValidStimulus}
 use Rattle.image_defs.specs.declared.image.Image.{Image}
 use Rattle.image_defs.specs.declared.image.LinkIn.{LinkIn}
 use Rattle.image_defs.specs.declared.image.LinkOut.{LinkOut}
 use Rattle.image_defs.specs.declared.image.PortImage.{PortImage}
-use Rattle.image_defs.specs.Places.{IsPort, item_slots, in_slots, out_slots}
+use Rattle.image_defs.specs.Places.{Each, IsPort, item_slots, in_slots, out_slots}
 use Rattle.image_defs.specs.WellFormed.{IsWellFormed, IsPortImage}
-use Rattle.image_defs.specs.Steps.{timing_of}
 use Rattle.image_defs.specs.Frames.{image_value}
-use Rattle.image_defs.specs.Ports.{PortView, last_turn, CanReceive, CanEnd}
+use Rattle.image_defs.specs.Ports.{View, PortView, lane_port, after_end, after_receive, last_turn, CanReceive, CanEnd}
 use Rattle.image_defs.proofs.PlaceLemmas.{rises}
-use Rattle.port_walk.specs.declared.any_port.AnyPort.TheInside.{Inside}
-use Rattle.port_walk.specs.declared.kind.Kind.{Kind}
+use Rattle.port_bank.specs.declared.word.Word as word
+use Rattle.port_bank.specs.Runs.{CanRun, HasRun, IsLastValue}
+use Rattle.port_bank.specs.Words.{InEachLane, InEachLaneOf}
+use Rattle.port_bank.proofs.LaneLemmas.{in_each, in_lane}
+use Rattle.port_walk.specs.declared.readers.Readers.{Readers}
 use Rattle.port_walk.specs.declared.stops.Stop.{Stop}
-use Rattle.port_walk.specs.Kept.{view_of, inner, IsKept}
-use Rattle.port_walk.specs.Kinds.{view_in, is_host, rows_in, FitsKind, IsLastValue}
-use Rattle.port_walk.specs.code.Kinds.{CanEnter}
-use Rattle.port_walk.specs.Runs.{CanRun}
-use Rattle.port_walk.specs.Placed.{IsSending, IsReceiving, IsEnding, CanTakeValue, HasPut, HasTaken, block_end}
-use Rattle.port_walk.specs.Rows.{AreReaders}
+use Rattle.port_walk.specs.declared.stops.StopKind.TheVariants.{Send}
+use Rattle.port_walk.specs.declared.upcoming.Upcoming.{Upcoming}
+use Rattle.port_walk.specs.Kept.{Parts, view_of, inner, IsKept}
+use Rattle.port_walk.specs.Readers.{IsNextOfSend}
+use Rattle.port_walk.specs.Rows.{AreReaders, IsRow, start_of}
+use Rattle.port_walk.specs.Stands.{CanPut, IsNextOf, IsSending, IsReceiving, IsEnding}
 use Rattle.port_walk.specs.Stops.{IsStop, AreStops, counts}
+use Rattle.port_walk.specs.Walks.{Walked, IsNextValue, CanTakeValue, HasPut, HasTaken}
+use Rattle.port_walk.specs.code.Enters.{CanEnter, HasEntered}
 use Rattle.port_walk.proofs.BlockLemmas.{le_late}
 use Rattle.port_walk.proofs.CursorLemmas.{received_before}
-use Rattle.port_walk.proofs.KeptLemmas.{walk_of, walks}
-use Rattle.port_walk.proofs.WalkLemmas.{IsAfter, IsReceiptHere, IsSendHere, all_done, can_run_on, ends_at, no_stop, puts_more, receives_at, sends_at, takes_more}
+use Rattle.port_walk.proofs.KeptLemmas.{holds_value, next_put, walk_of, walks}
+use Rattle.port_walk.proofs.WalkLemmas.{IsAfter, IsLinkHere, IsReceiptHere, IsSendHere, after_receipt, after_send, all_done, can_run_on, ends_at, found, good, link_here, no_stop, puts_more, readers_there, receives_at, sends_at, takes_more}
 
-module _ (a : Inside) (kept : IsKept a) (stop : Stop) (at : slice_get a.stops a.at ≡ Some stop) where
-  pub sending_here : (i : ℕ) (link : LinkOut) → IsSending (view_of a) i link → IsSendHere (walk_of a) (walks a kept) stop at i link
-  sending_here i link sending = sends_at (walk_of a) (walks a kept) stop at sending.seat sending.is i link sending.next
+module _ {W P F S : Type 0} (m : word.Ghosts W P F S) (a : Parts W S) (kept : IsKept m a) (stop : Stop) (at : slice_get a.stops a.at ≡ Some stop) where
+  -- ---- which event it is
 
-  pub receiving_here : (j : ℕ) (link : LinkIn) → IsReceiving (view_of a) j link → IsReceiptHere (walk_of a) (walks a kept) stop at j link
-  receiving_here j link receiving = receives_at (walk_of a) (walks a kept) stop at receiving.seat receiving.is j link receiving.next
+  pub sending_here : (i : ℕ) (link : LinkOut) → IsSending (view_of a).stand i link → IsSendHere (walk_of a) (walks m a kept) stop at i link
+  sending_here i link sending = sends_at (walk_of a) (walks m a kept) stop at sending.seat sending.is i link sending.next
+
+  pub receiving_here : (j : ℕ) (link : LinkIn) → IsReceiving (view_of a).stand j link → IsReceiptHere (walk_of a) (walks m a kept) stop at j link
+  receiving_here j link receiving = receives_at (walk_of a) (walks m a kept) stop at receiving.seat receiving.is j link receiving.next
+
+  -- the value of what it sends next
+  pub next_value : IsNextValue m (view_of a) a.value
+  next_value = record {
+    each = λ i link sending.
+        let here = sending_here i link sending in
+        in_each m.lanes (λ l. m.lane a.value l ≡ image_value a.view.image (m.stimulus a.view.image.columns a.view.stimulus l) a.turn a.view.port link.slot) (λ l low.
+        holds_value m a kept stop at sending.early link here.is here.slot l low ∙ ap (image_value a.view.image (m.stimulus a.view.image.columns a.view.stimulus l) a.turn a.view.port) (sym here.slot));
+  }
 
   -- ---- the port within
 
   -- how far the port has come at the stop, where it has received so often
-  abbrev pub inner_at : Stop → ℕ → PortView
+  abbrev pub inner_at : Stop → ℕ → View S
   inner_at s took = record (inner a s.items) { received = took }
 
-  pub inner_here : a.turn ≤ a.until → view_in a.kind ≡ inner_at stop a.took
+  pub inner_here : a.turn ≤ a.until → a.view ≡ inner_at stop a.took
   inner_here early = kept.inner ∙ ap (inner a) (kept.executed early stop at)
 
-  pub can_run : (view : PortView) (slots : List ℕ) (sent took : ℕ) (next : Stop) → a.turn ≤ a.until → view ≡ inner_at stop took → slots ≡ a.slots → IsAfter (walk_of a) (walks a kept) stop at sent took next
-      → CanRun view slots stop.items next.items
-  can_run view slots sent took next early inside = can_run_on (walk_of a) (walks a kept) stop at view slots sent took next
-      (ap (λ (v : PortView). v.begun) inside ∙ le-leb a.turn a.until early) (subst (λ (v : PortView). IsPort v.image v.port a.seat.now) (sym inside) kept.seat)
-      (ap (λ (v : PortView). v.executed) inside) (ap (λ (v : PortView). v.received) inside)
+  pub can_run : (view : View S) (slots : List ℕ) (sent took : ℕ) (next : Stop) → a.turn ≤ a.until → view ≡ inner_at stop took → slots ≡ a.slots → IsAfter (walk_of a) (walks m a kept) stop at sent took next
+      → InEachLane m (λ v. CanRun v slots stop.items next.items) view
+  can_run view slots sent took next early inside same after = in_each m.lanes (λ l. CanRun (lane_port m.stimulus l view) slots stop.items next.items) (λ l low.
+      can_run_on (walk_of a) (walks m a kept) stop at (lane_port m.stimulus l view) slots sent took next
+      (ap (λ (v : View S). v.begun) inside ∙ le-leb a.turn a.until early) (subst (λ (v : View S). IsPort v.image v.port a.seat) (sym inside) kept.seat)
+      (ap (λ (v : View S). v.executed) inside) (ap (λ (v : View S). v.received) inside) same after)
 
-  pub kept_after : (kind : Kind) (value : V4) (sent took : ℕ) (next : Stop) → a.turn ≤ a.until → IsAfter (walk_of a) (walks a kept) stop at sent took next → view_in kind ≡ inner_at next took → is_host kind ≡ is_host a.kind → rows_in kind ≡ rows_in a.kind
-      → IsLastValue (view_in kind) value → IsKept (record a { kind = kind; at = a.at + 1; sent = sent; took = took; value = value })
-  kept_after kind value sent took next early after inside host rows last = record {
-    image = kept.image;
-    stimulus = kept.stimulus;
-    seat = kept.seat;
-    kind = subst (λ b. (b ≡ true) ↔ (a.port + 1 ≡ length a.image.now.ports)) (sym host) kept.kind;
-    rows = λ is. rows ∙ kept.rows (sym host ∙ is);
-    cycles = kept.cycles;
-    some = kept.some;
-    until_is = kept.until_is;
-    few = kept.few;
-    first = kept.first;
-    last = kept.last;
-    slots = kept.slots;
-    stops = kept.stops;
-    readers = kept.readers;
-    come = after.come;
-    at = after.count;
-    sent = after.sent_within;
-    took = after.took_within;
-    inner = inside ∙ ap (λ n. record (inner a n) { received = took }) (sym (ap (λ (v : PortView). v.executed) inside));
-    executed = λ _ s there. ap (λ (v : PortView). v.executed) inside ∙ ap (λ (x : Stop). x.items) (one_there a.stops (a.at + 1) (a.at + 1) next s refl after.there there);
-    rests = λ late. absurd (omega arith);
-    unmoved = λ late. absurd (omega arith);
-    value = last;
-  }
+  pub kept_after : (view : View S) (rows : Option (ℕ × ℕ)) (value : W) (sent took : ℕ) (next : Stop) → a.turn ≤ a.until → IsAfter (walk_of a) (walks m a kept) stop at sent took next → view ≡ inner_at next took
+      → InEachLaneOf m value (λ v x. IsLastValue v x) view → IsKept m (record a { view = view; rows = rows; at = a.at + 1; sent = sent; took = took; value = value })
+  kept_after view rows value sent took next early after inside last =
+      subst (λ v. IsKept m (record a { view = v; rows = rows; at = a.at + 1; sent = sent; took = took; value = value })) (sym inside) (record {
+        image = kept.image;
+        valid = kept.valid;
+        seat = kept.seat;
+        few = kept.few;
+        first = kept.first;
+        last = kept.last;
+        slots = kept.slots;
+        stops = kept.stops;
+        readers = kept.readers;
+        come = after.come;
+        at = after.count;
+        sent = after.sent_within;
+        took = after.took_within;
+        inner = refl;
+        executed = λ _ s there. ap (λ (x : Stop). x.items) (one_there a.stops (a.at + 1) (a.at + 1) next s refl after.there there);
+        rests = λ late. absurd (omega arith);
+        unmoved = λ late. absurd (omega arith);
+        value = subst (InEachLaneOf m value (λ v x. IsLastValue v x)) inside last;
+      })
 
   -- ---- what the calls did
 
-  pub has_put : HasPut (view_of a) (record (view_of a) { puts = take (a.sent + 1) (out_slots a.seat.now.outs) })
-  has_put = record {
-    each = λ i link sending. ap (λ ps. record (view_of a) { puts = ps }) (puts_more (walk_of a) (walks a kept) link (sending_here i link sending).is);
+  pub has_put : (view : View S) (rows : Option (ℕ × ℕ)) (value : W) (next : Stop) → view ≡ inner_at next a.took → rows ≡ a.rows
+      → HasPut (view_of a) (view_of (record a { view = view; rows = rows; at = a.at + 1; sent = a.sent + 1; value = value }))
+  has_put view rows value next inside same = record {
+    each = λ i link sending.
+        ap (λ v. view_of (record a { view = v; rows = rows; at = a.at + 1; sent = a.sent + 1; value = value })) inside
+        ∙ ap (λ r. record (view_of a) { rows = r; stand = record (view_of a).stand { puts = take (a.sent + 1) (out_slots a.seat.outs) } }) same
+        ∙ ap (λ ps. record (view_of a) { stand = record (view_of a).stand { puts = ps } }) (puts_more (walk_of a) (walks m a kept) link (sending_here i link sending).is);
   }
 
-  pub has_taken : HasTaken (view_of a) (record (view_of a) { takes = take (a.took + 1) (in_slots a.seat.now.ins) })
-  has_taken = record {
-    each = λ j link receiving. ap (λ ts. record (view_of a) { takes = ts }) (takes_more (walk_of a) (walks a kept) link (receiving_here j link receiving).is);
+  pub has_taken : (view : View S) (rows : Option (ℕ × ℕ)) (value : W) (next : Stop) → view ≡ inner_at next (a.took + 1) → rows ≡ a.rows
+      → HasTaken (view_of a) (view_of (record a { view = view; rows = rows; at = a.at + 1; took = a.took + 1; value = value }))
+  has_taken view rows value next inside same = record {
+    each = λ j link receiving.
+        ap (λ v. view_of (record a { view = v; rows = rows; at = a.at + 1; took = a.took + 1; value = value })) inside
+        ∙ ap (λ r. record (view_of a) { rows = r; stand = record (view_of a).stand { takes = take (a.took + 1) (in_slots a.seat.ins) } }) same
+        ∙ ap (λ ts. record (view_of a) { stand = record (view_of a).stand { takes = ts } }) (takes_more (walk_of a) (walks m a kept) link (receiving_here j link receiving).is);
   }
 
   -- it may receive the value of the stop's slot
-  pub can_receive : (v : V4) → CanTakeValue (view_of a) v → CanReceive (view_in a.kind) stop.slot v
-  can_receive v can =
+  pub can_receive : (value : W) → CanTakeValue m (view_of a) value → InEachLaneOf m value (λ v x. CanReceive v stop.slot x) a.view
+  can_receive value can = in_each m.lanes (λ l. CanReceive (lane_port m.stimulus l a.view) stop.slot (m.lane value l)) (λ l low.
       let here = receiving_here can.j can.link can.receiving in
-      subst (λ (view : PortView). CanReceive view stop.slot v) (sym (inner_here can.receiving.early)) (record {
-        begun = le-leb a.turn a.until can.receiving.early;
-        port = a.seat.now;
+      let early = can.receiving.early in
+      let given = in_lane m.lanes (λ k. m.lane value k ≡ image_value a.view.image (m.stimulus a.view.image.columns a.view.stimulus k) a.turn can.link.sender can.link.slot) can.value l low in
+      subst (λ (v : View S). CanReceive (lane_port m.stimulus l v) stop.slot (m.lane value l)) (sym (inner_here early)) (record {
+        begun = le-leb a.turn a.until early;
+        port = a.seat;
         is = kept.seat;
         link = can.link;
         next = here.is;
         slot_is = here.slot;
-        value = can.value ∙ ap (image_value a.image.now a.stim.now a.turn can.link.sender) here.slot;
-      })
+        value = given ∙ ap (image_value a.view.image (m.stimulus a.view.image.columns a.view.stimulus l) a.turn can.link.sender) here.slot;
+      }))
 
   -- it may end its turn
-  pub can_end : IsEnding (view_of a) → CanEnd (view_in a.kind)
-  can_end ending =
-      let done = all_done (walk_of a) (walks a kept) stop at (ends_at (walk_of a) (walks a kept) stop at ending.seat ending.is ending.next) in
-      subst CanEnd (sym (inner_here ending.early)) (record { begun = le-leb a.turn a.until ending.early; port = a.seat.now; is = kept.seat; executed_all = done.0; received_all = done.1 })
+  pub can_end : IsEnding (view_of a).stand → InEachLane m (λ v. CanEnd v) a.view
+  can_end ending = in_each m.lanes (λ l. CanEnd (lane_port m.stimulus l a.view)) (λ l low.
+      let early = ending.early in
+      let done = all_done (walk_of a) (walks m a kept) stop at (ends_at (walk_of a) (walks m a kept) stop at ending.seat ending.is ending.next) in
+      subst (λ (v : View S). CanEnd (lane_port m.stimulus l v)) (sym (inner_here early)) (record { begun = le-leb a.turn a.until early; port = a.seat; is = kept.seat; executed_all = done.0; received_all = done.1 }))
 
 -- ---- at the beginning of a turn
 
@@ -147,58 +169,228 @@ module _ (image : Image) (p : ℕ) (seat : PortImage) (good : IsPortImage image 
         absurd (omega arith);
   }
 
--- what it keeps where it has entered a turn
-pub record IsFresh (b : Inside) : Type 0 where
-  pub image : IsWellFormed b.image.now
-  pub stimulus : IsValidStimulus b.stim.now
-  pub seat : IsPort b.image.now b.port b.seat.now
-  pub kind : FitsKind b.image.now b.port b.kind
-  pub rows : is_host b.kind ≡ true → rows_in b.kind ≡ Some (b.window, b.first_row)
-  pub cycles : b.cycles ≡ cycle_count b.stim.now
-  pub some : 1 ≤ b.window
-  pub until_is : b.until ≡ block_end b.image.now b.stim.now b.first_row b.window
-  pub few : b.until ≤ turn_count (timing_of b.image.now) b.stim.now
-  pub first : 1 ≤ b.turn
-  pub last : b.turn ≤ b.until + 1
-  pub slots : b.slots ≡ item_slots b.seat.now.work
-  pub stops : AreStops (out_slots b.seat.now.outs) (in_slots b.seat.now.ins) b.image.now.slots b.slots b.stops
-  pub readers : AreReaders (length b.seat.now.outs) b.seat.now.outs b.readers
-  pub at : b.at ≡ 0
-  pub sent : b.sent ≡ 0
-  pub took : b.took ≡ 0
-  pub stop : Stop
-  pub there : slice_get b.stops 0 ≡ Some stop
-  pub entered : view_in b.kind ≡ record (inner b (if nat_le b.turn b.until then stop.items else 0)) { received = 0 }
-  pub value : IsLastValue (view_in b.kind) b.value
+  -- in each lane
+  pub can_enter_lanes : {W P F S : Type 0} (m : word.Ghosts W P F S) (view : View S) (items : List ℕ) (first : Stop) (runs : Bool) → view.image ≡ image → view.port ≡ p → view.begun ≡ false → view.executed ≡ 0
+      → (runs ≡ true → InEachLane m (λ v. v.turn ≤ last_turn v) view) → items ≡ slots → slice_get stops 0 ≡ Some first → InEachLane m (λ v. CanEnter v items first.items runs) view
+  can_enter_lanes m view items first runs image_is port_is fresh none more same at = in_each m.lanes (λ l. CanEnter (lane_port m.stimulus l view) items first.items runs) (λ l low.
+      can_enter (lane_port m.stimulus l view) items first runs image_is port_is fresh none
+      (λ is. in_lane m.lanes (λ k. (lane_port m.stimulus k view).turn ≤ last_turn (lane_port m.stimulus k view)) (more is) l low) same at)
 
-pub kept_fresh : (b : Inside) → IsFresh b → IsKept b
-unfolding counts
-kept_fresh b fresh = record {
-  image = fresh.image;
-  stimulus = fresh.stimulus;
-  seat = fresh.seat;
-  kind = fresh.kind;
-  rows = fresh.rows;
-  cycles = fresh.cycles;
-  some = fresh.some;
-  until_is = fresh.until_is;
-  few = fresh.few;
-  first = fresh.first;
-  last = fresh.last;
-  slots = fresh.slots;
-  stops = fresh.stops;
-  readers = fresh.readers;
-  come = rw (fresh.at, fresh.sent, fresh.took) refl;
-  at = omega (arith, fresh.at, fresh.sent, fresh.took);
-  sent = omega (arith, fresh.sent);
-  took = omega (arith, fresh.took);
-  inner = fresh.entered ∙ ap (λ n. record (inner b n) { received = 0 }) (sym executed_is) ∙ ap (λ n. record (inner b (view_in b.kind).executed) { received = n }) (sym fresh.took);
-  executed = λ early s at.
-      let same : fresh.stop ≡ s = one_there b.stops 0 b.at fresh.stop s (sym fresh.at) fresh.there at in
-      executed_is ∙ (ap {A = Bool} {B = ℕ} (λ t. if t then fresh.stop.items else 0) (le-leb b.turn b.until early) ∙ ap (λ (x : Stop). x.items) same);
-  rests = λ late. executed_is ∙ ap {A = Bool} {B = ℕ} (λ t. if t then fresh.stop.items else 0) (le_late b.turn b.until late);
-  unmoved = λ late. fresh.at;
-  value = fresh.value;
-} where
-  executed_is : (view_in b.kind).executed ≡ (if nat_le b.turn b.until then fresh.stop.items else 0)
-  executed_is = ap (λ (v : PortView). v.executed) fresh.entered
+-- what it keeps where it has entered a turn
+module _ {W P F S : Type 0} (m : word.Ghosts W P F S) where
+  pub record IsFresh (b : Parts W S) : Type 0 where
+    pub image : IsWellFormed b.view.image
+    pub valid : InEachLane m (λ view. IsValidStimulus view.stimulus) b.view
+    pub seat : IsPort b.view.image b.view.port b.seat
+    pub few : InEachLane m (λ view. b.until ≤ last_turn view) b.view
+    pub first : 1 ≤ b.turn
+    pub last : b.turn ≤ b.until + 1
+    pub slots : b.slots ≡ item_slots b.seat.work
+    pub stops : AreStops (out_slots b.seat.outs) (in_slots b.seat.ins) b.view.image.slots b.slots b.stops
+    pub readers : AreReaders (length b.seat.outs) b.seat.outs b.readers
+    pub at : b.at ≡ 0
+    pub sent : b.sent ≡ 0
+    pub took : b.took ≡ 0
+    pub stop : Stop
+    pub there : slice_get b.stops 0 ≡ Some stop
+    pub entered : b.view ≡ record (inner b (if nat_le b.turn b.until then stop.items else 0)) { received = 0 }
+    pub value : InEachLaneOf m b.value (λ view v. IsLastValue view v) b.view
+
+  pub kept_fresh : (b : Parts W S) → IsFresh b → IsKept m b
+  unfolding counts
+  kept_fresh b fresh = record {
+    image = fresh.image;
+    valid = fresh.valid;
+    seat = fresh.seat;
+    few = fresh.few;
+    first = fresh.first;
+    last = fresh.last;
+    slots = fresh.slots;
+    stops = fresh.stops;
+    readers = fresh.readers;
+    come = rw (fresh.at, fresh.sent, fresh.took) refl;
+    at = omega (arith, fresh.at, fresh.sent, fresh.took);
+    sent = omega (arith, fresh.sent);
+    took = omega (arith, fresh.took);
+    inner = fresh.entered ∙ ap (λ n. record (inner b n) { received = 0 }) (sym executed_is) ∙ ap (λ n. record (inner b b.view.executed) { received = n }) (sym fresh.took);
+    executed = λ early s at.
+        let same : fresh.stop ≡ s = one_there b.stops 0 b.at fresh.stop s (sym fresh.at) fresh.there at in
+        executed_is ∙ (ap {A = Bool} {B = ℕ} (λ t. if t then fresh.stop.items else 0) (le-leb b.turn b.until early) ∙ ap (λ (x : Stop). x.items) same);
+    rests = λ late. executed_is ∙ ap {A = Bool} {B = ℕ} (λ t. if t then fresh.stop.items else 0) (le_late b.turn b.until late);
+    unmoved = λ late. fresh.at;
+    value = fresh.value;
+  } where
+    executed_is : b.view.executed ≡ (if nat_le b.turn b.until then fresh.stop.items else 0)
+    executed_is = ap (λ (v : View S). v.executed) fresh.entered
+
+-- ---- a Put or a Take, by the stops that were read
+
+module _ {W P F S : Type 0} (m : word.Ghosts W P F S) {a : Parts W S} (kept : IsKept m a) (stops : List Stop) (same : stops ≡ a.stops) where
+  abbrev pub here : Stop
+  here = get_or stops a.at no_stop
+
+  abbrev pub after : Stop
+  after = get_or stops (a.at + 1) no_stop
+
+  pub at_here : slice_get a.stops a.at ≡ Some here
+  at_here = found (walk_of a) (walks m a kept) stops same
+
+  pub here_within : a.at < length stops
+  here_within = let within = slice_get_within a.stops a.at here at_here in omega (arith, within, ap length same)
+
+  -- where a Put is missing
+  module _ (kind : here.kind ≡ Send) where
+    pub link_sent : (link : LinkOut) × IsLinkHere (walk_of a) (walks m a kept) here at_here a.readers link
+    link_sent = link_here (walk_of a) (walks m a kept) here at_here a.readers kept.readers kind
+
+    pub row_sent : IsRow a.readers.all (start_of a.readers a.sent) (start_of a.readers (a.sent + 1)) link_sent.0.readers
+    row_sent = link_sent.1.row
+
+    module _ (readers : List ℕ) (are : readers ≡ slice_range a.readers.all (start_of a.readers a.sent) (start_of a.readers (a.sent + 1))) (known : List ℕ) where
+      pub sent_there : length known ≡ length a.view.image.ports → Each (λ r. r < length known) readers
+      sent_there wide = subst (Each (λ r. r < length known)) (sym (are ∙ row_sent.is)) (readers_there (walk_of a) (walks m a kept) link_sent.0 known wide link_sent.1.is)
+
+      pub sent_rising : IsStrictlyIncreasing readers
+      sent_rising = subst IsStrictlyIncreasing (sym (are ∙ row_sent.is)) ((good (walk_of a) (walks m a kept)).sends a.sent link_sent.0 link_sent.1.is).rising
+
+      pub sent_next : (banks turns : ℕ) (next : Upcoming) → a.turn ≤ a.until → turns ≡ a.turn - banks → IsNextOfSend readers known turns here.slot next → IsNextOf (view_of a).stand known banks next
+      sent_next banks turns next early bar sends = next_put m a kept here at_here known banks early readers turns link_sent.0 next kind bar link_sent.1.is (are ∙ row_sent.is) sends
+
+  module _ (can : CanPut (view_of a).stand) where
+    put_next : IsAfter (walk_of a) (walks m a kept) here at_here (a.sent + 1) a.took after
+    put_next = after_send (walk_of a) (walks m a kept) here at_here stops same (sending_here m a kept here at_here can.i can.link can.sending).kind
+
+    pub put_within : a.at + 1 < length stops
+    put_within = let within = slice_get_within a.stops (a.at + 1) after put_next.there in omega (arith, within, ap length same)
+
+    pub put_runs : (slots : List ℕ) → slots ≡ a.slots → InEachLane m (λ v. CanRun v slots here.items after.items) a.view
+    put_runs slots is = can_run m a kept here at_here a.view slots (a.sent + 1) a.took after can.sending.early (inner_here m a kept here at_here can.sending.early) is put_next
+
+    put_inside : (view : View S) → HasRun a.view view after.items → view ≡ inner_at m a kept here at_here after a.took
+    put_inside view run = run ∙ ap (λ (v : View S). record v { executed = after.items }) (inner_here m a kept here at_here can.sending.early)
+
+    pub put_kept : (view : View S) (rows : Option (ℕ × ℕ)) (value : W) → HasRun a.view view after.items → InEachLaneOf m value (λ v x. IsLastValue v x) view
+        → IsKept m (record a { view = view; rows = rows; at = a.at + 1; sent = a.sent + 1; value = value })
+    put_kept view rows value run last = kept_after m a kept here at_here view rows value (a.sent + 1) a.took after can.sending.early put_next (put_inside view run) last
+
+    pub put_made : (view : View S) (rows : Option (ℕ × ℕ)) (value : W) → HasRun a.view view after.items → rows ≡ a.rows → (old : Walked S) → view_of a ≡ old
+        → HasPut old (view_of (record a { view = view; rows = rows; at = a.at + 1; sent = a.sent + 1; value = value }))
+    put_made view rows value run is old seen =
+        subst (λ o. HasPut o (view_of (record a { view = view; rows = rows; at = a.at + 1; sent = a.sent + 1; value = value }))) seen (has_put m a kept here at_here view rows value after (put_inside view run) is)
+
+  module _ (v : W) (can : CanTakeValue m (view_of a) v) where
+    take_next : IsAfter (walk_of a) (walks m a kept) here at_here a.sent (a.took + 1) after
+    take_next = after_receipt (walk_of a) (walks m a kept) here at_here stops same (receiving_here m a kept here at_here can.j can.link can.receiving).kind
+
+    pub take_within : a.at + 1 < length stops
+    take_within = let within = slice_get_within a.stops (a.at + 1) after take_next.there in omega (arith, within, ap length same)
+
+    pub take_receives : InEachLaneOf m v (λ view x. CanReceive view here.slot x) a.view
+    take_receives = can_receive m a kept here at_here v can
+
+    module _ (got : View S) (received : got ≡ after_receive a.view) where
+      got_inside : got ≡ inner_at m a kept here at_here here (a.took + 1)
+      got_inside = received ∙ ap after_receive (inner_here m a kept here at_here can.receiving.early)
+
+      pub take_runs : (slots : List ℕ) → slots ≡ a.slots → InEachLane m (λ view. CanRun view slots here.items after.items) got
+      take_runs slots is = can_run m a kept here at_here got slots a.sent (a.took + 1) after can.receiving.early got_inside is take_next
+
+      pub take_last : InEachLaneOf m a.value (λ view x. IsLastValue view x) got
+      take_last =
+          subst (InEachLaneOf m a.value (λ view x. IsLastValue view x)) (sym received)
+          (in_each m.lanes (λ l. IsLastValue (lane_port m.stimulus l (after_receive a.view)) (m.lane a.value l)) (λ l low.
+          record { each = (in_lane m.lanes (λ k. IsLastValue (lane_port m.stimulus k a.view) (m.lane a.value k)) kept.value l low).each }))
+
+      take_inside : (view : View S) → HasRun got view after.items → view ≡ inner_at m a kept here at_here after (a.took + 1)
+      take_inside view run = run ∙ ap (λ (x : View S). record x { executed = after.items }) got_inside
+
+      pub take_kept : (view : View S) (rows : Option (ℕ × ℕ)) (value : W) → HasRun got view after.items → InEachLaneOf m value (λ x y. IsLastValue x y) view
+          → IsKept m (record a { view = view; rows = rows; at = a.at + 1; took = a.took + 1; value = value })
+      take_kept view rows value run last = kept_after m a kept here at_here view rows value a.sent (a.took + 1) after can.receiving.early take_next (take_inside view run) last
+
+      pub take_made : (view : View S) (rows : Option (ℕ × ℕ)) (value : W) → HasRun got view after.items → rows ≡ a.rows → (old : Walked S) → view_of a ≡ old
+          → HasTaken old (view_of (record a { view = view; rows = rows; at = a.at + 1; took = a.took + 1; value = value }))
+      take_made view rows value run is old seen =
+          subst (λ o. HasTaken o (view_of (record a { view = view; rows = rows; at = a.at + 1; took = a.took + 1; value = value }))) seen (has_taken m a kept here at_here view rows value after (take_inside view run) is)
+
+-- ---- a turn that begins
+
+module _ {W P F S : Type 0} (m : word.Ghosts W P F S) where
+  turn_low : (view : View S) (until : ℕ) → InEachLane m (λ v. until ≤ last_turn v) view → view.turn ≤ until → InEachLane m (λ v. v.turn ≤ last_turn v) view
+  turn_low view until few low_turn = in_each m.lanes (λ l. view.turn ≤ last_turn (lane_port m.stimulus l view)) (λ l low.
+      let most = in_lane m.lanes (λ k. until ≤ last_turn (lane_port m.stimulus k view)) few l low in omega (arith, most, low_turn))
+
+  module _ (before : View S) (good : IsWellFormed before.image) (seat : PortImage) (is : IsPort before.image before.port seat) (slots : List ℕ) (stops : List Stop) (slots_are : slots ≡ item_slots seat.work)
+      (stops_are : AreStops (out_slots seat.outs) (in_slots seat.ins) before.image.slots slots stops) (read : List Stop) (same : read ≡ stops) (until : ℕ) (few : InEachLane m (λ v. until ≤ last_turn v) before) where
+    first_there : slice_get stops 0 ≡ Some (get_or read 0 no_stop)
+    first_there = first_found before.image before.port seat (good.ports before.port seat is) is slots stops slots_are stops_are read same
+
+    pub first_read : 0 < length read
+    first_read = let within = slice_get_within stops 0 (get_or read 0 no_stop) first_there in omega (arith, within, ap length same)
+
+    pub may_enter : (items : List ℕ) (runs : Bool) → items ≡ slots → before.begun ≡ false → before.executed ≡ 0 → (runs ≡ true → before.turn ≤ until) → InEachLane m (λ v. CanEnter v items (get_or read 0 no_stop).items runs) before
+    may_enter items runs items_are fresh none low = can_enter_lanes before.image before.port seat (good.ports before.port seat is) is slots stops slots_are stops_are
+        m before items (get_or read 0 no_stop) runs refl refl fresh none (λ yes. turn_low before until few (low yes)) items_are first_there
+
+    pub entered_kept : (view : View S) (rows : Option (ℕ × ℕ)) (readers : Readers) (at sent took : ℕ) (value : W) (turn : ℕ) → InEachLane m (λ v. IsValidStimulus v.stimulus) before → AreReaders (length seat.outs) seat.outs readers
+        → at ≡ 0 → sent ≡ 0 → took ≡ 0 → before.turn ≡ turn → before.received ≡ 0 → 1 ≤ turn → turn ≤ until + 1 → HasEntered before view (get_or read 0 no_stop).items (nat_le turn until) → InEachLaneOf m value (λ v x. IsLastValue v x) view
+        → IsKept m (record { view = view; rows = rows; seat = seat; slots = slots; readers = readers; stops = stops; at = at; sent = sent; took = took; value = value; turn = turn; until = until })
+    entered_kept view rows readers at sent took value turn valid readers_are at_is sent_is took_is turn_is received first last entered value_is =
+        subst (λ v. IsKept m (record { view = v; rows = rows; seat = seat; slots = slots; readers = readers; stops = stops; at = at; sent = sent; took = took; value = value; turn = turn; until = until })) (sym entered)
+        (kept_fresh m _ (record {
+          image = good;
+          valid = valid;
+          seat = is;
+          few = few;
+          first = first;
+          last = last;
+          slots = slots_are;
+          stops = stops_are;
+          readers = readers_are;
+          at = at_is;
+          sent = sent_is;
+          took = took_is;
+          stop = get_or read 0 no_stop;
+          there = first_there;
+          entered =
+              ap (λ t. record before { turn = t; begun = nat_le turn until; executed = if nat_le turn until then (get_or read 0 no_stop).items else 0 }) turn_is
+              ∙ ap (λ n. record before { turn = turn; begun = nat_le turn until; executed = if nat_le turn until then (get_or read 0 no_stop).items else 0; received = n }) received;
+          value = subst (InEachLaneOf m value (λ v x. IsLastValue v x)) entered value_is;
+        }))
+
+-- the turn after the one that was told
+module _ {W P F S : Type 0} (m : word.Ghosts W P F S) {a : Parts W S} (kept : IsKept m a) (stops : List Stop) (same : stops ≡ a.stops) (ended : View S) (is : ended ≡ after_end a.view) where
+  pub told_enters : (items : List ℕ) → items ≡ a.slots → InEachLane m (λ v. CanEnter v items (get_or stops 0 no_stop).items (nat_le (a.turn + 1) a.until)) ended
+  told_enters items items_are =
+      subst (InEachLane m (λ v. CanEnter v items (get_or stops 0 no_stop).items (nat_le (a.turn + 1) a.until))) (sym is)
+      (may_enter m (after_end a.view) kept.image a.seat kept.seat a.slots a.stops kept.slots kept.stops stops same a.until kept.few items (nat_le (a.turn + 1) a.until) items_are refl refl
+      (λ runs. let low = leb-true (a.turn + 1) a.until runs in let turn = ap (λ (v : View S). v.turn) kept.inner in omega (arith, low, turn)))
+
+  pub told_kept : (view : View S) (rows : Option (ℕ × ℕ)) (value : W) → a.turn ≤ a.until → HasEntered ended view (get_or stops 0 no_stop).items (nat_le (a.turn + 1) a.until) → InEachLaneOf m value (λ v x. IsLastValue v x) view
+      → IsKept m (record a { view = view; rows = rows; at = 0; sent = 0; took = 0; value = value; turn = a.turn + 1 })
+  told_kept view rows value early entered last =
+      entered_kept m (after_end a.view) kept.image a.seat kept.seat a.slots a.stops kept.slots kept.stops stops same a.until kept.few view rows a.readers 0 0 0 value (a.turn + 1) kept.valid kept.readers refl refl refl
+      (ap (λ (v : View S). v.turn + 1) kept.inner) refl (omega arith) (omega (arith, early))
+      (entered ∙ ap (λ (v : View S). record v { begun = nat_le (a.turn + 1) a.until; executed = if nat_le (a.turn + 1) a.until then (get_or stops 0 no_stop).items else 0 }) is) last
+
+-- the turn in which a walk that rested goes on
+module _ {W P F S : Type 0} (m : word.Ghosts W P F S) {a : Parts W S} (kept : IsKept m a) (stops : List Stop) (same : stops ≡ a.stops) (until : ℕ) (few : InEachLane m (λ v. until ≤ last_turn v) a.view)
+    (rests : a.turn ≡ a.until + 1) (more : a.turn ≤ until) (before : View S) (is : before ≡ a.view) where
+  late : a.until < a.turn
+  late = omega (arith, rests)
+
+  pub gone_enters : (items : List ℕ) → items ≡ a.slots → InEachLane m (λ v. CanEnter v items (get_or stops 0 no_stop).items true) before
+  gone_enters items items_are =
+      subst (InEachLane m (λ v. CanEnter v items (get_or stops 0 no_stop).items true)) (sym is)
+      (may_enter m a.view kept.image a.seat kept.seat a.slots a.stops kept.slots kept.stops stops same until few items true items_are
+      (ap (λ (v : View S). v.begun) kept.inner ∙ le_late a.turn a.until late) (kept.rests late)
+      (λ runs. let turn = ap (λ (v : View S). v.turn) kept.inner in omega (arith, more, turn)))
+
+  pub gone_kept : (view : View S) (rows : Option (ℕ × ℕ)) (value : W) → HasEntered before view (get_or stops 0 no_stop).items true → InEachLaneOf m value (λ v x. IsLastValue v x) view
+      → IsKept m (record a { view = view; rows = rows; value = value; until = until })
+  gone_kept view rows value entered last =
+      entered_kept m a.view kept.image a.seat kept.seat a.slots a.stops kept.slots kept.stops stops same until few view rows a.readers a.at a.sent a.took value a.turn kept.valid kept.readers
+      (kept.unmoved late) (omega (arith, kept.unmoved late, kept.at)) (omega (arith, kept.unmoved late, kept.at))
+      (ap (λ (v : View S). v.turn) kept.inner) (ap (λ (v : View S). v.received) kept.inner ∙ omega (arith, kept.unmoved late, kept.at)) kept.first (omega (arith, more))
+      (entered ∙ (ap (λ (v : View S). record v { begun = true; executed = (get_or stops 0 no_stop).items }) is
+      ∙ ap {A = Bool} (λ runs. record a.view { begun = runs; executed = if runs then (get_or stops 0 no_stop).items else 0 }) (sym (le-leb a.turn until more)))) last

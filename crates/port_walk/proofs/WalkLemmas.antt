@@ -14,8 +14,6 @@ use Rattle.image_defs.specs.Places.{Each, IsPort, item_slots, in_slots, out_slot
 use Rattle.image_defs.specs.WellFormed.{IsPortImage, IsWellFormed}
 use Rattle.image_defs.specs.Ports.{PortView}
 use Rattle.image_defs.proofs.PlaceLemmas.{Rises, rises, at_map}
-use Rattle.event_defs.specs.declared.place.Action.{Action}
-use Rattle.event_defs.specs.declared.place.Action.TheVariants.{Ask, Put, Take, Tell, Done}
 use Rattle.event_defs.specs.Next.{SendsNext, ReceivesNext, EndsNext, IsNext}
 use Rattle.event_defs.proofs.NextLemmas.{sends_one, receives_one, sends_not_receives, sends_not_ends, receives_not_ends}
 use Rattle.event_defs.proofs.PaceLemmas.{same_port}
@@ -24,9 +22,12 @@ use Rattle.port_walk.specs.declared.readers.Readers.{Readers}
 use Rattle.port_walk.specs.declared.stops.Stop.{Stop}
 use Rattle.port_walk.specs.declared.stops.StopKind.{StopKind}
 use Rattle.port_walk.specs.declared.stops.StopKind.TheVariants.{Send, Receive, End}
-use Rattle.port_walk.specs.Runs.{CanRun}
-use Rattle.port_walk.specs.Readers.{IsSendAction}
+use Rattle.port_walk.specs.declared.upcoming.Upcoming.{Upcoming}
+use Rattle.port_walk.specs.declared.upcoming.Upcoming.TheVariants.{Ask, Put, Take, Tell, Done}
+use Rattle.port_bank.specs.Runs.{CanRun}
+use Rattle.port_walk.specs.Readers.{IsNextOfSend}
 use Rattle.port_walk.specs.Rows.{AreReaders, HasFewReaders, IsRow, start_of}
+use Rattle.port_walk.specs.Stands.{action_of}
 use Rattle.port_walk.specs.Stops.{ArePlaces, AreStops, IsFront, IsStop, counts, kind_at, slot_at}
 use Rattle.port_walk.proofs.StopLemmas.{places_few, tells, counts_more, send_grows, receipt_grows}
 use Rattle.port_walk.proofs.CursorLemmas.{next_send, next_receipt, next_end, received_before}
@@ -241,14 +242,14 @@ module _ (w : Walk) (walks : IsWalk w) where
 
     -- the next event where a Put is missing
     module _ (known : List ℕ) (turn banks until : ℕ) (value : ℕ → V4) (early : turn ≤ until) where
-      pub next_sent : (readers : List ℕ) (turns : ℕ) (v : V4) (link : LinkOut) (action : Action) → stop.kind ≡ Send → turns ≡ turn - banks → slice_get w.seat.outs w.sent ≡ Some link → readers ≡ link.readers → v ≡ value stop.slot
-          → IsSendAction readers known turns stop.slot v action → IsNext w.seat (record { turn = turn; puts = puts w; takes = takes w; known = known }) banks until value action
-      next_sent readers turns v link action kind bar is same v_is = of_action action where
+      pub next_sent : (readers : List ℕ) (turns : ℕ) (link : LinkOut) (next : Upcoming) → stop.kind ≡ Send → turns ≡ turn - banks → slice_get w.seat.outs w.sent ≡ Some link → readers ≡ link.readers
+          → IsNextOfSend readers known turns stop.slot next → IsNext w.seat (record { turn = turn; puts = puts w; takes = takes w; known = known }) banks until value (action_of value next)
+      next_sent readers turns link next kind bar is same = of_next next where
         sends_link : SendsNext w.seat (puts w) (takes w) w.sent link
-        sends_link = let next = send_here kind in subst (λ (l : LinkOut). SendsNext w.seat (puts w) (takes w) w.sent l) (one_there w.seat.outs w.sent w.sent next.0 link refl next.1.is is) next.1
+        sends_link = let here = send_here kind in subst (λ (l : LinkOut). SendsNext w.seat (puts w) (takes w) w.sent l) (one_there w.seat.outs w.sent w.sent here.0 link refl here.1.is is) here.1
 
-        of_action : (action : Action) → IsSendAction readers known turns stop.slot v action → IsNext w.seat (record { turn = turn; puts = puts w; takes = takes w; known = known }) banks until value action
-        of_action (Ask reader) lagging = (
+        of_next : (next : Upcoming) → IsNextOfSend readers known turns stop.slot next → IsNext w.seat (record { turn = turn; puts = puts w; takes = takes w; known = known }) banks until value (action_of value next)
+        of_next (Ask reader) lagging = (
           early,
           record {
             i = w.sent;
@@ -259,7 +260,7 @@ module _ (w : Walk) (walks : IsWalk w) where
             least = λ r stands less. let far = lagging.least r (stands.0, ap (λ xs. slice_get xs stands.0) same ∙ stands.1) less in omega arith;
           },
         )
-        of_action (Put s v) (none, slot, is_v) = (
+        of_next (Put s) (none, slot) = (
           early,
           record {
             i = w.sent;
@@ -268,11 +269,11 @@ module _ (w : Walk) (walks : IsWalk w) where
             sends = sends_link;
             ready = λ r stands. let far = none.each r (stands.0, ap (λ xs. slice_get xs stands.0) same ∙ stands.1) in omega arith;
           },
-          is_v ∙ (v_is ∙ ap value (sym slot)),
+          refl,
         )
-        of_action (Take s) wrong = absurd wrong
-        of_action Tell wrong = absurd wrong
-        of_action Done wrong = absurd wrong
+        of_next (Take s) wrong = absurd wrong
+        of_next Tell wrong = absurd wrong
+        of_next Done wrong = absurd wrong
 
     -- ---- which event it is
 

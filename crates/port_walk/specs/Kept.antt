@@ -1,57 +1,71 @@
--- What a port with its place keeps: it has executed all items up to its next stop, and no others.
-use Rattle.std.specs.Prelude.{◌≡◌, ℕ, ◌+◌, ◌<◌, ◌≤◌, nat_le, take, length, true, Some, slice_get}
-use Rattle.net_defs.specs.Time.{cycle_count, turn_count}
+-- What a walk keeps: its port has executed all items up to its next stop, and no others.
+use Rattle.std.specs.Prelude.{◌≡◌, ℕ, ◌+◌, ◌<◌, ◌≤◌, nat_le, take, List, length, Option, Some, slice_get}
 use Rattle.net_defs.specs.Valid.{IsValidStimulus}
+use Rattle.image_defs.specs.declared.image.PortImage.{PortImage}
 use Rattle.image_defs.specs.Places.{IsPort, item_slots, in_slots, out_slots}
 use Rattle.image_defs.specs.WellFormed.{IsWellFormed}
-use Rattle.image_defs.specs.Steps.{timing_of}
-use Rattle.image_defs.specs.Ports.{PortView}
+use Rattle.image_defs.specs.Ports.{View, last_turn}
+use Rattle.port_bank.specs.declared.word.Word as word
+use Rattle.port_bank.specs.Runs.{IsLastValue}
+use Rattle.port_bank.specs.Words.{InEachLane, InEachLaneOf}
+use Rattle.port_walk.specs.declared.readers.Readers.{Readers}
 use Rattle.port_walk.specs.declared.stops.Stop.{Stop}
-use Rattle.port_walk.specs.declared.any_port.AnyPort.TheInside.{Inside}
-use Rattle.port_walk.specs.Kinds.{view_in, is_host, rows_in, FitsKind, IsLastValue}
-use Rattle.port_walk.specs.Placed.{PlacedPort, block_end}
 use Rattle.port_walk.specs.Rows.{AreReaders}
 use Rattle.port_walk.specs.Stops.{counts, AreStops}
+use Rattle.port_walk.specs.Walks.{Walked}
 
-abbrev pub view_of : Inside → PlacedPort
+-- what it has of its port: how far that has come, its rows, what the image says of it; and its own lists, numbers and
+-- the value of the last item
+pub record Parts (W S : Type 0) : Type 0 where
+  pub view : View S
+  pub rows : Option (ℕ × ℕ)
+  pub seat : PortImage
+  pub slots : List ℕ
+  pub readers : Readers
+  pub stops : List Stop
+  pub at : ℕ
+  pub sent : ℕ
+  pub took : ℕ
+  pub value : W
+  pub turn : ℕ
+  pub until : ℕ
+
+abbrev pub view_of : {W S : Type 0} → Parts W S → Walked S
 view_of a = record {
-  image = a.image.now;
-  stimulus = a.stim.now;
-  port = a.port;
-  window = a.window;
-  first_row = a.first_row;
-  until = a.until;
-  turn = a.turn;
-  puts = take a.sent (out_slots a.seat.now.outs);
-  takes = take a.took (in_slots a.seat.now.ins);
+  stimulus = a.view.stimulus;
+  rows = a.rows;
+  stand = record {
+    image = a.view.image;
+    port = a.view.port;
+    until = a.until;
+    turn = a.turn;
+    puts = take a.sent (out_slots a.seat.outs);
+    takes = take a.took (in_slots a.seat.ins);
+  };
 }
 
 -- the port within, which has executed so many items: it is in the same turn, which has begun if it is one
 -- that the port executes
-abbrev pub inner : Inside → ℕ → PortView
-inner a executed = record { image = a.image.now; stimulus = a.stim.now; port = a.port; turn = a.turn; begun = nat_le a.turn a.until; executed = executed; received = a.took }
+abbrev pub inner : {W S : Type 0} → Parts W S → ℕ → View S
+inner a executed = record { image = a.view.image; stimulus = a.view.stimulus; port = a.view.port; turn = a.turn; begun = nat_le a.turn a.until; executed = executed; received = a.took }
 
-pub record IsKept (a : Inside) : Type 0 where
-  pub image : IsWellFormed a.image.now
-  pub stimulus : IsValidStimulus a.stim.now
-  pub seat : IsPort a.image.now a.port a.seat.now
-  pub kind : FitsKind a.image.now a.port a.kind
-  pub rows : is_host a.kind ≡ true → rows_in a.kind ≡ Some (a.window, a.first_row)
-  pub cycles : a.cycles ≡ cycle_count a.stim.now
-  pub some : 1 ≤ a.window
-  pub until_is : a.until ≡ block_end a.image.now a.stim.now a.first_row a.window
-  pub few : a.until ≤ turn_count (timing_of a.image.now) a.stim.now
-  pub first : 1 ≤ a.turn
-  pub last : a.turn ≤ a.until + 1
-  pub slots : a.slots ≡ item_slots a.seat.now.work
-  pub stops : AreStops (out_slots a.seat.now.outs) (in_slots a.seat.now.ins) a.image.now.slots a.slots a.stops
-  pub readers : AreReaders (length a.seat.now.outs) a.seat.now.outs a.readers
-  pub come : counts (out_slots a.seat.now.outs) (in_slots a.seat.now.ins) a.at ≡ (a.sent, a.took)
-  pub at : a.at ≡ a.sent + a.took
-  pub sent : a.sent ≤ length a.seat.now.outs
-  pub took : a.took ≤ length a.seat.now.ins
-  pub inner : view_in a.kind ≡ inner a (view_in a.kind).executed
-  pub executed : a.turn ≤ a.until → (stop : Stop) → slice_get a.stops a.at ≡ Some stop → (view_in a.kind).executed ≡ stop.items
-  pub rests : a.until < a.turn → (view_in a.kind).executed ≡ 0
-  pub unmoved : a.until < a.turn → a.at ≡ 0
-  pub value : IsLastValue (view_in a.kind) a.value
+module _ {W P F S : Type 0} (m : word.Ghosts W P F S) where
+  pub record IsKept (a : Parts W S) : Type 0 where
+    pub image : IsWellFormed a.view.image
+    pub valid : InEachLane m (λ view. IsValidStimulus view.stimulus) a.view
+    pub seat : IsPort a.view.image a.view.port a.seat
+    pub few : InEachLane m (λ view. a.until ≤ last_turn view) a.view
+    pub first : 1 ≤ a.turn
+    pub last : a.turn ≤ a.until + 1
+    pub slots : a.slots ≡ item_slots a.seat.work
+    pub stops : AreStops (out_slots a.seat.outs) (in_slots a.seat.ins) a.view.image.slots a.slots a.stops
+    pub readers : AreReaders (length a.seat.outs) a.seat.outs a.readers
+    pub come : counts (out_slots a.seat.outs) (in_slots a.seat.ins) a.at ≡ (a.sent, a.took)
+    pub at : a.at ≡ a.sent + a.took
+    pub sent : a.sent ≤ length a.seat.outs
+    pub took : a.took ≤ length a.seat.ins
+    pub inner : a.view ≡ inner a a.view.executed
+    pub executed : a.turn ≤ a.until → (stop : Stop) → slice_get a.stops a.at ≡ Some stop → a.view.executed ≡ stop.items
+    pub rests : a.until < a.turn → a.view.executed ≡ 0
+    pub unmoved : a.until < a.turn → a.at ≡ 0
+    pub value : InEachLaneOf m a.value (λ view v. IsLastValue view v) a.view

@@ -1,8 +1,10 @@
+pub mod Blocks
 pub mod code
 pub mod Kept
 pub mod Kinds
 pub mod Placed
 pub mod Readers
 pub mod Rows
-pub mod Runs
+pub mod Stands
 pub mod Stops
+pub mod Walks

@@ -1,5 +1,5 @@
 -- A port with its place in the turn, as contracts see it, and what comes next.
-use Rattle.std.specs.Prelude.{◌≡◌, ℕ, ◌+◌, ◌*◌, ◌<◌, ◌≤◌, min, List, [], ◌∷◌, ◌++◌}
+use Rattle.std.specs.Prelude.{◌≡◌, ℕ, ◌+◌, ◌*◌, ◌<◌, min, List, [], ◌∷◌, ◌++◌}
 use Rattle.logic_four.specs.declared.V4.{V4}
 use Rattle.net_defs.specs.declared.stimulus.Stimulus.{Stimulus}
 use Rattle.net_defs.specs.Time.{cycle_count, turn_count}
@@ -12,8 +12,10 @@ use Rattle.image_defs.specs.Steps.{timing_of}
 use Rattle.image_defs.specs.Frames.{image_value}
 use Rattle.event_defs.specs.declared.place.Place.{Place}
 use Rattle.event_defs.specs.declared.place.Action.{Action}
-use Rattle.event_defs.specs.Next.{SendsNext, ReceivesNext, EndsNext, IsNext}
+use Rattle.event_defs.specs.Next.{IsNext}
 use Rattle.port_host.specs.Rows.{HostView}
+use Rattle.port_walk.specs.Stands.{Stand}
+use Rattle.port_walk.specs.Stands as stands
 
 -- a port of an image with a stimulus: the most cycles of a block (its window), the cycles before its block, the
 -- last turn of the block, its turn, the slots whose items it has sent in this turn, and those in which it has
@@ -33,9 +35,13 @@ pub record PlacedPort : Type 0 where
 abbrev pub block_end : Image → Stimulus → ℕ → ℕ → ℕ
 block_end image stimulus first window = image.units * min (first + window) (cycle_count stimulus)
 
+-- where it stands in its turn
+abbrev pub stand_of : PlacedPort → Stand
+stand_of view = record { image = view.image; port = view.port; until = view.until; turn = view.turn; puts = view.puts; takes = view.takes }
+
 -- its place, where it knows each port to have finished so many turns
 abbrev pub place_of : PlacedPort → List ℕ → Place
-place_of view known = record { turn = view.turn; puts = view.puts; takes = view.takes; known = known }
+place_of view known = stands.place_of (stand_of view) known
 
 -- the port before its first event
 abbrev pub at_start : Image → Stimulus → ℕ → ℕ → PlacedPort
@@ -54,25 +60,16 @@ at_start image stimulus port window = record {
 -- ---- what comes next
 
 -- the next thing that is missing is the Put of this link, number i of what the port sends
-pub record IsSending (view : PlacedPort) (i : ℕ) (link : LinkOut) : Type 0 where
-  pub early : view.turn ≤ view.until
-  pub seat : PortImage
-  pub is : IsPort view.image view.port seat
-  pub next : SendsNext seat view.puts view.takes i link
+abbrev pub IsSending : PlacedPort → ℕ → LinkOut → Type 0
+IsSending view i link = stands.IsSending (stand_of view) i link
 
 -- it is the Take of this link, number j of what the port receives
-pub record IsReceiving (view : PlacedPort) (j : ℕ) (link : LinkIn) : Type 0 where
-  pub early : view.turn ≤ view.until
-  pub seat : PortImage
-  pub is : IsPort view.image view.port seat
-  pub next : ReceivesNext seat view.puts view.takes j link
+abbrev pub IsReceiving : PlacedPort → ℕ → LinkIn → Type 0
+IsReceiving view j link = stands.IsReceiving (stand_of view) j link
 
 -- nothing is missing in the turn
-pub record IsEnding (view : PlacedPort) : Type 0 where
-  pub early : view.turn ≤ view.until
-  pub seat : PortImage
-  pub is : IsPort view.image view.port seat
-  pub next : EndsNext seat view.puts view.takes
+abbrev pub IsEnding : PlacedPort → Type 0
+IsEnding view = stands.IsEnding (stand_of view)
 
 -- this is its next event, by what it knows and with so many banks; a Put has the image's value
 pub record IsNextOf (view : PlacedPort) (known : List ℕ) (banks : ℕ) (action : Action) : Type 0 where
@@ -81,15 +78,11 @@ pub record IsNextOf (view : PlacedPort) (known : List ℕ) (banks : ℕ) (action
 
 -- ---- what a call may do
 
-pub record CanPut (view : PlacedPort) : Type 0 where
-  pub i : ℕ
-  pub link : LinkOut
-  pub sending : IsSending view i link
+abbrev pub CanPut : PlacedPort → Type 0
+CanPut view = stands.CanPut (stand_of view)
 
-pub record CanTake (view : PlacedPort) : Type 0 where
-  pub j : ℕ
-  pub link : LinkIn
-  pub receiving : IsReceiving view j link
+abbrev pub CanTake : PlacedPort → Type 0
+CanTake view = stands.CanTake (stand_of view)
 
 -- and this is the value that the sender has there
 pub record CanTakeValue (view : PlacedPort) (v : V4) : Type 0 where
@@ -129,12 +122,12 @@ in_next_block view = record view {
 -- ---- numbers of links, and the host
 
 -- what it sends next is link number n of what it sends
-pub record IsNextSend (view : PlacedPort) (n : ℕ) : Type 0 where
-  pub each : (i : ℕ) (link : LinkOut) → IsSending view i link → i ≡ n
+abbrev pub IsNextSend : PlacedPort → ℕ → Type 0
+IsNextSend view n = stands.IsNextSend (stand_of view) n
 
 -- what it receives next is link number n of what it receives
-pub record IsNextReceipt (view : PlacedPort) (n : ℕ) : Type 0 where
-  pub each : (j : ℕ) (link : LinkIn) → IsReceiving view j link → j ≡ n
+abbrev pub IsNextReceipt : PlacedPort → ℕ → Type 0
+IsNextReceipt view n = stands.IsNextReceipt (stand_of view) n
 
 -- this is the host of the same image and stimulus, in the same turn of the same block
 pub record IsHostIn (view : PlacedPort) (host : HostView) : Type 0 where

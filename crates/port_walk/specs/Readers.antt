@@ -1,9 +1,8 @@
 -- Which reader of a send lags, by what is known of how many turns each port has finished.
 use Rattle.std.specs.Prelude.{◌≡◌, ℕ, ◌<◌, ◌≤◌, List, slice_index_or}
-use Rattle.logic_four.specs.declared.V4.{V4}
 use Rattle.image_defs.specs.Places.{Stands}
-use Rattle.event_defs.specs.declared.place.Action.{Action}
-use Rattle.event_defs.specs.declared.place.Action.TheVariants.{Ask, Put, Take, Tell, Done}
+use Rattle.port_walk.specs.declared.upcoming.Upcoming.{Upcoming}
+use Rattle.port_walk.specs.declared.upcoming.Upcoming.TheVariants.{Ask, Put, Take, Tell, Done}
 
 -- each reader is known to have finished so many turns
 pub record NoneLags (readers known : List ℕ) (turns : ℕ) : Type 0 where
@@ -15,10 +14,10 @@ pub record IsFirstLagging (readers known : List ℕ) (turns reader : ℕ) : Type
   pub lags : slice_index_or known reader 0 < turns
   pub least : (r : ℕ) → Stands readers r → r < reader → turns ≤ slice_index_or known r 0
 
--- what comes next where the Put of this value in this slot is missing
-abbrev pub IsSendAction : List ℕ → List ℕ → ℕ → ℕ → V4 → Action → Type 0
-IsSendAction readers known turns slot value (Ask reader) = IsFirstLagging readers known turns reader
-IsSendAction readers known turns slot value (Put s v) = NoneLags readers known turns × (s ≡ slot) × (v ≡ value)
-IsSendAction readers known turns slot value (Take s) = ⊥
-IsSendAction readers known turns slot value Tell = ⊥
-IsSendAction readers known turns slot value Done = ⊥
+-- what comes next where the Put in this slot is missing
+abbrev pub IsNextOfSend : List ℕ → List ℕ → ℕ → ℕ → Upcoming → Type 0
+IsNextOfSend readers known turns slot (Ask reader) = IsFirstLagging readers known turns reader
+IsNextOfSend readers known turns slot (Put s) = NoneLags readers known turns × (s ≡ slot)
+IsNextOfSend readers known turns slot (Take s) = ⊥
+IsNextOfSend readers known turns slot Tell = ⊥
+IsNextOfSend readers known turns slot Done = ⊥

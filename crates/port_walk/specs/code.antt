@@ -1,2 +1,3 @@
+pub mod Enters
 pub mod Kinds
 pub mod Stops

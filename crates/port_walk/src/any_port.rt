@@ -2,22 +2,20 @@
 
 ghost use Rattle.std.specs.Prelude.{◌≡◌, ◌≢◌, ◌+◌, ◌*◌, ◌<◌, ◌≤◌, min, length, IfOk, MatchOption};
 ghost use Rattle.net_defs.specs.Valid.{IsValidStimulus};
-ghost use Rattle.std.specs.List.Sorted.{IsStrictlyIncreasing};
-ghost use Rattle.image_defs.specs.Places.{Each, host_of};
+ghost use Rattle.image_defs.specs.Places.{host_of};
 ghost use Rattle.image_defs.specs.WellFormed.{IsWellFormed};
-ghost use Rattle.port_walk.specs.Readers.{IsSendAction};
 ghost use Rattle.port_walk.specs.Placed.{at_start, in_next_block, in_next_turn, IsNextOf, CanGoOn, CanPut, CanTake, CanTakeValue, IsEnding, HasPut, HasTaken, IsNextSend, IsNextReceipt, IsHostIn};
 
-use crate::kind::Kind;
+use crate::kind::{AnyKind, Kind, first_kind};
 use crate::lists::lists_of;
-use crate::readers::{Readers, first_lagging, readers_at, turns_wanted};
-use crate::stops::{Stop, StopKind};
+use crate::upcoming::Upcoming;
+use crate::walk::Walk;
 use event_defs::Action;
-use image_defs::{Image, PortImage};
+use image_defs::Image;
 use logic_four::V4;
 use net_defs::Stimulus;
 use port_host::HostPort;
-use seen_list::{List, Memory};
+use seen_list::Memory;
 use std::alloc::Global;
 use std::marker::Model;
 
@@ -27,32 +25,19 @@ use std::marker::Model;
 /// sees whose image and stimulus it runs, its block, and its place.
 #[derive(Drop)]
 pub struct AnyPort<'a> {
-    kind: Kind<'a>,
-    seat: &'a PortImage,
-    image: &'a Image,
-    stim: &'a Stimulus,
-    port: u32,
+    walk: Walk<'a, V4, AnyKind<'a>>,
+    units: u32,
     cycles: u32,
     window: u32,
     first_row: u32,
-    slots: List<u32>,
-    readers: Readers,
-    stops: List<Stop>,
-    at: usize,
-    sent: usize,
-    took: usize,
-    value: V4,
-    turn: u64,
-    until: u64,
 }
 
 impl<'a> Model for AnyPort<'a> {
-    ghost use Rattle.port_walk.specs.Readers.{NoneLags, IsFirstLagging, IsSendAction};
     ghost use Rattle.port_walk.specs.Placed.{PlacedPort};
 
     ghost Value = { PlacedPort };
 
-    ghost use Rattle.port_walk.specs.Kept.{view_of, IsKept};
+    ghost use Rattle.port_walk.specs.Blocks.{view_of, IsKept};
 
     ghost view = { view_of };
 
@@ -66,25 +51,6 @@ fn last_turn(units: u32, cycles: u32, first_row: u32, window: u32) -> u64
 {
     let end = first_row as u64 + window as u64;
     units as u64 * end.min(cycles as u64)
-}
-
-/// What comes next where a Put is missing: an Ask of a reader that isn't known to have finished so
-/// many turns, or the Put.
-pub(crate) fn send_action(
-    readers: &[u32],
-    known: &[u64],
-    turns: u64,
-    slot: u32,
-    value: V4,
-) -> Action
-    requires there { Each (λ r. r < length known.now) readers.now }
-    requires rising { IsStrictlyIncreasing readers.now }
-    ensures { IsSendAction readers.now known.now turns slot value result }
-{
-    match first_lagging(readers, known, turns) {
-        Some(reader) => Action::Ask { reader },
-        None => Action::Put { slot, value },
-    }
 }
 
 impl<'a> AnyPort<'a> {
@@ -107,28 +73,15 @@ impl<'a> AnyPort<'a> {
     {
         let seat = &image.ports.as_slice()[port as usize];
         let (slots, stops, readers) = lists_of(alloc, image, seat)?;
-        let mut kind = Kind::new(alloc, image, stim, port, window)?;
+        let kind = first_kind(alloc, image, stim, port, window)?;
         let cycles = stim.cycles();
         let until = last_turn(image.units, cycles, 0, window);
-        let value = kind.enter(slots.as_slice(), stops.as_slice()[0].items, 1 <= until);
         Ok(AnyPort {
-            kind,
-            seat,
-            image,
-            stim,
-            port,
+            walk: Walk::new(kind, seat, slots, stops, readers, until),
+            units: image.units,
             cycles,
             window,
             first_row: 0,
-            slots,
-            readers,
-            stops,
-            at: 0,
-            sent: 0,
-            took: 0,
-            value,
-            turn: 1,
-            until,
         })
     }
 
@@ -139,18 +92,15 @@ impl<'a> AnyPort<'a> {
         requires { length known.now ≡ length self.now.image.ports }
         ensures { IsNextOf self.now known.now banks result }
     {
-        if self.until < self.turn {
-            return Action::Done;
-        }
-        let stop = self.stops.as_slice()[self.at];
-        match stop.kind {
-            StopKind::Send => {
-                let readers = readers_at(&self.readers, self.sent);
-                let turns = turns_wanted(self.turn, banks);
-                send_action(readers, known, turns, stop.slot, self.value)
-            }
-            StopKind::Receive => Action::Take { slot: stop.slot },
-            StopKind::End => Action::Tell,
+        match self.walk.next(known, banks) {
+            Upcoming::Ask { reader } => Action::Ask { reader },
+            Upcoming::Put { slot } => Action::Put {
+                slot,
+                value: self.walk.value(),
+            },
+            Upcoming::Take { slot } => Action::Take { slot },
+            Upcoming::Tell => Action::Tell,
+            Upcoming::Done => Action::Done,
         }
     }
 
@@ -160,7 +110,7 @@ impl<'a> AnyPort<'a> {
         requires { CanPut self.now }
         ensures { IsNextSend self.now result }
     {
-        self.sent
+        self.walk.next_send()
     }
 
     /// The number of the receipt whose Take is missing next, in slot order.
@@ -169,7 +119,7 @@ impl<'a> AnyPort<'a> {
         requires { CanTake self.now }
         ensures { IsNextReceipt self.now result }
     {
-        self.took
+        self.walk.next_receipt()
     }
 
     /// The Put that was next is made.
@@ -178,12 +128,7 @@ impl<'a> AnyPort<'a> {
         requires { CanPut self.old }
         ensures { HasPut self.old self.new }
     {
-        let stops = self.stops.as_slice();
-        let from = stops[self.at].items;
-        let to = stops[self.at + 1].items;
-        self.value = self.kind.run(self.slots.as_slice(), from, to, self.value);
-        self.at += 1;
-        self.sent += 1;
+        self.walk.put_done();
     }
 
     /// The Take that was next is made, and gave this value.
@@ -192,15 +137,7 @@ impl<'a> AnyPort<'a> {
         requires { CanTakeValue self.old v }
         ensures { HasTaken self.old self.new }
     {
-        let stops = self.stops.as_slice();
-        let stop = stops[self.at];
-        let to = stops[self.at + 1].items;
-        self.kind.receive(stop.slot, v);
-        self.value = self
-            .kind
-            .run(self.slots.as_slice(), stop.items, to, self.value);
-        self.at += 1;
-        self.took += 1;
+        self.walk.took(v);
     }
 
     /// The Tell that was next is made: the next turn begins, if it is one of its block.
@@ -208,15 +145,7 @@ impl<'a> AnyPort<'a> {
         requires { IsEnding self.old }
         ensures { self.new ≡ in_next_turn self.old }
     {
-        self.kind.end_turn();
-        self.turn += 1;
-        self.at = 0;
-        self.sent = 0;
-        self.took = 0;
-        let first = self.stops.as_slice()[0].items;
-        self.value = self
-            .kind
-            .enter(self.slots.as_slice(), first, self.turn <= self.until);
+        self.walk.told();
     }
 
     /// Begins the next block: the first turn of it begins. The host gives up the rows of the block that is
@@ -225,11 +154,9 @@ impl<'a> AnyPort<'a> {
         requires { CanGoOn self.old }
         ensures { self.new ≡ in_next_block self.old }
     {
-        self.kind.give_up();
         self.first_row += self.window;
-        self.until = last_turn(self.image.units, self.cycles, self.first_row, self.window);
-        let first = self.stops.as_slice()[0].items;
-        self.value = self.kind.enter(self.slots.as_slice(), first, true);
+        let until = last_turn(self.units, self.cycles, self.first_row, self.window);
+        self.walk.go_on(until);
     }
 
     /// The turn that it is in, or the last one of its block plus one when it rests.
@@ -237,14 +164,14 @@ impl<'a> AnyPort<'a> {
     pub fn turn(&self) -> u64
         ensures { result ≡ self.now.turn }
     {
-        self.turn
+        self.walk.turn()
     }
 
     /// The last turn that it executes in its block.
     pub fn until(&self) -> u64
         ensures { result ≡ self.now.until }
     {
-        self.until
+        self.walk.until()
     }
 
     /// The port as the host, which has the rows of its block that are done. `None` exactly where it is
@@ -254,7 +181,7 @@ impl<'a> AnyPort<'a> {
             (self.now.port ≢ host_of self.now.image)
             (λ host. IsHostIn self.now host.now) }
     {
-        match &self.kind {
+        match self.walk.port() {
             Kind::Host(host) => Some(host),
             Kind::Logic(_) => None,
             Kind::Array(_) => None,

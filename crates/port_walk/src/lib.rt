@@ -3,11 +3,15 @@
 #![tactic(auto)]
 
 mod any_port;
-pub mod items;
 mod kind;
 pub mod lists;
-pub mod readers;
-pub mod stops;
+mod readers;
+mod stops;
+mod upcoming;
+mod walk;
 
 pub use any_port::AnyPort;
 pub use event_defs::Action;
+pub use kind::Kind;
+pub use upcoming::Upcoming;
+pub use walk::Walk;

@@ -5,13 +5,13 @@ use Rattle.image_defs.specs.declared.image.PortImage.{PortImage}
 use Rattle.event_defs.specs.Next.{AsksNext, PutsNext, TakesNext, TellsNext}
 use Rattle.crew_run.specs.declared.stepper.Step.{Step}
 use Rattle.port_run.specs.code.Steps as plain
-use Rattle.pack_walk.specs.declared.action.PackAction.{PackAction}
-use Rattle.pack_walk.specs.declared.action.PackAction.TheVariants as action
+use Rattle.port_walk.specs.declared.upcoming.Upcoming.{Upcoming}
+use Rattle.port_walk.specs.declared.upcoming.Upcoming.TheVariants as action
 use Rattle.slot_words.specs.packed.Passes.{IsFit, IsRunning, PackPassView}
 use Rattle.pack_run.specs.Pairs.{HasMadeAll}
 
 -- this is what the pass does next
-abbrev pub IsNextAction : PortImage → PackPassView → PackAction → Type 0
+abbrev pub IsNextAction : PortImage → PackPassView → Upcoming → Type 0
 IsNextAction seat pass (action.Ask reader) = IsRunning pass × AsksNext seat pass.place 1 reader
 IsNextAction seat pass (action.Put slot) = IsRunning pass × PutsNext seat pass.place 1 slot
 IsNextAction seat pass (action.Take slot) = IsRunning pass × TakesNext seat pass.place slot
@@ -19,7 +19,7 @@ IsNextAction seat pass action.Tell = IsRunning pass × TellsNext seat pass.place
 IsNextAction seat pass action.Done = HasMadeAll pass
 
 -- this is the next event of its place
-pub record IsUpcoming (pass : PackPassView) (upcoming : PackAction) : Type 0 where
+pub record IsUpcoming (pass : PackPassView) (upcoming : Upcoming) : Type 0 where
   pub fit : IsFit pass
   pub seat : PortImage
   pub is : IsPort pass.image pass.port seat

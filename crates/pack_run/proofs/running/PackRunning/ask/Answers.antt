@@ -1,6 +1,6 @@
 use Rattle.std.proofs.Common.{ap, length, subst, sym, ◌<◌, ◌∙◌}
 use Rattle.image_defs.specs.declared.image.Image.{Image}
-use Rattle.pack_walk.specs.declared.action.PackAction.TheVariants as action
+use Rattle.port_walk.specs.declared.upcoming.Upcoming.TheVariants as action
 use Rattle.pack_run.specs.Pairs.{placed}
 use Rattle.pack_run.specs.Steps.{IsStepOf}
 use Rattle.pack_run.specs.code.Steps.{IsUpcoming}

@@ -1,95 +1,18 @@
-use Rattle.std.proofs.Common.{◌≡◌, ◌∙◌, ◌+◌, length, take, get_or, ap, subst, sym, refl, arith}
-use Rattle.std.proofs.lemmas.Option.{slice_get_within}
-use Rattle.image_defs.specs.Places.{in_slots}
-use Rattle.image_defs.specs.Ports.{after_receive}
-use Rattle.port_bank.specs.Packed.{PackPortView}
-use Rattle.pack_walk.specs.Kinds.{AreLastValues, view_in}
-use Rattle.pack_walk.specs.Kept.{view_of}
-use Rattle.pack_walk.specs.Placed.{CanTake, HasTaken}
-use Rattle.pack_walk.proofs.KeptLemmas.{walk_of, walks}
-use Rattle.pack_walk.proofs.MoveLemmas.{early_of, receiving_here, inner_at, inner_here, can_run, kept_after, has_taken, can_receive}
-use Rattle.port_walk.proofs.WalkLemmas.{no_stop, found, after_receipt, few_at}
+use Rattle.std.proofs.Common.{subst, sym}
+use Rattle.port_walk.specs.Stands.{IsReceiving}
+use Rattle.pack_walk.specs.Placed.{CanTake}
+use Rattle.pack_walk.proofs.PlacedLemmas.{stand_is, take_kept, take_made}
 use Rattle.pack_walk.proofs.placed.PackPlaced.took.Goals as goal
 
-pub bounds-stops-self-inside-2 : goal.bounds-stops-self-inside-2
-bounds-stops-self-inside-2 c =
-    let a = c.self.inside in
-    let kept = c.self.invariant in
-    let stops = c.as_slice-stops.result.now in
-    let can : CanTake (view_of a) c.args.values = subst (λ view. CanTake view c.args.values) (sym c.self.view_is) c.requires in
-    let at = found (walk_of a) (walks a kept) stops c.as_slice-stops.ensures in
-    let here = receiving_here a kept (get_or stops a.at no_stop) at can.j can.link can.receiving in
-    let early = early_of a kept (get_or stops a.at no_stop) at can.receiving.early in
-    let next = after_receipt (walk_of a) (walks a kept) (get_or stops a.at no_stop) at stops c.as_slice-stops.ensures here.kind in
-    let within = slice_get_within a.stops (a.at + 1) _ next.there in
-    omega (arith, ap length c.as_slice-stops.ensures)
-
-pub receive-requires : goal.receive-requires
-receive-requires c =
-    let a = c.self.inside in
-    let kept = c.self.invariant in
-    let stops = c.as_slice-stops.result.now in
-    can_receive a kept (get_or stops a.at no_stop) (found (walk_of a) (walks a kept) stops c.as_slice-stops.ensures) c.args.values (subst (λ view. CanTake view c.args.values) (sym c.self.view_is) c.requires)
-
-pub run-self-inside-requires-clause-can : goal.run-self-inside-requires-clause-can
-run-self-inside-requires-clause-can c =
-    let a = c.self.inside in
-    let kept = c.self.invariant in
-    let stops = c.as_slice-stops.result.now in
-    let can : CanTake (view_of a) c.args.values = subst (λ view. CanTake view c.args.values) (sym c.self.view_is) c.requires in
-    let at = found (walk_of a) (walks a kept) stops c.as_slice-stops.ensures in
-    let here = receiving_here a kept (get_or stops a.at no_stop) at can.j can.link can.receiving in
-    let early = early_of a kept (get_or stops a.at no_stop) at can.receiving.early in
-    let next = after_receipt (walk_of a) (walks a kept) (get_or stops a.at no_stop) at stops c.as_slice-stops.ensures here.kind in
-    let inside : view_in c.receive.new.self ≡ inner_at a kept (get_or stops a.at no_stop) at (get_or stops a.at no_stop) (a.took + 1) =
-    c.receive.ensures.view ∙ ap after_receive (inner_here a kept (get_or stops a.at no_stop) at early) in
-    can_run a kept (get_or stops a.at no_stop) at (view_in c.receive.new.self) c.as_slice.result.now a.sent (a.took + 1) (get_or stops (a.at + 1) no_stop) early inside c.as_slice.ensures next
+pub took-requires : goal.took-requires
+took-requires c =
+    let can = subst (λ view. CanTake view c.args.values) (sym c.self.view_is) c.requires in
+    record { j = can.j; link = can.link; receiving = subst (λ s. IsReceiving s can.j can.link) (stand_is c.self.inside c.self.invariant) can.receiving; value = can.values_are }
 
 pub invariant_of-self : goal.invariant_of-self
 invariant_of-self c =
-    let a = c.self.inside in
-    let kept = c.self.invariant in
-    let stops = c.as_slice-stops.result.now in
-    let can : CanTake (view_of a) c.args.values = subst (λ view. CanTake view c.args.values) (sym c.self.view_is) c.requires in
-    let at = found (walk_of a) (walks a kept) stops c.as_slice-stops.ensures in
-    let here = receiving_here a kept (get_or stops a.at no_stop) at can.j can.link can.receiving in
-    let early = early_of a kept (get_or stops a.at no_stop) at can.receiving.early in
-    let next = after_receipt (walk_of a) (walks a kept) (get_or stops a.at no_stop) at stops c.as_slice-stops.ensures here.kind in
-    let inside : view_in c.receive.new.self ≡ inner_at a kept (get_or stops a.at no_stop) at (get_or stops a.at no_stop) (a.took + 1) =
-    c.receive.ensures.view ∙ ap after_receive (inner_here a kept (get_or stops a.at no_stop) at early) in
-    kept_after a kept (get_or stops a.at no_stop) at c.run-self-inside.new.self c.run-self-inside.result a.sent (a.took + 1) (get_or stops (a.at + 1) no_stop) early next
-    (c.run-self-inside.ensures.run ∙ ap (λ (view : PackPortView). record view { executed = (get_or stops (a.at + 1) no_stop).items }) inside)
-    (c.run-self-inside.ensures.kind ∙ c.receive.ensures.kind) c.run-self-inside.ensures.last
+    let can = subst (λ view. CanTake view c.args.values) (sym c.self.view_is) c.requires in
+    take_kept c.self.inside c.self.invariant can.j can.link (subst (λ s. IsReceiving s can.j can.link) (stand_is c.self.inside c.self.invariant) can.receiving) c.took.new.self c.took.ensures
 
 pub returns : goal.returns
-returns c =
-    let a = c.self.inside in
-    let kept = c.self.invariant in
-    subst (λ view. HasTaken view (record (view_of a) { takes = take (a.took + 1) (in_slots a.seat.now.ins) })) c.self.view_is
-    (has_taken a kept (get_or a.stops a.at no_stop) (found (walk_of a) (walks a kept) a.stops refl))
-
-pub bounds-stops-self-inside : goal.bounds-stops-self-inside
-bounds-stops-self-inside c =
-    let a = c.self.inside in
-    rw c.as_slice-stops.ensures (slice_get_within a.stops a.at _ (found (walk_of a) (walks a c.self.invariant) a.stops refl))
-
-pub run-self-inside-requires-clause-last : goal.run-self-inside-requires-clause-last
-run-self-inside-requires-clause-last c =
-    let a = c.self.inside in
-    let last : AreLastValues (after_receive (view_in a.kind)) a.value = λ l low. record { each = (c.self.invariant.value l low).each } in
-    subst (λ view. AreLastValues view a.value) (sym c.receive.ensures.view) last
-
-pub offset_bounds-stops-self-inside : goal.offset_bounds-stops-self-inside
-offset_bounds-stops-self-inside c = omega (arith, few_at (walk_of c.self.inside) (walks c.self.inside c.self.invariant))
-
-pub overflow_add-to : goal.overflow_add-to
-overflow_add-to c = omega (arith, few_at (walk_of c.self.inside) (walks c.self.inside c.self.invariant))
-
-pub offset_bounds-stops-self-inside-2 : goal.offset_bounds-stops-self-inside-2
-offset_bounds-stops-self-inside-2 c = omega (arith, few_at (walk_of c.self.inside) (walks c.self.inside c.self.invariant))
-
-pub overflow_add-self : goal.overflow_add-self
-overflow_add-self c = omega (arith, few_at (walk_of c.self.inside) (walks c.self.inside c.self.invariant))
-
-pub overflow_add-self-2 : goal.overflow_add-self-2
-overflow_add-self-2 c = omega (arith, few_at (walk_of c.self.inside) (walks c.self.inside c.self.invariant))
+returns c = take_made c.self.inside c.self.invariant c.took.new.self c.took.ensures _ c.self.view_is

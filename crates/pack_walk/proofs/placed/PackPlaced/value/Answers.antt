@@ -1,12 +1,10 @@
-use Rattle.std.proofs.Common.{subst, refl, get_or}
+use Rattle.std.proofs.Common.{subst}
+use Rattle.port_walk.specs.Stands.{IsSending}
 use Rattle.pack_walk.specs.Placed.{IsNextValue}
-use Rattle.pack_walk.proofs.KeptLemmas.{walk_of, walks}
-use Rattle.pack_walk.proofs.MoveLemmas.{next_values}
-use Rattle.port_walk.proofs.WalkLemmas.{no_stop, found}
+use Rattle.pack_walk.proofs.PlacedLemmas.{stand_is}
 use Rattle.pack_walk.proofs.placed.PackPlaced.value.Goals as goal
 
 pub returns : goal.returns
-returns c =
-    let a = c.self.inside in
-    let kept = c.self.invariant in
-    subst (λ view. IsNextValue view a.value) c.self.view_is (next_values a kept (get_or a.stops a.at no_stop) (found (walk_of a) (walks a kept) a.stops refl))
+returns c = subst (λ view. IsNextValue view c.value.result) c.self.view_is (record {
+  each = λ i link sending. c.value.ensures.each i link (subst (λ s. IsSending s i link) (stand_is c.self.inside c.self.invariant) sending);
+})

@@ -1,79 +1,10 @@
-use Rattle.std.proofs.Common.{◌∙◌, ◌+◌, length, take, get_or, ap, subst, sym, refl, arith}
-use Rattle.std.proofs.lemmas.Option.{slice_get_within}
-use Rattle.image_defs.specs.Places.{out_slots}
-use Rattle.image_defs.specs.Ports.{PortView}
-use Rattle.port_walk.specs.Kinds.{view_in}
-use Rattle.port_walk.specs.Kept.{view_of}
-use Rattle.port_walk.specs.Placed.{CanPut, HasPut}
-use Rattle.port_walk.proofs.KeptLemmas.{walk_of, walks}
-use Rattle.port_walk.proofs.MoveLemmas.{sending_here, inner_here, can_run, kept_after, has_put}
-use Rattle.port_walk.proofs.WalkLemmas.{no_stop, found, after_send, few_at}
+use Rattle.std.proofs.Common.{subst, sym}
+use Rattle.port_walk.specs.Placed.{CanPut}
+use Rattle.port_walk.proofs.BlockLemmas.{put_kept, put_made}
 use Rattle.port_walk.proofs.any_port.AnyPort.put_done.Goals as goal
 
-pub bounds-stops-self-inside-2 : goal.bounds-stops-self-inside-2
-bounds-stops-self-inside-2 c =
-    let a = c.self.inside in
-    let kept = c.self.invariant in
-    let stops = c.as_slice-stops.result.now in
-    let can : CanPut (view_of a) = subst CanPut (sym c.self.view_is) c.requires in
-    let at = found (walk_of a) (walks a kept) stops c.as_slice-stops.ensures in
-    let here = sending_here a kept (get_or stops a.at no_stop) at can.i can.link can.sending in
-    let next = after_send (walk_of a) (walks a kept) (get_or stops a.at no_stop) at stops c.as_slice-stops.ensures here.kind in
-    let within = slice_get_within a.stops (a.at + 1) _ next.there in
-    omega (arith, ap length c.as_slice-stops.ensures)
-
-pub run-self-inside-requires-clause-can : goal.run-self-inside-requires-clause-can
-run-self-inside-requires-clause-can c =
-    let a = c.self.inside in
-    let kept = c.self.invariant in
-    let stops = c.as_slice-stops.result.now in
-    let can : CanPut (view_of a) = subst CanPut (sym c.self.view_is) c.requires in
-    let at = found (walk_of a) (walks a kept) stops c.as_slice-stops.ensures in
-    let here = sending_here a kept (get_or stops a.at no_stop) at can.i can.link can.sending in
-    let next = after_send (walk_of a) (walks a kept) (get_or stops a.at no_stop) at stops c.as_slice-stops.ensures here.kind in
-    can_run a kept (get_or stops a.at no_stop) at (view_in a.kind) c.as_slice.result.now (a.sent + 1) a.took (get_or stops (a.at + 1) no_stop) can.sending.early
-    (inner_here a kept (get_or stops a.at no_stop) at can.sending.early) c.as_slice.ensures next
-
 pub invariant_of-self : goal.invariant_of-self
-invariant_of-self c =
-    let a = c.self.inside in
-    let kept = c.self.invariant in
-    let stops = c.as_slice-stops.result.now in
-    let can : CanPut (view_of a) = subst CanPut (sym c.self.view_is) c.requires in
-    let at = found (walk_of a) (walks a kept) stops c.as_slice-stops.ensures in
-    let here = sending_here a kept (get_or stops a.at no_stop) at can.i can.link can.sending in
-    let next = after_send (walk_of a) (walks a kept) (get_or stops a.at no_stop) at stops c.as_slice-stops.ensures here.kind in
-    kept_after a kept (get_or stops a.at no_stop) at c.run-self-inside.new.self c.run-self-inside.result (a.sent + 1) a.took (get_or stops (a.at + 1) no_stop) can.sending.early next
-    (c.run-self-inside.ensures.run ∙ ap (λ (view : PortView). record view { executed = (get_or stops (a.at + 1) no_stop).items }) (inner_here a kept (get_or stops a.at no_stop) at can.sending.early))
-    c.run-self-inside.ensures.kind c.run-self-inside.ensures.rows c.run-self-inside.ensures.last
+invariant_of-self c = put_kept c.self.inside c.self.invariant (subst CanPut (sym c.self.view_is) c.requires) c.put_done.new.self c.put_done.ensures
 
 pub returns : goal.returns
-returns c =
-    let a = c.self.inside in
-    let kept = c.self.invariant in
-    subst (λ view. HasPut view (record (view_of a) { puts = take (a.sent + 1) (out_slots a.seat.now.outs) })) c.self.view_is
-    (has_put a kept (get_or a.stops a.at no_stop) (found (walk_of a) (walks a kept) a.stops refl))
-
-pub bounds-stops-self-inside : goal.bounds-stops-self-inside
-bounds-stops-self-inside c =
-    let a = c.self.inside in
-    let within = slice_get_within a.stops a.at _ (found (walk_of a) (walks a c.self.invariant) c.as_slice-stops.result.now c.as_slice-stops.ensures) in
-    omega (arith, within, ap length c.as_slice-stops.ensures)
-
-pub run-self-inside-requires-clause-last : goal.run-self-inside-requires-clause-last
-run-self-inside-requires-clause-last c = c.self.invariant.value
-
-pub offset_bounds-stops-self-inside : goal.offset_bounds-stops-self-inside
-offset_bounds-stops-self-inside c = omega (arith, few_at (walk_of c.self.inside) (walks c.self.inside c.self.invariant))
-
-pub overflow_add-to : goal.overflow_add-to
-overflow_add-to c = omega (arith, few_at (walk_of c.self.inside) (walks c.self.inside c.self.invariant))
-
-pub offset_bounds-stops-self-inside-2 : goal.offset_bounds-stops-self-inside-2
-offset_bounds-stops-self-inside-2 c = omega (arith, few_at (walk_of c.self.inside) (walks c.self.inside c.self.invariant))
-
-pub overflow_add-self : goal.overflow_add-self
-overflow_add-self c = omega (arith, few_at (walk_of c.self.inside) (walks c.self.inside c.self.invariant))
-
-pub overflow_add-self-2 : goal.overflow_add-self-2
-overflow_add-self-2 c = omega (arith, few_at (walk_of c.self.inside) (walks c.self.inside c.self.invariant))
+returns c = put_made c.self.inside c.put_done.new.self c.put_done.ensures _ c.self.view_is

@@ -1,0 +1,22 @@
+-- Beside specs/Walks.antt, what only private functions and proofs cite.
+use Rattle.std.specs.Prelude.{◌≡◌, ℕ, ◌<◌, ◌≤◌, Bool, true, false, if◌then◌else◌, List, length, Some, slice_get}
+use Rattle.image_defs.specs.declared.image.LinkIn.{LinkIn}
+use Rattle.image_defs.specs.declared.image.PortImage.{PortImage}
+use Rattle.image_defs.specs.Places.{IsPort, item_slots}
+use Rattle.image_defs.specs.Ports.{View, PortView, last_turn}
+
+-- the turn has not begun, and may begin if the port is to run it; then its items below number `to` may be
+-- executed, since nothing comes in the slots before theirs
+pub record CanEnter (view : PortView) (slots : List ℕ) (to : ℕ) (runs : Bool) : Type 0 where
+  pub fresh : view.begun ≡ false
+  pub none : view.executed ≡ 0
+  pub more : runs ≡ true → view.turn ≤ last_turn view
+  pub seat : PortImage
+  pub is : IsPort view.image view.port seat
+  pub slots_are : slots ≡ item_slots seat.work
+  pub within : to ≤ length slots
+  pub received_before : (k slot i : ℕ) (link : LinkIn) → k < to → slice_get slots k ≡ Some slot → slice_get seat.ins i ≡ Some link → link.slot < slot → i < view.received
+
+-- it has begun and these items are executed, if the port is to run it
+abbrev pub HasEntered : {S : Type 0} → View S → View S → ℕ → Bool → Type 0
+HasEntered old new to runs = new ≡ record old { begun = runs; executed = if runs then to else 0 }
