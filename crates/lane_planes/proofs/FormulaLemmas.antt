@@ -7,31 +7,18 @@ use Rattle.limits.specs.declared.TheConstants.{LANES}
 use Rattle.logic_four.specs.declared.V4.{V4}
 use Rattle.logic_four.specs.declared.Kind.{Kind}
 use Rattle.logic_four.specs.declared.Kind.TheVariants.{And, Nand, Or, Nor, Xor, Xnor, Not, Buf, Tri, Bus}
-use Rattle.logic_four.specs.Values.{settled, inverse}
-use Rattle.logic_four.specs.Gates.{gate_value, and_value, xor_value}
+use Rattle.logic_four.specs.Gates.{gate_value}
 use Rattle.logic_four.proofs.TestLemmas.{two_same}
 use Rattle.lane_planes.specs.declared.planes.Planes.{Planes}
 use Rattle.lane_planes.specs.Lanes.{lane_of}
 use Rattle.lane_planes.specs.Joins.{first_of, join_of, answer_of}
 use Rattle.lane_planes.proofs.WordLemmas.{Word, low_word, high_word, both, either, differ, apart, all_ones, no_ones}
-use Rattle.lane_planes.proofs.LaneLemmas.{bits, in_lane, in_lanes}
-use Rattle.lane_planes.specs.Formula.{turned, paired, pair_value, pair_form}
+use Rattle.lane_planes.proofs.LaneLemmas.{bits, in_lanes}
+use Rattle.lane_planes.specs.Formula.{is_usual, turns_operands, turns_answer, is_parity, mask_of}
 
--- a form answers as the gate
+-- the gate of two operands
 abbrev gate_pair : Kind → V4 → V4 → V4
 gate_pair kind v w = gate_value kind (v ∷ w ∷ [])
-
-pub form_answers : (kind : Kind) (v w : V4) → pair_value (pair_form kind) v w ≡ gate_value kind (v ∷ w ∷ [])
-form_answers And v w = two_same (pair_value (pair_form And)) (gate_pair And) refl v w
-form_answers Nand v w = two_same (pair_value (pair_form Nand)) (gate_pair Nand) refl v w
-form_answers Or v w = two_same (pair_value (pair_form Or)) (gate_pair Or) refl v w
-form_answers Nor v w = two_same (pair_value (pair_form Nor)) (gate_pair Nor) refl v w
-form_answers Xor v w = two_same (pair_value (pair_form Xor)) (gate_pair Xor) refl v w
-form_answers Xnor v w = two_same (pair_value (pair_form Xnor)) (gate_pair Xnor) refl v w
-form_answers Not v w = refl
-form_answers Buf v w = refl
-form_answers Tri v w = refl
-form_answers Bus v w = refl
 
 -- two operands joined one after the other
 abbrev join_pair : Kind → V4 → V4 → V4
@@ -53,41 +40,58 @@ other_is Bus v w = two_same (join_pair Bus) (gate_pair Bus) refl v w
 abbrev bit_of : Bool → ℕ
 bit_of all = if all then 1 else 0
 
-pub mask_word : {k : ℕ} (all : Bool) (mask : ℕ) → k < LANES → mask ≡ (if all then (2 ^ LANES - 1) else 0) → Word k mask (bit_of all)
+pub mask_word : {k : ℕ} (all : Bool) (mask : ℕ) → k < LANES → mask ≡ mask_of all → Word k mask (bit_of all)
 mask_word {k} all mask low is = subst (λ n. Word k n (bit_of all)) (sym is) (by_test all) where
-  by_test : (all : Bool) → Word k (if all then (2 ^ LANES - 1) else 0) (bit_of all)
+  by_test : (all : Bool) → Word k (mask_of all) (bit_of all)
   by_test true = all_ones low
   by_test false = no_ones
 
--- the bits of a lane of the formula's steps
-pub turned_bits : (inverts : Bool) (p : Planes) (k : ℕ) → bits (min ((bit_at p.low k + bit_of inverts) % 2) (1 - bit_at p.high k)) (bit_at p.high k) ≡ turned inverts (lane_of p k)
-turned_bits true p k = in_lane p k (λ x y. bits (min ((x + 1) % 2) (1 - y)) y) inverse refl
-turned_bits false p k = in_lane p k (λ x y. bits (min ((x + 0) % 2) (1 - y)) y) settled refl
+-- the bits of a lane of the formula's answer: those of the masks are m, n and r, those of the operands x and y, z and w
+abbrev high_bit : ℕ → ℕ → ℕ → ℕ → ℕ → ℕ → ℕ
+high_bit m r x y z w = min (max y w) (max (min (max ((x + m) % 2) y) (max ((z + m) % 2) w)) r)
 
-abbrev high_bit : ℕ → ℕ → ℕ → ℕ → ℕ → ℕ
-high_bit m x y z w = min (max y w) (min (max (max x y) m) (max (max z w) m))
+abbrev low_bit : ℕ → ℕ → ℕ → ℕ → ℕ → ℕ → ℕ → ℕ
+low_bit m n r x y z w = min (((min ((x + m) % 2) (max ((z + m) % 2) r) + min ((z + m) % 2) r) % 2 + n) % 2) (1 - high_bit m r x y z w)
 
-abbrev low_bit : ℕ → ℕ → ℕ → ℕ → ℕ → ℕ
-low_bit m x y z w = min ((min x z + min (max x z) m) % 2) (1 - high_bit m x y z w)
+abbrev lane_bits : ℕ → ℕ → ℕ → ℕ → ℕ → ℕ → ℕ → V4
+lane_bits m n r x y z w = bits (low_bit m n r x y z w) (high_bit m r x y z w)
 
-pub paired_bits : (parity : Bool) (p q : Planes) (k : ℕ)
-    → bits (low_bit (bit_of parity) (bit_at p.low k) (bit_at p.high k) (bit_at q.low k) (bit_at q.high k)) (high_bit (bit_of parity) (bit_at p.low k) (bit_at p.high k) (bit_at q.low k) (bit_at q.high k))
-    ≡ paired parity (lane_of p k) (lane_of q k)
-paired_bits true p q k = in_lanes p q k (λ x y z w. bits (low_bit 1 x y z w) (high_bit 1 x y z w)) (λ v w. xor_value (v ∷ w ∷ [])) refl
-paired_bits false p q k = in_lanes p q k (λ x y z w. bits (low_bit 0 x y z w) (high_bit 0 x y z w)) (λ v w. and_value (v ∷ w ∷ [])) refl
+pub pair_bits : (kind : Kind) (p q : Planes) (k : ℕ) → is_usual kind ≡ true
+    → lane_bits (bit_of (turns_operands kind)) (bit_of (turns_answer kind)) (bit_of (is_parity kind)) (bit_at p.low k) (bit_at p.high k) (bit_at q.low k) (bit_at q.high k)
+    ≡ gate_value kind (lane_of p k ∷ lane_of q k ∷ [])
+pair_bits And p q k usual = in_lanes p q k (lane_bits 0 0 0) (gate_pair And) refl
+pair_bits Nand p q k usual = in_lanes p q k (lane_bits 0 1 0) (gate_pair Nand) refl
+pair_bits Or p q k usual = in_lanes p q k (lane_bits 1 1 0) (gate_pair Or) refl
+pair_bits Nor p q k usual = in_lanes p q k (lane_bits 1 0 0) (gate_pair Nor) refl
+pair_bits Xor p q k usual = in_lanes p q k (lane_bits 0 0 1) (gate_pair Xor) refl
+pair_bits Xnor p q k usual = in_lanes p q k (lane_bits 0 1 1) (gate_pair Xnor) refl
+pair_bits Not p q k usual = cc
+pair_bits Buf p q k usual = cc
+pair_bits Tri p q k usual = cc
+pair_bits Bus p q k usual = cc
 
--- the words that the formula makes
-module _ {k : ℕ} (low : k < LANES) (p q : Planes) (mask m : ℕ) (is : Word k mask m) where
-  pub turned_low : Word k (bit_and (bit_xor p.low mask) (4294967295 - p.high)) (min ((bit_at p.low k + m) % 2) (1 - bit_at p.high k))
-  turned_low = apart low (differ (low_word p k) is) (high_word p k)
+-- the words that the formula makes, by the bits of the masks
+module _ {k m n r : ℕ} (low : k < LANES) (p q : Planes) (operands answer parity : ℕ)
+    (m_is : Word k operands m) (n_is : Word k answer n) (r_is : Word k parity r) where
+  one_word : Word k (bit_xor p.low operands) ((bit_at p.low k + m) % 2)
+  one_word = differ (low_word p k) m_is
+
+  other_word : Word k (bit_xor q.low operands) ((bit_at q.low k + m) % 2)
+  other_word = differ (low_word q k) m_is
 
   abbrev pub high_of : ℕ
-  high_of = bit_and (bit_or p.high q.high) (bit_and (bit_or (bit_or p.low p.high) mask) (bit_or (bit_or q.low q.high) mask))
+  high_of = bit_and (bit_or p.high q.high) (bit_or (bit_and (bit_or (bit_xor p.low operands) p.high) (bit_or (bit_xor q.low operands) q.high)) parity)
 
-  pub paired_high : Word k high_of (high_bit m (bit_at p.low k) (bit_at p.high k) (bit_at q.low k) (bit_at q.high k))
-  paired_high =
+  abbrev pub low_of : ℕ
+  low_of =
+      bit_and (bit_xor (bit_xor (bit_and (bit_xor p.low operands) (bit_or (bit_xor q.low operands) parity)) (bit_and (bit_xor q.low operands) parity)) answer)
+      (4294967295 - high_of)
+
+  pub pair_high : Word k high_of (high_bit m r (bit_at p.low k) (bit_at p.high k) (bit_at q.low k) (bit_at q.high k))
+  pair_high =
       both (either (high_word p k) (high_word q k))
-      (both (either (either (low_word p k) (high_word p k)) is) (either (either (low_word q k) (high_word q k)) is))
+      (either (both (either one_word (high_word p k)) (either other_word (high_word q k))) r_is)
 
-  pub paired_low : Word k (bit_and (bit_xor (bit_and p.low q.low) (bit_and (bit_or p.low q.low) mask)) (4294967295 - high_of)) (low_bit m (bit_at p.low k) (bit_at p.high k) (bit_at q.low k) (bit_at q.high k))
-  paired_low = apart low (differ (both (low_word p k) (low_word q k)) (both (either (low_word p k) (low_word q k)) is)) paired_high
+  pub pair_low : Word k low_of (low_bit m n r (bit_at p.low k) (bit_at p.high k) (bit_at q.low k) (bit_at q.high k))
+  pair_low =
+      apart low (differ (differ (both one_word (either other_word r_is)) (both other_word r_is)) n_is) pair_high

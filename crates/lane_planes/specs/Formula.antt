@@ -1,12 +1,10 @@
 -- Gates of two operands by one formula: AND or XOR of the operands, or of their inverses, and then
 -- that or its inverse.
-use Rattle.std.specs.Prelude.{Bool, true, false, if◌then◌else◌, [], ◌∷◌}
-use Rattle.logic_four.specs.declared.V4.{V4}
+use Rattle.std.specs.Prelude.{◌≡◌, ◌^◌, ◌-◌, ℕ, Bool, true, false, if◌then◌else◌}
+use Rattle.limits.specs.declared.TheConstants.{LANES}
 use Rattle.logic_four.specs.declared.Kind.{Kind}
 use Rattle.logic_four.specs.declared.Kind.TheVariants.{And, Nand, Or, Nor, Xor, Xnor, Not, Buf, Tri, Bus}
-use Rattle.logic_four.specs.Values.{settled, inverse}
-use Rattle.logic_four.specs.Gates.{gate_value, and_value, xor_value}
-use Rattle.lane_planes.specs.declared.formula.PairForm.{PairForm}
+use Rattle.lane_planes.specs.declared.planes.PairForm.{PairForm}
 
 -- the kinds that the formula answers
 abbrev pub is_usual : Kind → Bool
@@ -60,20 +58,12 @@ is_parity Buf = false
 is_parity Tri = false
 is_parity Bus = false
 
--- the inverse, or the value settled
-abbrev pub turned : Bool → V4 → V4
-turned inverts v = if inverts then inverse v else settled v
+-- a mask of all lanes, or of none
+abbrev pub mask_of : Bool → ℕ
+mask_of all = if all then (2 ^ LANES - 1) else 0
 
--- XOR or AND
-abbrev pub paired : Bool → V4 → V4 → V4
-paired parity v w = if parity then xor_value (v ∷ w ∷ []) else and_value (v ∷ w ∷ [])
-
--- what a form answers for two operands
-abbrev pub pair_value : PairForm → V4 → V4 → V4
-pair_value form v w =
-    if is_usual form.kind then turned form.turns_answer (paired form.is_parity (turned form.turns_operands v) (turned form.turns_operands w))
-    else gate_value form.kind (v ∷ w ∷ [])
-
--- the form of a kind
-abbrev pub pair_form : Kind → PairForm
-pair_form kind = record { kind = kind; turns_operands = turns_operands kind; turns_answer = turns_answer kind; is_parity = is_parity kind }
+-- the masks of a form are those of its kind
+pub record IsPairForm (form : PairForm) : Type 0 where
+  pub operands : form.operands ≡ mask_of (turns_operands form.kind)
+  pub answer : form.answer ≡ mask_of (turns_answer form.kind)
+  pub parity : form.parity ≡ mask_of (is_parity form.kind)

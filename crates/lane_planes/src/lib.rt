@@ -9,13 +9,13 @@ mod pairs;
 mod planes;
 mod tables;
 
-pub use formula::{PairForm, gate_two, pair_form};
+pub use formula::{gate_two, pair_form};
 pub use gates::{answered, first_operand, gate_over, gate_planes, joined};
 pub use lanes::{in_all_lanes, in_each_lane, lane, with_lane};
 pub use laws::{join_laws, lanes_decide};
 use limits::LANES;
 pub use pairs::{forced, settle_planes};
-pub use planes::Planes;
+pub use planes::{PairForm, Planes};
 pub use tables::{TableForm, eval_form, eval_planes, form_of};
 
 /// A word whose lower bits are 1, one for each lane.

@@ -1,7 +1,9 @@
-//! The values of all lanes side by side.
+//! The values of all lanes side by side, and how a gate works on them.
 
 ghost use Rattle.std.specs.Prelude.{◌<◌, ◌^◌};
 ghost use Rattle.limits.specs.declared.TheConstants.{LANES};
+
+use logic_four::Kind;
 
 /// Values side by side, one a lane. Lane `k` of the `LANES` lanes, counted from 0, has the code whose lower
 /// bit is bit `k` of `low`, and whose upper bit is bit `k` of `high`.
@@ -11,4 +13,20 @@ pub struct Planes {
     pub high: u32,
     pub ghost low_small: { low < 2 ^ LANES },
     pub ghost high_small: { high < 2 ^ LANES },
+}
+
+/// How gates of a kind answer for two operands: the kind, and what the formula does for it, as masks of all lanes or
+/// of none.
+#[derive(Clone, Copy)]
+pub struct PairForm {
+    pub kind: Kind,
+    /// The formula inverts the operands.
+    pub operands: u32,
+    /// It inverts the answer.
+    pub answer: u32,
+    /// It is XOR of the operands, and not AND.
+    pub parity: u32,
+    pub ghost operands_small: { operands < 2 ^ LANES },
+    pub ghost answer_small: { answer < 2 ^ LANES },
+    pub ghost parity_small: { parity < 2 ^ LANES },
 }

@@ -1,15 +1,16 @@
 //! What a port keeps in a place: one value, or a value in each of thirty lanes.
 
-ghost use Rattle.std.specs.Prelude.{◌≡◌, ℕ, ◌+◌, ◌*◌, ◌<◌, IfSome};
+ghost use Rattle.std.specs.Prelude.{◌≡◌, ◌∷◌, [], ℕ, ◌+◌, ◌*◌, ◌<◌, IfSome};
 ghost use Rattle.limits.specs.declared.TheConstants.{LANES};
 ghost use Rattle.logic_four.specs.declared.V4.{V4};
 ghost use Rattle.logic_four.specs.Values.{code_of, value_of, settled};
 ghost use Rattle.logic_four.specs.Packed.{code_in};
+ghost use Rattle.logic_four.specs.Gates.{gate_value};
 ghost use Rattle.func_table.specs.declared.table.Table.{Table};
 ghost use Rattle.func_table.specs.Entries.{entry_for};
 ghost use Rattle.lane_planes.specs.Lanes.{lane_of};
 ghost use Rattle.lane_planes.specs.Forms.{IsForm};
-ghost use Rattle.lane_planes.specs.Formula.{pair_value};
+ghost use Rattle.lane_planes.specs.Formula.{IsPairForm};
 ghost use Rattle.net_defs.specs.declared.stimulus.Stimulus.{Stimulus};
 ghost use Rattle.net_defs.specs.Valid.{IsValidStimulus};
 ghost use Rattle.stim_text.specs.Lanes.{lane_stimulus, AreLanes};
@@ -155,7 +156,7 @@ impl Word for Planes {
 
     ghost lane = { lane_of };
 
-    ghost is_pair = { λ table c d form. (a b : V4) → pair_value form a b ≡ entry_for table a b c d };
+    ghost is_pair = { λ table c d form. IsPairForm form × ((a b : V4) → gate_value form.kind (a ∷ b ∷ []) ≡ entry_for table a b c d) };
 
     ghost is_form = { IsForm };
 

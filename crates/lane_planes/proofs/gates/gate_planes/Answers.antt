@@ -1,13 +1,10 @@
-use Rattle.std.proofs.Common.{sym}
+use Rattle.std.proofs.Common.{refl, sym}
 use Rattle.lane_planes.specs.Lanes.{lane_of}
-use Rattle.lane_planes.proofs.FormulaLemmas.{form_answers}
 use Rattle.lane_planes.proofs.JoinLemmas.{four_joined}
 use Rattle.lane_planes.proofs.gates.gate_planes.Goals as goal
 
 pub returns-then-operands-eq2 : goal.returns-then-operands-eq2
-returns-then-operands-eq2 c = λ k here.
-    rw (c.if-operands-eq2.true, c.gate_two.ensures k here, c.pair_form.ensures)
-    (form_answers c.args.kind (lane_of c.args.a k) (lane_of c.args.b k))
+returns-then-operands-eq2 c = λ k here. rw (c.if-operands-eq2.true, c.gate_two.ensures c.pair_form.ensures.form k here, c.pair_form.ensures.kind) refl
 
 pub joined_four-base-requires : goal.joined_four-base-requires
 joined_four-base-requires c = c.requires.few
