@@ -1,17 +1,18 @@
 //! What the printed names tell of each fault at the end of a cycle.
 
 ghost use Rattle.std.specs.Prelude.{◌≡◌, ◌+◌, ◌<◌, ◌≤◌, ◌^◌, length, All};
-ghost use Rattle.limits.specs.declared.TheConstants.{LANES};
+ghost use Rattle.wide_planes.specs.declared.TheConstants.{WIDE_LANES};
 ghost use Rattle.net_defs.specs.Valid.{IsSignal};
 ghost use Rattle.fault_sim.specs.Verdicts.{differs};
-ghost use Rattle.lane_planes.specs.Lanes.{lane_row};
+ghost use Rattle.fault_sim.specs.code.Lanes.{lane_row};
 ghost use Rattle.fault_sim.specs.code.Runs.{FindsColumn, IsLooked, AreLooked, is_decided, are_decided};
 
 use crate::Verdict;
-use lane_planes::{Planes, lane};
+use crate::wires::Lanes;
 use logic_four::V4;
 use net_defs::Netlist;
 use seen_list::List;
+use wide_planes::lane;
 
 /// Whether each fault is seen.
 pub(crate) fn are_decided(verdicts: &[Verdict]) -> bool
@@ -30,8 +31,8 @@ fn is_decided(verdict: Verdict) -> bool
 }
 
 /// Looks at the values of the last turn of a cycle.
-pub(crate) fn look(verdicts: &mut List<Verdict>, row: &[Planes], net: &Netlist, cycle: u32)
-    requires few { length verdicts.old < LANES }
+pub(crate) fn look(verdicts: &mut List<Verdict>, row: &[Lanes], net: &Netlist, cycle: u32)
+    requires few { length verdicts.old < WIDE_LANES }
     requires printed { All (IsSignal net.now) net.now.printed }
     requires columns { length net.now.printed < 2 ^ 32 }
     requires long { length row.now ≡ length net.now.signals }
@@ -45,8 +46,8 @@ pub(crate) fn look(verdicts: &mut List<Verdict>, row: &[Planes], net: &Netlist, 
 }
 
 /// The verdict on the fault of a lane after a cycle.
-fn looked(verdict: Verdict, row: &[Planes], net: &Netlist, at: u32, cycle: u32) -> Verdict
-    requires lane { at < LANES }
+fn looked(verdict: Verdict, row: &[Lanes], net: &Netlist, at: u32, cycle: u32) -> Verdict
+    requires lane { at < WIDE_LANES }
     requires printed { All (IsSignal net.now) net.now.printed }
     requires columns { length net.now.printed < 2 ^ 32 }
     requires long { length row.now ≡ length net.now.signals }
@@ -62,8 +63,8 @@ fn looked(verdict: Verdict, row: &[Planes], net: &Netlist, at: u32, cycle: u32) 
 }
 
 /// The first column in which a lane differs from the good design.
-fn first_column(row: &[Planes], net: &Netlist, at: u32) -> Option<u32>
-    requires lane { at < LANES }
+fn first_column(row: &[Lanes], net: &Netlist, at: u32) -> Option<u32>
+    requires lane { at < WIDE_LANES }
     requires printed { All (IsSignal net.now) net.now.printed }
     requires columns { length net.now.printed < 2 ^ 32 }
     requires long { length row.now ≡ length net.now.signals }
@@ -71,7 +72,7 @@ fn first_column(row: &[Planes], net: &Netlist, at: u32) -> Option<u32>
 {
     let printed = net.printed.as_slice();
     'columns: for j in 0..printed.len() {
-        let p = row[printed[j] as usize];
+        let p = row[printed[j] as usize].planes;
         if differs(lane(p, 0), lane(p, at)) {
             return Some(j as u32);
         }

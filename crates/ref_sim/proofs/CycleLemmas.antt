@@ -1,121 +1,63 @@
--- Turns, cycles and rows of a run, against every simulation.
-use Rattle.std.proofs.Common.{◌≡◌, ◌≢◌, ◌∙◌, ℕ, ◌+◌, ◌-◌, ◌*◌, ◌/◌, ◌%◌, ◌<◌, ◌≤◌, inl, inr, Bool, true, false, if◌then◌else◌, ◌&&◌, ◌==◌, nat_le, List, [], ◌∷◌, ◌++◌, length, take, replicate, get_or, refl, sym, ap, subst, arith, Some, IsTrue}
-use Rattle.std.specs.List.{slice_get}
-use Rattle.std.proofs.lemmas.Option.{slice_get_within, slice_get-get_or, get_or_from_slice_get}
-use Rattle.std.proofs.lemmas.List.{length-map, length-replicate}
-use Rattle.logic_four.specs.declared.V4.{V4}
-use Rattle.logic_four.specs.declared.V4.TheVariants.{Undef}
-use Rattle.net_defs.specs.declared.netlist.Netlist.{Netlist}
-use Rattle.net_defs.specs.declared.netlist.Driver.{Driver}
-use Rattle.net_defs.specs.declared.netlist.Driver.TheVariants.{Input, Gate, Dff, BlockBit}
-use Rattle.net_defs.specs.declared.timing.Timing.{Timing}
-use Rattle.net_defs.specs.declared.stimulus.Stimulus.{Stimulus}
-use Rattle.net_defs.specs.Time.{value_at, initial_value, is_edge, cycle_of, cycle_rows, cycle_count, turn_count, input_at}
-use Rattle.net_defs.specs.Valid.{is_input}
-use Rattle.net_defs.specs.Steps.{State, first_state}
-use Rattle.net_defs.specs.Loops.{IsOrder}
-use Rattle.std.specs.List.{flat_map}
+-- Cycles and rows of a run, against every simulation.
+use Rattle.std.proofs.Math.Numerals.{add-one}
+use Rattle.std.proofs.Common.{◌≡◌, ◌≢◌, ◌∙◌, ℕ, zero, suc, ◌+◌, ◌-◌, ◌*◌, ◌<◌, ◌≤◌, inl, inr, Bool, true, false, ◌&&◌, ◌==◌, List, [], ◌∷◌, ◌++◌, length, map, take, replicate, get_or, refl, sym, ap, subst, arith, Option, Some, None}
+use Rattle.std.specs.List.{slice_get, flat_map}
 use Rattle.std.proofs.Math.Nat.{mul-le-mul_left}
-use Rattle.std.proofs.lemmas.Nat.{mod-mul-add, div-mul-add}
-use Rattle.std.proofs.lemmas.Bool.Decides.{eqb_tells, leb_tells}
-use Rattle.std.proofs.lemmas.List.{length_push, get_or_append_left, get_or_push, get_or-replicate, take_more}
+use Rattle.std.proofs.lemmas.Bool.Decides.{eqb_tells}
+use Rattle.std.proofs.lemmas.Option.{slice_get_within, slice_get-get_or, get_or_from_slice_get}
+use Rattle.std.proofs.lemmas.List.{length-replicate, length_push, get_or_append_left, get_or_push, get_or-replicate, take_more}
 use Rattle.std.proofs.lemmas.List.Concat.{get_or-flat_map}
 use Rattle.std.proofs.lemmas.List.Folds.{length-flat_map-take}
 use Rattle.std.proofs.lemmas.Grind.{flat_map-append}
 use Rattle.std.proofs.Common.{length-append, append-nil}
+use Rattle.logic_four.specs.declared.V4.{V4}
+use Rattle.net_defs.specs.declared.netlist.Netlist.{Netlist}
+use Rattle.net_defs.specs.declared.timing.Timing.{Timing}
+use Rattle.net_defs.specs.declared.stimulus.Stimulus.{Stimulus}
 use Rattle.net_defs.specs.declared.stimulus.StimRow.{StimRow}
+use Rattle.net_defs.specs.Time.{cycle_rows, cycle_count, turn_count}
+use Rattle.net_defs.specs.Steps.{State, IsRightStep}
+use Rattle.net_defs.specs.Loops.{IsOrder}
 use Rattle.list_laws.proofs.Ranges.{last_or}
-use Rattle.ref_sim.specs.declared.turn.Phase.{Phase}
-use Rattle.ref_sim.specs.declared.turn.Phase.TheVariants as phase
-use Rattle.logic_four.specs.Memory.{initial_words}
-use Rattle.logic_four.proofs.MemoryLemmas.{first_shape}
-use Rattle.std.proofs.lemmas.List.{get_or-map, take-replicate}
-use Rattle.ref_sim.specs.declared.ram.RamPort.{RamPort}
-use Rattle.ref_sim.specs.declared.turn.SimState.{SimState}
-use Rattle.ref_sim.specs.Sequences.{place_count}
-use Rattle.ref_sim.specs.code.States.{state_of, row_of, IsInitial, IsReady, phase_of, driven_by, HoldInputs, StepsBy}
-use Rattle.ref_sim.specs.Rams.{ArePorts}
+use Rattle.net_ops.specs.declared.state.LaneState.{LaneState}
+use Rattle.net_ops.specs.Places.{row_of}
+use Rattle.net_ops.specs.States.{lane_state, IsForcedStep, Passes}
+use Rattle.net_ops.proofs.Steps.{free_step}
 use Rattle.ref_sim.specs.Observing.{end_row}
-use Rattle.ref_sim.specs.code.Runs.{StandsAt, RunsTo, IsReadyToLook, HasLooked, cycles_before, phase_at}
-use Rattle.ref_sim.proofs.Phases.{right_step}
+use Rattle.ref_sim.specs.code.States.{value_in, state_of}
+use Rattle.ref_sim.specs.code.Runs.{StandsAt, RunsTo, IsReadyToLook, HasLooked, cycles_before}
 use Rattle.ref_sim.proofs.Uniqueness.{next_state}
 
--- a turn within a cycle is not the first of it
-pub within_later : (is_first : Bool) (place : ℕ) (at : Phase) → at ≡ phase_at is_first place → at ≡ phase.Within → 0 < place
-within_later is_first place at is within = elim (eqb_tells place 0) [
-  | inl none ↦ absurd (first is_first (sym (ap (λ b. if b then (if is_first then phase.Start else phase.Edge) else phase.Within) none.0) ∙ (sym is ∙ within)))
-  | inr some ↦ (let other = some.1 in omega arith)
-] where
-  first : (b : Bool) → (if b then phase.Start else phase.Edge) ≡ phase.Within → ⊥
-  first true same = cc
-  first false same = cc
+-- the one lane of single values
+pub same_values : (values : List V4) → map (λ v. value_in v 0) values ≡ values
+same_values [] = refl
+same_values (v ∷ values) = ap (λ rest. v ∷ rest) (same_values values)
 
--- the inputs of a step are held
-pub step_inputs : (net : Netlist) (timing : Timing) (at : Phase) (inputs : List V4) (old new : State) → StepsBy net timing at inputs old new → HoldInputs net inputs new.row
-step_inputs net timing at inputs old new steps s signal is input = steps.values s signal is ∙ by_driver signal.driver input where
-  by_driver : (driver : Driver) → IsTrue (is_input driver) → driven_by net timing at inputs old new s driver ≡ value_at inputs s
-  by_driver Input input = refl
-  by_driver (Gate kind ops) input = cc
-  by_driver (Dff op) input = cc
-  by_driver (BlockBit memory bit) input = cc
+pub one_lane : (net : Netlist) (state : LaneState V4) → lane_state value_in net 0 state ≡ state_of net state
+one_lane net state = ap (λ values. record { row = row_of net values; words = get_or state.memories 0 [] }) (same_values state.values)
 
-module _ (units cycle place : ℕ) (inside : place < units) where
-  within_cycle : (cycle * units + place + 1 - 1) % units ≡ place
-  within_cycle = ap (λ n. n % units) (omega arith) ∙ mod-mul-add cycle units place inside
-
-  number_of_cycle : cycle_of units (cycle * units + place + 1) ≡ cycle + 1
-  number_of_cycle = ap (λ n. n / units + 1) (omega arith) ∙ ap (λ n. n + 1) (div-mul-add cycle units place inside)
-
-  phase_start : cycle ≡ 0 → place ≡ 0 → phase_of units (cycle * units + place + 1) ≡ phase.Start
-  phase_start no_cycle no_place = let one : cycle * units + place + 1 ≡ 1 = rw (no_cycle, no_place) (omega arith) in rw one refl
-
-  turn_not_one : 0 < cycle * units + place → ((cycle * units + place + 1) == 1) ≡ false
-  turn_not_one later = elim (eqb_tells (cycle * units + place + 1) 1) [ inl h ↦ absurd (omega arith) | inr h ↦ h.0 ]
-
-  two_le : 0 < cycle * units + place → nat_le 2 (cycle * units + place + 1) ≡ true
-  two_le later = elim (leb_tells 2 (cycle * units + place + 1)) [ inl h ↦ h.0 | inr h ↦ absurd (omega arith) ]
-
-  phase_later : 0 < cycle * units + place → phase_of units (cycle * units + place + 1) ≡ (if place == 0 then phase.Edge else phase.Within)
-  phase_later later =
-      ap (λ b. if b then phase.Start else if is_edge units (cycle * units + place + 1) then phase.Edge else phase.Within) (turn_not_one later)
-      ∙ (ap (λ b. if b && ((cycle * units + place + 1 - 1) % units == 0) then phase.Edge else phase.Within) (two_le later)
-      ∙ ap (λ n. if n == 0 then phase.Edge else phase.Within) within_cycle)
-
-  pub phase_here : (is_first : Bool) → is_first ≡ (cycle == 0) → phase_of units (cycle * units + place + 1) ≡ phase_at is_first place
-  phase_here is_first first = elim (eqb_tells place 0) [
-    | inl no_place ↦ elim (eqb_tells cycle 0) [
-      | inl no_cycle ↦ phase_start no_cycle.1 no_place.1
-          ∙ (sym (ap (λ b. if b then phase.Start else phase.Edge) (first ∙ no_cycle.0)) ∙ sym (ap (λ b. if b then (if is_first then phase.Start else phase.Edge) else phase.Within) no_place.0))
-      | inr some_cycle ↦ phase_later (let product = mul-le-mul_left units (positive cycle some_cycle.1) in omega (arith, product))
-          ∙ (ap (λ b. if b then phase.Edge else phase.Within) no_place.0
-          ∙ (sym (ap (λ b. if b then phase.Start else phase.Edge) (first ∙ some_cycle.0)) ∙ sym (ap (λ b. if b then (if is_first then phase.Start else phase.Edge) else phase.Within) no_place.0)))
-    ]
-    | inr some_place ↦ phase_later (let more = positive place some_place.1 in omega arith)
-        ∙ (ap (λ b. if b then phase.Edge else phase.Within) some_place.0 ∙ sym (ap (λ b. if b then (if is_first then phase.Start else phase.Edge) else phase.Within) some_place.0))
-  ] where
-    positive : (n : ℕ) → n ≢ 0 → 1 ≤ n
-    positive n some = omega arith
-
-module _ (net : Netlist) (timing : Timing) (stimulus : Stimulus) (order : List ℕ) (is_order : IsOrder net timing order) where
-  -- one turn of a cycle
-  pub turn_stands : (is_first : Bool) (cycle place : ℕ) (values : List V4) (at : Phase) (old new : State) → is_first ≡ (cycle == 0) → cycle < cycle_count stimulus
-      → get_or (cycle_rows stimulus) cycle [] ≡ values → place < timing.units → at ≡ phase_at is_first place → StepsBy net timing at values old new
-      → StandsAt net timing stimulus (cycle * timing.units + place) old → StandsAt net timing stimulus (cycle * timing.units + (place + 1)) new
-  turn_stands is_first cycle place values at old new first within row inside is_at steps stands =
-      let phase_is : at ≡ phase_of timing.units (cycle * timing.units + place + 1) = is_at ∙ sym (phase_here timing.units cycle place inside is_first first) in
-      let by_turn = subst (λ p. StepsBy net timing p values old new) phase_is steps in
-      let given : (s : ℕ) → value_at values s ≡ input_at timing stimulus (cycle * timing.units + place + 1) s = λ s.
-      let number : cycle ≡ cycle_of timing.units (cycle * timing.units + place + 1) - 1 = omega (arith, number_of_cycle timing.units cycle place inside) in
-      ap (λ r. value_at r s) (sym row) ∙ ap (λ n. value_at (get_or (cycle_rows stimulus) n []) s) number in
-      let right = right_step net timing stimulus (cycle * timing.units + place + 1) values old new given by_turn in
-      let enough : cycle + 1 ≤ cycle_count stimulus = omega arith in
-      let product = mul-le-mul_left timing.units enough in
-      let short : (cycle * timing.units + place) + 1 ≤ turn_count timing stimulus = omega (arith, product) in
+-- steps from where each simulation stands
+module _ (net lane : Netlist) (timing : Timing) (stimulus : Stimulus) (stuck : ℕ → Option V4) (order : List ℕ) (is_order : IsOrder lane timing order)
+    (right : (turn : ℕ) (old new : State) → IsForcedStep net timing stimulus stuck turn old new → IsRightStep lane timing stimulus turn old new) where
+  pub passes_stand : (begun n : ℕ) (old new : State) → begun + n ≤ turn_count timing stimulus → Passes net timing stimulus stuck begun n old new → StandsAt lane timing stimulus begun old → StandsAt lane timing stimulus (begun + n) new
+  passes_stand begun zero old new short same stands = let none : begun + zero ≡ begun = omega arith in rw (none, same) stands
+  passes_stand begun (suc n) old new short passes stands =
+      let before = passes_stand begun n old passes.0 (omega (arith, short)) passes.1 stands in
+      let next : begun + suc n ≡ begun + n + 1 = omega arith in
       record {
         state_there = λ states simulation.
-            let add : cycle * timing.units + (place + 1) ≡ cycle * timing.units + place + 1 = omega arith in
-            ap (slice_get states) add ∙ next_state net timing stimulus order is_order states simulation (cycle * timing.units + place) old new short (stands.state_there states simulation) right;
+            ap (slice_get states) next
+            ∙ next_state lane timing stimulus order is_order states simulation (begun + n) passes.0 new (omega (arith, short)) (before.state_there states simulation) (right (begun + n + 1) passes.0 new passes.2);
       }
+
+  -- the turns of a cycle
+  pub cycle_passes : (cycle : ℕ) (old new : State) → cycle < cycle_count stimulus → Passes net timing stimulus stuck (cycle * timing.units) timing.units old new
+      → StandsAt lane timing stimulus (cycle * timing.units) old → StandsAt lane timing stimulus ((cycle + 1) * timing.units) new
+  cycle_passes cycle old new within passes stands =
+      let enough : cycle + 1 ≤ cycle_count stimulus = omega arith in
+      let product = mul-le-mul_left timing.units enough in
+      let whole : cycle * timing.units + timing.units ≡ (cycle + 1) * timing.units = omega arith in
+      subst (λ turn. StandsAt lane timing stimulus turn new) whole (passes_stand (cycle * timing.units) timing.units old new (omega (arith, product)) passes stands)
 
 module _ (net : Netlist) (timing : Timing) (stimulus : Stimulus) (seen : List (List V4) → ℕ → Type 0) (cycles : ℕ) (old : State) (within : cycles < cycle_count stimulus) (runs : RunsTo net timing stimulus seen true cycles old) where
   one_left : runs.left ≡ (runs.left - 1) + 1
@@ -195,28 +137,6 @@ pub row_given : (stimulus : Stimulus) (items : List StimRow) (i : ℕ) (row : St
     → (t : ℕ) → t < row.times → (n + t < cycle_count stimulus) × (get_or (cycle_rows stimulus) (n + t) [] ≡ row.values)
 row_given stimulus items i row whole within is n same t below =
     (rw same (row_within stimulus items i row whole within is t below), rw same (row_values stimulus items i row whole within is t below))
-
--- the first state
-pub initial_first : (net : Netlist) (timing : Timing) (state : SimState) → IsInitial net timing state → state_of net state ≡ first_state net timing
-initial_first net timing state initial =
-    ap (λ values. record { row = row_of net values; words = state.memories }) initial.values
-    ∙ (ap (λ row. record { row = row; words = state.memories }) (take-replicate (length net.signals) (place_count net) Undef (omega arith))
-    ∙ ap (λ words. record { row = replicate (length net.signals) Undef; words = words }) initial.memories)
-
--- it is ready for a turn
-pub first_ready : (net : Netlist) (timing : Timing) (state : SimState) (ports : List RamPort) → IsInitial net timing state → ArePorts net ports → IsReady net state ports
-first_ready net timing state ports initial fits = record {
-  places = ap length initial.values ∙ length-replicate (place_count net) Undef;
-  words = record {
-    memories = ap length initial.memories ∙ length-map net.blocks (λ memory. initial_words (length memory.address) (length memory.word) (initial_value timing.init));
-    shape = λ m memory there.
-        let read : get_or state.memories m [] ≡ initial_words (length memory.address) (length memory.word) (initial_value timing.init) =
-        ap (λ words. get_or words m []) initial.memories ∙ (get_or-map (λ memory. initial_words (length memory.address) (length memory.word) (initial_value timing.init)) net.blocks m memory [] (slice_get_within net.blocks m memory there)
-        ∙ ap (λ block. initial_words (length block.address) (length block.word) (initial_value timing.init)) (get_or_from_slice_get net.blocks m memory memory there)) in
-        rw read (first_shape (length memory.address) (length memory.word) (initial_value timing.init));
-  };
-  room = fits;
-}
 
 -- after so many cycles more no cycle was run only where these and those before are none
 pub still_first : (is_first : Bool) (begun more : ℕ) → is_first ≡ (begun == 0) → (is_first && (more == 0)) ≡ (begun + more == 0)

@@ -13,13 +13,18 @@ use Rattle.net_defs.specs.Steps.{values_of}
 use Rattle.ref_sim.specs.Observing.{HasWatched}
 use Rattle.ref_sim.specs.Runs.{AreRowsOf}
 use Rattle.ref_sim.specs.code.Runs.{printed_row, ArePrinted}
-use Rattle.ref_sim.proofs.Along.{map_same}
+use Rattle.net_ops.specs.Lanes.{lane_row}
+use Rattle.net_ops.proofs.Waits.{map_same}
+use Rattle.ref_sim.specs.code.States.{value_in}
+use Rattle.ref_sim.proofs.CycleLemmas.{same_values}
 
 -- what is printed of a row
-pub printed_is : (net : Netlist) (row : List V4) (list : List ℕ) → list ≡ net.printed → map (λ s. value_at row (0 + s)) list ≡ values_of row net.printed
+pub printed_is : (net : Netlist) (row : List V4) (list : List ℕ) → list ≡ net.printed → map (λ s. value_at (lane_row value_in 0 row) (0 + s)) list ≡ values_of row net.printed
 printed_is net row list same =
-    ap (map (λ s. value_at row (0 + s))) same
-    ∙ map_same (λ s. value_at row (0 + s)) (value_at row) net.printed (λ s held. let none : 0 + s ≡ s = omega arith in ap (value_at row) none)
+    ap (map (λ s. value_at (lane_row value_in 0 row) (0 + s))) same
+    ∙ map_same (λ s. value_at (lane_row value_in 0 row) (0 + s)) (value_at row) net.printed (λ s held.
+    let none : 0 + s ≡ s = omega arith in
+    ap (value_at (lane_row value_in 0 row)) none ∙ ap (λ r. value_at r s) (same_values row))
 
 -- a row more
 pub printed_more : (net : Netlist) (rows : List CellRow) (done : ℕ) (seen : List (List V4)) (more : ℕ) (row : List V4) (now : List CellRow)

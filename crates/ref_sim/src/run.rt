@@ -9,18 +9,17 @@ ghost use Rattle.net_defs.specs.Reference.{HasOneSimulation};
 ghost use Rattle.net_defs.specs.Loops.{IsOrder};
 ghost use Rattle.ref_sim.specs.Observing.{HasWatched};
 ghost use Rattle.ref_sim.specs.Runs.{AreRowsOf};
-ghost use Rattle.ref_sim.specs.code.States.{state_of, IsReady};
-ghost use Rattle.ref_sim.specs.code.Schedules.{IsSchedule};
-ghost use Rattle.ref_sim.specs.code.Runs.{StandsAt, RunsTo, cycles_before, phase_at};
+ghost use Rattle.net_ops.specs.Schedules.{IsSchedule};
+ghost use Rattle.net_ops.specs.States.{IsReady};
+ghost use Rattle.net_ops.specs.Tables.{table_value};
+ghost use Rattle.ref_sim.specs.code.States.{any_table, state_of};
+ghost use Rattle.ref_sim.specs.code.Runs.{StandsAt, RunsTo, cycles_before};
 
-use crate::initial::initial_state;
 use crate::observer::Observer;
-use crate::ram::{RamPort, make_ports};
-use crate::schedule::{Schedule, make_schedule};
 use crate::trace_rows::Printing;
-use crate::turn::{Phase, SimState, turn};
 use logic_four::V4;
 use net_defs::{Netlist, Rows, Stimulus, Timing};
+use net_ops::{LaneState, RamPort, Schedule, initial_state, make_ports, make_schedule};
 use seen_list::{List, Memory};
 use std::alloc::Global;
 
@@ -39,7 +38,7 @@ pub fn refer_in_order(
     ensures rows { IfOk result (AreRowsOf net.now timing.now stim.now) }
     ensures simulated { HasOneSimulation net.now timing.now stim.now }
 {
-    let schedule = make_schedule(alloc, net, timing, order.as_slice())?;
+    let schedule = make_schedule::<V4>(alloc, net, timing, order.as_slice())?;
     drop(order);
     let mut printing = Printing::new(alloc, net, stim)?;
     run_from_start(alloc, &mut printing, net, timing, stim, &schedule)?;
@@ -65,7 +64,7 @@ pub fn observe<O: Observer>(
     ensures watched { OnOk result (HasWatched net.now timing.now stim.now (O.has_seen observer.new net.now) (O.goes_on observer.new)) }
     ensures simulated { HasOneSimulation net.now timing.now stim.now }
 {
-    let schedule = make_schedule(alloc, net, timing, order)?;
+    let schedule = make_schedule::<V4>(alloc, net, timing, order)?;
     run_from_start(alloc, observer, net, timing, stim, &schedule)
 }
 
@@ -76,14 +75,14 @@ fn run_from_start<O: Observer>(
     net: &Netlist,
     timing: &Timing,
     stim: &Stimulus,
-    schedule: &Schedule,
+    schedule: &Schedule<u32>,
 ) -> Result<(), Memory>
     requires valid { IsValid net.now }
-    requires schedule { IsSchedule net.now timing.now schedule.now }
+    requires schedule { IsSchedule table_value any_table net.now timing.now schedule.now }
     requires ready { O.has_seen observer.old net.now [] (cycle_count stim.now) }
     ensures { OnOk result (HasWatched net.now timing.now stim.now (O.has_seen observer.new net.now) (O.goes_on observer.new)) }
 {
-    let mut state = initial_state(alloc, net, timing)?;
+    let mut state = initial_state::<V4>(alloc, net, timing, 1)?;
     let mut ports = make_ports(alloc, net)?;
     run(
         observer, &mut state, &mut ports, net, timing, stim, schedule,
@@ -94,16 +93,17 @@ fn run_from_start<O: Observer>(
 /// Runs all cycles, or fewer where the observer stops. It takes no memory.
 fn run<O: Observer>(
     observer: &mut O,
-    state: &mut SimState,
+    state: &mut LaneState<V4>,
     ports: &mut List<RamPort>,
     net: &Netlist,
     timing: &Timing,
     stim: &Stimulus,
-    schedule: &Schedule,
+    schedule: &Schedule<u32>,
 )
     requires valid { IsValid net.now }
-    requires schedule { IsSchedule net.now timing.now schedule.now }
-    requires ready { IsReady net.now state.old ports.old }
+    requires schedule { IsSchedule table_value any_table net.now timing.now schedule.now }
+    requires ready { IsReady 1 net.now state.old ports.old }
+    requires lane { length state.old.memories ≡ 1 }
     requires start { state_of net.now state.old ≡ first_state net.now timing.now }
     requires observer { O.has_seen observer.old net.now [] (cycle_count stim.now) }
     ensures { HasWatched net.now timing.now stim.now (O.has_seen observer.new net.now) (O.goes_on observer.new) }
@@ -123,23 +123,25 @@ fn run<O: Observer>(
 /// The cycles of one row of the stimulus, or fewer where the observer stops. It answers whether it goes on.
 fn run_row<O: Observer>(
     observer: &mut O,
-    state: &mut SimState,
+    state: &mut LaneState<V4>,
     ports: &mut List<RamPort>,
     net: &Netlist,
     timing: &Timing,
     stim: &Stimulus,
-    schedule: &Schedule,
+    schedule: &Schedule<u32>,
     r: usize,
     is_first: bool,
 ) -> bool
     requires valid { IsValid net.now }
-    requires schedule { IsSchedule net.now timing.now schedule.now }
+    requires schedule { IsSchedule table_value any_table net.now timing.now schedule.now }
     requires row { r < length stim.now.rows }
     requires first { is_first ≡ (cycles_before stim.now r == 0) }
-    requires ready { IsReady net.now state.old ports.old }
+    requires ready { IsReady 1 net.now state.old ports.old }
+    requires lane { length state.old.memories ≡ 1 }
     requires runs { RunsTo net.now timing.now stim.now (O.has_seen observer.old net.now) true
         (cycles_before stim.now r) (state_of net.now state.old) }
-    ensures ready { IsReady net.now state.new ports.new }
+    ensures ready { IsReady 1 net.now state.new ports.new }
+    ensures lane { length state.new.memories ≡ 1 }
     ensures runs { RunsTo net.now timing.now stim.now (O.has_seen observer.new net.now) result
         (cycles_before stim.now (r + 1)) (state_of net.now state.new) }
     ensures stops { result ≡ false → O.goes_on observer.new ≡ false }
@@ -155,7 +157,7 @@ fn run_row<O: Observer>(
             row.values.as_slice(),
             is_still_first(is_first, time),
         );
-        let goes_on = observer.look(net, &state.values.as_slice()[..net.signals.len()]);
+        let goes_on = observer.look(net, state.row(net));
         if !goes_on {
             return false;
         }
@@ -172,44 +174,24 @@ fn is_still_first(is_first: bool, more: u32) -> bool
 
 /// The turns of one cycle with these inputs.
 fn run_cycle(
-    state: &mut SimState,
+    state: &mut LaneState<V4>,
     ports: &mut List<RamPort>,
     net: &Netlist,
     timing: &Timing,
-    schedule: &Schedule,
+    schedule: &Schedule<u32>,
     inputs: &[V4],
     is_first: bool,
 )
     requires valid { IsValid net.now }
-    requires schedule { IsSchedule net.now timing.now schedule.now }
-    requires ready { IsReady net.now state.old ports.old }
-    ensures ready { IsReady net.now state.new ports.new }
+    requires schedule { IsSchedule table_value any_table net.now timing.now schedule.now }
+    requires ready { IsReady 1 net.now state.old ports.old }
+    requires lane { length state.old.memories ≡ 1 }
+    ensures ready { IsReady 1 net.now state.new ports.new }
+    ensures lane { length state.new.memories ≡ 1 }
     ensures stands { (stimulus : Stimulus) (cycle : ℕ) → is_first ≡ (cycle == 0) → cycle < cycle_count stimulus
         → slice_index_or (cycle_rows stimulus) cycle [] ≡ inputs.now
         → StandsAt net.now timing.now stimulus (cycle * timing.now.units) (state_of net.now state.old)
         → StandsAt net.now timing.now stimulus ((cycle + 1) * timing.now.units) (state_of net.now state.new) }
 {
-    for place in 0..timing.units {
-        turn(
-            state,
-            ports,
-            net,
-            timing,
-            schedule,
-            phase_at(is_first, place),
-            inputs,
-        );
-    }
-}
-
-fn phase_at(is_first: bool, place: u32) -> Phase
-    ensures { result ≡ phase_at is_first place }
-{
-    if place != 0 {
-        Phase::Within
-    } else if is_first {
-        Phase::Start
-    } else {
-        Phase::Edge
-    }
+    net_ops::run_cycle::<V4>(state, ports, net, timing, schedule, &(), inputs, is_first);
 }

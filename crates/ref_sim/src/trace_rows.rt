@@ -5,11 +5,10 @@ ghost use Rattle.net_defs.specs.Time.{cycle_count};
 ghost use Rattle.net_defs.specs.Valid.{IsSignal};
 ghost use Rattle.ref_sim.specs.code.Runs.{printed_row, AreWide, ArePrinted, HasRows};
 
-use crate::initial::undefined;
 use crate::observer::Observer;
-use crate::values::gather;
 use logic_four::V4;
 use net_defs::{CellRow, Netlist, Stimulus};
+use net_ops::gather;
 use seen_list::{List, Memory};
 use std::alloc::Global;
 
@@ -74,7 +73,7 @@ fn undefined_row(alloc: Global, net: &Netlist) -> Result<CellRow, Memory>
     ensures { IfOk result (λ row. length row.cells ≡ length net.now.printed) }
 {
     Ok(CellRow {
-        cells: undefined(alloc, net.printed.len())?,
+        cells: List::filled(alloc, V4::Undef, net.printed.len())?,
     })
 }
 
@@ -85,5 +84,11 @@ fn print_row(row: &mut CellRow, net: &Netlist, values: &[V4])
     requires long { length values.now ≡ length net.now.signals }
     ensures { row.new ≡ printed_row net.now values.now }
 {
-    gather(row.cells.as_mut_slice(), values, 0, net.printed.as_slice());
+    gather(
+        row.cells.as_mut_slice(),
+        values,
+        0,
+        net.printed.as_slice(),
+        0,
+    );
 }

@@ -1,5 +1,5 @@
 -- Beside specs/Runs.antt, what only private functions and proofs cite.
-use Rattle.std.specs.Prelude.{◌≡◌, ℕ, ◌+◌, ◌*◌, ◌==◌, Bool, true, if◌then◌else◌, List, [], ◌∷◌, ◌++◌, length, map, take, replicate, Some, slice_get, All}
+use Rattle.std.specs.Prelude.{◌≡◌, ℕ, ◌+◌, ◌*◌, Bool, true, List, [], ◌∷◌, ◌++◌, length, map, take, replicate, Some, slice_get, All}
 use Rattle.std.specs.List.{flat_map}
 use Rattle.logic_four.specs.declared.V4.{V4}
 use Rattle.net_defs.specs.declared.netlist.Netlist.{Netlist}
@@ -10,8 +10,6 @@ use Rattle.net_defs.specs.Steps.{State, values_of}
 use Rattle.net_defs.specs.Reference.{IsSimulation}
 use Rattle.net_defs.specs.Time.{cycle_count}
 use Rattle.ref_sim.specs.Observing.{AreEndRows}
-use Rattle.ref_sim.specs.declared.turn.Phase.{Phase}
-use Rattle.ref_sim.specs.declared.turn.Phase.TheVariants as phase
 
 -- each simulation is in this state at this turn
 pub record StandsAt (net : Netlist) (timing : Timing) (stimulus : Stimulus) (turn : ℕ) (state : State) : Type 0 where
@@ -39,10 +37,6 @@ IsReadyToLook has_seen = (seen : List (List V4)) × (more : ℕ) × has_seen see
 -- and that has looked at it
 abbrev pub HasLooked : (old new : List (List V4) → ℕ → Type 0) → List V4 → Type 0
 HasLooked old new row = (seen : List (List V4)) (more : ℕ) → old seen (more + 1) → new (seen ++ row ∷ []) more
-
--- the phase of a turn by its place in its cycle
-abbrev pub phase_at : Bool → ℕ → Phase
-phase_at is_first place = if place == 0 then (if is_first then phase.Start else phase.Edge) else phase.Within
 
 -- the printed values of a row of signals
 abbrev pub printed_row : Netlist → List V4 → CellRow

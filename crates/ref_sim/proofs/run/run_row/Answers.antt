@@ -12,7 +12,7 @@ returns-then-not-goes_on-clause-runs g c =
     let is = c.index-as_slice-r.is ∙ ap (λ rows. get_or rows c.args.r c.index-as_slice-r.result) c.as_slice.ensures in
     let within = cycle_within c.args.net.now c.args.timing.now c.args.stim.now c.args.r c.times.time _ c.requires.row is c.times-test.true in
     let stands = cycle_stands c.args.net.now c.args.timing.now c.args.stim.now c.args.r c.times.time _ c.requires.row is c.times-test.true _ _ _ _ _ c.requires.first c.is_still_first.ensures c.as_slice-in-times.ensures c.run_cycle.ensures.stands in
-    cycle_more c.args.net.now c.args.timing.now c.args.stim.now _ _ _ within c.times.invariant.runs _ false _ _ _ (λ on. cc) (ap₂ take c.len.ensures c.as_slice-in-times-2.ensures) c.look-goes_on.ensures.seen stands
+    cycle_more c.args.net.now c.args.timing.now c.args.stim.now _ _ _ within c.times.invariant.runs _ false _ _ _ (λ on. cc) c.row.ensures c.look-goes_on.ensures.seen stands
 
 pub times-preserved : goal.times-preserved
 times-preserved g c =
@@ -21,5 +21,6 @@ times-preserved g c =
     let stands = cycle_stands c.args.net.now c.args.timing.now c.args.stim.now c.args.r c.times.time _ c.requires.row is c.times-test.true _ _ _ _ _ c.requires.first c.is_still_first.ensures c.as_slice-in-times.ensures c.run_cycle.ensures.stands in
     record {
       ready = c.run_cycle.ensures.ready;
-      runs = cycle_more c.args.net.now c.args.timing.now c.args.stim.now _ _ _ within c.times.invariant.runs _ true _ _ _ (λ on. omega arith) (ap₂ take c.len.ensures c.as_slice-in-times-2.ensures) c.look-goes_on.ensures.seen stands;
+      lane = c.run_cycle.ensures.lane;
+      runs = cycle_more c.args.net.now c.args.timing.now c.args.stim.now _ _ _ within c.times.invariant.runs _ true _ _ _ (λ on. omega arith) c.row.ensures c.look-goes_on.ensures.seen stands;
     }
