@@ -11,7 +11,7 @@ use crate::planes::Wide;
 
 /// The planes with each lane settled.
 #[inline]
-pub(crate) fn settle(p: Wide) -> Wide
+pub fn settle_planes(p: Wide) -> Wide
     ensures { (k : ℕ) → k < WIDE_LANES → lane_of result k ≡ settled (lane_of p k) }
 {
     Wide {

@@ -4,7 +4,7 @@ use Rattle.logic_four.specs.Values.{settled}
 use Rattle.lane_planes.proofs.LaneLemmas.{bits}
 use Rattle.wide_planes.specs.Lanes.{lane_of}
 use Rattle.wide_planes.proofs.LaneLemmas.{in_lane}
-use Rattle.wide_planes.proofs.pairs.settle.Goals as goal
+use Rattle.wide_planes.proofs.pairs.settle_planes.Goals as goal
 
 pub returns : goal.returns
 unfolding lane_of
