@@ -6,8 +6,9 @@ use Rattle.list_laws.proofs.Ranges.{last_or}
 use Rattle.list_laws.proofs.Differ.{differ_at}
 use Rattle.logic_four.specs.declared.V4.{V4}
 use Rattle.logic_four.specs.declared.V4.TheVariants.{Undef}
-use Rattle.lane_planes.specs.declared.planes.Planes.{Planes}
-use Rattle.lane_planes.specs.Lanes.{lane_of, lane_row, forced_value}
+use Rattle.wide_planes.specs.declared.planes.Wide.{Wide}
+use Rattle.lane_planes.specs.Lanes.{forced_value}
+use Rattle.wide_planes.specs.Lanes.{lane_of, lane_row}
 use Rattle.net_defs.specs.declared.netlist.Netlist.{Netlist}
 use Rattle.net_defs.specs.declared.netlist.Signal.{Signal}
 use Rattle.net_defs.specs.declared.timing.Timing.{Timing}
@@ -16,11 +17,11 @@ use Rattle.ref_sim.proofs.Rows.{put_value}
 use Rattle.fault_sim.specs.code.Turns.{base_value, AreBases}
 
 -- the value of a lane in a place of a row
-pub lane_at : (row : List Planes) (s k : ℕ) (p : Planes) → p ≡ get_or row s p → s < length row → lane_of p k ≡ value_at (lane_row k row) s
+pub lane_at : (row : List Wide) (s k : ℕ) (p : Wide) → p ≡ get_or row s p → s < length row → lane_of p k ≡ value_at (lane_row k row) s
 lane_at row s k p is within = ap (λ p. lane_of p k) is ∙ sym (get_or-map (λ p. lane_of p k) row s p Undef within)
 
 -- rows of planes are as long as each other where they are so in a lane
-pub same_long : (row new : List Planes) → length (lane_row 0 new) ≡ length (lane_row 0 row) → length new ≡ length row
+pub same_long : (row new : List Wide) → length (lane_row 0 new) ≡ length (lane_row 0 row) → length new ≡ length row
 same_long row new same = sym (length-map new (λ p. lane_of p 0)) ∙ (same ∙ length-map row (λ p. lane_of p 0))
 
 -- nothing was given yet

@@ -5,15 +5,15 @@ use Rattle.std.proofs.Math.Seq.{map-set_same}
 use Rattle.std.proofs.lemmas.Option.{slice_get_within, slice_get-get_or, get_or_from_slice_get}
 use Rattle.std.proofs.lemmas.List.{length-map, map-set, get_or_default, get_or-set_same, get_or-set_other}
 use Rattle.std.proofs.lemmas.List.Elements.{All-append, All-cons}
-use Rattle.limits.specs.declared.TheConstants.{LANES}
+use Rattle.wide_planes.specs.declared.TheConstants.{WIDE_LANES}
 use Rattle.list_laws.proofs.Maps.{flat_map_at}
 use Rattle.list_laws.proofs.Members.{each, all_front, all_back, all_flat_of}
 use Rattle.list_laws.proofs.Ranges.{last_or}
 use Rattle.logic_four.specs.declared.V4.{V4}
 use Rattle.logic_four.specs.Memory.{memory_act, MemoryAct}
 use Rattle.logic_four.proofs.MemoryLemmas.{shape}
-use Rattle.lane_planes.specs.declared.planes.Planes.{Planes}
-use Rattle.lane_planes.specs.Lanes.{lane_of, lane_row}
+use Rattle.wide_planes.specs.declared.planes.Wide.{Wide}
+use Rattle.wide_planes.specs.Lanes.{lane_of, lane_row}
 use Rattle.net_defs.specs.declared.netlist.Netlist.{Netlist}
 use Rattle.net_defs.specs.declared.netlist.Signal.{Signal}
 use Rattle.net_defs.specs.declared.netlist.Block.{Block}
@@ -36,11 +36,11 @@ copy_more count i list values last v so_far room is k below = elim (put_value va
 ]
 
 -- a signal more was put into lane l
-module _ (now : List Planes) (s l : ℕ) (p q : Planes) (read : p ≡ get_or now s p) (others : (k : ℕ) → k < LANES → k ≢ l → lane_of q k ≡ lane_of p k) where
-  pub put_others : (k : ℕ) → k < LANES → k ≢ l → lane_row k (set now s q) ≡ lane_row k now
+module _ (now : List Wide) (s l : ℕ) (p q : Wide) (read : p ≡ get_or now s p) (others : (k : ℕ) → k < WIDE_LANES → k ≢ l → lane_of q k ≡ lane_of p k) where
+  pub put_others : (k : ℕ) → k < WIDE_LANES → k ≢ l → lane_row k (set now s q) ≡ lane_row k now
   put_others k low other = map-set_same (λ p. lane_of p k) now s q p (others k low other ∙ ap (λ p. lane_of p k) read)
 
-pub put_more : (now : List Planes) (i l : ℕ) (list : List ℕ) (q : Planes) (values : List V4)
+pub put_more : (now : List Wide) (i l : ℕ) (list : List ℕ) (q : Wide) (values : List V4)
     → ((k : ℕ) → k < i → value_at (lane_row l now) (get_or list k 0) ≡ value_at values (get_or list k 0)) → get_or list i 0 < length now → lane_of q l ≡ value_at values (get_or list i 0)
     → (k : ℕ) → k < i + 1 → value_at (lane_row l (set now (get_or list i 0) q)) (get_or list k 0) ≡ value_at values (get_or list k 0)
 put_more now i l list q values so_far room is k below =
@@ -151,8 +151,8 @@ shaped_after net old row memories shaped answered = record {
 }
 
 -- a lane more
-pub lanes_more : (net : Netlist) (last now new : List Planes) (start memories : List (List (List (List V4)))) (l : ℕ) (words : List (List (List V4))) → l < length memories → l < LANES
-    → ((k : ℕ) → k < LANES → k ≢ l → lane_row k new ≡ lane_row k now)
+pub lanes_more : (net : Netlist) (last now new : List Wide) (start memories : List (List (List (List V4)))) (l : ℕ) (words : List (List (List V4))) → l < length memories → l < WIDE_LANES
+    → ((k : ℕ) → k < WIDE_LANES → k ≢ l → lane_row k new ≡ lane_row k now)
     → ((k : ℕ) → k < l → HasAnswered net (record { row = lane_row k last; words = slice_index_or start k [] }) (lane_row k now) (slice_index_or memories k []))
     → HasAnswered net (record { row = lane_row l last; words = slice_index_or start l [] }) (lane_row l new) words
     → (k : ℕ) → k < l + 1 → HasAnswered net (record { row = lane_row k last; words = slice_index_or start k [] }) (lane_row k new) (slice_index_or (set memories l words) k [])

@@ -5,11 +5,11 @@ use Rattle.std.proofs.Math.Seq.{map-set_same}
 use Rattle.std.proofs.lemmas.Bool.Decides.{eqb_tells}
 use Rattle.std.proofs.lemmas.Option.{slice_get-get_or}
 use Rattle.std.proofs.lemmas.List.{length-map, length_push, map-set, map-append}
-use Rattle.limits.specs.declared.TheConstants.{LANES}
+use Rattle.wide_planes.specs.declared.TheConstants.{WIDE_LANES}
 use Rattle.logic_four.specs.declared.V4.{V4}
 use Rattle.logic_four.specs.declared.V4.TheVariants.{Undef}
-use Rattle.lane_planes.specs.declared.planes.Planes.{Planes}
-use Rattle.lane_planes.specs.Lanes.{lane_of, lane_row}
+use Rattle.wide_planes.specs.declared.planes.Wide.{Wide}
+use Rattle.wide_planes.specs.Lanes.{lane_of, lane_row}
 use Rattle.net_defs.specs.Time.{value_at}
 use Rattle.ref_sim.proofs.Rows.{put_value}
 use Rattle.net_defs.specs.declared.faults.Fault.{Fault}
@@ -25,7 +25,7 @@ undefined_push (w ∷ row) v all is (suc s) = undefined_push row v (λ t. all (s
 pub free_none : AreFree 0 []
 free_none = record { signals = refl; each = λ l low s. refl }
 
-pub free_more : (n : ℕ) (forces : List Planes) (p : Planes) → AreFree n forces → ((l : ℕ) → l < LANES → lane_of p l ≡ Undef) → AreFree (n + 1) (forces ++ p ∷ [])
+pub free_more : (n : ℕ) (forces : List Wide) (p : Wide) → AreFree n forces → ((l : ℕ) → l < WIDE_LANES → lane_of p l ≡ Undef) → AreFree (n + 1) (forces ++ p ∷ [])
 free_more n forces p free is = record {
   signals = length_push forces p ∙ ap (λ n. n + 1) free.signals;
   each = λ l low s.
@@ -34,14 +34,14 @@ free_more n forces p free is = record {
 }
 
 -- a fault more: lane k + 1 gets it
-module _ (faults : List Fault) (k : ℕ) (fault : Fault) (forces : List Planes) (p q : Planes) (is : fault ≡ get_or faults k fault) (within : k < length faults) (few : k + 1 < LANES) (room : fault.signal < length forces) (read : p ≡ get_or forces fault.signal p)
-    (here : lane_of q (k + 1) ≡ fault.value) (others : (j : ℕ) → j < LANES → j ≢ k + 1 → lane_of q j ≡ lane_of p j)
+module _ (faults : List Fault) (k : ℕ) (fault : Fault) (forces : List Wide) (p q : Wide) (is : fault ≡ get_or faults k fault) (within : k < length faults) (few : k + 1 < WIDE_LANES) (room : fault.signal < length forces) (read : p ≡ get_or forces fault.signal p)
+    (here : lane_of q (k + 1) ≡ fault.value) (others : (j : ℕ) → j < WIDE_LANES → j ≢ k + 1 → lane_of q j ≡ lane_of p j)
     (each : (j : ℕ) → j ≤ k → (s : ℕ) → value_at (lane_row j forces) s ≡ force_at faults j s)
-    (left : (j : ℕ) → k < j → j < LANES → (s : ℕ) → value_at (lane_row j forces) s ≡ Undef) where
+    (left : (j : ℕ) → k < j → j < WIDE_LANES → (s : ℕ) → value_at (lane_row j forces) s ≡ Undef) where
   found : slice_get faults k ≡ Some fault
   found = slice_get-get_or faults k fault within ∙ ap Some (sym is)
 
-  same_lane : (j : ℕ) → j < LANES → j ≢ k + 1 → lane_row j (set forces fault.signal q) ≡ lane_row j forces
+  same_lane : (j : ℕ) → j < WIDE_LANES → j ≢ k + 1 → lane_row j (set forces fault.signal q) ≡ lane_row j forces
   same_lane j low other = map-set_same (λ p. lane_of p j) forces fault.signal q p (others j low other ∙ ap (λ p. lane_of p j) read)
 
   at_fault : (s : ℕ) → force_at faults (suc k) s ≡ (if s == fault.signal then fault.value else Undef)
@@ -69,5 +69,5 @@ module _ (faults : List Fault) (k : ℕ) (fault : Fault) (forces : List Planes) 
     | inr h ↦ ap (λ row. value_at row s) (same_lane j (omega (arith, low, few)) h.1) ∙ each j (omega (arith, low, h.1)) s
   ]
 
-  pub left_more : (j : ℕ) → k + 1 < j → j < LANES → (s : ℕ) → value_at (lane_row j (set forces fault.signal q)) s ≡ Undef
+  pub left_more : (j : ℕ) → k + 1 < j → j < WIDE_LANES → (s : ℕ) → value_at (lane_row j (set forces fault.signal q)) s ≡ Undef
   left_more j above low s = ap (λ row. value_at row s) (same_lane j low (omega (arith, above))) ∙ left j (omega (arith, above)) low s

@@ -8,7 +8,7 @@ use Rattle.std.proofs.lemmas.Option.{slice_get_within, slice_get-get_or, get_or_
 use Rattle.std.proofs.lemmas.List.{get_or-replicate, length-replicate}
 use Rattle.list_laws.proofs.Members.{each}
 use Rattle.ref_sim.proofs.Simulations.{one_along}
-use Rattle.lane_planes.specs.Lanes.{lane_row}
+use Rattle.wide_planes.specs.Lanes.{lane_row}
 use Rattle.logic_four.specs.declared.V4.{V4}
 use Rattle.net_defs.specs.declared.netlist.Netlist.{Netlist}
 use Rattle.net_defs.specs.declared.timing.Timing.{Timing}

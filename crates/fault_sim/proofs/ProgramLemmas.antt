@@ -12,18 +12,17 @@ use Rattle.logic_four.specs.declared.Kind.TheVariants.{And, Nand, Or, Nor, Xor, 
 use Rattle.logic_four.specs.Gates.{gate_value}
 use Rattle.logic_four.specs.Kinds.{AllowsOperands}
 use Rattle.logic_four.specs.Folds.{takes_many, base_kind}
-use Rattle.lane_planes.specs.declared.planes.Planes.{Planes}
-use Rattle.lane_planes.specs.Lanes.{lane_of, lane_row, forced_value}
+use Rattle.wide_planes.specs.declared.planes.Wide.{Wide}
+use Rattle.lane_planes.specs.Lanes.{forced_value}
+use Rattle.wide_planes.specs.Lanes.{lane_of, lane_row}
 use Rattle.net_defs.specs.declared.netlist.Netlist.{Netlist}
 use Rattle.net_defs.specs.declared.timing.Timing.{Timing}
 use Rattle.net_defs.specs.Time.{value_at}
 use Rattle.ref_sim.proofs.OpLemmas.{All-one, join_more, base_many, base_twice}
 use Rattle.fault_sim.specs.declared.program.PairOp.{PairOp}
 use Rattle.fault_sim.specs.code.Turns.{settle_forced}
-use Rattle.lane_planes.specs.Formula.{pair_value, pair_form}
 use Rattle.fault_sim.specs.code.Programs.{put_forced, do_forced, follow_forced, pair_op, twice_kind, IsWithin, IsProgram, Adds}
 use Rattle.fault_sim.proofs.BaseLemmas.{lane_at}
-use Rattle.lane_planes.proofs.FormulaLemmas.{form_answers}
 
 -- what is forced may be forced before
 forced_twice : (f : V4 → V4) (v w : V4) → forced_value (f (forced_value v w)) w ≡ forced_value (f v) w
@@ -51,7 +50,7 @@ pair_does signals g a b kind old new within a_within b_within grown = record {
   ops = pair_op kind g a b ∷ [];
   grown = grown;
   within = All-one (IsWithin signals) (pair_op kind g a b) (record { gate = within; a = a_within; b = b_within });
-  does = λ forces row long. ap (λ v. put_forced g v forces row) (form_answers kind (value_at row a) (value_at row b));
+  does = λ forces row long. refl;
 }
 
 -- one operation more, which takes what the place has
@@ -71,10 +70,9 @@ chain_does signals g b kind f old mid new within b_within other first grown =
           let there : value_at (set row g v) b ≡ value_at row b = get_or-set_other row g b v Undef other in
           fold_push (do_forced forces) row first.ops op
           ∙ (ap (λ row. do_forced forces row op) (first.does forces row long)
-          ∙ (set-set row g v (forced_value (pair_value (pair_form kind) (value_at (set row g v) g) (value_at (set row g v) b)) force)
+          ∙ (set-set row g v (forced_value (gate_value kind (value_at (set row g v) g ∷ value_at (set row g v) b ∷ [])) force)
           ∙ ap (set row g)
-          (ap (λ x. forced_value x force) (form_answers kind (value_at (set row g v) g) (value_at (set row g v) b))
-          ∙ (ap₂ (λ x y. forced_value (gate_value kind (x ∷ y ∷ [])) force) here there ∙ forced_twice (λ x. gate_value kind (x ∷ value_at row b ∷ [])) (f row) force))));
+          (ap₂ (λ x y. forced_value (gate_value kind (x ∷ y ∷ [])) force) here there ∙ forced_twice (λ x. gate_value kind (x ∷ value_at row b ∷ [])) (f row) force)));
     }
 
 -- one operand more of a wide gate, whose first operands are joined in its place
@@ -174,7 +172,7 @@ follow_length : (forces : List V4) (ops : List PairOp) (row : List V4) → lengt
 follow_length forces [] row = refl
 follow_length forces (op ∷ ops) row =
     follow_length forces ops (do_forced forces row op)
-    ∙ length-set row op.gate (forced_value (pair_value op.form (value_at row op.a) (value_at row op.b)) (value_at forces op.gate))
+    ∙ length-set row op.gate (forced_value (gate_value op.kind (value_at row op.a ∷ value_at row op.b ∷ [])) (value_at forces op.gate))
 
 -- a gate more
 pub program_more : (net : Netlist) (timing : Timing) (order : List ℕ) (i g : ℕ) (old new : List PairOp) → i < length order → g ≡ get_or order i 0 → IsProgram net timing (take i order) old
@@ -192,16 +190,16 @@ program_more net timing order i g old new within at so_far adds = record {
 -- ---- the operations in all lanes
 
 -- one operation in one lane
-pub op_done : (k : ℕ) (op : PairOp) (now forces new : List Planes) (p q answer force result : Planes)
+pub op_done : (k : ℕ) (op : PairOp) (now forces new : List Wide) (p q answer force result : Wide)
     → IsWithin (length now) op → length forces ≡ length now → p ≡ get_or now op.a p → q ≡ get_or now op.b q → force ≡ get_or forces op.gate force
-    → lane_of answer k ≡ pair_value op.form (lane_of p k) (lane_of q k) → lane_of result k ≡ forced_value (lane_of answer k) (lane_of force k) → new ≡ set now op.gate result
+    → lane_of answer k ≡ gate_value op.kind (lane_of p k ∷ lane_of q k ∷ []) → lane_of result k ≡ forced_value (lane_of answer k) (lane_of force k) → new ≡ set now op.gate result
     → lane_row k new ≡ do_forced (lane_row k forces) (lane_row k now) op
 op_done k op now forces new p q answer force result within long p_is q_is force_is answered forced changed =
     ap (lane_row k) changed
     ∙ (map-set (λ p. lane_of p k) now op.gate result
     ∙ ap (set (lane_row k now) op.gate)
     (forced
-    ∙ ap₂ forced_value (answered ∙ ap₂ (pair_value op.form) (lane_at now op.a k p p_is within.a) (lane_at now op.b k q q_is within.b))
+    ∙ ap₂ forced_value (answered ∙ ap₂ (λ v w. gate_value op.kind (v ∷ w ∷ [])) (lane_at now op.a k p p_is within.a) (lane_at now op.b k q q_is within.b))
     (lane_at forces op.gate k force force_is (omega (arith, within.gate, long)))))
 
 -- one more of them

@@ -7,8 +7,8 @@ use Rattle.logic_four.specs.declared.V4.{V4}
 use Rattle.logic_four.specs.declared.V4.TheVariants.{Undef}
 use Rattle.logic_four.specs.Memory.{initial_words}
 use Rattle.logic_four.proofs.MemoryLemmas.{first_shape}
-use Rattle.lane_planes.specs.declared.planes.Planes.{Planes}
-use Rattle.lane_planes.specs.Lanes.{lane_of, lane_row}
+use Rattle.wide_planes.specs.declared.planes.Wide.{Wide}
+use Rattle.wide_planes.specs.Lanes.{lane_of, lane_row}
 use Rattle.net_defs.specs.declared.netlist.Netlist.{Netlist}
 use Rattle.net_defs.specs.declared.timing.Timing.{Timing}
 use Rattle.net_defs.specs.declared.stimulus.Stimulus.{Stimulus}
@@ -21,7 +21,7 @@ use Rattle.fault_sim.specs.code.Lanes.{lane_net, lane_state}
 use Rattle.fault_sim.specs.code.Runs.{StandsInLanes}
 use Rattle.fault_sim.proofs.Stuck.{stuck_signal}
 
-pub undefined_row : (x : Planes) (n l : ℕ) → lane_of x l ≡ Undef → lane_row l (replicate n x) ≡ replicate n Undef
+pub undefined_row : (x : Wide) (n l : ℕ) → lane_of x l ≡ Undef → lane_row l (replicate n x) ≡ replicate n Undef
 undefined_row x n l is =
     let long = length-replicate n x in
     let one = length-map (replicate n x) (λ p. lane_of p l) in

@@ -7,8 +7,8 @@ use Rattle.list_laws.proofs.Members.{each}
 use Rattle.list_laws.proofs.Places.{within_some}
 use Rattle.logic_four.specs.declared.V4.{V4}
 use Rattle.logic_four.specs.declared.V4.TheVariants.{Undef}
-use Rattle.lane_planes.specs.declared.planes.Planes.{Planes}
-use Rattle.lane_planes.specs.Lanes.{lane_row}
+use Rattle.wide_planes.specs.declared.planes.Wide.{Wide}
+use Rattle.wide_planes.specs.Lanes.{lane_row}
 use Rattle.net_defs.specs.declared.netlist.Netlist.{Netlist}
 use Rattle.net_defs.specs.declared.netlist.Signal.{Signal}
 use Rattle.net_defs.specs.declared.netlist.Block.{Block}
@@ -47,7 +47,7 @@ module _ (faults : List Fault) (k : ℕ) (fault : Fault) (found : slice_get faul
 
 -- a lane after a turn
 pub lane_step : (net : Netlist) (timing : Timing) (stimulus : Stimulus) (turn : ℕ) (inputs : List V4) (given : HasInputs timing stimulus turn inputs) (old new : State)
-    (order : List ℕ) (is_order : IsOrder net timing order) (faults : List Fault) (are : All (IsFault net) faults) (forces : List Planes) (are_forces : AreForces net faults forces) (l : ℕ) (low : l ≤ length faults)
+    (order : List ℕ) (is_order : IsOrder net timing order) (faults : List Fault) (are : All (IsFault net) faults) (forces : List Wide) (are_forces : AreForces net faults forces) (l : ℕ) (low : l ≤ length faults)
     (here base : List V4) (long : length here ≡ length net.signals)
     (sources : List ℕ) (are_sources : AreSources net timing (length net.signals) sources)
     (bases : AreBases net timing turn inputs old.row here (lane_row l forces) sources (length sources) base) (row_is : new.row ≡ forced_along net timing (lane_row l forces) order base)

@@ -12,15 +12,15 @@ ghost use Rattle.fault_sim.specs.code.Groups.{group_faults, IsGroup, AreGroups, 
 use crate::group::scheduled_group;
 use crate::schedule::{Schedule, make_schedule};
 use crate::{Fault, Verdict};
-use limits::LANES;
 use logic_four::V4;
 use net_defs::{Netlist, Ranks, Stimulus, Timing};
 use seen_list::{List, Memory};
 use std::alloc::Global;
 use std::thread::{self, Threads};
+use wide_planes::WIDE_LANES;
 
 /// The faults of a group. Each takes a lane beside that of the good design.
-const FAULTS: usize = LANES - 1;
+const FAULTS: usize = WIDE_LANES as usize - 1;
 
 /// Faults that run side by side, and the verdicts on them once they are made.
 #[derive(Drop)]

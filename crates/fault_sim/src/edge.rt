@@ -1,10 +1,10 @@
 //! The memories of each lane at an edge, lane by lane.
 
 ghost use Rattle.std.specs.Prelude.{◌≡◌, ◌≢◌, ◌+◌, ◌++◌, ◌<◌, ◌≤◌, ℕ, [], length, slice_index, slice_index_or, All, IfOk, OnOk, replicate};
-ghost use Rattle.limits.specs.declared.TheConstants.{LANES};
+ghost use Rattle.wide_planes.specs.declared.TheConstants.{WIDE_LANES};
 ghost use Rattle.net_defs.specs.Time.{value_at};
 ghost use Rattle.net_defs.specs.Valid.{IsValid};
-ghost use Rattle.lane_planes.specs.Lanes.{lane_row};
+ghost use Rattle.wide_planes.specs.Lanes.{lane_row};
 ghost use Rattle.ref_sim.specs.Sequences.{place_count};
 ghost use Rattle.ref_sim.specs.States.{AreShaped, last_row};
 ghost use Rattle.ref_sim.specs.code.States.{row_of};
@@ -12,12 +12,12 @@ ghost use Rattle.fault_sim.specs.code.Turns.{reads_of, memory_reads, memory_outs
 
 use crate::Fault;
 use array_cells::Cells;
-use lane_planes::{Planes, lane, with_lane};
 use logic_four::V4;
 use net_defs::{Block, Netlist};
 use ref_sim::{RamPort, edge_memories, make_ports};
 use seen_list::{List, Memory};
 use std::alloc::Global;
+use wide_planes::{Wide, lane, with_lane};
 
 /// Room for what the memories of one lane take at an edge: the lane's values as single ones, and the
 /// ports of the memories. Beside it the signals that the memories read, and those that they drive.
@@ -87,15 +87,15 @@ fn undefined(alloc: Global, count: usize) -> Result<List<V4>, Memory>
 
 /// Takes the memories of the good design and of each fault's lane through an edge.
 pub(crate) fn edge_lanes(
-    now: &mut List<Planes>,
+    now: &mut List<Wide>,
     memories: &mut List<List<Cells>>,
     room: &mut EdgeRoom,
-    last: &[Planes],
+    last: &[Wide],
     net: &Netlist,
     faults: &[Fault],
 )
     requires valid { IsValid net.now }
-    requires few { length faults.now < LANES }
+    requires few { length faults.now < WIDE_LANES }
     requires now { length now.old ≡ length net.now.signals }
     requires last { length last.now ≡ length net.now.signals }
     requires lanes { length memories.old ≡ length faults.now + 1 }
@@ -121,22 +121,22 @@ pub(crate) fn edge_lanes(
 
 /// Takes the memories of one lane through an edge.
 fn edge_lane(
-    now: &mut List<Planes>,
+    now: &mut List<Wide>,
     words: &mut List<Cells>,
     room: &mut EdgeRoom,
-    last: &[Planes],
+    last: &[Wide],
     net: &Netlist,
     l: u32,
 )
     requires valid { IsValid net.now }
-    requires lane { l < LANES }
+    requires lane { l < WIDE_LANES }
     requires now { length now.old ≡ length net.now.signals }
     requires last { length last.now ≡ length net.now.signals }
     requires shaped { AreShaped net.now words.old }
     requires room { IsRoom net.now room.old }
     ensures now { length now.new ≡ length now.old }
     ensures answered { HasAnswered net.now (record { row = lane_row l last.now; words = words.old }) (lane_row l now.new) words.new }
-    ensures others { (k : ℕ) → k < LANES → k ≢ l → lane_row k now.new ≡ lane_row k now.old }
+    ensures others { (k : ℕ) → k < WIDE_LANES → k ≢ l → lane_row k now.new ≡ lane_row k now.old }
     ensures room { IsRoom net.now room.new }
 {
     copy_lane(&mut room.values, last, room.reads.as_slice(), l);
@@ -145,8 +145,8 @@ fn edge_lane(
 }
 
 /// Copies what one lane has at these signals to their places of the last turn.
-fn copy_lane(values: &mut List<V4>, last: &[Planes], reads: &[u32], l: u32)
-    requires lane { l < LANES }
+fn copy_lane(values: &mut List<V4>, last: &[Wide], reads: &[u32], l: u32)
+    requires lane { l < WIDE_LANES }
     requires long { length values.old ≡ length last.now + length last.now + 1 }
     requires within { All (λ s. s < length last.now) reads.now }
     ensures long { length values.new ≡ length values.old }
@@ -159,13 +159,13 @@ fn copy_lane(values: &mut List<V4>, last: &[Planes], reads: &[u32], l: u32)
 }
 
 /// Puts the values that these signals have in this turn into one lane.
-fn put_lane(now: &mut List<Planes>, values: &[V4], outs: &[u32], l: u32)
-    requires lane { l < LANES }
+fn put_lane(now: &mut List<Wide>, values: &[V4], outs: &[u32], l: u32)
+    requires lane { l < WIDE_LANES }
     requires long { length now.old ≤ length values.now }
     requires within { All (λ s. s < length now.old) outs.now }
     ensures long { length now.new ≡ length now.old }
     ensures lane { (k : ℕ) → k < length outs.now → value_at (lane_row l now.new) (slice_index outs.now k) ≡ value_at values.now (slice_index outs.now k) }
-    ensures others { (k : ℕ) → k < LANES → k ≢ l → lane_row k now.new ≡ lane_row k now.old }
+    ensures others { (k : ℕ) → k < WIDE_LANES → k ≢ l → lane_row k now.new ≡ lane_row k now.old }
 {
     'outs: for s in outs {
         let p = now.as_slice()[*s as usize];

@@ -1,24 +1,24 @@
 //! What each signal is stuck at, lane by lane.
 
 ghost use Rattle.std.specs.Prelude.{◌<◌, ◌≤◌, length, All, IfOk};
-ghost use Rattle.limits.specs.declared.TheConstants.{LANES};
+ghost use Rattle.wide_planes.specs.declared.TheConstants.{WIDE_LANES};
 ghost use Rattle.fault_sim.specs.Faults.{IsFault};
 ghost use Rattle.fault_sim.specs.code.Lanes.{AreForces, AreFree};
 
 use crate::Fault;
-use lane_planes::{Planes, in_all_lanes, with_lane};
 use logic_four::V4;
 use net_defs::Netlist;
 use seen_list::{List, Memory};
 use std::alloc::Global;
+use wide_planes::{Wide, in_all_lanes, with_lane};
 
 /// For each signal the value at which it is stuck in each lane, and undefined where it is free.
 pub(crate) fn make_forces(
     alloc: Global,
     net: &Netlist,
     faults: &[Fault],
-) -> Result<List<Planes>, Memory>
-    requires few { length faults.now < LANES }
+) -> Result<List<Wide>, Memory>
+    requires few { length faults.now < WIDE_LANES }
     requires faults { All (IsFault net.now) faults.now }
     ensures { IfOk result (AreForces net.now faults.now) }
 {
@@ -35,7 +35,7 @@ pub(crate) fn make_forces(
 }
 
 /// So many signals that are free in all lanes.
-fn free(alloc: Global, count: usize) -> Result<List<Planes>, Memory>
+fn free(alloc: Global, count: usize) -> Result<List<Wide>, Memory>
     ensures { IfOk result (AreFree count) }
 {
     let mut forces = List::new(alloc);

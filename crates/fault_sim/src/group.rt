@@ -1,7 +1,7 @@
 //! A group of faults beside the good design.
 
 ghost use Rattle.std.specs.Prelude.{◌<◌, ◌≡◌, ◌≤◌, ℕ, length, All, IfOk};
-ghost use Rattle.limits.specs.declared.TheConstants.{LANES};
+ghost use Rattle.wide_planes.specs.declared.TheConstants.{WIDE_LANES};
 ghost use Rattle.net_defs.specs.Valid.{IsValid, IsValidTiming, IsValidStimulus};
 ghost use Rattle.net_defs.specs.Loops.{AreRanks};
 ghost use Rattle.net_defs.specs.Steps.{first_state};
@@ -17,10 +17,10 @@ use crate::schedule::{Schedule, make_schedule};
 use crate::start::first_state;
 use crate::state::LaneState;
 use crate::{Fault, Verdict};
-use lane_planes::Planes;
 use net_defs::{Netlist, Ranks, Stimulus, Timing};
 use seen_list::{List, Memory};
 use std::alloc::Global;
+use wide_planes::Wide;
 
 /// The verdicts on fewer faults than there are lanes, each in its own place. They run side by side with the good design,
 /// until each is seen or the stimulus ends.
@@ -36,7 +36,7 @@ pub fn fault_group(
     requires timing { IsValidTiming timing.now }
     requires ranks { AreRanks net.now timing.now ranks.now }
     requires stimulus { IsValidStimulus stim.now }
-    requires few { length faults.now < LANES }
+    requires few { length faults.now < WIDE_LANES }
     requires faults { All (IsFault net.now) faults.now }
     ensures { IfOk result (AreVerdicts net.now timing.now stim.now faults.now) }
 {
@@ -57,7 +57,7 @@ pub(crate) fn scheduled_group(
     requires timing { IsValidTiming timing.now }
     requires schedule { IsSchedule net.now timing.now schedule.now }
     requires stimulus { IsValidStimulus stim.now }
-    requires few { length faults.now < LANES }
+    requires few { length faults.now < WIDE_LANES }
     requires faults { All (IsFault net.now) faults.now }
     ensures { IfOk result (AreVerdicts net.now timing.now stim.now faults.now) }
 {
@@ -84,13 +84,13 @@ fn run_from_start(
     stim: &Stimulus,
     schedule: &Schedule,
     faults: &[Fault],
-    forces: &[Planes],
+    forces: &[Wide],
 ) -> Result<List<Verdict>, Memory>
     requires valid { IsValid net.now }
     requires timing { IsValidTiming timing.now }
     requires schedule { IsSchedule net.now timing.now schedule.now }
     requires stimulus { IsValidStimulus stim.now }
-    requires few { length faults.now < LANES }
+    requires few { length faults.now < WIDE_LANES }
     requires faults { All (IsFault net.now) faults.now }
     requires forces { AreForces net.now faults.now forces.now }
     requires ready { IsReady net.now faults.now state.old }

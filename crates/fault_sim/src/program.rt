@@ -1,41 +1,41 @@
 //! The gates as operations on two places of a row.
 
 ghost use Rattle.std.specs.Prelude.{◌≡◌, ◌≢◌, ◌∷◌, [], ◌++◌, ◌<◌, ℕ, length, map, All, Contains, IfOk, OnOk, IsTrue};
-ghost use Rattle.limits.specs.declared.TheConstants.{LANES};
+ghost use Rattle.wide_planes.specs.declared.TheConstants.{WIDE_LANES};
 ghost use Rattle.logic_four.specs.Gates.{gate_value};
 ghost use Rattle.logic_four.specs.Kinds.{AllowsOperands};
 ghost use Rattle.logic_four.specs.Folds.{takes_many};
 ghost use Rattle.net_defs.specs.Time.{value_at};
 ghost use Rattle.net_defs.specs.Loops.{IsGate, IsOrder, waits_for, is_gate_driver, gate_operands};
 ghost use Rattle.net_defs.specs.Valid.{IsValid, IsValidTiming, IsSignal, IsDrivable};
-ghost use Rattle.lane_planes.specs.Lanes.{lane_row};
+ghost use Rattle.wide_planes.specs.Lanes.{lane_row};
 ghost use Rattle.fault_sim.specs.code.Turns.{gate_driven, settle_forced};
 ghost use Rattle.fault_sim.specs.code.Programs.{put_forced, follow_forced, pair_op, twice_kind, IsWithin, IsProgram, Adds};
 
-use lane_planes::{PairForm, Planes, forced, gate_two, pair_form};
 use logic_four::{Kind, base_kind};
 use net_defs::{Driver, Netlist, Timing, is_late};
 use seen_list::{List, Memory};
 use std::alloc::Global;
+use wide_planes::{Wide, forced, gate_two};
 
-/// Puts into the place `gate` what a gate of this form answers for the values in the places `a` and `b`.
+/// Puts into the place `gate` what a gate of this kind answers for the values in the places `a` and `b`.
 #[derive(Clone, Copy)]
 pub(crate) struct PairOp {
     pub(crate) gate: u32,
     pub(crate) a: u32,
     pub(crate) b: u32,
-    pub(crate) form: PairForm,
+    pub(crate) kind: Kind,
 }
 
 /// Does all operations, one after the other, in all lanes at once. What is stuck keeps its value.
-pub(crate) fn do_ops(now: &mut [Planes], forces: &[Planes], program: &[PairOp])
+pub(crate) fn do_ops(now: &mut [Wide], forces: &[Wide], program: &[PairOp])
     requires within { All (IsWithin (length now.old)) program.now }
     requires forces { length forces.now ≡ length now.old }
     ensures long { length now.new ≡ length now.old }
-    ensures lanes { (k : ℕ) → k < LANES → lane_row k now.new ≡ follow_forced (lane_row k forces.now) program.now (lane_row k now.old) }
+    ensures lanes { (k : ℕ) → k < WIDE_LANES → lane_row k now.new ≡ follow_forced (lane_row k forces.now) program.now (lane_row k now.old) }
 {
     'ops: for op in program {
-        let answer = gate_two(op.form, now[op.a as usize], now[op.b as usize]);
+        let answer = gate_two(op.kind, now[op.a as usize], now[op.b as usize]);
         now[op.gate as usize] = forced(answer, forces[op.gate as usize]);
     }
 }
@@ -161,16 +161,11 @@ fn push_pair(
 ) -> Result<(), Memory>
     ensures { OnOk result (program.new ≡ program.old ++ pair_op kind gate a b ∷ []) }
 {
-    program.push(PairOp {
-        gate,
-        a,
-        b,
-        form: pair_form(kind),
-    })
+    program.push(PairOp { gate, a, b, kind })
 }
 
-/// A kind for a single operand that stands twice. `Not` and `Buf` become kinds that `gate_two` answers
-/// by its formula.
+/// A kind for a single operand that stands twice. `Not` and `Buf` become kinds that many
+/// gates have.
 fn twice_kind(kind: Kind) -> Kind
     ensures { result ≡ twice_kind kind }
 {

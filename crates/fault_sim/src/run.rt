@@ -1,7 +1,8 @@
 //! A group of runs side by side, over all cycles.
 
 ghost use Rattle.std.specs.Prelude.{◌≡◌, ◌+◌, ◌*◌, ◌<◌, ◌≤◌, ◌^◌, ℕ, [], length, All, slice_index_or};
-ghost use Rattle.limits.specs.declared.TheConstants.{LANES, MAX_CYCLES};
+ghost use Rattle.limits.specs.declared.TheConstants.{MAX_CYCLES};
+ghost use Rattle.wide_planes.specs.declared.TheConstants.{WIDE_LANES};
 ghost use Rattle.net_defs.specs.declared.stimulus.Stimulus.{Stimulus};
 ghost use Rattle.net_defs.specs.Time.{cycle_rows, cycle_count};
 ghost use Rattle.net_defs.specs.Valid.{IsValid, IsValidTiming, IsValidStimulus};
@@ -17,10 +18,10 @@ use crate::schedule::Schedule;
 use crate::state::LaneState;
 use crate::turn::turn;
 use crate::{Fault, Verdict};
-use lane_planes::Planes;
 use logic_four::V4;
 use net_defs::{Netlist, StimRow, Stimulus, Timing};
 use seen_list::List;
+use wide_planes::Wide;
 
 /// Runs all cycles, or fewer where each fault is seen before. It takes no memory.
 pub(crate) fn run(
@@ -32,13 +33,13 @@ pub(crate) fn run(
     stim: &Stimulus,
     schedule: &Schedule,
     faults: &[Fault],
-    forces: &[Planes],
+    forces: &[Wide],
 )
     requires valid { IsValid net.now }
     requires timing { IsValidTiming timing.now }
     requires schedule { IsSchedule net.now timing.now schedule.now }
     requires stimulus { IsValidStimulus stim.now }
-    requires few { length faults.now < LANES }
+    requires few { length faults.now < WIDE_LANES }
     requires faults { All (IsFault net.now) faults.now }
     requires forces { AreForces net.now faults.now forces.now }
     requires ready { IsReady net.now faults.now state.old }
@@ -66,14 +67,14 @@ fn run_row(
     timing: &Timing,
     schedule: &Schedule,
     faults: &[Fault],
-    forces: &[Planes],
+    forces: &[Wide],
     row: &StimRow,
     begun: u32,
 )
     requires valid { IsValid net.now }
     requires timing { IsValidTiming timing.now }
     requires schedule { IsSchedule net.now timing.now schedule.now }
-    requires few { length faults.now < LANES }
+    requires few { length faults.now < WIDE_LANES }
     requires faults { All (IsFault net.now) faults.now }
     requires forces { AreForces net.now faults.now forces.now }
     requires ready { IsReady net.now faults.now state.old }
@@ -117,14 +118,14 @@ fn run_cycle(
     timing: &Timing,
     schedule: &Schedule,
     faults: &[Fault],
-    forces: &[Planes],
+    forces: &[Wide],
     inputs: &[V4],
     cycle: u32,
 )
     requires valid { IsValid net.now }
     requires timing { IsValidTiming timing.now }
     requires schedule { IsSchedule net.now timing.now schedule.now }
-    requires few { length faults.now < LANES }
+    requires few { length faults.now < WIDE_LANES }
     requires faults { All (IsFault net.now) faults.now }
     requires forces { AreForces net.now faults.now forces.now }
     requires ready { IsReady net.now faults.now state.old }

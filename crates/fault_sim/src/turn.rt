@@ -1,11 +1,11 @@
 //! One turn of many runs side by side.
 
 ghost use Rattle.std.specs.Prelude.{◌≡◌, ◌<◌, ◌≤◌, ℕ, length, All};
-ghost use Rattle.limits.specs.declared.TheConstants.{LANES};
+ghost use Rattle.wide_planes.specs.declared.TheConstants.{WIDE_LANES};
 ghost use Rattle.net_defs.specs.declared.stimulus.Stimulus.{Stimulus};
 ghost use Rattle.net_defs.specs.Steps.{IsRightStep};
 ghost use Rattle.net_defs.specs.Valid.{IsValid, IsValidTiming};
-ghost use Rattle.lane_planes.specs.Lanes.{lane_row};
+ghost use Rattle.wide_planes.specs.Lanes.{lane_row};
 ghost use Rattle.fault_sim.specs.Faults.{IsFault};
 ghost use Rattle.fault_sim.specs.code.Lanes.{lane_net, lane_state, IsReady, AreForces, HasInputs};
 ghost use Rattle.fault_sim.specs.code.Turns.{IsRoom, AreActed};
@@ -17,10 +17,10 @@ use crate::edge::{EdgeRoom, edge_lanes};
 use crate::program::do_ops;
 use crate::schedule::Schedule;
 use crate::state::LaneState;
-use lane_planes::Planes;
 use logic_four::V4;
 use net_defs::{Netlist, Timing, is_edge};
 use seen_list::List;
+use wide_planes::Wide;
 
 /// Takes each lane through a turn, counted from 1. `forces` says what each signal is stuck at, lane by
 /// lane, and `inputs` the values of the inputs.
@@ -31,14 +31,14 @@ pub(crate) fn turn(
     timing: &Timing,
     schedule: &Schedule,
     faults: &[Fault],
-    forces: &[Planes],
+    forces: &[Wide],
     turn: u32,
     inputs: &[V4],
 )
     requires valid { IsValid net.now }
     requires timing { IsValidTiming timing.now }
     requires schedule { IsSchedule net.now timing.now schedule.now }
-    requires few { length faults.now < LANES }
+    requires few { length faults.now < WIDE_LANES }
     requires faults { All (IsFault net.now) faults.now }
     requires forces { AreForces net.now faults.now forces.now }
     requires ready { IsReady net.now faults.now state.old }
@@ -65,7 +65,7 @@ pub(crate) fn turn(
 }
 
 /// Keeps the values as those of the last turn.
-fn keep(last: &mut List<Planes>, now: &[Planes])
+fn keep(last: &mut List<Wide>, now: &[Wide])
     requires { length last.old ≡ length now.now }
     ensures { last.new ≡ now.now }
 {
@@ -83,7 +83,7 @@ fn if_edge(
 )
     requires valid { IsValid net.now }
     requires timing { IsValidTiming timing.now }
-    requires few { length faults.now < LANES }
+    requires few { length faults.now < WIDE_LANES }
     requires ready { IsReady net.now faults.now state.old }
     requires room { IsRoom net.now room.old }
     ensures now { length state.new.now ≡ length net.now.signals }
@@ -104,11 +104,11 @@ fn if_edge(
 }
 
 /// Gives the gates that are not late their values, each after its operands.
-fn set_gates(now: &mut List<Planes>, schedule: &Schedule, forces: &[Planes])
+fn set_gates(now: &mut List<Wide>, schedule: &Schedule, forces: &[Wide])
     requires within { All (IsWithin (length now.old)) schedule.now.program }
     requires forces { length forces.now ≡ length now.old }
     ensures long { length now.new ≡ length now.old }
-    ensures lanes { (k : ℕ) → k < LANES → lane_row k now.new ≡ follow_forced (lane_row k forces.now) schedule.now.program (lane_row k now.old) }
+    ensures lanes { (k : ℕ) → k < WIDE_LANES → lane_row k now.new ≡ follow_forced (lane_row k forces.now) schedule.now.program (lane_row k now.old) }
 {
     do_ops(now.as_mut_slice(), forces, schedule.program.as_slice());
 }

@@ -47,7 +47,7 @@ lane_read p k =
 abbrev pub for_both : (ℕ → Bool) → Bool
 for_both test = test 0 && test 1
 
-at_bit : (test : ℕ → Bool) (x : ℕ) → x < 2 → for_both test ≡ true → test x ≡ true
+pub at_bit : (test : ℕ → Bool) (x : ℕ) → x < 2 → for_both test ≡ true → test x ≡ true
 at_bit test zero low e = (and_parts (test 0) (test 1) e).0
 at_bit test (suc zero) low e = (and_parts (test 0) (test 1) e).1
 at_bit test (suc (suc x)) low e = absurd (omega (arith, low))

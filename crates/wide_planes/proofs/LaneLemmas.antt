@@ -1,11 +1,11 @@
 -- A claim on the lanes of wide planes holds where it holds for every choice of their bits.
-use Rattle.std.proofs.Common.{◌≡◌, ◌∙◌, ℕ, ◌+◌, ◌*◌, ◌/◌, ◌%◌, ◌<◌, true, ap, ap₂, arith}
+use Rattle.std.proofs.Common.{◌≡◌, ◌∙◌, ℕ, ◌+◌, ◌*◌, ◌/◌, ◌%◌, ◌<◌, true, eqb, eqb-true, ap, ap₂, arith}
 use Rattle.std.proofs.lemmas.Nat.Bits.{bit_at-lt}
 use Rattle.logic_four.specs.declared.V4.{V4}
 use Rattle.logic_four.specs.Values.{code_of, value_of}
 use Rattle.logic_four.proofs.TestLemmas.{same}
 use Rattle.lane_planes.proofs.BitLemmas.{value_of_bits}
-use Rattle.lane_planes.proofs.LaneLemmas.{bits, for_both, of_bits, of_two_bits}
+use Rattle.lane_planes.proofs.LaneLemmas.{bits, for_both, at_bit, of_bits, of_two_bits}
 use Rattle.wide_planes.specs.declared.planes.Words.{Words}
 use Rattle.wide_planes.specs.declared.planes.Wide.{Wide}
 use Rattle.wide_planes.specs.Lanes.{bit_of, lane_of}
@@ -43,3 +43,19 @@ pub in_lanes : (p q : Wide) (k : ℕ) (f : ℕ → ℕ → ℕ → ℕ → V4) (
 unfolding lane_of
 in_lanes p q k f g =
     of_two_bits f g (bit_of p.low k) (bit_of p.high k) (bit_of q.low k) (bit_of q.high k) (few p.low k) (few p.high k) (few q.low k) (few q.high k)
+
+-- the same of a number
+pub number_in_lanes : (p q : Wide) (k : ℕ) (f : ℕ → ℕ → ℕ → ℕ → ℕ) (g : V4 → V4 → ℕ)
+    → for_both (λ x. for_both (λ y. for_both (λ z. for_both (λ w. eqb (f x y z w) (g (bits x y) (bits z w)))))) ≡ true
+    → f (bit_of p.low k) (bit_of p.high k) (bit_of q.low k) (bit_of q.high k) ≡ g (lane_of p k) (lane_of q k)
+unfolding lane_of
+number_in_lanes p q k f g test =
+    let x = bit_of p.low k in
+    let y = bit_of p.high k in
+    let z = bit_of q.low k in
+    let w = bit_of q.high k in
+    eqb-true (f x y z w) (g (bits x y) (bits z w))
+    (at_bit (λ w. eqb (f x y z w) (g (bits x y) (bits z w))) w (few q.high k)
+    (at_bit (λ z. for_both (λ w. eqb (f x y z w) (g (bits x y) (bits z w)))) z (few q.low k)
+    (at_bit (λ y. for_both (λ z. for_both (λ w. eqb (f x y z w) (g (bits x y) (bits z w))))) y (few p.high k)
+    (at_bit (λ x. for_both (λ y. for_both (λ z. for_both (λ w. eqb (f x y z w) (g (bits x y) (bits z w)))))) x (few p.low k) test))))

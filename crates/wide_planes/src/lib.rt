@@ -9,7 +9,7 @@ mod words;
 
 pub use gates::{gate_over, gate_two};
 pub use lanes::{in_all_lanes, lane, with_lane};
-pub use pairs::{forced, settle_planes};
+pub use pairs::{forced, opposite, settle_planes};
 pub use planes::{Wide, Words};
 
 /// The lanes of wide planes.

@@ -5,9 +5,9 @@ ghost use Rattle.logic_four.specs.Values.{settled, inverse};
 ghost use Rattle.logic_four.specs.Gates.{and_value, or_value, xor_value, bus_value, tri_value};
 ghost use Rattle.lane_planes.specs.Lanes.{forced_value};
 ghost use Rattle.wide_planes.specs.declared.TheConstants.{WIDE_LANES};
-ghost use Rattle.wide_planes.specs.Lanes.{lane_of};
+ghost use Rattle.wide_planes.specs.Lanes.{bit_of, lane_of, opposite};
 
-use crate::planes::Wide;
+use crate::planes::{Wide, Words};
 
 /// The planes with each lane settled.
 #[inline]
@@ -117,4 +117,14 @@ pub(crate) fn tri_two(enable: Wide, driven: Wide) -> Wide
         low: off.or(one),
         high: lets.inverse(),
     }
+}
+
+/// The lanes in which one has 0 and the other 1.
+#[inline]
+pub fn opposite(p: Wide, q: Wide) -> Words
+    ensures { (k : ℕ) → k < WIDE_LANES → bit_of result k ≡ opposite (lane_of p k) (lane_of q k) }
+{
+    let differ = p.low.xor(q.low);
+    let unknown = p.high.or(q.high);
+    differ.without(unknown)
 }

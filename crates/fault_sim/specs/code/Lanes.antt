@@ -1,10 +1,10 @@
 -- Many runs side by side: the good design in lane 0, and a fault in each further lane.
 use Rattle.std.specs.Prelude.{◌≡◌, ℕ, zero, suc, ◌+◌, ◌<◌, ◌≤◌, ◌==◌, if◌then◌else◌, List, [], length, Option, Some, None, slice_get, slice_index_or}
-use Rattle.limits.specs.declared.TheConstants.{LANES}
+use Rattle.wide_planes.specs.declared.TheConstants.{WIDE_LANES}
 use Rattle.logic_four.specs.declared.V4.{V4}
 use Rattle.logic_four.specs.declared.V4.TheVariants.{Undef}
-use Rattle.lane_planes.specs.declared.planes.Planes.{Planes}
-use Rattle.lane_planes.specs.Lanes.{lane_row}
+use Rattle.wide_planes.specs.declared.planes.Wide.{Wide}
+use Rattle.wide_planes.specs.Lanes.{lane_row}
 use Rattle.net_defs.specs.declared.netlist.Netlist.{Netlist}
 use Rattle.net_defs.specs.declared.timing.Timing.{Timing}
 use Rattle.net_defs.specs.declared.stimulus.Stimulus.{Stimulus}
@@ -46,14 +46,14 @@ pub record IsReady (net : Netlist) (faults : List Fault) (state : LaneState) : T
   pub shaped : (l : ℕ) → l ≤ length faults → AreShaped net (slice_index_or state.memories l [])
 
 -- what each signal is stuck at, lane by lane
-pub record AreForces (net : Netlist) (faults : List Fault) (forces : List Planes) : Type 0 where
+pub record AreForces (net : Netlist) (faults : List Fault) (forces : List Wide) : Type 0 where
   pub signals : length forces ≡ length net.signals
   pub each : (l : ℕ) → l ≤ length faults → (s : ℕ) → value_at (lane_row l forces) s ≡ force_at faults l s
 
 -- nothing is stuck in any lane
-pub record AreFree (count : ℕ) (forces : List Planes) : Type 0 where
+pub record AreFree (count : ℕ) (forces : List Wide) : Type 0 where
   pub signals : length forces ≡ count
-  pub each : (l : ℕ) → l < LANES → (s : ℕ) → value_at (lane_row l forces) s ≡ Undef
+  pub each : (l : ℕ) → l < WIDE_LANES → (s : ℕ) → value_at (lane_row l forces) s ≡ Undef
 
 -- the inputs of a turn
 abbrev pub HasInputs : Timing → Stimulus → ℕ → List V4 → Type 0

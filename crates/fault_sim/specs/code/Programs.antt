@@ -1,5 +1,5 @@
 -- The gates as operations on two places of a row, and what is made once before a run.
-use Rattle.std.specs.Prelude.{◌≡◌, ◌≢◌, ℕ, ◌<◌, true, Bool, if◌then◌else◌, List, ◌++◌, length, fold, slice_set, All, AllPairs, Contains}
+use Rattle.std.specs.Prelude.{◌≡◌, ◌≢◌, ℕ, ◌<◌, true, Bool, if◌then◌else◌, List, [], ◌∷◌, ◌++◌, length, fold, slice_set, All, AllPairs, Contains}
 use Rattle.logic_four.specs.declared.V4.{V4}
 use Rattle.logic_four.specs.declared.Kind.{Kind}
 use Rattle.logic_four.specs.declared.Kind.TheVariants.{And, Nand, Or, Nor, Xor, Xnor, Not, Buf, Tri, Bus}
@@ -12,7 +12,7 @@ use Rattle.net_defs.specs.Loops.{is_gate, IsOrder}
 use Rattle.fault_sim.specs.declared.program.PairOp.{PairOp}
 use Rattle.fault_sim.specs.declared.schedule.Schedule.{Schedule}
 use Rattle.fault_sim.specs.code.Turns.{forced_along}
-use Rattle.lane_planes.specs.Formula.{pair_value, pair_form}
+use Rattle.logic_four.specs.Gates.{gate_value}
 
 -- a place takes a value, or what it is stuck at
 abbrev pub put_forced : ℕ → V4 → List V4 → List V4 → List V4
@@ -20,7 +20,7 @@ put_forced g v forces row = slice_set row g (forced_value v (value_at forces g))
 
 -- so an operation does with what its gate answers
 abbrev pub do_forced : List V4 → List V4 → PairOp → List V4
-do_forced forces row op = put_forced op.gate (pair_value op.form (value_at row op.a) (value_at row op.b)) forces row
+do_forced forces row op = put_forced op.gate (gate_value op.kind (value_at row op.a ∷ value_at row op.b ∷ [])) forces row
 
 -- the operations one after the other
 abbrev pub follow_forced : List V4 → List PairOp → List V4 → List V4
@@ -46,7 +46,7 @@ pub record Adds (signals : ℕ) (change : List V4 → List V4 → List V4) (old 
 
 -- the operation of a gate of this kind
 abbrev pub pair_op : Kind → ℕ → ℕ → ℕ → PairOp
-pair_op kind gate a b = record { gate = gate; a = a; b = b; form = pair_form kind }
+pair_op kind gate a b = record { gate = gate; a = a; b = b; kind = kind }
 
 -- a usual kind, or BUS, that answers for an operand that stands twice what this kind answers for it alone
 abbrev pub twice_kind : Kind → Kind

@@ -2,8 +2,10 @@
 use Rattle.std.specs.Prelude.{◌≡◌, ℕ, ◌+◌, ◌*◌, ◌<◌, ◌≤◌, Bool, true, false, List, length, Option, Some, None, slice_get}
 use Rattle.std.specs.List.{list_all}
 use Rattle.logic_four.specs.declared.V4.{V4}
-use Rattle.lane_planes.specs.declared.planes.Planes.{Planes}
-use Rattle.lane_planes.specs.Lanes.{lane_row}
+use Rattle.wide_planes.specs.declared.planes.Wide.{Wide}
+use Rattle.wide_planes.specs.declared.TheConstants.{WIDE_LANES}
+use Rattle.wide_planes.specs.declared.planes.Words.{Words}
+use Rattle.wide_planes.specs.Lanes.{bit_of, lane_row}
 use Rattle.net_defs.specs.declared.netlist.Netlist.{Netlist}
 use Rattle.net_defs.specs.declared.timing.Timing.{Timing}
 use Rattle.net_defs.specs.declared.stimulus.Stimulus.{Stimulus}
@@ -38,6 +40,10 @@ abbrev pub FindsColumn : Netlist → List V4 → List V4 → Option ℕ → Type
 FindsColumn net good faulty (Some column) = IsFirstColumn net good faulty column
 FindsColumn net good faulty None = (j : ℕ) → differs_in net good faulty j ≡ false
 
+-- a lane without a mark differs from the good design in no printed name
+abbrev pub MarkOthers : Netlist → List Wide → Words → Type 0
+MarkOthers net row marks = (k j : ℕ) → k < WIDE_LANES → bit_of marks k ≡ 0 → differs_in net (lane_row 0 row) (lane_row k row) j ≡ false
+
 -- what a verdict becomes after a cycle, by the last rows of the good and the faulty design
 abbrev pub IsLooked : Netlist → List V4 → List V4 → ℕ → Verdict → Verdict → Type 0
 IsLooked net good faulty cycle (Seen before at) new = new ≡ Seen before at
@@ -45,7 +51,7 @@ IsLooked net good faulty cycle Unseen (Seen here column) = (here ≡ cycle) × I
 IsLooked net good faulty cycle Unseen Unseen = (j : ℕ) → differs_in net good faulty j ≡ false
 
 -- all verdicts became so
-pub record AreLooked (net : Netlist) (row : List Planes) (cycle : ℕ) (old new : List Verdict) : Type 0 where
+pub record AreLooked (net : Netlist) (row : List Wide) (cycle : ℕ) (old new : List Verdict) : Type 0 where
   pub count : length new ≡ length old
   pub each : (k : ℕ) (before after : Verdict) → slice_get old k ≡ Some before → slice_get new k ≡ Some after → IsLooked net (lane_row 0 row) (lane_row (k + 1) row) cycle before after
 

@@ -5,7 +5,8 @@ use Rattle.std.specs.List.{flat_map}
 use Rattle.logic_four.specs.declared.V4.{V4}
 use Rattle.logic_four.specs.Values.{settled}
 use Rattle.logic_four.specs.Gates.{gate_value}
-use Rattle.lane_planes.specs.Lanes.{lane_row, forced_value}
+use Rattle.lane_planes.specs.Lanes.{forced_value}
+use Rattle.wide_planes.specs.Lanes.{lane_row}
 use Rattle.net_defs.specs.declared.netlist.Netlist.{Netlist}
 use Rattle.net_defs.specs.declared.netlist.Signal.{Signal}
 use Rattle.net_defs.specs.declared.netlist.Block.{Block}

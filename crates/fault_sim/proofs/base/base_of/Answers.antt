@@ -1,6 +1,6 @@
 use Rattle.std.proofs.Common.{◌≡◌, ◌∙◌, sym, ap, get_or, Some}
 use Rattle.std.proofs.lemmas.Option.{slice_get-get_or, get_or_from_slice_get}
-use Rattle.lane_planes.specs.Lanes.{lane_of, lane_row}
+use Rattle.wide_planes.specs.Lanes.{lane_of, lane_row}
 use Rattle.net_defs.specs.declared.netlist.Signal.{Signal}
 use Rattle.fault_sim.specs.code.Turns.{base_value}
 use Rattle.fault_sim.proofs.base.base_of.Goals as goal

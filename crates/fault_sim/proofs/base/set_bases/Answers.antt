@@ -1,6 +1,7 @@
 use Rattle.std.proofs.Common.{◌∙◌, ◌<◌, length, ap, ap₂, get_or, arith}
 use Rattle.std.proofs.lemmas.List.{length-map, map-set}
-use Rattle.lane_planes.specs.Lanes.{lane_of, lane_row, forced_value}
+use Rattle.lane_planes.specs.Lanes.{forced_value}
+use Rattle.wide_planes.specs.Lanes.{lane_of, lane_row}
 use Rattle.fault_sim.specs.code.Turns.{base_value}
 use Rattle.fault_sim.proofs.BaseLemmas.{lane_at, same_long, bases_none, bases_more, none_before}
 use Rattle.fault_sim.proofs.base.set_bases.Goals as goal

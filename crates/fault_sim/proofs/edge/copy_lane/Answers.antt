@@ -1,6 +1,6 @@
 use Rattle.std.proofs.Common.{◌∙◌, ◌+◌, ◌<◌, length, get_or, arith}
 use Rattle.std.proofs.lemmas.List.{length-set}
-use Rattle.lane_planes.specs.Lanes.{lane_row}
+use Rattle.wide_planes.specs.Lanes.{lane_row}
 use Rattle.fault_sim.proofs.BaseLemmas.{lane_at}
 use Rattle.fault_sim.proofs.EdgeLemmas.{copy_more}
 use Rattle.fault_sim.proofs.edge.copy_lane.Goals as goal

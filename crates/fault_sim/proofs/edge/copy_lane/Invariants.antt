@@ -1,6 +1,6 @@
 use Rattle.std.proofs.Common.{◌≡◌, ◌+◌, ◌<◌, ℕ, length, get_or}
 use Rattle.net_defs.specs.Time.{value_at}
-use Rattle.lane_planes.specs.Lanes.{lane_row}
+use Rattle.wide_planes.specs.Lanes.{lane_row}
 use Rattle.fault_sim.proofs.edge.copy_lane.Given as goal
 
 abbrev pub invariant-reads : goal.invariant-reads

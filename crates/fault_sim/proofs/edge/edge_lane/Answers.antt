@@ -1,6 +1,6 @@
 use Rattle.std.proofs.Common.{◌≡◌, ◌∙◌, ◌+◌, ◌<◌, ℕ, List, get_or, length, ap, sym, subst}
 use Rattle.std.specs.List.{All}
-use Rattle.lane_planes.specs.Lanes.{lane_row}
+use Rattle.wide_planes.specs.Lanes.{lane_row}
 use Rattle.net_defs.specs.Valid.{IsSignal}
 use Rattle.net_defs.specs.Time.{value_at}
 use Rattle.fault_sim.specs.code.Turns.{memory_reads, memory_outs}

@@ -1,7 +1,7 @@
 use Rattle.std.proofs.Common.{◌∙◌, ◌<◌, [], length, ap, sym, subst, get_or, arith}
 use Rattle.std.proofs.lemmas.List.{length-set, get_or_default}
-use Rattle.limits.specs.declared.TheConstants.{LANES}
-use Rattle.lane_planes.specs.Lanes.{lane_row}
+use Rattle.wide_planes.specs.declared.TheConstants.{WIDE_LANES}
+use Rattle.wide_planes.specs.Lanes.{lane_row}
 use Rattle.ref_sim.specs.States.{AreShaped}
 use Rattle.ref_sim.proofs.Writes.{refill_set}
 use Rattle.fault_sim.specs.code.Turns.{HasAnswered}
@@ -22,7 +22,7 @@ lanes-preserved c =
     let item = c.index-as_mut_slice-l.result in
     let low : l < length c.lanes.memories = omega (arith, c.lanes-test.true, c.lanes.auto.l-end, c.lanes.invariant.memories, c.requires.lanes) in
     let here = ap (λ list. get_or list l item) c.as_mut_slice.ensures.value ∙ (get_or_default c.lanes.memories l item [] low ∙ c.lanes.invariant.left l (omega arith)) in
-    let few : l < LANES = omega (arith, low, c.lanes.invariant.memories, c.requires.lanes, c.requires.few) in
+    let few : l < WIDE_LANES = omega (arith, low, c.lanes.invariant.memories, c.requires.lanes, c.requires.few) in
     rw (refill_set c.lanes.memories c.as_mut_slice.result.now l c.edge_lane.new.words c.as_mut_slice.ensures.value) (record {
       now = c.edge_lane.ensures.now ∙ c.lanes.invariant.now;
       memories = length-set c.lanes.memories l c.edge_lane.new.words ∙ c.lanes.invariant.memories;

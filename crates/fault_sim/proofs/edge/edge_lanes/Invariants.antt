@@ -1,5 +1,5 @@
 use Rattle.std.proofs.Common.{◌≡◌, ◌<◌, ◌≤◌, ℕ, [], length, slice_index_or}
-use Rattle.lane_planes.specs.Lanes.{lane_row}
+use Rattle.wide_planes.specs.Lanes.{lane_row}
 use Rattle.fault_sim.specs.code.Turns.{IsRoom, HasAnswered}
 use Rattle.fault_sim.proofs.edge.edge_lanes.Given as goal
 

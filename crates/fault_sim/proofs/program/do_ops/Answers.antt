@@ -1,7 +1,7 @@
 use Rattle.std.proofs.Common.{◌∙◌, refl, sym, subst, false, get_or}
 use Rattle.std.proofs.lemmas.List.{length-set}
 use Rattle.logic_four.specs.declared.Kind.TheVariants.{And}
-use Rattle.lane_planes.specs.Lanes.{lane_row}
+use Rattle.wide_planes.specs.Lanes.{lane_row}
 use Rattle.fault_sim.specs.declared.program.PairOp.{PairOp}
 use Rattle.fault_sim.specs.code.Programs.{IsWithin}
 use Rattle.fault_sim.proofs.ProgramLemmas.{op_done, ops_more}
@@ -9,7 +9,7 @@ use Rattle.fault_sim.proofs.program.do_ops.Goals as goal
 
 pub ops-preserved : goal.ops-preserved
 ops-preserved c =
-    let none : PairOp = record { gate = 0; a = 0; b = 0; form = record { kind = And; turns_operands = false; turns_answer = false; is_parity = false } } in
+    let none : PairOp = record { gate = 0; a = 0; b = 0; kind = And } in
     let i = c.ops.op-index in
     let op = get_or c.args.program.now i none in
     let long = c.ops.invariant.long in

@@ -1,5 +1,5 @@
 use Rattle.std.proofs.Common.{◌∙◌, ap}
-use Rattle.lane_planes.specs.Lanes.{lane_row}
+use Rattle.wide_planes.specs.Lanes.{lane_row}
 use Rattle.fault_sim.proofs.Starts.{undefined_row}
 use Rattle.fault_sim.proofs.start.undefined.Goals as goal
 

@@ -1,8 +1,8 @@
 use Rattle.std.proofs.Common.{◌∙◌, ◌<◌, length, sym, ap, subst, arith}
 use Rattle.std.specs.List.{All}
 use Rattle.std.proofs.lemmas.List.{length-map}
-use Rattle.limits.specs.declared.TheConstants.{LANES}
-use Rattle.lane_planes.specs.Lanes.{lane_of, lane_row}
+use Rattle.wide_planes.specs.declared.TheConstants.{WIDE_LANES}
+use Rattle.wide_planes.specs.Lanes.{lane_of, lane_row}
 use Rattle.fault_sim.specs.code.Lanes.{lane_state}
 use Rattle.fault_sim.specs.code.Turns.{AreBases, AreActed}
 use Rattle.fault_sim.specs.code.Programs.{IsWithin, AreSources}
@@ -28,7 +28,7 @@ returns-clause-steps c = λ l low stimulus given.
     let start = c.args.state.now in
     let edge = c.if_edge.new.state in
     let base = c.set_bases.new.now in
-    let few : l < LANES = omega (arith, low, c.requires.few) in
+    let few : l < WIDE_LANES = omega (arith, low, c.requires.few) in
     let kept = c.keep.ensures ∙ c.as_slice.ensures in
     let last = c.as_slice-2.ensures ∙ (c.if_edge.ensures.last ∙ kept) in
     let acted = subst (λ last. AreActed net timing faults c.args.turn (record { now = start.now; last = last; memories = start.memories }) edge) kept c.if_edge.ensures.memories in
