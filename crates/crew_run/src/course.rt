@@ -64,7 +64,7 @@ impl Course {
             visits: [none; MOST_VISITS],
             len: 0,
             lap_steps: 0,
-            pulse: Pulse::new(),
+            pulse: Pulse::new(u64::MAX),
         }
     }
 

@@ -26,6 +26,9 @@ const MOST_SOLO_STEPS: u64 = 64_000_000;
 /// the next such phase is to be as short as the first.
 const GOOD_GAIN: u64 = 4;
 
+/// The steps after which a worker ends the first phase in threads where no worker has more than few members.
+const FEW_STEPS: u64 = 20_000;
+
 /// Whether the worker's members are all done.
 fn is_done<S: Stepper, G>(worker: &Worker<S, G>) -> bool
     requires { (k : ℕ) (a : S) → slice_get worker.now.members k ≡ Some a → S.last_turn a ≤ 2 ^ 62 }
@@ -54,16 +57,24 @@ fn all_done<S: Stepper, G>(workers: &[Worker<S, G>]) -> bool
     true
 }
 
-/// The first phase of all workers.
+/// Whether no worker has more members than the few with which it gains nothing by a thread of its own.
+fn are_few<S: Stepper, G>(workers: &[Worker<S, G>]) -> bool {
+    workers
+        .iter()
+        .all(|worker| worker.members.len() <= S::few_members())
+}
+
+/// The first phase of all workers, which one ends that has made so many steps.
 fn begin_all<R: Threads + Wait + Sync, S: Stepper + Send, G: Gate + Send>(
     rt: &R,
     workers: &mut [Worker<S, G>],
+    most_steps: u64,
 )
     requires some { 0 < length workers.old }
     requires can { (i : ℕ) (w : Worker S G) → slice_get workers.old i ≡ Some w → CanRun S.Stepper.own G.Gate.own w }
     ensures { Each (HasBegun S.Stepper.own G.Gate.own) workers.old workers.new }
 {
-    let pulse = Pulse::new();
+    let pulse = Pulse::new(most_steps);
     let threads = workers.len();
     let alone = threads == 1;
     let work = |_: usize, worker: &mut Worker<S, G>|
@@ -82,7 +93,7 @@ fn resume_all<R: Threads + Wait + Sync, S: Stepper + Send, G: Gate + Send>(
     requires can { (i : ℕ) (w : Worker S G) → slice_get workers.old i ≡ Some w → CanResume S.Stepper.own G.Gate.own w }
     ensures { Each (IsResumed S.Stepper.own G.Gate.own) workers.old workers.new }
 {
-    let pulse = Pulse::new();
+    let pulse = Pulse::new(u64::MAX);
     let threads = workers.len();
     let work = |_: usize, worker: &mut Worker<S, G>|
         requires { CanResume S.Stepper.own G.Gate.own worker.now }
@@ -93,9 +104,9 @@ fn resume_all<R: Threads + Wait + Sync, S: Stepper + Send, G: Gate + Send>(
 }
 
 /// The steps of the first phase in the calling thread, by the number of workers. A worker that is alone stays
-/// there.
-fn first_solo(workers: usize) -> u64 {
-    if workers == 1 {
+/// there, and so do workers of few members.
+fn first_solo(workers: usize, few: bool) -> u64 {
+    if workers == 1 || few {
         return u64::MAX;
     }
     SOLO_STEPS.saturating_mul(workers as u64)
@@ -105,7 +116,7 @@ fn first_solo(workers: usize) -> u64 {
 /// where the threads since then made many times as many.
 fn next_solo(workers: usize, steps: u64, in_threads: u64) -> u64 {
     if in_threads > steps.saturating_mul(GOOD_GAIN) {
-        return first_solo(workers);
+        return first_solo(workers, false);
     }
     steps.saturating_mul(2).min(MOST_SOLO_STEPS)
 }
@@ -141,9 +152,10 @@ fn run_phases<R: Threads + Wait + Sync, S: Stepper + Send, G: Gate + Send>(
     if workers.is_empty() {
         return;
     }
+    let few = are_few(workers);
     // in threads: two workers may have to meet at their first turns
-    begin_all(rt, workers);
-    let mut steps = first_solo(workers.len());
+    begin_all(rt, workers, if few { FEW_STEPS } else { u64::MAX });
+    let mut steps = first_solo(workers.len(), few);
     'phases: for _ in rt.forever() {
         if all_done(workers) {
             return;

@@ -21,7 +21,9 @@
 //! are too few processors, or where no second thread can be made. Such a phase ends after 1,000,000 steps for
 //! each worker. The next one is twice as long, up to 64,000,000 steps, but as short as the first again if the
 //! phase in threads between them made more than four times its steps. A crew of one worker makes all its steps
-//! in such a phase, which then has no bound.
+//! in such a phase, which then has no bound. Where no worker has more than few members, by `Stepper::few_members`,
+//! the first phase ends once a worker has made 20,000 steps in it, and the next one has no bound either: such workers
+//! would wait for one another at nearly every step.
 //!
 //! One thread goes by turns: all members come to the same turn before any of them goes on. What visits the third turn
 //! took, which member made how many steps, it writes down and repeats in the turns after it, so that no step

@@ -22,15 +22,18 @@ pub struct Pulse {
     answers: AtomicU64,
     over: AtomicBool,
     steps: AtomicU64,
+    most_steps: u64,
 }
 
 impl Pulse {
-    pub fn new() -> Pulse {
+    /// That of a phase which a worker ends that has made so many steps.
+    pub fn new(most_steps: u64) -> Pulse {
         Pulse {
             asked: AtomicBool::new(false),
             answers: AtomicU64::new(0),
             over: AtomicBool::new(false),
             steps: AtomicU64::new(0),
+            most_steps,
         }
     }
 
@@ -96,7 +99,11 @@ impl Watch {
     /// over for those that wait.
     pub fn leaves(&mut self, progress: Progress, pulse: &Pulse) -> bool {
         self.steps = self.steps.saturating_add(progress.moved);
-        let leaves = progress.arrived || (progress.moved == 0 && self.waits(pulse));
+        let is_long = self.steps >= pulse.most_steps;
+        if is_long {
+            pulse.end();
+        }
+        let leaves = progress.arrived || is_long || (progress.moved == 0 && self.waits(pulse));
         if progress.moved > 0 {
             self.moved();
         }

@@ -39,6 +39,12 @@ pub trait Stepper: Drop {
     // one event leads from the first to the second, and it ends a turn where the truth is true
     ghost takes: { Self → Bool → Self → Type 0 };
 
+    /// How many members a worker may have that gains nothing by a thread of its own, as they wait for those of others
+    /// at nearly every step.
+    fn few_members() -> usize {
+        0
+    }
+
     /// The number of the port.
     fn port(&self) -> u32
         ensures { result ≡ port self.now };

@@ -7,7 +7,13 @@ use Rattle.list_laws.proofs.Places.{one_there}
 use Rattle.list_laws.proofs.Ranges.{last_or}
 use Rattle.list_laws.proofs.Members.{set_same, set_other}
 use Rattle.logic_four.specs.declared.V4.{V4}
-use Rattle.logic_four.specs.declared.V4.TheVariants.{Undef}
+use Rattle.logic_four.specs.declared.V4.TheVariants.{Zero, One, Undef, HighZ}
+use Rattle.wide_planes.specs.declared.planes.Wide.{Wide}
+use Rattle.std.specs.Prelude.{max}
+use Rattle.wide_planes.specs.declared.TheConstants.{WIDE_LANES}
+use Rattle.wide_planes.specs.declared.planes.Words.{Words}
+use Rattle.wide_planes.specs.Lanes as wide
+use Rattle.wide_planes.specs.Lanes.{bit_of, opposite}
 use Rattle.fault_sim.specs.declared.wires.Lanes.{Lanes}
 use Rattle.fault_sim.specs.code.Lanes.{lane_of, lane_row}
 use Rattle.net_defs.specs.declared.netlist.Netlist.{Netlist}
@@ -33,6 +39,40 @@ pub differs_here : (net : Netlist) (row : List Lanes) (at j : ℕ) (p : Lanes) (
     → a ≡ lane_of p 0 → b ≡ lane_of p at → differs_in net (lane_row 0 row) (lane_row at row) j ≡ differs a b
 differs_here net row at j p list a b whole printed long within is first second =
     ap₂ differs (column_is net row 0 j p list whole printed long within is ∙ sym first) (column_is net row at j p list whole printed long within is ∙ sym second)
+
+not_opposite : (a b : V4) → opposite a b ≡ 0 → differs a b ≡ false
+not_opposite Zero Zero none = refl
+not_opposite Zero One none = absurd (omega (arith, none))
+not_opposite Zero Undef none = refl
+not_opposite Zero HighZ none = refl
+not_opposite One Zero none = absurd (omega (arith, none))
+not_opposite One One none = refl
+not_opposite One Undef none = refl
+not_opposite One HighZ none = refl
+not_opposite Undef b none = refl
+not_opposite HighZ b none = refl
+
+-- a lane without a mark differs in none of the first so many columns
+abbrev pub MarksTo : Netlist → List Lanes → ℕ → Words → Type 0
+MarksTo net row n marks =
+    (k j : ℕ) → k < WIDE_LANES → bit_of marks k ≡ 0 → j < n → differs_in net (lane_row 0 row) (lane_row k row) j ≡ false
+
+pub marks_more : (net : Netlist) (row : List Lanes) (n : ℕ) (p : Lanes) (good : Wide) (list : List ℕ) (marks new others : Words) (v : V4)
+    → list ≡ net.printed → All (IsSignal net) net.printed → length row ≡ length net.signals → n < length list → p ≡ get_or row (get_or list n 0) p
+    → v ≡ lane_of p 0 → ((k : ℕ) → k < WIDE_LANES → wide.lane_of good k ≡ v)
+    → ((k : ℕ) → k < WIDE_LANES → bit_of others k ≡ opposite (wide.lane_of good k) (lane_of p k))
+    → ((k : ℕ) → k < WIDE_LANES → bit_of new k ≡ max (bit_of marks k) (bit_of others k))
+    → MarksTo net row n marks → MarksTo net row (n + 1) new
+marks_more net row n p good list marks new others v whole printed long within is first same marked joined so_far k j here none below =
+    let both : max (bit_of marks k) (bit_of others k) ≡ 0 = sym (joined k here) ∙ none in
+    elim (last_or j n below) [
+      | inl h ↦ so_far k j here (omega (arith, both)) h
+      | inr h ↦
+          let other : bit_of others k ≡ 0 = omega (arith, both) in
+          ap (differs_in net (lane_row 0 row) (lane_row k row)) h
+          ∙ (differs_here net row k n p list (wide.lane_of good k) (lane_of p k) whole printed long within is (same k here ∙ first) refl
+          ∙ not_opposite (wide.lane_of good k) (lane_of p k) (sym (marked k here) ∙ other))
+    ]
 
 -- there is no difference past the last column
 pub differs_past : (net : Netlist) (good faulty : List V4) (j : ℕ) → length net.printed ≤ j → differs_in net good faulty j ≡ false

@@ -15,6 +15,9 @@ pub struct Seated<'a> {
     ghost own: { IsOf bar.now run.pass },
 }
 
+/// A port waits for others at nearly every slot of a random netlist: a thread pays where its worker has some sixteen.
+const FEW_MEMBERS: usize = 3;
+
 impl<'a> Stepper for Seated<'a> {
     ghost use Rattle.std.specs.Prelude.{refl};
     ghost use Rattle.std.proofs.Common.{◌∙◌};
@@ -34,6 +37,10 @@ impl<'a> Stepper for Seated<'a> {
     ghost short = { λ a. IsShort a.run.until a.run.pass };
 
     ghost takes = { λ a tells b. Takes a.run tells b.run };
+
+    fn few_members() -> usize {
+        FEW_MEMBERS
+    }
 
     fn port(&self) -> u32 {
         self.run.port()

@@ -3,6 +3,9 @@ use Rattle.std.specs.Prelude.{◌≡◌, ℕ, ◌+◌, ◌*◌, ◌<◌, ◌≤�
 use Rattle.std.specs.List.{list_all}
 use Rattle.logic_four.specs.declared.V4.{V4}
 use Rattle.fault_sim.specs.declared.wires.Lanes.{Lanes}
+use Rattle.wide_planes.specs.declared.TheConstants.{WIDE_LANES}
+use Rattle.wide_planes.specs.declared.planes.Words.{Words}
+use Rattle.wide_planes.specs.Lanes.{bit_of}
 use Rattle.fault_sim.specs.code.Lanes.{lane_of, lane_row}
 use Rattle.net_defs.specs.declared.netlist.Netlist.{Netlist}
 use Rattle.net_defs.specs.declared.timing.Timing.{Timing}
@@ -44,6 +47,10 @@ abbrev pub IsLooked : Netlist → List V4 → List V4 → ℕ → Verdict → Ve
 IsLooked net good faulty cycle (Seen before at) new = new ≡ Seen before at
 IsLooked net good faulty cycle Unseen (Seen here column) = (here ≡ cycle) × IsFirstColumn net good faulty column
 IsLooked net good faulty cycle Unseen Unseen = (j : ℕ) → differs_in net good faulty j ≡ false
+
+-- a lane without a mark differs from the good design in no printed name
+abbrev pub MarkOthers : Netlist → List Lanes → Words → Type 0
+MarkOthers net row marks = (k j : ℕ) → k < WIDE_LANES → bit_of marks k ≡ 0 → differs_in net (lane_row 0 row) (lane_row k row) j ≡ false
 
 -- all verdicts became so
 pub record AreLooked (net : Netlist) (row : List Lanes) (cycle : ℕ) (old new : List Verdict) : Type 0 where

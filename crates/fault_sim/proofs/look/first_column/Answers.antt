@@ -1,7 +1,7 @@
 use Rattle.std.proofs.Common.{◌∙◌, ◌<◌, inl, inr, length, sym, ap, subst, arith}
 use Rattle.std.proofs.lemmas.Bool.{cases_lt}
 use Rattle.list_laws.proofs.Ranges.{last_or}
-use Rattle.fault_sim.specs.code.Lanes.{lane_of, lane_row}
+use Rattle.fault_sim.specs.code.Lanes.{lane_row}
 use Rattle.fault_sim.specs.code.Runs.{differs_in}
 use Rattle.fault_sim.proofs.Looking.{differs_here, differs_past}
 use Rattle.fault_sim.proofs.look.first_column.Goals as goal
@@ -13,8 +13,7 @@ pub returns-then-differs : goal.returns-then-differs
 returns-then-differs c = record {
   printed = subst (λ xs. c.columns.j < length xs) c.columns.invariant.whole c.columns-test.true;
   here =
-      differs_here c.args.net.now c.args.row.now c.args.at c.columns.j c.index-row-printed.result _ _ _ c.columns.invariant.whole c.requires.printed c.requires.long c.columns-test.true c.index-row-printed.is
-      (c.lane.ensures ∙ ap (λ place. lane_of place 0) (sym c.index-row-printed.is)) (c.lane-in-columns.ensures ∙ ap (λ place. lane_of place c.args.at) (sym c.index-row-printed.is))
+      differs_here c.args.net.now c.args.row.now c.args.at c.columns.j c.index-row-printed.result _ _ _ c.columns.invariant.whole c.requires.printed c.requires.long c.columns-test.true c.index-row-printed.is c.lane.ensures c.lane-in-columns.ensures
       ∙ (sym c.differs.ensures ∙ c.if-differs.true);
   before = c.columns.invariant.none;
 }
@@ -22,8 +21,7 @@ returns-then-differs c = record {
 pub columns-preserved : goal.columns-preserved
 columns-preserved c =
     let here =
-    differs_here c.args.net.now c.args.row.now c.args.at c.columns.j c.index-row-printed.result _ _ _ c.columns.invariant.whole c.requires.printed c.requires.long c.columns-test.true c.index-row-printed.is
-    (c.lane.ensures ∙ ap (λ place. lane_of place 0) (sym c.index-row-printed.is)) (c.lane-in-columns.ensures ∙ ap (λ place. lane_of place c.args.at) (sym c.index-row-printed.is))
+    differs_here c.args.net.now c.args.row.now c.args.at c.columns.j c.index-row-printed.result _ _ _ c.columns.invariant.whole c.requires.printed c.requires.long c.columns-test.true c.index-row-printed.is c.lane.ensures c.lane-in-columns.ensures
     ∙ (sym c.differs.ensures ∙ c.if-differs.false) in
     record {
       whole = c.columns.invariant.whole;
