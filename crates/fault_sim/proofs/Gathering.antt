@@ -13,7 +13,7 @@ use Rattle.list_laws.proofs.Ranges.{range_append}
 use Rattle.net_defs.specs.declared.netlist.Netlist.{Netlist}
 use Rattle.net_defs.specs.declared.timing.Timing.{Timing}
 use Rattle.net_defs.specs.declared.stimulus.Stimulus.{Stimulus}
-use Rattle.limits.specs.declared.TheConstants.{LANES}
+use Rattle.wide_planes.specs.declared.TheConstants.{WIDE_LANES}
 use Rattle.logic_four.specs.declared.V4.TheVariants.{Zero, One}
 use Rattle.net_defs.specs.declared.faults.Fault.{Fault}
 use Rattle.fault_sim.specs.declared.faults.Verdict.{Verdict}
@@ -96,7 +96,7 @@ faults_are net a (suc n) within =
     (All-cons (IsFault net) (record { signal = a; value = One }) (faults_from (a + 1) n) (record { signal = omega (arith, within); value = inr refl }) (faults_are net (a + 1) n (omega (arith, within))))
 
 -- one group more, of the faults from one place to another
-pub groups_more : (net : Netlist) (faults : List Fault) (begun end : ℕ) (groups : List Group) (group : Group) → AreGroups net (take begun faults) groups → group.faults ≡ take (end - begun) (drop begun faults) → begun ≤ end → end ≤ length faults → end - begun < LANES → All (IsFault net) faults → AreGroups net (take end faults) (groups ++ group ∷ [])
+pub groups_more : (net : Netlist) (faults : List Fault) (begun end : ℕ) (groups : List Group) (group : Group) → AreGroups net (take begun faults) groups → group.faults ≡ take (end - begun) (drop begun faults) → begun ≤ end → end ≤ length faults → end - begun < WIDE_LANES → All (IsFault net) faults → AreGroups net (take end faults) (groups ++ group ∷ [])
 groups_more net faults begun end groups group are is grows within few all =
     let past : begun + (end - begun) ≡ end = omega (arith, grows) in
     record {

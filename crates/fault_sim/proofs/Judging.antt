@@ -1,34 +1,37 @@
 -- A group of runs from one cycle to the next.
 use Rattle.std.proofs.Common.{◌≡◌, ◌∙◌, inl, inr, ℕ, zero, suc, ◌+◌, ◌-◌, ◌*◌, ◌/◌, ◌<◌, ◌≤◌, Bool, true, false, ◌&&◌, List, [], ◌∷◌, length, replicate, get_or, refl, sym, ap, ap₂, subst, arith, Option, Some, None}
-use Rattle.std.specs.List.{slice_get, All, list_all}
-use Rattle.std.proofs.Math.Nat.{mul-le-mul_left}
-use Rattle.std.proofs.lemmas.Nat.{div-mul-add}
+use Rattle.std.specs.List.{slice_get, All, list_all, take-map}
 use Rattle.std.proofs.lemmas.Bool.{cases_lt}
 use Rattle.std.proofs.lemmas.Option.{slice_get_within, slice_get-get_or, get_or_from_slice_get}
 use Rattle.std.proofs.lemmas.List.{get_or-replicate, length-replicate}
 use Rattle.list_laws.proofs.Members.{each}
 use Rattle.ref_sim.proofs.Simulations.{one_along}
-use Rattle.lane_planes.specs.Lanes.{lane_row}
+use Rattle.fault_sim.specs.code.Lanes.{lane_of, lane_row}
 use Rattle.logic_four.specs.declared.V4.{V4}
 use Rattle.net_defs.specs.declared.netlist.Netlist.{Netlist}
 use Rattle.net_defs.specs.declared.timing.Timing.{Timing}
 use Rattle.net_defs.specs.declared.stimulus.Stimulus.{Stimulus}
-use Rattle.net_defs.specs.Time.{value_at, cycle_of, cycle_rows, cycle_count, turn_count}
-use Rattle.net_defs.specs.Steps.{State, values_of, IsRightStep}
+use Rattle.net_defs.specs.Time.{value_at, cycle_count}
+use Rattle.net_defs.specs.Steps.{State, values_of}
 use Rattle.net_defs.specs.Loops.{IsOrder}
 use Rattle.net_defs.specs.Trace.{cells_of}
 use Rattle.net_defs.specs.Reference.{IsSimulation}
 use Rattle.ref_sim.specs.code.Runs.{StandsAt}
-use Rattle.ref_sim.proofs.Uniqueness.{next_state}
+use Rattle.ref_sim.proofs.CycleLemmas.{cycle_passes}
 use Rattle.net_defs.specs.declared.faults.Fault.{Fault}
 use Rattle.fault_sim.specs.declared.faults.Verdict.{Verdict}
 use Rattle.fault_sim.specs.declared.faults.Verdict.TheVariants.{Seen, Unseen}
-use Rattle.fault_sim.specs.declared.state.LaneState.{LaneState}
+use Rattle.net_ops.specs.declared.state.LaneState.{LaneState}
+use Rattle.net_ops.specs.Places.{row_of}
+use Rattle.net_ops.specs.States.{lane_state, Passes}
+use Rattle.fault_sim.specs.declared.wires.Lanes.{Lanes}
+use Rattle.fault_sim.specs.declared.force.Forces.{Forces}
 use Rattle.fault_sim.specs.Faults.{stuck, IsFault}
 use Rattle.fault_sim.specs.code.Faults.{order_for}
 use Rattle.fault_sim.specs.Verdicts.{differs, is_seen, IsFirstSeen, Judges, AreVerdicts}
-use Rattle.fault_sim.specs.code.Lanes.{lane_net, lane_state, HasInputs}
+use Rattle.fault_sim.specs.code.Lanes.{lane_net, stuck_in, AreForces}
 use Rattle.fault_sim.specs.code.Runs.{HasOrder, differs_in, IsLooked, AreLooked, is_decided, are_decided, StandsInLanes, RunsTo}
+use Rattle.fault_sim.proofs.LaneSteps.{lane_step}
 use Rattle.fault_sim.proofs.Orders.{order_serves, one_stuck}
 
 -- ---- the netlist of a lane
@@ -44,28 +47,17 @@ lane_order net faults timing (suc k) are order = by_fault (slice_get faults k) r
   by_fault None at = rw at order
   by_fault (Some fault) at = rw at (order_for net fault order.0, order_serves net fault (each (IsFault net) faults k fault are at) timing order.0 order.1)
 
--- ---- one turn
+-- ---- one cycle
 
-number_of_cycle : (units cycle place : ℕ) → place < units → cycle_of units (cycle * units + place + 1) ≡ cycle + 1
-number_of_cycle units cycle place inside = ap (λ n. n / units + 1) (omega arith) ∙ ap (λ n. n + 1) (div-mul-add cycle units place inside)
-
-pub given_inputs : (timing : Timing) (stimulus : Stimulus) (cycle place turn : ℕ) (inputs : List V4) → place < timing.units → turn ≡ cycle * timing.units + place + 1 → get_or (cycle_rows stimulus) cycle [] ≡ inputs → HasInputs timing stimulus turn inputs
-given_inputs timing stimulus cycle place turn inputs inside number row s =
-    let count : cycle ≡ cycle_of timing.units turn - 1 = rw number (omega (arith, number_of_cycle timing.units cycle place inside)) in
-    ap (λ r. value_at r s) (sym row) ∙ ap (λ n. value_at (get_or (cycle_rows stimulus) n []) s) count
-
-pub turn_stands : (net : Netlist) (timing : Timing) (stimulus : Stimulus) → HasOrder net timing → (cycle place turn : ℕ) (old new : State) → place < timing.units → turn ≡ cycle * timing.units + place + 1 → cycle < cycle_count stimulus
-    → IsRightStep net timing stimulus turn old new → StandsAt net timing stimulus (cycle * timing.units + place) old → StandsAt net timing stimulus (cycle * timing.units + (place + 1)) new
-turn_stands net timing stimulus order cycle place turn old new inside number within step stands =
-    let enough : cycle + 1 ≤ cycle_count stimulus = omega (arith, within) in
-    let product = mul-le-mul_left timing.units enough in
-    let short : (cycle * timing.units + place) + 1 ≤ turn_count timing stimulus = omega (arith, product, inside) in
-    let right : IsRightStep net timing stimulus (cycle * timing.units + place + 1) old new = subst (λ n. IsRightStep net timing stimulus n old new) number step in
-    record {
-      state_there = λ states simulation.
-          let add : cycle * timing.units + (place + 1) ≡ cycle * timing.units + place + 1 = omega arith in
-          ap (slice_get states) add ∙ next_state net timing stimulus order.0 order.1 states simulation (cycle * timing.units + place) old new short (stands.state_there states simulation) right;
-    }
+-- each lane's run after the turns of a cycle
+pub lanes_stand : (net : Netlist) (faults : List Fault) (forces : Forces) (timing : Timing) (stimulus : Stimulus) (order : List ℕ) → IsOrder net timing order → All (IsFault net) faults → AreForces net faults forces
+    → (cycle : ℕ) (old new : LaneState Lanes) → cycle < cycle_count stimulus
+    → ((l : ℕ) → l ≤ length faults → Passes net timing stimulus (stuck_in forces l) (cycle * timing.units) timing.units (lane_state lane_of net l old) (lane_state lane_of net l new))
+    → StandsInLanes net faults timing stimulus (cycle * timing.units) old → StandsInLanes net faults timing stimulus ((cycle + 1) * timing.units) new
+lanes_stand net faults forces timing stimulus order is_order are are_forces cycle old new within passes before l low =
+    let has = lane_order net faults timing l are (order, is_order) in
+    cycle_passes net (lane_net net faults l) timing stimulus (stuck_in forces l) has.0 has.1 (lane_step net timing stimulus faults forces l are are_forces low)
+    cycle (lane_state lane_of net l old) (lane_state lane_of net l new) within (passes l low) (before l low)
 
 -- ---- one verdict
 
@@ -120,7 +112,7 @@ decided_each (x ∷ xs) k verdict all at = by_test (is_decided x) refl all (λ r
   by_test true is all others (suc k) at = others all k at
 
 module _ (net : Netlist) (faults : List Fault) (timing : Timing) (stimulus : Stimulus) where
-  pub runs_kept : (cycles more : ℕ) (state : LaneState) (verdicts : List Verdict) → cycles ≤ more → are_decided verdicts ≡ true → RunsTo net faults timing stimulus cycles state verdicts → RunsTo net faults timing stimulus more state verdicts
+  pub runs_kept : (cycles more : ℕ) (state : LaneState Lanes) (verdicts : List Verdict) → cycles ≤ more → are_decided verdicts ≡ true → RunsTo net faults timing stimulus cycles state verdicts → RunsTo net faults timing stimulus more state verdicts
   runs_kept cycles more state verdicts above all runs = record {
     stands = λ none. let never : true ≡ false = sym all ∙ none in cc;
     judged = λ k fault verdict at there good faulty is_good is_faulty.
@@ -130,26 +122,29 @@ module _ (net : Netlist) (faults : List Fault) (timing : Timing) (stimulus : Sti
     later (Seen cycle column) sure good faulty judged = seen_more net timing cycles good faulty more cycle column above judged
     later Unseen sure good faulty judged = cc
 
-  pub runs_step : (cycles : ℕ) (old new : LaneState) (before after : List Verdict) → length before ≡ length faults → are_decided before ≡ false
+  pub runs_step : (cycles : ℕ) (old new : LaneState Lanes) (before after : List Verdict) → length before ≡ length faults → are_decided before ≡ false
       → (StandsInLanes net faults timing stimulus (cycles * timing.units) old → StandsInLanes net faults timing stimulus ((cycles + 1) * timing.units) new)
-      → AreLooked net new.now (cycles + 1) before after → RunsTo net faults timing stimulus cycles old before → RunsTo net faults timing stimulus (cycles + 1) new after
-  runs_step cycles old new before after count undecided steps looked runs = record {
+      → (row : List Lanes) → row ≡ row_of net new.values → AreLooked net row (cycles + 1) before after → RunsTo net faults timing stimulus cycles old before → RunsTo net faults timing stimulus (cycles + 1) new after
+  runs_step cycles old new before after count undecided steps row here looked runs = record {
     stands = λ none. there_now;
     judged = λ k fault verdict at there good faulty is_good is_faulty.
         let inside : k < length faults = slice_get_within faults k fault at in
         let was : slice_get before k ≡ Some (get_or before k verdict) = slice_get-get_or before k verdict (omega (arith, inside, count)) in
-        let faulty_stands : StandsAt (stuck net fault) timing stimulus ((cycles + 1) * timing.units) (lane_state (k + 1) new) =
-        subst (λ n. StandsAt n timing stimulus ((cycles + 1) * timing.units) (lane_state (k + 1) new)) (lane_net_at net faults k fault at) (there_now (k + 1) (omega (arith, inside))) in
-        judge_step net timing cycles good faulty (lane_row 0 new.now) (lane_row (k + 1) new.now)
-        (cells_there net net timing stimulus (cycles + 1) (lane_state 0 new) (there_now 0 (omega arith)) good is_good)
-        (cells_there (stuck net fault) net timing stimulus (cycles + 1) (lane_state (k + 1) new) faulty_stands faulty is_faulty)
+        let faulty_stands : StandsAt (stuck net fault) timing stimulus ((cycles + 1) * timing.units) (lane_state lane_of net (k + 1) new) =
+        subst (λ n. StandsAt n timing stimulus ((cycles + 1) * timing.units) (lane_state lane_of net (k + 1) new)) (lane_net_at net faults k fault at) (there_now (k + 1) (omega (arith, inside))) in
+        judge_step net timing cycles good faulty (lane_row 0 row) (lane_row (k + 1) row)
+        (cells_there net net timing stimulus (cycles + 1) (lane_state lane_of net 0 new) (there_now 0 (omega arith)) good is_good ∙ row_is 0)
+        (cells_there (stuck net fault) net timing stimulus (cycles + 1) (lane_state lane_of net (k + 1) new) faulty_stands faulty is_faulty ∙ row_is (k + 1))
         (get_or before k verdict) verdict (runs.judged k fault (get_or before k verdict) at was good faulty is_good is_faulty) (looked.each k (get_or before k verdict) verdict was there);
   } where
     there_now : StandsInLanes net faults timing stimulus ((cycles + 1) * timing.units) new
     there_now = steps (runs.stands undecided)
 
+    row_is : (l : ℕ) → values_of (lane_state lane_of net l new).row net.printed ≡ values_of (lane_row l row) net.printed
+    row_is l = ap (λ r. values_of r net.printed) (take-map (λ p. lane_of p l) (length net.signals) new.values ∙ ap (lane_row l) (sym here))
+
   -- before the first cycle no fault is seen
-  pub runs_start : (state : LaneState) (n : ℕ) (verdicts : List Verdict) → verdicts ≡ replicate n Unseen → StandsInLanes net faults timing stimulus 0 state → RunsTo net faults timing stimulus 0 state verdicts
+  pub runs_start : (state : LaneState Lanes) (n : ℕ) (verdicts : List Verdict) → verdicts ≡ replicate n Unseen → StandsInLanes net faults timing stimulus 0 state → RunsTo net faults timing stimulus 0 state verdicts
   runs_start state n verdicts are stands = rw are (record {
     stands = λ none. subst (λ turn. StandsInLanes net faults timing stimulus turn state) (omega arith) stands;
     judged = λ k fault verdict at there good faulty is_good is_faulty.
@@ -159,7 +154,7 @@ module _ (net : Netlist) (faults : List Fault) (timing : Timing) (stimulus : Sti
   })
 
   -- the verdicts at the end
-  pub verdicts_made : (order : List ℕ) → IsOrder net timing order → All (IsFault net) faults → (state : LaneState) (verdicts : List Verdict) → length verdicts ≡ length faults → RunsTo net faults timing stimulus (cycle_count stimulus) state verdicts → AreVerdicts net timing stimulus faults verdicts
+  pub verdicts_made : (order : List ℕ) → IsOrder net timing order → All (IsFault net) faults → (state : LaneState Lanes) (verdicts : List Verdict) → length verdicts ≡ length faults → RunsTo net faults timing stimulus (cycle_count stimulus) state verdicts → AreVerdicts net timing stimulus faults verdicts
   verdicts_made order is_order are state verdicts count runs = record {
     count = count;
     each = λ k fault verdict at there.

@@ -1,16 +1,10 @@
-pub mod AlongLemmas
-pub mod BaseLemmas
-pub mod EdgeLemmas
 pub mod ForceLemmas
 pub mod Gathering
 pub mod Judging
+pub mod LaneSteps
 pub mod LineLemmas
 pub mod Looking
 pub mod OneList
 pub mod Orders
-pub mod ProgramLemmas
-pub mod SourceLemmas
 pub mod Starts
-pub mod StepLemmas
 pub mod Stuck
-pub mod TurnLemmas

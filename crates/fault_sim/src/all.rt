@@ -6,21 +6,23 @@ ghost use Rattle.net_defs.specs.Valid.{IsValid, IsValidTiming, IsValidStimulus};
 ghost use Rattle.net_defs.specs.Loops.{AreRanks};
 ghost use Rattle.fault_sim.specs.Faults.{IsFault, all_faults};
 ghost use Rattle.fault_sim.specs.Verdicts.{AreAllVerdicts, AreVerdicts, IsNamed};
-ghost use Rattle.fault_sim.specs.code.Programs.{IsSchedule};
+ghost use Rattle.net_ops.specs.Schedules.{IsSchedule};
+ghost use Rattle.fault_sim.specs.code.Lanes.{pair_value, wide_form};
 ghost use Rattle.fault_sim.specs.code.Groups.{group_faults, IsGroup, AreGroups, IsDone, IsRun, AreRun};
 
 use crate::group::scheduled_group;
-use crate::schedule::{Schedule, make_schedule};
+use crate::wires::Lanes;
 use crate::{Fault, Verdict};
-use limits::LANES;
-use logic_four::V4;
+use logic_four::{Kind, V4};
 use net_defs::{Netlist, Ranks, Stimulus, Timing};
+use net_ops::{Schedule, make_schedule};
 use seen_list::{List, Memory};
 use std::alloc::Global;
 use std::thread::{self, Threads};
+use wide_planes::WIDE_LANES;
 
 /// The faults of a group. Each takes a lane beside that of the good design.
-const FAULTS: usize = LANES - 1;
+const FAULTS: usize = WIDE_LANES as usize - 1;
 
 /// Faults that run side by side, and the verdicts on them once they are made.
 #[derive(Drop)]
@@ -84,7 +86,7 @@ pub fn fault_list<R: Threads + Sync>(
     ensures verdicts { IfOk result (AreVerdicts net.now timing.now stim.now faults.now) }
     ensures named { IfOk result (All (IsNamed net.now stim.now)) }
 {
-    let schedule = make_schedule(alloc, net, timing, ranks.order.as_slice())?;
+    let schedule = make_schedule::<Lanes>(alloc, net, timing, ranks.order.as_slice())?;
     let mut groups = match make_groups(alloc, net, faults) {
         Ok(groups) => groups,
         Err(no) => {
@@ -114,14 +116,14 @@ fn run_groups<R: Threads + Sync>(
     alloc: Global,
     groups: &mut [Group],
     net: &Netlist,
-    schedule: &Schedule,
+    schedule: &Schedule<Kind>,
     timing: &Timing,
     stim: &Stimulus,
     workers: u32,
 )
     requires valid { IsValid net.now }
     requires timing { IsValidTiming timing.now }
-    requires schedule { IsSchedule net.now timing.now schedule.now }
+    requires schedule { IsSchedule pair_value wide_form net.now timing.now schedule.now }
     requires stimulus { IsValidStimulus stim.now }
     requires workers { 1 ≤ workers }
     requires groups { All (IsGroup net.now) groups.old }
@@ -139,14 +141,14 @@ fn run_groups<R: Threads + Sync>(
 fn run_group(
     alloc: Global,
     net: &Netlist,
-    schedule: &Schedule,
+    schedule: &Schedule<Kind>,
     timing: &Timing,
     stim: &Stimulus,
     group: &mut Group,
 )
     requires valid { IsValid net.now }
     requires timing { IsValidTiming timing.now }
-    requires schedule { IsSchedule net.now timing.now schedule.now }
+    requires schedule { IsSchedule pair_value wide_form net.now timing.now schedule.now }
     requires stimulus { IsValidStimulus stim.now }
     requires group { IsGroup net.now group.old }
     ensures { IsRun net.now timing.now stim.now group.old group.new }

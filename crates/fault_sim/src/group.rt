@@ -1,24 +1,24 @@
 //! A group of faults beside the good design.
 
-ghost use Rattle.std.specs.Prelude.{◌<◌, ◌≡◌, ◌≤◌, ℕ, length, All, IfOk};
-ghost use Rattle.limits.specs.declared.TheConstants.{LANES};
+ghost use Rattle.std.specs.Prelude.{◌<◌, ◌≡◌, ◌≤◌, ◌+◌, ℕ, [], length, slice_index_or, All, IfOk};
+ghost use Rattle.wide_planes.specs.declared.TheConstants.{WIDE_LANES};
 ghost use Rattle.net_defs.specs.Valid.{IsValid, IsValidTiming, IsValidStimulus};
 ghost use Rattle.net_defs.specs.Loops.{AreRanks};
 ghost use Rattle.net_defs.specs.Steps.{first_state};
 ghost use Rattle.fault_sim.specs.Faults.{IsFault};
 ghost use Rattle.fault_sim.specs.Verdicts.{AreVerdicts};
-ghost use Rattle.fault_sim.specs.code.Lanes.{lane_net, lane_state, IsReady, AreForces};
-ghost use Rattle.fault_sim.specs.code.Programs.{IsSchedule};
+ghost use Rattle.net_ops.specs.Places.{place_count};
+ghost use Rattle.net_ops.specs.Schedules.{IsSchedule};
+ghost use Rattle.net_ops.specs.States.{lane_state, AreShaped};
+ghost use Rattle.fault_sim.specs.code.Lanes.{lane_of, AreForces, pair_value, wide_form};
 
-use crate::edge::make_room;
-use crate::force::make_forces;
+use crate::force::{Forces, make_forces};
 use crate::run::run;
-use crate::schedule::{Schedule, make_schedule};
-use crate::start::first_state;
-use crate::state::LaneState;
+use crate::wires::Lanes;
 use crate::{Fault, Verdict};
-use lane_planes::Planes;
+use logic_four::Kind;
 use net_defs::{Netlist, Ranks, Stimulus, Timing};
+use net_ops::{LaneState, Schedule, initial_state, make_ports, make_schedule};
 use seen_list::{List, Memory};
 use std::alloc::Global;
 
@@ -36,11 +36,11 @@ pub fn fault_group(
     requires timing { IsValidTiming timing.now }
     requires ranks { AreRanks net.now timing.now ranks.now }
     requires stimulus { IsValidStimulus stim.now }
-    requires few { length faults.now < LANES }
+    requires few { length faults.now < WIDE_LANES }
     requires faults { All (IsFault net.now) faults.now }
     ensures { IfOk result (AreVerdicts net.now timing.now stim.now faults.now) }
 {
-    let schedule = make_schedule(alloc, net, timing, ranks.order.as_slice())?;
+    let schedule = make_schedule::<Lanes>(alloc, net, timing, ranks.order.as_slice())?;
     scheduled_group(alloc, net, timing, stim, &schedule, faults)
 }
 
@@ -50,59 +50,54 @@ pub(crate) fn scheduled_group(
     net: &Netlist,
     timing: &Timing,
     stim: &Stimulus,
-    schedule: &Schedule,
+    schedule: &Schedule<Kind>,
     faults: &[Fault],
 ) -> Result<List<Verdict>, Memory>
     requires valid { IsValid net.now }
     requires timing { IsValidTiming timing.now }
-    requires schedule { IsSchedule net.now timing.now schedule.now }
+    requires schedule { IsSchedule pair_value wide_form net.now timing.now schedule.now }
     requires stimulus { IsValidStimulus stim.now }
-    requires few { length faults.now < LANES }
+    requires few { length faults.now < WIDE_LANES }
     requires faults { All (IsFault net.now) faults.now }
     ensures { IfOk result (AreVerdicts net.now timing.now stim.now faults.now) }
 {
     let forces = make_forces(alloc, net, faults)?;
-    let mut state = first_state(alloc, net, timing, faults)?;
+    let mut state = initial_state::<Lanes>(alloc, net, timing, faults.len() + 1)?;
     run_from_start(
-        alloc,
-        &mut state,
-        net,
-        timing,
-        stim,
-        schedule,
-        faults,
-        forces.as_slice(),
+        alloc, &mut state, net, timing, stim, schedule, faults, &forces,
     )
 }
 
 /// The same, from the state before the first turn, and with what each signal is stuck at.
 fn run_from_start(
     alloc: Global,
-    state: &mut LaneState,
+    state: &mut LaneState<Lanes>,
     net: &Netlist,
     timing: &Timing,
     stim: &Stimulus,
-    schedule: &Schedule,
+    schedule: &Schedule<Kind>,
     faults: &[Fault],
-    forces: &[Planes],
+    forces: &Forces,
 ) -> Result<List<Verdict>, Memory>
     requires valid { IsValid net.now }
     requires timing { IsValidTiming timing.now }
-    requires schedule { IsSchedule net.now timing.now schedule.now }
+    requires schedule { IsSchedule pair_value wide_form net.now timing.now schedule.now }
     requires stimulus { IsValidStimulus stim.now }
-    requires few { length faults.now < LANES }
+    requires few { length faults.now < WIDE_LANES }
     requires faults { All (IsFault net.now) faults.now }
     requires forces { AreForces net.now faults.now forces.now }
-    requires ready { IsReady net.now faults.now state.old }
-    requires first { (l : ℕ) → l ≤ length faults.now → lane_state l state.old ≡ first_state (lane_net net.now faults.now l) timing.now }
+    requires places { length state.old.values ≡ place_count net.now }
+    requires lanes { length state.old.memories ≡ length faults.now + 1 }
+    requires shaped { (l : ℕ) → l < length faults.now + 1 → AreShaped net.now (slice_index_or state.old.memories l []) }
+    requires first { (l : ℕ) → l < length faults.now + 1 → lane_state lane_of net.now l state.old ≡ first_state net.now timing.now }
     ensures { IfOk result (AreVerdicts net.now timing.now stim.now faults.now) }
 {
     let mut verdicts = List::filled(alloc, Verdict::Unseen, faults.len())?;
-    let mut room = make_room(alloc, net)?;
+    let mut ports = make_ports(alloc, net)?;
     run(
         &mut verdicts,
         state,
-        &mut room,
+        &mut ports,
         net,
         timing,
         stim,

@@ -1,4 +1,4 @@
-//! Stuck faults: up to thirty designs side by side, and where each fault is first seen. A stuck signal has the same
+//! Stuck faults: up to 256 designs side by side, and where each fault is first seen. A stuck signal has the same
 //! value at every turn. Many faulty designs run side by side with the good one, in groups that are dealt to
 //! threads. The lines of the verdicts are made here too.
 #![tactic(auto)]
@@ -7,19 +7,13 @@ ghost use Rattle.fault_sim.specs.Faults.{StepsAsStuck, StuckStepsRight, HasOneFa
 ghost use Rattle.fault_sim.specs.Verdicts.{AreAllFaults, HaveOneList};
 
 mod all;
-mod base;
-mod edge;
 mod faults;
 mod force;
 mod group;
 mod lines;
 mod look;
-mod program;
 mod run;
-mod schedule;
-mod start;
-mod state;
-mod turn;
+mod wires;
 
 pub use all::{all_faults, fault_all, fault_list};
 pub use faults::Verdict;

@@ -20,23 +20,23 @@ put word k bit = bit_or (cleared word k) (bit * 2 ^ k % 4294967296)
 no_bit : (k : ℕ) → 0 * 2 ^ k % 4294967296 ≡ 0
 no_bit k = omega arith
 
-pub put_here : (word k bit : ℕ) → k < LANES → bit < 2 → bit_at (put word k bit) k ≡ bit
+pub put_here : (word k bit : ℕ) → k < 32 → bit < 2 → bit_at (put word k bit) k ≡ bit
 put_here word k zero low few =
     rw (no_bit k)
-    (bit_at_or (cleared word k) 0 k ∙ rw (bit_at_clear_same w32 word k (omega (arith, low)), bit_at-zero k) refl)
-put_here word k (suc zero) low few = bit_at_set_same w32 (cleared word k) k (omega (arith, low))
+    (bit_at_or (cleared word k) 0 k ∙ rw (bit_at_clear_same w32 word k low, bit_at-zero k) refl)
+put_here word k (suc zero) low few = bit_at_set_same w32 (cleared word k) k low
 put_here word k (suc (suc bit)) low few = absurd (omega (arith, few))
 
-pub put_other : (word k bit j : ℕ) → k < LANES → bit < 2 → j < LANES → j ≢ k → bit_at (put word k bit) j ≡ bit_at word j
+pub put_other : (word k bit j : ℕ) → k < 32 → bit < 2 → j < 32 → j ≢ k → bit_at (put word k bit) j ≡ bit_at word j
 put_other word k zero j low few within differ =
     rw (no_bit k)
     (bit_at_or (cleared word k) 0 j
-    ∙ rw (bit_at_clear_other w32 word k (omega (arith, low)) j (omega (arith, within)) differ, bit_at-zero j) (max_zero (bit_at word j))) where
+    ∙ rw (bit_at_clear_other w32 word k low j within differ, bit_at-zero j) (max_zero (bit_at word j))) where
       max_zero : (n : ℕ) → max n 0 ≡ n
       max_zero n = omega arith
 put_other word k (suc zero) j low few within differ =
-    bit_at_set_other w32 (cleared word k) k (omega (arith, low)) j differ
-    ∙ bit_at_clear_other w32 word k (omega (arith, low)) j (omega (arith, within)) differ
+    bit_at_set_other w32 (cleared word k) k low j differ
+    ∙ bit_at_clear_other w32 word k low j within differ
 put_other word k (suc (suc bit)) j low few within differ = absurd (omega (arith, few))
 
 pub put_small : (word k bit : ℕ) → word < 2 ^ LANES → k < LANES → bit < 2 → put word k bit < 2 ^ LANES

@@ -15,8 +15,6 @@ use Rattle.logic_four.specs.Kinds.{AllowsOperands}
 use Rattle.logic_four.specs.Folds.{takes_many, base_kind}
 use Rattle.logic_four.proofs.FoldLemmas.{front}
 use Rattle.logic_four.proofs.KindLemmas.{some_operands}
-use Rattle.lane_planes.specs.declared.planes.Planes.{Planes}
-use Rattle.lane_planes.specs.Lanes.{lane_of, lane_row}
 use Rattle.lane_planes.specs.Joins.{first_of, join_of, answer_of, JoinsOneByOne}
 
 -- a gate of one operand
@@ -91,21 +89,21 @@ four_joined kind (suc (suc (suc (suc zero)))) a b c d few allowed = one_by_one k
 four_joined kind (suc (suc (suc (suc (suc n))))) a b c d few allowed = absurd (omega (arith, few))
 
 -- the operands at some places of a row, in one lane
-pub all_over : (kind : Kind) (k : ℕ) (row : List Planes) (operands : List ℕ) (first : Planes) → first ≡ get_or row (get_or operands 0 0) first
+pub all_over : {W : Type 0} (lane : W → V4) (kind : Kind) (row : List W) (operands : List ℕ) (first : W) → first ≡ get_or row (get_or operands 0 0) first
     → AllowsOperands kind (length operands) → All (λ o. o < length row) operands
-    → answer_of kind (fold (join_of kind) (first_of kind (lane_of first k)) (map (value_at (lane_row k row)) (take (length operands - 1) (drop 1 operands))))
-    ≡ gate_value kind (map (value_at (lane_row k row)) operands)
-all_over kind k row [] first is allowed within = absurd (omega (arith, some_operands kind 0 allowed))
-all_over kind k row (o ∷ rest) first is allowed within =
+    → answer_of kind (fold (join_of kind) (first_of kind (lane first)) (map (value_at (map lane row)) (take (length operands - 1) (drop 1 operands))))
+    ≡ gate_value kind (map (value_at (map lane row)) operands)
+all_over lane kind row [] first is allowed within = absurd (omega (arith, some_operands kind 0 allowed))
+all_over lane kind row (o ∷ rest) first is allowed within =
     let less : suc (length rest) - 1 ≡ length rest = omega arith in
     let whole : take (suc (length rest) - 1) rest ≡ rest = rw less (take-length rest) in
-    let long : length (map (value_at (lane_row k row)) rest) + 1 ≡ suc (length rest) = omega (arith, length-map rest (value_at (lane_row k row))) in
+    let long : length (map (value_at (map lane row)) rest) + 1 ≡ suc (length rest) = omega (arith, length-map rest (value_at (map lane row))) in
     let inside : o < length row = within 0 0 (omega arith) in
-    let value : value_at (lane_row k row) o ≡ lane_of first k =
-    get_or-map (λ p. lane_of p k) row o first Undef inside ∙ ap (λ p. lane_of p k) (sym is) in
+    let value : value_at (map lane row) o ≡ lane first =
+    get_or-map lane row o first Undef inside ∙ ap lane (sym is) in
     rw whole
-    (ap (λ v. answer_of kind (fold (join_of kind) (first_of kind v) (map (value_at (lane_row k row)) rest))) (sym value)
-    ∙ sym (one_by_one kind (value_at (lane_row k row) o) (map (value_at (lane_row k row)) rest) (rw long allowed)))
+    (ap (λ v. answer_of kind (fold (join_of kind) (first_of kind v) (map (value_at (map lane row)) rest))) (sym value)
+    ∙ sym (one_by_one kind (value_at (map lane row) o) (map (value_at (map lane row)) rest) (rw long allowed)))
 
 -- the operands after the first are within the row as all are
 pub rest_within : (limit : ℕ) (operands : List ℕ) → All (λ o. o < limit) operands → All (λ o. o < limit) (take (length operands - 1) (drop 1 operands))
@@ -116,14 +114,14 @@ rest_within limit (o ∷ rest) within =
     rw whole (λ k d inside. within (suc k) d (omega (arith, inside)))
 
 -- one more operand at a place of a row, in one lane
-pub one_more_over : (kind : Kind) (k : ℕ) (row : List Planes) (others : List ℕ) (i : ℕ) (so_far : V4) (p : Planes)
+pub one_more_over : {W : Type 0} (lane : W → V4) (kind : Kind) (row : List W) (others : List ℕ) (i : ℕ) (so_far : V4) (p : W)
     → i < length others → get_or others i 0 < length row → p ≡ get_or row (get_or others i 0) p
-    → join_of kind (fold (join_of kind) so_far (map (value_at (lane_row k row)) (take i others))) (lane_of p k)
-    ≡ fold (join_of kind) so_far (map (value_at (lane_row k row)) (take (i + 1) others))
-one_more_over kind k row others i so_far p before inside is =
+    → join_of kind (fold (join_of kind) so_far (map (value_at (map lane row)) (take i others))) (lane p)
+    ≡ fold (join_of kind) so_far (map (value_at (map lane row)) (take (i + 1) others))
+one_more_over lane kind row others i so_far p before inside is =
     let o = get_or others i 0 in
-    let value = value_at (lane_row k row) in
-    let here : value o ≡ lane_of p k = get_or-map (λ p. lane_of p k) row o p Undef inside ∙ ap (λ p. lane_of p k) (sym is) in
+    let value = value_at (map lane row) in
+    let here : value o ≡ lane p = get_or-map lane row o p Undef inside ∙ ap lane (sym is) in
     sym
     (ap (λ places. fold (join_of kind) so_far (map value places)) (take_more others i 0 before)
     ∙ ap (fold (join_of kind) so_far) (map-append value (take i others) (o ∷ []))

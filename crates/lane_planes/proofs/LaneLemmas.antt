@@ -44,40 +44,47 @@ lane_read p k =
 
 -- ---- a test of each choice of bits
 
-abbrev for_both : (ℕ → Bool) → Bool
+abbrev pub for_both : (ℕ → Bool) → Bool
 for_both test = test 0 && test 1
 
-at_bit : (test : ℕ → Bool) (x : ℕ) → x < 2 → for_both test ≡ true → test x ≡ true
+pub at_bit : (test : ℕ → Bool) (x : ℕ) → x < 2 → for_both test ≡ true → test x ≡ true
 at_bit test zero low e = (and_parts (test 0) (test 1) e).0
 at_bit test (suc zero) low e = (and_parts (test 0) (test 1) e).1
 at_bit test (suc (suc x)) low e = absurd (omega (arith, low))
+
+-- of the bits of a value, and of those of two values
+pub of_bits : (f : ℕ → ℕ → V4) (g : V4 → V4) (x y : ℕ) → x < 2 → y < 2
+    → for_both (λ x. for_both (λ y. same (f x y) (g (bits x y)))) ≡ true
+    → f x y ≡ g (bits x y)
+of_bits f g x y x_few y_few test =
+    same_true (f x y) (g (bits x y))
+    (at_bit (λ y. same (f x y) (g (bits x y))) y y_few
+    (at_bit (λ x. for_both (λ y. same (f x y) (g (bits x y)))) x x_few test))
+
+pub of_two_bits : (f : ℕ → ℕ → ℕ → ℕ → V4) (g : V4 → V4 → V4) (x y z w : ℕ) → x < 2 → y < 2 → z < 2 → w < 2
+    → for_both (λ x. for_both (λ y. for_both (λ z. for_both (λ w. same (f x y z w) (g (bits x y) (bits z w)))))) ≡ true
+    → f x y z w ≡ g (bits x y) (bits z w)
+of_two_bits f g x y z w x_few y_few z_few w_few test =
+    same_true (f x y z w) (g (bits x y) (bits z w))
+    (at_bit (λ w. same (f x y z w) (g (bits x y) (bits z w))) w w_few
+    (at_bit (λ z. for_both (λ w. same (f x y z w) (g (bits x y) (bits z w)))) z z_few
+    (at_bit (λ y. for_both (λ z. for_both (λ w. same (f x y z w) (g (bits x y) (bits z w))))) y y_few
+    (at_bit (λ x. for_both (λ y. for_both (λ z. for_both (λ w. same (f x y z w) (g (bits x y) (bits z w)))))) x x_few test))))
 
 -- of one lane, and of a lane of two planes
 pub in_lane : (p : Planes) (k : ℕ) (f : ℕ → ℕ → V4) (g : V4 → V4)
     → for_both (λ x. for_both (λ y. same (f x y) (g (bits x y)))) ≡ true
     → f (bit_at p.low k) (bit_at p.high k) ≡ g (lane_of p k)
 unfolding lane_of
-in_lane p k f g test =
-    let x = bit_at p.low k in
-    let y = bit_at p.high k in
-    same_true (f x y) (g (bits x y))
-    (at_bit (λ y. same (f x y) (g (bits x y))) y (bit_at-lt p.high k)
-    (at_bit (λ x. for_both (λ y. same (f x y) (g (bits x y)))) x (bit_at-lt p.low k) test))
+in_lane p k f g = of_bits f g (bit_at p.low k) (bit_at p.high k) (bit_at-lt p.low k) (bit_at-lt p.high k)
 
 pub in_lanes : (p q : Planes) (k : ℕ) (f : ℕ → ℕ → ℕ → ℕ → V4) (g : V4 → V4 → V4)
     → for_both (λ x. for_both (λ y. for_both (λ z. for_both (λ w. same (f x y z w) (g (bits x y) (bits z w)))))) ≡ true
     → f (bit_at p.low k) (bit_at p.high k) (bit_at q.low k) (bit_at q.high k) ≡ g (lane_of p k) (lane_of q k)
 unfolding lane_of
-in_lanes p q k f g test =
-    let x = bit_at p.low k in
-    let y = bit_at p.high k in
-    let z = bit_at q.low k in
-    let w = bit_at q.high k in
-    same_true (f x y z w) (g (bits x y) (bits z w))
-    (at_bit (λ w. same (f x y z w) (g (bits x y) (bits z w))) w (bit_at-lt q.high k)
-    (at_bit (λ z. for_both (λ w. same (f x y z w) (g (bits x y) (bits z w)))) z (bit_at-lt q.low k)
-    (at_bit (λ y. for_both (λ z. for_both (λ w. same (f x y z w) (g (bits x y) (bits z w))))) y (bit_at-lt p.high k)
-    (at_bit (λ x. for_both (λ y. for_both (λ z. for_both (λ w. same (f x y z w) (g (bits x y) (bits z w)))))) x (bit_at-lt p.low k) test))))
+in_lanes p q k f g =
+    of_two_bits f g (bit_at p.low k) (bit_at p.high k) (bit_at q.low k) (bit_at q.high k) (bit_at-lt p.low k) (bit_at-lt p.high k) (bit_at-lt q.low k)
+    (bit_at-lt q.high k)
 
 -- ---- planes are their values
 

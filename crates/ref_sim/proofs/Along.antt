@@ -19,7 +19,8 @@ use Rattle.net_defs.specs.Loops.{IsGate, waits_for, IsOrder}
 use Rattle.list_laws.proofs.Differ.{differ_at}
 use Rattle.list_laws.proofs.Places.{place_of, place_below}
 use Rattle.rank_find.proofs.NumberLemmas.{gate_within}
-use Rattle.ref_sim.proofs.Rows.{put_value}
+use Rattle.net_ops.proofs.Rows.{put_value}
+use Rattle.net_ops.proofs.Waits.{map_same, late_or, waits_here}
 
 -- what a gate answers over a row; what is no gate keeps its value
 abbrev pub gate_driven : List V4 → ℕ → Driver → V4
@@ -42,24 +43,9 @@ settle_gate net timing row s = if is_late net timing s then row else set row s (
 abbrev pub along : Netlist → Timing → List ℕ → List V4 → List V4
 along net timing order row = fold (settle_gate net timing) row order
 
--- maps that agree at each item
-pub map_same : {X : Type 0} (f g : ℕ → X) (xs : List ℕ) → ((x : ℕ) → Contains xs x → f x ≡ g x) → map f xs ≡ map g xs
-map_same f g [] same = refl
-map_same f g (x ∷ xs) same =
-    ap (λ y. y ∷ map f xs) (same x (zero, omega arith, refl)) ∙ ap (λ ys. g x ∷ ys) (map_same f g xs (λ y held. same y (suc held.0, omega (arith, held.1), held.2)))
-
-pub late_or : (net : Netlist) (timing : Timing) (s : ℕ) → (is_late net timing s ≡ true) ⊎ (is_late net timing s ≡ false)
-late_or net timing s = by_test (is_late net timing s) where
-  by_test : (test : Bool) → (test ≡ true) ⊎ (test ≡ false)
-  by_test true = inl refl
-  by_test false = inr refl
-
 -- what a driver says of its signal
 pub gate_here : (net : Netlist) (s : ℕ) (signal : Signal) (kind : Kind) (ops : List ℕ) → slice_get net.signals s ≡ Some signal → signal.driver ≡ Gate kind ops → IsGate net s
 gate_here net s signal kind ops is driver = rw (is, driver) refl
-
-pub waits_here : (net : Netlist) (timing : Timing) (s : ℕ) (signal : Signal) (kind : Kind) (ops : List ℕ) → slice_get net.signals s ≡ Some signal → signal.driver ≡ Gate kind ops → is_late net timing s ≡ false → waits_for net timing s ≡ ops
-waits_here net timing s signal kind ops is driver early = rw (is, driver) (ap (λ late. if late then [] else ops) early)
 
 gate_at_here : (net : Netlist) (row : List V4) (s : ℕ) (signal : Signal) (kind : Kind) (ops : List ℕ) → slice_get net.signals s ≡ Some signal → signal.driver ≡ Gate kind ops → gate_at net row s ≡ gate_value kind (values_of row ops)
 gate_at_here net row s signal kind ops is driver = rw (is, driver) refl

@@ -13,26 +13,18 @@ ghost use Rattle.net_defs.specs.Reference.{HasOneSimulation};
 ghost use Rattle.rank_find.specs.Refusal.{IfLoop};
 ghost use Rattle.ref_sim.specs.Runs.{AreRowsOf};
 
-mod gate_list;
-mod initial;
-mod ops;
-mod ram;
+mod observer;
 mod run;
-mod schedule;
 mod trace_rows;
-mod turn;
-mod values;
 
-pub use initial::initial_memories;
 use net_defs::{Netlist, Rows, Stimulus, Timing};
-pub use ram::{RamPort, make_ports};
+pub use observer::Observer;
 use rank_find::order;
 /// Why there is no simulation: the gates of a loop, or want of memory.
 pub use rank_find::RankNo as RefNo;
-pub use run::refer_in_order;
+pub use run::{observe, refer_in_order};
 use seen_list::Memory;
 use std::alloc::Global;
-pub use turn::edge_memories;
 
 /// The printed values of each cycle of the reference simulation: those that the signals have at the
 /// cycle's last turn.

@@ -1,7 +1,7 @@
 -- Groups of faults that run side by side.
 use Rattle.std.specs.Prelude.{◌<◌, ◌≡◌, ℕ, true, List, length, Some, slice_get, All}
 use Rattle.std.specs.List.{flat_map}
-use Rattle.limits.specs.declared.TheConstants.{LANES}
+use Rattle.wide_planes.specs.declared.TheConstants.{WIDE_LANES}
 use Rattle.net_defs.specs.declared.netlist.Netlist.{Netlist}
 use Rattle.net_defs.specs.declared.timing.Timing.{Timing}
 use Rattle.net_defs.specs.declared.stimulus.Stimulus.{Stimulus}
@@ -12,7 +12,7 @@ use Rattle.fault_sim.specs.Verdicts.{AreVerdicts}
 
 -- the faults fit into the lanes beside the good design
 pub record IsGroup (net : Netlist) (group : Group) : Type 0 where
-  pub few : length group.faults < LANES
+  pub few : length group.faults < WIDE_LANES
   pub faults : All (IsFault net) group.faults
 
 -- the faults of some groups, one group after the other

@@ -1,19 +1,23 @@
 -- Many runs side by side: the good design in lane 0, and a fault in each further lane.
-use Rattle.std.specs.Prelude.{◌≡◌, ℕ, zero, suc, ◌+◌, ◌<◌, ◌≤◌, ◌==◌, if◌then◌else◌, List, [], length, Option, Some, None, slice_get, slice_index_or}
-use Rattle.limits.specs.declared.TheConstants.{LANES}
+use Rattle.std.specs.Prelude.{◌≡◌, ℕ, zero, suc, ◌≤◌, ◌==◌, false, if◌then◌else◌, List, [], ◌∷◌, length, map, Option, Some, None, slice_get, slice_index_or}
 use Rattle.logic_four.specs.declared.V4.{V4}
-use Rattle.logic_four.specs.declared.V4.TheVariants.{Undef}
-use Rattle.lane_planes.specs.declared.planes.Planes.{Planes}
-use Rattle.lane_planes.specs.Lanes.{lane_row}
+use Rattle.logic_four.specs.declared.Kind.{Kind}
+use Rattle.logic_four.specs.Gates.{gate_value}
+use Rattle.logic_four.specs.declared.V4.TheVariants.{Zero, One, Undef, HighZ}
+use Rattle.wide_planes.specs.Lanes as wide
+use Rattle.fault_sim.specs.declared.wires.Lanes.{Lanes}
 use Rattle.net_defs.specs.declared.netlist.Netlist.{Netlist}
-use Rattle.net_defs.specs.declared.timing.Timing.{Timing}
-use Rattle.net_defs.specs.declared.stimulus.Stimulus.{Stimulus}
-use Rattle.net_defs.specs.Time.{value_at, input_at}
-use Rattle.net_defs.specs.Steps.{State}
-use Rattle.ref_sim.specs.States.{AreShaped}
+use Rattle.net_defs.specs.Time.{value_at}
 use Rattle.net_defs.specs.declared.faults.Fault.{Fault}
-use Rattle.fault_sim.specs.declared.state.LaneState.{LaneState}
+use Rattle.fault_sim.specs.declared.force.Forces.{Forces}
 use Rattle.fault_sim.specs.Faults.{stuck}
+
+-- the value of a lane of a place, and those of a row
+abbrev pub lane_of : Lanes → ℕ → V4
+lane_of place l = wide.lane_of place.planes l
+
+abbrev pub lane_row : ℕ → List Lanes → List V4
+lane_row l row = map (λ place. lane_of place l) row
 
 -- the fault of a lane
 abbrev pub lane_fault : List Fault → ℕ → Option Fault
@@ -34,27 +38,26 @@ force_at faults l s = of_fault (lane_fault faults l) where
   of_fault None = Undef
   of_fault (Some fault) = if s == fault.signal then fault.value else Undef
 
--- the state of a lane
-abbrev pub lane_state : ℕ → LaneState → State
-lane_state l state = record { row = lane_row l state.now; words = slice_index_or state.memories l [] }
+-- a gate is known by its kind, and any kind serves
+abbrev pub pair_value : Kind → V4 → V4 → V4
+pair_value kind a b = gate_value kind (a ∷ b ∷ [])
 
--- a state that can take a turn: a lane more than there are faults
-pub record IsReady (net : Netlist) (faults : List Fault) (state : LaneState) : Type 0 where
-  pub now : length state.now ≡ length net.signals
-  pub last : length state.last ≡ length net.signals
-  pub lanes : length state.memories ≡ length faults + 1
-  pub shaped : (l : ℕ) → l ≤ length faults → AreShaped net (slice_index_or state.memories l [])
+abbrev pub wide_form : Kind → Type 0
+wide_form kind = Unit {0}
+
+-- a signal is stuck at 0 or 1
+abbrev pub stuck_value : V4 → Option V4
+stuck_value Zero = Some Zero
+stuck_value One = Some One
+stuck_value Undef = None
+stuck_value HighZ = None
+
+-- what a lane's signal is stuck at
+abbrev pub stuck_in : Forces → ℕ → ℕ → Option V4
+stuck_in forces l s = if slice_index_or forces.stuck s false then stuck_value (value_at (wide.lane_row l forces.planes) s) else None
 
 -- what each signal is stuck at, lane by lane
-pub record AreForces (net : Netlist) (faults : List Fault) (forces : List Planes) : Type 0 where
-  pub signals : length forces ≡ length net.signals
-  pub each : (l : ℕ) → l ≤ length faults → (s : ℕ) → value_at (lane_row l forces) s ≡ force_at faults l s
-
--- nothing is stuck in any lane
-pub record AreFree (count : ℕ) (forces : List Planes) : Type 0 where
-  pub signals : length forces ≡ count
-  pub each : (l : ℕ) → l < LANES → (s : ℕ) → value_at (lane_row l forces) s ≡ Undef
-
--- the inputs of a turn
-abbrev pub HasInputs : Timing → Stimulus → ℕ → List V4 → Type 0
-HasInputs timing stimulus turn inputs = (s : ℕ) → value_at inputs s ≡ input_at timing stimulus turn s
+pub record AreForces (net : Netlist) (faults : List Fault) (forces : Forces) : Type 0 where
+  pub planes : length forces.planes ≡ length net.signals
+  pub flags : length forces.stuck ≡ length net.signals
+  pub each : (l : ℕ) → l ≤ length faults → (s : ℕ) → stuck_in forces l s ≡ stuck_value (force_at faults l s)

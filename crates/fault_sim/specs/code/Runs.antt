@@ -2,8 +2,11 @@
 use Rattle.std.specs.Prelude.{◌≡◌, ℕ, ◌+◌, ◌*◌, ◌<◌, ◌≤◌, Bool, true, false, List, length, Option, Some, None, slice_get}
 use Rattle.std.specs.List.{list_all}
 use Rattle.logic_four.specs.declared.V4.{V4}
-use Rattle.lane_planes.specs.declared.planes.Planes.{Planes}
-use Rattle.lane_planes.specs.Lanes.{lane_row}
+use Rattle.fault_sim.specs.declared.wires.Lanes.{Lanes}
+use Rattle.wide_planes.specs.declared.TheConstants.{WIDE_LANES}
+use Rattle.wide_planes.specs.declared.planes.Words.{Words}
+use Rattle.wide_planes.specs.Lanes.{bit_of}
+use Rattle.fault_sim.specs.code.Lanes.{lane_of, lane_row}
 use Rattle.net_defs.specs.declared.netlist.Netlist.{Netlist}
 use Rattle.net_defs.specs.declared.timing.Timing.{Timing}
 use Rattle.net_defs.specs.declared.stimulus.Stimulus.{Stimulus}
@@ -15,10 +18,11 @@ use Rattle.ref_sim.specs.code.Runs.{StandsAt}
 use Rattle.net_defs.specs.declared.faults.Fault.{Fault}
 use Rattle.fault_sim.specs.declared.faults.Verdict.{Verdict}
 use Rattle.fault_sim.specs.declared.faults.Verdict.TheVariants.{Seen, Unseen}
-use Rattle.fault_sim.specs.declared.state.LaneState.{LaneState}
+use Rattle.net_ops.specs.declared.state.LaneState.{LaneState}
+use Rattle.net_ops.specs.States.{lane_state}
 use Rattle.fault_sim.specs.Faults.{stuck}
 use Rattle.fault_sim.specs.Verdicts.{differs, Judges}
-use Rattle.fault_sim.specs.code.Lanes.{lane_net, lane_state}
+use Rattle.fault_sim.specs.code.Lanes.{lane_net}
 
 -- the netlist has an order
 abbrev pub HasOrder : Netlist → Timing → Type 0
@@ -44,8 +48,12 @@ IsLooked net good faulty cycle (Seen before at) new = new ≡ Seen before at
 IsLooked net good faulty cycle Unseen (Seen here column) = (here ≡ cycle) × IsFirstColumn net good faulty column
 IsLooked net good faulty cycle Unseen Unseen = (j : ℕ) → differs_in net good faulty j ≡ false
 
+-- a lane without a mark differs from the good design in no printed name
+abbrev pub MarkOthers : Netlist → List Lanes → Words → Type 0
+MarkOthers net row marks = (k j : ℕ) → k < WIDE_LANES → bit_of marks k ≡ 0 → differs_in net (lane_row 0 row) (lane_row k row) j ≡ false
+
 -- all verdicts became so
-pub record AreLooked (net : Netlist) (row : List Planes) (cycle : ℕ) (old new : List Verdict) : Type 0 where
+pub record AreLooked (net : Netlist) (row : List Lanes) (cycle : ℕ) (old new : List Verdict) : Type 0 where
   pub count : length new ≡ length old
   pub each : (k : ℕ) (before after : Verdict) → slice_get old k ≡ Some before → slice_get new k ≡ Some after → IsLooked net (lane_row 0 row) (lane_row (k + 1) row) cycle before after
 
@@ -57,12 +65,12 @@ abbrev pub are_decided : List Verdict → Bool
 are_decided verdicts = list_all is_decided verdicts
 
 -- each lane's run is in its state at this turn
-abbrev pub StandsInLanes : Netlist → List Fault → Timing → Stimulus → ℕ → LaneState → Type 0
+abbrev pub StandsInLanes : Netlist → List Fault → Timing → Stimulus → ℕ → LaneState Lanes → Type 0
 StandsInLanes net faults timing stimulus turn state =
-    (l : ℕ) → l ≤ length faults → StandsAt (lane_net net faults l) timing stimulus turn (lane_state l state)
+    (l : ℕ) → l ≤ length faults → StandsAt (lane_net net faults l) timing stimulus turn (lane_state lane_of net l state)
 
 -- the verdicts on so many cycles are made, and unless each fault is seen the lanes stand at their end
-pub record RunsTo (net : Netlist) (faults : List Fault) (timing : Timing) (stimulus : Stimulus) (cycles : ℕ) (state : LaneState) (verdicts : List Verdict) : Type 0 where
+pub record RunsTo (net : Netlist) (faults : List Fault) (timing : Timing) (stimulus : Stimulus) (cycles : ℕ) (state : LaneState Lanes) (verdicts : List Verdict) : Type 0 where
   pub stands : are_decided verdicts ≡ false → StandsInLanes net faults timing stimulus (cycles * timing.units) state
   pub judged :
       (k : ℕ) (fault : Fault) (verdict : Verdict) → slice_get faults k ≡ Some fault → slice_get verdicts k ≡ Some verdict

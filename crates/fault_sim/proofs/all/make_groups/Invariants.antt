@@ -6,5 +6,5 @@ abbrev pub invariant-groups : goal.invariant-groups
 invariant-groups l = record {
   groups : AreGroups l.net (take l.begun l.faults) l.groups;
   within : l.begun ≤ length l.faults;
-  whole : l.begun < length l.faults → l.begun ≡ 29 * l._group;
+  whole : l.begun < length l.faults → l.begun ≡ 255 * l._group;
 }

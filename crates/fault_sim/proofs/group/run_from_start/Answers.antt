@@ -1,4 +1,4 @@
-use Rattle.std.proofs.Common.{◌∙◌, ap, length}
+use Rattle.std.proofs.Common.{◌∙◌, ap, arith, length}
 use Rattle.std.proofs.lemmas.List.{length-replicate}
 use Rattle.fault_sim.proofs.Judging.{runs_start, verdicts_made}
 use Rattle.fault_sim.proofs.Starts.{stands_first}
@@ -16,8 +16,13 @@ run-requires c = record {
   few = c.requires.few;
   faults = c.requires.faults;
   forces = c.requires.forces;
-  ready = c.requires.ready;
-  room = c.in_ok-room.ensures;
+  ready = record {
+    places = c.requires.places;
+    few = omega (arith, c.requires.lanes, c.requires.few);
+    words = λ l low. c.requires.shaped l (omega (arith, low, c.requires.lanes));
+    room = c.in_ok-ports.ensures;
+  };
+  lanes = c.requires.lanes;
   count = ap length c.in_ok-verdicts.ensures ∙ length-replicate _ _;
   start =
       runs_start c.args.net.now c.args.faults.now c.args.timing.now c.args.stim.now c.args.state.now (length c.args.faults.now) c.in_ok-verdicts.verdicts c.in_ok-verdicts.ensures

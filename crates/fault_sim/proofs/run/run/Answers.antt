@@ -15,7 +15,7 @@ overflow_add-begun c =
 pub rows-preserved : goal.rows-preserved
 rows-preserved c = record {
   ready = c.run_row.ensures.ready;
-  room = c.run_row.ensures.room;
+  lanes = c.run_row.ensures.lanes;
   count = c.run_row.ensures.count;
   begun = ap (λ n. n + c.row-item.result.times) c.rows.invariant.begun ∙ sym (cycles_more c.args.stim.now _ _ _ c.as_slice-row-items.ensures c.rows-test.true c.row-item.is);
   whole = c.rows.invariant.whole;

@@ -1,6 +1,6 @@
-use Rattle.std.proofs.Common.{◌≡◌, ◌∙◌, ◌+◌, false, sym, ap, subst, arith}
-use Rattle.fault_sim.specs.code.Runs.{RunsTo, AreLooked, are_decided}
-use Rattle.fault_sim.proofs.Judging.{runs_kept, runs_step}
+use Rattle.std.proofs.Common.{◌≡◌, ◌∙◌, ◌+◌, false, refl, sym, ap, subst, arith}
+use Rattle.fault_sim.specs.code.Runs.{RunsTo, are_decided}
+use Rattle.fault_sim.proofs.Judging.{lanes_stand, runs_kept, runs_step}
 use Rattle.fault_sim.proofs.run.run_row.Goals as goal
 
 pub returns-then-are_decided-clause-runs : goal.returns-then-are_decided-clause-runs
@@ -11,14 +11,16 @@ returns-then-are_decided-clause-runs c = λ stimulus given before.
 pub times-preserved : goal.times-preserved
 times-preserved c = record {
   ready = c.run_cycle.ensures.ready;
-  room = c.run_cycle.ensures.room;
+  lanes = c.run_cycle.ensures.lanes ∙ c.times.invariant.lanes;
   count = c.look.ensures.count ∙ c.times.invariant.count;
   runs = λ stimulus given before.
+      let cycle = c.args.begun + c.times.time in
       let at = given c.times.time c.times-test.true in
       let undecided : are_decided c.times.verdicts ≡ false = ap are_decided (sym c.as_slice.ensures) ∙ (sym c.are_decided.ensures ∙ c.if-are_decided.false) in
-      let looked = subst (λ row. AreLooked c.args.net.now row (c.args.begun + c.times.time + 1) c.times.verdicts c.look.new.verdicts) c.as_slice-in-times-2.ensures c.look.ensures in
+      let steps = lanes_stand c.args.net.now c.args.faults.now c.args.forces.now c.args.timing.now stimulus c.requires.schedule.order c.requires.schedule.is_order c.requires.faults c.requires.forces cycle c.times.state c.run_cycle.new.state at.0
+      (λ l low. c.run_cycle.ensures.passes l (omega (arith, low, c.times.invariant.lanes)) stimulus cycle refl (at.1 ∙ sym c.as_slice-in-times.ensures)) in
       let step =
-      runs_step c.args.net.now c.args.faults.now c.args.timing.now stimulus (c.args.begun + c.times.time) c.times.state c.run_cycle.new.state c.times.verdicts c.look.new.verdicts c.times.invariant.count undecided
-      (c.run_cycle.ensures.stands stimulus at.0 (at.1 ∙ sym c.as_slice-in-times.ensures)) looked (c.times.invariant.runs stimulus given before) in
+      runs_step c.args.net.now c.args.faults.now c.args.timing.now stimulus cycle c.times.state c.run_cycle.new.state c.times.verdicts c.look.new.verdicts c.times.invariant.count undecided
+      steps c.row.result.now c.row.ensures c.look.ensures (c.times.invariant.runs stimulus given before) in
       subst (λ cycles. RunsTo c.args.net.now c.args.faults.now c.args.timing.now stimulus cycles c.run_cycle.new.state c.look.new.verdicts) (omega arith) step;
 }

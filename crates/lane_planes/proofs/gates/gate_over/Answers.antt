@@ -1,4 +1,5 @@
 use Rattle.logic_four.proofs.KindLemmas.{some_operands}
+use Rattle.lane_planes.specs.Lanes.{lane_of}
 use Rattle.lane_planes.proofs.JoinLemmas.{all_over, rest_within}
 use Rattle.lane_planes.proofs.gates.gate_over.Goals as goal
 
@@ -14,4 +15,4 @@ joined_over-base-requires c = rest_within _ c.args.operands.now c.requires.withi
 pub returns : goal.returns
 returns c = λ k here.
     rw (c.answered.ensures k here, c.joined_over-base.ensures k here, c.first_operand-first.ensures k here)
-    (all_over c.args.kind k c.args.row.now c.args.operands.now c.index-row-operands.result c.index-row-operands.is c.requires.allowed c.requires.within)
+    (all_over (λ p. lane_of p k) c.args.kind c.args.row.now c.args.operands.now c.index-row-operands.result c.index-row-operands.is c.requires.allowed c.requires.within)

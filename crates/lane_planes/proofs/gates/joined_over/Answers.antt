@@ -1,3 +1,4 @@
+use Rattle.lane_planes.specs.Lanes.{lane_of}
 use Rattle.lane_planes.proofs.JoinLemmas.{one_more_over}
 use Rattle.lane_planes.proofs.gates.joined_over.Goals as goal
 
@@ -7,4 +8,4 @@ bounds-row-o c = c.requires _ 0 c.others-test.true
 pub others-preserved : goal.others-preserved
 others-preserved c = λ k here.
     rw (c.joined-base.ensures k here, c.others.invariant k here)
-    (one_more_over c.args.kind k c.args.row.now c.args.others.now _ _ c.index-row-o.result c.others-test.true (c.requires _ 0 c.others-test.true) c.index-row-o.is)
+    (one_more_over (λ p. lane_of p k) c.args.kind c.args.row.now c.args.others.now _ _ c.index-row-o.result c.others-test.true (c.requires _ 0 c.others-test.true) c.index-row-o.is)

@@ -1,13 +1,16 @@
-use Rattle.ref_sim.proofs.CycleLemmas.{step_inputs, turn_stands, within_later}
+use Rattle.std.proofs.Common.{◌≡◌, ◌∙◌, ◌+◌, ◌*◌, None, refl, subst, sym, arith}
+use Rattle.net_defs.specs.Time.{cycle_count}
+use Rattle.net_ops.proofs.Steps.{free_step}
+use Rattle.net_ops.specs.States.{Passes}
+use Rattle.ref_sim.specs.code.Runs.{StandsAt}
+use Rattle.ref_sim.proofs.CycleLemmas.{cycle_passes, one_lane}
 use Rattle.ref_sim.proofs.run.run_cycle.Goals as goal
 
-pub turn-requires-clause-inputs : goal.turn-requires-clause-inputs
-turn-requires-clause-inputs c = λ within. c.loop-place.invariant.inputs (within_later c.args.is_first c.loop-place.place _ c.phase_at.ensures within)
-
-pub loop-place-preserved : goal.loop-place-preserved
-loop-place-preserved c = record {
-  ready = c.turn.ensures.ready;
-  inputs = λ later. step_inputs _ _ _ _ _ _ c.turn.ensures.steps;
-  stands = λ stimulus cycle first within row before.
-      turn_stands _ _ stimulus _ c.requires.schedule.is_order _ cycle _ _ _ _ _ first within row c.loop-place-test.true c.phase_at.ensures c.turn.ensures.steps (c.loop-place.invariant.stands stimulus cycle first within row before);
-}
+pub returns-clause-stands : goal.returns-clause-stands
+returns-clause-stands c = λ stimulus cycle first within row before.
+    let net = c.args.net.now in
+    let timing = c.args.timing.now in
+    subst (StandsAt net timing stimulus ((cycle + 1) * timing.units)) (one_lane net c.run_cycle.new.state)
+    (cycle_passes net net timing stimulus (λ s. None) c.requires.schedule.order c.requires.schedule.is_order (λ turn old new. free_step net timing stimulus (λ s. None) turn old new (λ s. refl)) cycle _ _ within
+    (c.run_cycle.ensures.passes 0 (omega (arith, c.requires.lane)) stimulus cycle first row)
+    (subst (StandsAt net timing stimulus (cycle * timing.units)) (sym (one_lane net c.args.state.now)) before))

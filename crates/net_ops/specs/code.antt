@@ -1,0 +1,4 @@
+pub mod Rams
+pub mod Sequences
+pub mod States
+pub mod Values

@@ -1,0 +1,26 @@
+//! One turn of a netlist as operations on places, in one lane or in many at once. What is made once before a
+//! run, the state before the first turn, and a turn, in which signals may be stuck at a value. The reference
+//! simulation is this of a single value a place, and the runs of faults side by side are this of many.
+#![tactic(auto)]
+
+mod cycle;
+mod gate_list;
+mod initial;
+mod ops;
+mod ram;
+mod schedule;
+mod state;
+mod step;
+mod tables;
+mod values;
+mod wire;
+
+pub use cycle::run_cycle;
+pub use initial::initial_state;
+pub use ops::PairOp;
+pub use ram::{RamPort, make_ports};
+pub use schedule::{Schedule, make_schedule};
+pub use state::LaneState;
+pub use step::Phase;
+pub use values::gather;
+pub use wire::Wire;
