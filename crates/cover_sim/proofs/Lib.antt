@@ -1,1 +1,5 @@
+mod Beginnings
+mod CoverLemmas
 mod LineLemmas
+mod MarkLemmas
+mod WatchLemmas

@@ -1,3 +1,4 @@
+pub mod code
 pub mod Growth
 pub mod Lines
 pub mod Marks

@@ -1,6 +1,6 @@
 -- Coverage: which values each signal has, and which changes it makes, at the ends of the cycles of the
 -- reference simulation. X and Z give no mark, and neither does a change from or to them.
-use Rattle.std.specs.Prelude.{◌≡◌, ◌↔◌, ℕ, ◌+◌, ◌*◌, ◌<◌, ◌≤◌, List, [], length, IsTrue, Some, slice_get, slice_index_or}
+use Rattle.std.specs.Prelude.{◌≡◌, ◌↔◌, ℕ, ◌+◌, ◌<◌, ◌≤◌, List, length, IsTrue, Some, slice_get}
 use Rattle.logic_four.specs.declared.V4.{V4}
 use Rattle.logic_four.specs.declared.V4.TheVariants.{Zero, One}
 use Rattle.net_defs.specs.declared.netlist.Netlist.{Netlist}
@@ -10,12 +10,12 @@ use Rattle.net_defs.specs.Time.{value_at, cycle_count}
 use Rattle.net_defs.specs.Steps.{State}
 use Rattle.net_defs.specs.Loops.{IsCircle}
 use Rattle.net_defs.specs.Reference.{IsSimulation}
+use Rattle.ref_sim.specs.Observing.{end_row}
 use Rattle.cover_sim.specs.declared.marks.Marks.{Marks}
 
 -- the value of a signal at the end of a cycle, counted from 1: that of the cycle's last turn
 abbrev pub end_value : Timing → List State → ℕ → ℕ → V4
-end_value timing states signal cycle =
-    value_at (slice_index_or states (cycle * timing.units) (record { row = []; words = [] })).row signal
+end_value timing states signal cycle = value_at (end_row timing states cycle) signal
 
 -- in some of so many cycles it is this value
 abbrev pub Has : ℕ → (ℕ → V4) → V4 → Type 0

@@ -1,9 +1,8 @@
 -- Turns, cycles and rows of a run, against every simulation.
-use Rattle.std.proofs.Common.{◌≡◌, ◌≢◌, ◌∙◌, ℕ, ◌+◌, ◌-◌, ◌*◌, ◌/◌, ◌%◌, ◌<◌, ◌≤◌, inl, inr, Bool, true, false, if◌then◌else◌, ◌&&◌, ◌==◌, nat_le, List, [], ◌∷◌, ◌++◌, length, map, take, replicate, get_or, set, refl, sym, ap, subst, arith, Some, IsTrue}
-use Rattle.std.specs.List.{slice_get, All}
+use Rattle.std.proofs.Common.{◌≡◌, ◌≢◌, ◌∙◌, ℕ, ◌+◌, ◌-◌, ◌*◌, ◌/◌, ◌%◌, ◌<◌, ◌≤◌, inl, inr, Bool, true, false, if◌then◌else◌, ◌&&◌, ◌==◌, nat_le, List, [], ◌∷◌, ◌++◌, length, take, replicate, get_or, refl, sym, ap, subst, arith, Some, IsTrue}
+use Rattle.std.specs.List.{slice_get}
 use Rattle.std.proofs.lemmas.Option.{slice_get_within, slice_get-get_or, get_or_from_slice_get}
-use Rattle.std.proofs.lemmas.List.{length-map, length-set, length-replicate, length-take-le, take_more_set}
-use Rattle.std.proofs.lemmas.List.Elements.{All-set}
+use Rattle.std.proofs.lemmas.List.{length-map, length-replicate}
 use Rattle.logic_four.specs.declared.V4.{V4}
 use Rattle.logic_four.specs.declared.V4.TheVariants.{Undef}
 use Rattle.net_defs.specs.declared.netlist.Netlist.{Netlist}
@@ -12,8 +11,8 @@ use Rattle.net_defs.specs.declared.netlist.Driver.TheVariants.{Input, Gate, Dff,
 use Rattle.net_defs.specs.declared.timing.Timing.{Timing}
 use Rattle.net_defs.specs.declared.stimulus.Stimulus.{Stimulus}
 use Rattle.net_defs.specs.Time.{value_at, initial_value, is_edge, cycle_of, cycle_rows, cycle_count, turn_count, input_at}
-use Rattle.net_defs.specs.Valid.{IsSignal, is_input}
-use Rattle.net_defs.specs.Steps.{State, values_of, first_state}
+use Rattle.net_defs.specs.Valid.{is_input}
+use Rattle.net_defs.specs.Steps.{State, first_state}
 use Rattle.net_defs.specs.Loops.{IsOrder}
 use Rattle.std.specs.List.{flat_map}
 use Rattle.std.proofs.Math.Nat.{mul-le-mul_left}
@@ -25,21 +24,19 @@ use Rattle.std.proofs.lemmas.List.Folds.{length-flat_map-take}
 use Rattle.std.proofs.lemmas.Grind.{flat_map-append}
 use Rattle.std.proofs.Common.{length-append, append-nil}
 use Rattle.net_defs.specs.declared.stimulus.StimRow.{StimRow}
-use Rattle.net_defs.specs.declared.trace.CellRow.{CellRow}
-use Rattle.net_defs.specs.Trace.{cells_of}
 use Rattle.list_laws.proofs.Ranges.{last_or}
 use Rattle.ref_sim.specs.declared.turn.Phase.{Phase}
 use Rattle.ref_sim.specs.declared.turn.Phase.TheVariants as phase
 use Rattle.logic_four.specs.Memory.{initial_words}
 use Rattle.logic_four.proofs.MemoryLemmas.{first_shape}
-use Rattle.std.proofs.lemmas.List.{get_or-map, get_or-take, take-replicate}
+use Rattle.std.proofs.lemmas.List.{get_or-map, take-replicate}
 use Rattle.ref_sim.specs.declared.ram.RamPort.{RamPort}
 use Rattle.ref_sim.specs.declared.turn.SimState.{SimState}
 use Rattle.ref_sim.specs.Sequences.{place_count}
 use Rattle.ref_sim.specs.code.States.{state_of, row_of, IsInitial, IsReady, phase_of, driven_by, HoldInputs, StepsBy}
 use Rattle.ref_sim.specs.Rams.{ArePorts}
-use Rattle.ref_sim.specs.code.Runs.{StandsAt, RunsTo, phase_at, printed_row, HasRows}
-use Rattle.ref_sim.proofs.Along.{map_same}
+use Rattle.ref_sim.specs.Observing.{end_row}
+use Rattle.ref_sim.specs.code.Runs.{StandsAt, RunsTo, IsReadyToLook, HasLooked, cycles_before, phase_at}
 use Rattle.ref_sim.proofs.Phases.{right_step}
 use Rattle.ref_sim.proofs.Uniqueness.{next_state}
 
@@ -120,41 +117,42 @@ module _ (net : Netlist) (timing : Timing) (stimulus : Stimulus) (order : List �
             ap (slice_get states) add ∙ next_state net timing stimulus order is_order states simulation (cycle * timing.units + place) old new short (stands.state_there states simulation) right;
       }
 
-  -- a row more
-  pub row_more : (rows : List CellRow) (old new : State) (row : CellRow) → RunsTo net timing stimulus rows old → StandsAt net timing stimulus ((length rows + 1) * timing.units) new
-      → row.cells ≡ values_of new.row net.printed → RunsTo net timing stimulus (rows ++ row ∷ []) new
-  row_more rows old new row runs stands is = record {
-    stands = rw (length_push rows row) stands;
-    cells = λ c other there states simulation.
-        let within = slice_get_within (rows ++ row ∷ []) c other there in
-        let read : get_or (rows ++ row ∷ []) c row ≡ other = get_or_from_slice_get (rows ++ row ∷ []) c other row there in
-        elim (last_or c (length rows) (omega (arith, length_push rows row))) [
-          | inl h ↦ runs.cells c other (slice_get-get_or rows c row h ∙ ap Some (sym (get_or_append_left rows (row ∷ []) row c h) ∙ read)) states simulation
-          | inr h ↦
-              let last : row ≡ other = sym (get_or_push rows row row c (sym h)) ∙ read in
-              let state = stands.state_there states simulation in
-              let there_is = get_or_from_slice_get states ((length rows + 1) * timing.units) new (record { row = []; words = [] }) state in
-              ap (λ r. r.cells) (sym last) ∙ (is ∙ (ap (λ w. values_of w.row net.printed) (sym there_is) ∙ ap (λ n. cells_of net timing states (n + 1)) (sym h)))
-        ];
-  }
+module _ (net : Netlist) (timing : Timing) (stimulus : Stimulus) (seen : List (List V4) → ℕ → Type 0) (cycles : ℕ) (old : State) (within : cycles < cycle_count stimulus) (runs : RunsTo net timing stimulus seen true cycles old) where
+  one_left : runs.left ≡ (runs.left - 1) + 1
+  one_left = omega (arith, runs.whole, runs.all refl)
 
-  -- one cycle more of a row of the stimulus
-  pub time_more : (begun times time cycle : ℕ) (rows new_rows : List CellRow) (old new : State) (values inputs : List V4) (is_first : Bool)
-      → cycle ≡ begun + time → cycle < length rows → time < times
-      → ((t : ℕ) → t < times → (begun + t < cycle_count stimulus) × (get_or (cycle_rows stimulus) (begun + t) [] ≡ values))
-      → inputs ≡ values → is_first ≡ (cycle == 0)
-      → ((cycle : ℕ) → is_first ≡ (cycle == 0) → cycle < cycle_count stimulus → get_or (cycle_rows stimulus) cycle [] ≡ inputs → StandsAt net timing stimulus (cycle * timing.units) old → StandsAt net timing stimulus ((cycle + 1) * timing.units) new)
-      → new_rows ≡ set rows cycle (printed_row net new.row) → RunsTo net timing stimulus (take (begun + time) rows) old → RunsTo net timing stimulus (take (begun + (time + 1)) new_rows) new
-  time_more begun times time cycle rows new_rows old new values inputs is_first number inside below given same first stands changed runs =
-      let at = given time below in
-      let within : cycle < cycle_count stimulus = rw number at.0 in
-      let read : get_or (cycle_rows stimulus) cycle [] ≡ inputs = ap (λ n. get_or (cycle_rows stimulus) n []) number ∙ (at.1 ∙ sym same) in
-      let front : length (take cycle rows) ≡ cycle = length-take-le cycle rows (omega arith) in
-      let before : RunsTo net timing stimulus (take cycle rows) old = rw number runs in
-      let there : StandsAt net timing stimulus (cycle * timing.units) old = subst (λ n. StandsAt net timing stimulus (n * timing.units) old) front before.stands in
-      let after : StandsAt net timing stimulus ((length (take cycle rows) + 1) * timing.units) new = subst (λ n. StandsAt net timing stimulus ((n + 1) * timing.units) new) (sym front) (stands cycle first within read there) in
-      let pushed : take (begun + (time + 1)) new_rows ≡ take cycle rows ++ printed_row net new.row ∷ [] = ap (λ n. take n new_rows) (omega arith) ∙ (ap (take (cycle + 1)) changed ∙ take_more_set rows cycle (printed_row net new.row) inside) in
-      rw pushed (row_more (take cycle rows) old new (printed_row net new.row) before after refl)
+  -- before a cycle the observer is ready
+  pub ready_to_look : IsReadyToLook seen
+  ready_to_look = (runs.rows, runs.left - 1, subst (seen runs.rows) one_left runs.seen)
+
+  -- a cycle more
+  pub cycle_more : (later : List (List V4) → ℕ → Type 0) (goes_on : Bool) (upto : ℕ) (new : State) (row : List V4) → (goes_on ≡ true → upto ≡ cycles + 1) → row ≡ new.row → HasLooked seen later row
+      → (StandsAt net timing stimulus (cycles * timing.units) old → StandsAt net timing stimulus ((cycles + 1) * timing.units) new)
+      → RunsTo net timing stimulus later goes_on upto new
+  cycle_more later goes_on upto new row come same looked stands =
+      let front : length runs.rows ≡ cycles = runs.all refl in
+      let more : length (runs.rows ++ row ∷ []) ≡ cycles + 1 = length_push runs.rows row ∙ ap (λ n. n + 1) front in
+      let after : StandsAt net timing stimulus ((cycles + 1) * timing.units) new = stands (subst (λ n. StandsAt net timing stimulus (n * timing.units) old) front runs.stands) in
+      record {
+        rows = runs.rows ++ row ∷ [];
+        left = runs.left - 1;
+        seen = looked runs.rows (runs.left - 1) (subst (seen runs.rows) one_left runs.seen);
+        whole = omega (arith, more, front, runs.whole, one_left);
+        ends = λ states simulation c other there.
+            let inside = slice_get_within (runs.rows ++ row ∷ []) c other there in
+            let read : get_or (runs.rows ++ row ∷ []) c row ≡ other = get_or_from_slice_get (runs.rows ++ row ∷ []) c other row there in
+            elim (last_or c cycles (omega (arith, more, inside))) [
+              | inl h ↦
+                  let before : c < length runs.rows = omega (arith, h, front) in
+                  runs.ends states simulation c other (slice_get-get_or runs.rows c row before ∙ ap Some (sym (get_or_append_left runs.rows (row ∷ []) row c before) ∙ read))
+              | inr h ↦
+                  let last : row ≡ other = sym (get_or_push runs.rows row row c (front ∙ sym h)) ∙ read in
+                  let there_is = get_or_from_slice_get states ((cycles + 1) * timing.units) new (record { row = []; words = [] }) (after.state_there states simulation) in
+                  sym last ∙ (same ∙ (ap (λ w. w.row) (sym there_is) ∙ ap (λ n. end_row timing states (n + 1)) (sym h)))
+            ];
+        all = λ on. more ∙ sym (come on);
+        stands = subst (λ n. StandsAt net timing stimulus (n * timing.units) new) (sym more) after;
+      }
 
 -- the cycles of one row of a stimulus
 abbrev repeats : StimRow → List (List V4)
@@ -198,21 +196,6 @@ pub row_given : (stimulus : Stimulus) (items : List StimRow) (i : ℕ) (row : St
 row_given stimulus items i row whole within is n same t below =
     (rw same (row_within stimulus items i row whole within is t below), rw same (row_values stimulus items i row whole within is t below))
 
--- what is printed of the values of this turn
-pub printed_is : (net : Netlist) (values : List V4) (list : List ℕ) → list ≡ net.printed → All (IsSignal net) net.printed → map (λ s. value_at values (0 + s)) list ≡ values_of (row_of net values) net.printed
-printed_is net values list same low =
-    ap (map (λ s. value_at values (0 + s))) same
-    ∙ map_same (λ s. value_at values (0 + s)) (value_at (row_of net values)) net.printed (λ s held.
-    let none : 0 + s ≡ s = omega arith in
-    ap (value_at values) none ∙ sym (get_or-take (length net.signals) values s Undef (subst (IsSignal net) held.2 (low held.0 s held.1))))
-
--- the rows are as many and as wide after those of a cycle were set
-pub rows_set : (net : Netlist) (cycles cycle : ℕ) (rows new_rows : List CellRow) (row : List V4) → HasRows net cycles rows → new_rows ≡ set rows cycle (printed_row net row) → HasRows net cycles new_rows
-rows_set net cycles cycle rows new_rows row has changed = rw changed (record {
-  long = length-set rows cycle (printed_row net row) ∙ has.long;
-  wide = All-set (λ r. length r.cells ≡ length net.printed) rows cycle (printed_row net row) (length-map net.printed (value_at row)) has.wide;
-})
-
 -- the first state
 pub initial_first : (net : Netlist) (timing : Timing) (state : SimState) → IsInitial net timing state → state_of net state ≡ first_state net timing
 initial_first net timing state initial =
@@ -234,3 +217,25 @@ first_ready net timing state ports initial fits = record {
   };
   room = fits;
 }
+
+-- after so many cycles more no cycle was run only where these and those before are none
+pub still_first : (is_first : Bool) (begun more : ℕ) → is_first ≡ (begun == 0) → (is_first && (more == 0)) ≡ (begun + more == 0)
+still_first is_first begun more first = elim (eqb_tells begun 0) [
+  | inl none ↦ ap (λ b. b && (more == 0)) (first ∙ none.0) ∙ (let add : more ≡ begun + more = omega (arith, none.1) in ap (λ n. n == 0) add)
+  | inr some ↦ ap (λ b. b && (more == 0)) (first ∙ some.0) ∙ elim (eqb_tells (begun + more) 0) [
+    | inl both ↦ absurd (some.1 (omega (arith, both.1)))
+    | inr either ↦ sym either.0
+  ]
+]
+
+-- the turns of a cycle of a row of the stimulus
+module _ (net : Netlist) (timing : Timing) (stimulus : Stimulus) (r time : ℕ) (row : StimRow) (inside : r < length stimulus.rows) (is : row ≡ get_or stimulus.rows r row) (below : time < row.times) where
+  pub cycle_within : cycles_before stimulus r + time < cycle_count stimulus
+  cycle_within = row_within stimulus stimulus.rows r row refl inside is time below
+
+  pub cycle_stands : (is_first at_start : Bool) (inputs : List V4) (old new : State) → is_first ≡ (cycles_before stimulus r == 0) → at_start ≡ (is_first && (time == 0)) → inputs ≡ row.values
+      → ((stimulus : Stimulus) (cycle : ℕ) → at_start ≡ (cycle == 0) → cycle < cycle_count stimulus → get_or (cycle_rows stimulus) cycle [] ≡ inputs → StandsAt net timing stimulus (cycle * timing.units) old → StandsAt net timing stimulus ((cycle + 1) * timing.units) new)
+      → StandsAt net timing stimulus ((cycles_before stimulus r + time) * timing.units) old → StandsAt net timing stimulus ((cycles_before stimulus r + time + 1) * timing.units) new
+  cycle_stands is_first at_start inputs old new first starts same stands =
+      stands stimulus (cycles_before stimulus r + time) (starts ∙ still_first is_first (cycles_before stimulus r) time first) cycle_within
+      (row_values stimulus stimulus.rows r row refl inside is time below ∙ sym same)

@@ -13,4 +13,5 @@ pub mod Memories
 pub mod AnswerLemmas
 pub mod TurnLemmas
 pub mod Phases
+mod PrintLemmas
 pub mod CycleLemmas

@@ -15,6 +15,7 @@ ghost use Rattle.ref_sim.specs.Runs.{AreRowsOf};
 
 mod gate_list;
 mod initial;
+mod observer;
 mod ops;
 mod ram;
 mod run;
@@ -25,11 +26,12 @@ mod values;
 
 pub use initial::initial_memories;
 use net_defs::{Netlist, Rows, Stimulus, Timing};
+pub use observer::Observer;
 pub use ram::{RamPort, make_ports};
 use rank_find::order;
 /// Why there is no simulation: the gates of a loop, or want of memory.
 pub use rank_find::RankNo as RefNo;
-pub use run::refer_in_order;
+pub use run::{observe, refer_in_order};
 use seen_list::Memory;
 use std::alloc::Global;
 pub use turn::edge_memories;

@@ -1,24 +1,26 @@
 //! A run over all cycles.
 
-ghost use Rattle.std.specs.Prelude.{◌≡◌, ℕ, ◌+◌, ◌*◌, ◌<◌, ◌≤◌, ◌^◌, ◌==◌, [], length, take, slice_index_or, IfOk};
+ghost use Rattle.std.specs.Prelude.{◌≡◌, ℕ, ◌+◌, ◌*◌, ◌<◌, ◌==◌, ◌&&◌, true, false, [], length, slice_index_or, IfOk, OnOk};
 ghost use Rattle.net_defs.specs.declared.stimulus.Stimulus.{Stimulus};
 ghost use Rattle.net_defs.specs.Time.{cycle_rows, cycle_count};
 ghost use Rattle.net_defs.specs.Valid.{IsValid, IsValidTiming};
 ghost use Rattle.net_defs.specs.Steps.{first_state};
 ghost use Rattle.net_defs.specs.Reference.{HasOneSimulation};
 ghost use Rattle.net_defs.specs.Loops.{IsOrder};
+ghost use Rattle.ref_sim.specs.Observing.{HasWatched};
+ghost use Rattle.ref_sim.specs.Runs.{AreRowsOf};
 ghost use Rattle.ref_sim.specs.code.States.{state_of, IsReady};
 ghost use Rattle.ref_sim.specs.code.Schedules.{IsSchedule};
-ghost use Rattle.ref_sim.specs.Runs.{AreRowsOf};
-ghost use Rattle.ref_sim.specs.code.Runs.{AreWide, HasRows, StandsAt, RunsTo, phase_at};
+ghost use Rattle.ref_sim.specs.code.Runs.{StandsAt, RunsTo, cycles_before, phase_at};
 
 use crate::initial::initial_state;
+use crate::observer::Observer;
 use crate::ram::{RamPort, make_ports};
 use crate::schedule::{Schedule, make_schedule};
-use crate::trace_rows::{set_cells, undefined_rows};
+use crate::trace_rows::Printing;
 use crate::turn::{Phase, SimState, turn};
 use logic_four::V4;
-use net_defs::{CellRow, Netlist, Rows, StimRow, Stimulus, Timing};
+use net_defs::{Netlist, Rows, Stimulus, Timing};
 use seen_list::{List, Memory};
 use std::alloc::Global;
 
@@ -37,60 +39,61 @@ pub fn refer_in_order(
     ensures rows { IfOk result (AreRowsOf net.now timing.now stim.now) }
     ensures simulated { HasOneSimulation net.now timing.now stim.now }
 {
-    let schedule = make_schedule(alloc, net, timing, order)?;
-    run_from_start(alloc, net, timing, stim, &schedule)
+    let schedule = make_schedule(alloc, net, timing, order.as_slice())?;
+    drop(order);
+    let mut printing = Printing::new(alloc, net, stim)?;
+    run_from_start(alloc, &mut printing, net, timing, stim, &schedule)?;
+    Ok(Rows {
+        rows: printing.rows,
+    })
 }
 
-/// The printed values of each cycle of a schedule, from the signals and memories that a run begins with.
-fn run_from_start(
+/// Shows the values of all signals at the end of each cycle to an observer, by an order that `rank` of
+/// `rank_find` found. It takes memory before the first cycle, and none from then on.
+pub fn observe<O: Observer>(
     alloc: Global,
+    observer: &mut O,
+    net: &Netlist,
+    timing: &Timing,
+    stim: &Stimulus,
+    order: &[u32],
+) -> Result<(), Memory>
+    requires valid { IsValid net.now }
+    requires timing { IsValidTiming timing.now }
+    requires order { IsOrder net.now timing.now order.now }
+    requires ready { O.has_seen observer.old net.now [] (cycle_count stim.now) }
+    ensures watched { OnOk result (HasWatched net.now timing.now stim.now (O.has_seen observer.new net.now) (O.goes_on observer.new)) }
+    ensures simulated { HasOneSimulation net.now timing.now stim.now }
+{
+    let schedule = make_schedule(alloc, net, timing, order)?;
+    run_from_start(alloc, observer, net, timing, stim, &schedule)
+}
+
+/// Runs all cycles of a schedule, from the signals and memories that a run begins with.
+fn run_from_start<O: Observer>(
+    alloc: Global,
+    observer: &mut O,
     net: &Netlist,
     timing: &Timing,
     stim: &Stimulus,
     schedule: &Schedule,
-) -> Result<Rows, Memory>
+) -> Result<(), Memory>
     requires valid { IsValid net.now }
     requires schedule { IsSchedule net.now timing.now schedule.now }
-    ensures { IfOk result (AreRowsOf net.now timing.now stim.now) }
+    requires ready { O.has_seen observer.old net.now [] (cycle_count stim.now) }
+    ensures { OnOk result (HasWatched net.now timing.now stim.now (O.has_seen observer.new net.now) (O.goes_on observer.new)) }
 {
     let mut state = initial_state(alloc, net, timing)?;
-    let mut ports = match make_ports(alloc, net) {
-        Ok(ports) => ports,
-        Err(no) => {
-            drop(state);
-            return Err(no);
-        }
-    };
-    let rows = printed_rows(alloc, &mut state, &mut ports, net, timing, stim, schedule);
-    drop(state);
-    drop(ports);
-    rows
+    let mut ports = make_ports(alloc, net)?;
+    run(
+        observer, &mut state, &mut ports, net, timing, stim, schedule,
+    );
+    Ok(())
 }
 
-/// Makes the rows and runs all cycles.
-fn printed_rows(
-    alloc: Global,
-    state: &mut SimState,
-    ports: &mut List<RamPort>,
-    net: &Netlist,
-    timing: &Timing,
-    stim: &Stimulus,
-    schedule: &Schedule,
-) -> Result<Rows, Memory>
-    requires valid { IsValid net.now }
-    requires schedule { IsSchedule net.now timing.now schedule.now }
-    requires ready { IsReady net.now state.old ports.old }
-    requires start { state_of net.now state.old ≡ first_state net.now timing.now }
-    ensures { IfOk result (AreRowsOf net.now timing.now stim.now) }
-{
-    let mut rows = undefined_rows(alloc, net, stim)?;
-    run(&mut rows, state, ports, net, timing, stim, schedule);
-    Ok(Rows { rows })
-}
-
-/// Runs all cycles. It takes no memory.
-fn run(
-    rows: &mut List<CellRow>,
+/// Runs all cycles, or fewer where the observer stops. It takes no memory.
+fn run<O: Observer>(
+    observer: &mut O,
     state: &mut SimState,
     ports: &mut List<RamPort>,
     net: &Netlist,
@@ -102,45 +105,47 @@ fn run(
     requires schedule { IsSchedule net.now timing.now schedule.now }
     requires ready { IsReady net.now state.old ports.old }
     requires start { state_of net.now state.old ≡ first_state net.now timing.now }
-    requires room { HasRows net.now (cycle_count stim.now) rows.old }
-    ensures { AreRowsOf net.now timing.now stim.now (record { rows = rows.new }) }
+    requires observer { O.has_seen observer.old net.now [] (cycle_count stim.now) }
+    ensures { HasWatched net.now timing.now stim.now (O.has_seen observer.new net.now) (O.goes_on observer.new) }
 {
-    let cycles = rows.len();
-    let mut begun = 0;
-    for row in stim.rows.as_slice() {
-        prove!(row.times as usize <= cycles - begun);
-        run_row(rows, state, ports, net, timing, schedule, row, begun);
-        begun += row.times as usize;
+    let mut is_first = true;
+    'rows: for r in 0..stim.rows.len() {
+        let goes_on = run_row(
+            observer, state, ports, net, timing, stim, schedule, r, is_first,
+        );
+        if !goes_on {
+            return;
+        }
+        is_first = is_still_first(is_first, stim.rows.as_slice()[r].times);
     }
 }
 
-/// The cycles of one row of the stimulus, after so many that were begun before.
-fn run_row(
-    rows: &mut List<CellRow>,
+/// The cycles of one row of the stimulus, or fewer where the observer stops. It answers whether it goes on.
+fn run_row<O: Observer>(
+    observer: &mut O,
     state: &mut SimState,
     ports: &mut List<RamPort>,
     net: &Netlist,
     timing: &Timing,
+    stim: &Stimulus,
     schedule: &Schedule,
-    row: &StimRow,
-    begun: usize,
-)
+    r: usize,
+    is_first: bool,
+) -> bool
     requires valid { IsValid net.now }
     requires schedule { IsSchedule net.now timing.now schedule.now }
+    requires row { r < length stim.now.rows }
+    requires first { is_first ≡ (cycles_before stim.now r == 0) }
     requires ready { IsReady net.now state.old ports.old }
-    requires wide { AreWide net.now rows.old }
-    requires room { begun + row.now.times ≤ length rows.old }
-    requires few { begun + row.now.times < 2 ^ 64 }
+    requires runs { RunsTo net.now timing.now stim.now (O.has_seen observer.old net.now) true
+        (cycles_before stim.now r) (state_of net.now state.old) }
     ensures ready { IsReady net.now state.new ports.new }
-    ensures rows { HasRows net.now (length rows.old) rows.new }
-    ensures runs { (stimulus : Stimulus)
-        → ((t : ℕ) → t < row.now.times → (begun + t < cycle_count stimulus)
-        × (slice_index_or (cycle_rows stimulus) (begun + t) [] ≡ row.now.values))
-        → RunsTo net.now timing.now stimulus (take begun rows.old) (state_of net.now state.old)
-        → RunsTo net.now timing.now stimulus (take (begun + row.now.times) rows.new) (state_of net.now state.new) }
+    ensures runs { RunsTo net.now timing.now stim.now (O.has_seen observer.new net.now) result
+        (cycles_before stim.now (r + 1)) (state_of net.now state.new) }
+    ensures stops { result ≡ false → O.goes_on observer.new ≡ false }
 {
-    for time in 0..row.times {
-        let cycle = begun + time as usize;
+    let row = &stim.rows.as_slice()[r];
+    'times: for time in 0..row.times {
         run_cycle(
             state,
             ports,
@@ -148,10 +153,21 @@ fn run_row(
             timing,
             schedule,
             row.values.as_slice(),
-            cycle == 0,
+            is_still_first(is_first, time),
         );
-        set_cells(rows, cycle, net, state.values.as_slice());
+        let goes_on = observer.look(net, &state.values.as_slice()[..net.signals.len()]);
+        if !goes_on {
+            return false;
+        }
     }
+    true
+}
+
+/// Whether no cycle was run, if so many more were run since.
+fn is_still_first(is_first: bool, more: u32) -> bool
+    ensures { result ≡ (is_first && (more == 0)) }
+{
+    is_first && more == 0
 }
 
 /// The turns of one cycle with these inputs.

@@ -33,20 +33,19 @@ pub(crate) struct Schedule {
     pub(crate) outputs: List<u32>,
 }
 
-/// The schedule of an order, which is given up.
+/// The schedule of an order.
 pub(crate) fn make_schedule(
     alloc: Global,
     net: &Netlist,
     timing: &Timing,
-    order: List<u32>,
+    order: &[u32],
 ) -> Result<Schedule, Memory>
     requires valid { IsValid net.now }
     requires timing { IsValidTiming timing.now }
-    requires order { IsOrder net.now timing.now order }
+    requires order { IsOrder net.now timing.now order.now }
     ensures { IfOk result (IsSchedule net.now timing.now) }
 {
-    let gate_ops = signal_ops(alloc, net, timing, order.as_slice())?;
-    drop(order);
+    let gate_ops = signal_ops(alloc, net, timing, order)?;
     let (registers, register_ops) = register_schedule(alloc, net, timing)?;
     let (inputs, outputs) = input_and_output_signals(alloc, net)?;
     Ok(Schedule {

@@ -1,24 +1,50 @@
 //! The printed values of all cycles, in room that is taken before the first turn.
 
-ghost use Rattle.std.specs.Prelude.{◌≡◌, ◌+◌, ◌<◌, ◌≤◌, length, slice_set, IfOk, OnOk, All};
+ghost use Rattle.std.specs.Prelude.{◌≡◌, ◌+◌, ◌<◌, ◌≤◌, [], length, slice_set, IfOk, OnOk, All, true};
 ghost use Rattle.net_defs.specs.Time.{cycle_count};
 ghost use Rattle.net_defs.specs.Valid.{IsSignal};
-ghost use Rattle.ref_sim.specs.code.States.{row_of};
-ghost use Rattle.ref_sim.specs.code.Runs.{printed_row, AreWide, HasRows};
+ghost use Rattle.ref_sim.specs.code.Runs.{printed_row, AreWide, ArePrinted, HasRows};
 
 use crate::initial::undefined;
+use crate::observer::Observer;
 use crate::values::gather;
 use logic_four::V4;
 use net_defs::{CellRow, Netlist, Stimulus};
 use seen_list::{List, Memory};
 use std::alloc::Global;
 
+/// A row for each cycle, of which so many are printed.
+#[derive(Drop)]
+pub(crate) struct Printing {
+    pub(crate) rows: List<CellRow>,
+    done: usize,
+}
+
+impl Printing {
+    /// Before the first cycle, with an undefined value for each printed signal of each cycle.
+    pub(crate) fn new(alloc: Global, net: &Netlist, stim: &Stimulus) -> Result<Printing, Memory>
+        ensures { IfOk result (λ printing. ArePrinted net.now printing.rows printing.done [] (cycle_count stim.now)) }
+    {
+        let rows = undefined_rows(alloc, net, stim)?;
+        Ok(Printing { rows, done: 0 })
+    }
+}
+
+impl Observer for Printing {
+    ghost has_seen = { λ printing net seen left. ArePrinted net printing.rows printing.done seen left };
+
+    ghost goes_on = { λ printing. true };
+
+    /// Prints the values into the row of the cycle.
+    fn look(&mut self, net: &Netlist, row: &[V4]) -> bool {
+        print_row(&mut self.rows.as_mut_slice()[self.done], net, row);
+        self.done += 1;
+        true
+    }
+}
+
 /// A row for each cycle, with an undefined value for each printed signal.
-pub(crate) fn undefined_rows(
-    alloc: Global,
-    net: &Netlist,
-    stim: &Stimulus,
-) -> Result<List<CellRow>, Memory>
+fn undefined_rows(alloc: Global, net: &Netlist, stim: &Stimulus) -> Result<List<CellRow>, Memory>
     ensures { IfOk result (HasRows net.now (cycle_count stim.now)) }
 {
     let mut rows = List::new(alloc);
@@ -52,22 +78,12 @@ fn undefined_row(alloc: Global, net: &Netlist) -> Result<CellRow, Memory>
     })
 }
 
-/// Puts the printed values of this turn into the row of a cycle.
-pub(crate) fn set_cells(rows: &mut List<CellRow>, cycle: usize, net: &Netlist, values: &[V4])
-    requires within { cycle < length rows.old }
-    requires wide { AreWide net.now rows.old }
-    requires printed { All (IsSignal net.now) net.now.printed }
-    requires long { length net.now.signals ≤ length values.now }
-    ensures { rows.new ≡ slice_set rows.old cycle (printed_row net.now (row_of net.now values.now)) }
-{
-    print_row(&mut rows.as_mut_slice()[cycle], net, values);
-}
-
+/// Puts the printed values into the row of a cycle.
 fn print_row(row: &mut CellRow, net: &Netlist, values: &[V4])
     requires wide { length row.old.cells ≡ length net.now.printed }
     requires printed { All (IsSignal net.now) net.now.printed }
-    requires long { length net.now.signals ≤ length values.now }
-    ensures { row.new ≡ printed_row net.now (row_of net.now values.now) }
+    requires long { length values.now ≡ length net.now.signals }
+    ensures { row.new ≡ printed_row net.now values.now }
 {
     gather(row.cells.as_mut_slice(), values, 0, net.printed.as_slice());
 }

@@ -1,16 +1,25 @@
-use Rattle.std.proofs.Common.{◌∙◌, ◌+◌, refl, ap, arith, set}
-use Rattle.ref_sim.specs.code.States.{row_of}
-use Rattle.ref_sim.specs.code.Runs.{printed_row}
-use Rattle.ref_sim.proofs.CycleLemmas.{time_more, rows_set}
+use Rattle.std.proofs.Common.{◌∙◌, true, false, get_or, ap, ap₂, arith, take}
+use Rattle.ref_sim.proofs.CycleLemmas.{ready_to_look, cycle_more, cycle_within, cycle_stands}
 use Rattle.ref_sim.proofs.run.run_row.Goals as goal
 
-pub loop-time-preserved : goal.loop-time-preserved
-loop-time-preserved c =
-    let changed = c.set_cells.ensures ∙ ap (λ values. set c.loop-time.rows (c.args.begun + c.loop-time.time) (printed_row c.args.net.now (row_of c.args.net.now values))) c.as_slice-in-loop-time.ensures in
+pub look-goes_on-requires-clause-ready : goal.look-goes_on-requires-clause-ready
+look-goes_on-requires-clause-ready g c =
+    let is = c.index-as_slice-r.is ∙ ap (λ rows. get_or rows c.args.r c.index-as_slice-r.result) c.as_slice.ensures in
+    ready_to_look _ c.args.timing.now c.args.stim.now _ _ _ (cycle_within c.args.net.now c.args.timing.now c.args.stim.now c.args.r c.times.time _ c.requires.row is c.times-test.true) c.times.invariant.runs
+
+pub returns-then-not-goes_on-clause-runs : goal.returns-then-not-goes_on-clause-runs
+returns-then-not-goes_on-clause-runs g c =
+    let is = c.index-as_slice-r.is ∙ ap (λ rows. get_or rows c.args.r c.index-as_slice-r.result) c.as_slice.ensures in
+    let within = cycle_within c.args.net.now c.args.timing.now c.args.stim.now c.args.r c.times.time _ c.requires.row is c.times-test.true in
+    let stands = cycle_stands c.args.net.now c.args.timing.now c.args.stim.now c.args.r c.times.time _ c.requires.row is c.times-test.true _ _ _ _ _ c.requires.first c.is_still_first.ensures c.as_slice-in-times.ensures c.run_cycle.ensures.stands in
+    cycle_more c.args.net.now c.args.timing.now c.args.stim.now _ _ _ within c.times.invariant.runs _ false _ _ _ (λ on. cc) (ap₂ take c.len.ensures c.as_slice-in-times-2.ensures) c.look-goes_on.ensures.seen stands
+
+pub times-preserved : goal.times-preserved
+times-preserved g c =
+    let is = c.index-as_slice-r.is ∙ ap (λ rows. get_or rows c.args.r c.index-as_slice-r.result) c.as_slice.ensures in
+    let within = cycle_within c.args.net.now c.args.timing.now c.args.stim.now c.args.r c.times.time _ c.requires.row is c.times-test.true in
+    let stands = cycle_stands c.args.net.now c.args.timing.now c.args.stim.now c.args.r c.times.time _ c.requires.row is c.times-test.true _ _ _ _ _ c.requires.first c.is_still_first.ensures c.as_slice-in-times.ensures c.run_cycle.ensures.stands in
     record {
       ready = c.run_cycle.ensures.ready;
-      rows = rows_set _ _ _ _ _ _ c.loop-time.invariant.rows changed;
-      runs = λ stimulus given before.
-          time_more _ _ stimulus _ c.requires.schedule.is_order _ _ _ _ _ _ _ _ _ _ _ refl (omega (arith, c.loop-time.invariant.rows.long, c.requires.room, c.loop-time-test.true)) c.loop-time-test.true given c.as_slice.ensures refl
-          (c.run_cycle.ensures.stands stimulus) changed (c.loop-time.invariant.runs stimulus given before);
+      runs = cycle_more c.args.net.now c.args.timing.now c.args.stim.now _ _ _ within c.times.invariant.runs _ true _ _ _ (λ on. omega arith) (ap₂ take c.len.ensures c.as_slice-in-times-2.ensures) c.look-goes_on.ensures.seen stands;
     }

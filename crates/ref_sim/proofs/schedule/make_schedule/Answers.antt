@@ -1,15 +1,13 @@
-use Rattle.std.proofs.Common.{subst, sym}
-use Rattle.ref_sim.specs.code.Sequences.{IsSequence}
 use Rattle.ref_sim.proofs.ScheduleLemmas.{order_sequence}
 use Rattle.ref_sim.proofs.schedule.make_schedule.Goals as goal
 
 pub signal_ops-requires-clause-sequence : goal.signal_ops-requires-clause-sequence
-signal_ops-requires-clause-sequence c = subst (IsSequence c.args.net.now c.args.timing.now) (sym c.as_slice.ensures) (order_sequence _ _ _ c.requires.order)
+signal_ops-requires-clause-sequence c = order_sequence _ _ _ c.requires.order
 
 pub returns : goal.returns
 returns c = record {
-  order = c.as_slice.result.now;
-  is_order = rw c.as_slice.ensures c.requires.order;
+  order = c.args.order.now;
+  is_order = c.requires.order;
   gates = c.in_ok-gate_ops.ensures;
   register_ops = c.in_ok-registers.ensures.ops;
   inputs = c.in_ok-inputs.ensures.inputs;
