@@ -7,13 +7,13 @@ use Rattle.list_laws.proofs.Options.{one_some}
 use Rattle.net_defs.specs.declared.homes.HomeChoice.{HomeChoice}
 use Rattle.net_defs.specs.declared.timing.Timing.{Timing}
 use Rattle.cmd_words.specs.declared.command.Command.{Command}
-use Rattle.cmd_words.specs.declared.command.Command.TheVariants.{Run, Refer, Order, Plan, Compile, Exec, Pack, Fault, Show, Large, Help}
+use Rattle.cmd_words.specs.declared.command.Command.TheVariants.{Run, Refer, Order, Plan, Compile, Exec, Pack, Fault, Cover, Show, Large, Help}
 use Rattle.cmd_words.specs.declared.command.RunWords.{RunWords}
 use Rattle.cmd_words.specs.declared.command.WordNo.{WordNo}
 use Rattle.cmd_words.specs.Arguments.{Word, Piece, alone, spaced, joined, options_of, IsPiece, AreArguments, value_given}
 use Rattle.cmd_words.specs.Asked.{Values, asked, of_image, of_large, of_netlist, of_one_file, of_topic, of_two_files, large_with, run_by, run_with, says, Answers}
 use Rattle.cmd_words.specs.Forms.{HasForm, HasNoForm, IsCall, IsLarge, IsOfTopic, IsRun}
-use Rattle.cmd_words.specs.Settings.{run_options, refer_options, order_options, plan_options, compile_options, exec_options, pack_options, fault_options, show_options, large_options, help_options, timing_by, banks_by, workers_by, homes_by, gates_of, cycles_of}
+use Rattle.cmd_words.specs.Settings.{run_options, refer_options, order_options, plan_options, compile_options, exec_options, pack_options, fault_options, cover_options, show_options, large_options, help_options, timing_by, banks_by, workers_by, homes_by, gates_of, cycles_of}
 use Rattle.cmd_words.specs.declared.topic.Topic.{Topic}
 use Rattle.cmd_words.specs.declared.topic.Topic.TheVariants as topic
 use Rattle.cmd_words.specs.Topics.{topic_of, topic_words, topics, word_of}
@@ -81,6 +81,7 @@ named_topic topic.Compile = refl
 named_topic topic.Exec = refl
 named_topic topic.Pack = refl
 named_topic topic.Fault = refl
+named_topic topic.Cover = refl
 named_topic topic.Help = refl
 
 topic_said : (value : Values) (topic : Option Topic) → of_topic (topic_words topic) value ≡ Some topic
@@ -97,6 +98,7 @@ asked_from words (Compile run) form = rw (form.0.call.words_are) (ap (option_map
 asked_from words (Exec run image) form = rw (form.call.words_are) (image_says words run image form)
 asked_from words (Pack run) form = rw (form.call.words_are) (ap (option_map Pack) (run_says pack_options refl (codes "pack") words run form))
 asked_from words (Fault run) form = rw (form.call.words_are) (ap (option_map Fault) (run_says fault_options refl (codes "fault") words run form))
+asked_from words (Cover run) form = rw (form.call.words_are) (ap (option_map Cover) (run_says cover_options refl (codes "cover") words run form))
 asked_from words (Show netlist) form = rw (form.words_are) (ap (option_map Show) (call_says show_options refl of_one_file (codes "show") words (netlist ∷ []) [] form))
 asked_from words (Large gates cycles workers) form = rw (form.call.words_are) (large_says words gates cycles workers form)
 asked_from words (Help topic) form =
@@ -416,9 +418,10 @@ form_from (name ∷ words) command e =
     picked name (codes "exec") words _ _ command e (image_form words command) (λ e.
     picked name (codes "pack") words _ _ command e (made (codes "pack" ∷ words) Pack (says pack_options of_two_files words) command (run_form pack_options (codes "pack") words)) (λ e.
     picked name (codes "fault") words _ _ command e (made (codes "fault" ∷ words) Fault (says fault_options of_two_files words) command (run_form fault_options (codes "fault") words)) (λ e.
+    picked name (codes "cover") words _ _ command e (made (codes "cover" ∷ words) Cover (says cover_options of_two_files words) command (run_form cover_options (codes "cover") words)) (λ e.
     picked name (codes "show") words _ _ command e (made (codes "show" ∷ words) Show (says show_options of_one_file words) command (show_form words)) (λ e.
     picked name (codes "large") words _ _ command e (large_form words command) (λ e.
-    picked name (codes "help") words _ _ command e (made (codes "help" ∷ words) Help (says help_options of_topic words) command (help_form words)) (λ e. cc)))))))))))
+    picked name (codes "help") words _ _ command e (made (codes "help" ∷ words) Help (says help_options of_topic words) command (help_form words)) (λ e. cc))))))))))))
 
 -- ---- the contract
 
@@ -442,6 +445,7 @@ of_command words (Compile run) form = (_, _, form.0.call)
 of_command words (Exec run image) form = (_, _, form.call)
 of_command words (Pack run) form = (_, _, form.call)
 of_command words (Fault run) form = (_, _, form.call)
+of_command words (Cover run) form = (_, _, form.call)
 of_command words (Show netlist) form = (_, _, form)
 of_command words (Large gates cycles workers) form = (_, _, form.call)
 of_command words (Help topic) form = (_, _, form)

@@ -10,7 +10,7 @@ use Rattle.net_defs.specs.declared.timing.Mode.TheVariants.{Rank, Unit, Mixed}
 use Rattle.net_defs.specs.declared.timing.Init.{Init}
 use Rattle.net_defs.specs.Valid.{IsValidTiming}
 use Rattle.cmd_words.specs.declared.command.Command.{Command}
-use Rattle.cmd_words.specs.declared.command.Command.TheVariants.{Run, Refer, Order, Plan, Compile, Exec, Pack, Fault, Show, Large, Help}
+use Rattle.cmd_words.specs.declared.command.Command.TheVariants.{Run, Refer, Order, Plan, Compile, Exec, Pack, Fault, Cover, Show, Large, Help}
 use Rattle.cmd_words.specs.declared.command.RunWords.{RunWords}
 use Rattle.cmd_words.specs.declared.command.WordNo.{WordNo}
 use Rattle.cmd_words.specs.Arguments.{Word, value_given}
@@ -104,6 +104,7 @@ in_range words (Compile run) form = run_in_range _ _ words _ run form.0
 in_range words (Exec run image) form = run_in_range _ _ words _ run form
 in_range words (Pack run) form = run_in_range _ _ words _ run form
 in_range words (Fault run) form = run_in_range _ _ words _ run form
+in_range words (Cover run) form = run_in_range _ _ words _ run form
 in_range words (Show netlist) form = tt
 in_range words (Help topic) form = tt
 in_range words (Large gates cycles workers) form = large_in_range words gates cycles workers form

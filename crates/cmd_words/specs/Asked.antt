@@ -3,12 +3,12 @@ use Rattle.std.specs.Prelude.{◌≡◌, ◌⊎◌, ℕ, List, [], ◌∷◌, if
 use Rattle.net_defs.specs.declared.homes.HomeChoice.{HomeChoice}
 use Rattle.net_defs.specs.declared.timing.Timing.{Timing}
 use Rattle.cmd_words.specs.declared.command.Command.{Command}
-use Rattle.cmd_words.specs.declared.command.Command.TheVariants.{Run, Refer, Order, Plan, Compile, Exec, Pack, Fault, Show, Large, Help}
+use Rattle.cmd_words.specs.declared.command.Command.TheVariants.{Run, Refer, Order, Plan, Compile, Exec, Pack, Fault, Cover, Show, Large, Help}
 use Rattle.cmd_words.specs.declared.command.RunWords.{RunWords}
 use Rattle.cmd_words.specs.declared.command.WordNo.{WordNo}
 use Rattle.cmd_words.specs.declared.command.WordNo.TheVariants.{Usage, Memory}
 use Rattle.cmd_words.specs.Arguments.{Word, value_given}
-use Rattle.cmd_words.specs.Settings.{run_options, refer_options, order_options, plan_options, compile_options, exec_options, pack_options, fault_options, show_options, large_options, help_options, timing_by, banks_by, workers_by, homes_by, gates_of, cycles_of}
+use Rattle.cmd_words.specs.Settings.{run_options, refer_options, order_options, plan_options, compile_options, exec_options, pack_options, fault_options, cover_options, show_options, large_options, help_options, timing_by, banks_by, workers_by, homes_by, gates_of, cycles_of}
 use Rattle.cmd_words.specs.declared.topic.Topic.{Topic}
 use Rattle.cmd_words.specs.Topics.{topic_of}
 use Rattle.cmd_words.specs.Uses.{parsed}
@@ -92,6 +92,7 @@ asked_by name words =
     else if bytes_eq name (codes "exec") then says exec_options of_image words
     else if bytes_eq name (codes "pack") then option_map Pack (says pack_options of_two_files words)
     else if bytes_eq name (codes "fault") then option_map Fault (says fault_options of_two_files words)
+    else if bytes_eq name (codes "cover") then option_map Cover (says cover_options of_two_files words)
     else if bytes_eq name (codes "show") then option_map Show (says show_options of_one_file words)
     else if bytes_eq name (codes "large") then says large_options of_large words
     else if bytes_eq name (codes "help") then option_map Help (says help_options of_topic words)

@@ -2,7 +2,7 @@
 use Rattle.std.specs.Prelude.{◌≡◌, ◌↔◌, ◌⊎◌, ◌≤◌, ⊤, ℕ, List, [], ◌∷◌, Some, codes}
 use Rattle.net_defs.specs.Valid.{IsValidTiming}
 use Rattle.cmd_words.specs.declared.command.Command.{Command}
-use Rattle.cmd_words.specs.declared.command.Command.TheVariants.{Run, Refer, Order, Plan, Compile, Exec, Pack, Fault, Show, Large, Help}
+use Rattle.cmd_words.specs.declared.command.Command.TheVariants.{Run, Refer, Order, Plan, Compile, Exec, Pack, Fault, Cover, Show, Large, Help}
 use Rattle.cmd_words.specs.declared.command.RunWords.{RunWords}
 use Rattle.cmd_words.specs.declared.command.WordNo.{WordNo}
 use Rattle.cmd_words.specs.declared.command.WordNo.TheVariants.{Usage, Memory}
@@ -52,6 +52,7 @@ HasForm words (Compile run) = IsRun (word_of topic.Compile) (options_of topic.Co
 HasForm words (Exec run image) = IsRun (word_of topic.Exec) (options_of topic.Exec) words (run.netlist ∷ image ∷ run.stimulus ∷ []) run
 HasForm words (Pack run) = IsRun (word_of topic.Pack) (options_of topic.Pack) words (run.netlist ∷ run.stimulus ∷ []) run
 HasForm words (Fault run) = IsRun (word_of topic.Fault) (options_of topic.Fault) words (run.netlist ∷ run.stimulus ∷ []) run
+HasForm words (Cover run) = IsRun (word_of topic.Cover) (options_of topic.Cover) words (run.netlist ∷ run.stimulus ∷ []) run
 HasForm words (Show netlist) = IsCall (word_of topic.Show) (options_of topic.Show) words (netlist ∷ []) []
 HasForm words (Large gates cycles workers) = IsLarge words gates cycles workers
 HasForm words (Help about) = IsCall (word_of topic.Help) (options_of topic.Help) words (topic_words about) []
@@ -89,6 +90,7 @@ IsInRange (Compile run) = IsRunInRange run
 IsInRange (Exec run image) = IsRunInRange run
 IsInRange (Pack run) = IsRunInRange run
 IsInRange (Fault run) = IsRunInRange run
+IsInRange (Cover run) = IsRunInRange run
 IsInRange (Show netlist) = ⊤
 IsInRange (Large gates cycles workers) = IsLargeInRange gates cycles workers
 IsInRange (Help topic) = ⊤

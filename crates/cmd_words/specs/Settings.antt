@@ -37,6 +37,9 @@ pack_options = codes "machine" ∷ codes "mode" ∷ codes "last" ∷ codes "unit
 abbrev pub fault_options : List Word
 fault_options = codes "mode" ∷ codes "last" ∷ codes "units" ∷ codes "init" ∷ codes "workers" ∷ codes "faults" ∷ []
 
+abbrev pub cover_options : List Word
+cover_options = codes "mode" ∷ codes "last" ∷ codes "units" ∷ codes "init" ∷ []
+
 abbrev pub show_options : List Word
 show_options = []
 

@@ -3,13 +3,13 @@ use Rattle.std.specs.Prelude.{List, [], ◌∷◌, Option, Some, None, codes, fi
 use Rattle.cmd_words.specs.declared.command.Command.{Command}
 use Rattle.cmd_words.specs.declared.command.Command.TheVariants as command
 use Rattle.cmd_words.specs.declared.topic.Topic.{Topic}
-use Rattle.cmd_words.specs.declared.topic.Topic.TheVariants.{Run, Refer, Order, Plan, Show, Large, Compile, Exec, Pack, Fault, Help}
+use Rattle.cmd_words.specs.declared.topic.Topic.TheVariants.{Run, Refer, Order, Plan, Show, Large, Compile, Exec, Pack, Fault, Cover, Help}
 use Rattle.cmd_words.specs.Arguments.{Word}
-use Rattle.cmd_words.specs.Settings.{run_options, refer_options, order_options, plan_options, compile_options, exec_options, pack_options, fault_options, show_options, large_options, help_options}
+use Rattle.cmd_words.specs.Settings.{run_options, refer_options, order_options, plan_options, compile_options, exec_options, pack_options, fault_options, cover_options, show_options, large_options, help_options}
 
 -- all commands
 abbrev pub topics : List Topic
-topics = Run ∷ Refer ∷ Order ∷ Plan ∷ Show ∷ Large ∷ Compile ∷ Exec ∷ Pack ∷ Fault ∷ Help ∷ []
+topics = Run ∷ Refer ∷ Order ∷ Plan ∷ Show ∷ Large ∷ Compile ∷ Exec ∷ Pack ∷ Fault ∷ Cover ∷ Help ∷ []
 
 -- the word that a call of the command begins with
 abbrev pub word_of : Topic → Word
@@ -23,6 +23,7 @@ word_of Compile = codes "compile"
 word_of Exec = codes "exec"
 word_of Pack = codes "pack"
 word_of Fault = codes "fault"
+word_of Cover = codes "cover"
 word_of Help = codes "help"
 
 -- the command of a word
@@ -41,6 +42,7 @@ options_of Compile = compile_options
 options_of Exec = exec_options
 options_of Pack = pack_options
 options_of Fault = fault_options
+options_of Cover = cover_options
 options_of Help = help_options
 
 -- what a command that is asked for is a command of
@@ -55,6 +57,7 @@ topic_for (command.Compile words) = Compile
 topic_for (command.Exec words image) = Exec
 topic_for (command.Pack words) = Pack
 topic_for (command.Fault words) = Fault
+topic_for (command.Cover words) = Cover
 topic_for (command.Help topic) = Help
 
 -- the words behind `help`: none, or that of a command

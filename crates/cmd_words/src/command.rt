@@ -69,6 +69,8 @@ pub enum Command {
     Pack(RunWords),
     /// Where stuck faults of a netlist are first seen.
     Fault(RunWords),
+    /// Which values each signal had, and which changes it made, in the reference simulation.
+    Cover(RunWords),
     /// What a command is called with and what it prints, or the same of all in brief. There are no files.
     Help(Option<Topic>),
 }

@@ -26,6 +26,9 @@ pub static PACK: [&str; 6] = ["machine", "mode", "last", "units", "init", "worke
 /// The options of `fault`.
 pub static FAULT: [&str; 6] = ["mode", "last", "units", "init", "workers", "faults"];
 
+/// The options of `cover`.
+pub static COVER: [&str; 4] = ["mode", "last", "units", "init"];
+
 /// The options of `show`: none.
 pub static SHOW: [&str; 0] = [];
 

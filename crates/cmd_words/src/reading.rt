@@ -8,10 +8,12 @@ ghost use Rattle.cmd_words.specs.Arguments.{has_name};
 ghost use Rattle.cmd_words.specs.Asked.{Answers, asked, asked_by, says, image_by, of_two_files, of_netlist, of_one_file, of_image, of_large, of_topic, run_by, large_by};
 ghost use Rattle.cmd_words.specs.Forms.{HasForm, HasNoForm, IsInRange};
 ghost use Rattle.cmd_words.specs.code.Parses.{files_id, texts_in, of_word, value_found, settings_by};
-ghost use Rattle.cmd_words.specs.Settings.{run_options, refer_options, order_options, plan_options, compile_options, exec_options, pack_options, fault_options, show_options, large_options, help_options};
+ghost use Rattle.cmd_words.specs.Settings.{run_options, refer_options, order_options, plan_options, compile_options, exec_options, pack_options, fault_options, cover_options, show_options, large_options, help_options};
 
 use crate::command::{Command, RunWords, WordNo};
-use crate::options::{COMPILE, EXEC, FAULT, HELP, LARGE, ORDER, PACK, PLAN, REFER, RUN, SHOW};
+use crate::options::{
+    COMPILE, COVER, EXEC, FAULT, HELP, LARGE, ORDER, PACK, PLAN, REFER, RUN, SHOW,
+};
 use crate::parsing::{
     one_argument, parse, perhaps_argument, three_arguments, two_arguments, value,
 };
@@ -64,6 +66,8 @@ fn read_command(alloc: Global, name: &[u8], words: &[String]) -> Result<Command,
         pack(alloc, words)
     } else if name == b"fault".as_slice() {
         fault(alloc, words)
+    } else if name == b"cover".as_slice() {
+        cover(alloc, words)
     } else if name == b"show".as_slice() {
         show(alloc, words)
     } else if name == b"large".as_slice() {
@@ -142,6 +146,15 @@ fn fault(alloc: Global, words: &[String]) -> Result<Command, WordNo>
 {
     match simulation(alloc, words, FAULT.as_slice()) {
         Ok(words) => Ok(Command::Fault(words)),
+        Err(no) => Err(no),
+    }
+}
+
+fn cover(alloc: Global, words: &[String]) -> Result<Command, WordNo>
+    ensures { Answers result (option_map command.Cover (says cover_options of_two_files (map string_bytes words.now))) }
+{
+    match simulation(alloc, words, COVER.as_slice()) {
+        Ok(words) => Ok(Command::Cover(words)),
         Err(no) => Err(no),
     }
 }

@@ -3,7 +3,9 @@
 ghost use Rattle.std.specs.Prelude.{◌≡◌, map};
 ghost use Rattle.cmd_words.specs.Topics.{options_of, topic_of, topics, word_of};
 
-use crate::options::{COMPILE, EXEC, FAULT, HELP, LARGE, ORDER, PACK, PLAN, REFER, RUN, SHOW};
+use crate::options::{
+    COMPILE, COVER, EXEC, FAULT, HELP, LARGE, ORDER, PACK, PLAN, REFER, RUN, SHOW,
+};
 
 /// A command, by its word alone.
 #[derive(Clone, Copy)]
@@ -18,11 +20,12 @@ pub enum Topic {
     Exec,
     Pack,
     Fault,
+    Cover,
     Help,
 }
 
 /// All commands. A new one gets its place here.
-static TOPICS: [Topic; 11] = [
+static TOPICS: [Topic; 12] = [
     Topic::Run,
     Topic::Refer,
     Topic::Order,
@@ -33,6 +36,7 @@ static TOPICS: [Topic; 11] = [
     Topic::Exec,
     Topic::Pack,
     Topic::Fault,
+    Topic::Cover,
     Topic::Help,
 ];
 
@@ -59,6 +63,7 @@ impl Topic {
             Topic::Exec => "exec",
             Topic::Pack => "pack",
             Topic::Fault => "fault",
+            Topic::Cover => "cover",
             Topic::Help => "help",
         }
     }
@@ -78,6 +83,7 @@ impl Topic {
             Topic::Exec => EXEC.as_slice(),
             Topic::Pack => PACK.as_slice(),
             Topic::Fault => FAULT.as_slice(),
+            Topic::Cover => COVER.as_slice(),
             Topic::Help => HELP.as_slice(),
         }
     }
@@ -107,6 +113,8 @@ pub fn topic_of(word: &[u8]) -> Option<Topic>
         Some(Topic::Pack)
     } else if word == b"fault".as_slice() {
         Some(Topic::Fault)
+    } else if word == b"cover".as_slice() {
+        Some(Topic::Cover)
     } else if word == b"help".as_slice() {
         Some(Topic::Help)
     } else {

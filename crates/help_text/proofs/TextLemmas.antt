@@ -22,6 +22,7 @@ names_told topic.Compile = refl
 names_told topic.Exec = refl
 names_told topic.Pack = refl
 names_told topic.Fault = refl
+names_told topic.Cover = refl
 names_told topic.Help = refl
 
 -- the place of a command among all
@@ -36,7 +37,8 @@ place_of topic.Compile = 6
 place_of topic.Exec = 7
 place_of topic.Pack = 8
 place_of topic.Fault = 9
-place_of topic.Help = 10
+place_of topic.Cover = 10
+place_of topic.Help = 11
 
 within_all : (topic : Topic) → place_of topic < length topics
 within_all topic.Run = omega arith
@@ -49,6 +51,7 @@ within_all topic.Compile = omega arith
 within_all topic.Exec = omega arith
 within_all topic.Pack = omega arith
 within_all topic.Fault = omega arith
+within_all topic.Cover = omega arith
 within_all topic.Help = omega arith
 
 at_place : (topic : Topic) → topic ≡ get_or topics (place_of topic) topic
@@ -62,6 +65,7 @@ at_place topic.Compile = refl
 at_place topic.Exec = refl
 at_place topic.Pack = refl
 at_place topic.Fault = refl
+at_place topic.Cover = refl
 at_place topic.Help = refl
 
 parted : (head before blank form rest behind tail : List ℕ)
@@ -91,6 +95,7 @@ text_fits topic.Compile = refl
 text_fits topic.Exec = refl
 text_fits topic.Pack = refl
 text_fits topic.Fault = refl
+text_fits topic.Cover = refl
 text_fits topic.Help = refl
 
 -- the texts have no options but those of their forms
@@ -106,6 +111,7 @@ names_told_of topic.Compile = refl
 names_told_of topic.Exec = refl
 names_told_of topic.Pack = refl
 names_told_of topic.Fault = refl
+names_told_of topic.Cover = refl
 names_told_of topic.Help = refl
 
 pub all_names_told : names_in overview ≡ flat_map options_of topics
@@ -124,4 +130,5 @@ said topic.Compile = refl
 said topic.Exec = refl
 said topic.Pack = refl
 said topic.Fault = refl
+said topic.Cover = refl
 said topic.Help = refl

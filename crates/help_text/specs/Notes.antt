@@ -19,6 +19,7 @@ operands topic.Compile = codes " NETLIST"
 operands topic.Exec = codes " NETLIST IMAGE STIMULUS"
 operands topic.Pack = codes " NETLIST STIMULI"
 operands topic.Fault = codes " NETLIST STIMULUS"
+operands topic.Cover = codes " NETLIST STIMULUS"
 operands topic.Help = codes " [COMMAND]"
 
 -- what it does
@@ -33,6 +34,7 @@ does topic.Compile = brief.COMPILE.now
 does topic.Exec = brief.EXEC.now
 does topic.Pack = brief.PACK.now
 does topic.Fault = brief.FAULT.now
+does topic.Cover = brief.COVER.now
 does topic.Help = brief.HELP.now
 
 -- what it prints, and an example
@@ -47,6 +49,7 @@ prints topic.Compile = detail.COMPILE.now
 prints topic.Exec = detail.EXEC.now
 prints topic.Pack = detail.PACK.now
 prints topic.Fault = detail.FAULT.now
+prints topic.Cover = detail.COVER.now
 prints topic.Help = detail.HELP.now
 
 -- what stands for the value of an option

@@ -25,6 +25,8 @@ pub const PACK: &str = "the traces of up to 30 stimuli in one pass, by the compi
 
 pub const FAULT: &str = "where each stuck signal is first seen";
 
+pub const COVER: &str = "which values and changes each signal had, by evaluating the netlist";
+
 pub const HELP: &str = "this text, or more of one command";
 
 /// What a command does.
@@ -43,6 +45,7 @@ pub fn does(topic: &Topic) -> &'static str
         Topic::Exec => EXEC,
         Topic::Pack => PACK,
         Topic::Fault => FAULT,
+        Topic::Cover => COVER,
         Topic::Help => HELP,
     }
 }

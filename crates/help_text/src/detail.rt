@@ -69,6 +69,13 @@ and the printed name at which that shows, or -; and how many show.
 Example: yse fault c17.bench c17.stim
 ";
 
+pub const COVER: &str =
+    "Prints each signal with 01rf: at ends of cycles it was 0, it was 1, it rose, it
+fell, or - in its place; and how many signals did all four.
+
+Example: yse cover c17.bench c17.stim
+";
+
 pub const HELP: &str =
     "Prints the form of the command, its options, what it prints, and an example; or
 of all commands the form and what they do, and the statuses.
@@ -92,6 +99,7 @@ pub fn prints(topic: &Topic) -> &'static str
         Topic::Exec => EXEC,
         Topic::Pack => PACK,
         Topic::Fault => FAULT,
+        Topic::Cover => COVER,
         Topic::Help => HELP,
     }
 }

@@ -43,7 +43,9 @@ fn operands(topic: &Topic) -> &'static str
     ensures { result.now ≡ operands topic.now }
 {
     match topic {
-        Topic::Run | Topic::Refer | Topic::Order | Topic::Fault => " NETLIST STIMULUS",
+        Topic::Run | Topic::Refer | Topic::Order | Topic::Fault | Topic::Cover => {
+            " NETLIST STIMULUS"
+        }
         Topic::Plan | Topic::Show | Topic::Compile => " NETLIST",
         Topic::Large => " GATES CYCLES",
         Topic::Exec => " NETLIST IMAGE STIMULUS",
