@@ -34,11 +34,12 @@ use Rattle.named_files.specs.Readings.{Reading}
 use Rattle.yse_commands.specs.Refusals.{Follows}
 use Rattle.stim_text.specs.declared.lanes.Lanes.{Lanes}
 use Rattle.help_text.specs.Texts.{text_of as help_of}
-use Rattle.yse_commands.specs.Traced.{AreFaultsOfFile, AreLanesOfFiles, AreOfFiles, AreTracesOfFiles, IsFaultListOfFiles, IsOutputOfFiles, IsTimingOfFile, IsTraceOfFiles}
+use Rattle.yse_commands.specs.Traced.{AreFaultsOfFile, AreLanesOfFiles, AreOfFiles, AreTracesOfFiles, IsCoverageOfFiles, IsFaultListOfFiles, IsOutputOfFiles, IsTimingOfFile, IsTraceOfFiles}
 use Rattle.yse_commands.specs.Orders.{EndsIn, EndsInOrder}
 use Rattle.yse_commands.specs.code.Endings.{status_after}
 use Rattle.yse_commands.specs.Outputs.{ending_in}
 use Rattle.yse_commands.specs.Visited.{IsImageOfFile, IsMachineOfFile}
+use Rattle.yse_commands.specs.commands.Cover.{CoversIn, ExpectedCover, IsCoverage, WritesCoverage}
 use Rattle.yse_commands.specs.commands.Fault.{AfterListed, ExpectedFault, FaultsIn, IsFaultList, ListsFaults, listed_or_all}
 use Rattle.named_files.specs.Files.{AfterFaultList, AfterLanes, AfterList, AfterMachine, AfterNetlist, AfterStimulus}
 use Rattle.yse_commands.specs.commands.Pack.{AreLaneTraces, ExpectedPack, KeepsLanesOn, PacksIn, PacksOn}
@@ -492,6 +493,22 @@ module _ (bytes : Option (List ℕ → List ℕ)) where
         list = wrote_so (IsFaultList net timing end.stimulus faults) end.others output end.ends;
       }
 
+  cover_traced : (words : RunWords) (readings : List Reading) (output : List ℕ) → AreTold readings → ExpectedCover words readings (done output) → IsCoverageOfFiles bytes output words
+  cover_traced words readings output are expected =
+      let on = reached_netlist words (CoversIn words.stimulus) readings output are expected in
+      let net = on.net in
+      let timing = on.timing in
+      let order = passed (HasNoLoop net timing) (λ passed. AfterStimulus words.stimulus net (WritesCoverage net timing)) on.others output (λ e. not_done _ status.Loop output e.2 refl (λ e. cc)) on.ends in
+      let end = reached_stimulus words net (WritesCoverage net timing) on.others output on.told order.2 in
+      record {
+        net = net;
+        stimulus = end.stimulus;
+        are = of_files words on.text on.text_told net on.reads (WritesCoverage net timing) output end;
+        timing = timing;
+        timing_is = on.timing_is;
+        coverage = wrote_so (IsCoverage net timing end.stimulus) end.others output end.ends;
+      }
+
   command_traced : (command : Command) (readings : List Reading) (output : List ℕ) → AreTold readings → ExpectedOf command readings (done output) → IsOutputOfFiles bytes output (Some command)
   command_traced (command.Run words) readings output are expected = run_traced words false None readings output are expected
   command_traced (command.Refer words) readings output are expected = refer_traced words readings output are expected
@@ -499,6 +516,7 @@ module _ (bytes : Option (List ℕ → List ℕ)) where
   command_traced (command.Exec words image) readings output are expected = exec_traced words image readings output are expected
   command_traced (command.Pack words) readings output are expected = pack_traced words readings output are expected
   command_traced (command.Fault words) readings output are expected = fault_traced words readings output are expected
+  command_traced (command.Cover words) readings output are expected = cover_traced words readings output are expected
   command_traced (command.Help topic) readings output are expected = wrote_so (λ output. output ≡ help_of topic) readings output expected
   command_traced _ readings output are expected = tt
 

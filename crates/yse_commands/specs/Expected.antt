@@ -9,6 +9,7 @@ use Rattle.named_files.specs.Checks.{After}
 use Rattle.refusal_lines.specs.Lines.{usage_line}
 use Rattle.named_files.specs.Outcome.{Outcome, refusal}
 use Rattle.named_files.specs.Readings.{Reading}
+use Rattle.yse_commands.specs.commands.Cover.{ExpectedCover}
 use Rattle.yse_commands.specs.commands.Exec.{ExpectedExec}
 use Rattle.yse_commands.specs.commands.Fault.{ExpectedFault}
 use Rattle.yse_commands.specs.commands.Help.{ExpectedHelp}
@@ -27,6 +28,7 @@ ExpectedOf (command.Compile words) readings outcome = ExpectedLayout sheet.Image
 ExpectedOf (command.Exec words image) readings outcome = ExpectedExec words image readings outcome
 ExpectedOf (command.Pack words) readings outcome = ExpectedPack words readings outcome
 ExpectedOf (command.Fault words) readings outcome = ExpectedFault words readings outcome
+ExpectedOf (command.Cover words) readings outcome = ExpectedCover words readings outcome
 ExpectedOf (command.Show netlist) readings outcome = ExpectedShow netlist readings outcome
 ExpectedOf (command.Large gates cycles workers) readings outcome = ExpectedLarge gates cycles readings outcome
 ExpectedOf (command.Help topic) readings outcome = ExpectedHelp topic readings outcome

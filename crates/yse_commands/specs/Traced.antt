@@ -20,6 +20,7 @@ use Rattle.cmd_words.specs.declared.command.RunWords.{RunWords}
 use Rattle.help_text.specs.Texts.{text_of}
 use Rattle.named_files.specs.Checks.{listing}
 use Rattle.yse_commands.specs.Words.{traced_by}
+use Rattle.yse_commands.specs.commands.Cover.{IsCoverage}
 use Rattle.yse_commands.specs.commands.Fault.{IsFaultList}
 use Rattle.yse_commands.specs.commands.Pack.{AreLaneTraces}
 
@@ -84,9 +85,19 @@ pub record IsFaultListOfFiles (bytes : Option (List ℕ → List ℕ)) (output :
   pub faults_are : AreFaultsOfFile bytes words.faults net faults
   pub list : IsFaultList net timing stimulus faults output
 
+-- the output is the coverage of the netlist of the files under their stimulus
+pub record IsCoverageOfFiles (bytes : Option (List ℕ → List ℕ)) (output : List ℕ) (words : RunWords) : Type 0 where
+  pub net : Netlist
+  pub stimulus : Stimulus
+  pub are : AreOfFiles bytes words net stimulus
+  pub timing : Timing
+  pub timing_is : IsTimingOfFile bytes words.last net words.timing timing
+  pub coverage : IsCoverage net timing stimulus output
+
 -- what the output of a command is, by what its files told
 abbrev pub IsOutputOfFiles : Option (List ℕ → List ℕ) → List ℕ → Option Command → Type 0
 IsOutputOfFiles bytes output (Some (command.Pack words)) = AreTracesOfFiles bytes output words
 IsOutputOfFiles bytes output (Some (command.Fault words)) = IsFaultListOfFiles bytes output words
+IsOutputOfFiles bytes output (Some (command.Cover words)) = IsCoverageOfFiles bytes output words
 IsOutputOfFiles bytes output (Some (command.Help topic)) = output ≡ text_of topic
 IsOutputOfFiles bytes output asked = IfSome (traced_by asked) (IsTraceOfFiles bytes output)

@@ -1,4 +1,5 @@
 pub mod Compile
+pub mod Cover
 pub mod Exec
 pub mod Fault
 pub mod Help

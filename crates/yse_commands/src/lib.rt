@@ -3,6 +3,7 @@
 #![tactic(auto)]
 
 mod compile;
+pub mod cover;
 pub mod exec;
 pub mod fault;
 pub mod help;

@@ -18,6 +18,7 @@ use std::alloc::Global;
 use std::marker::{Send, Sync};
 use std::sync::Wait;
 use std::thread::Threads;
+use yse_commands::cover::cover;
 use yse_commands::exec::exec;
 use yse_commands::fault::fault;
 use yse_commands::help::help;
@@ -61,6 +62,7 @@ pub fn prepare<'a, R: Threads + Wait + Sync, F: Files, O: Sink, G: Gate + Send>(
         }
         Command::Pack(words) => pack(rt, alloc, files, words, out, gates),
         Command::Fault(words) => fault(rt, alloc, files, words),
+        Command::Cover(words) => cover(alloc, files, words),
         Command::Show { netlist } => show(alloc, files, netlist.as_bytes()),
         Command::Large {
             gates: count,

@@ -17,6 +17,7 @@ use bench_read::law::{reads_or_faults as netlists_or_faults, texts_read_as_valid
 use bench_read::list_law::{reads_as_ascending, reads_or_faults as lists_or_faults};
 use bench_read::stuck_law::{reads_as_faults, reads_or_faults as stuck_lists_or_faults};
 use cmd_words::law::{forms_are_asked, forms_are_in_range};
+use cover_sim::one_coverage;
 use event_defs::law::{links_decide, steps_exist};
 use fault_sim::one_list as one_list_of_verdicts;
 use home_better::law::{one_better, some_better};
@@ -78,6 +79,7 @@ pub fn calls_are_proper()
     planned_or_refused();
     one_list();
     one_list_of_verdicts();
+    one_coverage();
     items_are_well_formed();
     links_decide();
     steps_exist();

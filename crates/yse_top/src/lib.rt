@@ -80,6 +80,10 @@ use std::thread::Threads;
 /// which printed name it is first seen that the signal is stuck there, and ends with how many of these faults are seen.
 /// It takes netlists of at most 65,536 signals.
 ///
+/// `cover NETLIST STIMULUS [--mode rank|unit|mixed] [--last FILE] [--units K] [--init x|0]` lists for each signal
+/// whether it was 0, was 1, rose and fell at the ends of the cycles of the reference simulation, and ends with how many
+/// signals did all four.
+///
 /// `help [COMMAND]` writes the form of each command and the statuses, or more of one command. It reads no file.
 ///
 /// Worker `w` tells the gate `w` of each turn that begins of the ports that it steps, which are the ports
@@ -97,7 +101,8 @@ pub fn yse<R: Threads + Wait + Sync, F: Files, O: Sink, E: Sink, G: Gate + Send>
     requires tell { AllCanTell G.Gate.own gates.old }
 
     // After a simulation the output is the trace of the netlist and the stimulus that its files read as; after one of
-    // lanes the trace of each; after one of stuck faults where each is first seen.
+    // lanes the trace of each; after one of stuck faults where each is first seen; after `cover` the marks of each
+    // signal.
     ensures trace { result ≡ Status.Done → (output : List ℕ)
         × (O.taken out.new ≡ append_known (O.taken out.old) output)
         × IsOutputOfFiles (F.bytes files.old) output (asked (map string_bytes words.now)) }

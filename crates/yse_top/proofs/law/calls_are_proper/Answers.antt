@@ -49,6 +49,8 @@ use Rattle.refusal_lines.specs.declared.status.Status.TheVariants as status
 use Rattle.stim_text.specs.LaneTexts as lane_texts
 use Rattle.stim_text.specs.declared.lanes.Lanes.{Lanes}
 use Rattle.edge_io.specs.Writing.{joined}
+use Rattle.cover_sim.specs.Lines.{cover_lines}
+use Rattle.cover_sim.specs.Marks.{HasOneCoverage, HaveOneCoverage}
 use Rattle.fault_sim.specs.Lines.{fault_lines}
 use Rattle.fault_sim.specs.Verdicts.{AreAllFaults, HasOneList, HaveOneList}
 use Rattle.named_files.specs.Checks.{After, Ends, Writes, IsFaultListOf, IsLanesOf, HasFewBits, HasFewLaneCells, HasFewSignals, cell_count, lane_cell_count, memory_bits, IsMachineOf, IsNetlistOf, HasNoLoop, HasRoom, IsStimulusOf, HasFewCells, IsListOf, IsOrderOf, listing}
@@ -63,6 +65,7 @@ use Rattle.yse_commands.specs.Orders.{EndsInOrder}
 use Rattle.cmd_words.specs.declared.topic.Topic.{Topic}
 use Rattle.help_text.specs.Texts.{text_of}
 use Rattle.yse_commands.specs.Words.{files_of, files_named}
+use Rattle.yse_commands.specs.commands.Cover.{CoversIn, ExpectedCover, IsCoverage, WritesCoverage}
 use Rattle.yse_commands.specs.commands.Exec.{AfterImage, AfterMatch, ExpectedExec, OnImage, RunsImage, WritesTraceOf}
 use Rattle.named_files.specs.Images.{IsAccepted, IsImageFileOf}
 use Rattle.yse_commands.specs.commands.Fault.{AfterListed, ExpectedFault, FaultsIn, IsFaultList, ListsFaults, listed_or_all}
@@ -101,6 +104,7 @@ record Laws : Type 0 where
   valid_orders : (ports : ℕ) (text : List ℕ) (order : Order) → orders.Reads ports text order → orders.IsValidOrder ports order
   orders : (ports : ℕ) → IsReader (orders.Reads ports) (orders.first_fault ports)
   lanes : (inputs : ℕ) → IsReader (lane_texts.ReadsAsLanes inputs) (lane_texts.first_lanes_fault inputs)
+  coverages : HaveOneCoverage
   verdicts : HaveOneList
   all_faults : AreAllFaults
   faults_lists : (net : Netlist) → IsReader (stuck_lists.Reads net) (stuck_lists.first_fault net)
@@ -277,6 +281,22 @@ module _ (laws : Laws) where
   fault_proper : (words : RunWords) → IsValidTiming words.timing → IsCommand (words.netlist ∷ (option_to_list words.last ++ (option_to_list words.faults ++ (words.stimulus ∷ [])))) (ExpectedFault words)
   fault_proper words timely = netlist_proper words (option_to_list words.faults ++ (words.stimulus ∷ [])) (FaultsIn words) timely (λ net valid timing valid_timing. faults_proper words net timing)
 
+  one_text_of_marks : (net : Netlist) (timing : Timing) (stimulus : Stimulus) → HasOneCoverage net timing stimulus → IsCommand [] (WritesCoverage net timing stimulus)
+  one_text_of_marks net timing stimulus one =
+      command_ends (Writes (IsCoverage net timing stimulus)) (writes_ending (IsCoverage net timing stimulus) (λ s t is is_too. (only s t is is_too)))
+      (outcome_writes (IsCoverage net timing stimulus) (joined (cover_lines net one.marks)) (record { marks = one.marks; are = one.exists; printed = refl }))
+    where
+      only : (s t : List ℕ) → IsCoverage net timing stimulus s → IsCoverage net timing stimulus t → s ≡ t
+      only s t is is_too = is.printed ∙ ap (λ marks. joined (cover_lines net marks)) (one.only is.marks is.are ∙ sym (one.only is_too.marks is_too.are)) ∙ sym is_too.printed
+
+  covers_proper : (file : List ℕ) (net : Netlist) (timing : Timing) → IsCommand (file ∷ []) (CoversIn file net timing)
+  covers_proper file net timing =
+      command_after (file ∷ []) (HasNoLoop net timing) (λ passed. AfterStimulus file net (WritesCoverage net timing)) (loop_check net timing (laws.order_or_loop net timing) (laws.never_both net timing)) (λ passed acyclic.
+      stimulus_proper file [] net (WritesCoverage net timing) (λ stimulus. one_text_of_marks net timing stimulus (laws.coverages net timing stimulus acyclic)))
+
+  cover_proper : (words : RunWords) → IsValidTiming words.timing → IsCommand (words.netlist ∷ (option_to_list words.last ++ (words.stimulus ∷ []))) (ExpectedCover words)
+  cover_proper words timely = netlist_proper words (words.stimulus ∷ []) (CoversIn words.stimulus) timely (λ net valid timing valid_timing. covers_proper words.stimulus net timing)
+
   sheet_proper : (asked : Sheet) (choice : HomeChoice) (net : Netlist) (machine : Machine) (timing : Timing) → IsValid net → IsValidMachine machine → IsValidTiming timing → IsAcyclic net timing → FitsBy choice net machine timing
       → IsCommand [] (Ends (Writes (IsSheetOf asked choice net machine timing)))
   sheet_proper sheet.Report choice net machine timing valid machine_valid timely acyclic fits =
@@ -363,6 +383,7 @@ module _ (laws : Laws) where
   command_proper (command.Exec words image) range = exec_proper words image range.timing
   command_proper (command.Pack words) range = pack_proper words range.timing
   command_proper (command.Fault words) range = fault_proper words range.timing
+  command_proper (command.Cover words) range = cover_proper words range.timing
   command_proper (command.Show file) range = show_proper file
   command_proper (command.Large gates cycles workers) range = large_proper gates cycles range.gates_few
   command_proper (command.Help topic) range = help_proper topic
@@ -432,6 +453,7 @@ returns c =
           done_alike (turn_count timing stimulus) image other one two linked same.1 same.2;
       images = c.reads_or_faults-6.ensures.reader;
       lanes = c.reads_or_faults-7.ensures.reader;
+      coverages = c.one_coverage.ensures;
       verdicts = c.one_list-2.ensures.one;
       all_faults = c.one_list-2.ensures.all;
       faults_lists = c.reads_or_faults-8.ensures.reader;

@@ -1,0 +1,98 @@
+//! `cover`: which values each signal of a netlist had, and which changes it made.
+
+ghost use Rattle.std.specs.Prelude.{◌≡◌, IfOk};
+ghost use Rattle.edge_io.specs.Writing.{joined};
+ghost use Rattle.net_defs.specs.Loops.{AreRanks};
+ghost use Rattle.net_defs.specs.Valid.{IsValid, IsValidStimulus, IsValidTiming};
+ghost use Rattle.cmd_words.specs.Forms.{IsRunInRange};
+ghost use Rattle.yse_commands.specs.Outputs.{CanWrite};
+ghost use Rattle.yse_commands.specs.Refusals.{Follows};
+ghost use Rattle.yse_commands.specs.commands.Cover.{ExpectedCover, IsCoverage, WritesCoverage};
+ghost use Rattle.named_files.specs.Files.{AfterStimulus};
+
+use crate::output::Output;
+use cmd_words::RunWords;
+use cover_sim::{cover as marks_of, cover_lines};
+use edge_io::Files;
+use named_files::{Timed, WithRanks, design_from, ranked, stimulus_in};
+use net_defs::{Stimulus, Timing};
+use refusal_lines::Refusal;
+use seen_list::{List, Memory, Text};
+use std::alloc::Global;
+
+/// The coverage of a simulation: a line for the marks of each signal, and a last one on how many have all.
+pub fn cover<'a, F: Files>(
+    alloc: Global,
+    files: &mut F,
+    words: &'a RunWords,
+) -> Result<Output, Refusal<'a>>
+    requires { IsRunInRange words.now }
+    ensures same_names { F.names files.new ≡ F.names files.old }
+    ensures same_bytes { F.bytes files.new ≡ F.bytes files.old }
+    ensures expected { Follows (F.names files.old) (F.bytes files.old) (F.counts files.old) (F.counts files.new)
+        result (ExpectedCover words.now) }
+    ensures writable { IfOk result CanWrite }
+{
+    let Timed { net, timing } = match design_from(alloc, files, words) {
+        Ok(timed) => timed,
+        Err(no) => return Err(no),
+    };
+    match ranked(alloc, net, &timing) {
+        Ok(design) => {
+            let covered = coverage_of(alloc, files, words, &timing, &design);
+            drop(timing);
+            drop(design);
+            covered
+        }
+        Err(no) => {
+            drop(timing);
+            Err(no)
+        }
+    }
+}
+
+/// The same of a netlist with its ranks.
+fn coverage_of<'a, F: Files>(
+    alloc: Global,
+    files: &mut F,
+    words: &'a RunWords,
+    timing: &Timing,
+    design: &WithRanks,
+) -> Result<Output, Refusal<'a>>
+    requires timing { IsValidTiming timing.now }
+    requires valid { IsValid design.now.net }
+    requires ranks { AreRanks design.now.net timing.now design.now.ranks }
+    ensures same_names { F.names files.new ≡ F.names files.old }
+    ensures same_bytes { F.bytes files.new ≡ F.bytes files.old }
+    ensures expected { Follows (F.names files.old) (F.bytes files.old) (F.counts files.old) (F.counts files.new)
+        result (AfterStimulus words.now.stimulus design.now.net (WritesCoverage design.now.net timing.now)) }
+    ensures writable { IfOk result CanWrite }
+{
+    let stimulus = match stimulus_in(alloc, files, words.stimulus.as_bytes(), &design.net) {
+        Ok(stimulus) => stimulus,
+        Err(no) => return Err(no),
+    };
+    let lines = lines_of(alloc, timing, design, &stimulus);
+    drop(stimulus);
+    match lines {
+        Ok(lines) => Ok(Output::Lines(lines)),
+        Err(Memory) => Err(Refusal::Memory),
+    }
+}
+
+/// The lines of the marks.
+fn lines_of(
+    alloc: Global,
+    timing: &Timing,
+    design: &WithRanks,
+    stimulus: &Stimulus,
+) -> Result<List<Text>, Memory>
+    requires timing { IsValidTiming timing.now }
+    requires valid { IsValid design.now.net }
+    requires ranks { AreRanks design.now.net timing.now design.now.ranks }
+    requires stimulus { IsValidStimulus stimulus.now }
+    ensures { IfOk result (λ lines. IsCoverage design.now.net timing.now stimulus.now (joined lines)) }
+{
+    let marks = marks_of(alloc, &design.net, &design.ranks, timing, stimulus)?;
+    cover_lines(alloc, &design.net, marks.as_slice())
+}
