@@ -1,5 +1,5 @@
 -- The formula for two operands answers as the gates do.
-use Rattle.std.proofs.Common.{◌^◌, ◌≡◌, ℕ, ◌+◌, ◌-◌, ◌%◌, ◌<◌, bit_and, bit_or, Bool, true, false, if◌then◌else◌, [], ◌∷◌, refl, sym, subst}
+use Rattle.std.proofs.Common.{◌≡◌, ℕ, ◌+◌, ◌-◌, ◌%◌, ◌<◌, bit_and, bit_or, Bool, true, false, if◌then◌else◌, [], ◌∷◌, refl, sym, subst}
 use Rattle.std.specs.Prelude.{min, max}
 use Rattle.std.specs.Int.{bit_at}
 use Rattle.std.specs.Int.RustNames.{bit_xor}
@@ -14,7 +14,8 @@ use Rattle.lane_planes.specs.Lanes.{lane_of}
 use Rattle.lane_planes.specs.Joins.{first_of, join_of, answer_of}
 use Rattle.lane_planes.proofs.WordLemmas.{Word, low_word, high_word, both, either, differ, apart, all_ones, no_ones}
 use Rattle.lane_planes.proofs.LaneLemmas.{bits, in_lanes}
-use Rattle.lane_planes.specs.Formula.{is_usual, turns_operands, turns_answer, is_parity, mask_of}
+use Rattle.lane_planes.specs.code.Formula.{is_usual}
+use Rattle.lane_planes.specs.Formula.{turns_operands, turns_answer, is_parity, mask_of}
 
 -- the gate of two operands
 abbrev gate_pair : Kind → V4 → V4 → V4

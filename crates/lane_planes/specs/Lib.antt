@@ -1,3 +1,4 @@
+pub mod code
 pub mod Formula
 pub mod Forms
 pub mod Joins

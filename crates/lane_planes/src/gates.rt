@@ -1,12 +1,11 @@
-//! Gates of any number of operands in all lanes at once.
+//! Gates of up to four operands in all lanes at once.
 
-ghost use Rattle.std.specs.Prelude.{◌≡◌, ◌∷◌, [], ◌-◌, ◌<◌, ◌≤◌, ℕ, length, map, take, All};
+ghost use Rattle.std.specs.Prelude.{◌≡◌, ◌∷◌, [], ◌-◌, ◌<◌, ◌≤◌, ℕ, take};
 ghost use Rattle.std.specs.List.{fold};
 ghost use Rattle.limits.specs.declared.TheConstants.{LANES};
 ghost use Rattle.logic_four.specs.Kinds.{AllowsOperands};
-ghost use Rattle.logic_four.specs.Values.{value_at};
 ghost use Rattle.logic_four.specs.Gates.{gate_value};
-ghost use Rattle.lane_planes.specs.Lanes.{lane_of, lane_row};
+ghost use Rattle.lane_planes.specs.Lanes.{lane_of};
 ghost use Rattle.lane_planes.specs.Joins.{first_of, join_of, answer_of};
 
 use crate::Planes;
@@ -77,30 +76,5 @@ pub fn gate_planes(kind: Kind, operands: u32, a: Planes, b: Planes, c: Planes, d
         return gate_two(pair_form(kind), a, b);
     }
     let base = joined_four(kind, operands, first_operand(kind, a), b, c, d);
-    answered(kind, base)
-}
-
-/// The operands of a gate of this kind joined, of some so far and others by their places in a row.
-#[inline]
-fn joined_over(kind: Kind, so_far: Planes, row: &[Planes], others: &[u32]) -> Planes
-    requires { All (λ o. o < length row.now) others.now }
-    ensures { (k : ℕ) → k < LANES → lane_of result k ≡ fold (join_of kind) (lane_of so_far k) (map (value_at (lane_row k row.now)) others.now) }
-{
-    let mut base = so_far;
-    'others: for o in others {
-        base = joined(kind, base, row[*o as usize]);
-    }
-    base
-}
-
-/// What a gate of this kind answers in each lane for the operands at these places of a row.
-#[inline]
-pub fn gate_over(kind: Kind, row: &[Planes], operands: &[u32]) -> Planes
-    requires allowed { AllowsOperands kind (length operands.now) }
-    requires within { All (λ o. o < length row.now) operands.now }
-    ensures { (k : ℕ) → k < LANES → lane_of result k ≡ gate_value kind (map (value_at (lane_row k row.now)) operands.now) }
-{
-    let first = first_operand(kind, row[operands[0] as usize]);
-    let base = joined_over(kind, first, row, &operands[1..]);
     answered(kind, base)
 }

@@ -10,7 +10,7 @@ mod planes;
 mod tables;
 
 pub use formula::{gate_two, pair_form};
-pub use gates::{answered, first_operand, gate_over, gate_planes, joined};
+pub use gates::{answered, first_operand, gate_planes, joined};
 pub use lanes::{in_all_lanes, in_each_lane, lane, with_lane};
 pub use laws::{join_laws, lanes_decide};
 use limits::LANES;

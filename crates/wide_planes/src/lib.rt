@@ -7,7 +7,7 @@ mod pairs;
 mod planes;
 mod words;
 
-pub use gates::{gate_over, gate_two};
+pub use gates::gate_two;
 pub use lanes::{in_all_lanes, lane, with_lane};
 pub use pairs::{forced, opposite, settle_planes};
 pub use planes::{Wide, Words};
