@@ -1,5 +1,5 @@
 -- The steps of a lane, in which its fault is stuck, are those of its netlist.
-use Rattle.std.proofs.Common.{◌≡◌, ◌≢◌, ◌∙◌, ◌⊎◌, inl, inr, ℕ, zero, suc, ◌<◌, ◌≤◌, ◌==◌, if◌then◌else◌, List, length, refl, sym, ap, arith, Option, Some, None}
+use Rattle.std.proofs.Common.{◌≡◌, ◌≢◌, ◌∙◌, ◌⊎◌, inl, inr, ℕ, zero, suc, ◌≤◌, ◌==◌, if◌then◌else◌, List, length, refl, ap, arith, Option, Some, None}
 use Rattle.std.specs.List.{slice_get, All}
 use Rattle.std.proofs.lemmas.Bool.Decides.{eqb_tells}
 use Rattle.list_laws.proofs.Members.{each}
@@ -17,7 +17,7 @@ use Rattle.net_ops.specs.States.{IsForcedStep}
 use Rattle.net_ops.proofs.Steps.{free_step}
 use Rattle.net_defs.specs.declared.faults.Fault.{Fault}
 use Rattle.fault_sim.specs.declared.force.Forces.{Forces}
-use Rattle.fault_sim.specs.Faults.{stuck, IsFault, IsStuckStep}
+use Rattle.fault_sim.specs.Faults.{IsFault, IsStuckStep}
 use Rattle.fault_sim.specs.code.Lanes.{lane_net, force_at, stuck_in, stuck_value, AreForces}
 use Rattle.fault_sim.proofs.Stuck.{stuck_step}
 

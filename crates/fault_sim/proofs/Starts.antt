@@ -1,5 +1,5 @@
 -- Every simulation begins in the state before the first turn, whatever is stuck.
-use Rattle.std.proofs.Common.{◌≡◌, ◌∙◌, ℕ, ◌+◌, zero, suc, ◌<◌, ◌≤◌, List, length, map, replicate, refl, sym, ap, ap₂, arith, Option, Some, None}
+use Rattle.std.proofs.Common.{◌≡◌, ◌∙◌, ℕ, ◌+◌, zero, suc, ◌<◌, List, length, map, replicate, refl, sym, ap, ap₂, arith, Option, Some, None}
 use Rattle.std.specs.List.{slice_get}
 use Rattle.std.proofs.lemmas.List.{length-set}
 use Rattle.logic_four.specs.declared.V4.{V4}

@@ -6,7 +6,6 @@ use Rattle.logic_four.specs.declared.V4.{V4}
 use Rattle.net_defs.specs.declared.netlist.Netlist.{Netlist}
 use Rattle.net_defs.specs.declared.timing.Timing.{Timing}
 use Rattle.net_defs.specs.Time.{value_at}
-use Rattle.net_defs.specs.Loops.{is_gate, IsOrder}
 use Rattle.list_laws.proofs.Places.{place_of}
 use Rattle.list_laws.proofs.Members.{refill_whole}
 use Rattle.net_ops.specs.declared.ops.PairOp.{PairOp}
@@ -19,13 +18,6 @@ use Rattle.net_ops.specs.code.States.{Assigns}
 use Rattle.net_ops.specs.code.Values.{Holds, Puts}
 use Rattle.net_ops.proofs.LaneLemmas.{lane_long}
 use Rattle.net_ops.proofs.ScheduleLemmas.{role_within}
-
--- the signals of a role are among so many places
-pub role_low : (net : Netlist) (part : Role) (list now_list : List ℕ) (count : ℕ) → ListsRole net part list → now_list ≡ list → length net.signals ≤ count → All (λ s. s < count) now_list
-role_low net part list now_list count lists same long k d within =
-    let low : get_or list k 0 < length net.signals = role_within net part (get_or list k 0) (lists.all k (omega (arith, within, ap length same))) in
-    let here : get_or now_list k d ≡ get_or list k 0 = ap (λ xs. get_or xs k d) same ∙ get_or_default list k d 0 (omega (arith, within, ap length same)) in
-    omega (arith, low, here, long)
 
 -- what is given may be said in another way
 pub assigns_as : (which : ℕ → Bool) (f g : ℕ → V4) (old new : List V4) → ((s : ℕ) → which s ≡ true → f s ≡ g s) → Assigns which f old new → Assigns which g old new
@@ -101,9 +93,3 @@ module _ {F : Type 0} (answer : F → V4 → V4 → V4) (is_form : F → Type 0)
 
   pub ops_told : (tells : ℕ → Type 0) → ((s : ℕ) → s < length net.signals → tells s) → All (λ op. tells op.gate) now_ops
   ops_told tells told = rw same (λ k d within. told (get_or ops k d).gate (settles.within k d within).gate)
-
--- the forces tell of the signals of a role
-pub role_told : (net : Netlist) (part : Role) (list now_list : List ℕ) (tells : ℕ → Type 0) → ListsRole net part list → now_list ≡ list → ((s : ℕ) → s < length net.signals → tells s) → All tells now_list
-role_told net part list now_list tells lists same told k d within =
-    let low : get_or now_list k d < length net.signals = role_low net part list now_list (length net.signals) lists same (omega arith) k d within in
-    told (get_or now_list k d) low

@@ -1,5 +1,5 @@
 -- What a turn in place makes in a lane is a step of its phase.
-use Rattle.std.proofs.Common.{◌≡◌, ◌≢◌, ◌∙◌, ℕ, ◌+◌, ◌<◌, inl, inr, false, if◌then◌else◌, List, [], length, map, refl, sym, ap, subst, arith, Option, Some}
+use Rattle.std.proofs.Common.{◌≡◌, ◌∙◌, ℕ, ◌+◌, ◌<◌, inl, inr, false, if◌then◌else◌, List, length, map, refl, sym, ap, subst, arith, Option, Some}
 use Rattle.std.specs.List.{slice_get}
 use Rattle.std.proofs.lemmas.Option.{slice_get_within, slice_get_past}
 use Rattle.std.proofs.lemmas.List.{length-map, length-take-le, get_or-take}

@@ -5,7 +5,6 @@ use Rattle.logic_four.specs.declared.Kind.{Kind}
 use Rattle.logic_four.specs.Kinds.{AllowsOperands}
 use Rattle.net_defs.specs.declared.netlist.Netlist.{Netlist}
 use Rattle.net_defs.specs.declared.netlist.Signal.{Signal}
-use Rattle.net_defs.specs.declared.netlist.Driver.{Driver}
 use Rattle.net_defs.specs.declared.netlist.Driver.TheVariants.{Gate}
 use Rattle.net_defs.specs.declared.timing.Timing.{Timing}
 use Rattle.net_defs.specs.Steps.{is_late}

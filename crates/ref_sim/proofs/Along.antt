@@ -1,6 +1,6 @@
 -- The row that the gates make along an order: each gate that is not late has its value over the row
 -- as it ends.
-use Rattle.std.proofs.Common.{◌≡◌, ◌∙◌, ℕ, zero, suc, ◌+◌, ◌-◌, ◌<◌, ◌≤◌, ◌⊎◌, inl, inr, Bool, true, false, if◌then◌else◌, List, [], ◌∷◌, length, take, map, get_or, set, refl, sym, ap, subst, arith, Option, Some, None}
+use Rattle.std.proofs.Common.{◌≡◌, ◌∙◌, ℕ, zero, suc, ◌+◌, ◌-◌, ◌<◌, ◌≤◌, inl, inr, true, false, if◌then◌else◌, List, length, take, get_or, set, refl, sym, ap, subst, arith, Option, Some, None}
 use Rattle.std.specs.List.{slice_get, Contains, fold}
 use Rattle.std.proofs.lemmas.List.Sums.{fold_more}
 use Rattle.std.proofs.lemmas.List.{take_all, length-set, get_or-set_same}

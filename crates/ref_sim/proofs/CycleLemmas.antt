@@ -1,6 +1,5 @@
 -- Cycles and rows of a run, against every simulation.
-use Rattle.std.proofs.Math.Numerals.{add-one}
-use Rattle.std.proofs.Common.{◌≡◌, ◌≢◌, ◌∙◌, ℕ, zero, suc, ◌+◌, ◌-◌, ◌*◌, ◌<◌, ◌≤◌, inl, inr, Bool, true, false, ◌&&◌, ◌==◌, List, [], ◌∷◌, ◌++◌, length, map, take, replicate, get_or, refl, sym, ap, subst, arith, Option, Some, None}
+use Rattle.std.proofs.Common.{◌≡◌, ◌∙◌, ℕ, zero, suc, ◌+◌, ◌-◌, ◌*◌, ◌<◌, ◌≤◌, inl, inr, Bool, true, ◌&&◌, ◌==◌, List, [], ◌∷◌, ◌++◌, length, map, take, replicate, get_or, refl, sym, ap, subst, arith, Option, Some}
 use Rattle.std.specs.List.{slice_get, flat_map}
 use Rattle.std.proofs.Math.Nat.{mul-le-mul_left}
 use Rattle.std.proofs.lemmas.Bool.Decides.{eqb_tells}
@@ -22,7 +21,6 @@ use Rattle.list_laws.proofs.Ranges.{last_or}
 use Rattle.net_ops.specs.declared.state.LaneState.{LaneState}
 use Rattle.net_ops.specs.Places.{row_of}
 use Rattle.net_ops.specs.States.{lane_state, IsForcedStep, Passes}
-use Rattle.net_ops.proofs.Steps.{free_step}
 use Rattle.ref_sim.specs.Observing.{end_row}
 use Rattle.ref_sim.specs.code.States.{value_in, state_of}
 use Rattle.ref_sim.specs.code.Runs.{StandsAt, RunsTo, IsReadyToLook, HasLooked, cycles_before}

@@ -1,10 +1,8 @@
 -- The operations of some signals, one after the other.
-use Rattle.std.specs.Prelude.{◌≡◌, ◌≢◌, ℕ, ◌+◌, ◌<◌, ◌≤◌, Bool, true, false, if◌then◌else◌, List, [], ◌∷◌, ◌++◌, length, map, Option, Some, None, slice_get, slice_index, All, Contains}
+use Rattle.std.specs.Prelude.{◌≡◌, ◌≢◌, ℕ, ◌+◌, ◌<◌, ◌≤◌, Bool, true, false, List, ◌++◌, length, Option, Some, None, slice_get, slice_index, All, Contains}
 use Rattle.logic_four.specs.declared.V4.{V4}
 use Rattle.net_defs.specs.declared.netlist.Netlist.{Netlist}
 use Rattle.net_defs.specs.declared.netlist.Signal.{Signal}
-use Rattle.net_defs.specs.declared.netlist.Driver.{Driver}
-use Rattle.net_defs.specs.declared.netlist.Driver.TheVariants.{Input, Gate, Dff, BlockBit}
 use Rattle.net_defs.specs.declared.timing.Timing.{Timing}
 use Rattle.net_defs.specs.Valid.{IsSignal}
 use Rattle.net_defs.specs.Loops.{waits_for}
@@ -12,7 +10,7 @@ use Rattle.net_ops.specs.declared.ops.PairOp.{PairOp}
 use Rattle.net_ops.specs.Lanes.{forced}
 use Rattle.net_ops.specs.Ops.{follow, IsWithin}
 use Rattle.net_defs.specs.Time.{value_at}
-use Rattle.net_ops.specs.Schedules.{here_value, has_ops}
+use Rattle.net_ops.specs.Schedules.{has_ops}
 
 -- a signal with this driver has operations
 abbrev pub settled_by_ops : Netlist → ℕ → Bool

@@ -5,7 +5,6 @@ use Rattle.net_defs.specs.declared.netlist.Netlist.{Netlist}
 use Rattle.net_defs.specs.Steps.{State}
 use Rattle.net_ops.specs.declared.state.LaneState.{LaneState}
 use Rattle.net_ops.specs.Places.{row_of}
-use Rattle.net_ops.specs.Tables.{table_value}
 
 -- a value is that of its one lane
 abbrev pub value_in : V4 → ℕ → V4

@@ -1,4 +1,4 @@
-use Rattle.std.proofs.Common.{◌<◌, inl, inr, length, ap, arith}
+use Rattle.std.proofs.Common.{inl, inr, length, ap, arith}
 use Rattle.std.proofs.lemmas.Bool.{cases_lt}
 use Rattle.fault_sim.specs.code.Lanes.{lane_row}
 use Rattle.fault_sim.proofs.Looking.{marks_more, differs_past}

@@ -1,4 +1,4 @@
-use Rattle.std.proofs.Common.{◌≡◌, ◌∙◌, ◌*◌, length, subst, sym, arith}
+use Rattle.std.proofs.Common.{◌≡◌, ◌∙◌, ◌*◌, length, subst, arith}
 use Rattle.net_ops.specs.States.{lane_state, Passes}
 use Rattle.net_ops.proofs.Steps.{passes_more, step_held, within_later}
 use Rattle.net_ops.proofs.cycle.run_cycle.Goals as goal

@@ -1,4 +1,4 @@
-use Rattle.std.proofs.Common.{◌≤◌, get_or, arith}
+use Rattle.std.proofs.Common.{arith}
 use Rattle.net_ops.proofs.SequenceLemmas.{settles_more, settles_none}
 use Rattle.net_ops.proofs.gate_list.signal_ops.Goals as goal
 

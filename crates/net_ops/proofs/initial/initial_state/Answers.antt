@@ -1,4 +1,4 @@
-use Rattle.std.proofs.Common.{◌∙◌, ◌+◌, ap, arith}
+use Rattle.std.proofs.Common.{arith}
 use Rattle.net_ops.proofs.StartLemmas.{first_lane, shaped_there}
 use Rattle.net_ops.proofs.initial.initial_state.Goals as goal
 

@@ -1,4 +1,4 @@
-use Rattle.std.proofs.Common.{◌≡◌, ◌∙◌, ap, get_or, refl, length, sym, arith}
+use Rattle.std.proofs.Common.{◌∙◌, ap, get_or, refl, sym, arith}
 use Rattle.net_ops.specs.Lanes.{lane_row}
 use Rattle.net_ops.specs.Places.{last_row}
 use Rattle.net_ops.proofs.AnswerLemmas.{reads_within, words_same, answers_none, answers_more}

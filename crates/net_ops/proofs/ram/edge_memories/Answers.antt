@@ -1,4 +1,4 @@
-use Rattle.std.proofs.Common.{◌≡◌, ◌≢◌, ◌∙◌, ◌<◌, [], length, ap, sym, subst, get_or, refl, arith}
+use Rattle.std.proofs.Common.{◌∙◌, ◌<◌, [], length, ap, sym, subst, get_or, arith}
 use Rattle.std.proofs.lemmas.List.{length-set, get_or_default, get_or-set_other}
 use Rattle.net_ops.specs.Lanes.{lane_row}
 use Rattle.net_ops.specs.States.{AreShaped}

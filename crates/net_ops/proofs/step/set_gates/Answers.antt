@@ -1,5 +1,4 @@
 use Rattle.std.proofs.Common.{◌∙◌, ap, length}
-use Rattle.list_laws.proofs.Members.{refill_whole}
 use Rattle.net_defs.specs.Loops.{is_gate}
 use Rattle.net_ops.proofs.AssignLemmas.{ops_told, ops_within, settles_assigns}
 use Rattle.net_ops.proofs.step.set_gates.Goals as goal

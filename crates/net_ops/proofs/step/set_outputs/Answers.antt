@@ -1,4 +1,4 @@
-use Rattle.std.proofs.Common.{◌≡◌, ◌∙◌, ◌<◌, length, refl, arith}
+use Rattle.std.proofs.Common.{◌∙◌, ◌<◌, refl, arith}
 use Rattle.std.proofs.lemmas.Option.{slice_get_within}
 use Rattle.net_ops.specs.declared.schedule.Role.TheVariants as role
 use Rattle.net_ops.proofs.AnswerLemmas.{answers_assign}

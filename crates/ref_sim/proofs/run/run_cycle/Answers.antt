@@ -1,7 +1,5 @@
-use Rattle.std.proofs.Common.{◌≡◌, ◌∙◌, ◌+◌, ◌*◌, None, refl, subst, sym, arith}
-use Rattle.net_defs.specs.Time.{cycle_count}
+use Rattle.std.proofs.Common.{◌+◌, ◌*◌, None, refl, subst, sym, arith}
 use Rattle.net_ops.proofs.Steps.{free_step}
-use Rattle.net_ops.specs.States.{Passes}
 use Rattle.ref_sim.specs.code.Runs.{StandsAt}
 use Rattle.ref_sim.proofs.CycleLemmas.{cycle_passes, one_lane}
 use Rattle.ref_sim.proofs.run.run_cycle.Goals as goal

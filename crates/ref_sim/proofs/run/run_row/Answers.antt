@@ -1,4 +1,4 @@
-use Rattle.std.proofs.Common.{◌∙◌, true, false, get_or, ap, ap₂, arith, take}
+use Rattle.std.proofs.Common.{◌∙◌, true, false, get_or, ap, arith}
 use Rattle.ref_sim.proofs.CycleLemmas.{ready_to_look, cycle_more, cycle_within, cycle_stands}
 use Rattle.ref_sim.proofs.run.run_row.Goals as goal
 
