@@ -21,34 +21,9 @@ use Rattle.port_walk.specs.declared.upcoming.Upcoming.TheVariants.{Take, Tell}
 use Rattle.port_walk.specs.Kept.{Parts, view_of, inner, IsKept}
 use Rattle.port_walk.specs.Readers.{IsNextOfSend}
 use Rattle.port_walk.specs.Stands.{place_of, action_of, IsNextOf}
-use Rattle.port_walk.proofs.WalkLemmas.{IsWalk, Walk, end_here, last_here, next_sent, receipt_here, same_seat, slot_sent}
-
--- the walk of the port
-abbrev pub walk_of : {W S : Type 0} → Parts W S → Walk
-walk_of a = record {
-  image = a.view.image;
-  port = a.view.port;
-  seat = a.seat;
-  items = a.slots;
-  stops = a.stops;
-  at = a.at;
-  sent = a.sent;
-  took = a.took;
-}
+use Rattle.port_walk.proofs.WalkLemmas.{end_here, last_here, next_sent, receipt_here, same_seat, slot_sent}
 
 module _ {W P F S : Type 0} (m : word.Ghosts W P F S) where
-  pub walks : (a : Parts W S) → IsKept m a → IsWalk (walk_of a)
-  walks a kept = record {
-    image = kept.image;
-    seat = kept.seat;
-    items = kept.slots;
-    stops = kept.stops;
-    come = kept.come;
-    at = kept.at;
-    sent = kept.sent;
-    took = kept.took;
-  }
-
   -- its turns can be counted
   pub until_low : 0 < m.lanes → (a : Parts W S) → IsKept m a → a.until ≤ MAX_UNITS * MAX_CYCLES
   until_low some a kept =
@@ -63,25 +38,25 @@ module _ {W P F S : Type 0} (m : word.Ghosts W P F S) where
     module _ (known : List ℕ) (banks : ℕ) (early : a.turn ≤ a.until) where
       next_of : (next : Upcoming) → ((value : ℕ → V4) → IsNext a.seat (place_of (view_of a).stand known) banks a.until value (action_of value next)) → IsNextOf (view_of a).stand known banks next
       next_of next is_next = record {
-        each = λ value seat is. subst (λ s. IsNext s (place_of (view_of a).stand known) banks a.until value (action_of value next)) (same_seat (walk_of a) (walks a kept) seat is) (is_next value);
+        each = λ value seat is. subst (λ s. IsNext s (place_of (view_of a).stand known) banks a.until value (action_of value next)) (same_seat m kept seat is) (is_next value);
       }
 
       pub next_take : stop.kind ≡ Receive → IsNextOf (view_of a).stand known banks (Take stop.slot)
-      next_take kind = let next = receipt_here (walk_of a) (walks a kept) stop at kind in next_of (Take stop.slot) (λ value. (early, record { j = a.took; link = next.0; slot_is = next.2; receives = next.1 }))
+      next_take kind = let next = receipt_here m kept stop at kind in next_of (Take stop.slot) (λ value. (early, record { j = a.took; link = next.0; slot_is = next.2; receives = next.1 }))
 
       pub next_tell : stop.kind ≡ End → IsNextOf (view_of a).stand known banks Tell
-      next_tell kind = next_of Tell (λ value. (early, end_here (walk_of a) (walks a kept) stop at kind))
+      next_tell kind = next_of Tell (λ value. (early, end_here m kept stop at kind))
 
       pub next_put : (readers : List ℕ) (turns : ℕ) (link : LinkOut) (next : Upcoming) → stop.kind ≡ Send → turns ≡ a.turn - banks → slice_get a.seat.outs a.sent ≡ Some link → readers ≡ link.readers
           → IsNextOfSend readers known turns stop.slot next → IsNextOf (view_of a).stand known banks next
       next_put readers turns link next kind bar is same sends = next_of next (λ value.
-          next_sent (walk_of a) (walks a kept) stop at known a.turn banks a.until value early readers turns link next kind bar is same sends)
+          next_sent m kept stop at known a.turn banks a.until value early readers turns link next kind bar is same sends)
 
     -- the value of the last item is that of the item in the stop's slot
     pub holds_value : (early : a.turn ≤ a.until) (link : LinkOut) → slice_get a.seat.outs a.sent ≡ Some link → link.slot ≡ stop.slot → (l : ℕ) → l < m.lanes
         → m.lane a.value l ≡ image_value a.view.image (m.stimulus a.view.image.columns a.view.stimulus l) a.turn a.view.port stop.slot
     holds_value early link is slot l low =
-        let last = last_here (walk_of a) (walks a kept) stop at link is slot in
+        let last = last_here m kept stop at link is slot in
         let one : IsLastValue (lane_port m.stimulus l a.view) (m.lane a.value l) = in_lane m.lanes (λ k. IsLastValue (lane_port m.stimulus k a.view) (m.lane a.value k)) kept.value l low in
         one.each a.seat last.0 stop.slot kept.seat (last.1 ∙ sym (kept.executed early stop at)) last.2
         ∙ ap (λ (v : View S). value_in (record (lane_port m.stimulus l a.view) { turn = v.turn }) stop.slot) kept.inner

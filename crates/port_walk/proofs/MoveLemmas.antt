@@ -31,17 +31,17 @@ use Rattle.port_walk.specs.Walks.{Walked, IsNextValue, CanTakeValue, HasPut, Has
 use Rattle.port_walk.specs.code.Enters.{CanEnter, HasEntered}
 use Rattle.port_walk.proofs.BlockLemmas.{le_late}
 use Rattle.port_walk.proofs.CursorLemmas.{received_before}
-use Rattle.port_walk.proofs.KeptLemmas.{holds_value, next_put, walk_of, walks}
+use Rattle.port_walk.proofs.KeptLemmas.{holds_value, next_put}
 use Rattle.port_walk.proofs.WalkLemmas.{IsAfter, IsLinkHere, IsReceiptHere, IsSendHere, after_receipt, after_send, all_done, can_run_on, ends_at, found, good, link_here, no_stop, puts_more, readers_there, receives_at, sends_at, takes_more}
 
 module _ {W P F S : Type 0} (m : word.Ghosts W P F S) (a : Parts W S) (kept : IsKept m a) (stop : Stop) (at : slice_get a.stops a.at ≡ Some stop) where
   -- ---- which event it is
 
-  pub sending_here : (i : ℕ) (link : LinkOut) → IsSending (view_of a).stand i link → IsSendHere (walk_of a) (walks m a kept) stop at i link
-  sending_here i link sending = sends_at (walk_of a) (walks m a kept) stop at sending.seat sending.is i link sending.next
+  pub sending_here : (i : ℕ) (link : LinkOut) → IsSending (view_of a).stand i link → IsSendHere m kept stop at i link
+  sending_here i link sending = sends_at m kept stop at sending.seat sending.is i link sending.next
 
-  pub receiving_here : (j : ℕ) (link : LinkIn) → IsReceiving (view_of a).stand j link → IsReceiptHere (walk_of a) (walks m a kept) stop at j link
-  receiving_here j link receiving = receives_at (walk_of a) (walks m a kept) stop at receiving.seat receiving.is j link receiving.next
+  pub receiving_here : (j : ℕ) (link : LinkIn) → IsReceiving (view_of a).stand j link → IsReceiptHere m kept stop at j link
+  receiving_here j link receiving = receives_at m kept stop at receiving.seat receiving.is j link receiving.next
 
   -- the value of what it sends next
   pub next_value : IsNextValue m (view_of a) a.value
@@ -61,14 +61,14 @@ module _ {W P F S : Type 0} (m : word.Ghosts W P F S) (a : Parts W S) (kept : Is
   pub inner_here : a.turn ≤ a.until → a.view ≡ inner_at stop a.took
   inner_here early = kept.inner ∙ ap (inner a) (kept.executed early stop at)
 
-  pub can_run : (view : View S) (slots : List ℕ) (sent took : ℕ) (next : Stop) → a.turn ≤ a.until → view ≡ inner_at stop took → slots ≡ a.slots → IsAfter (walk_of a) (walks m a kept) stop at sent took next
+  pub can_run : (view : View S) (slots : List ℕ) (sent took : ℕ) (next : Stop) → a.turn ≤ a.until → view ≡ inner_at stop took → slots ≡ a.slots → IsAfter m kept stop at sent took next
       → InEachLane m (λ v. CanRun v slots stop.items next.items) view
   can_run view slots sent took next early inside same after = in_each m.lanes (λ l. CanRun (lane_port m.stimulus l view) slots stop.items next.items) (λ l low.
-      can_run_on (walk_of a) (walks m a kept) stop at (lane_port m.stimulus l view) slots sent took next
+      can_run_on m kept stop at (lane_port m.stimulus l view) slots sent took next
       (ap (λ (v : View S). v.begun) inside ∙ le-leb a.turn a.until early) (subst (λ (v : View S). IsPort v.image v.port a.seat) (sym inside) kept.seat)
       (ap (λ (v : View S). v.executed) inside) (ap (λ (v : View S). v.received) inside) same after)
 
-  pub kept_after : (view : View S) (rows : Option (ℕ × ℕ)) (value : W) (sent took : ℕ) (next : Stop) → a.turn ≤ a.until → IsAfter (walk_of a) (walks m a kept) stop at sent took next → view ≡ inner_at next took
+  pub kept_after : (view : View S) (rows : Option (ℕ × ℕ)) (value : W) (sent took : ℕ) (next : Stop) → a.turn ≤ a.until → IsAfter m kept stop at sent took next → view ≡ inner_at next took
       → InEachLaneOf m value (λ v x. IsLastValue v x) view → IsKept m (record a { view = view; rows = rows; at = a.at + 1; sent = sent; took = took; value = value })
   kept_after view rows value sent took next early after inside last =
       subst (λ v. IsKept m (record a { view = v; rows = rows; at = a.at + 1; sent = sent; took = took; value = value })) (sym inside) (record {
@@ -92,26 +92,6 @@ module _ {W P F S : Type 0} (m : word.Ghosts W P F S) (a : Parts W S) (kept : Is
         value = subst (InEachLaneOf m value (λ v x. IsLastValue v x)) inside last;
       })
 
-  -- ---- what the calls did
-
-  pub has_put : (view : View S) (rows : Option (ℕ × ℕ)) (value : W) (next : Stop) → view ≡ inner_at next a.took → rows ≡ a.rows
-      → HasPut (view_of a) (view_of (record a { view = view; rows = rows; at = a.at + 1; sent = a.sent + 1; value = value }))
-  has_put view rows value next inside same = record {
-    each = λ i link sending.
-        ap (λ v. view_of (record a { view = v; rows = rows; at = a.at + 1; sent = a.sent + 1; value = value })) inside
-        ∙ ap (λ r. record (view_of a) { rows = r; stand = record (view_of a).stand { puts = take (a.sent + 1) (out_slots a.seat.outs) } }) same
-        ∙ ap (λ ps. record (view_of a) { stand = record (view_of a).stand { puts = ps } }) (puts_more (walk_of a) (walks m a kept) link (sending_here i link sending).is);
-  }
-
-  pub has_taken : (view : View S) (rows : Option (ℕ × ℕ)) (value : W) (next : Stop) → view ≡ inner_at next (a.took + 1) → rows ≡ a.rows
-      → HasTaken (view_of a) (view_of (record a { view = view; rows = rows; at = a.at + 1; took = a.took + 1; value = value }))
-  has_taken view rows value next inside same = record {
-    each = λ j link receiving.
-        ap (λ v. view_of (record a { view = v; rows = rows; at = a.at + 1; took = a.took + 1; value = value })) inside
-        ∙ ap (λ r. record (view_of a) { rows = r; stand = record (view_of a).stand { takes = take (a.took + 1) (in_slots a.seat.ins) } }) same
-        ∙ ap (λ ts. record (view_of a) { stand = record (view_of a).stand { takes = ts } }) (takes_more (walk_of a) (walks m a kept) link (receiving_here j link receiving).is);
-  }
-
   -- it may receive the value of the stop's slot
   pub can_receive : (value : W) → CanTakeValue m (view_of a) value → InEachLaneOf m value (λ v x. CanReceive v stop.slot x) a.view
   can_receive value can = in_each m.lanes (λ l. CanReceive (lane_port m.stimulus l a.view) stop.slot (m.lane value l)) (λ l low.
@@ -132,96 +112,8 @@ module _ {W P F S : Type 0} (m : word.Ghosts W P F S) (a : Parts W S) (kept : Is
   pub can_end : IsEnding (view_of a).stand → InEachLane m (λ v. CanEnd v) a.view
   can_end ending = in_each m.lanes (λ l. CanEnd (lane_port m.stimulus l a.view)) (λ l low.
       let early = ending.early in
-      let done = all_done (walk_of a) (walks m a kept) stop at (ends_at (walk_of a) (walks m a kept) stop at ending.seat ending.is ending.next) in
+      let done = all_done m kept stop at (ends_at m kept stop at ending.seat ending.is ending.next) in
       subst (λ (v : View S). CanEnd (lane_port m.stimulus l v)) (sym (inner_here early)) (record { begun = le-leb a.turn a.until early; port = a.seat; is = kept.seat; executed_all = done.0; received_all = done.1 }))
-
--- ---- at the beginning of a turn
-
-module _ (image : Image) (p : ℕ) (seat : PortImage) (good : IsPortImage image p seat) (is : IsPort image p seat) (slots : List ℕ) (stops : List Stop) (slots_are : slots ≡ item_slots seat.work)
-    (stops_are : AreStops (out_slots seat.outs) (in_slots seat.ins) image.slots slots stops) where
-  first_within : 0 < length stops
-  first_within = let count = stops_are.count in omega arith
-
-  -- the first stop, by what is read there
-  pub first_found : (read : List Stop) → read ≡ stops → slice_get stops 0 ≡ Some (get_or read 0 no_stop)
-  first_found read same = slice_get-get_or stops 0 no_stop first_within ∙ ap (λ xs. Some (get_or xs 0 no_stop)) (sym same)
-
-  first_stop : (first : Stop) → slice_get stops 0 ≡ Some first → IsStop (out_slots seat.outs) (in_slots seat.ins) image.slots slots 0 0 first
-  unfolding counts
-  first_stop first at = stops_are.each 0 first at
-
-  -- it may enter the turn
-  pub can_enter : (view : PortView) (items : List ℕ) (first : Stop) (runs : Bool) → view.image ≡ image → view.port ≡ p → view.begun ≡ false → view.executed ≡ 0 → (runs ≡ true → view.turn ≤ last_turn view) → items ≡ slots → slice_get stops 0 ≡ Some first
-      → CanEnter view items first.items runs
-  can_enter view items first runs image_is port_is fresh none more same at = record {
-    fresh = fresh;
-    none = none;
-    more = more;
-    seat = seat;
-    is = subst (λ (m : Image). IsPort m view.port seat) (sym image_is) (subst (λ n. IsPort image n seat) (sym port_is) is);
-    slots_are = same ∙ slots_are;
-    within = let within = (first_stop first at).front.within in subst (λ xs. first.items ≤ length xs) (sym same) within;
-    received_before = λ k slot i link low at_k at_i less.
-        let stop = first_stop first at in
-        let below = stop.front.before k slot (ap (λ xs. slice_get xs k) (sym same) ∙ at_k) low in
-        let place = stop.slot in
-        let none_before : i < 0 = received_before seat image.slots 0 0 (rises (out_slots seat.outs) good.outs) (rises (in_slots seat.ins) good.ins) i link at_i (omega arith) in
-        absurd (omega arith);
-  }
-
-  -- in each lane
-  pub can_enter_lanes : {W P F S : Type 0} (m : word.Ghosts W P F S) (view : View S) (items : List ℕ) (first : Stop) (runs : Bool) → view.image ≡ image → view.port ≡ p → view.begun ≡ false → view.executed ≡ 0
-      → (runs ≡ true → InEachLane m (λ v. v.turn ≤ last_turn v) view) → items ≡ slots → slice_get stops 0 ≡ Some first → InEachLane m (λ v. CanEnter v items first.items runs) view
-  can_enter_lanes m view items first runs image_is port_is fresh none more same at = in_each m.lanes (λ l. CanEnter (lane_port m.stimulus l view) items first.items runs) (λ l low.
-      can_enter (lane_port m.stimulus l view) items first runs image_is port_is fresh none
-      (λ is. in_lane m.lanes (λ k. (lane_port m.stimulus k view).turn ≤ last_turn (lane_port m.stimulus k view)) (more is) l low) same at)
-
--- what it keeps where it has entered a turn
-module _ {W P F S : Type 0} (m : word.Ghosts W P F S) where
-  pub record IsFresh (b : Parts W S) : Type 0 where
-    pub image : IsWellFormed b.view.image
-    pub valid : InEachLane m (λ view. IsValidStimulus view.stimulus) b.view
-    pub seat : IsPort b.view.image b.view.port b.seat
-    pub few : InEachLane m (λ view. b.until ≤ last_turn view) b.view
-    pub first : 1 ≤ b.turn
-    pub last : b.turn ≤ b.until + 1
-    pub slots : b.slots ≡ item_slots b.seat.work
-    pub stops : AreStops (out_slots b.seat.outs) (in_slots b.seat.ins) b.view.image.slots b.slots b.stops
-    pub readers : AreReaders (length b.seat.outs) b.seat.outs b.readers
-    pub at : b.at ≡ 0
-    pub sent : b.sent ≡ 0
-    pub took : b.took ≡ 0
-    pub stop : Stop
-    pub there : slice_get b.stops 0 ≡ Some stop
-    pub entered : b.view ≡ record (inner b (if nat_le b.turn b.until then stop.items else 0)) { received = 0 }
-    pub value : InEachLaneOf m b.value (λ view v. IsLastValue view v) b.view
-
-  pub kept_fresh : (b : Parts W S) → IsFresh b → IsKept m b
-  unfolding counts
-  kept_fresh b fresh = record {
-    image = fresh.image;
-    valid = fresh.valid;
-    seat = fresh.seat;
-    few = fresh.few;
-    first = fresh.first;
-    last = fresh.last;
-    slots = fresh.slots;
-    stops = fresh.stops;
-    readers = fresh.readers;
-    come = rw (fresh.at, fresh.sent, fresh.took) refl;
-    at = omega (arith, fresh.at, fresh.sent, fresh.took);
-    sent = omega (arith, fresh.sent);
-    took = omega (arith, fresh.took);
-    inner = fresh.entered ∙ ap (λ n. record (inner b n) { received = 0 }) (sym executed_is) ∙ ap (λ n. record (inner b b.view.executed) { received = n }) (sym fresh.took);
-    executed = λ early s at.
-        let same : fresh.stop ≡ s = one_there b.stops 0 b.at fresh.stop s (sym fresh.at) fresh.there at in
-        executed_is ∙ (ap {A = Bool} {B = ℕ} (λ t. if t then fresh.stop.items else 0) (le-leb b.turn b.until early) ∙ ap (λ (x : Stop). x.items) same);
-    rests = λ late. executed_is ∙ ap {A = Bool} {B = ℕ} (λ t. if t then fresh.stop.items else 0) (le_late b.turn b.until late);
-    unmoved = λ late. fresh.at;
-    value = fresh.value;
-  } where
-    executed_is : b.view.executed ≡ (if nat_le b.turn b.until then fresh.stop.items else 0)
-    executed_is = ap (λ (v : View S). v.executed) fresh.entered
 
 -- ---- a Put or a Take, by the stops that were read
 
@@ -233,32 +125,32 @@ module _ {W P F S : Type 0} (m : word.Ghosts W P F S) {a : Parts W S} (kept : Is
   after = get_or stops (a.at + 1) no_stop
 
   pub at_here : slice_get a.stops a.at ≡ Some here
-  at_here = found (walk_of a) (walks m a kept) stops same
+  at_here = found m kept stops same
 
   pub here_within : a.at < length stops
   here_within = let within = slice_get_within a.stops a.at here at_here in omega (arith, within, ap length same)
 
   -- where a Put is missing
   module _ (kind : here.kind ≡ Send) where
-    pub link_sent : (link : LinkOut) × IsLinkHere (walk_of a) (walks m a kept) here at_here a.readers link
-    link_sent = link_here (walk_of a) (walks m a kept) here at_here a.readers kept.readers kind
+    pub link_sent : (link : LinkOut) × IsLinkHere m kept here at_here a.readers link
+    link_sent = link_here m kept here at_here a.readers kept.readers kind
 
     pub row_sent : IsRow a.readers.all (start_of a.readers a.sent) (start_of a.readers (a.sent + 1)) link_sent.0.readers
     row_sent = link_sent.1.row
 
     module _ (readers : List ℕ) (are : readers ≡ slice_range a.readers.all (start_of a.readers a.sent) (start_of a.readers (a.sent + 1))) (known : List ℕ) where
       pub sent_there : length known ≡ length a.view.image.ports → Each (λ r. r < length known) readers
-      sent_there wide = subst (Each (λ r. r < length known)) (sym (are ∙ row_sent.is)) (readers_there (walk_of a) (walks m a kept) link_sent.0 known wide link_sent.1.is)
+      sent_there wide = subst (Each (λ r. r < length known)) (sym (are ∙ row_sent.is)) (readers_there m kept link_sent.0 known wide link_sent.1.is)
 
       pub sent_rising : IsStrictlyIncreasing readers
-      sent_rising = subst IsStrictlyIncreasing (sym (are ∙ row_sent.is)) ((good (walk_of a) (walks m a kept)).sends a.sent link_sent.0 link_sent.1.is).rising
+      sent_rising = subst IsStrictlyIncreasing (sym (are ∙ row_sent.is)) ((good m kept).sends a.sent link_sent.0 link_sent.1.is).rising
 
       pub sent_next : (banks turns : ℕ) (next : Upcoming) → a.turn ≤ a.until → turns ≡ a.turn - banks → IsNextOfSend readers known turns here.slot next → IsNextOf (view_of a).stand known banks next
       sent_next banks turns next early bar sends = next_put m a kept here at_here known banks early readers turns link_sent.0 next kind bar link_sent.1.is (are ∙ row_sent.is) sends
 
   module _ (can : CanPut (view_of a).stand) where
-    put_next : IsAfter (walk_of a) (walks m a kept) here at_here (a.sent + 1) a.took after
-    put_next = after_send (walk_of a) (walks m a kept) here at_here stops same (sending_here m a kept here at_here can.i can.link can.sending).kind
+    put_next : IsAfter m kept here at_here (a.sent + 1) a.took after
+    put_next = after_send m kept here at_here stops same (sending_here m a kept here at_here can.i can.link can.sending).kind
 
     pub put_within : a.at + 1 < length stops
     put_within = let within = slice_get_within a.stops (a.at + 1) after put_next.there in omega (arith, within, ap length same)
@@ -276,11 +168,16 @@ module _ {W P F S : Type 0} (m : word.Ghosts W P F S) {a : Parts W S} (kept : Is
     pub put_made : (view : View S) (rows : Option (ℕ × ℕ)) (value : W) → HasRun a.view view after.items → rows ≡ a.rows → (old : Walked S) → view_of a ≡ old
         → HasPut old (view_of (record a { view = view; rows = rows; at = a.at + 1; sent = a.sent + 1; value = value }))
     put_made view rows value run is old seen =
-        subst (λ o. HasPut o (view_of (record a { view = view; rows = rows; at = a.at + 1; sent = a.sent + 1; value = value }))) seen (has_put m a kept here at_here view rows value after (put_inside view run) is)
+        subst (λ o. HasPut o (view_of (record a { view = view; rows = rows; at = a.at + 1; sent = a.sent + 1; value = value }))) seen (record {
+          each = λ i link sending.
+              ap (λ v. view_of (record a { view = v; rows = rows; at = a.at + 1; sent = a.sent + 1; value = value })) (put_inside view run)
+              ∙ ap (λ r. record (view_of a) { rows = r; stand = record (view_of a).stand { puts = take (a.sent + 1) (out_slots a.seat.outs) } }) is
+              ∙ ap (λ ps. record (view_of a) { stand = record (view_of a).stand { puts = ps } }) (puts_more m kept link (sending_here m a kept here at_here i link sending).is);
+        })
 
   module _ (v : W) (can : CanTakeValue m (view_of a) v) where
-    take_next : IsAfter (walk_of a) (walks m a kept) here at_here a.sent (a.took + 1) after
-    take_next = after_receipt (walk_of a) (walks m a kept) here at_here stops same (receiving_here m a kept here at_here can.j can.link can.receiving).kind
+    take_next : IsAfter m kept here at_here a.sent (a.took + 1) after
+    take_next = after_receipt m kept here at_here stops same (receiving_here m a kept here at_here can.j can.link can.receiving).kind
 
     pub take_within : a.at + 1 < length stops
     take_within = let within = slice_get_within a.stops (a.at + 1) after take_next.there in omega (arith, within, ap length same)
@@ -311,33 +208,55 @@ module _ {W P F S : Type 0} (m : word.Ghosts W P F S) {a : Parts W S} (kept : Is
       pub take_made : (view : View S) (rows : Option (ℕ × ℕ)) (value : W) → HasRun got view after.items → rows ≡ a.rows → (old : Walked S) → view_of a ≡ old
           → HasTaken old (view_of (record a { view = view; rows = rows; at = a.at + 1; took = a.took + 1; value = value }))
       take_made view rows value run is old seen =
-          subst (λ o. HasTaken o (view_of (record a { view = view; rows = rows; at = a.at + 1; took = a.took + 1; value = value }))) seen (has_taken m a kept here at_here view rows value after (take_inside view run) is)
+          subst (λ o. HasTaken o (view_of (record a { view = view; rows = rows; at = a.at + 1; took = a.took + 1; value = value }))) seen (record {
+            each = λ j link receiving.
+                ap (λ v. view_of (record a { view = v; rows = rows; at = a.at + 1; took = a.took + 1; value = value })) (take_inside view run)
+                ∙ ap (λ r. record (view_of a) { rows = r; stand = record (view_of a).stand { takes = take (a.took + 1) (in_slots a.seat.ins) } }) is
+                ∙ ap (λ ts. record (view_of a) { stand = record (view_of a).stand { takes = ts } }) (takes_more m kept link (receiving_here m a kept here at_here j link receiving).is);
+          })
 
 -- ---- a turn that begins
 
 module _ {W P F S : Type 0} (m : word.Ghosts W P F S) where
-  turn_low : (view : View S) (until : ℕ) → InEachLane m (λ v. until ≤ last_turn v) view → view.turn ≤ until → InEachLane m (λ v. v.turn ≤ last_turn v) view
-  turn_low view until few low_turn = in_each m.lanes (λ l. view.turn ≤ last_turn (lane_port m.stimulus l view)) (λ l low.
-      let most = in_lane m.lanes (λ k. until ≤ last_turn (lane_port m.stimulus k view)) few l low in omega (arith, most, low_turn))
-
   module _ (before : View S) (good : IsWellFormed before.image) (seat : PortImage) (is : IsPort before.image before.port seat) (slots : List ℕ) (stops : List Stop) (slots_are : slots ≡ item_slots seat.work)
       (stops_are : AreStops (out_slots seat.outs) (in_slots seat.ins) before.image.slots slots stops) (read : List Stop) (same : read ≡ stops) (until : ℕ) (few : InEachLane m (λ v. until ≤ last_turn v) before) where
-    first_there : slice_get stops 0 ≡ Some (get_or read 0 no_stop)
-    first_there = first_found before.image before.port seat (good.ports before.port seat is) is slots stops slots_are stops_are read same
+    abbrev entry : Stop
+    entry = get_or read 0 no_stop
 
-    pub first_read : 0 < length read
-    first_read = let within = slice_get_within stops 0 (get_or read 0 no_stop) first_there in omega (arith, within, ap length same)
+    right : IsPortImage before.image before.port seat
+    right = good.ports before.port seat is
 
-    pub may_enter : (items : List ℕ) (runs : Bool) → items ≡ slots → before.begun ≡ false → before.executed ≡ 0 → (runs ≡ true → before.turn ≤ until) → InEachLane m (λ v. CanEnter v items (get_or read 0 no_stop).items runs) before
-    may_enter items runs items_are fresh none low = can_enter_lanes before.image before.port seat (good.ports before.port seat is) is slots stops slots_are stops_are
-        m before items (get_or read 0 no_stop) runs refl refl fresh none (λ yes. turn_low before until few (low yes)) items_are first_there
+    -- the first stop is what was read
+    there : slice_get stops 0 ≡ Some entry
+    there = let count = stops_are.count in slice_get-get_or stops 0 no_stop (omega arith) ∙ ap (λ xs. Some (get_or xs 0 no_stop)) (sym same)
 
+    first_stop : IsStop (out_slots seat.outs) (in_slots seat.ins) before.image.slots slots 0 0 entry
+    unfolding counts
+    first_stop = stops_are.each 0 entry there
+
+    pub may_enter : (items : List ℕ) (runs : Bool) → items ≡ slots → before.begun ≡ false → before.executed ≡ 0 → (runs ≡ true → before.turn ≤ until) → InEachLane m (λ v. CanEnter v items entry.items runs) before
+    may_enter items runs items_are fresh none low = in_each m.lanes (λ l. CanEnter (lane_port m.stimulus l before) items entry.items runs) (λ l low_lane. record {
+      fresh = fresh;
+      none = none;
+      more = λ yes. let most = in_lane m.lanes (λ k. until ≤ last_turn (lane_port m.stimulus k before)) few l low_lane in omega (arith, most, low yes);
+      seat = seat;
+      is = is;
+      slots_are = items_are ∙ slots_are;
+      within = let within = first_stop.front.within in subst (λ xs. entry.items ≤ length xs) (sym items_are) within;
+      received_before = λ k slot i link low_k at_k at_i less.
+          let below = first_stop.front.before k slot (ap (λ xs. slice_get xs k) (sym items_are) ∙ at_k) low_k in
+          let place = first_stop.slot in
+          let none_before : i < 0 = received_before seat before.image.slots 0 0 (rises (out_slots seat.outs) right.outs) (rises (in_slots seat.ins) right.ins) i link at_i (omega arith) in
+          absurd (omega arith);
+    })
+
+    -- what the walk keeps where its port has entered the turn
     pub entered_kept : (view : View S) (rows : Option (ℕ × ℕ)) (readers : Readers) (at sent took : ℕ) (value : W) (turn : ℕ) → InEachLane m (λ v. IsValidStimulus v.stimulus) before → AreReaders (length seat.outs) seat.outs readers
-        → at ≡ 0 → sent ≡ 0 → took ≡ 0 → before.turn ≡ turn → before.received ≡ 0 → 1 ≤ turn → turn ≤ until + 1 → HasEntered before view (get_or read 0 no_stop).items (nat_le turn until) → InEachLaneOf m value (λ v x. IsLastValue v x) view
+        → at ≡ 0 → sent ≡ 0 → took ≡ 0 → before.turn ≡ turn → before.received ≡ 0 → 1 ≤ turn → turn ≤ until + 1 → HasEntered before view entry.items (nat_le turn until) → InEachLaneOf m value (λ v x. IsLastValue v x) view
         → IsKept m (record { view = view; rows = rows; seat = seat; slots = slots; readers = readers; stops = stops; at = at; sent = sent; took = took; value = value; turn = turn; until = until })
+    unfolding counts
     entered_kept view rows readers at sent took value turn valid readers_are at_is sent_is took_is turn_is received first last entered value_is =
-        subst (λ v. IsKept m (record { view = v; rows = rows; seat = seat; slots = slots; readers = readers; stops = stops; at = at; sent = sent; took = took; value = value; turn = turn; until = until })) (sym entered)
-        (kept_fresh m _ (record {
+        subst (λ v. IsKept m (record { view = v; rows = rows; seat = seat; slots = slots; readers = readers; stops = stops; at = at; sent = sent; took = took; value = value; turn = turn; until = until })) (sym entered) (record {
           image = good;
           valid = valid;
           seat = is;
@@ -347,16 +266,20 @@ module _ {W P F S : Type 0} (m : word.Ghosts W P F S) where
           slots = slots_are;
           stops = stops_are;
           readers = readers_are;
-          at = at_is;
-          sent = sent_is;
-          took = took_is;
-          stop = get_or read 0 no_stop;
-          there = first_there;
-          entered =
-              ap (λ t. record before { turn = t; begun = nat_le turn until; executed = if nat_le turn until then (get_or read 0 no_stop).items else 0 }) turn_is
-              ∙ ap (λ n. record before { turn = turn; begun = nat_le turn until; executed = if nat_le turn until then (get_or read 0 no_stop).items else 0; received = n }) received;
+          come = rw (at_is, sent_is, took_is) refl;
+          at = omega (arith, at_is, sent_is, took_is);
+          sent = omega (arith, sent_is);
+          took = omega (arith, took_is);
+          inner =
+              ap (λ t. record before { turn = t; begun = nat_le turn until; executed = if nat_le turn until then entry.items else 0 }) turn_is
+              ∙ ap (λ n. record before { turn = turn; begun = nat_le turn until; executed = if nat_le turn until then entry.items else 0; received = n }) (received ∙ sym took_is);
+          executed = λ early s at_s.
+              let one : entry ≡ s = one_there stops 0 at entry s (sym at_is) there at_s in
+              ap {A = Bool} {B = ℕ} (λ t. if t then entry.items else 0) (le-leb turn until early) ∙ ap (λ (x : Stop). x.items) one;
+          rests = λ late. ap {A = Bool} {B = ℕ} (λ t. if t then entry.items else 0) (le_late turn until late);
+          unmoved = λ late. at_is;
           value = subst (InEachLaneOf m value (λ v x. IsLastValue v x)) entered value_is;
-        }))
+        })
 
 -- the turn after the one that was told
 module _ {W P F S : Type 0} (m : word.Ghosts W P F S) {a : Parts W S} (kept : IsKept m a) (stops : List Stop) (same : stops ≡ a.stops) (ended : View S) (is : ended ≡ after_end a.view) where

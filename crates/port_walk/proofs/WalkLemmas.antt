@@ -13,6 +13,7 @@ use Rattle.image_defs.specs.declared.image.PortImage.{PortImage}
 use Rattle.image_defs.specs.Places.{Each, IsPort, item_slots, in_slots, out_slots}
 use Rattle.image_defs.specs.WellFormed.{IsPortImage, IsWellFormed}
 use Rattle.image_defs.specs.Ports.{PortView}
+use Rattle.port_bank.specs.declared.word.Word as word
 use Rattle.image_defs.proofs.PlaceLemmas.{Rises, rises, at_map}
 use Rattle.event_defs.specs.Next.{SendsNext, ReceivesNext, EndsNext, IsNext}
 use Rattle.event_defs.proofs.NextLemmas.{sends_one, receives_one, sends_not_receives, sends_not_ends, receives_not_ends}
@@ -27,6 +28,7 @@ use Rattle.port_walk.specs.declared.upcoming.Upcoming.TheVariants.{Ask, Put, Tak
 use Rattle.port_bank.specs.Runs.{CanRun}
 use Rattle.port_walk.specs.Readers.{IsNextOfSend}
 use Rattle.port_walk.specs.Rows.{AreReaders, HasFewReaders, IsRow, start_of}
+use Rattle.port_walk.specs.Kept.{Parts, IsKept}
 use Rattle.port_walk.specs.Stands.{action_of}
 use Rattle.port_walk.specs.Stops.{ArePlaces, AreStops, IsFront, IsStop, counts, kind_at, slot_at}
 use Rattle.port_walk.proofs.StopLemmas.{places_few, tells, counts_more, send_grows, receipt_grows}
@@ -115,144 +117,120 @@ stops_read slots items items' outs outs' ins ins' stops same_items same_outs sam
 one_more : (xs : List ℕ) (n x : ℕ) → slice_get xs n ≡ Some x → take (n + 1) xs ≡ take n xs ++ x ∷ []
 one_more xs n x at = take_more xs n 0 (slice_get_within xs n x at) ∙ ap (λ s. take n xs ++ s ∷ []) (get_or_from_slice_get xs n x 0 at)
 
--- ---- the walk of a port
+-- ---- a walk at its stop
 
--- a port of an image with its items and its stops, at which of these it stands, and how often it has sent and
--- received
-pub record Walk : Type 0 where
-  pub image : Image
-  pub port : ℕ
-  pub seat : PortImage
-  pub items : List ℕ
-  pub stops : List Stop
-  pub at : ℕ
-  pub sent : ℕ
-  pub took : ℕ
+module _ {W P F S : Type 0} (m : word.Ghosts W P F S) {a : Parts W S} (kept : IsKept m a) where
+  abbrev outs : List ℕ
+  outs = out_slots a.seat.outs
 
-module _ (w : Walk) where
-  abbrev pub outs : List ℕ
-  outs = out_slots w.seat.outs
+  abbrev ins : List ℕ
+  ins = in_slots a.seat.ins
 
-  abbrev pub ins : List ℕ
-  ins = in_slots w.seat.ins
+  abbrev puts : List ℕ
+  puts = take a.sent outs
 
-  abbrev pub puts : List ℕ
-  puts = take w.sent outs
+  abbrev takes : List ℕ
+  takes = take a.took ins
 
-  abbrev pub takes : List ℕ
-  takes = take w.took ins
+  pub good : IsPortImage a.view.image a.view.port a.seat
+  good = kept.image.ports a.view.port a.seat kept.seat
 
-  -- it is one of the image's, and has come to that stop
-  pub record IsWalk : Type 0 where
-    pub image : IsWellFormed w.image
-    pub seat : IsPort w.image w.port w.seat
-    pub items : w.items ≡ item_slots w.seat.work
-    pub stops : AreStops outs ins w.image.slots w.items w.stops
-    pub come : counts outs ins w.at ≡ (w.sent, w.took)
-    pub at : w.at ≡ w.sent + w.took
-    pub sent : w.sent ≤ length w.seat.outs
-    pub took : w.took ≤ length w.seat.ins
+  out_up : Rises outs
+  out_up = rises outs good.outs
 
-module _ (w : Walk) (walks : IsWalk w) where
-  pub good : IsPortImage w.image w.port w.seat
-  good = walks.image.ports w.port w.seat walks.seat
+  in_up : Rises ins
+  in_up = rises ins good.ins
 
-  out_up : Rises (outs w)
-  out_up = rises (outs w) good.outs
+  out_length : length outs ≡ length a.seat.outs
+  out_length = length-map a.seat.outs (λ (l : LinkOut). l.slot)
 
-  in_up : Rises (ins w)
-  in_up = rises (ins w) good.ins
+  in_length : length ins ≡ length a.seat.ins
+  in_length = length-map a.seat.ins (λ (l : LinkIn). l.slot)
 
-  out_length : length (outs w) ≡ length w.seat.outs
-  out_length = length-map w.seat.outs (λ (l : LinkOut). l.slot)
+  pub same_seat : (seat : PortImage) → IsPort a.view.image a.view.port seat → a.seat ≡ seat
+  same_seat seat is = same_port a.view.image a.view.port a.seat seat kept.seat is
 
-  in_length : length (ins w) ≡ length w.seat.ins
-  in_length = length-map w.seat.ins (λ (l : LinkIn). l.slot)
-
-  pub same_seat : (seat : PortImage) → IsPort w.image w.port seat → w.seat ≡ seat
-  same_seat seat is = same_port w.image w.port w.seat seat walks.seat is
-
-  within_at : w.at < length w.stops
-  within_at = omega (arith, walks.stops.count, walks.at, walks.sent, walks.took, out_length, in_length)
+  within_at : a.at < length a.stops
+  within_at = omega (arith, kept.stops.count, kept.at, kept.sent, kept.took, out_length, in_length)
 
   -- so many stops have few numbers
-  pub few_at : w.at ≤ 2 * MAX_SLOTS
+  pub few_at : a.at ≤ 2 * MAX_SLOTS
   few_at =
-      let sends = few_sends w.image walks.image w.port w.seat walks.seat in
-      let receipts = places_few w.image.slots (ins w) (in_places w.image w.port w.seat good) in
-      let slots = walks.image.slots in
-      omega (arith, walks.at, walks.sent, walks.took, in_length)
+      let sends = few_sends a.view.image kept.image a.view.port a.seat kept.seat in
+      let receipts = places_few a.view.image.slots ins (in_places a.view.image a.view.port a.seat good) in
+      let slots = kept.image.slots in
+      omega (arith, kept.at, kept.sent, kept.took, in_length)
 
   -- the stop at which it stands
-  pub found : (stops : List Stop) → stops ≡ w.stops → slice_get w.stops w.at ≡ Some (get_or stops w.at no_stop)
-  found stops same = slice_get-get_or w.stops w.at no_stop within_at ∙ ap (λ xs. Some (get_or xs w.at no_stop)) (sym same)
+  pub found : (stops : List Stop) → stops ≡ a.stops → slice_get a.stops a.at ≡ Some (get_or stops a.at no_stop)
+  found stops same = slice_get-get_or a.stops a.at no_stop within_at ∙ ap (λ xs. Some (get_or xs a.at no_stop)) (sym same)
 
-  pub readers_there : (link : LinkOut) (known : List ℕ) → length known ≡ length w.image.ports → slice_get w.seat.outs w.sent ≡ Some link → Each (λ r. r < length known) link.readers
+  pub readers_there : (link : LinkOut) (known : List ℕ) → length known ≡ length a.view.image.ports → slice_get a.seat.outs a.sent ≡ Some link → Each (λ r. r < length known) link.readers
   readers_there link known wide is i r at =
-      let reader = (good.sends w.sent link is).received i r at in
-      let within = slice_get_within w.image.ports r reader.port reader.is in
+      let reader = (good.sends a.sent link is).received i r at in
+      let within = slice_get_within a.view.image.ports r reader.port reader.is in
       omega arith
 
   -- what is put with one send more, and what is taken with one receipt more
-  pub puts_more : (link : LinkOut) → slice_get w.seat.outs w.sent ≡ Some link → take (w.sent + 1) (outs w) ≡ puts w ++ link.slot ∷ []
-  puts_more link is = one_more (outs w) w.sent link.slot (to_map (λ (l : LinkOut). l.slot) w.seat.outs w.sent link is)
+  pub puts_more : (link : LinkOut) → slice_get a.seat.outs a.sent ≡ Some link → take (a.sent + 1) outs ≡ puts ++ link.slot ∷ []
+  puts_more link is = one_more outs a.sent link.slot (to_map (λ (l : LinkOut). l.slot) a.seat.outs a.sent link is)
 
-  pub takes_more : (link : LinkIn) → slice_get w.seat.ins w.took ≡ Some link → take (w.took + 1) (ins w) ≡ takes w ++ link.slot ∷ []
-  takes_more link is = one_more (ins w) w.took link.slot (to_map (λ (l : LinkIn). l.slot) w.seat.ins w.took link is)
+  pub takes_more : (link : LinkIn) → slice_get a.seat.ins a.took ≡ Some link → take (a.took + 1) ins ≡ takes ++ link.slot ∷ []
+  takes_more link is = one_more ins a.took link.slot (to_map (λ (l : LinkIn). l.slot) a.seat.ins a.took link is)
 
-  module _ (stop : Stop) (at : slice_get w.stops w.at ≡ Some stop) where
-    pub is_stop : IsStop (outs w) (ins w) w.image.slots w.items w.sent w.took stop
-    is_stop = let is = walks.stops.each w.at stop at in rw walks.come at is
+  module _ (stop : Stop) (at : slice_get a.stops a.at ≡ Some stop) where
+    pub is_stop : IsStop outs ins a.view.image.slots a.slots a.sent a.took stop
+    is_stop = let is = kept.stops.each a.at stop at in rw kept.come at is
 
-    pub send_here : stop.kind ≡ Send → (link : LinkOut) × SendsNext w.seat (puts w) (takes w) w.sent link × (link.slot ≡ stop.slot)
+    pub send_here : stop.kind ≡ Send → (link : LinkOut) × SendsNext a.seat puts takes a.sent link × (link.slot ≡ stop.slot)
     send_here kind =
-        let next = next_send w.seat w.image.slots w.sent w.took out_up in_up (sym is_stop.kind ∙ kind) in
+        let next = next_send a.seat a.view.image.slots a.sent a.took out_up in_up (sym is_stop.kind ∙ kind) in
         (next.0, next.1, next.2 ∙ sym is_stop.slot)
 
-    pub receipt_here : stop.kind ≡ Receive → (link : LinkIn) × ReceivesNext w.seat (puts w) (takes w) w.took link × (link.slot ≡ stop.slot)
+    pub receipt_here : stop.kind ≡ Receive → (link : LinkIn) × ReceivesNext a.seat puts takes a.took link × (link.slot ≡ stop.slot)
     receipt_here kind =
-        let next = next_receipt w.seat w.image.slots w.sent w.took out_up in_up (sym is_stop.kind ∙ kind) in
+        let next = next_receipt a.seat a.view.image.slots a.sent a.took out_up in_up (sym is_stop.kind ∙ kind) in
         (next.0, next.1, next.2 ∙ sym is_stop.slot)
 
-    pub end_here : stop.kind ≡ End → EndsNext w.seat (puts w) (takes w)
-    end_here kind = next_end w.seat w.image.slots w.sent w.took out_up in_up (sym is_stop.kind ∙ kind)
+    pub end_here : stop.kind ≡ End → EndsNext a.seat puts takes
+    end_here kind = next_end a.seat a.view.image.slots a.sent a.took out_up in_up (sym is_stop.kind ∙ kind)
 
     -- the link that is sent, and its readers
     pub record IsLinkHere (readers : Readers) (link : LinkOut) : Type 0 where
-      pub is : slice_get w.seat.outs w.sent ≡ Some link
-      pub within : w.sent < length w.seat.outs
-      pub row : IsRow readers.all (start_of readers w.sent) (start_of readers (w.sent + 1)) link.readers
+      pub is : slice_get a.seat.outs a.sent ≡ Some link
+      pub within : a.sent < length a.seat.outs
+      pub row : IsRow readers.all (start_of readers a.sent) (start_of readers (a.sent + 1)) link.readers
 
-    pub link_here : (readers : Readers) → AreReaders (length w.seat.outs) w.seat.outs readers → stop.kind ≡ Send → (link : LinkOut) × IsLinkHere readers link
+    pub link_here : (readers : Readers) → AreReaders (length a.seat.outs) a.seat.outs readers → stop.kind ≡ Send → (link : LinkOut) × IsLinkHere readers link
     link_here readers are kind =
         let next = send_here kind in
-        let within = slice_get_within w.seat.outs w.sent next.0 next.1.is in
-        (next.0, record { is = next.1.is; within = within; row = are.each w.sent next.0 within next.1.is })
+        let within = slice_get_within a.seat.outs a.sent next.0 next.1.is in
+        (next.0, record { is = next.1.is; within = within; row = are.each a.sent next.0 within next.1.is })
 
-    pub slot_sent : stop.kind ≡ Send → (link : LinkOut) → slice_get w.seat.outs w.sent ≡ Some link → link.slot ≡ stop.slot
-    slot_sent kind link is = let next = send_here kind in ap (λ (l : LinkOut). l.slot) (one_there w.seat.outs w.sent w.sent link next.0 refl is next.1.is) ∙ next.2
+    pub slot_sent : stop.kind ≡ Send → (link : LinkOut) → slice_get a.seat.outs a.sent ≡ Some link → link.slot ≡ stop.slot
+    slot_sent kind link is = let next = send_here kind in ap (λ (l : LinkOut). l.slot) (one_there a.seat.outs a.sent a.sent link next.0 refl is next.1.is) ∙ next.2
 
     -- the last item up to the stop is the one that is sent
-    pub last_here : (link : LinkOut) → slice_get w.seat.outs w.sent ≡ Some link → link.slot ≡ stop.slot → (item : ℕ) × (item + 1 ≡ stop.items) × (slice_get (item_slots w.seat.work) item ≡ Some stop.slot)
+    pub last_here : (link : LinkOut) → slice_get a.seat.outs a.sent ≡ Some link → link.slot ≡ stop.slot → (item : ℕ) × (item + 1 ≡ stop.items) × (slice_get (item_slots a.seat.work) item ≡ Some stop.slot)
     last_here link is slot =
-        let item = (good.sends w.sent link is).item in
-        let there : slice_get (item_slots w.seat.work) item.0 ≡ Some stop.slot = item.1 ∙ ap Some slot in
-        let front : IsFront (item_slots w.seat.work) (stop.slot + 1) stop.items = subst (λ xs. IsFront xs (stop.slot + 1) stop.items) walks.items is_stop.front in
-        (item.0, last_item (item_slots w.seat.work) item.0 stop.items stop.slot (rises (item_slots w.seat.work) good.items) front there, there)
+        let item = (good.sends a.sent link is).item in
+        let there : slice_get (item_slots a.seat.work) item.0 ≡ Some stop.slot = item.1 ∙ ap Some slot in
+        let front : IsFront (item_slots a.seat.work) (stop.slot + 1) stop.items = subst (λ xs. IsFront xs (stop.slot + 1) stop.items) kept.slots is_stop.front in
+        (item.0, last_item (item_slots a.seat.work) item.0 stop.items stop.slot (rises (item_slots a.seat.work) good.items) front there, there)
 
     -- the next event where a Put is missing
     module _ (known : List ℕ) (turn banks until : ℕ) (value : ℕ → V4) (early : turn ≤ until) where
-      pub next_sent : (readers : List ℕ) (turns : ℕ) (link : LinkOut) (next : Upcoming) → stop.kind ≡ Send → turns ≡ turn - banks → slice_get w.seat.outs w.sent ≡ Some link → readers ≡ link.readers
-          → IsNextOfSend readers known turns stop.slot next → IsNext w.seat (record { turn = turn; puts = puts w; takes = takes w; known = known }) banks until value (action_of value next)
+      pub next_sent : (readers : List ℕ) (turns : ℕ) (link : LinkOut) (next : Upcoming) → stop.kind ≡ Send → turns ≡ turn - banks → slice_get a.seat.outs a.sent ≡ Some link → readers ≡ link.readers
+          → IsNextOfSend readers known turns stop.slot next → IsNext a.seat (record { turn = turn; puts = puts; takes = takes; known = known }) banks until value (action_of value next)
       next_sent readers turns link next kind bar is same = of_next next where
-        sends_link : SendsNext w.seat (puts w) (takes w) w.sent link
-        sends_link = let here = send_here kind in subst (λ (l : LinkOut). SendsNext w.seat (puts w) (takes w) w.sent l) (one_there w.seat.outs w.sent w.sent here.0 link refl here.1.is is) here.1
+        sends_link : SendsNext a.seat puts takes a.sent link
+        sends_link = let here = send_here kind in subst (λ (l : LinkOut). SendsNext a.seat puts takes a.sent l) (one_there a.seat.outs a.sent a.sent here.0 link refl here.1.is is) here.1
 
-        of_next : (next : Upcoming) → IsNextOfSend readers known turns stop.slot next → IsNext w.seat (record { turn = turn; puts = puts w; takes = takes w; known = known }) banks until value (action_of value next)
+        of_next : (next : Upcoming) → IsNextOfSend readers known turns stop.slot next → IsNext a.seat (record { turn = turn; puts = puts; takes = takes; known = known }) banks until value (action_of value next)
         of_next (Ask reader) lagging = (
           early,
           record {
-            i = w.sent;
+            i = a.sent;
             link = link;
             sends = sends_link;
             reads = (lagging.reads.0, ap (λ xs. slice_get xs lagging.reads.0) (sym same) ∙ lagging.reads.1);
@@ -263,7 +241,7 @@ module _ (w : Walk) (walks : IsWalk w) where
         of_next (Put s) (none, slot) = (
           early,
           record {
-            i = w.sent;
+            i = a.sent;
             link = link;
             slot_is = slot_sent kind link is ∙ sym slot;
             sends = sends_link;
@@ -279,19 +257,19 @@ module _ (w : Walk) (walks : IsWalk w) where
 
     pub record IsSendHere (i : ℕ) (link : LinkOut) : Type 0 where
       pub kind : stop.kind ≡ Send
-      pub number : i ≡ w.sent
-      pub is : slice_get w.seat.outs w.sent ≡ Some link
+      pub number : i ≡ a.sent
+      pub is : slice_get a.seat.outs a.sent ≡ Some link
       pub slot : link.slot ≡ stop.slot
 
-    pub sends_at : (seat : PortImage) → IsPort w.image w.port seat → (i : ℕ) (link : LinkOut) → SendsNext seat (puts w) (takes w) i link → IsSendHere i link
+    pub sends_at : (seat : PortImage) → IsPort a.view.image a.view.port seat → (i : ℕ) (link : LinkOut) → SendsNext seat puts takes i link → IsSendHere i link
     sends_at seat seat_is i link sends = of_kind stop.kind refl where
-      next : SendsNext w.seat (puts w) (takes w) i link
-      next = subst (λ (s : PortImage). SendsNext s (puts w) (takes w) i link) (sym (same_seat seat seat_is)) sends
+      next : SendsNext a.seat puts takes i link
+      next = subst (λ (s : PortImage). SendsNext s puts takes i link) (sym (same_seat seat seat_is)) sends
 
       of_kind : (kind : StopKind) → stop.kind ≡ kind → IsSendHere i link
       of_kind Send is =
           let here = send_here is in
-          let one = sends_one w.image walks.image w.port w.seat walks.seat (puts w) (takes w) i w.sent link here.0 next here.1 in
+          let one = sends_one a.view.image kept.image a.view.port a.seat kept.seat puts takes i a.sent link here.0 next here.1 in
           record {
             kind = is;
             number = one.0;
@@ -300,59 +278,59 @@ module _ (w : Walk) (walks : IsWalk w) where
           }
       of_kind Receive is =
           let here = receipt_here is in
-          absurd (sends_not_receives w.image walks.image w.port w.seat walks.seat (puts w) (takes w) i w.took link here.0 next here.1)
-      of_kind End is = absurd (sends_not_ends w.image walks.image w.port w.seat walks.seat (puts w) (takes w) i link next (end_here is))
+          absurd (sends_not_receives a.view.image kept.image a.view.port a.seat kept.seat puts takes i a.took link here.0 next here.1)
+      of_kind End is = absurd (sends_not_ends a.view.image kept.image a.view.port a.seat kept.seat puts takes i link next (end_here is))
 
     pub record IsReceiptHere (j : ℕ) (link : LinkIn) : Type 0 where
       pub kind : stop.kind ≡ Receive
-      pub number : j ≡ w.took
-      pub is : slice_get w.seat.ins w.took ≡ Some link
+      pub number : j ≡ a.took
+      pub is : slice_get a.seat.ins a.took ≡ Some link
       pub slot : link.slot ≡ stop.slot
 
-    pub receives_at : (seat : PortImage) → IsPort w.image w.port seat → (j : ℕ) (link : LinkIn) → ReceivesNext seat (puts w) (takes w) j link → IsReceiptHere j link
+    pub receives_at : (seat : PortImage) → IsPort a.view.image a.view.port seat → (j : ℕ) (link : LinkIn) → ReceivesNext seat puts takes j link → IsReceiptHere j link
     receives_at seat seat_is j link receives = of_kind stop.kind refl where
-      next : ReceivesNext w.seat (puts w) (takes w) j link
-      next = subst (λ (s : PortImage). ReceivesNext s (puts w) (takes w) j link) (sym (same_seat seat seat_is)) receives
+      next : ReceivesNext a.seat puts takes j link
+      next = subst (λ (s : PortImage). ReceivesNext s puts takes j link) (sym (same_seat seat seat_is)) receives
 
       of_kind : (kind : StopKind) → stop.kind ≡ kind → IsReceiptHere j link
       of_kind Send is =
           let here = send_here is in
-          absurd (sends_not_receives w.image walks.image w.port w.seat walks.seat (puts w) (takes w) w.sent j here.0 link here.1 next)
+          absurd (sends_not_receives a.view.image kept.image a.view.port a.seat kept.seat puts takes a.sent j here.0 link here.1 next)
       of_kind Receive is =
           let here = receipt_here is in
-          let one = receives_one w.image walks.image w.port w.seat walks.seat (puts w) (takes w) j w.took link here.0 next here.1 in
+          let one = receives_one a.view.image kept.image a.view.port a.seat kept.seat puts takes j a.took link here.0 next here.1 in
           record {
             kind = is;
             number = one.0;
             is = here.1.is ∙ ap Some (sym one.1);
             slot = ap (λ (l : LinkIn). l.slot) one.1 ∙ here.2;
           }
-      of_kind End is = absurd (receives_not_ends w.image walks.image w.port w.seat walks.seat (puts w) (takes w) j link next (end_here is))
+      of_kind End is = absurd (receives_not_ends a.view.image kept.image a.view.port a.seat kept.seat puts takes j link next (end_here is))
 
-    pub ends_at : (seat : PortImage) → IsPort w.image w.port seat → EndsNext seat (puts w) (takes w) → stop.kind ≡ End
+    pub ends_at : (seat : PortImage) → IsPort a.view.image a.view.port seat → EndsNext seat puts takes → stop.kind ≡ End
     ends_at seat seat_is ends = of_kind stop.kind refl where
-      next : EndsNext w.seat (puts w) (takes w)
-      next = subst (λ (s : PortImage). EndsNext s (puts w) (takes w)) (sym (same_seat seat seat_is)) ends
+      next : EndsNext a.seat puts takes
+      next = subst (λ (s : PortImage). EndsNext s puts takes) (sym (same_seat seat seat_is)) ends
 
       of_kind : (kind : StopKind) → stop.kind ≡ kind → stop.kind ≡ End
-      of_kind Send is = let here = send_here is in absurd (sends_not_ends w.image walks.image w.port w.seat walks.seat (puts w) (takes w) w.sent here.0 here.1 next)
-      of_kind Receive is = let here = receipt_here is in absurd (receives_not_ends w.image walks.image w.port w.seat walks.seat (puts w) (takes w) w.took here.0 here.1 next)
+      of_kind Send is = let here = send_here is in absurd (sends_not_ends a.view.image kept.image a.view.port a.seat kept.seat puts takes a.sent here.0 here.1 next)
+      of_kind Receive is = let here = receipt_here is in absurd (receives_not_ends a.view.image kept.image a.view.port a.seat kept.seat puts takes a.took here.0 here.1 next)
       of_kind End is = is
 
     -- ---- the stop after
 
     -- the next stop, at which the port has sent and received so often
     pub record IsAfter (sent took : ℕ) (next : Stop) : Type 0 where
-      pub come : counts (outs w) (ins w) (w.at + 1) ≡ (sent, took)
-      pub count : w.at + 1 ≡ sent + took
-      pub sent_within : sent ≤ length w.seat.outs
-      pub took_within : took ≤ length w.seat.ins
-      pub there : slice_get w.stops (w.at + 1) ≡ Some next
-      pub is : IsStop (outs w) (ins w) w.image.slots w.items sent took next
+      pub come : counts outs ins (a.at + 1) ≡ (sent, took)
+      pub count : a.at + 1 ≡ sent + took
+      pub sent_within : sent ≤ length a.seat.outs
+      pub took_within : took ≤ length a.seat.ins
+      pub there : slice_get a.stops (a.at + 1) ≡ Some next
+      pub is : IsStop outs ins a.view.image.slots a.slots sent took next
       pub grows : stop.slot ≤ next.slot
 
-    after : (sent took : ℕ) (stops : List Stop) → stops ≡ w.stops → counts (outs w) (ins w) (w.at + 1) ≡ (sent, took) → w.at + 1 ≡ sent + took → sent ≤ length w.seat.outs → took ≤ length w.seat.ins
-        → stop.slot ≤ slot_at (outs w) (ins w) w.image.slots sent took → IsAfter sent took (get_or stops (w.at + 1) no_stop)
+    after : (sent took : ℕ) (stops : List Stop) → stops ≡ a.stops → counts outs ins (a.at + 1) ≡ (sent, took) → a.at + 1 ≡ sent + took → sent ≤ length a.seat.outs → took ≤ length a.seat.ins
+        → stop.slot ≤ slot_at outs ins a.view.image.slots sent took → IsAfter sent took (get_or stops (a.at + 1) no_stop)
     after sent took stops same come count sent_within took_within grows = record {
       come = come;
       count = count;
@@ -362,61 +340,61 @@ module _ (w : Walk) (walks : IsWalk w) where
       is = is;
       grows = let slot = is.slot in omega arith;
     } where
-      there : slice_get w.stops (w.at + 1) ≡ Some (get_or stops (w.at + 1) no_stop)
-      there = slice_get-get_or w.stops (w.at + 1) no_stop (omega (arith, walks.stops.count, out_length, in_length)) ∙ ap (λ xs. Some (get_or xs (w.at + 1) no_stop)) (sym same)
+      there : slice_get a.stops (a.at + 1) ≡ Some (get_or stops (a.at + 1) no_stop)
+      there = slice_get-get_or a.stops (a.at + 1) no_stop (omega (arith, kept.stops.count, out_length, in_length)) ∙ ap (λ xs. Some (get_or xs (a.at + 1) no_stop)) (sym same)
 
-      is : IsStop (outs w) (ins w) w.image.slots w.items sent took (get_or stops (w.at + 1) no_stop)
-      is = let is = walks.stops.each (w.at + 1) (get_or stops (w.at + 1) no_stop) there in rw come at is
+      is : IsStop outs ins a.view.image.slots a.slots sent took (get_or stops (a.at + 1) no_stop)
+      is = let is = kept.stops.each (a.at + 1) (get_or stops (a.at + 1) no_stop) there in rw come at is
 
-    kind_here : (kind : StopKind) → stop.kind ≡ kind → kind_at (outs w) (ins w) w.sent w.took ≡ kind
+    kind_here : (kind : StopKind) → stop.kind ≡ kind → kind_at outs ins a.sent a.took ≡ kind
     kind_here kind is = sym is_stop.kind ∙ is
 
-    slot_here : stop.slot ≡ slot_at (outs w) (ins w) w.image.slots w.sent w.took
+    slot_here : stop.slot ≡ slot_at outs ins a.view.image.slots a.sent a.took
     slot_here = is_stop.slot
 
-    pub after_send : (stops : List Stop) → stops ≡ w.stops → stop.kind ≡ Send → IsAfter (w.sent + 1) w.took (get_or stops (w.at + 1) no_stop)
+    pub after_send : (stops : List Stop) → stops ≡ a.stops → stop.kind ≡ Send → IsAfter (a.sent + 1) a.took (get_or stops (a.at + 1) no_stop)
     after_send stops same kind =
         let here = send_here kind in
-        let within = slice_get_within w.seat.outs w.sent here.0 here.1.is in
-        let grows = send_grows (outs w) (ins w) w.image.slots (out_places w.image w.port w.seat good) (in_places w.image w.port w.seat good) w.sent w.took (kind_here Send kind) in
+        let within = slice_get_within a.seat.outs a.sent here.0 here.1.is in
+        let grows = send_grows outs ins a.view.image.slots (out_places a.view.image a.view.port a.seat good) (in_places a.view.image a.view.port a.seat good) a.sent a.took (kind_here Send kind) in
         let slot = slot_here in
-        after (w.sent + 1) w.took stops same (counts_more (outs w) (ins w) w.at w.sent w.took Send walks.come (kind_here Send kind)) (omega (arith, walks.at)) (omega arith) walks.took (omega arith)
+        after (a.sent + 1) a.took stops same (counts_more outs ins a.at a.sent a.took Send kept.come (kind_here Send kind)) (omega (arith, kept.at)) (omega arith) kept.took (omega arith)
 
-    pub after_receipt : (stops : List Stop) → stops ≡ w.stops → stop.kind ≡ Receive → IsAfter w.sent (w.took + 1) (get_or stops (w.at + 1) no_stop)
+    pub after_receipt : (stops : List Stop) → stops ≡ a.stops → stop.kind ≡ Receive → IsAfter a.sent (a.took + 1) (get_or stops (a.at + 1) no_stop)
     after_receipt stops same kind =
         let here = receipt_here kind in
-        let within = slice_get_within w.seat.ins w.took here.0 here.1.is in
-        let grows = receipt_grows (outs w) (ins w) w.image.slots (out_places w.image w.port w.seat good) (in_places w.image w.port w.seat good) w.sent w.took (kind_here Receive kind) in
+        let within = slice_get_within a.seat.ins a.took here.0 here.1.is in
+        let grows = receipt_grows outs ins a.view.image.slots (out_places a.view.image a.view.port a.seat good) (in_places a.view.image a.view.port a.seat good) a.sent a.took (kind_here Receive kind) in
         let slot = slot_here in
-        after w.sent (w.took + 1) stops same (counts_more (outs w) (ins w) w.at w.sent w.took Receive walks.come (kind_here Receive kind)) (omega (arith, walks.at)) walks.sent (omega arith) (omega arith)
+        after a.sent (a.took + 1) stops same (counts_more outs ins a.at a.sent a.took Receive kept.come (kind_here Receive kind)) (omega (arith, kept.at)) kept.sent (omega arith) (omega arith)
 
     -- ---- what the port within may do
 
     -- the items up to the stop after
-    pub can_run_on : (view : PortView) (slots : List ℕ) (sent took : ℕ) (next : Stop) → view.begun ≡ true → IsPort view.image view.port w.seat → view.executed ≡ stop.items → view.received ≡ took → slots ≡ w.items → IsAfter sent took next
+    pub can_run_on : (view : PortView) (slots : List ℕ) (sent took : ℕ) (next : Stop) → view.begun ≡ true → IsPort view.image view.port a.seat → view.executed ≡ stop.items → view.received ≡ took → slots ≡ a.slots → IsAfter sent took next
         → CanRun view slots stop.items next.items
     can_run_on view slots sent took next begun is from got_is same after = record {
       begun = begun;
-      seat = w.seat;
+      seat = a.seat;
       is = is;
-      slots_are = same ∙ walks.items;
+      slots_are = same ∙ kept.slots;
       from_is = from;
-      order = let grows = after.grows in front_grows w.items (stop.slot + 1) (next.slot + 1) stop.items next.items is_stop.front after.is.front (omega arith);
+      order = let grows = after.grows in front_grows a.slots (stop.slot + 1) (next.slot + 1) stop.items next.items is_stop.front after.is.front (omega arith);
       within = let within = after.is.front.within in subst (λ xs. next.items ≤ length xs) (sym same) within;
       received_before = λ k slot i link low at_k at_i less.
           let below = after.is.front.before k slot (ap (λ xs. slice_get xs k) (sym same) ∙ at_k) low in
           let place = after.is.slot in
-          let got : i < took = received_before w.seat w.image.slots sent took out_up in_up i link at_i (omega arith) in
+          let got : i < took = received_before a.seat a.view.image.slots sent took out_up in_up i link at_i (omega arith) in
           subst (λ n. i < n) (sym got_is) got;
     }
 
     -- at the end of the turn it has executed and received all
-    pub all_done : stop.kind ≡ End → (stop.items ≡ length (item_slots w.seat.work)) × (w.took ≡ length w.seat.ins)
+    pub all_done : stop.kind ≡ End → (stop.items ≡ length (item_slots a.seat.work)) × (a.took ≡ length a.seat.ins)
     all_done kind =
-        let end = (tells (outs w) (ins w) w.image.slots w.sent w.took).end (kind_here End kind) in
-        let slot : stop.slot ≡ w.image.slots = slot_here ∙ end.slot in (
-          subst (λ xs. stop.items ≡ length xs) walks.items
-              (front_all w.items (stop.slot + 1) stop.items is_stop.front
-              (λ i s there. let low = good.item_slots_within i s (ap (λ xs. slice_get xs i) (sym walks.items) ∙ there) in omega arith)),
-          let past = past_end (ins w) w.took end.no_receipt in let long = in_length in let took = walks.took in omega arith,
+        let end = (tells outs ins a.view.image.slots a.sent a.took).end (kind_here End kind) in
+        let slot : stop.slot ≡ a.view.image.slots = slot_here ∙ end.slot in (
+          subst (λ xs. stop.items ≡ length xs) kept.slots
+              (front_all a.slots (stop.slot + 1) stop.items is_stop.front
+              (λ i s there. let low = good.item_slots_within i s (ap (λ xs. slice_get xs i) (sym kept.slots) ∙ there) in omega arith)),
+          let past = past_end ins a.took end.no_receipt in let long = in_length in let took = kept.took in omega arith,
         )
