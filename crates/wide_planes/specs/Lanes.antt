@@ -1,5 +1,5 @@
 -- The values that stand side by side in wide planes.
-use Rattle.std.specs.Prelude.{ℕ, ◌+◌, ◌*◌, ◌/◌, ◌%◌, List, map, slice_index}
+use Rattle.std.specs.Prelude.{ℕ, ◌+◌, ◌*◌, ◌/◌, ◌%◌, slice_index}
 use Rattle.std.specs.Int.{bit_at}
 use Rattle.logic_four.specs.declared.V4.{V4}
 use Rattle.logic_four.specs.declared.V4.TheVariants.{Zero, One}
@@ -14,10 +14,6 @@ bit_of w k = bit_at (slice_index w.words (k / 32)) (k % 32)
 -- the value of a lane
 unfoldable pub lane_of : Wide → ℕ → V4
 lane_of p k = value_of (bit_of p.low k + 2 * bit_of p.high k)
-
--- the values of a lane of a list of planes
-abbrev pub lane_row : ℕ → List Wide → List V4
-lane_row k row = map (λ p. lane_of p k) row
 
 -- 1 where one value is 0 and the other 1
 abbrev pub opposite : V4 → V4 → ℕ
