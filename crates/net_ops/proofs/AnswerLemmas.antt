@@ -17,7 +17,8 @@ use Rattle.net_defs.specs.declared.netlist.Driver.TheVariants.{Input, Gate, Dff,
 use Rattle.net_defs.specs.Time.{value_at}
 use Rattle.net_defs.specs.Valid.{IsValid, IsSignal, IsDrivable}
 use Rattle.net_defs.specs.Steps.{State, values_of, act_of, words_of, output_bit}
-use Rattle.net_ops.specs.Places.{place_count, last_row}
+use Rattle.net_ops.specs.Places.{place_count}
+use Rattle.net_ops.specs.code.Places.{last_row}
 use Rattle.net_ops.specs.code.Rams.{ReadsWithin, act_over}
 use Rattle.net_ops.specs.code.States.{output_value, is_driven_below, is_answered, Answers}
 use Rattle.net_ops.specs.code.Values.{IsStagedTo, Puts}

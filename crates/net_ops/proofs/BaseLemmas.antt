@@ -20,7 +20,7 @@ use Rattle.net_defs.specs.Loops.{is_gate, is_gate_driver}
 use Rattle.net_ops.specs.declared.step.Phase.{Phase}
 use Rattle.net_ops.specs.declared.step.Phase.TheVariants as phase
 use Rattle.net_ops.specs.Lanes.{forced}
-use Rattle.net_ops.specs.Places.{last_row}
+use Rattle.net_ops.specs.code.Places.{last_row}
 use Rattle.net_ops.specs.Schedules.{AreSources}
 use Rattle.net_ops.specs.code.States.{base_value, by_phase, driven_by, Answers, AreBases, HasSources}
 use Rattle.net_ops.proofs.AnswerLemmas.{answered, last_value, unanswered}

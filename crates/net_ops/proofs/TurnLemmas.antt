@@ -22,7 +22,8 @@ use Rattle.net_defs.specs.Loops.{is_gate, is_gate_driver}
 use Rattle.net_ops.specs.declared.step.Phase.{Phase}
 use Rattle.net_ops.specs.declared.step.Phase.TheVariants as phase
 use Rattle.net_ops.specs.Lanes.{forced}
-use Rattle.net_ops.specs.Places.{place_count, row_of, last_row}
+use Rattle.net_ops.specs.Places.{place_count, row_of}
+use Rattle.net_ops.specs.code.Places.{last_row}
 use Rattle.net_ops.specs.Schedules.{here_value, operand_place}
 use Rattle.net_ops.specs.States.{AreShaped}
 use Rattle.net_ops.specs.code.States.{driven_by, words_by_phase, Assigns, HasHeld, HasSources, StepsBy, WordsBy}

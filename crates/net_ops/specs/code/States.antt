@@ -16,7 +16,7 @@ use Rattle.net_ops.specs.declared.state.LaneState.{LaneState}
 use Rattle.net_ops.specs.declared.step.Phase.{Phase}
 use Rattle.net_ops.specs.declared.step.Phase.TheVariants as phase
 use Rattle.net_ops.specs.Lanes.{forced, lane_row}
-use Rattle.net_ops.specs.Places.{last_row}
+use Rattle.net_ops.specs.code.Places.{last_row}
 use Rattle.logic_four.specs.Values.{settled}
 use Rattle.net_defs.specs.declared.timing.Timing.{Timing}
 use Rattle.net_defs.specs.Loops.{is_gate_driver}
