@@ -7,7 +7,7 @@ ghost use Rattle.fault_sim.specs.code.Lanes.{lane_of, pair_value, stuck_in, wide
 use crate::force::Forces;
 use logic_four::{Kind, V4, lone_kind};
 use net_ops::Wire;
-use wide_planes::{Wide, forced, gate_two, in_all_lanes, lane, with_lane};
+use wide_planes::{Wide, forced, gate_two, in_all_lanes, lane, settle_planes, with_lane};
 
 /// The values of a place in all lanes.
 #[derive(Clone, Copy)]
@@ -36,6 +36,13 @@ impl Wire for Lanes {
     fn of(v: V4) -> Lanes {
         Lanes {
             planes: in_all_lanes(v),
+        }
+    }
+
+    #[inline]
+    fn settled(self) -> Lanes {
+        Lanes {
+            planes: settle_planes(self.planes),
         }
     }
 

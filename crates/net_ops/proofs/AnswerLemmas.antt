@@ -16,12 +16,11 @@ use Rattle.net_defs.specs.declared.netlist.Driver.{Driver}
 use Rattle.net_defs.specs.declared.netlist.Driver.TheVariants.{Input, Gate, Dff, BlockBit}
 use Rattle.net_defs.specs.Time.{value_at}
 use Rattle.net_defs.specs.Valid.{IsValid, IsSignal, IsDrivable}
-use Rattle.net_defs.specs.Steps.{State, values_of, act_of, words_of}
-use Rattle.net_ops.specs.declared.schedule.Role.TheVariants as role
-use Rattle.net_ops.specs.Places.{place_count, last_row}
-use Rattle.net_ops.specs.Schedules.{has_role, driver_has_role}
+use Rattle.net_defs.specs.Steps.{State, values_of, act_of, words_of, output_bit}
+use Rattle.net_ops.specs.Places.{place_count}
+use Rattle.net_ops.specs.code.Places.{last_row}
 use Rattle.net_ops.specs.code.Rams.{ReadsWithin, act_over}
-use Rattle.net_ops.specs.code.States.{output_value, is_driven_below, is_answered, Answers, Assigns}
+use Rattle.net_ops.specs.code.States.{output_value, is_driven_below, is_answered, Answers}
 use Rattle.net_ops.specs.code.Values.{IsStagedTo, Puts}
 use Rattle.net_ops.proofs.Waits.{map_same}
 
@@ -146,24 +145,16 @@ answers_none net old values = record {
   none p None at = rw at refl
   none p (Some signal) at = rw at (by_driver signal.driver)
 
--- all memories have answered
-pub answers_assign : (net : Netlist) (valid : IsValid net) (old : State) (values new : List V4) → Answers net old (length net.blocks) values new → Assigns (has_role net role.Output) (output_value net old) values new
-answers_assign net valid old values new answers = record {
-  long = answers.long;
-  here = λ s plays. answers.each s ∙ ap (λ b. if b then output_value net old s else value_at values s) (both s (slice_get net.signals s) refl ∙ plays);
-  others = λ p none. answers.each p ∙ ap (λ b. if b then output_value net old p else value_at values p) (both p (slice_get net.signals p) refl ∙ none);
-} where
-  by_driver : (s : ℕ) (signal : Signal) → slice_get net.signals s ≡ Some signal → (driver : Driver) → signal.driver ≡ driver → is_driven_below (length net.blocks) driver ≡ driver_has_role role.Output driver
-  by_driver s signal at Input driver = refl
-  by_driver s signal at (Gate kind ops) driver = refl
-  by_driver s signal at (Dff op) driver = refl
-  by_driver s signal at (BlockBit memory bit) driver =
-      let drives : IsDrivable net s (BlockBit memory bit) = subst (IsDrivable net s) driver (valid.drivers s signal at) in
-      let below = slice_get_within net.blocks memory drives.0 drives.1 in
-      lt_true memory (length net.blocks) below where
-        lt_true : (a b : ℕ) → a < b → nat_lt a b ≡ true
-        lt_true a b less = grind (arith, nat_tests)
+-- all memories have answered: an output has its value, and what is none stays
+pub answered : (net : Netlist) (valid : IsValid net) (old : State) (values new : List V4) → Answers net old (length net.blocks) values new
+    → (s memory bit : ℕ) (signal : Signal) → slice_get net.signals s ≡ Some signal → signal.driver ≡ BlockBit memory bit → value_at new s ≡ output_bit net old memory bit
+answered net valid old values new answers s memory bit signal at driver =
+    let drives : IsDrivable net s (BlockBit memory bit) = subst (IsDrivable net s) driver (valid.drivers s signal at) in
+    let below : memory < length net.blocks = slice_get_within net.blocks memory drives.0 drives.1 in
+    let test : is_answered net (length net.blocks) s ≡ true = rw (at, driver) (grind (arith, nat_tests, below)) in
+    let value : output_value net old s ≡ output_bit net old memory bit = rw (at, driver) refl in
+    answers.each s ∙ (ap (λ b. if b then output_value net old s else value_at values s) test ∙ value)
 
-  both : (s : ℕ) (found : Option Signal) → slice_get net.signals s ≡ found → is_answered net (length net.blocks) s ≡ has_role net role.Output s
-  both s None at = rw at refl
-  both s (Some signal) at = rw at (by_driver s signal at signal.driver refl)
+pub unanswered : (net : Netlist) (old : State) (values new : List V4) → Answers net old (length net.blocks) values new → (s : ℕ) → value_at new (length net.signals + s) ≡ value_at values (length net.signals + s)
+unanswered net old values new answers s =
+    answers.each (length net.signals + s) ∙ ap (λ b. if b then output_value net old (length net.signals + s) else value_at values (length net.signals + s)) (past_none net (length net.blocks) s)

@@ -1,7 +1,6 @@
--- What is given to the signals of a role, in one lane.
-use Rattle.std.proofs.Common.{◌≡◌, ◌≢◌, ◌∙◌, ℕ, ◌<◌, ◌≤◌, Bool, true, List, length, get_or, sym, ap, subst, arith, Option}
+-- What the operations of gates give, in one lane.
+use Rattle.std.proofs.Common.{◌≡◌, ◌∙◌, ℕ, ◌<◌, Bool, true, List, length, get_or, sym, ap, subst, arith, Option}
 use Rattle.std.specs.List.{Contains, refill, All}
-use Rattle.std.proofs.lemmas.List.{get_or_default}
 use Rattle.logic_four.specs.declared.V4.{V4}
 use Rattle.net_defs.specs.declared.netlist.Netlist.{Netlist}
 use Rattle.net_defs.specs.declared.timing.Timing.{Timing}
@@ -9,58 +8,12 @@ use Rattle.net_defs.specs.Time.{value_at}
 use Rattle.list_laws.proofs.Places.{place_of}
 use Rattle.list_laws.proofs.Members.{refill_whole}
 use Rattle.net_ops.specs.declared.ops.PairOp.{PairOp}
-use Rattle.net_ops.specs.declared.schedule.Role.{Role}
 use Rattle.net_ops.specs.Lanes.{forced, lane_row}
 use Rattle.net_ops.specs.Ops.{follow, IsWithin}
 use Rattle.net_ops.specs.Places.{place_count}
-use Rattle.net_ops.specs.Schedules.{has_role, here_value, ListsRole, Settles}
+use Rattle.net_ops.specs.Schedules.{here_value, Settles}
 use Rattle.net_ops.specs.code.States.{Assigns}
-use Rattle.net_ops.specs.code.Values.{Holds, Puts}
 use Rattle.net_ops.proofs.LaneLemmas.{lane_long}
-use Rattle.net_ops.proofs.ScheduleLemmas.{role_within}
-
--- what is given may be said in another way
-pub assigns_as : (which : ℕ → Bool) (f g : ℕ → V4) (old new : List V4) → ((s : ℕ) → which s ≡ true → f s ≡ g s) → Assigns which f old new → Assigns which g old new
-assigns_as which f g old new same assigns = record {
-  long = assigns.long;
-  here = λ s plays. assigns.here s plays ∙ same s plays;
-  others = assigns.others;
-}
-
-module _ (net : Netlist) (part : Role) (list now_list : List ℕ) (lists : ListsRole net part list) (same_list : now_list ≡ list) where
-  -- where a signal of the role stands
-  there : (s : ℕ) → has_role net part s ≡ true → (k : ℕ) × (k < length now_list) × (get_or now_list k 0 ≡ s)
-  there s plays =
-      let at = place_of list s (lists.each s plays) in
-      (at.0, omega (arith, at.1, ap length same_list), ap (λ xs. get_or xs at.0 0) same_list ∙ at.2)
-
-  -- what is no signal of the role stands nowhere
-  nowhere : (p k : ℕ) → has_role net part p ≢ true → k < length now_list → get_or now_list k 0 ≡ p → ⊥
-  nowhere p k none below same_place =
-      none (ap (has_role net part) (sym same_place ∙ ap (λ xs. get_or xs k 0) same_list) ∙ lists.all k (omega (arith, below, ap length same_list)))
-
-  -- what was put for the signals of a role
-  pub puts_assigns : (f : ℕ → V4) (old new : List V4) → length old ≡ place_count net → Puts now_list f (length now_list) old new → Assigns (has_role net part) f old new
-  puts_assigns f old new long puts = record {
-    long = puts.signals;
-    here = λ s plays.
-        let at = there s plays in
-        let room : get_or now_list at.0 0 < length old = omega (arith, at.2, role_within net part s plays, long) in
-        ap (value_at new) (sym at.2) ∙ (puts.inside at.0 at.1 room ∙ ap f at.2);
-    others = λ p none. puts.outside p (λ k below. nowhere p k (λ plays. let no = none in cc) below);
-  }
-
-  -- what was assigned to the signals of a role, and then held
-  pub holds_assigns : (f : ℕ → V4) (stuck : ℕ → Option V4) (old mid new : List V4) → Assigns (has_role net part) f old mid → Holds now_list stuck (length now_list) mid new
-      → Assigns (has_role net part) (λ s. forced (stuck s) (f s)) old new
-  holds_assigns f stuck old mid new assigns holds = record {
-    long = holds.signals ∙ assigns.long;
-    here = λ s plays.
-        let at = there s plays in
-        ap (value_at new) (sym at.2)
-        ∙ (holds.inside at.0 at.1 ∙ (ap (λ t. forced (stuck t) (value_at mid t)) at.2 ∙ ap (forced (stuck s)) (assigns.here s plays)));
-    others = λ p none. holds.outside p (λ k below. nowhere p k (λ plays. let no = none in cc) below) ∙ assigns.others p none;
-  }
 
 -- what the operations of a list settle in a lane of a row that was lent
 module _ {W F : Type 0} (lane : W → ℕ → V4) (answer : F → V4 → V4 → V4) (is_form : F → Type 0) (net : Netlist) (timing : Timing) (stuck : ℕ → Option V4) (l : ℕ) where

@@ -1,5 +1,6 @@
 mod AnswerLemmas
 mod AssignLemmas
+mod BaseLemmas
 mod LaneLemmas
 mod Memories
 pub mod OpLemmas

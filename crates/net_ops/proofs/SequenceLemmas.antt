@@ -8,7 +8,6 @@ use Rattle.std.proofs.lemmas.List.Sums.{fold-append}
 use Rattle.list_laws.proofs.Places.{Contains-at}
 use Rattle.logic_four.specs.declared.V4.{V4}
 use Rattle.logic_four.specs.declared.Kind.{Kind}
-use Rattle.logic_four.specs.Values.{settled}
 use Rattle.logic_four.specs.Gates.{gate_value}
 use Rattle.net_defs.specs.declared.netlist.Netlist.{Netlist}
 use Rattle.net_defs.specs.declared.netlist.Signal.{Signal}
@@ -17,16 +16,18 @@ use Rattle.net_defs.specs.declared.netlist.Driver.TheVariants.{Input, Gate, Dff,
 use Rattle.net_defs.specs.declared.timing.Timing.{Timing}
 use Rattle.net_defs.specs.Time.{value_at}
 use Rattle.net_defs.specs.Steps.{is_late}
-use Rattle.net_defs.specs.Valid.{IsValid, IsSignal, IsDrivable}
-use Rattle.net_defs.specs.Loops.{waits_for}
+use Rattle.net_defs.specs.Valid.{IsValid}
+use Rattle.net_defs.specs.Loops.{is_gate, is_gate_driver, waits_for, IsOrder}
 use Rattle.list_laws.proofs.Ranges.{last_or}
 use Rattle.net_ops.specs.declared.ops.PairOp.{PairOp}
 use Rattle.net_ops.specs.Lanes.{forced}
 use Rattle.net_ops.specs.Ops.{do_op, follow, IsWithin}
 use Rattle.net_ops.specs.Places.{place_count}
-use Rattle.net_ops.specs.Schedules.{operand_place, here_driven, here_value, has_ops, Settles}
-use Rattle.net_ops.specs.code.Sequences.{IsSequence, Adds, settled_by_ops}
+use Rattle.net_ops.specs.Schedules.{operand_place, here_driven, here_value, Settles}
+use Rattle.net_ops.specs.code.Sequences.{Adds}
+use Rattle.rank_find.proofs.NumberLemmas.{gate_within}
 use Rattle.net_ops.proofs.OpLemmas.{adds_as}
+use Rattle.net_ops.proofs.ScheduleLemmas.{order_reads}
 use Rattle.net_ops.proofs.Waits.{map_same, late_or, operand_low, waits_here}
 
 -- where the operands of a gate begin, which doesn't read its own place
@@ -73,28 +74,25 @@ module _ {F : Type 0} (answer : F → V4 → V4 → V4) (is_form : F → Type 0)
           ap (value_at before) place ∙ (sym (same o (apart early)) ∙ ap (value_at after) (sym place))
     ]
 
-    -- a gate or a register that does not wait for that place
-    pub here_same : (s : ℕ) → settled_by_ops net s ≡ true → ((o : ℕ) → Contains (waits_for net timing s) o → o ≢ g) → here_value net timing s before ≡ here_value net timing s after
-    here_same s by_ops apart = by_signal (slice_get net.signals s) refl where
-      by_driver : (signal : Signal) → slice_get net.signals s ≡ Some signal → (driver : Driver) → signal.driver ≡ driver → has_ops driver ≡ true → here_driven net timing s before driver ≡ here_driven net timing s after driver
+    -- a gate that does not wait for that place
+    here_same : (s : ℕ) → is_gate net s ≡ true → ((o : ℕ) → Contains (waits_for net timing s) o → o ≢ g) → here_value net timing s before ≡ here_value net timing s after
+    here_same s gate apart = by_signal (slice_get net.signals s) refl where
+      by_driver : (signal : Signal) → slice_get net.signals s ≡ Some signal → (driver : Driver) → signal.driver ≡ driver → is_gate_driver driver ≡ true → here_driven net timing s before driver ≡ here_driven net timing s after driver
       by_driver signal is Input driver ops = cc
       by_driver signal is (BlockBit memory bit) driver ops = cc
-      by_driver signal is (Dff op) driver ops =
-          let within : IsSignal net op = subst (IsDrivable net s) driver (valid.drivers s signal is) in
-          let one : length net.signals + op ≢ g = omega arith in
-          ap settled (sym (same (length net.signals + op) one))
+      by_driver signal is (Dff op) driver ops = cc
       by_driver signal is (Gate kind ops) driver has =
           ap (gate_value kind) (map_same (λ o. value_at before (operand_place net timing s o)) (λ o. value_at after (operand_place net timing s o)) ops (λ o held.
           operand_same s o (operand_low net valid s signal kind ops is driver o held) (λ early. apart o (rw (waits_here net timing s signal kind ops is driver early) held))))
 
       by_signal : (found : Option Signal) → slice_get net.signals s ≡ found → here_value net timing s before ≡ here_value net timing s after
-      by_signal None is = let none : settled_by_ops net s ≡ false = rw is refl in absurd (cc)
-      by_signal (Some signal) is = rw is (by_driver signal is signal.driver refl (rw is at by_ops))
+      by_signal None is = let none : is_gate net s ≡ false = rw is refl in absurd (cc)
+      by_signal (Some signal) is = rw is (by_driver signal is signal.driver refl (rw is at gate))
 
   -- one signal more
-  pub settles_more : (net : Netlist) (timing : Timing) (valid : IsValid net) (list : List ℕ) (sequence : IsSequence net timing list) (k : ℕ) (old new : List (PairOp F)) → k < length list
+  pub settles_more : (net : Netlist) (timing : Timing) (valid : IsValid net) (list : List ℕ) (is_order : IsOrder net timing list) (k : ℕ) (old new : List (PairOp F)) → k < length list
       → Settles answer is_form net timing list k old → Adds answer is_form (length net.signals) (get_or list k 0) (here_value net timing (get_or list k 0)) old new → Settles answer is_form net timing list (k + 1) new
-  settles_more net timing valid list sequence k old new within so_far adds = record {
+  settles_more net timing valid list is_order k old new within so_far adds = record {
     within = rw adds.grown (All-append (IsWithin is_form (length net.signals) (place_count net)) old adds.ops so_far.within adds.within);
     long = λ stuck row. ap length (made stuck row) ∙ (adds.long stuck (follow answer stuck old row) ∙ so_far.long stuck row);
     here = λ stuck row i long below.
@@ -112,7 +110,7 @@ module _ {F : Type 0} (answer : F → V4 → V4 → V4) (is_form : F → Type 0)
         ∙ (adds.others stuck (follow answer stuck old row) p (λ same. other k (omega arith) (sym same)) ∙ so_far.others stuck row p (λ i below. other i (omega arith)));
   } where
     low : get_or list k 0 < length net.signals
-    low = sequence.signals k 0 within
+    low = gate_within net (get_or list k 0) (is_order.gates k 0 within)
 
     made : (stuck : ℕ → Option V4) (row : List V4) → follow answer stuck new row ≡ follow answer stuck adds.ops (follow answer stuck old row)
     made stuck row = ap (λ ops. follow answer stuck ops row) adds.grown ∙ fold-append (do_op answer stuck) row old adds.ops
@@ -123,4 +121,4 @@ module _ {F : Type 0} (answer : F → V4 → V4 → V4) (is_form : F → Type 0)
     value_now stuck row i low_i was =
         was ∙ ap (forced (stuck (get_or list i 0)))
         (here_same net timing valid (follow answer stuck old row) (follow answer stuck adds.ops (follow answer stuck old row)) (get_or list k 0) low (adds.others stuck (follow answer stuck old row)) (get_or list i 0)
-        (sequence.driven i 0 (omega (arith, low_i, within))) (λ o held. sequence.reads i k o low_i within held))
+        (is_order.gates i 0 (omega (arith, low_i, within))) (λ o held. order_reads net timing list is_order i k o low_i within held))

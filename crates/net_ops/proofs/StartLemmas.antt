@@ -13,7 +13,8 @@ use Rattle.net_defs.specs.Steps.{first_state}
 use Rattle.net_ops.specs.declared.state.LaneState.{LaneState}
 use Rattle.net_ops.specs.Lanes.{lane_row}
 use Rattle.net_ops.specs.Places.{place_count, row_of}
-use Rattle.net_ops.specs.States.{initial_memories, lane_state, AreShaped}
+use Rattle.net_ops.specs.States.{lane_state, AreShaped}
+use Rattle.net_ops.specs.code.States.{initial_memories}
 
 module _ {W : Type 0} (lane : W → ℕ → V4) where
   undefined_row : (w : W) (n l : ℕ) → lane w l ≡ Undef → lane_row lane l (replicate n w) ≡ replicate n Undef

@@ -17,8 +17,8 @@ use Rattle.net_defs.specs.Steps.{State, driven, IsRightStep}
 use Rattle.net_ops.specs.declared.step.Phase.{Phase}
 use Rattle.net_ops.specs.declared.step.Phase.TheVariants as phase
 use Rattle.net_ops.specs.Lanes.{forced}
-use Rattle.net_ops.specs.States.{by_phase, words_by_phase, driven_by, phase_at, HasHeld, StepsBy, IsForcedStep, Passes}
-use Rattle.net_ops.specs.code.States.{phase_of}
+use Rattle.net_ops.specs.States.{IsForcedStep, Passes}
+use Rattle.net_ops.specs.code.States.{by_phase, driven_by, phase_at, phase_of, words_by_phase, HasHeld, StepsBy}
 use Rattle.net_ops.proofs.OpLemmas.{forced_twice}
 
 -- a choice by the phase is the choice by the turn

@@ -1,3 +1,4 @@
+pub mod Places
 pub mod Rams
 pub mod Sequences
 pub mod States

@@ -8,9 +8,9 @@ ghost use Rattle.logic_four.specs.Folds.{takes_many};
 ghost use Rattle.net_defs.specs.Time.{value_at};
 ghost use Rattle.net_defs.specs.Steps.{is_late};
 ghost use Rattle.net_defs.specs.Valid.{IsValid, IsValidTiming, IsSignal, IsDrivable};
-ghost use Rattle.net_defs.specs.Loops.{waits_for, gate_operands};
-ghost use Rattle.net_ops.specs.Schedules.{here_driven, here_value, has_ops, Settles};
-ghost use Rattle.net_ops.specs.code.Sequences.{IsSequence, Adds, settled_by_ops};
+ghost use Rattle.net_defs.specs.Loops.{IsGate, IsOrder, is_gate_driver, waits_for, gate_operands};
+ghost use Rattle.net_ops.specs.Schedules.{here_driven, here_value, Settles};
+ghost use Rattle.net_ops.specs.code.Sequences.{Adds};
 
 use crate::ops::PairOp;
 use crate::wire::Wire;
@@ -19,7 +19,7 @@ use net_defs::{Driver, Netlist, Timing, is_late};
 use seen_list::{List, Memory};
 use std::alloc::Global;
 
-/// The operations that give these gates and registers their values, one after the other.
+/// The operations that give the gates of an order their values, one after the other.
 pub(crate) fn signal_ops<W: Wire>(
     alloc: Global,
     net: &Netlist,
@@ -28,7 +28,7 @@ pub(crate) fn signal_ops<W: Wire>(
 ) -> Result<List<PairOp<W::Form>>, Memory>
     requires valid { IsValid net.now }
     requires timing { IsValidTiming timing.now }
-    requires sequence { IsSequence net.now timing.now list.now }
+    requires order { IsOrder net.now timing.now list.now }
     ensures { IfOk result (Settles W.answer W.is_form net.now timing.now list.now (length list.now)) }
 {
     let mut ops = List::new(alloc);
@@ -38,7 +38,7 @@ pub(crate) fn signal_ops<W: Wire>(
     Ok(ops)
 }
 
-/// Adds the operations of a gate or a register.
+/// Adds the operations of a gate.
 fn push_signal<W: Wire>(
     ops: &mut List<PairOp<W::Form>>,
     net: &Netlist,
@@ -48,7 +48,7 @@ fn push_signal<W: Wire>(
     requires valid { IsValid net.now }
     requires timing { IsValidTiming timing.now }
     requires signal { IsSignal net.now signal }
-    requires driven { settled_by_ops net.now signal ≡ true }
+    requires gate { IsGate net.now signal }
     requires apart { (o : ℕ) → Contains (waits_for net.now timing.now signal) o → o ≢ signal }
     ensures { OnOk result (Adds W.answer W.is_form (length net.now.signals) signal (here_value net.now timing.now signal) ops.old ops.new) }
 {
@@ -56,8 +56,7 @@ fn push_signal<W: Wire>(
     push_driven::<W>(ops, net, timing, signal, &found.driver)
 }
 
-/// Adds the operations of a signal with this driver. A register reads the last turn, and so does a late gate.
-/// Inputs and outputs of memories have no operations.
+/// Adds the operations of a gate with this driver. A late gate reads the last turn.
 fn push_driven<W: Wire>(
     ops: &mut List<PairOp<W::Form>>,
     net: &Netlist,
@@ -68,7 +67,7 @@ fn push_driven<W: Wire>(
     requires few { length net.now.signals ≤ MAX_SIGNALS }
     requires timing { IsValidTiming timing.now }
     requires signal { IsSignal net.now signal }
-    requires driven { has_ops driver.now ≡ true }
+    requires gate { is_gate_driver driver.now ≡ true }
     requires drivable { IsDrivable net.now signal driver.now }
     requires apart { is_late net.now timing.now signal ≡ false → (o : ℕ) → Contains (gate_operands driver.now) o → o ≢ signal }
     ensures { OnOk result (Adds W.answer W.is_form (length net.now.signals) signal
@@ -76,11 +75,7 @@ fn push_driven<W: Wire>(
 {
     let count = net.signals.len() as u32;
     match driver {
-        Driver::Input => Ok(()),
-        Driver::BlockBit { .. } => Ok(()),
-        Driver::Dff { op } => {
-            push_pair(ops, W::form(Kind::Buf), signal, count + *op, count + *op)
-        }
+        Driver::Input | Driver::Dff { .. } | Driver::BlockBit { .. } => Ok(()),
         Driver::Gate {
             kind,
             ops: operands,

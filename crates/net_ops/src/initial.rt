@@ -6,7 +6,8 @@ ghost use Rattle.logic_four.specs.Memory.{initial_words};
 ghost use Rattle.net_defs.specs.Steps.{first_state};
 ghost use Rattle.net_defs.specs.Valid.{IsValid};
 ghost use Rattle.net_ops.specs.Places.{place_count};
-ghost use Rattle.net_ops.specs.States.{lane_state, initial_memories, AreShaped};
+ghost use Rattle.net_ops.specs.States.{lane_state, AreShaped};
+ghost use Rattle.net_ops.specs.code.States.{initial_memories};
 
 use crate::state::LaneState;
 use crate::wire::Wire;

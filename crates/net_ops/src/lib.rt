@@ -3,6 +3,7 @@
 //! simulation is this of a single value a place, and the runs of faults side by side are this of many.
 #![tactic(auto)]
 
+mod bases;
 mod cycle;
 mod gate_list;
 mod initial;
@@ -21,6 +22,5 @@ pub use ops::PairOp;
 pub use ram::{RamPort, make_ports};
 pub use schedule::{Schedule, make_schedule};
 pub use state::LaneState;
-pub use step::Phase;
 pub use values::gather;
 pub use wire::Wire;

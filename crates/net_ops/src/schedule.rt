@@ -1,36 +1,22 @@
-//! What is made before a run: the operations of the gates and registers, and the signals of each role.
+//! What is made before a run: the operations of the gates, and the signals that are no gates.
 
-ghost use Rattle.std.specs.Prelude.{◌≡◌, ◌<◌, ◌^◌, length, IfOk};
+ghost use Rattle.std.specs.Prelude.{◌≡◌, ◌+◌, ◌<◌, ◌^◌, length, IfOk, OnOk};
 ghost use Rattle.net_defs.specs.Loops.{IsOrder};
 ghost use Rattle.net_defs.specs.Valid.{IsValid, IsValidTiming};
-ghost use Rattle.net_ops.specs.Schedules.{driver_has_role, has_role, ListsRole, IsSchedule, Settles};
+ghost use Rattle.net_ops.specs.Schedules.{AreSources, IsSchedule};
 
 use crate::gate_list::signal_ops;
 use crate::ops::PairOp;
 use crate::wire::Wire;
-use net_defs::{Driver, Netlist, Timing};
+use net_defs::{Netlist, Timing, is_gate};
 use seen_list::{List, Memory};
 use std::alloc::Global;
 
-/// What gives a signal its value in a turn, if it is no gate.
-#[derive(Clone, Copy)]
-pub enum Role {
-    /// The stimulus.
-    Input,
-    /// A register.
-    Register,
-    /// An output of a memory.
-    Output,
-}
-
-/// The operations of all gates in an order, those of all registers, and the signals of each role.
+/// The operations of all gates in an order, and the sources: the signals that are no gates.
 #[derive(Drop)]
 pub struct Schedule<F> {
     pub(crate) gate_ops: List<PairOp<F>>,
-    pub(crate) register_ops: List<PairOp<F>>,
-    pub(crate) inputs: List<u32>,
-    pub(crate) registers: List<u32>,
-    pub(crate) outputs: List<u32>,
+    pub(crate) sources: List<u32>,
 }
 
 /// The schedule of an order.
@@ -45,55 +31,29 @@ pub fn make_schedule<W: Wire>(
     requires order { IsOrder net.now timing.now order.now }
     ensures { IfOk result (IsSchedule W.answer W.is_form net.now timing.now) }
 {
+    let sources = make_sources(alloc, net)?;
     let gate_ops = signal_ops::<W>(alloc, net, timing, order)?;
-    let (registers, register_ops) = register_schedule::<W>(alloc, net, timing)?;
-    let inputs = signals_of(alloc, net, Role::Input)?;
-    let outputs = signals_of(alloc, net, Role::Output)?;
-    Ok(Schedule {
-        gate_ops,
-        register_ops,
-        inputs,
-        registers,
-        outputs,
-    })
+    Ok(Schedule { gate_ops, sources })
 }
 
-/// The registers, and their operations.
-fn register_schedule<W: Wire>(
-    alloc: Global,
-    net: &Netlist,
-    timing: &Timing,
-) -> Result<(List<u32>, List<PairOp<W::Form>>), Memory>
-    requires valid { IsValid net.now }
-    requires timing { IsValidTiming timing.now }
-    ensures registers { IfOk result (λ made. ListsRole net.now Role.Register made.0) }
-    ensures ops { IfOk result (λ made. Settles W.answer W.is_form net.now timing.now made.0 (length made.0) made.1) }
-{
-    let registers = signals_of(alloc, net, Role::Register)?;
-    let ops = signal_ops::<W>(alloc, net, timing, registers.as_slice())?;
-    Ok((registers, ops))
-}
-
-fn signals_of(alloc: Global, net: &Netlist, role: Role) -> Result<List<u32>, Memory>
+fn make_sources(alloc: Global, net: &Netlist) -> Result<List<u32>, Memory>
     requires { IsValid net.now }
-    ensures { IfOk result (ListsRole net.now role) }
+    ensures { IfOk result (AreSources net.now (length net.now.signals)) }
 {
-    let mut list = List::new(alloc);
-    for signal in 0..net.signals.len() as u32 {
-        if driver_has_role(role, &net.signals.as_slice()[signal as usize].driver) {
-            list.push(signal)?;
-        }
+    let mut sources = List::new(alloc);
+    'signals: for s in 0..net.signals.len() as u32 {
+        push_source(&mut sources, net, s)?;
     }
-    Ok(list)
+    Ok(sources)
 }
 
-fn driver_has_role(role: Role, driver: &Driver) -> bool
-    ensures { result ≡ driver_has_role role driver.now }
+/// Adds a signal if it is a source. Those before it are there.
+fn push_source(sources: &mut List<u32>, net: &Netlist, s: u32) -> Result<(), Memory>
+    requires { AreSources net.now s sources.old }
+    ensures { OnOk result (AreSources net.now (s + 1) sources.new) }
 {
-    match (role, driver) {
-        (Role::Input, Driver::Input) => true,
-        (Role::Register, Driver::Dff { .. }) => true,
-        (Role::Output, Driver::BlockBit { .. }) => true,
-        _ => false,
+    if is_gate(net, s) {
+        return Ok(());
     }
+    sources.push(s)
 }

@@ -1,31 +1,30 @@
 //! One turn, in place, in all lanes at once.
 
 ghost use Rattle.std.specs.Prelude.{◌≡◌, ◌<◌, ◌≤◌, ℕ, [], length, slice_index_or};
-ghost use Rattle.net_defs.specs.Time.{value_at, initial_value};
 ghost use Rattle.net_defs.specs.Valid.{IsValid};
 ghost use Rattle.net_defs.specs.Loops.{is_gate};
-ghost use Rattle.net_ops.specs.declared.schedule.Role.TheVariants as role;
 ghost use Rattle.net_ops.specs.Lanes.{forced, lane_row};
 ghost use Rattle.net_ops.specs.Places.{place_count, row_of};
 ghost use Rattle.net_ops.specs.Rams.{ArePorts};
-ghost use Rattle.net_ops.specs.Schedules.{has_role, here_value, ListsRole, IsSchedule};
-ghost use Rattle.net_ops.specs.States.{lane_state, phase_at, HasHeld, IsReady, StepsBy};
-ghost use Rattle.net_ops.specs.code.States.{last_state, output_value, by_phase, Assigns, WordsBy};
+ghost use Rattle.net_ops.specs.Schedules.{here_value, AreSources, IsSchedule};
+ghost use Rattle.net_ops.specs.States.{lane_state, IsReady};
+ghost use Rattle.net_ops.specs.code.States.{last_state, phase_at, Assigns, HasHeld, HasSources, StepsBy, WordsBy};
 ghost use Rattle.net_ops.specs.code.Values.{Keeps};
 
+use crate::bases::set_bases;
 use crate::ops::do_ops;
 use crate::ram::{RamPort, edge_memories};
 use crate::schedule::Schedule;
 use crate::state::LaneState;
-use crate::values::{fill, hold, keep, put_inputs};
+use crate::values::keep;
 use crate::wire::Wire;
 use logic_four::V4;
-use net_defs::{Netlist, Timing, initial_value};
+use net_defs::{Netlist, Timing};
 use seen_list::List;
 
 /// Where a turn stands in its cycle.
 #[derive(Clone, Copy)]
-pub enum Phase {
+pub(crate) enum Phase {
     /// Turn 1.
     Start,
     /// The first turn of a later cycle.
@@ -35,7 +34,7 @@ pub enum Phase {
 }
 
 /// The phase of a turn by its place in its cycle, counted from 0, and whether its cycle is the first.
-pub fn phase_at(is_first: bool, place: u32) -> Phase
+pub(crate) fn phase_at(is_first: bool, place: u32) -> Phase
     ensures { result ≡ phase_at is_first place }
 {
     if place != 0 {
@@ -49,7 +48,7 @@ pub fn phase_at(is_first: bool, place: u32) -> Phase
 
 /// Takes the state through a turn in each lane that runs. A signal that is stuck keeps its value. In a turn within
 /// a cycle the inputs stay as they are.
-pub fn turn<W: Wire>(
+pub(crate) fn turn<W: Wire>(
     state: &mut LaneState<W>,
     ports: &mut List<RamPort>,
     net: &Netlist,
@@ -71,9 +70,16 @@ pub fn turn<W: Wire>(
     ensures lanes { length state.new.memories ≡ length state.old.memories }
 {
     keep_row(&mut state.values, net);
-    set_outputs(state, ports, net, timing, schedule, forces, phase);
-    set_registers(&mut state.values, net, timing, schedule, forces, phase);
-    set_inputs(&mut state.values, net, schedule, forces, phase, inputs);
+    set_sources(
+        state,
+        ports,
+        net,
+        timing,
+        schedule.sources.as_slice(),
+        forces,
+        phase,
+        inputs,
+    );
     set_gates(&mut state.values, net, timing, schedule, forces);
 }
 
@@ -85,98 +91,52 @@ fn keep_row<W: Wire>(row: &mut List<W>, net: &Netlist)
     keep(row.as_mut_slice(), net.signals.len());
 }
 
-/// Gives the outputs of memories their values, and takes each memory through an edge, if this turn is one.
-fn set_outputs<W: Wire>(
+/// Gives the sources their values, and takes the memories of each lane through an edge, if this turn is one.
+fn set_sources<W: Wire>(
     state: &mut LaneState<W>,
     ports: &mut List<RamPort>,
     net: &Netlist,
     timing: &Timing,
-    schedule: &Schedule<W::Form>,
+    sources: &[u32],
     forces: &W::Forces,
     phase: Phase,
+    inputs: &[V4],
 )
     requires valid { IsValid net.now }
-    requires list { ListsRole net.now role.Output schedule.now.outputs }
+    requires sources { AreSources net.now (length net.now.signals) sources.now }
     requires ready { IsReady W.lanes net.now state.old ports.old }
     requires forces { (s : ℕ) → s < length net.now.signals → W.tells forces.now s }
     ensures long { length state.new.values ≡ length state.old.values }
-    ensures outputs { (l : ℕ) → l < length state.old.memories → Assigns (has_role net.now role.Output)
-        (λ s. by_phase phase (forced (W.held forces.now l s) (initial_value timing.now.init))
-        (forced (W.held forces.now l s) (output_value net.now (last_state W.lane net.now l state.old) s)) (value_at (lane_row W.lane l state.old.values) s))
-        (lane_row W.lane l state.old.values) (lane_row W.lane l state.new.values) }
+    ensures sources { (l : ℕ) → l < length state.old.memories
+        → HasSources net.now timing.now (W.held forces.now l) phase inputs.now (last_state W.lane net.now l state.old) (lane_row W.lane l state.old.values) (lane_row W.lane l state.new.values) }
     ensures lanes { length state.new.memories ≡ length state.old.memories }
     ensures words { (l : ℕ) → l < length state.old.memories
         → WordsBy net.now phase (last_state W.lane net.now l state.old) (slice_index_or state.new.memories l []) }
     ensures ports { ArePorts net.now ports.new }
 {
     match phase {
-        Phase::Start => fill(
+        Phase::Start => set_bases(
             &mut state.values,
-            schedule.outputs.as_slice(),
+            net,
+            timing,
+            sources,
             forces,
-            initial_value(timing.init),
+            phase,
+            inputs,
         ),
         Phase::Edge => {
             edge_memories(&mut state.values, &mut state.memories, ports, net);
-            hold(&mut state.values, schedule.outputs.as_slice(), forces);
+            set_bases(
+                &mut state.values,
+                net,
+                timing,
+                sources,
+                forces,
+                phase,
+                inputs,
+            );
         }
         Phase::Within => {}
-    }
-}
-
-/// Gives the registers their values. At an edge they take those of the last turn.
-fn set_registers<W: Wire>(
-    row: &mut List<W>,
-    net: &Netlist,
-    timing: &Timing,
-    schedule: &Schedule<W::Form>,
-    forces: &W::Forces,
-    phase: Phase,
-)
-    requires schedule { IsSchedule W.answer W.is_form net.now timing.now schedule.now }
-    requires long { length row.old ≡ place_count net.now }
-    requires forces { (s : ℕ) → s < length net.now.signals → W.tells forces.now s }
-    ensures long { length row.new ≡ length row.old }
-    ensures registers { (l : ℕ) → l < W.lanes → Assigns (has_role net.now role.Register)
-        (λ s. by_phase phase (forced (W.held forces.now l s) (initial_value timing.now.init))
-        (forced (W.held forces.now l s) (here_value net.now timing.now s (lane_row W.lane l row.new))) (value_at (lane_row W.lane l row.old) s))
-        (lane_row W.lane l row.old) (lane_row W.lane l row.new) }
-{
-    match phase {
-        Phase::Start => fill(
-            row,
-            schedule.registers.as_slice(),
-            forces,
-            initial_value(timing.init),
-        ),
-        Phase::Edge => do_ops(row.as_mut_slice(), forces, schedule.register_ops.as_slice()),
-        Phase::Within => {}
-    }
-}
-
-/// Gives the inputs the values of a new cycle.
-fn set_inputs<W: Wire>(
-    row: &mut List<W>,
-    net: &Netlist,
-    schedule: &Schedule<W::Form>,
-    forces: &W::Forces,
-    phase: Phase,
-    inputs: &[V4],
-)
-    requires list { ListsRole net.now role.Input schedule.now.inputs }
-    requires long { length row.old ≡ place_count net.now }
-    requires forces { (s : ℕ) → s < length net.now.signals → W.tells forces.now s }
-    ensures long { length row.new ≡ length row.old }
-    ensures inputs { (l : ℕ) → l < W.lanes → Assigns (has_role net.now role.Input)
-        (λ s. by_phase phase (forced (W.held forces.now l s) (value_at inputs.now s))
-        (forced (W.held forces.now l s) (value_at inputs.now s)) (value_at (lane_row W.lane l row.old) s))
-        (lane_row W.lane l row.old) (lane_row W.lane l row.new) }
-{
-    match phase {
-        Phase::Within => {}
-        Phase::Start | Phase::Edge => {
-            put_inputs(row, schedule.inputs.as_slice(), forces, inputs);
-        }
     }
 }
 

@@ -3,8 +3,8 @@
 ghost use Rattle.std.specs.Prelude.{◌≡◌, ◌≢◌, ℕ, ◌+◌, ◌<◌, ◌≤◌, length, map, All};
 ghost use Rattle.logic_four.specs.declared.V4.{V4};
 ghost use Rattle.net_defs.specs.Time.{value_at};
-ghost use Rattle.net_ops.specs.Lanes.{forced, lane_row};
-ghost use Rattle.net_ops.specs.code.Values.{Holds, Puts, IsStagedTo, Keeps};
+ghost use Rattle.net_ops.specs.Lanes.{lane_row};
+ghost use Rattle.net_ops.specs.code.Values.{Puts, IsStagedTo, Keeps};
 
 use crate::wire::Wire;
 use logic_four::V4;
@@ -17,62 +17,6 @@ pub(crate) fn keep<W: Wire>(row: &mut [W], count: usize)
 {
     let (this, rest) = row.split_at_mut(count);
     rest[..count].copy_from_slice(this);
-}
-
-/// Puts one value into the places of a list, or what they are stuck at.
-pub(crate) fn fill<W: Wire>(row: &mut List<W>, list: &[u32], forces: &W::Forces, v: V4)
-    requires places { All (λ s. s < length row.old) list.now }
-    requires forces { All (W.tells forces.now) list.now }
-    ensures long { length row.new ≡ length row.old }
-    ensures lanes { (l : ℕ) → l < W.lanes
-        → Puts list.now (λ s. forced (W.held forces.now l s) v) (length list.now) (lane_row W.lane l row.old) (lane_row W.lane l row.new) }
-{
-    'signals: for s in list {
-        row.set(*s as usize, W::of(v).forced(forces, *s));
-    }
-}
-
-/// Puts the values that a row of a stimulus has for some inputs into their places, or what they are stuck at. An
-/// input that the row has no value for is undefined.
-pub(crate) fn put_inputs<W: Wire>(
-    row: &mut List<W>,
-    list: &[u32],
-    forces: &W::Forces,
-    inputs: &[V4],
-)
-    requires places { All (λ s. s < length row.old) list.now }
-    requires forces { All (W.tells forces.now) list.now }
-    ensures long { length row.new ≡ length row.old }
-    ensures lanes { (l : ℕ) → l < W.lanes
-        → Puts list.now (λ s. forced (W.held forces.now l s) (value_at inputs.now s)) (length list.now) (lane_row W.lane l row.old) (lane_row W.lane l row.new) }
-{
-    'signals: for s in list {
-        let v = input_value(inputs, *s);
-        row.set(*s as usize, W::of(v).forced(forces, *s));
-    }
-}
-
-fn input_value(inputs: &[V4], signal: u32) -> V4
-    ensures { result ≡ value_at inputs.now signal }
-{
-    match inputs.get(signal as usize) {
-        Some(v) => *v,
-        None => V4::Undef,
-    }
-}
-
-/// Puts into the places of a list what they are stuck at.
-pub(crate) fn hold<W: Wire>(row: &mut List<W>, list: &[u32], forces: &W::Forces)
-    requires places { All (λ s. s < length row.old) list.now }
-    requires forces { All (W.tells forces.now) list.now }
-    ensures long { length row.new ≡ length row.old }
-    ensures lanes { (l : ℕ) → l < W.lanes
-        → Holds list.now (W.held forces.now l) (length list.now) (lane_row W.lane l row.old) (lane_row W.lane l row.new) }
-{
-    'signals: for s in list {
-        let here = row.as_slice()[*s as usize];
-        row.set(*s as usize, here.forced(forces, *s));
-    }
 }
 
 /// Puts values into the places of a list in one lane, in their order.

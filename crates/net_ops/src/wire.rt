@@ -2,13 +2,14 @@
 
 ghost use Rattle.std.specs.Prelude.{◌≡◌, ◌≢◌, ◌∷◌, [], ℕ, ◌<◌, Option, None};
 ghost use Rattle.logic_four.specs.declared.V4.{V4};
+ghost use Rattle.logic_four.specs.Values.{settled};
 ghost use Rattle.logic_four.specs.Gates.{gate_value};
 ghost use Rattle.logic_four.specs.Kinds.{AllowsOperands};
 ghost use Rattle.net_ops.specs.Lanes.{forced};
 ghost use Rattle.net_ops.specs.Tables.{table_value};
 
 use crate::tables::{pair_table, table_value};
-use logic_four::{Kind, V4, lone_kind};
+use logic_four::{Kind, V4, lone_kind, settle};
 
 /// What stands in a place of a row, with a value in each of its lanes: a single `V4` is the value of its one lane.
 pub trait Wire: Copy {
@@ -39,6 +40,10 @@ pub trait Wire: Copy {
     /// The value in each lane.
     fn of(v: V4) -> Self
         ensures { (l : ℕ) → l < lanes → lane result l ≡ v };
+
+    /// Each lane settled.
+    fn settled(self) -> Self
+        ensures { (l : ℕ) → l < lanes → lane result l ≡ settled (lane self l) };
 
     /// How a gate of this kind is known.
     fn form(kind: Kind) -> Self::Form
@@ -95,6 +100,11 @@ impl Wire for V4 {
     #[inline]
     fn of(v: V4) -> V4 {
         v
+    }
+
+    #[inline]
+    fn settled(self) -> V4 {
+        settle(self)
     }
 
     #[inline]

@@ -1,5 +1,5 @@
 -- Beside specs/States.antt, what only private functions and proofs cite.
-use Rattle.std.specs.Prelude.{◌≡◌, ℕ, ◌<◌, ◌≤◌, ◌==◌, Bool, true, false, nat_lt, if◌then◌else◌, List, [], length, Option, Some, None, slice_get, slice_index_or}
+use Rattle.std.specs.Prelude.{◌≡◌, ◌≢◌, ℕ, ◌+◌, ◌<◌, ◌≤◌, ◌==◌, Bool, true, false, nat_lt, if◌then◌else◌, List, [], length, map, IsTrue, Option, Some, None, slice_get, slice_index, slice_index_or}
 use Rattle.logic_four.specs.declared.V4.{V4}
 use Rattle.logic_four.specs.declared.V4.TheVariants.{Undef}
 use Rattle.net_defs.specs.declared.netlist.Netlist.{Netlist}
@@ -7,14 +7,19 @@ use Rattle.net_defs.specs.declared.netlist.Signal.{Signal}
 use Rattle.net_defs.specs.declared.netlist.Block.{Block}
 use Rattle.net_defs.specs.declared.netlist.Driver.{Driver}
 use Rattle.net_defs.specs.declared.netlist.Driver.TheVariants.{Input, Gate, Dff, BlockBit}
-use Rattle.net_defs.specs.Time.{value_at, is_edge}
-use Rattle.net_defs.specs.Steps.{State, act_of, words_of, output_bit}
+use Rattle.net_defs.specs.Time.{value_at, is_edge, initial_value}
+use Rattle.net_defs.specs.Valid.{is_input}
+use Rattle.net_defs.specs.Steps.{State, values_of, is_late, act_of, words_of, output_bit}
+use Rattle.logic_four.specs.Gates.{gate_value}
+use Rattle.logic_four.specs.Memory.{initial_words}
 use Rattle.net_ops.specs.declared.state.LaneState.{LaneState}
 use Rattle.net_ops.specs.declared.step.Phase.{Phase}
 use Rattle.net_ops.specs.declared.step.Phase.TheVariants as phase
-use Rattle.net_ops.specs.Lanes.{lane_row}
-use Rattle.net_ops.specs.Places.{last_row}
-pub use Rattle.net_ops.specs.States.{by_phase, words_by_phase}
+use Rattle.net_ops.specs.Lanes.{forced, lane_row}
+use Rattle.net_ops.specs.code.Places.{last_row}
+use Rattle.logic_four.specs.Values.{settled}
+use Rattle.net_defs.specs.declared.timing.Timing.{Timing}
+use Rattle.net_defs.specs.Loops.{is_gate_driver}
 
 -- the last state of a lane, as long as this turn has changed no memory
 abbrev pub last_state : {W : Type 0} → (W → ℕ → V4) → Netlist → ℕ → LaneState W → State
@@ -23,6 +28,44 @@ last_state lane net l state = record { row = last_row net (lane_row lane l state
 -- the phase of a turn
 abbrev pub phase_of : ℕ → ℕ → Phase
 phase_of units turn = if turn == 1 then phase.Start else if is_edge units turn then phase.Edge else phase.Within
+
+-- the words of all memories before the first turn
+abbrev pub initial_memories : Netlist → V4 → List (List (List V4))
+initial_memories net v = map (λ memory. initial_words (length memory.address) (length memory.word) v) net.blocks
+
+-- the phase of a turn by its place in its cycle
+abbrev pub phase_at : Bool → ℕ → Phase
+phase_at is_first place = if place == 0 then (if is_first then phase.Start else phase.Edge) else phase.Within
+
+-- what a register or a memory output has in a turn of this phase
+abbrev pub by_phase : Phase → V4 → V4 → V4 → V4
+by_phase phase.Start initial new kept = initial
+by_phase phase.Edge initial new kept = new
+by_phase phase.Within initial new kept = kept
+
+abbrev pub words_by_phase : Phase → List (List V4) → List (List V4) → List (List V4)
+words_by_phase phase.Start new kept = kept
+words_by_phase phase.Edge new kept = new
+words_by_phase phase.Within new kept = kept
+
+-- the inputs have these values, or what they are stuck at, and every signal that is stuck has its value
+pub record HasHeld (net : Netlist) (stuck : ℕ → Option V4) (inputs row : List V4) : Type 0 where
+  pub inputs_held : (s : ℕ) (signal : Signal) → slice_get net.signals s ≡ Some signal → IsTrue (is_input signal.driver) → value_at row s ≡ forced (stuck s) (value_at inputs s)
+  pub stuck_held : (s : ℕ) (signal : Signal) → slice_get net.signals s ≡ Some signal → value_at row s ≡ forced (stuck s) (value_at row s)
+
+-- the value that its driver gives a signal in a turn of this phase with these inputs
+abbrev pub driven_by : Netlist → Timing → Phase → List V4 → State → State → ℕ → Driver → V4
+driven_by net timing at inputs old new s Input = value_at inputs s
+driven_by net timing at inputs old new s (Gate kind ops) = gate_value kind (values_of (if is_late net timing s then old.row else new.row) ops)
+driven_by net timing at inputs old new s (Dff op) = by_phase at (initial_value timing.init) (settled (value_at old.row op)) (value_at old.row s)
+driven_by net timing at inputs old new s (BlockBit memory bit) = by_phase at (initial_value timing.init) (output_bit net old memory bit) (value_at old.row s)
+
+-- a step in a turn of this phase with these inputs: each signal has what its driver gives, or what it is stuck at
+pub record StepsBy (net : Netlist) (timing : Timing) (stuck : ℕ → Option V4) (at : Phase) (inputs : List V4) (old new : State) : Type 0 where
+  pub signals : length new.row ≡ length net.signals
+  pub values : (s : ℕ) (signal : Signal) → slice_get net.signals s ≡ Some signal → value_at new.row s ≡ forced (stuck s) (driven_by net timing at inputs old new s signal.driver)
+  pub memories : length new.words ≡ length net.blocks
+  pub words : (m : ℕ) (memory : Block) → slice_get net.blocks m ≡ Some memory → words_of new m ≡ words_by_phase at ((act_of old memory (words_of old m)).words) (words_of old m)
 
 -- what an output of a memory has after an edge
 abbrev pub output_driven : Netlist → State → Driver → V4
@@ -71,6 +114,30 @@ pub record Assigns (which : ℕ → Bool) (f : ℕ → V4) (old new : List V4) :
   pub long : length new ≡ length old
   pub here : (s : ℕ) → which s ≡ true → value_at new s ≡ f s
   pub others : (p : ℕ) → which p ≡ false → value_at new p ≡ value_at old p
+
+-- what a signal that is no gate has: `here` is the row once the memories have answered
+abbrev pub base_value : Netlist → Timing → Phase → List V4 → List V4 → ℕ → Driver → V4
+base_value net timing at inputs here s Input = value_at inputs s
+base_value net timing at inputs here s (Gate kind ops) = value_at here s
+base_value net timing at inputs here s (Dff op) = by_phase at (initial_value timing.init) (settled (value_at here (length net.signals + op))) (value_at here s)
+base_value net timing at inputs here s (BlockBit memory bit) = by_phase at (initial_value timing.init) (value_at here s) (value_at here s)
+
+-- the first so many signals of a list have that, or what they are stuck at
+pub record AreBases (net : Netlist) (timing : Timing) (stuck : ℕ → Option V4) (at : Phase) (inputs here : List V4) (list : List ℕ) (n : ℕ) (row : List V4) : Type 0 where
+  pub long : length row ≡ length here
+  pub made :
+      (k : ℕ) (signal : Signal) → k < n → slice_get net.signals (slice_index list k) ≡ Some signal
+      → value_at row (slice_index list k) ≡ forced (stuck (slice_index list k)) (base_value net timing at inputs here (slice_index list k) signal.driver)
+  pub left : (s : ℕ) → ((k : ℕ) → k < n → slice_index list k ≡ s → ⊥) → value_at row s ≡ value_at here s
+
+-- a row whose signals that are no gates have what their drivers give them, or what they are stuck at
+pub record HasSources (net : Netlist) (timing : Timing) (stuck : ℕ → Option V4) (at : Phase) (inputs : List V4) (last : State) (old new : List V4) : Type 0 where
+  pub long : length new ≡ length old
+  pub given :
+      (s : ℕ) (signal : Signal) → at ≢ phase.Within → slice_get net.signals s ≡ Some signal → is_gate_driver signal.driver ≡ false
+      → value_at new s ≡ forced (stuck s) (driven_by net timing at inputs last last s signal.driver)
+  pub last_kept : (s : ℕ) → value_at new (length net.signals + s) ≡ value_at old (length net.signals + s)
+  pub within : at ≡ phase.Within → new ≡ old
 
 -- the words of each memory after a turn of this phase
 pub record WordsBy (net : Netlist) (at : Phase) (old : State) (words : List (List (List V4))) : Type 0 where

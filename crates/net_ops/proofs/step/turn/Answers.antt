@@ -9,23 +9,23 @@ pub returns-clause-steps : goal.returns-clause-steps
 returns-clause-steps g c = λ l low.
     let lane = g.W.Wire.lane in
     let few : l < g.W.Wire.lanes = omega (arith, low, c.requires.ready.few) in
-    turn_steps c.args.net.now c.args.timing.now (g.W.Wire.held c.args.forces.now l) c.args.phase c.args.inputs.now (get_or c.args.state.now.memories l []) (get_or c.set_outputs.new.state.memories l [])
-    (lane_row lane l c.args.state.now.values) (lane_row lane l c.keep_row.new.row) (lane_row lane l c.set_outputs.new.state.values) (lane_row lane l c.set_registers.new.row) (lane_row lane l c.set_inputs.new.row) (lane_row lane l c.set_gates.new.row)
+    turn_steps c.args.net.now c.args.timing.now (g.W.Wire.held c.args.forces.now l) c.args.phase c.args.inputs.now (get_or c.args.state.now.memories l []) (get_or c.set_sources.new.state.memories l [])
+    (lane_row lane l c.args.state.now.values) (lane_row lane l c.keep_row.new.row) (lane_row lane l c.set_sources.new.state.values) (lane_row lane l c.set_gates.new.row)
     c.requires.valid (lane_long lane c.args.state.now.values l ∙ c.requires.ready.places) (λ within. c.requires.held within l low) (lane_keeps lane (length c.args.net.now.signals) l _ _ c.keep_row.ensures)
-    (c.set_outputs.ensures.outputs l low) (c.set_registers.ensures.registers l few) (c.set_inputs.ensures.inputs l few) (c.set_gates.ensures.gates l few) (c.set_outputs.ensures.words l low)
+    (c.set_sources.ensures.sources l low) (c.set_gates.ensures.gates l few) (c.set_sources.ensures.words l low)
 
 pub returns-clause-ready : goal.returns-clause-ready
 returns-clause-ready g c = record {
-  places = c.set_gates.ensures.long ∙ (c.set_inputs.ensures.long ∙ (c.set_registers.ensures.long ∙ (c.set_outputs.ensures.long ∙ (c.keep_row.ensures.long ∙ c.requires.ready.places))));
-  few = omega (arith, c.set_outputs.ensures.lanes, c.requires.ready.few);
+  places = c.set_gates.ensures.long ∙ (c.set_sources.ensures.long ∙ (c.keep_row.ensures.long ∙ c.requires.ready.places));
+  few = omega (arith, c.set_sources.ensures.lanes, c.requires.ready.few);
   words = λ l below.
       let lane = g.W.Wire.lane in
-      let low : l < length c.args.state.now.memories = omega (arith, below, c.set_outputs.ensures.lanes) in
+      let low : l < length c.args.state.now.memories = omega (arith, below, c.set_sources.ensures.lanes) in
       let few : l < g.W.Wire.lanes = omega (arith, low, c.requires.ready.few) in
       still_shaped c.args.net.now c.args.phase (lane_state lane c.args.net.now l c.args.state.now) _ (c.requires.ready.words l low)
-      (turn_words c.args.net.now c.args.timing.now (g.W.Wire.held c.args.forces.now l) c.args.phase c.args.inputs.now (get_or c.args.state.now.memories l []) (get_or c.set_outputs.new.state.memories l [])
-      (lane_row lane l c.args.state.now.values) (lane_row lane l c.keep_row.new.row) (lane_row lane l c.set_outputs.new.state.values) (lane_row lane l c.set_registers.new.row) (lane_row lane l c.set_inputs.new.row) (lane_row lane l c.set_gates.new.row)
+      (turn_words c.args.net.now c.args.timing.now (g.W.Wire.held c.args.forces.now l) c.args.phase c.args.inputs.now (get_or c.args.state.now.memories l []) (get_or c.set_sources.new.state.memories l [])
+      (lane_row lane l c.args.state.now.values) (lane_row lane l c.keep_row.new.row) (lane_row lane l c.set_sources.new.state.values) (lane_row lane l c.set_gates.new.row)
       c.requires.valid (lane_long lane c.args.state.now.values l ∙ c.requires.ready.places) (λ within. c.requires.held within l low) (lane_keeps lane (length c.args.net.now.signals) l _ _ c.keep_row.ensures)
-      (c.set_outputs.ensures.outputs l low) (c.set_registers.ensures.registers l few) (c.set_inputs.ensures.inputs l few) (c.set_gates.ensures.gates l few) (c.set_outputs.ensures.words l low));
-  room = c.set_outputs.ensures.ports;
+      (c.set_sources.ensures.sources l low) (c.set_gates.ensures.gates l few) (c.set_sources.ensures.words l low));
+  room = c.set_sources.ensures.ports;
 }
