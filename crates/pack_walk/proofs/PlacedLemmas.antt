@@ -1,17 +1,15 @@
 -- A packed port is the walk within, whose last turn is that of the longest lane.
-use Rattle.std.proofs.Common.{◌≡◌, ◌∙◌, ℕ, ◌+◌, ◌*◌, ◌<◌, ◌≤◌, List, min, sym, ap, subst, arith}
+use Rattle.std.proofs.Common.{◌≡◌, ℕ, ◌*◌, ◌<◌, ◌≤◌, List, sym, ap, subst, arith}
 use Rattle.std.proofs.Math.Nat.{min-eq_left}
 use Rattle.limits.specs.declared.TheConstants.{LANES}
 use Rattle.stim_text.specs.declared.lanes.Lanes.{Lanes}
-use Rattle.stim_text.specs.Lanes.{lane_stimulus, longest, AreLanes}
+use Rattle.stim_text.specs.Lanes.{longest, AreLanes}
 use Rattle.stim_text.proofs.LaneLemmas.{lane_turns, lane_valid}
 use Rattle.net_defs.specs.Valid.{IsValidStimulus}
 use Rattle.image_defs.specs.declared.image.Image.{Image}
 use Rattle.image_defs.specs.declared.image.LinkIn.{LinkIn}
-use Rattle.image_defs.specs.declared.image.LinkOut.{LinkOut}
 use Rattle.image_defs.specs.Ports.{at_first, last_turn}
 use Rattle.image_defs.specs.Steps.{timing_of}
-use Rattle.event_defs.specs.Next.{IsNext}
 use Rattle.port_bank.specs.Packed.{PackPortView, lane_port}
 use Rattle.port_walk.specs.declared.upcoming.Upcoming.{Upcoming}
 use Rattle.port_walk.specs.Stands.{Stand}
@@ -21,7 +19,7 @@ use Rattle.port_walk.specs.Walks as walks
 use Rattle.port_walk.proofs.BlockLemmas.{has_room}
 use Rattle.pack_walk.specs.declared.placed.PackPlaced.TheInside.{Inside}
 use Rattle.pack_walk.specs.Kept.{view_of, IsKept}
-use Rattle.pack_walk.specs.Placed.{PlacedPack, placed, stand_of, value_in, lane_action, AreValuesOf, CanPut, HasPut, HasTaken, IsNextOf, IsNextValue, IsReceiving, IsSending}
+use Rattle.pack_walk.specs.Placed.{PlacedPack, placed, stand_of, value_in, HasPut, HasTaken, IsNextOf}
 
 -- ---- before the first turn
 

@@ -7,8 +7,8 @@ ghost use Rattle.pack_walk.specs.code.Kinds.{IsFirst};
 
 use image_defs::{Image, Work};
 use lane_planes::Planes;
-use pack_array::PackArray;
 use pack_host::PackHost;
+use port_array::ArrayPort;
 use port_logic::LogicPort;
 use port_walk::Kind;
 use seen_list::Memory;
@@ -16,7 +16,7 @@ use std::alloc::Global;
 use stim_text::Lanes;
 
 /// A packed port of any kind.
-pub(crate) type PackKind<'a> = Kind<LogicPort<'a, Planes>, PackArray<'a>, PackHost<'a>>;
+pub(crate) type PackKind<'a> = Kind<LogicPort<'a, Planes>, ArrayPort<'a, Planes>, PackHost<'a>>;
 
 /// Packed port number `port` of the image before its first turn.
 pub(crate) fn first_kind<'a>(
@@ -32,7 +32,7 @@ pub(crate) fn first_kind<'a>(
 {
     match &image.ports.as_slice()[port as usize].work {
         Work::Logic { .. } => Ok(Kind::Logic(LogicPort::new(alloc, image, lanes, port)?)),
-        Work::Array { .. } => Ok(Kind::Array(PackArray::new(alloc, image, lanes, port)?)),
+        Work::Array { .. } => Ok(Kind::Array(ArrayPort::new(alloc, image, lanes, port)?)),
         Work::Host { .. } => Ok(Kind::Host(PackHost::new(alloc, image, lanes)?)),
     }
 }

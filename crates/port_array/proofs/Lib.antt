@@ -1,2 +1,4 @@
-pub mod KeptLemmas
-pub mod MemoryLemmas
+mod KeptLemmas
+mod LaneKept
+mod LaneMemories
+mod MemoryLemmas

@@ -1,16 +1,14 @@
 -- The memories of a port, one by one.
-use Rattle.std.proofs.Common.{◌≡◌, ◌≢◌, ◌∙◌, ◌⊎◌, inl, inr, ℕ, ◌+◌, ◌<◌, List, [], ◌∷◌, ◌++◌, length, get_or, set, slice_get, Some, sym, ap, subst, arith}
+use Rattle.std.proofs.Common.{◌≡◌, ◌≢◌, ◌∙◌, ◌⊎◌, inl, inr, ℕ, ◌+◌, ◌<◌, List, length, get_or, set, slice_get, Some, sym, ap, subst, arith}
 use Rattle.std.proofs.lemmas.Bool.Decides.{eqb_tells}
-use Rattle.std.proofs.lemmas.List.{length-set, length_push, get_or-set_same, get_or-set_other}
+use Rattle.std.proofs.lemmas.List.{length-set, get_or-set_same, get_or-set_other}
 use Rattle.std.proofs.lemmas.Option.{slice_get_within, slice_get-get_or, get_or_from_slice_get}
-use Rattle.list_laws.proofs.Places.{one_there, at_front, seam_at}
+use Rattle.list_laws.proofs.Places.{one_there}
 use Rattle.list_laws.proofs.Ranges.{last_or}
-use Rattle.logic_four.specs.declared.V4.{V4}
 use Rattle.image_defs.specs.declared.image.BlockWork.{BlockWork}
 use Rattle.image_defs.specs.Ports.{PortView}
-use Rattle.port_array.specs.declared.memory.MemoryState.{MemoryState}
-use Rattle.port_array.specs.Acts.{FitsMemory, AreFit}
-use Rattle.port_array.specs.code.Acts.{IsFirst, Acted, AreActed}
+use Rattle.port_array.specs.Acts.{LaneMemory}
+use Rattle.port_array.specs.code.Acts.{Acted, AreActed}
 
 -- a member of a list by its place
 pub member_at : {X : Type 0} (xs : List X) (i : ℕ) (x : X) → i < length xs → x ≡ get_or xs i x → slice_get xs i ≡ Some x
@@ -25,30 +23,9 @@ set_place {X} xs m v k x there = elim (eqb_tells k m) [
   within : k < length xs
   within = omega (arith, length-set xs m v, slice_get_within (set xs m v) k x there)
 
--- a memory more, that of the next block
-pub first_more : (v : V4) (blocks : List BlockWork) (memories : List MemoryState) (i : ℕ) (block : BlockWork) (memory : MemoryState) → length memories ≡ i → slice_get blocks i ≡ Some block → IsFirst v block memory
-    → ((b : ℕ) (other : BlockWork) (m : MemoryState) → slice_get blocks b ≡ Some other → slice_get memories b ≡ Some m → IsFirst v other m)
-    → (b : ℕ) (other : BlockWork) (m : MemoryState) → slice_get blocks b ≡ Some other → slice_get (memories ++ memory ∷ []) b ≡ Some m → IsFirst v other m
-first_more v blocks memories i block memory long at first so_far b other m here there = elim (last_or b (length memories) (omega (arith, length_push memories memory, slice_get_within (memories ++ memory ∷ []) b m there))) [
-  | inl low ↦ so_far b other m here (sym (at_front memories (memory ∷ []) b low) ∙ there)
-  | inr last ↦
-      let same_memory : memory ≡ m = one_there (memories ++ memory ∷ []) (length memories) b memory m (sym last) (seam_at memories memory []) there in
-      let same_block : block ≡ other = one_there blocks i b block other (sym (last ∙ long)) at here in
-      rw (← same_memory, ← same_block) first
-]
-
-module _ (blocks : List BlockWork) (now : List MemoryState) (m : ℕ) (block : BlockWork) (new : MemoryState) (here : slice_get blocks m ≡ Some block) where
-  pub fit_more : AreFit blocks now → FitsMemory block new → AreFit blocks (set now m new)
-  fit_more fit fits = record {
-    long = length-set now m new ∙ fit.long;
-    each = λ b other memory at there. elim (set_place now m new b memory there) [
-      | inl h ↦ let same : block ≡ other = one_there blocks m b block other (sym h.0) here at in rw (← h.1, ← same) fits
-      | inr h ↦ fit.each b other memory at h.1
-    ];
-  }
-
+module _ (blocks : List BlockWork) (now : List LaneMemory) (m : ℕ) (block : BlockWork) (new : LaneMemory) (here : slice_get blocks m ≡ Some block) where
   -- one memory more went through an edge
-  pub acted_more : (view : PortView) (old : List MemoryState) (one : MemoryState) → AreActed view blocks m old now → slice_get now m ≡ Some one → Acted view block one new → AreActed view blocks (m + 1) old (set now m new)
+  pub acted_more : (view : PortView) (old : List LaneMemory) (one : LaneMemory) → AreActed view blocks m old now → slice_get now m ≡ Some one → Acted view block one new → AreActed view blocks (m + 1) old (set now m new)
   acted_more view old one so_far stood acted = record {
     acted = λ b other first memory low at was there. elim (set_place now m new b memory there) [
       | inl h ↦

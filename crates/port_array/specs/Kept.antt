@@ -1,7 +1,8 @@
--- What an array processor keeps: its memories hold the words that the image has.
-use Rattle.std.specs.Prelude.{◌≡◌, ℕ, ◌-◌, ◌≤◌, true, if◌then◌else◌, Some, slice_get}
+-- What an array processor keeps in a lane: its memories hold the words that the image has.
+use Rattle.std.specs.Prelude.{◌≡◌, ℕ, ◌-◌, ◌≤◌, true, if◌then◌else◌, List, Some, slice_get}
 use Rattle.net_defs.specs.Time.{is_edge}
 use Rattle.image_defs.specs.declared.image.BlockWork.{BlockWork}
+use Rattle.image_defs.specs.declared.image.OutBit.{OutBit}
 use Rattle.image_defs.specs.declared.image.PortImage.{PortImage}
 use Rattle.image_defs.specs.declared.image.Work.TheVariants.{Array}
 use Rattle.image_defs.specs.Places.{IsPort}
@@ -10,23 +11,28 @@ use Rattle.image_defs.specs.Steps.{block_act}
 use Rattle.image_defs.specs.Frames.{frame}
 use Rattle.image_defs.specs.Ports.{PortView}
 use Rattle.port_bank.specs.Reads.{past_in}
-use Rattle.port_array.specs.declared.memory.MemoryState.{MemoryState}
-use Rattle.port_array.specs.Acts.{AreFit}
-use Rattle.port_array.specs.declared.port.ArrayPort.TheInside.{Inside}
+use Rattle.port_array.specs.Acts.{LaneMemory, AreFit}
 
 -- the turn whose words the memories hold: this one once it has begun
 abbrev pub words_turn : PortView → ℕ
 words_turn view = if view.begun then view.turn else view.turn - 1
 
-pub record IsReady (a : Inside) : Type 0 where
+-- the plain array processor of a lane
+pub record LaneArray : Type 0 where
+  pub bank : PortView
+  pub blocks : List BlockWork
+  pub bits : List OutBit
+  pub memories : List LaneMemory
+
+pub record IsReady (a : LaneArray) : Type 0 where
   pub image : IsWellFormed a.bank.image
   pub first : 1 ≤ a.bank.turn
   pub seat : PortImage
   pub is : IsPort a.bank.image a.bank.port seat
-  pub work : seat.work ≡ Array a.blocks.now a.bits.now
-  pub fit : AreFit a.blocks.now a.memories
-  pub words : (b : ℕ) (block : BlockWork) (memory : MemoryState) → slice_get a.blocks.now b ≡ Some block → slice_get a.memories b ≡ Some memory
+  pub work : seat.work ≡ Array a.blocks a.bits
+  pub fit : AreFit a.blocks a.memories
+  pub words : (b : ℕ) (block : BlockWork) (memory : LaneMemory) → slice_get a.blocks b ≡ Some block → slice_get a.memories b ≡ Some memory
       → memory.cells ≡ (frame a.bank.image a.bank.stimulus (words_turn a.bank)).words a.bank.port b
   -- what each memory answered at the edge of this turn
-  pub outs : a.bank.begun ≡ true → is_edge a.bank.image.units a.bank.turn ≡ true → (b : ℕ) (block : BlockWork) (memory : MemoryState) → slice_get a.blocks.now b ≡ Some block → slice_get a.memories b ≡ Some memory
+  pub outs : a.bank.begun ≡ true → is_edge a.bank.image.units a.bank.turn ≡ true → (b : ℕ) (block : BlockWork) (memory : LaneMemory) → slice_get a.blocks b ≡ Some block → slice_get a.memories b ≡ Some memory
       → memory.outs ≡ (block_act a.bank.port seat.ins (past_in a.bank).value block ((past_in a.bank).words a.bank.port b)).outputs

@@ -1,3 +1,4 @@
 pub mod Acts
 pub mod code
 pub mod Kept
+pub mod Lanes

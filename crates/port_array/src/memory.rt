@@ -1,13 +1,16 @@
-//! The memories of an array processor, and what they do at an edge.
+//! The memories of an array processor, and what they do at an edge, lane by lane.
 
-ghost use Rattle.std.specs.Prelude.{◌≡◌, ◌≤◌, true, false, length, map, replicate, IfOk, OnOk};
+ghost use Rattle.std.specs.Prelude.{◌≡◌, ◌≢◌, ◌<◌, ◌≤◌, ℕ, true, false, [], length, map, replicate, set, slice_index_or, IfOk};
 ghost use Rattle.limits.specs.declared.TheConstants.{MAX_ADDRESS_BITS, MAX_WORD_BITS};
+ghost use Rattle.logic_four.specs.Memory.{memory_act, initial_words, HasShape};
 ghost use Rattle.net_defs.specs.Time.{is_edge};
 ghost use Rattle.image_defs.specs.Places.{Each};
-ghost use Rattle.logic_four.specs.declared.V4.TheVariants.{Undef};
-ghost use Rattle.port_array.specs.Acts.{FitsMemory, AreFit};
-ghost use Rattle.port_array.specs.code.Acts.{past_of, answered_bit, FitsBit, IsPastAt, ReadsPast, HasFewBits, IsFirst, AreFirst, Acted, AreActed};
+ghost use Rattle.image_defs.specs.Ports.{lane_port};
+ghost use Rattle.port_array.specs.Lanes.{lane_memory, lane_memories, IsWhole, AreWhole};
+ghost use Rattle.port_array.specs.code.Acts.{past_of, answered_bit, FitsBit, IsPastAt, ReadsPast, HasFewBits, Acted};
+ghost use Rattle.port_array.specs.code.Lanes.{IsFirst, Stays, HasActed, ReadPast, AreFirst, HaveActed};
 
+use crate::laned::Laned;
 use array_cells::Cells;
 use image_defs::{BlockWork, OutBit, Source};
 use logic_four::V4;
@@ -15,68 +18,54 @@ use port_bank::Bank;
 use seen_list::{List, Memory};
 use std::alloc::Global;
 
-/// A memory, with room for what it takes at an edge, and what it answered at the last one.
+/// A memory in each lane, with room for what one of them takes and answers at an edge, and what all of
+/// them answered at the last one.
 #[derive(Drop)]
-pub(crate) struct MemoryState {
-    pub(crate) cells: Cells,
+pub(crate) struct MemoryState<W> {
+    pub(crate) cells: List<Cells>,
     pub(crate) address: List<V4>,
     pub(crate) word: List<V4>,
-    pub(crate) outs: List<V4>,
+    pub(crate) answers: List<V4>,
+    pub(crate) outs: List<W>,
 }
 
-/// A memory with `v` in every bit of every word.
-pub(crate) fn make_memory(alloc: Global, block: &BlockWork, v: V4) -> Result<MemoryState, Memory>
+/// The words of a memory in each lane, with `v` in every bit.
+fn make_cells<W: Laned>(alloc: Global, block: &BlockWork, v: V4) -> Result<List<Cells>, Memory>
     requires { HasFewBits block.now }
-    ensures { IfOk result (IsFirst v block.now) }
+    ensures { IfOk result (λ cells. cells ≡ replicate W.lanes (initial_words (length block.now.address) (length block.now.word) v)) }
 {
-    let address_bits = block.address.len();
-    let word_bits = block.word.len();
-    let mut memory = MemoryState {
-        cells: Cells::new(alloc, address_bits as u32, word_bits as u32, v)?,
-        address: List::new(alloc),
-        word: List::new(alloc),
-        outs: List::new(alloc),
-    };
-    match make_room(alloc, &mut memory, address_bits, word_bits) {
-        Ok(()) => Ok(memory),
-        Err(no) => Err(no),
+    let address_bits = block.address.len() as u32;
+    let word_bits = block.word.len() as u32;
+    let mut cells = List::new(alloc);
+    'lanes: for _lane in 0..W::count() {
+        cells.push(Cells::new(alloc, address_bits, word_bits, v)?)?;
     }
+    Ok(cells)
 }
 
-/// Gives a memory room for what it takes at an edge, and for what it answers.
-fn make_room(
-    alloc: Global,
-    memory: &mut MemoryState,
-    address_bits: usize,
-    word_bits: usize,
-) -> Result<(), Memory>
-    ensures { OnOk result (memory.new ≡ record memory.old {
-      address = replicate address_bits Undef;
-      word = replicate word_bits Undef;
-      outs = replicate word_bits Undef;
-    }) }
+/// A memory in each lane, with `v` in every bit of every word.
+fn make_memory<W: Laned>(alloc: Global, block: &BlockWork, v: V4) -> Result<MemoryState<W>, Memory>
+    requires { HasFewBits block.now }
+    ensures { IfOk result (IsFirst W.Word v block.now) }
 {
-    blank(alloc, &mut memory.address, address_bits)?;
-    blank(alloc, &mut memory.word, word_bits)?;
-    blank(alloc, &mut memory.outs, word_bits)
+    let word_bits = block.word.len();
+    Ok(MemoryState {
+        cells: make_cells::<W>(alloc, block, v)?,
+        address: List::filled(alloc, V4::Undef, block.address.len())?,
+        word: List::filled(alloc, V4::Undef, word_bits)?,
+        answers: List::filled(alloc, V4::Undef, word_bits)?,
+        outs: List::filled(alloc, W::of(V4::Undef), word_bits)?,
+    })
 }
 
-/// Gives a list so many values, all of them undefined.
-fn blank(alloc: Global, room: &mut List<V4>, bits: usize) -> Result<(), Memory>
-    ensures { OnOk result (room.new ≡ replicate bits Undef) }
-{
-    *room = List::filled(alloc, V4::Undef, bits)?;
-    Ok(())
-}
-
-/// A memory for each block.
-pub(crate) fn make_memories(
+/// A memory in each lane for each block.
+pub(crate) fn make_memories<W: Laned>(
     alloc: Global,
     blocks: &[BlockWork],
     v: V4,
-) -> Result<List<MemoryState>, Memory>
+) -> Result<List<MemoryState<W>>, Memory>
     requires { Each HasFewBits blocks.now }
-    ensures { IfOk result (AreFirst v blocks.now) }
+    ensures { IfOk result (AreFirst W.Word v blocks.now) }
 {
     let mut memories = List::new(alloc);
     'each: for block in blocks {
@@ -85,75 +74,114 @@ pub(crate) fn make_memories(
     Ok(memories)
 }
 
-/// What a source had in the last turn.
-fn take_past(bank: &Bank<'_, V4>, source: Source) -> V4
-    requires { IsPastAt bank.now source }
-    ensures { result ≡ past_of bank.now source }
+/// What a source had in a lane in the last turn.
+fn take_past<W: Laned>(bank: &Bank<'_, W>, source: Source, k: u32) -> V4
+    requires lane { k < W.lanes }
+    requires past { IsPastAt (lane_port W.stimulus k bank.now) source }
+    ensures { result ≡ past_of (lane_port W.stimulus k bank.now) source }
 {
-    bank.take(source)
+    bank.take(source).at(k)
 }
 
-/// Takes what the sources had in the last turn.
-fn fill(room: &mut List<V4>, sources: &[Source], bank: &Bank<'_, V4>)
+/// Takes what the sources had in a lane in the last turn.
+fn fill<W: Laned>(room: &mut List<V4>, sources: &[Source], bank: &Bank<'_, W>, k: u32)
+    requires lane { k < W.lanes }
     requires long { length room.old ≡ length sources.now }
-    requires past { Each (IsPastAt bank.now) sources.now }
-    ensures { room.new ≡ map (past_of bank.now) sources.now }
+    requires past { Each (IsPastAt (lane_port W.stimulus k bank.now)) sources.now }
+    ensures { room.new ≡ map (past_of (lane_port W.stimulus k bank.now)) sources.now }
 {
-    'sources: for k in 0..sources.len() {
-        room.set(k, take_past(bank, sources[k]));
+    'sources: for i in 0..sources.len() {
+        room.set(i, take_past(bank, sources[i], k));
     }
 }
 
-/// Takes a memory through an edge.
-fn edge(memory: &mut MemoryState, block: &BlockWork, bank: &Bank<'_, V4>)
-    requires past { ReadsPast bank.now block.now }
-    requires fits { FitsMemory block.now memory.old }
-    ensures acted { Acted bank.now block.now memory.old memory.new }
-    ensures fits { FitsMemory block.now memory.new }
+/// Takes the words of a lane through an edge.
+fn edge_cells(
+    cells: &mut List<Cells>,
+    k: u32,
+    enable: V4,
+    address: &[V4],
+    word: &[V4],
+    answers: &mut List<V4>,
+)
+    requires lane { k < length cells.old }
+    requires shape { HasShape (length address.now) (length word.now) (slice_index_or cells.old k []) }
+    requires fits { length answers.old ≡ length word.now }
+    ensures words { cells.new ≡ set cells.old k (memory_act (slice_index_or cells.old k []) enable address.now word.now).words }
+    ensures outputs { answers.new ≡ (memory_act (slice_index_or cells.old k []) enable address.now word.now).outputs }
+    ensures shape { HasShape (length address.now) (length word.now) (slice_index_or cells.new k []) }
+    ensures long { length answers.new ≡ length answers.old }
 {
-    let enable = take_past(bank, block.we);
-    fill(&mut memory.address, block.address.as_slice(), bank);
-    fill(&mut memory.word, block.word.as_slice(), bank);
-    memory.cells.edge(
+    cells.as_mut_slice()[k as usize].edge(enable, address, word, answers.as_mut_slice());
+}
+
+/// Takes the memory of a lane through an edge.
+fn edge_lane<W: Laned>(memory: &mut MemoryState<W>, block: &BlockWork, bank: &Bank<'_, W>, k: u32)
+    requires lane { k < W.lanes }
+    requires past { ReadsPast (lane_port W.stimulus k bank.now) block.now }
+    requires whole { IsWhole W.Word block.now memory.old }
+    ensures acted { Acted (lane_port W.stimulus k bank.now) block.now (lane_memory W.Word k memory.old) (lane_memory W.Word k memory.new) }
+    ensures others { (l : ℕ) → l < W.lanes → l ≢ k → Stays W.Word l memory.old memory.new }
+    ensures whole { IsWhole W.Word block.now memory.new }
+{
+    let enable = take_past(bank, block.we, k);
+    fill(&mut memory.address, block.address.as_slice(), bank, k);
+    fill(&mut memory.word, block.word.as_slice(), bank, k);
+    edge_cells(
+        &mut memory.cells,
+        k,
         enable,
         memory.address.as_slice(),
         memory.word.as_slice(),
-        memory.outs.as_mut_slice(),
+        &mut memory.answers,
     );
+    W::put_row(&mut memory.outs, k, &mut memory.answers);
+}
+
+/// Takes a memory through an edge, in each lane.
+fn edge<W: Laned>(memory: &mut MemoryState<W>, block: &BlockWork, bank: &Bank<'_, W>)
+    requires past { (l : ℕ) → l < W.lanes → ReadsPast (lane_port W.stimulus l bank.now) block.now }
+    requires whole { IsWhole W.Word block.now memory.old }
+    ensures acted { HasActed W.Word bank.now block.now W.lanes memory.old memory.new }
+    ensures whole { IsWhole W.Word block.now memory.new }
+{
+    'lanes: for k in 0..W::count() {
+        edge_lane(memory, block, bank, k);
+    }
 }
 
 /// Takes each memory through an edge.
-fn edge_all(memories: &mut [MemoryState], blocks: &[BlockWork], bank: &Bank<'_, V4>)
-    requires past { Each (ReadsPast bank.now) blocks.now }
-    requires fit { AreFit blocks.now memories.old }
-    ensures acted { AreActed bank.now blocks.now (length blocks.now) memories.old memories.new }
-    ensures fit { AreFit blocks.now memories.new }
+fn edge_all<W: Laned>(memories: &mut [MemoryState<W>], blocks: &[BlockWork], bank: &Bank<'_, W>)
+    requires past { ReadPast W.Word bank.now blocks.now }
+    requires whole { AreWhole W.Word blocks.now memories.old }
+    ensures acted { HaveActed W.Word bank.now blocks.now (length blocks.now) memories.old memories.new }
+    ensures whole { AreWhole W.Word blocks.now memories.new }
 {
     'all: for b in 0..blocks.len() {
         edge(&mut memories[b], &blocks[b], bank);
     }
 }
 
-/// What the memory of an output bit answered for it at the last edge.
-pub(crate) fn answered(memories: &[MemoryState], bit: OutBit) -> V4
-    requires { FitsBit memories.now bit }
-    ensures { result ≡ answered_bit memories.now bit }
+/// What the memory of an output bit answered for it at the last edge, in each lane.
+pub(crate) fn answered<W: Laned>(memories: &[MemoryState<W>], bit: OutBit) -> W
+    requires { FitsBit (lane_memories W.Word 0 memories.now) bit }
+    ensures { (l : ℕ) → l < W.lanes → W.lane result l ≡ answered_bit (lane_memories W.Word l memories.now) bit }
 {
     memories[bit.block as usize].outs.as_slice()[bit.bit as usize]
 }
 
 /// Takes each memory through the edge of this turn, if it is one.
-pub(crate) fn begin_memories(
-    memories: &mut List<MemoryState>,
+pub(crate) fn begin_memories<W: Laned>(
+    memories: &mut List<MemoryState<W>>,
     blocks: &[BlockWork],
-    bank: &Bank<'_, V4>,
+    bank: &Bank<'_, W>,
 )
-    requires past { Each (ReadsPast bank.now) blocks.now }
-    requires fit { AreFit blocks.now memories.old }
+    requires past { ReadPast W.Word bank.now blocks.now }
+    requires whole { AreWhole W.Word blocks.now memories.old }
     ensures acted { is_edge bank.now.image.units bank.now.turn ≡ true
-        → AreActed bank.now blocks.now (length blocks.now) memories.old memories.new }
+        → HaveActed W.Word bank.now blocks.now (length blocks.now) memories.old memories.new }
     ensures same { is_edge bank.now.image.units bank.now.turn ≡ false → memories.new ≡ memories.old }
-    ensures fit { AreFit blocks.now memories.new }
+    ensures whole { AreWhole W.Word blocks.now memories.new }
 {
     if bank.is_edge() {
         edge_all(memories.as_mut_slice(), blocks, bank);

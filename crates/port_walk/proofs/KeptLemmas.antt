@@ -1,27 +1,24 @@
 -- What a walk keeps from call to call.
-use Rattle.std.proofs.Common.{◌≡◌, ℕ, ◌+◌, ◌*◌, ◌-◌, ◌<◌, ◌≤◌, List, slice_get, Some, sym, ap, ◌∙◌, subst, arith}
+use Rattle.std.proofs.Common.{◌≡◌, ℕ, ◌*◌, ◌-◌, ◌<◌, ◌≤◌, List, slice_get, Some, sym, ap, ◌∙◌, subst, arith}
 use Rattle.std.proofs.Math.Nat.{mul-le-mul}
 use Rattle.limits.specs.declared.TheConstants.{MAX_CYCLES, MAX_UNITS}
 use Rattle.logic_four.specs.declared.V4.{V4}
 use Rattle.net_defs.specs.Valid.{IsValidStimulus}
 use Rattle.image_defs.specs.declared.image.LinkOut.{LinkOut}
-use Rattle.image_defs.specs.Places.{IsPort}
 use Rattle.image_defs.specs.Frames.{image_value}
 use Rattle.image_defs.specs.Ports.{View, lane_port, last_turn, value_in}
-use Rattle.event_defs.specs.declared.place.Action.{Action}
 use Rattle.event_defs.specs.Next.{IsNext}
 use Rattle.port_bank.specs.declared.word.Word as word
 use Rattle.port_bank.specs.Runs.{IsLastValue}
-use Rattle.port_bank.specs.Words.{InEachLane, InEachLaneOf}
-use Rattle.port_bank.proofs.LaneLemmas.{in_each, in_lane}
+use Rattle.port_bank.proofs.LaneLemmas.{in_lane}
 use Rattle.port_walk.specs.declared.stops.Stop.{Stop}
 use Rattle.port_walk.specs.declared.stops.StopKind.TheVariants.{Send, Receive, End}
 use Rattle.port_walk.specs.declared.upcoming.Upcoming.{Upcoming}
 use Rattle.port_walk.specs.declared.upcoming.Upcoming.TheVariants.{Take, Tell}
-use Rattle.port_walk.specs.Kept.{Parts, view_of, inner, IsKept}
-use Rattle.port_walk.specs.Readers.{IsNextOfSend}
+use Rattle.port_walk.specs.Kept.{Parts, view_of, IsKept}
+use Rattle.port_walk.specs.code.Readers.{IsNextOfSend}
 use Rattle.port_walk.specs.Stands.{place_of, action_of, IsNextOf}
-use Rattle.port_walk.proofs.WalkLemmas.{end_here, last_here, next_sent, receipt_here, same_seat, slot_sent}
+use Rattle.port_walk.proofs.WalkLemmas.{end_here, last_here, next_sent, receipt_here, same_seat}
 
 module _ {W P F S : Type 0} (m : word.Ghosts W P F S) where
   -- its turns can be counted

@@ -5,14 +5,13 @@ use Rattle.std.proofs.lemmas.Bool.{le-leb, leb-true}
 use Rattle.std.proofs.lemmas.Option.{slice_get-get_or, slice_get_within}
 use Rattle.list_laws.proofs.Places.{one_there}
 use Rattle.net_defs.specs.Valid.{IsValidStimulus}
-use Rattle.image_defs.specs.declared.image.Image.{Image}
 use Rattle.image_defs.specs.declared.image.LinkIn.{LinkIn}
 use Rattle.image_defs.specs.declared.image.LinkOut.{LinkOut}
 use Rattle.image_defs.specs.declared.image.PortImage.{PortImage}
 use Rattle.image_defs.specs.Places.{Each, IsPort, item_slots, in_slots, out_slots}
 use Rattle.image_defs.specs.WellFormed.{IsWellFormed, IsPortImage}
 use Rattle.image_defs.specs.Frames.{image_value}
-use Rattle.image_defs.specs.Ports.{View, PortView, lane_port, after_end, after_receive, last_turn, CanReceive, CanEnd}
+use Rattle.image_defs.specs.Ports.{View, lane_port, after_end, after_receive, last_turn, CanReceive, CanEnd}
 use Rattle.image_defs.proofs.PlaceLemmas.{rises}
 use Rattle.port_bank.specs.declared.word.Word as word
 use Rattle.port_bank.specs.Runs.{CanRun, HasRun, IsLastValue}
@@ -23,7 +22,7 @@ use Rattle.port_walk.specs.declared.stops.Stop.{Stop}
 use Rattle.port_walk.specs.declared.stops.StopKind.TheVariants.{Send}
 use Rattle.port_walk.specs.declared.upcoming.Upcoming.{Upcoming}
 use Rattle.port_walk.specs.Kept.{Parts, view_of, inner, IsKept}
-use Rattle.port_walk.specs.Readers.{IsNextOfSend}
+use Rattle.port_walk.specs.code.Readers.{IsNextOfSend}
 use Rattle.port_walk.specs.Rows.{AreReaders, IsRow, start_of}
 use Rattle.port_walk.specs.Stands.{CanPut, IsNextOf, IsSending, IsReceiving, IsEnding}
 use Rattle.port_walk.specs.Stops.{IsStop, AreStops, counts}
@@ -126,9 +125,6 @@ module _ {W P F S : Type 0} (m : word.Ghosts W P F S) {a : Parts W S} (kept : Is
 
   pub at_here : slice_get a.stops a.at ≡ Some here
   at_here = found m kept stops same
-
-  pub here_within : a.at < length stops
-  here_within = let within = slice_get_within a.stops a.at here at_here in omega (arith, within, ap length same)
 
   -- where a Put is missing
   module _ (kind : here.kind ≡ Send) where

@@ -6,7 +6,8 @@ use Rattle.list_laws.proofs.Places.{one_there}
 use Rattle.list_laws.proofs.Ranges.{last_or}
 use Rattle.limits.specs.declared.TheConstants.{MAX_PORTS}
 use Rattle.image_defs.specs.declared.image.LinkOut.{LinkOut}
-use Rattle.port_walk.specs.Rows.{HasFewReaders, IsRow, AreReaders}
+use Rattle.port_walk.specs.Rows.{IsRow, AreReaders}
+use Rattle.port_walk.specs.code.Stops.{HasFewReaders}
 
 -- what stands in a list before its end stands there in a longer one
 pub row_stays : (all more : List ℕ) (from to : ℕ) (row : List ℕ) → IsRow all from to row → IsRow (all ++ more) from to row

@@ -12,8 +12,8 @@ use Rattle.port_bank.proofs.BankLemmas.{place_low}
 use Rattle.port_walk.specs.declared.stops.Stop.{Stop}
 use Rattle.port_walk.specs.declared.stops.StopKind.{StopKind}
 use Rattle.port_walk.specs.declared.stops.StopKind.TheVariants.{Send, Receive, End}
-use Rattle.port_walk.specs.Stops.{ArePlaces, IsFront, kind_of, slot_of, counted, kind_at, slot_at, counts, IsStop, AreFirstStops, AreStops}
-use Rattle.port_walk.specs.code.Stops.{AreAllBefore, IsOnTheWay}
+use Rattle.port_walk.specs.Stops.{IsFront, kind_of, slot_of, counted, kind_at, slot_at, counts, IsStop, AreFirstStops, AreStops}
+use Rattle.port_walk.specs.code.Stops.{ArePlaces, AreAllBefore, IsOnTheWay}
 
 -- ---- ascending slots up to a bound
 

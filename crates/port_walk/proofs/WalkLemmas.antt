@@ -26,11 +26,12 @@ use Rattle.port_walk.specs.declared.stops.StopKind.TheVariants.{Send, Receive, E
 use Rattle.port_walk.specs.declared.upcoming.Upcoming.{Upcoming}
 use Rattle.port_walk.specs.declared.upcoming.Upcoming.TheVariants.{Ask, Put, Take, Tell, Done}
 use Rattle.port_bank.specs.Runs.{CanRun}
-use Rattle.port_walk.specs.Readers.{IsNextOfSend}
-use Rattle.port_walk.specs.Rows.{AreReaders, HasFewReaders, IsRow, start_of}
+use Rattle.port_walk.specs.code.Readers.{IsNextOfSend}
+use Rattle.port_walk.specs.Rows.{AreReaders, IsRow, start_of}
 use Rattle.port_walk.specs.Kept.{Parts, IsKept}
 use Rattle.port_walk.specs.Stands.{action_of}
-use Rattle.port_walk.specs.Stops.{ArePlaces, AreStops, IsFront, IsStop, counts, kind_at, slot_at}
+use Rattle.port_walk.specs.Stops.{AreStops, IsFront, IsStop, counts, kind_at, slot_at}
+use Rattle.port_walk.specs.code.Stops.{ArePlaces, HasFewReaders}
 use Rattle.port_walk.proofs.StopLemmas.{places_few, tells, counts_more, send_grows, receipt_grows}
 use Rattle.port_walk.proofs.CursorLemmas.{next_send, next_receipt, next_end, received_before}
 

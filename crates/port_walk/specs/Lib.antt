@@ -3,7 +3,6 @@ pub mod code
 pub mod Kept
 pub mod Kinds
 pub mod Placed
-pub mod Readers
 pub mod Rows
 pub mod Stands
 pub mod Stops

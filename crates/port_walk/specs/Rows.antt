@@ -4,9 +4,6 @@ use Rattle.limits.specs.declared.TheConstants.{MAX_PORTS}
 use Rattle.image_defs.specs.declared.image.LinkOut.{LinkOut}
 use Rattle.port_walk.specs.declared.readers.Readers.{Readers}
 
-abbrev pub HasFewReaders : LinkOut → Type 0
-HasFewReaders link = length link.readers ≤ MAX_PORTS
-
 -- from one place to before another stands this row
 pub record IsRow (all : List ℕ) (from to : ℕ) (row : List ℕ) : Type 0 where
   pub order : from ≤ to

@@ -1,6 +1,6 @@
 -- Where a port stands in its turn, and what comes next there, whatever values it has: a plain port and a packed one do
 -- the same.
-use Rattle.std.specs.Prelude.{◌≡◌, ℕ, ◌<◌, ◌≤◌, List}
+use Rattle.std.specs.Prelude.{◌≡◌, ℕ, ◌≤◌, List}
 use Rattle.logic_four.specs.declared.V4.{V4}
 use Rattle.image_defs.specs.declared.image.LinkIn.{LinkIn}
 use Rattle.image_defs.specs.declared.image.LinkOut.{LinkOut}

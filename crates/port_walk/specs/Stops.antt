@@ -1,15 +1,8 @@
 -- The stops of a turn, by the slots in which a port sends, receives and has items.
 use Rattle.std.specs.Prelude.{◌≡◌, ℕ, zero, suc, ◌+◌, ◌<◌, ◌≤◌, nat_le, if◌then◌else◌, List, length, Option, Some, None, slice_get}
-use Rattle.std.specs.List.Sorted.{IsStrictlyIncreasing}
-use Rattle.image_defs.specs.Places.{Each}
 use Rattle.port_walk.specs.declared.stops.Stop.{Stop}
 use Rattle.port_walk.specs.declared.stops.StopKind.{StopKind}
 use Rattle.port_walk.specs.declared.stops.StopKind.TheVariants.{Send, Receive, End}
-
--- ascending slots of a turn that has so many
-pub record ArePlaces (slots : ℕ) (places : List ℕ) : Type 0 where
-  pub rising : IsStrictlyIncreasing places
-  pub low : Each (λ slot. slot < slots) places
 
 -- ascending slots: the first n of them, and no others, are before this bound
 pub record IsFront (slots : List ℕ) (bound n : ℕ) : Type 0 where

@@ -1,7 +1,5 @@
 -- A port of any kind that walks through its turns, plain or packed, as the contracts of its walk see it.
-use Rattle.std.specs.Prelude.{◌≡◌, ℕ, ◌+◌, ◌-◌, ◌/◌, List, [], ◌∷◌, ◌++◌, Option, None, Some}
-use Rattle.logic_four.specs.declared.V4.{V4}
-use Rattle.net_defs.specs.declared.stimulus.Stimulus.{Stimulus}
+use Rattle.std.specs.Prelude.{◌≡◌, ℕ, ◌+◌, [], ◌∷◌, ◌++◌, Option}
 use Rattle.image_defs.specs.declared.image.LinkIn.{LinkIn}
 use Rattle.image_defs.specs.declared.image.LinkOut.{LinkOut}
 use Rattle.image_defs.specs.Frames.{image_value}
@@ -48,18 +46,6 @@ pub record HasTaken {S : Type 0} (old new : Walked S) : Type 0 where
 -- the turn is over, and the next one has begun
 abbrev pub in_next_turn : {S : Type 0} → Walked S → Walked S
 in_next_turn walk = record walk { stand = record walk.stand { turn = walk.stand.turn + 1; puts = []; takes = [] } }
-
--- the host has given up so many rows
-abbrev pub given_up : Option (ℕ × ℕ) → ℕ → Option (ℕ × ℕ)
-given_up None n = None
-given_up (Some rows) n = Some (rows.0, n)
-
--- a plain walk that rested goes on up to this turn, and as the host it has given up the rows that are done
-abbrev pub rests_no_more : Walked Stimulus → ℕ → Walked Stimulus
-rests_no_more walk until = record walk {
-  rows = given_up walk.rows ((walk.stand.turn - 1) / walk.stand.image.units);
-  stand = record walk.stand { until = until };
-}
 
 module _ {W P F S : Type 0} (m : word.Ghosts W P F S) where
   -- in each lane the word has what this port has in this slot at the turn

@@ -1,3 +1,4 @@
 pub mod Enters
 pub mod Kinds
+pub mod Readers
 pub mod Stops

@@ -4,7 +4,7 @@ ghost use Rattle.std.specs.Prelude.{◌≡◌, ◌<◌, ◌≤◌, length, IfOk}
 ghost use Rattle.net_defs.specs.Valid.{IsValidStimulus};
 ghost use Rattle.image_defs.specs.WellFormed.{IsWellFormed};
 ghost use Rattle.port_host.specs.Rows.{rows_done};
-ghost use Rattle.port_walk.specs.Walks.{given_up};
+ghost use Rattle.port_walk.specs.code.Enters.{given_up};
 ghost use Rattle.port_walk.specs.code.Kinds.{view_in, rows_in, IsFirst};
 
 use image_defs::{Image, Work};
@@ -26,7 +26,7 @@ pub enum Kind<L, A, H> {
 }
 
 /// A plain port of any kind.
-pub(crate) type AnyKind<'a> = Kind<LogicPort<'a, V4>, ArrayPort<'a>, HostPort<'a>>;
+pub(crate) type AnyKind<'a> = Kind<LogicPort<'a, V4>, ArrayPort<'a, V4>, HostPort<'a>>;
 
 impl<W: Word, L: Port<W>, A: Port<W>, H: Port<W>> Port<W> for Kind<L, A, H> {
     ghost use Rattle.port_walk.specs.Kinds.{by_kind};

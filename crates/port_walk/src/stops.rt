@@ -4,8 +4,8 @@ ghost use Rattle.std.specs.Prelude.{◌≡◌, ◌+◌, ◌≤◌, map, length, 
 ghost use Rattle.std.specs.List.Sorted.{IsStrictlyIncreasing};
 ghost use Rattle.limits.specs.declared.TheConstants.{MAX_SLOTS};
 ghost use Rattle.image_defs.specs.Places.{item_slots, task_slot, in_slots, out_slots};
-ghost use Rattle.port_walk.specs.Stops.{kind_at, slot_at, kind_of, slot_of, ArePlaces, IsFront, AreStops};
-ghost use Rattle.port_walk.specs.code.Stops.{AreAllBefore};
+ghost use Rattle.port_walk.specs.Stops.{kind_at, slot_at, kind_of, slot_of, IsFront, AreStops};
+ghost use Rattle.port_walk.specs.code.Stops.{AreAllBefore, ArePlaces};
 
 use image_defs::{InColumn, LinkIn, LinkOut, OutBit, Task, Work};
 use seen_list::{List, Memory};

@@ -10,12 +10,12 @@ ghost use Rattle.image_defs.specs.Steps.{timing_of};
 ghost use Rattle.image_defs.specs.WellFormed.{IsWellFormed};
 ghost use Rattle.port_bank.specs.Runs.{CanRun, HasRun, IsLastValue};
 ghost use Rattle.port_bank.specs.Words.{InEachLane, InEachLaneOf};
-ghost use Rattle.port_walk.specs.Readers.{IsNextOfSend};
+ghost use Rattle.port_walk.specs.code.Readers.{IsNextOfSend};
 ghost use Rattle.port_walk.specs.Rows.{AreReaders};
 ghost use Rattle.port_walk.specs.Stands.{IsNextOf, IsNextSend, IsNextReceipt, IsEnding, CanPut, CanTake};
 ghost use Rattle.port_walk.specs.Stops.{AreStops};
-ghost use Rattle.port_walk.specs.Walks.{started, in_next_turn, rests_no_more, HasPut, HasTaken, HasRowRoom, IsWithin, IsNextValue, CanTakeValue};
-ghost use Rattle.port_walk.specs.code.Enters.{CanEnter, HasEntered};
+ghost use Rattle.port_walk.specs.Walks.{started, in_next_turn, HasPut, HasTaken, HasRowRoom, IsWithin, IsNextValue, CanTakeValue};
+ghost use Rattle.port_walk.specs.code.Enters.{rests_no_more, CanEnter, HasEntered};
 
 use crate::kind::{AnyKind, give_up};
 use crate::readers::{Readers, first_lagging, readers_at, turns_wanted};

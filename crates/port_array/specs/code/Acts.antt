@@ -14,8 +14,7 @@ use Rattle.image_defs.specs.Steps.{value_of_member, past_value}
 use Rattle.image_defs.specs.Ports.{PortView}
 use Rattle.port_bank.specs.Flat.{IsWithin}
 use Rattle.port_bank.specs.Reads.{past_in}
-use Rattle.port_array.specs.declared.memory.MemoryState.{MemoryState}
-use Rattle.port_array.specs.Acts.{FitsMemory}
+use Rattle.port_array.specs.Acts.{LaneMemory, FitsMemory}
 
 -- what a source of the port had in the last turn
 abbrev pub past_of : PortView → Source → V4
@@ -44,29 +43,29 @@ pub record HasFewBits (block : BlockWork) : Type 0 where
   pub word : length block.word ≤ MAX_WORD_BITS
 
 -- it is a memory before the first edge, with v in every bit
-pub record IsFirst (v : V4) (block : BlockWork) (memory : MemoryState) : Type 0 where
+pub record IsFirst (v : V4) (block : BlockWork) (memory : LaneMemory) : Type 0 where
   pub fits : FitsMemory block memory
   pub words : memory.cells ≡ initial_words (length block.address) (length block.word) v
 
 -- it went through an edge
-pub record Acted (view : PortView) (block : BlockWork) (old new : MemoryState) : Type 0 where
+pub record Acted (view : PortView) (block : BlockWork) (old new : LaneMemory) : Type 0 where
   pub words : new.cells ≡ (act_at view block old.cells).words
   pub outputs : new.outs ≡ (act_at view block old.cells).outputs
 
 -- an output bit is one of a memory that is there
-pub record FitsBit (memories : List MemoryState) (bit : OutBit) : Type 0 where
+pub record FitsBit (memories : List LaneMemory) (bit : OutBit) : Type 0 where
   pub memory : bit.block < length memories
-  pub within : (memory : MemoryState) → slice_get memories bit.block ≡ Some memory → bit.bit < length memory.outs
+  pub within : (memory : LaneMemory) → slice_get memories bit.block ≡ Some memory → bit.bit < length memory.outs
 
 -- what its memory answered for it
-abbrev pub answered_bit : List MemoryState → OutBit → V4
+abbrev pub answered_bit : List LaneMemory → OutBit → V4
 answered_bit memories bit = value_of_member (λ memory. value_at memory.outs bit.bit) (slice_get memories bit.block)
 
-pub record AreFirst (v : V4) (blocks : List BlockWork) (memories : List MemoryState) : Type 0 where
+pub record AreFirst (v : V4) (blocks : List BlockWork) (memories : List LaneMemory) : Type 0 where
   pub long : length memories ≡ length blocks
-  pub each : (b : ℕ) (block : BlockWork) (memory : MemoryState) → slice_get blocks b ≡ Some block → slice_get memories b ≡ Some memory → IsFirst v block memory
+  pub each : (b : ℕ) (block : BlockWork) (memory : LaneMemory) → slice_get blocks b ≡ Some block → slice_get memories b ≡ Some memory → IsFirst v block memory
 
 -- the first n went through an edge, and the others stayed
-pub record AreActed (view : PortView) (blocks : List BlockWork) (n : ℕ) (old new : List MemoryState) : Type 0 where
-  pub acted : (b : ℕ) (block : BlockWork) (one other : MemoryState) → b < n → slice_get blocks b ≡ Some block → slice_get old b ≡ Some one → slice_get new b ≡ Some other → Acted view block one other
-  pub rest : (b : ℕ) (memory : MemoryState) → n ≤ b → slice_get new b ≡ Some memory → slice_get old b ≡ Some memory
+pub record AreActed (view : PortView) (blocks : List BlockWork) (n : ℕ) (old new : List LaneMemory) : Type 0 where
+  pub acted : (b : ℕ) (block : BlockWork) (one other : LaneMemory) → b < n → slice_get blocks b ≡ Some block → slice_get old b ≡ Some one → slice_get new b ≡ Some other → Acted view block one other
+  pub rest : (b : ℕ) (memory : LaneMemory) → n ≤ b → slice_get new b ≡ Some memory → slice_get old b ≡ Some memory

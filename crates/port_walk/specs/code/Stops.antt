@@ -1,7 +1,19 @@
--- Beside specs/Stops.antt, what only private functions and proofs cite.
+-- Beside specs/Stops.antt and specs/Rows.antt, what only private functions and proofs cite.
 use Rattle.std.specs.Prelude.{◌≡◌, ℕ, ◌+◌, ◌<◌, ◌≤◌, List, length, Some, slice_get}
+use Rattle.std.specs.List.Sorted.{IsStrictlyIncreasing}
+use Rattle.limits.specs.declared.TheConstants.{MAX_PORTS}
+use Rattle.image_defs.specs.declared.image.LinkOut.{LinkOut}
+use Rattle.image_defs.specs.Places.{Each}
 use Rattle.port_walk.specs.declared.stops.Stop.{Stop}
 use Rattle.port_walk.specs.Stops.{counts, slot_at, AreFirstStops}
+
+abbrev pub HasFewReaders : LinkOut → Type 0
+HasFewReaders link = length link.readers ≤ MAX_PORTS
+
+-- ascending slots of a turn that has so many
+pub record ArePlaces (slots : ℕ) (places : List ℕ) : Type 0 where
+  pub rising : IsStrictlyIncreasing places
+  pub low : Each (λ slot. slot < slots) places
 
 -- the first n of these slots are before this bound
 pub record AreAllBefore (slots : List ℕ) (bound n : ℕ) : Type 0 where

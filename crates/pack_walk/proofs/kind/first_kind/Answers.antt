@@ -1,4 +1,4 @@
-use Rattle.std.proofs.Common.{◌∙◌, ap, subst, sym, ◌≡◌, length, ℕ, Some, arith}
+use Rattle.std.proofs.Common.{◌∙◌, ap, subst, sym, ◌≡◌, length, Some, arith}
 use Rattle.stim_text.specs.Lanes.{longest}
 use Rattle.image_defs.specs.Ports.{at_first}
 use Rattle.port_bank.specs.Packed.{PackPortView}

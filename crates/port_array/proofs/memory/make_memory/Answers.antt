@@ -1,14 +1,12 @@
+use Rattle.std.proofs.Common.{◌∙◌, ap, length}
 use Rattle.std.proofs.lemmas.List.{length-replicate}
+use Rattle.port_array.proofs.LaneMemories.{first_of}
 use Rattle.port_array.proofs.memory.make_memory.Goals as goal
 
-pub returns-in-Ok : goal.returns-in-Ok
-returns-in-Ok c =
-    rw (c.in-Ok.ensures, c.len-address_bits.ensures, c.len-word_bits.ensures) (record {
-      fits = record {
-        shape = rw (c.len-address_bits.ensures, c.len-word_bits.ensures) at c.in_ok-new.ensures.shape;
-        address = length-replicate _ _;
-        word = length-replicate _ _;
-        outs = length-replicate _ _;
-      };
-      words = rw (c.len-address_bits.ensures, c.len-word_bits.ensures) at c.in_ok-new.ensures.words;
-    })
+pub returns : goal.returns
+returns g c =
+    first_of g.W.Word c.args.v c.args.block.now _ c.in_ok-make_cells.ensures
+    (ap length c.in_ok-filled.ensures ∙ length-replicate _ _ ∙ c.len.ensures)
+    (ap length c.in_ok-filled-2.ensures ∙ length-replicate _ _ ∙ c.len-word_bits.ensures)
+    (ap length c.in_ok-filled-3.ensures ∙ length-replicate _ _ ∙ c.len-word_bits.ensures)
+    (ap length c.in_ok-filled-4.ensures ∙ length-replicate _ _ ∙ c.len-word_bits.ensures)

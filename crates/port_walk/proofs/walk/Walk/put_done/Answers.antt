@@ -1,4 +1,4 @@
-use Rattle.std.proofs.Common.{subst, sym, refl}
+use Rattle.std.proofs.Common.{subst, sym}
 use Rattle.port_walk.specs.Stands.{CanPut}
 use Rattle.port_walk.specs.Walks.{Walked}
 use Rattle.port_walk.proofs.MoveLemmas.{put_within, put_runs, put_kept, put_made}

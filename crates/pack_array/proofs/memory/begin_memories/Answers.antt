@@ -1,6 +1,0 @@
-use Rattle.std.proofs.Common.{◌∙◌, sym}
-use Rattle.std.proofs.lemmas.Bool.{false≢true}
-use Rattle.pack_array.proofs.memory.begin_memories.Goals as goal
-
-pub returns-then-is_edge-clause-same : goal.returns-then-is_edge-clause-same
-returns-then-is_edge-clause-same c = λ no. absurd (false≢true (sym no ∙ (sym c.is_edge.ensures ∙ c.if-is_edge.true)))

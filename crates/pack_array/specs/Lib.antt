@@ -1,3 +1,0 @@
-pub mod Acts
-pub mod code
-pub mod Kept
