@@ -1,5 +1,5 @@
 -- The values that stand side by side in planes.
-use Rattle.std.specs.Prelude.{◌≡◌, ℕ, ◌+◌, ◌*◌, ◌<◌, List, map, if◌then◌else◌}
+use Rattle.std.specs.Prelude.{◌≡◌, ℕ, ◌+◌, ◌*◌, ◌<◌, if◌then◌else◌}
 use Rattle.std.specs.Int.{bit_at}
 use Rattle.limits.specs.declared.TheConstants.{LANES}
 use Rattle.logic_four.specs.declared.V4.{V4}
@@ -10,10 +10,6 @@ use Rattle.lane_planes.specs.declared.planes.Planes.{Planes}
 -- the value of a lane
 unfoldable pub lane_of : Planes → ℕ → V4
 lane_of p k = value_of (bit_at p.low k + 2 * bit_at p.high k)
-
--- the values of a lane of a list of planes
-abbrev pub lane_row : ℕ → List Planes → List V4
-lane_row k row = map (λ p. lane_of p k) row
 
 -- a value, and another in its place where that is 0 or 1
 abbrev pub forced_value : V4 → V4 → V4

@@ -2,7 +2,7 @@
 
 ghost use Rattle.std.specs.Prelude.{◌≡◌, ◌≢◌, ◌<◌, ℕ, length, set};
 ghost use Rattle.limits.specs.declared.TheConstants.{LANES};
-ghost use Rattle.lane_planes.specs.Lanes.{lane_row};
+ghost use Rattle.port_array.specs.code.Rows.{lane_row};
 ghost use Rattle.port_bank.specs.Places.{lane_values};
 
 use lane_planes::{Planes, lane, with_lane};

@@ -3,7 +3,7 @@ use Rattle.std.proofs.lemmas.List.{ext_get_or, length-map, get_or_default, get_o
 use Rattle.list_laws.proofs.Ranges.{last_or}
 use Rattle.logic_four.specs.declared.V4.TheVariants.{Zero, Undef}
 use Rattle.lane_planes.specs.Lanes.{lane_of}
-use Rattle.lane_planes.specs.Lanes.{lane_row}
+use Rattle.port_array.specs.code.Rows.{lane_row}
 use Rattle.port_array.proofs.laned.put_values.Goals as goal
 
 pub places-preserved : goal.places-preserved

@@ -1,7 +1,7 @@
 use Rattle.std.proofs.Common.{◌≡◌, ◌≢◌, ◌<◌, ℕ, get_or, length}
 use Rattle.limits.specs.declared.TheConstants.{LANES}
 use Rattle.logic_four.specs.declared.V4.TheVariants.{Undef}
-use Rattle.lane_planes.specs.Lanes.{lane_row}
+use Rattle.port_array.specs.code.Rows.{lane_row}
 use Rattle.port_array.proofs.laned.put_values.Given as goal
 
 abbrev pub invariant-places : goal.invariant-places
