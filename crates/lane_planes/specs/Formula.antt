@@ -1,10 +1,9 @@
 -- Gates of two operands by one formula: AND or XOR of the operands, or of their inverses, and then
 -- that or its inverse.
-use Rattle.std.specs.Prelude.{◌≡◌, ◌^◌, ◌-◌, ℕ, Bool, true, false, if◌then◌else◌}
+use Rattle.std.specs.Prelude.{◌^◌, ◌-◌, ℕ, Bool, true, false, if◌then◌else◌}
 use Rattle.limits.specs.declared.TheConstants.{LANES}
 use Rattle.logic_four.specs.declared.Kind.{Kind}
 use Rattle.logic_four.specs.declared.Kind.TheVariants.{And, Nand, Or, Nor, Xor, Xnor, Not, Buf, Tri, Bus}
-use Rattle.lane_planes.specs.declared.planes.PairForm.{PairForm}
 
 -- the kind inverts its operands
 abbrev pub turns_operands : Kind → Bool
@@ -48,9 +47,3 @@ is_parity Bus = false
 -- a mask of all lanes, or of none
 abbrev pub mask_of : Bool → ℕ
 mask_of all = if all then (2 ^ LANES - 1) else 0
-
--- the masks of a form are those of its kind
-pub record IsPairForm (form : PairForm) : Type 0 where
-  pub operands : form.operands ≡ mask_of (turns_operands form.kind)
-  pub answer : form.answer ≡ mask_of (turns_answer form.kind)
-  pub parity : form.parity ≡ mask_of (is_parity form.kind)

@@ -5,7 +5,7 @@ ghost use Rattle.limits.specs.declared.TheConstants.{LANES};
 ghost use Rattle.logic_four.specs.Gates.{gate_value};
 ghost use Rattle.lane_planes.specs.Lanes.{lane_of};
 ghost use Rattle.lane_planes.specs.code.Formula.{is_usual};
-ghost use Rattle.lane_planes.specs.Formula.{turns_operands, turns_answer, is_parity, mask_of, IsPairForm};
+ghost use Rattle.lane_planes.specs.Formula.{turns_operands, turns_answer, is_parity, mask_of};
 
 use crate::gates::{answered, first_operand, joined};
 use crate::{ALL, PairForm, Planes};
@@ -14,8 +14,7 @@ use logic_four::Kind;
 /// The form of a kind.
 #[inline]
 pub fn pair_form(kind: Kind) -> PairForm
-    ensures kind { result.kind ≡ kind }
-    ensures form { IsPairForm result }
+    ensures { result.kind ≡ kind }
 {
     PairForm {
         kind,
@@ -29,7 +28,7 @@ pub fn pair_form(kind: Kind) -> PairForm
 /// by the kind: where a processor guesses wrong at one, it loses more time than all the rest takes.
 #[inline]
 pub fn gate_two(form: PairForm, p: Planes, q: Planes) -> Planes
-    ensures { IsPairForm form → (k : ℕ) → k < LANES → lane_of result k ≡ gate_value form.kind (lane_of p k ∷ lane_of q k ∷ []) }
+    ensures { (k : ℕ) → k < LANES → lane_of result k ≡ gate_value form.kind (lane_of p k ∷ lane_of q k ∷ []) }
 {
     if is_usual(form.kind) {
         usual_two(form, p, q)
@@ -43,7 +42,7 @@ pub fn gate_two(form: PairForm, p: Planes, q: Planes) -> Planes
 #[inline]
 fn usual_two(form: PairForm, p: Planes, q: Planes) -> Planes
     requires { is_usual form.kind ≡ true }
-    ensures { IsPairForm form → (k : ℕ) → k < LANES → lane_of result k ≡ gate_value form.kind (lane_of p k ∷ lane_of q k ∷ []) }
+    ensures { (k : ℕ) → k < LANES → lane_of result k ≡ gate_value form.kind (lane_of p k ∷ lane_of q k ∷ []) }
 {
     let one = p.low ^ form.operands;
     let other = q.low ^ form.operands;

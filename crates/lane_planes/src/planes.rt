@@ -1,7 +1,8 @@
 //! The values of all lanes side by side, and how a gate works on them.
 
-ghost use Rattle.std.specs.Prelude.{◌<◌, ◌^◌};
+ghost use Rattle.std.specs.Prelude.{◌≡◌, ◌<◌, ◌^◌};
 ghost use Rattle.limits.specs.declared.TheConstants.{LANES};
+ghost use Rattle.lane_planes.specs.Formula.{is_parity, mask_of, turns_answer, turns_operands};
 
 use logic_four::Kind;
 
@@ -26,7 +27,7 @@ pub struct PairForm {
     pub answer: u32,
     /// It is XOR of the operands, and not AND.
     pub parity: u32,
-    pub ghost operands_small: { operands < 2 ^ LANES },
-    pub ghost answer_small: { answer < 2 ^ LANES },
-    pub ghost parity_small: { parity < 2 ^ LANES },
+    pub ghost operands_are: { operands ≡ mask_of (turns_operands kind) },
+    pub ghost answer_is: { answer ≡ mask_of (turns_answer kind) },
+    pub ghost parity_is: { parity ≡ mask_of (is_parity kind) },
 }

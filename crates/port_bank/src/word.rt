@@ -10,7 +10,6 @@ ghost use Rattle.func_table.specs.declared.table.Table.{Table};
 ghost use Rattle.func_table.specs.Entries.{entry_for};
 ghost use Rattle.lane_planes.specs.Lanes.{lane_of};
 ghost use Rattle.lane_planes.specs.Forms.{IsForm};
-ghost use Rattle.lane_planes.specs.Formula.{IsPairForm};
 ghost use Rattle.net_defs.specs.declared.stimulus.Stimulus.{Stimulus};
 ghost use Rattle.net_defs.specs.Valid.{IsValidStimulus};
 ghost use Rattle.stim_text.specs.Lanes.{lane_stimulus, AreLanes};
@@ -156,7 +155,7 @@ impl Word for Planes {
 
     ghost lane = { lane_of };
 
-    ghost is_pair = { λ table c d form. IsPairForm form × ((a b : V4) → gate_value form.kind (a ∷ b ∷ []) ≡ entry_for table a b c d) };
+    ghost is_pair = { λ table c d form. (a b : V4) → gate_value form.kind (a ∷ b ∷ []) ≡ entry_for table a b c d };
 
     ghost is_form = { IsForm };
 

@@ -4,7 +4,7 @@ use Rattle.lane_planes.proofs.JoinLemmas.{four_joined}
 use Rattle.lane_planes.proofs.gates.gate_planes.Goals as goal
 
 pub returns-then-operands-eq2 : goal.returns-then-operands-eq2
-returns-then-operands-eq2 c = λ k here. rw (c.if-operands-eq2.true, c.gate_two.ensures c.pair_form.ensures.form k here, c.pair_form.ensures.kind) refl
+returns-then-operands-eq2 c = λ k here. rw (c.if-operands-eq2.true, c.gate_two.ensures k here, c.pair_form.ensures) refl
 
 pub joined_four-base-requires : goal.joined_four-base-requires
 joined_four-base-requires c = c.requires.few
