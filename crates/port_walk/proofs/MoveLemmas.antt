@@ -5,7 +5,6 @@ use Rattle.std.proofs.lemmas.Bool.{le-leb, leb-true}
 use Rattle.std.proofs.lemmas.Option.{slice_get-get_or, slice_get_within}
 use Rattle.list_laws.proofs.Places.{one_there}
 use Rattle.net_defs.specs.Valid.{IsValidStimulus}
-use Rattle.image_defs.specs.declared.image.LinkIn.{LinkIn}
 use Rattle.image_defs.specs.declared.image.LinkOut.{LinkOut}
 use Rattle.image_defs.specs.declared.image.PortImage.{PortImage}
 use Rattle.image_defs.specs.Places.{Each, IsPort, item_slots, in_slots, out_slots}
@@ -24,29 +23,21 @@ use Rattle.port_walk.specs.declared.upcoming.Upcoming.{Upcoming}
 use Rattle.port_walk.specs.Kept.{Parts, view_of, inner, IsKept}
 use Rattle.port_walk.specs.code.Readers.{IsNextOfSend}
 use Rattle.port_walk.specs.Rows.{AreReaders, IsRow, start_of}
-use Rattle.port_walk.specs.Stands.{CanPut, IsNextOf, IsSending, IsReceiving, IsEnding}
+use Rattle.port_walk.specs.Stands.{CanPut, IsNextOf, IsEnding}
 use Rattle.port_walk.specs.Stops.{IsStop, AreStops, counts}
 use Rattle.port_walk.specs.Walks.{Walked, IsNextValue, CanTakeValue, HasPut, HasTaken}
 use Rattle.port_walk.specs.code.Enters.{CanEnter, HasEntered}
 use Rattle.port_walk.proofs.BlockLemmas.{le_late}
 use Rattle.port_walk.proofs.CursorLemmas.{received_before}
 use Rattle.port_walk.proofs.KeptLemmas.{holds_value, next_put}
-use Rattle.port_walk.proofs.WalkLemmas.{IsAfter, IsLinkHere, IsReceiptHere, IsSendHere, after_receipt, after_send, all_done, can_run_on, ends_at, found, good, link_here, no_stop, puts_more, readers_there, receives_at, sends_at, takes_more}
+use Rattle.port_walk.proofs.WalkLemmas.{IsAfter, IsLinkHere, after_receipt, after_send, all_done, can_run, ending_here, found, good, link_here, no_stop, puts_more, readers_there, receiving_here, sending_here, takes_more}
 
 module _ {W P F S : Type 0} (m : word.Ghosts W P F S) (a : Parts W S) (kept : IsKept m a) (stop : Stop) (at : slice_get a.stops a.at ≡ Some stop) where
-  -- ---- which event it is
-
-  pub sending_here : (i : ℕ) (link : LinkOut) → IsSending (view_of a).stand i link → IsSendHere m kept stop at i link
-  sending_here i link sending = sends_at m kept stop at sending.seat sending.is i link sending.next
-
-  pub receiving_here : (j : ℕ) (link : LinkIn) → IsReceiving (view_of a).stand j link → IsReceiptHere m kept stop at j link
-  receiving_here j link receiving = receives_at m kept stop at receiving.seat receiving.is j link receiving.next
-
   -- the value of what it sends next
   pub next_value : IsNextValue m (view_of a) a.value
   next_value = record {
     each = λ i link sending.
-        let here = sending_here i link sending in
+        let here = sending_here m kept stop at i link sending in
         in_each m.lanes (λ l. m.lane a.value l ≡ image_value a.view.image (m.stimulus a.view.image.columns a.view.stimulus l) a.turn a.view.port link.slot) (λ l low.
         holds_value m a kept stop at sending.early link here.is here.slot l low ∙ ap (image_value a.view.image (m.stimulus a.view.image.columns a.view.stimulus l) a.turn a.view.port) (sym here.slot));
   }
@@ -59,13 +50,6 @@ module _ {W P F S : Type 0} (m : word.Ghosts W P F S) (a : Parts W S) (kept : Is
 
   pub inner_here : a.turn ≤ a.until → a.view ≡ inner_at stop a.took
   inner_here early = kept.inner ∙ ap (inner a) (kept.executed early stop at)
-
-  pub can_run : (view : View S) (slots : List ℕ) (sent took : ℕ) (next : Stop) → a.turn ≤ a.until → view ≡ inner_at stop took → slots ≡ a.slots → IsAfter m kept stop at sent took next
-      → InEachLane m (λ v. CanRun v slots stop.items next.items) view
-  can_run view slots sent took next early inside same after = in_each m.lanes (λ l. CanRun (lane_port m.stimulus l view) slots stop.items next.items) (λ l low.
-      can_run_on m kept stop at (lane_port m.stimulus l view) slots sent took next
-      (ap (λ (v : View S). v.begun) inside ∙ le-leb a.turn a.until early) (subst (λ (v : View S). IsPort v.image v.port a.seat) (sym inside) kept.seat)
-      (ap (λ (v : View S). v.executed) inside) (ap (λ (v : View S). v.received) inside) same after)
 
   pub kept_after : (view : View S) (rows : Option (ℕ × ℕ)) (value : W) (sent took : ℕ) (next : Stop) → a.turn ≤ a.until → IsAfter m kept stop at sent took next → view ≡ inner_at next took
       → InEachLaneOf m value (λ v x. IsLastValue v x) view → IsKept m (record a { view = view; rows = rows; at = a.at + 1; sent = sent; took = took; value = value })
@@ -94,7 +78,7 @@ module _ {W P F S : Type 0} (m : word.Ghosts W P F S) (a : Parts W S) (kept : Is
   -- it may receive the value of the stop's slot
   pub can_receive : (value : W) → CanTakeValue m (view_of a) value → InEachLaneOf m value (λ v x. CanReceive v stop.slot x) a.view
   can_receive value can = in_each m.lanes (λ l. CanReceive (lane_port m.stimulus l a.view) stop.slot (m.lane value l)) (λ l low.
-      let here = receiving_here can.j can.link can.receiving in
+      let here = receiving_here m kept stop at can.j can.link can.receiving in
       let early = can.receiving.early in
       let given = in_lane m.lanes (λ k. m.lane value k ≡ image_value a.view.image (m.stimulus a.view.image.columns a.view.stimulus k) a.turn can.link.sender can.link.slot) can.value l low in
       subst (λ (v : View S). CanReceive (lane_port m.stimulus l v) stop.slot (m.lane value l)) (sym (inner_here early)) (record {
@@ -111,7 +95,7 @@ module _ {W P F S : Type 0} (m : word.Ghosts W P F S) (a : Parts W S) (kept : Is
   pub can_end : IsEnding (view_of a).stand → InEachLane m (λ v. CanEnd v) a.view
   can_end ending = in_each m.lanes (λ l. CanEnd (lane_port m.stimulus l a.view)) (λ l low.
       let early = ending.early in
-      let done = all_done m kept stop at (ends_at m kept stop at ending.seat ending.is ending.next) in
+      let done = all_done m kept stop at (ending_here m kept stop at ending) in
       subst (λ (v : View S). CanEnd (lane_port m.stimulus l v)) (sym (inner_here early)) (record { begun = le-leb a.turn a.until early; port = a.seat; is = kept.seat; executed_all = done.0; received_all = done.1 }))
 
 -- ---- a Put or a Take, by the stops that were read
@@ -146,13 +130,13 @@ module _ {W P F S : Type 0} (m : word.Ghosts W P F S) {a : Parts W S} (kept : Is
 
   module _ (can : CanPut (view_of a).stand) where
     put_next : IsAfter m kept here at_here (a.sent + 1) a.took after
-    put_next = after_send m kept here at_here stops same (sending_here m a kept here at_here can.i can.link can.sending).kind
+    put_next = after_send m kept here at_here stops same (sending_here m kept here at_here can.i can.link can.sending).kind
 
     pub put_within : a.at + 1 < length stops
     put_within = let within = slice_get_within a.stops (a.at + 1) after put_next.there in omega (arith, within, ap length same)
 
     pub put_runs : (slots : List ℕ) → slots ≡ a.slots → InEachLane m (λ v. CanRun v slots here.items after.items) a.view
-    put_runs slots is = can_run m a kept here at_here a.view slots (a.sent + 1) a.took after can.sending.early (inner_here m a kept here at_here can.sending.early) is put_next
+    put_runs slots is = can_run m kept here at_here a.view slots (a.sent + 1) a.took after can.sending.early (inner_here m a kept here at_here can.sending.early) is put_next
 
     put_inside : (view : View S) → HasRun a.view view after.items → view ≡ inner_at m a kept here at_here after a.took
     put_inside view run = run ∙ ap (λ (v : View S). record v { executed = after.items }) (inner_here m a kept here at_here can.sending.early)
@@ -168,12 +152,12 @@ module _ {W P F S : Type 0} (m : word.Ghosts W P F S) {a : Parts W S} (kept : Is
           each = λ i link sending.
               ap (λ v. view_of (record a { view = v; rows = rows; at = a.at + 1; sent = a.sent + 1; value = value })) (put_inside view run)
               ∙ ap (λ r. record (view_of a) { rows = r; stand = record (view_of a).stand { puts = take (a.sent + 1) (out_slots a.seat.outs) } }) is
-              ∙ ap (λ ps. record (view_of a) { stand = record (view_of a).stand { puts = ps } }) (puts_more m kept link (sending_here m a kept here at_here i link sending).is);
+              ∙ ap (λ ps. record (view_of a) { stand = record (view_of a).stand { puts = ps } }) (puts_more m kept link (sending_here m kept here at_here i link sending).is);
         })
 
   module _ (v : W) (can : CanTakeValue m (view_of a) v) where
     take_next : IsAfter m kept here at_here a.sent (a.took + 1) after
-    take_next = after_receipt m kept here at_here stops same (receiving_here m a kept here at_here can.j can.link can.receiving).kind
+    take_next = after_receipt m kept here at_here stops same (receiving_here m kept here at_here can.j can.link can.receiving).kind
 
     pub take_within : a.at + 1 < length stops
     take_within = let within = slice_get_within a.stops (a.at + 1) after take_next.there in omega (arith, within, ap length same)
@@ -186,7 +170,7 @@ module _ {W P F S : Type 0} (m : word.Ghosts W P F S) {a : Parts W S} (kept : Is
       got_inside = received ∙ ap after_receive (inner_here m a kept here at_here can.receiving.early)
 
       pub take_runs : (slots : List ℕ) → slots ≡ a.slots → InEachLane m (λ view. CanRun view slots here.items after.items) got
-      take_runs slots is = can_run m a kept here at_here got slots a.sent (a.took + 1) after can.receiving.early got_inside is take_next
+      take_runs slots is = can_run m kept here at_here got slots a.sent (a.took + 1) after can.receiving.early got_inside is take_next
 
       pub take_last : InEachLaneOf m a.value (λ view x. IsLastValue view x) got
       take_last =
@@ -208,7 +192,7 @@ module _ {W P F S : Type 0} (m : word.Ghosts W P F S) {a : Parts W S} (kept : Is
             each = λ j link receiving.
                 ap (λ v. view_of (record a { view = v; rows = rows; at = a.at + 1; took = a.took + 1; value = value })) (take_inside view run)
                 ∙ ap (λ r. record (view_of a) { rows = r; stand = record (view_of a).stand { takes = take (a.took + 1) (in_slots a.seat.ins) } }) is
-                ∙ ap (λ ts. record (view_of a) { stand = record (view_of a).stand { takes = ts } }) (takes_more m kept link (receiving_here m a kept here at_here j link receiving).is);
+                ∙ ap (λ ts. record (view_of a) { stand = record (view_of a).stand { takes = ts } }) (takes_more m kept link (receiving_here m kept here at_here j link receiving).is);
           })
 
 -- ---- a turn that begins

@@ -1,6 +1,6 @@
 -- A port at a stop of its turn: what comes next there, and which stop is after it, whatever values the port has.
-use Rattle.std.proofs.Common.{◌≡◌, inl, inr, ℕ, ◌*◌, ◌+◌, ◌-◌, ◌<◌, ◌≤◌, true, List, [], ◌∷◌, ◌++◌, length, take, get_or, slice_get, Some, sym, ap, ◌∙◌, subst, refl, arith}
-use Rattle.std.proofs.lemmas.Bool.{cases_lt}
+use Rattle.std.proofs.Common.{◌≡◌, inl, inr, ℕ, ◌*◌, ◌+◌, ◌-◌, ◌<◌, ◌≤◌, List, [], ◌∷◌, ◌++◌, length, take, get_or, slice_get, Some, sym, ap, ◌∙◌, subst, refl, arith}
+use Rattle.std.proofs.lemmas.Bool.{cases_lt, le-leb}
 use Rattle.std.proofs.lemmas.List.{length-map, take_more}
 use Rattle.std.proofs.lemmas.Option.{slice_get_within, slice_get-get_or, slice_get_cases, get_or_from_slice_get}
 use Rattle.list_laws.proofs.Places.{one_there, past_end}
@@ -12,7 +12,7 @@ use Rattle.image_defs.specs.declared.image.LinkOut.{LinkOut}
 use Rattle.image_defs.specs.declared.image.PortImage.{PortImage}
 use Rattle.image_defs.specs.Places.{Each, IsPort, item_slots, in_slots, out_slots}
 use Rattle.image_defs.specs.WellFormed.{IsPortImage, IsWellFormed}
-use Rattle.image_defs.specs.Ports.{PortView}
+use Rattle.image_defs.specs.Ports.{View, lane_port}
 use Rattle.port_bank.specs.declared.word.Word as word
 use Rattle.image_defs.proofs.PlaceLemmas.{Rises, rises, at_map}
 use Rattle.event_defs.specs.Next.{SendsNext, ReceivesNext, EndsNext, IsNext}
@@ -26,10 +26,12 @@ use Rattle.port_walk.specs.declared.stops.StopKind.TheVariants.{Send, Receive, E
 use Rattle.port_walk.specs.declared.upcoming.Upcoming.{Upcoming}
 use Rattle.port_walk.specs.declared.upcoming.Upcoming.TheVariants.{Ask, Put, Take, Tell, Done}
 use Rattle.port_bank.specs.Runs.{CanRun}
+use Rattle.port_bank.specs.Words.{InEachLane}
+use Rattle.port_bank.proofs.LaneLemmas.{in_each}
 use Rattle.port_walk.specs.code.Readers.{IsNextOfSend}
 use Rattle.port_walk.specs.Rows.{AreReaders, IsRow, start_of}
-use Rattle.port_walk.specs.Kept.{Parts, IsKept}
-use Rattle.port_walk.specs.Stands.{action_of}
+use Rattle.port_walk.specs.Kept.{Parts, inner, view_of, IsKept}
+use Rattle.port_walk.specs.Stands.{action_of, IsEnding, IsReceiving, IsSending}
 use Rattle.port_walk.specs.Stops.{AreStops, IsFront, IsStop, counts, kind_at, slot_at}
 use Rattle.port_walk.specs.code.Stops.{ArePlaces, HasFewReaders}
 use Rattle.port_walk.proofs.StopLemmas.{places_few, tells, counts_more, send_grows, receipt_grows}
@@ -262,10 +264,10 @@ module _ {W P F S : Type 0} (m : word.Ghosts W P F S) {a : Parts W S} (kept : Is
       pub is : slice_get a.seat.outs a.sent ≡ Some link
       pub slot : link.slot ≡ stop.slot
 
-    pub sends_at : (seat : PortImage) → IsPort a.view.image a.view.port seat → (i : ℕ) (link : LinkOut) → SendsNext seat puts takes i link → IsSendHere i link
-    sends_at seat seat_is i link sends = of_kind stop.kind refl where
+    pub sending_here : (i : ℕ) (link : LinkOut) → IsSending (view_of a).stand i link → IsSendHere i link
+    sending_here i link sending = of_kind stop.kind refl where
       next : SendsNext a.seat puts takes i link
-      next = subst (λ (s : PortImage). SendsNext s puts takes i link) (sym (same_seat seat seat_is)) sends
+      next = subst (λ (s : PortImage). SendsNext s puts takes i link) (sym (same_seat sending.seat sending.is)) sending.next
 
       of_kind : (kind : StopKind) → stop.kind ≡ kind → IsSendHere i link
       of_kind Send is =
@@ -288,10 +290,10 @@ module _ {W P F S : Type 0} (m : word.Ghosts W P F S) {a : Parts W S} (kept : Is
       pub is : slice_get a.seat.ins a.took ≡ Some link
       pub slot : link.slot ≡ stop.slot
 
-    pub receives_at : (seat : PortImage) → IsPort a.view.image a.view.port seat → (j : ℕ) (link : LinkIn) → ReceivesNext seat puts takes j link → IsReceiptHere j link
-    receives_at seat seat_is j link receives = of_kind stop.kind refl where
+    pub receiving_here : (j : ℕ) (link : LinkIn) → IsReceiving (view_of a).stand j link → IsReceiptHere j link
+    receiving_here j link receiving = of_kind stop.kind refl where
       next : ReceivesNext a.seat puts takes j link
-      next = subst (λ (s : PortImage). ReceivesNext s puts takes j link) (sym (same_seat seat seat_is)) receives
+      next = subst (λ (s : PortImage). ReceivesNext s puts takes j link) (sym (same_seat receiving.seat receiving.is)) receiving.next
 
       of_kind : (kind : StopKind) → stop.kind ≡ kind → IsReceiptHere j link
       of_kind Send is =
@@ -308,10 +310,10 @@ module _ {W P F S : Type 0} (m : word.Ghosts W P F S) {a : Parts W S} (kept : Is
           }
       of_kind End is = absurd (receives_not_ends a.view.image kept.image a.view.port a.seat kept.seat puts takes j link next (end_here is))
 
-    pub ends_at : (seat : PortImage) → IsPort a.view.image a.view.port seat → EndsNext seat puts takes → stop.kind ≡ End
-    ends_at seat seat_is ends = of_kind stop.kind refl where
+    pub ending_here : IsEnding (view_of a).stand → stop.kind ≡ End
+    ending_here ending = of_kind stop.kind refl where
       next : EndsNext a.seat puts takes
-      next = subst (λ (s : PortImage). EndsNext s puts takes) (sym (same_seat seat seat_is)) ends
+      next = subst (λ (s : PortImage). EndsNext s puts takes) (sym (same_seat ending.seat ending.is)) ending.next
 
       of_kind : (kind : StopKind) → stop.kind ≡ kind → stop.kind ≡ End
       of_kind Send is = let here = send_here is in absurd (sends_not_ends a.view.image kept.image a.view.port a.seat kept.seat puts takes a.sent here.0 here.1 next)
@@ -371,23 +373,23 @@ module _ {W P F S : Type 0} (m : word.Ghosts W P F S) {a : Parts W S} (kept : Is
 
     -- ---- what the port within may do
 
-    -- the items up to the stop after
-    pub can_run_on : (view : PortView) (slots : List ℕ) (sent took : ℕ) (next : Stop) → view.begun ≡ true → IsPort view.image view.port a.seat → view.executed ≡ stop.items → view.received ≡ took → slots ≡ a.slots → IsAfter sent took next
-        → CanRun view slots stop.items next.items
-    can_run_on view slots sent took next begun is from got_is same after = record {
-      begun = begun;
+    -- the items up to the stop after, in each lane
+    pub can_run : (view : View S) (slots : List ℕ) (sent took : ℕ) (next : Stop) → a.turn ≤ a.until → view ≡ record (inner a stop.items) { received = took } → slots ≡ a.slots → IsAfter sent took next
+        → InEachLane m (λ v. CanRun v slots stop.items next.items) view
+    can_run view slots sent took next early inside same after = in_each m.lanes (λ l. CanRun (lane_port m.stimulus l view) slots stop.items next.items) (λ l low_lane. record {
+      begun = ap (λ (v : View S). v.begun) inside ∙ le-leb a.turn a.until early;
       seat = a.seat;
-      is = is;
+      is = subst (λ (v : View S). IsPort v.image v.port a.seat) (sym inside) kept.seat;
       slots_are = same ∙ kept.slots;
-      from_is = from;
+      from_is = ap (λ (v : View S). v.executed) inside;
       order = let grows = after.grows in front_grows a.slots (stop.slot + 1) (next.slot + 1) stop.items next.items is_stop.front after.is.front (omega arith);
       within = let within = after.is.front.within in subst (λ xs. next.items ≤ length xs) (sym same) within;
       received_before = λ k slot i link low at_k at_i less.
           let below = after.is.front.before k slot (ap (λ xs. slice_get xs k) (sym same) ∙ at_k) low in
           let place = after.is.slot in
           let got : i < took = received_before a.seat a.view.image.slots sent took out_up in_up i link at_i (omega arith) in
-          subst (λ n. i < n) (sym got_is) got;
-    }
+          subst (λ n. i < n) (sym (ap (λ (v : View S). v.received) inside)) got;
+    })
 
     -- at the end of the turn it has executed and received all
     pub all_done : stop.kind ≡ End → (stop.items ≡ length (item_slots a.seat.work)) × (a.took ≡ length a.seat.ins)
