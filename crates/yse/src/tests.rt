@@ -9,6 +9,7 @@ mod at_limits;
 mod below;
 mod blocks;
 mod calls;
+mod coverage;
 mod faults;
 mod homes;
 mod hostile;
@@ -44,6 +45,10 @@ const LATCH: &str = "INPUT(s)\nINPUT(r)\nOUTPUT(q)\nOUTPUT(p)\nq = NAND(s, p)\np
 
 const RAM: &str =
     "INPUT(we)\nINPUT(a0)\nINPUT(a1)\nINPUT(d)\nOUTPUT(q)\n[q] = RAM(we; a0, a1; d)\n";
+
+/// A bus of two drivers.
+const BUS: &str =
+    "INPUT(e)\nINPUT(a)\nINPUT(f)\nINPUT(b)\nOUTPUT(y)\nt = TRI(e, a)\nu = TRI(f, b)\ny = BUS(t, u)\n";
 
 const WIDE: &str =
     "INPUT(a1)\nINPUT(a2)\nINPUT(a3)\nINPUT(a4)\nINPUT(a5)\nINPUT(a6)\nINPUT(a7)\nINPUT(a8)\nINPUT(a9)\nINPUT(a10)\nINPUT(a11)\nINPUT(a12)\nINPUT(a13)\nINPUT(a14)\nINPUT(a15)\nINPUT(a16)\nINPUT(a17)\nOUTPUT(z)\nz = AND(a1, a2, a3, a4, a5, a6, a7, a8, a9, a10, a11, a12, a13, a14, a15, a16, a17)\n";

@@ -1,9 +1,6 @@
 //! Whole calls: what the commands end with, each over the same files.
 
-use super::{C17, Case, FILES, LATCH, RAM, S27, WIDE, all_end};
-
-const SHARE: &str =
-    "INPUT(e)\nINPUT(a)\nINPUT(f)\nINPUT(b)\nOUTPUT(y)\nt = TRI(e, a)\nu = TRI(f, b)\ny = BUS(t, u)\n";
+use super::{BUS, C17, Case, FILES, LATCH, RAM, S27, WIDE, all_end};
 
 const REGISTER: &str = "INPUT(a)\nOUTPUT(q)\nq = DFF(a)\n";
 
@@ -198,7 +195,7 @@ const SMALL: &[Case] = &[
     Case {
         calls: ALL,
         words: FILES,
-        netlist: SHARE,
+        netlist: BUS,
         stimulus: "0100\n1100\n1110\n1111\n1z00\n",
         machine: "",
         more: "",

@@ -2,11 +2,7 @@
 //! the stuck signal's gate or register is replaced by an input of a constant value. A memory's outputs can't be replaced
 //! so; their lines are those of a second program.
 
-use super::{C17, Case, FILES, LATCH, RAM, S27, all_end};
-
-/// A bus of two drivers.
-const BUS: &str =
-    "INPUT(e)\nINPUT(a)\nINPUT(f)\nINPUT(b)\nOUTPUT(y)\nt = TRI(e, a)\nu = TRI(f, b)\ny = BUS(t, u)\n";
+use super::{BUS, C17, Case, FILES, LATCH, RAM, S27, all_end};
 
 const CALLS: &str = "fault --workers 1|fault --workers 2|fault --workers 7";
 

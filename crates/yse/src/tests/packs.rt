@@ -1,15 +1,11 @@
 //! Runs of lanes against the reference: each lane prints what `refer` prints of its own stimulus.
 
-use super::{C17, EASY, FILES, LATCH, RAM, S27, Texts, all_print, end_of, four};
+use super::{BUS, C17, EASY, FILES, LATCH, RAM, S27, Texts, all_print, end_of, four};
 use seen_list::{Memory, Text};
 use std::alloc::Global;
 use std::marker::Sync;
 use std::sync::Wait;
 use std::thread::Threads;
-
-/// A bus of two drivers.
-const BUS: &str =
-    "INPUT(e)\nINPUT(a)\nINPUT(f)\nINPUT(b)\nOUTPUT(y)\nt = TRI(e, a)\nu = TRI(f, b)\ny = BUS(t, u)\n";
 
 /// A memory of two words of 64 bits.
 const WORDS: &str =

@@ -14,6 +14,7 @@ const REFUSED: &str = "\
 |compile a b|compile a --workers 2|exec a b|exec a i b c|exec a i b --machine m\
 |exec a i b --homes plain|pack a|pack a b --banks 1|pack a b --homes plain|pack a b --order o\
 |fault a|fault a b --machine m|fault a b --banks 1|fault a b --faults|refer a b --faults f\
+|cover a|cover a b --workers 1\
 |run a b --faults f|fault a b --faults f --faults f|refer a b --homes plain|order a b --homes plain\
 |run a b --homes best|plan a --units 1|plan a --mode|plan a --mode ''|show a --mode rank|show a b\
 |run a b --mac m|run a b --Machine m|run a b ---machine m|run a b -machine m|run a b --=m\
@@ -33,7 +34,7 @@ const REFUSED: &str = "\
 const NETLIST_FIRST: &str = "\
 run a b|refer --mode=unit a --units=4096 b --init=x|plan a|show a\
 |compile a --homes better --units 3 --mode unit --init 0|exec a i b|run a b --homes plain\
-|plan a --homes=better|run a b --workers 64 --banks 8|pack a b|fault a b|fault a b --faults f\
+|plan a --homes=better|run a b --workers 64 --banks 8|pack a b|fault a b|fault a b --faults f|cover a b\
 |fault --mode mixed a --last l b --units 3|run a b --|run -- a b|run a -- --machine\
 |run a b --units 1|run a b --units 2 --mode unit|run a b --mode unit --units 0000000007\
 |run a b --mode mixed --last l --units 2|plan a --last l --mode mixed";
