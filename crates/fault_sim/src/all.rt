@@ -14,7 +14,7 @@ use crate::group::scheduled_group;
 use crate::wires::Lanes;
 use crate::{Fault, Verdict};
 use logic_four::{Kind, V4};
-use net_defs::{Netlist, Ranks, Stimulus, Timing};
+use net_defs::{Block, Netlist, Ranks, Stimulus, Timing};
 use net_ops::{Schedule, make_schedule};
 use seen_list::{List, Memory};
 use std::alloc::Global;
@@ -23,6 +23,12 @@ use wide_planes::WIDE_LANES;
 
 /// The faults of a group. Each takes a lane beside that of the good design.
 const FAULTS: usize = WIDE_LANES as usize - 1;
+
+/// The faults of a group however large the memories are, if there are as many.
+const LEAST_FAULTS: usize = 29;
+
+/// The bits of all memories in all lanes of a group of more faults.
+const GROUP_BITS: usize = 1 << 28;
 
 /// Faults that run side by side, and the verdicts on them once they are made.
 #[derive(Drop)]
@@ -169,23 +175,37 @@ fn make_groups(alloc: Global, net: &Netlist, faults: &[Fault]) -> Result<List<Gr
     requires { All (IsFault net.now) faults.now }
     ensures { IfOk result (AreGroups net.now faults.now) }
 {
+    let most = most_faults(net);
     let mut groups = List::new(alloc);
     let mut begun = 0;
-    'groups: for _group in 0..faults.len().div_ceil(FAULTS) {
-        let end = begun + group_size(faults.len() - begun);
+    'groups: while begun < faults.len() {
+        let end = begun + most.min(faults.len() - begun);
         groups.push(make_group(alloc, &faults[begun..end])?)?;
         begun = end;
     }
     Ok(groups)
 }
 
-/// How many of the faults that are left make a group.
-fn group_size(left: usize) -> usize
-    ensures few { result ≤ FAULTS }
-    ensures within { result ≤ left }
-    ensures whole { result < left → result ≡ FAULTS }
+/// The most faults of a group: fewer than there are lanes, where so many copies of the memories would be large.
+fn most_faults(net: &Netlist) -> usize
+    ensures some { 1 ≤ result }
+    ensures few { result < WIDE_LANES }
 {
-    if left < FAULTS { left } else { FAULTS }
+    let mut bits = 1usize;
+    for block in net.blocks.as_slice() {
+        bits = bits.saturating_add(block_bits(block));
+    }
+    let most = GROUP_BITS.checked_div(bits).unwrap_or(FAULTS);
+    most.clamp(LEAST_FAULTS, FAULTS)
+}
+
+/// The bits of a memory, a word for each address, if a `usize` can count them.
+fn block_bits(block: &Block) -> usize {
+    let mut bits = block.outs.len();
+    for _bit in 0..block.address.len() {
+        bits = bits.saturating_mul(2);
+    }
+    bits
 }
 
 /// The group of these faults.

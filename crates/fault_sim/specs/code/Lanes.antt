@@ -5,6 +5,7 @@ use Rattle.logic_four.specs.declared.Kind.{Kind}
 use Rattle.logic_four.specs.Gates.{gate_value}
 use Rattle.logic_four.specs.declared.V4.TheVariants.{Zero, One, Undef, HighZ}
 use Rattle.wide_planes.specs.Lanes as wide
+use Rattle.wide_planes.specs.declared.planes.Wide.{Wide}
 use Rattle.fault_sim.specs.declared.wires.Lanes.{Lanes}
 use Rattle.net_defs.specs.declared.netlist.Netlist.{Netlist}
 use Rattle.net_defs.specs.Time.{value_at}
@@ -18,6 +19,10 @@ lane_of place l = wide.lane_of place.planes l
 
 abbrev pub lane_row : ℕ → List Lanes → List V4
 lane_row l row = map (λ place. lane_of place l) row
+
+-- the values of a lane of a row of planes
+abbrev pub wide_row : ℕ → List Wide → List V4
+wide_row l row = map (λ p. wide.lane_of p l) row
 
 -- the fault of a lane
 abbrev pub lane_fault : List Fault → ℕ → Option Fault
@@ -54,7 +59,7 @@ stuck_value HighZ = None
 
 -- what a lane's signal is stuck at
 abbrev pub stuck_in : Forces → ℕ → ℕ → Option V4
-stuck_in forces l s = if slice_index_or forces.stuck s false then stuck_value (value_at (wide.lane_row l forces.planes) s) else None
+stuck_in forces l s = if slice_index_or forces.stuck s false then stuck_value (value_at (wide_row l forces.planes) s) else None
 
 -- what each signal is stuck at, lane by lane
 pub record AreForces (net : Netlist) (faults : List Fault) (forces : Forces) : Type 0 where

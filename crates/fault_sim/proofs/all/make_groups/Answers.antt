@@ -5,16 +5,11 @@ use Rattle.fault_sim.proofs.all.make_groups.Goals as goal
 
 pub groups-preserved : goal.groups-preserved
 groups-preserved c =
-    let size = c.group_size.ensures in
     let begun = c.groups.begun in
-    let end = begun + c.group_size.result in
-    let within : end ≤ length c.args.faults.now = omega (arith, size.within, c.groups.invariant.within) in
+    let end = begun + c.min.result in
+    let within : end ≤ length c.args.faults.now = omega (arith, c.min.ensures, c.groups.invariant.within) in
     record {
       groups = subst (AreGroups c.args.net.now (take end c.args.faults.now)) (sym c.in_ok-push.ensures.ok)
-          (groups_more c.args.net.now c.args.faults.now begun end c.groups.groups c.in_ok-make_group.field-0 c.groups.invariant.groups c.in_ok-make_group.ensures.faults (omega arith) within (omega (arith, size.few)) c.requires);
+          (groups_more c.args.net.now c.args.faults.now begun end c.groups.groups c.in_ok-make_group.field-0 c.groups.invariant.groups c.in_ok-make_group.ensures.faults (omega arith) within (omega (arith, c.min.ensures, c.most_faults-most.ensures.few)) c.requires);
       within = within;
-      whole = λ below.
-          let full = size.whole (omega (arith, below)) in
-          let before = c.groups.invariant.whole (omega (arith, below)) in
-          omega (arith, full, before);
     }
