@@ -35,10 +35,12 @@ impl Watching {
     }
 }
 
-impl Observer for Watching {
+impl Observer<V4> for Watching {
     ghost has_seen = { λ watching net seen left. HaveMarks net watching.marks watching.last seen };
 
     ghost goes_on = { λ watching. true };
+
+    ghost room = { λ watching. length watching.marks };
 
     /// Marks what each signal did.
     fn look(&mut self, net: &Netlist, row: &[V4]) -> bool {

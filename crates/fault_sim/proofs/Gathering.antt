@@ -1,5 +1,6 @@
 -- Verdicts of several groups of faults, and all faults in groups.
-use Rattle.std.proofs.Common.{◌≡◌, ◌∙◌, inl, inr, ℕ, zero, suc, ◌+◌, ◌-◌, ◌<◌, ◌≤◌, true, List, [], ◌∷◌, ◌++◌, length, length-drop, take, drop, get_or, append-nil, append_assoc, length-append, refl, sym, ap, ap₂, subst, arith}
+use Rattle.std.proofs.Common.{◌≡◌, ◌∙◌, inl, inr, ℕ, zero, suc, ◌+◌, ◌-◌, ◌<◌, ◌≤◌, List, [], ◌∷◌, ◌++◌, length, length-drop, take, drop, get_or, append-nil, append_assoc, length-append, refl, sym, ap, ap₂, subst, arith}
+use Rattle.std.specs.Prelude.{IfOk, Ok}
 use Rattle.std.specs.List.{slice_get, All, flat_map, range_with_len}
 use Rattle.std.proofs.Math.Seq.{take-add}
 use Rattle.std.proofs.lemmas.List.{take_all, length-take-le}
@@ -67,13 +68,12 @@ module _ (net : Netlist) (timing : Timing) (stimulus : Stimulus) where
       (run.each k (get_or before k d) (get_or after k d) (slice_get-get_or before k d (omega (arith, within, run.count))) (slice_get-get_or after k d within)).done
 
   -- the verdicts of one group more
-  pub gather_more : (groups : List Group) (i : ℕ) (group : Group) (verdicts more new : List Verdict) → AreVerdicts net timing stimulus (group_faults (take i groups)) verdicts → i < length groups → group ≡ get_or groups i group
-      → All (IsDone net timing stimulus) groups → group.is_done ≡ true → more ≡ group.verdicts → new ≡ verdicts ++ more → AreVerdicts net timing stimulus (group_faults (take (i + 1) groups)) new
-  gather_more groups i group verdicts more new so_far within is all done same grown =
-      let here : AreVerdicts net timing stimulus group.faults group.verdicts = subst (IsDone net timing stimulus) (sym is) (all i group within) done in
-      let list : new ≡ verdicts ++ group.verdicts = grown ∙ ap (λ xs. verdicts ++ xs) same in
+  pub gather_more : (groups : List Group) (i : ℕ) (group : Group) (verdicts made more new : List Verdict) → AreVerdicts net timing stimulus (group_faults (take i groups)) verdicts → i < length groups → group ≡ get_or groups i group
+      → All (IsDone net timing stimulus) groups → group.verdicts ≡ Ok made → more ≡ made → new ≡ verdicts ++ more → AreVerdicts net timing stimulus (group_faults (take (i + 1) groups)) new
+  gather_more groups i group verdicts made more new so_far within is all done same grown =
+      let here : AreVerdicts net timing stimulus group.faults made = subst (λ result. IfOk result (AreVerdicts net timing stimulus group.faults)) done (subst (IsDone net timing stimulus) (sym is) (all i group within)) in
       subst (λ faults. AreVerdicts net timing stimulus faults new) (sym (flat_map_grown (λ g. g.faults) groups i group is within))
-      (subst (AreVerdicts net timing stimulus (group_faults (take i groups) ++ group.faults)) (sym list) (verdicts_more (group_faults (take i groups)) group.faults verdicts group.verdicts so_far here))
+      (subst (AreVerdicts net timing stimulus (group_faults (take i groups) ++ group.faults)) (sym (grown ∙ ap (λ xs. verdicts ++ xs) same)) (verdicts_more (group_faults (take i groups)) group.faults verdicts made so_far here))
 
   pub gather_all : (groups : List Group) (i : ℕ) (verdicts : List Verdict) → length groups ≤ i → AreVerdicts net timing stimulus (group_faults (take i groups)) verdicts → AreVerdicts net timing stimulus (group_faults groups) verdicts
   gather_all groups i verdicts all so_far = subst (λ list. AreVerdicts net timing stimulus (group_faults list) verdicts) (take_all i groups all) so_far

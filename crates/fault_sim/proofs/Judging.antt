@@ -1,12 +1,12 @@
--- A group of runs from one cycle to the next.
-use Rattle.std.proofs.Common.{◌≡◌, ◌∙◌, inl, inr, ℕ, zero, suc, ◌+◌, ◌*◌, ◌<◌, ◌≤◌, Bool, true, false, ◌&&◌, List, [], ◌∷◌, length, replicate, get_or, refl, sym, ap, ap₂, subst, arith, Option, Some, None}
-use Rattle.std.specs.List.{slice_get, All, list_all, take-map}
+-- The verdicts of a group of runs from one cycle to the next.
+use Rattle.std.proofs.Common.{◌≡◌, ◌∙◌, inl, inr, ℕ, ◌+◌, ◌<◌, ◌≤◌, Bool, true, false, not, List, [], ◌∷◌, ◌++◌, length, replicate, get_or, refl, sym, ap, ap₂, subst, arith, Some}
+use Rattle.std.specs.List.{slice_get, All}
 use Rattle.std.proofs.lemmas.Bool.{cases_lt}
 use Rattle.std.proofs.lemmas.Option.{slice_get_within, slice_get-get_or, get_or_from_slice_get}
-use Rattle.std.proofs.lemmas.List.{get_or-replicate, length-replicate}
+use Rattle.std.proofs.lemmas.List.{get_or-replicate, get_or_append_left, get_or_push, length-replicate, length_push}
+use Rattle.std.proofs.lemmas.List.Folds.{list_all_at}
+use Rattle.limits.specs.declared.TheConstants.{MAX_CYCLES}
 use Rattle.list_laws.proofs.Members.{each}
-use Rattle.ref_sim.proofs.Simulations.{one_along}
-use Rattle.fault_sim.specs.code.Lanes.{lane_of, lane_row}
 use Rattle.logic_four.specs.declared.V4.{V4}
 use Rattle.net_defs.specs.declared.netlist.Netlist.{Netlist}
 use Rattle.net_defs.specs.declared.timing.Timing.{Timing}
@@ -15,57 +15,23 @@ use Rattle.net_defs.specs.Time.{value_at, cycle_count}
 use Rattle.net_defs.specs.Steps.{State, values_of}
 use Rattle.net_defs.specs.Loops.{IsOrder}
 use Rattle.net_defs.specs.Trace.{cells_of}
-use Rattle.net_defs.specs.Reference.{IsSimulation}
-use Rattle.ref_sim.specs.code.Runs.{StandsAt}
-use Rattle.ref_sim.proofs.CycleLemmas.{cycle_passes}
 use Rattle.net_defs.specs.declared.faults.Fault.{Fault}
+use Rattle.ref_sim.specs.Observing.{HasWatchedLanes}
+use Rattle.ref_sim.proofs.Simulations.{one_along}
+use Rattle.wide_planes.specs.declared.TheConstants.{WIDE_LANES}
 use Rattle.fault_sim.specs.declared.faults.Verdict.{Verdict}
 use Rattle.fault_sim.specs.declared.faults.Verdict.TheVariants.{Seen, Unseen}
-use Rattle.net_ops.specs.declared.state.LaneState.{LaneState}
-use Rattle.net_ops.specs.Places.{row_of}
-use Rattle.net_ops.specs.States.{lane_state, Passes}
 use Rattle.fault_sim.specs.declared.wires.Lanes.{Lanes}
 use Rattle.fault_sim.specs.declared.force.Forces.{Forces}
-use Rattle.fault_sim.specs.Faults.{stuck, IsFault}
-use Rattle.fault_sim.specs.code.Faults.{order_for}
+use Rattle.fault_sim.specs.Faults.{IsFault}
+use Rattle.fault_sim.specs.Lines.{is_detected}
 use Rattle.fault_sim.specs.Verdicts.{differs, is_seen, IsFirstSeen, Judges, AreVerdicts}
-use Rattle.fault_sim.specs.code.Lanes.{lane_net, stuck_in, AreForces}
-use Rattle.fault_sim.specs.code.Runs.{HasOrder, differs_in, IsLooked, AreLooked, is_decided, are_decided, StandsInLanes, RunsTo}
-use Rattle.fault_sim.proofs.LaneSteps.{lane_step}
-use Rattle.fault_sim.proofs.Orders.{order_serves, one_stuck}
-
--- ---- the netlist of a lane
-
-pub lane_net_at : (net : Netlist) (faults : List Fault) (k : ℕ) (fault : Fault) → slice_get faults k ≡ Some fault → lane_net net faults (k + 1) ≡ stuck net fault
-lane_net_at net faults k fault at = let add : k + 1 ≡ suc k = omega arith in rw (add, at) refl
-
--- it has an order
-pub lane_order : (net : Netlist) (faults : List Fault) (timing : Timing) (l : ℕ) → All (IsFault net) faults → HasOrder net timing → HasOrder (lane_net net faults l) timing
-lane_order net faults timing zero are order = order
-lane_order net faults timing (suc k) are order = by_fault (slice_get faults k) refl where
-  by_fault : (found : Option Fault) → slice_get faults k ≡ found → HasOrder (lane_net net faults (suc k)) timing
-  by_fault None at = rw at order
-  by_fault (Some fault) at = rw at (order_for net fault order.0, order_serves net fault (each (IsFault net) faults k fault are at) timing order.0 order.1)
-
--- ---- one cycle
-
--- each lane's run after the turns of a cycle
-pub lanes_stand : (net : Netlist) (faults : List Fault) (forces : Forces) (timing : Timing) (stimulus : Stimulus) (order : List ℕ) → IsOrder net timing order → All (IsFault net) faults → AreForces net faults forces
-    → (cycle : ℕ) (old new : LaneState Lanes) → cycle < cycle_count stimulus
-    → ((l : ℕ) → l ≤ length faults → Passes net timing stimulus (stuck_in forces l) (cycle * timing.units) timing.units (lane_state lane_of net l old) (lane_state lane_of net l new))
-    → StandsInLanes net faults timing stimulus (cycle * timing.units) old → StandsInLanes net faults timing stimulus ((cycle + 1) * timing.units) new
-lanes_stand net faults forces timing stimulus order is_order are are_forces cycle old new within passes before l low =
-    let has = lane_order net faults timing l are (order, is_order) in
-    cycle_passes net (lane_net net faults l) timing stimulus (stuck_in forces l) has.0 has.1 (lane_step net timing stimulus faults forces l are are_forces low)
-    cycle (lane_state lane_of net l old) (lane_state lane_of net l new) within (passes l low) (before l low)
+use Rattle.fault_sim.specs.code.Lanes.{lane_of, lane_row, stuck_in, AreForces}
+use Rattle.fault_sim.specs.code.Runs.{HasJudged, ShowsRows, differs_in, IsLooked, AreLooked, are_decided}
+use Rattle.fault_sim.proofs.LaneSteps.{good_runs, faulty_runs}
+use Rattle.fault_sim.proofs.Orders.{one_stuck}
 
 -- ---- one verdict
-
--- the printed values of a cycle, where a simulation stands at its end
-pub cells_there : (net printing : Netlist) (timing : Timing) (stimulus : Stimulus) (cycle : ℕ) (state : State) → StandsAt net timing stimulus (cycle * timing.units) state
-    → (states : List State) → IsSimulation net timing stimulus states → cells_of printing timing states cycle ≡ values_of state.row printing.printed
-cells_there net printing timing stimulus cycle state stands states simulation =
-    ap (λ w. values_of w.row printing.printed) (get_or_from_slice_get states (cycle * timing.units) state (record { row = []; words = [] }) (stands.state_there states simulation))
 
 module _ (net : Netlist) (timing : Timing) (cycles : ℕ) (good faulty : List State) where
   -- a fault that was seen was seen in more cycles too
@@ -102,69 +68,74 @@ module _ (net : Netlist) (timing : Timing) (cycles : ℕ) (good faulty : List St
 
 -- ---- the group
 
-decided_each : (verdicts : List Verdict) (k : ℕ) (verdict : Verdict) → are_decided verdicts ≡ true → slice_get verdicts k ≡ Some verdict → is_decided verdict ≡ true
-decided_each [] k verdict all at = cc
-decided_each (x ∷ xs) k verdict all at = by_test (is_decided x) refl all (λ rest n there. decided_each xs n verdict rest there) k at where
-  by_test : (test : Bool) → is_decided x ≡ test → (test && list_all is_decided xs) ≡ true → (list_all is_decided xs ≡ true → (n : ℕ) → slice_get xs n ≡ Some verdict → is_decided verdict ≡ true)
-      → (k : ℕ) → slice_get (x ∷ xs) k ≡ Some verdict → is_decided verdict ≡ true
-  by_test false is all others k at = cc
-  by_test true is all others zero at = let same : x ≡ verdict = cc in subst (λ v. is_decided v ≡ true) same is
-  by_test true is all others (suc k) at = others all k at
+-- before the first cycle no fault is seen
+pub judged_none : (net : Netlist) (stimulus : Stimulus) (n : ℕ) (verdicts : List Verdict) (cycles : ℕ) → n < WIDE_LANES → cycle_count stimulus ≤ MAX_CYCLES → verdicts ≡ replicate n Unseen → cycles ≡ 0 → HasJudged net verdicts cycles [] (cycle_count stimulus)
+judged_none net stimulus n verdicts cycles few short are none = rw (are, none) (record {
+  few = omega (arith, few, length-replicate n Unseen);
+  count = refl;
+  short = omega (arith, short);
+  judged = λ k verdict there timing good faulty good_shows faulty_shows.
+      let inside : k < n = omega (arith, slice_get_within (replicate n Unseen) k verdict there, length-replicate n Unseen) in
+      let is : Unseen ≡ verdict = sym (get_or-replicate n k Unseen verdict inside) ∙ get_or_from_slice_get (replicate n Unseen) k verdict verdict there in
+      subst (Judges net timing 0 good faulty) is (λ cycle column counted within. absurd (omega (arith, counted, within)));
+})
 
-module _ (net : Netlist) (faults : List Fault) (timing : Timing) (stimulus : Stimulus) where
-  pub runs_kept : (cycles more : ℕ) (state : LaneState Lanes) (verdicts : List Verdict) → cycles ≤ more → are_decided verdicts ≡ true → RunsTo net faults timing stimulus cycles state verdicts → RunsTo net faults timing stimulus more state verdicts
-  runs_kept cycles more state verdicts above all runs = record {
-    stands = λ none. let never : true ≡ false = sym all ∙ none in cc;
-    judged = λ k fault verdict at there good faulty is_good is_faulty.
-        later verdict (decided_each verdicts k verdict all there) good faulty (runs.judged k fault verdict at there good faulty is_good is_faulty);
-  } where
-    later : (verdict : Verdict) → is_decided verdict ≡ true → (good faulty : List State) → Judges net timing cycles good faulty verdict → Judges net timing more good faulty verdict
-    later (Seen cycle column) sure good faulty judged = seen_more net timing cycles good faulty more cycle column above judged
-    later Unseen sure good faulty judged = cc
+-- a cycle more
+module _ (net : Netlist) (rows : List (List Lanes)) (row : List Lanes) (timing : Timing) (states : List State) (l : ℕ) (shows : ShowsRows net timing states l (rows ++ row ∷ [])) where
+  front_shown : ShowsRows net timing states l rows
+  front_shown c low = shows c (omega (arith, low, length_push rows row)) ∙ ap (λ r. values_of (lane_row l r) net.printed) (get_or_append_left rows (row ∷ []) [] c low)
 
-  pub runs_step : (cycles : ℕ) (old new : LaneState Lanes) (before after : List Verdict) → length before ≡ length faults → are_decided before ≡ false
-      → (StandsInLanes net faults timing stimulus (cycles * timing.units) old → StandsInLanes net faults timing stimulus ((cycles + 1) * timing.units) new)
-      → (row : List Lanes) → row ≡ row_of net new.values → AreLooked net row (cycles + 1) before after → RunsTo net faults timing stimulus cycles old before → RunsTo net faults timing stimulus (cycles + 1) new after
-  runs_step cycles old new before after count undecided steps row here looked runs = record {
-    stands = λ none. there_now;
-    judged = λ k fault verdict at there good faulty is_good is_faulty.
-        let inside : k < length faults = slice_get_within faults k fault at in
-        let was : slice_get before k ≡ Some (get_or before k verdict) = slice_get-get_or before k verdict (omega (arith, inside, count)) in
-        let faulty_stands : StandsAt (stuck net fault) timing stimulus ((cycles + 1) * timing.units) (lane_state lane_of net (k + 1) new) =
-        subst (λ n. StandsAt n timing stimulus ((cycles + 1) * timing.units) (lane_state lane_of net (k + 1) new)) (lane_net_at net faults k fault at) (there_now (k + 1) (omega (arith, inside))) in
-        judge_step net timing cycles good faulty (lane_row 0 row) (lane_row (k + 1) row)
-        (cells_there net net timing stimulus (cycles + 1) (lane_state lane_of net 0 new) (there_now 0 (omega arith)) good is_good ∙ row_is 0)
-        (cells_there (stuck net fault) net timing stimulus (cycles + 1) (lane_state lane_of net (k + 1) new) faulty_stands faulty is_faulty ∙ row_is (k + 1))
-        (get_or before k verdict) verdict (runs.judged k fault (get_or before k verdict) at was good faulty is_good is_faulty) (looked.each k (get_or before k verdict) verdict was there);
-  } where
-    there_now : StandsInLanes net faults timing stimulus ((cycles + 1) * timing.units) new
-    there_now = steps (runs.stands undecided)
+  last_shown : (cycles : ℕ) → cycles ≡ length rows → cells_of net timing states (cycles + 1) ≡ values_of (lane_row l row) net.printed
+  last_shown cycles count =
+      ap (λ c. cells_of net timing states (c + 1)) count
+      ∙ (shows (length rows) (omega (arith, length_push rows row)) ∙ ap (λ r. values_of (lane_row l r) net.printed) (get_or_push rows row [] (length rows) refl))
 
-    row_is : (l : ℕ) → values_of (lane_state lane_of net l new).row net.printed ≡ values_of (lane_row l row) net.printed
-    row_is l = ap (λ r. values_of r net.printed) (take-map (λ p. lane_of p l) (length net.signals) new.values ∙ ap (lane_row l) (sym here))
+pub judged_more : (net : Netlist) (before after : List Verdict) (cycles later : ℕ) (rows : List (List Lanes)) (more : ℕ) (row : List Lanes) → later ≡ cycles + 1 → AreLooked net row later before after
+    → HasJudged net before cycles rows (more + 1) → HasJudged net after later (rows ++ row ∷ []) more
+judged_more net before after cycles later rows more row next looked so_far = rw next (record {
+  few = omega (arith, looked.count, so_far.few);
+  count = omega (arith, so_far.count, length_push rows row);
+  short = omega (arith, so_far.short);
+  judged = λ k verdict there timing good faulty good_shows faulty_shows.
+      let inside = slice_get_within after k verdict there in
+      let old = get_or before k verdict in
+      let was : slice_get before k ≡ Some old = slice_get-get_or before k verdict (omega (arith, inside, looked.count)) in
+      judge_step net timing cycles good faulty (lane_row 0 row) (lane_row (k + 1) row)
+      (last_shown net rows row timing good 0 good_shows cycles so_far.count) (last_shown net rows row timing faulty (k + 1) faulty_shows cycles so_far.count) old verdict
+      (so_far.judged k old was timing good faulty (front_shown net rows row timing good 0 good_shows) (front_shown net rows row timing faulty (k + 1) faulty_shows))
+      (subst (λ n. IsLooked net (lane_row 0 row) (lane_row (k + 1) row) n old verdict) next (looked.each k old verdict was there));
+})
 
-  -- before the first cycle no fault is seen
-  pub runs_start : (state : LaneState Lanes) (n : ℕ) (verdicts : List Verdict) → verdicts ≡ replicate n Unseen → StandsInLanes net faults timing stimulus 0 state → RunsTo net faults timing stimulus 0 state verdicts
-  runs_start state n verdicts are stands = rw are (record {
-    stands = λ none. subst (λ turn. StandsInLanes net faults timing stimulus turn state) (omega arith) stands;
-    judged = λ k fault verdict at there good faulty is_good is_faulty.
-        let inside : k < n = omega (arith, slice_get_within (replicate n Unseen) k verdict there, length-replicate n Unseen) in
-        let is : Unseen ≡ verdict = sym (get_or-replicate n k Unseen verdict inside) ∙ get_or_from_slice_get (replicate n Unseen) k verdict verdict there in
-        subst (Judges net timing 0 good faulty) is (λ cycle column counted within. absurd (omega (arith, counted, within)));
-  })
+-- the verdicts at the end, or once each fault is seen
+pub verdicts_made : (net : Netlist) (faults : List Fault) (timing : Timing) (stimulus : Stimulus) (forces : Forces) (order : List ℕ) (verdicts : List Verdict) (cycles : ℕ) → IsOrder net timing order → All (IsFault net) faults → AreForces net faults forces
+    → length verdicts ≡ length faults
+    → HasWatchedLanes lane_of (stuck_in forces) (length faults + 1) net timing stimulus (λ rows left. HasJudged net verdicts cycles rows left) (not (are_decided verdicts)) (cycle_count stimulus)
+    → AreVerdicts net timing stimulus faults verdicts
+verdicts_made net faults timing stimulus forces order verdicts cycles is_order are are_forces count watched = record {
+  count = count;
+  each = λ k fault verdict at there.
+      let is = each (IsFault net) faults k fault are at in
+      let good = one_along net timing stimulus order is_order in
+      let faulty = one_stuck net timing stimulus fault order is is_order in
+      let good_ends = watched.ends 0 net (omega arith) (good_runs net timing stimulus faults forces are_forces order is_order) good.states good.exists in
+      let faulty_ends = watched.ends (k + 1) _ (omega (arith, slice_get_within faults k fault at)) (faulty_runs net timing stimulus faults forces are_forces order is_order k fault at is) faulty.states faulty.exists in
+      let judged = watched.seen.judged k verdict there timing good.states faulty.states
+      (λ c low. ap (λ r. values_of r net.printed) (sym (good_ends c _ (slice_get-get_or watched.rows c [] low))))
+      (λ c low. ap (λ r. values_of r net.printed) (sym (faulty_ends c _ (slice_get-get_or watched.rows c [] low)))) in
+      record {
+        good = good.states;
+        is_good = good.exists;
+        faulty = faulty.states;
+        is_faulty = faulty.exists;
+        judges = whole (are_decided verdicts) refl k verdict there good.states faulty.states judged;
+      };
+} where
+  within : cycles ≤ cycle_count stimulus
+  within = omega (arith, watched.cycles, watched.seen.count)
 
-  -- the verdicts at the end
-  pub verdicts_made : (order : List ℕ) → IsOrder net timing order → All (IsFault net) faults → (state : LaneState Lanes) (verdicts : List Verdict) → length verdicts ≡ length faults → RunsTo net faults timing stimulus (cycle_count stimulus) state verdicts → AreVerdicts net timing stimulus faults verdicts
-  verdicts_made order is_order are state verdicts count runs = record {
-    count = count;
-    each = λ k fault verdict at there.
-        let good = one_along net timing stimulus order is_order in
-        let faulty = one_stuck net timing stimulus fault order (each (IsFault net) faults k fault are at) is_order in
-        record {
-          good = good.states;
-          is_good = good.exists;
-          faulty = faulty.states;
-          is_faulty = faulty.exists;
-          judges = runs.judged k fault verdict at there good.states faulty.states good.exists faulty.exists;
-        };
-  }
+  whole : (all : Bool) → are_decided verdicts ≡ all → (k : ℕ) (verdict : Verdict) → slice_get verdicts k ≡ Some verdict → (good faulty : List State) → Judges net timing cycles good faulty verdict → Judges net timing (cycle_count stimulus) good faulty verdict
+  whole false some k verdict there good faulty judged = subst (λ n. Judges net timing n good faulty verdict) (watched.seen.count ∙ watched.all (ap not some)) judged
+  whole true all k (Seen cycle column) there good faulty judged = seen_more net timing cycles good faulty (cycle_count stimulus) cycle column within judged
+  whole true all k Unseen there good faulty judged =
+      let none = list_all_at is_detected verdicts k Unseen (slice_get_within verdicts k Unseen there) (ap is_detected (get_or_from_slice_get verdicts k Unseen Unseen there)) in
+      cc

@@ -6,5 +6,4 @@ pub mod LineLemmas
 pub mod Looking
 pub mod OneList
 pub mod Orders
-pub mod Starts
 pub mod Stuck

@@ -30,12 +30,11 @@ const LEAST_FAULTS: usize = 29;
 /// The bits of all memories in all lanes of a group of more faults.
 const GROUP_BITS: usize = 1 << 28;
 
-/// Faults that run side by side, and the verdicts on them once they are made.
+/// Faults that run side by side, and the verdicts on them once they are made, if there was memory.
 #[derive(Drop)]
 pub(crate) struct Group {
     pub(crate) faults: List<Fault>,
-    pub(crate) verdicts: List<Verdict>,
-    pub(crate) is_done: bool,
+    pub(crate) verdicts: Result<List<Verdict>, Memory>,
 }
 
 /// The verdicts on all stuck faults of a netlist: two for each signal in signal order, that on stuck at 0
@@ -58,7 +57,7 @@ pub fn fault_all<R: Threads + Sync>(
     ensures named { IfOk result (All (IsNamed net.now stim.now)) }
 {
     let faults = all_faults(alloc, net)?;
-    let verdicts = fault_list(
+    fault_list(
         rt,
         alloc,
         net,
@@ -67,9 +66,7 @@ pub fn fault_all<R: Threads + Sync>(
         stim,
         faults.as_slice(),
         workers,
-    );
-    drop(faults);
-    verdicts
+    )
 }
 
 /// The verdicts on these faults, each in its own place. They are the same for every number of workers.
@@ -93,13 +90,7 @@ pub fn fault_list<R: Threads + Sync>(
     ensures named { IfOk result (All (IsNamed net.now stim.now)) }
 {
     let schedule = make_schedule::<Lanes>(alloc, net, timing, ranks.order.as_slice())?;
-    let mut groups = match make_groups(alloc, net, faults) {
-        Ok(groups) => groups,
-        Err(no) => {
-            drop(schedule);
-            return Err(no);
-        }
-    };
+    let mut groups = make_groups(alloc, net, faults)?;
     run_groups(
         rt,
         alloc,
@@ -110,10 +101,7 @@ pub fn fault_list<R: Threads + Sync>(
         stim,
         workers,
     );
-    drop(schedule);
-    let verdicts = gather(alloc, groups.as_slice(), net, timing, stim);
-    drop(groups);
-    verdicts
+    gather(alloc, groups.as_slice(), net, timing, stim)
 }
 
 /// Runs all groups, each in one of the threads.
@@ -159,15 +147,7 @@ fn run_group(
     requires group { IsGroup net.now group.old }
     ensures { IsRun net.now timing.now stim.now group.old group.new }
 {
-    match scheduled_group(alloc, net, timing, stim, schedule, group.faults.as_slice()) {
-        Ok(verdicts) => {
-            group.verdicts = verdicts;
-            group.is_done = true;
-        }
-        Err(Memory) => {
-            group.is_done = false;
-        }
-    }
+    group.verdicts = scheduled_group(alloc, net, timing, stim, schedule, group.faults.as_slice());
 }
 
 /// The groups of these faults, without verdicts.
@@ -216,8 +196,7 @@ fn make_group(alloc: Global, faults: &[Fault]) -> Result<Group, Memory>
     some.extend_from_slice(faults)?;
     Ok(Group {
         faults: some,
-        verdicts: List::new(alloc),
-        is_done: false,
+        verdicts: Err(Memory),
     })
 }
 
@@ -256,10 +235,10 @@ fn gather(
 {
     let mut verdicts = List::new(alloc);
     'groups: for group in groups {
-        if !group.is_done {
+        let Ok(made) = &group.verdicts else {
             return Err(Memory);
-        }
-        verdicts.extend_from_slice(group.verdicts.as_slice())?;
+        };
+        verdicts.extend_from_slice(made.as_slice())?;
     }
     Ok(verdicts)
 }

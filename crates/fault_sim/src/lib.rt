@@ -12,7 +12,6 @@ mod force;
 mod group;
 mod lines;
 mod look;
-mod run;
 mod wires;
 
 pub use all::{all_faults, fault_all, fault_list};

@@ -127,7 +127,7 @@ fn detected(verdicts: &[Verdict]) -> usize
         .count()
 }
 
-fn is_detected(verdict: &Verdict) -> bool
+pub(crate) fn is_detected(verdict: &Verdict) -> bool
     ensures { result ≡ is_detected verdict.now }
 {
     matches!(verdict, Verdict::Seen { .. })

@@ -1,33 +1,63 @@
 //! What the printed names tell of each fault at the end of a cycle.
 
-ghost use Rattle.std.specs.Prelude.{◌≡◌, ◌+◌, ◌<◌, ◌≤◌, ◌^◌, ℕ, false, length, All};
+ghost use Rattle.std.specs.Prelude.{◌≡◌, ◌+◌, ◌<◌, ◌≤◌, ◌^◌, ℕ, false, length, not, replicate, All, IfOk};
 ghost use Rattle.wide_planes.specs.declared.TheConstants.{WIDE_LANES};
 ghost use Rattle.net_defs.specs.Valid.{IsSignal};
+ghost use Rattle.fault_sim.specs.declared.faults.Verdict.TheVariants as Verdict;
 ghost use Rattle.fault_sim.specs.Verdicts.{differs};
 ghost use Rattle.fault_sim.specs.code.Lanes.{lane_row};
-ghost use Rattle.fault_sim.specs.code.Runs.{FindsColumn, IsLooked, AreLooked, MarkOthers, differs_in, is_decided, are_decided};
+ghost use Rattle.fault_sim.specs.code.Runs.{FindsColumn, HasJudged, IsLooked, AreLooked, MarkOthers, differs_in, are_decided};
 
 use crate::Verdict;
+use crate::lines::is_detected;
 use crate::wires::Lanes;
 use logic_four::V4;
 use net_defs::Netlist;
-use seen_list::List;
+use ref_sim::Observer;
+use seen_list::{List, Memory};
+use std::alloc::Global;
 use wide_planes::{Words, in_all_lanes, lane, opposite};
 
-/// Whether each fault is seen.
-pub(crate) fn are_decided(verdicts: &[Verdict]) -> bool
-    ensures { result ≡ are_decided verdicts.now }
-{
-    verdicts.iter().all(|verdict| is_decided(*verdict))
+/// The verdicts on the faults of a group after so many cycles.
+#[derive(Drop)]
+pub(crate) struct Judging {
+    pub(crate) verdicts: List<Verdict>,
+    cycles: u32,
 }
 
-fn is_decided(verdict: Verdict) -> bool
-    ensures { result ≡ is_decided verdict }
-{
-    match verdict {
-        Verdict::Seen { .. } => true,
-        Verdict::Unseen => false,
+impl Judging {
+    /// Before the first cycle none of so many faults is seen.
+    pub(crate) fn new(alloc: Global, faults: usize) -> Result<Judging, Memory>
+        ensures { IfOk result (λ judging. (judging.verdicts ≡ replicate faults Verdict.Unseen) × (judging.cycles ≡ 0)) }
+    {
+        let verdicts = List::filled(alloc, Verdict::Unseen, faults)?;
+        Ok(Judging {
+            verdicts,
+            cycles: 0,
+        })
     }
+}
+
+impl Observer<Lanes> for Judging {
+    ghost has_seen = { λ judging net rows left. HasJudged net judging.verdicts judging.cycles rows left };
+
+    ghost goes_on = { λ judging. not (are_decided judging.verdicts) };
+
+    ghost room = { λ judging. length judging.verdicts };
+
+    /// Looks at each fault that isn't seen, and goes on until each is.
+    fn look(&mut self, net: &Netlist, row: &[Lanes]) -> bool {
+        self.cycles += 1;
+        look(&mut self.verdicts, row, net, self.cycles);
+        !are_decided(self.verdicts.as_slice())
+    }
+}
+
+/// Whether each fault is seen.
+fn are_decided(verdicts: &[Verdict]) -> bool
+    ensures { result ≡ are_decided verdicts.now }
+{
+    verdicts.iter().all(|verdict| is_detected(verdict))
 }
 
 /// The lanes in which a printed value is another one than that of the good design, as a tester sees it.
@@ -46,7 +76,7 @@ fn other_lanes(row: &[Lanes], net: &Netlist) -> Words
 }
 
 /// Looks at the values of the last turn of a cycle.
-pub(crate) fn look(verdicts: &mut List<Verdict>, row: &[Lanes], net: &Netlist, cycle: u32)
+fn look(verdicts: &mut List<Verdict>, row: &[Lanes], net: &Netlist, cycle: u32)
     requires few { length verdicts.old < WIDE_LANES }
     requires printed { All (IsSignal net.now) net.now.printed }
     requires columns { length net.now.printed < 2 ^ 32 }

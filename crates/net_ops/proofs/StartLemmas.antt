@@ -1,7 +1,7 @@
 -- The state before the first turn, lane by lane.
-use Rattle.std.proofs.Common.{◌≡◌, ◌∙◌, ℕ, ◌<◌, List, [], length, replicate, get_or, sym, ap, arith}
+use Rattle.std.proofs.Common.{◌≡◌, ◌∙◌, ℕ, zero, suc, ◌<◌, List, [], ◌∷◌, length, replicate, get_or, refl, ap, ap₂, arith}
 use Rattle.std.proofs.lemmas.Option.{slice_get_within, get_or_from_slice_get}
-use Rattle.std.proofs.lemmas.List.{length-map, length-replicate, get_or-map, get_or-replicate, ext_get_or, take-replicate}
+use Rattle.std.proofs.lemmas.List.{length-map, get_or-map, get_or-replicate, take-replicate}
 use Rattle.logic_four.specs.declared.V4.{V4}
 use Rattle.logic_four.specs.declared.V4.TheVariants.{Undef}
 use Rattle.logic_four.specs.Memory.{initial_words}
@@ -18,14 +18,8 @@ use Rattle.net_ops.specs.code.States.{initial_memories}
 
 module _ {W : Type 0} (lane : W → ℕ → V4) where
   undefined_row : (w : W) (n l : ℕ) → lane w l ≡ Undef → lane_row lane l (replicate n w) ≡ replicate n Undef
-  undefined_row w n l is =
-      let long = length-replicate n w in
-      let one = length-map (replicate n w) (λ w. lane w l) in
-      let other = length-replicate n Undef in
-      ext_get_or Undef (lane_row lane l (replicate n w)) (replicate n Undef) (omega (arith, long, one, other)) (λ s within.
-      let room : s < n = omega (arith, within, long, one) in
-      get_or-map (λ w. lane w l) (replicate n w) s w Undef (omega (arith, room, long))
-      ∙ (ap (λ w. lane w l) (get_or-replicate n s w w room) ∙ (is ∙ sym (get_or-replicate n s Undef Undef room))))
+  undefined_row w zero l is = refl
+  undefined_row w (suc n) l is = ap₂ (λ v rest. v ∷ rest) is (undefined_row w n l is)
 
   pub first_lane : (net : Netlist) (timing : Timing) (l lanes count : ℕ) (state : LaneState W) (w : W) (v : V4) → state.values ≡ replicate count w → count ≡ place_count net → lane w l ≡ Undef
       → state.memories ≡ replicate lanes (initial_memories net v) → v ≡ initial_value timing.init → l < lanes → lane_state lane net l state ≡ first_state net timing

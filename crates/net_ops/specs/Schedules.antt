@@ -1,5 +1,5 @@
 -- What is made before a run.
-use Rattle.std.specs.Prelude.{◌≡◌, ◌≢◌, ℕ, ◌+◌, ◌<◌, false, if◌then◌else◌, List, length, map, Option, Some, None, slice_get, slice_index, All, AllPairs, Contains}
+use Rattle.std.specs.Prelude.{◌≡◌, ℕ, ◌+◌, ◌<◌, ◌≤◌, false, if◌then◌else◌, List, length, map, Option, Some, None, slice_get, slice_index, slice_index_or, All, AllPairs}
 use Rattle.logic_four.specs.declared.V4.{V4}
 use Rattle.logic_four.specs.Gates.{gate_value}
 use Rattle.net_defs.specs.declared.netlist.Netlist.{Netlist}
@@ -11,7 +11,10 @@ use Rattle.net_defs.specs.Time.{value_at}
 use Rattle.net_defs.specs.Steps.{is_late}
 use Rattle.net_defs.specs.Loops.{is_gate, IsOrder}
 use Rattle.net_ops.specs.declared.ops.PairOp.{PairOp}
+use Rattle.net_ops.specs.declared.schedule.Giver.{Giver}
+use Rattle.net_ops.specs.declared.schedule.Giver.TheVariants as giver
 use Rattle.net_ops.specs.declared.schedule.Schedule.{Schedule}
+use Rattle.net_ops.specs.declared.schedule.Source.{Source}
 use Rattle.net_ops.specs.Lanes.{forced}
 use Rattle.net_ops.specs.Places.{place_count}
 use Rattle.net_ops.specs.Ops.{follow, IsWithin}
@@ -43,12 +46,38 @@ pub record Settles {F : Type 0} (answer : F → V4 → V4 → V4) (is_form : F �
       → value_at (follow answer stuck ops row) (slice_index list i) ≡ forced (stuck (slice_index list i)) (here_value net timing (slice_index list i) (follow answer stuck ops row))
   pub others : (stuck : ℕ → Option V4) (row : List V4) (p : ℕ) → ((i : ℕ) → i < n → slice_index list i ≡ p → ⊥) → value_at (follow answer stuck ops row) p ≡ value_at row p
 
--- the signals that are no gates, among the first so many, each once
-pub record AreSources (net : Netlist) (n : ℕ) (list : List ℕ) : Type 0 where
-  pub different : AllPairs (λ s t. s ≢ t) list
-  pub below : All (λ s. s < n) list
-  pub only : All (λ s. is_gate net s ≡ false) list
-  pub whole : (s : ℕ) → s < n → is_gate net s ≡ false → Contains list s
+-- what gives a signal with this driver its value, of so many signals (and a memory for a gate, of which nobody asks)
+abbrev pub giver_of : ℕ → Driver → Giver
+giver_of signals Input = giver.Input
+giver_of signals (Gate kind ops) = giver.Memory
+giver_of signals (Dff op) = giver.Register (signals + op)
+giver_of signals (BlockBit memory bit) = giver.Memory
+
+-- a register takes what a signal had in the last turn
+abbrev pub IsTakenFrom : ℕ → Giver → Type 0
+IsTakenFrom signals giver.Input = Unit {0}
+IsTakenFrom signals (giver.Register taken) = (signals ≤ taken) × (taken < signals + signals)
+IsTakenFrom signals giver.Memory = Unit {0}
+
+-- a signal that is no gate, and what gives it its value
+pub record IsSource (net : Netlist) (source : Source) : Type 0 where
+  pub no_gate : is_gate net source.signal ≡ false
+  pub taken : IsTakenFrom (length net.signals) source.giver
+  pub given : (signal : Signal) → slice_get net.signals source.signal ≡ Some signal → source.giver ≡ giver_of (length net.signals) signal.driver
+
+-- a source of a list, counted from 0
+abbrev pub no_source : Source
+no_source = record { signal = 0; giver = giver.Input }
+
+abbrev pub source_at : List Source → ℕ → Source
+source_at list k = slice_index_or list k no_source
+
+-- the signals that are no gates, among the first so many, in signal order
+pub record AreSources (net : Netlist) (n : ℕ) (list : List Source) : Type 0 where
+  pub ordered : AllPairs (λ one other. one.signal < other.signal) list
+  pub below : All (λ source. source.signal < n) list
+  pub each : All (IsSource net) list
+  pub whole : (s : ℕ) → s < n → is_gate net s ≡ false → (k : ℕ) × (k < length list) × ((source_at list k).signal ≡ s)
 
 -- the operations are those of an order, which is not kept
 pub record IsSchedule {F : Type 0} (answer : F → V4 → V4 → V4) (is_form : F → Type 0) (net : Netlist) (timing : Timing) (schedule : Schedule F) : Type 0 where

@@ -9,12 +9,11 @@ ghost use Rattle.net_ops.specs.Rams.{ArePorts};
 ghost use Rattle.net_ops.specs.Schedules.{here_value, AreSources, IsSchedule};
 ghost use Rattle.net_ops.specs.States.{lane_state, IsReady};
 ghost use Rattle.net_ops.specs.code.States.{last_state, phase_at, Assigns, HasHeld, HasSources, StepsBy, WordsBy};
-ghost use Rattle.net_ops.specs.code.Values.{Keeps};
 
 use crate::bases::set_bases;
 use crate::ops::do_ops;
 use crate::ram::{RamPort, edge_memories};
-use crate::schedule::Schedule;
+use crate::schedule::{Schedule, Source};
 use crate::state::LaneState;
 use crate::values::keep;
 use crate::wire::Wire;
@@ -69,7 +68,7 @@ pub(crate) fn turn<W: Wire>(
     ensures ready { IsReady W.lanes net.now state.new ports.new }
     ensures lanes { length state.new.memories ≡ length state.old.memories }
 {
-    keep_row(&mut state.values, net);
+    keep(&mut state.values, net.signals.len());
     set_sources(
         state,
         ports,
@@ -83,21 +82,13 @@ pub(crate) fn turn<W: Wire>(
     set_gates(&mut state.values, net, timing, schedule, forces);
 }
 
-/// Keeps the values as those of the last turn.
-fn keep_row<W: Wire>(row: &mut List<W>, net: &Netlist)
-    requires { length row.old ≡ place_count net.now }
-    ensures { Keeps (length net.now.signals) row.old row.new }
-{
-    keep(row.as_mut_slice(), net.signals.len());
-}
-
 /// Gives the sources their values, and takes the memories of each lane through an edge, if this turn is one.
 fn set_sources<W: Wire>(
     state: &mut LaneState<W>,
     ports: &mut List<RamPort>,
     net: &Netlist,
     timing: &Timing,
-    sources: &[u32],
+    sources: &[Source],
     forces: &W::Forces,
     phase: Phase,
     inputs: &[V4],
@@ -121,7 +112,7 @@ fn set_sources<W: Wire>(
             timing,
             sources,
             forces,
-            phase,
+            Phase::Start,
             inputs,
         ),
         Phase::Edge => {
@@ -132,7 +123,7 @@ fn set_sources<W: Wire>(
                 timing,
                 sources,
                 forces,
-                phase,
+                Phase::Edge,
                 inputs,
             );
         }

@@ -11,11 +11,11 @@ use logic_four::V4;
 use seen_list::List;
 
 /// Copies the values of this turn, the first `count`, to the places of the last turn after them.
-pub(crate) fn keep<W: Wire>(row: &mut [W], count: usize)
+pub(crate) fn keep<W: Wire>(row: &mut List<W>, count: usize)
     requires { count + count ≤ length row.old }
     ensures { Keeps count row.old row.new }
 {
-    let (this, rest) = row.split_at_mut(count);
+    let (this, rest) = row.as_mut_slice().split_at_mut(count);
     rest[..count].copy_from_slice(this);
 }
 

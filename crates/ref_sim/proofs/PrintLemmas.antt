@@ -12,10 +12,9 @@ use Rattle.net_defs.specs.Time.{value_at, cycle_count}
 use Rattle.net_defs.specs.Steps.{values_of}
 use Rattle.ref_sim.specs.Observing.{HasWatched}
 use Rattle.ref_sim.specs.Runs.{AreRowsOf}
-use Rattle.ref_sim.specs.code.Runs.{printed_row, ArePrinted}
+use Rattle.ref_sim.specs.code.Runs.{printed_row, value_in, ArePrinted}
 use Rattle.net_ops.specs.Lanes.{lane_row}
 use Rattle.net_ops.proofs.Waits.{map_same}
-use Rattle.ref_sim.specs.code.States.{value_in}
 use Rattle.ref_sim.proofs.CycleLemmas.{same_values}
 
 -- what is printed of a row

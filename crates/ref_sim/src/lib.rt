@@ -22,7 +22,7 @@ pub use observer::Observer;
 use rank_find::order;
 /// Why there is no simulation: the gates of a loop, or want of memory.
 pub use rank_find::RankNo as RefNo;
-pub use run::{observe, refer_in_order};
+pub use run::{observe, observe_lanes, refer_in_order};
 use seen_list::Memory;
 use std::alloc::Global;
 

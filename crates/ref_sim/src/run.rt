@@ -1,25 +1,24 @@
 //! A run over all cycles.
 
-ghost use Rattle.std.specs.Prelude.{◌≡◌, ℕ, ◌+◌, ◌*◌, ◌<◌, ◌==◌, ◌&&◌, true, false, [], length, slice_index_or, IfOk, OnOk};
-ghost use Rattle.net_defs.specs.declared.stimulus.Stimulus.{Stimulus};
-ghost use Rattle.net_defs.specs.Time.{cycle_rows, cycle_count};
+ghost use Rattle.std.specs.Prelude.{◌≡◌, ℕ, ◌+◌, ◌<◌, ◌≤◌, ◌==◌, ◌&&◌, true, false, [], length, IfOk, OnOk};
+ghost use Rattle.net_defs.specs.Time.{cycle_count};
 ghost use Rattle.net_defs.specs.Valid.{IsValid, IsValidTiming};
 ghost use Rattle.net_defs.specs.Steps.{first_state};
 ghost use Rattle.net_defs.specs.Reference.{HasOneSimulation};
 ghost use Rattle.net_defs.specs.Loops.{IsOrder};
-ghost use Rattle.ref_sim.specs.Observing.{HasWatched};
+ghost use Rattle.ref_sim.specs.Observing.{HasWatched, HasWatchedLanes};
 ghost use Rattle.ref_sim.specs.Runs.{AreRowsOf};
 ghost use Rattle.net_ops.specs.Schedules.{IsSchedule};
-ghost use Rattle.net_ops.specs.States.{IsReady};
-ghost use Rattle.net_ops.specs.Tables.{table_value};
-ghost use Rattle.ref_sim.specs.code.States.{any_table, state_of};
-ghost use Rattle.ref_sim.specs.code.Runs.{StandsAt, RunsTo, cycles_before};
+ghost use Rattle.net_ops.specs.States.{lane_state, IsReady};
+ghost use Rattle.ref_sim.specs.code.Runs.{RunsTo, cycles_before};
 
 use crate::observer::Observer;
 use crate::trace_rows::Printing;
 use logic_four::V4;
 use net_defs::{Netlist, Rows, Stimulus, Timing};
-use net_ops::{LaneState, RamPort, Schedule, initial_state, make_ports, make_schedule};
+use net_ops::{
+    LaneState, RamPort, Schedule, Wire, initial_state, make_ports, make_schedule, run_cycle,
+};
 use seen_list::{List, Memory};
 use std::alloc::Global;
 
@@ -38,10 +37,8 @@ pub fn refer_in_order(
     ensures rows { IfOk result (AreRowsOf net.now timing.now stim.now) }
     ensures simulated { HasOneSimulation net.now timing.now stim.now }
 {
-    let schedule = make_schedule::<V4>(alloc, net, timing, order.as_slice())?;
-    drop(order);
     let mut printing = Printing::new(alloc, net, stim)?;
-    run_from_start(alloc, &mut printing, net, timing, stim, &schedule)?;
+    observe(alloc, &mut printing, net, timing, stim, order.as_slice())?;
     Ok(Rows {
         rows: printing.rows,
     })
@@ -49,7 +46,7 @@ pub fn refer_in_order(
 
 /// Shows the values of all signals at the end of each cycle to an observer, by an order that `rank` of
 /// `rank_find` found. It takes memory before the first cycle, and none from then on.
-pub fn observe<O: Observer>(
+pub fn observe<O: Observer<V4>>(
     alloc: Global,
     observer: &mut O,
     net: &Netlist,
@@ -65,53 +62,63 @@ pub fn observe<O: Observer>(
     ensures simulated { HasOneSimulation net.now timing.now stim.now }
 {
     let schedule = make_schedule::<V4>(alloc, net, timing, order)?;
-    run_from_start(alloc, observer, net, timing, stim, &schedule)
+    observe_lanes(alloc, observer, net, timing, stim, &schedule, &(), 1)
 }
 
-/// Runs all cycles of a schedule, from the signals and memories that a run begins with.
-fn run_from_start<O: Observer>(
+/// Shows the same of so many runs side by side, in which signals may be stuck, to an observer, until that wants no
+/// more. It takes memory before the first cycle, and none from then on.
+pub fn observe_lanes<W: Wire, O: Observer<W>>(
     alloc: Global,
     observer: &mut O,
     net: &Netlist,
     timing: &Timing,
     stim: &Stimulus,
-    schedule: &Schedule<u32>,
+    schedule: &Schedule<W::Form>,
+    forces: &W::Forces,
+    lanes: usize,
 ) -> Result<(), Memory>
     requires valid { IsValid net.now }
-    requires schedule { IsSchedule table_value any_table net.now timing.now schedule.now }
+    requires schedule { IsSchedule W.answer W.is_form net.now timing.now schedule.now }
+    requires forces { (s : ℕ) → s < length net.now.signals → W.tells forces.now s }
+    requires lanes { lanes ≤ W.lanes }
     requires ready { O.has_seen observer.old net.now [] (cycle_count stim.now) }
-    ensures { OnOk result (HasWatched net.now timing.now stim.now (O.has_seen observer.new net.now) (O.goes_on observer.new)) }
+    ensures watched { OnOk result (HasWatchedLanes W.lane (W.held forces.now) lanes net.now timing.now stim.now
+        (O.has_seen observer.new net.now) (O.goes_on observer.new) (cycle_count stim.now)) }
+    ensures room { O.room observer.new ≡ O.room observer.old }
 {
-    let mut state = initial_state::<V4>(alloc, net, timing, 1)?;
+    let mut state = initial_state::<W>(alloc, net, timing, lanes)?;
     let mut ports = make_ports(alloc, net)?;
     run(
-        observer, &mut state, &mut ports, net, timing, stim, schedule,
+        observer, &mut state, &mut ports, net, timing, stim, schedule, forces,
     );
     Ok(())
 }
 
 /// Runs all cycles, or fewer where the observer stops. It takes no memory.
-fn run<O: Observer>(
+fn run<W: Wire, O: Observer<W>>(
     observer: &mut O,
-    state: &mut LaneState<V4>,
+    state: &mut LaneState<W>,
     ports: &mut List<RamPort>,
     net: &Netlist,
     timing: &Timing,
     stim: &Stimulus,
-    schedule: &Schedule<u32>,
+    schedule: &Schedule<W::Form>,
+    forces: &W::Forces,
 )
     requires valid { IsValid net.now }
-    requires schedule { IsSchedule table_value any_table net.now timing.now schedule.now }
-    requires ready { IsReady 1 net.now state.old ports.old }
-    requires lane { length state.old.memories ≡ 1 }
-    requires start { state_of net.now state.old ≡ first_state net.now timing.now }
+    requires schedule { IsSchedule W.answer W.is_form net.now timing.now schedule.now }
+    requires forces { (s : ℕ) → s < length net.now.signals → W.tells forces.now s }
+    requires ready { IsReady W.lanes net.now state.old ports.old }
+    requires start { (l : ℕ) → l < length state.old.memories → lane_state W.lane net.now l state.old ≡ first_state net.now timing.now }
     requires observer { O.has_seen observer.old net.now [] (cycle_count stim.now) }
-    ensures { HasWatched net.now timing.now stim.now (O.has_seen observer.new net.now) (O.goes_on observer.new) }
+    ensures watched { HasWatchedLanes W.lane (W.held forces.now) (length state.old.memories) net.now timing.now stim.now
+        (O.has_seen observer.new net.now) (O.goes_on observer.new) (cycle_count stim.now) }
+    ensures room { O.room observer.new ≡ O.room observer.old }
 {
     let mut is_first = true;
     'rows: for r in 0..stim.rows.len() {
         let goes_on = run_row(
-            observer, state, ports, net, timing, stim, schedule, r, is_first,
+            observer, state, ports, net, timing, stim, schedule, forces, r, is_first,
         );
         if !goes_on {
             return;
@@ -121,30 +128,32 @@ fn run<O: Observer>(
 }
 
 /// The cycles of one row of the stimulus, or fewer where the observer stops. It answers whether it goes on.
-fn run_row<O: Observer>(
+fn run_row<W: Wire, O: Observer<W>>(
     observer: &mut O,
-    state: &mut LaneState<V4>,
+    state: &mut LaneState<W>,
     ports: &mut List<RamPort>,
     net: &Netlist,
     timing: &Timing,
     stim: &Stimulus,
-    schedule: &Schedule<u32>,
+    schedule: &Schedule<W::Form>,
+    forces: &W::Forces,
     r: usize,
     is_first: bool,
 ) -> bool
     requires valid { IsValid net.now }
-    requires schedule { IsSchedule table_value any_table net.now timing.now schedule.now }
+    requires schedule { IsSchedule W.answer W.is_form net.now timing.now schedule.now }
+    requires forces { (s : ℕ) → s < length net.now.signals → W.tells forces.now s }
     requires row { r < length stim.now.rows }
     requires first { is_first ≡ (cycles_before stim.now r == 0) }
-    requires ready { IsReady 1 net.now state.old ports.old }
-    requires lane { length state.old.memories ≡ 1 }
-    requires runs { RunsTo net.now timing.now stim.now (O.has_seen observer.old net.now) true
-        (cycles_before stim.now r) (state_of net.now state.old) }
-    ensures ready { IsReady 1 net.now state.new ports.new }
-    ensures lane { length state.new.memories ≡ 1 }
-    ensures runs { RunsTo net.now timing.now stim.now (O.has_seen observer.new net.now) result
-        (cycles_before stim.now (r + 1)) (state_of net.now state.new) }
+    requires ready { IsReady W.lanes net.now state.old ports.old }
+    requires runs { RunsTo W.lane (W.held forces.now) net.now timing.now stim.now (O.has_seen observer.old net.now) true
+        (cycles_before stim.now r) state.old }
+    ensures ready { IsReady W.lanes net.now state.new ports.new }
+    ensures lanes { length state.new.memories ≡ length state.old.memories }
+    ensures runs { RunsTo W.lane (W.held forces.now) net.now timing.now stim.now (O.has_seen observer.new net.now) result
+        (cycles_before stim.now (r + 1)) state.new }
     ensures stops { result ≡ false → O.goes_on observer.new ≡ false }
+    ensures room { O.room observer.new ≡ O.room observer.old }
 {
     let row = &stim.rows.as_slice()[r];
     'times: for time in 0..row.times {
@@ -154,6 +163,7 @@ fn run_row<O: Observer>(
             net,
             timing,
             schedule,
+            forces,
             row.values.as_slice(),
             is_still_first(is_first, time),
         );
@@ -170,28 +180,4 @@ fn is_still_first(is_first: bool, more: u32) -> bool
     ensures { result ≡ (is_first && (more == 0)) }
 {
     is_first && more == 0
-}
-
-/// The turns of one cycle with these inputs.
-fn run_cycle(
-    state: &mut LaneState<V4>,
-    ports: &mut List<RamPort>,
-    net: &Netlist,
-    timing: &Timing,
-    schedule: &Schedule<u32>,
-    inputs: &[V4],
-    is_first: bool,
-)
-    requires valid { IsValid net.now }
-    requires schedule { IsSchedule table_value any_table net.now timing.now schedule.now }
-    requires ready { IsReady 1 net.now state.old ports.old }
-    requires lane { length state.old.memories ≡ 1 }
-    ensures ready { IsReady 1 net.now state.new ports.new }
-    ensures lane { length state.new.memories ≡ 1 }
-    ensures stands { (stimulus : Stimulus) (cycle : ℕ) → is_first ≡ (cycle == 0) → cycle < cycle_count stimulus
-        → slice_index_or (cycle_rows stimulus) cycle [] ≡ inputs.now
-        → StandsAt net.now timing.now stimulus (cycle * timing.now.units) (state_of net.now state.old)
-        → StandsAt net.now timing.now stimulus ((cycle + 1) * timing.now.units) (state_of net.now state.new) }
-{
-    net_ops::run_cycle::<V4>(state, ports, net, timing, schedule, &(), inputs, is_first);
 }

@@ -29,10 +29,12 @@ impl Printing {
     }
 }
 
-impl Observer for Printing {
+impl Observer<V4> for Printing {
     ghost has_seen = { λ printing net seen left. ArePrinted net printing.rows printing.done seen left };
 
     ghost goes_on = { λ printing. true };
+
+    ghost room = { λ printing. length printing.rows };
 
     /// Prints the values into the row of the cycle.
     fn look(&mut self, net: &Netlist, row: &[V4]) -> bool {

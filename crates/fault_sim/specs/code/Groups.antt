@@ -1,5 +1,5 @@
 -- Groups of faults that run side by side.
-use Rattle.std.specs.Prelude.{◌<◌, ◌≡◌, ℕ, true, List, length, Some, slice_get, All}
+use Rattle.std.specs.Prelude.{◌<◌, ◌≡◌, ℕ, List, length, Some, slice_get, All, IfOk}
 use Rattle.std.specs.List.{flat_map}
 use Rattle.wide_planes.specs.declared.TheConstants.{WIDE_LANES}
 use Rattle.net_defs.specs.declared.netlist.Netlist.{Netlist}
@@ -26,7 +26,7 @@ pub record AreGroups (net : Netlist) (all : List Fault) (groups : List Group) : 
 
 -- where a group is done, its verdicts are those on its faults
 abbrev pub IsDone : Netlist → Timing → Stimulus → Group → Type 0
-IsDone net timing stimulus group = group.is_done ≡ true → AreVerdicts net timing stimulus group.faults group.verdicts
+IsDone net timing stimulus group = IfOk group.verdicts (AreVerdicts net timing stimulus group.faults)
 
 -- a group has run: its faults stay
 pub record IsRun (net : Netlist) (timing : Timing) (stimulus : Stimulus) (before after : Group) : Type 0 where

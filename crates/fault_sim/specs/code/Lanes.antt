@@ -11,7 +11,6 @@ use Rattle.net_defs.specs.declared.netlist.Netlist.{Netlist}
 use Rattle.net_defs.specs.Time.{value_at}
 use Rattle.net_defs.specs.declared.faults.Fault.{Fault}
 use Rattle.fault_sim.specs.declared.force.Forces.{Forces}
-use Rattle.fault_sim.specs.Faults.{stuck}
 
 -- the value of a lane of a place, and those of a row
 abbrev pub lane_of : Lanes → ℕ → V4
@@ -28,13 +27,6 @@ wide_row l row = map (λ p. wide.lane_of p l) row
 abbrev pub lane_fault : List Fault → ℕ → Option Fault
 lane_fault faults zero = None
 lane_fault faults (suc k) = slice_get faults k
-
--- the netlist of a lane
-abbrev pub lane_net : Netlist → List Fault → ℕ → Netlist
-lane_net net faults l = with_fault (lane_fault faults l) where
-  with_fault : Option Fault → Netlist
-  with_fault None = net
-  with_fault (Some fault) = stuck net fault
 
 -- the value at which a signal is stuck in a lane, and undefined where it is free
 abbrev pub force_at : List Fault → ℕ → ℕ → V4

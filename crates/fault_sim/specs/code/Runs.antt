@@ -1,32 +1,22 @@
 -- A group of runs side by side, cycle by cycle.
-use Rattle.std.specs.Prelude.{◌≡◌, ℕ, ◌+◌, ◌*◌, ◌<◌, ◌≤◌, Bool, true, false, List, length, Option, Some, None, slice_get}
+use Rattle.std.specs.Prelude.{◌≡◌, ℕ, ◌+◌, ◌<◌, ◌≤◌, Bool, true, false, List, [], length, Option, Some, None, slice_get, slice_index_or}
 use Rattle.std.specs.List.{list_all}
+use Rattle.limits.specs.declared.TheConstants.{MAX_CYCLES}
 use Rattle.logic_four.specs.declared.V4.{V4}
 use Rattle.fault_sim.specs.declared.wires.Lanes.{Lanes}
 use Rattle.wide_planes.specs.declared.TheConstants.{WIDE_LANES}
 use Rattle.wide_planes.specs.declared.planes.Words.{Words}
 use Rattle.wide_planes.specs.Lanes.{bit_of}
-use Rattle.fault_sim.specs.code.Lanes.{lane_of, lane_row}
+use Rattle.fault_sim.specs.code.Lanes.{lane_row}
 use Rattle.net_defs.specs.declared.netlist.Netlist.{Netlist}
 use Rattle.net_defs.specs.declared.timing.Timing.{Timing}
-use Rattle.net_defs.specs.declared.stimulus.Stimulus.{Stimulus}
 use Rattle.net_defs.specs.Time.{value_at}
 use Rattle.net_defs.specs.Steps.{State, values_of}
-use Rattle.net_defs.specs.Loops.{IsOrder}
-use Rattle.net_defs.specs.Reference.{IsSimulation}
-use Rattle.ref_sim.specs.code.Runs.{StandsAt}
-use Rattle.net_defs.specs.declared.faults.Fault.{Fault}
+use Rattle.net_defs.specs.Trace.{cells_of}
 use Rattle.fault_sim.specs.declared.faults.Verdict.{Verdict}
 use Rattle.fault_sim.specs.declared.faults.Verdict.TheVariants.{Seen, Unseen}
-use Rattle.net_ops.specs.declared.state.LaneState.{LaneState}
-use Rattle.net_ops.specs.States.{lane_state}
-use Rattle.fault_sim.specs.Faults.{stuck}
+use Rattle.fault_sim.specs.Lines.{is_detected}
 use Rattle.fault_sim.specs.Verdicts.{differs, Judges}
-use Rattle.fault_sim.specs.code.Lanes.{lane_net}
-
--- the netlist has an order
-abbrev pub HasOrder : Netlist → Timing → Type 0
-HasOrder net timing = (order : List ℕ) × IsOrder net timing order
 
 -- the values of two rows at a printed name tell the fault
 abbrev pub differs_in : Netlist → List V4 → List V4 → ℕ → Bool
@@ -57,22 +47,21 @@ pub record AreLooked (net : Netlist) (row : List Lanes) (cycle : ℕ) (old new :
   pub count : length new ≡ length old
   pub each : (k : ℕ) (before after : Verdict) → slice_get old k ≡ Some before → slice_get new k ≡ Some after → IsLooked net (lane_row 0 row) (lane_row (k + 1) row) cycle before after
 
-abbrev pub is_decided : Verdict → Bool
-is_decided (Seen cycle column) = true
-is_decided Unseen = false
-
+-- each fault is seen
 abbrev pub are_decided : List Verdict → Bool
-are_decided verdicts = list_all is_decided verdicts
+are_decided verdicts = list_all is_detected verdicts
 
--- each lane's run is in its state at this turn
-abbrev pub StandsInLanes : Netlist → List Fault → Timing → Stimulus → ℕ → LaneState Lanes → Type 0
-StandsInLanes net faults timing stimulus turn state =
-    (l : ℕ) → l ≤ length faults → StandsAt (lane_net net faults l) timing stimulus turn (lane_state lane_of net l state)
+-- these states show at the ends of the first cycles what a lane of these rows has at the printed names
+abbrev pub ShowsRows : Netlist → Timing → List State → ℕ → List (List Lanes) → Type 0
+ShowsRows net timing states l rows = (c : ℕ) → c < length rows → cells_of net timing states (c + 1) ≡ values_of (lane_row l (slice_index_or rows c [])) net.printed
 
--- the verdicts on so many cycles are made, and unless each fault is seen the lanes stand at their end
-pub record RunsTo (net : Netlist) (faults : List Fault) (timing : Timing) (stimulus : Stimulus) (cycles : ℕ) (state : LaneState Lanes) (verdicts : List Verdict) : Type 0 where
-  pub stands : are_decided verdicts ≡ false → StandsInLanes net faults timing stimulus (cycles * timing.units) state
+-- the verdicts on so many cycles, each of which ended with one of these rows: each judges every pair of runs that
+-- show the rows of the good design and of its own lane
+pub record HasJudged (net : Netlist) (verdicts : List Verdict) (cycles : ℕ) (rows : List (List Lanes)) (left : ℕ) : Type 0 where
+  pub few : length verdicts < WIDE_LANES
+  pub count : cycles ≡ length rows
+  pub short : cycles + left ≤ MAX_CYCLES
   pub judged :
-      (k : ℕ) (fault : Fault) (verdict : Verdict) → slice_get faults k ≡ Some fault → slice_get verdicts k ≡ Some verdict
-      → (good faulty : List State) → IsSimulation net timing stimulus good → IsSimulation (stuck net fault) timing stimulus faulty
+      (k : ℕ) (verdict : Verdict) → slice_get verdicts k ≡ Some verdict
+      → (timing : Timing) (good faulty : List State) → ShowsRows net timing good 0 rows → ShowsRows net timing faulty (k + 1) rows
       → Judges net timing cycles good faulty verdict

@@ -1,5 +1,5 @@
 -- Beside specs/States.antt, what only private functions and proofs cite.
-use Rattle.std.specs.Prelude.{◌≡◌, ◌≢◌, ℕ, ◌+◌, ◌<◌, ◌≤◌, ◌==◌, Bool, true, false, nat_lt, if◌then◌else◌, List, [], length, map, IsTrue, Option, Some, None, slice_get, slice_index, slice_index_or}
+use Rattle.std.specs.Prelude.{◌≡◌, ◌≢◌, ℕ, ◌+◌, ◌<◌, ◌≤◌, ◌==◌, Bool, true, false, nat_lt, if◌then◌else◌, List, [], length, map, IsTrue, Option, Some, None, slice_get, slice_index_or}
 use Rattle.logic_four.specs.declared.V4.{V4}
 use Rattle.logic_four.specs.declared.V4.TheVariants.{Undef}
 use Rattle.net_defs.specs.declared.netlist.Netlist.{Netlist}
@@ -12,10 +12,14 @@ use Rattle.net_defs.specs.Valid.{is_input}
 use Rattle.net_defs.specs.Steps.{State, values_of, is_late, act_of, words_of, output_bit}
 use Rattle.logic_four.specs.Gates.{gate_value}
 use Rattle.logic_four.specs.Memory.{initial_words}
+use Rattle.net_ops.specs.declared.schedule.Giver.{Giver}
+use Rattle.net_ops.specs.declared.schedule.Giver.TheVariants as giver
+use Rattle.net_ops.specs.declared.schedule.Source.{Source}
 use Rattle.net_ops.specs.declared.state.LaneState.{LaneState}
 use Rattle.net_ops.specs.declared.step.Phase.{Phase}
 use Rattle.net_ops.specs.declared.step.Phase.TheVariants as phase
 use Rattle.net_ops.specs.Lanes.{forced, lane_row}
+use Rattle.net_ops.specs.Schedules.{source_at}
 use Rattle.net_ops.specs.code.Places.{last_row}
 use Rattle.logic_four.specs.Values.{settled}
 use Rattle.net_defs.specs.declared.timing.Timing.{Timing}
@@ -115,20 +119,19 @@ pub record Assigns (which : ℕ → Bool) (f : ℕ → V4) (old new : List V4) :
   pub here : (s : ℕ) → which s ≡ true → value_at new s ≡ f s
   pub others : (p : ℕ) → which p ≡ false → value_at new p ≡ value_at old p
 
--- what a signal that is no gate has: `here` is the row once the memories have answered
-abbrev pub base_value : Netlist → Timing → Phase → List V4 → List V4 → ℕ → Driver → V4
-base_value net timing at inputs here s Input = value_at inputs s
-base_value net timing at inputs here s (Gate kind ops) = value_at here s
-base_value net timing at inputs here s (Dff op) = by_phase at (initial_value timing.init) (settled (value_at here (length net.signals + op))) (value_at here s)
-base_value net timing at inputs here s (BlockBit memory bit) = by_phase at (initial_value timing.init) (value_at here s) (value_at here s)
+-- what a signal has by its giver: `here` is the row once the memories have answered
+abbrev pub given_value : Timing → Phase → List V4 → List V4 → ℕ → Giver → V4
+given_value timing at inputs here s giver.Input = value_at inputs s
+given_value timing at inputs here s (giver.Register taken) = by_phase at (initial_value timing.init) (settled (value_at here taken)) (value_at here s)
+given_value timing at inputs here s giver.Memory = by_phase at (initial_value timing.init) (value_at here s) (value_at here s)
 
--- the first so many signals of a list have that, or what they are stuck at
-pub record AreBases (net : Netlist) (timing : Timing) (stuck : ℕ → Option V4) (at : Phase) (inputs here : List V4) (list : List ℕ) (n : ℕ) (row : List V4) : Type 0 where
+-- the first so many sources of a list have that, or what they are stuck at
+pub record AreBases (timing : Timing) (stuck : ℕ → Option V4) (at : Phase) (inputs here : List V4) (list : List Source) (n : ℕ) (row : List V4) : Type 0 where
   pub long : length row ≡ length here
   pub made :
-      (k : ℕ) (signal : Signal) → k < n → slice_get net.signals (slice_index list k) ≡ Some signal
-      → value_at row (slice_index list k) ≡ forced (stuck (slice_index list k)) (base_value net timing at inputs here (slice_index list k) signal.driver)
-  pub left : (s : ℕ) → ((k : ℕ) → k < n → slice_index list k ≡ s → ⊥) → value_at row s ≡ value_at here s
+      (k : ℕ) → k < n
+      → value_at row (source_at list k).signal ≡ forced (stuck (source_at list k).signal) (given_value timing at inputs here (source_at list k).signal (source_at list k).giver)
+  pub left : (s : ℕ) → ((k : ℕ) → k < n → (source_at list k).signal ≡ s → ⊥) → value_at row s ≡ value_at here s
 
 -- a row whose signals that are no gates have what their drivers give them, or what they are stuck at
 pub record HasSources (net : Netlist) (timing : Timing) (stuck : ℕ → Option V4) (at : Phase) (inputs : List V4) (last : State) (old new : List V4) : Type 0 where

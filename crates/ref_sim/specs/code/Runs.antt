@@ -1,5 +1,5 @@
 -- Beside specs/Runs.antt, what only private functions and proofs cite.
-use Rattle.std.specs.Prelude.{◌≡◌, ℕ, ◌+◌, ◌*◌, Bool, true, List, [], ◌∷◌, ◌++◌, length, map, take, replicate, Some, slice_get, All}
+use Rattle.std.specs.Prelude.{◌≡◌, ℕ, ◌+◌, ◌*◌, ◌<◌, Bool, List, [], ◌∷◌, ◌++◌, length, map, take, replicate, Option, Some, slice_get, All}
 use Rattle.std.specs.List.{flat_map}
 use Rattle.logic_four.specs.declared.V4.{V4}
 use Rattle.net_defs.specs.declared.netlist.Netlist.{Netlist}
@@ -8,8 +8,13 @@ use Rattle.net_defs.specs.declared.stimulus.Stimulus.{Stimulus}
 use Rattle.net_defs.specs.declared.trace.CellRow.{CellRow}
 use Rattle.net_defs.specs.Steps.{State, values_of}
 use Rattle.net_defs.specs.Reference.{IsSimulation}
-use Rattle.net_defs.specs.Time.{cycle_count}
-use Rattle.ref_sim.specs.Observing.{AreEndRows}
+use Rattle.net_ops.specs.declared.state.LaneState.{LaneState}
+use Rattle.net_ops.specs.States.{lane_state}
+use Rattle.ref_sim.specs.Observing.{RunsAs, HasWatchedLanes}
+
+-- a value is that of its one lane
+abbrev pub value_in : V4 → ℕ → V4
+value_in v l = v
 
 -- each simulation is in this state at this turn
 pub record StandsAt (net : Netlist) (timing : Timing) (stimulus : Stimulus) (turn : ℕ) (state : State) : Type 0 where
@@ -19,24 +24,21 @@ pub record StandsAt (net : Netlist) (timing : Timing) (stimulus : Stimulus) (tur
 abbrev pub cycles_before : Stimulus → ℕ → ℕ
 cycles_before stimulus r = length (flat_map (λ row. replicate row.times row.values) (take r stimulus.rows))
 
--- a run has come through so many cycles, or fewer where its observer stopped: what that has looked at are
--- the ends of those of each simulation, and it is ready for the others
-pub record RunsTo (net : Netlist) (timing : Timing) (stimulus : Stimulus) (has_seen : List (List V4) → ℕ → Type 0) (goes_on : Bool) (cycles : ℕ) (state : State) : Type 0 where
-  pub rows : List (List V4)
-  pub left : ℕ
-  pub seen : has_seen rows left
-  pub whole : length rows + left ≡ cycle_count stimulus
-  pub ends : AreEndRows net timing stimulus rows
-  pub all : goes_on ≡ true → length rows ≡ cycles
-  pub stands : StandsAt net timing stimulus (length rows * timing.units) state
+-- runs side by side have come through so many cycles, or fewer where their observer stopped: each lane stands at
+-- the end of what that has looked at
+pub record RunsTo {W : Type 0} (lane : W → ℕ → V4) (stuck : ℕ → ℕ → Option V4) (net : Netlist) (timing : Timing) (stimulus : Stimulus) (has_seen : List (List W) → ℕ → Type 0) (goes_on : Bool) (cycles : ℕ) (state : LaneState W) : Type 0 where
+  pub watched : HasWatchedLanes lane stuck (length state.memories) net timing stimulus has_seen goes_on cycles
+  pub stands :
+      (l : ℕ) (other : Netlist) → l < length state.memories → RunsAs net timing stimulus (stuck l) other
+      → StandsAt other timing stimulus (length watched.rows * timing.units) (lane_state lane net l state)
 
--- one that is ready for a row more
-abbrev pub IsReadyToLook : (List (List V4) → ℕ → Type 0) → Type 0
-IsReadyToLook has_seen = (seen : List (List V4)) × (more : ℕ) × has_seen seen (more + 1)
+-- an observer that is ready for a row more
+abbrev pub IsReadyToLook : {W : Type 0} → (List (List W) → ℕ → Type 0) → Type 0
+IsReadyToLook {W} has_seen = (seen : List (List W)) × (more : ℕ) × has_seen seen (more + 1)
 
 -- and that has looked at it
-abbrev pub HasLooked : (old new : List (List V4) → ℕ → Type 0) → List V4 → Type 0
-HasLooked old new row = (seen : List (List V4)) (more : ℕ) → old seen (more + 1) → new (seen ++ row ∷ []) more
+abbrev pub HasLooked : {W : Type 0} → (old new : List (List W) → ℕ → Type 0) → List W → Type 0
+HasLooked {W} old new row = (seen : List (List W)) (more : ℕ) → old seen (more + 1) → new (seen ++ row ∷ []) more
 
 -- the printed values of a row of signals
 abbrev pub printed_row : Netlist → List V4 → CellRow

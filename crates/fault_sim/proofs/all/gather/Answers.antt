@@ -9,8 +9,8 @@ groups-init c = subst (AreVerdicts c.args.net.now c.args.timing.now c.args.stim.
 
 pub groups-preserved : goal.groups-preserved
 groups-preserved c =
-    gather_more c.args.net.now c.args.timing.now c.args.stim.now c.args.groups.now c.groups.group-index c.group-item.result c.groups.verdicts c.as_slice.result.now c.extend_from_slice.new.self c.groups.invariant c.groups-test.true c.group-item.is c.requires
-    c.if-not-group.false c.as_slice.ensures c.in_ok-extend_from_slice.ensures.ok
+    gather_more c.args.net.now c.args.timing.now c.args.stim.now c.args.groups.now c.groups.group-index c.group-item.result c.groups.verdicts c.in-Ok.made c.as_slice.result.now c.extend_from_slice.new.self c.groups.invariant c.groups-test.true c.group-item.is c.requires
+    c.in-Ok.is c.as_slice.ensures c.in_ok-extend_from_slice.ensures.ok
 
 pub returns-clause-verdicts : goal.returns-clause-verdicts
 returns-clause-verdicts c = gather_all c.args.net.now c.args.timing.now c.args.stim.now c.args.groups.now c.groups.group-index c.groups.verdicts c.groups-test.false c.groups.invariant

@@ -1,9 +1,8 @@
 use Rattle.std.proofs.Common.{◌≡◌, ◌<◌, ◌≤◌, ℕ, length}
 use Rattle.wide_planes.specs.declared.TheConstants.{WIDE_LANES}
 use Rattle.logic_four.specs.declared.V4.TheVariants.{Undef}
-use Rattle.fault_sim.specs.code.Lanes.{wide_row}
+use Rattle.fault_sim.specs.code.Lanes.{force_at, wide_row}
 use Rattle.net_defs.specs.Time.{value_at}
-use Rattle.fault_sim.specs.code.Lanes.{force_at}
 use Rattle.fault_sim.proofs.ForceLemmas.{HasFree}
 use Rattle.fault_sim.proofs.force.make_forces.Given as goal
 

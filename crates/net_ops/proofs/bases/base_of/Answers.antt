@@ -1,18 +1,18 @@
-use Rattle.std.proofs.Common.{◌≡◌, ◌∙◌, sym, ap, get_or, Some}
-use Rattle.std.proofs.lemmas.Option.{slice_get-get_or, get_or_from_slice_get}
-use Rattle.net_defs.specs.declared.netlist.Signal.{Signal}
-use Rattle.net_ops.specs.Lanes.{lane_row}
-use Rattle.net_ops.specs.code.States.{base_value}
+use Rattle.std.proofs.Common.{◌∙◌, ap, ap₂}
+use Rattle.logic_four.specs.Values.{settled}
+use Rattle.net_defs.specs.Time.{initial_value}
+use Rattle.net_ops.specs.code.States.{by_phase}
+use Rattle.net_ops.proofs.LaneLemmas.{lane_at}
 use Rattle.net_ops.proofs.bases.base_of.Goals as goal
 
-pub returns : goal.returns
-returns g c = λ k low signal is.
-    let read : get_or c.args.net.now.signals c.args.s c.index-as_slice-s.result ≡ c.index-as_slice-s.result = rw (← c.as_slice.ensures) (sym c.index-as_slice-s.is) in
-    let same : c.index-as_slice-s.result ≡ signal = sym read ∙ get_or_from_slice_get c.args.net.now.signals c.args.s signal c.index-as_slice-s.result is in
-    c.base_driven.ensures k low
-    ∙ ap (λ (found : Signal). base_value c.args.net.now c.args.timing.now c.args.phase c.args.inputs.now (lane_row g.W.Wire.lane k c.args.row.now) c.args.s found.driver) same
+pub returns-in-Register : goal.returns-in-Register
+returns-in-Register g c = λ l low.
+    let lane = g.W.Wire.lane in
+    let here = lane_at lane c.args.row.now c.args.source.signal l _ c.index-row-source.is c.requires.own in
+    let taken = lane_at lane c.args.row.now c.in-Register.taken l _ c.index-row-taken.is (c.requires.taken c.in-Register.taken c.in-Register.is) in
+    rw c.in-Register.is (c.registered.ensures l low ∙ ap₂ (by_phase c.args.phase (initial_value c.args.timing.now.init)) (c.settled.ensures l low ∙ ap settled taken) here)
 
-pub base_driven-requires-clause-drivable : goal.base_driven-requires-clause-drivable
-base_driven-requires-clause-drivable g c =
-    let read : get_or c.args.net.now.signals c.args.s c.index-as_slice-s.result ≡ c.index-as_slice-s.result = rw (← c.as_slice.ensures) (sym c.index-as_slice-s.is) in
-    c.requires.valid.drivers c.args.s _ (slice_get-get_or _ _ c.index-as_slice-s.result c.requires.signal ∙ ap Some read)
+pub returns-in-Memory : goal.returns-in-Memory
+returns-in-Memory g c = λ l low.
+    let here = lane_at g.W.Wire.lane c.args.row.now c.args.source.signal l _ c.index-row-source.is c.requires.own in
+    rw c.in-Memory.is (c.registered-in-Memory.ensures l low ∙ ap (λ v. by_phase c.args.phase (initial_value c.args.timing.now.init) v v) here)

@@ -1,13 +1,13 @@
 use Rattle.std.proofs.Common.{◌≡◌, ◌==◌, true, length}
 use Rattle.net_ops.specs.States.{IsReady}
-use Rattle.ref_sim.specs.code.States.{state_of}
 use Rattle.ref_sim.specs.code.Runs.{RunsTo, cycles_before}
 use Rattle.ref_sim.proofs.run.run.Given as goal
 
 abbrev pub invariant-rows : goal.invariant-rows
 invariant-rows g l = record {
-  ready : IsReady 1 l.net l.state l.ports;
-  lane : length l.state.memories ≡ 1;
+  ready : IsReady g.W.Wire.lanes l.net l.state l.ports;
+  lanes : length l.state.memories ≡ length l.fn.state.memories;
   first : l.is_first ≡ (cycles_before l.stim l.r == 0);
-  runs : RunsTo l.net l.timing l.stim (g.O.Observer.has_seen l.observer l.net) true (cycles_before l.stim l.r) (state_of l.net l.state);
+  runs : RunsTo g.W.Wire.lane (g.W.Wire.held l.forces) l.net l.timing l.stim (g.O.Observer.has_seen l.observer l.net) true (cycles_before l.stim l.r) l.state;
+  room : g.O.Observer.room l.observer ≡ g.O.Observer.room l.fn.observer;
 }

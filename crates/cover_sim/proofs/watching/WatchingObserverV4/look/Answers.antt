@@ -2,7 +2,7 @@ use Rattle.std.proofs.Common.{◌∙◌, length, sym, ap, subst}
 use Rattle.list_laws.proofs.Members.{refill_whole}
 use Rattle.cover_sim.specs.code.Watching.{AreMarkedTo}
 use Rattle.cover_sim.proofs.WatchLemmas.{marks_more}
-use Rattle.cover_sim.proofs.watching.WatchingObserver.look.Goals as goal
+use Rattle.cover_sim.proofs.watching.WatchingObserverV4.look.Goals as goal
 
 pub returns-clause-seen : goal.returns-clause-seen
 returns-clause-seen c seen more before =
