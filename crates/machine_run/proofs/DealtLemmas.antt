@@ -6,11 +6,8 @@ use Rattle.std.proofs.lemmas.Option.{slice_get_within}
 use Rattle.list_laws.proofs.Places.{at_front, one_there, seam_at}
 use Rattle.crew_run.proofs.Places.{each_push, member_at, one_some, set_other, set_same}
 use Rattle.crew_run.specs.declared.worker.Worker.{Worker}
-use Rattle.image_defs.specs.Places.{host_of}
-use Rattle.port_run.specs.declared.seated.Seated.{Seated}
-use Rattle.slot_words.specs.plain.Passes.{AreFirstPasses, CrossbarView, IsFirstPass, PassView}
-use Rattle.machine_run.specs.Crews.{CrewView}
-use Rattle.machine_run.specs.Dealt.{AreDealt, AreDealtFrom, AreIdle, HasGained, HasPortOf, IsDealtFrom, IsMember, IsSeatOf}
+use Rattle.machine_run.specs.Dealt.{AreDealtFrom, ArePasses, HasPortOf, IsDealtFrom, IsMember}
+use Rattle.machine_run.specs.code.Dealt.{AreIdle, HasGained}
 
 module _ {S G : Type 0} where
   pub idle_more : (n : ℕ) (ws : List (Worker S G)) (worker : Worker S G) → AreIdle n ws → worker.members ≡ [] → AreIdle (n + 1) (ws ++ worker ∷ [])
@@ -19,19 +16,14 @@ module _ {S G : Type 0} where
     idle = each_push (λ (w : Worker S G). w.members ≡ []) ws worker so_far.idle idle;
   }
 
--- a list without its last member
-pub each_less : {X : Type 0} (Holds : ℕ → X → Type 0) (n : ℕ) (xs front : List X) (last : X) → length xs ≡ n → ((p : ℕ) (x : X) → slice_get xs p ≡ Some x → Holds p x) → xs ≡ front ++ last ∷ []
-    → (n ≡ length front + 1) × ((p : ℕ) (x : X) → slice_get front p ≡ Some x → Holds p x) × Holds (length front) last
-each_less Holds n xs front last long each is = (
-  sym long ∙ (ap length is ∙ length_push front last),
-  λ p x at. each p x (ap (λ ys. slice_get ys p) is ∙ (at_front front (last ∷ []) p (slice_get_within front p x at) ∙ at)),
-  each (length front) last (ap (λ ys. slice_get ys (length front)) is ∙ seam_at front last []),
+-- the last of some passes is that of the next port
+pub passes_less : {P : Type 0} (port_of : P → ℕ) (May : P → Type 0) (n : ℕ) (passes front : List P) (pass : P) → ArePasses port_of May n passes → passes ≡ front ++ pass ∷ []
+    → (n ≡ length front + 1) × ArePasses port_of May (length front) front × ((port_of pass ≡ length front) × May pass)
+passes_less port_of May n passes front pass are is = (
+  sym are.long ∙ (ap length is ∙ length_push front pass),
+  record { long = refl; each = λ p x at. are.each p x (ap (λ ys. slice_get ys p) is ∙ (at_front front (pass ∷ []) p (slice_get_within front p x at) ∙ at)) },
+  are.each (length front) pass (ap (λ ys. slice_get ys (length front)) is ∙ seam_at front pass []),
 )
-
--- the last of some first passes is that of the next port
-pub passes_less : (bar : CrossbarView) (n : ℕ) (passes front : List PassView) (pass : PassView) → AreFirstPasses bar n passes → passes ≡ front ++ pass ∷ []
-    → (n ≡ length front + 1) × AreFirstPasses bar (length front) front × IsFirstPass bar (length front) pass
-passes_less bar n passes front pass are is = let less = each_less (IsFirstPass bar) n passes front pass are.long are.each is in (less.0, record { long = refl; each = less.1 }, less.2)
 
 -- ---- a worker gets one member more
 
@@ -151,14 +143,3 @@ module _ {S G : Type 0} (port_of : S → ℕ) (Fits : S → Type 0) (workers por
   -- one port more is dealt
   pub more_dealt : (p w : ℕ) (ws ws' : List (Worker S G)) (seat : S) → AreDealtFrom port_of Fits workers ports host_at (p + 1) ws → Fits seat → port_of seat ≡ p → p < ports → w ≡ p % workers → HasGained ws w seat ws' → AreDealtFrom port_of Fits workers ports host_at p ws'
   more_dealt p w ws ws' seat so_far seat_is port_is inside w_is gain = subst (AreDealtFrom port_of Fits workers ports host_at p) (sym gain.is) (with_more p w ws gain.worker gain.worker' seat so_far seat_is port_is inside w_is gain.at gain.gained)
-
--- ---- the ports of a crew
-
-module _ {G : Type 0} (crew : CrewView) where
-  pub dealt_none : (from : ℕ) (ws : List (Worker Seated G)) → AreIdle crew.workers ws → 1 ≤ length crew.image.ports → length crew.image.ports ≤ from → AreDealt crew from ws
-  dealt_none from ws idle some past = none_dealt (λ (s : Seated). s.run.pass.port) (IsSeatOf crew) crew.workers (length crew.image.ports) (host_of crew.image) (omega (arith, some)) from ws idle past
-
-  -- one port more is dealt
-  pub dealt_more : (p w : ℕ) (ws ws' : List (Worker Seated G)) (seat : Seated) → AreDealt crew (p + 1) ws → IsSeatOf crew seat → seat.run.pass.port ≡ p → p < length crew.image.ports → w ≡ p % crew.workers → HasGained ws w seat ws' → AreDealt crew p ws'
-  dealt_more p w ws ws' seat so_far seat_is port_is inside =
-      more_dealt (λ (s : Seated). s.run.pass.port) (IsSeatOf crew) crew.workers (length crew.image.ports) (host_of crew.image) (omega (arith, inside)) p w ws ws' seat so_far seat_is port_is inside

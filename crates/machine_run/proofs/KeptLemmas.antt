@@ -4,22 +4,24 @@ use Rattle.std.proofs.lemmas.List.{take_at}
 use Rattle.crew_run.specs.Lending.{AllCanRunWith, AllHaveRunWith}
 use Rattle.crew_run.specs.declared.gate.Gate as gate
 use Rattle.crew_run.specs.declared.worker.Worker.{Worker}
+use Rattle.image_defs.specs.Places.{host_of}
 use Rattle.net_defs.specs.Time.{cycle_count}
 use Rattle.port_run.specs.Pairs.{placed}
 use Rattle.port_run.specs.contracts.seated.SeatedStepper.TheImpl as seated
 use Rattle.port_run.specs.declared.seated.Seated.{Seated}
 use Rattle.port_walk.specs.Placed.{CanGoOn}
+use Rattle.slot_words.specs.plain.Words.{turns_of}
 use Rattle.machine_run.specs.Crews.{CrewView, at_block_end, rows_at_end, turns_left, turns_made}
-use Rattle.machine_run.specs.Dealt.{AreDealt}
+use Rattle.machine_run.specs.Dealt.{AreDealt, IsSeatOf}
 use Rattle.machine_run.specs.Kept.{IsKept, view_of}
 use Rattle.machine_run.specs.code.Moves.{AreMoved, HasGoneOn}
 use Rattle.machine_run.specs.Visits.{AllCanTellTurns, AreInPlace, AreVisitsBetween}
 use Rattle.machine_run.specs.declared.crew.Crew.TheInside.{Inside}
-use Rattle.machine_run.proofs.BlockLemmas.{can_go_on, dealt_at_end, dealt_in_next, have_ended}
-use Rattle.machine_run.proofs.CrewLemmas.{made_few, made_more}
-use Rattle.machine_run.proofs.ReadyLemmas.{can_run}
+use Rattle.machine_run.proofs.BlockLemmas.{can_go_on, dealt_at_end, dealt_in_next}
+use Rattle.machine_run.proofs.CrewLemmas.{made_few, made_more, turns_few}
+use Rattle.machine_run.proofs.MoveLemmas.{have_ended}
 use Rattle.machine_run.proofs.RoomLemmas.{can_tell_on}
-use Rattle.machine_run.proofs.VisitLemmas.{have_visits, in_place}
+use Rattle.machine_run.proofs.VisitLemmas.{can_run, have_visits, in_place}
 
 -- what was lent and given back stands in the place of what was there
 pub back : {X : Type 0} (xs xs' : List X) → length xs' ≡ length xs → take (length xs) (xs' ++ drop (length xs') xs) ≡ xs'
@@ -31,8 +33,11 @@ module _ {G : Type 0} (a : Inside G) (kept : IsKept a) where
   module _ (p : gate.Ghosts G) (gates : List (Option G)) (now : CrewView) (is : view_of a ≡ now) (enough : now.workers ≤ length gates) where
     pub can_run_block : AllCanTellTurns p (turns_left now) now.workers gates → AllCanRunWith seated.ghosts p a.workers gates
     can_run_block tell =
-        can_run (view_of a) kept.fits kept.valid kept.few a.workers kept.dealt p gates (subst (λ (c : CrewView). c.workers ≤ length gates) (sym is) enough)
-        (subst (λ (c : CrewView). AllCanTellTurns p (turns_left c) c.workers gates) (sym is) tell)
+        can_run seated.ghosts p (IsSeatOf (view_of a)) (length a.workers) (length a.image.now.ports) (host_of a.image.now) (turns_made (view_of a)) (turns_made (at_block_end (view_of a))) (made_more (view_of a) kept.few) (λ x of. (of.turn, of.until)) a.workers kept.dealt
+        (turns_left (view_of a)) gates kept.fits.most_ports (omega (arith, few, turns_few a.image.now a.stim.now kept.fits kept.valid)) (omega (arith, few)) (subst (λ (c : CrewView). c.workers ≤ length gates) (sym is) enough)
+        (subst (λ (c : CrewView). AllCanTellTurns p (turns_left c) c.workers gates) (sym is) tell) where
+          few : turns_made (at_block_end (view_of a)) ≤ turns_of a.image.now a.stim.now
+          few = made_few (view_of a) kept.few
 
     module _ (ws' : List (Worker Seated G)) (gates' : List (Option G)) (run : AllHaveRunWith seated.ghosts p a.workers gates ws' gates') (rows : ℕ) (rows_are : rows ≡ min (a.first_row + a.window) a.cycles) where
       rows_is : rows ≡ rows_at_end (view_of a)
@@ -49,7 +54,7 @@ module _ {G : Type 0} (a : Inside G) (kept : IsKept a) where
         few = omega (arith, rows_is);
         dealt = subst (λ n. AreDealt (record (view_of a) { workers = n; rows = rows }) 0 ws') (sym run.worker_count)
             (subst (λ r. AreDealt (record (view_of a) { rows = r }) 0 ws') (sym rows_is)
-            (dealt_at_end (view_of a) a.workers ws' kept.dealt (have_ended p a.workers ws' gates gates' run (subst (λ (c : CrewView). c.workers ≤ length gates) (sym is) enough))));
+            (dealt_at_end (view_of a) a.workers ws' kept.dealt (have_ended seated.ghosts p a.workers ws' gates gates' run (subst (λ (c : CrewView). c.workers ≤ length gates) (sym is) enough))));
       }
 
       visits : AreVisitsBetween p (length a.image.now.ports) (turns_made (view_of a)) (turns_made (at_block_end (view_of a))) (length a.workers) gates gates'

@@ -6,7 +6,6 @@ pub mod HostLemmas
 pub mod KeptLemmas
 pub mod LinesLemmas
 pub mod MoveLemmas
-pub mod ReadyLemmas
 pub mod RoomLemmas
 pub mod RowLemmas
 pub mod RunLemmas

@@ -1,17 +1,17 @@
 -- Members that move one by one, and what is dealt once all have moved.
-use Rattle.std.proofs.Common.{List, Some, arith, inl, inr, length, refl, set, slice_get, subst, sym, ℕ, ◌%◌, ◌+◌, ◌<◌, ◌∙◌, ◌≡◌, ◌≤◌}
+use Rattle.std.proofs.Common.{List, Option, Some, ap, arith, inl, inr, length, refl, set, slice_get, subst, sym, ℕ, ◌%◌, ◌+◌, ◌<◌, ◌∙◌, ◌≡◌, ◌≤◌}
 use Rattle.std.proofs.lemmas.Bool.{cases_eq}
 use Rattle.std.proofs.lemmas.List.{length-set}
 use Rattle.std.proofs.lemmas.Option.{slice_get_within}
-use Rattle.crew_run.proofs.Places.{beside, one_some, set_other, set_same}
+use Rattle.crew_run.proofs.Places.{beside, member_at, one_some, set_other, set_same}
+use Rattle.crew_run.specs.Crews.{HasRun}
+use Rattle.crew_run.specs.Lending.{AllHaveRunWith, lent}
 use Rattle.crew_run.specs.code.Phases.{Each}
+use Rattle.crew_run.specs.declared.gate.Gate as gate
+use Rattle.crew_run.specs.declared.stepper.Stepper as stepper
 use Rattle.crew_run.specs.declared.worker.Worker.{Worker}
-use Rattle.image_defs.specs.Places.{host_of}
-use Rattle.port_run.specs.declared.seated.Seated.{Seated}
-use Rattle.machine_run.specs.Crews.{CrewView}
-use Rattle.machine_run.specs.Dealt.{AreDealt, IsMember, IsSeatOf}
-use Rattle.machine_run.specs.code.Dealt.{HasPort}
-use Rattle.machine_run.specs.code.Moves.{AreFirst, AreMoved}
+use Rattle.machine_run.specs.Dealt.{AreDealtFrom, HasPortOf, IsMember}
+use Rattle.machine_run.specs.code.Moves.{AreFirst, AreMoved, HasEnded}
 
 module _ {X : Type 0} (R : X → X → Type 0) (xs : List X) where
   pub first_none : AreFirst R 0 xs xs
@@ -60,42 +60,37 @@ module _ {S G : Type 0} (R : S → S → Type 0) (ws ws' : List (Worker S G)) (m
       let (a, there) = beside is.worker.members worker.members k b (sym each.0) is.member_is in
       record { before = a; member = record { worker = worker; worker_is = at; member_is = there }; leads = each.1 k a b there is.member_is }
 
-module _ {G : Type 0} (crew crew' : CrewView) (R : Seated → Seated → Type 0) (ws ws' : List (Worker Seated G)) where
-  -- what leads from a seat of one crew to a seat of the other, of the same port
-  pub record Leads : Type 0 where
-    pub image : crew'.image ≡ crew.image
-    pub workers : crew'.workers ≡ crew.workers
-    pub port : (a b : Seated) → IsSeatOf crew a → R a b → b.run.pass.port ≡ a.run.pass.port
-    pub seat : (a b : Seated) → IsSeatOf crew a → R a b → IsSeatOf crew' b
-
-  pub dealt_moved : Leads → AreDealt crew 0 ws → AreMoved R ws ws' → AreDealt crew' 0 ws'
-  dealt_moved leads dealt moved = record {
-    count = moved.0 ∙ (dealt.count ∙ sym leads.workers);
+-- what is dealt stays dealt as each member moves to one of the same port, which fits by then
+module _ {S G : Type 0} (port_of : S → ℕ) (Fits Fits' : S → Type 0) (workers ports host_at : ℕ) (R : S → S → Type 0) (ws ws' : List (Worker S G)) (leads : (a b : S) → Fits a → R a b → (port_of b ≡ port_of a) × Fits' b) where
+  pub dealt_moved : AreDealtFrom port_of Fits workers ports host_at 0 ws → AreMoved R ws ws' → AreDealtFrom port_of Fits' workers ports host_at 0 ws'
+  dealt_moved dealt moved = record {
+    count = moved.0 ∙ dealt.count;
     each = λ w k b is.
         let from = member_before R ws ws' moved w k b is in
         let was = dealt.each w k from.before from.member in
-        let port = leads.port from.before b was.seat_is from.leads in
-        record {
-          seat_is = leads.seat from.before b was.seat_is from.leads;
-          from_is = omega arith;
-          inside = subst (λ i. b.run.pass.port < length i.ports) (sym leads.image) (subst (λ q. q < length crew.image.ports) (sym port) was.inside);
-          whose = subst (λ n. b.run.pass.port % n ≡ w) (sym leads.workers) (subst (λ q. q % crew.workers ≡ w) (sym port) was.whose);
-        };
+        let (port, fits) = leads from.before b was.seat_is from.leads in
+        record { seat_is = fits; from_is = omega arith; inside = subst (λ q. q < ports) (sym port) was.inside; whose = ap (λ q. q % workers) port ∙ was.whose };
     apart = λ w j k a b is is' away same.
         let one = member_before R ws ws' moved w j a is in
         let other = member_before R ws ws' moved w k b is' in
         dealt.apart w j k one.before other.before one.member other.member away
-        (sym (leads.port one.before a (dealt.each w j one.before one.member).seat_is one.leads) ∙ (same ∙ leads.port other.before b (dealt.each w k other.before other.member).seat_is other.leads));
-    all = λ p from inside.
-        let (k, has) = dealt.all p from (subst (λ i. p < length i.ports) leads.image inside) in
-        (k, port_moved p k has);
-    host = λ from. subst (λ i. HasPort crew'.workers ws' (host_of i) 0) (sym leads.image) (port_moved (host_of crew.image) 0 (dealt.host (omega arith)));
+        (sym (leads one.before a (dealt.each w j one.before one.member).seat_is one.leads).0 ∙ (same ∙ (leads other.before b (dealt.each w k other.before other.member).seat_is other.leads).0));
+    all = λ p from inside. (let (k, has) = dealt.all p from inside in (k, port_moved p k has));
+    host = λ from. port_moved host_at 0 (dealt.host from);
   } where
-    port_moved : (p k : ℕ) → HasPort crew.workers ws p k → HasPort crew'.workers ws' p k
+    port_moved : (p k : ℕ) → HasPortOf port_of workers ws p k → HasPortOf port_of workers ws' p k
     port_moved p k has =
-        let to = member_moved R ws ws' moved (p % crew.workers) k has.seat has.member in
-        subst (λ n. HasPort n ws' p k) (sym leads.workers) (record {
-          seat = to.after;
-          member = to.member;
-          port_is = leads.port has.seat to.after (dealt.each (p % crew.workers) k has.seat has.member).seat_is to.leads ∙ has.port_is;
-        })
+        let to = member_moved R ws ws' moved (p % workers) k has.seat has.member in
+        record { seat = to.after; member = to.member; port_is = (leads has.seat to.after (dealt.each (p % workers) k has.seat has.member).seat_is to.leads).0 ∙ has.port_is }
+
+-- once workers have run with gates their members have made all turns
+pub have_ended : {S G : Type 0} (m : stepper.Ghosts S) (p : gate.Ghosts G) (ws ws' : List (Worker S G)) (gates gates' : List (Option G)) → AllHaveRunWith m p ws gates ws' gates' → length ws ≤ length gates → AreMoved (HasEnded m) ws ws'
+have_ended m p ws ws' gates gates' run enough = (
+  run.worker_count,
+  λ w worker worker' at at'.
+      let low = slice_get_within ws w worker at in
+      let (one, there) = member_at gates w (omega (arith, low, enough)) in
+      let (one', there') = beside gates gates' w one run.gate_count there in
+      let ran : HasRun m p (lent worker one) (lent worker' one') = run.ran w worker worker' one one' at at' there there' in
+      (ran.count, λ k a b was is. record { same = ran.same k a b was is; done = ran.done k b is }),
+)

@@ -13,16 +13,16 @@ use Rattle.machine_run.proofs.CrewLemmas.{all_left, turns_few}
 use Rattle.machine_run.proofs.TurnLemmas.{whose}
 
 module _ {G : Type 0} (p : gate.Ghosts G) where
+  -- gates that can be told of 2 ^ 62 turns can be told of fewer
+  pub can_tell_few : (turns workers : ℕ) (gates : List (Option G)) → turns ≤ 2 ^ 62 → ((i : ℕ) (gate : Option G) → i < workers → slice_get gates i ≡ Some gate → CanTell p gate) → AllCanTellTurns p turns workers gates
+  can_tell_few turns workers gates few tell i gate low there =
+      let can = tell i gate low there in
+      record { told = can.told; is = can.is; times = λ q. omega (arith, read_below (p.times can.told) q (2 ^ 62) can.times, few) }
+
   -- at first these are all turns
   pub can_tell_at_first : (image : Image) (stimulus : Stimulus) (workers window : ℕ) (gates : List (Option G)) → IsWellFormed image → IsValidStimulus stimulus
       → ((i : ℕ) (gate : Option G) → i < workers → slice_get gates i ≡ Some gate → CanTell p gate) → AllCanTellTurns p (turns_left (at_first image stimulus workers window)) workers gates
-  can_tell_at_first image stimulus workers window gates fits valid tell i gate low there =
-      let can = tell i gate low there in
-      record {
-        told = can.told;
-        is = can.is;
-        times = λ q. omega (arith, read_below (p.times can.told) q (2 ^ 62) can.times, all_left image stimulus workers window, turns_few image stimulus fits valid);
-      }
+  can_tell_at_first image stimulus workers window gates fits valid = can_tell_few (turns_left (at_first image stimulus workers window)) workers gates (omega (arith, all_left image stimulus workers window, turns_few image stimulus fits valid))
 
   module _ (ports n from to all : ℕ) (low : from ≤ to) (high : to ≤ all) where
     can_more : (w : ℕ) (g g' : G) → HasVisits p ports from to n w g g' → (q : ℕ) → slice_index (p.times g) q + (all - from) ≤ 2 ^ 63 → slice_index (p.times g') q + (all - to) ≤ 2 ^ 63

@@ -1,9 +1,11 @@
 -- What the gates of a crew were told in a block, by the ports of its workers.
-use Rattle.std.proofs.Common.{List, Option, Some, ap, arith, inl, inr, length, refl, slice_get, slice_index, sym, subst, ℕ, ◌%◌, ◌+◌, ◌<◌, ◌∙◌, ◌≡◌, ◌≤◌}
+use Rattle.std.proofs.Common.{List, Option, Some, ap, arith, inl, inr, length, refl, slice_get, slice_index, sym, subst, ℕ, ◌%◌, ◌+◌, ◌<◌, ◌^◌, ◌∙◌, ◌≡◌, ◌≤◌}
 use Rattle.std.proofs.lemmas.Bool.{cases_lt}
+use Rattle.std.proofs.lemmas.Option.{slice_get_within}
+use Rattle.limits.specs.declared.TheConstants.{MAX_PORTS}
 use Rattle.list_laws.proofs.Places.{one_there}
 use Rattle.crew_run.proofs.Places.{beside, member_at}
-use Rattle.crew_run.specs.Lending.{AllHaveRunWith}
+use Rattle.crew_run.specs.Lending.{AllCanRunWith, AllHaveRunWith}
 use Rattle.crew_run.specs.Visits.{AreVisits, IsTold}
 use Rattle.crew_run.specs.declared.gate.Gate as gate
 use Rattle.crew_run.specs.declared.stepper.Stepper as stepper
@@ -12,13 +14,35 @@ use Rattle.image_defs.specs.Places.{host_of}
 use Rattle.port_run.specs.contracts.seated.SeatedStepper.TheImpl as seated
 use Rattle.port_run.specs.declared.seated.Seated.{Seated}
 use Rattle.machine_run.specs.Crews.{CrewView, at_block_end, rows_at_end, turns_made}
-use Rattle.machine_run.specs.Dealt.{AreDealt, AreDealtFrom, IsSeatOf}
-use Rattle.machine_run.specs.Visits.{AreInPlace, AreVisitsBetween, HasVisits, IsPortOfWorker}
+use Rattle.machine_run.specs.Dealt.{AreDealt, AreDealtFrom, IsMember, IsSeatOf}
+use Rattle.machine_run.specs.Visits.{AllCanTellTurns, AreInPlace, AreVisitsBetween, CanTellTurns, HasVisits, IsPortOfWorker}
 use Rattle.machine_run.proofs.CrewLemmas.{made_more}
 
 -- all of whose members have the turns after turn `from` up to turn `to` to make
 module _ {S G : Type 0} (m : stepper.Ghosts S) (p : gate.Ghosts G) (Fits : S → Type 0) (workers ports host_at from to : ℕ) (up : from ≤ to) (fit : (a : S) → Fits a → (m.turn a ≡ from + 1) × (m.last_turn a ≡ to))
     (ws : List (Worker S G)) (dealt : AreDealtFrom m.port Fits workers ports host_at 0 ws) where
+  member : (i : ℕ) (w : Worker S G) → slice_get ws i ≡ Some w → (k : ℕ) (a : S) → slice_get w.members k ≡ Some a → IsMember ws i k a
+  member i w at k a there = record { worker = w; worker_is = at; member_is = there }
+
+  to_make : (i : ℕ) (w : Worker S G) → slice_get ws i ≡ Some w → (k : ℕ) (a : S) → slice_get w.members k ≡ Some a → (m.turn a ≡ from + 1) × (m.last_turn a ≡ to)
+  to_make i w at k a there = fit a (dealt.each i k a (member i w at k a there)).seat_is
+
+  -- they can make them, with gates that can be told of so many
+  pub can_run : (left : ℕ) (gates : List (Option G)) → ports ≤ MAX_PORTS → to ≤ 2 ^ 62 → to ≤ from + left → workers ≤ length gates → AllCanTellTurns p left workers gates → AllCanRunWith m p ws gates
+  can_run left gates most few all enough tell = record {
+    ready = λ i w at. record {
+      port = λ k a there. (let inside = (dealt.each i k a (member i w at k a there)).inside in omega (arith, inside, most));
+      apart = λ j k a b here there away. dealt.apart i j k a b (member i w at j a here) (member i w at k b there) away;
+      begun = λ k a there. omega (arith, (to_make i w at k a there).0);
+      within = λ k a there. omega (arith, (to_make i w at k a there).0, (to_make i w at k a there).1, up);
+      small = λ k a there. omega (arith, (to_make i w at k a there).1, few);
+    };
+    enough = omega (arith, enough, dealt.count);
+    tell = λ i w gate at there.
+        let can : CanTellTurns p left gate = tell i gate (let low = slice_get_within ws i w at in omega (arith, low, dealt.count)) there in
+        record { told = can.told; is = can.is; room = λ k a here. omega (arith, can.times (m.port a), (to_make i w at k a here).0, (to_make i w at k a here).1, up, all) };
+  }
+
   -- a port of worker w is one of its members
   record IsToRun (worker : Worker S G) (q : ℕ) : Type 0 where
     pub k : ℕ
@@ -64,7 +88,7 @@ module _ {S G : Type 0} (m : stepper.Ghosts S) (p : gate.Ghosts G) (Fits : S →
 
       other : (q k : ℕ) (a : S) → slice_get worker.members k ≡ Some a → m.port a ≡ q → IsPortOfWorker ports workers w q
       other q k a there is =
-          let was = dealt.each w k a (record { worker = worker; worker_is = at; member_is = there }) in
+          let was = dealt.each w k a (member w worker at k a there) in
           subst (IsPortOfWorker ports workers w) is (was.inside, was.whose)
 
   pub all_visited : (gates : List (Option G)) (ws' : List (Worker S G)) (gates' : List (Option G)) → AllHaveRunWith m p ws gates ws' gates' → AreVisitsBetween p ports from to workers gates gates'

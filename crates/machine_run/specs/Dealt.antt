@@ -1,5 +1,5 @@
 -- Ports that are dealt to the workers of a crew.
-use Rattle.std.specs.Prelude.{List, Some, [], length, slice_get, slice_set, ℕ, ◌%◌, ◌*◌, ◌+◌, ◌++◌, ◌<◌, ◌∷◌, ◌≡◌, ◌≢◌, ◌≤◌}
+use Rattle.std.specs.Prelude.{List, Some, length, slice_get, ℕ, ◌%◌, ◌*◌, ◌+◌, ◌<◌, ◌≡◌, ◌≢◌, ◌≤◌}
 use Rattle.crew_run.specs.declared.worker.Worker.{Worker}
 use Rattle.image_defs.specs.Places.{host_of}
 use Rattle.port_run.specs.declared.seated.Seated.{Seated}
@@ -14,10 +14,10 @@ pub record IsSeatOf (crew : CrewView) (seat : Seated) : Type 0 where
   pub until : seat.run.until ≡ crew.image.units * rows_at_end crew
   pub turn : seat.run.pass.place.turn ≡ turns_made crew + 1
 
--- so many workers without members
-pub record AreIdle {S G : Type 0} (n : ℕ) (ws : List (Worker S G)) : Type 0 where
-  pub count : length ws ≡ n
-  pub idle : (w : ℕ) (worker : Worker S G) → slice_get ws w ≡ Some worker → worker.members ≡ []
+-- what the members of the first n ports are made of, in their order
+pub record ArePasses {P : Type 0} (port_of : P → ℕ) (May : P → Type 0) (n : ℕ) (passes : List P) : Type 0 where
+  pub long : length passes ≡ n
+  pub each : (p : ℕ) (pass : P) → slice_get passes p ≡ Some pass → (port_of pass ≡ p) × May pass
 
 module _ {S G : Type 0} where
   -- place k of worker w has this member
@@ -25,14 +25,6 @@ module _ {S G : Type 0} where
     pub worker : Worker S G
     pub worker_is : slice_get ws w ≡ Some worker
     pub member_is : slice_get worker.members k ≡ Some member
-
-  -- worker w has this member more, which is its last one
-  pub record HasGained (ws : List (Worker S G)) (w : ℕ) (member : S) (ws' : List (Worker S G)) : Type 0 where
-    pub worker : Worker S G
-    pub worker' : Worker S G
-    pub at : slice_get ws w ≡ Some worker
-    pub gained : worker'.members ≡ worker.members ++ member ∷ []
-    pub is : ws' ≡ slice_set ws w worker'
 
 -- ---- members that are dealt by their ports
 

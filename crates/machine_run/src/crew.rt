@@ -8,7 +8,8 @@ ghost use Rattle.net_defs.specs.Time.{cycle_count};
 ghost use Rattle.net_defs.specs.Valid.{IsValidStimulus};
 ghost use Rattle.slot_words.specs.plain.Passes.{AreFirstPasses};
 
-use crate::seats::{worker_of, workers_of};
+use crate::deal::{worker_of, workers_of};
+use crate::seats::CrewSeats;
 use crate::steps::go_on_all;
 use crew_run::{Gate, Worker, run_with};
 use image_defs::Image;
@@ -79,7 +80,14 @@ impl<'a, G: Gate> Crew<'a, G> {
         requires some_cycles { 1 ≤ window }
         ensures { IfOk result (λ crew. crew ≡ at_first image.now stim.now workers window) }
     {
-        let workers = workers_of(alloc, bar, image, stim, passes, workers, window)?;
+        let seats = CrewSeats {
+            bar,
+            image,
+            stim,
+            workers,
+            window,
+        };
+        let workers = workers_of(alloc, &seats, passes, workers)?;
         Ok(Crew {
             image,
             stim,

@@ -7,6 +7,7 @@
 
 mod blocks;
 mod crew;
+mod deal;
 mod gates;
 mod lines;
 mod machine;
@@ -17,6 +18,6 @@ mod window;
 
 pub use blocks::run_blocks;
 pub use crew::Crew;
+pub use deal::{Seats, worker_of, workers_of};
 pub use gates::count_gates;
 pub use machine::run_machine;
-pub use seats::{give_to, idle_crew, worker_of};

@@ -1,4 +1,3 @@
-mod DealtLemmas
 mod FrameLemmas
 mod LineLemmas
 mod RunLemmas

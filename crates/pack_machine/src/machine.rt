@@ -8,14 +8,16 @@ ghost use Rattle.machine_run.specs.Visits.{AreInPlace, AreVisitsOf};
 ghost use Rattle.port_host.specs.Rows.{printed_sources};
 ghost use Rattle.stim_text.specs.Lanes.{AreLanes, longest};
 ghost use Rattle.pack_machine.specs.Lines.{bytes_of_lanes};
-ghost use Rattle.pack_machine.specs.code.Ends.{EndsWithHost, IsHostAtEnd};
+ghost use Rattle.pack_machine.specs.code.Crews.{at_end};
+ghost use Rattle.pack_machine.specs.code.Dealt.{AreDealt};
+ghost use Rattle.pack_machine.specs.code.Ends.{IsHostAtEnd};
 
 use crate::lines::{line_room, write_lanes};
-use crate::seats::workers_of;
+use crate::seats::PackSeats;
 use crew_run::{Gate, Worker, run_with};
 use edge_io::{Sink, WriteNo};
 use image_defs::Image;
-use machine_run::worker_of;
+use machine_run::{worker_of, workers_of};
 use net_defs::Netlist;
 use pack_run::{PackRunning, PackSeated};
 use seen_list::{List, Memory};
@@ -67,7 +69,13 @@ pub fn run_pack<R: Threads + Wait + Sync, G: Gate + Send, O: Sink>(
             return Err(no);
         }
     };
-    let mut crew = match workers_of(alloc, &bar, image, lanes, passes, workers) {
+    let seats = PackSeats {
+        bar: &bar,
+        image,
+        lanes,
+        workers,
+    };
+    let mut crew = match workers_of(alloc, &seats, passes, workers) {
         Ok(crew) => crew,
         Err(no) => {
             drop(room);
@@ -96,7 +104,7 @@ fn host<'a, 'b, G>(
 ) -> &'b PackRunning<'a>
     requires fits { IsWellFormed image.now }
     requires some { 1 ≤ length crew.now }
-    requires ends { EndsWithHost image.now lanes.now crew.now }
+    requires dealt { AreDealt (at_end image.now lanes.now (length crew.now)) 0 crew.now }
     ensures { IsHostAtEnd image.now lanes.now result.now }
 {
     let host = image.ports.len() - 1;

@@ -1,9 +1,10 @@
 -- What becomes of the members of workers, each in its place.
-use Rattle.std.specs.Prelude.{List, Some, length, slice_get, ℕ, ◌+◌, ◌<◌, ◌≡◌, ◌≤◌}
+use Rattle.std.specs.Prelude.{List, Some, length, slice_get, ℕ, ◌<◌, ◌≡◌, ◌≤◌}
+use Rattle.crew_run.specs.Crews.{IsDone}
 use Rattle.crew_run.specs.code.Phases.{Each}
+use Rattle.crew_run.specs.declared.stepper.Stepper as stepper
 use Rattle.crew_run.specs.declared.worker.Worker.{Worker}
 use Rattle.port_run.specs.Pairs.{next_block}
-use Rattle.port_run.specs.Same.{IsSame}
 use Rattle.port_run.specs.declared.seated.Seated.{Seated}
 
 -- the relation leads from each member to the one that stands in its place, of as many
@@ -17,10 +18,10 @@ module _ {X : Type 0} (R : X → X → Type 0) where
     pub moved : (i : ℕ) (x x' : X) → i < n → slice_get xs i ≡ Some x → slice_get xs' i ≡ Some x' → R x x'
     pub others : (i : ℕ) → n ≤ i → slice_get xs' i ≡ slice_get xs i
 
--- the same port, which has made all turns of its block
-pub record HasEnded (seat seat' : Seated) : Type 0 where
-  pub same : IsSame seat.bar.now seat.run seat'.bar.now seat'.run
-  pub done : seat'.run.pass.place.turn ≡ seat'.run.until + 1
+-- the second stands for the first, and has made all its turns
+pub record HasEnded {S : Type 0} (m : stepper.Ghosts S) (seat seat' : S) : Type 0 where
+  pub same : m.same seat seat'
+  pub done : IsDone m seat'
 
 -- the same port, in its next block
 pub record HasGoneOn (seat seat' : Seated) : Type 0 where

@@ -1,13 +1,10 @@
 -- The host of a run that is over.
-use Rattle.std.specs.Prelude.{List, length, ◌+◌, ◌≡◌}
-use Rattle.crew_run.specs.declared.worker.Worker.{Worker}
+use Rattle.std.specs.Prelude.{◌+◌, ◌≡◌}
 use Rattle.image_defs.specs.Places.{host_of}
 use Rattle.image_defs.specs.declared.image.Image.{Image}
-use Rattle.pack_run.specs.declared.seated.PackSeated.{PackSeated}
 use Rattle.slot_words.specs.packed.Passes.{PackPassView}
 use Rattle.slot_words.specs.packed.Words.{turns_of}
 use Rattle.stim_text.specs.declared.lanes.Lanes.{Lanes}
-use Rattle.pack_machine.specs.code.Dealt.{HasPort}
 
 -- this is the host of a run of the image on lanes, which has made all turns
 pub record IsHostAtEnd (image : Image) (lanes : Lanes) (run : PackPassView) : Type 0 where
@@ -15,8 +12,3 @@ pub record IsHostAtEnd (image : Image) (lanes : Lanes) (run : PackPassView) : Ty
   pub lanes_are : run.feed ≡ lanes
   pub port : run.port ≡ host_of run.image
   pub turn : run.place.turn ≡ turns_of image lanes + 1
-
--- the first member of the host's worker is the host, which has made all turns
-pub record EndsWithHost {G : Type 0} (image : Image) (lanes : Lanes) (ws : List (Worker PackSeated G)) : Type 0 where
-  pub has : HasPort (length ws) ws (host_of image) 0
-  pub ends : IsHostAtEnd image lanes has.seat.run

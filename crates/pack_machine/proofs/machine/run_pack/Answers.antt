@@ -2,6 +2,7 @@
 use Rattle.std.proofs.Common.{Err, Ok, Result, ap, arith, drop, length, refl, subst, sym, ◌∙◌, ◌≡◌}
 use Rattle.std.specs.Result.{OnErr}
 use Rattle.std.proofs.lemmas.List.{take_at}
+use Rattle.std.proofs.lemmas.Option.{slice_get_within}
 use Rattle.std.proofs.lemmas.Result.{err_from_is_err_and}
 use Rattle.crew_run.specs.Lending.{AllCanRunWith, AllHaveRunWith}
 use Rattle.edge_io.specs.Writing.{Takes}
@@ -11,22 +12,26 @@ use Rattle.machine_run.proofs.TurnLemmas.{in_place_none}
 use Rattle.port_host.specs.Rows.{printed_sources}
 use Rattle.pack_run.specs.contracts.seated.PackSeatedStepper.TheImpl as seated
 use Rattle.pack_machine.specs.Lines.{bytes_of_lanes}
-use Rattle.pack_machine.specs.code.Ends.{EndsWithHost, IsHostAtEnd}
-use Rattle.pack_machine.proofs.RunLemmas.{can_run, have_visits, host_ended, in_place}
+use Rattle.slot_words.specs.packed.Passes.{IsFirstPass}
+use Rattle.pack_machine.specs.code.Crews.{at_end}
+use Rattle.pack_machine.specs.code.Dealt.{AreDealt}
+use Rattle.pack_machine.specs.code.Ends.{IsHostAtEnd}
+use Rattle.pack_machine.proofs.RunLemmas.{can_run_all, dealt_at_end, have_visits, in_place}
 use Rattle.pack_machine.proofs.machine.run_pack.Goals as goal
 
 pub run_with-requires-after_bounds : goal.run_with-requires-after_bounds
 run_with-requires-after_bounds g c κs within =
     subst (λ ws. AllCanRunWith seated.ghosts g.G.Gate ws c.args.gates.now) (sym c.as_mut_slice.ensures.value)
-    (can_run c.args.image.now c.args.lanes.now c.args.workers c.requires.image c.requires.lanes c.in-Ok-workers_of.crew c.in-Ok-workers_of.ensures g.G.Gate c.args.gates.now c.requires.enough c.requires.tell)
+    (can_run_all c.args.image.now c.args.lanes.now c.args.workers c.requires.image c.requires.lanes g.G.Gate c.args.gates.now c.requires.enough c.in-Ok-workers_of.crew c.in-Ok-workers_of.ensures c.requires.tell)
 
-pub host-requires-clause-ends : goal.host-requires-clause-ends
-host-requires-clause-ends g c =
+pub host-requires-clause-dealt : goal.host-requires-clause-dealt
+host-requires-clause-dealt g c =
     let run = subst (λ ws. AllHaveRunWith seated.ghosts g.G.Gate ws c.args.gates.now c.run_with.new.workers c.run_with.new.gates) c.as_mut_slice.ensures.value c.run_with.ensures in
-    let count : length c.run_with.new.workers ≡ length c.in-Ok-workers_of.crew = run.worker_count in
-    subst (EndsWithHost c.args.image.now c.args.lanes.now)
-    (sym (c.as_slice.ensures ∙ take_at c.run_with.new.workers (drop (length c.run_with.new.workers) c.in-Ok-workers_of.crew) (length c.in-Ok-workers_of.crew) (omega (arith, count))))
-    (host_ended c.args.image.now c.args.lanes.now c.args.workers c.requires.image c.requires.lanes c.in-Ok-workers_of.crew c.in-Ok-workers_of.ensures g.G.Gate c.args.gates.now c.run_with.new.workers c.run_with.new.gates run c.requires.enough)
+    let is = c.as_slice.ensures ∙ take_at c.run_with.new.workers (drop (length c.run_with.new.workers) c.in-Ok-workers_of.crew) (length c.in-Ok-workers_of.crew) run.worker_count in
+    let count : length c.as_slice.result.now ≡ c.args.workers = ap length is ∙ (run.worker_count ∙ c.in-Ok-workers_of.ensures.count) in
+    subst (λ n. AreDealt (at_end c.args.image.now c.args.lanes.now n) 0 c.as_slice.result.now) (sym count)
+    (subst (AreDealt (at_end c.args.image.now c.args.lanes.now c.args.workers) 0) (sym is)
+    (dealt_at_end c.args.image.now c.args.lanes.now c.args.workers c.requires.image c.requires.lanes g.G.Gate c.args.gates.now c.requires.enough c.in-Ok-workers_of.crew c.in-Ok-workers_of.ensures c.run_with.new.workers c.run_with.new.gates run))
 
 pub returns-clause-written : goal.returns-clause-written
 returns-clause-written g c = subst (λ x. Takes (g.O.Sink.taken c.args.out.now) (g.O.Sink.taken c.write_lanes-wrote.new.out) (g.O.Sink.faults c.args.out.now) (g.O.Sink.faults c.write_lanes-wrote.new.out) c.write_lanes-wrote.result (bytes_of_lanes c.args.net.now x c.args.lanes.now))
@@ -35,12 +40,12 @@ returns-clause-written g c = subst (λ x. Takes (g.O.Sink.taken c.args.out.now) 
 pub returns-clause-visits : goal.returns-clause-visits
 returns-clause-visits g c =
     let run = subst (λ ws. AllHaveRunWith seated.ghosts g.G.Gate ws c.args.gates.now c.run_with.new.workers c.run_with.new.gates) c.as_mut_slice.ensures.value c.run_with.ensures in
-    have_visits c.args.image.now c.args.lanes.now c.args.workers c.requires.image c.requires.lanes c.in-Ok-workers_of.crew c.in-Ok-workers_of.ensures g.G.Gate c.args.gates.now c.run_with.new.workers c.run_with.new.gates run c.requires.enough
+    have_visits c.args.image.now c.args.lanes.now c.args.workers c.requires.image c.requires.lanes g.G.Gate c.args.gates.now c.requires.enough c.in-Ok-workers_of.crew c.in-Ok-workers_of.ensures c.run_with.new.workers c.run_with.new.gates run
 
 pub returns-clause-kept : goal.returns-clause-kept
 returns-clause-kept g c =
     let run = subst (λ ws. AllHaveRunWith seated.ghosts g.G.Gate ws c.args.gates.now c.run_with.new.workers c.run_with.new.gates) c.as_mut_slice.ensures.value c.run_with.ensures in
-    in_place c.args.image.now c.args.lanes.now c.args.workers c.requires.image c.requires.lanes c.in-Ok-workers_of.crew c.in-Ok-workers_of.ensures g.G.Gate c.args.gates.now c.run_with.new.workers c.run_with.new.gates run c.requires.enough
+    in_place c.args.image.now c.args.lanes.now c.args.workers c.requires.image c.requires.lanes g.G.Gate c.args.gates.now c.requires.enough c.in-Ok-workers_of.crew c.in-Ok-workers_of.ensures c.run_with.new.workers c.run_with.new.gates run
 
 pub host-requires-clause-some : goal.host-requires-clause-some
 host-requires-clause-some g c =
@@ -85,32 +90,19 @@ returns-in-Err-clause-kept g c = in_place_none c.args.gates.now
 pub returns-in-Err-workers_of-clause-kept : goal.returns-in-Err-workers_of-clause-kept
 returns-in-Err-workers_of-clause-kept g c = in_place_none c.args.gates.now
 
-pub make-requires-clause-image : goal.make-requires-clause-image
-make-requires-clause-image g c = c.requires.image
-
-pub make-requires-clause-lanes : goal.make-requires-clause-lanes
-make-requires-clause-lanes g c = c.requires.lanes
-
-pub workers_of-requires-clause-fits : goal.workers_of-requires-clause-fits
-workers_of-requires-clause-fits g c = c.requires.image
-
-pub workers_of-requires-clause-lanes : goal.workers_of-requires-clause-lanes
-workers_of-requires-clause-lanes g c = c.requires.lanes
-
-pub workers_of-requires-clause-image : goal.workers_of-requires-clause-image
-workers_of-requires-clause-image g c = c.in-Ok.ensures.image_is
-
-pub workers_of-requires-clause-same_lanes : goal.workers_of-requires-clause-same_lanes
-workers_of-requires-clause-same_lanes g c = c.in-Ok.ensures.feed_is
-
 pub workers_of-requires-clause-passes : goal.workers_of-requires-clause-passes
-workers_of-requires-clause-passes g c = c.in-Ok.ensures.all
-
-pub workers_of-requires-clause-some : goal.workers_of-requires-clause-some
-workers_of-requires-clause-some g c = c.requires.some_workers
-
-pub host-requires-clause-fits : goal.host-requires-clause-fits
-host-requires-clause-fits g c = c.requires.image
-
-pub returns-clause-refused : goal.returns-clause-refused
-returns-clause-refused g c = tt
+workers_of-requires-clause-passes g c = record {
+  long = c.in-Ok.ensures.all.long;
+  each = λ p pass at.
+      let first = c.in-Ok.ensures.all.each p pass at in (
+        first.port_is,
+        record {
+          fits = c.requires.image;
+          valid = c.requires.lanes;
+          image_is = c.in-Ok.ensures.image_is;
+          feed_is = c.in-Ok.ensures.feed_is;
+          first = subst (λ q. IsFirstPass c.in-Ok.made.0 q pass) (sym first.port_is) first;
+          there = (let low = slice_get_within c.in-Ok.made.1 p pass at in omega (arith, low, first.port_is, c.in-Ok.ensures.all.long));
+        },
+      );
+}

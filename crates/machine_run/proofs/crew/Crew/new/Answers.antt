@@ -1,38 +1,28 @@
 use Rattle.std.proofs.Common.{ap, arith, subst, sym}
-use Rattle.std.proofs.lemmas.Result.{err_from_is_err_and}
+use Rattle.std.proofs.lemmas.Option.{slice_get_within}
+use Rattle.slot_words.specs.plain.Passes.{IsFirstPass}
 use Rattle.machine_run.specs.Crews.{at_first}
 use Rattle.machine_run.specs.Dealt.{AreDealt}
 use Rattle.machine_run.proofs.crew.Crew.new.Goals as goal
 
-pub workers_of-requires-clause-fits : goal.workers_of-requires-clause-fits
-workers_of-requires-clause-fits g c = c.requires.fits
-
-pub workers_of-requires-clause-valid : goal.workers_of-requires-clause-valid
-workers_of-requires-clause-valid g c = c.requires.valid
-
-pub workers_of-requires-clause-columns : goal.workers_of-requires-clause-columns
-workers_of-requires-clause-columns g c = c.requires.columns
-
-pub workers_of-requires-clause-image : goal.workers_of-requires-clause-image
-workers_of-requires-clause-image g c = c.requires.image
-
-pub workers_of-requires-clause-stimulus : goal.workers_of-requires-clause-stimulus
-workers_of-requires-clause-stimulus g c = c.requires.stimulus
-
 pub workers_of-requires-clause-passes : goal.workers_of-requires-clause-passes
-workers_of-requires-clause-passes g c = c.requires.passes
-
-pub workers_of-requires-clause-some : goal.workers_of-requires-clause-some
-workers_of-requires-clause-some g c = c.requires.some
-
-pub workers_of-requires-clause-some_cycles : goal.workers_of-requires-clause-some_cycles
-workers_of-requires-clause-some_cycles g c = c.requires.some_cycles
-
-pub returns-in_err-workers : goal.returns-in_err-workers
-returns-in_err-workers g c = let p = err_from_is_err_and c.from_residual.result c.from_residual.ensures.1 in rw p.1 tt
-
-pub cycles-requires : goal.cycles-requires
-cycles-requires g c = c.requires.valid
+workers_of-requires-clause-passes g c = record {
+  long = c.requires.passes.long;
+  each = λ p pass at.
+      let first = c.requires.passes.each p pass at in (
+        first.port_is,
+        record {
+          fits = c.requires.fits;
+          valid = c.requires.valid;
+          columns = c.requires.columns;
+          image_is = c.requires.image;
+          feed_is = c.requires.stimulus;
+          some_cycles = c.requires.some_cycles;
+          first = subst (λ q. IsFirstPass c.args.bar.now q pass) (sym first.port_is) first;
+          there = (let low = slice_get_within c.args.passes p pass at in omega (arith, low, first.port_is, c.requires.passes.long));
+        },
+      );
+}
 
 pub invariant_of-result : goal.invariant_of-result
 invariant_of-result g c = record {

@@ -1,5 +1,5 @@
 use Rattle.std.proofs.Common.{refl}
-use Rattle.machine_run.proofs.seats.worker_of.Goals as goal
+use Rattle.machine_run.proofs.deal.worker_of.Goals as goal
 
 pub returns-clause-is : goal.returns-clause-is
 returns-clause-is c = refl

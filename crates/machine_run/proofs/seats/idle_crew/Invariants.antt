@@ -1,5 +1,0 @@
-use Rattle.machine_run.specs.Dealt.{AreIdle}
-use Rattle.machine_run.proofs.seats.idle_crew.Given as goal
-
-abbrev pub invariant-workers : goal.invariant-workers
-invariant-workers g l = AreIdle l.counter l.crew
