@@ -7,6 +7,9 @@ use crate::pulse::Pulse;
 /// The most visits of a turn that are written down. What comes after them is found by rounds.
 const MOST_VISITS: usize = 65_536;
 
+/// The most members of all workers together that the calling thread goes round.
+const MOST_SEATS: usize = 256;
+
 /// Which lap is written down. In the ones before it members may make steps that they need only once.
 const WRITTEN_LAP: u32 = 3;
 
@@ -32,10 +35,14 @@ impl Visit {
     }
 }
 
-/// The turn to which the members go, and the visits by which they once went through a turn. A visit is a hint:
-/// whether its member is there, and how many of its steps it can make, is seen when they are made.
+/// The members in the order of a round, the turn to which they go, and the visits by which they once went through a
+/// turn. A visit is a hint: whether its member is there, and how many of its steps it can make, is seen when they are
+/// made.
 #[derive(Drop)]
 pub struct Course {
+    seats: [Visit; MOST_SEATS],
+    seated: usize,
+    is_short: bool,
     goal: u64,
     laps: u32,
     done: bool,
@@ -56,6 +63,9 @@ impl Course {
             steps: 0,
         };
         Course {
+            seats: [none; MOST_SEATS],
+            seated: 0,
+            is_short: false,
             goal: 0,
             laps: 0,
             done: false,
@@ -78,6 +88,35 @@ impl Course {
         &self.pulse
     }
 
+    /// Puts a member at the end of the round, given by its worker's place and its own.
+    pub fn seat(&mut self, worker: usize, member: usize) {
+        if self.seated >= MOST_SEATS {
+            self.is_short = true;
+            return;
+        }
+        self.seats[self.seated] = Visit {
+            worker: (worker % 0x1_0000) as u16,
+            member: (member % 0x100) as u8,
+            steps: 0,
+        };
+        self.seated += 1;
+    }
+
+    /// Whether there are more members than it has seats.
+    pub fn is_short(&self) -> bool {
+        self.is_short
+    }
+
+    /// How many members a round has.
+    pub fn seated(&self) -> usize {
+        self.seated
+    }
+
+    /// Member number `v` of a round.
+    pub fn seat_at(&self, v: usize) -> Visit {
+        self.seats[v % MOST_SEATS]
+    }
+
     /// How many of the visits are to be made before the next round.
     pub fn due(&self) -> usize {
         self.due
@@ -96,13 +135,12 @@ impl Course {
         }
     }
 
-    /// Writes a visit of up to 64 steps down, where it belongs to the lap that is written down.
-    pub fn add(&mut self, worker: usize, member: usize, steps: u64) {
+    /// Writes a visit of up to 64 steps of a seat down, where it belongs to the lap that is written down.
+    pub fn add(&mut self, seat: Visit, steps: u64) {
         if self.laps == WRITTEN_LAP && steps > 0 && self.len < MOST_VISITS {
             self.visits[self.len] = Visit {
-                worker: (worker % 0x1_0000) as u16,
-                member: (member % 0x100) as u8,
                 steps: (steps % 0x100) as u8,
+                ..seat
             };
             self.len += 1;
             self.lap_steps = self.lap_steps.saturating_add(steps);

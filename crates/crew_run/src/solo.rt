@@ -5,57 +5,62 @@ ghost use Rattle.crew_run.specs.code.Phases.{CanResume, Each, IsResumed};
 
 use crate::course::{Course, Visit};
 use crate::gate::Gate;
-use crate::phase::Progress;
+use crate::phase::{NO_TURN, Progress, STEPS_A_ROUND};
 use crate::pulse::Pulse;
 use crate::stepper::Stepper;
-use crate::turns::{step_again, step_all};
+use crate::turns::step_one;
 use crate::worker::Worker;
+use limits::MAX_PORTS;
 
-/// One round of one worker, by its place: its members are stepped, and its own gate is told of their turns.
-fn visit<S: Stepper, G: Gate>(worker: &mut Worker<S, G>, i: usize, course: &mut Course) -> Progress
+/// Some steps of a member of a worker, of whose turns its own gate is told.
+fn visit<S: Stepper, G: Gate>(
+    worker: &mut Worker<S, G>,
+    k: usize,
+    goal: u64,
+    steps: u32,
+    pulse: &Pulse,
+) -> Progress
     requires { CanResume S.Stepper.own G.Gate.own worker.old }
     ensures { IsResumed S.Stepper.own G.Gate.own worker.old worker.new }
 {
     // the gate stays where it is: it is large, and moving it out and back would cost each round
     match &mut worker.gate {
-        Some(gate) => step_all(worker.members.as_mut_slice(), gate, i, course),
+        Some(gate) => step_one(worker.members.as_mut_slice(), gate, k, goal, steps, pulse),
         None => Progress::none(),
     }
 }
 
-/// One round of each worker.
+/// The same of a member, where its worker is there.
+fn visit_one<S: Stepper, G: Gate>(
+    workers: &mut [Worker<S, G>],
+    seat: Visit,
+    goal: u64,
+    steps: u32,
+    pulse: &Pulse,
+) -> Progress
+    requires { (i : ℕ) (w : Worker S G) → slice_get workers.old i ≡ Some w → CanResume S.Stepper.own G.Gate.own w }
+    ensures { Each (IsResumed S.Stepper.own G.Gate.own) workers.old workers.new }
+{
+    let i = seat.worker();
+    if i >= workers.len() {
+        return Progress::none();
+    }
+    visit(&mut workers[i], seat.member(), goal, steps, pulse)
+}
+
+/// One round: each member goes towards the turn to which they go.
 fn visit_all<S: Stepper, G: Gate>(workers: &mut [Worker<S, G>], course: &mut Course) -> Progress
     requires { (i : ℕ) (w : Worker S G) → slice_get workers.old i ≡ Some w → CanResume S.Stepper.own G.Gate.own w }
     ensures { Each (IsResumed S.Stepper.own G.Gate.own) workers.old workers.new }
 {
     let mut round = Progress::none();
-    'workers: for i in 0..workers.len() {
-        round = round.and(visit(&mut workers[i], i, course));
+    'seats: for v in 0..course.seated() {
+        let seat = course.seat_at(v);
+        let steps = visit_one(workers, seat, course.goal(), STEPS_A_ROUND, course.pulse());
+        course.add(seat, steps.moved);
+        round = round.and(steps);
     }
     round
-}
-
-/// One visit of a member of a worker.
-fn revisit<S: Stepper, G: Gate>(worker: &mut Worker<S, G>, visit: Visit, pulse: &Pulse)
-    requires { CanResume S.Stepper.own G.Gate.own worker.old }
-    ensures { IsResumed S.Stepper.own G.Gate.own worker.old worker.new }
-{
-    match &mut worker.gate {
-        Some(gate) => step_again(worker.members.as_mut_slice(), gate, visit, pulse),
-        None => {}
-    }
-}
-
-/// One visit, where its worker is there.
-fn revisit_one<S: Stepper, G: Gate>(workers: &mut [Worker<S, G>], visit: Visit, pulse: &Pulse)
-    requires { (i : ℕ) (w : Worker S G) → slice_get workers.old i ≡ Some w → CanResume S.Stepper.own G.Gate.own w }
-    ensures { Each (IsResumed S.Stepper.own G.Gate.own) workers.old workers.new }
-{
-    let i = visit.worker();
-    if i >= workers.len() {
-        return;
-    }
-    revisit(&mut workers[i], visit, pulse);
 }
 
 /// The visits that are due.
@@ -64,17 +69,46 @@ fn revisit_all<S: Stepper, G: Gate>(workers: &mut [Worker<S, G>], course: &Cours
     ensures { Each (IsResumed S.Stepper.own G.Gate.own) workers.old workers.new }
 {
     'visits: for v in 0..course.due() {
-        revisit_one(workers, course.visit(v), course.pulse());
+        let due = course.visit(v);
+        visit_one(workers, due, NO_TURN, due.steps(), course.pulse());
+    }
+}
+
+/// Seats the members of a worker that have this port.
+fn seat_worker<S: Stepper>(members: &[S], i: usize, port: u32, course: &mut Course) {
+    for k in 0..members.len() {
+        if members[k].port() == port {
+            course.seat(i, k);
+        }
+    }
+}
+
+/// Seats the members that have this port.
+fn seat_port<S: Stepper, G>(workers: &[Worker<S, G>], port: u32, course: &mut Course) {
+    for i in 0..workers.len() {
+        seat_worker(workers[i].members.as_slice(), i, port, course);
+    }
+}
+
+/// Seats all members, from the last port to the first, whatever worker has them.
+fn seat_all<S: Stepper, G>(workers: &[Worker<S, G>], course: &mut Course) {
+    for port in 0..MAX_PORTS {
+        seat_port(workers, MAX_PORTS - 1 - port, course);
     }
 }
 
 /// Rounds of all workers, turn by turn, until all members are done or have made so many steps together. A
-/// round without a step counts as one. Where the visits of a turn are known, a round comes after them.
+/// round without a step counts as one. Where the visits of a turn are known, a round comes after them. Where there are
+/// more members than it can go round it makes no step.
 pub fn run_solo<S: Stepper, G: Gate>(workers: &mut [Worker<S, G>], steps: u64)
     requires { (i : ℕ) (w : Worker S G) → slice_get workers.old i ≡ Some w → CanResume S.Stepper.own G.Gate.own w }
     ensures { Each (IsResumed S.Stepper.own G.Gate.own) workers.old workers.new }
 {
     let mut course = Course::new();
+    seat_all(workers, &mut course);
+    if course.is_short() {
+        return;
+    }
     'rounds: for _ in 0..steps {
         let round = visit_all(workers, &mut course);
         course.after(round);

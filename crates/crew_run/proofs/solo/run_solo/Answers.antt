@@ -1,6 +1,9 @@
 use Rattle.crew_run.proofs.SoloLemmas.{all_resumed_can, all_resumed_more, all_resumed_none}
 use Rattle.crew_run.proofs.solo.run_solo.Goals as goal
 
+pub returns-then-is_short : goal.returns-then-is_short
+returns-then-is_short g c = all_resumed_none g.S.Stepper g.G.Gate g.met.S.Stepper.reflexive _ c.requires
+
 pub rounds-init : goal.rounds-init
 rounds-init g c = all_resumed_none g.S.Stepper g.G.Gate g.met.S.Stepper.reflexive _ c.requires
 

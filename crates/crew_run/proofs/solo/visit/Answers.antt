@@ -3,16 +3,16 @@ use Rattle.std.proofs.lemmas.Option.{none-some}
 use Rattle.crew_run.proofs.PhaseLemmas.{can_step_with, stepped_back}
 use Rattle.crew_run.proofs.solo.visit.Goals as goal
 
-pub step_all-requires : goal.step_all-requires
-step_all-requires g c = rw c.as_mut_slice.ensures.value (can_step_with g.S.Stepper g.G.Gate c.args.worker.now c.in-Some.gate c.requires c.in-Some.is)
+pub step_one-requires : goal.step_one-requires
+step_one-requires g c = rw c.as_mut_slice.ensures.value (can_step_with g.S.Stepper g.G.Gate c.args.worker.now c.in-Some.gate c.requires c.in-Some.is)
 
 pub returns-in-Some : goal.returns-in-Some
 returns-in-Some g c = record {
   gate = c.in-Some.gate;
   gate_is = c.in-Some.is;
-  gate' = c.step_all.new.gate;
+  gate' = c.step_one.new.gate;
   gate'_is = refl;
-  stepped = stepped_back g.S.Stepper g.G.Gate c.args.worker.now.members _ _ _ _ c.as_mut_slice.ensures.value c.step_all.ensures;
+  stepped = stepped_back g.S.Stepper g.G.Gate c.args.worker.now.members _ _ _ _ c.as_mut_slice.ensures.value c.step_one.ensures;
 }
 
 pub returns-in-None : goal.returns-in-None
