@@ -40,7 +40,7 @@ impl Observer<V4> for Watching {
 
     ghost goes_on = { λ watching. true };
 
-    ghost room = { λ watching. length watching.marks };
+    ghost size = { λ watching. length watching.marks };
 
     /// Marks what each signal did.
     fn look(&mut self, net: &Netlist, row: &[V4]) -> bool {

@@ -14,7 +14,7 @@ module _ {G : Type 0} (p : gate.Ghosts G) where
     pub latest : slice_index (p.latest g') q ≡ slice_index (p.latest g) q
 
 module _ {S G : Type 0} (m : stepper.Ghosts S) (p : gate.Ghosts G) where
-  -- the gate was told of each turn from that of the member to its last one, and of the last one last
+  -- the gate was told as often as there are turns from that of the member to its last one, and of the last one last
   pub record IsTold (a : S) (g g' : G) : Type 0 where
     pub times : slice_index (p.times g') (m.port a) ≡ slice_index (p.times g) (m.port a) + (m.last_turn a + 1 - m.turn a)
     pub latest : m.turn a ≤ m.last_turn a → slice_index (p.latest g') (m.port a) ≡ m.last_turn a

@@ -28,7 +28,7 @@
 //! One thread goes by turns: all members come to the same turn before any of them goes on. What visits the third turn
 //! took, which member made how many steps, it writes down and repeats in the turns after it, so that no step
 //! is made only to find that nothing is there yet. The visits are a hint, and what they leave undone is found
-//! by rounds. They cost memory of fixed size, for 65,536 of them; a turn that takes more goes on by rounds.
+//! by rounds. They take room of fixed size on the stack, for 65,536 of them; a turn that takes more goes on by rounds.
 //! Where no member moves on the way to a turn, the thread goes on by rounds alone.
 //!
 //! To run members of your own, implement `Stepper` for them, give the members of one worker ports of their

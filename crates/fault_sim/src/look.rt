@@ -43,7 +43,7 @@ impl Observer<Lanes> for Judging {
 
     ghost goes_on = { λ judging. not (are_decided judging.verdicts) };
 
-    ghost room = { λ judging. length judging.verdicts };
+    ghost size = { λ judging. length judging.verdicts };
 
     /// Looks at each fault that isn't seen, and goes on until each is.
     fn look(&mut self, net: &Netlist, row: &[Lanes]) -> bool {
@@ -131,9 +131,5 @@ fn first_column(row: &[Lanes], net: &Netlist, at: u32) -> Option<u32>
 fn differs(good: V4, faulty: V4) -> bool
     ensures { result ≡ differs good faulty }
 {
-    match (good, faulty) {
-        (V4::Zero, V4::One) => true,
-        (V4::One, V4::Zero) => true,
-        _ => false,
-    }
+    matches!((good, faulty), (V4::Zero, V4::One) | (V4::One, V4::Zero))
 }

@@ -29,7 +29,7 @@ module _ {S G : Type 0} where
 -- ---- members that are dealt by their ports
 
 module _ {S : Type 0} (port_of : S → ℕ) (Fits : S → Type 0) (workers ports : ℕ) where
-  -- what is dealt to worker w of so many: a member that fits, for one of so many ports, from this number on
+  -- what is dealt to worker w of so many workers: a member that fits, whose port is one of so many, from port `from` on
   pub record IsDealtFrom (from w : ℕ) (seat : S) : Type 0 where
     pub seat_is : Fits seat
     pub from_is : from ≤ port_of seat

@@ -8,8 +8,8 @@ abbrev pub IsPortOfWorker : ℕ → ℕ → ℕ → ℕ → Type 0
 IsPortOfWorker ports n w q = (q < ports) × (q % n ≡ w)
 
 module _ {G : Type 0} (p : gate.Ghosts G) (ports from to n : ℕ) where
-  -- the gate of worker w was told of the turns after turn `from` up to turn `to` of each port of the worker, of the last
-  -- one last, and of no other port
+  -- the gate of worker w was told as often as there are turns after turn `from` up to turn `to` of each port of the
+  -- worker, of turn `to` last, and of no other port
   pub record HasVisits (w : ℕ) (g g' : G) : Type 0 where
     pub times : (q : ℕ) → IsPortOfWorker ports n w q → slice_index (p.times g') q + from ≡ slice_index (p.times g) q + to
     pub latest : (q : ℕ) → IsPortOfWorker ports n w q → from < to → slice_index (p.latest g') q ≡ to

@@ -25,7 +25,7 @@ pub trait Seats {
     // a member can be made of the pass
     ghost may: { Self → Self.Pass → Type 0 };
 
-    // the member may have been made
+    // such a member `seat` may answer
     ghost fits: { Self → Self.Seat → Type 0 };
 
     /// The member of a pass.
@@ -66,7 +66,7 @@ pub fn worker_of(port: usize, workers: usize) -> usize
     port % workers
 }
 
-/// So many workers, to which a member for each pass is dealt, the last one first.
+/// So many workers, to which a member for each pass is dealt, that of the last pass first.
 pub fn workers_of<T: Seats, G: Drop>(
     alloc: Global,
     seats: &T,

@@ -42,7 +42,7 @@ impl<'a> Seats for CrewSeats<'a> {
 
     ghost fits = { λ seats. IsSeatOf (at_first seats.image.now seats.stim.now seats.workers seats.window) };
 
-    /// The port of the pass beside its crossbar, before its first event.
+    /// The port of the pass beside its crossbar, in turn 1.
     fn seat(&self, alloc: Global, pass: Pass) -> Result<Seated<'a>, Memory>
         requires { CanSeat self.now pass }
         ensures fits { IfOk result (IsSeatOf (at_first self.now.image.now self.now.stim.now self.now.workers self.now.window)) }

@@ -17,7 +17,7 @@ do_op answer stuck row op = slice_set row op.gate (forced (stuck op.gate) (op_va
 abbrev pub follow : {F : Type 0} → (F → V4 → V4 → V4) → (ℕ → Option V4) → List (PairOp F) → List V4 → List V4
 follow answer stuck ops row = fold (do_op answer stuck) row ops
 
--- the places of an operation are among so many, and it may be known so
+-- the places of an operation are among so many, and its form is one of a gate
 pub record IsWithin {F : Type 0} (is_form : F → Type 0) (signals places : ℕ) (op : PairOp F) : Type 0 where
   pub gate : op.gate < signals
   pub a : op.a < places

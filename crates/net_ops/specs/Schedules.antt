@@ -36,8 +36,8 @@ here_value net timing s row = of_signal (slice_get net.signals s) where
   of_signal None = value_at row s
   of_signal (Some signal) = here_driven net timing s row signal.driver
 
--- the operations give the first so many signals of the list their values, by the row as it is at the end, or
--- what they are stuck at, and leave all else as it was
+-- after the operations each of the first so many signals of the list has what its driver gives by the row as it is
+-- then, or what it is stuck at, and all else is as it was
 pub record Settles {F : Type 0} (answer : F → V4 → V4 → V4) (is_form : F → Type 0) (net : Netlist) (timing : Timing) (list : List ℕ) (n : ℕ) (ops : List (PairOp F)) : Type 0 where
   pub within : All (IsWithin is_form (length net.signals) (place_count net)) ops
   pub long : (stuck : ℕ → Option V4) (row : List V4) → length (follow answer stuck ops row) ≡ length row
@@ -46,7 +46,7 @@ pub record Settles {F : Type 0} (answer : F → V4 → V4 → V4) (is_form : F �
       → value_at (follow answer stuck ops row) (slice_index list i) ≡ forced (stuck (slice_index list i)) (here_value net timing (slice_index list i) (follow answer stuck ops row))
   pub others : (stuck : ℕ → Option V4) (row : List V4) (p : ℕ) → ((i : ℕ) → i < n → slice_index list i ≡ p → ⊥) → value_at (follow answer stuck ops row) p ≡ value_at row p
 
--- what gives a signal with this driver its value, of so many signals (and a memory for a gate, of which nobody asks)
+-- what gives a signal with this driver its value, of so many signals; a gate is no source, and its answer is arbitrary
 abbrev pub giver_of : ℕ → Driver → Giver
 giver_of signals Input = giver.Input
 giver_of signals (Gate kind ops) = giver.Memory

@@ -17,8 +17,8 @@ use net_defs::{Block, Netlist, Timing, initial_value};
 use seen_list::{List, Memory};
 use std::alloc::Global;
 
-/// The state before the first turn of so many lanes: every signal is undefined, and every word of a memory has the
-/// initial value.
+/// The state before the first turn of so many lanes: in these every signal is undefined, and every word of a memory has
+/// the initial value.
 pub fn initial_state<W: Wire>(
     alloc: Global,
     net: &Netlist,

@@ -6,7 +6,7 @@ ghost use Rattle.net_ops.specs.Ops.{IsWithin, follow};
 
 use crate::wire::Wire;
 
-/// Puts into the place `gate` what a gate that is known so answers for the values in the places `a` and `b`.
+/// Puts into the place `gate` what a gate of this form answers for the values in the places `a` and `b`.
 #[derive(Clone, Copy)]
 pub struct PairOp<F> {
     pub gate: u32,

@@ -13,7 +13,7 @@ use logic_four::{Kind, V4, lone_kind, settle};
 
 /// What stands in a place of a row, with a value in each of its lanes: a single `V4` is the value of its one lane.
 pub trait Wire: Copy {
-    /// How a gate of two operands is known.
+    /// The code of a gate of two operands.
     type Form: Copy;
 
     /// What the signals are stuck at, lane by lane.
@@ -25,13 +25,13 @@ pub trait Wire: Copy {
     // the value of a lane, counted from 0
     ghost lane: { Self → ℕ → V4 };
 
-    // what a gate that is known so answers for two values
+    // what the gate of this form answers for two values
     ghost answer: { Self.Form → V4 → V4 → V4 };
 
-    // a gate may be known so
+    // it is the form of a gate
     ghost is_form: { Self.Form → Type 0 };
 
-    // they tell of a signal
+    // they cover a signal
     ghost tells: { Self.Forces → ℕ → Type 0 };
 
     // what a lane's signal is stuck at, if it is
@@ -45,18 +45,18 @@ pub trait Wire: Copy {
     fn settled(self) -> Self
         ensures { (l : ℕ) → l < lanes → lane result l ≡ settled (lane self l) };
 
-    /// How a gate of this kind is known.
+    /// The form of a gate of this kind.
     fn form(kind: Kind) -> Self::Form
         ensures made { is_form result }
         ensures answers { (a b : V4) → answer result a b ≡ gate_value kind (a ∷ b ∷ []) };
 
-    /// How a gate of this kind is known that has one operand, which then stands twice.
+    /// The form of a gate of this kind that has one operand, which then stands twice.
     fn lone(kind: Kind) -> Self::Form
         requires { AllowsOperands kind 1 }
         ensures made { is_form result }
         ensures answers { (a : V4) → answer result a a ≡ gate_value kind (a ∷ []) };
 
-    /// What a gate that is known so answers in each lane.
+    /// What the gate of this form answers in each lane.
     fn pair(form: Self::Form, a: Self, b: Self) -> Self
         requires { is_form form }
         ensures { (l : ℕ) → l < lanes → lane result l ≡ answer form (lane a l) (lane b l) };

@@ -44,7 +44,8 @@ AreLaneEnds {W} lane l net timing stimulus rows =
     (states : List State) → IsSimulation net timing stimulus states
     → (c : ℕ) (row : List W) → slice_get rows c ≡ Some row → lane_row lane l row ≡ end_row timing states (c + 1)
 
--- the same of runs side by side, of which each is a simulation: what it has looked at are their ends
+-- the same of runs side by side, in which signals may be stuck: where the run of a lane is a simulation of another
+-- netlist, what the observer has looked at are its ends. One that goes on has looked at so many cycles
 pub record HasWatchedLanes {W : Type 0} (lane : W → ℕ → V4) (stuck : ℕ → ℕ → Option V4) (lanes : ℕ) (net : Netlist) (timing : Timing) (stimulus : Stimulus) (has_seen : List (List W) → ℕ → Type 0) (goes_on : Bool) (upto : ℕ) : Type 0 where
   pub rows : List (List W)
   pub left : ℕ

@@ -5,7 +5,8 @@ ghost use Rattle.net_defs.specs.Valid.{IsValid};
 
 use net_defs::Netlist;
 
-/// It looks at the places of all signals at the end of each cycle, one cycle after the other.
+/// It looks at the values of all signals at the end of each cycle, one cycle after the other: single values, or those
+/// of many lanes.
 pub trait Observer<W> {
     ghost use Rattle.std.specs.Prelude.{Bool, List as Items, ℕ};
     ghost use Rattle.net_defs.specs.declared.netlist.Netlist.{Netlist};
@@ -16,10 +17,10 @@ pub trait Observer<W> {
     // it wants to look at more
     ghost goes_on: { Self → Bool };
 
-    // how much it has room for, which stays
-    ghost room: { Self → ℕ };
+    // a number of it that no look changes
+    ghost size: { Self → ℕ };
 
-    /// Looks at the places at the end of a cycle, in signal order, and answers whether to go on.
+    /// Looks at the values at the end of a cycle, in signal order, and answers whether to go on.
     fn look(&mut self, net: &Netlist, row: &[W]) -> bool
         requires valid { IsValid net.now }
         requires row { length row.now ≡ length net.now.signals }
@@ -27,5 +28,5 @@ pub trait Observer<W> {
         ensures seen { (seen : Items (Items W)) (more : ℕ) → has_seen self.old net.now seen (more + 1)
             → has_seen self.new net.now (seen ++ row.now ∷ []) more }
         ensures goes_on { result ≡ goes_on self.new }
-        ensures room { room self.new ≡ room self.old };
+        ensures size { size self.new ≡ size self.old };
 }

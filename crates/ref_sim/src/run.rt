@@ -1,6 +1,6 @@
 //! A run over all cycles.
 
-ghost use Rattle.std.specs.Prelude.{◌≡◌, ℕ, ◌+◌, ◌<◌, ◌≤◌, ◌==◌, ◌&&◌, true, false, [], length, IfOk, OnOk};
+ghost use Rattle.std.specs.Prelude.{◌≡◌, ℕ, ◌+◌, ◌<◌, ◌≤◌, ◌==◌, ◌&&◌, true, false, [], length, IfOk, OnErr, OnOk};
 ghost use Rattle.net_defs.specs.Time.{cycle_count};
 ghost use Rattle.net_defs.specs.Valid.{IsValid, IsValidTiming};
 ghost use Rattle.net_defs.specs.Steps.{first_state};
@@ -45,7 +45,7 @@ pub fn refer_in_order(
 }
 
 /// Shows the values of all signals at the end of each cycle to an observer, by an order that `rank` of
-/// `rank_find` found. It takes memory before the first cycle, and none from then on.
+/// `rank_find` found. One that wants no more may end it. It takes memory before the first cycle, and none from then on.
 pub fn observe<O: Observer<V4>>(
     alloc: Global,
     observer: &mut O,
@@ -59,14 +59,16 @@ pub fn observe<O: Observer<V4>>(
     requires order { IsOrder net.now timing.now order.now }
     requires ready { O.has_seen observer.old net.now [] (cycle_count stim.now) }
     ensures watched { OnOk result (HasWatched net.now timing.now stim.now (O.has_seen observer.new net.now) (O.goes_on observer.new)) }
+    ensures size { O.size observer.new ≡ O.size observer.old }
+    ensures refused { OnErr result (observer.new ≡ observer.old) }
     ensures simulated { HasOneSimulation net.now timing.now stim.now }
 {
     let schedule = make_schedule::<V4>(alloc, net, timing, order)?;
     observe_lanes(alloc, observer, net, timing, stim, &schedule, &(), 1)
 }
 
-/// Shows the same of so many runs side by side, in which signals may be stuck, to an observer, until that wants no
-/// more. It takes memory before the first cycle, and none from then on.
+/// Shows the same of so many runs side by side, in which signals may be stuck, to an observer. One that wants no more
+/// may end it. It takes memory before the first cycle, and none from then on.
 pub fn observe_lanes<W: Wire, O: Observer<W>>(
     alloc: Global,
     observer: &mut O,
@@ -84,7 +86,8 @@ pub fn observe_lanes<W: Wire, O: Observer<W>>(
     requires ready { O.has_seen observer.old net.now [] (cycle_count stim.now) }
     ensures watched { OnOk result (HasWatchedLanes W.lane (W.held forces.now) lanes net.now timing.now stim.now
         (O.has_seen observer.new net.now) (O.goes_on observer.new) (cycle_count stim.now)) }
-    ensures room { O.room observer.new ≡ O.room observer.old }
+    ensures size { O.size observer.new ≡ O.size observer.old }
+    ensures refused { OnErr result (observer.new ≡ observer.old) }
 {
     let mut state = initial_state::<W>(alloc, net, timing, lanes)?;
     let mut ports = make_ports(alloc, net)?;
@@ -113,7 +116,7 @@ fn run<W: Wire, O: Observer<W>>(
     requires observer { O.has_seen observer.old net.now [] (cycle_count stim.now) }
     ensures watched { HasWatchedLanes W.lane (W.held forces.now) (length state.old.memories) net.now timing.now stim.now
         (O.has_seen observer.new net.now) (O.goes_on observer.new) (cycle_count stim.now) }
-    ensures room { O.room observer.new ≡ O.room observer.old }
+    ensures size { O.size observer.new ≡ O.size observer.old }
 {
     let mut is_first = true;
     'rows: for r in 0..stim.rows.len() {
@@ -153,7 +156,7 @@ fn run_row<W: Wire, O: Observer<W>>(
     ensures runs { RunsTo W.lane (W.held forces.now) net.now timing.now stim.now (O.has_seen observer.new net.now) result
         (cycles_before stim.now (r + 1)) state.new }
     ensures stops { result ≡ false → O.goes_on observer.new ≡ false }
-    ensures room { O.room observer.new ≡ O.room observer.old }
+    ensures size { O.size observer.new ≡ O.size observer.old }
 {
     let row = &stim.rows.as_slice()[r];
     'times: for time in 0..row.times {

@@ -34,7 +34,7 @@ impl Observer<V4> for Printing {
 
     ghost goes_on = { λ printing. true };
 
-    ghost room = { λ printing. length printing.rows };
+    ghost size = { λ printing. length printing.rows };
 
     /// Prints the values into the row of the cycle.
     fn look(&mut self, net: &Netlist, row: &[V4]) -> bool {

@@ -9,5 +9,5 @@ observe_lanes-requires-clause-ready c =
 
 pub returns : goal.returns
 returns c =
-    let count : length c.observe_lanes.new.observer.verdicts ≡ length c.args.faults.now = c.observe_lanes.ensures.room ∙ (ap length c.in_ok-judging.ensures.0 ∙ length-replicate _ _) in
+    let count : length c.observe_lanes.new.observer.verdicts ≡ length c.args.faults.now = c.observe_lanes.ensures.size ∙ (ap length c.in_ok-judging.ensures.0 ∙ length-replicate _ _) in
     verdicts_made c.args.net.now c.args.faults.now c.args.timing.now c.args.stim.now c.in_ok-forces.forces c.requires.schedule.order _ _ c.requires.schedule.is_order c.requires.faults c.in_ok-forces.ensures count c.in_ok-observe_lanes.ensures.watched

@@ -10,7 +10,7 @@ rows-init g c = record {
   lanes = refl;
   first = refl;
   runs = runs_none g.W.Wire.lane (g.W.Wire.held c.args.forces.now) c.args.net.now c.args.timing.now c.args.stim.now _ c.args.state.now c.requires.observer c.requires.start;
-  room = refl;
+  size = refl;
 }
 
 pub returns-then-not-goes_on-clause-watched : goal.returns-then-not-goes_on-clause-watched

@@ -9,5 +9,5 @@ invariant-rows g l = record {
   lanes : length l.state.memories ≡ length l.fn.state.memories;
   first : l.is_first ≡ (cycles_before l.stim l.r == 0);
   runs : RunsTo g.W.Wire.lane (g.W.Wire.held l.forces) l.net l.timing l.stim (g.O.Observer.has_seen l.observer l.net) true (cycles_before l.stim l.r) l.state;
-  room : g.O.Observer.room l.observer ≡ g.O.Observer.room l.fn.observer;
+  size : g.O.Observer.size l.observer ≡ g.O.Observer.size l.fn.observer;
 }

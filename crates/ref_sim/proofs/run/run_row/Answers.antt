@@ -8,7 +8,7 @@ times-init g c = record {
   ready = c.requires.ready;
   lanes = refl;
   runs = subst (λ n. RunsTo g.W.Wire.lane (g.W.Wire.held c.args.forces.now) c.args.net.now c.args.timing.now c.args.stim.now (g.O.Observer.has_seen c.args.observer.now c.args.net.now) true n c.args.state.now) (omega arith) c.requires.runs;
-  room = refl;
+  size = refl;
 }
 
 pub look-goes_on-requires-clause-ready : goal.look-goes_on-requires-clause-ready
@@ -37,7 +37,7 @@ times-preserved g c =
           (λ l low. c.run_cycle.ensures.passes l low c.args.stim.now (cycles_before c.args.stim.now c.args.r + c.times.time) (c.is_still_first.ensures ∙ still_first c.args.is_first (cycles_before c.args.stim.now c.args.r) c.times.time c.requires.first)
           (cycle_values c.args.stim.now c.args.r c.times.time _ c.requires.row is c.times-test.true ∙ sym c.as_slice-in-times.ensures))
           _ true _ (λ on. omega arith) c.row.ensures c.look-goes_on.ensures.seen;
-      room = c.look-goes_on.ensures.room ∙ c.times.invariant.room;
+      size = c.look-goes_on.ensures.size ∙ c.times.invariant.size;
     }
 
 pub returns-clause-runs : goal.returns-clause-runs

@@ -8,5 +8,5 @@ invariant-times g l = record {
   ready : IsReady g.W.Wire.lanes l.net l.state l.ports;
   lanes : length l.state.memories ≡ length l.fn.state.memories;
   runs : RunsTo g.W.Wire.lane (g.W.Wire.held l.forces) l.net l.timing l.stim (g.O.Observer.has_seen l.observer l.net) true (cycles_before l.stim l.r + l.time) l.state;
-  room : g.O.Observer.room l.observer ≡ g.O.Observer.room l.fn.observer;
+  size : g.O.Observer.size l.observer ≡ g.O.Observer.size l.fn.observer;
 }
